@@ -1,0 +1,4 @@
+pub mod Certificate
+pub mod NodeOrder
+pub mod RowPlace
+pub mod Spelling

@@ -1,0 +1,162 @@
+//! Certificates: what fixes every row of an island, and what a checker reads.
+
+ghost use Rattle.std.specs.Prelude.{◌≡◌, ◌≢◌, ◌<◌, ◌≤◌, ◌-◌, ◌*◌};
+ghost use Rattle.mrt_graph.specs.RowPlace.{place_of_row};
+
+use crate::node_id::NodeId;
+use crate::numbers::{LinkNo, NodeNo};
+use std::marker::Model;
+
+/// One of the two Maximally Redundant Trees (RFC 7812, section 3).
+#[derive(Clone, Copy, Debug, PartialEq, Eq)]
+pub enum Color {
+    Blue,
+    Red,
+}
+
+/// What a link is to its block: the block's one link, its closing link, or neither.
+#[derive(Clone, Copy, Debug, PartialEq, Eq)]
+pub enum Role {
+    Plain,
+    Sole,
+    Closing,
+}
+
+/// How a row's two links were chosen, as the fourteen rules tell.
+#[derive(Clone, Copy, Debug, PartialEq, Eq)]
+pub enum Tag {
+    Sole,
+    Head,
+    Top,
+    Below,
+    Above,
+    Unordered,
+    Carried,
+}
+
+/// What a node does with a packet for one destination: the link of each color, and how they were chosen.
+#[derive(Clone, Copy, Debug, PartialEq, Eq)]
+pub struct Row {
+    pub blue: LinkNo,
+    pub red: LinkNo,
+    pub tag: Tag,
+}
+
+/// A certificate's words on one node.
+#[derive(Clone, Copy, Debug, PartialEq, Eq)]
+pub struct CertNode {
+    pub id: NodeId,
+    pub order: u16,
+    pub head: NodeNo,
+    pub block: NodeNo,
+}
+
+/// A certificate's words on one link.
+#[derive(Clone, Copy, Debug, PartialEq, Eq)]
+pub struct CertLink {
+    pub a: NodeNo,
+    pub b: NodeNo,
+    pub block: NodeNo,
+    pub role: Role,
+}
+
+/// The nodes, links and rows of an island, each by number; of n nodes it has n times (n - 1) rows.
+///
+/// The rows stand by ascending source, then by ascending destination, the source left out.
+#[derive(Drop)]
+pub struct Cert {
+    nodes: Vec<CertNode>,
+    links: Vec<CertLink>,
+    rows: Vec<Row>,
+}
+
+impl Model for Cert {
+    ghost use Rattle.mrt_graph.specs.Certificate.{Certificate, IsCertificate, certificate_of};
+
+    ghost Value = { Certificate };
+
+    ghost view = { λ c. certificate_of c.nodes.items c.links.items c.rows.items };
+
+    ghost invariant = { λ c. IsCertificate (certificate_of c.nodes.items c.links.items c.rows.items) };
+}
+
+/// A certificate with the router ID of its root.
+#[derive(Drop)]
+pub struct CertFile {
+    pub root: u32,
+    pub cert: Cert,
+}
+
+impl Cert {
+    ghost use Rattle.std.specs.Prelude.{◌≡◌, ◌≢◌, ◌<◌, Some, length, slice_get};
+    ghost use Rattle.mrt_graph.specs.Certificate.{
+      IsCertificate,
+      IsCertNode,
+      IsCertLink,
+      IsCertRow,
+      certificate_of,
+      row_of,
+    };
+
+    /// A certificate of these nodes, links and rows.
+    pub fn new(nodes: Vec<CertNode>, links: Vec<CertLink>, rows: Vec<Row>) -> Cert
+        requires { IsCertificate (certificate_of nodes.items links.items rows.items) }
+        ensures { result ≡ certificate_of nodes.items links.items rows.items }
+    {
+        Cert { nodes, links, rows }
+    }
+
+    pub fn node_count(&self) -> u16
+        ensures count { result ≡ length self.now.nodes }
+        ensures kept { IsCertificate self.now }
+    {
+        self.nodes.len() as u16
+    }
+
+    pub fn link_count(&self) -> u16
+        ensures count { result ≡ length self.now.links }
+        ensures kept { IsCertificate self.now }
+    {
+        self.links.len() as u16
+    }
+
+    pub fn node(&self, n: NodeNo) -> CertNode
+        requires { n < length self.now.nodes }
+        ensures value { slice_get self.now.nodes n ≡ Some result }
+        ensures within { IsCertNode (length self.now.nodes) result }
+    {
+        self.nodes[n.get() as usize]
+    }
+
+    pub fn link(&self, e: LinkNo) -> CertLink
+        requires { e < length self.now.links }
+        ensures value { slice_get self.now.links e ≡ Some result }
+        ensures within { IsCertLink (length self.now.nodes) result }
+    {
+        self.links[e.get() as usize]
+    }
+
+    /// The row of `s` for `t`.
+    pub fn row(&self, s: NodeNo, t: NodeNo) -> Row
+        requires source { s < length self.now.nodes }
+        requires target { t < length self.now.nodes }
+        requires different { s ≢ t }
+        ensures value { row_of self.now s t ≡ Some result }
+        ensures within { IsCertRow (length self.now.links) result }
+    {
+        self.rows[row_place(self.nodes.len(), s, t)]
+    }
+}
+
+/// Where the row of `s` for `t` stands among the rows of that many nodes.
+fn row_place(count: usize, s: NodeNo, t: NodeNo) -> usize
+    requires count { count ≤ 65535 }
+    requires source { s < count }
+    requires target { t < count }
+    requires different { s ≢ t }
+    ensures place { result ≡ place_of_row count s t }
+    ensures within { result < count * (count - 1) }
+{
+    let column = if t < s { t.get() } else { t.get() - 1 };
+    s.get() as usize * (count - 1) + column as usize
+}

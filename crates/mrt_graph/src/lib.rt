@@ -1,0 +1,16 @@
+//! The ground of the project: numbers of nodes and links, node identifiers and their texts, graphs and certificates.
+#![tactic(auto)]
+
+mod cert;
+mod link;
+mod no_memory;
+mod node_id;
+mod node_text;
+mod numbers;
+
+pub use cert::{Cert, CertFile, CertLink, CertNode, Color, Role, Row, Tag};
+pub use link::{Element, End, Link, LinkIn};
+pub use no_memory::NoMemory;
+pub use node_id::{Kind, NodeId};
+pub use node_text::NodeText;
+pub use numbers::{LinkNo, NodeNo};
