@@ -1,6 +1,10 @@
 pub mod Certificate
+pub mod Connected
+pub mod GraphInvariant
+pub mod InterfaceOrder
 pub mod Leads
 pub mod NodeOrder
 pub mod RowPlace
 pub mod Spelling
 pub mod Topology
+pub mod Walk
