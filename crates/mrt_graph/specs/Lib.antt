@@ -1,8 +1,11 @@
 pub mod Certificate
 pub mod Connected
+pub mod EndRows
+pub mod EndsOfLinks
 pub mod GraphInvariant
 pub mod InterfaceOrder
 pub mod Leads
+pub mod NewGraph
 pub mod NodeOrder
 pub mod RowPlace
 pub mod Spelling
