@@ -5,6 +5,8 @@ mod cert;
 mod graph;
 mod graph_ends;
 mod graph_error;
+#[cfg(test)]
+mod graph_tests;
 mod link;
 mod no_memory;
 mod node_id;
