@@ -5,6 +5,7 @@ mod cert;
 mod graph;
 mod graph_ends;
 mod graph_error;
+mod graph_law;
 #[cfg(test)]
 mod graph_tests;
 mod link;
@@ -16,6 +17,7 @@ mod numbers;
 pub use cert::{Cert, CertFile, CertLink, CertNode, Color, Role, Row, Tag};
 pub use graph::Graph;
 pub use graph_error::GraphError;
+pub use graph_law::one_graph_of_its_parts;
 pub use link::{Element, End, Link, LinkIn};
 pub use no_memory::NoMemory;
 pub use node_id::{Kind, NodeId};
