@@ -1,6 +1,13 @@
 pub mod Certificate
+pub mod Connected
+pub mod EndRows
+pub mod EndsOfLinks
+pub mod GraphInvariant
+pub mod InterfaceOrder
 pub mod Leads
+pub mod NewGraph
 pub mod NodeOrder
 pub mod RowPlace
 pub mod Spelling
 pub mod Topology
+pub mod Walk
