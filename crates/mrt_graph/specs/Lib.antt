@@ -1,6 +1,15 @@
+pub mod Apart
 pub mod Certificate
+pub mod ColorWalk
+pub mod Hop
 pub mod Leads
 pub mod NodeOrder
+pub mod Reaches
 pub mod RowPlace
+pub mod Rows
+pub mod Separates
+pub mod Sound
 pub mod Spelling
 pub mod Topology
+pub mod Uses
+pub mod Walk
