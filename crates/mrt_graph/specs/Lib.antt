@@ -4,9 +4,11 @@ pub mod ColorWalk
 pub mod Hop
 pub mod Leads
 pub mod NodeOrder
+pub mod Reachable
 pub mod Reaches
 pub mod RowPlace
 pub mod Rows
+pub mod Search
 pub mod Separates
 pub mod Sound
 pub mod Spelling
