@@ -85,29 +85,26 @@ entering_both One Other Both one other both m0 f0 m1 f1 m2 f2 first second = rec
   marked = λ v c. elim (Contains-append_cases first.added second.added v c) [ inl a ↦ second.kept v (first.marked v a) | inr b ↦ second.marked v b ];
 }
 
+-- at first no node has a mark
 pub no_mark_at_first : (n v : ℕ) → IsMarked (replicate n false) v → ⊥
 no_mark_at_first zero v m = cc
 no_mark_at_first (suc n) zero m = cc
 no_mark_at_first (suc n) (suc v) m = no_mark_at_first n v m
 
--- a search begins with s, marked and listed
-pub search_begun : (step : ℕ → ℕ → Type 0) (n s : ℕ) → s < n → IsSearch step s (set (replicate n false) s true) (s ∷ []) 0
-search_begun step n s within =
-    let room : s < length (replicate n false) = omega (arith, length-replicate {A = Bool}, within) in
-    let own : IsMarked (set (replicate n false) s true) s = get_or-set_same (replicate n false) s true false room in
-    record {
-      begun = own;
-      listed = λ v m. elim (mark_set (replicate n false) s v room m) [
-        | inl old ↦ absurd (no_mark_at_first n v old)
-        | inr same ↦ subst (λ (w : ℕ). Contains (s ∷ []) w) (sym same) (Contains-push [] s)
-      ];
-      marked = λ v c. subst (λ (w : ℕ). IsMarked (set (replicate n false) s true) w) (sym (one_in_one s v c)) own;
-      followed = λ k v early. absurd (omega (arith, early));
-      reached = λ v m. elim (mark_set (replicate n false) s v room m) [
-        | inl old ↦ absurd (no_mark_at_first n v old)
-        | inr same ↦ ([], sym same)
-      ];
-    }
+-- a search begins where it has come on s alone
+pub search_begun : (step : ℕ → ℕ → Type 0) (n s : ℕ) (marks : List Bool) (found : List ℕ)
+    → IsEntering (λ (v : ℕ). v ≡ s) (replicate n false) [] marks found → IsSearch step s marks found 0
+search_begun step n s marks found begin = record {
+  begun = begin.all_of_them s refl;
+  listed = λ v m. subst (λ (f : List ℕ). Contains f v) (sym begin.grows) (elim (begin.listed v m) [
+      inl old ↦ absurd (no_mark_at_first n v old)
+    | inr new ↦ new ]);
+  marked = λ v c. begin.marked v (subst (λ (f : List ℕ). Contains f v) begin.grows c);
+  followed = λ k v early. absurd (omega (arith, early));
+  reached = λ v m. elim (begin.only_them v m) [
+      inl old ↦ absurd (no_mark_at_first n v old)
+    | inr same ↦ ([], sym same) ];
+}
 
 followed_onward : (step : ℕ → ℕ → Type 0) {s : ℕ} (marks : List Bool) (found : List ℕ) (done : ℕ) (marks' : List Bool) (found' : List ℕ)
     → IsSearch step s marks found done → done < length found → IsEntering (step (get_or found done 0)) marks found marks' found'
@@ -158,3 +155,22 @@ search_ended step s marks found done search over = record {
       in search.followed place.0 v (omega (arith, place.1, over)) (subst (λ (w : ℕ). step w v) (sym is_u) onward);
   reached = search.reached;
 }
+
+-- the same nodes, said in another way
+pub entering_same : (Onto Onto' : ℕ → Type 0) (m0 : List Bool) (f0 : List ℕ) (m1 : List Bool) (f1 : List ℕ)
+    → ((v : ℕ) → Onto v → Onto' v) → ((v : ℕ) → Onto' v → Onto v)
+    → IsEntering Onto m0 f0 m1 f1 → IsEntering Onto' m0 f0 m1 f1
+entering_same Onto Onto' m0 f0 m1 f1 there back e = record {
+  added = e.added;
+  grows = e.grows;
+  kept = e.kept;
+  all_of_them = λ v h. e.all_of_them v (back v h);
+  only_them = λ v m. elim (e.only_them v m) [ inl old ↦ inl old | inr new ↦ inr (there v new) ];
+  listed = e.listed;
+  marked = e.marked;
+}
+
+-- the list grows
+pub entering_longer : (Onto : ℕ → Type 0) (marks : List Bool) (found : List ℕ) (marks' : List Bool) (found' : List ℕ)
+    → IsEntering Onto marks found marks' found' → length found ≤ length found'
+entering_longer Onto marks found marks' found' e = omega (arith, ap (λ (f : List ℕ). length f) e.grows, length-append found e.added)

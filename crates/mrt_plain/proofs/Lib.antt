@@ -1,0 +1,4 @@
+pub mod Avoiding
+pub mod Following
+pub mod Shared
+pub mod Stepping

@@ -1,0 +1,26 @@
+-- Lists of numbers: what each has, what two share, which have none twice.
+use Rattle.std.proofs.Common.{◌≡◌, ◌≢◌, ◌↔◌, ◌<◌, ◌+◌, ℕ, Bool, true, false, List, [], ◌∷◌, ◌++◌, length, take, get_or, All, AllPairs, refl, sym, ◌∙◌, ap, subst, arith, length-take}
+use Rattle.std.specs.Prelude.{Contains, IsTrue, ◌==◌}
+use Rattle.std.specs.Bool.{Decides}
+use Rattle.std.specs.List.{IsAnyAnswer}
+use Rattle.std.proofs.lemmas.Bool.Decides.{Decides-eqb}
+use Rattle.std.proofs.lemmas.List.{take_more, get_or_default}
+use Rattle.std.proofs.lemmas.List.Elements.{contains_decides, Decides-contains, All-get_or, All-contains}
+use Rattle.std.proofs.lemmas.List.Quantifiers.{all_pairs_push}
+use Rattle.mrt_graph.specs.Reaches.{AreDifferent}
+
+-- what `contains` answers
+pub contains_tells : (xs : List ℕ) (x : ℕ) (r : Bool) → IsAnyAnswer (λ (y : ℕ) (b : Bool). (y == x) ≡ b) xs r → Decides r (Contains xs x)
+contains_tells xs x r answer = Decides-contains xs x r (contains_decides (λ (a b : ℕ). a == b) Decides-eqb xs x r answer)
+
+-- a list of different nodes, and one more that it does not contain
+pub different_more : (nodes : List ℕ) (i x : ℕ) → i < length nodes → x ≡ get_or nodes i x → AreDifferent (take i nodes) → (Contains (take i nodes) x → ⊥) → AreDifferent (take (i + 1) nodes)
+different_more nodes i x within here so_far new =
+    let last : get_or nodes i x ≡ x = sym here in
+    let pushed : AreDifferent (take i nodes ++ x ∷ []) = all_pairs_push (λ (a b : ℕ). a ≢ b) (take i nodes) x so_far
+      (λ k d before same. new (k, before, get_or_default (take i nodes) k x d before ∙ same))
+    in subst AreDifferent (sym (take_more nodes i x within ∙ ap (λ (y : ℕ). take i nodes ++ y ∷ []) last)) pushed
+
+-- P holds of the first n that are shared
+pub record SharedBelow (P : ℕ → Type 0) (one other : List ℕ) (n : ℕ) : Type 0 where
+  pub each : (k : ℕ) → k < n → Contains other (get_or one k 0) → P (get_or one k 0)
