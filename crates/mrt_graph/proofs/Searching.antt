@@ -97,13 +97,15 @@ pub search_begun : (step : ℕ → ℕ → Type 0) (n s : ℕ) (marks : List Boo
 search_begun step n s marks found begin = record {
   begun = begin.all_of_them s refl;
   listed = λ v m. subst (λ (f : List ℕ). Contains f v) (sym begin.grows) (elim (begin.listed v m) [
-      inl old ↦ absurd (no_mark_at_first n v old)
-    | inr new ↦ new ]);
+    | inl old ↦ absurd (no_mark_at_first n v old)
+    | inr new ↦ new
+  ]);
   marked = λ v c. begin.marked v (subst (λ (f : List ℕ). Contains f v) begin.grows c);
   followed = λ k v early. absurd (omega (arith, early));
   reached = λ v m. elim (begin.only_them v m) [
-      inl old ↦ absurd (no_mark_at_first n v old)
-    | inr same ↦ ([], sym same) ];
+    | inl old ↦ absurd (no_mark_at_first n v old)
+    | inr same ↦ ([], sym same)
+  ];
 }
 
 followed_onward : (step : ℕ → ℕ → Type 0) {s : ℕ} (marks : List Bool) (found : List ℕ) (done : ℕ) (marks' : List Bool) (found' : List ℕ)

@@ -42,8 +42,9 @@ past_none far v (Some l) same on = cc
 
 lead_within : (far : Link → Option ℕ) (links : List Link) (e v : ℕ) → option_and_then far (slice_get links e) ≡ Some v → e < length links
 lead_within far links e v on = elim (cases_lt e (length links)) [
-    inl within ↦ within
-  | inr past ↦ absurd (past_none far v (slice_get links e) (slice_get_past links e past) on) ]
+  | inl within ↦ within
+  | inr past ↦ absurd (past_none far v (slice_get links e) (slice_get_past links e past) on)
+]
 
 -- ---- elements of a list
 pub contains_first : (x : ℕ) (xs : List ℕ) → Contains (x ∷ xs) x
@@ -59,13 +60,15 @@ contains_cases x y xs (suc k, within, same) = inr (k, omega (arith, within), sam
 -- ---- tests
 pub differ : (a b : ℕ) → not (a == b) ≡ true → a ≢ b
 differ a b test = elim (eqb_tells a b) as (λ _. a ≢ b) [
-    inl same ↦ absurd (absurd_not (a == b) same.0 test)
-  | inr other ↦ other.1 ]
+  | inl same ↦ absurd (absurd_not (a == b) same.0 test)
+  | inr other ↦ other.1
+]
 
 pub agree : (a b : ℕ) → not (a == b) ≡ false → a ≡ b
 agree a b test = elim (eqb_tells a b) as (λ _. a ≡ b) [
-    inl same ↦ same.1
-  | inr other ↦ absurd (absurd_not' (a == b) other.0 test) ]
+  | inl same ↦ same.1
+  | inr other ↦ absurd (absurd_not' (a == b) other.0 test)
+]
 
 -- ---- one step
 pub onward_is : (links : List Link) (x : Element) (u v e : ℕ) → leads links e u ≡ Some v → avoids x e v ≡ true → onward_without links x u e ≡ Some v
@@ -93,16 +96,18 @@ pub uses_hit : (links : List Link) (x : Element) (s e v : ℕ) (es : List ℕ) �
 uses_hit links (elements.Link a) s e v es on hit = subst (λ (f : ℕ). Contains (e ∷ es) f) (agree e a hit) (contains_first e es)
 uses_hit links (elements.Node y) s e v es on hit =
     subst (λ (met : List ℕ). Contains met y) (sym (met_onward links s e v es on))
-      (contains_later s y (nodes_met links v es) (subst (λ (w : ℕ). Contains (nodes_met links v es) w) (agree v y hit) (met_first links es v)))
+    (contains_later s y (nodes_met links v es) (subst (λ (w : ℕ). Contains (nodes_met links v es) w) (agree v y hit) (met_first links es v)))
 
 -- a walk uses x, or there is a path without x
 pub uses_or_path : (links : List Link) (x : Element) (walk : List ℕ) (s t : ℕ) → Walk links s walk t → Uses links s walk x ⊎ Reachable (StepsWithout links x) s t
 uses_or_path links x [] s t w = inr ([], w)
 uses_or_path links x (e ∷ es) s t w = elim (cases_Bool (avoids x e w.0)) [
-    inl clear ↦ elim (uses_or_path links x es w.0 t w.2) [
-        inl uses ↦ inl (uses_later links x s e w.0 es w.1 uses)
-      | inr path ↦ inr (w.0 ∷ path.0, ((e, onward_is links x s w.0 e w.1 clear), path.1)) ]
-  | inr hit ↦ inl (uses_hit links x s e w.0 es w.1 hit) ]
+  | inl clear ↦ elim (uses_or_path links x es w.0 t w.2) [
+    | inl uses ↦ inl (uses_later links x s e w.0 es w.1 uses)
+    | inr path ↦ inr (w.0 ∷ path.0, ((e, onward_is links x s w.0 e w.1 clear), path.1))
+  ]
+  | inr hit ↦ inl (uses_hit links x s e w.0 es w.1 hit)
+]
 
 -- x is not the node s
 pub Elsewhere : Element → ℕ → Type 0
@@ -123,19 +128,22 @@ pub unused_at_first : (links : List Link) (x : Element) (s : ℕ) → Elsewhere 
 unfolding Elsewhere
 unused_at_first links (elements.Link a) s elsewhere uses = omega (arith, uses.1)
 unused_at_first links (elements.Node y) s elsewhere uses = elim (contains_cases s y [] uses) [
-    inl same ↦ elsewhere (sym same)
-  | inr later ↦ omega (arith, later.1) ]
+  | inl same ↦ elsewhere (sym same)
+  | inr later ↦ omega (arith, later.1)
+]
 
 pub unused_onward : (links : List Link) (x : Element) (s e v : ℕ) (es : List ℕ) → Elsewhere x s → leads links e s ≡ Some v → avoids x e v ≡ true
     → (Uses links v es x → ⊥) → Uses links s (e ∷ es) x → ⊥
 unfolding Elsewhere
 unused_onward links (elements.Link a) s e v es elsewhere on clear unused uses = elim (contains_cases e a es uses) [
-    inl same ↦ differ e a clear (sym same)
-  | inr later ↦ unused later ]
+  | inl same ↦ differ e a clear (sym same)
+  | inr later ↦ unused later
+]
 unused_onward links (elements.Node y) s e v es elsewhere on clear unused uses =
     elim (contains_cases s y (nodes_met links v es) (subst (λ (met : List ℕ). Contains met y) (met_onward links s e v es on) uses)) [
-        inl same ↦ elsewhere (sym same)
-      | inr later ↦ unused later ]
+      | inl same ↦ elsewhere (sym same)
+      | inr later ↦ unused later
+    ]
 
 -- a walk that does not use x
 pub record WalkWithout (links : List Link) (x : Element) (s t : ℕ) : Type 0 where
@@ -171,8 +179,10 @@ separates_none links x s t separates path =
 pub told_by_mark : (links : List Link) (x : Element) (s t : ℕ) (marks : List Bool) (mark : Bool) → t < length marks → mark ≡ get_or marks t mark
     → IsBetween x s t → (IsMarked marks t ↔ Reachable (StepsWithout links x) s t) → IsTrue (not mark) ↔ Separates links x s t
 told_by_mark links x s t marks mark within read between reached =
-    let here : mark ≡ get_or marks t false = read ∙ get_or_default marks t mark false within in
-    ( (λ test. separates_where links x s t between (λ path. absurd_not mark (here ∙ reached.1 path) test))
-    , (λ separates. elim (cases_Bool mark) [
-          inl marked ↦ absurd (separates_none links x s t separates (reached.0 (sym here ∙ marked)))
-        | inr bare ↦ ap not bare ]) )
+    let here : mark ≡ get_or marks t false = read ∙ get_or_default marks t mark false within in (
+      (λ test. separates_where links x s t between (λ path. absurd_not mark (here ∙ reached.1 path) test)),
+      (λ separates. elim (cases_Bool mark) [
+        | inl marked ↦ absurd (separates_none links x s t separates (reached.0 (sym here ∙ marked)))
+        | inr bare ↦ ap not bare
+      ]),
+    )

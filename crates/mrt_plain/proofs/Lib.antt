@@ -1,3 +1,4 @@
+pub mod Answering
 pub mod Avoiding
 pub mod Following
 pub mod Shared

@@ -17,14 +17,15 @@ pub next_way : (ways : ℕ → Option ℕ) (n : ℕ) (m0 : List Bool) (f0 : List
     → IsEntering (LeadsBelow ways (n + 1)) m0 f0 m2 f2
 next_way ways n m0 f0 m1 f1 m2 f2 before here =
     entering_both (LeadsBelow ways n) (λ (v : ℕ). ways n ≡ Some v) (LeadsBelow ways (n + 1))
-      (λ v h. (h.0, omega (arith, h.1), h.2))
-      (λ v h. (n, omega arith, h))
-      (λ v h. elim (cases_lt h.0 n) [
-          inl below ↦ inl (h.0, below, h.2)
-        | inr above ↦
-            let last : h.0 ≡ n = omega (arith, h.1)
-            in inr (subst (λ (k : ℕ). ways k ≡ Some v) last h.2) ])
-      m0 f0 m1 f1 m2 f2 before here
+    (λ v h. (h.0, omega (arith, h.1), h.2))
+    (λ v h. (n, omega arith, h))
+    (λ v h. elim (cases_lt h.0 n) [
+      | inl below ↦ inl (h.0, below, h.2)
+      | inr above ↦
+          let last : h.0 ≡ n = omega (arith, h.1)
+          in inr (subst (λ (k : ℕ). ways k ≡ Some v) last h.2)
+    ])
+    m0 f0 m1 f1 m2 f2 before here
 
 -- a way past the last leads nowhere
 pub all_ways : (ways : ℕ → Option ℕ) (n : ℕ) (m0 : List Bool) (f0 : List ℕ) (m1 : List Bool) (f1 : List ℕ)
@@ -32,4 +33,4 @@ pub all_ways : (ways : ℕ → Option ℕ) (n : ℕ) (m0 : List Bool) (f0 : List
     → IsEntering (LeadsBelow ways n) m0 f0 m1 f1 → IsEntering (λ (v : ℕ). (k : ℕ) × (ways k ≡ Some v)) m0 f0 m1 f1
 all_ways ways n m0 f0 m1 f1 last e =
     entering_same (LeadsBelow ways n) (λ (v : ℕ). (k : ℕ) × (ways k ≡ Some v)) m0 f0 m1 f1
-      (λ v h. (h.0, h.2)) (λ v h. (h.0, last h.0 v h.1, h.1)) e
+    (λ v h. (h.0, h.2)) (λ v h. (h.0, last h.0 v h.1, h.1)) e

@@ -10,13 +10,18 @@ use mrt_graph::{Cert, Color, Link, NoMemory, NodeNo};
 use std::alloc::Global;
 
 /// Whether the color walk from `s` ends at `t` and meets no node twice.
-pub fn reaches(alloc: Global, links: &[Link], c: &Cert, color: Color, s: NodeNo, t: NodeNo) -> Result<bool, NoMemory>
+pub fn reaches(
+    alloc: Global,
+    links: &[Link],
+    c: &Cert,
+    color: Color,
+    s: NodeNo,
+    t: NodeNo,
+) -> Result<bool, NoMemory>
     requires within { AreWithin (length c.now.nodes) links.now }
     requires source { s < length c.now.nodes }
     requires target { t < length c.now.nodes }
-    ensures {
-      IfOk result (λ yes. IsTrue yes ↔ Reaches links.now (length c.now.nodes) (row_of c.now) color s t)
-    }
+    ensures { IfOk result (λ yes. IsTrue yes ↔ Reaches links.now (length c.now.nodes) (row_of c.now) color s t) }
 {
     let course = follow(alloc, links, c, color, s, t)?;
     if course.end != t {

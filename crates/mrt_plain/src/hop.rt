@@ -52,14 +52,19 @@ fn link_on(color: Color, row: &Row) -> LinkNo
 }
 
 /// Where a packet for `t` goes next on a color from `at`, if it may go over `left` links more.
-pub fn next_hop(links: &[Link], c: &Cert, color: Color, at: NodeNo, t: NodeNo, left: u32) -> Option<Hop>
+pub fn next_hop(
+    links: &[Link],
+    c: &Cert,
+    color: Color,
+    at: NodeNo,
+    t: NodeNo,
+    left: u32,
+) -> Option<Hop>
     requires within { AreWithin (length c.now.nodes) links.now }
     requires at { at < length c.now.nodes }
     requires target { t < length c.now.nodes }
     ensures none { IfNone result (links_followed (color_hop links.now (row_of c.now) color t) t left at ≡ []) }
-    ensures some {
-      IfSome result (λ hop. IsNextHop links.now (length c.now.nodes) (color_hop links.now (row_of c.now) color t) t left at hop.link hop.to)
-    }
+    ensures some { IfSome result (λ hop. IsNextHop links.now (length c.now.nodes) (color_hop links.now (row_of c.now) color t) t left at hop.link hop.to) }
 {
     if left == 0 || at == t {
         return None;

@@ -13,4 +13,4 @@ pub use arrival::reaches;
 pub use parting::separates;
 pub use sharing::apart;
 pub use soundness::sound;
-pub use walking::{follow, Course};
+pub use walking::{Course, follow};

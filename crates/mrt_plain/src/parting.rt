@@ -9,7 +9,14 @@ use mrt_graph::{Element, Link, NoMemory, NodeNo};
 use std::alloc::Global;
 
 /// Whether `x` is a link, or a node other than `s` and `t`, that every walk from `s` to `t` uses.
-pub fn separates(alloc: Global, links: &[Link], count: u16, x: Element, s: NodeNo, t: NodeNo) -> Result<bool, NoMemory>
+pub fn separates(
+    alloc: Global,
+    links: &[Link],
+    count: u16,
+    x: Element,
+    s: NodeNo,
+    t: NodeNo,
+) -> Result<bool, NoMemory>
     requires within { AreWithin count links.now }
     requires source { s < count }
     requires target { t < count }

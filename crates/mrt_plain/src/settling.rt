@@ -11,13 +11,17 @@ use mrt_graph::{Element, Link, NoMemory, NodeNo};
 use std::alloc::Global;
 
 /// Marks, of `count` nodes, those that walks from `s` reach without `x`.
-pub fn settle(alloc: Global, links: &[Link], count: u16, x: &Element, s: NodeNo) -> Result<Vec<bool>, NoMemory>
+pub fn settle(
+    alloc: Global,
+    links: &[Link],
+    count: u16,
+    x: &Element,
+    s: NodeNo,
+) -> Result<Vec<bool>, NoMemory>
     requires within { AreWithin count links.now }
     requires source { s < count }
     ensures count { IfOk result (λ marks. vec_len marks ≡ count) }
-    ensures reached {
-      IfOk result (λ marks. (t : ℕ) → IsMarked marks.items t ↔ Reachable (StepsWithout links.now x.now) s t)
-    }
+    ensures reached { IfOk result (λ marks. (t : ℕ) → IsMarked marks.items t ↔ Reachable (StepsWithout links.now x.now) s t) }
 {
     let mut marks = vec![in alloc; false; count as usize]?;
     let mut found = Vec::with_capacity(alloc, count as usize)?;
@@ -36,12 +40,8 @@ fn visit(links: &[Link], x: &Element, at: NodeNo, marks: &mut Vec<bool>, found: 
     requires room { unmarked marks.old.items + vec_len found.old ≤ vec_capacity found.old }
     ensures count { vec_len marks.new ≡ vec_len marks.old }
     ensures room { unmarked marks.new.items + vec_len found.new ≤ vec_capacity found.new }
-    ensures left {
-      unmarked marks.new.items + vec_len found.new ≡ unmarked marks.old.items + vec_len found.old
-    }
-    ensures entered {
-      IsEntering (StepsWithout links.now x.now at) marks.old.items found.old.items marks.new.items found.new.items
-    }
+    ensures left { unmarked marks.new.items + vec_len found.new ≡ unmarked marks.old.items + vec_len found.old }
+    ensures entered { IsEntering (StepsWithout links.now x.now at) marks.old.items found.old.items marks.new.items found.new.items }
 {
     for e in 0..links.len() {
         pass(links, e, x, at, marks, found);
@@ -49,17 +49,20 @@ fn visit(links: &[Link], x: &Element, at: NodeNo, marks: &mut Vec<bool>, found: 
 }
 
 /// Enters the node that link number `e` leads to from `at`, without `x`.
-fn pass(links: &[Link], e: usize, x: &Element, at: NodeNo, marks: &mut Vec<bool>, found: &mut Vec<NodeNo>)
+fn pass(
+    links: &[Link],
+    e: usize,
+    x: &Element,
+    at: NodeNo,
+    marks: &mut Vec<bool>,
+    found: &mut Vec<NodeNo>,
+)
     requires within { AreWithin (vec_len marks.old) links.now }
     requires room { unmarked marks.old.items + vec_len found.old ≤ vec_capacity found.old }
     ensures count { vec_len marks.new ≡ vec_len marks.old }
     ensures room { unmarked marks.new.items + vec_len found.new ≤ vec_capacity found.new }
-    ensures left {
-      unmarked marks.new.items + vec_len found.new ≡ unmarked marks.old.items + vec_len found.old
-    }
-    ensures entered {
-      IsEntering (λ v. onward_without links.now x.now at e ≡ Some v) marks.old.items found.old.items marks.new.items found.new.items
-    }
+    ensures left { unmarked marks.new.items + vec_len found.new ≡ unmarked marks.old.items + vec_len found.old }
+    ensures entered { IsEntering (λ v. onward_without links.now x.now at e ≡ Some v) marks.old.items found.old.items marks.new.items found.new.items }
 {
     if let Some(to) = onward(links, e, x, at) {
         enter(marks, found, to);
@@ -84,12 +87,8 @@ fn enter(marks: &mut Vec<bool>, found: &mut Vec<NodeNo>, v: NodeNo)
     requires room { unmarked marks.old.items + vec_len found.old ≤ vec_capacity found.old }
     ensures count { vec_len marks.new ≡ vec_len marks.old }
     ensures room { unmarked marks.new.items + vec_len found.new ≤ vec_capacity found.new }
-    ensures left {
-      unmarked marks.new.items + vec_len found.new ≡ unmarked marks.old.items + vec_len found.old
-    }
-    ensures entered {
-      IsEntering (λ u. u ≡ v) marks.old.items found.old.items marks.new.items found.new.items
-    }
+    ensures left { unmarked marks.new.items + vec_len found.new ≡ unmarked marks.old.items + vec_len found.old }
+    ensures entered { IsEntering (λ u. u ≡ v) marks.old.items found.old.items marks.new.items found.new.items }
 {
     let place = v.get() as usize;
     if marks[place] {

@@ -6,14 +6,20 @@ ghost use Rattle.mrt_graph.specs.Certificate.{row_of};
 ghost use Rattle.mrt_graph.specs.Separates.{IsBetween, Separates};
 ghost use Rattle.mrt_plain.specs.Within.{AreWithin};
 
-use crate::walking::follow;
 use crate::parting::separates;
+use crate::walking::follow;
 use mrt_graph::{Cert, Color, Element, Link, LinkNo, NoMemory, NodeNo};
 use std::alloc::Global;
 
 /// Whether each link that both color walks from `s` to `t` use, and each node other than `s` and `t` that both use,
 /// separates `s` and `t`.
-pub fn apart(alloc: Global, links: &[Link], c: &Cert, s: NodeNo, t: NodeNo) -> Result<bool, NoMemory>
+pub fn apart(
+    alloc: Global,
+    links: &[Link],
+    c: &Cert,
+    s: NodeNo,
+    t: NodeNo,
+) -> Result<bool, NoMemory>
     requires within { AreWithin (length c.now.nodes) links.now }
     requires source { s < length c.now.nodes }
     requires target { t < length c.now.nodes }
@@ -29,14 +35,20 @@ pub fn apart(alloc: Global, links: &[Link], c: &Cert, s: NodeNo, t: NodeNo) -> R
 }
 
 /// Whether each link of both lists separates `s` and `t`.
-fn shared_links_separate(alloc: Global, links: &[Link], count: u16, blue: &[LinkNo], red: &[LinkNo], s: NodeNo, t: NodeNo) -> Result<bool, NoMemory>
+fn shared_links_separate(
+    alloc: Global,
+    links: &[Link],
+    count: u16,
+    blue: &[LinkNo],
+    red: &[LinkNo],
+    s: NodeNo,
+    t: NodeNo,
+) -> Result<bool, NoMemory>
     requires within { AreWithin count links.now }
     requires source { s < count }
     requires target { t < count }
-    ensures {
-      IfOk result (λ yes. IsTrue yes ↔
-        ((e : ℕ) → Contains blue.now e → Contains red.now e → Separates links.now (Element.Link e) s t))
-    }
+    ensures { IfOk result (λ yes. IsTrue yes ↔
+        ((e : ℕ) → Contains blue.now e → Contains red.now e → Separates links.now (Element.Link e) s t)) }
 {
     for e in blue {
         if !link_passes(alloc, links, count, *e, red, s, t)? {
@@ -47,13 +59,19 @@ fn shared_links_separate(alloc: Global, links: &[Link], count: u16, blue: &[Link
 }
 
 /// Whether a link separates `s` and `t`, if it is among the red ones.
-fn link_passes(alloc: Global, links: &[Link], count: u16, e: LinkNo, red: &[LinkNo], s: NodeNo, t: NodeNo) -> Result<bool, NoMemory>
+fn link_passes(
+    alloc: Global,
+    links: &[Link],
+    count: u16,
+    e: LinkNo,
+    red: &[LinkNo],
+    s: NodeNo,
+    t: NodeNo,
+) -> Result<bool, NoMemory>
     requires within { AreWithin count links.now }
     requires source { s < count }
     requires target { t < count }
-    ensures {
-      IfOk result (λ yes. IsTrue yes ↔ (Contains red.now e → Separates links.now (Element.Link e) s t))
-    }
+    ensures { IfOk result (λ yes. IsTrue yes ↔ (Contains red.now e → Separates links.now (Element.Link e) s t)) }
 {
     if !red.contains(&e) {
         return Ok(true);
@@ -62,15 +80,21 @@ fn link_passes(alloc: Global, links: &[Link], count: u16, e: LinkNo, red: &[Link
 }
 
 /// Whether each node of both lists, other than `s` and `t`, separates `s` and `t`.
-fn shared_nodes_separate(alloc: Global, links: &[Link], count: u16, blue: &[NodeNo], red: &[NodeNo], s: NodeNo, t: NodeNo) -> Result<bool, NoMemory>
+fn shared_nodes_separate(
+    alloc: Global,
+    links: &[Link],
+    count: u16,
+    blue: &[NodeNo],
+    red: &[NodeNo],
+    s: NodeNo,
+    t: NodeNo,
+) -> Result<bool, NoMemory>
     requires within { AreWithin count links.now }
     requires source { s < count }
     requires target { t < count }
-    ensures {
-      IfOk result (λ yes. IsTrue yes ↔
+    ensures { IfOk result (λ yes. IsTrue yes ↔
         ((v : ℕ) → Contains blue.now v → Contains red.now v → IsBetween (Element.Node v) s t
-          → Separates links.now (Element.Node v) s t))
-    }
+        → Separates links.now (Element.Node v) s t)) }
 {
     for v in blue {
         if !node_passes(alloc, links, count, *v, red, s, t)? {
@@ -81,14 +105,20 @@ fn shared_nodes_separate(alloc: Global, links: &[Link], count: u16, blue: &[Node
 }
 
 /// Whether a node separates `s` and `t`, if it is among the red ones and is neither `s` nor `t`.
-fn node_passes(alloc: Global, links: &[Link], count: u16, v: NodeNo, red: &[NodeNo], s: NodeNo, t: NodeNo) -> Result<bool, NoMemory>
+fn node_passes(
+    alloc: Global,
+    links: &[Link],
+    count: u16,
+    v: NodeNo,
+    red: &[NodeNo],
+    s: NodeNo,
+    t: NodeNo,
+) -> Result<bool, NoMemory>
     requires within { AreWithin count links.now }
     requires source { s < count }
     requires target { t < count }
-    ensures {
-      IfOk result (λ yes. IsTrue yes ↔
-        (Contains red.now v → IsBetween (Element.Node v) s t → Separates links.now (Element.Node v) s t))
-    }
+    ensures { IfOk result (λ yes. IsTrue yes ↔
+        (Contains red.now v → IsBetween (Element.Node v) s t → Separates links.now (Element.Node v) s t)) }
 {
     if !red.contains(&v) {
         return Ok(true);

@@ -5,8 +5,8 @@ ghost use Rattle.mrt_graph.specs.Certificate.{row_of};
 ghost use Rattle.mrt_graph.specs.Sound.{Sound, SoundFor};
 ghost use Rattle.mrt_plain.specs.Within.{AreWithin};
 
-use crate::sharing::apart;
 use crate::arrival::reaches;
+use crate::sharing::apart;
 use mrt_graph::{Cert, Color, Link, NoMemory, NodeNo};
 use std::alloc::Global;
 
@@ -27,10 +27,8 @@ pub fn sound(alloc: Global, links: &[Link], c: &Cert) -> Result<bool, NoMemory>
 fn sound_from(alloc: Global, links: &[Link], c: &Cert, s: NodeNo) -> Result<bool, NoMemory>
     requires within { AreWithin (length c.now.nodes) links.now }
     requires source { s < length c.now.nodes }
-    ensures {
-      IfOk result (λ yes. IsTrue yes ↔
-        ((t : ℕ) → t < length c.now.nodes → s ≢ t → SoundFor links.now (length c.now.nodes) (row_of c.now) s t))
-    }
+    ensures { IfOk result (λ yes. IsTrue yes ↔
+        ((t : ℕ) → t < length c.now.nodes → s ≢ t → SoundFor links.now (length c.now.nodes) (row_of c.now) s t)) }
 {
     for t in 0..c.node_count() {
         let t = NodeNo::new(t);
@@ -42,7 +40,13 @@ fn sound_from(alloc: Global, links: &[Link], c: &Cert, s: NodeNo) -> Result<bool
 }
 
 /// Whether both color walks from `s` reach `t`, and share only what separates `s` and `t`.
-fn sound_for(alloc: Global, links: &[Link], c: &Cert, s: NodeNo, t: NodeNo) -> Result<bool, NoMemory>
+fn sound_for(
+    alloc: Global,
+    links: &[Link],
+    c: &Cert,
+    s: NodeNo,
+    t: NodeNo,
+) -> Result<bool, NoMemory>
     requires within { AreWithin (length c.now.nodes) links.now }
     requires source { s < length c.now.nodes }
     requires target { t < length c.now.nodes }

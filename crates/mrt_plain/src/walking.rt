@@ -20,14 +20,19 @@ pub struct Course {
 }
 
 /// The color walk from `s` to `t`.
-pub fn follow(alloc: Global, links: &[Link], c: &Cert, color: Color, s: NodeNo, t: NodeNo) -> Result<Course, NoMemory>
+pub fn follow(
+    alloc: Global,
+    links: &[Link],
+    c: &Cert,
+    color: Color,
+    s: NodeNo,
+    t: NodeNo,
+) -> Result<Course, NoMemory>
     requires within { AreWithin (length c.now.nodes) links.now }
     requires source { s < length c.now.nodes }
     requires target { t < length c.now.nodes }
-    ensures links {
-      IfOk result (λ course.
-        course.links.items ≡ color_walk links.now (length c.now.nodes) (row_of c.now) color s t)
-    }
+    ensures links { IfOk result (λ course.
+        course.links.items ≡ color_walk links.now (length c.now.nodes) (row_of c.now) color s t) }
     ensures nodes { IfOk result (λ course. course.nodes.items ≡ nodes_met links.now s course.links.items) }
     ensures end { IfOk result (λ course. Walk links.now s course.links.items course.end) }
 {
@@ -42,5 +47,9 @@ pub fn follow(alloc: Global, links: &[Link], c: &Cert, color: Color, s: NodeNo, 
         left -= 1;
     }
     met.push(at)?;
-    Ok(Course { links: gone, nodes: met, end: at })
+    Ok(Course {
+        links: gone,
+        nodes: met,
+        end: at,
+    })
 }

@@ -11,7 +11,7 @@ begun_on : (n s : ℕ) (marks : List Bool) (found : List ℕ) (marks' : List Boo
     → IsEntering (λ (v : ℕ). v ≡ s) marks found marks' found' → IsEntering (λ (v : ℕ). v ≡ s) (replicate n false) [] marks' found'
 begun_on n s marks found marks' found' no_marks none entered =
     subst (λ (f : List ℕ). IsEntering (λ (v : ℕ). v ≡ s) (replicate n false) f marks' found') none
-      (subst (λ (m : List Bool). IsEntering (λ (v : ℕ). v ≡ s) m found marks' found') no_marks entered)
+    (subst (λ (m : List Bool). IsEntering (λ (v : ℕ). v ≡ s) m found marks' found') no_marks entered)
 
 pub loop-done-init : goal.loop-done-init
 loop-done-init c = record {
@@ -29,11 +29,11 @@ loop-done-preserved c = record {
   begun = omega (arith, entering_longer _ _ _ _ _ c.visit.ensures.entered);
   search = search_onward (StepsWithout c.args.links.now c.args.x.now) c.args.s _ _ c.loop-done.done _ _ c.loop-done.invariant.search (omega arith)
       (subst (λ (at : ℕ). IsEntering (StepsWithout c.args.links.now c.args.x.now at) c.loop-done.marks.items c.loop-done.found.items c.visit.new.marks.items c.visit.new.found.items)
-        (c.index.ensures ∙ get_or_default c.loop-done.found.items c.loop-done.done c.index.result.now 0 (omega arith))
-        c.visit.ensures.entered);
+      (c.index.ensures ∙ get_or_default c.loop-done.found.items c.loop-done.done c.index.result.now 0 (omega arith))
+      c.visit.ensures.entered);
 }
 
 pub returns-clause-reached : goal.returns-clause-reached
 returns-clause-reached c t =
     settled_is_reachable (StepsWithout c.args.links.now c.args.x.now) c.args.s _
-      (search_ended (StepsWithout c.args.links.now c.args.x.now) c.args.s _ _ _ c.loop-done.invariant.search (omega (arith, c.len.ensures, c.loop-done-test.false))) t
+    (search_ended (StepsWithout c.args.links.now c.args.x.now) c.args.s _ _ _ c.loop-done.invariant.search (omega (arith, c.len.ensures, c.loop-done-test.false))) t

@@ -15,5 +15,5 @@ loop-e-preserved c = record {
 pub returns-clause-entered : goal.returns-clause-entered
 returns-clause-entered c =
     all_ways (onward_without c.args.links.now c.args.x.now c.args.at) c.loop-e.e _ _ _ _
-      (λ k v onward. omega (arith, onward_within c.args.links.now c.args.x.now c.args.at k v onward))
-      c.loop-e.invariant.entered
+    (λ k v onward. omega (arith, onward_within c.args.links.now c.args.x.now c.args.at k v onward))
+    c.loop-e.invariant.entered
