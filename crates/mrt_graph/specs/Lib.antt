@@ -1,8 +1,14 @@
 pub mod Apart
 pub mod Certificate
 pub mod ColorWalk
+pub mod Connected
+pub mod EndRows
+pub mod EndsOfLinks
+pub mod GraphInvariant
 pub mod Hop
+pub mod InterfaceOrder
 pub mod Leads
+pub mod NewGraph
 pub mod NodeOrder
 pub mod Reachable
 pub mod Reaches

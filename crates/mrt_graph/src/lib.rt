@@ -2,6 +2,11 @@
 #![tactic(auto)]
 
 mod cert;
+mod graph;
+mod graph_ends;
+mod graph_error;
+#[cfg(test)]
+mod graph_tests;
 mod link;
 mod no_memory;
 mod node_id;
@@ -9,6 +14,8 @@ mod node_text;
 mod numbers;
 
 pub use cert::{Cert, CertFile, CertLink, CertNode, Color, Role, Row, Tag};
+pub use graph::Graph;
+pub use graph_error::GraphError;
 pub use link::{Element, End, Link, LinkIn};
 pub use no_memory::NoMemory;
 pub use node_id::{Kind, NodeId};
