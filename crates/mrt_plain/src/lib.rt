@@ -9,6 +9,9 @@ mod sharing;
 mod soundness;
 mod walking;
 
+#[cfg(test)]
+mod plain_tests;
+
 pub use arrival::reaches;
 pub use parting::separates;
 pub use sharing::apart;
