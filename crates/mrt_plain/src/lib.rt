@@ -2,6 +2,7 @@
 #![tactic(auto)]
 
 mod arrival;
+mod graph_links;
 mod hop;
 mod parting;
 mod settling;
@@ -13,6 +14,7 @@ mod walking;
 mod plain_tests;
 
 pub use arrival::reaches;
+pub use graph_links::links_of;
 pub use parting::separates;
 pub use sharing::apart;
 pub use soundness::sound;
