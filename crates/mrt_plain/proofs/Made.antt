@@ -1,10 +1,14 @@
 -- Certificates of one node and one link many times.
-use Rattle.std.proofs.Common.{◌≡◌, ◌≤◌, ◌*◌, ◌-◌, ◌∙◌, ℕ, zero, suc, List, length, replicate, sym, ap, subst, arith}
+use Rattle.std.proofs.Common.{◌≡◌, ◌≤◌, ◌*◌, ◌-◌, ◌∙◌, ℕ, zero, suc, List, [], ◌∷◌, length, replicate, sym, ap, subst, arith}
 use Rattle.std.specs.List.{AllByRecursion}
+use Rattle.std.specs.List.Sorted.{IsStrictlySortedBy}
 use Rattle.std.proofs.lemmas.List.{length-replicate}
 use Rattle.mrt_graph.specs.declared.cert.CertLink.{CertLink}
 use Rattle.mrt_graph.specs.declared.cert.CertNode.{CertNode}
 use Rattle.mrt_graph.specs.declared.cert.Row.{Row}
+use Rattle.mrt_graph.specs.declared.link.LinkIn.{LinkIn}
+use Rattle.mrt_graph.specs.declared.node_id.NodeId.{NodeId}
+use Rattle.mrt_graph.specs.NewGraph.{AreGraphParts}
 use Rattle.mrt_graph.specs.Certificate.{IsCertificate, IsCertLink, IsCertNode, IsCertRow, certificate_of}
 
 pub all_same : {X : Type 0} (P : X → Type 0) (n : ℕ) (x : X) → P x → AllByRecursion P (replicate n x)
@@ -24,8 +28,22 @@ certificate_made count m node link nodes links rows two few_nodes few_links all_
       few_links = omega (arith, m_is);
       a_row_each = subst (λ (n : ℕ). length rows ≡ n * (n - 1)) (sym n_is) full;
       nodes_kept = subst (λ (n : ℕ). AllByRecursion (IsCertNode n) nodes) (sym n_is)
-        (subst (λ (xs : List CertNode). AllByRecursion (IsCertNode count) xs) (sym all_nodes) (all_same (IsCertNode count) count node node_is));
+          (subst (λ (xs : List CertNode). AllByRecursion (IsCertNode count) xs) (sym all_nodes) (all_same (IsCertNode count) count node node_is));
       links_kept = subst (λ (n : ℕ). AllByRecursion (IsCertLink n) links) (sym n_is)
-        (subst (λ (xs : List CertLink). AllByRecursion (IsCertLink count) xs) (sym all_links) (all_same (IsCertLink count) m link link_is));
+          (subst (λ (xs : List CertLink). AllByRecursion (IsCertLink count) xs) (sym all_links) (all_same (IsCertLink count) m link link_is));
       rows_kept = subst (λ (n : ℕ). AllByRecursion (IsCertRow n) rows) (sym m_is) rows_are;
     }
+
+-- one node makes a graph without links
+pub one_node : (ids : List NodeId) (links : List LinkIn) → length ids ≡ 1 → links ≡ [] → AreGraphParts ids links
+unfolding IsStrictlySortedBy
+one_node (id ∷ []) [] one none = record {
+  some_node = omega arith;
+  ids_ascend = (tt, tt);
+  links_between = tt;
+  links_ascend = λ k d low past. absurd (omega (arith, past));
+  connected = λ s t s_is t_is. ([], omega arith);
+}
+one_node [] links one none = cc
+one_node (a ∷ (b ∷ ids)) links one none = absurd (omega (arith, one))
+one_node (id ∷ []) (l ∷ ls) one none = cc

@@ -1,5 +1,5 @@
 -- A visit of a node comes on what its links lead to, one after another.
-use Rattle.std.proofs.Common.{◌≡◌, ◌⊎◌, ◌<◌, ◌≤◌, ◌+◌, ℕ, Bool, List, Option, Some, inl, inr, subst, arith}
+use Rattle.std.proofs.Common.{◌≡◌, ◌<◌, ◌+◌, ℕ, Bool, List, Option, Some, inl, inr, subst, arith}
 use Rattle.std.proofs.lemmas.Bool.{cases_lt}
 use Rattle.mrt_graph.specs.Search.{IsEntering}
 use Rattle.mrt_graph.proofs.Searching.{entering_none, entering_both, entering_same}

@@ -5,13 +5,12 @@ mod arrival;
 mod graph_links;
 mod hop;
 mod parting;
+#[cfg(test)]
+mod plain_tests;
 mod settling;
 mod sharing;
 mod soundness;
 mod walking;
-
-#[cfg(test)]
-mod plain_tests;
 
 pub use arrival::reaches;
 pub use graph_links::links_of;

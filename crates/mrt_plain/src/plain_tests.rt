@@ -6,16 +6,22 @@ ghost use Rattle.std.specs.List.{AllByRecursion};
 ghost use Rattle.mrt_graph.specs.Certificate.{IsCertLink, IsCertNode, IsCertRow};
 ghost use Rattle.mrt_plain.specs.Within.{AreWithin};
 
-use crate::{apart, follow, reaches, separates, sound};
+use crate::{apart, follow, links_of, reaches, separates, sound};
 use mrt_graph::{
-    Cert, CertLink, CertNode, Color, Element, Kind, Link, LinkNo, NoMemory, NodeId, NodeNo, Role, Row, Tag,
+    Cert, CertLink, CertNode, Color, Element, Graph, GraphError, Kind, Link, LinkNo, NoMemory,
+    NodeId, NodeNo, Role, Row, Tag,
 };
 use std::alloc::Global;
 use std::process::Abort;
 use std::test::Fail;
 
 /// Links between `count` nodes, each by its two nodes.
-fn links_between(rt: &impl Abort, alloc: Global, count: u16, pairs: &[(u16, u16)]) -> Result<Vec<Link>, NoMemory>
+fn links_between(
+    rt: &impl Abort,
+    alloc: Global,
+    count: u16,
+    pairs: &[(u16, u16)],
+) -> Result<Vec<Link>, NoMemory>
     ensures { IfOk result (λ links. AreWithin count links.items) }
 {
     let mut links = Vec::new(alloc);
@@ -30,7 +36,12 @@ fn links_between(rt: &impl Abort, alloc: Global, count: u16, pairs: &[(u16, u16)
 }
 
 /// Rows by their blue and red link, by ascending source, then by ascending destination, the source left out.
-fn cert_rows(rt: &impl Abort, alloc: Global, links: u16, pairs: &[(u16, u16)]) -> Result<Vec<Row>, NoMemory>
+fn cert_rows(
+    rt: &impl Abort,
+    alloc: Global,
+    links: u16,
+    pairs: &[(u16, u16)],
+) -> Result<Vec<Row>, NoMemory>
     ensures count { IfOk result (λ rows. length rows.items ≡ length pairs.now) }
     ensures kept { IfOk result (λ rows. AllByRecursion (IsCertRow links) rows.items) }
 {
@@ -53,7 +64,13 @@ fn assert_full(rt: &impl Abort, count: u16, pairs: &[(u16, u16)])
     assert!(rt; pairs.len() == count as usize * (count as usize - 1));
 }
 
-fn cert(rt: &impl Abort, alloc: Global, count: u16, links: u16, pairs: &[(u16, u16)]) -> Result<Cert, NoMemory>
+fn cert(
+    rt: &impl Abort,
+    alloc: Global,
+    count: u16,
+    links: u16,
+    pairs: &[(u16, u16)],
+) -> Result<Cert, NoMemory>
     requires { 2 ≤ count }
     ensures { IfOk result (λ c. length c.nodes ≡ count) }
 {
@@ -104,11 +121,24 @@ const ONE_COLOR: [(u16, u16); 6] = [(0, 0), (0, 1), (2, 0), (2, 0), (1, 2), (1, 
 const LINE: [(u16, u16); 3] = [(0, 1), (1, 2), (2, 3)];
 /// The rows of the line's certificate.
 const LINE_ROWS: [(u16, u16); 12] = [
-    (0, 0), (0, 0), (0, 0), (0, 0), (1, 1), (1, 1), (1, 1), (1, 1), (2, 2), (2, 2), (2, 2), (2, 2),
+    (0, 0),
+    (0, 0),
+    (0, 0),
+    (0, 0),
+    (1, 1),
+    (1, 1),
+    (1, 1),
+    (1, 1),
+    (2, 2),
+    (2, 2),
+    (2, 2),
+    (2, 2),
 ];
 
 const TWO_TRIANGLES: [(u16, u16); 6] = [(0, 1), (0, 2), (1, 2), (2, 3), (2, 4), (3, 4)];
+
 const PARALLEL: [(u16, u16); 2] = [(0, 1), (0, 1)];
+
 const CROSSED: [(u16, u16); 6] = [(0, 3), (0, 4), (1, 3), (1, 4), (2, 3), (2, 4)];
 
 #[test]
@@ -135,12 +165,20 @@ fn sound_rows(rt: HostRuntime) -> Result<(), Fail> {
 
 /// Whether the numbers of links are these.
 fn are_links(links: &[LinkNo], wanted: &[u16]) -> bool {
-    links.len() == wanted.len() && links.iter().zip(wanted).all(|(link, number)| link.get() == *number)
+    links.len() == wanted.len()
+        && links
+            .iter()
+            .zip(wanted)
+            .all(|(link, number)| link.get() == *number)
 }
 
 /// Whether the numbers of nodes are these.
 fn are_nodes(nodes: &[NodeNo], wanted: &[u16]) -> bool {
-    nodes.len() == wanted.len() && nodes.iter().zip(wanted).all(|(node, number)| node.get() == *number)
+    nodes.len() == wanted.len()
+        && nodes
+            .iter()
+            .zip(wanted)
+            .all(|(node, number)| node.get() == *number)
 }
 
 /// Rows of five routers that are all the same, but for these, each by its place.
@@ -159,15 +197,96 @@ fn walks(rt: HostRuntime) -> Result<(), Fail> {
     let alloc = rt.alloc();
     let crossed = rows_but(&rt, &[(1, 1, 0), (14, 0, 4), (18, 5, 0)]);
     let cases = [
-        (3, TRIANGLE.as_slice(), TRIANGLE_ROWS.as_slice(), Color::Blue, 0, 1, [0].as_slice(), [0, 1].as_slice()),
-        (3, TRIANGLE.as_slice(), TRIANGLE_ROWS.as_slice(), Color::Blue, 2, 1, [1, 0].as_slice(), [2, 0, 1].as_slice()),
-        (3, TRIANGLE.as_slice(), TRIANGLE_ROWS.as_slice(), Color::Red, 2, 1, [2].as_slice(), [2, 1].as_slice()),
-        (3, TRIANGLE.as_slice(), TRIANGLE_ROWS.as_slice(), Color::Red, 1, 1, [].as_slice(), [1].as_slice()),
-        (3, TRIANGLE.as_slice(), LOOPING.as_slice(), Color::Blue, 1, 0, [2, 2, 2].as_slice(), [1, 2, 1, 2].as_slice()),
-        (3, TRIANGLE.as_slice(), UNTOUCHED.as_slice(), Color::Blue, 0, 1, [].as_slice(), [0].as_slice()),
-        (4, LINE.as_slice(), LINE_ROWS.as_slice(), Color::Red, 0, 3, [0, 1, 2].as_slice(), [0, 1, 2, 3].as_slice()),
-        (5, CROSSED.as_slice(), crossed.as_slice(), Color::Blue, 0, 2, [1, 5].as_slice(), [0, 4, 2].as_slice()),
-        (5, CROSSED.as_slice(), crossed.as_slice(), Color::Red, 0, 2, [0, 4].as_slice(), [0, 3, 2].as_slice()),
+        (
+            3,
+            TRIANGLE.as_slice(),
+            TRIANGLE_ROWS.as_slice(),
+            Color::Blue,
+            0,
+            1,
+            [0].as_slice(),
+            [0, 1].as_slice(),
+        ),
+        (
+            3,
+            TRIANGLE.as_slice(),
+            TRIANGLE_ROWS.as_slice(),
+            Color::Blue,
+            2,
+            1,
+            [1, 0].as_slice(),
+            [2, 0, 1].as_slice(),
+        ),
+        (
+            3,
+            TRIANGLE.as_slice(),
+            TRIANGLE_ROWS.as_slice(),
+            Color::Red,
+            2,
+            1,
+            [2].as_slice(),
+            [2, 1].as_slice(),
+        ),
+        (
+            3,
+            TRIANGLE.as_slice(),
+            TRIANGLE_ROWS.as_slice(),
+            Color::Red,
+            1,
+            1,
+            [].as_slice(),
+            [1].as_slice(),
+        ),
+        (
+            3,
+            TRIANGLE.as_slice(),
+            LOOPING.as_slice(),
+            Color::Blue,
+            1,
+            0,
+            [2, 2, 2].as_slice(),
+            [1, 2, 1, 2].as_slice(),
+        ),
+        (
+            3,
+            TRIANGLE.as_slice(),
+            UNTOUCHED.as_slice(),
+            Color::Blue,
+            0,
+            1,
+            [].as_slice(),
+            [0].as_slice(),
+        ),
+        (
+            4,
+            LINE.as_slice(),
+            LINE_ROWS.as_slice(),
+            Color::Red,
+            0,
+            3,
+            [0, 1, 2].as_slice(),
+            [0, 1, 2, 3].as_slice(),
+        ),
+        (
+            5,
+            CROSSED.as_slice(),
+            crossed.as_slice(),
+            Color::Blue,
+            0,
+            2,
+            [1, 5].as_slice(),
+            [0, 4, 2].as_slice(),
+        ),
+        (
+            5,
+            CROSSED.as_slice(),
+            crossed.as_slice(),
+            Color::Red,
+            0,
+            2,
+            [0, 4].as_slice(),
+            [0, 3, 2].as_slice(),
+        ),
     ];
     for (place, (count, pairs, rows, color, s, t, gone, met)) in cases.iter().enumerate() {
         assert!(rt; *count >= 2 && *s < *count && *t < *count);
@@ -188,23 +307,107 @@ fn arrives_and_apart(rt: HostRuntime) -> Result<(), Fail> {
     let one_way = rows_but(&rt, &[(3, 0, 1), (7, 2, 0), (11, 4, 4)]);
     let two_ways = rows_but(&rt, &[(3, 0, 1), (7, 2, 0), (11, 3, 4), (15, 5, 0)]);
     let cases = [
-        (3, TRIANGLE.as_slice(), TRIANGLE_ROWS.as_slice(), 2, 0, true, true, true),
-        (3, TRIANGLE.as_slice(), LOOPING.as_slice(), 1, 0, false, true, true),
-        (3, TRIANGLE.as_slice(), UNTOUCHED.as_slice(), 0, 1, false, true, true),
-        (3, TRIANGLE.as_slice(), ONE_COLOR.as_slice(), 0, 1, true, true, false),
-        (3, TRIANGLE.as_slice(), ONE_COLOR.as_slice(), 0, 0, true, true, true),
-        (4, LINE.as_slice(), LINE_ROWS.as_slice(), 0, 3, true, true, true),
-        (5, TWO_TRIANGLES.as_slice(), one_way.as_slice(), 0, 4, true, true, false),
-        (5, TWO_TRIANGLES.as_slice(), two_ways.as_slice(), 0, 4, true, true, true),
+        (
+            3,
+            TRIANGLE.as_slice(),
+            TRIANGLE_ROWS.as_slice(),
+            2,
+            0,
+            true,
+            true,
+            true,
+        ),
+        (
+            3,
+            TRIANGLE.as_slice(),
+            LOOPING.as_slice(),
+            1,
+            0,
+            false,
+            true,
+            true,
+        ),
+        (
+            3,
+            TRIANGLE.as_slice(),
+            UNTOUCHED.as_slice(),
+            0,
+            1,
+            false,
+            true,
+            true,
+        ),
+        (
+            3,
+            TRIANGLE.as_slice(),
+            ONE_COLOR.as_slice(),
+            0,
+            1,
+            true,
+            true,
+            false,
+        ),
+        (
+            3,
+            TRIANGLE.as_slice(),
+            ONE_COLOR.as_slice(),
+            0,
+            0,
+            true,
+            true,
+            true,
+        ),
+        (
+            4,
+            LINE.as_slice(),
+            LINE_ROWS.as_slice(),
+            0,
+            3,
+            true,
+            true,
+            true,
+        ),
+        (
+            5,
+            TWO_TRIANGLES.as_slice(),
+            one_way.as_slice(),
+            0,
+            4,
+            true,
+            true,
+            false,
+        ),
+        (
+            5,
+            TWO_TRIANGLES.as_slice(),
+            two_ways.as_slice(),
+            0,
+            4,
+            true,
+            true,
+            true,
+        ),
     ];
     for (place, (count, pairs, rows, s, t, blue, red, are_apart)) in cases.iter().enumerate() {
         assert!(rt; *count >= 2 && *s < *count && *t < *count);
         let links = links_between(&rt, alloc, *count, pairs)?;
         let c = cert(&rt, alloc, *count, pairs.len() as u16, rows)?;
         let (s, t) = (NodeNo::new(*s), NodeNo::new(*t));
-        assert_eq!(rt; reaches(alloc, &links, &c, Color::Blue, s, t)?, *blue, "blue of case {place}");
-        assert_eq!(rt; reaches(alloc, &links, &c, Color::Red, s, t)?, *red, "red of case {place}");
-        assert_eq!(rt; apart(alloc, &links, &c, s, t)?, *are_apart, "apart of case {place}");
+        assert_eq!(rt;
+            reaches(alloc, &links, &c, Color::Blue, s, t)?,
+            *blue,
+            "blue of case {place}"
+        );
+        assert_eq!(rt;
+            reaches(alloc, &links, &c, Color::Red, s, t)?,
+            *red,
+            "red of case {place}"
+        );
+        assert_eq!(rt;
+            apart(alloc, &links, &c, s, t)?,
+            *are_apart,
+            "apart of case {place}"
+        );
     }
     Ok(())
 }
@@ -256,5 +459,29 @@ fn separating(rt: HostRuntime) -> Result<(), Fail> {
         let found = separates(alloc, &links, *count, *x, NodeNo::new(*s), NodeNo::new(*t))?;
         assert_eq!(rt; found, *wanted, "case {place}");
     }
+    Ok(())
+}
+
+fn router(alloc: Global) -> Result<Vec<NodeId>, NoMemory>
+    ensures { IfOk result (λ ids. length ids.items ≡ 1) }
+{
+    let mut ids = Vec::new(alloc);
+    ids.push(NodeId {
+        kind: Kind::Router,
+        number: 1,
+    })?;
+    Ok(ids)
+}
+
+fn one_router(alloc: Global) -> Result<Graph, GraphError> {
+    let ids = router(alloc)?;
+    let links = Vec::new(alloc);
+    Graph::new(alloc, ids, links)
+}
+
+#[test]
+fn links_of_a_graph(rt: HostRuntime) -> Result<(), Fail> {
+    let graph = one_router(rt.alloc())?;
+    assert!(rt; links_of(rt.alloc(), &graph)?.is_empty());
     Ok(())
 }

@@ -1,4 +1,4 @@
-use Rattle.std.proofs.Common.{◌≡◌, ◌∙◌, List, [], false, replicate, ℕ, Bool, subst, sym, arith}
+use Rattle.std.proofs.Common.{◌≡◌, ◌∙◌, List, [], false, replicate, ℕ, Bool, subst, arith}
 use Rattle.std.proofs.lemmas.List.{get_or_default}
 use Rattle.mrt_graph.specs.Search.{IsEntering}
 use Rattle.mrt_graph.proofs.Searching.{search_begun, search_onward, search_ended, entering_longer}

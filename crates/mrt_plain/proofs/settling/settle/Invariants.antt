@@ -1,4 +1,4 @@
-use Rattle.std.proofs.Common.{◌≡◌, ◌≤◌, ◌<◌, ◌+◌, ◌-◌, ℕ, vec_len}
+use Rattle.std.proofs.Common.{◌≡◌, ◌≤◌, ◌+◌, ◌-◌, vec_len}
 use Rattle.std.specs.Prelude.{vec_capacity}
 use Rattle.mrt_graph.specs.Search.{IsSearch, unmarked}
 use Rattle.mrt_plain.specs.Without.{StepsWithout}

@@ -1,9 +1,6 @@
-use Rattle.std.proofs.Common.{◌≡◌, ◌<◌, ◌++◌, length}
+use Rattle.std.proofs.Common.{length}
 use Rattle.mrt_graph.specs.Certificate.{row_of}
-use Rattle.mrt_graph.specs.ColorWalk.{color_walk, links_followed}
 use Rattle.mrt_graph.specs.Hop.{color_hop}
-use Rattle.mrt_graph.specs.Uses.{nodes_met}
-use Rattle.mrt_graph.specs.Walk.{Walk}
 use Rattle.mrt_plain.proofs.Following.{IsFollowing}
 use Rattle.mrt_plain.proofs.walking.follow.Given as goal
 
