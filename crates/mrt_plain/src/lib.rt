@@ -2,6 +2,8 @@
 #![tactic(auto)]
 
 mod arrival;
+#[cfg(test)]
+mod fixtures;
 mod graph_links;
 mod hop;
 mod parting;
