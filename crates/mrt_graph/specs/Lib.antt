@@ -1,6 +1,17 @@
+pub mod Accepted
 pub mod Certificate
+pub mod CertWords
+pub mod FirstFault
+pub mod HeadsAndBlocks
 pub mod Leads
 pub mod NodeOrder
+pub mod Places
+pub mod Related
+pub mod Roles
+pub mod RootAndOrders
 pub mod RowPlace
+pub mod RowRules
+pub mod SameNetwork
 pub mod Spelling
+pub mod Tags
 pub mod Topology
