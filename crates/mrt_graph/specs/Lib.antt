@@ -1,8 +1,11 @@
 pub mod Accepted
 pub mod Certificate
 pub mod CertWords
+pub mod Connected
 pub mod FirstFault
+pub mod GraphInvariant
 pub mod HeadsAndBlocks
+pub mod InterfaceOrder
 pub mod Leads
 pub mod NodeOrder
 pub mod Places
@@ -15,3 +18,4 @@ pub mod SameNetwork
 pub mod Spelling
 pub mod Tags
 pub mod Topology
+pub mod Walk

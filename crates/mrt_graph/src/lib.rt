@@ -2,6 +2,7 @@
 #![tactic(auto)]
 
 mod cert;
+mod graph;
 mod link;
 mod no_memory;
 mod node_id;
@@ -9,6 +10,7 @@ mod node_text;
 mod numbers;
 
 pub use cert::{Cert, CertFile, CertLink, CertNode, Color, Role, Row, Tag};
+pub use graph::Graph;
 pub use link::{Element, End, Link, LinkIn};
 pub use no_memory::NoMemory;
 pub use node_id::{Kind, NodeId};
