@@ -47,7 +47,7 @@ joins_top c head k link = ((link.a == head) && is_top c k link.b) || ((link.b ==
 
 -- the closing links of a block
 abbrev pub closings : Certificate → ℕ → List CertLink
-closings c k = filter (λ link. is_closing link.role) (links_of c k)
+closings c k = filter (λ link. (link.block == k) && is_closing link.role) c.links
 
 -- of a block with another number of links none is sole, exactly one is closing, and it joins the block's head and its
 -- node of greatest order

@@ -1,0 +1,12 @@
+//! The checker of certificates: fourteen rules, read in order without memory.
+#![tactic(auto)]
+
+mod block_links;
+mod heads;
+mod orders;
+mod place;
+mod row_rules;
+mod same_network;
+mod verdict;
+
+pub use verdict::Verdict;
