@@ -6,6 +6,7 @@ mod heads;
 mod orders;
 mod place;
 mod row_rules;
+mod row_words;
 mod same_network;
 mod verdict;
 
