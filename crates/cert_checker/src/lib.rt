@@ -2,11 +2,13 @@
 #![tactic(auto)]
 
 mod block_links;
+mod fault;
 mod heads;
 mod orders;
 mod place;
 mod row_rules;
 mod row_words;
+mod rows;
 mod same_network;
 mod verdict;
 

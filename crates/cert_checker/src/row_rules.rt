@@ -312,7 +312,7 @@ fn has_links_for(c: &Cert, s: NodeNo, w: NodeNo, row: &Row) -> bool
 }
 
 /// Whether both links of the row of `s` for `t` lie in the common block of the two.
-pub(crate) fn lies_in_block(c: &Cert, s: NodeNo, t: NodeNo, row: &Row) -> bool
+pub(crate) fn lies_in_common_block(c: &Cert, s: NodeNo, t: NodeNo, row: &Row) -> bool
     requires source { s < length c.now.nodes }
     requires target { t < length c.now.nodes }
     requires row { IsCertRow (length c.now.links) row.now }

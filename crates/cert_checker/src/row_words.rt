@@ -1,6 +1,6 @@
 //! Words of the rules on rows: where a link leads, what tag a row has, which role a link has.
 
-ghost use Rattle.std.specs.Prelude.{◌≡◌, ◌<◌, IfSome, length};
+ghost use Rattle.std.specs.Prelude.{◌≡◌, ◌<◌, ◌≤◌, IfSome, length};
 ghost use Rattle.mrt_graph.specs.CertWords.{role_of, tagged};
 ghost use Rattle.mrt_graph.specs.Leads.{leads};
 ghost use Rattle.mrt_graph.specs.RowRules.{rises, falls, plain_to_head, closing_to_head};
@@ -41,7 +41,8 @@ pub(crate) fn has_tag(c: &Cert, v: NodeNo, t: NodeNo, tag: Tag) -> bool
 }
 
 pub(crate) fn number_of(tag: Tag) -> u8
-    ensures { result ≡ tag_number tag }
+    ensures number { result ≡ tag_number tag }
+    ensures few { result ≤ 6 }
 {
     tag as u8
 }
