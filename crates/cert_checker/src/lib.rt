@@ -4,6 +4,7 @@
 mod block_links;
 mod fault;
 mod heads;
+mod judge;
 mod orders;
 mod place;
 mod row_rules;
@@ -12,4 +13,5 @@ mod rows;
 mod same_network;
 mod verdict;
 
+pub use judge::check;
 pub use verdict::Verdict;

@@ -1,6 +1,6 @@
-use Rattle.std.proofs.Common.{◌≡◌, ◌==◌, ◌+◌, ◌≤◌, length, drop, not, nat_le}
+use Rattle.std.proofs.Common.{◌≡◌, ◌==◌, drop}
 use Rattle.std.specs.List.{filter, list_all}
-use Rattle.mrt_graph.specs.Roles.{is_sole, is_closing}
+use Rattle.mrt_graph.specs.Roles.{is_sole}
 use Rattle.cert_checker.proofs.block_links.all_sole.Given as goal
 
 abbrev pub invariant-loop-e : goal.invariant-loop-e

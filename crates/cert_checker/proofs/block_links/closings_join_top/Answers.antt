@@ -1,5 +1,5 @@
-use Rattle.std.proofs.Common.{sym, ◌∙◌, ◌==◌, ◌&&◌, not, nat_le}
-use Rattle.mrt_graph.specs.Roles.{is_sole, is_closing}
+use Rattle.std.proofs.Common.{sym, ◌∙◌, ◌==◌, ◌&&◌}
+use Rattle.mrt_graph.specs.Roles.{is_closing}
 use Rattle.mrt_graph.specs.HeadsAndBlocks.{joins_top}
 use Rattle.cert_checker.proofs.Rest.{all_step, all_stop}
 use Rattle.cert_checker.proofs.block_links.closings_join_top.Goals as goal

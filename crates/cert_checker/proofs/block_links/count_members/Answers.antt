@@ -1,5 +1,4 @@
-use Rattle.std.proofs.Common.{◌==◌, ◌&&◌, ap, ◌∙◌, arith}
-use Rattle.mrt_graph.specs.Roles.{is_sole, is_closing}
+use Rattle.std.proofs.Common.{◌==◌, ap, ◌∙◌}
 use Rattle.std.specs.Int.{from_bool}
 use Rattle.cert_checker.proofs.Rest.{count_step}
 use Rattle.cert_checker.proofs.block_links.count_members.Goals as goal

@@ -1,5 +1,5 @@
-use Rattle.std.proofs.Common.{◌≡◌, ◌==◌, ◌+◌, ◌≤◌, length, drop, not, nat_le}
-use Rattle.std.specs.List.{filter, list_all}
+use Rattle.std.proofs.Common.{◌≡◌, ◌==◌, ◌+◌, ◌≤◌, length, drop}
+use Rattle.std.specs.List.{filter}
 use Rattle.cert_checker.proofs.block_links.count_members.Given as goal
 
 abbrev pub invariant-loop-a : goal.invariant-loop-a

@@ -1,6 +1,4 @@
-use Rattle.std.proofs.Common.{sym, ◌∙◌, ◌==◌, ◌&&◌, not, nat_le}
-use Rattle.mrt_graph.specs.Roles.{is_sole, is_closing}
-use Rattle.mrt_graph.specs.HeadsAndBlocks.{joins_top}
+use Rattle.std.proofs.Common.{sym, ◌∙◌, ◌==◌, nat_le}
 use Rattle.cert_checker.proofs.Rest.{all_step, all_stop}
 use Rattle.cert_checker.proofs.block_links.none_above.Goals as goal
 

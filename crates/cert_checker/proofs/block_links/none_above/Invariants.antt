@@ -1,4 +1,4 @@
-use Rattle.std.proofs.Common.{◌≡◌, ◌==◌, ◌+◌, ◌≤◌, length, drop, not, nat_le}
+use Rattle.std.proofs.Common.{◌≡◌, ◌==◌, drop, nat_le}
 use Rattle.std.specs.List.{filter, list_all}
 use Rattle.cert_checker.proofs.block_links.none_above.Given as goal
 

@@ -1,6 +1,5 @@
-use Rattle.std.proofs.Common.{sym, ◌∙◌, ◌==◌, ◌&&◌, not, nat_le}
-use Rattle.mrt_graph.specs.Roles.{is_sole, is_closing}
-use Rattle.mrt_graph.specs.HeadsAndBlocks.{joins_top}
+use Rattle.std.proofs.Common.{sym, ◌∙◌, ◌==◌, not}
+use Rattle.mrt_graph.specs.Roles.{is_sole}
 use Rattle.cert_checker.proofs.Rest.{all_step, all_stop}
 use Rattle.cert_checker.proofs.block_links.none_sole.Goals as goal
 
