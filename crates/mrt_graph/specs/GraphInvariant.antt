@@ -51,6 +51,10 @@ pub record IsTopology (graph : Topology) : Type 0 where
   pub ends_kept : (n : ℕ) (ends : List End) → slice_get graph.ends n ≡ Some ends → AreEnds (length graph.ids) graph.links n ends
   pub connected : IsConnected (length graph.ids) graph.links
 
+-- the lists of ends, each without the room that it has for more
+abbrev pub lists_of : List (SmallVec End 4 Global) → List (List End)
+lists_of rows = map (λ row. row.items) rows
+
 -- what is seen of a graph's three lists
 abbrev pub topology_of : List NodeId → List Link → List (SmallVec End 4 Global) → Topology
-topology_of ids links ends = record { ids = ids; links = links; ends = map (λ row. row.items) ends }
+topology_of ids links ends = record { ids = ids; links = links; ends = lists_of ends }

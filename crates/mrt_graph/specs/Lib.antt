@@ -1,12 +1,15 @@
 pub mod Accepted
-pub mod Certificate
 pub mod CertWords
+pub mod Certificate
 pub mod Connected
+pub mod EndRows
+pub mod EndsOfLinks
 pub mod FirstFault
 pub mod GraphInvariant
 pub mod HeadsAndBlocks
 pub mod InterfaceOrder
 pub mod Leads
+pub mod NewGraph
 pub mod NodeOrder
 pub mod Places
 pub mod Related

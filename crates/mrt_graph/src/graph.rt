@@ -1,10 +1,23 @@
 //! Graphs: nodes by ascending identifier, links between them, and each node's ends in interface order.
 
-use crate::link::{End, Link};
+ghost use Rattle.std.specs.Prelude.{◌≡◌, ◌-◌, ◌^◌, IfOk, map, min};
+ghost use Rattle.mrt_graph.specs.EndsOfLinks.{pair_of};
+
+use crate::graph_ends::end_lists;
+use crate::graph_error::GraphError;
+use crate::link::{End, Link, LinkIn};
+use crate::no_memory::NoMemory;
 use crate::node_id::NodeId;
 use crate::numbers::{LinkNo, NodeNo};
 use smallvec::SmallVec;
+use std::alloc::Global;
 use std::marker::Model;
+
+/// The most nodes that a graph may have.
+const MAX_NODES: usize = 2048;
+
+/// The most links that it may have.
+const MAX_LINKS: usize = 8192;
 
 /// A connected graph of routers and transit networks (RFC 2328, section 2.1), as large as an island may be: at most
 /// 2,048 nodes and 8,192 links.
@@ -30,8 +43,32 @@ impl Model for Graph {
 }
 
 impl Graph {
-    ghost use Rattle.std.specs.Prelude.{◌≡◌, ◌<◌, Some, length, slice_get};
+    ghost use Rattle.std.specs.Prelude.{◌≡◌, ◌<◌, ◌⊎◌, ◌↔◌, Some, Err, IfOk, IfErr, length, slice_get};
     ghost use Rattle.mrt_graph.specs.GraphInvariant.{AreEnds, IsLink, IsTopology};
+    ghost use Rattle.mrt_graph.specs.NewGraph.{AreGraphParts, IsGraphOf, IsTooLarge, too_large};
+
+    /// The graph of these identifiers and links.
+    ///
+    /// The identifiers ascend strictly; there is at least one. Each link has its lower node first, no link joins two
+    /// networks, links ascend by `a`, then by `b`, and together they connect all nodes.
+    pub fn new(alloc: Global, ids: Vec<NodeId>, links: Vec<LinkIn>) -> Result<Graph, GraphError>
+        requires { AreGraphParts ids.items links.items }
+        ensures made { IfOk result (λ graph. IsGraphOf ids.items links.items graph) }
+        ensures too_large { IsTooLarge (length ids.items) (length links.items)
+            ↔ (result ≡ Err (too_large (length ids.items) (length links.items))) }
+        ensures refused { IfErr result (λ error. (error ≡ GraphError.NoMemory)
+            ⊎ (error ≡ too_large (length ids.items) (length links.items))) }
+    {
+        if ids.len() > MAX_NODES || links.len() > MAX_LINKS {
+            return Err(GraphError::TooLarge {
+                nodes: told(ids.len()),
+                links: told(links.len()),
+            });
+        }
+        let ends = end_lists(alloc, ids.len(), &links)?;
+        let links = pairs(alloc, &links)?;
+        Ok(Graph { ids, links, ends })
+    }
 
     pub fn node_count(&self) -> u16
         ensures count { result ≡ length self.now.ids }
@@ -70,4 +107,25 @@ impl Graph {
     {
         self.ends[n.get() as usize].as_slice()
     }
+}
+
+/// A count as a number of 32 bits, the greatest one where it is greater.
+fn told(count: usize) -> u32
+    ensures { result ≡ min count (2 ^ 32 - 1) }
+{
+    count.min(u32::MAX as usize) as u32
+}
+
+/// The two nodes of each link.
+fn pairs(alloc: Global, links: &[LinkIn]) -> Result<Vec<Link>, NoMemory>
+    ensures { IfOk result (λ pairs. pairs.items ≡ map pair_of links.now) }
+{
+    let pairs = links
+        .iter()
+        .map(|link| Link {
+            a: link.a,
+            b: link.b,
+        })
+        .collect(alloc)?;
+    Ok(pairs)
 }

@@ -3,6 +3,10 @@
 
 mod cert;
 mod graph;
+mod graph_ends;
+mod graph_error;
+#[cfg(test)]
+mod graph_tests;
 mod link;
 mod no_memory;
 mod node_id;
@@ -11,6 +15,7 @@ mod numbers;
 
 pub use cert::{Cert, CertFile, CertLink, CertNode, Color, Role, Row, Tag};
 pub use graph::Graph;
+pub use graph_error::GraphError;
 pub use link::{Element, End, Link, LinkIn};
 pub use no_memory::NoMemory;
 pub use node_id::{Kind, NodeId};
