@@ -2,6 +2,8 @@
 #![tactic(auto)]
 
 mod block_links;
+#[cfg(test)]
+mod check_tests;
 mod fault;
 mod heads;
 mod judge;
