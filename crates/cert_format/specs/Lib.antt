@@ -1,0 +1,4 @@
+pub mod CertText
+pub mod FirstFault
+pub mod Limits
+pub mod Reading

@@ -1,0 +1,9 @@
+//! Certificate files as bytes, both ways.
+#![tactic(auto)]
+
+mod error;
+mod field;
+mod part;
+mod rest;
+
+pub use error::{CertError, CertKind};
