@@ -1,7 +1,7 @@
 -- A field that is read is the field that was written, and what was written is read again.
 use Rattle.std.proofs.Common.{◌≡◌, ℕ, zero, suc, ◌+◌, ◌^◌, ◌<◌, ◌≤◌, Bool, true, false, cond, ltb, List, [], ◌∷◌, ◌++◌, length, get_or, take, drop, Option, Some, None, Result, Ok, Err, refl, sym, ap, subst, ◌∙◌, append_assoc, arith, inl, inr}
 use Rattle.std.specs.Int.{Width, w8, w16, w32, byte_len, from_be_bytes, to_be_bytes}
-use Rattle.std.proofs.lemmas.Bool.{lt-ltb, le-ltb}
+use Rattle.std.proofs.lemmas.Bool.{ltb-true, lt-ltb, le-ltb}
 use Rattle.std.proofs.lemmas.List.{take_at, drop_at, take-append-drop, length-append, length-take}
 use Rattle.std.proofs.lemmas.Nat.{be_bytes_2, be_bytes_4, from_be_bytes-to_be_bytes_2, from_be_bytes-to_be_bytes_4}
 use Rattle.cert_format.specs.declared.error.CertKind.{CertKind}
@@ -127,3 +127,15 @@ pub took_named : {A : Type 0} (field : Field) (number : A → ℕ) (x : A) (n : 
     → number x ≡ n → TookField field (number x) before after
 took_named field number x n before after wide took lt allowed is =
     subst (λ (k : ℕ). TookField field k before after) (sym is) (took_field field n before after wide took lt (ap field.allows (sym is) ∙ allowed))
+
+pub kind_small : (kind : Kind) → kind_number kind < 256
+kind_small kinds.Router = omega arith
+kind_small kinds.Network = omega arith
+
+pub role_small : (role : Role) → role_number role < 256
+role_small roles.Plain = omega arith
+role_small roles.Sole = omega arith
+role_small roles.Closing = omega arith
+
+pub tag_small : (row_tag : Tag) → tag_number row_tag < 256
+tag_small row_tag = omega (arith, ltb-true _ _ (tag_allowed row_tag))

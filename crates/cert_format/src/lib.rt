@@ -3,6 +3,7 @@
 
 mod error;
 mod field;
+mod list;
 mod part;
 mod rest;
 

@@ -1,6 +1,6 @@
 //! One field after another.
 
-ghost use Rattle.std.specs.Prelude.{◌≡◌, ◌<◌, ◌^◌, ◌-◌, ◌↔◌, IsTrue, []};
+ghost use Rattle.std.specs.Prelude.{◌≡◌, ◌<◌, ◌^◌, ◌-◌, ◌↔◌, ◌/◌, IsTrue, [], length, min};
 
 use crate::error::{CertError, CertKind};
 use std::marker::Model;
@@ -41,6 +41,14 @@ impl<'a> Rest<'a> {
         ensures { IsTrue result ↔ (self.now.bytes ≡ []) }
     {
         self.bytes.is_empty()
+    }
+
+    /// How many parts of so many bytes can follow, where `count` are to.
+    pub fn room(&self, count: usize, bytes: usize) -> usize
+        requires { 0 < bytes }
+        ensures { result ≡ min count (length self.now.bytes / bytes) }
+    {
+        count.min(self.bytes.len() / bytes)
     }
 
     pub fn u8(self) -> Result<(u8, Rest<'a>), CertError>
