@@ -1,5 +1,5 @@
 -- What the steps of reading answer.
-use Rattle.std.specs.Prelude.{◌≡◌, ℕ, ◌+◌, ◌<◌, ◌^◌, Bool, true, List, ◌++◌, length, Option, Some, Result, Ok, Err}
+use Rattle.std.specs.Prelude.{◌≡◌, ℕ, ◌+◌, ◌<◌, ◌≤◌, ◌^◌, Bool, true, List, ◌++◌, length, Option, Some, Result, Ok, Err}
 use Rattle.std.specs.Int.{Width, byte_len, to_be_bytes}
 use Rattle.std.specs.List.{AllByRecursion}
 use Rattle.mrt_graph.specs.Certificate.{IsCertNode}
@@ -9,7 +9,9 @@ use Rattle.cert_format.specs.declared.error.CertKind.{CertKind}
 use Rattle.cert_format.specs.declared.error.CertKind.TheVariants.{Truncated}
 use Rattle.cert_format.specs.declared.error.CertError.{CertError}
 use Rattle.cert_format.specs.declared.error.CertError.TheVariants as errors
-use Rattle.cert_format.specs.FirstFault.{Field, Form, Then, fault_in}
+use Rattle.cert_format.specs.declared.header.Header.{Header}
+use Rattle.cert_format.specs.CertText.{header_text}
+use Rattle.cert_format.specs.FirstFault.{Field, Form, Then, header_form, fault_in}
 
 -- what is left of a file, and the place of its first byte
 pub record Rest : Type 0 where
@@ -60,3 +62,20 @@ pub record IsNode (nodes : ℕ) (node : CertNode) : Type 0 where
 pub record AreSo {A : Type 0} (count : ℕ) (Keeps : A → Type 0) (xs : List A) : Type 0 where
   pub many : length xs ≡ count
   pub each : AllByRecursion Keeps xs
+
+-- what a header says is within version 1's limits
+pub record IsHeader (nodes links root : ℕ) : Type 0 where
+  pub some_node : 1 ≤ nodes
+  pub few_nodes : nodes ≤ 2048
+  pub few_links : links ≤ 8192
+  pub root_fits : root < 2 ^ 32
+
+-- a header that is spelled so stood at the front, and what follows it is read on
+pub record TookHeader (nodes links root : ℕ) (before after : Rest) : Type 0 where
+  pub took : Took (header_text nodes links root) before after
+  pub within : IsHeader nodes links root
+  pub goes_on : (next : ℕ → ℕ → Form) → fault_in (header_form next) before.at before.bytes ≡ fault_in (next nodes links) after.at after.bytes
+
+abbrev pub ReadsHeader : Rest → Result (Header × Rest) CertError → Type 0
+ReadsHeader before (Ok x) = TookHeader x.0.nodes x.0.links x.0.root before x.1
+ReadsHeader before (Err e) = (next : ℕ → ℕ → Form) → Names e (fault_in (header_form next) before.at before.bytes)

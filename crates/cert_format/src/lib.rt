@@ -3,6 +3,7 @@
 
 mod error;
 mod field;
+mod header;
 mod list;
 mod part;
 mod rest;

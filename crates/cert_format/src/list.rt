@@ -1,6 +1,6 @@
 //! The nodes, the links and the rows of a certificate file.
 
-ghost use Rattle.std.specs.Prelude.{◌<◌, ◌+◌, ◌-◌, ◌*◌, ◌^◌};
+ghost use Rattle.std.specs.Prelude.{◌≡◌, ◌<◌, ◌+◌, ◌-◌, ◌*◌, ◌^◌, IfOk};
 ghost use Rattle.std.specs.List.{flat_map};
 ghost use Rattle.mrt_graph.specs.Certificate.{IsCertLink, IsCertRow};
 ghost use Rattle.cert_format.specs.CertText.{node_text, link_text, row_text};
@@ -20,7 +20,8 @@ pub fn nodes(
     count: u16,
 ) -> Result<(Vec<CertNode>, Rest<'_>), CertError>
     requires { rest.at + 11 * count < 2 ^ 32 - 16 }
-    ensures { ReadsPart (repeated count (node_form count)) (λ v. flat_map node_text v.items) (λ v. AreSo count (IsNode count) v.items) rest.entry result }
+    ensures read { ReadsPart (repeated count (node_form count)) (λ v. flat_map node_text v.items) (λ v. AreSo count (IsNode count) v.items) rest.entry result }
+    ensures place { IfOk result (λ x. x.1.at ≡ rest.entry.at + 11 * count) }
 {
     let mut nodes = Vec::with_capacity(alloc, rest.room(count as usize, 11))?;
     let mut rest = rest;
@@ -40,7 +41,8 @@ pub fn links(
     nodes: u16,
 ) -> Result<(Vec<CertLink>, Rest<'_>), CertError>
     requires { rest.at + 7 * count < 2 ^ 32 - 16 }
-    ensures { ReadsPart (repeated count (link_form nodes)) (λ v. flat_map link_text v.items) (λ v. AreSo count (IsCertLink nodes) v.items) rest.entry result }
+    ensures read { ReadsPart (repeated count (link_form nodes)) (λ v. flat_map link_text v.items) (λ v. AreSo count (IsCertLink nodes) v.items) rest.entry result }
+    ensures place { IfOk result (λ x. x.1.at ≡ rest.entry.at + 7 * count) }
 {
     let mut links = Vec::with_capacity(alloc, rest.room(count as usize, 7))?;
     let mut rest = rest;
@@ -60,7 +62,8 @@ pub fn rows(
     links: u16,
 ) -> Result<(Vec<Row>, Rest<'_>), CertError>
     requires { rest.at + 5 * count < 2 ^ 32 - 16 }
-    ensures { ReadsPart (repeated count (row_form links)) (λ v. flat_map row_text v.items) (λ v. AreSo count (IsCertRow links) v.items) rest.entry result }
+    ensures read { ReadsPart (repeated count (row_form links)) (λ v. flat_map row_text v.items) (λ v. AreSo count (IsCertRow links) v.items) rest.entry result }
+    ensures place { IfOk result (λ x. x.1.at ≡ rest.entry.at + 5 * count) }
 {
     let mut rows = Vec::with_capacity(alloc, rest.room(count, 5))?;
     let mut rest = rest;

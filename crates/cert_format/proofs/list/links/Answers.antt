@@ -10,7 +10,7 @@ use Rattle.cert_format.proofs.list.links.Goals as goal
 pub returns-in_err-link : goal.returns-in_err-link
 returns-in_err-link c =
     let p = err_from_is_err_and c.from_residual-in_err-link.result c.from_residual-in_err-link.ensures.1 in
-    rw (p.1, p.2) (repeats_fault (link_form c.args.nodes) link_text (IsCertLink c.args.nodes) 7 c.args.count c.loop.counter c.loop.links.items c.args.rest c.loop.rest c.in_err-link.field-0.0 (link_part c.args.nodes (omega arith)) c.loop.invariant.0 c.loop-test.true c.in_err-link.ensures)
+    rw (p.1, p.2) (record { read = repeats_fault (link_form c.args.nodes) link_text (IsCertLink c.args.nodes) 7 c.args.count c.loop.counter c.loop.links.items c.args.rest c.loop.rest c.in_err-link.field-0.0 (link_part c.args.nodes (omega arith)) c.loop.invariant.0 c.loop-test.true c.in_err-link.ensures; place = tt })
 
 pub loop-preserved : goal.loop-preserved
 loop-preserved c =

@@ -10,7 +10,7 @@ use Rattle.cert_format.proofs.list.nodes.Goals as goal
 pub returns-in_err-node : goal.returns-in_err-node
 returns-in_err-node c =
     let p = err_from_is_err_and c.from_residual-in_err-node.result c.from_residual-in_err-node.ensures.1 in
-    rw (p.1, p.2) (repeats_fault (node_form c.args.count) node_text (IsNode c.args.count) 11 c.args.count c.loop.counter c.loop.nodes.items c.args.rest c.loop.rest c.in_err-node.field-0.0 (node_part c.args.count (omega arith)) c.loop.invariant.0 c.loop-test.true c.in_err-node.ensures)
+    rw (p.1, p.2) (record { read = repeats_fault (node_form c.args.count) node_text (IsNode c.args.count) 11 c.args.count c.loop.counter c.loop.nodes.items c.args.rest c.loop.rest c.in_err-node.field-0.0 (node_part c.args.count (omega arith)) c.loop.invariant.0 c.loop-test.true c.in_err-node.ensures; place = tt })
 
 pub loop-preserved : goal.loop-preserved
 loop-preserved c =
