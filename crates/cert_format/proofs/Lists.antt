@@ -72,3 +72,29 @@ repeats_fault part text Keeps size total count xs start rest e is so_far lt faul
         ∙ repeated_passes part text Keeps size is xs (suc left) next start.at rest.bytes so_far.so.each
         ∙ ap (λ (a : ℕ). fault_in (part (repeated left part next)) a rest.bytes) place in
     subst (Names e) (sym whole) (fault (repeated left part next))
+
+-- what follows all the parts is read on
+pub all_pass : {A : Type 0} (part : Form → Form) (text : A → List ℕ) (Keeps : A → Type 0) (size : ℕ) → IsPart part text Keeps size
+    → (xs : List A) (next : Form) (at : ℕ) (rest : List ℕ) → AllByRecursion Keeps xs
+    → fault_in (repeated (length xs) part next) at (flat_map text xs ++ rest) ≡ fault_in next (at + size * length xs) rest
+all_pass part text Keeps size is xs next at rest all =
+    let count : length xs ≡ length xs + 0 = omega arith in
+    ap (λ (n : ℕ). fault_in (repeated n part next) at (flat_map text xs ++ rest)) count ∙ repeated_passes part text Keeps size is xs 0 next at rest all
+
+length_texts : {A : Type 0} (text : A → List ℕ) (size : ℕ) (xs : List A) → ((x : A) → length (text x) ≡ size) → length (flat_map text xs) ≡ size * length xs
+length_texts text size [] sized = omega arith
+length_texts text size (x ∷ xs) sized = grind (arith, length-append (text x) (flat_map text xs), sized x, length_texts text size xs sized)
+
+pub list_goes_on : {A : Type 0} (part : Form → Form) (text : A → List ℕ) (Keeps : A → Type 0) (size count : ℕ) (xs : List A) (before after : Rest) → IsPart part text Keeps size
+    → Took (flat_map text xs) before after → AreSo count Keeps xs
+    → (next : Form) → fault_in (repeated count part next) before.at before.bytes ≡ fault_in next after.at after.bytes
+list_goes_on part text Keeps size count xs before after is took so next =
+    let place : before.at + size * length xs ≡ after.at = omega (arith, took.place, length_texts text size xs is.sized) in
+    ap (λ (t : List ℕ). fault_in (repeated count part next) before.at t) took.parts
+    ∙ ap (λ (n : ℕ). fault_in (repeated n part next) before.at (flat_map text xs ++ after.bytes)) (sym so.many)
+    ∙ all_pass part text Keeps size is xs next before.at after.bytes so.each
+    ∙ ap (λ (a : ℕ). fault_in next a after.bytes) place
+
+pub each_weaker : {A : Type 0} (P Q : A → Type 0) → ((x : A) → P x → Q x) → (xs : List A) → AllByRecursion P xs → AllByRecursion Q xs
+each_weaker P Q weaker [] all = tt
+each_weaker P Q weaker (x ∷ xs) all = (weaker x all.0, each_weaker P Q weaker xs all.1)

@@ -12,7 +12,7 @@ use Rattle.cert_format.specs.Reading.{IsNode}
 use Rattle.cert_format.proofs.Fields.{wide8, wide16, wide32, field_passes, kind_allowed, role_allowed, tag_allowed, kind_small, role_small, tag_small}
 use Rattle.cert_format.proofs.Lists.{IsPart}
 
-within_allows : (w : Width) (least bound x : ℕ) → least ≤ x → x < bound → (within w least bound).allows x ≡ true
+pub within_allows : (w : Width) (least bound x : ℕ) → least ≤ x → x < bound → (within w least bound).allows x ≡ true
 within_allows w least bound x low high = grind (arith, nat_tests)
 
 pub node_part : (nodes : ℕ) → nodes ≤ 65535 → IsPart (node_form nodes) node_text (IsNode nodes) 11

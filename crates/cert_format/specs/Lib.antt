@@ -1,4 +1,5 @@
 pub mod CertText
 pub mod FirstFault
 pub mod Limits
+pub mod Outcome
 pub mod Reading

@@ -4,14 +4,15 @@ use Rattle.std.specs.Int.{Width, byte_len, to_be_bytes}
 use Rattle.std.specs.List.{AllByRecursion}
 use Rattle.mrt_graph.specs.Certificate.{IsCertNode}
 use Rattle.mrt_graph.specs.declared.cert.CertNode.{CertNode}
-use Rattle.cert_format.specs.Limits.{HasNumber}
+use Rattle.mrt_graph.specs.declared.cert.CertFile.{CertFile}
+use Rattle.cert_format.specs.Limits.{HasNumber, IsVersionOne}
 use Rattle.cert_format.specs.declared.error.CertKind.{CertKind}
 use Rattle.cert_format.specs.declared.error.CertKind.TheVariants.{Truncated}
 use Rattle.cert_format.specs.declared.error.CertError.{CertError}
 use Rattle.cert_format.specs.declared.error.CertError.TheVariants as errors
 use Rattle.cert_format.specs.declared.header.Header.{Header}
-use Rattle.cert_format.specs.CertText.{header_text}
-use Rattle.cert_format.specs.FirstFault.{Field, Form, Then, header_form, fault_in}
+use Rattle.cert_format.specs.CertText.{header_text, cert_text}
+use Rattle.cert_format.specs.FirstFault.{Field, Form, Then, header_form, fault_in, first_fault}
 
 -- what is left of a file, and the place of its first byte
 pub record Rest : Type 0 where
@@ -79,3 +80,8 @@ pub record TookHeader (nodes links root : ℕ) (before after : Rest) : Type 0 wh
 abbrev pub ReadsHeader : Rest → Result (Header × Rest) CertError → Type 0
 ReadsHeader before (Ok x) = TookHeader x.0.nodes x.0.links x.0.root before x.1
 ReadsHeader before (Err e) = (next : ℕ → ℕ → Form) → Names e (fault_in (header_form next) before.at before.bytes)
+
+-- a certificate file that is spelled so, or the first fault
+abbrev pub ReadsFile : List ℕ → Result CertFile CertError → Type 0
+ReadsFile bytes (Ok f) = IsVersionOne f × (bytes ≡ cert_text f)
+ReadsFile bytes (Err e) = Names e (first_fault bytes)
