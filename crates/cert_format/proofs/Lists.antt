@@ -1,7 +1,7 @@
 -- Parts one behind another, as a loop reads them.
-use Rattle.std.proofs.Common.{◌≡◌, ℕ, zero, suc, ◌+◌, ◌-◌, ◌*◌, ◌<◌, ◌≤◌, List, [], ◌∷◌, ◌++◌, length, refl, sym, ap, subst, ◌∙◌, append_assoc, arith}
+use Rattle.std.proofs.Common.{◌≡◌, ℕ, zero, suc, ◌+◌, ◌-◌, ◌*◌, ◌<◌, ◌≤◌, List, [], ◌∷◌, ◌++◌, length, get_or, take, refl, sym, ap, subst, ◌∙◌, append_assoc, arith}
 use Rattle.std.specs.List.{flat_map, AllByRecursion}
-use Rattle.std.proofs.lemmas.List.{append-nil, length-append}
+use Rattle.std.proofs.lemmas.List.{append-nil, length-append, take_more, flat_map_more}
 use Rattle.std.proofs.lemmas.List.Concat.{flat_map-append, flat_map-cons}
 use Rattle.cert_format.specs.declared.error.CertError.{CertError}
 use Rattle.cert_format.specs.FirstFault.{Form, repeated, fault_in}
@@ -98,3 +98,10 @@ list_goes_on part text Keeps size count xs before after is took so next =
 pub each_weaker : {A : Type 0} (P Q : A → Type 0) → ((x : A) → P x → Q x) → (xs : List A) → AllByRecursion P xs → AllByRecursion Q xs
 each_weaker P Q weaker [] all = tt
 each_weaker P Q weaker (x ∷ xs) all = (weaker x all.0, each_weaker P Q weaker xs all.1)
+
+-- one more text behind those of the first i
+pub texts_more : {A : Type 0} (text : A → List ℕ) (xs : List A) (i : ℕ) (x : A) (before now piece after : List ℕ) → i < length xs → x ≡ get_or xs i x
+    → now ≡ before ++ flat_map text (take i xs) → piece ≡ text x → after ≡ now ++ piece → after ≡ before ++ flat_map text (take (i + 1) xs)
+texts_more text xs i x before now piece after lt is so_far here e =
+    let front : take (i + 1) xs ≡ take i xs ++ x ∷ [] = rw is (take_more xs i x lt) in
+    rw (e, so_far, here, front) (flat_map_more text before (take i xs) x)

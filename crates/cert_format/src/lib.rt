@@ -8,6 +8,8 @@ mod list;
 mod part;
 mod reading;
 mod rest;
+mod writing;
 
 pub use error::{CertError, CertKind};
 pub use reading::{one_spelling, read_cert};
+pub use writing::write_cert;
