@@ -54,17 +54,18 @@ pub spells : (ns : List CertNode) (ls : List CertLink) (rs : List Row) (nodes li
 spells ns ls rs nodes links root b0 b1 b2 b3 b4 header p0 p1 p2 p3 nothing n l r =
     let rows : b3.bytes ≡ flat_map row_text rs = p3.parts ∙ ap (λ (t : List ℕ). flat_map row_text rs ++ t) nothing ∙ append-nil (flat_map row_text rs) in
     let lists : b1.bytes ≡ flat_map node_text ns ++ (flat_map link_text ls ++ flat_map row_text rs) =
-        p1.parts ∙ ap (λ (t : List ℕ). flat_map node_text ns ++ t) (p2.parts ∙ ap (λ (t : List ℕ). flat_map link_text ls ++ t) rows) in
-    (record {
-       certificate = are_certificate ns ls rs nodes links root header n l r;
-       root = header.root_fits;
-       numbers = each_weaker (IsNode nodes) HasNumber (λ x keeps. keeps.number) ns n.each;
-       nodes = omega (arith, header.few_nodes, n.many);
-       links = omega (arith, header.few_links, l.many);
-     },
-     p0.parts ∙ ap (λ (t : List ℕ). header_text nodes links root ++ t) lists
-     ∙ ap (λ (k : ℕ). header_text k links root ++ (flat_map node_text ns ++ (flat_map link_text ls ++ flat_map row_text rs))) (sym n.many)
-     ∙ ap (λ (k : ℕ). header_text (length ns) k root ++ (flat_map node_text ns ++ (flat_map link_text ls ++ flat_map row_text rs))) (sym l.many))
+    p1.parts ∙ ap (λ (t : List ℕ). flat_map node_text ns ++ t) (p2.parts ∙ ap (λ (t : List ℕ). flat_map link_text ls ++ t) rows) in (
+      record {
+        certificate = are_certificate ns ls rs nodes links root header n l r;
+        root = header.root_fits;
+        numbers = each_weaker (IsNode nodes) HasNumber (λ x keeps. keeps.number) ns n.each;
+        nodes = omega (arith, header.few_nodes, n.many);
+        links = omega (arith, header.few_links, l.many);
+      },
+      p0.parts ∙ ap (λ (t : List ℕ). header_text nodes links root ++ t) lists
+          ∙ ap (λ (k : ℕ). header_text k links root ++ (flat_map node_text ns ++ (flat_map link_text ls ++ flat_map row_text rs))) (sym n.many)
+          ∙ ap (λ (k : ℕ). header_text (length ns) k root ++ (flat_map node_text ns ++ (flat_map link_text ls ++ flat_map row_text rs))) (sym l.many),
+    )
 
 header_passes : (nodes links root : ℕ) (next : ℕ → ℕ → Form) (rest : List ℕ) → IsHeader nodes links root
     → fault_in (header_form next) 0 (header_text nodes links root ++ rest) ≡ fault_in (next nodes links) 14 rest

@@ -35,7 +35,7 @@ pub repeats_more : {A : Type 0} (part : Form → Form) (text : A → List ℕ) (
     → Repeats text Keeps size count xs start rest → Took (text x) rest after → Keeps x → Repeats text Keeps size (count + 1) (xs ++ x ∷ []) start after
 repeats_more part text Keeps size count xs x start rest after is so_far took here =
     let texts : flat_map text (xs ++ x ∷ []) ≡ flat_map text xs ++ text x =
-        flat_map-append text xs (x ∷ []) ∙ ap (λ (t : List ℕ). flat_map text xs ++ t) (append-nil (text x)) in
+    flat_map-append text xs (x ∷ []) ∙ ap (λ (t : List ℕ). flat_map text xs ++ t) (append-nil (text x)) in
     record {
       took = subst (λ (t : List ℕ). Took t start after) (sym texts) (Took-then (flat_map text xs) (text x) start rest after so_far.took took);
       so = record { many = omega (arith, length-append xs (x ∷ []), so_far.so.many); each = each_more Keeps xs x so_far.so.each here };
@@ -67,10 +67,10 @@ repeats_fault part text Keeps size total count xs start rest e is so_far lt faul
     let all : total ≡ length xs + suc left = omega (arith, so_far.so.many) in
     let place : start.at + size * length xs ≡ rest.at = rw (so_far.so.many, so_far.placed) refl in
     let whole : fault_in (repeated total part next) start.at start.bytes ≡ fault_in (part (repeated left part next)) rest.at rest.bytes =
-        ap (λ (t : List ℕ). fault_in (repeated total part next) start.at t) so_far.took.parts
-        ∙ ap (λ (n : ℕ). fault_in (repeated n part next) start.at (flat_map text xs ++ rest.bytes)) all
-        ∙ repeated_passes part text Keeps size is xs (suc left) next start.at rest.bytes so_far.so.each
-        ∙ ap (λ (a : ℕ). fault_in (part (repeated left part next)) a rest.bytes) place in
+    ap (λ (t : List ℕ). fault_in (repeated total part next) start.at t) so_far.took.parts
+    ∙ ap (λ (n : ℕ). fault_in (repeated n part next) start.at (flat_map text xs ++ rest.bytes)) all
+    ∙ repeated_passes part text Keeps size is xs (suc left) next start.at rest.bytes so_far.so.each
+    ∙ ap (λ (a : ℕ). fault_in (part (repeated left part next)) a rest.bytes) place in
     subst (Names e) (sym whole) (fault (repeated left part next))
 
 -- what follows all the parts is read on

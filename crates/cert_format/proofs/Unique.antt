@@ -130,7 +130,7 @@ lists_one text Keeps size sized one [] (y ∷ ys) r s same kx ky e = absurd (ome
 lists_one text Keeps size sized one (x ∷ xs) [] r s same kx ky e = absurd (omega (arith, same))
 lists_one text Keeps size sized one (x ∷ xs) (y ∷ ys) r s same kx ky e =
     let apart : text x ++ (flat_map text xs ++ r) ≡ text y ++ (flat_map text ys ++ s) =
-        sym (append_assoc (text x) (flat_map text xs) r) ∙ e ∙ append_assoc (text y) (flat_map text ys) s in
+    sym (append_assoc (text x) (flat_map text xs) r) ∙ e ∙ append_assoc (text y) (flat_map text ys) s in
     let first = pieces size (text x) (text y) (flat_map text xs ++ r) (flat_map text ys ++ s) (sized x) (sized y) apart in
     let others = lists_one text Keeps size sized one xs ys r s (omega (arith, same)) kx.1 ky.1 first.1 in
     let here : x ≡ y = one x y kx.0 ky.0 first.0 in

@@ -39,13 +39,13 @@ repeated (suc count) part next = part (repeated count part next)
 abbrev pub header_form : (ℕ → ℕ → Form) → Form
 header_form next =
     Then (exactly w32 (from_be_bytes w32 (codes "MRTC"))) (λ magic. Then (exactly w16 1) (λ version.
-      Then (within w16 1 (2048 + 1)) (λ nodes. Then (within w16 0 (8192 + 1)) (λ links. Then (any w32) (λ root. next nodes links)))))
+    Then (within w16 1 (2048 + 1)) (λ nodes. Then (within w16 0 (8192 + 1)) (λ links. Then (any w32) (λ root. next nodes links)))))
 
 -- of so many nodes, a node: its kind and its number, its order, its head and its block
 abbrev pub node_form : ℕ → Form → Form
 node_form nodes next =
     Then (within w8 1 3) (λ kind. Then (any w32) (λ number. Then (within w16 1 (nodes + 1)) (λ order.
-      Then (within w16 0 nodes) (λ head. Then (within w16 0 nodes) (λ block. next)))))
+    Then (within w16 0 nodes) (λ head. Then (within w16 0 nodes) (λ block. next)))))
 
 -- a link between two of so many nodes, the lower one first: these, its block and its role
 abbrev pub link_form : ℕ → Form → Form
@@ -60,7 +60,7 @@ row_form links next = Then (within w16 0 links) (λ blue. Then (within w16 0 lin
 abbrev pub cert_form : Form
 cert_form =
     header_form (λ nodes links. repeated nodes (node_form nodes) (repeated links (link_form nodes)
-      (repeated (nodes * (nodes - 1)) (row_form links) End)))
+    (repeated (nodes * (nodes - 1)) (row_form links) End)))
 
 -- the field's number, which the bytes begin with
 abbrev pub number_of : Field → List ℕ → ℕ
@@ -74,8 +74,8 @@ fault_in End at (byte ∷ bytes) = Some (at, faults.Trailing)
 fault_in (Then field next) at bytes =
     if nat_lt (length bytes) (byte_len field.width) then Some (at, faults.Truncated)
     else (if field.allows (number_of field bytes)
-      then fault_in (next (number_of field bytes)) (at + byte_len field.width) (drop (byte_len field.width) bytes)
-      else Some (at, field.fault))
+    then fault_in (next (number_of field bytes)) (at + byte_len field.width) (drop (byte_len field.width) bytes)
+    else Some (at, field.fault))
 
 -- of a whole file
 abbrev pub first_fault : List ℕ → Option (ℕ × CertKind)

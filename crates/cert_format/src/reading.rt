@@ -66,5 +66,4 @@ fn row_count(nodes: u16) -> usize
 pub fn one_spelling()
     ensures one { (f g : CertFile) → IsVersionOne f → IsVersionOne g → cert_text f ≡ cert_text g → f ≡ g }
     ensures faultless { (f : CertFile) → IsVersionOne f → first_fault (cert_text f) ≡ None }
-{
-}
+{}

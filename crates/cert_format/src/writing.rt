@@ -26,7 +26,10 @@ pub fn write_cert(alloc: Global, f: &CertFile) -> Result<Vec<u8>, NoMemory>
     let nodes = cert.nodes();
     let links = cert.links();
     let rows = cert.rows();
-    let mut out = Vec::with_capacity(alloc, 14 + 11 * nodes.len() + 7 * links.len() + 5 * rows.len())?;
+    let mut out = Vec::with_capacity(
+        alloc,
+        14 + 11 * nodes.len() + 7 * links.len() + 5 * rows.len(),
+    )?;
     let header = header_bytes(cert.node_count(), cert.link_count(), f.root);
     out.extend_from_slice(&header).unwrap();
     put_nodes(&mut out, nodes);

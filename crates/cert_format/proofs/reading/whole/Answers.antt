@@ -41,13 +41,13 @@ returns-then-not-is_empty c =
 pub new-requires-2 : goal.new-requires-2
 new-requires-2 c =
     are_certificate c.in_ok-nodes.nodes.items c.in_ok-links.links.items c.in_ok-rows.rows.items c.in_ok-header.header.nodes c.in_ok-header.header.links c.in_ok-header.header.root
-      c.in_ok-header.ensures.within c.in_ok-nodes.ensures.read.1 c.in_ok-links.ensures.read.1 (rw c.row_count.ensures.value at c.in_ok-rows.ensures.read.1)
+    c.in_ok-header.ensures.within c.in_ok-nodes.ensures.read.1 c.in_ok-links.ensures.read.1 (rw c.row_count.ensures.value at c.in_ok-rows.ensures.read.1)
 
 pub returns : goal.returns
 returns c =
     let is : IsTrue c.is_empty.result = c.if-not-is_empty.false in
     rw (c.new-2.ensures, ← ap (λ (r : Rest). r.bytes) c.new.ensures)
-      (spells c.in_ok-nodes.nodes.items c.in_ok-links.links.items c.in_ok-rows.rows.items c.in_ok-header.header.nodes c.in_ok-header.header.links c.in_ok-header.header.root
-        c.new.result c.in_ok-header.rest c.in_ok-nodes.rest c.in_ok-links.rest c.in_ok-rows.rest
-        c.in_ok-header.ensures.within c.in_ok-header.ensures.took c.in_ok-nodes.ensures.read.0 c.in_ok-links.ensures.read.0 c.in_ok-rows.ensures.read.0 (c.is_empty.ensures.0 is)
-        c.in_ok-nodes.ensures.read.1 c.in_ok-links.ensures.read.1 (rw c.row_count.ensures.value at c.in_ok-rows.ensures.read.1))
+    (spells c.in_ok-nodes.nodes.items c.in_ok-links.links.items c.in_ok-rows.rows.items c.in_ok-header.header.nodes c.in_ok-header.header.links c.in_ok-header.header.root
+    c.new.result c.in_ok-header.rest c.in_ok-nodes.rest c.in_ok-links.rest c.in_ok-rows.rest
+    c.in_ok-header.ensures.within c.in_ok-header.ensures.took c.in_ok-nodes.ensures.read.0 c.in_ok-links.ensures.read.0 c.in_ok-rows.ensures.read.0 (c.is_empty.ensures.0 is)
+    c.in_ok-nodes.ensures.read.1 c.in_ok-links.ensures.read.1 (rw c.row_count.ensures.value at c.in_ok-rows.ensures.read.1))
