@@ -1,10 +1,9 @@
 -- A field that is read is the field that was written, and what was written is read again.
-use Rattle.std.proofs.Common.{◌≡◌, ℕ, zero, suc, ◌+◌, ◌^◌, ◌<◌, ◌≤◌, Bool, true, false, cond, ltb, List, [], ◌∷◌, ◌++◌, length, get_or, take, drop, Option, Some, None, Result, Ok, Err, refl, sym, ap, subst, ◌∙◌, append_assoc, arith, inl, inr}
+use Rattle.std.proofs.Common.{◌≡◌, ℕ, ◌+◌, ◌^◌, ◌<◌, true, false, ltb, List, [], ◌∷◌, ◌++◌, length, get_or, Some, Result, Ok, Err, refl, sym, ap, subst, ◌∙◌, arith}
 use Rattle.std.specs.Int.{Width, w8, w16, w32, byte_len, from_be_bytes, to_be_bytes}
 use Rattle.std.proofs.lemmas.Bool.{ltb-true, lt-ltb, le-ltb}
-use Rattle.std.proofs.lemmas.List.{take_at, drop_at, take-append-drop, length-append, length-take}
+use Rattle.std.proofs.lemmas.List.{take_at, drop_at, length-append}
 use Rattle.std.proofs.lemmas.Nat.{be_bytes_2, be_bytes_4, from_be_bytes-to_be_bytes_2, from_be_bytes-to_be_bytes_4}
-use Rattle.cert_format.specs.declared.error.CertKind.{CertKind}
 use Rattle.cert_format.specs.declared.error.CertKind.TheVariants.{Truncated}
 use Rattle.mrt_graph.specs.declared.node_id.Kind.{Kind}
 use Rattle.mrt_graph.specs.declared.node_id.Kind.TheVariants as kinds
@@ -13,9 +12,10 @@ use Rattle.mrt_graph.specs.declared.cert.Role.TheVariants as roles
 use Rattle.mrt_graph.specs.declared.cert.Tag.{Tag}
 use Rattle.mrt_graph.specs.declared.cert.Tag.TheVariants as tags
 use Rattle.cert_format.specs.CertText.{kind_number, role_number, tag_number}
-use Rattle.cert_format.specs.FirstFault.{Field, Form, Then, within, tag, number_of, fault_in}
+use Rattle.cert_format.specs.Layout.{any, Field, Form, Then, within, tag}
+use Rattle.cert_format.specs.FirstFault.{number_of, fault_in}
 use Rattle.cert_format.specs.declared.error.CertError.{CertError}
-use Rattle.cert_format.specs.Reading.{Rest, rest_of, Names, Took, TookField}
+use Rattle.cert_format.specs.Reading.{Rest, rest_of, Names, Took, TookField, ReadsNumber, ReadsField}
 
 abbrev pub IsBytes : List ℕ → Type 0
 IsBytes bytes = (i : ℕ) → get_or bytes i 0 < 256
@@ -139,3 +139,7 @@ role_small roles.Closing = omega arith
 
 pub tag_small : (row_tag : Tag) → tag_number row_tag < 256
 tag_small row_tag = omega (arith, ltb-true _ _ (tag_allowed row_tag))
+
+pub any_is_read : (w : Width) (before : Rest) (r : Result (ℕ × Rest) CertError) → IsWide w → ReadsNumber w before r → ReadsField (any w) (λ n. n) before r
+any_is_read w before (Ok x) wide read = took_field (any w) x.0 before x.1 wide read.0 read.1 refl
+any_is_read w before (Err e) wide read = short_field (any w) e before read

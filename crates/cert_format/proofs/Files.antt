@@ -1,24 +1,20 @@
 -- Whole files: what their parts make, and that no field of a spelling is at fault.
-use Rattle.std.proofs.Common.{◌≡◌, ℕ, ◌+◌, ◌-◌, ◌*◌, ◌<◌, ◌≤◌, ◌≢◌, List, [], ◌∷◌, ◌++◌, length, Option, Some, None, Result, Ok, Err, refl, sym, ap, subst, ◌∙◌, append_assoc, arith, inl, inr}
-use Rattle.std.specs.Prelude.{IfOk}
+use Rattle.std.proofs.Common.{◌≡◌, ℕ, ◌+◌, ◌-◌, ◌*◌, ◌≢◌, List, [], ◌∷◌, ◌++◌, length, Some, None, Ok, refl, sym, ap, subst, ◌∙◌, arith}
 use Rattle.std.specs.List.{flat_map, AllByRecursion}
-use Rattle.std.specs.Int.{w16, w32, from_be_bytes, to_be_bytes}
+use Rattle.std.specs.Int.{w16, w32, from_be_bytes}
 use Rattle.std.specs.Prelude.{codes}
 use Rattle.std.proofs.lemmas.List.{append-nil}
-use Rattle.mrt_graph.specs.Certificate.{Certificate, IsCertificate, IsCertNode, IsCertLink, IsCertRow, certificate_of}
+use Rattle.mrt_graph.specs.Certificate.{IsCertificate, IsCertNode, IsCertLink, IsCertRow, certificate_of}
 use Rattle.mrt_graph.specs.declared.cert.CertNode.{CertNode}
 use Rattle.mrt_graph.specs.declared.cert.CertLink.{CertLink}
 use Rattle.mrt_graph.specs.declared.cert.Row.{Row}
 use Rattle.mrt_graph.specs.declared.cert.CertFile.{CertFile}
-use Rattle.cert_format.specs.declared.error.CertKind.{CertKind}
 use Rattle.cert_format.specs.declared.error.CertKind.TheVariants.{Trailing}
-use Rattle.cert_format.specs.declared.error.CertError.{CertError}
-use Rattle.cert_format.specs.declared.error.CertError.TheVariants as errors
 use Rattle.cert_format.specs.CertText.{header_text, node_text, link_text, row_text, cert_text}
-use Rattle.cert_format.specs.FirstFault.{Form, End, Then, any, exactly, within, repeated, header_form, node_form, link_form, row_form, cert_form, fault_in, first_fault}
+use Rattle.cert_format.specs.Layout.{Form, End, any, exactly, within, repeated, header_form, node_form, link_form, row_form}
+use Rattle.cert_format.specs.FirstFault.{fault_in, first_fault}
 use Rattle.cert_format.specs.Limits.{HasNumber, IsVersionOne}
-use Rattle.cert_format.specs.Outcome.{OrNoMemory}
-use Rattle.cert_format.specs.Reading.{Rest, Names, Took, AreSo, IsNode, IsHeader, ReadsFile}
+use Rattle.cert_format.specs.Reading.{Rest, Took, IsListOf, IsNode, IsHeader, ReadsFile}
 use Rattle.cert_format.proofs.Fields.{wide16, wide32, field_passes}
 use Rattle.cert_format.proofs.Lists.{all_pass, each_weaker}
 use Rattle.cert_format.proofs.Parts.{within_allows, node_part, link_part, row_part}
@@ -35,7 +31,7 @@ ended at = refl
 
 -- the lists that a header announces are a certificate
 pub are_certificate : (ns : List CertNode) (ls : List CertLink) (rs : List Row) (nodes links root : ℕ) → IsHeader nodes links root
-    → AreSo nodes (IsNode nodes) ns → AreSo links (IsCertLink nodes) ls → AreSo (nodes * (nodes - 1)) (IsCertRow links) rs → IsCertificate (certificate_of ns ls rs)
+    → IsListOf nodes (IsNode nodes) ns → IsListOf links (IsCertLink nodes) ls → IsListOf (nodes * (nodes - 1)) (IsCertRow links) rs → IsCertificate (certificate_of ns ls rs)
 are_certificate ns ls rs nodes links root header n l r = record {
   some_node = omega (arith, header.some_node, n.many);
   few_nodes = omega (arith, header.few_nodes, n.many);
@@ -49,7 +45,7 @@ are_certificate ns ls rs nodes links root header n l r = record {
 -- the bytes of a file, from those of its parts
 pub spells : (ns : List CertNode) (ls : List CertLink) (rs : List Row) (nodes links root : ℕ) (b0 b1 b2 b3 b4 : Rest) → IsHeader nodes links root
     → Took (header_text nodes links root) b0 b1 → Took (flat_map node_text ns) b1 b2 → Took (flat_map link_text ls) b2 b3 → Took (flat_map row_text rs) b3 b4 → b4.bytes ≡ []
-    → AreSo nodes (IsNode nodes) ns → AreSo links (IsCertLink nodes) ls → AreSo (nodes * (nodes - 1)) (IsCertRow links) rs
+    → IsListOf nodes (IsNode nodes) ns → IsListOf links (IsCertLink nodes) ls → IsListOf (nodes * (nodes - 1)) (IsCertRow links) rs
     → ReadsFile b0.bytes (Ok (record { root = root; cert = certificate_of ns ls rs }))
 spells ns ls rs nodes links root b0 b1 b2 b3 b4 header p0 p1 p2 p3 nothing n l r =
     let rows : b3.bytes ≡ flat_map row_text rs = p3.parts ∙ ap (λ (t : List ℕ). flat_map row_text rs ++ t) nothing ∙ append-nil (flat_map row_text rs) in

@@ -1,11 +1,12 @@
 -- Parts one behind another, as a loop reads them.
-use Rattle.std.proofs.Common.{◌≡◌, ℕ, zero, suc, ◌+◌, ◌-◌, ◌*◌, ◌<◌, ◌≤◌, List, [], ◌∷◌, ◌++◌, length, get_or, take, refl, sym, ap, subst, ◌∙◌, append_assoc, arith}
+use Rattle.std.proofs.Common.{◌≡◌, ℕ, suc, ◌+◌, ◌-◌, ◌*◌, ◌<◌, List, [], ◌∷◌, ◌++◌, length, get_or, take, refl, sym, ap, subst, ◌∙◌, append_assoc, arith}
 use Rattle.std.specs.List.{flat_map, AllByRecursion}
 use Rattle.std.proofs.lemmas.List.{append-nil, length-append, take_more, flat_map_more}
-use Rattle.std.proofs.lemmas.List.Concat.{flat_map-append, flat_map-cons}
+use Rattle.std.proofs.lemmas.List.Concat.{flat_map-append}
 use Rattle.cert_format.specs.declared.error.CertError.{CertError}
-use Rattle.cert_format.specs.FirstFault.{Form, repeated, fault_in}
-use Rattle.cert_format.specs.Reading.{Rest, Names, Took, AreSo}
+use Rattle.cert_format.specs.Layout.{Form, repeated}
+use Rattle.cert_format.specs.FirstFault.{fault_in}
+use Rattle.cert_format.specs.Reading.{Rest, Names, Took, IsListOf}
 
 -- what keeps this is spelled in so many bytes, and the form of the part allows its spelling
 pub record IsPart {A : Type 0} (part : Form → Form) (text : A → List ℕ) (Keeps : A → Type 0) (size : ℕ) : Type 0 where
@@ -25,7 +26,7 @@ each_more Keeps (y ∷ xs) x all here = (all.0, each_more Keeps xs x all.1 here)
 -- so many parts were read, from start on
 pub record Repeats {A : Type 0} (text : A → List ℕ) (Keeps : A → Type 0) (size count : ℕ) (xs : List A) (start rest : Rest) : Type 0 where
   pub took : Took (flat_map text xs) start rest
-  pub so : AreSo count Keeps xs
+  pub so : IsListOf count Keeps xs
   pub placed : rest.at ≡ start.at + size * count
 
 pub repeats_none : {A : Type 0} (text : A → List ℕ) (Keeps : A → Type 0) (size : ℕ) (start : Rest) → Repeats text Keeps size 0 [] start start
@@ -86,7 +87,7 @@ length_texts text size [] sized = omega arith
 length_texts text size (x ∷ xs) sized = grind (arith, length-append (text x) (flat_map text xs), sized x, length_texts text size xs sized)
 
 pub list_goes_on : {A : Type 0} (part : Form → Form) (text : A → List ℕ) (Keeps : A → Type 0) (size count : ℕ) (xs : List A) (before after : Rest) → IsPart part text Keeps size
-    → Took (flat_map text xs) before after → AreSo count Keeps xs
+    → Took (flat_map text xs) before after → IsListOf count Keeps xs
     → (next : Form) → fault_in (repeated count part next) before.at before.bytes ≡ fault_in next after.at after.bytes
 list_goes_on part text Keeps size count xs before after is took so next =
     let place : before.at + size * length xs ≡ after.at = omega (arith, took.place, length_texts text size xs is.sized) in

@@ -1,13 +1,11 @@
 -- What is spelled in the text is what the form allows.
-use Rattle.std.proofs.Common.{◌≡◌, ℕ, ◌+◌, ◌^◌, ◌<◌, ◌≤◌, true, List, ◌++◌, length, refl, ap, ◌∙◌, arith}
-use Rattle.std.specs.Int.{Width, w8, w16, w32, to_be_bytes}
+use Rattle.std.proofs.Common.{◌≡◌, ℕ, ◌+◌, ◌<◌, ◌≤◌, true, refl, ap, ◌∙◌, arith}
+use Rattle.std.specs.Int.{Width, w8, w16, w32}
 use Rattle.std.proofs.lemmas.Bool.Decides.{nat_tests}
 use Rattle.mrt_graph.specs.Certificate.{IsCertLink, IsCertRow}
-use Rattle.mrt_graph.specs.declared.cert.CertNode.{CertNode}
-use Rattle.mrt_graph.specs.declared.cert.CertLink.{CertLink}
-use Rattle.mrt_graph.specs.declared.cert.Row.{Row}
 use Rattle.cert_format.specs.CertText.{kind_number, role_number, tag_number, node_text, link_text, row_text}
-use Rattle.cert_format.specs.FirstFault.{Form, Then, any, within, tag, node_form, link_form, row_form, fault_in}
+use Rattle.cert_format.specs.Layout.{any, within, tag, node_form, link_form, row_form}
+use Rattle.cert_format.specs.FirstFault.{fault_in}
 use Rattle.cert_format.specs.Reading.{IsNode}
 use Rattle.cert_format.proofs.Fields.{wide8, wide16, wide32, field_passes, kind_allowed, role_allowed, tag_allowed, kind_small, role_small, tag_small}
 use Rattle.cert_format.proofs.Lists.{IsPart}

@@ -1,10 +1,10 @@
 -- No two files have one spelling.
-use Rattle.std.proofs.Common.{◌≡◌, ℕ, zero, suc, ◌+◌, ◌-◌, ◌*◌, ◌^◌, ◌<◌, ◌≤◌, List, [], ◌∷◌, ◌++◌, length, take, drop, refl, sym, ap, subst, ◌∙◌, append_assoc, arith}
+use Rattle.std.proofs.Common.{◌≡◌, ℕ, zero, suc, ◌-◌, ◌*◌, ◌^◌, ◌<◌, ◌≤◌, List, [], ◌∷◌, ◌++◌, length, take, drop, refl, sym, ap, subst, ◌∙◌, append_assoc, arith}
 use Rattle.std.specs.Int.{Width, w8, w16, w32, byte_len, from_be_bytes, to_be_bytes}
 use Rattle.std.specs.List.{flat_map, AllByRecursion}
 use Rattle.std.specs.Prelude.{codes}
 use Rattle.std.proofs.lemmas.List.{take_at, drop_at, append-nil}
-use Rattle.mrt_graph.specs.Certificate.{Certificate, IsCertLink, IsCertRow, certificate_of}
+use Rattle.mrt_graph.specs.Certificate.{IsCertLink, IsCertRow, certificate_of}
 use Rattle.mrt_graph.specs.declared.node_id.Kind.{Kind}
 use Rattle.mrt_graph.specs.declared.node_id.Kind.TheVariants as kinds
 use Rattle.mrt_graph.specs.declared.cert.Role.{Role}
@@ -15,9 +15,9 @@ use Rattle.mrt_graph.specs.declared.cert.Row.{Row}
 use Rattle.mrt_graph.specs.declared.cert.CertNode.{CertNode}
 use Rattle.mrt_graph.specs.declared.cert.CertLink.{CertLink}
 use Rattle.mrt_graph.specs.declared.cert.CertFile.{CertFile}
-use Rattle.cert_format.specs.CertText.{kind_number, role_number, tag_number, header_text, node_text, link_text, row_text, cert_text}
+use Rattle.cert_format.specs.CertText.{kind_number, role_number, tag_number, node_text, link_text, row_text, cert_text}
 use Rattle.cert_format.specs.Limits.{IsVersionOne}
-use Rattle.cert_format.specs.Reading.{IsNode, IsHeader}
+use Rattle.cert_format.specs.Reading.{IsNode}
 use Rattle.cert_format.proofs.Fields.{IsWide, wide8, wide16, wide32, kind_small, role_small, tag_small}
 use Rattle.cert_format.proofs.Files.{file_header, file_nodes}
 

@@ -1,5 +1,5 @@
 -- The limits of version 1.
-use Rattle.std.specs.Prelude.{ℕ, ◌<◌, ◌≤◌, ◌^◌, length}
+use Rattle.std.specs.Prelude.{◌<◌, ◌≤◌, ◌^◌, length}
 use Rattle.std.specs.List.{AllByRecursion}
 use Rattle.mrt_graph.specs.Certificate.{IsCertificate}
 use Rattle.mrt_graph.specs.declared.cert.CertNode.{CertNode}

@@ -1,5 +1,5 @@
 -- What the steps of reading answer.
-use Rattle.std.specs.Prelude.{◌≡◌, ℕ, ◌+◌, ◌<◌, ◌≤◌, ◌^◌, Bool, true, List, ◌++◌, length, Option, Some, Result, Ok, Err}
+use Rattle.std.specs.Prelude.{◌≡◌, ℕ, ◌+◌, ◌<◌, ◌≤◌, ◌^◌, true, List, ◌++◌, length, Option, Some, Result, Ok, Err}
 use Rattle.std.specs.Int.{Width, byte_len, to_be_bytes}
 use Rattle.std.specs.List.{AllByRecursion}
 use Rattle.mrt_graph.specs.Certificate.{IsCertNode}
@@ -12,7 +12,8 @@ use Rattle.cert_format.specs.declared.error.CertError.{CertError}
 use Rattle.cert_format.specs.declared.error.CertError.TheVariants as errors
 use Rattle.cert_format.specs.declared.header.Header.{Header}
 use Rattle.cert_format.specs.CertText.{header_text, cert_text}
-use Rattle.cert_format.specs.FirstFault.{Field, Form, Then, header_form, fault_in, first_fault}
+use Rattle.cert_format.specs.Layout.{Field, Form, Then, header_form}
+use Rattle.cert_format.specs.FirstFault.{fault_in, first_fault}
 
 -- what is left of a file, and the place of its first byte
 pub record Rest : Type 0 where
@@ -60,7 +61,7 @@ pub record IsNode (nodes : ℕ) (node : CertNode) : Type 0 where
   pub number : HasNumber node
 
 -- that many of them, each of which keeps this
-pub record AreSo {A : Type 0} (count : ℕ) (Keeps : A → Type 0) (xs : List A) : Type 0 where
+pub record IsListOf {A : Type 0} (count : ℕ) (Keeps : A → Type 0) (xs : List A) : Type 0 where
   pub many : length xs ≡ count
   pub each : AllByRecursion Keeps xs
 

@@ -26,7 +26,7 @@ pub enum CertError {
 
 impl CertError {
     /// What is wrong with the field at this place.
-    pub fn new(at: u32, kind: CertKind) -> CertError
+    pub(crate) fn new(at: u32, kind: CertKind) -> CertError
         ensures { result ≡ CertError.Fault at kind }
     {
         CertError::Fault { at, kind }

@@ -4,13 +4,14 @@ ghost use Rattle.std.specs.Prelude.{◌≡◌, ◌<◌, ◌^◌, ◌-◌, IfSome
 ghost use Rattle.std.specs.Option.{IfNone};
 ghost use Rattle.std.specs.Int.{w8, w16, w32, from_be_bytes};
 ghost use Rattle.cert_format.specs.CertText.{kind_number, role_number, tag_number};
-ghost use Rattle.cert_format.specs.FirstFault.{any, exactly, within, tag};
+ghost use Rattle.cert_format.specs.Layout.{any, exactly, within, tag};
 ghost use Rattle.cert_format.specs.Reading.{ReadsField};
 
 use crate::error::{CertError, CertKind};
 use crate::rest::Rest;
 use mrt_graph::{Kind, Role, Tag};
 
+/// The magic bytes.
 pub fn magic(rest: Rest<'_>) -> Result<(u32, Rest<'_>), CertError>
     requires { rest.at < 2 ^ 32 - 4 }
     ensures { ReadsField (exactly w32 (from_be_bytes w32 (codes "MRTC"))) (λ n. n) rest.entry result }
@@ -23,6 +24,7 @@ pub fn magic(rest: Rest<'_>) -> Result<(u32, Rest<'_>), CertError>
     Ok((number, rest))
 }
 
+/// The version, which is 1.
 pub fn version(rest: Rest<'_>) -> Result<(u16, Rest<'_>), CertError>
     requires { rest.at < 2 ^ 32 - 2 }
     ensures { ReadsField (exactly w16 1) (λ n. n) rest.entry result }
@@ -40,8 +42,7 @@ pub fn any_u32(rest: Rest<'_>) -> Result<(u32, Rest<'_>), CertError>
     requires { rest.at < 2 ^ 32 - 4 }
     ensures { ReadsField (any w32) (λ n. n) rest.entry result }
 {
-    let (number, rest) = rest.u32()?;
-    Ok((number, rest))
+    rest.u32()
 }
 
 /// A number of 16 bits, whichever it is.
@@ -49,8 +50,7 @@ pub fn any_u16(rest: Rest<'_>) -> Result<(u16, Rest<'_>), CertError>
     requires { rest.at < 2 ^ 32 - 2 }
     ensures { ReadsField (any w16) (λ n. n) rest.entry result }
 {
-    let (number, rest) = rest.u16()?;
-    Ok((number, rest))
+    rest.u16()
 }
 
 /// A number of 16 bits from `least` on, below `bound`.
@@ -72,6 +72,7 @@ fn is_within(number: u16, least: u32, bound: u32) -> bool
     least <= u32::from(number) && u32::from(number) < bound
 }
 
+/// A node's kind.
 pub fn kind(rest: Rest<'_>) -> Result<(Kind, Rest<'_>), CertError>
     requires { rest.at < 2 ^ 32 - 1 }
     ensures { ReadsField (within w8 1 3) kind_number rest.entry result }
@@ -95,6 +96,7 @@ fn kind_of(number: u8) -> Option<Kind>
     }
 }
 
+/// A link's role.
 pub fn role(rest: Rest<'_>) -> Result<(Role, Rest<'_>), CertError>
     requires { rest.at < 2 ^ 32 - 1 }
     ensures { ReadsField (within w8 0 3) role_number rest.entry result }
@@ -119,6 +121,7 @@ fn role_of(number: u8) -> Option<Role>
     }
 }
 
+/// A row's tag.
 pub fn tag(rest: Rest<'_>) -> Result<(Tag, Rest<'_>), CertError>
     requires { rest.at < 2 ^ 32 - 1 }
     ensures { ReadsField tag tag_number rest.entry result }

@@ -4,8 +4,8 @@ ghost use Rattle.std.specs.Prelude.{◌≡◌, ◌<◌, ◌+◌, ◌-◌, ◌*�
 ghost use Rattle.std.specs.List.{flat_map};
 ghost use Rattle.mrt_graph.specs.Certificate.{IsCertLink, IsCertRow};
 ghost use Rattle.cert_format.specs.CertText.{node_text, link_text, row_text};
-ghost use Rattle.cert_format.specs.FirstFault.{repeated, node_form, link_form, row_form};
-ghost use Rattle.cert_format.specs.Reading.{ReadsPart, AreSo, IsNode};
+ghost use Rattle.cert_format.specs.Layout.{repeated, node_form, link_form, row_form};
+ghost use Rattle.cert_format.specs.Reading.{ReadsPart, IsListOf, IsNode};
 
 use crate::error::CertError;
 use crate::part::{link, node, row};
@@ -20,7 +20,7 @@ pub fn nodes(
     count: u16,
 ) -> Result<(Vec<CertNode>, Rest<'_>), CertError>
     requires { rest.at + 11 * count < 2 ^ 32 - 16 }
-    ensures read { ReadsPart (repeated count (node_form count)) (λ v. flat_map node_text v.items) (λ v. AreSo count (IsNode count) v.items) rest.entry result }
+    ensures read { ReadsPart (repeated count (node_form count)) (λ v. flat_map node_text v.items) (λ v. IsListOf count (IsNode count) v.items) rest.entry result }
     ensures place { IfOk result (λ x. x.1.at ≡ rest.entry.at + 11 * count) }
 {
     let mut nodes = Vec::with_capacity(alloc, rest.room(count as usize, 11))?;
@@ -41,7 +41,7 @@ pub fn links(
     nodes: u16,
 ) -> Result<(Vec<CertLink>, Rest<'_>), CertError>
     requires { rest.at + 7 * count < 2 ^ 32 - 16 }
-    ensures read { ReadsPart (repeated count (link_form nodes)) (λ v. flat_map link_text v.items) (λ v. AreSo count (IsCertLink nodes) v.items) rest.entry result }
+    ensures read { ReadsPart (repeated count (link_form nodes)) (λ v. flat_map link_text v.items) (λ v. IsListOf count (IsCertLink nodes) v.items) rest.entry result }
     ensures place { IfOk result (λ x. x.1.at ≡ rest.entry.at + 7 * count) }
 {
     let mut links = Vec::with_capacity(alloc, rest.room(count as usize, 7))?;
@@ -62,7 +62,7 @@ pub fn rows(
     links: u16,
 ) -> Result<(Vec<Row>, Rest<'_>), CertError>
     requires { rest.at + 5 * count < 2 ^ 32 - 16 }
-    ensures read { ReadsPart (repeated count (row_form links)) (λ v. flat_map row_text v.items) (λ v. AreSo count (IsCertRow links) v.items) rest.entry result }
+    ensures read { ReadsPart (repeated count (row_form links)) (λ v. flat_map row_text v.items) (λ v. IsListOf count (IsCertRow links) v.items) rest.entry result }
     ensures place { IfOk result (λ x. x.1.at ≡ rest.entry.at + 5 * count) }
 {
     let mut rows = Vec::with_capacity(alloc, rest.room(count, 5))?;

@@ -3,7 +3,7 @@
 ghost use Rattle.std.specs.Prelude.{◌<◌, ◌^◌, ◌-◌};
 ghost use Rattle.mrt_graph.specs.Certificate.{IsCertLink, IsCertRow};
 ghost use Rattle.cert_format.specs.CertText.{node_text, link_text, row_text};
-ghost use Rattle.cert_format.specs.FirstFault.{node_form, link_form, row_form};
+ghost use Rattle.cert_format.specs.Layout.{node_form, link_form, row_form};
 ghost use Rattle.cert_format.specs.Reading.{ReadsPart, IsNode};
 
 use crate::error::CertError;

@@ -1,17 +1,6 @@
-use Rattle.std.specs.Int.{w8, w16, w32, from_be_bytes}
-use Rattle.std.specs.Prelude.{codes}
-use Rattle.std.proofs.Common.{arith, refl, sym, subst, ap, ◌∙◌}
-use Rattle.std.proofs.lemmas.Result.{err_from_is_err_and}
-use Rattle.cert_format.specs.FirstFault.{within, exactly, any, tag}
-use Rattle.cert_format.specs.CertText.{kind_number, role_number, tag_number}
-use Rattle.cert_format.proofs.Fields.{wide8, wide16, wide32, took_field, refused_field, short_field, took_named, kind_allowed, role_allowed, tag_allowed}
-use Rattle.std.proofs.lemmas.Bool.Decides.{nat_tests}
+use Rattle.std.specs.Int.{w16}
+use Rattle.cert_format.proofs.Fields.{wide16, any_is_read}
 use Rattle.cert_format.proofs.field.any_u16.Goals as goal
 
-pub returns-in_err-number : goal.returns-in_err-number
-returns-in_err-number c =
-    let p = err_from_is_err_and c.from_residual.result c.from_residual.ensures.1 in
-    rw (p.1, p.2) (short_field (any w16) c.in_err-number.field-0.0 c.args.rest c.in_err-number.ensures)
-
 pub returns : goal.returns
-returns c = took_field (any w16) c.in_ok-number.number c.args.rest c.in_ok-number.rest wide16 c.in_ok-number.ensures.0 c.in_ok-number.ensures.1 refl
+returns c = any_is_read w16 c.args.rest c.u16.result wide16 c.u16.ensures

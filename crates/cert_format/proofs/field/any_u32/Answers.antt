@@ -1,17 +1,6 @@
-use Rattle.std.specs.Int.{w8, w16, w32, from_be_bytes}
-use Rattle.std.specs.Prelude.{codes}
-use Rattle.std.proofs.Common.{arith, refl, sym, subst, ap, ◌∙◌}
-use Rattle.std.proofs.lemmas.Result.{err_from_is_err_and}
-use Rattle.cert_format.specs.FirstFault.{within, exactly, any, tag}
-use Rattle.cert_format.specs.CertText.{kind_number, role_number, tag_number}
-use Rattle.cert_format.proofs.Fields.{wide8, wide16, wide32, took_field, refused_field, short_field, took_named, kind_allowed, role_allowed, tag_allowed}
-use Rattle.std.proofs.lemmas.Bool.Decides.{nat_tests}
+use Rattle.std.specs.Int.{w32}
+use Rattle.cert_format.proofs.Fields.{wide32, any_is_read}
 use Rattle.cert_format.proofs.field.any_u32.Goals as goal
 
-pub returns-in_err-number : goal.returns-in_err-number
-returns-in_err-number c =
-    let p = err_from_is_err_and c.from_residual.result c.from_residual.ensures.1 in
-    rw (p.1, p.2) (short_field (any w32) c.in_err-number.field-0.0 c.args.rest c.in_err-number.ensures)
-
 pub returns : goal.returns
-returns c = took_field (any w32) c.in_ok-number.number c.args.rest c.in_ok-number.rest wide32 c.in_ok-number.ensures.0 c.in_ok-number.ensures.1 refl
+returns c = any_is_read w32 c.args.rest c.u32.result wide32 c.u32.ensures

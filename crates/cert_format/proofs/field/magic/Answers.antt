@@ -1,10 +1,9 @@
-use Rattle.std.specs.Int.{w8, w16, w32, from_be_bytes}
+use Rattle.std.specs.Int.{w32, from_be_bytes}
 use Rattle.std.specs.Prelude.{codes}
-use Rattle.std.proofs.Common.{arith, refl, sym, subst, ap, ◌∙◌}
+use Rattle.std.proofs.Common.{arith}
 use Rattle.std.proofs.lemmas.Result.{err_from_is_err_and}
-use Rattle.cert_format.specs.FirstFault.{within, exactly, any, tag}
-use Rattle.cert_format.specs.CertText.{kind_number, role_number, tag_number}
-use Rattle.cert_format.proofs.Fields.{wide8, wide16, wide32, took_field, refused_field, short_field, took_named, kind_allowed, role_allowed, tag_allowed}
+use Rattle.cert_format.specs.Layout.{exactly}
+use Rattle.cert_format.proofs.Fields.{wide32, took_field, refused_field, short_field}
 use Rattle.std.proofs.lemmas.Bool.Decides.{nat_tests}
 use Rattle.cert_format.proofs.field.magic.Goals as goal
 

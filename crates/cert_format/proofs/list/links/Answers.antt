@@ -2,7 +2,7 @@ use Rattle.std.proofs.Common.{arith, ◌∙◌}
 use Rattle.std.proofs.lemmas.Result.{err_from_is_err_and}
 use Rattle.mrt_graph.specs.Certificate.{IsCertLink}
 use Rattle.cert_format.specs.CertText.{link_text}
-use Rattle.cert_format.specs.FirstFault.{link_form}
+use Rattle.cert_format.specs.Layout.{link_form}
 use Rattle.cert_format.proofs.Lists.{repeats_more, repeats_fault}
 use Rattle.cert_format.proofs.Parts.{link_part}
 use Rattle.cert_format.proofs.list.links.Goals as goal

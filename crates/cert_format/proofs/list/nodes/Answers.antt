@@ -2,7 +2,7 @@ use Rattle.std.proofs.Common.{arith, ◌∙◌}
 use Rattle.std.proofs.lemmas.Result.{err_from_is_err_and}
 use Rattle.cert_format.specs.Reading.{IsNode}
 use Rattle.cert_format.specs.CertText.{node_text}
-use Rattle.cert_format.specs.FirstFault.{node_form}
+use Rattle.cert_format.specs.Layout.{node_form}
 use Rattle.cert_format.proofs.Lists.{repeats_more, repeats_fault}
 use Rattle.cert_format.proofs.Parts.{node_part}
 use Rattle.cert_format.proofs.list.nodes.Goals as goal

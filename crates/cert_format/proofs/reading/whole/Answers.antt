@@ -1,10 +1,11 @@
-use Rattle.std.proofs.Common.{◌≡◌, ◌∙◌, ◌*◌, ◌-◌, sym, subst, ap, arith}
+use Rattle.std.proofs.Common.{◌∙◌, ◌*◌, ◌-◌, sym, subst, ap, arith}
 use Rattle.std.specs.Prelude.{IsTrue}
 use Rattle.std.proofs.lemmas.Result.{err_from_is_err_and}
 use Rattle.mrt_graph.specs.Certificate.{IsCertLink, IsCertRow}
 use Rattle.cert_format.specs.CertText.{node_text, link_text, row_text}
-use Rattle.cert_format.specs.FirstFault.{End, cert_form, fault_in, repeated, node_form, link_form, row_form}
-use Rattle.cert_format.specs.Reading.{Rest, IsNode, Names, ReadsFile}
+use Rattle.cert_format.specs.Layout.{End, cert_form, node_form, link_form, row_form}
+use Rattle.cert_format.specs.FirstFault.{fault_in}
+use Rattle.cert_format.specs.Reading.{Rest, IsNode, Names}
 use Rattle.cert_format.proofs.Lists.{list_goes_on}
 use Rattle.cert_format.proofs.Parts.{node_part, link_part, row_part}
 use Rattle.cert_format.proofs.Files.{trailing, are_certificate, spells}

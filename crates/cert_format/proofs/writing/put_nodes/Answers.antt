@@ -1,4 +1,4 @@
-use Rattle.std.proofs.Common.{◌++◌, arith}
+use Rattle.std.proofs.Common.{arith}
 use Rattle.cert_format.specs.CertText.{node_text}
 use Rattle.cert_format.proofs.Lists.{texts_more}
 use Rattle.cert_format.proofs.writing.put_nodes.Goals as goal
