@@ -13,15 +13,18 @@ use Rattle.mrt_graph.specs.declared.cert.CertNode.{CertNode}
 use Rattle.mrt_graph.specs.declared.cert.CertLink.{CertLink}
 use Rattle.mrt_graph.specs.declared.cert.CertFile.{CertFile}
 
+-- the number that spells a kind
 abbrev pub kind_number : Kind → ℕ
 kind_number kinds.Router = 1
 kind_number kinds.Network = 2
 
+-- the number that spells a role
 abbrev pub role_number : Role → ℕ
 role_number roles.Plain = 0
 role_number roles.Sole = 1
 role_number roles.Closing = 2
 
+-- the number that spells a tag
 abbrev pub tag_number : Tag → ℕ
 tag_number tags.Sole = 0
 tag_number tags.Head = 1
@@ -31,7 +34,7 @@ tag_number tags.Above = 4
 tag_number tags.Unordered = 5
 tag_number tags.Carried = 6
 
--- the version, the number of nodes, the number of links and the root's router ID, behind the magic bytes
+-- a header: the magic bytes, the version, the number of nodes, the number of links and the root's router ID
 abbrev pub header_text : ℕ → ℕ → ℕ → List ℕ
 header_text nodes links root =
     codes "MRTC" ++ (to_be_bytes w16 1 ++ (to_be_bytes w16 nodes ++ (to_be_bytes w16 links ++ to_be_bytes w32 root)))
@@ -50,7 +53,7 @@ link_text link =
 abbrev pub row_text : Row → List ℕ
 row_text row = to_be_bytes w16 row.blue ++ (to_be_bytes w16 row.red ++ to_be_bytes w8 (tag_number row.tag))
 
--- the header, then the nodes, the links and the rows, each by number
+-- the header, then the nodes and the links by number, and the rows by ascending source, then by ascending destination
 abbrev pub cert_text : CertFile → List ℕ
 cert_text f =
     header_text (length f.cert.nodes) (length f.cert.links) f.root

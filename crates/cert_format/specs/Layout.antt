@@ -10,9 +10,11 @@ pub record Field : Type 0 where
   pub allows : ℕ → Bool
   pub fault : CertKind
 
+-- one number alone, and any other is no certificate of this kind
 abbrev pub exactly : Width → ℕ → Field
 exactly width wanted = record { width = width; allows = λ number. number == wanted; fault = faults.Magic }
 
+-- every number
 abbrev pub any : Width → Field
 any width = record { width = width; allows = λ number. true; fault = faults.Range }
 
@@ -21,6 +23,7 @@ abbrev pub within : Width → ℕ → ℕ → Field
 within width least bound =
     record { width = width; allows = λ number. nat_le least number && nat_lt number bound; fault = faults.Range }
 
+-- one of the seven tags
 abbrev pub tag : Field
 tag = record { width = w8; allows = λ number. nat_lt number 7; fault = faults.Tag }
 

@@ -20,6 +20,7 @@ pub record Rest : Type 0 where
   pub at : ℕ
   pub bytes : List ℕ
 
+-- these bytes are left, from that place on
 abbrev pub rest_of : ℕ → List ℕ → Rest
 rest_of at bytes = record { at = at; bytes = bytes }
 
@@ -78,6 +79,7 @@ pub record TookHeader (nodes links root : ℕ) (before after : Rest) : Type 0 wh
   pub within : IsHeader nodes links root
   pub goes_on : (next : ℕ → ℕ → Form) → fault_in (header_form next) before.at before.bytes ≡ fault_in (next nodes links) after.at after.bytes
 
+-- such a header, or the first fault in it
 abbrev pub ReadsHeader : Rest → Result (Header × Rest) CertError → Type 0
 ReadsHeader before (Ok x) = TookHeader x.0.nodes x.0.links x.0.root before x.1
 ReadsHeader before (Err e) = (next : ℕ → ℕ → Form) → Names e (fault_in (header_form next) before.at before.bytes)

@@ -9,15 +9,22 @@ use thiserror::Error;
 /// What is wrong with a field.
 #[derive(Clone, Copy, Debug, PartialEq, Eq)]
 pub enum CertKind {
+    /// These are not the magic bytes, or not a version that is known.
     Magic,
+    /// Fewer bytes are left than the field has.
     Truncated,
+    /// The number is out of its range.
     Range,
+    /// The number is no tag.
     Tag,
+    /// Bytes stand behind the last row.
     Trailing,
 }
 
+/// Why a certificate file was not read.
 #[derive(Clone, Copy, Debug, PartialEq, Eq, Error)]
 pub enum CertError {
+    /// The first field that is not allowed begins at byte `at`, from 0.
     #[error("{kind:?} at {at}")]
     Fault { at: u32, kind: CertKind },
     #[error("no memory")]

@@ -22,7 +22,8 @@ use std::alloc::Global;
 ///
 /// # Errors
 ///
-/// [`CertError::Fault`] names the first field that is not allowed, and the place of its first byte.
+/// [`CertError::Fault`] names the first field that is not allowed, and the place of its first byte;
+/// [`CertError::NoMemory`] comes where there was none for a list.
 pub fn read_cert(alloc: Global, bytes: &[u8]) -> Result<CertFile, CertError>
     // What is read is spelled so, and within the limits.
     ensures found { IfOk result (λ f. IsVersionOne f × (bytes.now ≡ cert_text f)) }
@@ -36,6 +37,7 @@ pub fn read_cert(alloc: Global, bytes: &[u8]) -> Result<CertFile, CertError>
     whole(alloc, bytes)
 }
 
+/// The file with its one exact answer, from which the clauses of [`read_cert`] follow.
 fn whole(alloc: Global, bytes: &[u8]) -> Result<CertFile, CertError>
     ensures { ReadsFile bytes.now result }
 {

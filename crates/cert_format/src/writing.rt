@@ -16,7 +16,11 @@ ghost use Rattle.cert_format.specs.CertText.{
 use mrt_graph::{CertFile, CertLink, CertNode, Kind, NoMemory, Role, Row, Tag};
 use std::alloc::Global;
 
-/// The bytes of a certificate file of version 1.
+/// The bytes of a certificate file of version 1: of n nodes and m links `14 + 11n + 7m + 5n(n - 1)`, reserved once.
+///
+/// # Errors
+///
+/// [`NoMemory`] where there was none for the bytes.
 pub fn write_cert(alloc: Global, f: &CertFile) -> Result<Vec<u8>, NoMemory>
     requires nodes { length f.now.cert.nodes ≤ 2048 }
     requires links { length f.now.cert.links ≤ 8192 }
