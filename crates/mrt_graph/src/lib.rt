@@ -11,6 +11,8 @@ mod graph_tests;
 mod link;
 mod no_memory;
 mod node_id;
+#[cfg(test)]
+mod node_tests;
 mod node_text;
 mod numbers;
 

@@ -17,3 +17,6 @@ pub use mem_sink::MemSink;
 pub use put::put_all;
 pub use std_sink::StdSink;
 pub use word::Word;
+
+#[cfg(test)]
+mod tests;
