@@ -12,19 +12,15 @@ status_of (WriteFault taken) = 9
 status_of NoMemory = 10
 status_of NotYet = 12
 
--- the words of Usage: the forms that there are and are to be
-unfoldable pub usage : List ℕ
-usage = codes "usage: check DB PROFILE CERT, certify DB PROFILE ROUTER, table DB PROFILE ROUTER, trace DB PROFILE FROM TO blue/red/repair [FAIL], fabric DB PROFILE SCRIPT, survey NUMBER NODES"
+-- the line of Usage: the forms that there are and are to be
+unfoldable pub usage_line : List ℕ
+usage_line = codes "mrt: usage: check DB PROFILE CERT, certify DB PROFILE ROUTER, table DB PROFILE ROUTER, trace DB PROFILE FROM TO blue/red/repair [FAIL], fabric DB PROFILE SCRIPT, survey NUMBER NODES\n"
 
--- what stands behind `mrt: ` on the line; Done has no line
-abbrev pub words_of : Exit → List ℕ
-words_of Done = codes ""
-words_of Usage = usage
-words_of (ReadFault word) = codes "read fault: word " ++ decimal word
-words_of (WriteFault taken) = codes "write fault after " ++ decimal taken
-words_of NoMemory = codes "no memory"
-words_of NotYet = codes "not yet"
-
--- the line on standard error
+-- the line on standard error; Done has none
 abbrev pub line_of : Exit → List ℕ
-line_of exit = codes "mrt: " ++ words_of exit ++ codes "\n"
+line_of Done = codes ""
+line_of Usage = usage_line
+line_of (ReadFault word) = codes "mrt: read fault: word " ++ decimal word ++ codes "\n"
+line_of (WriteFault taken) = codes "mrt: write fault after " ++ decimal taken ++ codes "\n"
+line_of NoMemory = codes "mrt: no memory\n"
+line_of NotYet = codes "mrt: not yet\n"

@@ -20,9 +20,9 @@ pub enum Exit {
     NotYet,
 }
 
-/// The words of `Usage`: the forms that there are and are to be.
+/// The line of `Usage`: the forms that there are and are to be.
 const USAGE: &str =
-    "usage: check DB PROFILE CERT, certify DB PROFILE ROUTER, table DB PROFILE ROUTER, trace DB PROFILE FROM TO blue/red/repair [FAIL], fabric DB PROFILE SCRIPT, survey NUMBER NODES";
+    "mrt: usage: check DB PROFILE CERT, certify DB PROFILE ROUTER, table DB PROFILE ROUTER, trace DB PROFILE FROM TO blue/red/repair [FAIL], fabric DB PROFILE SCRIPT, survey NUMBER NODES\n";
 
 /// A line on standard error, in a fixed array.
 pub type Line = ArrayString<256>;
@@ -42,40 +42,36 @@ impl Exit {
         }
     }
 
-    /// The line on standard error, made without memory.
-    #[tactic(auto, unfolding(crate::specs::Exits::usage))]
+    /// The line on standard error, made without memory; `Done` has none.
+    #[tactic(auto, unfolding(crate::specs::Exits::usage_line))]
     pub fn line(&self) -> Line
         ensures { result.bytes ≡ line_of self.now }
     {
         match self {
             Exit::Done => plain(""),
             Exit::Usage => plain(USAGE),
-            Exit::ReadFault { word } => numbered("read fault: word ", u64::from(*word)),
-            Exit::WriteFault { taken } => numbered("write fault after ", *taken),
-            Exit::NoMemory => plain("no memory"),
-            Exit::NotYet => plain("not yet"),
+            Exit::ReadFault { word } => numbered("mrt: read fault: word ", u64::from(*word)),
+            Exit::WriteFault { taken } => numbered("mrt: write fault after ", *taken),
+            Exit::NoMemory => plain("mrt: no memory\n"),
+            Exit::NotYet => plain("mrt: not yet\n"),
         }
     }
 }
 
-fn plain(words: &str) -> Line
-    requires { length words.now ≤ 200 }
-    ensures { result.bytes ≡ codes "mrt: " ++ words.now ++ codes "\n" }
+fn plain(text: &str) -> Line
+    requires { length text.now ≤ 256 }
+    ensures { result.bytes ≡ text.now }
 {
     let mut line = ArrayString::new();
-    line.push_str("mrt: ");
-    line.push_str(words);
-    line.push_str("\n");
+    line.push_str(text);
     line
 }
 
-fn numbered(words: &str, number: u64) -> Line
-    requires { length words.now ≤ 200 }
-    ensures { result.bytes ≡ codes "mrt: " ++ (words.now ++ decimal number) ++ codes "\n" }
+fn numbered(text: &str, number: u64) -> Line
+    requires { length text.now ≤ 200 }
+    ensures { result.bytes ≡ text.now ++ decimal number ++ codes "\n" }
 {
-    let mut line = ArrayString::new();
-    line.push_str("mrt: ");
-    line.push_str(words);
+    let mut line = plain(text);
     line.push_str(Buffer::new().format(number));
     line.push_str("\n");
     line
