@@ -45,10 +45,12 @@ pub fn write_cert(alloc: Global, f: &CertFile) -> Result<Vec<u8>, NoMemory>
 fn header_bytes(nodes: u16, links: u16, root: u32) -> [u8; 14]
     ensures { result ≡ header_text nodes links root }
 {
-    let [n, o] = nodes.to_be_bytes();
-    let [l, m] = links.to_be_bytes();
+    let [nodes, nodes_low] = nodes.to_be_bytes();
+    let [links, links_low] = links.to_be_bytes();
     let [a, b, c, d] = root.to_be_bytes();
-    [b'M', b'R', b'T', b'C', 0, 1, n, o, l, m, a, b, c, d]
+    [
+        b'M', b'R', b'T', b'C', 0, 1, nodes, nodes_low, links, links_low, a, b, c, d,
+    ]
 }
 
 fn put_nodes(out: &mut Vec<u8>, nodes: &[CertNode])
@@ -69,11 +71,13 @@ fn node_bytes(node: &CertNode) -> [u8; 11]
         Kind::Router => 1,
         Kind::Network => 2,
     };
-    let [i, j, k, l] = node.id.number.to_be_bytes();
-    let [o, p] = node.order.to_be_bytes();
-    let [h, g] = node.head.get().to_be_bytes();
-    let [b, c] = node.block.get().to_be_bytes();
-    [kind, i, j, k, l, o, p, h, g, b, c]
+    let [a, b, c, d] = node.id.number.to_be_bytes();
+    let [order, order_low] = node.order.to_be_bytes();
+    let [head, head_low] = node.head.get().to_be_bytes();
+    let [block, block_low] = node.block.get().to_be_bytes();
+    [
+        kind, a, b, c, d, order, order_low, head, head_low, block, block_low,
+    ]
 }
 
 fn put_links(out: &mut Vec<u8>, links: &[CertLink])
