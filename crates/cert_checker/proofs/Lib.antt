@@ -1,0 +1,5 @@
+pub mod Kept
+pub mod Rest
+pub mod RowChain
+pub mod Searches
+pub mod Verdicts

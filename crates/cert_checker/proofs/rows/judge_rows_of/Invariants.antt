@@ -1,0 +1,6 @@
+use Rattle.std.proofs.Common.{length}
+use Rattle.cert_checker.specs.RowTests.{KeptBefore, row_test}
+use Rattle.cert_checker.proofs.rows.judge_rows_of.Given as goal
+
+abbrev pub invariant-loop-t : goal.invariant-loop-t
+invariant-loop-t l = KeptBefore (row_test l.g l.root l.c) (length l.c.nodes) l.s l.t l.kept

@@ -1,0 +1,83 @@
+//! The fourteen rules in their order.
+
+ghost use Rattle.std.specs.Prelude.{◌≡◌, ◌<◌, ◌↔◌, ℕ, length};
+ghost use Rattle.cert_checker.specs.Judged.{Judged};
+ghost use Rattle.mrt_graph.specs.Accepted.{Accepted};
+ghost use Rattle.mrt_graph.specs.FirstFault.{FirstFault};
+
+use crate::block_links::{first_lone_link_fault, first_many_links_fault};
+use crate::heads::{first_misplaced_link, head_fault};
+use crate::orders::order_fault;
+use crate::rows::first_row_fault;
+use crate::same_network::network_fault;
+use crate::verdict::Verdict;
+use mrt_graph::{CertFile, Graph, NodeNo};
+
+/// Judges a certificate file for a graph and its root: yes where all fourteen rules hold; else the first rule that
+/// fails and its least place.
+///
+/// A later rule is read only where all earlier ones hold. No memory is taken. Rules 1 to 6 take time in proportion to
+/// nodes times links at worst, the others one pass over the rows.
+pub fn check(g: &Graph, root: NodeNo, f: &CertFile) -> Verdict
+    requires { root < length g.now.ids }
+    ensures yes { (result ≡ Verdict.Yes) ↔ Accepted g.now root f.now }
+    ensures no { (rule a b : ℕ) → ((result ≡ Verdict.No rule a b) ↔ FirstFault g.now root f.now rule a b) }
+{
+    judge(g, root, f)
+}
+
+fn judge(g: &Graph, root: NodeNo, f: &CertFile) -> Verdict
+    requires { root < length g.now.ids }
+    ensures { Judged g.now root f.now result }
+{
+    if let Some(place) = network_fault(g, &f.cert) {
+        return Verdict::No {
+            rule: 1,
+            a: place.a,
+            b: place.b,
+        };
+    }
+    if let Some(place) = order_fault(g, root, f) {
+        return Verdict::No {
+            rule: 2,
+            a: place.a,
+            b: place.b,
+        };
+    }
+    if let Some(place) = head_fault(&f.cert, root) {
+        return Verdict::No {
+            rule: 3,
+            a: place.a,
+            b: place.b,
+        };
+    }
+    if let Some(link) = first_misplaced_link(&f.cert) {
+        return Verdict::No {
+            rule: 4,
+            a: link,
+            b: 0,
+        };
+    }
+    if let Some(node) = first_lone_link_fault(&f.cert, root) {
+        return Verdict::No {
+            rule: 5,
+            a: node,
+            b: 0,
+        };
+    }
+    if let Some(node) = first_many_links_fault(&f.cert, root) {
+        return Verdict::No {
+            rule: 6,
+            a: node,
+            b: 0,
+        };
+    }
+    match first_row_fault(g, &f.cert, root) {
+        None => Verdict::Yes,
+        Some(fault) => Verdict::No {
+            rule: fault.rule,
+            a: fault.a,
+            b: fault.b,
+        },
+    }
+}

@@ -1,0 +1,19 @@
+//! The checker of certificates: fourteen rules, read in order without memory.
+#![tactic(auto)]
+
+mod block_links;
+#[cfg(test)]
+mod check_tests;
+mod fault;
+mod heads;
+mod judge;
+mod orders;
+mod place;
+mod row_rules;
+mod row_words;
+mod rows;
+mod same_network;
+mod verdict;
+
+pub use judge::check;
+pub use verdict::Verdict;

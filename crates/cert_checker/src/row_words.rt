@@ -1,0 +1,116 @@
+//! Words of the rules on rows: where a link leads, what tag a row has, which role a link has.
+
+ghost use Rattle.std.specs.Prelude.{◌≡◌, ◌<◌, ◌≤◌, IfSome, length};
+ghost use Rattle.mrt_graph.specs.CertWords.{role_of, tagged};
+ghost use Rattle.mrt_graph.specs.Leads.{leads};
+ghost use Rattle.mrt_graph.specs.RowRules.{rises, falls, plain_to_head, closing_to_head};
+ghost use Rattle.mrt_graph.specs.Roles.{is_plain, is_sole, is_closing};
+ghost use Rattle.mrt_graph.specs.SameNetwork.{SameCounts};
+ghost use Rattle.mrt_graph.specs.Tags.{tag_number};
+
+use mrt_graph::{Cert, Graph, LinkNo, NodeNo, Role, Tag};
+
+/// Where the link leads from `s`.
+pub(crate) fn far_end(g: &Graph, c: &Cert, e: LinkNo, s: NodeNo) -> Option<NodeNo>
+    requires counts { SameCounts g.now c.now }
+    requires link { e < length c.now.links }
+    ensures leads { result ≡ leads g.now.links e s }
+    ensures within { IfSome result (λ v. v < length c.now.nodes) }
+{
+    let _same = c.node_count();
+    let link = g.link(e);
+    if link.a == s {
+        return Some(link.b);
+    }
+    if link.b == s {
+        return Some(link.a);
+    }
+    None
+}
+
+/// Whether `v` has a row for `t`, and the row has this tag.
+pub(crate) fn has_tag(c: &Cert, v: NodeNo, t: NodeNo, tag: Tag) -> bool
+    requires from { v < length c.now.nodes }
+    requires to { t < length c.now.nodes }
+    ensures { result ≡ tagged c.now v t tag }
+{
+    if v == t {
+        return false;
+    }
+    number_of(c.row(v, t).tag) == number_of(tag)
+}
+
+pub(crate) fn number_of(tag: Tag) -> u8
+    ensures number { result ≡ tag_number tag }
+    ensures few { result ≤ 6 }
+{
+    tag as u8
+}
+
+/// Whether `v` has a greater order than `s`, and its row for `t` has this tag.
+pub(crate) fn is_above(c: &Cert, s: NodeNo, t: NodeNo, tag: Tag, v: NodeNo) -> bool
+    requires source { s < length c.now.nodes }
+    requires target { t < length c.now.nodes }
+    requires next { v < length c.now.nodes }
+    ensures { result ≡ rises c.now s t tag v }
+{
+    c.node(s).order < c.node(v).order && has_tag(c, v, t, tag)
+}
+
+/// Whether `v` has a smaller order than `s`, and its row for `t` has this tag.
+pub(crate) fn is_below(c: &Cert, s: NodeNo, t: NodeNo, tag: Tag, v: NodeNo) -> bool
+    requires source { s < length c.now.nodes }
+    requires target { t < length c.now.nodes }
+    requires next { v < length c.now.nodes }
+    ensures { result ≡ falls c.now s t tag v }
+{
+    c.node(v).order < c.node(s).order && has_tag(c, v, t, tag)
+}
+
+/// Whether the link is plain, and `v` is the head of `s`.
+pub(crate) fn is_plain_home(c: &Cert, e: LinkNo, s: NodeNo, v: NodeNo) -> bool
+    requires link { e < length c.now.links }
+    requires source { s < length c.now.nodes }
+    ensures { result ≡ plain_to_head c.now e s v }
+{
+    is_plain_link(c, e) && v == c.node(s).head
+}
+
+/// Whether the link is closing, and `v` is the head of `s`.
+pub(crate) fn is_closing_home(c: &Cert, e: LinkNo, s: NodeNo, v: NodeNo) -> bool
+    requires link { e < length c.now.links }
+    requires source { s < length c.now.nodes }
+    ensures { result ≡ closing_to_head c.now e s v }
+{
+    is_closing_link(c, e) && v == c.node(s).head
+}
+
+pub(crate) fn is_plain_link(c: &Cert, e: LinkNo) -> bool
+    requires { e < length c.now.links }
+    ensures { result ≡ is_plain (role_of c.now e) }
+{
+    match c.link(e).role {
+        Role::Plain => true,
+        Role::Sole | Role::Closing => false,
+    }
+}
+
+pub(crate) fn is_sole_link(c: &Cert, e: LinkNo) -> bool
+    requires { e < length c.now.links }
+    ensures { result ≡ is_sole (role_of c.now e) }
+{
+    match c.link(e).role {
+        Role::Sole => true,
+        Role::Plain | Role::Closing => false,
+    }
+}
+
+pub(crate) fn is_closing_link(c: &Cert, e: LinkNo) -> bool
+    requires { e < length c.now.links }
+    ensures { result ≡ is_closing (role_of c.now e) }
+{
+    match c.link(e).role {
+        Role::Closing => true,
+        Role::Plain | Role::Sole => false,
+    }
+}

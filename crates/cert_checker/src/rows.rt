@@ -1,0 +1,110 @@
+//! Rules seven to fourteen, in one pass over the rows in their order.
+
+ghost use Rattle.std.specs.Prelude.{◌≡◌, ◌<◌, ◌+◌, length};
+ghost use Rattle.cert_checker.specs.RowAt.{IsRowAt};
+ghost use Rattle.cert_checker.specs.RowTests.{JudgedRow, KeptBefore, better, lesser_fault, lies_in_block, row_test};
+ghost use Rattle.mrt_graph.specs.Certificate.{IsCertRow};
+ghost use Rattle.mrt_graph.specs.SameNetwork.{SameCounts};
+
+use crate::fault::Fault;
+use crate::row_rules::{keeps_rule, lies_in_common_block};
+use crate::row_words::number_of;
+use mrt_graph::{Cert, Graph, NodeNo, Row, Tag};
+
+/// The first rule on rows that fails, and its first place.
+///
+/// Each row meets the rule of its tag and the fourteenth alone, so one pass keeps the least rule that has failed, with
+/// the place where it failed first.
+pub(crate) fn first_row_fault(g: &Graph, c: &Cert, root: NodeNo) -> Option<Fault>
+    requires { SameCounts g.now c.now }
+    ensures { KeptBefore (row_test g.now root c.now) (length c.now.nodes) (length c.now.nodes) 0 result }
+{
+    let mut kept = None;
+    for s in 0..c.node_count() {
+        kept = judge_rows_of(g, c, root, NodeNo::new(s), kept);
+    }
+    kept
+}
+
+fn judge_rows_of(
+    g: &Graph,
+    c: &Cert,
+    root: NodeNo,
+    s: NodeNo,
+    before: Option<Fault>,
+) -> Option<Fault>
+    requires counts { SameCounts g.now c.now }
+    requires source { s < length c.now.nodes }
+    requires before { KeptBefore (row_test g.now root c.now) (length c.now.nodes) s 0 before }
+    ensures { KeptBefore (row_test g.now root c.now) (length c.now.nodes) (s + 1) 0 result }
+{
+    let mut kept = before;
+    for t in 0..c.node_count() {
+        kept = keep(
+            kept,
+            row_fault(g, c, root, s, NodeNo::new(t)),
+            s,
+            NodeNo::new(t),
+        );
+    }
+    kept
+}
+
+/// The fault of the lesser rule, and of two with one rule the earlier.
+fn keep(kept: Option<Fault>, judged: Option<u8>, s: NodeNo, t: NodeNo) -> Option<Fault>
+    ensures { result ≡ better kept judged s t }
+{
+    match judged {
+        None => kept,
+        Some(rule) => Some(lesser(
+            kept,
+            Fault {
+                rule,
+                a: s.get(),
+                b: t.get(),
+            },
+        )),
+    }
+}
+
+fn lesser(kept: Option<Fault>, fault: Fault) -> Fault
+    ensures { result ≡ lesser_fault kept fault }
+{
+    match kept {
+        None => fault,
+        Some(earlier) => if earlier.rule <= fault.rule {
+            earlier
+        } else {
+            fault
+        }
+    }
+}
+
+/// The first rule that the row of `s` for `t` breaks.
+fn row_fault(g: &Graph, c: &Cert, root: NodeNo, s: NodeNo, t: NodeNo) -> Option<u8>
+    requires counts { SameCounts g.now c.now }
+    requires source { s < length c.now.nodes }
+    requires target { t < length c.now.nodes }
+    ensures { JudgedRow (λ rule. row_test g.now root c.now rule s t) result }
+{
+    if s == t {
+        return None;
+    }
+    let row = c.row(s, t);
+    if !keeps_rule(g, c, root, s, t, &row) {
+        return Some(7 + number_of(row.tag));
+    }
+    if !is_in_block(c, s, t, &row) {
+        return Some(14);
+    }
+    None
+}
+
+fn is_in_block(c: &Cert, s: NodeNo, t: NodeNo, row: &Row) -> bool
+    requires source { s < length c.now.nodes }
+    requires target { t < length c.now.nodes }
+    requires row { IsCertRow (length c.now.links) row.now }
+    ensures { result ≡ lies_in_block c.now s t row.now }
+{
+    number_of(row.tag) == number_of(Tag::Carried) || lies_in_common_block(c, s, t, row)
+}

@@ -1,0 +1,8 @@
+/// What the checker says of a certificate file.
+#[derive(Clone, Copy, Debug, PartialEq, Eq)]
+pub enum Verdict {
+    /// All fourteen rules hold.
+    Yes,
+    /// The first rule that fails, from 1, and its least place.
+    No { rule: u8, a: u16, b: u16 },
+}

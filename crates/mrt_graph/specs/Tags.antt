@@ -1,0 +1,18 @@
+-- Which tag a row has.
+use Rattle.std.specs.Prelude.{◌==◌, ℕ, Bool}
+use Rattle.mrt_graph.specs.declared.cert.Tag.{Tag}
+use Rattle.mrt_graph.specs.declared.cert.Tag.TheVariants.{Sole, Head, Top, Below, Above, Unordered, Carried}
+
+-- the tags in their order, from 0
+abbrev pub tag_number : Tag → ℕ
+tag_number Sole = 0
+tag_number Head = 1
+tag_number Top = 2
+tag_number Below = 3
+tag_number Above = 4
+tag_number Unordered = 5
+tag_number Carried = 6
+
+-- whether two tags are one
+abbrev pub same_tag : Tag → Tag → Bool
+same_tag tag other = tag_number tag == tag_number other
