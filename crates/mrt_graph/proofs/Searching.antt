@@ -1,22 +1,16 @@
 -- A search with marks and a list settles what paths reach.
-use Rattle.std.proofs.Common.{◌≡◌, ◌≢◌, ◌⊎◌, ◌<◌, ◌≤◌, ◌+◌, ℕ, zero, suc, Bool, true, false, not, List, [], ◌∷◌, ◌++◌, length, get_or, set, replicate, inl, inr, refl, sym, ◌∙◌, ap, subst, arith, append_assoc, length-append, length-set}
+use Rattle.std.proofs.Common.{◌≡◌, ◌⊎◌, ◌<◌, ◌≤◌, ◌+◌, ℕ, zero, suc, Bool, true, false, List, [], ◌∷◌, ◌++◌, length, get_or, set, replicate, inl, inr, refl, sym, ◌∙◌, ap, subst, arith, append_assoc, length-append}
 use Rattle.std.specs.Prelude.{Contains}
 use Rattle.std.proofs.lemmas.Bool.{cases_eq, cases_lt}
-use Rattle.std.proofs.lemmas.List.{append-nil, get_or-set_same, get_or-set_other, get_or_default, get_or_append_left, length-replicate}
+use Rattle.std.proofs.lemmas.List.{append-nil, get_or-set_same, get_or-set_other, get_or_default, get_or_append_left}
 use Rattle.std.proofs.lemmas.List.Elements.{Contains-append_left, Contains-append_right, Contains-append_cases, Contains-push}
-use Rattle.mrt_graph.specs.Reachable.{Path, Reachable}
 use Rattle.mrt_graph.specs.Search.{IsMarked, IsSearch, IsEntering}
+use Rattle.mrt_graph.proofs.Members.{contains_cases, contains_none}
 use Rattle.mrt_graph.proofs.Settled.{IsSettled, reachable_onward}
-
--- nothing is listed in an empty list
-pub none_in_nil : (v : ℕ) → Contains [] v → ⊥
-none_in_nil v c = omega (arith, c.1)
 
 -- the one element of a list of one
 pub one_in_one : (u v : ℕ) → Contains (u ∷ []) v → v ≡ u
-one_in_one u v c =
-    let first : c.0 ≡ 0 = omega (arith, c.1)
-    in sym (subst (λ (k : ℕ). get_or (u ∷ []) k v ≡ v) first c.2)
+one_in_one u v c = elim (contains_cases u v [] c) [ inl same ↦ same | inr later ↦ absurd (contains_none v later) ]
 
 -- coming on nothing changes nothing
 pub entering_none : (marks : List Bool) (found : List ℕ) → IsEntering (λ (v : ℕ). ⊥) marks found marks found
@@ -27,7 +21,7 @@ entering_none marks found = record {
   all_of_them = λ v h. absurd h;
   only_them = λ v m. inl m;
   listed = λ v m. inl m;
-  marked = λ v c. absurd (none_in_nil v c);
+  marked = λ v c. absurd (contains_none v c);
 }
 
 -- coming on a node that has its mark changes nothing
@@ -39,7 +33,7 @@ entering_marked marks found u has = record {
   all_of_them = λ v same. subst (λ (w : ℕ). IsMarked marks w) (sym same) has;
   only_them = λ v m. inl m;
   listed = λ v m. inl m;
-  marked = λ v c. absurd (none_in_nil v c);
+  marked = λ v c. absurd (contains_none v c);
 }
 
 -- a mark set at u is u's, and each other mark is as before

@@ -1,5 +1,5 @@
 -- What a search settles is exactly what paths reach.
-use Rattle.std.proofs.Common.{◌≡◌, ◌↔◌, ℕ, List, [], ◌∷◌, ◌++◌, refl, sym, subst}
+use Rattle.std.proofs.Common.{◌↔◌, ℕ, List, [], ◌∷◌, ◌++◌, refl, sym, subst}
 use Rattle.mrt_graph.specs.Reachable.{Path, Reachable}
 
 -- no path leads out of a set that is closed under steps

@@ -1,5 +1,5 @@
 -- A search along steps, which marks each node that it finds and lists it once, and follows the steps of the listed ones.
-use Rattle.std.specs.Prelude.{◌≡◌, ◌⊎◌, ◌<◌, ℕ, Bool, true, false, not, List, ◌++◌, length, slice_index_or, count_by, Contains}
+use Rattle.std.specs.Prelude.{◌≡◌, ◌⊎◌, ◌<◌, ℕ, Bool, true, false, not, List, ◌++◌, slice_index_or, count_by, Contains}
 use Rattle.mrt_graph.specs.Reachable.{Reachable}
 
 -- node v has its mark

@@ -31,9 +31,9 @@ pub reaches_told : (links : List Link) (n : ℕ) (rows : Rows) (color : Color) (
     → (IsTrue told ↔ AreDifferent nodes) → IsTrue told ↔ Reaches links n rows color s t
 reaches_told links n rows color s t walk nodes end told is met walks ends different =
     let all : nodes ≡ nodes_met links s (color_walk links n rows color s t) = met ∙ ap (λ (w : List ℕ). nodes_met links s w) is in (
-      (λ yes'. record {
+      (λ told_so. record {
         ends_at_t = subst (λ (w : List ℕ). Walk links s w t) is (subst (λ (v : ℕ). Walk links s walk v) ends walks);
-        no_node_twice = subst AreDifferent all (different.0 yes');
+        no_node_twice = subst AreDifferent all (different.0 told_so);
       }),
       (λ reaches. different.1 (subst AreDifferent (sym all) reaches.no_node_twice)),
     )
@@ -42,12 +42,15 @@ reaches_told links n rows color s t walk nodes end told is met walks ends differ
 abbrev pub AreApart : List Link → ℕ → ℕ → List ℕ → List ℕ → Type 0
 AreApart links s t blue red = (x : Element) → IsBetween x s t → Uses links s blue x → Uses links s red x → Separates links x s t
 
+-- of their links alone
 abbrev pub LinksApart : List Link → ℕ → ℕ → List ℕ → List ℕ → Type 0
 LinksApart links s t blue red = (e : ℕ) → Contains blue e → Contains red e → Separates links (elements.Link e) s t
 
+-- of the nodes that they meet alone
 abbrev pub NodesApart : List Link → ℕ → ℕ → List ℕ → List ℕ → Type 0
 NodesApart links s t blue red = (v : ℕ) → Contains blue v → Contains red v → IsBetween (elements.Node v) s t → Separates links (elements.Node v) s t
 
+-- the same, of lists that are equal to these
 pub links_at : (links : List Link) (s t : ℕ) (blue red blue' red' : List ℕ) (told : Bool) → blue ≡ blue' → red ≡ red'
     → (IsTrue told ↔ LinksApart links s t blue red) → IsTrue told ↔ LinksApart links s t blue' red'
 links_at links s t blue red blue' red' told b r h =
@@ -58,6 +61,7 @@ pub nodes_at : (links : List Link) (s t : ℕ) (blue red blue' red' : List ℕ) 
 nodes_at links s t blue red blue' red' told b r h =
     subst (λ (w : List ℕ). IsTrue told ↔ NodesApart links s t w red') b (subst (λ (w : List ℕ). IsTrue told ↔ NodesApart links s t blue w) r h)
 
+-- Apart, where the links were looked at, and where the nodes were too
 pub apart_refused : (links : List Link) (s t : ℕ) (blue red : List ℕ) (told : Bool)
     → (IsTrue told ↔ LinksApart links s t blue red) → told ≡ false → IsTrue false ↔ AreApart links s t blue red
 apart_refused links s t blue red told links_apart is =
@@ -72,6 +76,6 @@ pub apart_told : (links : List Link) (s t : ℕ) (blue red : List ℕ) (of_links
     → (IsTrue of_links ↔ LinksApart links s t blue red) → of_links ≡ true
     → (told : Bool) → (IsTrue told ↔ NodesApart links s t (nodes_met links s blue) (nodes_met links s red)) → IsTrue told ↔ AreApart links s t blue red
 apart_told links s t blue red of_links links_apart is told nodes_apart = (
-  (λ yes'. apart_from links s t blue red (links_apart.0 is) (nodes_apart.0 yes')),
+  (λ told_so. apart_from links s t blue red (links_apart.0 is) (nodes_apart.0 told_so)),
   (λ apart. nodes_apart.1 (λ v b r between. apart (elements.Node v) between b r)),
 )

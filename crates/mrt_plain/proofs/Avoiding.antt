@@ -1,5 +1,5 @@
 -- What separates: no path without it leads on.
-use Rattle.std.proofs.Common.{◌≡◌, ◌≢◌, ◌⊎◌, ◌<◌, ℕ, zero, suc, Bool, true, false, not, List, [], ◌∷◌, length, get_or, Option, Some, None, inl, inr, refl, sym, ◌∙◌, ap, subst, arith}
+use Rattle.std.proofs.Common.{◌≡◌, ◌≢◌, ◌⊎◌, ◌<◌, ℕ, Bool, true, false, not, List, [], ◌∷◌, length, get_or, Option, Some, None, inl, inr, refl, sym, ◌∙◌, ap, subst, arith}
 use Rattle.std.specs.Prelude.{◌==◌, ◌↔◌, ⊤, Contains, IsTrue, slice_get, if◌then◌else◌}
 use Rattle.std.specs.Option.{option_and_then}
 use Rattle.std.proofs.lemmas.Bool.{cases_Bool, cases_lt}
@@ -15,9 +15,11 @@ use Rattle.mrt_graph.specs.Search.{IsMarked}
 use Rattle.mrt_graph.specs.Separates.{IsBetween, Separates}
 use Rattle.mrt_graph.specs.Uses.{Uses, nodes_met}
 use Rattle.mrt_graph.specs.Walk.{Walk}
-use Rattle.mrt_plain.proofs.Following.{met_onward}
+use Rattle.mrt_graph.proofs.Members.{contains_cases, contains_first, contains_later, contains_none}
+use Rattle.mrt_graph.proofs.Walks.{met_first, met_onward}
 use Rattle.mrt_plain.specs.Without.{avoids, onward_without, StepsWithout}
 
+-- a test and its negation
 absurd_not : (b : Bool) → b ≡ true → not b ≡ true → ⊥
 absurd_not true is test = cc
 absurd_not false is test = cc
@@ -26,6 +28,7 @@ absurd_not' : (b : Bool) → b ≡ false → not b ≡ false → ⊥
 absurd_not' true is test = cc
 absurd_not' false is test = cc
 
+-- a choice by a test that gave a node
 clear_cases : (b : Bool) (w v : ℕ) → (if b then Some w else None) ≡ Some v → (b ≡ true) × (w ≡ v)
 clear_cases true w v e = (refl, cc)
 clear_cases false w v e = (cc, cc)
@@ -36,6 +39,7 @@ clear_says x e v (Some w) h =
     let both : (avoids x e w ≡ true) × (w ≡ v) = clear_cases (avoids x e w) w v h
     in (ap Some both.1, subst (λ (u : ℕ). avoids x e u ≡ true) both.1 both.0)
 
+-- a link that leads somewhere is one of the links
 past_none : (far : Link → Option ℕ) (v : ℕ) (o : Option Link) → o ≡ None → option_and_then far o ≡ Some v → ⊥
 past_none far v None same on = cc
 past_none far v (Some l) same on = cc
@@ -46,18 +50,7 @@ lead_within far links e v on = elim (cases_lt e (length links)) [
   | inr past ↦ absurd (past_none far v (slice_get links e) (slice_get_past links e past) on)
 ]
 
--- ---- elements of a list
-pub contains_first : (x : ℕ) (xs : List ℕ) → Contains (x ∷ xs) x
-contains_first x xs = (0, omega arith, refl)
-
-pub contains_later : (x y : ℕ) (xs : List ℕ) → Contains xs y → Contains (x ∷ xs) y
-contains_later x y xs c = (suc c.0, omega (arith, c.1), c.2)
-
-pub contains_cases : (x y : ℕ) (xs : List ℕ) → Contains (x ∷ xs) y → (y ≡ x) ⊎ Contains xs y
-contains_cases x y xs (zero, within, same) = inl (sym same)
-contains_cases x y xs (suc k, within, same) = inr (k, omega (arith, within), same)
-
--- ---- tests
+-- numbers that are unequal, and numbers that are not
 pub differ : (a b : ℕ) → not (a == b) ≡ true → a ≢ b
 differ a b test = elim (eqb_tells a b) as (λ _. a ≢ b) [
   | inl same ↦ absurd (absurd_not (a == b) same.0 test)
@@ -70,7 +63,7 @@ agree a b test = elim (eqb_tells a b) as (λ _. a ≡ b) [
   | inr other ↦ absurd (absurd_not' (a == b) other.0 test)
 ]
 
--- ---- one step
+-- a step without x: a link that leads on, where neither it nor the node is x
 pub onward_is : (links : List Link) (x : Element) (u v e : ℕ) → leads links e u ≡ Some v → avoids x e v ≡ true → onward_without links x u e ≡ Some v
 onward_is links x u v e on clear =
     ap (option_and_then (λ (w : ℕ). if avoids x e w then Some w else None)) on
@@ -82,16 +75,13 @@ onward_says links x u v e onward = clear_says x e v (leads links e u) onward
 pub onward_within : (links : List Link) (x : Element) (u e v : ℕ) → onward_without links x u e ≡ Some v → e < length links
 onward_within links x u e v onward = lead_within (far_node u) links e v (onward_says links x u v e onward).0
 
--- ---- what a walk uses
-pub met_first : (links : List Link) (walk : List ℕ) (s : ℕ) → Contains (nodes_met links s walk) s
-met_first links [] s = contains_first s []
-met_first links (e ∷ es) s = contains_first s _
-
+-- a walk uses what the rest of it uses
 pub uses_later : (links : List Link) (x : Element) (s e v : ℕ) (es : List ℕ) → leads links e s ≡ Some v → Uses links v es x → Uses links s (e ∷ es) x
 uses_later links (elements.Link a) s e v es on uses = contains_later e a es uses
 uses_later links (elements.Node y) s e v es on uses =
     subst (λ (met : List ℕ). Contains met y) (sym (met_onward links s e v es on)) (contains_later s y (nodes_met links v es) uses)
 
+-- and the first link and the node behind it
 pub uses_hit : (links : List Link) (x : Element) (s e v : ℕ) (es : List ℕ) → leads links e s ≡ Some v → avoids x e v ≡ false → Uses links s (e ∷ es) x
 uses_hit links (elements.Link a) s e v es on hit = subst (λ (f : ℕ). Contains (e ∷ es) f) (agree e a hit) (contains_first e es)
 uses_hit links (elements.Node y) s e v es on hit =
@@ -114,6 +104,7 @@ pub Elsewhere : Element → ℕ → Type 0
 Elsewhere (elements.Link a) s = ⊤
 Elsewhere (elements.Node y) s = s ≢ y
 
+-- so it is behind each step without x, and at the beginning of what x may separate
 pub elsewhere_onward : (x : Element) (e v : ℕ) → avoids x e v ≡ true → Elsewhere x v
 unfolding Elsewhere
 elsewhere_onward (elements.Link a) e v clear = tt
@@ -124,14 +115,16 @@ unfolding Elsewhere
 elsewhere_between (elements.Link a) s t between = tt
 elsewhere_between (elements.Node y) s t between = λ same. between.0 (sym same)
 
+-- the empty walk uses the node s alone
 pub unused_at_first : (links : List Link) (x : Element) (s : ℕ) → Elsewhere x s → Uses links s [] x → ⊥
 unfolding Elsewhere
-unused_at_first links (elements.Link a) s elsewhere uses = omega (arith, uses.1)
+unused_at_first links (elements.Link a) s elsewhere uses = contains_none a uses
 unused_at_first links (elements.Node y) s elsewhere uses = elim (contains_cases s y [] uses) [
   | inl same ↦ elsewhere (sym same)
   | inr later ↦ omega (arith, later.1)
 ]
 
+-- one step more without x
 pub unused_onward : (links : List Link) (x : Element) (s e v : ℕ) (es : List ℕ) → Elsewhere x s → leads links e s ≡ Some v → avoids x e v ≡ true
     → (Uses links v es x → ⊥) → Uses links s (e ∷ es) x → ⊥
 unfolding Elsewhere
@@ -163,7 +156,7 @@ walk_without links x (v ∷ vs) s t elsewhere p =
       unused = unused_onward links x s p.0.0 v rest.walk elsewhere says.0 says.1 rest.unused;
     }
 
--- ---- what separates
+-- x separates s and t exactly where no path without it leads from the one to the other
 pub separates_where : (links : List Link) (x : Element) (s t : ℕ) → IsBetween x s t → (Reachable (StepsWithout links x) s t → ⊥) → Separates links x s t
 separates_where links x s t between none = record {
   between = between;

@@ -1,12 +1,11 @@
 -- What a color walk has gone over and met so far.
-use Rattle.std.proofs.Common.{◌≡◌, ◌<◌, ◌-◌, ℕ, List, [], ◌∷◌, ◌++◌, Option, Some, refl, sym, ◌∙◌, ap, subst, append_assoc}
-use Rattle.std.specs.Option.{option_map_or}
+use Rattle.std.proofs.Common.{◌≡◌, ◌<◌, ◌-◌, ℕ, List, [], ◌∷◌, ◌++◌, Option, sym, ◌∙◌, ap, append_assoc}
 use Rattle.mrt_graph.specs.declared.link.Link.{Link}
 use Rattle.mrt_graph.specs.ColorWalk.{links_followed}
 use Rattle.mrt_graph.specs.Hop.{Hop}
-use Rattle.mrt_graph.specs.Leads.{leads}
 use Rattle.mrt_graph.specs.Uses.{nodes_met}
 use Rattle.mrt_graph.specs.Walk.{Walk}
+use Rattle.mrt_graph.proofs.Walks.{met_onward, walk_onward}
 use Rattle.mrt_plain.specs.NextHop.{IsNextHop}
 
 -- from s over the links `gone`, which met the nodes `met` before the one where it is, `most` links before the end
@@ -16,21 +15,7 @@ pub record IsFollowing (links : List Link) (n : ℕ) (next : ℕ → Option Hop)
   pub links_so_far : gone ++ links_followed next t most at ≡ links_followed next t n s
   pub nodes_so_far : met ++ nodes_met links at (links_followed next t most at) ≡ nodes_met links s (links_followed next t n s)
 
--- one link more
-pub walk_onward : (links : List Link) (walk : List ℕ) (s u e v : ℕ) → Walk links s walk u → leads links e u ≡ Some v → Walk links s (walk ++ e ∷ []) v
-walk_onward links [] s u e v w on = (v, subst (λ (x : ℕ). leads links e x ≡ Some v) (sym w) on, refl)
-walk_onward links (f ∷ fs) s u e v w on = (w.0, w.1, walk_onward links fs w.0 u e v w.2 on)
-
--- a walk ends at one node
-pub walk_end : (links : List Link) (walk : List ℕ) (s t u : ℕ) → Walk links s walk t → Walk links s walk u → t ≡ u
-walk_end links [] s t u w z = sym w ∙ z
-walk_end links (e ∷ es) s t u w z =
-    let same : w.0 ≡ z.0 = cc (w.1, z.1)
-    in walk_end links es z.0 t u (subst (λ (x : ℕ). Walk links x es t) same w.2) z.2
-
-pub met_onward : (links : List Link) (u e v : ℕ) (rest : List ℕ) → leads links e u ≡ Some v → nodes_met links u (e ∷ rest) ≡ u ∷ nodes_met links v rest
-met_onward links u e v rest on = ap (λ (o : Option ℕ). u ∷ option_map_or (λ (x : ℕ). nodes_met links x rest) o []) on
-
+-- one hop more
 pub following_onward : (links : List Link) (n : ℕ) (next : ℕ → Option Hop) (t s : ℕ) (gone met : List ℕ) (most at e v : ℕ)
     → IsFollowing links n next t s gone met most at → IsNextHop links n next t most at e v
     → IsFollowing links n next t s (gone ++ e ∷ []) (met ++ at ∷ []) (most - 1) v

@@ -11,10 +11,12 @@ use Rattle.mrt_graph.specs.declared.node_id.NodeId.{NodeId}
 use Rattle.mrt_graph.specs.NewGraph.{AreGraphParts}
 use Rattle.mrt_graph.specs.Certificate.{IsCertificate, IsCertLink, IsCertNode, IsCertRow, certificate_of}
 
+-- what holds of one element holds of all its copies
 pub all_same : {X : Type 0} (P : X → Type 0) (n : ℕ) (x : X) → P x → AllByRecursion P (replicate n x)
 all_same P zero x here = tt
 all_same P (suc n) x here = (here, all_same P n x here)
 
+-- such a certificate keeps what each certificate keeps
 pub certificate_made : (count m : ℕ) (node : CertNode) (link : CertLink) (nodes : List CertNode) (links : List CertLink) (rows : List Row)
     → 2 ≤ count → count ≤ 65535 → m ≤ 65535 → nodes ≡ replicate count node → links ≡ replicate m link
     → IsCertNode count node → IsCertLink count link → length rows ≡ count * (count - 1) → AllByRecursion (IsCertRow m) rows

@@ -26,6 +26,7 @@ different_more nodes i x within here so_far new =
 pub record SharedBelow (P : ℕ → Type 0) (one other : List ℕ) (n : ℕ) : Type 0 where
   pub each : (k : ℕ) → k < n → Contains other (get_or one k 0) → P (get_or one k 0)
 
+-- and of one more
 pub shared_more : (P : ℕ → Type 0) (one other : List ℕ) (i x : ℕ) → i < length one → x ≡ get_or one i x → SharedBelow P one other i → (Contains other x → P x) → SharedBelow P one other (i + 1)
 shared_more P one other i x within here so_far this = record {
   each = λ k below has. elim (cases_lt k i) [
@@ -37,10 +38,12 @@ shared_more P one other i x within here so_far this = record {
   ];
 }
 
+-- and of all
 pub shared_all : (P : ℕ → Type 0) (one other : List ℕ) (n : ℕ) → length one ≤ n → SharedBelow P one other n → (x : ℕ) → Contains one x → Contains other x → P x
 shared_all P one other n over so_far x c has =
     let it : get_or one c.0 0 ≡ x = get_or_default one c.0 0 x c.1 ∙ c.2
     in subst P it (so_far.each c.0 (omega (arith, c.1, over)) (subst (λ (y : ℕ). Contains other y) (sym it) has))
 
+-- what was read at a place is an element
 pub contains_read : (xs : List ℕ) (i x : ℕ) → i < length xs → x ≡ get_or xs i x → Contains xs x
 contains_read xs i x within here = (i, within, sym here)

@@ -8,10 +8,12 @@ use Rattle.mrt_graph.proofs.Searching.{entering_none, entering_both, entering_sa
 abbrev pub LeadsBelow : (ℕ → Option ℕ) → ℕ → ℕ → Type 0
 LeadsBelow ways n v = (k : ℕ) × (k < n) × (ways k ≡ Some v)
 
+-- nothing yet
 pub first_way : (ways : ℕ → Option ℕ) (marks : List Bool) (found : List ℕ) → IsEntering (LeadsBelow ways 0) marks found marks found
 first_way ways marks found =
     entering_same (λ (v : ℕ). ⊥) (LeadsBelow ways 0) marks found marks found (λ v h. absurd h) (λ v h. absurd (omega (arith, h.1))) (entering_none marks found)
 
+-- one way more
 pub next_way : (ways : ℕ → Option ℕ) (n : ℕ) (m0 : List Bool) (f0 : List ℕ) (m1 : List Bool) (f1 : List ℕ) (m2 : List Bool) (f2 : List ℕ)
     → IsEntering (LeadsBelow ways n) m0 f0 m1 f1 → IsEntering (λ (v : ℕ). ways n ≡ Some v) m1 f1 m2 f2
     → IsEntering (LeadsBelow ways (n + 1)) m0 f0 m2 f2

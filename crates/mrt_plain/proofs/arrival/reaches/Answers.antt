@@ -2,7 +2,7 @@ use Rattle.std.proofs.Common.{true≢false, sym, ◌∙◌, List, ℕ, subst}
 use Rattle.mrt_graph.specs.Walk.{Walk}
 use Rattle.mrt_plain.proofs.Answering.{reaches_told}
 use Rattle.mrt_plain.proofs.Avoiding.{agree, differ}
-use Rattle.mrt_plain.proofs.Following.{walk_end}
+use Rattle.mrt_graph.proofs.Walks.{walk_end}
 use Rattle.mrt_plain.proofs.arrival.reaches.Goals as goal
 
 pub returns-then-ne : goal.returns-then-ne
