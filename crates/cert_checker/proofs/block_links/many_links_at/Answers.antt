@@ -19,8 +19,9 @@ like_many : (c : Certificate) (root a : ℕ) → IsLikeBefore c a → (root + 1 
 like_many c root a like apart before =
     let here : many_links c root like.before ≡ true = before like.before (omega (arith, like.next)) in
     elim (or_cases (like.before == root) (many_links_hold c (head_of c like.before) (block_of c like.before)) here) [
-      inl is ↦ absurd (eqb-false _ _ apart (omega (arith, like.next, eqb-true _ _ is)))
-    | inr hold ↦ same_block c (a == root) _ _ _ _ like.head like.block hold ]
+      | inl is ↦ absurd (eqb-false _ _ apart (omega (arith, like.next, eqb-true _ _ is)))
+      | inr hold ↦ same_block c (a == root) _ _ _ _ like.head like.block hold
+    ]
 
 pub returns-then-is_like_before : goal.returns-then-is_like_before
 returns-then-is_like_before c =
