@@ -182,9 +182,10 @@ fn carrier_of(c: &Cert, root: NodeNo, s: NodeNo, t: NodeNo) -> NodeNo
     ensures within { result < length c.now.nodes }
 {
     if t == root {
-        return c.node(s).head;
+        c.node(s).head
+    } else {
+        c.node(t).head
     }
-    c.node(t).head
 }
 
 /// Whether the row has the links of the row of `s` for `w`.
