@@ -1,4 +1,5 @@
 pub mod Found
 pub mod Judged
+pub mod LikeBefore
 pub mod RowAt
 pub mod RowTests

@@ -1,6 +1,6 @@
 //! The fifth and the sixth rule: the links of blocks.
 
-ghost use Rattle.std.specs.Prelude.{◌≡◌, ◌==◌, ◌<◌, ◌&&◌, ◌||◌, length, nat_le, not};
+ghost use Rattle.std.specs.Prelude.{◌≡◌, ◌==◌, ◌+◌, ◌<◌, ◌&&◌, ◌||◌, length, nat_le, not};
 ghost use Rattle.std.specs.List.{list_all};
 ghost use Rattle.cert_checker.specs.Found.{FoundFirst};
 ghost use Rattle.mrt_graph.specs.CertWords.{links_of, members};
@@ -13,8 +13,10 @@ ghost use Rattle.mrt_graph.specs.HeadsAndBlocks.{
   joins_top,
   is_top,
 };
+ghost use Rattle.mrt_graph.specs.Places.{Each};
 ghost use Rattle.mrt_graph.specs.Roles.{is_closing, is_sole};
 
+use crate::heads::is_like_before;
 use mrt_graph::{Cert, CertLink, CertNode, LinkNo, NodeNo, Role};
 
 /// The least node other than the root whose block has one link and breaks the fifth rule.
@@ -29,11 +31,30 @@ pub(crate) fn first_lone_link_fault(c: &Cert, root: NodeNo) -> Option<u16>
     None
 }
 
+/// A node like the one before it has that one's block, which was judged there.
 fn lone_link_at(c: &Cert, root: NodeNo, a: NodeNo) -> bool
+    requires within { a < length c.now.nodes }
+    requires before { Each (lone_link c.now root) a }
+    ensures { result ≡ lone_link c.now root a }
+{
+    if is_behind_root(root, a) {
+        return lone_link_anew(c, root, a);
+    }
+    is_like_before(c, a) || lone_link_anew(c, root, a)
+}
+
+fn lone_link_anew(c: &Cert, root: NodeNo, a: NodeNo) -> bool
     requires { a < length c.now.nodes }
     ensures { result ≡ lone_link c.now root a }
 {
     a == root || keeps_lone_link(c, c.node(a).block)
+}
+
+/// Whether the node before `a` is the root.
+fn is_behind_root(root: NodeNo, a: NodeNo) -> bool
+    ensures { result ≡ (root + 1 == a) }
+{
+    a.get() > 0 && a.get() - 1 == root.get()
 }
 
 fn keeps_lone_link(c: &Cert, k: NodeNo) -> bool
@@ -57,7 +78,19 @@ pub(crate) fn first_many_links_fault(c: &Cert, root: NodeNo) -> Option<u16>
     None
 }
 
+/// A node like the one before it has that one's block, which was judged there.
 fn many_links_at(c: &Cert, root: NodeNo, a: NodeNo) -> bool
+    requires within { a < length c.now.nodes }
+    requires before { Each (many_links c.now root) a }
+    ensures { result ≡ many_links c.now root a }
+{
+    if is_behind_root(root, a) {
+        return many_links_anew(c, root, a);
+    }
+    is_like_before(c, a) || many_links_anew(c, root, a)
+}
+
+fn many_links_anew(c: &Cert, root: NodeNo, a: NodeNo) -> bool
     requires { a < length c.now.nodes }
     ensures { result ≡ many_links c.now root a }
 {

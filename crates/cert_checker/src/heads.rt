@@ -1,7 +1,8 @@
 //! The third and the fourth rule: heads, and the blocks of links.
 
-ghost use Rattle.std.specs.Prelude.{◌≡◌, ◌<◌, Some, length, slice_get};
+ghost use Rattle.std.specs.Prelude.{ℕ, true, IsTrue, ◌≡◌, ◌<◌, Some, length, slice_get};
 ghost use Rattle.cert_checker.specs.Found.{FoundFirst, FoundPair};
+ghost use Rattle.cert_checker.specs.LikeBefore.{IsLikeBefore};
 ghost use Rattle.mrt_graph.specs.CertWords.{block_of};
 ghost use Rattle.mrt_graph.specs.HeadsAndBlocks.{placed, one_head, heads_hold, link_placed};
 ghost use Rattle.mrt_graph.specs.Related.{is_common_block};
@@ -22,12 +23,17 @@ pub(crate) fn head_fault(c: &Cert, root: NodeNo) -> Option<Place>
     None
 }
 
+/// Nodes stand beside others of their block for the most part, so a node like the one before it needs no search.
 fn head_fault_at(c: &Cert, root: NodeNo, a: NodeNo) -> Option<u16>
-    requires { a < length c.now.nodes }
+    requires within { a < length c.now.nodes }
+    requires before { (x y : ℕ) → x < a → y < length c.now.nodes → heads_hold c.now root x y ≡ true }
     ensures { FoundFirst (heads_hold c.now root a) (length c.now.nodes) result }
 {
     if !is_placed(c, root, a) {
         return Some(0);
+    }
+    if is_like_before(c, a) {
+        return None;
     }
     first_other_head(c, a)
 }
@@ -41,6 +47,19 @@ fn is_placed(c: &Cert, root: NodeNo, a: NodeNo) -> bool
         return node.head == root && node.block == root;
     }
     c.node(node.head).order < node.order && node.block != root
+}
+
+/// Whether the node has the block and the head of the node before it.
+pub(crate) fn is_like_before(c: &Cert, a: NodeNo) -> bool
+    requires { a < length c.now.nodes }
+    ensures { IsTrue result → IsLikeBefore c.now a }
+{
+    if a.get() == 0 {
+        return false;
+    }
+    let node = c.node(a);
+    let before = c.node(NodeNo::new(a.get() - 1));
+    node.block == before.block && node.head == before.head
 }
 
 fn first_other_head(c: &Cert, a: NodeNo) -> Option<u16>

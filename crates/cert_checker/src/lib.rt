@@ -7,12 +7,15 @@ mod check_tests;
 mod fault;
 mod heads;
 mod judge;
+mod member_rows;
 mod orders;
 mod place;
 mod row_rules;
 mod row_words;
 mod rows;
 mod same_network;
+#[cfg(test)]
+mod test_certs;
 mod verdict;
 
 pub use judge::check;

@@ -13,15 +13,6 @@ ghost use Rattle.mrt_graph.specs.RowRules.{
   top_row,
   top_blue,
   top_red,
-  below_row,
-  below_blue,
-  below_red,
-  above_row,
-  above_blue,
-  above_red,
-  unordered_row,
-  unordered_blue,
-  unordered_red,
   carrier,
   carried_row,
   leads_where,
@@ -31,10 +22,8 @@ ghost use Rattle.mrt_graph.specs.Related.{related, is_common_block};
 ghost use Rattle.mrt_graph.specs.Roles.{is_plain, is_closing};
 
 use crate::heads::has_common_block;
-use crate::row_words::{
-    far_end, has_tag, is_above, is_below, is_closing_home, is_closing_link, is_plain_home,
-    is_plain_link, is_sole_link,
-};
+use crate::member_rows::{above, below, unordered};
+use crate::row_words::{far_end, has_tag, is_closing_link, is_plain_link, is_sole_link};
 use mrt_graph::{Cert, Graph, LinkNo, NodeNo, Row, Tag};
 
 /// Whether the row of `s` for `t` keeps what its tag asks.
@@ -167,106 +156,6 @@ fn top_red(g: &Graph, c: &Cert, s: NodeNo, t: NodeNo, e: LinkNo) -> bool
     }
 }
 
-fn below(g: &Graph, c: &Cert, s: NodeNo, t: NodeNo, row: &Row) -> bool
-    requires at { IsRowAt g.now c.now s t }
-    requires row { IsCertRow (length c.now.links) row.now }
-    ensures { result ≡ below_row g.now.links c.now s t row.now }
-{
-    c.node(s).block == c.node(t).block
-        && c.node(s).order < c.node(t).order
-        && below_blue(g, c, s, t, row.blue)
-        && below_red(g, c, s, t, row.red)
-}
-
-fn below_blue(g: &Graph, c: &Cert, s: NodeNo, t: NodeNo, e: LinkNo) -> bool
-    requires at { IsRowAt g.now c.now s t }
-    requires link { e < length c.now.links }
-    ensures { result ≡ below_blue g.now.links c.now s t e }
-{
-    match far_end(g, c, e, s) {
-        None => false,
-        Some(v) => v == t || is_above(c, s, t, Tag::Below, v),
-    }
-}
-
-fn below_red(g: &Graph, c: &Cert, s: NodeNo, t: NodeNo, e: LinkNo) -> bool
-    requires at { IsRowAt g.now c.now s t }
-    requires link { e < length c.now.links }
-    ensures { result ≡ below_red g.now.links c.now s t e }
-{
-    match far_end(g, c, e, s) {
-        None => false,
-        Some(v) => is_below(c, s, t, Tag::Below, v) || is_plain_home(c, e, s, v),
-    }
-}
-
-fn above(g: &Graph, c: &Cert, s: NodeNo, t: NodeNo, row: &Row) -> bool
-    requires at { IsRowAt g.now c.now s t }
-    requires row { IsCertRow (length c.now.links) row.now }
-    ensures { result ≡ above_row g.now.links c.now s t row.now }
-{
-    c.node(s).block == c.node(t).block
-        && c.node(t).order < c.node(s).order
-        && above_blue(g, c, s, t, row.blue)
-        && above_red(g, c, s, t, row.red)
-}
-
-fn above_blue(g: &Graph, c: &Cert, s: NodeNo, t: NodeNo, e: LinkNo) -> bool
-    requires at { IsRowAt g.now c.now s t }
-    requires link { e < length c.now.links }
-    ensures { result ≡ above_blue g.now.links c.now s t e }
-{
-    match far_end(g, c, e, s) {
-        None => false,
-        Some(v) => is_above(c, s, t, Tag::Above, v) || is_closing_home(c, e, s, v),
-    }
-}
-
-fn above_red(g: &Graph, c: &Cert, s: NodeNo, t: NodeNo, e: LinkNo) -> bool
-    requires at { IsRowAt g.now c.now s t }
-    requires link { e < length c.now.links }
-    ensures { result ≡ above_red g.now.links c.now s t e }
-{
-    match far_end(g, c, e, s) {
-        None => false,
-        Some(v) => v == t || is_below(c, s, t, Tag::Above, v),
-    }
-}
-
-fn unordered(g: &Graph, c: &Cert, s: NodeNo, t: NodeNo, row: &Row) -> bool
-    requires at { IsRowAt g.now c.now s t }
-    requires row { IsCertRow (length c.now.links) row.now }
-    ensures { result ≡ unordered_row g.now.links c.now s t row.now }
-{
-    c.node(s).block == c.node(t).block
-        && unordered_blue(g, c, s, t, row.blue)
-        && unordered_red(g, c, s, t, row.red)
-}
-
-fn unordered_blue(g: &Graph, c: &Cert, s: NodeNo, t: NodeNo, e: LinkNo) -> bool
-    requires at { IsRowAt g.now c.now s t }
-    requires link { e < length c.now.links }
-    ensures { result ≡ unordered_blue g.now.links c.now s t e }
-{
-    match far_end(g, c, e, s) {
-        None => false,
-        Some(v) => is_below(c, s, t, Tag::Unordered, v)
-            || is_below(c, s, t, Tag::Below, v)
-            || is_plain_home(c, e, s, v),
-    }
-}
-
-fn unordered_red(g: &Graph, c: &Cert, s: NodeNo, t: NodeNo, e: LinkNo) -> bool
-    requires at { IsRowAt g.now c.now s t }
-    requires link { e < length c.now.links }
-    ensures { result ≡ unordered_red g.now.links c.now s t e }
-{
-    match far_end(g, c, e, s) {
-        None => false,
-        Some(v) => is_above(c, s, t, Tag::Unordered, v) || is_above(c, s, t, Tag::Above, v),
-    }
-}
-
 fn carried(c: &Cert, root: NodeNo, s: NodeNo, t: NodeNo, row: &Row) -> bool
     requires source { s < length c.now.nodes }
     requires target { t < length c.now.nodes }
@@ -293,9 +182,10 @@ fn carrier_of(c: &Cert, root: NodeNo, s: NodeNo, t: NodeNo) -> NodeNo
     ensures within { result < length c.now.nodes }
 {
     if t == root {
-        return c.node(s).head;
+        c.node(s).head
+    } else {
+        c.node(t).head
     }
-    c.node(t).head
 }
 
 /// Whether the row has the links of the row of `s` for `w`.

@@ -1,5 +1,5 @@
 use Rattle.std.proofs.Common.{arith}
-use Rattle.cert_checker.proofs.check_tests.graph.Goals as goal
+use Rattle.cert_checker.proofs.test_certs.graph.Goals as goal
 use Rattle.mrt_graph.proofs.RouterGraphs.{router_parts}
 
 pub new-requires : goal.new-requires
