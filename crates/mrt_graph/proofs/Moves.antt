@@ -1,124 +1,139 @@
 -- Where the two colors lead for one destination, by the tags and the orders of the nodes alone.
 use Rattle.std.specs.Prelude.{⊤}
-use Rattle.std.proofs.Common.{◌≡◌, ◌<◌, ◌≤◌, ◌+◌, ◌-◌, ◌⊎◌, ℕ, inl, inr, refl, arith}
+use Rattle.std.proofs.Common.{◌≡◌, ◌≢◌, ◌<◌, ◌≤◌, ◌+◌, ◌-◌, ◌⊎◌, ℕ, inl, inr, refl, arith}
+use Rattle.mrt_graph.specs.declared.cert.Color.{Color}
+use Rattle.mrt_graph.specs.declared.cert.Color.TheVariants.{Blue, Red}
 use Rattle.mrt_graph.specs.declared.cert.Role.{Role}
 use Rattle.mrt_graph.specs.declared.cert.Role.TheVariants.{Plain, Closing}
 use Rattle.mrt_graph.specs.declared.cert.Tag.{Tag}
 use Rattle.mrt_graph.specs.declared.cert.Tag.TheVariants.{Sole, Head, Top, Below, Above, Unordered, Carried}
 
--- blue leads from a node whose row has the first tag, and which has the first order, to one with the second two
-pub data BlueMove : Tag → ℕ → Tag → ℕ → Type 0 where
-  HeadUp : (i j : ℕ) → i < j → BlueMove Head i Head j
-  TopIn : (i j : ℕ) → BlueMove Top i Below j
-  BelowUp : (i j : ℕ) → i < j → BlueMove Below i Below j
-  AboveUp : (i j : ℕ) → i < j → BlueMove Above i Above j
-  AboveHome : (i j : ℕ) → BlueMove Above i Top j
-  UnorderedDown : (i j : ℕ) → j < i → BlueMove Unordered i Unordered j
-  UnorderedIn : (i j : ℕ) → BlueMove Unordered i Below j
-  UnorderedHome : (i j : ℕ) → BlueMove Unordered i Top j
+-- a color leads from a node whose row has the first tag, and which has the first order, to one with the second two
+pub data Move : Color → Tag → ℕ → Tag → ℕ → Type 0 where
+  BlueHead : (i j : ℕ) → i < j → Move Blue Head i Head j
+  BlueTop : (i j : ℕ) → Move Blue Top i Below j
+  BlueBelow : (i j : ℕ) → i < j → Move Blue Below i Below j
+  BlueAbove : (i j : ℕ) → i < j → Move Blue Above i Above j
+  BlueAboveHome : (i j : ℕ) → Move Blue Above i Top j
+  BlueUnordered : (i j : ℕ) → j < i → Move Blue Unordered i Unordered j
+  BlueUnorderedIn : (i j : ℕ) → Move Blue Unordered i Below j
+  BlueUnorderedHome : (i j : ℕ) → Move Blue Unordered i Top j
+  RedHead : (i j : ℕ) → j < i → Move Red Head i Head j
+  RedTop : (i j : ℕ) → Move Red Top i Above j
+  RedBelow : (i j : ℕ) → j < i → Move Red Below i Below j
+  RedBelowHome : (i j : ℕ) → Move Red Below i Top j
+  RedAbove : (i j : ℕ) → j < i → Move Red Above i Above j
+  RedUnordered : (i j : ℕ) → i < j → Move Red Unordered i Unordered j
+  RedUnorderedIn : (i j : ℕ) → Move Red Unordered i Above j
 
--- and red
-pub data RedMove : Tag → ℕ → Tag → ℕ → Type 0 where
-  HeadDown : (i j : ℕ) → j < i → RedMove Head i Head j
-  TopIn : (i j : ℕ) → RedMove Top i Above j
-  BelowDown : (i j : ℕ) → j < i → RedMove Below i Below j
-  BelowHome : (i j : ℕ) → RedMove Below i Top j
-  AboveDown : (i j : ℕ) → j < i → RedMove Above i Above j
-  UnorderedUp : (i j : ℕ) → i < j → RedMove Unordered i Unordered j
-  UnorderedIn : (i j : ℕ) → RedMove Unordered i Above j
+-- a color may lead from a node whose row has this tag straight to the destination, over a link of this role
+abbrev pub Ends : Color → Tag → Role → Type 0
+Ends Blue Head Closing = ⊤
+Ends Blue Top Plain = ⊤
+Ends Blue Below _ = ⊤
+Ends Red Head Plain = ⊤
+Ends Red Top Closing = ⊤
+Ends Red Above _ = ⊤
+Ends _ _ _ = ⊥
 
--- a number that falls along the moves of blue, where no order is above n
-abbrev pub blue_rank : ℕ → Tag → ℕ → ℕ
-blue_rank n Top o = n + 1
-blue_rank n Above o = (n + 2) + (n - o)
-blue_rank n Unordered o = (n + 2) + o
-blue_rank n _ o = n - o
+-- a number that falls along the moves, where no order is above n
+abbrev pub rank : Color → ℕ → Tag → ℕ → ℕ
+rank color n Top o = n + 1
+rank Blue n Above o = (n + 2) + (n - o)
+rank Red n Below o = (n + 2) + o
+rank Blue n Unordered o = (n + 2) + o
+rank Red n Unordered o = (n + 2) + (n - o)
+rank Blue n _ o = n - o
+rank Red n _ o = o
 
--- and of red
-abbrev pub red_rank : ℕ → Tag → ℕ → ℕ
-red_rank n Top o = n + 1
-red_rank n Below o = (n + 2) + o
-red_rank n Unordered o = (n + 2) + (n - o)
-red_rank n _ o = o
+-- what a color may meet from a node with the first tag and order: nodes with the second two
+abbrev pub Meets : Color → Tag → ℕ → Tag → ℕ → Type 0
+Meets Blue Head o Head i = o ≤ i
+Meets Blue Top o Top i = ⊤
+Meets Blue Top o Below i = ⊤
+Meets Blue Below o Below i = o ≤ i
+Meets Blue Above o Above i = o ≤ i
+Meets Blue Above o Top i = ⊤
+Meets Blue Above o Below i = ⊤
+Meets Blue Unordered o Unordered i = i ≤ o
+Meets Blue Unordered o Top i = ⊤
+Meets Blue Unordered o Below i = ⊤
+Meets Red Head o Head i = i ≤ o
+Meets Red Top o Top i = ⊤
+Meets Red Top o Above i = ⊤
+Meets Red Below o Below i = i ≤ o
+Meets Red Below o Top i = ⊤
+Meets Red Below o Above i = ⊤
+Meets Red Above o Above i = i ≤ o
+Meets Red Unordered o Unordered i = o ≤ i
+Meets Red Unordered o Above i = ⊤
+Meets _ _ _ _ _ = ⊥
 
-pub blue_falls : {T U : Tag} {i j : ℕ} (n : ℕ) → j ≤ n → BlueMove T i U j → blue_rank n U j < blue_rank n T i
-blue_falls n within (BlueMove.HeadUp i j rises) = omega arith
-blue_falls n within (BlueMove.TopIn i j) = omega arith
-blue_falls n within (BlueMove.BelowUp i j rises) = omega arith
-blue_falls n within (BlueMove.AboveUp i j rises) = omega arith
-blue_falls n within (BlueMove.AboveHome i j) = omega arith
-blue_falls n within (BlueMove.UnorderedDown i j falls) = omega arith
-blue_falls n within (BlueMove.UnorderedIn i j) = omega arith
-blue_falls n within (BlueMove.UnorderedHome i j) = omega arith
+pub rank_falls : {color : Color} {T U : Tag} {i j : ℕ} (n : ℕ) → j ≤ n → Move color T i U j → rank color n U j < rank color n T i
+rank_falls n within (BlueHead i j up) = omega arith
+rank_falls n within (BlueTop i j) = omega arith
+rank_falls n within (BlueBelow i j up) = omega arith
+rank_falls n within (BlueAbove i j up) = omega arith
+rank_falls n within (BlueAboveHome i j) = omega arith
+rank_falls n within (BlueUnordered i j down) = omega arith
+rank_falls n within (BlueUnorderedIn i j) = omega arith
+rank_falls n within (BlueUnorderedHome i j) = omega arith
+rank_falls n within (RedHead i j down) = omega arith
+rank_falls n within (RedTop i j) = omega arith
+rank_falls n within (RedBelow i j down) = omega arith
+rank_falls n within (RedBelowHome i j) = omega arith
+rank_falls n within (RedAbove i j down) = omega arith
+rank_falls n within (RedUnordered i j up) = omega arith
+rank_falls n within (RedUnorderedIn i j) = omega arith
 
-pub red_falls : {T U : Tag} {i j : ℕ} (n : ℕ) → j ≤ n → RedMove T i U j → red_rank n U j < red_rank n T i
-red_falls n within (RedMove.HeadDown i j falls) = omega arith
-red_falls n within (RedMove.TopIn i j) = omega arith
-red_falls n within (RedMove.BelowDown i j falls) = omega arith
-red_falls n within (RedMove.BelowHome i j) = omega arith
-red_falls n within (RedMove.AboveDown i j falls) = omega arith
-red_falls n within (RedMove.UnorderedUp i j rises) = omega arith
-red_falls n within (RedMove.UnorderedIn i j) = omega arith
+-- what a move leads to is met too
+pub meets_on : {color : Color} {T U : Tag} {i j : ℕ} (S : Tag) (o : ℕ) → Move color T i U j → Meets color S o T i → Meets color S o U j
+meets_on Head o (BlueHead i j up) met = omega arith
+meets_on Top o (BlueTop i j) met = tt
+meets_on Above o (BlueTop i j) met = tt
+meets_on Unordered o (BlueTop i j) met = tt
+meets_on Top o (BlueBelow i j up) met = tt
+meets_on Below o (BlueBelow i j up) met = omega arith
+meets_on Above o (BlueBelow i j up) met = tt
+meets_on Unordered o (BlueBelow i j up) met = tt
+meets_on Above o (BlueAbove i j up) met = omega arith
+meets_on Above o (BlueAboveHome i j) met = tt
+meets_on Unordered o (BlueUnordered i j down) met = omega arith
+meets_on Unordered o (BlueUnorderedIn i j) met = tt
+meets_on Unordered o (BlueUnorderedHome i j) met = tt
+meets_on Head o (RedHead i j down) met = omega arith
+meets_on Top o (RedTop i j) met = tt
+meets_on Below o (RedTop i j) met = tt
+meets_on Below o (RedBelow i j down) met = omega arith
+meets_on Below o (RedBelowHome i j) met = tt
+meets_on Top o (RedAbove i j down) met = tt
+meets_on Below o (RedAbove i j down) met = tt
+meets_on Above o (RedAbove i j down) met = omega arith
+meets_on Unordered o (RedAbove i j down) met = tt
+meets_on Unordered o (RedUnordered i j up) met = omega arith
+meets_on Unordered o (RedUnorderedIn i j) met = tt
+meets_on Sole o (BlueHead i j up) met = absurd met
+meets_on Carried o (BlueHead i j up) met = absurd met
+meets_on _ o _ met = absurd met
 
--- what blue may meet from a node with the first tag and order: nodes with the second two
-abbrev pub BlueMeets : Tag → ℕ → Tag → ℕ → Type 0
-BlueMeets Head i Head j = i ≤ j
-BlueMeets Top i Top j = ⊤
-BlueMeets Top i Below j = ⊤
-BlueMeets Below i Below j = i ≤ j
-BlueMeets Above i Above j = i ≤ j
-BlueMeets Above i Top j = ⊤
-BlueMeets Above i Below j = ⊤
-BlueMeets Unordered i Unordered j = j ≤ i
-BlueMeets Unordered i Top j = ⊤
-BlueMeets Unordered i Below j = ⊤
-BlueMeets _ _ _ _ = ⊥
+-- a color meets the node itself, where its row is neither Sole nor Carried
+pub meets_itself : (color : Color) (S : Tag) (o : ℕ) → S ≢ Sole → S ≢ Carried → Meets color S o S o
+meets_itself _ Sole o not_sole not_carried = absurd (not_sole refl)
+meets_itself _ Carried o not_sole not_carried = absurd (not_carried refl)
+meets_itself Blue Top o not_sole not_carried = tt
+meets_itself Red Top o not_sole not_carried = tt
+meets_itself Blue _ o not_sole not_carried = omega arith
+meets_itself Red _ o not_sole not_carried = omega arith
 
--- and red
-abbrev pub RedMeets : Tag → ℕ → Tag → ℕ → Type 0
-RedMeets Head i Head j = j ≤ i
-RedMeets Top i Top j = ⊤
-RedMeets Top i Above j = ⊤
-RedMeets Below i Below j = j ≤ i
-RedMeets Below i Top j = ⊤
-RedMeets Below i Above j = ⊤
-RedMeets Above i Above j = j ≤ i
-RedMeets Unordered i Unordered j = i ≤ j
-RedMeets Unordered i Above j = ⊤
-RedMeets _ _ _ _ = ⊥
+-- and no node whose row is Sole
+pub meets_no_sole : (color : Color) (S : Tag) (o i : ℕ) → Meets color S o Sole i → ⊥
+meets_no_sole Blue Head o i met = met
+meets_no_sole Blue _ o i met = met
+meets_no_sole Red Head o i met = met
+meets_no_sole Red _ o i met = met
 
-pub blue_kept : {T U : Tag} {i j : ℕ} (S : Tag) (o : ℕ) → BlueMove T i U j → BlueMeets S o T i → BlueMeets S o U j
-blue_kept Head o (BlueMove.HeadUp i j rises) met = omega arith
-blue_kept Top o (BlueMove.TopIn i j) met = tt
-blue_kept Above o (BlueMove.TopIn i j) met = tt
-blue_kept Unordered o (BlueMove.TopIn i j) met = tt
-blue_kept Top o (BlueMove.BelowUp i j rises) met = tt
-blue_kept Below o (BlueMove.BelowUp i j rises) met = omega arith
-blue_kept Above o (BlueMove.BelowUp i j rises) met = tt
-blue_kept Unordered o (BlueMove.BelowUp i j rises) met = tt
-blue_kept Above o (BlueMove.AboveUp i j rises) met = omega arith
-blue_kept Above o (BlueMove.AboveHome i j) met = tt
-blue_kept Unordered o (BlueMove.UnorderedDown i j falls) met = omega arith
-blue_kept Unordered o (BlueMove.UnorderedIn i j) met = tt
-blue_kept Unordered o (BlueMove.UnorderedHome i j) met = tt
-blue_kept _ o _ met = absurd met
-
-pub red_kept : {T U : Tag} {i j : ℕ} (S : Tag) (o : ℕ) → RedMove T i U j → RedMeets S o T i → RedMeets S o U j
-red_kept Head o (RedMove.HeadDown i j falls) met = omega arith
-red_kept Top o (RedMove.TopIn i j) met = tt
-red_kept Below o (RedMove.TopIn i j) met = tt
-red_kept Below o (RedMove.BelowDown i j falls) met = omega arith
-red_kept Below o (RedMove.BelowHome i j) met = tt
-red_kept Top o (RedMove.AboveDown i j falls) met = tt
-red_kept Below o (RedMove.AboveDown i j falls) met = tt
-red_kept Above o (RedMove.AboveDown i j falls) met = omega arith
-red_kept Unordered o (RedMove.AboveDown i j falls) met = tt
-red_kept Unordered o (RedMove.UnorderedUp i j rises) met = omega arith
-red_kept Unordered o (RedMove.UnorderedIn i j) met = tt
-red_kept _ o _ met = absurd met
-
--- what both may meet has the order of the first node, but where both rows are Top
-pub both_meet : (S T : Tag) (o i : ℕ) → BlueMeets S o T i → RedMeets S o T i → (i ≡ o) ⊎ ((S ≡ Top) × (T ≡ Top))
+-- what both may meet has the order of the node itself, but where both rows are Top
+pub both_meet : (S T : Tag) (o i : ℕ) → Meets Blue S o T i → Meets Red S o T i → (i ≡ o) ⊎ ((S ≡ Top) × (T ≡ Top))
 both_meet Head Head o i blue red = inl (omega arith)
 both_meet Top Top o i blue red = inr (refl, refl)
 both_meet Below Below o i blue red = inl (omega arith)
@@ -130,3 +145,10 @@ both_meet Above Below o i blue red = absurd red
 both_meet Unordered Top o i blue red = absurd red
 both_meet Unordered Below o i blue red = absurd red
 both_meet _ _ o i blue red = absurd blue
+
+-- over one link the two colors do not both lead straight to the destination
+pub never_both : (T : Tag) (role : Role) → Ends Blue T role → Ends Red T role → ⊥
+never_both Head Closing blue red = red
+never_both Top Plain blue red = red
+never_both Below _ blue red = red
+never_both _ _ blue red = blue
