@@ -12,7 +12,7 @@ use Rattle.mrt_graph.proofs.Blocks.{Words, Common, Member, At, Blocks}
 use Rattle.mrt_graph.proofs.InBlock.{no_cycle, head_outside, at_within, at_related, at_common, at_stays}
 use Rattle.mrt_graph.proofs.Moves.{Move, BlueHead, BlueTop, BlueBelow, BlueAbove, BlueAboveHome, BlueUnordered, BlueUnorderedIn, BlueUnorderedHome, RedHead, RedTop, RedBelow, RedBelowHome, RedAbove, RedUnordered, RedUnorderedIn, Ends}
 use Rattle.mrt_graph.proofs.RowFacts.{Says, SoleRow, NearRow, Rows}
-use Rattle.mrt_graph.proofs.TwoEnds.{lead_back}
+use Rattle.mrt_graph.proofs.Hops.{lead_back}
 
 -- the next hops of a color
 abbrev pub next_of : Words → Color → ℕ → ℕ → Option Hop
