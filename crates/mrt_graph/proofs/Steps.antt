@@ -33,7 +33,7 @@ pub record Step (w : Words) (m t s : ℕ) (color : Color) : Type 0 where
 
 module _ (w : Words) (b : Blocks w) (r : Rows w) (m t : ℕ) (member : Member w m) (target : At w m t) where
   -- the row of a node of the block, or of its head
-  row_at : (s : ℕ) → At w m s → s ≢ t → NearRow w s t
+  pub row_at : (s : ℕ) → At w m s → s ≢ t → NearRow w s t
   row_at s source differ =
       r.near s t (at_within w b m s member source) (at_within w b m t member target) differ (at_related w b m s t member source target differ)
 
