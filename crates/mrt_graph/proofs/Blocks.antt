@@ -52,6 +52,7 @@ pub record Blocks (w : Words) : Type 0 where
   pub ends_differ : (e u v : ℕ) → leads w.links e u ≡ Some v → u ≢ v
   pub tied : (e u v : ℕ) → leads w.links e u ≡ Some v → Common w u v (w.part e)
   pub lone : (e f : ℕ) → w.role e ≡ Sole → w.part e ≡ w.part f → e ≡ f
+  pub lone_member : (e a b : ℕ) → w.role e ≡ Sole → a < w.count → b < w.count → w.block a ≡ w.part e → w.block b ≡ w.part e → a ≡ b
   pub root_head : w.head w.root ≡ w.root
   pub root_block : w.block w.root ≡ w.root
   pub head_within : (a : ℕ) → a < w.count → w.head a < w.count
