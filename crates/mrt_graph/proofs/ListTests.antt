@@ -1,4 +1,4 @@
--- What tests that pass tell.
+-- What tests on elements of lists tell.
 use Rattle.std.proofs.Common.{◌≡◌, ◌≢◌, ◌⊎◌, ◌==◌, ◌&&◌, ◌||◌, ◌<◌, ◌≤◌, ℕ, zero, suc, Bool, true, false, not, cond, List, [], ◌∷◌, Option, Some, None, filter, get_or, length, slice_get, inl, inr, refl, sym, ap, subst, arith}
 use Rattle.std.proofs.lemmas.Bool.{cases_Bool, and_parts, or_cases}
 use Rattle.std.proofs.lemmas.Option.{same_Some, slice_get-get_or}
@@ -14,11 +14,6 @@ pub record Passing {X : Type 0} (test : X → Bool) (o : Option X) : Type 0 wher
 pub some_passes : {X : Type 0} (test : X → Bool) (o : Option X) → option_map_or test o false ≡ true → Passing test o
 some_passes test None h = cc
 some_passes test (Some x) h = record { value = x; is = refl; passes = h }
-
--- a test that holds where another does not
-pub unless : (a b : Bool) → (a || b) ≡ true → a ≡ false → b ≡ true
-unless true b h fails = cc
-unless false b h fails = h
 
 -- a test that holds where another does
 pub implied : (a b : Bool) → (not a || b) ≡ true → a ≡ true → b ≡ true
