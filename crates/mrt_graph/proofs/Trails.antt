@@ -1,44 +1,52 @@
--- Walks hop by hop: a relation in the place of the fold, and what it says of color walks.
-use Rattle.std.proofs.Common.{◌≡◌, ◌≢◌, ◌≤◌, inl, inr, ℕ, zero, suc, false, List, [], ◌∷◌, length, map, Option, Some, refl, ◌∙◌, ap, arith}
-use Rattle.std.specs.Prelude.{◌==◌}
-use Rattle.std.proofs.lemmas.Bool.Decides.{eqb_tells}
-use Rattle.std.proofs.lemmas.Bool.{eq-eqb}
+-- Walks hop by hop: each link with the node that it leads to.
+use Rattle.std.specs.Prelude.{◌≡◌, ◌≢◌, ◌⊎◌, ℕ, List, [], ◌∷◌, Option, Some, map}
+use Rattle.mrt_graph.specs.declared.link.Element.{Element}
+use Rattle.mrt_graph.specs.declared.link.Element.TheVariants as elements
 use Rattle.mrt_graph.specs.declared.link.Link.{Link}
-use Rattle.mrt_graph.specs.ColorWalk.{links_followed}
 use Rattle.mrt_graph.specs.Hop.{Hop}
 use Rattle.mrt_graph.specs.Leads.{leads}
-use Rattle.mrt_graph.specs.Uses.{nodes_met}
-use Rattle.mrt_graph.specs.Walk.{Walk}
-use Rattle.mrt_graph.proofs.Walks.{met_onward}
 
--- a packet for t goes from s over these hops and no others: at t it stops, and at each other node the next hop is the one that
--- the node gives
-abbrev pub Follows : (ℕ → Option Hop) → ℕ → ℕ → List Hop → Type 0
-Follows next t s [] = s ≡ t
-Follows next t s (h ∷ hs) = (s ≢ t) × (next s ≡ Some h) × Follows next t h.to hs
+-- x is in the list
+abbrev pub Has : List ℕ → ℕ → Type 0
+Has [] x = ⊥
+Has (y ∷ ys) x = (y ≡ x) ⊎ Has ys x
 
--- different numbers
-unequal : (a b : ℕ) → a ≢ b → (a == b) ≡ false
-unequal a b other = elim (eqb_tells a b) as (λ _. (a == b) ≡ false) [ inl same ↦ absurd (other same.1) | inr differ ↦ differ.0 ]
+-- no number is in the list twice
+abbrev pub Differ : List ℕ → Type 0
+Differ [] = Unit {0}
+Differ (x ∷ xs) = (Has xs x → ⊥) × Differ xs
 
--- then these are the links that it goes over, if they are few enough
-pub followed_is : (next : ℕ → Option Hop) (t most s : ℕ) (hops : List Hop) → Follows next t s hops → length hops ≤ most → links_followed next t most s ≡ map (λ h. h.link) hops
-followed_is next t zero s [] f short = refl
-followed_is next t (suc most) s [] f short = rw (eq-eqb s t f) refl
-followed_is next t zero s (h ∷ hs) f short = absurd (omega (arith, short))
-followed_is next t (suc most) s (h ∷ hs) f short = rw (unequal s t f.0, f.1) (ap (λ (es : List ℕ). h.link ∷ es) (followed_is next t most h.to hs f.2 (omega (arith, short))))
-
--- hops from s to t, each over a link that leads on
+-- the hops lead from s to t
 abbrev pub Trail : List Link → ℕ → List Hop → ℕ → Type 0
 Trail links s [] t = s ≡ t
-Trail links s (h ∷ hs) t = (leads links h.link s ≡ Some h.to) × Trail links h.to hs t
+Trail links s (hop ∷ hops) t = (leads links hop.link s ≡ Some hop.to) × Trail links hop.to hops t
 
--- their links are a walk
-pub trail_walk : (links : List Link) (hops : List Hop) (s t : ℕ) → Trail links s hops t → Walk links s (map (λ h. h.link) hops) t
-trail_walk links [] s t w = w
-trail_walk links (h ∷ hs) s t w = (h.to, w.0, trail_walk links hs h.to t w.1)
+-- the nodes behind the hops
+abbrev pub nodes_behind : List Hop → List ℕ
+nodes_behind hops = map (λ hop. hop.to) hops
 
--- which meets s and the node behind each hop
-pub trail_met : (links : List Link) (hops : List Hop) (s t : ℕ) → Trail links s hops t → nodes_met links s (map (λ h. h.link) hops) ≡ s ∷ map (λ h. h.to) hops
-trail_met links [] s t w = refl
-trail_met links (h ∷ hs) s t w = met_onward links s h.link h.to (map (λ g. g.link) hs) w.0 ∙ ap (λ (ns : List ℕ). s ∷ ns) (trail_met links hs h.to t w.1)
+-- the nodes that hops from s meet, s among them
+abbrev pub nodes_on : ℕ → List Hop → List ℕ
+nodes_on s hops = s ∷ nodes_behind hops
+
+-- the links that hops go over
+abbrev pub links_on : List Hop → List ℕ
+links_on hops = map (λ hop. hop.link) hops
+
+-- hops from s use this link or node
+abbrev pub On : ℕ → List Hop → Element → Type 0
+On s hops (elements.Link e) = Has (links_on hops) e
+On s hops (elements.Node x) = Has (nodes_on s hops) x
+
+-- all hops from s to t use x
+abbrev pub Parts : List Link → Element → ℕ → ℕ → Type 0
+Parts links x s t = (hops : List Hop) → Trail links s hops t → On s hops x
+
+-- where each node that is not t gives its next hop, these are the hops from s to t
+abbrev pub Follows : (ℕ → Option Hop) → ℕ → ℕ → List Hop → Type 0
+Follows next t s [] = s ≡ t
+Follows next t s (hop ∷ hops) = (s ≢ t) × ((next s ≡ Some hop) × Follows next t hop.to hops)
+
+-- the next hop of each node is over a link that leads where it says
+abbrev pub IsOnLinks : List Link → (ℕ → Option Hop) → Type 0
+IsOnLinks links next = (s : ℕ) (hop : Hop) → next s ≡ Some hop → leads links hop.link s ≡ Some hop.to
