@@ -12,7 +12,7 @@ use Rattle.mrt_graph.specs.declared.link.Link.{Link}
 use Rattle.mrt_graph.specs.Accepted.{Accepted}
 use Rattle.mrt_graph.specs.Certificate.{Certificate, IsCertificate, IsCertNode, IsCertLink}
 use Rattle.mrt_graph.specs.CertWords.{order_of, head_of, block_of, link_block, links_of, members, role_of}
-use Rattle.mrt_graph.specs.GraphInvariant.{IsLink, IsTopology}
+use Rattle.mrt_graph.specs.GraphInvariant.{IsLink}
 use Rattle.mrt_graph.specs.HeadsAndBlocks.{heads_hold, link_placed, lone_link, lone_link_holds, many_links, many_links_hold, one_head, placed}
 use Rattle.mrt_graph.specs.Leads.{far_node, leads}
 use Rattle.mrt_graph.specs.Related.{is_common_block}
@@ -66,7 +66,7 @@ block_is c e k within same = go (slice_get c.links e) refl same
     go None is same = absurd (omega (arith, within, same))
     go (Some words) is same = (words, is, same)
 
-module _ (g : Topology) (root : ℕ) (file : CertFile) (topology : IsTopology g) (kept : IsCertificate file.cert) (accepted : Accepted g root file) where
+module _ (g : Topology) (root : ℕ) (file : CertFile) (kept : IsCertificate file.cert) (accepted : Accepted g root file) where
   -- nodes
   node_at : (a : ℕ) → a < length file.cert.nodes → (node : CertNode) × (slice_get file.cert.nodes a ≡ Some node) × IsCertNode (length file.cert.nodes) node
   node_at a within =

@@ -30,5 +30,6 @@ pub mod Sound
 pub mod Spelling
 pub mod Tags
 pub mod Topology
+pub mod TreeRows
 pub mod Uses
 pub mod Walk

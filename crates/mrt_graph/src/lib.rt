@@ -2,6 +2,7 @@
 #![tactic(auto)]
 
 mod cert;
+mod cert_law;
 mod graph;
 mod graph_ends;
 mod graph_error;
@@ -15,6 +16,7 @@ mod node_text;
 mod numbers;
 
 pub use cert::{Cert, CertFile, CertLink, CertNode, Color, Role, Row, Tag};
+pub use cert_law::{accepted_implies_sound, accepted_tree_is_sound};
 pub use graph::Graph;
 pub use graph_error::GraphError;
 pub use graph_law::one_graph_of_its_parts;
