@@ -1,9 +1,9 @@
 -- What the rules on rows make of an accepted certificate's rows.
-use Rattle.std.proofs.Common.{◌≡◌, ◌≢◌, ◌⊎◌, ◌∙◌, ◌<◌, ◌≤◌, ◌+◌, ◌-◌, ◌*◌, ◌==◌, ◌&&◌, ◌||◌, ℕ, Bool, true, false, List, Option, Some, None, not, length, slice_get, if◌then◌else◌, refl, sym, ap, subst, inl, inr, arith}
+use Rattle.std.proofs.Common.{◌≡◌, ◌≢◌, ◌⊎◌, ◌∙◌, ◌<◌, ◌-◌, ◌*◌, ◌==◌, ◌&&◌, ◌||◌, ℕ, true, false, List, Option, Some, None, not, length, if◌then◌else◌, refl, sym, ap, subst, inl, inr, arith}
 use Rattle.std.specs.Prelude.{nat_lt}
 use Rattle.std.proofs.lemmas.Bool.{and_parts, eqb-true, eq-eqb, ne_eqb, false≢true, false_from_ne_true, not-true, both_ways}
 use Rattle.std.proofs.lemmas.Bool.Decides.{eqb_tells, nat_tests}
-use Rattle.std.proofs.lemmas.Option.{same_Some, slice_get_cases}
+use Rattle.std.proofs.lemmas.Option.{slice_get_cases}
 use Rattle.std.specs.Option.{option_map_or, option_map, option_and_then}
 use Rattle.mrt_graph.specs.declared.cert.CertFile.{CertFile}
 use Rattle.mrt_graph.specs.declared.cert.Color.{Color}
@@ -15,20 +15,20 @@ use Rattle.mrt_graph.specs.declared.link.Link.{Link}
 use Rattle.mrt_graph.specs.Accepted.{Accepted}
 use Rattle.mrt_graph.specs.Certificate.{Certificate, IsCertificate, row_of}
 use Rattle.mrt_graph.specs.CertWords.{head_of, link_block, row_for}
-use Rattle.mrt_graph.specs.Hop.{Hop, hop_over, color_hop}
+use Rattle.mrt_graph.specs.Hop.{hop_over, color_hop}
 use Rattle.mrt_graph.specs.Leads.{leads}
 use Rattle.mrt_graph.specs.Places.{EachPair}
 use Rattle.mrt_graph.specs.Related.{related, is_common_block}
 use Rattle.mrt_graph.specs.RowPlace.{place_of_row}
-use Rattle.mrt_graph.specs.RowRules.{row_rule, rows_tagged, rows_in_block, carrier}
+use Rattle.mrt_graph.specs.RowRules.{row_rule, rows_tagged, carrier}
 use Rattle.mrt_graph.specs.Rows.{link_of_color}
 use Rattle.mrt_graph.specs.Tags.{same_tag}
 use Rattle.mrt_graph.specs.Topology.{Topology}
 use Rattle.mrt_graph.proofs.Blocks.{Words, Common, Peers, ToHead, FromHead, Related, InOne, Under, Over}
+use Rattle.mrt_graph.proofs.Bridge.{color_leads}
 use Rattle.mrt_graph.proofs.RowFacts.{Says, NearRow, SameHops, Rows}
 use Rattle.mrt_graph.proofs.RowTests.{hop_to, told}
 use Rattle.mrt_graph.proofs.TestFacts.{unless, tag_is, tag_itself, row_for_other, related_passes, common_block}
-use Rattle.mrt_graph.proofs.Trails.{IsOnLinks}
 use Rattle.mrt_graph.proofs.WordsOf.{words_of}
 
 -- a row stands among the rows
@@ -50,17 +50,7 @@ row_there c s t kept s_within t_within differ =
       | inr past ↦ absurd (omega (arith, within, kept.a_row_each, past.0))
     ]
 
--- where a color's hop goes
-hop_leads : (links : List Link) (c : Certificate) (color : Color) (t s : ℕ) (hop : Hop) → color_hop links (row_of c) color t s ≡ Some hop → leads links hop.link s ≡ Some hop.to
-hop_leads links c color t s hop takes = go (row_of c s t) takes
-  where
-    over : (e : ℕ) (o : Option ℕ) → leads links e s ≡ o → option_map (hop_to e) o ≡ Some hop → leads links hop.link s ≡ Some hop.to
-    over e None is taken = absurd (cc)
-    over e (Some v) is taken = subst (λ (h : Hop). leads links h.link s ≡ Some h.to) (same_Some (hop_to e v) hop taken) is
-    go : (o : Option Row) → option_and_then (λ row. hop_over links s (link_of_color color row)) o ≡ Some hop → leads links hop.link s ≡ Some hop.to
-    go None taken = absurd (cc)
-    go (Some row) taken = over (link_of_color color row) (leads links (link_of_color color row) s) refl taken
-
+-- the hop of a color, by the row
 hop_is : (links : List Link) (c : Certificate) (color : Color) (t s : ℕ) (row : Row) (v : ℕ) → row_of c s t ≡ Some row → leads links (link_of_color color row) s ≡ Some v
     → color_hop links (row_of c) color t s ≡ Some (hop_to (link_of_color color row) v)
 hop_is links c color t s row v there leads_on =
@@ -116,7 +106,7 @@ module _ (g : Topology) (root : ℕ) (file : CertFile) (accepted : Accepted g ro
     row_keeps : row_rule row.tag g.links file.cert root s t row ≡ true
     row_keeps =
         let holds = subst (λ (o : Option Row). option_map_or (λ (r : Row). not (same_tag r.tag row.tag) || row_rule row.tag g.links file.cert root s t r) o true ≡ true)
-            row_is (rules_hold row.tag s t s_within t_within) in
+        row_is (rules_hold row.tag s t s_within t_within) in
         unless (not (same_tag row.tag row.tag)) _ holds (ap not (tag_itself row.tag))
 
     tag_known : (words_of g.links root file.cert).tag s t ≡ row.tag
@@ -127,7 +117,7 @@ module _ (g : Topology) (root : ℕ) (file : CertFile) (accepted : Accepted g ro
     in_block near =
         let holds = subst (λ (o : Option Row). option_map_or (λ (r : Row). same_tag r.tag tags.Carried
         || (is_common_block file.cert s t (link_block file.cert r.blue) && is_common_block file.cert s t (link_block file.cert r.red))) o true ≡ true)
-            row_is (accepted.in_block s t s_within t_within) in
+        row_is (accepted.in_block s t s_within t_within) in
         unless (same_tag row.tag tags.Carried) _ holds (false_from_ne_true (same_tag row.tag tags.Carried) (λ same. near (tag_is row.tag tags.Carried same)))
 
     blue_in_block : row.tag ≢ tags.Carried → Common (words_of g.links root file.cert) s t (link_block file.cert row.blue)
@@ -192,11 +182,11 @@ module _ (g : Topology) (root : ℕ) (file : CertFile) (accepted : Accepted g ro
   -- the rules on rows
   pub rows_hold : root < length file.cert.nodes → Rows (words_of g.links root file.cert)
   rows_hold root_within = record {
-    blue_leads = λ t s hop takes. hop_leads g.links file.cert Blue t s hop takes;
-    red_leads = λ t s hop takes. hop_leads g.links file.cert Red t s hop takes;
+    blue_leads = λ t. color_leads g.links (row_of file.cert) Blue t;
+    red_leads = λ t. color_leads g.links (row_of file.cert) Red t;
     near = λ s t s_within t_within differ are. near_row s t s_within t_within differ are;
     far = λ s t s_within t_within differ other far.
-    subst (λ (u : ℕ). SameHops (words_of g.links root file.cert) s t u) (carrier_other file.cert root s t other) (far_row s t s_within t_within differ far);
+        subst (λ (u : ℕ). SameHops (words_of g.links root file.cert) s t u) (carrier_other file.cert root s t other) (far_row s t s_within t_within differ far);
     far_root = λ s s_within other far.
-    subst (λ (u : ℕ). SameHops (words_of g.links root file.cert) s root u) (carrier_root file.cert root s) (far_row s root s_within root_within other far);
+        subst (λ (u : ℕ). SameHops (words_of g.links root file.cert) s root u) (carrier_root file.cert root s) (far_row s root s_within root_within other far);
   }
