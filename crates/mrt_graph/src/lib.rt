@@ -13,6 +13,7 @@ mod no_memory;
 mod node_id;
 mod node_text;
 mod numbers;
+mod seq;
 
 pub use cert::{Cert, CertFile, CertLink, CertNode, Color, Role, Row, Tag};
 pub use graph::Graph;
@@ -23,3 +24,4 @@ pub use no_memory::NoMemory;
 pub use node_id::{Kind, NodeId};
 pub use node_text::NodeText;
 pub use numbers::{LinkNo, NodeNo};
+pub use seq::Seq;
