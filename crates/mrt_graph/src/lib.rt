@@ -16,6 +16,7 @@ mod node_id;
 mod node_tests;
 mod node_text;
 mod numbers;
+mod seq;
 
 pub use cert::{Cert, CertFile, CertLink, CertNode, Color, Role, Row, Tag};
 pub use cert_law::{accepted_implies_sound, accepted_tree_is_sound};
@@ -27,3 +28,4 @@ pub use no_memory::NoMemory;
 pub use node_id::{Kind, NodeId};
 pub use node_text::NodeText;
 pub use numbers::{LinkNo, NodeNo};
+pub use seq::Seq;
