@@ -113,9 +113,10 @@ module _ (g : Topology) (root : ℕ) (file : CertFile) (kept : IsCertificate fil
       → (order_of file.cert (head_of file.cert a) < order_of file.cert a) × (block_of file.cert a ≢ root)
   member_placed a within other =
       let tests = rw (ne_eqb a root other) at (placed_at a within) in
-      let both = and_parts (nat_lt (order_of file.cert (head_of file.cert a)) (order_of file.cert a)) (not (block_of file.cert a == root)) tests in
-      (ltb-true (order_of file.cert (head_of file.cert a)) (order_of file.cert a) both.0,
-        eqb-false (block_of file.cert a) root (not-true (block_of file.cert a == root) both.1))
+      let both = and_parts (nat_lt (order_of file.cert (head_of file.cert a)) (order_of file.cert a)) (not (block_of file.cert a == root)) tests in (
+        ltb-true (order_of file.cert (head_of file.cert a)) (order_of file.cert a) both.0,
+        eqb-false (block_of file.cert a) root (not-true (block_of file.cert a == root) both.1),
+      )
 
   one_head_at : (a b : ℕ) → a < length file.cert.nodes → b < length file.cert.nodes → block_of file.cert a ≡ block_of file.cert b → head_of file.cert a ≡ head_of file.cert b
   one_head_at a b a_within b_within same =

@@ -43,13 +43,16 @@ onward next rank N t s hop other takes within falls rest = record {
       | inr lower ↦ inr (lower.0, omega (arith, lower.1, falls))
     ]
   ];
-  differ = (λ h. elim h [
-    | inl same ↦ omega (arith, subst (λ (k : ℕ). rank k < rank s) same falls)
-    | inr later ↦ elim (rest.behind s later) [
-      | inl there ↦ other there
-      | inr lower ↦ omega (arith, lower.1, falls)
-    ]
-  ], rest.differ);
+  differ = (
+    λ h. elim h [
+      | inl same ↦ omega (arith, subst (λ (k : ℕ). rank k < rank s) same falls)
+      | inr later ↦ elim (rest.behind s later) [
+        | inl there ↦ other there
+        | inr lower ↦ omega (arith, lower.1, falls)
+      ]
+    ],
+    rest.differ,
+  );
 }
 
 -- if from each node of N other than t the next hop leads to t, or into N to a smaller rank, then the hops from each node
