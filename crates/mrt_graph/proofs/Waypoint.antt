@@ -1,12 +1,11 @@
 -- The waypoint of two nodes that are not related: where the way from the one to the other leaves its block.
-use Rattle.std.proofs.Common.{◌≡◌, ◌≢◌, ◌⊎◌, ◌∙◌, ◌<◌, ◌≤◌, ℕ, zero, suc, List, Some, inl, inr, refl, sym, ap, subst, arith}
+use Rattle.std.proofs.Common.{◌≡◌, ◌≢◌, ◌⊎◌, ◌∙◌, ◌<◌, ◌≤◌, ℕ, zero, suc, inl, inr, refl, sym, ap, subst, arith}
 use Rattle.std.proofs.lemmas.Bool.{cases_eq}
 use Rattle.mrt_graph.specs.declared.link.Element.TheVariants as elements
-use Rattle.mrt_graph.specs.Hop.{Hop}
 use Rattle.mrt_graph.proofs.Blocks.{Words, Blocks, Related, InOne, Under, Over, Member, At, Inner, Top, Below, Here, Up}
 use Rattle.mrt_graph.proofs.RowFacts.{Rows, SameHops}
-use Rattle.mrt_graph.proofs.Separate.{below_above, enters, head_order, head_outside, leaves, member_too}
-use Rattle.mrt_graph.proofs.Trails.{Has, Parts, Trail, nodes_on}
+use Rattle.mrt_graph.proofs.Separate.{below_above, enters, head_order, head_outside, leaves}
+use Rattle.mrt_graph.proofs.Trails.{Has, Parts, nodes_on}
 
 -- the first node of t's chain that is related to s; where the chain ends at the root with none, the head of s
 pub data Toward (w : Words) (s : ℕ) : ℕ → ℕ → Type 0 where
