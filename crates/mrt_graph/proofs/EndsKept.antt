@@ -3,7 +3,7 @@ use Rattle.std.proofs.Common.{◌≡◌, ◌≢◌, ◌∙◌, ◌<◌, ◌≤�
 use Rattle.std.specs.List.{AllByRecursion, count_by}
 use Rattle.std.proofs.lemmas.Bool.{eq-eqb, ne_eqb}
 use Rattle.std.proofs.lemmas.Bool.Decides.{eqb_tells}
-use Rattle.std.proofs.lemmas.List.Sums.{sum_by-append}
+use Rattle.std.proofs.lemmas.List.Sums.{count_by-le-length, sum_by-append}
 use Rattle.std.proofs.lemmas.Option.{slice_get_within}
 use Rattle.mrt_graph.specs.declared.link.End.{End}
 use Rattle.mrt_graph.specs.declared.link.Link.{Link}
@@ -79,16 +79,20 @@ pub all_numbered : (links : List LinkIn) → AreNumbered (map pair_of links) 0 l
 all_numbered links = record { at = λ k. let same : k ≡ 0 + k = omega arith in ap (slice_get (map pair_of links)) same }
 
 -- one end at most for each link
-pub ends_few : (n number : ℕ) (links : List LinkIn) → length (ends_at n number links) ≤ length links
-ends_few n number [] = omega arith
-ends_few n number (link ∷ links) =
-    let others : length (ends_at n (number + 1) links) ≤ length links = ends_few n (number + 1) links in
-    let one : length (end_at n number link) ≤ 1 =
+one_at_most : (n number : ℕ) (link : LinkIn) → length (end_at n number link) ≤ 1
+one_at_most n number link =
     elim (eqb_tells link.a n) [
       | inl at_a ↦ rw at_a.0 (omega arith)
-      | inr not_a ↦ elim (eqb_tells link.b n) [ inl at_b ↦ rw (not_a.0, at_b.0) (omega arith) | inr not_b ↦ rw (not_a.0, not_b.0) (omega arith) ]
-    ] in
-    rw length-append (omega arith)
+      | inr not_a ↦
+          elim (eqb_tells link.b n) [
+            | inl at_b ↦ rw (not_a.0, at_b.0) (omega arith)
+            | inr not_b ↦ rw (not_a.0, not_b.0) (omega arith)
+          ]
+    ]
+
+pub ends_few : (n number : ℕ) (links : List LinkIn) → length (ends_at n number links) ≤ length links
+ends_few n number [] = omega arith
+ends_few n number (link ∷ links) = rw length-append (omega (arith, one_at_most n number link, ends_few n (number + 1) links))
 
 -- how many of the ends are on link e
 abbrev on_link : ℕ → List End → ℕ
@@ -138,3 +142,19 @@ ends_once e n number (suc k) v (link ∷ links) place touches =
     let first : on_link e (end_at n number link) ≡ 0 = none_on_other e n number link (λ same. omega (arith, same)) in
     let others : on_link e (ends_at n (number + 1) links) ≡ 1 = ends_once e n (number + 1) k v links (omega arith) touches in
     on_both e (end_at n number link) (ends_at n (number + 1) links) ∙ omega (arith, first, others)
+
+at_most_one : (e n number : ℕ) (link : LinkIn) → on_link e (end_at n number link) ≤ 1
+at_most_one e n number link =
+    let few : length (end_at n number link) ≤ 1 = one_at_most n number link in
+    omega (arith, few, count_by-le-length (λ end. end.link == e) (end_at n number link))
+
+-- no two of the ends are on one link
+pub ends_apart : (e n number : ℕ) (links : List LinkIn) → on_link e (ends_at n number links) ≤ 1
+ends_apart e n number [] = omega arith
+ends_apart e n number (link ∷ links) =
+    let both = on_both e (end_at n number link) (ends_at n (number + 1) links) in
+    elim (eqb_tells number e) [
+      | inl same ↦
+          omega (arith, both, at_most_one e n number link, none_below e n (number + 1) links (omega (arith, same.1)))
+      | inr other ↦ omega (arith, both, none_on_other e n number link other.1, ends_apart e n (number + 1) links)
+    ]

@@ -120,6 +120,27 @@ impl Cert {
         self.links.len() as u16
     }
 
+    /// The nodes, by number.
+    pub fn nodes(&self) -> &[CertNode]
+        ensures { result.now ≡ self.now.nodes }
+    {
+        &self.nodes
+    }
+
+    /// The links, by number.
+    pub fn links(&self) -> &[CertLink]
+        ensures { result.now ≡ self.now.links }
+    {
+        &self.links
+    }
+
+    /// The rows, by ascending source, then by ascending destination, the source left out.
+    pub fn rows(&self) -> &[Row]
+        ensures { result.now ≡ self.now.rows }
+    {
+        &self.rows
+    }
+
     pub fn node(&self, n: NodeNo) -> CertNode
         requires { n < length self.now.nodes }
         ensures value { slice_get self.now.nodes n ≡ Some result }

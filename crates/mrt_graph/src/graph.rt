@@ -3,13 +3,12 @@
 ghost use Rattle.std.specs.Prelude.{◌≡◌, ◌-◌, ◌^◌, IfOk, map, min};
 ghost use Rattle.mrt_graph.specs.EndsOfLinks.{pair_of};
 
-use crate::graph_ends::end_lists;
+use crate::graph_ends::{EndList, end_lists};
 use crate::graph_error::GraphError;
 use crate::link::{End, Link, LinkIn};
 use crate::no_memory::NoMemory;
 use crate::node_id::NodeId;
 use crate::numbers::{LinkNo, NodeNo};
-use smallvec::SmallVec;
 use std::alloc::Global;
 use std::marker::Model;
 
@@ -28,7 +27,7 @@ const MAX_LINKS: usize = 8192;
 pub struct Graph {
     ids: Vec<NodeId>,
     links: Vec<Link>,
-    ends: Vec<SmallVec<End, 4>>,
+    ends: Vec<EndList>,
 }
 
 impl Model for Graph {
@@ -51,6 +50,8 @@ impl Graph {
     ///
     /// The identifiers ascend strictly; there is at least one. Each link has its lower node first, no link joins two
     /// networks, links ascend by `a`, then by `b`, and together they connect all nodes.
+    ///
+    /// It answers `TooLarge` exactly where there are more than 2,048 nodes or more than 8,192 links.
     pub fn new(alloc: Global, ids: Vec<NodeId>, links: Vec<LinkIn>) -> Result<Graph, GraphError>
         requires { AreGraphParts ids.items links.items }
         ensures made { IfOk result (λ graph. IsGraphOf ids.items links.items graph) }

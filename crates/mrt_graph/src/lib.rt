@@ -2,22 +2,30 @@
 #![tactic(auto)]
 
 mod cert;
+mod cert_law;
 mod graph;
 mod graph_ends;
 mod graph_error;
+mod graph_law;
 #[cfg(test)]
 mod graph_tests;
 mod link;
 mod no_memory;
 mod node_id;
+#[cfg(test)]
+mod node_tests;
 mod node_text;
 mod numbers;
+mod seq;
 
 pub use cert::{Cert, CertFile, CertLink, CertNode, Color, Role, Row, Tag};
+pub use cert_law::{accepted_implies_sound, accepted_tree_is_sound};
 pub use graph::Graph;
 pub use graph_error::GraphError;
+pub use graph_law::one_graph_of_its_parts;
 pub use link::{Element, End, Link, LinkIn};
 pub use no_memory::NoMemory;
 pub use node_id::{Kind, NodeId};
 pub use node_text::NodeText;
 pub use numbers::{LinkNo, NodeNo};
+pub use seq::Seq;

@@ -1,0 +1,145 @@
+-- A field that is read is the field that was written, and what was written is read again.
+use Rattle.std.proofs.Common.{◌≡◌, ℕ, ◌+◌, ◌^◌, ◌<◌, true, false, ltb, List, [], ◌∷◌, ◌++◌, length, get_or, Some, Result, Ok, Err, refl, sym, ap, subst, ◌∙◌, arith}
+use Rattle.std.specs.Int.{Width, w8, w16, w32, byte_len, from_be_bytes, to_be_bytes}
+use Rattle.std.proofs.lemmas.Bool.{ltb-true, lt-ltb, le-ltb}
+use Rattle.std.proofs.lemmas.List.{take_at, drop_at, length-append}
+use Rattle.std.proofs.lemmas.Nat.{be_bytes_2, be_bytes_4, from_be_bytes-to_be_bytes_2, from_be_bytes-to_be_bytes_4}
+use Rattle.cert_format.specs.declared.error.CertKind.TheVariants.{Truncated}
+use Rattle.mrt_graph.specs.declared.node_id.Kind.{Kind}
+use Rattle.mrt_graph.specs.declared.node_id.Kind.TheVariants as kinds
+use Rattle.mrt_graph.specs.declared.cert.Role.{Role}
+use Rattle.mrt_graph.specs.declared.cert.Role.TheVariants as roles
+use Rattle.mrt_graph.specs.declared.cert.Tag.{Tag}
+use Rattle.mrt_graph.specs.declared.cert.Tag.TheVariants as tags
+use Rattle.cert_format.specs.CertText.{kind_number, role_number, tag_number}
+use Rattle.cert_format.specs.Layout.{any, Field, Form, Then, within, tag}
+use Rattle.cert_format.specs.FirstFault.{number_of, fault_in}
+use Rattle.cert_format.specs.declared.error.CertError.{CertError}
+use Rattle.cert_format.specs.Reading.{Rest, rest_of, Names, Took, TookField, ReadsNumber, ReadsField}
+
+abbrev pub IsBytes : List ℕ → Type 0
+IsBytes bytes = (i : ℕ) → get_or bytes i 0 < 256
+
+-- numbers of this width and their bytes
+pub record IsWide (w : Width) : Type 0 where
+  pub len : (n : ℕ) → length (to_be_bytes w n) ≡ byte_len w
+  pub back : (bytes : List ℕ) → length bytes ≡ byte_len w → IsBytes bytes → to_be_bytes w (from_be_bytes w bytes) ≡ bytes
+  pub again : (n : ℕ) → n < 256 ^ byte_len w → from_be_bytes w (to_be_bytes w n) ≡ n
+
+one_back : (bytes : List ℕ) → length bytes ≡ 1 → get_or bytes 0 0 < 256 → to_be_bytes w8 (from_be_bytes w8 bytes) ≡ bytes
+one_back [] len lt = absurd (omega arith)
+one_back (b ∷ []) len lt = ap (λ (x : ℕ). x ∷ []) (omega arith)
+one_back (b ∷ c ∷ bs) len lt = absurd (omega (arith, len))
+
+pub wide8 : IsWide w8
+wide8 = record {
+  len = λ n. refl;
+  back = λ bytes len fits. one_back bytes len (fits 0);
+  again = λ n lt. omega arith;
+}
+
+pub wide16 : IsWide w16
+wide16 = record {
+  len = λ n. refl;
+  back = λ bytes len fits. be_bytes_2 bytes _ len fits refl;
+  again = λ n lt. from_be_bytes-to_be_bytes_2 n lt;
+}
+
+pub wide32 : IsWide w32
+wide32 = record {
+  len = λ n. refl;
+  back = λ bytes len fits. be_bytes_4 bytes _ len fits refl;
+  again = λ n lt. from_be_bytes-to_be_bytes_4 n lt;
+}
+
+-- the number that the first bytes spell
+pub took_number : (w : Width) (wide : IsWide w) (n at : ℕ) (front bytes after : List ℕ) → length front ≡ byte_len w → IsBytes front → n ≡ from_be_bytes w front → bytes ≡ front ++ after
+    → Took (to_be_bytes w n) (rest_of at bytes) (rest_of (at + byte_len w) after)
+took_number w wide n at front bytes after len fits n-is parts =
+    let text : to_be_bytes w n ≡ front = rw n-is (wide.back front len fits) in
+    record { parts = rw text parts; place = rw (wide.len n) refl }
+
+-- what was written is what the field reads
+written_is_read : (field : Field) (n : ℕ) (rest : List ℕ) → IsWide field.width → n < 256 ^ byte_len field.width → number_of field (to_be_bytes field.width n ++ rest) ≡ n
+written_is_read field n rest wide lt =
+    rw (take_at (to_be_bytes field.width n) rest (byte_len field.width) (wide.len n)) (wide.again n lt)
+
+pub field_short : (field : Field) (next : ℕ → Form) (at : ℕ) (bytes : List ℕ) → length bytes < byte_len field.width → fault_in (Then field next) at bytes ≡ Some (at, Truncated)
+unfolding fault_in
+field_short field next at bytes lt = rw (lt-ltb _ _ lt) refl
+
+pub field_passes : (field : Field) (next : ℕ → Form) (at n : ℕ) (rest : List ℕ) → IsWide field.width → n < 256 ^ byte_len field.width → field.allows n ≡ true
+    → fault_in (Then field next) at (to_be_bytes field.width n ++ rest) ≡ fault_in (next n) (at + byte_len field.width) rest
+unfolding fault_in
+field_passes field next at n rest wide lt allowed =
+    let long : ltb (length (to_be_bytes field.width n ++ rest)) (byte_len field.width) ≡ false = le-ltb _ _ (omega (arith, length-append (to_be_bytes field.width n) rest, wide.len n)) in
+    rw (long, written_is_read field n rest wide lt, allowed, drop_at (to_be_bytes field.width n) rest (byte_len field.width) (wide.len n)) refl
+
+pub field_refuses : (field : Field) (next : ℕ → Form) (at n : ℕ) (rest : List ℕ) → IsWide field.width → n < 256 ^ byte_len field.width → field.allows n ≡ false
+    → fault_in (Then field next) at (to_be_bytes field.width n ++ rest) ≡ Some (at, field.fault)
+unfolding fault_in
+field_refuses field next at n rest wide lt refused =
+    let long : ltb (length (to_be_bytes field.width n ++ rest)) (byte_len field.width) ≡ false = le-ltb _ _ (omega (arith, length-append (to_be_bytes field.width n) rest, wide.len n)) in
+    rw (long, written_is_read field n rest wide lt, refused) refl
+
+pub took_field : (field : Field) (n : ℕ) (before after : Rest) → IsWide field.width → Took (to_be_bytes field.width n) before after → n < 256 ^ byte_len field.width → field.allows n ≡ true
+    → TookField field n before after
+took_field field n before after wide took lt allowed = record {
+  took = took;
+  fits = lt;
+  allowed = allowed;
+  goes_on = λ next.
+      let place : before.at + byte_len field.width ≡ after.at = omega (arith, took.place, wide.len n) in
+      ap (λ (bytes : List ℕ). fault_in (Then field next) before.at bytes) took.parts
+      ∙ field_passes field next before.at n after.bytes wide lt allowed
+      ∙ ap (λ (at : ℕ). fault_in (next n) at after.bytes) place;
+}
+
+pub refused_field : (field : Field) (n : ℕ) (before after : Rest) → IsWide field.width → Took (to_be_bytes field.width n) before after → n < 256 ^ byte_len field.width → field.allows n ≡ false
+    → (next : ℕ → Form) → fault_in (Then field next) before.at before.bytes ≡ Some (before.at, field.fault)
+refused_field field n before after wide took lt refused next =
+    ap (λ (bytes : List ℕ). fault_in (Then field next) before.at bytes) took.parts ∙ field_refuses field next before.at n after.bytes wide lt refused
+
+pub short_field : (field : Field) (e : CertError) (before : Rest) → Names e (Some (before.at, Truncated)) × (length before.bytes < byte_len field.width)
+    → (next : ℕ → Form) → Names e (fault_in (Then field next) before.at before.bytes)
+short_field field e before h next = subst (Names e) (sym (field_short field next before.at before.bytes h.1)) h.0
+
+pub kind_allowed : (kind : Kind) → (within w8 1 3).allows (kind_number kind) ≡ true
+kind_allowed kinds.Router = refl
+kind_allowed kinds.Network = refl
+
+pub role_allowed : (role : Role) → (within w8 0 3).allows (role_number role) ≡ true
+role_allowed roles.Plain = refl
+role_allowed roles.Sole = refl
+role_allowed roles.Closing = refl
+
+pub tag_allowed : (row_tag : Tag) → tag.allows (tag_number row_tag) ≡ true
+tag_allowed tags.Sole = refl
+tag_allowed tags.Head = refl
+tag_allowed tags.Top = refl
+tag_allowed tags.Below = refl
+tag_allowed tags.Above = refl
+tag_allowed tags.Unordered = refl
+tag_allowed tags.Carried = refl
+
+-- what stands for a number is the number's one
+pub took_named : {A : Type 0} (field : Field) (number : A → ℕ) (x : A) (n : ℕ) (before after : Rest) → IsWide field.width → Took (to_be_bytes field.width n) before after → n < 256 ^ byte_len field.width → field.allows (number x) ≡ true
+    → number x ≡ n → TookField field (number x) before after
+took_named field number x n before after wide took lt allowed is =
+    subst (λ (k : ℕ). TookField field k before after) (sym is) (took_field field n before after wide took lt (ap field.allows (sym is) ∙ allowed))
+
+pub kind_small : (kind : Kind) → kind_number kind < 256
+kind_small kinds.Router = omega arith
+kind_small kinds.Network = omega arith
+
+pub role_small : (role : Role) → role_number role < 256
+role_small roles.Plain = omega arith
+role_small roles.Sole = omega arith
+role_small roles.Closing = omega arith
+
+pub tag_small : (row_tag : Tag) → tag_number row_tag < 256
+tag_small row_tag = omega (arith, ltb-true _ _ (tag_allowed row_tag))
+
+pub any_is_read : (w : Width) (before : Rest) (r : Result (ℕ × Rest) CertError) → IsWide w → ReadsNumber w before r → ReadsField (any w) (λ n. n) before r
+any_is_read w before (Ok x) wide read = took_field (any w) x.0 before x.1 wide read.0 read.1 refl
+any_is_read w before (Err e) wide read = short_field (any w) e before read

@@ -1,0 +1,5 @@
+pub mod Fields
+pub mod Files
+pub mod Lists
+pub mod Parts
+pub mod Unique

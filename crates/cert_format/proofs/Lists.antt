@@ -1,0 +1,108 @@
+-- Parts one behind another, as a loop reads them.
+use Rattle.std.proofs.Common.{◌≡◌, ℕ, suc, ◌+◌, ◌-◌, ◌*◌, ◌<◌, List, [], ◌∷◌, ◌++◌, length, get_or, take, refl, sym, ap, subst, ◌∙◌, append_assoc, arith}
+use Rattle.std.specs.List.{flat_map, AllByRecursion}
+use Rattle.std.proofs.lemmas.List.{append-nil, length-append, take_more, flat_map_more}
+use Rattle.std.proofs.lemmas.List.Concat.{flat_map-append}
+use Rattle.cert_format.specs.declared.error.CertError.{CertError}
+use Rattle.cert_format.specs.Layout.{Form, repeated}
+use Rattle.cert_format.specs.FirstFault.{fault_in}
+use Rattle.cert_format.specs.Reading.{Rest, Names, Took, IsListOf}
+
+-- what keeps this is spelled in so many bytes, and the form of the part allows its spelling
+pub record IsPart {A : Type 0} (part : Form → Form) (text : A → List ℕ) (Keeps : A → Type 0) (size : ℕ) : Type 0 where
+  pub sized : (x : A) → length (text x) ≡ size
+  pub passes : (x : A) → Keeps x → (next : Form) (at : ℕ) (rest : List ℕ) → fault_in (part next) at (text x ++ rest) ≡ fault_in next (at + size) rest
+
+pub Took-then : (x : List ℕ) (y : List ℕ) (a b c : Rest) → Took x a b → Took y b c → Took (x ++ y) a c
+Took-then x y a b c p q = record {
+  parts = p.parts ∙ ap (λ (t : List ℕ). x ++ t) q.parts ∙ sym (append_assoc x y c.bytes);
+  place = omega (arith, p.place, q.place, length-append x y);
+}
+
+each_more : {A : Type 0} (Keeps : A → Type 0) (xs : List A) (x : A) → AllByRecursion Keeps xs → Keeps x → AllByRecursion Keeps (xs ++ x ∷ [])
+each_more Keeps [] x all here = (here, tt)
+each_more Keeps (y ∷ xs) x all here = (all.0, each_more Keeps xs x all.1 here)
+
+-- so many parts were read, from start on
+pub record Repeats {A : Type 0} (text : A → List ℕ) (Keeps : A → Type 0) (size count : ℕ) (xs : List A) (start rest : Rest) : Type 0 where
+  pub took : Took (flat_map text xs) start rest
+  pub so : IsListOf count Keeps xs
+  pub placed : rest.at ≡ start.at + size * count
+
+pub repeats_none : {A : Type 0} (text : A → List ℕ) (Keeps : A → Type 0) (size : ℕ) (start : Rest) → Repeats text Keeps size 0 [] start start
+repeats_none text Keeps size start = record { took = record { parts = refl; place = omega arith }; so = record { many = refl; each = tt }; placed = omega arith }
+
+pub repeats_more : {A : Type 0} (part : Form → Form) (text : A → List ℕ) (Keeps : A → Type 0) (size count : ℕ) (xs : List A) (x : A) (start rest after : Rest) → IsPart part text Keeps size
+    → Repeats text Keeps size count xs start rest → Took (text x) rest after → Keeps x → Repeats text Keeps size (count + 1) (xs ++ x ∷ []) start after
+repeats_more part text Keeps size count xs x start rest after is so_far took here =
+    let texts : flat_map text (xs ++ x ∷ []) ≡ flat_map text xs ++ text x =
+    flat_map-append text xs (x ∷ []) ∙ ap (λ (t : List ℕ). flat_map text xs ++ t) (append-nil (text x)) in
+    record {
+      took = subst (λ (t : List ℕ). Took t start after) (sym texts) (Took-then (flat_map text xs) (text x) start rest after so_far.took took);
+      so = record { many = omega (arith, length-append xs (x ∷ []), so_far.so.many); each = each_more Keeps xs x so_far.so.each here };
+      placed = grind (arith, so_far.placed, took.place, is.sized x);
+    }
+
+pub repeated_passes : {A : Type 0} (part : Form → Form) (text : A → List ℕ) (Keeps : A → Type 0) (size : ℕ) → IsPart part text Keeps size
+    → (xs : List A) (k : ℕ) (next : Form) (at : ℕ) (rest : List ℕ) → AllByRecursion Keeps xs
+    → fault_in (repeated (length xs + k) part next) at (flat_map text xs ++ rest) ≡ fault_in (repeated k part next) (at + size * length xs) rest
+repeated_passes part text Keeps size is [] k next at rest all =
+    let zeros : 0 + k ≡ k = omega arith in
+    let place : at ≡ at + size * 0 = omega arith in
+    ap (λ (n : ℕ). fault_in (repeated n part next) at rest) zeros ∙ ap (λ (a : ℕ). fault_in (repeated k part next) a rest) place
+repeated_passes part text Keeps size is (x ∷ xs) k next at rest all =
+    let count : suc (length xs) + k ≡ suc (length xs + k) = omega arith in
+    let place : at + size + size * length xs ≡ at + size * suc (length xs) = grind arith in
+    ap (λ (n : ℕ). fault_in (repeated n part next) at (flat_map text (x ∷ xs) ++ rest)) count
+    ∙ ap (λ (t : List ℕ). fault_in (part (repeated (length xs + k) part next)) at t) (append_assoc (text x) (flat_map text xs) rest)
+    ∙ is.passes x all.0 (repeated (length xs + k) part next) at (flat_map text xs ++ rest)
+    ∙ repeated_passes part text Keeps size is xs k next (at + size) rest all.1
+    ∙ ap (λ (a : ℕ). fault_in (repeated k part next) a rest) place
+
+-- a fault of the next part is the fault of them all
+pub repeats_fault : {A : Type 0} (part : Form → Form) (text : A → List ℕ) (Keeps : A → Type 0) (size total count : ℕ) (xs : List A) (start rest : Rest) (e : CertError) → IsPart part text Keeps size
+    → Repeats text Keeps size count xs start rest → count < total → ((next : Form) → Names e (fault_in (part next) rest.at rest.bytes))
+    → (next : Form) → Names e (fault_in (repeated total part next) start.at start.bytes)
+repeats_fault part text Keeps size total count xs start rest e is so_far lt fault next =
+    let left = total - (count + 1) in
+    let all : total ≡ length xs + suc left = omega (arith, so_far.so.many) in
+    let place : start.at + size * length xs ≡ rest.at = rw (so_far.so.many, so_far.placed) refl in
+    let whole : fault_in (repeated total part next) start.at start.bytes ≡ fault_in (part (repeated left part next)) rest.at rest.bytes =
+    ap (λ (t : List ℕ). fault_in (repeated total part next) start.at t) so_far.took.parts
+    ∙ ap (λ (n : ℕ). fault_in (repeated n part next) start.at (flat_map text xs ++ rest.bytes)) all
+    ∙ repeated_passes part text Keeps size is xs (suc left) next start.at rest.bytes so_far.so.each
+    ∙ ap (λ (a : ℕ). fault_in (part (repeated left part next)) a rest.bytes) place in
+    subst (Names e) (sym whole) (fault (repeated left part next))
+
+-- what follows all the parts is read on
+pub all_pass : {A : Type 0} (part : Form → Form) (text : A → List ℕ) (Keeps : A → Type 0) (size : ℕ) → IsPart part text Keeps size
+    → (xs : List A) (next : Form) (at : ℕ) (rest : List ℕ) → AllByRecursion Keeps xs
+    → fault_in (repeated (length xs) part next) at (flat_map text xs ++ rest) ≡ fault_in next (at + size * length xs) rest
+all_pass part text Keeps size is xs next at rest all =
+    let count : length xs ≡ length xs + 0 = omega arith in
+    ap (λ (n : ℕ). fault_in (repeated n part next) at (flat_map text xs ++ rest)) count ∙ repeated_passes part text Keeps size is xs 0 next at rest all
+
+length_texts : {A : Type 0} (text : A → List ℕ) (size : ℕ) (xs : List A) → ((x : A) → length (text x) ≡ size) → length (flat_map text xs) ≡ size * length xs
+length_texts text size [] sized = omega arith
+length_texts text size (x ∷ xs) sized = grind (arith, length-append (text x) (flat_map text xs), sized x, length_texts text size xs sized)
+
+pub list_goes_on : {A : Type 0} (part : Form → Form) (text : A → List ℕ) (Keeps : A → Type 0) (size count : ℕ) (xs : List A) (before after : Rest) → IsPart part text Keeps size
+    → Took (flat_map text xs) before after → IsListOf count Keeps xs
+    → (next : Form) → fault_in (repeated count part next) before.at before.bytes ≡ fault_in next after.at after.bytes
+list_goes_on part text Keeps size count xs before after is took so next =
+    let place : before.at + size * length xs ≡ after.at = omega (arith, took.place, length_texts text size xs is.sized) in
+    ap (λ (t : List ℕ). fault_in (repeated count part next) before.at t) took.parts
+    ∙ ap (λ (n : ℕ). fault_in (repeated n part next) before.at (flat_map text xs ++ after.bytes)) (sym so.many)
+    ∙ all_pass part text Keeps size is xs next before.at after.bytes so.each
+    ∙ ap (λ (a : ℕ). fault_in next a after.bytes) place
+
+pub each_weaker : {A : Type 0} (P Q : A → Type 0) → ((x : A) → P x → Q x) → (xs : List A) → AllByRecursion P xs → AllByRecursion Q xs
+each_weaker P Q weaker [] all = tt
+each_weaker P Q weaker (x ∷ xs) all = (weaker x all.0, each_weaker P Q weaker xs all.1)
+
+-- one more text behind those of the first i
+pub texts_more : {A : Type 0} (text : A → List ℕ) (xs : List A) (i : ℕ) (x : A) (before now piece after : List ℕ) → i < length xs → x ≡ get_or xs i x
+    → now ≡ before ++ flat_map text (take i xs) → piece ≡ text x → after ≡ now ++ piece → after ≡ before ++ flat_map text (take (i + 1) xs)
+texts_more text xs i x before now piece after lt is so_far here e =
+    let front : take (i + 1) xs ≡ take i xs ++ x ∷ [] = rw is (take_more xs i x lt) in
+    rw (e, so_far, here, front) (flat_map_more text before (take i xs) x)

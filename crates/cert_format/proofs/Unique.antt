@@ -1,0 +1,164 @@
+-- No two files have one spelling.
+use Rattle.std.proofs.Common.{◌≡◌, ℕ, zero, suc, ◌-◌, ◌*◌, ◌^◌, ◌<◌, ◌≤◌, List, [], ◌∷◌, ◌++◌, length, take, drop, refl, sym, ap, subst, ◌∙◌, append_assoc, arith}
+use Rattle.std.specs.Int.{Width, w8, w16, w32, byte_len, from_be_bytes, to_be_bytes}
+use Rattle.std.specs.List.{flat_map, AllByRecursion}
+use Rattle.std.specs.Prelude.{codes}
+use Rattle.std.proofs.lemmas.List.{take_at, drop_at, append-nil}
+use Rattle.mrt_graph.specs.Certificate.{IsCertLink, IsCertRow, certificate_of}
+use Rattle.mrt_graph.specs.declared.node_id.Kind.{Kind}
+use Rattle.mrt_graph.specs.declared.node_id.Kind.TheVariants as kinds
+use Rattle.mrt_graph.specs.declared.cert.Role.{Role}
+use Rattle.mrt_graph.specs.declared.cert.Role.TheVariants as roles
+use Rattle.mrt_graph.specs.declared.cert.Tag.{Tag}
+use Rattle.mrt_graph.specs.declared.cert.Tag.TheVariants as tags
+use Rattle.mrt_graph.specs.declared.cert.Row.{Row}
+use Rattle.mrt_graph.specs.declared.cert.CertNode.{CertNode}
+use Rattle.mrt_graph.specs.declared.cert.CertLink.{CertLink}
+use Rattle.mrt_graph.specs.declared.cert.CertFile.{CertFile}
+use Rattle.cert_format.specs.CertText.{kind_number, role_number, tag_number, node_text, link_text, row_text, cert_text}
+use Rattle.cert_format.specs.Limits.{IsVersionOne}
+use Rattle.cert_format.specs.Reading.{IsNode}
+use Rattle.cert_format.proofs.Fields.{IsWide, wide8, wide16, wide32, kind_small, role_small, tag_small}
+use Rattle.cert_format.proofs.Files.{file_header, file_nodes}
+
+-- two lists that begin with pieces of one length are one piece by piece
+pub pieces : (n : ℕ) (a : List ℕ) (b : List ℕ) (r : List ℕ) (s : List ℕ) → length a ≡ n → length b ≡ n → a ++ r ≡ b ++ s → (a ≡ b) × (r ≡ s)
+pieces n a b r s la lb e =
+    (sym (take_at a r n la) ∙ ap (take n) e ∙ take_at b s n lb, sym (drop_at a r n la) ∙ ap (drop n) e ∙ drop_at b s n lb)
+
+numbers : (w : Width) (x y : ℕ) (r s : List ℕ) → IsWide w → x < 256 ^ byte_len w → y < 256 ^ byte_len w → to_be_bytes w x ++ r ≡ to_be_bytes w y ++ s → (x ≡ y) × (r ≡ s)
+numbers w x y r s wide lx ly e =
+    let p = pieces (byte_len w) (to_be_bytes w x) (to_be_bytes w y) r s (wide.len x) (wide.len y) e in
+    (sym (wide.again x lx) ∙ ap (from_be_bytes w) p.0 ∙ wide.again y ly, p.1)
+
+kind_back : ℕ → Kind
+kind_back zero = kinds.Router
+kind_back (suc zero) = kinds.Router
+kind_back (suc (suc n)) = kinds.Network
+
+role_back : ℕ → Role
+role_back zero = roles.Plain
+role_back (suc zero) = roles.Sole
+role_back (suc (suc n)) = roles.Closing
+
+tag_back : ℕ → Tag
+tag_back zero = tags.Sole
+tag_back (suc zero) = tags.Head
+tag_back (suc (suc zero)) = tags.Top
+tag_back (suc (suc (suc zero))) = tags.Below
+tag_back (suc (suc (suc (suc zero)))) = tags.Above
+tag_back (suc (suc (suc (suc (suc zero))))) = tags.Unordered
+tag_back (suc (suc (suc (suc (suc (suc n)))))) = tags.Carried
+
+kind_again : (kind : Kind) → kind_back (kind_number kind) ≡ kind
+unfolding kind_back
+kind_again kinds.Router = refl
+kind_again kinds.Network = refl
+
+role_again : (role : Role) → role_back (role_number role) ≡ role
+unfolding role_back
+role_again roles.Plain = refl
+role_again roles.Sole = refl
+role_again roles.Closing = refl
+
+tag_again : (tag : Tag) → tag_back (tag_number tag) ≡ tag
+unfolding tag_back
+tag_again tags.Sole = refl
+tag_again tags.Head = refl
+tag_again tags.Top = refl
+tag_again tags.Below = refl
+tag_again tags.Above = refl
+tag_again tags.Unordered = refl
+tag_again tags.Carried = refl
+
+node_of : Kind → ℕ → ℕ → ℕ → ℕ → CertNode
+node_of kind number order head block = record { id = record { kind = kind; number = number }; order = order; head = head; block = block }
+
+node_is : (x y : CertNode) → x.id.kind ≡ y.id.kind → x.id.number ≡ y.id.number → x.order ≡ y.order → x.head ≡ y.head → x.block ≡ y.block → x ≡ y
+unfolding node_of
+node_is x y k i o h b =
+    ap (λ (v : Kind). node_of v x.id.number x.order x.head x.block) k
+    ∙ ap (λ (v : ℕ). node_of y.id.kind v x.order x.head x.block) i
+    ∙ ap (λ (v : ℕ). node_of y.id.kind y.id.number v x.head x.block) o
+    ∙ ap (λ (v : ℕ). node_of y.id.kind y.id.number y.order v x.block) h
+    ∙ ap (λ (v : ℕ). node_of y.id.kind y.id.number y.order y.head v) b
+
+link_of : ℕ → ℕ → ℕ → Role → CertLink
+link_of a b block role = record { a = a; b = b; block = block; role = role }
+
+link_is : (x y : CertLink) → x.a ≡ y.a → x.b ≡ y.b → x.block ≡ y.block → x.role ≡ y.role → x ≡ y
+unfolding link_of
+link_is x y a b k r =
+    ap (λ (v : ℕ). link_of v x.b x.block x.role) a
+    ∙ ap (λ (v : ℕ). link_of y.a v x.block x.role) b
+    ∙ ap (λ (v : ℕ). link_of y.a y.b v x.role) k
+    ∙ ap (λ (v : Role). link_of y.a y.b y.block v) r
+
+row_is : (x y : Row) → x.blue ≡ y.blue → x.red ≡ y.red → x.tag ≡ y.tag → x ≡ y
+row_is x y b r t =
+    let made : ℕ → ℕ → Tag → Row = λ blue red tag. record { blue = blue; red = red; tag = tag } in
+    ap (λ (v : ℕ). made v x.red x.tag) b ∙ ap (λ (v : ℕ). made y.blue v x.tag) r ∙ ap (λ (v : Tag). made y.blue y.red v) t
+
+nodes_one : (n : ℕ) → n ≤ 65535 → (x y : CertNode) → IsNode n x → IsNode n y → node_text x ≡ node_text y → x ≡ y
+nodes_one n few x y kx ky e =
+    let k = numbers w8 (kind_number x.id.kind) (kind_number y.id.kind) _ _ wide8 (kind_small x.id.kind) (kind_small y.id.kind) e in
+    let i = numbers w32 x.id.number y.id.number _ _ wide32 kx.number ky.number k.1 in
+    let o = numbers w16 x.order y.order _ _ wide16 (omega arith) (omega arith) i.1 in
+    let h = numbers w16 x.head y.head _ _ wide16 (omega arith) (omega arith) o.1 in
+    let b = numbers w16 x.block y.block [] [] wide16 (omega arith) (omega arith) h.1 in
+    node_is x y (sym (kind_again x.id.kind) ∙ ap kind_back k.0 ∙ kind_again y.id.kind) i.0 o.0 h.0 b.0
+
+links_one : (n : ℕ) → n ≤ 65535 → (x y : CertLink) → IsCertLink n x → IsCertLink n y → link_text x ≡ link_text y → x ≡ y
+links_one n few x y kx ky e =
+    let a = numbers w16 x.a y.a _ _ wide16 (omega arith) (omega arith) e in
+    let b = numbers w16 x.b y.b _ _ wide16 (omega arith) (omega arith) a.1 in
+    let k = numbers w16 x.block y.block _ _ wide16 (omega arith) (omega arith) b.1 in
+    let r = numbers w8 (role_number x.role) (role_number y.role) [] [] wide8 (role_small x.role) (role_small y.role) k.1 in
+    link_is x y a.0 b.0 k.0 (sym (role_again x.role) ∙ ap role_back r.0 ∙ role_again y.role)
+
+rows_one : (m : ℕ) → m ≤ 65535 → (x y : Row) → IsCertRow m x → IsCertRow m y → row_text x ≡ row_text y → x ≡ y
+rows_one m few x y kx ky e =
+    let b = numbers w16 x.blue y.blue _ _ wide16 (omega arith) (omega arith) e in
+    let r = numbers w16 x.red y.red _ _ wide16 (omega arith) (omega arith) b.1 in
+    let t = numbers w8 (tag_number x.tag) (tag_number y.tag) [] [] wide8 (tag_small x.tag) (tag_small y.tag) r.1 in
+    row_is x y b.0 r.0 (sym (tag_again x.tag) ∙ ap tag_back t.0 ∙ tag_again y.tag)
+
+lists_one : {A : Type 0} (text : A → List ℕ) (Keeps : A → Type 0) (size : ℕ) → ((x : A) → length (text x) ≡ size) → ((x y : A) → Keeps x → Keeps y → text x ≡ text y → x ≡ y)
+    → (xs ys : List A) (r s : List ℕ) → length xs ≡ length ys → AllByRecursion Keeps xs → AllByRecursion Keeps ys → flat_map text xs ++ r ≡ flat_map text ys ++ s → (xs ≡ ys) × (r ≡ s)
+lists_one text Keeps size sized one [] [] r s same kx ky e = (refl, e)
+lists_one text Keeps size sized one [] (y ∷ ys) r s same kx ky e = absurd (omega (arith, same))
+lists_one text Keeps size sized one (x ∷ xs) [] r s same kx ky e = absurd (omega (arith, same))
+lists_one text Keeps size sized one (x ∷ xs) (y ∷ ys) r s same kx ky e =
+    let apart : text x ++ (flat_map text xs ++ r) ≡ text y ++ (flat_map text ys ++ s) =
+    sym (append_assoc (text x) (flat_map text xs) r) ∙ e ∙ append_assoc (text y) (flat_map text ys) s in
+    let first = pieces size (text x) (text y) (flat_map text xs ++ r) (flat_map text ys ++ s) (sized x) (sized y) apart in
+    let others = lists_one text Keeps size sized one xs ys r s (omega (arith, same)) kx.1 ky.1 first.1 in
+    let here : x ≡ y = one x y kx.0 ky.0 first.0 in
+    let there : xs ≡ ys = others.0 in
+    (cc, others.1)
+
+file_is : (f g : CertFile) → f.root ≡ g.root → f.cert.nodes ≡ g.cert.nodes → f.cert.links ≡ g.cert.links → f.cert.rows ≡ g.cert.rows → f ≡ g
+file_is f g r n l w =
+    let made : ℕ → List CertNode → List CertLink → List Row → CertFile = λ root nodes links rows. record { root = root; cert = certificate_of nodes links rows } in
+    ap (λ (v : ℕ). made v f.cert.nodes f.cert.links f.cert.rows) r
+    ∙ ap (λ (v : List CertNode). made g.root v f.cert.links f.cert.rows) n
+    ∙ ap (λ (v : List CertLink). made g.root g.cert.nodes v f.cert.rows) l
+    ∙ ap (λ (v : List Row). made g.root g.cert.nodes g.cert.links v) w
+
+pub one_file : (f g : CertFile) → IsVersionOne f → IsVersionOne g → cert_text f ≡ cert_text g → f ≡ g
+one_file f g kf kg e =
+    let hf = file_header f kf in
+    let hg = file_header g kg in
+    let v = pieces 6 (codes "MRTC" ++ to_be_bytes w16 1) (codes "MRTC" ++ to_be_bytes w16 1) _ _ refl refl e in
+    let n = numbers w16 (length f.cert.nodes) (length g.cert.nodes) _ _ wide16 (omega (arith, kf.nodes)) (omega (arith, kg.nodes)) v.1 in
+    let m = numbers w16 (length f.cert.links) (length g.cert.links) _ _ wide16 (omega (arith, kf.links)) (omega (arith, kg.links)) n.1 in
+    let r = numbers w32 f.root g.root _ _ wide32 kf.root kg.root m.1 in
+    let nodes_g : AllByRecursion (IsNode (length f.cert.nodes)) g.cert.nodes = subst (λ (k : ℕ). AllByRecursion (IsNode k) g.cert.nodes) (sym n.0) (file_nodes g kg) in
+    let links_g : AllByRecursion (IsCertLink (length f.cert.nodes)) g.cert.links = subst (λ (k : ℕ). AllByRecursion (IsCertLink k) g.cert.links) (sym n.0) kg.certificate.links_kept in
+    let rows_g : AllByRecursion (IsCertRow (length f.cert.links)) g.cert.rows = subst (λ (k : ℕ). AllByRecursion (IsCertRow k) g.cert.rows) (sym m.0) kg.certificate.rows_kept in
+    let many : length f.cert.rows ≡ length g.cert.rows = kf.certificate.a_row_each ∙ ap (λ (k : ℕ). k * (k - 1)) n.0 ∙ sym kg.certificate.a_row_each in
+    let ns = lists_one node_text (IsNode (length f.cert.nodes)) 11 (λ x. refl) (nodes_one (length f.cert.nodes) kf.certificate.few_nodes) f.cert.nodes g.cert.nodes _ _ n.0 (file_nodes f kf) nodes_g r.1 in
+    let ls = lists_one link_text (IsCertLink (length f.cert.nodes)) 7 (λ x. refl) (links_one (length f.cert.nodes) kf.certificate.few_nodes) f.cert.links g.cert.links _ _ m.0 kf.certificate.links_kept links_g ns.1 in
+    let rows : flat_map row_text f.cert.rows ++ [] ≡ flat_map row_text g.cert.rows ++ [] = append-nil (flat_map row_text f.cert.rows) ∙ ls.1 ∙ sym (append-nil (flat_map row_text g.cert.rows)) in
+    let rs = lists_one row_text (IsCertRow (length f.cert.links)) 5 (λ x. refl) (rows_one (length f.cert.links) kf.certificate.few_links) f.cert.rows g.cert.rows [] [] many kf.certificate.rows_kept rows_g rows in
+    file_is f g r.0 ns.0 ls.0 rs.0

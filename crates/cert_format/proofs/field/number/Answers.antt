@@ -1,0 +1,18 @@
+use Rattle.std.specs.Int.{w16}
+use Rattle.std.proofs.Common.{sym, ◌∙◌}
+use Rattle.std.proofs.lemmas.Result.{err_from_is_err_and}
+use Rattle.cert_format.specs.Layout.{within}
+use Rattle.cert_format.proofs.Fields.{wide16, took_field, refused_field, short_field}
+use Rattle.cert_format.proofs.field.number.Goals as goal
+
+pub returns-in_err-number : goal.returns-in_err-number
+returns-in_err-number c =
+    let p = err_from_is_err_and c.from_residual.result c.from_residual.ensures.1 in
+    rw (p.1, p.2) (short_field (within w16 c.args.least c.args.bound) c.in_err-number.field-0.0 c.args.rest c.in_err-number.ensures)
+
+pub returns-then-not-is_within : goal.returns-then-not-is_within
+returns-then-not-is_within c =
+    rw (c.new.ensures, c.at-at.ensures) (refused_field (within w16 c.args.least c.args.bound) c.in_ok-number.number c.args.rest c.in_ok-number.rest wide16 c.in_ok-number.ensures.0 c.in_ok-number.ensures.1 (sym c.is_within.ensures ∙ c.if-not-is_within.true))
+
+pub returns : goal.returns
+returns c = took_field (within w16 c.args.least c.args.bound) c.in_ok-number.number c.args.rest c.in_ok-number.rest wide16 c.in_ok-number.ensures.0 c.in_ok-number.ensures.1 (sym c.is_within.ensures ∙ c.if-not-is_within.false)

@@ -1,0 +1,6 @@
+pub mod CertText
+pub mod FirstFault
+pub mod Layout
+pub mod Limits
+pub mod Outcome
+pub mod Reading

@@ -1,0 +1,57 @@
+//! Why bytes are no certificate file.
+
+ghost use Rattle.std.specs.Prelude.{◌≡◌};
+ghost use Rattle.cert_format.specs.declared.error.CertError.TheVariants.{NoMemory as no_memory};
+
+use std::alloc::{AllocError, AllocFailed};
+use thiserror::Error;
+
+/// What is wrong with a field.
+#[derive(Clone, Copy, Debug, PartialEq, Eq)]
+pub enum CertKind {
+    /// These are not the magic bytes, or not a version that is known.
+    Magic,
+    /// Fewer bytes are left than the field has.
+    Truncated,
+    /// The number is out of its range.
+    Range,
+    /// The number is no tag.
+    Tag,
+    /// Bytes stand behind the last row.
+    Trailing,
+}
+
+/// Why a certificate file was not read.
+#[derive(Clone, Copy, Debug, PartialEq, Eq, Error)]
+pub enum CertError {
+    /// The first field that is not allowed begins at byte `at`, from 0.
+    #[error("{kind:?} at {at}")]
+    Fault { at: u32, kind: CertKind },
+    #[error("no memory")]
+    NoMemory,
+}
+
+impl CertError {
+    /// What is wrong with the field at this place.
+    pub(crate) fn new(at: u32, kind: CertKind) -> CertError
+        ensures { result ≡ CertError.Fault at kind }
+    {
+        CertError::Fault { at, kind }
+    }
+}
+
+impl From<AllocError> for CertError {
+    ghost from_gives = { λ _ e. e ≡ no_memory };
+
+    fn from(_: AllocError) -> CertError {
+        CertError::NoMemory
+    }
+}
+
+impl<T: Drop> From<AllocFailed<T>> for CertError {
+    ghost from_gives = { λ _ e. e ≡ no_memory };
+
+    fn from(_: AllocFailed<T>) -> CertError {
+        CertError::NoMemory
+    }
+}

@@ -1,0 +1,21 @@
+//! Certificate files as bytes, both ways.
+//!
+//! A file of version 1 is a header of 14 bytes, 11 bytes for each node, 7 for each link and 5 for each row, with every
+//! number in network order. Each file has one spelling.
+#![tactic(auto)]
+
+mod error;
+mod field;
+mod header;
+mod list;
+mod part;
+mod reading;
+mod rest;
+mod writing;
+
+pub use error::{CertError, CertKind};
+pub use reading::{one_spelling, read_cert};
+pub use writing::write_cert;
+
+#[cfg(test)]
+mod tests;

@@ -1,0 +1,86 @@
+//! One field after another.
+
+ghost use Rattle.std.specs.Prelude.{◌≡◌, ◌<◌, ◌^◌, ◌-◌, ◌↔◌, ◌/◌, IsTrue, [], length, min};
+
+use crate::error::{CertError, CertKind};
+use std::marker::Model;
+
+/// What is left of a file, and the place of its first byte in the file.
+#[derive(Drop)]
+pub struct Rest<'a> {
+    at: u32,
+    bytes: &'a [u8],
+}
+
+impl<'a> Model for Rest<'a> {
+    ghost use Rattle.cert_format.specs.Reading.{Rest, rest_of};
+
+    ghost Value = { Rest };
+
+    ghost view = { λ r. rest_of r.at r.bytes.now };
+}
+
+impl<'a> Rest<'a> {
+    ghost use Rattle.std.specs.Int.{w8, w16, w32};
+    ghost use Rattle.cert_format.specs.Reading.{ReadsNumber, rest_of};
+
+    pub fn new(bytes: &'a [u8]) -> Rest<'a>
+        ensures { result ≡ rest_of 0 bytes.now }
+    {
+        Rest { at: 0, bytes }
+    }
+
+    /// The place of the first byte that is left.
+    pub fn at(&self) -> u32
+        ensures { result ≡ self.now.at }
+    {
+        self.at
+    }
+
+    pub fn is_empty(&self) -> bool
+        ensures { IsTrue result ↔ (self.now.bytes ≡ []) }
+    {
+        self.bytes.is_empty()
+    }
+
+    /// How many parts of so many bytes can follow, where `count` are to.
+    pub fn room(&self, count: usize, bytes: usize) -> usize
+        requires { 0 < bytes }
+        ensures { result ≡ min count (length self.now.bytes / bytes) }
+    {
+        count.min(self.bytes.len() / bytes)
+    }
+
+    pub fn u8(self) -> Result<(u8, Rest<'a>), CertError>
+        requires { self.at < 2 ^ 32 - 1 }
+        ensures { ReadsNumber w8 self.entry result }
+    {
+        let at = self.at;
+        let Some((byte, bytes)) = self.bytes.split_first() else {
+            return Err(CertError::new(at, CertKind::Truncated));
+        };
+        Ok((*byte, Rest { at: at + 1, bytes }))
+    }
+
+    pub fn u16(self) -> Result<(u16, Rest<'a>), CertError>
+        requires { self.at < 2 ^ 32 - 2 }
+        ensures { ReadsNumber w16 self.entry result }
+    {
+        let at = self.at;
+        let Some((&[high, low], bytes)) = self.bytes.split_first_chunk::<2>() else {
+            return Err(CertError::new(at, CertKind::Truncated));
+        };
+        Ok((u16::from_be_bytes([high, low]), Rest { at: at + 2, bytes }))
+    }
+
+    pub fn u32(self) -> Result<(u32, Rest<'a>), CertError>
+        requires { self.at < 2 ^ 32 - 4 }
+        ensures { ReadsNumber w32 self.entry result }
+    {
+        let at = self.at;
+        let Some((&[a, b, c, d], bytes)) = self.bytes.split_first_chunk::<4>() else {
+            return Err(CertError::new(at, CertKind::Truncated));
+        };
+        Ok((u32::from_be_bytes([a, b, c, d]), Rest { at: at + 4, bytes }))
+    }
+}

@@ -1,0 +1,134 @@
+//! Certificate files written.
+
+ghost use Rattle.std.specs.Prelude.{◌≡◌, ◌≤◌, ◌+◌, ◌*◌, ◌++◌, length, IfOk, vec_len, vec_capacity};
+ghost use Rattle.std.specs.List.{flat_map};
+ghost use Rattle.cert_format.specs.CertText.{
+  kind_number,
+  role_number,
+  tag_number,
+  header_text,
+  node_text,
+  link_text,
+  row_text,
+  cert_text,
+};
+
+use mrt_graph::{CertFile, CertLink, CertNode, Kind, NoMemory, Role, Row, Tag};
+use std::alloc::Global;
+
+/// The bytes of a certificate file of version 1: of n nodes and m links `14 + 11n + 7m + 5n(n - 1)`, reserved once.
+///
+/// # Errors
+///
+/// [`NoMemory`] where there was none for the bytes.
+pub fn write_cert(alloc: Global, f: &CertFile) -> Result<Vec<u8>, NoMemory>
+    requires nodes { length f.now.cert.nodes ≤ 2048 }
+    requires links { length f.now.cert.links ≤ 8192 }
+    ensures { IfOk result (λ v. v.items ≡ cert_text f.now) }
+{
+    let cert = &f.cert;
+    let nodes = cert.nodes();
+    let links = cert.links();
+    let rows = cert.rows();
+    let mut out = Vec::with_capacity(
+        alloc,
+        14 + 11 * nodes.len() + 7 * links.len() + 5 * rows.len(),
+    )?;
+    let header = header_bytes(cert.node_count(), cert.link_count(), f.root);
+    out.extend_from_slice(&header).unwrap();
+    put_nodes(&mut out, nodes);
+    put_links(&mut out, links);
+    put_rows(&mut out, rows);
+    Ok(out)
+}
+
+fn header_bytes(nodes: u16, links: u16, root: u32) -> [u8; 14]
+    ensures { result ≡ header_text nodes links root }
+{
+    let [nodes, nodes_low] = nodes.to_be_bytes();
+    let [links, links_low] = links.to_be_bytes();
+    let [a, b, c, d] = root.to_be_bytes();
+    [
+        b'M', b'R', b'T', b'C', 0, 1, nodes, nodes_low, links, links_low, a, b, c, d,
+    ]
+}
+
+fn put_nodes(out: &mut Vec<u8>, nodes: &[CertNode])
+    requires { vec_len out.old + 11 * length nodes.now ≤ vec_capacity out.old }
+    ensures text { out.new.items ≡ out.old.items ++ flat_map node_text nodes.now }
+    ensures len { vec_len out.new ≡ vec_len out.old + 11 * length nodes.now }
+    ensures capacity { vec_capacity out.old ≤ vec_capacity out.new }
+{
+    for node in nodes {
+        out.extend_from_slice(&node_bytes(node)).unwrap();
+    }
+}
+
+fn node_bytes(node: &CertNode) -> [u8; 11]
+    ensures { result ≡ node_text node.now }
+{
+    let kind = match node.id.kind {
+        Kind::Router => 1,
+        Kind::Network => 2,
+    };
+    let [a, b, c, d] = node.id.number.to_be_bytes();
+    let [order, order_low] = node.order.to_be_bytes();
+    let [head, head_low] = node.head.get().to_be_bytes();
+    let [block, block_low] = node.block.get().to_be_bytes();
+    [
+        kind, a, b, c, d, order, order_low, head, head_low, block, block_low,
+    ]
+}
+
+fn put_links(out: &mut Vec<u8>, links: &[CertLink])
+    requires { vec_len out.old + 7 * length links.now ≤ vec_capacity out.old }
+    ensures text { out.new.items ≡ out.old.items ++ flat_map link_text links.now }
+    ensures len { vec_len out.new ≡ vec_len out.old + 7 * length links.now }
+    ensures capacity { vec_capacity out.old ≤ vec_capacity out.new }
+{
+    for link in links {
+        out.extend_from_slice(&link_bytes(link)).unwrap();
+    }
+}
+
+fn link_bytes(link: &CertLink) -> [u8; 7]
+    ensures { result ≡ link_text link.now }
+{
+    let role = match link.role {
+        Role::Plain => 0,
+        Role::Sole => 1,
+        Role::Closing => 2,
+    };
+    let [a, a_low] = link.a.get().to_be_bytes();
+    let [b, b_low] = link.b.get().to_be_bytes();
+    let [block, block_low] = link.block.get().to_be_bytes();
+    [a, a_low, b, b_low, block, block_low, role]
+}
+
+fn put_rows(out: &mut Vec<u8>, rows: &[Row])
+    requires { vec_len out.old + 5 * length rows.now ≤ vec_capacity out.old }
+    ensures text { out.new.items ≡ out.old.items ++ flat_map row_text rows.now }
+    ensures len { vec_len out.new ≡ vec_len out.old + 5 * length rows.now }
+    ensures capacity { vec_capacity out.old ≤ vec_capacity out.new }
+{
+    for row in rows {
+        out.extend_from_slice(&row_bytes(row)).unwrap();
+    }
+}
+
+fn row_bytes(row: &Row) -> [u8; 5]
+    ensures { result ≡ row_text row.now }
+{
+    let tag = match row.tag {
+        Tag::Sole => 0,
+        Tag::Head => 1,
+        Tag::Top => 2,
+        Tag::Below => 3,
+        Tag::Above => 4,
+        Tag::Unordered => 5,
+        Tag::Carried => 6,
+    };
+    let [blue, blue_low] = row.blue.get().to_be_bytes();
+    let [red, red_low] = row.red.get().to_be_bytes();
+    [blue, blue_low, red, red_low, tag]
+}

@@ -1,0 +1,42 @@
+-- What the top call says of each exit.
+use Rattle.std.specs.Prelude.{◌≡◌, ◌⊎◌, ◌<◌, ℕ, List, Option, IfSome, length, take}
+use Rattle.std.specs.Option.{IsSomeAnd}
+use Rattle.mrt_io.specs.Counts.{Rose}
+use Rattle.mrt_io.specs.Holding.{Files}
+use Rattle.mrt_io.specs.Writing.{Gained}
+use Rattle.mrt_cmd.specs.declared.exit.Exit.{Exit}
+use Rattle.mrt_cmd.specs.declared.exit.Exit.TheVariants.{Done, WriteFault}
+use Rattle.mrt_cmd.specs.Form.{form_of}
+use Rattle.mrt_cmd.specs.Outcome.{MayGive, MayFail, AreThere, files_of}
+
+-- the words may give this text
+abbrev pub GivesText : Option Files → List (List ℕ) → List ℕ → Type 0
+GivesText held words text = IsSomeAnd (form_of words) (λ form. MayGive held form text)
+
+-- the words may fail at this one: it names a file, and those before it are readable
+abbrev pub FailsAt : Option Files → List (List ℕ) → ℕ → Type 0
+FailsAt held words word = IsSomeAnd (form_of words) (λ form. MayFail held (files_of form) word)
+
+-- it is told that each file that the words name is held; words of no form name none
+abbrev pub NamesHeld : Option Files → List (List ℕ) → Type 0
+NamesHeld held words = IfSome (form_of words) (λ form. AreThere held (files_of form))
+
+-- a sink failed behind so many bytes of a text, fewer than all: it gained just these, its count of faults rose, and it was not
+-- healthy for the text
+pub record IsCutShort (healthy_for : ℕ → Type 0) (before now : ℕ) (old new : Option (List ℕ)) (text : List ℕ) (taken : ℕ)
+    : Type 0 where
+  pub fewer : taken < length text
+  pub gained : Gained old (take taken text) new
+  pub rose : Rose before now
+  pub unhealthy : healthy_for (length text) → ⊥
+
+-- a sink gained a line, or was cut short in it
+abbrev pub GainedLine : (ℕ → Type 0) → ℕ → ℕ → Option (List ℕ) → Option (List ℕ) → List ℕ → Type 0
+GainedLine healthy_for before now old new line =
+    Gained old line new ⊎ ((taken : ℕ) × IsCutShort healthy_for before now old new line taken)
+
+-- the exit is one on which nothing is written to the output
+abbrev pub WritesNothing : Exit → Type 0
+WritesNothing Done = ⊥
+WritesNothing (WriteFault taken) = ⊥
+WritesNothing _ = Unit {0}

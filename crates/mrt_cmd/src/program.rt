@@ -1,0 +1,147 @@
+//! The top call.
+
+ghost use Rattle.std.specs.Prelude.{◌≡◌, ◌⊎◌, ◌↔◌, ℕ, List, Some, IfSome, IsNone, length};
+ghost use Rattle.std.specs.Option.{IsSomeAnd};
+ghost use Rattle.mrt_io.specs.Counts.{Rose};
+ghost use Rattle.mrt_io.specs.Writing.{Gained};
+ghost use Rattle.mrt_cmd.specs.Exits.{line_of};
+ghost use Rattle.mrt_cmd.specs.Form.{form_of};
+ghost use Rattle.mrt_cmd.specs.Outcome.{outcome};
+ghost use Rattle.mrt_cmd.specs.Run.{GivesText, FailsAt, IsCutShort, GainedLine, NamesHeld, WritesNothing};
+
+use crate::check::check;
+use crate::exit::Exit;
+use crate::words::{Form, read_form};
+use mrt_io::{PutError, Shelf, Sink, Word, put_all};
+use std::alloc::Global;
+
+/// Does what the words ask for: reads the files that they name, writes the text of the answer to `out`, or else one line on
+/// why there is none to `err`.
+///
+/// Everything is read and all memory is taken before the first byte is written. A fault of `err` changes no exit. `NoMemory` may
+/// come at any place behind `Usage`.
+pub fn run<F: Shelf, K: Sink, E: Sink>(
+    alloc: Global,
+    words: &[Word],
+    shelf: &mut F,
+    out: &mut K,
+    err: &mut E,
+) -> Exit
+    // `Usage` comes just where the words are none of the forms, and nothing is read then.
+    ensures usage { (result ≡ Exit.Usage) ↔ IsNone (form_of words.now) }
+    ensures usage_reads_nothing { result ≡ Exit.Usage → shelf.new ≡ shelf.old }
+
+    // `ReadFault` comes only where the shelf's count of faults rose in this call; over a healthy shelf just where it is what comes
+    // of the files, and that shelf has no fault where each name is held.
+    ensures read_fault { (word : ℕ) → result ≡ Exit.ReadFault word
+        → FailsAt (F.held shelf.old) words.now word × Rose (F.faults shelf.old) (F.faults shelf.new) }
+    ensures healthy_read { F.healthy shelf.old → (word : ℕ) → result ≡ Exit.ReadFault word
+        → IfSome (F.held shelf.old) (λ files. outcome files words.now ≡ Exit.ReadFault word) }
+    ensures missing { F.healthy shelf.old → (word : ℕ)
+        → IsSomeAnd (F.held shelf.old) (λ files. outcome files words.now ≡ Exit.ReadFault word)
+        → (result ≡ Exit.ReadFault word) ⊎ (result ≡ Exit.NoMemory) }
+    ensures no_read_fault { F.healthy shelf.old → NamesHeld (F.held shelf.old) words.now
+        → F.faults shelf.new ≡ F.faults shelf.old }
+
+    // `NotYet` comes only where it is what comes of the files.
+    ensures not_yet { result ≡ Exit.NotYet → IfSome (F.held shelf.old) (λ files. outcome files words.now ≡ Exit.NotYet) }
+
+    // On `Done` the output gained just the text; on `WriteFault` it was cut short in it, and it has no fault where it is healthy for
+    // the text; else nothing was written to it.
+    ensures done { result ≡ Exit.Done → (text : List ℕ) × GivesText (F.held shelf.old) words.now text
+        × Gained (K.written out.old) text (K.written out.new) }
+    ensures write_fault { (taken : ℕ) → result ≡ Exit.WriteFault taken
+        → (text : List ℕ) × GivesText (F.held shelf.old) words.now text
+        × IsCutShort (K.healthy_for out.old) (K.faults out.old) (K.faults out.new)
+        (K.written out.old) (K.written out.new) text taken }
+    ensures no_write_fault { ((text : List ℕ) → GivesText (F.held shelf.old) words.now text → K.healthy_for out.old (length text))
+        → K.faults out.new ≡ K.faults out.old }
+    ensures writes_nothing { WritesNothing result → out.new ≡ out.old }
+
+    // Where no count rose, and over healthy devices, the exit is what comes of the files, but for want of memory.
+    ensures calm { (Rose (F.faults shelf.old) (F.faults shelf.new) → ⊥) → (Rose (K.faults out.old) (K.faults out.new) → ⊥)
+        → IfSome (F.held shelf.old) (λ files. (result ≡ outcome files words.now) ⊎ (result ≡ Exit.NoMemory)) }
+    ensures healthy { F.healthy shelf.old
+        → ((text : List ℕ) → GivesText (F.held shelf.old) words.now text → K.healthy_for out.old (length text))
+        → IfSome (F.held shelf.old) (λ files. (result ≡ outcome files words.now) ⊎ (result ≡ Exit.NoMemory)) }
+
+    // On `Done` nothing is put to `err`, else the exit's line, as far as `err` takes it.
+    ensures silent { result ≡ Exit.Done → err.new ≡ err.old }
+    ensures line { (result ≡ Exit.Done → ⊥) → GainedLine (E.healthy_for err.old) (E.faults err.old) (E.faults err.new)
+        (E.written err.old) (E.written err.new) (line_of result) }
+{
+    let exit = answer(alloc, words, shelf, out);
+    if exit != Exit::Done {
+        put_line(err, exit);
+    }
+    exit
+}
+
+/// The same but for the line.
+fn answer<F: Shelf, K: Sink>(alloc: Global, words: &[Word], shelf: &mut F, out: &mut K) -> Exit
+    ensures usage { (result ≡ Exit.Usage) ↔ IsNone (form_of words.now) }
+    ensures usage_reads_nothing { result ≡ Exit.Usage → shelf.new ≡ shelf.old }
+    ensures read_fault { (word : ℕ) → result ≡ Exit.ReadFault word
+        → FailsAt (F.held shelf.old) words.now word × Rose (F.faults shelf.old) (F.faults shelf.new) }
+    ensures healthy_read { F.healthy shelf.old → (word : ℕ) → result ≡ Exit.ReadFault word
+        → IfSome (F.held shelf.old) (λ files. outcome files words.now ≡ Exit.ReadFault word) }
+    ensures missing { F.healthy shelf.old → (word : ℕ)
+        → IsSomeAnd (F.held shelf.old) (λ files. outcome files words.now ≡ Exit.ReadFault word)
+        → (result ≡ Exit.ReadFault word) ⊎ (result ≡ Exit.NoMemory) }
+    ensures no_read_fault { F.healthy shelf.old → NamesHeld (F.held shelf.old) words.now
+        → F.faults shelf.new ≡ F.faults shelf.old }
+    ensures not_yet { result ≡ Exit.NotYet → IfSome (F.held shelf.old) (λ files. outcome files words.now ≡ Exit.NotYet) }
+    ensures done { result ≡ Exit.Done → (text : List ℕ) × GivesText (F.held shelf.old) words.now text
+        × Gained (K.written out.old) text (K.written out.new) }
+    ensures write_fault { (taken : ℕ) → result ≡ Exit.WriteFault taken
+        → (text : List ℕ) × GivesText (F.held shelf.old) words.now text
+        × IsCutShort (K.healthy_for out.old) (K.faults out.old) (K.faults out.new)
+        (K.written out.old) (K.written out.new) text taken }
+    ensures no_write_fault { ((text : List ℕ) → GivesText (F.held shelf.old) words.now text → K.healthy_for out.old (length text))
+        → K.faults out.new ≡ K.faults out.old }
+    ensures writes_nothing { WritesNothing result → out.new ≡ out.old }
+    ensures calm { (Rose (F.faults shelf.old) (F.faults shelf.new) → ⊥) → (Rose (K.faults out.old) (K.faults out.new) → ⊥)
+        → IfSome (F.held shelf.old) (λ files. (result ≡ outcome files words.now) ⊎ (result ≡ Exit.NoMemory)) }
+    ensures healthy { F.healthy shelf.old
+        → ((text : List ℕ) → GivesText (F.held shelf.old) words.now text → K.healthy_for out.old (length text))
+        → IfSome (F.held shelf.old) (λ files. (result ≡ outcome files words.now) ⊎ (result ≡ Exit.NoMemory)) }
+{
+    let text = match read_form(words) {
+        None => return Exit::Usage,
+        Some(
+            Form::Check {
+                database,
+                certificate,
+            },
+        ) => check(alloc, shelf, database, certificate),
+    };
+    match text {
+        Ok(text) => put_text(out, text.as_slice()),
+        Err(exit) => exit,
+    }
+}
+
+/// Writes the answer's text.
+fn put_text<K: Sink>(out: &mut K, text: &[u8]) -> Exit
+    ensures kind { WritesNothing result → ⊥ }
+    ensures done { result ≡ Exit.Done → Gained (K.written out.old) text.now (K.written out.new) }
+    ensures write_fault { (taken : ℕ) → result ≡ Exit.WriteFault taken
+        → IsCutShort (K.healthy_for out.old) (K.faults out.old) (K.faults out.new)
+        (K.written out.old) (K.written out.new) text.now taken }
+    ensures calm { (Rose (K.faults out.old) (K.faults out.new) → ⊥) → result ≡ Exit.Done }
+    ensures healthy { K.healthy_for out.old (length text.now) → result ≡ Exit.Done }
+    ensures no_fault { K.healthy_for out.old (length text.now) → K.faults out.new ≡ K.faults out.old }
+{
+    match put_all(out, text) {
+        Ok(()) => Exit::Done,
+        Err(PutError::Failed { taken }) => Exit::WriteFault { taken },
+    }
+}
+
+/// Writes the exit's line, as far as the sink takes it.
+fn put_line<E: Sink>(err: &mut E, exit: Exit)
+    ensures { GainedLine (E.healthy_for err.old) (E.faults err.old) (E.faults err.new)
+        (E.written err.old) (E.written err.new) (line_of exit) }
+{
+    let _ = put_all(err, exit.line().as_str().as_bytes());
+}

@@ -1,0 +1,5 @@
+use Rattle.mrt_graph.proofs.graph_law.one_graph_of_its_parts.Goals as goal
+use Rattle.mrt_graph.proofs.OneGraph.{one_graph}
+
+pub returns : goal.returns
+returns c = one_graph

@@ -1,0 +1,3 @@
+pub mod NextHop
+pub mod Within
+pub mod Without

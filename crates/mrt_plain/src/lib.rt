@@ -1,0 +1,22 @@
+//! Walks, what separates, and sound rows, computed as they are defined: slow and small, to be compared with.
+#![tactic(auto)]
+
+mod arrival;
+#[cfg(test)]
+mod fixtures;
+mod graph_links;
+mod hop;
+mod parting;
+#[cfg(test)]
+mod plain_tests;
+mod settling;
+mod sharing;
+mod soundness;
+mod walking;
+
+pub use arrival::reaches;
+pub use graph_links::links_of;
+pub use parting::separates;
+pub use sharing::apart;
+pub use soundness::sound;
+pub use walking::{Course, follow};

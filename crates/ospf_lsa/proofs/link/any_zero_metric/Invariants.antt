@@ -1,0 +1,8 @@
+use Rattle.std.proofs.Common.{◌≡◌, drop}
+use Rattle.std.specs.List.{list_any}
+use Rattle.ospf_lsa.specs.RouterLsas.{has_zero_metric}
+use Rattle.ospf_lsa.proofs.link.any_zero_metric.Given as goal
+
+-- What is left decides.
+abbrev pub invariant-loop-link : goal.invariant-loop-link
+invariant-loop-link l = list_any has_zero_metric (drop l.link-index l.links) ≡ list_any has_zero_metric l.links

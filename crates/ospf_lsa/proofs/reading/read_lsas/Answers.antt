@@ -1,0 +1,26 @@
+use Rattle.std.proofs.Common.{◌≡◌, ◌∙◌, length, sym, ap, arith}
+use Rattle.std.specs.Int.{w8}
+use Rattle.std.proofs.Math.Facts.{Fits-lt-pow}
+use Rattle.std.proofs.lemmas.List.{length-drop}
+use Rattle.std.proofs.lemmas.Result.{err_from_is_err_and}
+use Rattle.ospf_lsa.specs.Reading.{record_in}
+use Rattle.ospf_lsa.proofs.Files.{read_none, read_more, none_read, all_read}
+use Rattle.ospf_lsa.proofs.reading.read_lsas.Goals as goal
+
+pub returns-in_err-lsa-clause-only : goal.returns-in_err-lsa-clause-only
+returns-in_err-lsa-clause-only c =
+    let p = err_from_is_err_and c.from_residual.result c.from_residual.ensures.1 in
+    rw (p.1, p.2) (none_read c.args.bytes.now c.behind.result.now c.loop-at.lsas.items c.loop-at.at c.in_err-lsa.field-0.0 c.loop-at-test.true c.loop-at.invariant.read c.behind.ensures c.in_err-lsa.ensures.answer)
+
+pub loop-at-preserved : goal.loop-at-preserved
+loop-at-preserved c = record {
+  within = omega (arith, c.in_ok-lsa.ensures.within, ap length c.behind.ensures, length-drop c.loop-at.at c.args.bytes.now);
+  read = read_more c.args.bytes.now c.loop-at.lsas.items c.push.new.self.items c.loop-at.at (c.in_ok-lsa.lsa, c.in_ok-lsa.length) c.loop-at-test.true (λ i. Fits-lt-pow {w = w8} (c.type_inv.bytes i)) c.loop-at.invariant.read
+      (ap (record_in c.loop-at.at) (sym c.behind.ensures) ∙ c.in_ok-lsa.ensures.answer) c.in_ok-push.ensures.items;
+}
+
+pub loop-at-init : goal.loop-at-init
+loop-at-init c = record { within = omega arith; read = rw c.new-lsas.ensures.items (read_none c.args.bytes.now) }
+
+pub returns-clause-only : goal.returns-clause-only
+returns-clause-only c = all_read c.args.bytes.now c.loop-at.lsas.items c.loop-at.at c.loop-at-test.false c.loop-at.invariant.read

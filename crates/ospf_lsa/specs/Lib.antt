@@ -1,0 +1,4 @@
+pub mod LsaText
+pub mod Outcome
+pub mod Reading
+pub mod RouterLsas

@@ -1,0 +1,39 @@
+-- The bytes of LSAs (RFC 2328, section A.4). All their numbers are in network order.
+use Rattle.std.specs.Prelude.{ℕ, ◌+◌, List, ◌++◌, length}
+use Rattle.std.specs.Int.{w8, w16, w32, to_be_bytes, cast_unsigned}
+use Rattle.std.specs.List.{flat_map}
+use Rattle.ospf_lsa.specs.declared.lsa.RouterLink.{RouterLink}
+use Rattle.ospf_lsa.specs.declared.lsa.Body.{Body}
+use Rattle.ospf_lsa.specs.declared.lsa.Body.TheVariants.{Router, Network, Other}
+use Rattle.ospf_lsa.specs.declared.lsa.Lsa.{Lsa}
+
+-- a link of a router-LSA: its ID, its data, its type, the number of its TOS entries, its metric, and these entries
+abbrev pub link_text : RouterLink → List ℕ
+link_text link =
+    to_be_bytes w32 link.id ++ (to_be_bytes w32 link.link_data ++ (to_be_bytes w8 link.kind ++ (to_be_bytes w8 (length link.tos)
+    ++ (to_be_bytes w16 link.metric ++ flat_map (to_be_bytes w32) link.tos))))
+
+-- of a router its flags, the spare byte, the number of its links, and these; of a network its mask and its routers
+abbrev pub body_text : Body → List ℕ
+body_text (Router flags spare links) =
+    to_be_bytes w8 flags ++ (to_be_bytes w8 spare ++ (to_be_bytes w16 (length links) ++ flat_map link_text links))
+body_text (Network mask routers) = to_be_bytes w32 mask ++ flat_map (to_be_bytes w32) routers
+body_text (Other bytes) = bytes
+
+-- the length of the whole LSA, of which 20 bytes are its header
+abbrev pub lsa_length : Lsa → ℕ
+lsa_length lsa = 20 + length (body_text lsa.body)
+
+-- a header: age, options, type, link state ID, advertising router, sequence number, checksum and length
+abbrev pub header_text : Lsa → ℕ → List ℕ
+header_text lsa length =
+    to_be_bytes w16 lsa.age ++ (to_be_bytes w8 lsa.options ++ (to_be_bytes w8 lsa.kind ++ (to_be_bytes w32 lsa.id
+    ++ (to_be_bytes w32 lsa.router ++ (to_be_bytes w32 (cast_unsigned w32 lsa.sequence) ++ (to_be_bytes w16 lsa.checksum ++ to_be_bytes w16 length))))))
+
+-- an LSA: its header and its body; its place is no part of its bytes
+abbrev pub lsa_text : Lsa → List ℕ
+lsa_text lsa = header_text lsa (lsa_length lsa) ++ body_text lsa.body
+
+-- LSAs, one after another and nothing between
+abbrev pub lsas_text : List Lsa → List ℕ
+lsas_text lsas = flat_map lsa_text lsas

@@ -1,0 +1,107 @@
+-- What the steps of reading answer.
+use Rattle.std.specs.Prelude.{◌≡◌, ◌+◌, ◌-◌, ◌*◌, ◌^◌, ◌==◌, ◌&&◌, ◌≤◌, ℕ, zero, suc, Bool, not, nat_lt, List, [], ◌∷◌, length, take, drop, Option, Some, None, Result, Ok, Err, if◌then◌else◌}
+use Rattle.std.specs.Int.{w32, cast_signed}
+use Rattle.std.specs.List.{list_any}
+use Rattle.std.specs.Option.{option_map, option_map_or, option_and_then}
+use Rattle.byteorder.specs.Endian.{big_number}
+use Rattle.ospf_lsa.specs.declared.error.LsaKind.{LsaKind}
+use Rattle.ospf_lsa.specs.declared.error.LsaKind.TheVariants as kinds
+use Rattle.ospf_lsa.specs.declared.error.LsaError.{LsaError}
+use Rattle.ospf_lsa.specs.declared.error.LsaError.TheVariants.{Fault, NoMemory}
+use Rattle.ospf_lsa.specs.declared.lsa.RouterLink.{RouterLink}
+use Rattle.ospf_lsa.specs.declared.lsa.Body.{Body}
+use Rattle.ospf_lsa.specs.declared.lsa.Body.TheVariants.{Router}
+use Rattle.ospf_lsa.specs.declared.lsa.Lsa.{Lsa}
+use Rattle.ospf_lsa.specs.RouterLsas.{has_zero_metric}
+
+-- the number in so many bytes from this place on
+abbrev pub number_at : ℕ → ℕ → List ℕ → ℕ
+number_at place count bytes = big_number count (drop place bytes)
+
+-- so many numbers of 32 bits
+abbrev pub numbers_in : ℕ → List ℕ → List ℕ
+numbers_in zero bytes = []
+numbers_in (suc count) bytes = number_at 0 4 bytes ∷ numbers_in count (drop 4 bytes)
+
+-- a link with its TOS entries
+abbrev pub link_in : List ℕ → RouterLink
+link_in bytes = record {
+  id = number_at 0 4 bytes;
+  link_data = number_at 4 4 bytes;
+  kind = number_at 8 1 bytes;
+  metric = number_at 10 2 bytes;
+  tos = numbers_in (number_at 9 1 bytes) (drop 12 bytes);
+}
+
+-- how many bytes a link has
+abbrev pub link_length : List ℕ → ℕ
+link_length bytes = 12 + 4 * number_at 9 1 bytes
+
+-- the link at the front and how many bytes it has; none where it is cut
+abbrev pub first_link : List ℕ → Option (RouterLink × ℕ)
+first_link bytes =
+    if nat_lt (length bytes) 12 then None
+    else (if nat_lt (length bytes) (link_length bytes) then None else Some (link_in bytes, link_length bytes))
+
+-- so many links, and nothing behind them
+abbrev pub links_in : ℕ → List ℕ → Option (List RouterLink)
+links_in zero bytes = if length bytes == 0 then Some [] else None
+links_in (suc count) bytes =
+    option_and_then (λ first. option_map (λ links. first.0 ∷ links) (links_in count (drop first.1 bytes))) (first_link bytes)
+
+-- the links in a router-LSA's body, behind its flags, its spare byte and the count of its links
+abbrev pub body_links : List ℕ → Option (List RouterLink)
+body_links bytes = if nat_lt (length bytes) 4 then None else links_in (number_at 2 2 bytes) (drop 4 bytes)
+
+-- a router-LSA's body of these links
+abbrev pub body_in : List ℕ → List RouterLink → Body
+body_in bytes links = Router (number_at 0 1 bytes) (number_at 1 1 bytes) links
+
+-- an LSA with this place and this body
+abbrev pub lsa_in : ℕ → List ℕ → Body → Lsa
+lsa_in at bytes body = record {
+  at = at;
+  age = number_at 0 2 bytes;
+  options = number_at 2 1 bytes;
+  kind = number_at 3 1 bytes;
+  id = number_at 4 4 bytes;
+  router = number_at 8 4 bytes;
+  sequence = cast_signed w32 (number_at 12 4 bytes);
+  checksum = number_at 16 2 bytes;
+  body = body;
+}
+
+-- an LSA's length field
+abbrev pub length_field : List ℕ → ℕ
+length_field bytes = number_at 18 2 bytes
+
+-- the first fault that an LSA's header shows
+abbrev pub header_fault : List ℕ → Option LsaKind
+header_fault bytes =
+    if nat_lt (length bytes) 20 then Some kinds.Truncated
+    else (if nat_lt (length bytes) (length_field bytes) then Some kinds.Truncated
+    else (if nat_lt (length_field bytes) 20 then Some kinds.Length
+    else (if number_at 12 4 bytes == 2 ^ 31 then Some kinds.ReservedSequence
+    else (if not (number_at 3 1 bytes == 1) then Some kinds.Body
+    else (if not (number_at 4 4 bytes == number_at 8 4 bytes) then Some kinds.IdMismatch else None)))))
+
+-- the bytes of an LSA's body
+abbrev pub body_bytes : List ℕ → List ℕ
+body_bytes bytes = take (length_field bytes - 20) (drop 20 bytes)
+
+-- the LSA of these links and its length; none may have the metric 0 where it leads to a router or to a transit network
+abbrev pub with_links : ℕ → List ℕ → List RouterLink → Result (Lsa × ℕ) LsaKind
+with_links at bytes links =
+    if list_any has_zero_metric links then Err kinds.ZeroMetric
+    else Ok (lsa_in at bytes (body_in (body_bytes bytes) links), length_field bytes)
+
+-- the LSA at the front and its length, or its first fault
+abbrev pub record_in : ℕ → List ℕ → Result (Lsa × ℕ) LsaKind
+record_in at bytes =
+    option_map_or Err (header_fault bytes) (option_map_or (with_links at bytes) (body_links (body_bytes bytes)) (Err kinds.Body))
+
+-- the answer is this LSA, or this fault at this place, or there was no memory
+abbrev pub Answers : ℕ → Result (Lsa × ℕ) LsaKind → Result (Lsa × ℕ) LsaError → Type 0
+Answers at expected (Ok found) = expected ≡ Ok found
+Answers at expected (Err (Fault place kind)) = (place ≡ at) × (expected ≡ Err kind)
+Answers at expected (Err NoMemory) = Unit {0}

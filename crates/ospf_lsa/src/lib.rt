@@ -1,0 +1,13 @@
+//! LSAs as bytes: the link state advertisements of OSPFv2 (RFC 2328, section A.4), one after another.
+#![tactic(auto)]
+
+mod error;
+mod field;
+mod link;
+mod lsa;
+mod reading;
+mod record;
+
+pub use error::{LsaError, LsaKind};
+pub use lsa::{Body, Lsa, RouterLink};
+pub use reading::read_lsas;

@@ -1,0 +1,52 @@
+//! Link state advertisements (RFC 2328, section A.4).
+
+use mrt_graph::Seq;
+
+/// A link of a router-LSA (RFC 2328, section A.4.2).
+#[derive(Debug, Drop, PartialEq, Eq)]
+pub struct RouterLink {
+    /// The neighbour's router ID, the designated router's interface address, or the IP network, by the link's type.
+    pub id: u32,
+    /// The interface's address or number, or the IP network's mask.
+    pub link_data: u32,
+    /// 1 point-to-point, 2 to a transit network, 3 to a stub network, 4 virtual.
+    pub kind: u8,
+    pub metric: u16,
+    /// The metrics by type of service, each with the four bytes of its entry as one number.
+    pub tos: Seq<u32>,
+}
+
+/// What stands behind the header of an LSA.
+#[derive(Debug, Drop, PartialEq, Eq)]
+pub enum Body {
+    /// Of a router-LSA: its flags, the byte behind them, and its links (RFC 2328, section A.4.2).
+    Router {
+        flags: u8,
+        spare: u8,
+        links: Seq<RouterLink>,
+    },
+    /// Of a network-LSA: the network's mask and the IDs of its routers (RFC 2328, section A.4.3).
+    Network { mask: u32, routers: Seq<u32> },
+    /// Of any other LSA: its bytes.
+    Other { bytes: Seq<u8> },
+}
+
+/// A link state advertisement.
+#[derive(Debug, Drop, PartialEq, Eq)]
+pub struct Lsa {
+    /// The place of its first byte in the file, from 0.
+    pub at: u32,
+    /// The whole age field, with the DoNotAge bit (RFC 1793, section 2.2).
+    pub age: u16,
+    pub options: u8,
+    /// Its LS type (RFC 2328, section A.4.1).
+    pub kind: u8,
+    /// Its link state ID.
+    pub id: u32,
+    /// The router that advertises it.
+    pub router: u32,
+    pub sequence: i32,
+    /// The checksum field as it stands.
+    pub checksum: u16,
+    pub body: Body,
+}
