@@ -1,4 +1,4 @@
-use Rattle.std.proofs.Common.{◌≡◌, ◌==◌, ◌+◌, ◌<◌, ◌||◌, ℕ, Bool, true, false, sym, ◌∙◌, inl, inr, subst, arith}
+use Rattle.std.proofs.Common.{◌≡◌, ◌==◌, ◌+◌, ◌||◌, ℕ, Bool, true, false, sym, ◌∙◌, inl, inr, subst, arith}
 use Rattle.std.proofs.lemmas.Bool.{or_cases, or_right, eqb-true, eqb-false}
 use Rattle.cert_checker.specs.LikeBefore.{IsLikeBefore}
 use Rattle.mrt_graph.specs.Certificate.{Certificate}
