@@ -3,7 +3,9 @@
 ghost use Rattle.std.specs.Prelude.{◌≡◌, ◌<◌, ◌↔◌, ℕ, length};
 ghost use Rattle.cert_checker.specs.Judged.{Judged};
 ghost use Rattle.mrt_graph.specs.Accepted.{Accepted};
+ghost use Rattle.mrt_graph.specs.Certificate.{row_of};
 ghost use Rattle.mrt_graph.specs.FirstFault.{FirstFault};
+ghost use Rattle.mrt_graph.specs.Sound.{Sound};
 
 use crate::block_links::{first_lone_link_fault, first_many_links_fault};
 use crate::heads::{first_misplaced_link, head_fault};
@@ -11,19 +13,32 @@ use crate::orders::order_fault;
 use crate::rows::first_row_fault;
 use crate::same_network::network_fault;
 use crate::verdict::Verdict;
-use mrt_graph::{CertFile, Graph, NodeNo};
+use mrt_graph::{CertFile, Graph, NodeNo, accepted_implies_sound};
 
 /// Judges a certificate file for a graph and its root: yes where all fourteen rules hold; else the first rule that
 /// fails and its least place.
+///
+/// A yes alone, whoever wrote the file, implies that both colors reach every destination and share only what every walk uses.
 ///
 /// A later rule is read only where all earlier ones hold. No memory is taken. Rules 1 to 6 take time in proportion to
 /// nodes times links at worst, the others one pass over the rows.
 pub fn check(g: &Graph, root: NodeNo, f: &CertFile) -> Verdict
     requires { root < length g.now.ids }
     ensures yes { (result ≡ Verdict.Yes) ↔ Accepted g.now root f.now }
+    ensures sound { result ≡ Verdict.Yes → Sound g.now.links (length g.now.ids) (row_of f.now.cert) }
     ensures no { (rule a b : ℕ) → ((result ≡ Verdict.No rule a b) ↔ FirstFault g.now root f.now rule a b) }
 {
+    sound_if_accepted(g, root, f);
     judge(g, root, f)
+}
+
+/// The law at these values: the rows of a file that is accepted are sound.
+fn sound_if_accepted(g: &Graph, root: NodeNo, f: &CertFile)
+    ensures { Accepted g.now root f.now → Sound g.now.links (length g.now.ids) (row_of f.now.cert) }
+{
+    // What each certificate keeps is known from its counts.
+    let _ = f.cert.node_count();
+    accepted_implies_sound();
 }
 
 fn judge(g: &Graph, root: NodeNo, f: &CertFile) -> Verdict
