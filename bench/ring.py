@@ -9,6 +9,8 @@ ring, so that router i has order i + 1, and the link of routers n - 1 and n clos
 import struct
 import sys
 
+from lsas import POINT_TO_POINT, router_lsa
+
 PLAIN, CLOSING = 0, 2
 HEAD, TOP, BELOW, ABOVE = 1, 2, 3, 4
 
@@ -43,31 +45,11 @@ def certificate(n):
     return b"".join(parts)
 
 
-def sums(data):
-    c0 = c1 = 0
-    for byte in data:
-        c0 = (c0 + byte) % 255
-        c1 = (c1 + c0) % 255
-    return c0, c1
-
-
-def router_lsa(router, links):
-    body = b"".join(struct.pack(">IIBBH", to, data, 1, 0, metric) for to, data, metric in links)
-    head = struct.pack(">HBBIII", 1, 2, 1, router, router, 0x80000001)
-    length = 24 + len(body)
-    tail = struct.pack(">HBBH", length, 0, 0, len(links)) + body
-    covered = head[2:] + b"\0\0" + tail
-    c0, c1 = sums(covered)
-    size = len(covered)
-    check = ((size - 15) * c0 - c1) % 255, (c1 - (size - 14) * c0) % 255
-    return head + bytes(value or 255 for value in check) + tail
-
-
 def database(n):
     following = lambda router: router % n + 1
     before = lambda router: (router - 2) % n + 1
     return b"".join(
-        router_lsa(router, [(following(router), 1, 1), (before(router), 2, 1)]) for router in range(1, n + 1))
+        router_lsa(router, [(following(router), 1, POINT_TO_POINT, 1), (before(router), 2, POINT_TO_POINT, 1)]) for router in range(1, n + 1))
 
 
 def main():

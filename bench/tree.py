@@ -1,0 +1,120 @@
+#!/usr/bin/env python3
+"""Writes the certificate of an area that is a tree of routers, by its closed form, and the area's database.
+
+usage: tree.py star|line ROUTERS CERTIFICATE DATABASE
+       tree.py sample CERTIFICATE DATABASE
+
+The root is the router of the highest ID. In a tree each link is a block of its own: a node's head is the node before it on the way from
+the root, and its block is named by itself. The rows for a neighbour are the link to it; every other row is carried.
+"""
+import struct
+import sys
+
+from lsas import POINT_TO_POINT, STUB, router_lsa
+
+SOLE_ROLE, SOLE, CARRIED = 1, 0, 6
+
+
+def certificate(ids, edges):
+    """The certificate of routers by ascending ID and of edges (lower, higher), both by number."""
+    n = len(ids)
+    edges = sorted(edges)
+    ends = [[] for _ in range(n)]
+    for number, (a, b) in enumerate(edges):
+        ends[a].append((b, number))
+        ends[b].append((a, number))
+    root = n - 1
+    # Nodes in the order in which the walk from the root meets them; behind each node its link and its head.
+    head, up, order = [None] * n, [None] * n, []
+    head[root] = root
+    waiting = [root]
+    while waiting:
+        node = waiting.pop()
+        order.append(node)
+        for other, number in ends[node]:
+            if head[other] is None:
+                head[other], up[other] = node, number
+                waiting.append(other)
+    place = {node: at + 1 for at, node in enumerate(order)}
+
+    parts = [b"MRTC", struct.pack(">HHHI", 1, n, len(edges), ids[root])]
+    for node in range(n):
+        parts.append(struct.pack(">BIHHH", 1, ids[node], place[node], head[node], node))
+    for a, b in edges:
+        block = b if head[b] == a else a
+        parts.append(struct.pack(">HHHB", a, b, block, SOLE_ROLE))
+    # For each source the link towards each destination: away from the root below a child, else up.
+    for source in range(n):
+        towards = [up[source]] * n
+        for child, number in ends[source]:
+            if up[child] == number:
+                below = [child]
+                while below:
+                    node = below.pop()
+                    towards[node] = number
+                    below.extend(other for other, link in ends[node] if up[other] == link)
+        near = {other for other, _ in ends[source]}
+        row = struct.Struct(">HHB")
+        parts.append(b"".join(
+            row.pack(towards[t], towards[t], SOLE if t in near else CARRIED) for t in range(n) if t != source))
+    return b"".join(parts)
+
+
+def write(path, data):
+    with open(path, "wb") as file:
+        file.write(data)
+
+
+def database(ids, links):
+    """Router-LSAs of links by router: ID, data, type, metric."""
+    return b"".join(router_lsa(router, links[router]) for router in ids)
+
+
+def shaped(shape, n):
+    """A star around the router of the highest ID, or a line."""
+    if shape == "star":
+        return [(node, n - 1) for node in range(n - 1)]
+    return [(node, node + 1) for node in range(n - 1)]
+
+
+def address(text):
+    a, b, c, d = (int(part) for part in text.split("."))
+    return a << 24 | b << 16 | c << 8 | d
+
+
+def sample():
+    """Seven routers with loopbacks and customer networks, and links of different metrics."""
+    ids = [address(f"10.255.0.{last}") for last in range(1, 8)]
+    edges = [(4, 6), (5, 6), (0, 4), (1, 4), (2, 5), (2, 3)]
+    metrics = [(10, 10), (10, 15), (100, 100), (100, 200), (64, 64), (1000, 500)]
+    links = {router: [] for router in ids}
+    for number, ((a, b), (metric_a, metric_b)) in enumerate(zip(edges, metrics)):
+        data = address(f"192.0.2.{4 * number + 1}")
+        links[ids[a]].append((ids[b], data, POINT_TO_POINT, metric_a))
+        links[ids[b]].append((ids[a], data + 1, POINT_TO_POINT, metric_b))
+        for router, metric in ((ids[a], metric_a), (ids[b], metric_b)):
+            links[router].append((data - 1, 0xFFFFFFFC, STUB, metric))
+    for last, router in enumerate(ids, 1):
+        links[router].append((router, 0xFFFFFFFF, STUB, 0))
+        links[router].append((address(f"198.51.100.{16 * last}"), 0xFFFFFFF0, STUB, 10))
+    return ids, edges, links
+
+
+def main():
+    if sys.argv[1] == "sample":
+        ids, edges, links = sample()
+        write(sys.argv[2], certificate(ids, edges))
+        write(sys.argv[3], database(ids, links))
+        return
+    n = int(sys.argv[2])
+    ids = list(range(1, n + 1))
+    edges = shaped(sys.argv[1], n)
+    links = {router: [] for router in ids}
+    for a, b in edges:
+        links[ids[a]].append((ids[b], b, POINT_TO_POINT, 1))
+        links[ids[b]].append((ids[a], a + 1, POINT_TO_POINT, 1))
+    write(sys.argv[3], certificate(ids, edges))
+    write(sys.argv[4], database(ids, links))
+
+
+main()
