@@ -1,6 +1,6 @@
 -- What the first six rules say of an accepted certificate's orders, heads, blocks and links.
-use Rattle.std.proofs.Common.{◌≡◌, ◌≢◌, ◌⊎◌, ◌∙◌, ◌==◌, ◌&&◌, ◌||◌, ◌<◌, ◌≤◌, ℕ, Bool, true, false, not, nat_lt, nat_le, List, Option, Some, None, filter, length, slice_get, if◌then◌else◌, inl, inr, refl, sym, ap, subst, arith}
-use Rattle.std.proofs.lemmas.Bool.{true≢false, cases_eq, cases_order, eqb-false, and_parts, or_cases, eq-eqb, ne_eqb, eqb-true, leb-true, ltb-true, lt-leb, not-true}
+use Rattle.std.proofs.Common.{◌≡◌, ◌≢◌, ◌⊎◌, ◌∙◌, ◌==◌, ◌&&◌, ◌<◌, ◌≤◌, ℕ, Bool, true, false, not, nat_lt, nat_le, List, Option, Some, None, length, slice_get, inl, inr, refl, sym, ap, subst, arith}
+use Rattle.std.proofs.lemmas.Bool.{true≢false, cases_eq, cases_order, eqb-false, and_parts, or_cases, eq-eqb, ne_eqb, eqb-true, ltb-true, lt-leb, not-true}
 use Rattle.std.proofs.lemmas.Option.{same_Some, slice_get_within}
 use Rattle.std.specs.List.{list_all}
 use Rattle.std.specs.Option.{option_and_then, option_map_or}
@@ -12,17 +12,14 @@ use Rattle.mrt_graph.specs.declared.link.Link.{Link}
 use Rattle.mrt_graph.specs.Accepted.{Accepted}
 use Rattle.mrt_graph.specs.Certificate.{Certificate, IsCertificate, IsCertNode, IsCertLink}
 use Rattle.mrt_graph.specs.CertWords.{order_of, head_of, block_of, link_block, links_of, members, role_of}
-use Rattle.mrt_graph.specs.GraphInvariant.{IsLink}
-use Rattle.mrt_graph.specs.HeadsAndBlocks.{heads_hold, link_placed, lone_link, lone_link_holds, many_links, many_links_hold, one_head, placed}
+use Rattle.mrt_graph.specs.HeadsAndBlocks.{lone_link_holds, many_links_hold, one_head, placed}
 use Rattle.mrt_graph.specs.Leads.{far_node, leads}
-use Rattle.mrt_graph.specs.Related.{is_common_block}
 use Rattle.mrt_graph.specs.Roles.{is_sole}
-use Rattle.mrt_graph.specs.RootAndOrders.{orders_differ}
-use Rattle.mrt_graph.specs.SameNetwork.{both, same_link}
+use Rattle.mrt_graph.specs.SameNetwork.{both}
 use Rattle.mrt_graph.specs.Topology.{Topology}
-use Rattle.mrt_graph.proofs.Blocks.{Words, Blocks, Common, Peers, ToHead, FromHead, Member}
+use Rattle.mrt_graph.proofs.Blocks.{Words, Blocks, Common, Peers, ToHead, FromHead}
 use Rattle.mrt_graph.proofs.Hops.{far_ends}
-use Rattle.mrt_graph.proofs.ListTests.{Passing, all_at, implied, one_passes, passes_too, some_passes, there}
+use Rattle.mrt_graph.proofs.ListTests.{all_at, implied, one_passes, passes_too, some_passes, there}
 use Rattle.mrt_graph.proofs.TestFacts.{common_block, unless}
 use Rattle.mrt_graph.proofs.WordsOf.{words_of}
 
@@ -113,9 +110,10 @@ module _ (g : Topology) (root : ℕ) (file : CertFile) (kept : IsCertificate fil
       → (order_of file.cert (head_of file.cert a) < order_of file.cert a) × (block_of file.cert a ≢ root)
   member_placed a within other =
       let tests = rw (ne_eqb a root other) at (placed_at a within) in
-      let both = and_parts (nat_lt (order_of file.cert (head_of file.cert a)) (order_of file.cert a)) (not (block_of file.cert a == root)) tests in
-      (ltb-true (order_of file.cert (head_of file.cert a)) (order_of file.cert a) both.0,
-        eqb-false (block_of file.cert a) root (not-true (block_of file.cert a == root) both.1))
+      let both = and_parts (nat_lt (order_of file.cert (head_of file.cert a)) (order_of file.cert a)) (not (block_of file.cert a == root)) tests in (
+        ltb-true (order_of file.cert (head_of file.cert a)) (order_of file.cert a) both.0,
+        eqb-false (block_of file.cert a) root (not-true (block_of file.cert a == root) both.1),
+      )
 
   one_head_at : (a b : ℕ) → a < length file.cert.nodes → b < length file.cert.nodes → block_of file.cert a ≡ block_of file.cert b → head_of file.cert a ≡ head_of file.cert b
   one_head_at a b a_within b_within same =

@@ -1,12 +1,11 @@
 -- An accepted certificate is sound.
-use Rattle.std.proofs.Common.{◌≡◌, ◌≢◌, ◌<◌, ℕ, length, sym, subst}
+use Rattle.std.proofs.Common.{ℕ, length, subst}
 use Rattle.mrt_graph.specs.declared.cert.CertFile.{CertFile}
 use Rattle.mrt_graph.specs.Accepted.{Accepted}
 use Rattle.mrt_graph.specs.Certificate.{IsCertificate, row_of}
 use Rattle.mrt_graph.specs.Sound.{Sound}
 use Rattle.mrt_graph.specs.Topology.{Topology}
 use Rattle.mrt_graph.proofs.AcceptedBlocks.{blocks}
-use Rattle.mrt_graph.proofs.Blocks.{Words, Blocks}
 use Rattle.mrt_graph.proofs.Bridge.{sound_for}
 use Rattle.mrt_graph.proofs.NearPairs.{near_claim}
 use Rattle.mrt_graph.proofs.RowsHold.{rows_hold}

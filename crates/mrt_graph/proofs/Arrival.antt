@@ -1,5 +1,5 @@
 -- Where a rank falls along the hops, they arrive, and meet no node twice.
-use Rattle.std.proofs.Common.{◌≡◌, ◌≢◌, ◌⊎◌, ◌∙◌, ◌<◌, ◌≤◌, ℕ, zero, suc, true, false, List, [], ◌∷◌, Option, Some, eqb, length, inl, inr, refl, sym, ap, subst, arith}
+use Rattle.std.proofs.Common.{◌≡◌, ◌≢◌, ◌⊎◌, ◌∙◌, ◌<◌, ◌≤◌, ℕ, zero, suc, true, false, List, [], ◌∷◌, Option, Some, eqb, length, inl, inr, sym, subst, arith}
 use Rattle.std.proofs.lemmas.Bool.{cases_eq, or_cases, eqb-true, ne_eqb}
 use Rattle.std.proofs.lemmas.Map.Steps.{length-le_from_distinct_below}
 use Rattle.std.specs.List.{AllByRecursion, IsDistinct, list_any}
@@ -43,13 +43,16 @@ onward next rank N t s hop other takes within falls rest = record {
       | inr lower ↦ inr (lower.0, omega (arith, lower.1, falls))
     ]
   ];
-  differ = (λ h. elim h [
-    | inl same ↦ omega (arith, subst (λ (k : ℕ). rank k < rank s) same falls)
-    | inr later ↦ elim (rest.behind s later) [
-      | inl there ↦ other there
-      | inr lower ↦ omega (arith, lower.1, falls)
-    ]
-  ], rest.differ);
+  differ = (
+    λ h. elim h [
+      | inl same ↦ omega (arith, subst (λ (k : ℕ). rank k < rank s) same falls)
+      | inr later ↦ elim (rest.behind s later) [
+        | inl there ↦ other there
+        | inr lower ↦ omega (arith, lower.1, falls)
+      ]
+    ],
+    rest.differ,
+  );
 }
 
 -- if from each node of N other than t the next hop leads to t, or into N to a smaller rank, then the hops from each node

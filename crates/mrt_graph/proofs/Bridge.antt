@@ -1,10 +1,10 @@
 -- From walks hop by hop to walks as lists of links.
-use Rattle.std.proofs.Common.{◌≡◌, ◌≢◌, ◌⊎◌, ◌∙◌, ◌==◌, ◌<◌, ◌≤◌, ℕ, zero, suc, List, [], ◌∷◌, Option, Some, None, All, AllPairs, Contains, get_or, length, map, inl, inr, refl, sym, ap, subst, arith}
+use Rattle.std.proofs.Common.{◌≡◌, ◌≢◌, ◌<◌, ◌≤◌, ℕ, zero, suc, List, [], ◌∷◌, Option, Some, None, Contains, get_or, length, inl, inr, refl, sym, ap, subst, arith}
 use Rattle.std.proofs.lemmas.Bool.{eq-eqb, ne_eqb}
 use Rattle.std.proofs.lemmas.List.{length-map}
 use Rattle.std.proofs.lemmas.List.Kept.{AllPairs-cons}
 use Rattle.std.proofs.lemmas.Option.{same_Some}
-use Rattle.std.specs.Option.{option_and_then, option_map, option_map_or}
+use Rattle.std.specs.Option.{option_and_then, option_map}
 use Rattle.mrt_graph.specs.declared.cert.Color.{Color}
 use Rattle.mrt_graph.specs.declared.cert.Color.TheVariants.{Blue, Red}
 use Rattle.mrt_graph.specs.declared.cert.Row.{Row}
@@ -23,7 +23,7 @@ use Rattle.mrt_graph.specs.Walk.{Walk}
 use Rattle.mrt_graph.proofs.Arrival.{at_most}
 use Rattle.mrt_graph.proofs.Claims.{Way}
 use Rattle.mrt_graph.proofs.Hops.{follows_trail}
-use Rattle.mrt_graph.proofs.Trails.{Has, Differ, Trail, Follows, IsOnLinks, On, Parts, links_on, nodes_behind, nodes_on}
+use Rattle.mrt_graph.proofs.Trails.{Has, Differ, Trail, Follows, IsOnLinks, On, Parts, links_on, nodes_on}
 
 -- what is in a list stands at a place of it
 pub contains : (xs : List ℕ) (x : ℕ) → Has xs x → Contains xs x

@@ -1,5 +1,5 @@
 -- What is claimed of two nodes: both colors arrive, and share only what parts the two.
-use Rattle.std.specs.Prelude.{◌≡◌, ◌≢◌, ◌<◌, ℕ, List, Option}
+use Rattle.std.specs.Prelude.{◌≢◌, ◌<◌, ℕ, List, Option}
 use Rattle.mrt_graph.specs.declared.link.Element.{Element}
 use Rattle.mrt_graph.specs.Hop.{Hop}
 use Rattle.mrt_graph.specs.Separates.{IsBetween}

@@ -1,5 +1,5 @@
 -- Two pairs of walks that share only what parts their ends, composed at a node that parts s and t.
-use Rattle.std.proofs.Common.{◌≡◌, ◌≢◌, ◌⊎◌, ◌∙◌, ◌++◌, ℕ, List, [], ◌∷◌, Option, Some, inl, inr, refl, sym, ap, subst}
+use Rattle.std.proofs.Common.{◌≡◌, ◌≢◌, ◌⊎◌, ◌++◌, ℕ, List, [], ◌∷◌, Option, inl, inr, refl, sym, subst}
 use Rattle.std.proofs.lemmas.Bool.{cases_eq}
 use Rattle.mrt_graph.specs.declared.link.Element.{Element}
 use Rattle.mrt_graph.specs.declared.link.Element.TheVariants as elements
@@ -7,10 +7,10 @@ use Rattle.mrt_graph.specs.declared.link.Link.{Link}
 use Rattle.mrt_graph.specs.Hop.{Hop}
 use Rattle.mrt_graph.specs.Separates.{IsBetween}
 use Rattle.mrt_graph.proofs.Blocks.{Words}
-use Rattle.mrt_graph.proofs.Claims.{Good, Way}
-use Rattle.mrt_graph.proofs.Hops.{back_round, cut, ends_are_on, follows_join, follows_trail, front_round, has_joined, last_is_met, link_from, link_joined, on_back, on_front, rounds_join}
+use Rattle.mrt_graph.proofs.Claims.{Good}
+use Rattle.mrt_graph.proofs.Hops.{back_round, cut, ends_are_on, follows_join, follows_trail, front_round, has_joined, link_from, link_joined, on_back, on_front, rounds_join}
 use Rattle.mrt_graph.proofs.RowFacts.{Rows}
-use Rattle.mrt_graph.proofs.Trails.{Has, Differ, Trail, Follows, IsOnLinks, On, Parts, nodes_behind, nodes_on}
+use Rattle.mrt_graph.proofs.Trails.{Has, Differ, Trail, Follows, IsOnLinks, On, Parts, nodes_on}
 
 -- x is a link, or a node other than v
 abbrev pub IsOther : ℕ → Element → Type 0

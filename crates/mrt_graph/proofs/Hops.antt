@@ -1,5 +1,5 @@
 -- Walks hop by hop: ends, joining, cutting, going round a node.
-use Rattle.std.proofs.Common.{◌≡◌, ◌≢◌, ◌⊎◌, ◌∙◌, ◌++◌, ◌==◌, ℕ, List, [], ◌∷◌, Option, Some, None, inl, inr, refl, sym, ap, subst}
+use Rattle.std.proofs.Common.{◌≡◌, ◌≢◌, ◌⊎◌, ◌∙◌, ◌++◌, ℕ, List, [], ◌∷◌, Option, Some, None, inl, inr, refl, sym, ap, subst}
 use Rattle.std.proofs.lemmas.Bool.{eq-eqb}
 use Rattle.std.proofs.lemmas.Bool.Decides.{eqb_tells}
 use Rattle.std.specs.Option.{option_and_then}
@@ -135,12 +135,12 @@ cut links s w t [] trail h = elim h [
 ]
 cut links s w t (hop ∷ hops) trail h = elim h [
   | inl same ↦ record {
-      front = [];
-      back = hop ∷ hops;
-      joined = refl;
-      front_trail = same;
-      back_trail = subst (λ (v : ℕ). Trail links v (hop ∷ hops) t) same trail;
-    }
+    front = [];
+    back = hop ∷ hops;
+    joined = refl;
+    front_trail = same;
+    back_trail = subst (λ (v : ℕ). Trail links v (hop ∷ hops) t) same trail;
+  }
   | inr later ↦
       let rest = cut links hop.to w t hops trail.1 later in
       record {
@@ -180,10 +180,10 @@ rest_round links w t s x [] trail without h = elim h [
 ]
 rest_round links w t s x (hop ∷ hops) trail without h = elim h [
   | inl same ↦ record {
-      hops = hop ∷ hops;
-      trail = subst (λ (v : ℕ). Trail links v (hop ∷ hops) t) same trail;
-      without = λ m. without (subst (λ (v : ℕ). Has (nodes_on v (hop ∷ hops)) w) (sym same) m);
-    }
+    hops = hop ∷ hops;
+    trail = subst (λ (v : ℕ). Trail links v (hop ∷ hops) t) same trail;
+    without = λ m. without (subst (λ (v : ℕ). Has (nodes_on v (hop ∷ hops)) w) (sym same) m);
+  }
   | inr later ↦ rest_round links w t hop.to x hops trail.1 (λ m. without (inr m)) later
 ]
 
@@ -217,12 +217,12 @@ pub link_from : (links : List Link) (next : ℕ → Option Hop) → IsOnLinks li
 link_from links next on t s e [] f h = absurd h
 link_from links next on t s e (hop ∷ hops) f h = elim h [
   | inl same ↦ record {
-      start = s;
-      to = hop.to;
-      leads_on = subst (λ (k : ℕ). leads links k s ≡ Some hop.to) same (on s hop f.1.0);
-      met = inl refl;
-      not_last = f.0;
-    }
+    start = s;
+    to = hop.to;
+    leads_on = subst (λ (k : ℕ). leads links k s ≡ Some hop.to) same (on s hop f.1.0);
+    met = inl refl;
+    not_last = f.0;
+  }
   | inr later ↦
       let rest = link_from links next on t hop.to e hops f.1.1 later in
       record { start = rest.start; to = rest.to; leads_on = rest.leads_on; met = inr rest.met; not_last = rest.not_last }

@@ -1,5 +1,5 @@
 -- The claim on two nodes that the one link of a block joins.
-use Rattle.std.proofs.Common.{◌≡◌, ◌≢◌, ◌⊎◌, ◌∙◌, ◌<◌, ◌≤◌, ℕ, List, [], ◌∷◌, Option, Some, inl, inr, refl, sym, ap, subst, arith}
+use Rattle.std.proofs.Common.{◌≡◌, ◌≢◌, ◌⊎◌, ◌∙◌, ◌<◌, ℕ, List, [], ◌∷◌, Option, Some, inl, inr, refl, sym, ap, subst}
 use Rattle.mrt_graph.specs.declared.cert.Role.TheVariants as roles
 use Rattle.mrt_graph.specs.declared.link.Element.{Element}
 use Rattle.mrt_graph.specs.declared.link.Element.TheVariants as elements
@@ -7,10 +7,10 @@ use Rattle.mrt_graph.specs.Hop.{Hop}
 use Rattle.mrt_graph.specs.Leads.{leads}
 use Rattle.mrt_graph.specs.Separates.{IsBetween}
 use Rattle.mrt_graph.proofs.Blocks.{Words, Blocks, Common, Peers, ToHead, FromHead, Member, At, Inner, Top, Below, Here}
-use Rattle.mrt_graph.proofs.Claims.{Good, Near, Way}
+use Rattle.mrt_graph.proofs.Claims.{Near, Way}
 use Rattle.mrt_graph.proofs.RowFacts.{NearRow, Rows, SoleRow}
 use Rattle.mrt_graph.proofs.Separate.{Crosses, enters, head_outside, leaves}
-use Rattle.mrt_graph.proofs.Trails.{Has, Follows, On, Parts, Trail, links_on, nodes_on}
+use Rattle.mrt_graph.proofs.Trails.{Has, On, Parts, links_on, nodes_on}
 
 module _ (w : Words) (b : Blocks w) (rows : Rows w) (s t : ℕ) (other : s ≢ t) (s_within : s < w.count) (t_within : t < w.count) where
   -- the member among the two, and what parts them

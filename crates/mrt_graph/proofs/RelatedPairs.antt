@@ -1,9 +1,8 @@
 -- The claim on two related nodes whose row is not Sole.
-use Rattle.std.proofs.Common.{◌≡◌, ◌≢◌, ◌⊎◌, ◌∙◌, ◌<◌, ℕ, List, [], ◌∷◌, Option, Some, refl, sym, ap, subst, inl, inr}
+use Rattle.std.proofs.Common.{◌≡◌, ◌≢◌, ◌⊎◌, ◌∙◌, ◌<◌, ℕ, List, [], ◌∷◌, Option, Some, refl, sym, subst, inl, inr}
 use Rattle.std.proofs.lemmas.Bool.{cases_eq}
 use Rattle.mrt_graph.specs.declared.cert.Color.{Color}
 use Rattle.mrt_graph.specs.declared.cert.Color.TheVariants.{Blue, Red}
-use Rattle.mrt_graph.specs.declared.cert.Tag.{Tag}
 use Rattle.mrt_graph.specs.declared.cert.Tag.TheVariants as tags
 use Rattle.mrt_graph.specs.declared.link.Element.{Element}
 use Rattle.mrt_graph.specs.declared.link.Element.TheVariants as elements
@@ -17,7 +16,7 @@ use Rattle.mrt_graph.proofs.Hops.{lead_back, ends_are_on, follows_trail}
 use Rattle.mrt_graph.proofs.InBlock.{at_within}
 use Rattle.mrt_graph.proofs.Moves.{Ends, Meets, rank, rank_falls, meets_on, meets_itself, meets_no_sole, both_meet, never_both}
 use Rattle.mrt_graph.proofs.RowFacts.{Says, TopRow, Rows}
-use Rattle.mrt_graph.proofs.Steps.{next_of, Goes, There, On as Onward, Step, step, row_at}
+use Rattle.mrt_graph.proofs.Steps.{next_of, Goes, There, On as Onward, step, row_at}
 use Rattle.mrt_graph.proofs.Trails.{Has, Trail, Follows, On, nodes_on, links_on, IsOnLinks}
 
 -- a link on hops to t is that of the next hop of a node that is met and is not t

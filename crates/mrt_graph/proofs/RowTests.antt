@@ -1,5 +1,5 @@
 -- What the test of a row tells, by its tag.
-use Rattle.std.proofs.Common.{◌≡◌, ◌≢◌, ◌⊎◌, ◌==◌, ◌&&◌, ◌||◌, ℕ, Bool, true, List, Some, refl, sym, subst, inl, inr}
+use Rattle.std.proofs.Common.{◌≡◌, ◌≢◌, ◌==◌, ◌&&◌, ◌||◌, ℕ, Bool, true, List, Some, refl, subst, inl, inr}
 use Rattle.std.specs.Prelude.{nat_lt}
 use Rattle.std.proofs.lemmas.Bool.{and_parts, or_cases, eqb-true, ltb-true}
 use Rattle.mrt_graph.specs.declared.cert.Row.{Row}
@@ -7,27 +7,11 @@ use Rattle.mrt_graph.specs.declared.cert.Tag.{Tag}
 use Rattle.mrt_graph.specs.declared.cert.Tag.TheVariants as tags
 use Rattle.mrt_graph.specs.declared.link.Link.{Link}
 use Rattle.mrt_graph.specs.Certificate.{Certificate}
-use Rattle.mrt_graph.specs.CertWords.{order_of, head_of, block_of, role_of, tagged}
+use Rattle.mrt_graph.specs.CertWords.{order_of, head_of, block_of, role_of}
 use Rattle.mrt_graph.specs.Hop.{Hop}
 use Rattle.mrt_graph.specs.Leads.{leads}
 use Rattle.mrt_graph.specs.Roles.{is_plain, is_sole, is_closing}
-use Rattle.mrt_graph.specs.RowRules.{
-  row_rule,
-  rises,
-  falls,
-  plain_to_head,
-  closing_to_head,
-  head_blue,
-  head_red,
-  top_blue,
-  top_red,
-  below_blue,
-  below_red,
-  above_blue,
-  above_red,
-  unordered_blue,
-  unordered_red,
-}
+use Rattle.mrt_graph.specs.RowRules.{row_rule, rises, falls, head_blue, top_blue, below_blue, above_blue, unordered_blue}
 use Rattle.mrt_graph.proofs.Blocks.{Words}
 use Rattle.mrt_graph.proofs.RowFacts.{Says, Higher, Lower, OverPlain, OverClosing}
 use Rattle.mrt_graph.proofs.TestFacts.{role_plain, role_sole, role_closing, LeadsTo, leads_to, is_tagged, is_rising, is_falling}

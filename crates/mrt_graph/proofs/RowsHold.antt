@@ -1,5 +1,5 @@
 -- What the rules on rows make of an accepted certificate's rows.
-use Rattle.std.proofs.Common.{◌≡◌, ◌≢◌, ◌⊎◌, ◌∙◌, ◌<◌, ◌≤◌, ◌+◌, ◌-◌, ◌*◌, ◌==◌, ◌&&◌, ◌||◌, ℕ, Bool, true, false, List, Option, Some, None, not, length, slice_get, if◌then◌else◌, refl, sym, ap, subst, inl, inr, arith}
+use Rattle.std.proofs.Common.{◌≡◌, ◌≢◌, ◌⊎◌, ◌∙◌, ◌<◌, ◌-◌, ◌*◌, ◌==◌, ◌&&◌, ◌||◌, ℕ, true, false, List, Option, Some, None, not, length, if◌then◌else◌, refl, sym, ap, subst, inl, inr, arith}
 use Rattle.std.specs.Prelude.{nat_lt}
 use Rattle.std.proofs.lemmas.Bool.{and_parts, eqb-true, eq-eqb, ne_eqb, false≢true, false_from_ne_true, not-true, both_ways}
 use Rattle.std.proofs.lemmas.Bool.Decides.{eqb_tells, nat_tests}
@@ -20,7 +20,7 @@ use Rattle.mrt_graph.specs.Leads.{leads}
 use Rattle.mrt_graph.specs.Places.{EachPair}
 use Rattle.mrt_graph.specs.Related.{related, is_common_block}
 use Rattle.mrt_graph.specs.RowPlace.{place_of_row}
-use Rattle.mrt_graph.specs.RowRules.{row_rule, rows_tagged, rows_in_block, carrier}
+use Rattle.mrt_graph.specs.RowRules.{row_rule, rows_tagged, carrier}
 use Rattle.mrt_graph.specs.Rows.{link_of_color}
 use Rattle.mrt_graph.specs.Tags.{same_tag}
 use Rattle.mrt_graph.specs.Topology.{Topology}
@@ -28,7 +28,6 @@ use Rattle.mrt_graph.proofs.Blocks.{Words, Common, Peers, ToHead, FromHead, Rela
 use Rattle.mrt_graph.proofs.RowFacts.{Says, NearRow, SameHops, Rows}
 use Rattle.mrt_graph.proofs.RowTests.{hop_to, told}
 use Rattle.mrt_graph.proofs.TestFacts.{unless, tag_is, tag_itself, row_for_other, related_passes, common_block}
-use Rattle.mrt_graph.proofs.Trails.{IsOnLinks}
 use Rattle.mrt_graph.proofs.WordsOf.{words_of}
 
 -- a row stands among the rows
@@ -57,6 +56,7 @@ hop_leads links c color t s hop takes = go (row_of c s t) takes
     over : (e : ℕ) (o : Option ℕ) → leads links e s ≡ o → option_map (hop_to e) o ≡ Some hop → leads links hop.link s ≡ Some hop.to
     over e None is taken = absurd (cc)
     over e (Some v) is taken = subst (λ (h : Hop). leads links h.link s ≡ Some h.to) (same_Some (hop_to e v) hop taken) is
+
     go : (o : Option Row) → option_and_then (λ row. hop_over links s (link_of_color color row)) o ≡ Some hop → leads links hop.link s ≡ Some hop.to
     go None taken = absurd (cc)
     go (Some row) taken = over (link_of_color color row) (leads links (link_of_color color row) s) refl taken
@@ -116,7 +116,7 @@ module _ (g : Topology) (root : ℕ) (file : CertFile) (accepted : Accepted g ro
     row_keeps : row_rule row.tag g.links file.cert root s t row ≡ true
     row_keeps =
         let holds = subst (λ (o : Option Row). option_map_or (λ (r : Row). not (same_tag r.tag row.tag) || row_rule row.tag g.links file.cert root s t r) o true ≡ true)
-            row_is (rules_hold row.tag s t s_within t_within) in
+        row_is (rules_hold row.tag s t s_within t_within) in
         unless (not (same_tag row.tag row.tag)) _ holds (ap not (tag_itself row.tag))
 
     tag_known : (words_of g.links root file.cert).tag s t ≡ row.tag
@@ -127,7 +127,7 @@ module _ (g : Topology) (root : ℕ) (file : CertFile) (accepted : Accepted g ro
     in_block near =
         let holds = subst (λ (o : Option Row). option_map_or (λ (r : Row). same_tag r.tag tags.Carried
         || (is_common_block file.cert s t (link_block file.cert r.blue) && is_common_block file.cert s t (link_block file.cert r.red))) o true ≡ true)
-            row_is (accepted.in_block s t s_within t_within) in
+        row_is (accepted.in_block s t s_within t_within) in
         unless (same_tag row.tag tags.Carried) _ holds (false_from_ne_true (same_tag row.tag tags.Carried) (λ same. near (tag_is row.tag tags.Carried same)))
 
     blue_in_block : row.tag ≢ tags.Carried → Common (words_of g.links root file.cert) s t (link_block file.cert row.blue)
@@ -196,7 +196,7 @@ module _ (g : Topology) (root : ℕ) (file : CertFile) (accepted : Accepted g ro
     red_leads = λ t s hop takes. hop_leads g.links file.cert Red t s hop takes;
     near = λ s t s_within t_within differ are. near_row s t s_within t_within differ are;
     far = λ s t s_within t_within differ other far.
-    subst (λ (u : ℕ). SameHops (words_of g.links root file.cert) s t u) (carrier_other file.cert root s t other) (far_row s t s_within t_within differ far);
+        subst (λ (u : ℕ). SameHops (words_of g.links root file.cert) s t u) (carrier_other file.cert root s t other) (far_row s t s_within t_within differ far);
     far_root = λ s s_within other far.
-    subst (λ (u : ℕ). SameHops (words_of g.links root file.cert) s root u) (carrier_root file.cert root s) (far_row s root s_within root_within other far);
+        subst (λ (u : ℕ). SameHops (words_of g.links root file.cert) s root u) (carrier_root file.cert root s) (far_row s root s_within root_within other far);
   }

@@ -1,5 +1,5 @@
 -- Where the rows of related nodes lead: to the destination, or on by a move.
-use Rattle.std.proofs.Common.{◌≡◌, ◌≢◌, ◌⊎◌, ◌∙◌, ◌<◌, ℕ, Option, Some, refl, sym, ap, subst, inl, inr, arith}
+use Rattle.std.proofs.Common.{◌≡◌, ◌≢◌, ◌∙◌, ◌<◌, ℕ, Option, Some, refl, sym, ap, subst, inl, inr}
 use Rattle.mrt_graph.specs.declared.cert.Color.{Color}
 use Rattle.mrt_graph.specs.declared.cert.Color.TheVariants.{Blue, Red}
 use Rattle.mrt_graph.specs.declared.cert.Role.{Role}
@@ -45,8 +45,10 @@ module _ (w : Words) (b : Blocks w) (r : Rows w) (m t : ℕ) (member : Member w 
     where
       s_within : s < w.count
       s_within = at_within w b m s member source
+
       t_within : t < w.count
       t_within = at_within w b m t member target
+
       go : (T : Tag) → T ≢ tags.Sole → (blue red : Hop) → Says w T s t blue red → T ≡ tags.Head
       go tags.Sole other blue red says = absurd (other refl)
       go tags.Head other blue red says = refl
@@ -64,6 +66,7 @@ module _ (w : Words) (b : Blocks w) (r : Rows w) (m t : ℕ) (member : Member w 
     where
       outside : w.block s ≡ w.block t → ⊥
       outside one = head_outside w b t s (at_within w b m t member target) (at_within w b m s member source) (λ same. differ (sym same)) (sym one) down
+
       go : (T : Tag) → T ≢ tags.Sole → (blue red : Hop) → Says w T s t blue red → T ≡ tags.Top
       go tags.Sole other blue red says = absurd (other refl)
       go tags.Head other blue red says =
@@ -179,7 +182,7 @@ module _ (w : Words) (b : Blocks w) (r : Rows w) (m t : ℕ) (member : Member w 
       let on = r.blue_leads t s row.blue row.blue_is in
       let part = at_common w b m s t (w.part row.blue.link) member source target differ row.blue_block in
       let at = at_stays w b m s row.blue.to member (at_within w b m s member source) (b.to_within row.blue.link s row.blue.to on)
-          (subst (λ k. Common w s row.blue.to k) part (b.tied row.blue.link s row.blue.to on)) in
+      (subst (λ k. Common w s row.blue.to k) part (b.tied row.blue.link s row.blue.to on)) in
       record {
         hop = row.blue;
         takes = row.blue_is;
@@ -191,7 +194,7 @@ module _ (w : Words) (b : Blocks w) (r : Rows w) (m t : ℕ) (member : Member w 
       let on = r.red_leads t s row.red row.red_is in
       let part = at_common w b m s t (w.part row.red.link) member source target differ row.red_block in
       let at = at_stays w b m s row.red.to member (at_within w b m s member source) (b.to_within row.red.link s row.red.to on)
-          (subst (λ k. Common w s row.red.to k) part (b.tied row.red.link s row.red.to on)) in
+      (subst (λ k. Common w s row.red.to k) part (b.tied row.red.link s row.red.to on)) in
       record {
         hop = row.red;
         takes = row.red_is;

@@ -1,5 +1,5 @@
 -- What the tests of a certificate's words tell.
-use Rattle.std.proofs.Common.{◌≡◌, ◌≢◌, ◌⊎◌, ◌∙◌, ◌==◌, ◌&&◌, ◌||◌, ℕ, Bool, true, false, List, Option, Some, None, not, if◌then◌else◌, refl, sym, ap, subst, inl, inr}
+use Rattle.std.proofs.Common.{◌≡◌, ◌≢◌, ◌∙◌, ◌==◌, ◌&&◌, ◌||◌, ℕ, Bool, true, false, List, Option, Some, None, refl, sym, inl, inr}
 use Rattle.std.proofs.lemmas.Bool.{and_parts, or_cases, eqb-true, eq-eqb, ltb-true, false≢true, or_left, or_right}
 use Rattle.std.proofs.lemmas.Bool.Decides.{eqb_tells}
 use Rattle.std.specs.Option.{option_map_or}
@@ -11,11 +11,11 @@ use Rattle.mrt_graph.specs.declared.cert.Tag.{Tag}
 use Rattle.mrt_graph.specs.declared.cert.Tag.TheVariants as tags
 use Rattle.mrt_graph.specs.declared.link.Link.{Link}
 use Rattle.mrt_graph.specs.Certificate.{Certificate, row_of}
-use Rattle.mrt_graph.specs.CertWords.{order_of, head_of, block_of, role_of, row_for, tagged}
+use Rattle.mrt_graph.specs.CertWords.{order_of, head_of, block_of, row_for, tagged}
 use Rattle.mrt_graph.specs.Leads.{leads}
 use Rattle.mrt_graph.specs.Related.{related, is_common_block}
 use Rattle.mrt_graph.specs.Roles.{is_plain, is_sole, is_closing}
-use Rattle.mrt_graph.specs.RowRules.{leads_where, rises, falls, plain_to_head, closing_to_head}
+use Rattle.mrt_graph.specs.RowRules.{leads_where, rises, falls}
 use Rattle.mrt_graph.specs.Tags.{same_tag}
 use Rattle.mrt_graph.proofs.Blocks.{Common, Peers, ToHead, FromHead, Related, InOne, Under, Over}
 use Rattle.mrt_graph.proofs.RowFacts.{Tagged, Rises, Falls}

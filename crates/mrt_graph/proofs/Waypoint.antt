@@ -1,12 +1,11 @@
 -- The waypoint of two nodes that are not related: where the way from the one to the other leaves its block.
-use Rattle.std.proofs.Common.{◌≡◌, ◌≢◌, ◌⊎◌, ◌∙◌, ◌<◌, ◌≤◌, ℕ, zero, suc, List, Some, inl, inr, refl, sym, ap, subst, arith}
+use Rattle.std.proofs.Common.{◌≡◌, ◌≢◌, ◌⊎◌, ◌∙◌, ◌<◌, ◌≤◌, ℕ, zero, suc, inl, inr, refl, sym, ap, subst, arith}
 use Rattle.std.proofs.lemmas.Bool.{cases_eq}
 use Rattle.mrt_graph.specs.declared.link.Element.TheVariants as elements
-use Rattle.mrt_graph.specs.Hop.{Hop}
 use Rattle.mrt_graph.proofs.Blocks.{Words, Blocks, Related, InOne, Under, Over, Member, At, Inner, Top, Below, Here, Up}
 use Rattle.mrt_graph.proofs.RowFacts.{Rows, SameHops}
-use Rattle.mrt_graph.proofs.Separate.{below_above, enters, head_order, head_outside, leaves, member_too}
-use Rattle.mrt_graph.proofs.Trails.{Has, Parts, Trail, nodes_on}
+use Rattle.mrt_graph.proofs.Separate.{below_above, enters, head_order, head_outside, leaves}
+use Rattle.mrt_graph.proofs.Trails.{Has, Parts, nodes_on}
 
 -- the first node of t's chain that is related to s; where the chain ends at the root with none, the head of s
 pub data Toward (w : Words) (s : ℕ) : ℕ → ℕ → Type 0 where
@@ -62,8 +61,11 @@ module _ (w : Words) (b : Blocks w) where
   -- s and its waypoint are related, and differ
   pub toward_near : (s t v : ℕ) → s < w.count → s ≢ t → Toward w s t v → Related w s v × (s ≢ v)
   toward_near s t v within other (Straight _ near) = (near, other)
-  toward_near s t v within other (Home far) = (Under refl, λ same.
-      omega (arith, b.head_lower s (far_member s within far), ap w.order same))
+  toward_near s t v within other (Home far) = (
+    Under refl,
+    λ same.
+        omega (arith, b.head_lower s (far_member s within far), ap w.order same),
+  )
   toward_near s t v within other (Climb _ _ far not_root rest) = toward_near s (w.head t) v within (λ same. far (Over (sym same))) rest
 
   -- the waypoint of related nodes is the second of them
@@ -211,8 +213,12 @@ module _ (w : Words) (b : Blocks w) where
   home_same m s x member s_member other (Top s_head) x_at (Top v_head) =
       absurd (omega (arith, b.head_lower s s_member, ap w.order (v_head ∙ sym s_head)))
   home_same m s x member s_member other (Top s_head) x_at (Inner v_within v_same) =
-      absurd (omega (arith, b.head_lower s s_member, head_order w b (w.head s) v_within,
-      ap w.order (b.one_head (w.head s) m v_within member.within v_same ∙ sym s_head)))
+      absurd (omega (
+        arith,
+        b.head_lower s s_member,
+        head_order w b (w.head s) v_within,
+        ap w.order (b.one_head (w.head s) m v_within member.within v_same ∙ sym s_head),
+      ))
 
   root_far : (m s x : ℕ) → Member w m → (Related w s w.root → ⊥) → w.block x ≡ w.block m → w.head x ≡ w.head s → Related w x w.root → ⊥
   root_far m s x member far same heads (InOne peers) = b.not_roots m member (sym same ∙ peers ∙ b.root_block)

@@ -1,12 +1,11 @@
 -- If the claim holds for each two related nodes, each two different nodes are good.
-use Rattle.std.proofs.Common.{◌≡◌, ◌≢◌, ◌⊎◌, ◌∙◌, ◌<◌, ◌≤◌, ◌+◌, ℕ, zero, suc, List, inl, inr, refl, sym, ap, subst, arith}
+use Rattle.std.proofs.Common.{◌≡◌, ◌≢◌, ◌∙◌, ◌<◌, ◌+◌, ℕ, zero, suc, inl, inr, refl, sym, ap, subst, arith}
 use Rattle.std.proofs.lemmas.Bool.{cases_eq}
 use Rattle.mrt_graph.proofs.Blocks.{Words, Blocks, Related, InOne, Over, Member, At}
 use Rattle.mrt_graph.proofs.Claims.{Good, Near, NearClaim}
-use Rattle.mrt_graph.proofs.Compose.{Meeting, composed}
+use Rattle.mrt_graph.proofs.Compose.{composed}
 use Rattle.mrt_graph.proofs.Hops.{last_is_met}
 use Rattle.mrt_graph.proofs.RowFacts.{Rows, SameHops}
-use Rattle.mrt_graph.proofs.Trails.{Has, nodes_on}
 use Rattle.mrt_graph.proofs.Waypoint.{Toward, Straight, Home, Climb, Chain, Stay, Step, at_within, chain_order, related_or_not, same_waypoint, toward, toward_hops, toward_near, toward_related, toward_where, toward_within, waypoint_parts}
 
 module _ (w : Words) (b : Blocks w) (rows : Rows w) (claim : NearClaim w) where
