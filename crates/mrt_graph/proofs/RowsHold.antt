@@ -3,7 +3,7 @@ use Rattle.std.proofs.Common.{◌≡◌, ◌≢◌, ◌⊎◌, ◌∙◌, ◌<�
 use Rattle.std.specs.Prelude.{nat_lt}
 use Rattle.std.proofs.lemmas.Bool.{and_parts, eqb-true, eq-eqb, ne_eqb, false≢true, false_from_ne_true, not-true, both_ways}
 use Rattle.std.proofs.lemmas.Bool.Decides.{eqb_tells, nat_tests}
-use Rattle.std.proofs.lemmas.Option.{same_Some, slice_get_cases}
+use Rattle.std.proofs.lemmas.Option.{slice_get_cases}
 use Rattle.std.specs.Option.{option_map_or, option_map, option_and_then}
 use Rattle.mrt_graph.specs.declared.cert.CertFile.{CertFile}
 use Rattle.mrt_graph.specs.declared.cert.Color.{Color}
@@ -15,7 +15,7 @@ use Rattle.mrt_graph.specs.declared.link.Link.{Link}
 use Rattle.mrt_graph.specs.Accepted.{Accepted}
 use Rattle.mrt_graph.specs.Certificate.{Certificate, IsCertificate, row_of}
 use Rattle.mrt_graph.specs.CertWords.{head_of, link_block, row_for}
-use Rattle.mrt_graph.specs.Hop.{Hop, hop_over, color_hop}
+use Rattle.mrt_graph.specs.Hop.{hop_over, color_hop}
 use Rattle.mrt_graph.specs.Leads.{leads}
 use Rattle.mrt_graph.specs.Places.{EachPair}
 use Rattle.mrt_graph.specs.Related.{related, is_common_block}
@@ -25,6 +25,7 @@ use Rattle.mrt_graph.specs.Rows.{link_of_color}
 use Rattle.mrt_graph.specs.Tags.{same_tag}
 use Rattle.mrt_graph.specs.Topology.{Topology}
 use Rattle.mrt_graph.proofs.Blocks.{Words, Common, Peers, ToHead, FromHead, Related, InOne, Under, Over}
+use Rattle.mrt_graph.proofs.Bridge.{color_leads}
 use Rattle.mrt_graph.proofs.RowFacts.{Says, NearRow, SameHops, Rows}
 use Rattle.mrt_graph.proofs.RowTests.{hop_to, told}
 use Rattle.mrt_graph.proofs.TestFacts.{unless, tag_is, tag_itself, row_for_other, related_passes, common_block}
@@ -49,18 +50,7 @@ row_there c s t kept s_within t_within differ =
       | inr past ↦ absurd (omega (arith, within, kept.a_row_each, past.0))
     ]
 
--- where a color's hop goes
-hop_leads : (links : List Link) (c : Certificate) (color : Color) (t s : ℕ) (hop : Hop) → color_hop links (row_of c) color t s ≡ Some hop → leads links hop.link s ≡ Some hop.to
-hop_leads links c color t s hop takes = go (row_of c s t) takes
-  where
-    over : (e : ℕ) (o : Option ℕ) → leads links e s ≡ o → option_map (hop_to e) o ≡ Some hop → leads links hop.link s ≡ Some hop.to
-    over e None is taken = absurd (cc)
-    over e (Some v) is taken = subst (λ (h : Hop). leads links h.link s ≡ Some h.to) (same_Some (hop_to e v) hop taken) is
-
-    go : (o : Option Row) → option_and_then (λ row. hop_over links s (link_of_color color row)) o ≡ Some hop → leads links hop.link s ≡ Some hop.to
-    go None taken = absurd (cc)
-    go (Some row) taken = over (link_of_color color row) (leads links (link_of_color color row) s) refl taken
-
+-- the hop of a color, by the row
 hop_is : (links : List Link) (c : Certificate) (color : Color) (t s : ℕ) (row : Row) (v : ℕ) → row_of c s t ≡ Some row → leads links (link_of_color color row) s ≡ Some v
     → color_hop links (row_of c) color t s ≡ Some (hop_to (link_of_color color row) v)
 hop_is links c color t s row v there leads_on =
@@ -192,8 +182,8 @@ module _ (g : Topology) (root : ℕ) (file : CertFile) (accepted : Accepted g ro
   -- the rules on rows
   pub rows_hold : root < length file.cert.nodes → Rows (words_of g.links root file.cert)
   rows_hold root_within = record {
-    blue_leads = λ t s hop takes. hop_leads g.links file.cert Blue t s hop takes;
-    red_leads = λ t s hop takes. hop_leads g.links file.cert Red t s hop takes;
+    blue_leads = λ t. color_leads g.links (row_of file.cert) Blue t;
+    red_leads = λ t. color_leads g.links (row_of file.cert) Red t;
     near = λ s t s_within t_within differ are. near_row s t s_within t_within differ are;
     far = λ s t s_within t_within differ other far.
         subst (λ (u : ℕ). SameHops (words_of g.links root file.cert) s t u) (carrier_other file.cert root s t other) (far_row s t s_within t_within differ far);
