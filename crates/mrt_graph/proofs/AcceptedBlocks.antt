@@ -23,7 +23,7 @@ use Rattle.mrt_graph.proofs.ListTests.{all_at, implied, one_passes, passes_too, 
 use Rattle.mrt_graph.proofs.TestFacts.{common_block, unless}
 use Rattle.mrt_graph.proofs.WordsOf.{words_of}
 
-pub common_back : (w : Words) (u v k : ℕ) → Common w u v k → Common w v u k
+common_back : (w : Words) (u v k : ℕ) → Common w u v k → Common w v u k
 common_back w u v k (Peers same is) = Peers (sym same) (is ∙ same)
 common_back w u v k (ToHead head is) = FromHead head is
 common_back w u v k (FromHead head is) = ToHead head is

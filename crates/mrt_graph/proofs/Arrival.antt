@@ -4,7 +4,6 @@ use Rattle.std.proofs.lemmas.Bool.{cases_eq, or_cases, eqb-true, ne_eqb}
 use Rattle.std.proofs.lemmas.Map.Steps.{length-le_from_distinct_below}
 use Rattle.std.specs.List.{AllByRecursion, IsDistinct, list_any}
 use Rattle.mrt_graph.specs.Hop.{Hop}
-use Rattle.mrt_graph.proofs.Claims.{Way}
 use Rattle.mrt_graph.proofs.Trails.{Has, Differ, Follows, nodes_behind, nodes_on}
 
 -- the next hop from s leads to t, or into N to a smaller rank
@@ -57,7 +56,7 @@ onward next rank N t s hop other takes within falls rest = record {
 
 -- if from each node of N other than t the next hop leads to t, or into N to a smaller rank, then the hops from each node
 -- of N arrive at t; the bound is for the induction
-pub arrives : (next : ℕ → Option Hop) (rank : ℕ → ℕ) (N : ℕ → Type 0) (t : ℕ) → ((s : ℕ) → N s → s ≢ t → Descends next rank N t s)
+arrives : (next : ℕ → Option Hop) (rank : ℕ → ℕ) (N : ℕ → Type 0) (t : ℕ) → ((s : ℕ) → N s → s ≢ t → Descends next rank N t s)
     → (bound s : ℕ) → N s → rank s < bound → Arrives next rank N t s
 arrives next rank N t descends zero s within below = absurd (omega (arith, below))
 arrives next rank N t descends (suc bound) s within below = elim (cases_eq s t) [
@@ -74,9 +73,6 @@ arrives next rank N t descends (suc bound) s within below = elim (cases_eq s t) 
 pub arrives_from : (next : ℕ → Option Hop) (rank : ℕ → ℕ) (N : ℕ → Type 0) (t : ℕ) → ((s : ℕ) → N s → s ≢ t → Descends next rank N t s)
     → (s : ℕ) → N s → Arrives next rank N t s
 arrives_from next rank N t descends s within = arrives next rank N t descends (suc (rank s)) s within (omega arith)
-
-pub way_from : (next : ℕ → Option Hop) (rank : ℕ → ℕ) (N : ℕ → Type 0) (t s : ℕ) → Arrives next rank N t s → Way next t s
-way_from next rank N t s a = record { hops = a.hops; follows = a.follows; differ = a.differ }
 
 not_listed : (x : ℕ) (xs : List ℕ) → (Has xs x → ⊥) → AllByRecursion (λ y. eqb x y ≡ false) xs
 not_listed x [] none = tt

@@ -26,7 +26,7 @@ use Rattle.mrt_graph.proofs.Hops.{follows_trail}
 use Rattle.mrt_graph.proofs.Trails.{Has, Differ, Trail, Follows, IsOnLinks, On, Parts, links_on, nodes_on}
 
 -- what is in a list stands at a place of it
-pub contains : (xs : List ℕ) (x : ℕ) → Has xs x → Contains xs x
+contains : (xs : List ℕ) (x : ℕ) → Has xs x → Contains xs x
 contains [] x h = absurd h
 contains (y ∷ ys) x h = elim h [
   | inl same ↦ (0, (omega arith), same)
@@ -38,7 +38,7 @@ at_place [] x d k within is = absurd (omega (arith, within))
 at_place (y ∷ ys) x d zero within is = inl is
 at_place (y ∷ ys) x d (suc k) within is = inr (at_place ys x d k (omega (arith, within)) is)
 
-pub has : (xs : List ℕ) (x : ℕ) → Contains xs x → Has xs x
+has : (xs : List ℕ) (x : ℕ) → Contains xs x → Has xs x
 has xs x c = at_place xs x x c.0 c.1 c.2
 
 all_differ : (xs : List ℕ) → Differ xs → AreDifferent xs

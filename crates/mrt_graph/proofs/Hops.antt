@@ -45,7 +45,7 @@ lead_back links e s v there = go (slice_get links e) there
     go (Some link) h = far_back link s v h
 
 -- the node that a link leads from is one of its two
-pub same_ends : (links : List Link) (e a b u v : ℕ) → leads links e a ≡ Some b → leads links e u ≡ Some v → (u ≡ a) ⊎ (u ≡ b)
+same_ends : (links : List Link) (e a b u v : ℕ) → leads links e a ≡ Some b → leads links e u ≡ Some v → (u ≡ a) ⊎ (u ≡ b)
 same_ends links e a b u v = go (slice_get links e)
   where
     go : (o : Option Link) → option_and_then (far_node a) o ≡ Some b → option_and_then (far_node u) o ≡ Some v → (u ≡ a) ⊎ (u ≡ b)
@@ -58,10 +58,6 @@ follows_trail links next on t s [] f = f
 follows_trail links next on t s (hop ∷ hops) f = (on s hop f.1.0, follows_trail links next on t hop.to hops f.1.1)
 
 -- the last node is met
-pub last_is_on : (links : List Link) (s t : ℕ) (hops : List Hop) → Trail links s hops t → Has (nodes_on s hops) t
-last_is_on links s t [] trail = inl trail
-last_is_on links s t (hop ∷ hops) trail = inr (last_is_on links hop.to t hops trail.1)
-
 pub last_is_met : (next : ℕ → Option Hop) (t s : ℕ) (hops : List Hop) → Follows next t s hops → Has (nodes_on s hops) t
 last_is_met next t s [] f = inl f
 last_is_met next t s (hop ∷ hops) f = inr (last_is_met next t hop.to hops f.1.1)
@@ -107,7 +103,7 @@ on_back links s w (elements.Link e) p q trail h = link_back e p q h
 on_back links s w (elements.Node x) p q trail h = node_back links s w x p q trail h
 
 -- a walk, and a walk from where it ends
-pub trails_join : (links : List Link) (s w t : ℕ) (p q : List Hop) → Trail links s p w → Trail links w q t → Trail links s (p ++ q) t
+trails_join : (links : List Link) (s w t : ℕ) (p q : List Hop) → Trail links s p w → Trail links w q t → Trail links s (p ++ q) t
 trails_join links s w t [] q front back = subst (λ (v : ℕ). Trail links v q t) (sym front) back
 trails_join links s w t (hop ∷ hops) q front back = (front.0, trails_join links hop.to w t hops q front.1 back)
 

@@ -9,7 +9,7 @@ use Rattle.mrt_graph.specs.Separates.{IsBetween}
 use Rattle.mrt_graph.proofs.Blocks.{Words, Blocks, Common, Peers, ToHead, FromHead, Member, At, Inner, Top, Below, Here}
 use Rattle.mrt_graph.proofs.Claims.{Near, Way}
 use Rattle.mrt_graph.proofs.RowFacts.{NearRow, Rows, SoleRow}
-use Rattle.mrt_graph.proofs.Separate.{Crosses, enters, head_outside, leaves}
+use Rattle.mrt_graph.proofs.Separate.{Crosses, enters, head_not_below, leaves}
 use Rattle.mrt_graph.proofs.Trails.{Has, On, Parts, links_on, nodes_on}
 
 module _ (w : Words) (b : Blocks w) (rows : Rows w) (s t : ℕ) (other : s ≢ t) (s_within : s < w.count) (t_within : t < w.count) where
@@ -35,7 +35,7 @@ module _ (w : Words) (b : Blocks w) (rows : Rows w) (s t : ℕ) (other : s ≢ t
         t_at = Top (sym head);
         parts = λ hops trail. elim (leaves w b s s t hops member trail (Here s refl)) [
           | inl c ↦ this_link e s hops sole is c
-          | inr below ↦ absurd (head_outside w b s member (subst (Below w s) (sym head) below))
+          | inr below ↦ absurd (head_not_below w b s member (subst (Below w s) (sym head) below))
         ];
       }
   side e sole (FromHead head is) =
@@ -47,7 +47,7 @@ module _ (w : Words) (b : Blocks w) (rows : Rows w) (s t : ℕ) (other : s ≢ t
         t_at = Inner t_within refl;
         parts = λ hops trail. elim (enters w b t s t hops member trail (Here t refl)) [
           | inl c ↦ this_link e t hops sole is c
-          | inr below ↦ absurd (head_outside w b t member (subst (Below w t) (sym head) below))
+          | inr below ↦ absurd (head_not_below w b t member (subst (Below w t) (sym head) below))
         ];
       }
 

@@ -70,5 +70,5 @@ module _ (w : Words) (b : Blocks w) where
   below_above m y member within (Up _ up) = omega (arith, below_above m (w.head y) member (b.head_within y within) up, head_order y within)
 
   -- the head is not below its block
-  pub head_outside : (m : ℕ) → Member w m → Below w m (w.head m) → ⊥
-  head_outside m member below = omega (arith, below_above m (w.head m) member (b.head_within m member.within) below)
+  pub head_not_below : (m : ℕ) → Member w m → Below w m (w.head m) → ⊥
+  head_not_below m member below = omega (arith, below_above m (w.head m) member (b.head_within m member.within) below)

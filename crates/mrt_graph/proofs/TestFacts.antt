@@ -81,16 +81,7 @@ leads_to links e s test holds = go (leads links e s) refl holds
     go (Some v) is passes = record { to = v; leads_on = is; passes = passes }
 
 module _ (links : List Link) (root : ℕ) (c : Certificate) where
-  -- related nodes, and their common block
-  pub are_related : (s t : ℕ) → related c s t ≡ true → Related (words_of links root c) s t
-  are_related s t holds = elim (or_cases (block_of c s == block_of c t) _ holds) [
-    | inl one ↦ InOne (eqb-true _ _ one)
-    | inr heads ↦ elim (or_cases (head_of c s == t) _ heads) [
-      | inl up ↦ Under (eqb-true _ _ up)
-      | inr down ↦ Over (eqb-true _ _ down)
-    ]
-  ]
-
+  -- the test of related nodes passes, and that of a common block tells
   pub related_passes : (s t : ℕ) → Related (words_of links root c) s t → related c s t ≡ true
   related_passes s t (InOne one) = or_left (block_of c s == block_of c t) _ (eq-eqb _ _ one)
   related_passes s t (Under up) = or_right (block_of c s == block_of c t) _ (or_left (head_of c s == t) _ (eq-eqb _ _ up))

@@ -3,8 +3,9 @@ use Rattle.std.proofs.Common.{◌≡◌, ◌≢◌, ◌⊎◌, ◌∙◌, ◌<�
 use Rattle.std.proofs.lemmas.Bool.{cases_eq}
 use Rattle.mrt_graph.specs.declared.link.Element.TheVariants as elements
 use Rattle.mrt_graph.proofs.Blocks.{Words, Blocks, Related, InOne, Under, Over, Member, At, Inner, Top, Below, Here, Up}
+use Rattle.mrt_graph.proofs.InBlock.{at_related, at_within}
 use Rattle.mrt_graph.proofs.RowFacts.{Rows, SameHops}
-use Rattle.mrt_graph.proofs.Separate.{below_above, enters, head_order, head_outside, leaves}
+use Rattle.mrt_graph.proofs.Separate.{below_above, enters, head_order, head_not_below, leaves}
 use Rattle.mrt_graph.proofs.Trails.{Has, Parts, nodes_on}
 
 -- the first node of t's chain that is related to s; where the chain ends at the root with none, the head of s
@@ -130,7 +131,7 @@ module _ (w : Words) (b : Blocks w) where
   outside s c within member far (InOne peers) (Up _ up) =
       let one : w.head s ≡ w.head (w.head c) = b.one_head s (w.head c) within (b.head_within c member.within) peers in
       omega (arith, below_above w b c (w.head s) member (b.head_within s within) up, head_order w b (w.head c) (b.head_within c member.within), ap w.order one)
-  outside s c within member far (Under under) (Up _ up) = head_outside w b c member (subst (Below w c) under up)
+  outside s c within member far (Under under) (Up _ up) = head_not_below w b c member (subst (Below w c) under up)
   outside s c within member far (Over over) (Up _ up) =
       omega (arith, below_above w b c s member within (Up s up), head_order w b (w.head c) (b.head_within c member.within), ap w.order over)
 
@@ -148,17 +149,6 @@ module _ (w : Words) (b : Blocks w) where
         | inl crosses ↦ subst (Has (nodes_on s hops)) head crosses.head_met
         | inr within ↦ absurd (outside s c s_within member far (subst (Related w s) (sym head) (toward_near s t v s_within other to).0) within)
       ]
-
-  pub at_within : (m x : ℕ) → Member w m → At w m x → x < w.count
-  at_within m x member (Inner within same) = within
-  at_within m x member (Top head) = subst (λ (y : ℕ). y < w.count) (sym head) (b.head_within m member.within)
-
-  -- two nodes of a block and its head are related
-  related_at : (m x y : ℕ) → Member w m → x ≢ y → At w m x → At w m y → Related w x y
-  related_at m x y member other (Inner x_within x_same) (Inner y_within y_same) = InOne (x_same ∙ sym y_same)
-  related_at m x y member other (Inner x_within x_same) (Top y_head) = Under (b.one_head x m x_within member.within x_same ∙ sym y_head)
-  related_at m x y member other (Top x_head) (Inner y_within y_same) = Over (b.one_head y m y_within member.within y_same ∙ sym x_head)
-  related_at m x y member other (Top x_head) (Top y_head) = absurd (other (x_head ∙ sym y_head))
 
   -- a node of m's block has a greater order than the head
   inner_above : (m x : ℕ) → Member w m → x < w.count → w.block x ≡ w.block m → w.order (w.head m) < w.order x
@@ -184,7 +174,7 @@ module _ (w : Words) (b : Blocks w) where
     where
       go : s ≢ x → At w m x → At w m s → Related w x t → ⊥
       go other xs ss (Over over) =
-          let v_is : v ≡ w.head t = toward_related s (w.head t) v to (subst (Related w s) (sym over) (related_at m s x member other ss xs)) in
+          let v_is : v ≡ w.head t = toward_related s (w.head t) v to (subst (Related w s) (sym over) (at_related w b m s x member ss xs other)) in
           not_v (sym over ∙ sym v_is)
       go other (Inner x_within x_same) (Inner s_within s_same) (InOne peers) = far (InOne (s_same ∙ sym x_same ∙ peers))
       go other (Inner x_within x_same) (Top s_head) (InOne peers) =
@@ -194,12 +184,12 @@ module _ (w : Words) (b : Blocks w) where
       go other (Inner x_within x_same) (Top s_head) (Under under) =
           far (InOne (ap w.block (s_head ∙ sym (b.one_head x m x_within member.within x_same) ∙ under)))
       go other (Top x_head) ss (InOne peers) =
-          let x_within = at_within m x member x_at in
+          let x_within = at_within w b m x member x_at in
           let one : w.head x ≡ w.head t = b.one_head x t x_within within peers in
           head_far m s x (w.head t) v member (b.head_within t within) other not_v ss v_at x_head to
           (omega (arith, head_order w b x x_within, ap w.order one))
       go other (Top x_head) ss (Under under) =
-          let x_within = at_within m x member x_at in
+          let x_within = at_within w b m x member x_at in
           head_far m s x (w.head t) v member (b.head_within t within) other not_v ss v_at x_head to
           (omega (arith, head_order w b x x_within, head_order w b t within, ap w.order under))
 
@@ -229,7 +219,7 @@ module _ (w : Words) (b : Blocks w) where
   -- each node on the way to the waypoint has the same waypoint
   pub same_waypoint : (m s x t v : ℕ) → Member w m → s < w.count → t < w.count → x ≢ v → At w m s → At w m x → At w m v
       → Toward w s t v → Toward w x t v
-  same_waypoint m s x t v member s_within t_within not_v s_at x_at v_at (Straight _ near) = Straight t (related_at m x t member not_v x_at v_at)
+  same_waypoint m s x t v member s_within t_within not_v s_at x_at v_at (Straight _ near) = Straight t (at_related w b m x t member x_at v_at not_v)
   same_waypoint m s x t v member s_within t_within not_v s_at x_at v_at (Home far) =
       let home = home_same m s x member (far_member s s_within far) not_v s_at x_at v_at in
       subst (λ (y : ℕ). Toward w x w.root y) home.1.1 (Home (root_far m s x member far home.1.0 home.1.1))

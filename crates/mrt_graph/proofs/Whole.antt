@@ -5,8 +5,9 @@ use Rattle.mrt_graph.proofs.Blocks.{Words, Blocks, Related, InOne, Over, Member,
 use Rattle.mrt_graph.proofs.Claims.{Good, Near, NearClaim}
 use Rattle.mrt_graph.proofs.Compose.{composed}
 use Rattle.mrt_graph.proofs.Hops.{last_is_met}
+use Rattle.mrt_graph.proofs.InBlock.{at_within}
 use Rattle.mrt_graph.proofs.RowFacts.{Rows, SameHops}
-use Rattle.mrt_graph.proofs.Waypoint.{Toward, Straight, Home, Climb, Chain, Stay, Step, at_within, chain_order, related_or_not, same_waypoint, toward, toward_hops, toward_near, toward_related, toward_where, toward_within, waypoint_parts}
+use Rattle.mrt_graph.proofs.Waypoint.{Toward, Straight, Home, Climb, Chain, Stay, Step, chain_order, related_or_not, same_waypoint, toward, toward_hops, toward_near, toward_related, toward_where, toward_within, waypoint_parts}
 
 module _ (w : Words) (b : Blocks w) (rows : Rows w) (claim : NearClaim w) where
   -- on the way to the waypoint each node goes for t where it goes for the waypoint
@@ -79,7 +80,7 @@ module _ (w : Words) (b : Blocks w) (rows : Rows w) (claim : NearClaim w) where
           let more = further s t v t_within other chain to in
           then (on v t v_within t_within not_t more.0 (omega (arith, below, more.1)))
 
-  pub all_good : (bound s t : ℕ) → s < w.count → t < w.count → s ≢ t → w.order s < bound → Good w s t
+  all_good : (bound s t : ℕ) → s < w.count → t < w.count → s ≢ t → w.order s < bound → Good w s t
   all_good zero s t s_within t_within other below = absurd (omega (arith, below))
   all_good (suc bound) s t s_within t_within other below = go (all_good bound) (rest s t s_within t_within other)
     where
