@@ -3,6 +3,7 @@
 ghost use Rattle.std.specs.Prelude.{◌≡◌, ◌-◌, ◌^◌, IfOk, map, min};
 ghost use Rattle.mrt_graph.specs.EndsOfLinks.{pair_of};
 
+use crate::cert::{Cert, Color};
 use crate::graph_ends::{EndList, end_lists};
 use crate::graph_error::GraphError;
 use crate::link::{End, Link, LinkIn};
@@ -42,7 +43,25 @@ impl Model for Graph {
 }
 
 impl Graph {
-    ghost use Rattle.std.specs.Prelude.{◌≡◌, ◌<◌, ◌⊎◌, ◌↔◌, Some, Err, IfOk, IfErr, length, slice_get};
+    ghost use Rattle.std.specs.Prelude.{
+      ◌≡◌,
+      ◌≢◌,
+      ◌<◌,
+      ◌⊎◌,
+      ◌↔◌,
+      Some,
+      Err,
+      IfOk,
+      IfErr,
+      IfSome,
+      IsSome,
+      IsNone,
+      Contains,
+      length,
+      slice_get,
+    };
+    ghost use Rattle.mrt_graph.specs.Certificate.{row_of};
+    ghost use Rattle.mrt_graph.specs.Hop.{color_hop};
     ghost use Rattle.mrt_graph.specs.GraphInvariant.{AreEnds, IsLink, IsTopology};
     ghost use Rattle.mrt_graph.specs.NewGraph.{AreGraphParts, IsGraphOf, IsTooLarge, too_large};
 
@@ -107,6 +126,33 @@ impl Graph {
         ensures kept { AreEnds (length self.now.ids) self.now.links n result.now }
     {
         self.ends[n.get() as usize].as_slice()
+    }
+
+    /// The node of this identifier, if there is one.
+    pub fn find(&self, id: NodeId) -> Option<NodeNo>
+        ensures found { IfSome result (λ n. slice_get self.now.ids n ≡ Some id) }
+        ensures none { IsNone result ↔ (Contains self.now.ids id → ⊥) }
+    {
+        let place = self.ids.iter().position(|other| *other == id)?;
+        Some(NodeNo::new(place as u16))
+    }
+
+    /// Where a packet for `to` goes from `at` on a color: to the other node of the link that the row of `at` for `to` has.
+    pub fn next(&self, c: &Cert, at: NodeNo, to: NodeNo, color: Color) -> NodeNo
+        requires nodes { length c.now.nodes ≡ length self.now.ids }
+        requires links { length c.now.links ≡ length self.now.links }
+        requires at { at < length self.now.ids }
+        requires to { to < length self.now.ids }
+        requires different { at ≢ to }
+        requires touches { IsSome (color_hop self.now.links (row_of c.now) color to at) }
+        ensures { IfSome (color_hop self.now.links (row_of c.now) color to at) (λ hop. hop.to ≡ result) }
+    {
+        let row = c.row(at, to);
+        let link = self.link(match color {
+            Color::Blue => row.blue,
+            Color::Red => row.red,
+        });
+        if link.a == at { link.b } else { link.a }
     }
 }
 

@@ -124,6 +124,12 @@ fn triangle(rt: HostRuntime) -> Result<(), Fail> {
             number: 2
         }
     );
+    let router = |number| NodeId {
+        kind: Kind::Router,
+        number,
+    };
+    assert_eq!(rt; graph.find(router(3)), Some(NodeNo::new(2)));
+    assert_eq!(rt; graph.find(router(4)), None);
     assert_eq!(rt;
         graph.link(LinkNo::new(2)),
         Link {

@@ -19,7 +19,7 @@ mod numbers;
 mod seq;
 
 pub use cert::{Cert, CertFile, CertLink, CertNode, Color, Role, Row, Tag};
-pub use cert_law::{accepted_implies_sound, accepted_tree_is_sound};
+pub use cert_law::{accepted_implies_sound, accepted_rows_lead_on, accepted_tree_is_sound};
 pub use graph::Graph;
 pub use graph_error::GraphError;
 pub use graph_law::one_graph_of_its_parts;
