@@ -88,7 +88,7 @@ numbers_spelled (suc count) bytes len are =
     ∙ ap (λ (t : List ℕ). to_be_bytes w32 (big_number 4 bytes) ++ t) later
     ∙ sym (append_assoc (to_be_bytes w32 (big_number 4 bytes)) (flat_map (to_be_bytes w32) (numbers_in count (drop 4 bytes))) (drop (4 * count) (drop 4 bytes)))
     ∙ ap (λ (t : List ℕ). flat_map (to_be_bytes w32) (numbers_in (suc count) bytes) ++ t)
-        (drop-drop (4 * count) 4 bytes ∙ ap (λ (n : ℕ). drop n bytes) (sym place))
+    (drop-drop (4 * count) 4 bytes ∙ ap (λ (n : ℕ). drop n bytes) (sym place))
 
 pub numbers_many : (count : ℕ) (bytes : List ℕ) → length (numbers_in count bytes) ≡ count
 numbers_many zero bytes = refl
