@@ -1,5 +1,5 @@
 -- The graph of a plain database.
-use Rattle.std.specs.Prelude.{ℕ, List, map}
+use Rattle.std.specs.Prelude.{◌≡◌, ◌<◌, ◌≤◌, ℕ, List, Some, length, map, slice_get}
 use Rattle.std.specs.List.Sorted.{IsPermutation, IsSorted, IsStrictlySortedBy}
 use Rattle.mrt_graph.specs.declared.link.LinkIn.{LinkIn}
 use Rattle.mrt_graph.specs.declared.node_id.Kind.TheVariants as kinds
@@ -32,3 +32,8 @@ pub record IsMadeOf (slots : List Slot) (links : List LinkIn) (graph : Topology)
   pub same : IsPermutation links ordered
   pub ascend : IsSorted pair_cmp (map pair_of ordered)
   pub made : IsGraphOf (map router_id (map (λ slot. slot.router) slots)) ordered graph
+
+-- of these nodes the one whose identifier's number none exceeds
+pub record IsHighest (ids : List NodeId) (node : ℕ) : Type 0 where
+  pub within : node < length ids
+  pub highest : (k : ℕ) (id root : NodeId) → slice_get ids k ≡ Some id → slice_get ids node ≡ Some root → id.number ≤ root.number

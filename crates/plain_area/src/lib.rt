@@ -5,5 +5,10 @@ mod between;
 mod connecting;
 mod order;
 mod plain;
+mod rooting;
 
 pub use plain::plain_graph;
+pub use rooting::root;
+
+#[cfg(test)]
+mod tests;
