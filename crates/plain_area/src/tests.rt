@@ -15,8 +15,8 @@ const APART: [u8; 48] = [
     0x02, 0x02, 0x02, 0x02, 0x80, 0x00, 0x00, 0x01, 0x00, 0x00, 0x00, 0x18, 0x00, 0x00, 0x00, 0x00,
 ];
 
-/// Three routers, each linked to both others, and a fourth without links. The routers stand in no order.
-const AREA: [u8; 168] = [
+/// Three routers, each linked to both others, in no order.
+const TRIANGLE: [u8; 144] = [
     0x00, 0x01, 0x02, 0x01, 0x03, 0x03, 0x03, 0x03, 0x03, 0x03, 0x03, 0x03, 0x80, 0x00, 0x00, 0x01,
     0xeb, 0x20, 0x00, 0x30, 0x00, 0x00, 0x00, 0x02, 0x02, 0x02, 0x02, 0x02, 0x00, 0x00, 0x00, 0x02,
     0x01, 0x00, 0x00, 0x32, 0x01, 0x01, 0x01, 0x01, 0x00, 0x00, 0x00, 0x01, 0x01, 0x00, 0x00, 0x31,
@@ -26,6 +26,10 @@ const AREA: [u8; 168] = [
     0x00, 0x01, 0x02, 0x01, 0x02, 0x02, 0x02, 0x02, 0x02, 0x02, 0x02, 0x02, 0x80, 0x00, 0x00, 0x01,
     0xa4, 0x6a, 0x00, 0x30, 0x00, 0x00, 0x00, 0x02, 0x01, 0x01, 0x01, 0x01, 0x00, 0x00, 0x00, 0x21,
     0x01, 0x00, 0x00, 0x21, 0x03, 0x03, 0x03, 0x03, 0x00, 0x00, 0x00, 0x23, 0x01, 0x00, 0x00, 0x23,
+];
+
+/// A fourth router, without links.
+const FOURTH: [u8; 24] = [
     0x00, 0x01, 0x02, 0x01, 0x04, 0x04, 0x04, 0x04, 0x04, 0x04, 0x04, 0x04, 0x80, 0x00, 0x00, 0x01,
     0x00, 0x00, 0x00, 0x18, 0x00, 0x00, 0x00, 0x00,
 ];
@@ -39,7 +43,7 @@ fn graph_of(alloc: Global, bytes: &[u8]) -> Option<Graph>
 
 #[test]
 fn nodes_and_ends_are_by_router(rt: HostRuntime) -> Result<(), Fail> {
-    let graph = graph_of(rt.alloc(), &AREA[..144]).ok_or("the triangle is plain")?;
+    let graph = graph_of(rt.alloc(), &TRIANGLE).ok_or("the triangle is plain")?;
     assert_eq!(rt; graph.node_count(), 3);
     assert_eq!(rt; graph.link_count(), 3);
     assert_eq!(rt; root(&graph).get(), 2);
@@ -72,16 +76,20 @@ fn one_router_is_an_area(rt: HostRuntime) -> Result<(), Fail> {
 }
 
 #[test]
-fn areas_are_whole(rt: HostRuntime) {
+fn areas_are_whole(rt: HostRuntime) -> Result<(), Fail> {
     assert!(rt; graph_of(rt.alloc(), &[]).is_none());
     assert!(rt; graph_of(rt.alloc(), &APART).is_none());
-    assert!(rt; graph_of(rt.alloc(), &AREA).is_none());
-    assert!(rt; graph_of(rt.alloc(), &AREA[..96]).is_none());
+    assert!(rt; graph_of(rt.alloc(), &TRIANGLE[..96]).is_none());
+    // as many links as a tree of four routers has, and one router by itself
+    let mut bytes = Vec::from_slice(rt.alloc(), &TRIANGLE)?;
+    bytes.extend_from_slice(&FOURTH)?;
+    assert!(rt; graph_of(rt.alloc(), &bytes).is_none());
+    Ok(())
 }
 
 /// The triangle's bytes with others in their places.
-fn changed(places: &[(usize, u8)]) -> [u8; 168] {
-    let mut bytes = AREA;
+fn changed(places: &[(usize, u8)]) -> [u8; 144] {
+    let mut bytes = TRIANGLE;
     for &(place, byte) in places {
         if place < bytes.len() {
             bytes[place] = byte;
@@ -111,7 +119,7 @@ fn only_plain_databases_have_a_graph(rt: HostRuntime) {
         ([(24, 9), (25, 9), (26, 9), (27, 9)], false),
     ];
     for (places, plain) in cases {
-        let answer = graph_of(rt.alloc(), &changed(&places)[..144]);
+        let answer = graph_of(rt.alloc(), &changed(&places));
         assert!(rt; answer.is_some() == plain);
     }
 }
