@@ -80,6 +80,19 @@ fn fields_are_where_they_belong(rt: HostRuntime) -> Result<(), Fail> {
 }
 
 #[test]
+fn lsas_are_compared_by_all_their_fields(rt: HostRuntime) -> Result<(), Fail> {
+    let first = read_lsas(rt.alloc(), &ENTRIES).ok().ok_or("once")?;
+    let again = read_lsas(rt.alloc(), &ENTRIES).ok().ok_or("twice")?;
+    let other = read_lsas(rt.alloc(), &STUB).ok().ok_or("another")?;
+    for ((first, again), other) in first.iter().zip(&again).zip(&other) {
+        assert!(rt; first == again);
+        assert!(rt; first != other);
+        assert!(rt; first.body != other.body);
+    }
+    Ok(())
+}
+
+#[test]
 fn entries_belong_to_their_link(rt: HostRuntime) -> Result<(), Fail> {
     let lsas = read_lsas(rt.alloc(), &ENTRIES)
         .ok()

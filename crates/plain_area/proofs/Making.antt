@@ -1,7 +1,7 @@
 -- A graph of routers and links that climb.
-use Rattle.std.proofs.Common.{◌≡◌, ◌<◌, ◌≤◌, ◌+◌, ◌∙◌, ℕ, zero, suc, Bool, true, false, List, [], ◌∷◌, length, get_or, map, Option, Some, None, refl, sym, ap, subst, arith}
-use Rattle.std.specs.Prelude.{Contains, slice_get}
-use Rattle.std.specs.List.{AllByRecursion, All}
+use Rattle.std.proofs.Common.{◌≡◌, ◌<◌, ◌≤◌, ◌+◌, ◌∙◌, ℕ, zero, suc, Bool, true, false, List, [], ◌∷◌, length, get_or, map, Some, refl, sym, ap, subst, arith}
+use Rattle.std.specs.Prelude.{Contains}
+use Rattle.std.specs.List.{AllByRecursion}
 use Rattle.std.specs.List.Sorted.{IsPermutation, IsSorted}
 use Rattle.std.specs.Option.{option_and_then}
 use Rattle.std.specs.Ordering.{is_lt}
@@ -11,7 +11,6 @@ use Rattle.std.proofs.lemmas.List.Sorted.{IsPermutation-map, All-permutation, Co
 use Rattle.std.proofs.lemmas.Option.{slice_get-get_or}
 use Rattle.mrt_graph.specs.declared.link.Link.{Link}
 use Rattle.mrt_graph.specs.declared.link.LinkIn.{LinkIn}
-use Rattle.mrt_graph.specs.declared.node_id.Kind.TheVariants.{Network, Router}
 use Rattle.mrt_graph.specs.declared.node_id.NodeId.{NodeId}
 use Rattle.mrt_graph.specs.Connected.{IsConnected}
 use Rattle.mrt_graph.specs.EndRows.{IsWithin}

@@ -1,20 +1,19 @@
 -- LSAs and their slots.
-use Rattle.std.proofs.Common.{◌≡◌, ◌≢◌, ◌<◌, ◌≤◌, ◌+◌, ◌-◌, ◌==◌, ◌∙◌, ◌++◌, ℕ, zero, suc, Bool, true, false, List, [], ◌∷◌, length, get_or, map, inl, inr, refl, sym, ap, subst, arith}
+use Rattle.std.proofs.Common.{◌≡◌, ◌≢◌, ◌<◌, ◌≤◌, ◌+◌, ◌==◌, ◌∙◌, ℕ, zero, suc, Bool, true, false, List, [], ◌∷◌, length, get_or, inl, inr, refl, sym, ap, subst, arith}
 use Rattle.std.specs.Prelude.{nat_lt, if◌then◌else◌, Contains}
 use Rattle.std.specs.List.{filter, flat_map, sum_by, All, AllByRecursion}
 use Rattle.std.specs.List.Sorted.{IsPermutation, IsNonDecreasingBy}
-use Rattle.std.proofs.lemmas.Bool.{eq-eqb, ne_eqb, eqb-true}
+use Rattle.std.proofs.lemmas.Bool.{eq-eqb}
 use Rattle.std.proofs.lemmas.Bool.Decides.{eqb_tells}
 use Rattle.std.proofs.lemmas.List.{append-nil, get_or-map, length-map, get_or_default}
 use Rattle.std.proofs.lemmas.List.Elements.{All-from_recursion, recursion_from_All}
-use Rattle.std.proofs.lemmas.List.Sorted.{IsPermutation-map, IsPermutation-refl, IsPermutation-sym, All-permutation, Contains-permutation, length_permutation, sum_by-IsPermutation, sum_by_pushed}
-use Rattle.ospf_lsa.specs.declared.lsa.RouterLink.{RouterLink}
+use Rattle.std.proofs.lemmas.List.Sorted.{IsPermutation-map, IsPermutation-refl, All-permutation, Contains-permutation, length_permutation, sum_by-IsPermutation, sum_by_pushed}
 use Rattle.ospf_lsa.specs.declared.lsa.Lsa.{Lsa}
 use Rattle.plain_area.specs.declared.order.Slot.{Slot}
 use Rattle.plain_area.specs.Between.{links_of, routers_of, lsas_of, is_link_to, links_between, node_of}
-use Rattle.plain_area.specs.Order.{slots_of, routers_in, climbs, IsOrder, IsSlotOf}
+use Rattle.plain_area.specs.Order.{slots_of, routers_in, climbs, IsOrder}
 use Rattle.plain_area.specs.Plain.{IsOnlyOne}
-use Rattle.plain_area.proofs.Climbing.{AreClimbing, climbing, count_below, count_equal, none_is, IsTwice, one_twice}
+use Rattle.plain_area.proofs.Climbing.{climbing, count_below, count_equal, none_is, one_twice}
 
 -- how many pass, as a sum
 passing : (ℕ → Bool) → ℕ → ℕ

@@ -1,6 +1,6 @@
-use Rattle.std.proofs.Common.{◌≡◌, ◌++◌, take, drop, length}
+use Rattle.std.proofs.Common.{◌≡◌, take, drop, length}
 use Rattle.std.specs.List.{flat_map, list_all}
-use Rattle.plain_area.specs.Between.{plain_links, links_of, link_up}
+use Rattle.plain_area.specs.Between.{links_of, link_up}
 use Rattle.plain_area.specs.Connecting.{AreWithin}
 use Rattle.plain_area.specs.Plain.{are_kept}
 use Rattle.plain_area.proofs.between.links_between_routers.Given as goal

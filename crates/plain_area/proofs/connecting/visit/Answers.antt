@@ -1,7 +1,7 @@
 use Rattle.std.proofs.Common.{◌∙◌, ℕ, map, arith}
 use Rattle.mrt_graph.specs.EndsOfLinks.{pair_of}
 use Rattle.mrt_graph.specs.Leads.{leads}
-use Rattle.plain_area.proofs.Linking.{first_way, next_way, all_ways, leads_within}
+use Rattle.plain_area.proofs.Linking.{next_way, all_ways, leads_within}
 use Rattle.plain_area.proofs.connecting.visit.Goals as goal
 
 pub loop-e-preserved : goal.loop-e-preserved

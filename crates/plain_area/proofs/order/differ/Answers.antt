@@ -1,10 +1,8 @@
-use Rattle.std.proofs.Common.{◌≡◌, ◌+◌, ◌-◌, ◌∙◌, ◌<◌, ◌≤◌, ◌&&◌, true, false, get_or, drop, length, sym, ap, arith}
-use Rattle.std.specs.Prelude.{nat_lt}
-use Rattle.std.proofs.lemmas.Bool.{le-ltb, lt-ltb}
+use Rattle.std.proofs.Common.{◌∙◌, sym, arith}
 use Rattle.std.proofs.lemmas.List.{length-map}
 use Rattle.plain_area.specs.declared.order.Slot.{Slot}
-use Rattle.plain_area.specs.Order.{climbs, routers_in}
-use Rattle.plain_area.proofs.Climbing.{climbs_on, climbs_short, climbs_after, climbs_not}
+use Rattle.plain_area.specs.Order.{routers_in}
+use Rattle.plain_area.proofs.Climbing.{climbs_short, climbs_after, climbs_not}
 use Rattle.plain_area.proofs.order.differ.Goals as goal
 
 pub returns-then-router_at : goal.returns-then-router_at

@@ -8,7 +8,7 @@ use Rattle.mrt_graph.specs.EndsOfLinks.{pair_of}
 use Rattle.plain_area.specs.declared.order.Slot.{Slot}
 use Rattle.plain_area.specs.Between.{plain_links}
 use Rattle.plain_area.specs.Connecting.{AreWithin}
-use Rattle.plain_area.specs.Order.{climbs, routers_in, IsOrder}
+use Rattle.plain_area.specs.Order.{climbs, routers_in}
 use Rattle.plain_area.specs.Plain.{are_kept}
 use Rattle.plain_area.proofs.Making.{plain_made}
 use Rattle.plain_area.proofs.Slots.{one_each, not_one_each, as_many_slots}
