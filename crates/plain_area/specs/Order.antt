@@ -16,8 +16,8 @@ routers_in slots = map (λ slot. slot.router) slots
 -- each number is below the next
 abbrev pub climbs : List ℕ → Bool
 climbs [] = true
-climbs (x ∷ []) = true
-climbs (x ∷ y ∷ zs) = nat_lt x y && climbs (y ∷ zs)
+climbs (number ∷ []) = true
+climbs (number ∷ next ∷ numbers) = nat_lt number next && climbs (next ∷ numbers)
 
 -- the slots of these LSAs by strictly ascending router
 pub record IsOrder (lsas : List Lsa) (slots : List Slot) : Type 0 where
