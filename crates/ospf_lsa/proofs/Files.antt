@@ -1,17 +1,16 @@
 -- Whole files.
-use Rattle.std.proofs.Common.{◌≡◌, ◌≢◌, ◌<◌, ◌≤◌, ℕ, ◌+◌, List, [], ◌∷◌, ◌++◌, length, take, drop, Result, Ok, Err, refl, sym, ap, subst, ◌∙◌, append_assoc, arith}
-use Rattle.std.specs.List.{flat_map}
-use Rattle.std.proofs.lemmas.List.{append-nil, append_cancel_left, drop-drop, drop_at, length-append, length-drop, flat_map_more}
+use Rattle.std.proofs.Common.{◌≡◌, ◌<◌, ◌≤◌, ℕ, ◌+◌, List, [], ◌∷◌, ◌++◌, length, drop, Result, Ok, Err, refl, sym, ap, subst, ◌∙◌, append_assoc, arith}
+use Rattle.std.proofs.lemmas.List.{append-nil, drop-drop, drop_at, length-append, length-drop}
 use Rattle.std.proofs.lemmas.List.Concat.{flat_map-append}
 use Rattle.ospf_lsa.specs.declared.error.LsaKind.{LsaKind}
 use Rattle.ospf_lsa.specs.declared.error.LsaError.{LsaError}
 use Rattle.ospf_lsa.specs.declared.error.LsaError.TheVariants.{Fault, NoMemory}
 use Rattle.ospf_lsa.specs.declared.lsa.Lsa.{Lsa}
-use Rattle.ospf_lsa.specs.LsaText.{body_text, lsa_length, lsa_text, lsas_text}
+use Rattle.ospf_lsa.specs.LsaText.{lsa_length, lsa_text, lsas_text}
 use Rattle.ospf_lsa.specs.Reading.{record_in, Answers}
 use Rattle.ospf_lsa.specs.RouterLsas.{IsRouterLsa, AreRouterLsas}
 use Rattle.ospf_lsa.proofs.Numbers.{IsBytes, bytes_behind}
-use Rattle.ospf_lsa.proofs.Records.{IsSpelledLsa, record_spelled, record_read}
+use Rattle.ospf_lsa.proofs.Records.{record_spelled, record_read}
 
 -- what is left of LSAs that the bytes spell, behind those that were read
 pub record IsLeft (bytes : List ℕ) (read : List Lsa) (at : ℕ) (all : List Lsa) : Type 0 where

@@ -1,16 +1,16 @@
 -- The links of a router-LSA are read as they are written, and written as they are read.
-use Rattle.std.proofs.Common.{◌≡◌, ◌⊎◌, ◌||◌, true, ℕ, zero, suc, ◌+◌, ◌-◌, ◌*◌, ◌^◌, ◌<◌, ◌≤◌, Bool, false, ltb, List, [], ◌∷◌, ◌++◌, length, get_or, drop, Option, Some, None, inl, inr, refl, sym, ap, subst, ◌∙◌, append_assoc, arith}
+use Rattle.std.proofs.Common.{◌≡◌, ◌||◌, true, ℕ, zero, suc, ◌+◌, ◌-◌, ◌*◌, ◌^◌, ◌<◌, ◌≤◌, Bool, false, List, [], ◌∷◌, ◌++◌, length, drop, Option, Some, None, inl, inr, refl, sym, ap, subst, ◌∙◌, append_assoc, arith}
 use Rattle.std.specs.Int.{w8, w16, w32, to_be_bytes}
 use Rattle.std.specs.List.{flat_map, list_any, AllByRecursion}
 use Rattle.std.specs.Option.{option_map, option_and_then}
 use Rattle.std.proofs.lemmas.Bool.{cases_lt, le-ltb, lt-ltb}
 use Rattle.std.proofs.lemmas.Bool.Decides.{nat_tests}
-use Rattle.std.proofs.lemmas.List.{drop-drop, drop_at, append-nil, length-append, length-drop}
+use Rattle.std.proofs.lemmas.List.{drop-drop, drop_at, length-append, length-drop}
 use Rattle.byteorder.specs.Numbers.{big_number-reads_back}
 use Rattle.ospf_lsa.specs.declared.lsa.RouterLink.{RouterLink}
 use Rattle.ospf_lsa.specs.LsaText.{link_text}
 use Rattle.ospf_lsa.specs.Reading.{number_at, numbers_in, link_in, link_length, first_link, links_in}
-use Rattle.ospf_lsa.specs.RouterLsas.{has_zero_metric, Is32Bits, IsRouterLink}
+use Rattle.ospf_lsa.specs.RouterLsas.{has_zero_metric, IsRouterLink}
 use Rattle.ospf_lsa.proofs.Numbers.{IsBytes, bytes_behind, spelled8, spelled16, spelled32, spelled_at, number_fits, numbers_spelled, numbers_many, numbers_fit, numbers_read, length_numbers}
 
 -- a link that is whole
@@ -26,9 +26,9 @@ link_whole bytes x e = elim (cases_lt (length bytes) 12) [
   | inr long ↦ elim (cases_lt (length bytes) (link_length bytes)) [
     | inl short ↦ let none : first_link bytes ≡ None = rw (le-ltb _ _ long, lt-ltb _ _ short) refl in absurd cc
     | inr enough ↦
-      let some : first_link bytes ≡ Some (link_in bytes, link_length bytes) = rw (le-ltb _ _ long, le-ltb _ _ enough) refl in
-      let same : x ≡ (link_in bytes, link_length bytes) = cc in
-      record { header = long; entries = enough; link = ap (λ (p : RouterLink × ℕ). p.0) same; len = ap (λ (p : RouterLink × ℕ). p.1) same }
+        let some : first_link bytes ≡ Some (link_in bytes, link_length bytes) = rw (le-ltb _ _ long, le-ltb _ _ enough) refl in
+        let same : x ≡ (link_in bytes, link_length bytes) = cc in
+        record { header = long; entries = enough; link = ap (λ (p : RouterLink × ℕ). p.0) same; len = ap (λ (p : RouterLink × ℕ). p.1) same }
   ]
 ]
 
@@ -45,11 +45,11 @@ link_spelled bytes long enough are =
     let behind : drop (4 * entries) (drop 12 bytes) ≡ drop (link_length bytes) bytes = drop-drop (4 * entries) 12 bytes in
     let many : to_be_bytes w8 entries ≡ to_be_bytes w8 (length (numbers_in entries (drop 12 bytes))) = ap (to_be_bytes w8) (sym (numbers_many entries (drop 12 bytes))) in
     id ∙ ap (λ (t : List ℕ). to_be_bytes w32 (number_at 0 4 bytes) ++ t)
-        (word ∙ ap (λ (t : List ℕ). to_be_bytes w32 (number_at 4 4 bytes) ++ t)
-            (kind ∙ ap (λ (t : List ℕ). to_be_bytes w8 (number_at 8 1 bytes) ++ t)
-                (count ∙ ap (λ (t : List ℕ). t ++ drop 10 bytes) many ∙ ap (λ (t : List ℕ). to_be_bytes w8 (length (numbers_in entries (drop 12 bytes))) ++ t)
-                    (metric ∙ ap (λ (t : List ℕ). to_be_bytes w16 (number_at 10 2 bytes) ++ t)
-                        (tos ∙ ap (λ (t : List ℕ). flat_map (to_be_bytes w32) (numbers_in entries (drop 12 bytes)) ++ t) behind)))))
+    (word ∙ ap (λ (t : List ℕ). to_be_bytes w32 (number_at 4 4 bytes) ++ t)
+    (kind ∙ ap (λ (t : List ℕ). to_be_bytes w8 (number_at 8 1 bytes) ++ t)
+    (count ∙ ap (λ (t : List ℕ). t ++ drop 10 bytes) many ∙ ap (λ (t : List ℕ). to_be_bytes w8 (length (numbers_in entries (drop 12 bytes))) ++ t)
+    (metric ∙ ap (λ (t : List ℕ). to_be_bytes w16 (number_at 10 2 bytes) ++ t)
+    (tos ∙ ap (λ (t : List ℕ). flat_map (to_be_bytes w32) (numbers_in entries (drop 12 bytes)) ++ t) behind)))))
 
 -- what a link that is read keeps
 link_kept : (bytes : List ℕ) → IsBytes bytes → has_zero_metric (link_in bytes) ≡ false → IsRouterLink (link_in bytes)
@@ -84,11 +84,11 @@ link_read link rest kept =
     let entries : number_at 9 1 (link_text link ++ rest) ≡ length link.tos = big_number-reads_back 1 (length link.tos) (to_be_bytes w16 link.metric ++ tail) kept.few_entries in
     let enough : link_length (link_text link ++ rest) ≤ length (link_text link ++ rest) = omega (arith, length-append (link_text link) rest, length_link link, entries) in
     let same : link_in (link_text link ++ rest) ≡ link = link_is (link_in (link_text link ++ rest)) link
-      (big_number-reads_back 4 link.id (to_be_bytes w32 link.link_data ++ (to_be_bytes w8 link.kind ++ (to_be_bytes w8 (length link.tos) ++ (to_be_bytes w16 link.metric ++ tail)))) kept.id)
-      (big_number-reads_back 4 link.link_data (to_be_bytes w8 link.kind ++ (to_be_bytes w8 (length link.tos) ++ (to_be_bytes w16 link.metric ++ tail))) kept.link_data)
-      (big_number-reads_back 1 link.kind (to_be_bytes w8 (length link.tos) ++ (to_be_bytes w16 link.metric ++ tail)) kept.kind)
-      (big_number-reads_back 2 link.metric tail kept.metric)
-      (ap (λ (n : ℕ). numbers_in n tail) entries ∙ numbers_read link.tos rest kept.entries) in
+    (big_number-reads_back 4 link.id (to_be_bytes w32 link.link_data ++ (to_be_bytes w8 link.kind ++ (to_be_bytes w8 (length link.tos) ++ (to_be_bytes w16 link.metric ++ tail)))) kept.id)
+    (big_number-reads_back 4 link.link_data (to_be_bytes w8 link.kind ++ (to_be_bytes w8 (length link.tos) ++ (to_be_bytes w16 link.metric ++ tail))) kept.link_data)
+    (big_number-reads_back 1 link.kind (to_be_bytes w8 (length link.tos) ++ (to_be_bytes w16 link.metric ++ tail)) kept.kind)
+    (big_number-reads_back 2 link.metric tail kept.metric)
+    (ap (λ (n : ℕ). numbers_in n tail) entries ∙ numbers_read link.tos rest kept.entries) in
     let len : link_length (link_text link ++ rest) ≡ length (link_text link) = omega (arith, length_link link, entries) in
     let some : first_link (link_text link ++ rest) ≡ Some (link_in (link_text link ++ rest), link_length (link_text link ++ rest)) = rw (le-ltb _ _ long, le-ltb _ _ enough) refl in
     some ∙ ap (λ (l : RouterLink). Some (l, link_length (link_text link ++ rest))) same ∙ ap (λ (n : ℕ). Some (link, n)) len

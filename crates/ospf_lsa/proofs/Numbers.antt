@@ -1,11 +1,11 @@
 -- Numbers in network order are read as they are written, and written as they are read.
 use Rattle.std.proofs.Common.{◌≡◌, ℕ, zero, suc, ◌+◌, ◌-◌, ◌*◌, ◌%◌, ◌^◌, ◌<◌, ◌≤◌, List, [], ◌∷◌, ◌++◌, length, get_or, drop, refl, sym, ap, subst, ◌∙◌, append_assoc, arith}
-use Rattle.std.specs.Int.{Width, w8, w16, w32, byte_len, to_be_bytes, from_be_bytes}
+use Rattle.std.specs.Int.{Width, w8, w16, w32, byte_len, to_be_bytes}
 use Rattle.std.specs.List.{flat_map, AllByRecursion}
 use Rattle.std.proofs.lemmas.List.{get_or-drop, drop-drop, length-append, length-drop}
 use Rattle.std.proofs.lemmas.Nat.{be_bytes_2, be_bytes_4}
 use Rattle.byteorder.specs.Endian.{big_number}
-use Rattle.byteorder.specs.Numbers.{big_from-lt, big_number-reads_back, length-bytes_high_first}
+use Rattle.byteorder.specs.Numbers.{big_from-lt, big_number-reads_back}
 use Rattle.ospf_lsa.specs.Reading.{number_at, numbers_in}
 use Rattle.ospf_lsa.specs.RouterLsas.{Is32Bits}
 
@@ -88,7 +88,7 @@ numbers_spelled (suc count) bytes len are =
     ∙ ap (λ (t : List ℕ). to_be_bytes w32 (big_number 4 bytes) ++ t) later
     ∙ sym (append_assoc (to_be_bytes w32 (big_number 4 bytes)) (flat_map (to_be_bytes w32) (numbers_in count (drop 4 bytes))) (drop (4 * count) (drop 4 bytes)))
     ∙ ap (λ (t : List ℕ). flat_map (to_be_bytes w32) (numbers_in (suc count) bytes) ++ t)
-        (drop-drop (4 * count) 4 bytes ∙ ap (λ (n : ℕ). drop n bytes) (sym place))
+    (drop-drop (4 * count) 4 bytes ∙ ap (λ (n : ℕ). drop n bytes) (sym place))
 
 pub numbers_many : (count : ℕ) (bytes : List ℕ) → length (numbers_in count bytes) ≡ count
 numbers_many zero bytes = refl

@@ -1,12 +1,12 @@
 -- An LSA is read as it is written, and written as it is read.
-use Rattle.std.proofs.Common.{◌≡◌, ◌≢◌, ◌⊎◌, ◌||◌, ℕ, ℤ, zero, suc, ◌+◌, ◌-◌, ◌*◌, ◌^◌, ◌<◌, ◌≤◌, Bool, true, false, ltb, List, [], ◌∷◌, ◌++◌, length, get_or, take, drop, Option, Some, None, Result, Ok, Err, inl, inr, refl, sym, ap, subst, ◌∙◌, append_assoc, arith}
+use Rattle.std.proofs.Common.{◌≡◌, ◌≢◌, ℕ, ℤ, zero, suc, ◌+◌, ◌-◌, ◌^◌, ◌<◌, ◌≤◌, Bool, true, false, List, [], ◌∷◌, ◌++◌, length, get_or, take, drop, Option, Some, None, Ok, Err, inl, inr, refl, sym, ap, subst, ◌∙◌, arith}
 use Rattle.std.specs.Int.{w8, w16, w32, to_be_bytes, cast_unsigned, cast_signed}
 use Rattle.std.specs.List.{flat_map, list_any, AllByRecursion}
 use Rattle.std.specs.Option.{option_map_or}
 use Rattle.std.proofs.lemmas.Bool.{cases_lt, le-ltb, lt-ltb}
 use Rattle.std.proofs.lemmas.Bool.Decides.{nat_tests}
 use Rattle.std.proofs.lemmas.Int.{of_z-to_z, to_z-of_z}
-use Rattle.std.proofs.lemmas.List.{drop-drop, drop_at, take_at, take-append-drop, append-nil, length-append, length-drop, length-take, get_or-take}
+use Rattle.std.proofs.lemmas.List.{drop-drop, take_at, take-append-drop, length-append, length-drop, length-take, get_or-take}
 use Rattle.std.proofs.Math.Facts.{sfits_to_z, Fits-lt-pow, Fits-of_lt, Fits-of_z}
 use Rattle.byteorder.specs.Numbers.{big_number-reads_back}
 use Rattle.ospf_lsa.specs.declared.error.LsaKind.{LsaKind}
@@ -85,17 +85,17 @@ body_spelled : (bytes : List ℕ) (links : List RouterLink) → body_links bytes
 body_spelled bytes links e are = elim (cases_lt (length bytes) 4) [
   | inl short ↦ let none : body_links bytes ≡ None = rw (lt-ltb _ _ short) refl in absurd cc
   | inr long ↦
-    let opened : body_links bytes ≡ links_in (number_at 2 2 bytes) (drop 4 bytes) = rw (le-ltb _ _ long) refl in
-    let so = links_spelled (number_at 2 2 bytes) (drop 4 bytes) links (sym opened ∙ e) (bytes_behind 4 bytes are) in
-    record {
-      long = long;
-      so = so;
-      text = spelled_at w8 0 1 bytes spelled8 refl (omega arith) are
-          ∙ ap (λ (t : List ℕ). to_be_bytes w8 (number_at 0 1 bytes) ++ t) (spelled_at w8 1 2 bytes spelled8 refl (omega arith) are
-          ∙ ap (λ (t : List ℕ). to_be_bytes w8 (number_at 1 1 bytes) ++ t) (spelled_at w16 2 4 bytes spelled16 refl long are
-          ∙ ap (λ (n : ℕ). to_be_bytes w16 n ++ drop 4 bytes) (sym so.many)
-          ∙ ap (λ (t : List ℕ). to_be_bytes w16 (length links) ++ t) so.spelled));
-    }
+      let opened : body_links bytes ≡ links_in (number_at 2 2 bytes) (drop 4 bytes) = rw (le-ltb _ _ long) refl in
+      let so = links_spelled (number_at 2 2 bytes) (drop 4 bytes) links (sym opened ∙ e) (bytes_behind 4 bytes are) in
+      record {
+        long = long;
+        so = so;
+        text = spelled_at w8 0 1 bytes spelled8 refl (omega arith) are
+            ∙ ap (λ (t : List ℕ). to_be_bytes w8 (number_at 0 1 bytes) ++ t) (spelled_at w8 1 2 bytes spelled8 refl (omega arith) are
+            ∙ ap (λ (t : List ℕ). to_be_bytes w8 (number_at 1 1 bytes) ++ t) (spelled_at w16 2 4 bytes spelled16 refl long are
+            ∙ ap (λ (n : ℕ). to_be_bytes w16 n ++ drop 4 bytes) (sym so.many)
+            ∙ ap (λ (t : List ℕ). to_be_bytes w16 (length links) ++ t) so.spelled));
+      }
 ]
 
 -- a header that is read is spelled by its bytes
@@ -184,8 +184,7 @@ body_read flags spare links kept fits =
     let count : number_at 2 2 (body_text (Router flags spare links)) ≡ length links = big_number-reads_back 2 (length links) (flat_map link_text links) few in
     let first : number_at 0 1 (body_text (Router flags spare links)) ≡ flags = big_number-reads_back 1 flags (drop 1 (body_text (Router flags spare links))) kept.flags_fit in
     let second : number_at 1 1 (body_text (Router flags spare links)) ≡ spare = big_number-reads_back 1 spare (drop 2 (body_text (Router flags spare links))) kept.spare_fits in
-    let opened : body_links (body_text (Router flags spare links)) ≡ links_in (number_at 2 2 (body_text (Router flags spare links))) (flat_map link_text links) = rw (le-ltb _ _ long) refl in
-    (
+    let opened : body_links (body_text (Router flags spare links)) ≡ links_in (number_at 2 2 (body_text (Router flags spare links))) (flat_map link_text links) = rw (le-ltb _ _ long) refl in (
       opened ∙ ap (λ (n : ℕ). links_in n (flat_map link_text links)) count ∙ links_read links kept.links_kept,
       ap (λ (f : ℕ). Router f (number_at 1 1 (body_text (Router flags spare links))) links) first ∙ ap (λ (s : ℕ). Router flags s links) second,
     )

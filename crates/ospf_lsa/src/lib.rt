@@ -11,3 +11,6 @@ mod record;
 pub use error::{LsaError, LsaKind};
 pub use lsa::{Body, Lsa, RouterLink};
 pub use reading::read_lsas;
+
+#[cfg(test)]
+mod tests;

@@ -6,7 +6,7 @@ ghost use Rattle.std.specs.Option.{option_map};
 ghost use Rattle.ospf_lsa.specs.Reading.{first_link, links_in};
 ghost use Rattle.ospf_lsa.specs.RouterLsas.{has_zero_metric};
 
-use crate::field::{behind, number_16, number_32, number_8, numbers};
+use crate::field::{behind, number_8, number_16, number_32, numbers};
 use crate::lsa::RouterLink;
 use mrt_graph::Seq;
 use std::alloc::{AllocError, Global};
@@ -15,11 +15,7 @@ use std::alloc::{AllocError, Global};
 const LINK: usize = 12;
 
 /// So many links and nothing behind them, where the bytes are that.
-pub fn links(
-    alloc: Global,
-    bytes: &[u8],
-    count: u16,
-) -> Result<Option<Vec<RouterLink>>, AllocError>
+pub fn links(alloc: Global, bytes: &[u8], count: u16) -> Result<Option<Vec<RouterLink>>, AllocError>
     ensures { IfOk result (λ links. option_map (λ v. v.items) links ≡ links_in count bytes.now) }
 {
     let mut links = Vec::with_capacity(alloc, usize::from(count).min(bytes.len() / LINK))?;
@@ -31,7 +27,11 @@ pub fn links(
         links.push_reserved(link);
         rest = behind(rest, length);
     }
-    if rest.is_empty() { Ok(Some(links)) } else { Ok(None) }
+    if rest.is_empty() {
+        Ok(Some(links))
+    } else {
+        Ok(None)
+    }
 }
 
 /// The link at the front and how many bytes it has, where it is whole.

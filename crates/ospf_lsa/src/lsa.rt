@@ -26,9 +26,14 @@ pub enum Body {
         links: Seq<RouterLink>,
     },
     /// Of a network-LSA: the network's mask and the IDs of its routers (RFC 2328, section A.4.3).
-    Network { mask: u32, routers: Seq<u32> },
+    Network {
+        mask: u32,
+        routers: Seq<u32>,
+    },
     /// Of any other LSA: its bytes.
-    Other { bytes: Seq<u8> },
+    Other {
+        bytes: Seq<u8>,
+    },
 }
 
 /// A link state advertisement.

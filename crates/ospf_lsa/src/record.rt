@@ -5,7 +5,7 @@ ghost use Rattle.std.specs.Option.{option_map, IfNone};
 ghost use Rattle.ospf_lsa.specs.Reading.{Answers, body_bytes, body_links, header_fault, length_field, record_in};
 
 use crate::error::{LsaError, LsaKind};
-use crate::field::{number_16, number_32, number_8, signed_32};
+use crate::field::{number_8, number_16, number_32, signed_32};
 use crate::link::{any_zero_metric, links};
 use crate::lsa::{Body, Lsa, RouterLink};
 use mrt_graph::Seq;

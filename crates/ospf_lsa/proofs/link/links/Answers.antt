@@ -1,9 +1,8 @@
-use Rattle.std.proofs.Common.{◌≡◌, ◌∙◌, ◌+◌, ◌-◌, ◌≤◌, ◌*◌, length, List, Option, Some, None, sym, subst, ℕ, arith}
-use Rattle.std.specs.Option.{option_map}
+use Rattle.std.proofs.Common.{◌≡◌, ◌∙◌, ◌≤◌, length, Option, Some, sym, subst, ℕ, arith}
 use Rattle.std.specs.Prelude.{IfSome}
 use Rattle.std.proofs.lemmas.List.{length-drop}
 use Rattle.ospf_lsa.specs.declared.lsa.RouterLink.{RouterLink}
-use Rattle.ospf_lsa.specs.Reading.{first_link, links_in}
+use Rattle.ospf_lsa.specs.Reading.{first_link}
 use Rattle.ospf_lsa.proofs.Links.{links_cut, links_next}
 use Rattle.ospf_lsa.proofs.link.links.Goals as goal
 

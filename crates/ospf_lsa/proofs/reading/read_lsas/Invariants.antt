@@ -1,4 +1,4 @@
-use Rattle.std.proofs.Common.{◌≡◌, ◌≤◌, ◌-◌, length}
+use Rattle.std.proofs.Common.{◌≤◌, ◌-◌, length}
 use Rattle.ospf_lsa.proofs.Files.{IsReadTo}
 use Rattle.ospf_lsa.proofs.reading.read_lsas.Given as goal
 

@@ -1,0 +1,195 @@
+//! The databases of three small areas, whole and spoilt.
+
+use super::*;
+use std::test::*;
+
+/// One router without links.
+const ALONE: [u8; 24] = [
+    0x00, 0x01, 0x02, 0x01, 0x01, 0x01, 0x01, 0x01, 0x01, 0x01, 0x01, 0x01, 0x80, 0x00, 0x00, 0x01,
+    0x33, 0x28, 0x00, 0x18, 0x00, 0x00, 0x00, 0x00,
+];
+
+/// The same router with a stub link of metric 0 to its own address.
+const STUB: [u8; 36] = [
+    0x00, 0x01, 0x02, 0x01, 0x01, 0x01, 0x01, 0x01, 0x01, 0x01, 0x01, 0x01, 0x80, 0x00, 0x00, 0x01,
+    0xa0, 0xa6, 0x00, 0x24, 0x00, 0x00, 0x00, 0x01, 0x01, 0x01, 0x01, 0x01, 0xff, 0xff, 0xff, 0xff,
+    0x03, 0x00, 0x00, 0x00,
+];
+
+/// The same with two TOS entries behind the link.
+const ENTRIES: [u8; 44] = [
+    0x00, 0x01, 0x02, 0x01, 0x01, 0x01, 0x01, 0x01, 0x01, 0x01, 0x01, 0x01, 0x80, 0x00, 0x00, 0x01,
+    0xa0, 0xa6, 0x00, 0x2c, 0x00, 0x00, 0x00, 0x01, 0x01, 0x01, 0x01, 0x01, 0xff, 0xff, 0xff, 0xff,
+    0x03, 0x02, 0x01, 0x02, 0x08, 0x00, 0x00, 0x07, 0x10, 0x00, 0x01, 0x00,
+];
+
+/// Three routers, each linked to both others.
+const TRIANGLE: [u8; 144] = [
+    0x00, 0x01, 0x02, 0x01, 0x01, 0x01, 0x01, 0x01, 0x01, 0x01, 0x01, 0x01, 0x80, 0x00, 0x00, 0x01,
+    0x21, 0xf0, 0x00, 0x30, 0x00, 0x00, 0x00, 0x02, 0x02, 0x02, 0x02, 0x02, 0x00, 0x00, 0x00, 0x02,
+    0x01, 0x00, 0x00, 0x0a, 0x03, 0x03, 0x03, 0x03, 0x00, 0x00, 0x00, 0x03, 0x01, 0x00, 0x00, 0x0a,
+    0x00, 0x01, 0x02, 0x01, 0x02, 0x02, 0x02, 0x02, 0x02, 0x02, 0x02, 0x02, 0x80, 0x00, 0x00, 0x01,
+    0xa4, 0x6a, 0x00, 0x30, 0x00, 0x00, 0x00, 0x02, 0x01, 0x01, 0x01, 0x01, 0x00, 0x00, 0x00, 0x01,
+    0x01, 0x00, 0x00, 0x0a, 0x03, 0x03, 0x03, 0x03, 0x00, 0x00, 0x00, 0x03, 0x01, 0x00, 0x00, 0x0a,
+    0x00, 0x01, 0x02, 0x01, 0x03, 0x03, 0x03, 0x03, 0x03, 0x03, 0x03, 0x03, 0x80, 0x00, 0x00, 0x01,
+    0xeb, 0x20, 0x00, 0x30, 0x00, 0x00, 0x00, 0x02, 0x01, 0x01, 0x01, 0x01, 0x00, 0x00, 0x00, 0x01,
+    0x01, 0x00, 0x00, 0x0a, 0x02, 0x02, 0x02, 0x02, 0x00, 0x00, 0x00, 0x02, 0x01, 0x00, 0x00, 0x0a,
+];
+
+fn links(lsa: &Lsa) -> &[RouterLink] {
+    match &lsa.body {
+        Body::Router { links, .. } => links.as_slice(),
+        Body::Network { .. } | Body::Other { .. } => &[],
+    }
+}
+
+#[test]
+fn an_empty_file_has_no_lsas(rt: HostRuntime) -> Result<(), Fail> {
+    let lsas = read_lsas(rt.alloc(), &[]).ok().ok_or("no bytes are read")?;
+    assert!(rt; lsas.is_empty());
+    Ok(())
+}
+
+#[test]
+fn fields_are_where_they_belong(rt: HostRuntime) -> Result<(), Fail> {
+    let lsas = read_lsas(rt.alloc(), &TRIANGLE)
+        .ok()
+        .ok_or("the triangle is read")?;
+    assert_eq!(rt; lsas.len(), 3);
+    for (lsa, (at, id, checksum)) in lsas.iter().zip([
+        (0, 0x01010101, 0x21f0),
+        (48, 0x02020202, 0xa46a),
+        (96, 0x03030303, 0xeb20),
+    ]) {
+        assert_eq!(rt; lsa.at, at);
+        assert_eq!(rt; lsa.id, id);
+        assert_eq!(rt; lsa.router, id);
+        assert_eq!(rt; lsa.age, 1);
+        assert_eq!(rt; lsa.options, 2);
+        assert_eq!(rt; lsa.kind, 1);
+        assert_eq!(rt; lsa.sequence, -2147483647);
+        assert_eq!(rt; lsa.checksum, checksum);
+        assert_eq!(rt; links(lsa).len(), 2);
+        for link in links(lsa) {
+            assert_eq!(rt; link.kind, 1);
+            assert_eq!(rt; link.metric, 10);
+            assert!(rt; link.tos.as_slice().is_empty());
+        }
+    }
+    Ok(())
+}
+
+#[test]
+fn lsas_are_compared_by_all_their_fields(rt: HostRuntime) -> Result<(), Fail> {
+    let first = read_lsas(rt.alloc(), &ENTRIES).ok().ok_or("once")?;
+    let again = read_lsas(rt.alloc(), &ENTRIES).ok().ok_or("twice")?;
+    let other = read_lsas(rt.alloc(), &STUB).ok().ok_or("another")?;
+    for ((first, again), other) in first.iter().zip(&again).zip(&other) {
+        assert!(rt; first == again);
+        assert!(rt; first != other);
+        assert!(rt; first.body != other.body);
+    }
+    Ok(())
+}
+
+#[test]
+fn entries_belong_to_their_link(rt: HostRuntime) -> Result<(), Fail> {
+    let lsas = read_lsas(rt.alloc(), &ENTRIES)
+        .ok()
+        .ok_or("the entries are read")?;
+    for lsa in &lsas {
+        for link in links(lsa) {
+            assert_eq!(rt; link.link_data, 0xffffffff);
+            assert_eq!(rt; link.kind, 3);
+            assert_eq!(rt; link.metric, 0x0102);
+            assert!(rt; link.tos.as_slice() == [0x08000007, 0x10000100].as_slice());
+        }
+    }
+    Ok(())
+}
+
+fn is_fault(answer: Result<Vec<Lsa>, LsaError>, at: u32, kind: LsaKind) -> bool {
+    match answer {
+        Err(error) => error == LsaError::Fault { at, kind },
+        Ok(_) => false,
+    }
+}
+
+/// The triangle's bytes with others in their places.
+fn spoilt(places: &[(usize, u8)]) -> [u8; 144] {
+    let mut bytes = TRIANGLE;
+    for &(place, byte) in places {
+        if place < bytes.len() {
+            bytes[place] = byte;
+        }
+    }
+    bytes
+}
+
+#[test]
+fn a_spoilt_record_is_named(rt: HostRuntime) {
+    let cases = [
+        ([(18, 0), (19, 19)], 0, LsaKind::Length),
+        ([(66, 0), (67, 19)], 48, LsaKind::Length),
+        ([(115, 49), (115, 49)], 96, LsaKind::Truncated),
+        ([(15, 0), (15, 0)], 0, LsaKind::ReservedSequence),
+        ([(15, 0), (7, 0)], 0, LsaKind::ReservedSequence),
+        ([(55, 3), (55, 3)], 48, LsaKind::IdMismatch),
+        ([(55, 3), (95, 0)], 48, LsaKind::IdMismatch),
+        ([(51, 2), (51, 2)], 48, LsaKind::Body),
+        ([(51, 5), (51, 5)], 48, LsaKind::Body),
+        ([(71, 1), (71, 1)], 48, LsaKind::Body),
+        ([(71, 3), (71, 3)], 48, LsaKind::Body),
+        ([(71, 1), (83, 0)], 48, LsaKind::Body),
+        ([(22, 0xff), (23, 0xff)], 0, LsaKind::Body),
+        ([(33, 1), (33, 1)], 0, LsaKind::Body),
+        ([(45, 1), (45, 1)], 0, LsaKind::Body),
+        ([(35, 0), (35, 0)], 0, LsaKind::ZeroMetric),
+        ([(47, 0), (47, 0)], 0, LsaKind::ZeroMetric),
+        ([(44, 2), (47, 0)], 0, LsaKind::ZeroMetric),
+        ([(95, 0), (99, 2)], 48, LsaKind::ZeroMetric),
+    ];
+    for (places, at, kind) in cases {
+        let answer = read_lsas(rt.alloc(), &spoilt(&places));
+        assert!(rt; is_fault(answer, at, kind), "the fault at {at}");
+    }
+}
+
+#[test]
+fn other_bytes_are_no_fault(rt: HostRuntime) {
+    let cases = [
+        // any age, options, checksum, flags and spare byte; a negative and a positive sequence number
+        [(0, 0xff), (1, 0xff)],
+        [(2, 0), (17, 0)],
+        [(20, 0xff), (21, 0xff)],
+        [(12, 0xff), (12, 0xff)],
+        [(12, 0), (12, 0)],
+        // metric 0 of a stub and of a virtual link
+        [(44, 3), (47, 0)],
+        [(44, 4), (47, 0)],
+        // two links with one ID
+        [(36, 2), (39, 2)],
+    ];
+    for places in cases {
+        let answer = read_lsas(rt.alloc(), &spoilt(&places));
+        assert!(rt; answer.is_ok());
+    }
+    assert!(rt; read_lsas(rt.alloc(), &ALONE).is_ok());
+    assert!(rt; read_lsas(rt.alloc(), &STUB).is_ok());
+}
+
+#[test]
+fn a_cut_record_is_named(rt: HostRuntime) {
+    for len in 0..TRIANGLE.len() {
+        let answer = read_lsas(rt.alloc(), &TRIANGLE[..len]);
+        let at = len as u32 / 48 * 48;
+        if at == len as u32 {
+            assert!(rt; answer.is_ok(), "cut to {len} bytes");
+        } else {
+            assert!(rt;
+                is_fault(answer, at, LsaKind::Truncated),
+                "cut to {len} bytes"
+            );
+        }
+    }
+}

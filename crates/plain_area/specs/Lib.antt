@@ -1,0 +1,5 @@
+pub mod Between
+pub mod Connecting
+pub mod Order
+pub mod Plain
+pub mod PlainGraph
