@@ -1,5 +1,5 @@
 -- The forms of the words.
-use Rattle.std.specs.Prelude.{◌&&◌, ℕ, List, [], ◌∷◌, Option, Some, None, not, codes, length, nat_lt, if◌then◌else◌}
+use Rattle.std.specs.Prelude.{◌&&◌, ℕ, List, [], ◌∷◌, Option, Some, None, codes, length, nat_lt, if◌then◌else◌}
 use Rattle.std.specs.Str.{bytes_eq}
 
 -- what the words ask for

@@ -1,7 +1,9 @@
 pub mod Asked
+pub mod Comes
 pub mod Exits
+pub mod Files
 pub mod Form
-pub mod LoneRouter
-pub mod Outcome
+pub mod PlainArea
 pub mod Reading
 pub mod Run
+pub mod Verdict

@@ -1,25 +1,54 @@
--- What a read of a named file, and the text over several, say of what is held.
-use Rattle.std.specs.Prelude.{◌≡◌, ◌⊎◌, ◌<◌, ◌≤◌, ℕ, List, Option, Result, Some, None, Ok, Err, length}
-use Rattle.std.specs.Option.{IsSomeAnd}
-use Rattle.mrt_io.specs.Holding.{Files}
+-- What the steps of a check say of their refusals.
+use Rattle.std.specs.Prelude.{◌≡◌, ◌⊎◌, ◌+◌, ℕ, List, Option, Some, None, IfSome}
+use Rattle.cert_format.specs.FirstFault.{first_fault}
+use Rattle.mrt_io.specs.Counts.{Rose}
+use Rattle.mrt_io.specs.Holding.{Files, IsTooLong}
 use Rattle.mrt_cmd.specs.declared.exit.Exit.{Exit}
-use Rattle.mrt_cmd.specs.declared.exit.Exit.TheVariants.{Done, Usage, ReadFault, WriteFault, NoMemory, NotYet}
+use Rattle.mrt_cmd.specs.declared.exit.Exit.TheVariants.{BadCertificate, TooLarge, ReadFault, NoMemory, NotYet}
+use Rattle.mrt_cmd.specs.Comes.{Refuses}
+use Rattle.mrt_cmd.specs.Files.{NamedFile, MayFail, files_of}
 use Rattle.mrt_cmd.specs.Form.{Form}
-use Rattle.mrt_cmd.specs.Outcome.{NamedFile, text_over, outcome_of}
+use Rattle.mrt_cmd.specs.PlainArea.{IsNoArea}
+use Rattle.mrt_cmd.specs.Verdict.{IsRefusedOver}
 
--- an exit that a read may have
-abbrev pub IsRefusal : Exit → Type 0
-IsRefusal (ReadFault word) = Unit {0}
-IsRefusal NotYet = Unit {0}
-IsRefusal NoMemory = Unit {0}
-IsRefusal _ = ⊥
+-- the file is not held, or it is over its limit, or there was no memory
+abbrev pub IsUnread : Option Files → NamedFile → Exit → Type 0
+IsUnread held file (ReadFault word) = (word ≡ file.place) × IfSome held (λ files. files file.name ≡ None)
+IsUnread held file (TooLarge what size) = (what ≡ file.what) × (size ≡ file.limit + 1) × IsTooLong held file.name file.limit
+IsUnread held file NoMemory = Unit {0}
+IsUnread held file _ = ⊥
 
--- a read that refused this file had the cause in these files, or lacked memory
-abbrev pub IsRefusedAsHeld : Files → NamedFile → Exit → Type 0
-IsRefusedAsHeld files file (ReadFault word) = (files file.name ≡ None) × (word ≡ file.place)
-IsRefusedAsHeld files file NotYet = IsSomeAnd (files file.name) (λ bytes. file.limit < length bytes)
-IsRefusedAsHeld files file _ = Unit {0}
+-- the same, but that a file was not read may be due to a fault of the shelf
+abbrev pub IsUnreadOrFault : Option Files → NamedFile → ℕ → ℕ → Exit → Type 0
+IsUnreadOrFault held file before now (ReadFault word) = (word ≡ file.place) × Rose before now
+IsUnreadOrFault held file before now exit = IsUnread held file exit
 
--- an exit that is what comes of the form over these files, or want of memory
-abbrev pub IsOutcome : Files → Form → Exit → Type 0
-IsOutcome files form exit = (exit ≡ outcome_of files form) ⊎ (exit ≡ NoMemory)
+-- a form was refused as it calls for, or there was no memory
+abbrev pub IsRefusal : Option Files → Form → Exit → Type 0
+IsRefusal held form exit = Refuses held form exit ⊎ (exit ≡ NoMemory)
+
+-- the same, but that a file was not read may be due to a fault of the shelf
+abbrev pub IsRefusalOrFault : Option Files → Form → ℕ → ℕ → Exit → Type 0
+IsRefusalOrFault held form before now (ReadFault word) = MayFail held (files_of form) word × Rose before now
+IsRefusalOrFault held form before now exit = IsRefusal held form exit
+
+-- the bytes are no plain database, or there was no memory
+abbrev pub HasNoGraph : List ℕ → Exit → Type 0
+HasNoGraph bytes NotYet = IsNoArea bytes
+HasNoGraph bytes NoMemory = Unit {0}
+HasNoGraph bytes _ = ⊥
+
+-- the first fault of a certificate's bytes, or there was no memory
+abbrev pub HasNoCert : List ℕ → Exit → Type 0
+HasNoCert bytes (BadCertificate at kind) = first_fault bytes ≡ Some (at, kind)
+HasNoCert bytes NoMemory = Unit {0}
+HasNoCert bytes _ = ⊥
+
+-- what is said of the bytes of the two files, or there was no memory; no file is named in it
+abbrev pub IsVerdictOver : List ℕ → List ℕ → Exit → Type 0
+IsVerdictOver area bytes (ReadFault word) = ⊥
+IsVerdictOver area bytes exit = IsRefusedOver area bytes exit ⊎ (exit ≡ NoMemory)
+
+-- the file at this word was not read, or there was no memory
+abbrev pub IsWordOrMemory : ℕ → Exit → Type 0
+IsWordOrMemory word exit = (exit ≡ ReadFault word) ⊎ (exit ≡ NoMemory)

@@ -1,25 +1,9 @@
--- What the top call says of each exit.
-use Rattle.std.specs.Prelude.{◌≡◌, ◌⊎◌, ◌<◌, ℕ, List, Option, IfSome, length, take}
-use Rattle.std.specs.Option.{IsSomeAnd}
+-- What the top call says of its sinks.
+use Rattle.std.specs.Prelude.{◌⊎◌, ◌<◌, ℕ, List, Option, length, take}
 use Rattle.mrt_io.specs.Counts.{Rose}
-use Rattle.mrt_io.specs.Holding.{Files}
 use Rattle.mrt_io.specs.Writing.{Gained}
 use Rattle.mrt_cmd.specs.declared.exit.Exit.{Exit}
 use Rattle.mrt_cmd.specs.declared.exit.Exit.TheVariants.{Done, WriteFault}
-use Rattle.mrt_cmd.specs.Form.{form_of}
-use Rattle.mrt_cmd.specs.Outcome.{MayGive, MayFail, AreThere, files_of}
-
--- the words may give this text
-abbrev pub GivesText : Option Files → List (List ℕ) → List ℕ → Type 0
-GivesText held words text = IsSomeAnd (form_of words) (λ form. MayGive held form text)
-
--- the words may fail at this one: it names a file, and those before it are readable
-abbrev pub FailsAt : Option Files → List (List ℕ) → ℕ → Type 0
-FailsAt held words word = IsSomeAnd (form_of words) (λ form. MayFail held (files_of form) word)
-
--- it is told that each file that the words name is held; words of no form name none
-abbrev pub NamesHeld : Option Files → List (List ℕ) → Type 0
-NamesHeld held words = IfSome (form_of words) (λ form. AreThere held (files_of form))
 
 -- a sink failed behind so many bytes of a text, fewer than all: it gained just these, its count of faults rose, and it was not
 -- healthy for the text

@@ -3,12 +3,15 @@
 
 mod check;
 mod exit;
-mod lone_router;
+mod input;
+mod line;
 mod program;
 mod reading;
+mod verdict;
 mod words;
 
-pub use exit::{Exit, Line};
+pub use exit::{Exit, What};
+pub use line::Line;
 pub use program::run;
 
 #[cfg(test)]

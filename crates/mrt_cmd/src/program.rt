@@ -1,16 +1,21 @@
 //! The top call.
 
-ghost use Rattle.std.specs.Prelude.{◌≡◌, ◌⊎◌, ◌↔◌, ℕ, List, Some, IfSome, IsNone, length};
-ghost use Rattle.std.specs.Option.{IsSomeAnd};
+ghost use Rattle.std.specs.Prelude.{◌≡◌, ◌⊎◌, ◌↔◌, ℕ, List, IfErr, IfOk, IsErr, IsNone, length};
 ghost use Rattle.mrt_io.specs.Counts.{Rose};
 ghost use Rattle.mrt_io.specs.Writing.{Gained};
+ghost use Rattle.cert_format.specs.declared.error.CertKind.{CertKind};
+ghost use Rattle.mrt_cmd.specs.declared.exit.What.{What};
+ghost use Rattle.mrt_cmd.specs.Asked.{asked};
+ghost use Rattle.mrt_cmd.specs.Comes.{Comes, FailsAt, Gives, GivesText, IsRefused, MissesAt, NamesHeld};
 ghost use Rattle.mrt_cmd.specs.Exits.{line_of};
+ghost use Rattle.mrt_cmd.specs.Files.{AreThere, IsFirstMissing, files_of};
 ghost use Rattle.mrt_cmd.specs.Form.{form_of};
-ghost use Rattle.mrt_cmd.specs.Outcome.{outcome};
-ghost use Rattle.mrt_cmd.specs.Run.{GivesText, FailsAt, IsCutShort, GainedLine, NamesHeld, WritesNothing};
+ghost use Rattle.mrt_cmd.specs.Reading.{IsRefusal, IsRefusalOrFault, IsWordOrMemory};
+ghost use Rattle.mrt_cmd.specs.Run.{GainedLine, IsCutShort, WritesNothing};
 
 use crate::check::check;
 use crate::exit::Exit;
+use crate::line::Line;
 use crate::words::{Form, read_form};
 use mrt_io::{PutError, Shelf, Sink, Word, put_all};
 use std::alloc::Global;
@@ -36,15 +41,22 @@ pub fn run<F: Shelf, K: Sink, E: Sink>(
     ensures read_fault { (word : ℕ) → result ≡ Exit.ReadFault word
         → FailsAt (F.held shelf.old) words.now word × Rose (F.faults shelf.old) (F.faults shelf.new) }
     ensures healthy_read { F.healthy shelf.old → (word : ℕ) → result ≡ Exit.ReadFault word
-        → IfSome (F.held shelf.old) (λ files. outcome files words.now ≡ Exit.ReadFault word) }
-    ensures missing { F.healthy shelf.old → (word : ℕ)
-        → IsSomeAnd (F.held shelf.old) (λ files. outcome files words.now ≡ Exit.ReadFault word)
+        → IsRefused (F.held shelf.old) words.now (Exit.ReadFault word) }
+    ensures missing { F.healthy shelf.old → (word : ℕ) → MissesAt (F.held shelf.old) words.now word
         → (result ≡ Exit.ReadFault word) ⊎ (result ≡ Exit.NoMemory) }
     ensures no_read_fault { F.healthy shelf.old → NamesHeld (F.held shelf.old) words.now
         → F.faults shelf.new ≡ F.faults shelf.old }
 
-    // `NotYet` comes only where it is what comes of the files.
-    ensures not_yet { result ≡ Exit.NotYet → IfSome (F.held shelf.old) (λ files. outcome files words.now ≡ Exit.NotYet) }
+    // Each of the other refusals comes only where it is what comes of the files.
+    ensures too_large { (what : What) (size : ℕ) → result ≡ Exit.TooLarge what size
+        → IsRefused (F.held shelf.old) words.now (Exit.TooLarge what size) }
+    ensures not_yet { result ≡ Exit.NotYet → IsRefused (F.held shelf.old) words.now Exit.NotYet }
+    ensures bad_certificate { (at : ℕ) (kind : CertKind) → result ≡ Exit.BadCertificate at kind
+        → IsRefused (F.held shelf.old) words.now (Exit.BadCertificate at kind) }
+    ensures not_there { (number : ℕ) → result ≡ Exit.NotThere number
+        → IsRefused (F.held shelf.old) words.now (Exit.NotThere number) }
+    ensures no { (rule a b : ℕ) → result ≡ Exit.No rule a b
+        → IsRefused (F.held shelf.old) words.now (Exit.No rule a b) }
 
     // On `Done` the output gained just the text; on `WriteFault` it was cut short in it, and it has no fault where it is healthy for
     // the text; else nothing was written to it.
@@ -58,12 +70,12 @@ pub fn run<F: Shelf, K: Sink, E: Sink>(
         → K.faults out.new ≡ K.faults out.old }
     ensures writes_nothing { WritesNothing result → out.new ≡ out.old }
 
-    // Where no count rose, and over healthy devices, the exit is what comes of the files, but for want of memory.
+    // Where no count rose, and over healthy devices, the exit is what comes of the words, but for want of memory.
     ensures calm { (Rose (F.faults shelf.old) (F.faults shelf.new) → ⊥) → (Rose (K.faults out.old) (K.faults out.new) → ⊥)
-        → IfSome (F.held shelf.old) (λ files. (result ≡ outcome files words.now) ⊎ (result ≡ Exit.NoMemory)) }
+        → Comes (F.held shelf.old) words.now result ⊎ (result ≡ Exit.NoMemory) }
     ensures healthy { F.healthy shelf.old
         → ((text : List ℕ) → GivesText (F.held shelf.old) words.now text → K.healthy_for out.old (length text))
-        → IfSome (F.held shelf.old) (λ files. (result ≡ outcome files words.now) ⊎ (result ≡ Exit.NoMemory)) }
+        → Comes (F.held shelf.old) words.now result ⊎ (result ≡ Exit.NoMemory) }
 
     // On `Done` nothing is put to `err`, else the exit's line, as far as `err` takes it.
     ensures silent { result ≡ Exit.Done → err.new ≡ err.old }
@@ -84,13 +96,20 @@ fn answer<F: Shelf, K: Sink>(alloc: Global, words: &[Word], shelf: &mut F, out: 
     ensures read_fault { (word : ℕ) → result ≡ Exit.ReadFault word
         → FailsAt (F.held shelf.old) words.now word × Rose (F.faults shelf.old) (F.faults shelf.new) }
     ensures healthy_read { F.healthy shelf.old → (word : ℕ) → result ≡ Exit.ReadFault word
-        → IfSome (F.held shelf.old) (λ files. outcome files words.now ≡ Exit.ReadFault word) }
-    ensures missing { F.healthy shelf.old → (word : ℕ)
-        → IsSomeAnd (F.held shelf.old) (λ files. outcome files words.now ≡ Exit.ReadFault word)
+        → IsRefused (F.held shelf.old) words.now (Exit.ReadFault word) }
+    ensures missing { F.healthy shelf.old → (word : ℕ) → MissesAt (F.held shelf.old) words.now word
         → (result ≡ Exit.ReadFault word) ⊎ (result ≡ Exit.NoMemory) }
     ensures no_read_fault { F.healthy shelf.old → NamesHeld (F.held shelf.old) words.now
         → F.faults shelf.new ≡ F.faults shelf.old }
-    ensures not_yet { result ≡ Exit.NotYet → IfSome (F.held shelf.old) (λ files. outcome files words.now ≡ Exit.NotYet) }
+    ensures too_large { (what : What) (size : ℕ) → result ≡ Exit.TooLarge what size
+        → IsRefused (F.held shelf.old) words.now (Exit.TooLarge what size) }
+    ensures not_yet { result ≡ Exit.NotYet → IsRefused (F.held shelf.old) words.now Exit.NotYet }
+    ensures bad_certificate { (at : ℕ) (kind : CertKind) → result ≡ Exit.BadCertificate at kind
+        → IsRefused (F.held shelf.old) words.now (Exit.BadCertificate at kind) }
+    ensures not_there { (number : ℕ) → result ≡ Exit.NotThere number
+        → IsRefused (F.held shelf.old) words.now (Exit.NotThere number) }
+    ensures no { (rule a b : ℕ) → result ≡ Exit.No rule a b
+        → IsRefused (F.held shelf.old) words.now (Exit.No rule a b) }
     ensures done { result ≡ Exit.Done → (text : List ℕ) × GivesText (F.held shelf.old) words.now text
         × Gained (K.written out.old) text (K.written out.new) }
     ensures write_fault { (taken : ℕ) → result ≡ Exit.WriteFault taken
@@ -101,23 +120,36 @@ fn answer<F: Shelf, K: Sink>(alloc: Global, words: &[Word], shelf: &mut F, out: 
         → K.faults out.new ≡ K.faults out.old }
     ensures writes_nothing { WritesNothing result → out.new ≡ out.old }
     ensures calm { (Rose (F.faults shelf.old) (F.faults shelf.new) → ⊥) → (Rose (K.faults out.old) (K.faults out.new) → ⊥)
-        → IfSome (F.held shelf.old) (λ files. (result ≡ outcome files words.now) ⊎ (result ≡ Exit.NoMemory)) }
+        → Comes (F.held shelf.old) words.now result ⊎ (result ≡ Exit.NoMemory) }
     ensures healthy { F.healthy shelf.old
         → ((text : List ℕ) → GivesText (F.held shelf.old) words.now text → K.healthy_for out.old (length text))
-        → IfSome (F.held shelf.old) (λ files. (result ≡ outcome files words.now) ⊎ (result ≡ Exit.NoMemory)) }
+        → Comes (F.held shelf.old) words.now result ⊎ (result ≡ Exit.NoMemory) }
 {
-    let text = match read_form(words) {
-        None => return Exit::Usage,
-        Some(
-            Form::Check {
-                database,
-                certificate,
-            },
-        ) => check(alloc, shelf, database, certificate),
+    let Some(form) = read_form(words) else {
+        return Exit::Usage;
     };
-    match text {
+    match text_of(alloc, form, shelf) {
         Ok(text) => put_text(out, text.as_slice()),
         Err(exit) => exit,
+    }
+}
+
+/// The text that a form gives.
+fn text_of<F: Shelf>(alloc: Global, form: Form<'_>, shelf: &mut F) -> Result<Line, Exit>
+    ensures text { IfOk result (λ text. Gives (F.held shelf.old) (asked form.entry) text.items) }
+    ensures refused { IfErr result (IsRefusalOrFault (F.held shelf.old) (asked form.entry) (F.faults shelf.old) (F.faults shelf.new)) }
+    ensures calm { (Rose (F.faults shelf.old) (F.faults shelf.new) → ⊥) → IfErr result (IsRefusal (F.held shelf.old) (asked form.entry)) }
+    ensures healthy { F.healthy shelf.old → IfErr result (IsRefusal (F.held shelf.old) (asked form.entry)) }
+    ensures missing { F.healthy shelf.old → (word : ℕ) → IsFirstMissing (F.held shelf.old) (files_of (asked form.entry)) word
+        → IfErr result (IsWordOrMemory word) × IsErr result }
+    ensures no_fault { F.healthy shelf.old → AreThere (F.held shelf.old) (files_of (asked form.entry))
+        → F.faults shelf.new ≡ F.faults shelf.old }
+{
+    match form {
+        Form::Check {
+            database,
+            certificate,
+        } => check(alloc, shelf, database, certificate),
     }
 }
 
@@ -143,5 +175,5 @@ fn put_line<E: Sink>(err: &mut E, exit: Exit)
     ensures { GainedLine (E.healthy_for err.old) (E.faults err.old) (E.faults err.new)
         (E.written err.old) (E.written err.new) (line_of exit) }
 {
-    let _ = put_all(err, exit.line().as_str().as_bytes());
+    let _ = put_all(err, exit.line().as_slice());
 }

@@ -1,11 +1,12 @@
 //! The files that the words name.
 
-ghost use Rattle.std.specs.Prelude.{◌≡◌, ◌≤◌, ℕ, IfOk, IfErr, IfSome, vec_len};
+ghost use Rattle.std.specs.Prelude.{◌≡◌, ◌≤◌, ◌<◌, ◌-◌, ◌^◌, IfOk, IfErr};
 ghost use Rattle.mrt_io.specs.Counts.{Rose};
-ghost use Rattle.mrt_io.specs.Holding.{IsFileOf, IsTooLong, IsKnownThere};
-ghost use Rattle.mrt_cmd.specs.Reading.{IsRefusal, IsRefusedAsHeld};
+ghost use Rattle.mrt_io.specs.Holding.{IsKnownThere};
+ghost use Rattle.mrt_cmd.specs.Files.{IsReadAs, NamedFile};
+ghost use Rattle.mrt_cmd.specs.Reading.{IsUnread, IsUnreadOrFault};
 
-use crate::exit::Exit;
+use crate::exit::{Exit, What};
 use mrt_io::{Shelf, ShelfError, Word};
 use std::alloc::Global;
 
@@ -15,21 +16,20 @@ pub(crate) fn read_file<F: Shelf>(
     shelf: &mut F,
     name: &Word,
     word: u8,
+    what: What,
     limit: u32,
 ) -> Result<Vec<u8>, Exit>
-    ensures bytes { IfOk result (λ file. IsFileOf (F.held shelf.old) name.now file.items) }
-    ensures within { IfOk result (λ file. vec_len file ≤ limit) }
-
-    ensures refusal { IfErr result IsRefusal }
-    ensures read_fault { (place : ℕ) → result ≡ Err (Exit.ReadFault place)
-        → (place ≡ word) × Rose (F.faults shelf.old) (F.faults shelf.new) }
-    ensures not_yet { result ≡ Err Exit.NotYet → IsTooLong (F.held shelf.old) name.now limit }
+    requires { limit < 2 ^ 32 - 1 }
+    ensures read { let file : NamedFile = record { place = word; name = name.now; what = what; limit = limit } in
+        IfOk result (λ bytes. IsReadAs (F.held shelf.old) file bytes.items) }
+    ensures refused { let file : NamedFile = record { place = word; name = name.now; what = what; limit = limit } in
+        IfErr result (IsUnreadOrFault (F.held shelf.old) file (F.faults shelf.old) (F.faults shelf.new)) }
 
     // Where no count rose, and over a healthy shelf, a refusal is due to the files that are held.
-    ensures calm { (Rose (F.faults shelf.old) (F.faults shelf.new) → ⊥) → IfErr result (λ exit. IfSome (F.held shelf.old)
-        (λ files. IsRefusedAsHeld files (record { place = word; name = name.now; limit = limit }) exit)) }
-    ensures healthy { F.healthy shelf.old → IfErr result (λ exit. IfSome (F.held shelf.old)
-        (λ files. IsRefusedAsHeld files (record { place = word; name = name.now; limit = limit }) exit)) }
+    ensures calm { let file : NamedFile = record { place = word; name = name.now; what = what; limit = limit } in
+        (Rose (F.faults shelf.old) (F.faults shelf.new) → ⊥) → IfErr result (IsUnread (F.held shelf.old) file) }
+    ensures healthy { let file : NamedFile = record { place = word; name = name.now; what = what; limit = limit } in
+        F.healthy shelf.old → IfErr result (IsUnread (F.held shelf.old) file) }
 
     ensures count { F.faults shelf.old ≤ F.faults shelf.new }
     ensures unchanged { F.held shelf.new ≡ F.held shelf.old }
@@ -40,7 +40,10 @@ pub(crate) fn read_file<F: Shelf>(
     match shelf.read(alloc, name, limit) {
         Ok(bytes) => Ok(bytes),
         Err(ShelfError::Failed) => Err(Exit::ReadFault { word }),
-        Err(ShelfError::TooLong) => Err(Exit::NotYet),
+        Err(ShelfError::TooLong) => Err(Exit::TooLarge {
+            what,
+            size: limit + 1,
+        }),
         Err(ShelfError::NoMemory) => Err(Exit::NoMemory),
     }
 }

@@ -1,5 +1,5 @@
 -- What a shelf holds, told or not told.
-use Rattle.std.specs.Prelude.{◌≡◌, ◌<◌, ℕ, List, Option, Some, None, IfSome, IsSome, IsNone, length}
+use Rattle.std.specs.Prelude.{◌≡◌, ◌<◌, ℕ, List, Option, Some, None, IfSome, IsSome, length}
 use Rattle.std.specs.Option.{IsSomeAnd}
 
 -- the bytes of each name that is held

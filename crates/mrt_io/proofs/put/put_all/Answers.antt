@@ -1,4 +1,4 @@
-use Rattle.std.proofs.Common.{◌≤◌, ◌<◌, ◌-◌, ◌+◌, ◌∙◌, ◌≡◌, ℕ, length, subst, arith}
+use Rattle.std.proofs.Common.{◌-◌, ◌+◌, ◌∙◌, ◌≡◌, ℕ, subst, arith}
 use Rattle.mrt_io.proofs.Gaining.{Gained-take, some_left}
 use Rattle.mrt_io.proofs.put.put_all.Goals as goal
 

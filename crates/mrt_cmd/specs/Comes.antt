@@ -1,0 +1,51 @@
+-- What comes of the words over the files that they name, where memory suffices and no device fails.
+use Rattle.std.specs.Prelude.{◌≡◌, ◌⊎◌, ℕ, List, Option, IfSome, IsNone}
+use Rattle.std.specs.Option.{IsSomeAnd}
+use Rattle.mrt_io.specs.Holding.{Files}
+use Rattle.mrt_cmd.specs.declared.exit.Exit.{Exit}
+use Rattle.mrt_cmd.specs.declared.exit.Exit.TheVariants.{Done, Usage}
+use Rattle.mrt_cmd.specs.Files.{files_of, database_file, certificate_file, IsFirstMissing, IsReadAs, IsRefusedBy, MayFail, AreThere}
+use Rattle.mrt_cmd.specs.Form.{Form, Check, form_of}
+use Rattle.mrt_cmd.specs.Verdict.{GivesOver, IsRefusedOver}
+
+-- these are the bytes of the two files of a check
+pub record AreRead (held : Option Files) (database certificate area bytes : List ℕ) : Type 0 where
+  pub database_read : IsReadAs held (database_file database) area
+  pub certificate_read : IsReadAs held (certificate_file certificate) bytes
+
+-- the text that a form gives
+abbrev pub Gives : Option Files → Form → List ℕ → Type 0
+Gives held (Check database certificate) text =
+    (area bytes : List ℕ) × AreRead held database certificate area bytes × GivesOver area bytes text
+
+-- what comes of a form that gives no text: a file is not read; else what is said of the bytes
+abbrev pub Refuses : Option Files → Form → Exit → Type 0
+Refuses held (Check database certificate) exit =
+    IsRefusedBy held (files_of (Check database certificate)) exit
+    ⊎ ((area bytes : List ℕ) × AreRead held database certificate area bytes × IsRefusedOver area bytes exit)
+
+-- the words give this text
+abbrev pub GivesText : Option Files → List (List ℕ) → List ℕ → Type 0
+GivesText held words text = IsSomeAnd (form_of words) (λ form. Gives held form text)
+
+-- the words are a form that is refused with this exit
+abbrev pub IsRefused : Option Files → List (List ℕ) → Exit → Type 0
+IsRefused held words exit = IsSomeAnd (form_of words) (λ form. Refuses held form exit)
+
+-- what comes of the words: the usage, where they are no form; a text; or a refusal
+abbrev pub Comes : Option Files → List (List ℕ) → Exit → Type 0
+Comes held words exit =
+    ((exit ≡ Usage) × IsNone (form_of words))
+    ⊎ ((exit ≡ Done) × (text : List ℕ) × GivesText held words text) ⊎ IsRefused held words exit
+
+-- the words may fail at this one: it names a file, and those before it could be read
+abbrev pub FailsAt : Option Files → List (List ℕ) → ℕ → Type 0
+FailsAt held words word = IsSomeAnd (form_of words) (λ form. MayFail held (files_of form) word)
+
+-- it is told that each file that the words name is held; words of no form name none
+abbrev pub NamesHeld : Option Files → List (List ℕ) → Type 0
+NamesHeld held words = IfSome (form_of words) (λ form. AreThere held (files_of form))
+
+-- it is told that the file that this word names is the first that is not held, and none before it is over its limit
+abbrev pub MissesAt : Option Files → List (List ℕ) → ℕ → Type 0
+MissesAt held words word = IsSomeAnd (form_of words) (λ form. IsFirstMissing held (files_of form) word)
