@@ -13,13 +13,18 @@ def sums(data):
     return c0, c1
 
 
-def router_lsa(router, links):
-    """A router-LSA of links (ID, data, type, metric), with a fresh checksum (RFC 2328, section 12.1.7)."""
-    body = b"".join(struct.pack(">IIBBH", to, data, kind, 0, metric) for to, data, kind, metric in links)
-    head = struct.pack(">HBBIII", 1, 2, 1, router, router, 0x80000001)
-    tail = struct.pack(">HBBH", 24 + len(body), 0, 0, len(links)) + body
+def lsa(kind, number, router, body):
+    """An LSA of any type with this link state ID, advertising router and body, with a fresh checksum (RFC 2328, section 12.1.7)."""
+    head = struct.pack(">HBBIII", 1, 2, kind, number, router, 0x80000001)
+    tail = struct.pack(">H", 20 + len(body)) + body
     covered = head[2:] + b"\0\0" + tail
     c0, c1 = sums(covered)
     size = len(covered)
     check = ((size - 15) * c0 - c1) % 255, (c1 - (size - 14) * c0) % 255
     return head + bytes(value or 255 for value in check) + tail
+
+
+def router_lsa(router, links):
+    """A router-LSA of links (ID, data, type, metric)."""
+    texts = b"".join(struct.pack(">IIBBH", to, data, kind, 0, metric) for to, data, kind, metric in links)
+    return lsa(1, router, router, struct.pack(">BBH", 0, 0, len(links)) + texts)
