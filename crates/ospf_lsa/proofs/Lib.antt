@@ -2,3 +2,4 @@ pub mod Files
 pub mod Links
 pub mod Numbers
 pub mod Records
+pub mod SumParts

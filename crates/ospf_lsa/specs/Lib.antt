@@ -1,3 +1,4 @@
+pub mod Checksum
 pub mod LsaText
 pub mod Outcome
 pub mod Reading
