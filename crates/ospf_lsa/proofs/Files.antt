@@ -8,7 +8,7 @@ use Rattle.ospf_lsa.specs.declared.error.LsaError.TheVariants.{Fault, NoMemory}
 use Rattle.ospf_lsa.specs.declared.lsa.Lsa.{Lsa}
 use Rattle.ospf_lsa.specs.LsaText.{lsa_length, lsa_text, lsas_text}
 use Rattle.ospf_lsa.specs.Reading.{record_in, Answers}
-use Rattle.ospf_lsa.specs.RouterLsas.{IsRouterLsa, AreRouterLsas}
+use Rattle.ospf_lsa.specs.Lsas.{IsLsa, AreLsas}
 use Rattle.ospf_lsa.proofs.Numbers.{IsBytes, bytes_behind}
 use Rattle.ospf_lsa.proofs.Records.{record_spelled, record_read}
 
@@ -16,15 +16,15 @@ use Rattle.ospf_lsa.proofs.Records.{record_spelled, record_read}
 pub record IsLeft (bytes : List ℕ) (read : List Lsa) (at : ℕ) (all : List Lsa) : Type 0 where
   pub later : List Lsa
   pub parts : all ≡ read ++ later
-  pub so : AreRouterLsas at later
+  pub so : AreLsas at later
   pub spelled : drop at bytes ≡ lsas_text later
 
 -- the LSAs in the bytes before this place were read
 pub record IsReadTo (bytes : List ℕ) (read : List Lsa) (at : ℕ) : Type 0 where
-  pub so : AreRouterLsas 0 read
+  pub so : AreLsas 0 read
   pub spelled : bytes ≡ lsas_text read ++ drop at bytes
   pub placed : length (lsas_text read) ≡ at
-  pub only : (all : List Lsa) → AreRouterLsas 0 all → bytes ≡ lsas_text all → IsLeft bytes read at all
+  pub only : (all : List Lsa) → AreLsas 0 all → bytes ≡ lsas_text all → IsLeft bytes read at all
 
 pub read_none : (bytes : List ℕ) → IsReadTo bytes [] 0
 read_none bytes = record {
@@ -37,7 +37,7 @@ read_none bytes = record {
 length_lsa : (lsa : Lsa) → length (lsa_text lsa) ≡ lsa_length lsa
 length_lsa lsa = omega arith
 
-one_more_kept : (read : List Lsa) (lsa : Lsa) (start : ℕ) → AreRouterLsas start read → lsa.at ≡ start + length (lsas_text read) → IsRouterLsa lsa → AreRouterLsas start (read ++ lsa ∷ [])
+one_more_kept : (read : List Lsa) (lsa : Lsa) (start : ℕ) → AreLsas start read → lsa.at ≡ start + length (lsas_text read) → IsLsa lsa → AreLsas start (read ++ lsa ∷ [])
 one_more_kept [] lsa start are placed kept = (omega (arith, placed), kept, tt)
 one_more_kept (first ∷ read) lsa start are placed kept =
     (are.0, are.1, one_more_kept read lsa (start + lsa_length first) are.2 (omega (arith, placed, length-append (lsa_text first) (lsas_text read), length_lsa first)) kept)
@@ -48,11 +48,11 @@ record IsNext (bytes : List ℕ) (at : ℕ) (later : List Lsa) : Type 0 where
   others : List Lsa
   parts : later ≡ lsa ∷ others
   placed : lsa.at ≡ at
-  so : AreRouterLsas (at + lsa_length lsa) others
+  so : AreLsas (at + lsa_length lsa) others
   behind : drop at bytes ≡ lsa_text lsa ++ lsas_text others
   found : record_in at (drop at bytes) ≡ Ok (lsa, lsa_length lsa)
 
-next_left : (bytes : List ℕ) (at : ℕ) (later : List Lsa) → at < length bytes → AreRouterLsas at later → drop at bytes ≡ lsas_text later → IsNext bytes at later
+next_left : (bytes : List ℕ) (at : ℕ) (later : List Lsa) → at < length bytes → AreLsas at later → drop at bytes ≡ lsas_text later → IsNext bytes at later
 next_left bytes at [] lt are text = absurd (omega (arith, lt, length-drop at bytes, ap length text))
 next_left bytes at (lsa ∷ others) lt are text = record {
   lsa = lsa;
@@ -97,13 +97,13 @@ read_more bytes read read' at x lt are so_far found grown =
         record {
           later = next.others;
           parts = left.parts ∙ ap (λ (l : List Lsa). read ++ l) next.parts ∙ ap (λ (l : Lsa). read ++ (l ∷ next.others)) lsa ∙ sym (append_assoc read (x.0 ∷ []) next.others);
-          so = subst (λ (n : ℕ). AreRouterLsas (at + n) next.others) len next.so;
+          so = subst (λ (n : ℕ). AreLsas (at + n) next.others) len next.so;
           spelled = sym (drop-drop x.1 at bytes) ∙ ap (drop x.1) next.behind ∙ drop_at (lsa_text next.lsa) (lsas_text next.others) x.1 (length_lsa next.lsa ∙ len);
         }
 
 -- where bytes are left that begin with no LSA, the bytes are not the spellings of LSAs
 pub none_fit : (bytes : List ℕ) (read : List Lsa) (at : ℕ) (kind : LsaKind) → at < length bytes → IsReadTo bytes read at → record_in at (drop at bytes) ≡ Err kind
-    → (all : List Lsa) → AreRouterLsas 0 all → bytes ≡ lsas_text all → ⊥
+    → (all : List Lsa) → AreLsas 0 all → bytes ≡ lsas_text all → ⊥
 none_fit bytes read at kind lt so_far fault all so text =
     let left = so_far.only all so text in
     let next = next_left bytes at left.later lt left.so left.spelled in
@@ -113,7 +113,7 @@ none_fit bytes read at kind lt so_far fault all so text =
     clash p r e f = absurd cc
 
 -- where nothing is left, these are all
-pub all_read : (bytes : List ℕ) (read : List Lsa) (at : ℕ) → length bytes ≤ at → IsReadTo bytes read at → (all : List Lsa) → AreRouterLsas 0 all → bytes ≡ lsas_text all → read ≡ all
+pub all_read : (bytes : List ℕ) (read : List Lsa) (at : ℕ) → length bytes ≤ at → IsReadTo bytes read at → (all : List Lsa) → AreLsas 0 all → bytes ≡ lsas_text all → read ≡ all
 all_read bytes read at past so_far all so text =
     let left = so_far.only all so text in
     by_later left.later left.parts (sym left.spelled)
@@ -124,7 +124,7 @@ all_read bytes read at past so_far all so text =
 
 -- where the next LSA is not read, that is so for want of memory or the bytes are not the spellings of LSAs
 pub none_read : (bytes front : List ℕ) (read : List Lsa) (at : ℕ) (e : LsaError) → at < length bytes → IsReadTo bytes read at → front ≡ drop at bytes → Answers at (record_in at front) (Err e)
-    → (all : List Lsa) → AreRouterLsas 0 all → bytes ≡ lsas_text all → e ≡ NoMemory
+    → (all : List Lsa) → AreLsas 0 all → bytes ≡ lsas_text all → e ≡ NoMemory
 none_read bytes front read at NoMemory lt so_far is answer all so text = refl
 none_read bytes front read at (Fault place kind) lt so_far is answer all so text =
     absurd (none_fit bytes read at kind lt so_far (ap (record_in at) (sym is) ∙ answer.1) all so text)

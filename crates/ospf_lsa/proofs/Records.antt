@@ -17,7 +17,7 @@ use Rattle.ospf_lsa.specs.declared.lsa.Body.TheVariants.{Router, Network, Other}
 use Rattle.ospf_lsa.specs.declared.lsa.Lsa.{Lsa}
 use Rattle.ospf_lsa.specs.LsaText.{link_text, body_text, lsa_length, header_text, lsa_text}
 use Rattle.ospf_lsa.specs.Reading.{number_at, links_in, body_links, body_in, lsa_in, length_field, header_fault, body_bytes, with_links, record_in}
-use Rattle.ospf_lsa.specs.RouterLsas.{has_zero_metric, IsRouterLink, IsRouterBody, HasRouterBody, IsRouterLsa}
+use Rattle.ospf_lsa.specs.Lsas.{has_zero_metric, IsRouterLink, IsRouterBody, HasRouterBody, IsLsa}
 use Rattle.ospf_lsa.proofs.Numbers.{IsBytes, bytes_behind, spelled8, spelled16, spelled32, spelled_at, number_fits}
 use Rattle.ospf_lsa.proofs.Links.{AreSpelled, links_spelled, links_read, length_link}
 
@@ -116,7 +116,7 @@ header_spelled at bytes body long are =
 -- what an LSA that is read keeps, and its bytes
 pub record IsSpelledLsa (at : ℕ) (bytes : List ℕ) (x : Lsa × ℕ) : Type 0 where
   pub placed : x.0.at ≡ at
-  pub kept : IsRouterLsa x.0
+  pub kept : IsLsa x.0
   pub text : bytes ≡ lsa_text x.0 ++ drop x.1 bytes
   pub len : x.1 ≡ lsa_length x.0
 
@@ -214,7 +214,7 @@ read_so at bytes links header found metrics =
     ∙ ap (λ (o : Option (List RouterLink)). option_map_or (with_links at bytes) o (Err kinds.Body)) found
     ∙ rw metrics refl
 
-read_router : (lsa : Lsa) (rest : List ℕ) (flags spare : ℕ) (links : List RouterLink) → lsa.body ≡ Router flags spare links → IsRouterBody flags spare links → IsRouterLsa lsa
+read_router : (lsa : Lsa) (rest : List ℕ) (flags spare : ℕ) (links : List RouterLink) → lsa.body ≡ Router flags spare links → IsRouterBody flags spare links → IsLsa lsa
     → record_in lsa.at (lsa_text lsa ++ rest) ≡ Ok (lsa, lsa_length lsa)
 read_router lsa rest flags spare links is has kept =
     let own : lsa.id < 2 ^ 32 = omega (arith, kept.own_id, kept.router) in
@@ -246,7 +246,7 @@ read_router lsa rest flags spare links is has kept =
     ∙ ap (λ (l : Lsa). Ok (l, length_field (lsa_text lsa ++ rest))) same
     ∙ ap (λ (n : ℕ). Ok (lsa, n)) len
 
-pub record_read : (lsa : Lsa) (rest : List ℕ) → IsRouterLsa lsa → record_in lsa.at (lsa_text lsa ++ rest) ≡ Ok (lsa, lsa_length lsa)
+pub record_read : (lsa : Lsa) (rest : List ℕ) → IsLsa lsa → record_in lsa.at (lsa_text lsa ++ rest) ≡ Ok (lsa, lsa_length lsa)
 record_read lsa rest kept = by_body lsa.body refl kept.body
   where
     by_body : (body : Body) → lsa.body ≡ body → HasRouterBody body → record_in lsa.at (lsa_text lsa ++ rest) ≡ Ok (lsa, lsa_length lsa)

@@ -1,6 +1,7 @@
 //! LSAs as bytes: the link state advertisements of OSPFv2 (RFC 2328, section A.4), one after another.
 #![tactic(auto)]
 
+mod body;
 mod checksum;
 mod error;
 mod field;

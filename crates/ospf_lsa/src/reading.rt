@@ -4,7 +4,7 @@ ghost use Rattle.std.specs.Prelude.{◌≡◌, ◌≤◌, List, IfOk, length};
 ghost use Rattle.ospf_lsa.specs.declared.lsa.Lsa.{Lsa};
 ghost use Rattle.ospf_lsa.specs.LsaText.{lsas_text};
 ghost use Rattle.ospf_lsa.specs.Outcome.{AreAnswer};
-ghost use Rattle.ospf_lsa.specs.RouterLsas.{AreRouterLsas};
+ghost use Rattle.ospf_lsa.specs.Lsas.{AreLsas};
 
 use crate::error::LsaError;
 use crate::field::behind;
@@ -26,9 +26,9 @@ use std::alloc::Global;
 pub fn read_lsas(alloc: Global, bytes: &[u8]) -> Result<Vec<Lsa>, LsaError>
     requires { length bytes.now ≤ 8388608 }
     // What is read is spelled so, each at its place.
-    ensures found { IfOk result (λ lsas. AreRouterLsas 0 lsas.items × (bytes.now ≡ lsas_text lsas.items)) }
+    ensures found { IfOk result (λ lsas. AreLsas 0 lsas.items × (bytes.now ≡ lsas_text lsas.items)) }
     // What is spelled so is read.
-    ensures only { (lsas : List Lsa) → AreRouterLsas 0 lsas → bytes.now ≡ lsas_text lsas → AreAnswer lsas result }
+    ensures only { (lsas : List Lsa) → AreLsas 0 lsas → bytes.now ≡ lsas_text lsas → AreAnswer lsas result }
 {
     let mut lsas = Vec::new(alloc);
     let mut at = 0;
