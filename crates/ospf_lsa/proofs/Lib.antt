@@ -1,3 +1,4 @@
+pub mod Bodies
 pub mod Files
 pub mod Links
 pub mod Numbers
