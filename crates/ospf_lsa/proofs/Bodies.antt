@@ -154,7 +154,7 @@ network_read kind mask routers is kept =
     let whole : length (body_text (Network mask routers)) % 4 ≡ 0 = omega (arith, len) in
     let count : (length (body_text (Network mask routers)) - 4) / 4 ≡ length routers = omega (arith, len) in
     let made : network_body (body_text (Network mask routers))
-        ≡ Ok (Network (number_at 0 4 (body_text (Network mask routers))) (numbers_in ((length (body_text (Network mask routers)) - 4) / 4) (flat_map (to_be_bytes w32) routers))) = rw (le-ltb _ _ long, eq-eqb _ _ whole) refl in
+    ≡ Ok (Network (number_at 0 4 (body_text (Network mask routers))) (numbers_in ((length (body_text (Network mask routers)) - 4) / 4) (flat_map (to_be_bytes w32) routers))) = rw (le-ltb _ _ long, eq-eqb _ _ whole) refl in
     let first : number_at 0 4 (body_text (Network mask routers)) ≡ mask = big_number-reads_back 4 mask (flat_map (to_be_bytes w32) routers) kept.mask_fits in
     let read : numbers_in (length routers) (flat_map (to_be_bytes w32) routers) ≡ routers =
     ap (numbers_in (length routers)) (sym (append-nil (flat_map (to_be_bytes w32) routers))) ∙ numbers_read routers [] kept.routers_fit in
