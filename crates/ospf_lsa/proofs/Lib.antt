@@ -1,4 +1,6 @@
+pub mod Bodies
 pub mod Files
 pub mod Links
 pub mod Numbers
 pub mod Records
+pub mod SumParts

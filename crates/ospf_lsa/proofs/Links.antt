@@ -10,7 +10,7 @@ use Rattle.byteorder.specs.Numbers.{big_number-reads_back}
 use Rattle.ospf_lsa.specs.declared.lsa.RouterLink.{RouterLink}
 use Rattle.ospf_lsa.specs.LsaText.{link_text}
 use Rattle.ospf_lsa.specs.Reading.{number_at, numbers_in, link_in, link_length, first_link, links_in}
-use Rattle.ospf_lsa.specs.RouterLsas.{has_zero_metric, IsRouterLink}
+use Rattle.ospf_lsa.specs.Lsas.{has_zero_metric, IsRouterLink}
 use Rattle.ospf_lsa.proofs.Numbers.{IsBytes, bytes_behind, spelled8, spelled16, spelled32, spelled_at, number_fits, numbers_spelled, numbers_many, numbers_fit, numbers_read, length_numbers}
 
 -- a link that is whole

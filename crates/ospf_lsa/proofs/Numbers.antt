@@ -7,7 +7,7 @@ use Rattle.std.proofs.lemmas.Nat.{be_bytes_2, be_bytes_4}
 use Rattle.byteorder.specs.Endian.{big_number}
 use Rattle.byteorder.specs.Numbers.{big_from-lt, big_number-reads_back}
 use Rattle.ospf_lsa.specs.Reading.{number_at, numbers_in}
-use Rattle.ospf_lsa.specs.RouterLsas.{Is32Bits}
+use Rattle.ospf_lsa.specs.Lsas.{Is32Bits}
 
 abbrev pub IsBytes : List ℕ → Type 0
 IsBytes bytes = (i : ℕ) → get_or bytes i 0 < 256

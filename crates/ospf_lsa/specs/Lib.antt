@@ -1,4 +1,5 @@
+pub mod Checksum
 pub mod LsaText
+pub mod Lsas
 pub mod Outcome
 pub mod Reading
-pub mod RouterLsas

@@ -1,5 +1,5 @@
 -- The bytes of LSAs (RFC 2328, section A.4). All their numbers are in network order.
-use Rattle.std.specs.Prelude.{ℕ, ◌+◌, List, ◌++◌, length}
+use Rattle.std.specs.Prelude.{ℕ, ◌+◌, List, ◌++◌, length, drop}
 use Rattle.std.specs.Int.{w8, w16, w32, to_be_bytes, cast_unsigned}
 use Rattle.std.specs.List.{flat_map}
 use Rattle.ospf_lsa.specs.declared.lsa.RouterLink.{RouterLink}
@@ -33,6 +33,10 @@ header_text lsa length =
 -- an LSA: its header and its body; its place is no part of its bytes
 abbrev pub lsa_text : Lsa → List ℕ
 lsa_text lsa = header_text lsa (lsa_length lsa) ++ body_text lsa.body
+
+-- the bytes of an LSA that its checksum covers: all behind its age
+abbrev pub covered_text : Lsa → List ℕ
+covered_text lsa = drop 2 (lsa_text lsa)
 
 -- LSAs, one after another and nothing between
 abbrev pub lsas_text : List Lsa → List ℕ

@@ -1,5 +1,5 @@
 -- What the steps of reading answer.
-use Rattle.std.specs.Prelude.{◌≡◌, ◌+◌, ◌-◌, ◌*◌, ◌^◌, ◌==◌, ℕ, zero, suc, not, nat_lt, List, [], ◌∷◌, length, take, drop, Option, Some, None, Result, Ok, Err, if◌then◌else◌}
+use Rattle.std.specs.Prelude.{◌≡◌, ◌+◌, ◌-◌, ◌*◌, ◌/◌, ◌%◌, ◌^◌, ◌&&◌, ◌==◌, ℕ, zero, suc, not, nat_lt, List, [], ◌∷◌, length, take, drop, Option, Some, None, Result, Ok, Err, if◌then◌else◌}
 use Rattle.std.specs.Int.{w32, cast_signed}
 use Rattle.std.specs.List.{list_any}
 use Rattle.std.specs.Option.{option_map, option_map_or, option_and_then}
@@ -10,9 +10,10 @@ use Rattle.ospf_lsa.specs.declared.error.LsaError.{LsaError}
 use Rattle.ospf_lsa.specs.declared.error.LsaError.TheVariants.{Fault, NoMemory}
 use Rattle.ospf_lsa.specs.declared.lsa.RouterLink.{RouterLink}
 use Rattle.ospf_lsa.specs.declared.lsa.Body.{Body}
-use Rattle.ospf_lsa.specs.declared.lsa.Body.TheVariants.{Router}
+use Rattle.ospf_lsa.specs.declared.lsa.Body.TheVariants.{Router, Network, Other}
 use Rattle.ospf_lsa.specs.declared.lsa.Lsa.{Lsa}
-use Rattle.ospf_lsa.specs.RouterLsas.{has_zero_metric}
+use Rattle.ospf_lsa.specs.Checksum.{is_good}
+use Rattle.ospf_lsa.specs.Lsas.{has_zero_metric}
 
 -- the number in so many bytes from this place on
 abbrev pub number_at : ℕ → ℕ → List ℕ → ℕ
@@ -75,30 +76,52 @@ lsa_in at bytes body = record {
 abbrev pub length_field : List ℕ → ℕ
 length_field bytes = number_at 18 2 bytes
 
--- the first fault that an LSA's header shows
+-- the bytes that an LSA's checksum covers, from its options to its end
+abbrev pub covered_bytes : List ℕ → List ℕ
+covered_bytes bytes = take (length_field bytes - 2) (drop 2 bytes)
+
+-- the first fault that an LSA shows before its body is looked at; a router-LSA (type 1) has its advertising router as link state ID
 abbrev pub header_fault : List ℕ → Option LsaKind
 header_fault bytes =
     if nat_lt (length bytes) 20 then Some kinds.Truncated
     else (if nat_lt (length bytes) (length_field bytes) then Some kinds.Truncated
     else (if nat_lt (length_field bytes) 20 then Some kinds.Length
+    else (if not (is_good (covered_bytes bytes) (number_at 16 2 bytes)) then Some kinds.Checksum
     else (if number_at 12 4 bytes == 2 ^ 31 then Some kinds.ReservedSequence
-    else (if not (number_at 3 1 bytes == 1) then Some kinds.Body
-    else (if not (number_at 4 4 bytes == number_at 8 4 bytes) then Some kinds.IdMismatch else None)))))
+    else (if (number_at 3 1 bytes == 1) && not (number_at 4 4 bytes == number_at 8 4 bytes) then Some kinds.IdMismatch else None)))))
 
 -- the bytes of an LSA's body
 abbrev pub body_bytes : List ℕ → List ℕ
 body_bytes bytes = take (length_field bytes - 20) (drop 20 bytes)
 
--- the LSA of these links and its length; none may have the metric 0 where it leads to a router or to a transit network
-abbrev pub with_links : ℕ → List ℕ → List RouterLink → Result (Lsa × ℕ) LsaKind
-with_links at bytes links =
-    if list_any has_zero_metric links then Err kinds.ZeroMetric
-    else Ok (lsa_in at bytes (body_in (body_bytes bytes) links), length_field bytes)
+-- a router-LSA's body of these links; none may have the metric 0 where it leads to a router or to a transit network
+abbrev pub with_links : List ℕ → List RouterLink → Result Body LsaKind
+with_links bytes links = if list_any has_zero_metric links then Err kinds.ZeroMetric else Ok (body_in bytes links)
+
+-- a router-LSA's body, or its first fault
+abbrev pub router_body : List ℕ → Result Body LsaKind
+router_body bytes = option_map_or (with_links bytes) (body_links bytes) (Err kinds.Body)
+
+-- a network-LSA's body, or its fault: 4 bytes are the mask, and each 4 bytes behind it are a router
+abbrev pub network_body : List ℕ → Result Body LsaKind
+network_body bytes =
+    if nat_lt (length bytes) 4 then Err kinds.Body
+    else (if not (length bytes % 4 == 0) then Err kinds.Body
+    else Ok (Network (number_at 0 4 bytes) (numbers_in ((length bytes - 4) / 4) (drop 4 bytes))))
+
+-- the body of an LSA of this type, or its first fault; of types other than 1 and 2 it is any bytes
+abbrev pub typed_body : ℕ → List ℕ → Result Body LsaKind
+typed_body kind bytes = if kind == 1 then router_body bytes else (if kind == 2 then network_body bytes else Ok (Other bytes))
+
+-- the LSA of this body and its length
+abbrev pub with_body : ℕ → List ℕ → Result Body LsaKind → Result (Lsa × ℕ) LsaKind
+with_body at bytes (Ok body) = Ok (lsa_in at bytes body, length_field bytes)
+with_body at bytes (Err kind) = Err kind
 
 -- the LSA at the front and its length, or its first fault
 abbrev pub record_in : ℕ → List ℕ → Result (Lsa × ℕ) LsaKind
 record_in at bytes =
-    option_map_or Err (header_fault bytes) (option_map_or (with_links at bytes) (body_links (body_bytes bytes)) (Err kinds.Body))
+    option_map_or Err (header_fault bytes) (with_body at bytes (typed_body (number_at 3 1 bytes) (body_bytes bytes)))
 
 -- the answer is this LSA, or this fault at this place, or there was no memory
 abbrev pub Answers : ℕ → Result (Lsa × ℕ) LsaKind → Result (Lsa × ℕ) LsaError → Type 0

@@ -1,6 +1,8 @@
 //! LSAs as bytes: the link state advertisements of OSPFv2 (RFC 2328, section A.4), one after another.
 #![tactic(auto)]
 
+mod body;
+mod checksum;
 mod error;
 mod field;
 mod link;
@@ -8,6 +10,7 @@ mod lsa;
 mod reading;
 mod record;
 
+pub use checksum::sums;
 pub use error::{LsaError, LsaKind};
 pub use lsa::{Body, Lsa, RouterLink};
 pub use reading::read_lsas;

@@ -4,7 +4,7 @@ ghost use Rattle.std.specs.Prelude.{◌≡◌, ◌≤◌, IfOk, IfSome, length};
 ghost use Rattle.std.specs.List.{list_any};
 ghost use Rattle.std.specs.Option.{option_map};
 ghost use Rattle.ospf_lsa.specs.Reading.{first_link, links_in};
-ghost use Rattle.ospf_lsa.specs.RouterLsas.{has_zero_metric};
+ghost use Rattle.ospf_lsa.specs.Lsas.{has_zero_metric};
 
 use crate::field::{behind, number_8, number_16, number_32, numbers};
 use crate::lsa::RouterLink;

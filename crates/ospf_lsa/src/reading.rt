@@ -1,34 +1,38 @@
 //! A whole database.
 
-ghost use Rattle.std.specs.Prelude.{◌≡◌, ◌≤◌, List, IfOk, length};
+ghost use Rattle.std.specs.Prelude.{◌≡◌, ◌≤◌, ℕ, List, IfOk, Err, length};
 ghost use Rattle.ospf_lsa.specs.declared.lsa.Lsa.{Lsa};
 ghost use Rattle.ospf_lsa.specs.LsaText.{lsas_text};
-ghost use Rattle.ospf_lsa.specs.Outcome.{AreAnswer};
-ghost use Rattle.ospf_lsa.specs.RouterLsas.{AreRouterLsas};
+ghost use Rattle.ospf_lsa.specs.Outcome.{AreAnswer, IsFirstFault, IsRefusal};
+ghost use Rattle.ospf_lsa.specs.Lsas.{AreLsas};
 
-use crate::error::LsaError;
+use crate::error::{LsaError, LsaKind};
 use crate::field::behind;
 use crate::lsa::Lsa;
 use crate::record::record;
 use std::alloc::Global;
 
-/// The router-LSAs that the bytes are, one after another and nothing between them (RFC 2328, section A.4). There are
-/// at most 8,388,608 bytes.
+/// The LSAs that the bytes are, one after another and nothing between them (RFC 2328, section A.4). There are at most
+/// 8,388,608 bytes; no bytes are no LSAs.
 ///
-/// Each is without the faults of [`LsaKind`](crate::LsaKind); of its checksum nothing is asked, and it is kept as it
-/// stands. LSAs of other types are not read yet. It is one pass, and the links of each LSA are reserved once.
+/// Each is without the faults of [`LsaKind`](crate::LsaKind). A router-LSA and a network-LSA are read as such; of LSAs
+/// of other types length, checksum and sequence number are looked at, and the body is kept as bytes. It is one pass, and
+/// each body's room is reserved once.
 ///
 /// # Errors
 ///
-/// [`LsaError::Fault`] names the first record with a fault and its first fault, an LSA of another type as
-/// [`LsaKind::Body`](crate::LsaKind::Body). No clause says yet which place and which kind it names.
-/// [`LsaError::NoMemory`] comes where there was none for a list.
+/// [`LsaError::Fault`] names the first record with a fault and the first of its faults in the order of
+/// [`LsaKind`](crate::LsaKind). [`LsaError::NoMemory`] comes where there was none for a list.
 pub fn read_lsas(alloc: Global, bytes: &[u8]) -> Result<Vec<Lsa>, LsaError>
     requires { length bytes.now ≤ 8388608 }
     // What is read is spelled so, each at its place.
-    ensures found { IfOk result (λ lsas. AreRouterLsas 0 lsas.items × (bytes.now ≡ lsas_text lsas.items)) }
+    ensures found { IfOk result (λ lsas. AreLsas 0 lsas.items × (bytes.now ≡ lsas_text lsas.items)) }
     // What is spelled so is read.
-    ensures only { (lsas : List Lsa) → AreRouterLsas 0 lsas → bytes.now ≡ lsas_text lsas → AreAnswer lsas result }
+    ensures only { (lsas : List Lsa) → AreLsas 0 lsas → bytes.now ≡ lsas_text lsas → AreAnswer lsas result }
+
+    // A fault is the first one, and the first one is told.
+    ensures fault { (at : ℕ) (kind : LsaKind) → result ≡ Err (LsaError.Fault at kind) → IsFirstFault bytes.now at kind }
+    ensures faulty { (at : ℕ) (kind : LsaKind) → IsFirstFault bytes.now at kind → IsRefusal (LsaError.Fault at kind) result }
 {
     let mut lsas = Vec::new(alloc);
     let mut at = 0;

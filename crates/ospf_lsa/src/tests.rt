@@ -19,7 +19,7 @@ const STUB: [u8; 36] = [
 /// The same with two TOS entries behind the link.
 const ENTRIES: [u8; 44] = [
     0x00, 0x01, 0x02, 0x01, 0x01, 0x01, 0x01, 0x01, 0x01, 0x01, 0x01, 0x01, 0x80, 0x00, 0x00, 0x01,
-    0xa0, 0xa6, 0x00, 0x2c, 0x00, 0x00, 0x00, 0x01, 0x01, 0x01, 0x01, 0x01, 0xff, 0xff, 0xff, 0xff,
+    0xc3, 0x56, 0x00, 0x2c, 0x00, 0x00, 0x00, 0x01, 0x01, 0x01, 0x01, 0x01, 0xff, 0xff, 0xff, 0xff,
     0x03, 0x02, 0x01, 0x02, 0x08, 0x00, 0x00, 0x07, 0x10, 0x00, 0x01, 0x00,
 ];
 
@@ -34,6 +34,13 @@ const TRIANGLE: [u8; 144] = [
     0x00, 0x01, 0x02, 0x01, 0x03, 0x03, 0x03, 0x03, 0x03, 0x03, 0x03, 0x03, 0x80, 0x00, 0x00, 0x01,
     0xeb, 0x20, 0x00, 0x30, 0x00, 0x00, 0x00, 0x02, 0x01, 0x01, 0x01, 0x01, 0x00, 0x00, 0x00, 0x01,
     0x01, 0x00, 0x00, 0x0a, 0x02, 0x02, 0x02, 0x02, 0x00, 0x00, 0x00, 0x02, 0x01, 0x00, 0x00, 0x0a,
+];
+
+/// A network of four routers.
+const NETWORK: [u8; 40] = [
+    0x00, 0x01, 0x02, 0x02, 0x0a, 0x00, 0x00, 0x04, 0x04, 0x04, 0x04, 0x04, 0x80, 0x00, 0x00, 0x01,
+    0xa4, 0x67, 0x00, 0x28, 0xff, 0xff, 0xff, 0x00, 0x04, 0x04, 0x04, 0x04, 0x01, 0x01, 0x01, 0x01,
+    0x02, 0x02, 0x02, 0x02, 0x03, 0x03, 0x03, 0x03,
 ];
 
 fn links(lsa: &Lsa) -> &[RouterLink] {
@@ -126,6 +133,63 @@ fn spoilt(places: &[(usize, u8)]) -> [u8; 144] {
     bytes
 }
 
+/// A check byte, in which a remainder 0 is written as 255 (RFC 905, annex B).
+fn check_byte(number: u32) -> u8 {
+    match number % 255 {
+        0 => 255,
+        byte => byte as u8,
+    }
+}
+
+/// Three records of 48 bytes with their checksums made anew.
+fn renewed(records: [u8; 144]) -> [u8; 144] {
+    let mut bytes = records;
+    for at in [0, 48, 96] {
+        if at < 97 {
+            bytes[at + 16] = 0;
+            bytes[at + 17] = 0;
+            let (first, second) = sums(&bytes[at + 2..at + 48]);
+            let (first, second) = (u32::from(first), u32::from(second));
+            bytes[at + 16] = check_byte(31 * first + 255 - second);
+            bytes[at + 17] = check_byte(32 * 255 + second - 32 * first);
+        }
+    }
+    bytes
+}
+
+#[test]
+fn sums_are_those_of_the_standard(rt: HostRuntime) -> Result<(), Fail> {
+    let mut zeroed = ALONE;
+    zeroed[16] = 0;
+    zeroed[17] = 0;
+    assert!(rt; sums(&zeroed[2..]) == (164, 77));
+    assert!(rt; sums(&ALONE[2..]) == (0, 0));
+    assert!(rt; sums(&[]) == (0, 0));
+    // 4,099 times the byte 1: 4,099 and 4,099 · 4,100 / 2, modulo 255
+    let ones = [1; 4099];
+    assert!(rt; sums(&ones) == (19, 190));
+    Ok(())
+}
+
+#[test]
+fn a_network_is_read(rt: HostRuntime) -> Result<(), Fail> {
+    let lsas = read_lsas(rt.alloc(), &NETWORK).ok().ok_or("it is read")?;
+    assert_eq!(rt; lsas.len(), 1);
+    for lsa in &lsas {
+        assert_eq!(rt; lsa.kind, 2);
+        assert_eq!(rt; lsa.id, 0x0a000004);
+        assert_eq!(rt; lsa.router, 0x04040404);
+        let Body::Network { mask, routers } = &lsa.body else {
+            return Err(Fail::from("no network"));
+        };
+        assert_eq!(rt; *mask, 0xffffff00);
+        assert!(rt;
+            routers.as_slice() == [0x04040404, 0x01010101, 0x02020202, 0x03030303].as_slice()
+        );
+    }
+    Ok(())
+}
+
 #[test]
 fn a_spoilt_record_is_named(rt: HostRuntime) {
     let cases = [
@@ -134,10 +198,9 @@ fn a_spoilt_record_is_named(rt: HostRuntime) {
         ([(115, 49), (115, 49)], 96, LsaKind::Truncated),
         ([(15, 0), (15, 0)], 0, LsaKind::ReservedSequence),
         ([(15, 0), (7, 0)], 0, LsaKind::ReservedSequence),
+        ([(51, 5), (63, 0)], 48, LsaKind::ReservedSequence),
         ([(55, 3), (55, 3)], 48, LsaKind::IdMismatch),
         ([(55, 3), (95, 0)], 48, LsaKind::IdMismatch),
-        ([(51, 2), (51, 2)], 48, LsaKind::Body),
-        ([(51, 5), (51, 5)], 48, LsaKind::Body),
         ([(71, 1), (71, 1)], 48, LsaKind::Body),
         ([(71, 3), (71, 3)], 48, LsaKind::Body),
         ([(71, 1), (83, 0)], 48, LsaKind::Body),
@@ -147,20 +210,56 @@ fn a_spoilt_record_is_named(rt: HostRuntime) {
         ([(35, 0), (35, 0)], 0, LsaKind::ZeroMetric),
         ([(47, 0), (47, 0)], 0, LsaKind::ZeroMetric),
         ([(44, 2), (47, 0)], 0, LsaKind::ZeroMetric),
-        ([(95, 0), (99, 2)], 48, LsaKind::ZeroMetric),
+        ([(95, 0), (103, 2)], 48, LsaKind::ZeroMetric),
     ];
     for (places, at, kind) in cases {
-        let answer = read_lsas(rt.alloc(), &spoilt(&places));
+        let answer = read_lsas(rt.alloc(), &renewed(spoilt(&places)));
         assert!(rt; is_fault(answer, at, kind), "the fault at {at}");
     }
 }
 
 #[test]
+fn a_spoilt_checksum_is_named(rt: HostRuntime) {
+    let cases = [
+        ([(16, 0), (17, 0)], 0),
+        ([(64, 0xa5), (64, 0xa5)], 48),
+        ([(65, 0x6b), (113, 0)], 48),
+        ([(98, 3), (98, 3)], 96),
+        ([(143, 11), (108, 0)], 96),
+        // before the later faults of the same record
+        ([(15, 0), (7, 0)], 0),
+        ([(71, 1), (83, 0)], 48),
+    ];
+    for (places, at) in cases {
+        let answer = read_lsas(rt.alloc(), &spoilt(&places));
+        assert!(rt;
+            is_fault(answer, at, LsaKind::Checksum),
+            "the fault at {at}"
+        );
+    }
+    // the age is not covered
+    assert!(rt; read_lsas(rt.alloc(), &spoilt(&[(0, 0x0e), (1, 0x10)])).is_ok());
+}
+
+#[test]
+fn a_spoilt_network_is_named(rt: HostRuntime) {
+    let mut bytes = NETWORK;
+    bytes[19] = 26;
+    bytes[16] = 0x8e;
+    bytes[17] = 0xab;
+    assert!(rt; is_fault(read_lsas(rt.alloc(), &bytes), 0, LsaKind::Body));
+    bytes[19] = 20;
+    bytes[16] = 0x46;
+    bytes[17] = 0x02;
+    assert!(rt; is_fault(read_lsas(rt.alloc(), &bytes), 0, LsaKind::Body));
+}
+
+#[test]
 fn other_bytes_are_no_fault(rt: HostRuntime) {
     let cases = [
-        // any age, options, checksum, flags and spare byte; a negative and a positive sequence number
+        // any age, options, flags and spare byte; a negative and a positive sequence number
         [(0, 0xff), (1, 0xff)],
-        [(2, 0), (17, 0)],
+        [(2, 0), (2, 0)],
         [(20, 0xff), (21, 0xff)],
         [(12, 0xff), (12, 0xff)],
         [(12, 0), (12, 0)],
@@ -169,9 +268,13 @@ fn other_bytes_are_no_fault(rt: HostRuntime) {
         [(44, 4), (47, 0)],
         // two links with one ID
         [(36, 2), (39, 2)],
+        // other types, also where link state ID and advertising router differ
+        [(51, 2), (55, 3)],
+        [(51, 5), (55, 3)],
+        [(51, 0), (71, 9)],
     ];
     for places in cases {
-        let answer = read_lsas(rt.alloc(), &spoilt(&places));
+        let answer = read_lsas(rt.alloc(), &renewed(spoilt(&places)));
         assert!(rt; answer.is_ok());
     }
     assert!(rt; read_lsas(rt.alloc(), &ALONE).is_ok());

@@ -1,6 +1,6 @@
 use Rattle.std.proofs.Common.{◌≡◌, drop}
 use Rattle.std.specs.List.{list_any}
-use Rattle.ospf_lsa.specs.RouterLsas.{has_zero_metric}
+use Rattle.ospf_lsa.specs.Lsas.{has_zero_metric}
 use Rattle.ospf_lsa.proofs.link.any_zero_metric.Given as goal
 
 -- What is left decides.

@@ -4,7 +4,7 @@ use Rattle.std.proofs.Math.Facts.{Fits-lt-pow}
 use Rattle.std.proofs.lemmas.List.{length-drop}
 use Rattle.std.proofs.lemmas.Result.{err_from_is_err_and}
 use Rattle.ospf_lsa.specs.Reading.{record_in}
-use Rattle.ospf_lsa.proofs.Files.{read_none, read_more, none_read, all_read}
+use Rattle.ospf_lsa.proofs.Files.{read_none, read_more, none_read, all_read, no_fault, told_first, first_told}
 use Rattle.ospf_lsa.proofs.reading.read_lsas.Goals as goal
 
 pub returns-in_err-lsa-clause-only : goal.returns-in_err-lsa-clause-only
@@ -24,3 +24,18 @@ loop-at-init c = record { within = omega arith; read = rw c.new-lsas.ensures.ite
 
 pub returns-clause-only : goal.returns-clause-only
 returns-clause-only c = all_read c.args.bytes.now c.loop-at.lsas.items c.loop-at.at c.loop-at-test.false c.loop-at.invariant.read
+
+pub returns-in_err-lsa-clause-fault : goal.returns-in_err-lsa-clause-fault
+returns-in_err-lsa-clause-fault c = λ at kind told.
+    let p = err_from_is_err_and c.from_residual.result c.from_residual.ensures.1 in
+    let first = p.1 in
+    let second = p.2 in
+    told_first c.args.bytes.now c.behind.result.now c.loop-at.lsas.items c.loop-at.at c.in_err-lsa.field-0.0 c.loop-at-test.true c.loop-at.invariant.read c.behind.ensures c.in_err-lsa.ensures.answer at kind cc
+
+pub returns-in_err-lsa-clause-faulty : goal.returns-in_err-lsa-clause-faulty
+returns-in_err-lsa-clause-faulty c =
+    let p = err_from_is_err_and c.from_residual.result c.from_residual.ensures.1 in
+    rw (p.1, p.2) (first_told c.args.bytes.now c.behind.result.now c.loop-at.lsas.items c.loop-at.at c.in_err-lsa.field-0.0 c.loop-at-test.true c.loop-at.invariant.read c.behind.ensures c.in_err-lsa.ensures.answer)
+
+pub returns-clause-faulty : goal.returns-clause-faulty
+returns-clause-faulty c = no_fault c.args.bytes.now c.loop-at.lsas.items c.loop-at.at c.loop-at-test.false c.loop-at.invariant.read

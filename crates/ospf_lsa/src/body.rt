@@ -1,0 +1,77 @@
+//! What stands behind the header of an LSA, by its type.
+
+ghost use Rattle.std.specs.Prelude.{◌≡◌, ◌≤◌, IfOk, IfSome, length};
+ghost use Rattle.std.specs.Option.{option_map};
+ghost use Rattle.ospf_lsa.specs.Reading.{body_links, network_body, router_body, typed_body};
+
+use crate::error::LsaKind;
+use crate::field::{behind, number_8, number_16, number_32, numbers};
+use crate::link::{any_zero_metric, links};
+use crate::lsa::{Body, RouterLink};
+use mrt_graph::Seq;
+use std::alloc::{AllocError, Global};
+
+/// The LS type of a router-LSA (RFC 2328, section A.4.1).
+pub const ROUTER_LSA: u8 = 1;
+
+/// The LS type of a network-LSA (RFC 2328, section A.4.1).
+pub const NETWORK_LSA: u8 = 2;
+
+/// The body of an LSA of this type, or its first fault.
+pub fn body(alloc: Global, kind: u8, bytes: &[u8]) -> Result<Result<Body, LsaKind>, AllocError>
+    ensures { IfOk result (λ body. body ≡ typed_body kind bytes.now) }
+{
+    if kind == ROUTER_LSA {
+        return router(alloc, bytes);
+    }
+    if kind == NETWORK_LSA {
+        return network(alloc, bytes);
+    }
+    let bytes = Seq::from_vec(Vec::from_slice(alloc, bytes)?);
+    Ok(Ok(Body::Other { bytes }))
+}
+
+/// The body of a router-LSA (RFC 2328, section A.4.2).
+fn router(alloc: Global, bytes: &[u8]) -> Result<Result<Body, LsaKind>, AllocError>
+    ensures { IfOk result (λ body. body ≡ router_body bytes.now) }
+{
+    let Some(links) = links_of_body(alloc, bytes)? else {
+        return Ok(Err(LsaKind::Body));
+    };
+    if any_zero_metric(&links) {
+        return Ok(Err(LsaKind::ZeroMetric));
+    }
+    Ok(Ok(Body::Router {
+        flags: number_8(bytes, 0),
+        spare: number_8(bytes, 1),
+        links: Seq::from_vec(links),
+    }))
+}
+
+/// The links of a router-LSA's body, where it is one.
+fn links_of_body(alloc: Global, body: &[u8]) -> Result<Option<Vec<RouterLink>>, AllocError>
+    ensures links { IfOk result (λ links. option_map (λ v. v.items) links ≡ body_links body.now) }
+    ensures front { IfOk result (λ links. IfSome links (λ v. 4 ≤ length body.now)) }
+{
+    if body.len() < 4 {
+        return Ok(None);
+    }
+    links(alloc, &body[4..], number_16(body, 2))
+}
+
+/// The body of a network-LSA (RFC 2328, section A.4.3).
+fn network(alloc: Global, bytes: &[u8]) -> Result<Result<Body, LsaKind>, AllocError>
+    ensures { IfOk result (λ body. body ≡ network_body bytes.now) }
+{
+    if bytes.len() < 4 {
+        return Ok(Err(LsaKind::Body));
+    }
+    if bytes.len() % 4 != 0 {
+        return Ok(Err(LsaKind::Body));
+    }
+    let routers = numbers(alloc, behind(bytes, 4), (bytes.len() - 4) / 4)?;
+    Ok(Ok(Body::Network {
+        mask: number_32(bytes, 0),
+        routers: Seq::from_vec(routers),
+    }))
+}

@@ -1,0 +1,45 @@
+//! The Fletcher checksum (RFC 2328, section 12.1.7).
+
+ghost use Rattle.std.specs.Prelude.{◌≡◌, ◌≤◌, ◌<◌, length};
+ghost use Rattle.ospf_lsa.specs.Checksum.{sums_from, sums_of};
+
+/// So many bytes are summed before a remainder is taken. The second sum is then at most
+/// 254 + 4,096 · (254 + 255 · 4,096), which is less than 2³².
+const RUN: usize = 4096;
+
+/// The two Fletcher sums of the bytes, each below 255. For each byte the first sum becomes the first sum plus the byte,
+/// then the second becomes the second plus the first, both modulo 255 (RFC 905, annex B).
+///
+/// It takes no memory and reads the bytes once.
+pub fn sums(bytes: &[u8]) -> (u8, u8)
+    ensures value { result ≡ sums_of bytes.now }
+    ensures first { result.0 < 255 }
+    ensures second { result.1 < 255 }
+{
+    let mut sums = (0, 0);
+    let mut rest = bytes;
+    while !rest.is_empty() {
+        let (run, later) = rest.split_at(rest.len().min(RUN));
+        sums = added(sums, run);
+        rest = later;
+    }
+    sums
+}
+
+/// These sums with the bytes of a run added.
+fn added(before: (u8, u8), run: &[u8]) -> (u8, u8)
+    requires first { before.0 < 255 }
+    requires second { before.1 < 255 }
+    requires few { length run.now ≤ 4096 }
+    ensures value { result ≡ sums_from before.0 before.1 run.now }
+    ensures first_small { result.0 < 255 }
+    ensures second_small { result.1 < 255 }
+{
+    let mut first = u32::from(before.0);
+    let mut second = u32::from(before.1);
+    for &byte in run {
+        first += u32::from(byte);
+        second += first;
+    }
+    ((first % 255) as u8, (second % 255) as u8)
+}
