@@ -1,0 +1,6 @@
+pub mod Keys
+pub mod Rank
+pub mod Newest
+pub mod Entries
+pub mod Installing
+pub mod Store

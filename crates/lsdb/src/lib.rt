@@ -1,0 +1,11 @@
+//! The link-state database of an area: of each LSA the newest instance (RFC 2328, sections 12.1 and 13.1).
+#![tactic(auto)]
+
+mod change;
+mod compare;
+mod key;
+mod lsdb;
+
+pub use change::{Change, Conflict};
+pub use key::Key;
+pub use lsdb::Lsdb;
