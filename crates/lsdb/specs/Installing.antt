@@ -9,7 +9,7 @@ use Rattle.ospf_lsa.specs.declared.lsa.Body.{Body}
 use Rattle.ospf_lsa.specs.declared.lsa.Body.TheVariants.{Router, Network, Other}
 use Rattle.ospf_lsa.specs.declared.lsa.Lsa.{Lsa}
 use Rattle.lsdb.specs.declared.change.Change.{Change}
-use Rattle.lsdb.specs.declared.change.Change.TheVariants as changes
+use Rattle.lsdb.specs.declared.change.Change.TheVariants.{Added, Replaced, Older, Same, Clash}
 use Rattle.lsdb.specs.Entries.{Entry}
 use Rattle.lsdb.specs.Keys.{key_of, same_key}
 use Rattle.lsdb.specs.Newest.{same_but_age}
@@ -19,25 +19,29 @@ use Rattle.lsdb.specs.Rank.{rank_cmp}
 abbrev pub noted : Entry → ℕ → Entry
 noted entry at = record entry { differing = if is_some entry.differing then entry.differing else Some at }
 
--- an entry that an instance of its rank met, and whether they are alike
-abbrev pub met_alike : Entry → Lsa → Bool → Entry × Change
-met_alike entry lsa alike = if alike then (entry, changes.Same) else (noted entry lsa.at, changes.Clash)
+-- what an instance is to the one of its key that is there, where its rank stands so to that one's: newer, older, or of the same rank
+abbrev pub change_by : Ordering → Bool → Change
+change_by Greater alike = Replaced
+change_by Less alike = Older
+change_by Equal alike = if alike then Same else Clash
 
--- an entry that an instance met, whose rank stands so to its own: a greater rank replaces it, a smaller one leaves it
-abbrev pub met_by : Entry → Lsa → Ordering → Entry × Change
-met_by entry lsa Greater = (record { lsa = lsa; differing = None }, changes.Replaced)
-met_by entry lsa Less = (entry, changes.Older)
-met_by entry lsa Equal = met_alike entry lsa (same_but_age entry.lsa lsa)
+-- what an instance is to the one of its key that is there
+abbrev pub change_of : Lsa → Lsa → Change
+change_of there lsa = change_by (rank_cmp lsa there) (same_but_age there lsa)
 
--- an entry that an instance of its key met
-abbrev pub met : Entry → Lsa → Entry × Change
-met entry lsa = met_by entry lsa (rank_cmp lsa entry.lsa)
+-- an entry after that change: a newer instance takes its place, and a clash is noted
+abbrev pub changed : Entry → Lsa → Change → Entry
+changed entry lsa Replaced = record { lsa = lsa; differing = None }
+changed entry lsa Clash = noted entry lsa.at
+changed entry lsa Added = entry
+changed entry lsa Older = entry
+changed entry lsa Same = entry
 
--- entries with an LSA installed, and what that changed: the entry of its key meets it in its place, or a new one stands at the end
+-- entries with an LSA installed, and what that changed: the entry of its key changes in its place, or a new one stands at the end
 abbrev pub installed : List Entry → Lsa → List Entry × Change
-installed [] lsa = (record { lsa = lsa; differing = None } ∷ [], changes.Added)
+installed [] lsa = (record { lsa = lsa; differing = None } ∷ [], Added)
 installed (entry ∷ entries) lsa =
-    if same_key (key_of lsa) (key_of entry.lsa) then ((met entry lsa).0 ∷ entries, (met entry lsa).1)
+    if same_key (key_of lsa) (key_of entry.lsa) then (changed entry lsa (change_of entry.lsa lsa) ∷ entries, change_of entry.lsa lsa)
     else (entry ∷ (installed entries lsa).0, (installed entries lsa).1)
 
 -- the body is that of the LS type: 1 for a router, 2 for a network

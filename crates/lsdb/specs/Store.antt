@@ -1,11 +1,11 @@
 -- How the code keeps a database.
-use Rattle.std.specs.Prelude.{◌≡◌, ℕ, List, [], ◌∷◌, Option, length, map}
+use Rattle.std.specs.Prelude.{◌≡◌, ℕ, Bool, List, [], ◌∷◌, Option, Some, None, length, map}
 use Rattle.std.specs.List.{AllByRecursion}
 use Rattle.ospf_lsa.specs.declared.lsa.Lsa.{Lsa}
 use Rattle.lsdb.specs.declared.key.Key.{Key}
 use Rattle.lsdb.specs.Entries.{Entry, Database}
 use Rattle.lsdb.specs.Installing.{IsKept}
-use Rattle.lsdb.specs.Keys.{key_of}
+use Rattle.lsdb.specs.Keys.{key_of, same_key}
 
 -- the entries of these LSAs, each with the place of its differing instance
 abbrev pub entries_of : List Lsa → List (Option ℕ) → List Entry
@@ -18,3 +18,12 @@ pub record IsStore (keys : List Key) (lsas : List Lsa) (differing : List (Option
   pub keyed : keys ≡ map key_of lsas
   pub noted : length differing ≡ length lsas
   pub kept : AllByRecursion IsKept lsas
+
+-- whether an entry is of the key
+abbrev pub is_entry_of : Key → Entry → Bool
+is_entry_of key entry = same_key key (key_of entry.lsa)
+
+-- there is an entry, and it is of the key
+abbrev pub IsEntryOf : Key → Option Entry → Type 0
+IsEntryOf key None = ⊥
+IsEntryOf key (Some entry) = key_of entry.lsa ≡ key

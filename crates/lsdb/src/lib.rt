@@ -5,6 +5,7 @@ mod change;
 mod compare;
 mod key;
 mod lsdb;
+mod meet;
 
 pub use change::{Change, Conflict};
 pub use key::Key;

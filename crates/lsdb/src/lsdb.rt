@@ -1,17 +1,19 @@
 //! The database.
 
-ghost use Rattle.std.specs.Prelude.{◌≡◌, ◌<◌, [], None, Some, IfOk, OnOk, OnErr, IfErr, length, map, slice_get, slice_set};
-ghost use Rattle.std.specs.List.{AllByRecursion};
-ghost use Rattle.lsdb.specs.Installing.{installed, met, IsKept, IsBehind};
+ghost use Rattle.std.specs.Prelude.{◌≡◌, ◌<◌, ◌∷◌, ◌++◌, false, [], None, Some, IfOk, OnOk, OnErr, IfErr, length, map, slice_get, slice_set};
+ghost use Rattle.std.specs.List.{list_any, AllByRecursion};
+ghost use Rattle.lsdb.specs.Entries.{Entry};
+ghost use Rattle.lsdb.specs.Installing.{installed, change_of, changed, IsKept, IsBehind};
+ghost use Rattle.lsdb.specs.Keys.{key_of};
+ghost use Rattle.lsdb.specs.Store.{is_entry_of, IsEntryOf};
 
 use crate::change::Change;
-use crate::compare::{compare_ranks, same};
 use crate::key::Key;
+use crate::meet::meet;
 use indexmap::IndexSet;
 use mrt_graph::NoMemory;
 use ospf_lsa::Lsa;
 use std::alloc::Global;
-use std::cmp::Ordering;
 use std::marker::Model;
 
 /// A database of LSAs, which keeps of each key the first newest instance.
@@ -54,5 +56,52 @@ impl Lsdb {
         ensures kept { AllByRecursion IsKept result.now }
     {
         self.lsas.as_slice()
+    }
+
+    /// Installs an instance, and tells what it changed. After a refusal nothing has changed.
+    pub fn install(&mut self, lsa: Lsa) -> Result<Change, NoMemory>
+        requires kept { IsKept lsa }
+        requires behind { IsBehind self.old.greatest lsa.at }
+        ensures change { IfOk result (λ change. change ≡ (installed self.old.entries lsa).1) }
+        ensures entries { OnOk result (self.new.entries ≡ (installed self.old.entries lsa).0) }
+        ensures greatest { OnOk result (self.new.greatest ≡ Some lsa.at) }
+        ensures err { OnErr result (self.new ≡ self.old) }
+    {
+        let key = Key::of(&lsa);
+        match self.keys.get_index_of(&key) {
+            None => self.add(key, lsa),
+            Some(place) => Ok(self.meet(place, lsa)),
+        }
+    }
+
+    /// Puts an instance of a new key at the end.
+    fn add(&mut self, key: Key, lsa: Lsa) -> Result<Change, NoMemory>
+        requires kept { IsKept lsa }
+        requires key { key ≡ key_of lsa }
+        requires absent { list_any (is_entry_of key) self.old.entries ≡ false }
+        ensures change { IfOk result (λ change. change ≡ Change.Added) }
+        ensures entries { OnOk result (self.new.entries ≡ self.old.entries ++ record { lsa = lsa; differing = None } ∷ []) }
+        ensures greatest { OnOk result (self.new.greatest ≡ Some lsa.at) }
+        ensures err { OnErr result (self.new ≡ self.old) }
+    {
+        self.lsas.reserve(1)?;
+        self.differing.reserve(1)?;
+        self.keys.insert(key)?;
+        self.greatest = Some(lsa.at);
+        self.lsas.push_reserved(lsa);
+        self.differing.push_reserved(None);
+        Ok(Change::Added)
+    }
+
+    /// Lets an instance meet the entry of its key.
+    fn meet(&mut self, place: usize, lsa: Lsa) -> Change
+        requires kept { IsKept lsa }
+        requires there { IsEntryOf (key_of lsa) (slice_get self.old.entries place) }
+        ensures { (entry : Entry) → slice_get self.old.entries place ≡ Some entry
+            → (self.new ≡ record { entries = slice_set self.old.entries place (changed entry lsa (change_of entry.lsa lsa)); greatest = Some lsa.at })
+            × (result ≡ change_of entry.lsa lsa) }
+    {
+        self.greatest = Some(lsa.at);
+        meet(&mut self.lsas, &mut self.differing, place, lsa)
     }
 }
