@@ -3,4 +3,5 @@ pub mod Rank
 pub mod Newest
 pub mod Entries
 pub mod Installing
+pub mod Conflicts
 pub mod Store

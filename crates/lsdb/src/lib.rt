@@ -3,6 +3,7 @@
 
 mod change;
 mod compare;
+mod conflicts;
 mod key;
 mod lsdb;
 mod meet;

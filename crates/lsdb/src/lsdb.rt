@@ -2,12 +2,14 @@
 
 ghost use Rattle.std.specs.Prelude.{◌≡◌, ◌<◌, ◌∷◌, ◌++◌, false, [], None, Some, IfOk, OnOk, OnErr, IfErr, length, map, slice_get, slice_set};
 ghost use Rattle.std.specs.List.{list_any, AllByRecursion};
+ghost use Rattle.lsdb.specs.Conflicts.{least_conflict, settled_by};
 ghost use Rattle.lsdb.specs.Entries.{Entry};
 ghost use Rattle.lsdb.specs.Installing.{installed, change_of, changed, IsKept, IsBehind};
 ghost use Rattle.lsdb.specs.Keys.{key_of};
 ghost use Rattle.lsdb.specs.Store.{is_entry_of, IsEntryOf};
 
-use crate::change::Change;
+use crate::change::{Change, Conflict};
+use crate::conflicts::least;
 use crate::key::Key;
 use crate::meet::meet;
 use indexmap::IndexSet;
@@ -71,6 +73,17 @@ impl Lsdb {
         match self.keys.get_index_of(&key) {
             None => self.add(key, lsa),
             Some(place) => Ok(self.meet(place, lsa)),
+        }
+    }
+
+    /// A refusal where two newest instances of one key differ in more than their places and ages; of several such conflicts
+    /// the one with the least second place.
+    pub fn settled(&self) -> Result<(), Conflict>
+        ensures { result ≡ settled_by (least_conflict self.now.entries) }
+    {
+        match least(&self.lsas, &self.differing) {
+            None => Ok(()),
+            Some(conflict) => Err(conflict),
         }
     }
 
