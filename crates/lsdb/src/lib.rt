@@ -11,3 +11,6 @@ mod meet;
 pub use change::{Change, Conflict};
 pub use key::Key;
 pub use lsdb::Lsdb;
+
+#[cfg(test)]
+mod tests;
