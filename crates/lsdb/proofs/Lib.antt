@@ -1,0 +1,4 @@
+pub mod Stores
+pub mod Least
+pub mod Ranks
+pub mod Tops

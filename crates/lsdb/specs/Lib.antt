@@ -1,0 +1,7 @@
+pub mod Keys
+pub mod Rank
+pub mod Newest
+pub mod Entries
+pub mod Installing
+pub mod Conflicts
+pub mod Store

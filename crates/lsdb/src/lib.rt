@@ -1,0 +1,16 @@
+//! The link-state database of an area: of each LSA the newest instance (RFC 2328, sections 12.1 and 13.1).
+#![tactic(auto)]
+
+mod change;
+mod compare;
+mod conflicts;
+mod key;
+mod lsdb;
+mod meet;
+
+pub use change::{Change, Conflict};
+pub use key::Key;
+pub use lsdb::Lsdb;
+
+#[cfg(test)]
+mod tests;

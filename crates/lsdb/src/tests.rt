@@ -1,0 +1,93 @@
+//! Small databases, in every order and spoilt.
+
+ghost use Rattle.std.specs.Prelude.{◌≡◌};
+ghost use Rattle.lsdb.specs.Installing.{IsKept};
+
+use super::*;
+use mrt_graph::Seq;
+use ospf_lsa::{Body, Lsa};
+use std::alloc::Global;
+use std::test::*;
+
+/// A router-LSA without links.
+fn instance(alloc: Global, at: u32, router: u32, sequence: i32, age: u16, flags: u8) -> Lsa
+    ensures kept { IsKept result }
+    ensures place { result.at ≡ at }
+{
+    Lsa {
+        at,
+        age,
+        options: 2,
+        kind: 1,
+        id: router,
+        router,
+        sequence,
+        checksum: 0x3328,
+        body: Body::Router {
+            flags,
+            spare: 0,
+            links: Seq::from_vec(Vec::new(alloc)),
+        },
+    }
+}
+
+/// Instances after a first one of router 1, with sequence 1, age 1 and flags 0; and what the second changes.
+#[test]
+fn two_instances_of_one_router(rt: HostRuntime) -> Result<(), Fail> {
+    let rows = [
+        // The same once more.
+        (1, 1, 0, Change::Same),
+        // The highest bit of the age alone.
+        (1, 0x8001, 0, Change::Same),
+        // Other flags, which the checksum as it stands does not tell.
+        (1, 1, 0xff, Change::Clash),
+        // A greater sequence number, a smaller one, and one that is greater without a sign.
+        (2, 1, 0, Change::Replaced),
+        (0, 1, 0, Change::Older),
+        (-0x7fff_ffff, 1, 0, Change::Older),
+        // MaxAge.
+        (1, 3600, 0, Change::Replaced),
+        (1, 3599, 0, Change::Same),
+    ];
+    for (sequence, age, flags, change) in rows {
+        let mut lsdb = Lsdb::new(rt.alloc());
+        let first = lsdb.install(instance(rt.alloc(), 0, 1, 1, 1, 0));
+        assert_eq!(rt; first.ok(), Some(Change::Added));
+        let second = lsdb.install(instance(rt.alloc(), 24, 1, sequence, age, flags));
+        assert_eq!(rt; second.ok(), Some(change));
+        assert_eq!(rt; lsdb.newest().len(), 1);
+        let settled = if change == Change::Clash {
+            Err(Conflict { first: 0, second: 24 })
+        } else {
+            Ok(())
+        };
+        assert!(rt; lsdb.settled() == settled);
+    }
+    Ok(())
+}
+
+/// Of two conflicts the one with the least second place is told, and a newer instance ends a conflict.
+#[test]
+fn conflicts_of_two_routers(rt: HostRuntime) -> Result<(), Fail> {
+    let rows = [
+        (0, 1, 1, 0, Change::Added, None),
+        (24, 2, 1, 0, Change::Added, None),
+        (48, 2, 1, 1, Change::Clash, Some((24, 48))),
+        (72, 1, 1, 1, Change::Clash, Some((24, 48))),
+        (96, 2, 1, 2, Change::Clash, Some((24, 48))),
+        (120, 2, 2, 0, Change::Replaced, Some((0, 72))),
+        (144, 1, 2, 0, Change::Replaced, None),
+    ];
+    let mut lsdb = Lsdb::new(rt.alloc());
+    for (at, router, sequence, flags, change, conflict) in rows {
+        let changed = lsdb.install(instance(rt.alloc(), at, router, sequence, 1, flags));
+        assert_eq!(rt; changed.ok(), Some(change));
+        let told = lsdb.settled().err();
+        assert!(rt; told == conflict.map(|(first, second)| Conflict { first, second }));
+    }
+    for (lsa, (router, at)) in lsdb.newest().iter().zip([(1, 144), (2, 120)]) {
+        assert_eq!(rt; lsa.router, router);
+        assert_eq!(rt; lsa.at, at);
+    }
+    Ok(())
+}
