@@ -1,5 +1,5 @@
 -- The two sums, in parts.
-use Rattle.std.proofs.Common.{◌≡◌, ℕ, zero, suc, ◌+◌, ◌%◌, List, [], ◌∷◌, take, drop, refl, sym, ap, ◌∙◌}
+use Rattle.std.proofs.Common.{◌≡◌, ℕ, zero, suc, ◌+◌, ◌%◌, List, [], ◌∷◌, take, drop, refl, ap, ◌∙◌}
 use Rattle.ospf_lsa.specs.Checksum.{sums_from}
 
 -- the sums of a front and then of what is behind it are those of all
