@@ -116,7 +116,7 @@ met_database db es new i entry lsa change change' same same_change is =
     ∙ ap (λ (c : Change). holding (set es i (changed entry lsa c)) lsa.at) same_change
     ∙ ap (λ (e : List Entry). holding (set e i (changed entry lsa change')) lsa.at) same
 
-and_parts : (a b : Bool) → (a && b) ≡ true → (a ≡ true) × (b ≡ true)
+pub and_parts : (a b : Bool) → (a && b) ≡ true → (a ≡ true) × (b ≡ true)
 and_parts true b h = (refl, h)
 and_parts false b h = absurd cc
 
@@ -189,11 +189,11 @@ lacking key keys lsas places db store same =
     ap (list_any (is_entry_of key)) (sym same) ∙ any_of_keys key (entries_of lsas places)
     ∙ ap (list_any (same_key key)) (keys_of_entries lsas places store.noted ∙ sym store.keyed)
 
-chosen : {A : Type 0} (b : Bool) (x y : A) → b ≡ true → (if b then x else y) ≡ x
+pub chosen : {A : Type 0} (b : Bool) (x y : A) → b ≡ true → (if b then x else y) ≡ x
 chosen true x y h = refl
 chosen false x y h = absurd cc
 
-unchosen : {A : Type 0} (b : Bool) (x y : A) → b ≡ false → (if b then x else y) ≡ y
+pub unchosen : {A : Type 0} (b : Bool) (x y : A) → b ≡ false → (if b then x else y) ≡ y
 unchosen true x y h = absurd cc
 unchosen false x y h = refl
 

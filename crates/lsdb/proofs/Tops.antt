@@ -38,7 +38,7 @@ filter_eq p q h [] = refl
 filter_eq {X = X} p q h (x ∷ xs) =
     ap (λ (b : Bool). cond b (x ∷ filter p xs) (filter p xs)) (h x) ∙ ap (λ (r : List X). cond (q x) (x ∷ r) r) (filter_eq p q h xs)
 
-or_parts : (a b : Bool) → (a || b) ≡ false → (a ≡ false) × (b ≡ false)
+pub or_parts : (a b : Bool) → (a || b) ≡ false → (a ≡ false) × (b ≡ false)
 or_parts true b h = absurd cc
 or_parts false b h = (refl, h)
 
@@ -92,7 +92,7 @@ mutual_first false p l lsas m ms is rest h =
     let found = rest h in
     record { passes = found.passes; among = λ q yes. or_second (q l) (list_any q lsas) (found.among q yes) }
 
-first_of_filter : (p : Lsa → Bool) (lsas : List Lsa) (m : Lsa) (ms : List Lsa) → filter p lsas ≡ m ∷ ms → First p lsas m
+pub first_of_filter : (p : Lsa → Bool) (lsas : List Lsa) (m : Lsa) (ms : List Lsa) → filter p lsas ≡ m ∷ ms → First p lsas m
 first_of_filter p [] m ms h = absurd cc
 first_of_filter p (l ∷ lsas) m ms h = mutual_first (p l) p l lsas m ms refl (first_of_filter p lsas m ms) h
 
