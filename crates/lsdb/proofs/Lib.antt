@@ -3,4 +3,4 @@ pub mod Least
 pub mod Ranks
 pub mod Tops
 pub mod Arrivals
-pub mod Laws
+pub mod Lists
