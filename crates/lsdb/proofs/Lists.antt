@@ -198,7 +198,7 @@ step_by : (b : Bool) (lsas : List Lsa) (x : Lsa) → list_any (same_key (key_of 
 step_by true lsas x is = entries_there (keys_in lsas) lsas x is (keys_distinct lsas) (have_instances lsas)
 step_by false lsas x is =
     let none : newest_of lsas (key_of x) ≡ [] =
-      newest_is_tops lsas (key_of x) ∙ ap tops (pass_none (is_of (key_of x)) lsas (sym (any_key (key_of x) lsas) ∙ is)) in
+    newest_is_tops lsas (key_of x) ∙ ap tops (pass_none (is_of (key_of x)) lsas (sym (any_key (key_of x) lsas) ∙ is)) in
     ap (λ (r : List Entry × Change). r.0) (installed_new (entries_in lsas) x (any_entries (keys_in lsas) lsas (key_of x) (have_instances lsas) ∙ is))
     ∙ ap (λ (es : List Entry). es ++ record { lsa = x; differing = None } ∷ []) (sym (entries_other (keys_in lsas) lsas x is))
     ∙ sym (filter_map-append (λ key. entry_of (newest_of (lsas ++ x ∷ []) key)) (keys_in lsas) (key_of x ∷ [])

@@ -155,11 +155,11 @@ found_in key es i is =
     let at = position-Some (same_key key) (map (λ (e : Entry). key_of e.lsa) es) i key is in
     elim ((slice_get_cases es i).1) [
       | inl here ↦ record {
-          entry = here.0;
-          there = here.2;
-          same = subst (λ (k : Key). same_key key k ≡ true) (key_at es i here.0 key here.2) at.1;
-          first = λ k other lt there. subst (λ (n : Key). same_key key n ≡ false) (key_at es k other key there) (at.2 k lt)
-        }
+        entry = here.0;
+        there = here.2;
+        same = subst (λ (k : Key). same_key key k ≡ true) (key_at es i here.0 key here.2) at.1;
+        first = λ k other lt there. subst (λ (n : Key). same_key key n ≡ false) (key_at es k other key there) (at.2 k lt);
+      }
       | inr past ↦ absurd (omega (arith, length-map es (λ (e : Entry). key_of e.lsa), at.0, past.0))
     ]
 

@@ -86,7 +86,7 @@ mutual_first true p l lsas m ms is rest h =
     let same : l ≡ m = cc in
     record {
       passes = subst (λ (x : Lsa). p x ≡ true) same is;
-      among = λ q yes. ap (λ (b : Bool). b || list_any q lsas) (ap q same ∙ yes)
+      among = λ q yes. ap (λ (b : Bool). b || list_any q lsas) (ap q same ∙ yes);
     }
 mutual_first false p l lsas m ms is rest h =
     let found = rest h in
@@ -137,4 +137,3 @@ tops_step lsas x some =
     filter_eq (λ lsa. not (list_any (λ other. outranks other lsa) (lsas ++ x ∷ []))) (is_top_with lsas x)
     (λ l. ap not (list_any-append (λ other. outranks other l) lsas (x ∷ []))) (lsas ++ x ∷ [])
     ∙ filter-append (is_top_with lsas x) lsas (x ∷ []) ∙ joins lsas (tops lsas) x refl some
-

