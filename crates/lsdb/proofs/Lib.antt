@@ -2,3 +2,5 @@ pub mod Stores
 pub mod Least
 pub mod Ranks
 pub mod Tops
+pub mod Arrivals
+pub mod Lists

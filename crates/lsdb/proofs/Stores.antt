@@ -116,7 +116,7 @@ met_database db es new i entry lsa change change' same same_change is =
     ∙ ap (λ (c : Change). holding (set es i (changed entry lsa c)) lsa.at) same_change
     ∙ ap (λ (e : List Entry). holding (set e i (changed entry lsa change')) lsa.at) same
 
-and_parts : (a b : Bool) → (a && b) ≡ true → (a ≡ true) × (b ≡ true)
+pub and_parts : (a b : Bool) → (a && b) ≡ true → (a ≡ true) × (b ≡ true)
 and_parts true b h = (refl, h)
 and_parts false b h = absurd cc
 
@@ -155,11 +155,11 @@ found_in key es i is =
     let at = position-Some (same_key key) (map (λ (e : Entry). key_of e.lsa) es) i key is in
     elim ((slice_get_cases es i).1) [
       | inl here ↦ record {
-          entry = here.0;
-          there = here.2;
-          same = subst (λ (k : Key). same_key key k ≡ true) (key_at es i here.0 key here.2) at.1;
-          first = λ k other lt there. subst (λ (n : Key). same_key key n ≡ false) (key_at es k other key there) (at.2 k lt)
-        }
+        entry = here.0;
+        there = here.2;
+        same = subst (λ (k : Key). same_key key k ≡ true) (key_at es i here.0 key here.2) at.1;
+        first = λ k other lt there. subst (λ (n : Key). same_key key n ≡ false) (key_at es k other key there) (at.2 k lt);
+      }
       | inr past ↦ absurd (omega (arith, length-map es (λ (e : Entry). key_of e.lsa), at.0, past.0))
     ]
 
@@ -189,11 +189,11 @@ lacking key keys lsas places db store same =
     ap (list_any (is_entry_of key)) (sym same) ∙ any_of_keys key (entries_of lsas places)
     ∙ ap (list_any (same_key key)) (keys_of_entries lsas places store.noted ∙ sym store.keyed)
 
-chosen : {A : Type 0} (b : Bool) (x y : A) → b ≡ true → (if b then x else y) ≡ x
+pub chosen : {A : Type 0} (b : Bool) (x y : A) → b ≡ true → (if b then x else y) ≡ x
 chosen true x y h = refl
 chosen false x y h = absurd cc
 
-unchosen : {A : Type 0} (b : Bool) (x y : A) → b ≡ false → (if b then x else y) ≡ y
+pub unchosen : {A : Type 0} (b : Bool) (x y : A) → b ≡ false → (if b then x else y) ≡ y
 unchosen true x y h = absurd cc
 unchosen false x y h = refl
 

@@ -38,7 +38,7 @@ filter_eq p q h [] = refl
 filter_eq {X = X} p q h (x ∷ xs) =
     ap (λ (b : Bool). cond b (x ∷ filter p xs) (filter p xs)) (h x) ∙ ap (λ (r : List X). cond (q x) (x ∷ r) r) (filter_eq p q h xs)
 
-or_parts : (a b : Bool) → (a || b) ≡ false → (a ≡ false) × (b ≡ false)
+pub or_parts : (a b : Bool) → (a || b) ≡ false → (a ≡ false) × (b ≡ false)
 or_parts true b h = absurd cc
 or_parts false b h = (refl, h)
 
@@ -86,13 +86,13 @@ mutual_first true p l lsas m ms is rest h =
     let same : l ≡ m = cc in
     record {
       passes = subst (λ (x : Lsa). p x ≡ true) same is;
-      among = λ q yes. ap (λ (b : Bool). b || list_any q lsas) (ap q same ∙ yes)
+      among = λ q yes. ap (λ (b : Bool). b || list_any q lsas) (ap q same ∙ yes);
     }
 mutual_first false p l lsas m ms is rest h =
     let found = rest h in
     record { passes = found.passes; among = λ q yes. or_second (q l) (list_any q lsas) (found.among q yes) }
 
-first_of_filter : (p : Lsa → Bool) (lsas : List Lsa) (m : Lsa) (ms : List Lsa) → filter p lsas ≡ m ∷ ms → First p lsas m
+pub first_of_filter : (p : Lsa → Bool) (lsas : List Lsa) (m : Lsa) (ms : List Lsa) → filter p lsas ≡ m ∷ ms → First p lsas m
 first_of_filter p [] m ms h = absurd cc
 first_of_filter p (l ∷ lsas) m ms h = mutual_first (p l) p l lsas m ms refl (first_of_filter p lsas m ms) h
 
@@ -137,4 +137,3 @@ tops_step lsas x some =
     filter_eq (λ lsa. not (list_any (λ other. outranks other lsa) (lsas ++ x ∷ []))) (is_top_with lsas x)
     (λ l. ap not (list_any-append (λ other. outranks other l) lsas (x ∷ []))) (lsas ++ x ∷ [])
     ∙ filter-append (is_top_with lsas x) lsas (x ∷ []) ∙ joins lsas (tops lsas) x refl some
-

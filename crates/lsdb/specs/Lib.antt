@@ -5,3 +5,4 @@ pub mod Entries
 pub mod Installing
 pub mod Conflicts
 pub mod Store
+pub mod Installs

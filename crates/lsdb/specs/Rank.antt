@@ -12,7 +12,7 @@ is_at_max_age lsa = nat_le 3600 (lsa.age % 2 ^ 15)
 abbrev pub rank_cmp : Lsa → Lsa → Ordering
 rank_cmp one other =
     ordering_then (ordering_then (int_cmp one.sequence other.sequence) (nat_cmp one.checksum other.checksum))
-        (bool_cmp (is_at_max_age one) (is_at_max_age other))
+    (bool_cmp (is_at_max_age one) (is_at_max_age other))
 
 -- whether the first instance is newer than the other
 abbrev pub outranks : Lsa → Lsa → Bool

@@ -5,11 +5,13 @@ mod change;
 mod compare;
 mod conflicts;
 mod key;
+mod laws;
 mod lsdb;
 mod meet;
 
 pub use change::{Change, Conflict};
 pub use key::Key;
+pub use laws::entries_are_those_of_the_list;
 pub use lsdb::Lsdb;
 
 #[cfg(test)]

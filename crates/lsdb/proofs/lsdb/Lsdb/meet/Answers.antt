@@ -20,6 +20,8 @@ meet-requires-clause-key c =
 pub returns : goal.returns
 returns c = λ entry there.
     let there' = subst (λ (d : Database). slice_get d.entries c.args.place ≡ Some entry) (sym c.self.view_is) there in
-    let of_it = change_of entry.lsa c.args.lsa in
-    (met_database c.args.self.now _ _ c.args.place entry c.args.lsa of_it of_it (ap (λ (d : Database). d.entries) c.self.view_is) refl
-    (c.meet.ensures.entries entry there'), c.meet.ensures.change entry there')
+    let of_it = change_of entry.lsa c.args.lsa in (
+      met_database c.args.self.now _ _ c.args.place entry c.args.lsa of_it of_it (ap (λ (d : Database). d.entries) c.self.view_is) refl
+          (c.meet.ensures.entries entry there'),
+      c.meet.ensures.change entry there',
+    )
