@@ -1,5 +1,5 @@
 -- Instances that differ in nothing but place and age are alike, and alike is an equivalence.
-use Rattle.std.proofs.Common.{◌≡◌, ◌==◌, ◌&&◌, ℕ, Bool, true, false, List, refl}
+use Rattle.std.proofs.Common.{◌≡◌, ◌==◌, ◌&&◌, ℕ, Bool, true, List, refl}
 use Rattle.std.specs.Prelude.{nat_eq}
 use Rattle.std.specs.Cmp.{IsEquivalence, and_equiv, on_equiv}
 use Rattle.std.specs.Cmp.Lexicographic.{pointwise}

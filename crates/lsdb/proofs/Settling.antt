@@ -1,17 +1,17 @@
 -- A database has no conflict exactly where its list is settled.
 use Rattle.std.proofs.Common.{◌≡◌, ◌∙◌, ◌||◌, ◌&&◌, Bool, true, false, not, cond, List, [], ◌∷◌, Option, Some, None, if◌then◌else◌, refl, sym, ap, subst}
-use Rattle.std.specs.List.{filter, list_all, list_any, find, cons_option}
+use Rattle.std.specs.List.{list_all, list_any, find, cons_option}
 use Rattle.std.specs.Option.{option_map}
 use Rattle.ospf_lsa.specs.declared.lsa.Lsa.{Lsa}
 use Rattle.lsdb.specs.declared.change.Conflict.{Conflict}
 use Rattle.lsdb.specs.declared.key.Key.{Key}
 use Rattle.lsdb.specs.Conflicts.{conflict_of, earlier, least_conflict}
-use Rattle.lsdb.specs.Entries.{Entry, entry_of, entries_in}
+use Rattle.lsdb.specs.Entries.{entry_of, entries_in}
 use Rattle.lsdb.specs.Keys.{same_key, is_of, keys_in}
 use Rattle.lsdb.specs.Newest.{are_alike, newest_of, same_but_age, IsSettled}
 use Rattle.lsdb.proofs.Alike.{alike_equiv}
 use Rattle.lsdb.proofs.Arrivals.{HaveInstances, have_instances, any_key}
-use Rattle.lsdb.proofs.Lists.{Newest, entries_at, entry_from, newest_is_tops, newest_there, pass_none}
+use Rattle.lsdb.proofs.Lists.{entries_at, entry_from, newest_is_tops, newest_there, pass_none}
 use Rattle.lsdb.proofs.Stores.{and_parts, key_is}
 use Rattle.lsdb.proofs.Tops.{tops}
 
@@ -94,7 +94,7 @@ none_settled [] lsas have none key there = absurd cc
 none_settled (k ∷ keys) lsas have none key there =
     let newest = newest_there lsas k have.0 in
     let parts = none_of_two (conflict_of (entry_from newest.first newest.rest)) (least_conflict (entries_at lsas keys))
-      (sym (ap (λ (ts : List Lsa). least_conflict (cons_option (entry_of ts) (entries_at lsas keys))) newest.are) ∙ none) in
+    (sym (ap (λ (ts : List Lsa). least_conflict (cons_option (entry_of ts) (entries_at lsas keys))) newest.are) ∙ none) in
     key_by (same_key key k) key k keys lsas refl
     (subst (λ (ts : List Lsa). are_alike ts ≡ true) (sym newest.are) (alike_from newest.first newest.rest (no_place newest.first _ parts.0)))
     (none_settled keys lsas have.1 parts.1 key) there

@@ -18,5 +18,4 @@ pub fn entries_are_those_of_the_list()
 pub fn refuses_exactly_where_not_settled()
     ensures none { (lsas : List Lsa) → IsSettled lsas → least_conflict (entries_in lsas) ≡ None }
     ensures settled { (lsas : List Lsa) → least_conflict (entries_in lsas) ≡ None → IsSettled lsas }
-{
-}
+{}
