@@ -4,3 +4,5 @@ pub mod Ranks
 pub mod Tops
 pub mod Arrivals
 pub mod Lists
+pub mod Alike
+pub mod Settling

@@ -1,6 +1,6 @@
 -- After any list of installs the entries are those of the whole list.
-use Rattle.std.proofs.Common.{◌≡◌, ◌∙◌, ◌++◌, ◌||◌, ◌&&◌, ℕ, Bool, true, false, not, cond, List, [], ◌∷◌, Option, Some, None, if◌then◌else◌, refl, sym, ap, subst}
-use Rattle.std.specs.List.{filter, list_any, find, filter_map, cons_option, AllByRecursion}
+use Rattle.std.proofs.Common.{◌≡◌, ◌∙◌, ◌++◌, ◌||◌, ◌&&◌, Bool, true, false, not, cond, List, [], ◌∷◌, Option, Some, None, if◌then◌else◌, refl, sym, ap, subst}
+use Rattle.std.specs.List.{filter, list_any, find, filter_map, cons_option}
 use Rattle.std.specs.Option.{is_some, option_map}
 use Rattle.std.specs.declared.cmp.Ordering.{Ordering}
 use Rattle.std.specs.declared.cmp.Ordering.TheVariants.{Less, Equal, Greater}
@@ -40,7 +40,7 @@ filter_and p q r same [] = refl
 filter_and p q r same (x ∷ xs) = filter_by (p x) x (filter p xs) _ q r (same x) (filter_and p q r same xs)
 
 -- the newest instances of a key are those of the greatest rank among its instances
-newest_is_tops : (lsas : List Lsa) (key : Key) → newest_of lsas key ≡ tops (filter (is_of key) lsas)
+pub newest_is_tops : (lsas : List Lsa) (key : Key) → newest_of lsas key ≡ tops (filter (is_of key) lsas)
 newest_is_tops lsas key =
     filter_and (is_of key) (is_newest lsas) (λ lsa. not (list_any (λ other. outranks other lsa) (filter (is_of key) lsas)))
     (λ lsa of_key. ap not (ap (λ (k : Key). list_any (λ other. is_of k other && outranks other lsa) lsas) (key_is key (key_of lsa) of_key)
@@ -83,7 +83,7 @@ noted_by false m x (Some l) = refl
 noted_by false m x None = refl
 
 -- the entry of instances of the greatest rank
-abbrev entry_from : Lsa → List Lsa → Entry
+abbrev pub entry_from : Lsa → List Lsa → Entry
 entry_from m ms = record { lsa = m; differing = option_map (λ (l : Lsa). l.at) (find (λ lsa. not (same_but_age m lsa)) ms) }
 
 entry_joined_by : (r : Ordering) (m : Lsa) (ms : List Lsa) (x : Lsa)
@@ -111,11 +111,11 @@ newest_same lsas x key is =
     ∙ ap (λ (ts : List Lsa). joined ts x) (sym (newest_is_tops lsas key))
 
 -- the newest instances of a key that is there
-record Newest (lsas : List Lsa) (key : Key) : Type 0 where
-  first : Lsa
-  rest : List Lsa
-  are : newest_of lsas key ≡ first ∷ rest
-  of_key : key_of first ≡ key
+pub record Newest (lsas : List Lsa) (key : Key) : Type 0 where
+  pub first : Lsa
+  pub rest : List Lsa
+  pub are : newest_of lsas key ≡ first ∷ rest
+  pub of_key : key_of first ≡ key
 
 none_by : (b : Bool) (p : Lsa → Bool) (x : Lsa) (xs : List Lsa) → p x ≡ b → (filter p xs ≡ [] → list_any p xs ≡ false)
     → cond b (x ∷ filter p xs) (filter p xs) ≡ [] → (b || list_any p xs) ≡ false
@@ -131,7 +131,7 @@ pass_by : (b : Bool) (p : Lsa → Bool) (x : Lsa) (xs : List Lsa) → (list_any 
 pass_by true p x xs rest h = absurd cc
 pass_by false p x xs rest h = rest h
 
-pass_none : (p : Lsa → Bool) (xs : List Lsa) → list_any p xs ≡ false → filter p xs ≡ []
+pub pass_none : (p : Lsa → Bool) (xs : List Lsa) → list_any p xs ≡ false → filter p xs ≡ []
 pass_none p [] h = refl
 pass_none p (x ∷ xs) h = pass_by (p x) p x xs (pass_none p xs) h
 
@@ -142,11 +142,11 @@ newest_by (m ∷ ms) lsas key are there =
     let passes = (first_of_filter (λ lsa. is_of key lsa && is_newest lsas lsa) lsas m ms are).passes in
     record { first = m; rest = ms; are = are; of_key = key_is key (key_of m) (and_parts _ _ passes).0 }
 
-newest_there : (lsas : List Lsa) (key : Key) → list_any (is_of key) lsas ≡ true → Newest lsas key
+pub newest_there : (lsas : List Lsa) (key : Key) → list_any (is_of key) lsas ≡ true → Newest lsas key
 newest_there lsas key there = newest_by (newest_of lsas key) lsas key refl there
 
 -- the entries of these keys
-abbrev entries_at : List Lsa → List Key → List Entry
+abbrev pub entries_at : List Lsa → List Key → List Entry
 entries_at lsas keys = filter_map (λ key. entry_of (newest_of lsas key)) keys
 
 entries_other : (keys : List Key) (lsas : List Lsa) (x : Lsa) → list_any (same_key (key_of x)) keys ≡ false → entries_at (lsas ++ x ∷ []) keys ≡ entries_at lsas keys

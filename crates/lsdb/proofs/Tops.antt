@@ -1,7 +1,6 @@
 -- The instances of the greatest rank in a list, one more instance at a time.
-use Rattle.std.proofs.Common.{◌≡◌, ◌∙◌, ◌++◌, ◌||◌, Bool, true, false, not, cond, List, [], ◌∷◌, Option, Some, None, if◌then◌else◌, refl, sym, ap, subst}
-use Rattle.std.specs.List.{filter, list_any, find}
-use Rattle.std.specs.Option.{is_some, option_map}
+use Rattle.std.proofs.Common.{◌≡◌, ◌∙◌, ◌++◌, ◌||◌, Bool, true, false, not, cond, List, [], ◌∷◌, refl, sym, ap, subst}
+use Rattle.std.specs.List.{filter, list_any}
 use Rattle.std.specs.Ordering.{is_gt}
 use Rattle.std.specs.declared.cmp.Ordering.{Ordering}
 use Rattle.std.specs.declared.cmp.Ordering.TheVariants.{Less, Equal, Greater}
@@ -9,9 +8,6 @@ use Rattle.std.proofs.lemmas.List.{append-nil}
 use Rattle.std.proofs.lemmas.List.Folds.{list_any-append}
 use Rattle.std.proofs.lemmas.List.Elements.{filter-append}
 use Rattle.ospf_lsa.specs.declared.lsa.Lsa.{Lsa}
-use Rattle.lsdb.specs.Entries.{Entry, entry_of}
-use Rattle.lsdb.specs.Installing.{change_by, change_of, changed}
-use Rattle.lsdb.specs.Newest.{same_but_age}
 use Rattle.lsdb.specs.Rank.{rank_cmp, outranks}
 use Rattle.lsdb.proofs.Ranks.{flipped, none_outranks_itself, greater_is, greater_trans, above, same_above, same_below}
 

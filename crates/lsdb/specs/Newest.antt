@@ -1,8 +1,8 @@
 -- The newest instances of an LSA, and whether they agree.
-use Rattle.std.specs.Prelude.{◌≡◌, ℕ, Bool, true, false, not, ◌&&◌, ◌==◌, List, nat_eq, Contains}
+use Rattle.std.specs.Prelude.{◌≡◌, Bool, true, false, not, ◌&&◌, ◌==◌, List, nat_eq}
 use Rattle.std.specs.Cmp.Lexicographic.{pointwise}
 use Rattle.std.specs.Ordering.{int_eq}
-use Rattle.std.specs.List.{filter, list_any}
+use Rattle.std.specs.List.{filter, list_all, list_any}
 use Rattle.ospf_lsa.specs.declared.lsa.RouterLink.{RouterLink}
 use Rattle.ospf_lsa.specs.declared.lsa.Body.{Body}
 use Rattle.ospf_lsa.specs.declared.lsa.Body.TheVariants.{Router, Network, Other}
@@ -37,7 +37,10 @@ is_newest lsas lsa = not (list_any (λ other. is_of (key_of lsa) other && outran
 abbrev pub newest_of : List Lsa → Key → List Lsa
 newest_of lsas key = filter (λ lsa. is_of key lsa && is_newest lsas lsa) lsas
 
--- any two newest instances of one key differ in nothing but their place and their age
+-- whether any two of these instances differ in nothing but their place and their age
+abbrev pub are_alike : List Lsa → Bool
+are_alike lsas = list_all (λ one. list_all (same_but_age one) lsas) lsas
+
+-- the newest instances of each key are alike
 abbrev pub IsSettled : List Lsa → Type 0
-IsSettled lsas =
-    (key : Key) (one other : Lsa) → Contains (newest_of lsas key) one → Contains (newest_of lsas key) other → same_but_age one other ≡ true
+IsSettled lsas = (key : Key) → are_alike (newest_of lsas key) ≡ true

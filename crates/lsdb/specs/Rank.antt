@@ -1,5 +1,5 @@
 -- Which of two instances of an LSA is newer (RFC 2328, section 13.1).
-use Rattle.std.specs.Prelude.{◌%◌, ◌^◌, ℕ, Bool, ◌&&◌, ◌==◌, nat_le}
+use Rattle.std.specs.Prelude.{◌%◌, ◌^◌, Bool, nat_le}
 use Rattle.std.specs.Ordering.{int_cmp, nat_cmp, bool_cmp, ordering_then, is_gt}
 use Rattle.std.specs.declared.cmp.Ordering.{Ordering}
 use Rattle.ospf_lsa.specs.declared.lsa.Lsa.{Lsa}

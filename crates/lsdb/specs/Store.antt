@@ -3,7 +3,7 @@ use Rattle.std.specs.Prelude.{◌≡◌, ℕ, Bool, List, [], ◌∷◌, Option,
 use Rattle.std.specs.List.{AllByRecursion}
 use Rattle.ospf_lsa.specs.declared.lsa.Lsa.{Lsa}
 use Rattle.lsdb.specs.declared.key.Key.{Key}
-use Rattle.lsdb.specs.Entries.{Entry, Database}
+use Rattle.lsdb.specs.Entries.{Entry}
 use Rattle.lsdb.specs.Installing.{IsKept}
 use Rattle.lsdb.specs.Keys.{key_of, same_key}
 

@@ -11,7 +11,7 @@ mod meet;
 
 pub use change::{Change, Conflict};
 pub use key::Key;
-pub use laws::entries_are_those_of_the_list;
+pub use laws::{entries_are_those_of_the_list, refuses_exactly_where_not_settled};
 pub use lsdb::Lsdb;
 
 #[cfg(test)]

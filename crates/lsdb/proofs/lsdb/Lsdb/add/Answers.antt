@@ -1,7 +1,7 @@
-use Rattle.std.proofs.Common.{◌≡◌, ◌∙◌, ◌∷◌, ◌++◌, [], List, None, Option, ℕ, ap, sym}
+use Rattle.std.proofs.Common.{◌∙◌, ◌∷◌, ◌++◌, [], List, None, Option, ℕ, ap, sym}
 use Rattle.lsdb.proofs.Stores.{entries_added, lacking, store_added}
 use Rattle.ospf_lsa.specs.declared.lsa.Lsa.{Lsa}
-use Rattle.lsdb.specs.Entries.{Database, Entry}
+use Rattle.lsdb.specs.Entries.{Database}
 use Rattle.lsdb.specs.Store.{entries_of}
 use Rattle.lsdb.proofs.lsdb.Lsdb.add.Goals as goal
 

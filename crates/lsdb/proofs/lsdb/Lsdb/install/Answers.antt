@@ -4,8 +4,6 @@ use Rattle.lsdb.proofs.Stores.{found_at, found_is_of, lacking, installed_new, in
 use Rattle.lsdb.specs.declared.change.Change.{Change}
 use Rattle.lsdb.specs.declared.key.Key.{Key}
 use Rattle.lsdb.specs.Entries.{Database, Entry}
-use Rattle.lsdb.specs.Installing.{installed}
-use Rattle.lsdb.specs.Keys.{key_of}
 use Rattle.lsdb.specs.Store.{is_entry_of}
 use Rattle.lsdb.proofs.lsdb.Lsdb.install.Goals as goal
 

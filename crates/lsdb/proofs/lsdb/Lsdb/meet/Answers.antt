@@ -1,10 +1,9 @@
-use Rattle.std.proofs.Common.{refl, ◌∙◌, ap, sym, subst, Option, slice_get, Some, ◌≡◌, ◌<◌, List, length, get_or}
-use Rattle.lsdb.proofs.Stores.{Standing, standing, instance_of, met_database}
-use Rattle.lsdb.specs.Entries.{Database, Entry}
+use Rattle.std.proofs.Common.{refl, ap, sym, subst, slice_get, Some, ◌≡◌}
+use Rattle.lsdb.proofs.Stores.{standing, met_database}
+use Rattle.lsdb.specs.Entries.{Database}
 use Rattle.lsdb.specs.Installing.{change_of}
 use Rattle.lsdb.specs.Keys.{key_of}
 use Rattle.lsdb.specs.Store.{IsEntryOf}
-use Rattle.ospf_lsa.specs.declared.lsa.Lsa.{Lsa}
 use Rattle.lsdb.proofs.lsdb.Lsdb.meet.Goals as goal
 
 pub meet-requires-clause-inside : goal.meet-requires-clause-inside
