@@ -29,6 +29,7 @@ pub mod Separates
 pub mod Sound
 pub mod Spelling
 pub mod Tags
+pub mod TextLines
 pub mod Topology
 pub mod TreeRows
 pub mod Uses

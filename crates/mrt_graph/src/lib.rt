@@ -17,6 +17,10 @@ mod node_tests;
 mod node_text;
 mod numbers;
 mod seq;
+mod text_lines;
+mod text_numbers;
+#[cfg(test)]
+mod text_tests;
 
 pub use cert::{Cert, CertFile, CertLink, CertNode, Color, Role, Row, Tag};
 pub use cert_law::{accepted_implies_sound, accepted_rows_lead_on, accepted_tree_is_sound};
@@ -29,3 +33,5 @@ pub use node_id::{Kind, NodeId};
 pub use node_text::NodeText;
 pub use numbers::{LinkNo, NodeNo};
 pub use seq::Seq;
+pub use text_lines::{first_line, first_word, is_passed_over};
+pub use text_numbers::{read_address, read_number};
