@@ -96,7 +96,7 @@ network_spelled kind bytes body is e are = elim (cases_lt (length bytes) 4) [
   ]
 ]
 
-all_bytes : (bytes : List ℕ) → IsBytes bytes → AllByRecursion IsByte bytes
+pub all_bytes : (bytes : List ℕ) → IsBytes bytes → AllByRecursion IsByte bytes
 all_bytes [] are = tt
 all_bytes (byte ∷ bytes) are = (are 0, all_bytes bytes (λ i. are (suc i)))
 
@@ -112,7 +112,7 @@ body_spelled kind bytes body e are = elim (eqb_tells kind 1) [
   ]
 ]
 
-length_links : (links : List RouterLink) → length links ≤ length (flat_map link_text links)
+pub length_links : (links : List RouterLink) → length links ≤ length (flat_map link_text links)
 length_links [] = omega arith
 length_links (link ∷ links) = omega (arith, length-append (link_text link) (flat_map link_text links), length_link link, length_links links)
 

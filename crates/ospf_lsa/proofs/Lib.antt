@@ -1,6 +1,11 @@
 pub mod Bodies
 pub mod Files
+pub mod Fresh
+pub mod HeaderFaults
 pub mod Links
 pub mod Numbers
 pub mod Records
+pub mod Renewals
 pub mod SumParts
+pub mod Texts
+pub mod Writable

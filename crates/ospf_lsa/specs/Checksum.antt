@@ -1,5 +1,5 @@
 -- The Fletcher checksum of an LSA (RFC 2328, section 12.1.7; RFC 905, annex B).
-use Rattle.std.specs.Prelude.{ℕ, ◌+◌, ◌%◌, Bool, not, ◌&&◌, ◌==◌, List, [], ◌∷◌}
+use Rattle.std.specs.Prelude.{ℕ, ◌+◌, ◌-◌, ◌*◌, ◌%◌, Bool, not, ◌&&◌, ◌==◌, List, [], ◌∷◌, length, if◌then◌else◌}
 
 -- the two sums, that begin with these, behind these bytes: the first with each byte, the second with the first, both modulo 255
 abbrev pub sums_from : ℕ → ℕ → List ℕ → ℕ × ℕ
@@ -14,3 +14,20 @@ sums_of bytes = sums_from 0 0 bytes
 -- the sums of an LSA's bytes are long)
 unfoldable pub is_good : List ℕ → ℕ → Bool
 is_good covered checksum = ((sums_of covered).0 == 0) && (((sums_of covered).1 == 0) && not (checksum == 0))
+
+-- a check byte: a number modulo 255, where 0 is written as 255
+abbrev pub check_byte : ℕ → ℕ
+check_byte number = if number % 255 == 0 then 255 else number % 255
+
+-- the first byte of the checksum field of so many covered bytes, by the two sums of these with the field taken as 0. It is
+-- (count - 15) * first - second modulo 255; here 255 less a sum stands for its negative
+abbrev pub first_check : ℕ → ℕ × ℕ → ℕ
+first_check count sums = check_byte ((count - 15) * sums.0 + (255 - sums.1))
+
+-- the second byte of that field: second - (count - 14) * first modulo 255
+abbrev pub second_check : ℕ → ℕ × ℕ → ℕ
+second_check count sums = check_byte (sums.1 + (count - 14) * (255 - sums.0))
+
+-- the checksum of these bytes, in which its field is taken as 0 (to be unfolded, as `is_good`)
+unfoldable pub fresh_checksum : List ℕ → ℕ
+fresh_checksum covered = 256 * first_check (length covered) (sums_of covered) + second_check (length covered) (sums_of covered)

@@ -3,3 +3,4 @@ pub mod LsaText
 pub mod Lsas
 pub mod Outcome
 pub mod Reading
+pub mod Written

@@ -1,7 +1,7 @@
 //! The Fletcher checksum (RFC 2328, section 12.1.7).
 
-ghost use Rattle.std.specs.Prelude.{◌≡◌, ◌≤◌, ◌<◌, length};
-ghost use Rattle.ospf_lsa.specs.Checksum.{sums_from, sums_of};
+ghost use Rattle.std.specs.Prelude.{◌≡◌, ◌≤◌, ◌<◌, ◌+◌, ◌-◌, ◌*◌, length};
+ghost use Rattle.ospf_lsa.specs.Checksum.{sums_from, sums_of, check_byte, fresh_checksum};
 
 /// So many bytes are summed before a remainder is taken. The second sum is then at most
 /// 254 + 4,096 · (254 + 255 · 4,096), which is less than 2³².
@@ -42,4 +42,30 @@ fn added(before: (u8, u8), run: &[u8]) -> (u8, u8)
         second += first;
     }
     ((first % 255) as u8, (second % 255) as u8)
+}
+
+/// The checksum of the bytes that it covers, in which its field of two bytes, behind 14 others, is taken as 0 (RFC 905, annex B). Both
+/// sums of these bytes are 0 where the field holds it.
+#[tactic(auto, unfolding(crate::specs::Checksum::fresh_checksum))]
+pub fn fresh(covered: &[u8]) -> u16
+    requires few { length covered.now ≤ 65535 }
+    requires header { 18 ≤ length covered.now }
+    ensures { result ≡ fresh_checksum covered.now }
+{
+    let (first, second) = sums(covered);
+    let (first, second) = (u32::from(first), u32::from(second));
+    let count = covered.len() as u32;
+    let high = check(first * (count - 15) + (255 - second));
+    let low = check(second + (count - 14) * (255 - first));
+    256 * u16::from(high) + u16::from(low)
+}
+
+/// A check byte of this number, in which a remainder 0 is written as 255.
+fn check(number: u32) -> u8
+    ensures { result ≡ check_byte number }
+{
+    match number % 255 {
+        0 => 255,
+        byte => byte as u8,
+    }
 }

@@ -9,11 +9,13 @@ mod link;
 mod lsa;
 mod reading;
 mod record;
+mod writing;
 
 pub use checksum::sums;
 pub use error::{LsaError, LsaKind};
 pub use lsa::{Body, Lsa, RouterLink};
 pub use reading::read_lsas;
+pub use writing::write_lsa;
 
 #[cfg(test)]
 mod tests;

@@ -12,7 +12,7 @@ use mrt_graph::Seq;
 use std::alloc::{AllocError, Global};
 
 /// The bytes of a link without TOS entries.
-const LINK: usize = 12;
+pub const LINK: usize = 12;
 
 /// So many links and nothing behind them, where the bytes are that.
 pub fn links(alloc: Global, bytes: &[u8], count: u16) -> Result<Option<Vec<RouterLink>>, AllocError>

@@ -13,7 +13,7 @@ use crate::lsa::Lsa;
 use std::alloc::Global;
 
 /// The bytes of a header (RFC 2328, section A.4.1).
-const HEADER: usize = 20;
+pub const HEADER: usize = 20;
 
 /// The sequence number that no LSA has (RFC 2328, section 12.1.6).
 const RESERVED_SEQUENCE: u32 = 0x8000_0000;

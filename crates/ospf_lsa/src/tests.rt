@@ -1,6 +1,13 @@
 //! The databases of three small areas, whole and spoilt.
 
+ghost use Rattle.std.specs.Prelude.{◌≤◌, [], ◌∷◌};
+ghost use Rattle.ospf_lsa.specs.LsaText.{lsa_length};
+ghost use Rattle.ospf_lsa.specs.Outcome.{AreAnswer};
+ghost use Rattle.ospf_lsa.specs.Written.{HasShortLinks, IsOfType, IsReadable, renewed_at_front};
+
 use super::*;
+use mrt_graph::Seq;
+use std::alloc::Global;
 use std::test::*;
 
 /// One router without links.
@@ -211,6 +218,9 @@ fn a_spoilt_record_is_named(rt: HostRuntime) {
         ([(47, 0), (47, 0)], 0, LsaKind::ZeroMetric),
         ([(44, 2), (47, 0)], 0, LsaKind::ZeroMetric),
         ([(95, 0), (103, 2)], 48, LsaKind::ZeroMetric),
+        // of two records the first, whatever its fault
+        ([(35, 0), (63, 0)], 0, LsaKind::ZeroMetric),
+        ([(55, 3), (114, 0xff)], 48, LsaKind::IdMismatch),
     ];
     for (places, at, kind) in cases {
         let answer = read_lsas(rt.alloc(), &renewed(spoilt(&places)));
@@ -295,4 +305,182 @@ fn a_cut_record_is_named(rt: HostRuntime) {
             );
         }
     }
+}
+
+/// The LSAs of a file, each written again, one behind another.
+fn written_again(alloc: Global, bytes: &[u8]) -> Result<Vec<u8>, Fail> {
+    if bytes.len() > 8388608 {
+        return Err(Fail::from("too long"));
+    }
+    let Ok(lsas) = read_lsas(alloc, bytes) else {
+        return Err(Fail::from("not read"));
+    };
+    let mut all = Vec::new(alloc);
+    for lsa in &lsas {
+        let Ok(bytes) = write_lsa(alloc, lsa) else {
+            return Err(Fail::from("not written"));
+        };
+        all.extend_from_slice(&bytes)?;
+    }
+    Ok(all)
+}
+
+/// A file, and what its LSAs are when they are written again.
+struct Rewritten {
+    read: &'static [u8],
+    written: &'static [u8],
+}
+
+const REWRITTEN: &[Rewritten] = &[
+    Rewritten {
+        read: &[],
+        written: &[],
+    },
+    Rewritten {
+        read: &ALONE,
+        written: &ALONE,
+    },
+    Rewritten {
+        read: &STUB,
+        written: &STUB,
+    },
+    Rewritten {
+        read: &ENTRIES,
+        written: &ENTRIES,
+    },
+    Rewritten {
+        read: &TRIANGLE,
+        written: &TRIANGLE,
+    },
+    Rewritten {
+        read: &NETWORK,
+        written: &NETWORK,
+    },
+    // the first check byte has the remainder 0
+    Rewritten {
+        read: &[
+            0x00, 0x01, 0x02, 0x01, 0x01, 0x01, 0x01, 0x01, 0x01, 0x01, 0x01, 0x01, 0x80, 0x00,
+            0x00, 0x9a, 0x00, 0xc1, 0x00, 0x18, 0x00, 0x00, 0x00, 0x00,
+        ],
+        written: &[
+            0x00, 0x01, 0x02, 0x01, 0x01, 0x01, 0x01, 0x01, 0x01, 0x01, 0x01, 0x01, 0x80, 0x00,
+            0x00, 0x9a, 0xff, 0xc1, 0x00, 0x18, 0x00, 0x00, 0x00, 0x00,
+        ],
+    },
+    // the second one
+    Rewritten {
+        read: &[
+            0x00, 0x01, 0x02, 0x01, 0x01, 0x01, 0x01, 0x01, 0x01, 0x01, 0x01, 0x01, 0x80, 0x00,
+            0x00, 0xd8, 0x83, 0x00, 0x00, 0x18, 0x00, 0x00, 0x00, 0x00,
+        ],
+        written: &[
+            0x00, 0x01, 0x02, 0x01, 0x01, 0x01, 0x01, 0x01, 0x01, 0x01, 0x01, 0x01, 0x80, 0x00,
+            0x00, 0xd8, 0x83, 0xff, 0x00, 0x18, 0x00, 0x00, 0x00, 0x00,
+        ],
+    },
+    // both
+    Rewritten {
+        read: &[
+            0x00, 0x01, 0x02, 0x01, 0x01, 0x01, 0x01, 0x01, 0x01, 0x01, 0x01, 0x01, 0x80, 0x00,
+            0x7c, 0xdf, 0xff, 0x00, 0x00, 0x18, 0x00, 0x00, 0x00, 0x00,
+        ],
+        written: &[
+            0x00, 0x01, 0x02, 0x01, 0x01, 0x01, 0x01, 0x01, 0x01, 0x01, 0x01, 0x01, 0x80, 0x00,
+            0x7c, 0xdf, 0xff, 0xff, 0x00, 0x18, 0x00, 0x00, 0x00, 0x00,
+        ],
+    },
+];
+
+#[test]
+fn lsas_are_written_as_they_stood(rt: HostRuntime) -> Result<(), Fail> {
+    for case in REWRITTEN {
+        let written = written_again(rt.alloc(), case.read)?;
+        assert!(rt; written.as_slice() == case.written);
+    }
+    Ok(())
+}
+
+/// What is written of this LSA is read as this LSA alone.
+fn read_back(alloc: Global, lsa: &Lsa) -> Result<Vec<Lsa>, LsaError>
+    requires kind { IsOfType lsa.now.kind lsa.now.body }
+    requires entries { HasShortLinks lsa.now.body }
+    requires fits { lsa_length lsa.now ≤ 65535 }
+    requires readable { IsReadable lsa.now }
+    ensures { AreAnswer (renewed_at_front lsa.now ∷ []) result }
+{
+    let Ok(bytes) = write_lsa(alloc, lsa) else {
+        return Err(LsaError::NoMemory);
+    };
+    read_lsas(alloc, &bytes)
+}
+
+#[test]
+fn a_written_lsa_is_read_with_another_place_and_checksum(rt: HostRuntime) -> Result<(), Fail> {
+    let mut lsa = Lsa {
+        at: 7,
+        age: 0x8e10,
+        options: 0x22,
+        kind: 1,
+        id: 0x01020304,
+        router: 0x01020304,
+        sequence: -5,
+        checksum: 0xbeef,
+        body: Body::Router {
+            flags: 3,
+            spare: 9,
+            links: Seq::from_vec(Vec::new(rt.alloc())),
+        },
+    };
+    let lsas = read_back(rt.alloc(), &lsa).ok().ok_or("no memory")?;
+    lsa.at = 0;
+    lsa.checksum = 0xa206;
+    assert_eq!(rt; lsas.len(), 1);
+    for read in &lsas {
+        assert!(rt; *read == lsa);
+    }
+    Ok(())
+}
+
+/// An LSA of the greatest length, 65,535 bytes.
+fn longest(alloc: Global) -> Result<Vec<u8>, Fail> {
+    let lsa = Lsa {
+        at: 0,
+        age: 1,
+        options: 2,
+        kind: 10,
+        id: 0x0a000001,
+        router: 0x01010101,
+        sequence: -0x7fff_ffff,
+        checksum: 0,
+        body: Body::Other {
+            bytes: Seq::from_vec(vec![in alloc; 0x5a; 65515]?),
+        },
+    };
+    match write_lsa(alloc, &lsa) {
+        Ok(bytes) => Ok(bytes),
+        Err(_) => Err(Fail::from("not written")),
+    }
+}
+
+#[test]
+fn the_longest_lsas_are_read(rt: HostRuntime) -> Result<(), Fail> {
+    let record = longest(rt.alloc())?;
+    assert_eq!(rt; record.len(), 65535);
+    assert!(rt; record[16] == 0x17);
+    assert!(rt; record[17] == 0x5b);
+    let mut file = Vec::new(rt.alloc());
+    for _ in 0..5 {
+        file.extend_from_slice(&record)?;
+    }
+    assert_eq!(rt; file.len(), 327675);
+    let lsas = read_lsas(rt.alloc(), &file).ok().ok_or("they are read")?;
+    assert_eq!(rt; lsas.len(), 5);
+    for (lsa, at) in lsas.iter().zip([0, 65535, 131070, 196605, 262140]) {
+        assert_eq!(rt; lsa.at, at);
+        assert_eq!(rt; lsa.checksum, 0x175b);
+    }
+    let _ = file.pop();
+    let cut = read_lsas(rt.alloc(), &file);
+    assert!(rt; is_fault(cut, 262140, LsaKind::Truncated));
+    Ok(())
 }
