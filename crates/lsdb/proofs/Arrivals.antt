@@ -30,12 +30,12 @@ abbrev pub others : Key → List Key → List Key
 others first keys = filter (λ key. not (same_key first key)) keys
 
 -- a key that differs from the one left out is there as before
-any_other : (key first : Key) (keys : List Key) → same_key key first ≡ false → list_any (same_key key) (others first keys) ≡ list_any (same_key key) keys
+pub any_other : (key first : Key) (keys : List Key) → same_key key first ≡ false → list_any (same_key key) (others first keys) ≡ list_any (same_key key) keys
 any_other key first keys differ =
     any-filter_same (same_key key) (λ k. not (same_key first k)) true
     (λ k told. ap not (subst (λ (x : Key). same_key first x ≡ false) (sym (key_is key k told)) (differ_both key first differ))) keys
 
-first_is_there : (b : Bool) (key first : Key) (keys : List Key) → same_key key first ≡ b → list_any (same_key key) keys ≡ false → list_any (same_key key) (others first keys) ≡ false
+pub first_is_there : (b : Bool) (key first : Key) (keys : List Key) → same_key key first ≡ b → list_any (same_key key) keys ≡ false → list_any (same_key key) (others first keys) ≡ false
 first_is_there true key first keys is none =
     any-filter_same (same_key key) (λ k. not (same_key first k)) false
     (λ k told. ap not (subst (λ (x : Key). same_key first x ≡ true) (sym (key_is key k told)) (subst (λ (x : Key). same_key first x ≡ true) (key_is key first is) (own_key first)))) keys
@@ -89,11 +89,11 @@ distinct_by : (b : Bool) (first key : Key) (keys : List Key) → same_key first 
 distinct_by true first key keys is none rest = rest
 distinct_by false first key keys is none rest = (first_is_there (same_key key first) key first keys refl none, rest)
 
-distinct_others : (first : Key) (keys : List Key) → AreDistinct keys → AreDistinct (others first keys)
+pub distinct_others : (first : Key) (keys : List Key) → AreDistinct keys → AreDistinct (others first keys)
 distinct_others first [] distinct = tt
 distinct_others first (key ∷ keys) distinct = distinct_by (same_key first key) first key keys refl distinct.0 (distinct_others first keys distinct.1)
 
-none_left : (first : Key) (keys : List Key) → list_any (same_key first) (others first keys) ≡ false
+pub none_left : (first : Key) (keys : List Key) → list_any (same_key first) (others first keys) ≡ false
 none_left first keys = any-filter_same (same_key first) (λ k. not (same_key first k)) false (λ k told. ap not told) keys
 
 pub keys_distinct : (lsas : List Lsa) → AreDistinct (keys_in lsas)

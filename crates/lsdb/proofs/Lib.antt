@@ -6,3 +6,12 @@ pub mod Arrivals
 pub mod Lists
 pub mod Alike
 pub mod Settling
+pub mod Agreements
+pub mod Timeless
+pub mod Orders
+pub mod Reordered
+pub mod Tellings
+pub mod Conflicting
+pub mod Placed
+pub mod Readings
+pub mod Entered

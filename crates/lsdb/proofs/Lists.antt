@@ -25,7 +25,7 @@ and_by : (b : Bool) (x : Lsa) (xs : List Lsa) (q : Lsa → Bool) (rest : Bool) �
 and_by true x xs q rest is = ap (λ (r : Bool). q x || r) is
 and_by false x xs q rest is = is
 
-any_and : (p q : Lsa → Bool) (xs : List Lsa) → list_any (λ x. p x && q x) xs ≡ list_any q (filter p xs)
+pub any_and : (p q : Lsa → Bool) (xs : List Lsa) → list_any (λ x. p x && q x) xs ≡ list_any q (filter p xs)
 any_and p q [] = refl
 any_and p q (x ∷ xs) = and_by (p x) x (filter p xs) q _ (any_and p q xs)
 
@@ -156,7 +156,7 @@ entries_other (key ∷ keys) lsas x none =
     ap (λ (ts : List Lsa). cons_option (entry_of ts) (entries_at (lsas ++ x ∷ []) keys)) (newest_other lsas x key (differ_both (key_of x) key parts.0))
     ∙ ap (λ (es : List Entry). cons_option (entry_of (newest_of lsas key)) es) (entries_other keys lsas x parts.1)
 
-any_entries : (keys : List Key) (lsas : List Lsa) (key : Key) → HaveInstances lsas keys → list_any (is_entry_of key) (entries_at lsas keys) ≡ list_any (same_key key) keys
+pub any_entries : (keys : List Key) (lsas : List Lsa) (key : Key) → HaveInstances lsas keys → list_any (is_entry_of key) (entries_at lsas keys) ≡ list_any (same_key key) keys
 any_entries [] lsas key have = refl
 any_entries (k ∷ keys) lsas key have =
     let newest = newest_there lsas k have.0 in

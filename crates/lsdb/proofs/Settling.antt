@@ -15,7 +15,7 @@ use Rattle.lsdb.proofs.Lists.{entries_at, entry_from, newest_is_tops, newest_the
 use Rattle.lsdb.proofs.Stores.{and_parts, key_is}
 use Rattle.lsdb.proofs.Tops.{tops}
 
-both_true : (a b : Bool) → a ≡ true → b ≡ true → (a && b) ≡ true
+pub both_true : (a b : Bool) → a ≡ true → b ≡ true → (a && b) ≡ true
 both_true a b x y = ap (λ (c : Bool). c && b) x ∙ y
 
 all_found_by : (b : Bool) (m l : Lsa) (ls : List Lsa) → (list_all (same_but_age m) ls ≡ true → find (λ lsa. not (same_but_age m lsa)) ls ≡ None)
@@ -60,7 +60,7 @@ some_by : (c : Bool) (one other : Conflict) → (if c then Some other else Some 
 some_by true one other h = cc
 some_by false one other h = cc
 
-none_of_two : (one other : Option Conflict) → earlier one other ≡ None → (one ≡ None) × (other ≡ None)
+pub none_of_two : (one other : Option Conflict) → earlier one other ≡ None → (one ≡ None) × (other ≡ None)
 none_of_two None other h = (refl, h)
 none_of_two (Some one) None h = absurd cc
 none_of_two (Some one) (Some other) h = absurd (some_by _ one other h)

@@ -1,6 +1,9 @@
 -- The database's parts and its entries.
 use Rattle.std.proofs.Common.{◌≡◌, ◌∙◌, ◌<◌, ◌+◌, ◌++◌, ◌&&◌, ◌||◌, ◌==◌, ℕ, zero, suc, Bool, true, false, List, [], ◌∷◌, Option, Some, None, length, map, get_or, set, slice_get, if◌then◌else◌, refl, sym, ap, subst, inl, inr, arith}
-use Rattle.std.specs.List.{list_any, position, AllByRecursion}
+use Rattle.std.specs.List.{list_any, position, AllByRecursion, IsDistinct}
+use Rattle.std.specs.Cmp.{IsEquivalence, and_equiv, on_equiv}
+use Rattle.std.proofs.lemmas.Cmp.{nat_eq_equiv}
+use Rattle.std.proofs.lemmas.Map.Keys.{IsDistinct-push}
 use Rattle.std.specs.Option.{is_some, option_map}
 use Rattle.std.proofs.lemmas.Option.{get_or_from_slice_get, same_Some, slice_get-map, slice_get_cases}
 use Rattle.std.proofs.lemmas.List.{set-get_or, length-map, map-append, length-append}
@@ -220,11 +223,18 @@ kept_more : (lsas : List Lsa) (lsa : Lsa) → AllByRecursion IsKept lsas → IsK
 kept_more [] lsa kept more = (more, tt)
 kept_more (x ∷ lsas) lsa kept more = (kept.0, kept_more lsas lsa kept.1 more)
 
+key_equiv : IsEquivalence same_key
+key_equiv =
+    and_equiv (on_equiv (λ (k : Key). k.kind) nat_eq_equiv) (and_equiv (on_equiv (λ (k : Key). k.id) nat_eq_equiv) (on_equiv (λ (k : Key). k.router) nat_eq_equiv))
+
 -- the parts after an instance of a new key
 pub store_added : (keys keys' : List Key) (lsas lsas' : List Lsa) (places places' : List (Option ℕ)) (key : Key) (lsa : Lsa) → IsStore keys lsas places
     → keys' ≡ (if list_any (same_key key) keys then keys else keys ++ key ∷ []) → list_any (same_key key) keys ≡ false → key ≡ key_of lsa
     → lsas' ≡ lsas ++ lsa ∷ [] → places' ≡ places ++ None ∷ [] → IsKept lsa → IsStore keys' lsas' places'
 store_added keys keys' lsas lsas' places places' key lsa store inserted none is added noted_none kept = record {
+  distinct = subst (IsDistinct same_key) (sym (ap (map key_of) added ∙ map-append key_of lsas (lsa ∷ [])))
+      (IsDistinct-push key_equiv (map key_of lsas) (key_of lsa) store.distinct
+      (ap (list_any (same_key (key_of lsa))) (sym store.keyed) ∙ ap (λ (k : Key). list_any (same_key k) keys) (sym is) ∙ none));
   keyed = inserted ∙ unchosen (list_any (same_key key) keys) _ _ none ∙ ap (λ (k : Key). keys ++ k ∷ []) is
       ∙ ap (λ (ks : List Key). ks ++ key_of lsa ∷ []) store.keyed ∙ sym (map-append key_of lsas (lsa ∷ [])) ∙ ap (map key_of) (sym added);
   noted = ap length noted_none ∙ length-append places (None ∷ []) ∙ ap (λ (n : ℕ). n + 1) store.noted ∙ sym (length-append lsas (lsa ∷ [])) ∙ ap length (sym added);

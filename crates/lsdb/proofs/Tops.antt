@@ -51,7 +51,7 @@ absorbed true b h = refl
 absorbed false true h = let other = h refl in absurd cc
 absorbed false false h = refl
 
-not_true : (a : Bool) → not a ≡ true → a ≡ false
+pub not_true : (a : Bool) → not a ≡ true → a ≡ false
 not_true true h = absurd cc
 not_true false h = refl
 
@@ -64,7 +64,7 @@ beaten (l ∷ lsas) any x m is free =
     (outranked (any l) (outranks x l) (ap is_gt (above x l m parts.0 is)))
     ∙ beaten lsas any x m is parts.1
 
-unbeaten : (lsas : List Lsa) (x m : Lsa) → ((l : Lsa) → outranks l m ≡ false → outranks l x ≡ false) → list_any (λ other. outranks other m) lsas ≡ false
+pub unbeaten : (lsas : List Lsa) (x m : Lsa) → ((l : Lsa) → outranks l m ≡ false → outranks l x ≡ false) → list_any (λ other. outranks other m) lsas ≡ false
     → list_any (λ other. outranks other x) lsas ≡ false
 unbeaten [] x m below free = refl
 unbeaten (l ∷ lsas) x m below free =

@@ -1,6 +1,6 @@
 -- What names an LSA (RFC 2328, section 12.1).
-use Rattle.std.specs.Prelude.{Bool, not, ◌&&◌, ◌==◌, List, [], ◌∷◌}
-use Rattle.std.specs.List.{filter}
+use Rattle.std.specs.Prelude.{Bool, not, ◌&&◌, ◌==◌, List, [], ◌∷◌, map}
+use Rattle.std.specs.List.{filter, IsDistinct}
 use Rattle.ospf_lsa.specs.declared.lsa.Lsa.{Lsa}
 use Rattle.lsdb.specs.declared.key.Key.{Key}
 
@@ -20,3 +20,7 @@ is_of key lsa = same_key key (key_of lsa)
 abbrev pub keys_in : List Lsa → List Key
 keys_in [] = []
 keys_in (lsa ∷ lsas) = key_of lsa ∷ filter (λ key. not (same_key (key_of lsa) key)) (keys_in lsas)
+
+-- no two of these LSAs have one key
+abbrev pub AreDistinct : List Lsa → Type 0
+AreDistinct lsas = IsDistinct same_key (map key_of lsas)

@@ -6,3 +6,6 @@ pub mod Installing
 pub mod Conflicts
 pub mod Store
 pub mod Installs
+pub mod Orders
+pub mod Changes
+pub mod Disagreements

@@ -1,11 +1,23 @@
 //! Laws over whole lists of installs. They hold of the definitions alone; the functions do nothing.
 
-ghost use Rattle.std.specs.Prelude.{◌≡◌, List, [], None};
+ghost use Rattle.std.specs.Prelude.{◌≡◌, ◌↔◌, ◌⊎◌, List, [], None, Some, true, false, map, IsPermutation};
+ghost use Rattle.std.specs.Option.{option_map};
 ghost use Rattle.ospf_lsa.specs.declared.lsa.Lsa.{Lsa};
+ghost use Rattle.ospf_lsa.specs.Lsas.{IsLsa};
+ghost use Rattle.lsdb.specs.Changes.{HasRankOfFirst, IsOfNewKey, IsOutranked, OutranksAll};
 ghost use Rattle.lsdb.specs.Conflicts.{least_conflict};
+ghost use Rattle.lsdb.specs.Disagreements.{IsFirstConflictOf};
 ghost use Rattle.lsdb.specs.Entries.{entries_in};
-ghost use Rattle.lsdb.specs.Installs.{all_installed};
+ghost use Rattle.lsdb.specs.Installing.{installed, IsKept};
+ghost use Rattle.lsdb.specs.Installs.{all_installed, AreBehind};
+ghost use Rattle.lsdb.specs.Keys.{key_of, keys_in, AreDistinct};
 ghost use Rattle.lsdb.specs.Newest.{IsSettled};
+ghost use Rattle.lsdb.specs.Orders.{first_newest, newest_in, timeless, AreReordered, HoldTheSame};
+ghost use Rattle.lsdb.specs.Rank.{is_at_max_age};
+ghost use Rattle.lsdb.specs.declared.change.Conflict.{Conflict};
+ghost use Rattle.lsdb.specs.declared.key.Key.{Key};
+
+use crate::change::Change;
 
 /// After any list of installs into a database without LSAs, its entries are those of the whole list: for each key, in the
 /// order of first arrival, the first newest instance and the place of the first newest one that differs from it.
@@ -13,9 +25,56 @@ pub fn entries_are_those_of_the_list()
     ensures { (lsas : List Lsa) → all_installed [] lsas ≡ entries_in lsas }
 {}
 
+/// There is one first newest instance of each key of the list, in the order of first arrival, and no two are of one key.
+pub fn each_key_has_one_newest_instance()
+    ensures keys { (lsas : List Lsa) → map key_of (newest_in lsas) ≡ keys_in lsas }
+    ensures distinct { (lsas : List Lsa) → AreDistinct (newest_in lsas) }
+{}
+
 /// Such a database has no conflict exactly where, in the whole list, the newest instances of each key differ in nothing but
 /// their places and ages.
 pub fn refuses_exactly_where_not_settled()
     ensures none { (lsas : List Lsa) → IsSettled lsas → least_conflict (entries_in lsas) ≡ None }
     ensures settled { (lsas : List Lsa) → least_conflict (entries_in lsas) ≡ None → IsSettled lsas }
+{}
+
+/// The conflict of such a database is that of the list: the places of a key's first newest instance and of the first newest one that
+/// differs from it in more than place and age, and no other key has such a pair with a lesser second place. Where the places of the LSAs
+/// rise there is one such conflict at most.
+pub fn tells_the_first_conflict()
+    ensures told { (lsas : List Lsa) (conflict : Conflict) → least_conflict (entries_in lsas) ≡ Some conflict → IsFirstConflictOf lsas conflict }
+    ensures only { (lsas : List Lsa) (conflict : Conflict) → AreBehind None lsas → IsFirstConflictOf lsas conflict → least_conflict (entries_in lsas) ≡ Some conflict }
+{}
+
+/// What one more install tells, after any list of them, is what the LSA is to those of the list.
+pub fn each_change_is_told_of_the_list()
+    ensures added { (lsas : List Lsa) (lsa : Lsa) → ((installed (all_installed [] lsas) lsa).1 ≡ Change.Added) ↔ IsOfNewKey lsas lsa }
+    ensures replaced { (lsas : List Lsa) (lsa : Lsa) → ((installed (all_installed [] lsas) lsa).1 ≡ Change.Replaced) ↔ OutranksAll lsas lsa }
+    ensures older { (lsas : List Lsa) (lsa : Lsa) → ((installed (all_installed [] lsas) lsa).1 ≡ Change.Older) ↔ IsOutranked lsas lsa }
+    ensures same { (lsas : List Lsa) (lsa : Lsa) → ((installed (all_installed [] lsas) lsa).1 ≡ Change.Same) ↔ HasRankOfFirst lsas lsa true }
+    ensures clash { (lsas : List Lsa) (lsa : Lsa) → ((installed (all_installed [] lsas) lsa).1 ≡ Change.Clash) ↔ HasRankOfFirst lsas lsa false }
+{}
+
+/// Lists that hold the same LSAs but for their places, in whatever order and number, have the same keys, each of them at MaxAge in both or
+/// in neither, and are settled together. Where they are, their newest instances differ in nothing but place and the seconds of their age.
+pub fn the_same_lsas_give_the_same_database()
+    ensures settled { (lsas others : List Lsa) → HoldTheSame lsas others → IsSettled lsas ↔ IsSettled others }
+    ensures keys { (lsas others : List Lsa) → HoldTheSame lsas others → IsPermutation (keys_in lsas) (keys_in others) }
+    ensures aged { (lsas others : List Lsa) → HoldTheSame lsas others
+        → (key : Key) → option_map is_at_max_age (first_newest lsas key) ≡ option_map is_at_max_age (first_newest others key) }
+    ensures newest { (lsas others : List Lsa) → HoldTheSame lsas others → IsSettled lsas
+        → (key : Key) → option_map timeless (first_newest lsas key) ≡ option_map timeless (first_newest others key) }
+    ensures listed { (lsas others : List Lsa) → HoldTheSame lsas others → IsSettled lsas
+        → IsPermutation (map timeless (newest_in lsas)) (map timeless (newest_in others)) }
+    ensures timeless { (lsa : Lsa) → is_at_max_age (timeless lsa) ≡ is_at_max_age lsa }
+{}
+
+/// A list in another order, the places left out, holds the same LSAs.
+pub fn every_order_holds_the_same_lsas()
+    ensures { (lsas others : List Lsa) → AreReordered lsas others → HoldTheSame lsas others }
+{}
+
+/// An LSA without a fault that is a router-LSA or a network-LSA may be installed, but for its place.
+pub fn an_lsa_without_a_fault_may_be_installed()
+    ensures { (lsa : Lsa) → IsLsa lsa → (lsa.kind ≡ 1) ⊎ (lsa.kind ≡ 2) → IsKept lsa }
 {}

@@ -1,11 +1,12 @@
 //! The database.
 
-ghost use Rattle.std.specs.Prelude.{◌≡◌, ◌<◌, ◌∷◌, ◌++◌, false, [], None, Some, IfOk, OnOk, OnErr, IfErr, length, map, slice_get, slice_set};
+ghost use Rattle.std.specs.Prelude.{◌≡◌, ◌↔◌, ◌<◌, ◌∷◌, ◌++◌, false, [], None, Some, IfOk, OnOk, OnErr, IfErr, Ok, Err, Contains, length, map, slice_get, slice_set};
 ghost use Rattle.std.specs.List.{list_any, AllByRecursion};
 ghost use Rattle.lsdb.specs.Conflicts.{least_conflict, settled_by};
+ghost use Rattle.lsdb.specs.Disagreements.{IsFirstConflict};
 ghost use Rattle.lsdb.specs.Entries.{Entry};
 ghost use Rattle.lsdb.specs.Installing.{installed, change_of, changed, IsKept, IsBehind};
-ghost use Rattle.lsdb.specs.Keys.{key_of};
+ghost use Rattle.lsdb.specs.Keys.{key_of, AreDistinct};
 ghost use Rattle.lsdb.specs.Store.{is_entry_of, IsEntryOf};
 
 use crate::change::{Change, Conflict};
@@ -56,6 +57,7 @@ impl Lsdb {
     pub fn newest(&self) -> &[Lsa]
         ensures lsas { result.now ≡ map (λ entry. entry.lsa) self.now.entries }
         ensures kept { AllByRecursion IsKept result.now }
+        ensures distinct { AreDistinct result.now }
     {
         self.lsas.as_slice()
     }
@@ -79,7 +81,9 @@ impl Lsdb {
     /// A refusal where two newest instances of one key differ in more than their places and ages; of several such conflicts
     /// the one with the least second place.
     pub fn settled(&self) -> Result<(), Conflict>
-        ensures { result ≡ settled_by (least_conflict self.now.entries) }
+        ensures told { result ≡ settled_by (least_conflict self.now.entries) }
+        ensures ok { (result ≡ Ok tt) ↔ ((entry : Entry) → Contains self.now.entries entry → entry.differing ≡ None) }
+        ensures least { (conflict : Conflict) → result ≡ Err conflict → IsFirstConflict self.now.entries conflict }
     {
         match least(&self.lsas, &self.differing) {
             None => Ok(()),

@@ -1,10 +1,10 @@
 //! Small databases, in every order and spoilt.
 
-ghost use Rattle.std.specs.Prelude.{◌≡◌};
-ghost use Rattle.lsdb.specs.Installing.{IsKept};
+ghost use Rattle.std.specs.Prelude.{◌≡◌, Some, IfOk, OnOk};
+ghost use Rattle.lsdb.specs.Installing.{IsBehind, IsKept};
 
 use super::*;
-use mrt_graph::Seq;
+use mrt_graph::{NoMemory, Seq};
 use ospf_lsa::{Body, Lsa};
 use std::alloc::Global;
 use std::test::*;
@@ -75,26 +75,32 @@ fn two_instances_of_one_router(rt: HostRuntime) -> Result<(), Fail> {
     Ok(())
 }
 
+fn put(lsdb: &mut Lsdb, lsa: Lsa) -> Result<(), NoMemory>
+    requires kept { IsKept lsa }
+    requires behind { IsBehind lsdb.old.greatest lsa.at }
+    ensures { OnOk result (lsdb.new.greatest ≡ Some lsa.at) }
+{
+    lsdb.install(lsa)?;
+    Ok(())
+}
+
+/// Two routers with instances that differ: those of router 2 end first.
+fn spoilt(alloc: Global) -> Result<Lsdb, NoMemory>
+    ensures { IfOk result (λ lsdb. lsdb.greatest ≡ Some 96) }
+{
+    let mut lsdb = Lsdb::new(alloc);
+    put(&mut lsdb, instance(alloc, 0, 1, 1, 1, 0))?;
+    put(&mut lsdb, instance(alloc, 24, 2, 1, 1, 0))?;
+    put(&mut lsdb, instance(alloc, 48, 2, 1, 1, 1))?;
+    put(&mut lsdb, instance(alloc, 72, 1, 1, 1, 1))?;
+    put(&mut lsdb, instance(alloc, 96, 2, 1, 1, 2))?;
+    Ok(lsdb)
+}
+
 /// Of two conflicts the one with the least second place is told, and a newer instance ends one.
 #[test]
 fn conflicts_of_two_routers(rt: HostRuntime) -> Result<(), Fail> {
-    let alloc = rt.alloc();
-    let mut lsdb = Lsdb::new(alloc);
-    lsdb.install(instance(alloc, 0, 1, 1, 1, 0))
-        .ok()
-        .ok_or("no memory")?;
-    lsdb.install(instance(alloc, 24, 2, 1, 1, 0))
-        .ok()
-        .ok_or("no memory")?;
-    lsdb.install(instance(alloc, 48, 2, 1, 1, 1))
-        .ok()
-        .ok_or("no memory")?;
-    lsdb.install(instance(alloc, 72, 1, 1, 1, 1))
-        .ok()
-        .ok_or("no memory")?;
-    lsdb.install(instance(alloc, 96, 2, 1, 1, 2))
-        .ok()
-        .ok_or("no memory")?;
+    let mut lsdb = spoilt(rt.alloc()).ok().ok_or("no memory")?;
     assert!(rt;
         lsdb.settled()
             == Err(Conflict {
@@ -102,7 +108,7 @@ fn conflicts_of_two_routers(rt: HostRuntime) -> Result<(), Fail> {
                 second: 48
             })
     );
-    lsdb.install(instance(alloc, 120, 2, 2, 1, 0))
+    put(&mut lsdb, instance(rt.alloc(), 120, 2, 2, 1, 0))
         .ok()
         .ok_or("no memory")?;
     assert!(rt;
