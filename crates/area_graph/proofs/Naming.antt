@@ -1,0 +1,96 @@
+-- The arc that a router and link data name stands among those of the router's node.
+use Rattle.std.proofs.Common.{◌≡◌, ◌≢◌, ◌==◌, ◌&&◌, ◌∙◌, ℕ, Bool, true, false, List, [], ◌∷◌, get_or, inl, inr, refl, sym, ap, subst, arith, Some, None, Contains, slice_get}
+use Rattle.std.specs.List.{filter, find}
+use Rattle.std.specs.List.Sorted.{IsStrictlySortedBy}
+use Rattle.std.specs.Option.{option_map}
+use Rattle.std.specs.declared.cmp.Ordering.TheVariants.{Less, Equal}
+use Rattle.std.proofs.lemmas.Cmp.{tied_itself}
+use Rattle.std.proofs.lemmas.List.Elements.{Contains-get_or}
+use Rattle.std.proofs.lemmas.Map.Keys.{Less-from_sorted}
+use Rattle.std.proofs.lemmas.Option.{slice_get_cases, slice_get_within, get_or_from_slice_get}
+use Rattle.std.proofs.lemmas.Bool.{cases_lt}
+use Rattle.std.proofs.lemmas.Bool.Decides.{eqb_tells}
+use Rattle.mrt_graph.specs.NodeOrder.{node_id_cmp}
+use Rattle.mrt_graph.specs.declared.node_id.NodeId.{NodeId}
+use Rattle.area_graph.specs.declared.area_types.Arc.{Arc}
+use Rattle.area_graph.specs.AreaInvariant.{IsArea}
+use Rattle.area_graph.specs.Named.{has_name, bond_named}
+use Rattle.area_graph.specs.Nodes.{router, same_node}
+use Rattle.area_graph.specs.Parts.{AreaParts}
+use Rattle.area_graph.proofs.Placing.{node_id_total, one_node, same_itself}
+
+contained : (ids : List NodeId) (k : ℕ) (id : NodeId) → slice_get ids k ≡ Some id → Contains ids id
+contained ids k id at = subst (Contains ids) (get_or_from_slice_get ids k id id at) (Contains-get_or ids k id (slice_get_within ids k id at))
+
+-- of two different places of ascending identifiers the identifiers differ
+pub places_differ : (ids : List NodeId) (j k : ℕ) (id : NodeId) → IsStrictlySortedBy node_id_cmp ids → slice_get ids j ≡ Some id → slice_get ids k ≡ Some id → j ≡ k
+places_differ ids j k id ascend at_j at_k =
+    let tie : node_id_cmp id id ≡ Equal = tied_itself node_id_total id in
+    let is_j : get_or ids j id ≡ id = get_or_from_slice_get ids j id id at_j in
+    let is_k : get_or ids k id ≡ id = get_or_from_slice_get ids k id id at_k in
+    elim (cases_lt j k) [
+      | inl lt ↦
+          let less : node_id_cmp (get_or ids j id) (get_or ids k id) ≡ Less = Less-from_sorted node_id_cmp ids j k id ascend lt (slice_get_within ids k id at_k) in
+          absurd (less_is_not_equal (sym (subst (λ (x : NodeId). node_id_cmp x id ≡ Less) is_j (subst (λ (y : NodeId). node_id_cmp (get_or ids j id) y ≡ Less) is_k less)) ∙ tie))
+      | inr le ↦ elim (cases_lt k j) [
+        | inl lt ↦
+            let less : node_id_cmp (get_or ids k id) (get_or ids j id) ≡ Less = Less-from_sorted node_id_cmp ids k j id ascend lt (slice_get_within ids j id at_j) in
+            absurd (less_is_not_equal (sym (subst (λ (x : NodeId). node_id_cmp x id ≡ Less) is_k (subst (λ (y : NodeId). node_id_cmp (get_or ids k id) y ≡ Less) is_j less)) ∙ tie))
+        | inr le' ↦ omega (arith, le, le')
+      ]
+    ]
+  where
+    less_is_not_equal : Less ≡ Equal → ⊥
+    less_is_not_equal e = absurd cc
+
+-- the name of an arc, told by its tail's number
+named_by : (area : AreaParts) (number link_data s : ℕ) (arc : Arc) → IsStrictlySortedBy node_id_cmp area.ids → slice_get area.ids s ≡ Some (router number)
+    → has_name area number link_data arc ≡ ((arc.tail == s) && (arc.link_data == link_data))
+named_by area number link_data s arc ascend there = elim (eqb_tells arc.tail s) [
+  | inl same ↦
+      let tail : slice_get area.ids arc.tail ≡ Some (router number) = subst (λ (k : ℕ). slice_get area.ids k ≡ Some (router number)) (sym same.1) there in
+      rw (tail, same.0, same_itself (router number)) refl
+  | inr other ↦ elim (slice_get_cases area.ids arc.tail).1 [
+    | inl seen ↦ rw (seen.2, other.0) (differs (same_node (router number) seen.0) seen.0 refl seen.2 other.1)
+    | inr past ↦ rw (past.1, other.0) refl
+  ]
+]
+  where
+    differs : (b : Bool) (id : NodeId) → same_node (router number) id ≡ b → slice_get area.ids arc.tail ≡ Some id → arc.tail ≢ s → (same_node (router number) id && (arc.link_data == link_data)) ≡ false
+    differs true id e at other = absurd (other (places_differ area.ids arc.tail s (router number) ascend (subst (λ (x : NodeId). slice_get area.ids arc.tail ≡ Some x) (sym (one_node (router number) id e)) at) there))
+    differs false id e at other = rw e refl
+
+-- the first arc with that name is the first of its node's with that link data
+in_row : (area : AreaParts) (number link_data s : ℕ) (xs : List Arc) → IsStrictlySortedBy node_id_cmp area.ids → slice_get area.ids s ≡ Some (router number)
+    → find (λ arc. arc.link_data == link_data) (filter (λ arc. arc.tail == s) xs) ≡ find (has_name area number link_data) xs
+in_row area number link_data s [] ascend there = refl
+in_row area number link_data s (x ∷ xs) ascend there =
+    go (x.tail == s) (x.link_data == link_data) refl refl (in_row area number link_data s xs ascend there)
+  where
+    go : (a b : Bool) → (x.tail == s) ≡ a → (x.link_data == link_data) ≡ b
+        → find (λ arc. arc.link_data == link_data) (filter (λ arc. arc.tail == s) xs) ≡ find (has_name area number link_data) xs
+        → find (λ arc. arc.link_data == link_data) (filter (λ arc. arc.tail == s) (x ∷ xs)) ≡ find (has_name area number link_data) (x ∷ xs)
+    go true true a b rest = let n = named_by area number link_data s x ascend there in rw (n, a, b) refl
+    go true false a b rest = let n = named_by area number link_data s x ascend there in rw (n, a, b) rest
+    go false b' a b rest = let n = named_by area number link_data s x ascend there in rw (n, a) rest
+
+pub named_in_row : (area : AreaParts) (number link_data s : ℕ) → IsArea area → slice_get area.ids s ≡ Some (router number)
+    → option_map (λ arc. arc.bond) (find (λ arc. arc.link_data == link_data) (filter (λ arc. arc.tail == s) area.arcs)) ≡ bond_named area number link_data
+named_in_row area number link_data s kept there = ap (option_map (λ (arc : Arc). arc.bond)) (in_row area number link_data s area.arcs kept.ids_ascend there)
+
+-- no arc has the name of a router that is not there
+none_named : (area : AreaParts) (number link_data : ℕ) (xs : List Arc) → ¬ Contains area.ids (router number) → find (has_name area number link_data) xs ≡ None
+none_named area number link_data [] absent = refl
+none_named area number link_data (x ∷ xs) absent =
+    let quiet : has_name area number link_data x ≡ false = elim (slice_get_cases area.ids x.tail).1 [
+      | inl seen ↦ rw seen.2 (differs (same_node (router number) seen.0) seen.0 refl seen.2)
+      | inr past ↦ rw past.1 refl
+    ] in
+    rw quiet (none_named area number link_data xs absent)
+  where
+    differs : (b : Bool) (id : NodeId) → same_node (router number) id ≡ b → slice_get area.ids x.tail ≡ Some id → (same_node (router number) id && (x.link_data == link_data)) ≡ false
+    differs true id e at = absurd (absent (subst (Contains area.ids) (sym (one_node (router number) id e)) (contained area.ids x.tail id at)))
+    differs false id e at = rw e refl
+
+pub not_named : (area : AreaParts) (number link_data : ℕ) → ¬ Contains area.ids (router number) → bond_named area number link_data ≡ None
+not_named area number link_data absent = ap (option_map (λ (arc : Arc). arc.bond)) (none_named area number link_data area.arcs absent)

@@ -1,0 +1,12 @@
+use Rattle.std.proofs.Common.{◌∙◌, ◌++◌, Option, ap, arith}
+use Rattle.std.specs.Option.{option_to_list}
+use Rattle.area_graph.specs.declared.entry.Entry.{Entry}
+use Rattle.area_graph.proofs.Adding.{listed_more}
+use Rattle.area_graph.proofs.entries.add_listed.Goals as goal
+
+pub loop-place-preserved : goal.loop-place-preserved
+loop-place-preserved c = record {
+  whole = listed_more c.args.ids.now c.args.tail c.loop-place.place c.args.routers.now c.loop-place.found.items c.put.new.found.items _ c.loop-place-test.true
+      (c.put.ensures.items ∙ ap (λ (e : Option Entry). c.loop-place.found.items ++ option_to_list e) c.of_listed.ensures) c.loop-place.invariant.whole;
+  room = omega (arith, c.put.ensures.len, c.put.ensures.capacity, c.loop-place.invariant.room);
+}

@@ -1,0 +1,7 @@
+use Rattle.std.proofs.Common.{◌≡◌, ◌++◌, drop}
+use Rattle.area_graph.specs.Entries.{entries_from}
+use Rattle.area_graph.specs.Nodes.{speakers}
+use Rattle.area_graph.proofs.entries.entries.Given as goal
+
+abbrev pub invariant-loop-tail : goal.invariant-loop-tail
+invariant-loop-tail l = l.found.items ++ entries_from l.ids l.tail (drop l.tail (speakers l.lsas)) ≡ entries_from l.ids 0 (speakers l.lsas)

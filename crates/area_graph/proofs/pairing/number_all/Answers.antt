@@ -1,0 +1,130 @@
+use Rattle.std.proofs.Common.{◌≡◌, ◌∙◌, ◌<◌, ◌+◌, ◌++◌, ℕ, Bool, true, false, cond, if◌then◌else◌, List, [], ◌∷◌, None, length, map, take, get_or, refl, sym, ap, arith}
+use Rattle.std.specs.List.{AllByRecursion, Contains, position}
+use Rattle.std.specs.Option.{is_none, unwrap_or}
+use Rattle.std.proofs.lemmas.List.{get_or-map, get_or_default, length-map, map-append, map_more}
+use Rattle.std.proofs.lemmas.List.Elements.{All-from_recursion, Contains-get_or}
+use Rattle.area_graph.specs.declared.area_types.Arc.{Arc}
+use Rattle.area_graph.specs.declared.area_types.Bond.{Bond}
+use Rattle.area_graph.specs.declared.entry.Entry.{Entry}
+use Rattle.area_graph.specs.declared.pairing.Numbered.{Numbered}
+use Rattle.area_graph.specs.AreaOf.{bond_by, bond_from, numbered as with_bond}
+use Rattle.area_graph.specs.Arcs.{arc_cmp}
+use Rattle.area_graph.specs.Bonds.{is_of, pairs, ties, bond_of}
+use Rattle.area_graph.specs.InOrder.{in_order}
+use Rattle.area_graph.specs.Pairing.{AreOrdered, IsBetween, with_pair}
+use Rattle.area_graph.proofs.InOrder.{all_in_order, Contains-from_in_order}
+use Rattle.area_graph.proofs.Singles.{is_single, number_bound, number_is, ordered_arcs, single_is, single_of, ties_more, ties_upto}
+use Rattle.area_graph.proofs.pairing.number_all.Goals as goal
+
+-- what is read past the end of a list
+abbrev nothing : Entry
+nothing = record { tail = 0; far = 0; metric = 0; link_data = 0; place = 0 }
+
+abbrev unnumbered : Numbered
+unnumbered = record { arc = nothing; pair = None }
+
+-- what is known of the arc that the loop is at
+record At (arcs : List Entry) (x : Numbered) (place : ℕ) : Type 0 where
+  within : place < length (ordered_arcs arcs)
+  is : x ≡ with_pair arcs (get_or (ordered_arcs arcs) place nothing)
+  between : IsBetween (get_or (ordered_arcs arcs) place nothing)
+
+at_place : (arcs : List Entry) (numbered : List Numbered) (place : ℕ) → AllByRecursion IsBetween arcs → numbered ≡ map (with_pair arcs) (in_order arc_cmp arcs) → place < length numbered
+    → At arcs (get_or numbered place unnumbered) place
+at_place arcs numbered place between is under =
+    let long : length numbered ≡ length (ordered_arcs arcs) = ap length is ∙ length-map (ordered_arcs arcs) (with_pair arcs) in
+    let within : place < length (ordered_arcs arcs) = omega (arith, long, under) in
+    record {
+      within = within;
+      is = ap (λ (l : List Numbered). get_or l place unnumbered) is ∙ get_or-map (with_pair arcs) (ordered_arcs arcs) place nothing unnumbered within;
+      between = All-from_recursion IsBetween (ordered_arcs arcs) (all_in_order arc_cmp IsBetween arcs between) place nothing within;
+    }
+
+between_of : (arcs : List Entry) (x : Numbered) (place : ℕ) → At arcs x place → IsBetween x.arc
+between_of arcs x place at = rw at.is at.between
+
+pub bond_number-requires : goal.bond_number-requires
+bond_number-requires c =
+    let x : Numbered = get_or c.args.numbered.now c.loop-x.x-index unnumbered in
+    between_of c.args.arcs.now x c.loop-x.x-index
+    (at_place c.args.arcs.now c.args.numbered.now c.loop-x.x-index c.requires.between c.requires.numbered (omega arith))
+
+pub overflow_cast-x : goal.overflow_cast-x
+overflow_cast-x c =
+    let x : Numbered = get_or c.args.numbered.now c.loop-x.x-index unnumbered in
+    let between : IsBetween x.arc = between_of c.args.arcs.now x c.loop-x.x-index
+    (at_place c.args.arcs.now c.args.numbered.now c.loop-x.x-index c.requires.between c.requires.numbered (omega arith)) in
+    omega (arith, between.tail)
+
+pub overflow_cast-x-in-loop-x : goal.overflow_cast-x-in-loop-x
+overflow_cast-x-in-loop-x c =
+    let x : Numbered = get_or c.args.numbered.now c.loop-x.x-index unnumbered in
+    let between : IsBetween x.arc = between_of c.args.arcs.now x c.loop-x.x-index
+    (at_place c.args.arcs.now c.args.numbered.now c.loop-x.x-index c.requires.between c.requires.numbered (omega arith)) in
+    omega (arith, between.far)
+
+-- the number that an arc gets
+number_of : (arcs : List Entry) (x : Numbered) (place : ℕ) (bonds : List Bond) (number : ℕ) → At arcs x place → bonds ≡ map bond_from (ties_upto arcs place)
+    → number ≡ unwrap_or x.pair (length bonds)
+    → number ≡ unwrap_or (position (is_of (get_or (ordered_arcs arcs) place nothing)) (pairs arcs)) (length (ties_upto arcs place))
+number_of arcs x place bonds number at made is =
+    let long : length bonds ≡ length (ties_upto arcs place) = ap length made ∙ length-map (ties_upto arcs place) bond_from in
+    is ∙ ap (λ (y : Numbered). unwrap_or y.pair (length bonds)) at.is
+    ∙ ap (λ n. unwrap_or (position (is_of (get_or (ordered_arcs arcs) place nothing)) (pairs arcs)) n) long
+
+pub overflow_cast-number : goal.overflow_cast-number
+overflow_cast-number c =
+    let arcs : List Entry = c.args.arcs.now in
+    let place : ℕ = c.loop-x.x-index in
+    let x : Numbered = get_or c.args.numbered.now place unnumbered in
+    let at = at_place arcs c.args.numbered.now place c.requires.between c.requires.numbered (omega arith) in
+    let is = number_of arcs x place c.loop-x.bonds.items c.in_ok-number.number at c.loop-x.invariant.bonds c.in_ok-number.ensures.number in
+    omega (arith, is, number_bound arcs (get_or (ordered_arcs arcs) place nothing) place c.requires.few at.within)
+
+-- the arc that is made of it
+arc_made : (arcs : List Entry) → AreOrdered arcs → (x : Numbered) (place number tail to bond : ℕ) → At arcs x place
+    → number ≡ unwrap_or (position (is_of (get_or (ordered_arcs arcs) place nothing)) (pairs arcs)) (length (ties_upto arcs place))
+    → tail ≡ x.arc.tail → to ≡ x.arc.far → bond ≡ number
+    → record { tail = tail; to = to; metric = x.arc.metric; link_data = x.arc.link_data; bond = bond } ≡ with_bond (ties arcs) (get_or (ordered_arcs arcs) place nothing)
+arc_made arcs ordered x place number tail to bond at is is_tail is_to is_bond =
+    let arc : Entry = get_or (ordered_arcs arcs) place nothing in
+    let tail_is : tail ≡ arc.tail = is_tail ∙ ap (λ (y : Numbered). y.arc.tail) at.is in
+    let to_is : to ≡ arc.far = is_to ∙ ap (λ (y : Numbered). y.arc.far) at.is in
+    let metric_is : x.arc.metric ≡ arc.metric = ap (λ (y : Numbered). y.arc.metric) at.is in
+    let data_is : x.arc.link_data ≡ arc.link_data = ap (λ (y : Numbered). y.arc.link_data) at.is in
+    let bond_is : bond ≡ bond_of (ties arcs) arc = is_bond ∙ is ∙ number_is arcs ordered place arc at.within (get_or_default (ordered_arcs arcs) place arc nothing at.within) at.between in
+    λ i. record { tail = tail_is i; to = to_is i; metric = metric_is i; link_data = data_is i; bond = bond_is i }
+
+-- the bond that is put behind the others
+single_made : (b : Bool) (arc : Entry) → (if b then bond_by arc None ∷ [] else []) ≡ map bond_from (map single_of (cond b (arc ∷ []) []))
+single_made true arc = refl
+single_made false arc = refl
+
+bonds_made : (arcs : List Entry) → AreOrdered arcs → (x : Numbered) (place : ℕ) (bonds new : List Bond) → At arcs x place → bonds ≡ map bond_from (ties_upto arcs place)
+    → new ≡ bonds ++ (if is_none x.pair then bond_by x.arc None ∷ [] else []) → new ≡ map bond_from (ties_upto arcs (place + 1))
+bonds_made arcs ordered x place bonds new at is is_new =
+    let arc : Entry = get_or (ordered_arcs arcs) place nothing in
+    let there : Contains arcs arc = Contains-from_in_order arc_cmp arcs arc (Contains-get_or (ordered_arcs arcs) place nothing at.within) in
+    is_new ∙ ap (λ (y : Numbered). bonds ++ (if is_none y.pair then bond_by y.arc None ∷ [] else [])) at.is
+    ∙ ap (λ b. bonds ++ (if b then bond_by arc None ∷ [] else [])) (single_is arcs ordered arc there at.between)
+    ∙ ap (λ (l : List Bond). bonds ++ l) (single_made (is_single arcs arc) arc)
+    ∙ ap (λ (l : List Bond). l ++ map bond_from (map single_of (cond (is_single arcs arc) (arc ∷ []) []))) is
+    ∙ sym (map-append bond_from (ties_upto arcs place) (map single_of (cond (is_single arcs arc) (arc ∷ []) [])))
+    ∙ ap (map bond_from) (sym (ties_more arcs place nothing at.within))
+
+pub loop-x-preserved : goal.loop-x-preserved
+loop-x-preserved c =
+    let arcs : List Entry = c.args.arcs.now in
+    let place : ℕ = c.loop-x.x-index in
+    let x : Numbered = get_or c.args.numbered.now place unnumbered in
+    let at = at_place arcs c.args.numbered.now place c.requires.between c.requires.numbered (omega arith) in
+    let is = number_of arcs x place c.loop-x.bonds.items c.in_ok-number.number at c.loop-x.invariant.bonds c.in_ok-number.ensures.number in
+    let arc : Arc = record { tail = c.new.result; to = c.new-in-loop-x.result; metric = x.arc.metric; link_data = x.arc.link_data; bond = c.new-in-loop-x-2.result } in
+    let made = arc_made arcs c.requires.ordered x place c.in_ok-number.number c.new.result c.new-in-loop-x.result c.new-in-loop-x-2.result at is c.new.ensures c.new-in-loop-x.ensures c.new-in-loop-x-2.ensures in
+    record {
+      arcs =
+          c.in_ok-push.ensures.items ∙ ap (λ (l : List Arc). l ++ arc ∷ []) c.loop-x.invariant.arcs
+          ∙ ap (λ (y : Arc). map (with_bond (ties arcs)) (take place (ordered_arcs arcs)) ++ y ∷ []) made
+          ∙ sym (map_more (with_bond (ties arcs)) (ordered_arcs arcs) place nothing at.within);
+      bonds = bonds_made arcs c.requires.ordered x place c.loop-x.bonds.items c.bond_number.new.bonds.items at c.loop-x.invariant.bonds c.in_ok-number.ensures.bonds;
+    }

@@ -1,0 +1,13 @@
+use Rattle.std.proofs.Common.{◌≡◌, map, take}
+use Rattle.area_graph.specs.AreaOf.{bond_from, numbered as with_bond}
+use Rattle.area_graph.specs.Arcs.{arc_cmp}
+use Rattle.area_graph.specs.Bonds.{ties}
+use Rattle.area_graph.specs.InOrder.{in_order}
+use Rattle.area_graph.proofs.Singles.{ties_upto}
+use Rattle.area_graph.proofs.pairing.number_all.Given as goal
+
+abbrev pub invariant-loop-x : goal.invariant-loop-x
+invariant-loop-x l = record {
+  arcs : l.all.items ≡ map (with_bond (ties l.arcs)) (take l.x-index (in_order arc_cmp l.arcs));
+  bonds : l.bonds.items ≡ map bond_from (ties_upto l.arcs l.x-index);
+}

@@ -1,0 +1,10 @@
+use Rattle.std.proofs.Common.{◌≡◌, map, take}
+use Rattle.area_graph.specs.AreaOf.{bond_from}
+use Rattle.area_graph.specs.Pairing.{pairs_upto, with_pair}
+use Rattle.area_graph.proofs.pairing.number_pairs.Given as goal
+
+abbrev pub invariant-loop-place : goal.invariant-loop-place
+invariant-loop-place l = record {
+  numbered : l.numbered.items ≡ map (with_pair l.arcs) (take l.place l.arcs);
+  pairs : l.bonds.items ≡ map bond_from (pairs_upto l.arcs l.place);
+}

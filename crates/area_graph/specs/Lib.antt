@@ -1,0 +1,16 @@
+pub mod InOrder
+pub mod Nodes
+pub mod Speaking
+pub mod Entries
+pub mod Arcs
+pub mod Bonds
+pub mod Parts
+pub mod Ways
+pub mod AreaOf
+pub mod Pairing
+pub mod Listed
+pub mod AreaInvariant
+pub mod Starts
+pub mod AreaSize
+pub mod Named
+pub mod Fits

@@ -1,0 +1,28 @@
+-- Arcs as they are paired in one pass over them.
+use Rattle.std.specs.Prelude.{◌<◌, ◌≢◌, ℕ, nat_lt, List, take}
+use Rattle.std.specs.List.{filter, filter_map, position}
+use Rattle.std.specs.List.Sorted.{IsSorted}
+use Rattle.area_graph.specs.declared.entry.Entry.{Entry}
+use Rattle.area_graph.specs.declared.pairing.Numbered.{Numbered}
+use Rattle.area_graph.specs.Arcs.{pairing_cmp}
+use Rattle.area_graph.specs.Bonds.{Tie, is_of, pair_of, pairs}
+use Rattle.area_graph.specs.Listed.{AreApart}
+
+-- arcs in the order in which they are paired, each of them once
+pub record AreOrdered (arcs : List Entry) : Type 0 where
+  pub sorted : IsSorted pairing_cmp arcs
+  pub apart : AreApart arcs
+
+-- an arc from one node of an area to another
+pub record IsBetween (arc : Entry) : Type 0 where
+  pub tail : arc.tail < 4096
+  pub far : arc.far < 4096
+  pub different : arc.tail ≢ arc.far
+
+-- the pairs that the first of the arcs tell
+abbrev pub pairs_upto : List Entry → ℕ → List Tie
+pairs_upto arcs count = filter_map (pair_of arcs) (filter (λ arc. nat_lt arc.tail arc.far) (take count arcs))
+
+-- an arc with the number of the pair that it is of, if it is of one
+abbrev pub with_pair : List Entry → Entry → Numbered
+with_pair arcs arc = record { arc = arc; pair = position (is_of arc) (pairs arcs) }

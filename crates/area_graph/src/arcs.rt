@@ -1,0 +1,66 @@
+//! Which entries are arcs.
+
+ghost use Rattle.std.specs.Prelude.{◌≡◌, IfOk, IfErr};
+ghost use Rattle.std.specs.List.{filter};
+ghost use Rattle.std.specs.List.Sorted.{IsSorted};
+ghost use Rattle.area_graph.specs.Arcs.{arcs_among, is_arc, pairing_cmp};
+ghost use Rattle.area_graph.specs.InOrder.{in_order};
+ghost use Rattle.area_graph.specs.Listed.{AreApart};
+ghost use Rattle.area_graph.specs.Ways.{IsFirstOf};
+
+use crate::area_error::AreaError;
+use crate::entry::Entry;
+use std::alloc::Global;
+
+/// The entries that are arcs, ordered by tail, far node, link data and place.
+pub fn arcs_by_way(alloc: Global, mut entries: Vec<Entry>) -> Result<Vec<Entry>, AreaError>
+    requires { AreApart entries.items }
+    ensures arcs { IfOk result (λ arcs. arcs.items ≡ arcs_among entries.items) }
+    ensures refused { IfErr result (λ error. error ≡ AreaError.NoMemory) }
+{
+    sort_by_way(&mut entries);
+    answered(alloc, entries.as_slice())
+}
+
+/// Orders entries by tail, far node, link data and place.
+fn sort_by_way(entries: &mut Vec<Entry>)
+    requires { AreApart entries.old.items }
+    ensures { entries.new.items ≡ in_order pairing_cmp entries.old.items }
+{
+    entries.sort_unstable_by_key(|entry| (entry.tail, entry.far, entry.link_data, entry.place));
+}
+
+/// The entries, in their order, that an entry leads back for.
+fn answered(alloc: Global, entries: &[Entry]) -> Result<Vec<Entry>, AreaError>
+    requires { IsSorted pairing_cmp entries.now }
+    ensures arcs { IfOk result (λ arcs. arcs.items ≡ filter (is_arc entries.now) entries.now) }
+    ensures refused { IfErr result (λ error. error ≡ AreaError.NoMemory) }
+{
+    let mut arcs = Vec::with_capacity(alloc, entries.len())?;
+    for entry in entries {
+        if is_answered(entries, *entry) {
+            arcs.push(*entry)?;
+        }
+    }
+    Ok(arcs)
+}
+
+/// Whether one of the entries leads back for this one.
+fn is_answered(entries: &[Entry], entry: Entry) -> bool
+    requires { IsSorted pairing_cmp entries.now }
+    ensures { result ≡ is_arc entries.now entry }
+{
+    let first = first_of(entries, entry.far, entry.tail);
+    match entries.get(first) {
+        Some(back) => back.tail == entry.far && back.far == entry.tail,
+        None => false,
+    }
+}
+
+/// How many entries stand before those that lead from `tail` to `far`.
+pub fn first_of(entries: &[Entry], tail: usize, far: usize) -> usize
+    requires { IsSorted pairing_cmp entries.now }
+    ensures { IsFirstOf tail far entries.now result }
+{
+    entries.partition_point(|entry| entry.tail < tail || (entry.tail == tail && entry.far < far))
+}

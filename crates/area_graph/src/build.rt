@@ -1,0 +1,88 @@
+//! From a database to its area.
+
+ghost use Rattle.std.specs.Prelude.{◌≡◌, ◌<◌, ◌≤◌, ◌-◌, ◌^◌, ◌⊎◌, None, IfOk, IfErr, length, map, min};
+ghost use Rattle.std.specs.List.{AllByRecursion};
+ghost use Rattle.lsdb.specs.Conflicts.{least_conflict};
+ghost use Rattle.area_graph.specs.AreaOf.{arcs_of, area_of, bonds_of};
+ghost use Rattle.area_graph.specs.AreaInvariant.{IsArea};
+ghost use Rattle.area_graph.specs.Pairing.{AreOrdered, IsBetween};
+ghost use Rattle.area_graph.specs.AreaSize.{IsTooLarge, too_large as error_of};
+
+use crate::arcs::arcs_by_way;
+use crate::area::Area;
+use crate::area_error::AreaError;
+use crate::entry::{Entry, Listing};
+use crate::listing::listing;
+use crate::pairing::pair_arcs;
+use crate::starts::starts;
+use lsdb::Lsdb;
+use mrt_graph::NodeId;
+use std::alloc::Global;
+
+/// The most nodes that an area may have.
+const MAX_NODES: usize = 4096;
+
+/// The most arcs that it may have.
+const MAX_ARCS: usize = 32768;
+
+/// The area that the newest LSAs of a settled database give (RFC 2328, section 16.1).
+///
+/// Its nodes are the routers of live router-LSAs, and the networks of live network-LSAs; of several of one network that of the
+/// greatest advertising router counts. A link or a listing is an arc exactly where the LSA of its far node answers it: a point-to-point
+/// link is answered by one back, a link to a transit network by the network's listing of the router, and that by the link. For
+/// two nodes the arcs of each direction are put in order of link data, then of place in the LSA, and the k-th of one makes a pair with the
+/// k-th of the other.
+///
+/// # Errors
+///
+/// [`AreaError::TooLarge`] exactly where there are more than 4,096 nodes or more than 32,768 arcs, with both counts.
+/// [`AreaError::NoMemory`] comes where there was none for a list.
+pub fn build_area(alloc: Global, database: &Lsdb) -> Result<Area, AreaError>
+    requires { least_conflict database.now.entries ≡ None }
+    ensures area { IfOk result (λ area. area ≡ area_of (map (λ entry. entry.lsa) database.now.entries)) }
+    ensures within { let area = area_of (map (λ entry. entry.lsa) database.now.entries) in
+        IfOk result (λ _. IsTooLarge (length area.ids) (length area.arcs) → ⊥) }
+    ensures refused { let area = area_of (map (λ entry. entry.lsa) database.now.entries) in
+        IfErr result (λ error. (error ≡ AreaError.NoMemory)
+        ⊎ (IsTooLarge (length area.ids) (length area.arcs) × (error ≡ error_of (length area.ids) (length area.arcs)))) }
+{
+    let Listing { ids, entries } = listing(alloc, database.newest())?;
+    let by_way = arcs_by_way(alloc, entries)?;
+    check_size(&ids, &by_way)?;
+    area_of_arcs(alloc, ids, &by_way)
+}
+
+/// Refuses more nodes or arcs than an area may have.
+fn check_size(ids: &[NodeId], by_way: &[Entry]) -> Result<(), AreaError>
+    ensures within { IfOk result (λ _. IsTooLarge (length ids.now) (length by_way.now) → ⊥) }
+    ensures refused { IfErr result (λ error. IsTooLarge (length ids.now) (length by_way.now) × (error ≡ error_of (length ids.now) (length by_way.now))) }
+{
+    if ids.len() > MAX_NODES || by_way.len() > MAX_ARCS {
+        return Err(AreaError::TooLarge {
+            nodes: told(ids.len()),
+            arcs: told(by_way.len()),
+        });
+    }
+    Ok(())
+}
+
+/// The area of these nodes and arcs, which are in the order in which they are paired.
+fn area_of_arcs(alloc: Global, ids: Vec<NodeId>, by_way: &[Entry]) -> Result<Area, AreaError>
+    requires ordered { AreOrdered by_way.now }
+    requires between { AllByRecursion IsBetween by_way.now }
+    requires few { length by_way.now ≤ 32768 }
+    requires kept { IsArea (record { ids = ids.items; arcs = arcs_of by_way.now; bonds = bonds_of by_way.now }) }
+    ensures area { IfOk result (λ area. area ≡ record { ids = ids.items; arcs = arcs_of by_way.now; bonds = bonds_of by_way.now }) }
+    ensures refused { IfErr result (λ error. error ≡ AreaError.NoMemory) }
+{
+    let paired = pair_arcs(alloc, by_way)?;
+    let starts = starts(alloc, ids.len(), &paired.arcs)?;
+    Ok(Area::of_parts(ids, paired.arcs, starts, paired.bonds))
+}
+
+/// A count as a number of 32 bits, the greatest one where it is greater.
+fn told(count: usize) -> u32
+    ensures { result ≡ min count (2 ^ 32 - 1) }
+{
+    count.min(u32::MAX as usize) as u32
+}

@@ -1,0 +1,168 @@
+//! What LSAs list, as entries.
+
+ghost use Rattle.std.specs.Prelude.{◌≡◌, ◌+◌, ◌<◌, ◌≤◌, ◌++◌, IfOk, IfErr, IfSome, OnOk, length, vec_len, vec_capacity};
+ghost use Rattle.std.specs.List.{AllByRecursion, AllZip};
+ghost use Rattle.std.specs.List.Sorted.{IsStrictlySortedBy};
+ghost use Rattle.std.specs.Option.{option_to_list};
+ghost use Rattle.mrt_graph.specs.NodeOrder.{node_id_cmp};
+ghost use Rattle.area_graph.specs.Entries.{far_of, entry_of_link, entry_of_listed, entries_of_links, entries_of_listed, entries_of, entries_from};
+ghost use Rattle.area_graph.specs.Nodes.{number_of, speakers as all_speakers};
+ghost use Rattle.area_graph.specs.Speaking.{IsSpeakerOf};
+
+use crate::area_error::AreaError;
+use crate::entry::Entry;
+use crate::speaker::Speaker;
+use mrt_graph::{Kind, NodeId};
+use ospf_lsa::{Body, Lsa, RouterLink};
+use std::alloc::Global;
+
+/// A link to another router.
+const POINT_TO_POINT: u8 = 1;
+
+/// A link to a transit network.
+const TRANSIT: u8 = 2;
+
+/// The entries of the LSAs that speak for the nodes.
+pub fn entries(
+    alloc: Global,
+    lsas: &[Lsa],
+    speakers: &[Speaker],
+    ids: &[NodeId],
+) -> Result<Vec<Entry>, AreaError>
+    requires speak { AllZip (IsSpeakerOf lsas.now) speakers.now (all_speakers lsas.now) }
+    requires ascend { IsStrictlySortedBy node_id_cmp ids.now }
+    ensures entries { IfOk result (λ found. found.items ≡ entries_from ids.now 0 (all_speakers lsas.now)) }
+    ensures refused { IfErr result (λ error. error ≡ AreaError.NoMemory) }
+{
+    let mut found = Vec::new(alloc);
+    for (tail, speaker) in speakers.iter().enumerate() {
+        add_entries(&mut found, ids, tail, &lsas[speaker.at])?;
+    }
+    Ok(found)
+}
+
+/// Adds the entries of an LSA that speaks for node number `tail`.
+fn add_entries(
+    found: &mut Vec<Entry>,
+    ids: &[NodeId],
+    tail: usize,
+    lsa: &Lsa,
+) -> Result<(), AreaError>
+    requires ascend { IsStrictlySortedBy node_id_cmp ids.now }
+    ensures entries { OnOk result (found.new.items ≡ found.old.items ++ entries_of ids.now tail lsa.now.id lsa.now.body) }
+    ensures refused { IfErr result (λ error. error ≡ AreaError.NoMemory) }
+{
+    match &lsa.body {
+        Body::Router { links, .. } => add_links(found, ids, tail, lsa.id, links.as_slice()),
+        Body::Network { routers, .. } => add_listed(found, ids, tail, routers.as_slice()),
+        Body::Other { .. } => Ok(()),
+    }
+}
+
+/// Adds the entries for the links of the router `own`, node number `tail`.
+fn add_links(
+    found: &mut Vec<Entry>,
+    ids: &[NodeId],
+    tail: usize,
+    own: u32,
+    links: &[RouterLink],
+) -> Result<(), AreaError>
+    requires ascend { IsStrictlySortedBy node_id_cmp ids.now }
+    ensures entries { OnOk result (found.new.items ≡ found.old.items ++ entries_of_links ids.now tail own 0 links.now) }
+    ensures refused { IfErr result (λ error. error ≡ AreaError.NoMemory) }
+{
+    found.reserve(links.len())?;
+    for (place, link) in links.iter().enumerate() {
+        put(found, of_link(ids, tail, own, place, link));
+    }
+    Ok(())
+}
+
+/// Adds the entries for the routers of a network, node number `tail`.
+fn add_listed(
+    found: &mut Vec<Entry>,
+    ids: &[NodeId],
+    tail: usize,
+    routers: &[u32],
+) -> Result<(), AreaError>
+    requires ascend { IsStrictlySortedBy node_id_cmp ids.now }
+    ensures entries { OnOk result (found.new.items ≡ found.old.items ++ entries_of_listed ids.now tail 0 routers.now) }
+    ensures refused { IfErr result (λ error. error ≡ AreaError.NoMemory) }
+{
+    found.reserve(routers.len())?;
+    for (place, router) in routers.iter().enumerate() {
+        put(found, of_listed(ids, tail, place, *router));
+    }
+    Ok(())
+}
+
+/// Adds an entry, if there is one, where there is room.
+fn put(found: &mut Vec<Entry>, entry: Option<Entry>)
+    requires { vec_len found.old < vec_capacity found.old }
+    ensures items { found.new.items ≡ found.old.items ++ option_to_list entry }
+    ensures len { vec_len found.new ≤ vec_len found.old + 1 }
+    ensures capacity { vec_capacity found.new ≡ vec_capacity found.old }
+{
+    if let Some(entry) = entry {
+        found.push_reserved(entry);
+    }
+}
+
+/// The entry for a link, if it leads to a node.
+fn of_link(ids: &[NodeId], tail: usize, own: u32, place: usize, link: &RouterLink) -> Option<Entry>
+    requires ascend { IsStrictlySortedBy node_id_cmp ids.now }
+    ensures { result ≡ entry_of_link ids.now tail own place link.now }
+{
+    let far = number(ids, far_end(own, link)?)?;
+    Some(Entry {
+        tail,
+        far,
+        metric: link.metric,
+        link_data: link.link_data,
+        place,
+    })
+}
+
+/// Where a link of the router `own` leads, if it is to a node.
+fn far_end(own: u32, link: &RouterLink) -> Option<NodeId>
+    ensures { result ≡ far_of own link.now }
+{
+    let kind = match link.kind {
+        POINT_TO_POINT if link.id != own => Kind::Router,
+        TRANSIT => Kind::Network,
+        _ => return None,
+    };
+    Some(NodeId {
+        kind,
+        number: link.id,
+    })
+}
+
+/// The entry for a router that a network lists, if it is a node.
+fn of_listed(ids: &[NodeId], tail: usize, place: usize, router: u32) -> Option<Entry>
+    requires ascend { IsStrictlySortedBy node_id_cmp ids.now }
+    ensures { result ≡ entry_of_listed ids.now tail place router }
+{
+    let far = number(
+        ids,
+        NodeId {
+            kind: Kind::Router,
+            number: router,
+        },
+    )?;
+    Some(Entry {
+        tail,
+        far,
+        metric: 0,
+        link_data: 0,
+        place,
+    })
+}
+
+/// The number of a node, if it is one.
+fn number(ids: &[NodeId], id: NodeId) -> Option<usize>
+    requires ascend { IsStrictlySortedBy node_id_cmp ids.now }
+    ensures { result ≡ number_of ids.now id }
+{
+    ids.binary_search(&id).ok()
+}

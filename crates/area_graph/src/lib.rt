@@ -1,0 +1,28 @@
+//! The graph of an OSPFv2 area: its routers and transit networks, and what joins them (RFC 2328, section 16.1).
+#![tactic(auto)]
+
+mod arcs;
+mod area;
+mod area_error;
+mod area_types;
+mod build;
+mod entries;
+mod entry;
+mod laws;
+mod listing;
+mod numbers;
+mod pairing;
+mod places;
+mod speaker;
+mod speakers;
+mod starts;
+
+pub use area::Area;
+pub use area_error::AreaError;
+pub use area_types::{Arc, Bond};
+pub use build::build_area;
+pub use laws::the_same_records_give_the_same_area;
+pub use numbers::{ArcNo, BondNo, Spot};
+
+#[cfg(test)]
+mod tests;
