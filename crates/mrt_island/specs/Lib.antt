@@ -1,0 +1,13 @@
+pub mod ProfileLines
+pub mod Settings
+pub mod ProfileFaults
+pub mod ProfileStore
+pub mod Policy
+pub mod Eligible
+pub mod Members
+pub mod Numbering
+pub mod Rooting
+pub mod IslandOf
+pub mod Searching
+pub mod GraphErrors
+pub mod Outcome

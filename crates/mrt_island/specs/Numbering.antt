@@ -1,0 +1,61 @@
+-- How the nodes and links of an island are numbered.
+use Rattle.std.specs.Prelude.{◌&&◌, ◌+◌, ℕ, Bool, true, false, List, [], ◌∷◌, Option, Some, None, map, take, count_by, slice_index_or}
+use Rattle.std.specs.List.{filter}
+use Rattle.mrt_graph.specs.declared.link.LinkIn.{LinkIn}
+use Rattle.mrt_graph.specs.declared.node_id.NodeId.{NodeId}
+use Rattle.area_graph.specs.declared.area_types.Bond.{Bond}
+use Rattle.area_graph.specs.Parts.{AreaParts}
+use Rattle.mrt_island.specs.Policy.{Policy}
+use Rattle.mrt_island.specs.Eligible.{is_eligible}
+
+-- how many flags are set
+abbrev pub flags_set : List Bool → ℕ
+flags_set flags = count_by (λ flag. flag) flags
+
+-- the elements whose flags are set
+abbrev pub flagged : {X : Type 0} → List Bool → List X → List X
+flagged [] xs = []
+flagged (flag ∷ flags) [] = []
+flagged (true ∷ flags) (x ∷ xs) = x ∷ flagged flags xs
+flagged (false ∷ flags) (x ∷ xs) = flagged flags xs
+
+-- the identifiers of an island's nodes: they ascend as the area's do
+abbrev pub ids_of : AreaParts → List Bool → List NodeId
+ids_of area inside = flagged inside area.ids
+
+-- the number that node s of the area has in the island: how many nodes before it are inside
+abbrev pub number_of : List Bool → ℕ → ℕ
+number_of inside s = flags_set (take s inside)
+
+-- whether node s is inside
+abbrev pub is_inside : List Bool → ℕ → Bool
+is_inside inside s = slice_index_or inside s false
+
+-- whether a bond is a link of the island: an eligible pair between two nodes that are inside
+abbrev pub is_link : Policy → List NodeId → List Bool → Bond → Bool
+is_link policy ids inside bond = is_eligible policy ids bond && (is_inside inside bond.a && is_inside inside bond.b)
+
+-- the link that a bond is, its nodes by their numbers in the island
+abbrev pub link_by : List Bool → Bond → LinkIn
+link_by inside bond = record {
+  a = number_of inside bond.a;
+  b = number_of inside bond.b;
+  metric_a = bond.metric_a;
+  metric_b = bond.metric_b;
+  data_a = bond.data_a;
+  data_b = bond.data_b;
+}
+
+-- the links of an island, in the order of the area's bonds: these begin with the pairs by lower node, then by higher node
+abbrev pub links_of : Policy → AreaParts → List Bool → List LinkIn
+links_of policy area inside = map (link_by inside) (filter (is_link policy area.ids inside) area.bonds)
+
+-- of each flag the number of those that are set, from that number on; none where it is not set
+abbrev pub numbers_from : ℕ → List Bool → List (Option ℕ)
+numbers_from number [] = []
+numbers_from number (true ∷ flags) = Some number ∷ numbers_from (number + 1) flags
+numbers_from number (false ∷ flags) = None ∷ numbers_from number flags
+
+-- of each bond of the area the number of the link that it is, if it is one
+abbrev pub link_numbers : Policy → AreaParts → List Bool → List (Option ℕ)
+link_numbers policy area inside = numbers_from 0 (map (is_link policy area.ids inside) area.bonds)

@@ -1,0 +1,106 @@
+//! Islands.
+
+ghost use Rattle.std.specs.Prelude.{◌≡◌, ◌↔◌, ℕ, false, IfOk, IfErr, Err, Contains};
+ghost use Rattle.area_graph.specs.AreaInvariant.{IsArea};
+ghost use Rattle.area_graph.specs.Fits.{Fits};
+ghost use Rattle.area_graph.specs.Nodes.{router as router_node};
+ghost use Rattle.mrt_island.specs.IslandOf.{HasSize, IsIsland, IsOver};
+ghost use Rattle.mrt_island.specs.Members.{IsInside};
+ghost use Rattle.mrt_island.specs.Outcome.{IsCause, IsRefusal};
+ghost use Rattle.mrt_island.specs.Policy.{policy_of};
+ghost use Rattle.mrt_island.specs.Searching.{IsExtent};
+ghost use Rattle.mrt_graph.specs.NewGraph.{IsTooLarge};
+
+use crate::extent::{Extent, extent_of};
+use crate::island_error::IslandError;
+use crate::numbering::{ids_inside, link_numbers, links_between};
+use crate::profile::Profile;
+use crate::rooting::root;
+use area_graph::{Area, Bond};
+use mrt_graph::{Graph, Kind, LinkNo, NodeId, NodeNo, Seq};
+use std::alloc::Global;
+
+/// The MRT Island of a router (RFC 7811, section 5): the router, every node that eligible pairs of its area join to it, and the
+/// eligible pairs between these nodes.
+#[derive(Drop)]
+pub struct Island {
+    /// Its nodes by ascending identifier; its links by lower node, then by higher node, then in the order of the area's bonds.
+    pub graph: Graph,
+    /// The router with the lowest priority number and, among those, the highest router ID.
+    pub root: NodeNo,
+    /// Of each bond of the area the number of the link that it is, if it is one.
+    pub link_of: Seq<Option<LinkNo>>,
+}
+
+/// The island of a router of the area.
+///
+/// A pair is eligible where no router end of it is marked `ineligible` with its link data, and both its nodes support the profile; a
+/// network always does.
+///
+/// # Errors
+///
+/// [`IslandError::NotThere`] exactly where the area has no such router, [`IslandError::Unsupported`] exactly where it is there and the
+/// profile says `no-mrt` of it. [`IslandError::TooLarge`] where the island has more than 2,048 nodes or more than 8,192 links; its
+/// numbers are the two counts. [`IslandError::NoMemory`] comes where there was none for a list.
+pub fn find_island(
+    alloc: Global,
+    area: &Area,
+    profile: &Profile,
+    router: u32,
+) -> Result<Island, IslandError>
+    ensures island { IfOk result (λ island. IsIsland (policy_of profile.now) area.now router island.graph island.root island.link_of) }
+    ensures fits { IfOk result (λ island. Fits area.now island.graph island.link_of) }
+
+    ensures not_there { (result ≡ Err IslandError.NotThere) ↔ (Contains area.now.ids (router_node router) → ⊥) }
+    ensures unsupported { (result ≡ Err IslandError.Unsupported)
+        ↔ (Contains area.now.ids (router_node router) × ((policy_of profile.now).supports router ≡ false)) }
+
+    // An island that is too large is refused with its counts, and no other is.
+    ensures over { (nodes links : ℕ) → result ≡ Err (IslandError.TooLarge nodes links) → IsOver (policy_of profile.now) area.now router nodes links }
+    ensures too_large { (nodes links : ℕ) → IsOver (policy_of profile.now) area.now router nodes links
+        → IsRefusal (IslandError.TooLarge nodes links) result }
+{
+    let bonds = area.bonds();
+    let own = NodeId {
+        kind: Kind::Router,
+        number: router,
+    };
+    let Some(start) = area.find(own) else {
+        return Err(IslandError::NotThere);
+    };
+    if !profile.supports(router) {
+        return Err(IslandError::Unsupported);
+    }
+    let extent = extent_of(alloc, area, profile, start)?;
+    island_of(alloc, area, profile, bonds, &extent)
+}
+
+/// The island that is made of these nodes and bonds of the area.
+fn island_of(
+    alloc: Global,
+    area: &Area,
+    profile: &Profile,
+    bonds: &[Bond],
+    extent: &Extent,
+) -> Result<Island, IslandError>
+    requires kept { IsArea area.now }
+    requires bonds { bonds.now ≡ area.now.bonds }
+    requires extent { IsExtent (policy_of profile.now) area.now extent.now.nodes.items extent.now.links.items }
+    ensures island { IfOk result (λ island. (router : ℕ) → IsInside (policy_of profile.now) area.now router extent.now.nodes.items
+        → IsIsland (policy_of profile.now) area.now router island.graph island.root island.link_of) }
+    ensures fits { IfOk result (λ island. Fits area.now island.graph island.link_of) }
+    ensures refused { IfErr result (IsCause (policy_of profile.now) area.now extent.now.nodes.items) }
+    ensures too_large { (nodes links : ℕ) → HasSize (policy_of profile.now) area.now extent.now.nodes.items nodes links → IsTooLarge nodes links
+        → IsRefusal (IslandError.TooLarge nodes links) result }
+{
+    let ids = ids_inside(alloc, area, &extent.nodes)?;
+    let links = links_between(alloc, &extent.nodes, &extent.links, bonds)?;
+    let link_of = link_numbers(alloc, &extent.links)?;
+    let root = root(&ids, profile);
+    let graph = Graph::new(alloc, ids, links)?;
+    Ok(Island {
+        graph,
+        root,
+        link_of: Seq::from_vec(link_of),
+    })
+}

@@ -1,0 +1,90 @@
+//! A profile.
+
+ghost use Rattle.std.specs.Prelude.{◌≡◌, ◌++◌, ◌∷◌, [], not, true, IfOk};
+ghost use Rattle.std.specs.List.{list_any};
+ghost use Rattle.mrt_island.specs.ProfileStore.{parts_of};
+ghost use Rattle.mrt_island.specs.Settings.{is_eligible, priority_of, same_subject, supports};
+
+use crate::setting::{Setting, Subject};
+use indexmap::IndexMap;
+use mrt_graph::NoMemory;
+use std::alloc::Global;
+use std::marker::Model;
+
+/// What is set apart from the defaults for the routers of an area. Contracts see it as the list of what the lines of its file say.
+#[derive(Drop)]
+pub struct Profile {
+    /// Each setting by its subject, with the priority where the subject is one.
+    settings: IndexMap<Subject, u8>,
+}
+
+impl Model for Profile {
+    ghost use Rattle.std.specs.Prelude.{List};
+    ghost use Rattle.mrt_island.specs.declared.setting.Setting.{Setting};
+    ghost use Rattle.mrt_island.specs.ProfileStore.{settings_kept};
+
+    ghost Value = { List Setting };
+
+    ghost view = { λ profile. settings_kept profile.settings.entries };
+}
+
+/// The priority of a router for which the profile gives none (RFC 7812, section 8).
+const DEFAULT_PRIORITY: u8 = 128;
+
+impl Profile {
+    /// The profile of an empty file.
+    pub fn empty(alloc: Global) -> Profile
+        ensures { result ≡ [] }
+    {
+        Profile {
+            settings: IndexMap::new(alloc),
+        }
+    }
+
+    /// The router's GADAG root selection priority: the router with the least one is the root. It is 128 where none is given.
+    pub fn priority(&self, router: u32) -> u8
+        ensures { result ≡ priority_of self.now router }
+    {
+        match self.settings.get(&Subject::Priority { router }) {
+            None => DEFAULT_PRIORITY,
+            Some(priority) => *priority,
+        }
+    }
+
+    /// Whether the router supports the Default MRT Profile.
+    pub fn supports(&self, router: u32) -> bool
+        ensures { result ≡ supports self.now router }
+    {
+        !self.settings.contains_key(&Subject::NoMrt { router })
+    }
+
+    /// Whether the router's links with this link data may be part of an island.
+    pub fn eligible(&self, router: u32, link_data: u32) -> bool
+        ensures { result ≡ is_eligible self.now router link_data }
+    {
+        !self
+            .settings
+            .contains_key(&Subject::Ineligible { router, link_data })
+    }
+
+    /// Takes in a setting, unless its subject is there already: tells whether it was new. It stands at the end then.
+    pub(crate) fn add(&mut self, setting: Setting) -> Result<bool, NoMemory>
+        ensures told { IfOk result (λ is_new. is_new ≡ not (list_any (same_subject setting) self.old)) }
+        ensures added { IfOk result (λ is_new. is_new ≡ true → self.new ≡ self.old ++ setting ∷ []) }
+    {
+        let (subject, priority) = parts_of(setting);
+        let old = self.settings.insert(subject, priority)?;
+        Ok(old.is_none())
+    }
+}
+
+/// A setting's subject, and the priority that it gives, if that is its subject.
+fn parts_of(setting: Setting) -> (Subject, u8)
+    ensures { result ≡ parts_of setting }
+{
+    match setting {
+        Setting::Priority { router, priority } => (Subject::Priority { router }, priority),
+        Setting::NoMrt { router } => (Subject::NoMrt { router }, 0),
+        Setting::Ineligible { router, link_data } => (Subject::Ineligible { router, link_data }, 0),
+    }
+}
