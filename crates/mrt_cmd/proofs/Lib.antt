@@ -1,1 +1,3 @@
+pub mod Databases
+pub mod Entering
 pub mod Refusals

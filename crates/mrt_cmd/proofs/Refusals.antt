@@ -1,51 +1,177 @@
--- Refusals of the bytes, as refusals of a form.
-use Rattle.std.proofs.Common.{◌≡◌, ◌⊎◌, ℕ, List, Option, Result, Ok, Err, inl, inr}
-use Rattle.std.specs.Prelude.{IfErr}
-use Rattle.mrt_io.specs.Holding.{Files}
+-- Refusals of single steps, as refusals of the whole.
+use Rattle.std.proofs.Common.{◌≡◌, ◌<◌, ◌⊎◌, ℕ, Bool, true, false, List, Option, Result, Ok, Err, length, refl, sym, subst, inl, inr}
+use Rattle.std.specs.Prelude.{IfErr, Some, nat_lt, slice_get, if◌then◌else◌}
+use Rattle.std.specs.Result.{IsErrAnd}
+use Rattle.std.proofs.lemmas.Bool.{ltb-true, ltb-false}
+use Rattle.std.proofs.lemmas.Option.{slice_get_within}
+use Rattle.area_graph.specs.Parts.{AreaParts}
+use Rattle.mrt_graph.specs.Topology.{Topology}
+use Rattle.mrt_graph.specs.declared.node_id.NodeId.{NodeId}
+use Rattle.mrt_island.specs.IslandOf.{IsIsland, IsOver}
+use Rattle.mrt_island.specs.Policy.{Policy}
 use Rattle.mrt_cmd.specs.declared.exit.Exit.{Exit}
 use Rattle.mrt_cmd.specs.declared.exit.Exit.TheVariants.{
   Done,
   No,
   Usage,
+  BadDatabase,
+  BadProfile,
   BadCertificate,
   TooLarge,
   NotThere,
   ReadFault,
   WriteFault,
   NoMemory,
-  NotYet,
 }
+use Rattle.mrt_cmd.specs.declared.exit.What.TheVariants as whats
+use Rattle.mrt_io.specs.Holding.{Files}
 use Rattle.mrt_cmd.specs.Comes.{AreRead}
-use Rattle.mrt_cmd.specs.Form.{Check}
-use Rattle.mrt_cmd.specs.Reading.{IsRefusal, IsRefusalOrFault, IsVerdictOver}
+use Rattle.mrt_cmd.specs.Form.{Form, Check}
+use Rattle.mrt_cmd.specs.Input.{Input, HasAreaWithin, HasIsland, IsInput, area, policy}
+use Rattle.mrt_cmd.specs.Reading.{HasNoArea, HasNoIsland, IsRefusal, IsRefusalOrFault, IsRejected, IsVerdictFor, IsVerdictOver}
 use Rattle.mrt_cmd.specs.Verdict.{IsRefusedOver}
 
--- what is said of the bytes that were read is a refusal of the form
-refusal-over : (held : Option Files) (database certificate area bytes : List ℕ) (exit : Exit)
-    → AreRead held database certificate area bytes → IsRefusedOver area bytes exit ⊎ (exit ≡ NoMemory)
-    → IsRefusal held (Check database certificate) exit
-refusal-over held database certificate area bytes exit read (inl refused) = inl (inr (area, bytes, read, refused))
-refusal-over held database certificate area bytes exit read (inr memory) = inr memory
+-- what an error tells, handed on
+pub handed_on : {T : Type 0} (result : Result T Exit) (exit : Exit) → IsErrAnd result (λ told. told ≡ exit) → (P : Exit → Type 0) → P exit → IfErr result P
+handed_on (Ok t) exit is P held = tt
+handed_on (Err told) exit is P held = subst P (sym is) held
 
--- and it is due to no fault of the shelf
-verdict-refusal : (held : Option Files) (database certificate area bytes : List ℕ) (before now : ℕ) (exit : Exit)
-    → AreRead held database certificate area bytes → IsVerdictOver area bytes exit
-    → IsRefusalOrFault held (Check database certificate) before now exit
-verdict-refusal held database certificate area bytes before now (ReadFault word) read said = absurd said
-verdict-refusal held database certificate area bytes before now Done read said = refusal-over held database certificate area bytes Done read said
-verdict-refusal held database certificate area bytes before now (No rule a b) read said = refusal-over held database certificate area bytes (No rule a b) read said
-verdict-refusal held database certificate area bytes before now Usage read said = refusal-over held database certificate area bytes Usage read said
-verdict-refusal held database certificate area bytes before now (BadCertificate at kind) read said = refusal-over held database certificate area bytes (BadCertificate at kind) read said
-verdict-refusal held database certificate area bytes before now (TooLarge what size) read said = refusal-over held database certificate area bytes (TooLarge what size) read said
-verdict-refusal held database certificate area bytes before now (NotThere number) read said = refusal-over held database certificate area bytes (NotThere number) read said
-verdict-refusal held database certificate area bytes before now (WriteFault taken) read said = refusal-over held database certificate area bytes (WriteFault taken) read said
-verdict-refusal held database certificate area bytes before now NoMemory read said = refusal-over held database certificate area bytes NoMemory read said
-verdict-refusal held database certificate area bytes before now NotYet read said = refusal-over held database certificate area bytes NotYet read said
+pub large_island_told : (policy : Policy) (area : AreaParts) (router nodes links : ℕ) → IsOver policy area router nodes links
+    → HasNoIsland policy area router (if nat_lt 2048 nodes then TooLarge whats.IslandNodes nodes else TooLarge whats.IslandLinks links)
+large_island_told policy area router nodes links over = go (nat_lt 2048 nodes) refl
+  where
+    go : (b : Bool) → nat_lt 2048 nodes ≡ b → HasNoIsland policy area router (if nat_lt 2048 nodes then TooLarge whats.IslandNodes nodes else TooLarge whats.IslandLinks links)
+    go true e = rw e (links, over, ltb-true 2048 nodes e)
+    go false e = rw e (nodes, over, ltb-false 2048 nodes e)
+
+pub area_refused : (input : Input) (exit : Exit) → HasNoArea (area input) exit → IsVerdictFor input exit
+area_refused input (TooLarge what size) said = inl (inl said)
+area_refused input NoMemory said = inr refl
+area_refused input Done said = absurd said
+area_refused input (No rule a b) said = absurd said
+area_refused input Usage said = absurd said
+area_refused input (BadDatabase at kind) said = absurd said
+area_refused input (BadProfile line kind) said = absurd said
+area_refused input (BadCertificate at kind) said = absurd said
+area_refused input (NotThere number) said = absurd said
+area_refused input (ReadFault word) said = absurd said
+area_refused input (WriteFault taken) said = absurd said
+
+pub island_refused : (input : Input) → HasAreaWithin input → (exit : Exit) → HasNoIsland (policy input) (area input) input.file.root exit → IsVerdictFor input exit
+island_refused input within (TooLarge what size) said = inl (inr (within, said))
+island_refused input within (NotThere number) said = inl (within, said.0, said.1)
+island_refused input within NoMemory said = inr refl
+island_refused input within Done said = absurd said
+island_refused input within (No rule a b) said = absurd said
+island_refused input within Usage said = absurd said
+island_refused input within (BadDatabase at kind) said = absurd said
+island_refused input within (BadProfile line kind) said = absurd said
+island_refused input within (BadCertificate at kind) said = absurd said
+island_refused input within (ReadFault word) said = absurd said
+island_refused input within (WriteFault taken) said = absurd said
+
+rejected : (input : Input) (graph : Topology) (root : ℕ) → HasIsland input graph root → (exit : Exit) → IsRejected graph root input.file exit → IsVerdictFor input exit
+rejected input graph root island (No rule a b) said = inl (graph, root, island, said)
+rejected input graph root island (TooLarge what size) said = absurd said
+rejected input graph root island (NotThere number) said = absurd said
+rejected input graph root island NoMemory said = absurd said
+rejected input graph root island Done said = absurd said
+rejected input graph root island Usage said = absurd said
+rejected input graph root island (BadDatabase at kind) said = absurd said
+rejected input graph root island (BadProfile line kind) said = absurd said
+rejected input graph root island (BadCertificate at kind) said = absurd said
+rejected input graph root island (ReadFault word) said = absurd said
+rejected input graph root island (WriteFault taken) said = absurd said
+
+pub rejected_over : {T : Type 0} (result : Result T Exit) (input : Input) (graph : Topology) (root : ℕ) → HasIsland input graph root
+    → IfErr result (IsRejected graph root input.file) → IfErr result (IsVerdictFor input)
+rejected_over (Ok t) input graph root island said = tt
+rejected_over (Err exit) input graph root island said = rejected input graph root island exit said
+
+-- the root is a node of the island
+pub root_within : (policy : Policy) (area : AreaParts) (router : ℕ) (graph : Topology) (root : ℕ) (link_of : List (Option ℕ)) → IsIsland policy area router graph root link_of
+    → root < length graph.ids
+root_within policy area router graph root link_of island =
+    slice_get_within graph.ids root island.rooted.id (subst (λ (ids : List NodeId). slice_get ids root ≡ Some island.rooted.id) (sym island.made.same_ids) island.rooted.there)
+
+-- what is said of the input is said of the bytes
+verdict_over : (database profile certificate : List ℕ) (input : Input) → IsInput database profile certificate input → (exit : Exit) → IsVerdictFor input exit
+    → IsVerdictOver database profile certificate exit
+verdict_over database profile certificate input given exit (inr memory) = subst (IsVerdictOver database profile certificate) (sym memory) (inr refl)
+verdict_over database profile certificate input given (TooLarge what size) (inl said) = inl (input, given, said)
+verdict_over database profile certificate input given (NotThere number) (inl said) = inl (input, given, said)
+verdict_over database profile certificate input given (No rule a b) (inl said) = inl (input, given, said)
+verdict_over database profile certificate input given NoMemory (inl said) = absurd said
+verdict_over database profile certificate input given Done (inl said) = absurd said
+verdict_over database profile certificate input given Usage (inl said) = absurd said
+verdict_over database profile certificate input given (BadDatabase at kind) (inl said) = absurd said
+verdict_over database profile certificate input given (BadProfile line kind) (inl said) = absurd said
+verdict_over database profile certificate input given (BadCertificate at kind) (inl said) = absurd said
+verdict_over database profile certificate input given (ReadFault word) (inl said) = absurd said
+verdict_over database profile certificate input given (WriteFault taken) (inl said) = absurd said
+
+pub verdicts_over : {T : Type 0} (answer : Result T Exit) (database profile certificate : List ℕ) (input : Input) → IsInput database profile certificate input
+    → IfErr answer (IsVerdictFor input) → IfErr answer (IsVerdictOver database profile certificate)
+verdicts_over (Ok t) database profile certificate input given said = tt
+verdicts_over (Err exit) database profile certificate input given said = verdict_over database profile certificate input given exit said
+
+-- what is said of the bytes that were read is a refusal of the form
+refusal_over : (held : Option Files) (database : List ℕ) (profile : Option (List ℕ)) (certificate area lines bytes : List ℕ) (exit : Exit)
+    → AreRead held database profile certificate area lines bytes → IsRefusedOver area lines bytes exit ⊎ (exit ≡ NoMemory)
+    → IsRefusal held (Check database profile certificate) exit
+refusal_over held database profile certificate area lines bytes exit read (inl refused) = inl (inr (area, lines, bytes, read, refused))
+refusal_over held database profile certificate area lines bytes exit read (inr memory) = inr memory
+
+calm_refusal : (held : Option Files) (database : List ℕ) (profile : Option (List ℕ)) (certificate area lines bytes : List ℕ) (exit : Exit)
+    → AreRead held database profile certificate area lines bytes → IsVerdictOver area lines bytes exit → IsRefusal held (Check database profile certificate) exit
+calm_refusal held database profile certificate area lines bytes (ReadFault word) read said = absurd said
+calm_refusal held database profile certificate area lines bytes Done read said = refusal_over held database profile certificate area lines bytes Done read said
+calm_refusal held database profile certificate area lines bytes (No rule a b) read said = refusal_over held database profile certificate area lines bytes (No rule a b) read said
+calm_refusal held database profile certificate area lines bytes Usage read said = refusal_over held database profile certificate area lines bytes Usage read said
+calm_refusal held database profile certificate area lines bytes (BadDatabase at kind) read said =
+    refusal_over held database profile certificate area lines bytes (BadDatabase at kind) read said
+calm_refusal held database profile certificate area lines bytes (BadProfile line kind) read said =
+    refusal_over held database profile certificate area lines bytes (BadProfile line kind) read said
+calm_refusal held database profile certificate area lines bytes (BadCertificate at kind) read said =
+    refusal_over held database profile certificate area lines bytes (BadCertificate at kind) read said
+calm_refusal held database profile certificate area lines bytes (TooLarge what size) read said =
+    refusal_over held database profile certificate area lines bytes (TooLarge what size) read said
+calm_refusal held database profile certificate area lines bytes (NotThere number) read said =
+    refusal_over held database profile certificate area lines bytes (NotThere number) read said
+calm_refusal held database profile certificate area lines bytes (WriteFault taken) read said =
+    refusal_over held database profile certificate area lines bytes (WriteFault taken) read said
+calm_refusal held database profile certificate area lines bytes NoMemory read said = refusal_over held database profile certificate area lines bytes NoMemory read said
+
+-- a refusal of a form that names no file is so also where the shelf may have failed
+or_fault : (held : Option Files) (form : Form) (before now : ℕ) (exit : Exit) → ((word : ℕ) → exit ≡ ReadFault word → ⊥) → IsRefusal held form exit
+    → IsRefusalOrFault held form before now exit
+or_fault held form before now (ReadFault word) never said = absurd (never word refl)
+or_fault held form before now Done never said = said
+or_fault held form before now (No rule a b) never said = said
+or_fault held form before now Usage never said = said
+or_fault held form before now (BadDatabase at kind) never said = said
+or_fault held form before now (BadProfile line kind) never said = said
+or_fault held form before now (BadCertificate at kind) never said = said
+or_fault held form before now (TooLarge what size) never said = said
+or_fault held form before now (NotThere number) never said = said
+or_fault held form before now (WriteFault taken) never said = said
+or_fault held form before now NoMemory never said = said
+
+no_file : (area lines bytes : List ℕ) (exit : Exit) → IsVerdictOver area lines bytes exit → (word : ℕ) → exit ≡ ReadFault word → ⊥
+no_file area lines bytes exit said word is = subst (IsVerdictOver area lines bytes) is said
 
 -- of an answer
-pub refused-over : {T : Type 0} (answer : Result T Exit) (held : Option Files) (database certificate area bytes : List ℕ)
-    (before now : ℕ) → AreRead held database certificate area bytes → IfErr answer (IsVerdictOver area bytes)
-    → IfErr answer (IsRefusalOrFault held (Check database certificate) before now)
-refused-over (Ok t) held database certificate area bytes before now read said = tt
-refused-over (Err exit) held database certificate area bytes before now read said =
-    verdict-refusal held database certificate area bytes before now exit read said
+pub calm_over : {T : Type 0} (answer : Result T Exit) (held : Option Files) (database : List ℕ) (profile : Option (List ℕ)) (certificate area lines bytes : List ℕ)
+    → AreRead held database profile certificate area lines bytes → IfErr answer (IsVerdictOver area lines bytes)
+    → IfErr answer (IsRefusal held (Check database profile certificate))
+calm_over (Ok t) held database profile certificate area lines bytes read said = tt
+calm_over (Err exit) held database profile certificate area lines bytes read said =
+    calm_refusal held database profile certificate area lines bytes exit read said
+
+pub refused_over : {T : Type 0} (answer : Result T Exit) (held : Option Files) (database : List ℕ) (profile : Option (List ℕ)) (certificate area lines bytes : List ℕ)
+    (before now : ℕ) → AreRead held database profile certificate area lines bytes → IfErr answer (IsVerdictOver area lines bytes)
+    → IfErr answer (IsRefusalOrFault held (Check database profile certificate) before now)
+refused_over (Ok t) held database profile certificate area lines bytes before now read said = tt
+refused_over (Err exit) held database profile certificate area lines bytes before now read said =
+    or_fault held (Check database profile certificate) before now exit (no_file area lines bytes exit said)
+    (calm_refusal held database profile certificate area lines bytes exit read said)

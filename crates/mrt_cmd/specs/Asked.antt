@@ -1,8 +1,9 @@
 -- What a form that was read asks for.
+use Rattle.std.specs.Option.{option_map}
 use Rattle.mrt_cmd.specs.declared.words.Form.{Form as ReadForm}
 use Rattle.mrt_cmd.specs.declared.words.Form.TheVariants.{Check as ReadCheck}
 use Rattle.mrt_cmd.specs.Form.{Form, Check}
 
 -- the names behind the form's references
 abbrev pub asked : ReadForm → Form
-asked (ReadCheck database certificate) = Check database.now certificate.now
+asked (ReadCheck database profile certificate) = Check database.now (option_map (λ name. name.now) profile) certificate.now

@@ -1,28 +1,35 @@
 -- What comes of the words over the files that they name, where memory suffices and no device fails.
-use Rattle.std.specs.Prelude.{◌≡◌, ◌⊎◌, ℕ, List, Option, IfSome, IsNone}
+use Rattle.std.specs.Prelude.{◌≡◌, ◌⊎◌, [], ℕ, List, Option, Some, None, IfSome, IsNone}
 use Rattle.std.specs.Option.{IsSomeAnd}
 use Rattle.mrt_io.specs.Holding.{Files}
 use Rattle.mrt_cmd.specs.declared.exit.Exit.{Exit}
 use Rattle.mrt_cmd.specs.declared.exit.Exit.TheVariants.{Done, Usage}
-use Rattle.mrt_cmd.specs.Files.{files_of, database_file, certificate_file, IsFirstMissing, IsReadAs, IsRefusedBy, MayFail, AreThere}
+use Rattle.mrt_cmd.specs.Files.{files_of, database_file, profile_file, certificate_file, IsFirstMissing, IsReadAs, IsRefusedBy, MayFail, AreThere}
 use Rattle.mrt_cmd.specs.Form.{Form, Check, form_of}
 use Rattle.mrt_cmd.specs.Verdict.{GivesOver, IsRefusedOver}
 
--- these are the bytes of the two files of a check
-pub record AreRead (held : Option Files) (database certificate area bytes : List ℕ) : Type 0 where
+-- these are the bytes of the profile; without a name they are none
+abbrev pub IsProfileRead : Option Files → Option (List ℕ) → List ℕ → Type 0
+IsProfileRead held None bytes = bytes ≡ []
+IsProfileRead held (Some name) bytes = IsReadAs held (profile_file name) bytes
+
+-- these are the bytes of the files of a check
+pub record AreRead (held : Option Files) (database : List ℕ) (profile : Option (List ℕ)) (certificate area lines bytes : List ℕ)
+    : Type 0 where
   pub database_read : IsReadAs held (database_file database) area
+  pub profile_read : IsProfileRead held profile lines
   pub certificate_read : IsReadAs held (certificate_file certificate) bytes
 
 -- the text that a form gives
 abbrev pub Gives : Option Files → Form → List ℕ → Type 0
-Gives held (Check database certificate) text =
-    (area bytes : List ℕ) × AreRead held database certificate area bytes × GivesOver area bytes text
+Gives held (Check database profile certificate) text =
+    (area lines bytes : List ℕ) × AreRead held database profile certificate area lines bytes × GivesOver area lines bytes text
 
 -- what comes of a form that gives no text: a file is not read; else what is said of the bytes
 abbrev pub Refuses : Option Files → Form → Exit → Type 0
-Refuses held (Check database certificate) exit =
-    IsRefusedBy held (files_of (Check database certificate)) exit
-    ⊎ ((area bytes : List ℕ) × AreRead held database certificate area bytes × IsRefusedOver area bytes exit)
+Refuses held (Check database profile certificate) exit =
+    IsRefusedBy held (files_of (Check database profile certificate)) exit
+    ⊎ ((area lines bytes : List ℕ) × AreRead held database profile certificate area lines bytes × IsRefusedOver area lines bytes exit)
 
 -- the words give this text
 abbrev pub GivesText : Option Files → List (List ℕ) → List ℕ → Type 0

@@ -6,6 +6,7 @@ use Rattle.std.specs.Prelude.{
   ◌+◌,
   [],
   ◌∷◌,
+  ◌++◌,
   ℕ,
   List,
   Option,
@@ -16,12 +17,12 @@ use Rattle.std.specs.Prelude.{
   if◌then◌else◌,
 }
 use Rattle.std.specs.List.{AllByRecursion}
-use Rattle.std.specs.Option.{IsSomeAnd, option_map_or}
+use Rattle.std.specs.Option.{IsSomeAnd, option_map, option_map_or, option_to_list}
 use Rattle.mrt_io.specs.Holding.{Files, IsFileOf, IsKnownThere}
 use Rattle.mrt_cmd.specs.declared.exit.Exit.{Exit}
 use Rattle.mrt_cmd.specs.declared.exit.Exit.TheVariants.{TooLarge, ReadFault}
 use Rattle.mrt_cmd.specs.declared.exit.What.{What}
-use Rattle.mrt_cmd.specs.declared.exit.What.TheVariants.{DatabaseFile, CertificateFile}
+use Rattle.mrt_cmd.specs.declared.exit.What.TheVariants.{DatabaseFile, ProfileFile, CertificateFile}
 use Rattle.mrt_cmd.specs.Form.{Form, Check}
 
 -- a file that the words name: the place of its name among them, its name, what it is, and how many bytes it may have
@@ -31,16 +32,20 @@ pub record NamedFile : Type 0 where
   pub what : What
   pub limit : ℕ
 
--- the two files of a check
+-- the three files of a check
 abbrev pub database_file : List ℕ → NamedFile
 database_file name = record { place = 1; name = name; what = DatabaseFile; limit = 8388608 }
+
+abbrev pub profile_file : List ℕ → NamedFile
+profile_file name = record { place = 2; name = name; what = ProfileFile; limit = 33554432 }
 
 abbrev pub certificate_file : List ℕ → NamedFile
 certificate_file name = record { place = 3; name = name; what = CertificateFile; limit = 33554432 }
 
 -- the files that a form names, in the order in which they are read
 abbrev pub files_of : Form → List NamedFile
-files_of (Check database certificate) = database_file database ∷ certificate_file certificate ∷ []
+files_of (Check database profile certificate) =
+    database_file database ∷ option_to_list (option_map profile_file profile) ++ certificate_file certificate ∷ []
 
 -- the file has these bytes, and no more of them than it may have; where it is not told what is held, no claim on the name
 abbrev pub IsReadAs : Option Files → NamedFile → List ℕ → Type 0

@@ -3,7 +3,8 @@ pub mod Comes
 pub mod Exits
 pub mod Files
 pub mod Form
-pub mod PlainArea
+pub mod Database
+pub mod Input
 pub mod Reading
 pub mod Run
 pub mod Verdict

@@ -1,15 +1,39 @@
 ghost use Rattle.std.specs.Prelude.{◌≡◌, ◌≤◌, ◌++◌, codes, decimal, length};
 ghost use Rattle.mrt_graph.specs.Spelling.{address_text};
-ghost use Rattle.mrt_cmd.specs.Exits.{status_of, line_of as line_of_exit, kind_words, what_words};
+ghost use Rattle.mrt_cmd.specs.Exits.{
+  status_of,
+  line_of as line_of_exit,
+  database_line,
+  kind_words,
+  line_words,
+  record_words,
+  what_words,
+};
 
 use crate::line::{Line, line_of, push, push_address, push_decimal};
 use cert_format::CertKind;
+use mrt_island::ProfileKind;
+use ospf_lsa::LsaKind;
 
 /// What can be too large.
 #[derive(Clone, Copy, Debug, PartialEq, Eq)]
 pub enum What {
     DatabaseFile,
+    ProfileFile,
     CertificateFile,
+    AreaNodes,
+    AreaArcs,
+    IslandNodes,
+    IslandLinks,
+}
+
+/// What is wrong with a database.
+#[derive(Clone, Copy, Debug, PartialEq, Eq)]
+pub enum DbKind {
+    /// A record has this fault.
+    Lsa(LsaKind),
+    /// A record is as new as that at `first`, the first newest instance of the same LSA, and says something else.
+    Conflict { first: u32 },
 }
 
 /// What came of the words.
@@ -21,19 +45,22 @@ pub enum Exit {
     No { rule: u8, a: u16, b: u16 },
     /// The words are none of the forms.
     Usage,
+    /// The first record of the database with a fault; where none has one, the second of two newest instances that contradict
+    /// each other.
+    BadDatabase { at: u32, kind: DbKind },
+    /// The first line of the profile with a fault.
+    BadProfile { line: u32, kind: ProfileKind },
     /// The first field of the certificate file that is not allowed.
     BadCertificate { at: u32, kind: CertKind },
     /// More than there may be.
     TooLarge { what: What, size: u32 },
-    /// The area has no such router.
+    /// The area has no such router, or the profile says that it does not support the Default MRT Profile.
     NotThere { number: u32 },
     /// The file that this word names could not be read; the command is word 0.
     ReadFault { word: u8 },
     /// The output failed behind so many bytes of the text.
     WriteFault { taken: u64 },
     NoMemory,
-    /// The database is not yet among those that are understood.
-    NotYet,
 }
 
 /// The line of `Usage`: the forms that there are and are to be.
@@ -49,13 +76,14 @@ impl Exit {
             Exit::Done => 0,
             Exit::No { .. } => 1,
             Exit::Usage => 2,
+            Exit::BadDatabase { .. } => 3,
+            Exit::BadProfile { .. } => 4,
             Exit::BadCertificate { .. } => 5,
             Exit::TooLarge { .. } => 6,
             Exit::NotThere { .. } => 7,
             Exit::ReadFault { .. } => 8,
             Exit::WriteFault { .. } => 9,
             Exit::NoMemory => 10,
-            Exit::NotYet => 12,
         }
     }
 
@@ -68,13 +96,14 @@ impl Exit {
             Exit::Done => line_of(b""),
             Exit::No { rule, a, b } => no(*rule, *a, *b),
             Exit::Usage => line_of(USAGE),
+            Exit::BadDatabase { at, kind } => bad_database(*at, *kind),
+            Exit::BadProfile { line, kind } => bad_profile(*line, *kind),
             Exit::BadCertificate { at, kind } => bad_certificate(*at, *kind),
             Exit::TooLarge { what, size } => too_large(*what, *size),
             Exit::NotThere { number } => not_there(*number),
             Exit::ReadFault { word } => numbered(b"mrt: read fault: word ", u64::from(*word)),
             Exit::WriteFault { taken } => numbered(b"mrt: write fault after ", *taken),
             Exit::NoMemory => line_of(b"mrt: no memory\n"),
-            Exit::NotYet => line_of(b"mrt: not yet\n"),
         }
     }
 }
@@ -100,6 +129,76 @@ fn no(rule: u8, a: u16, b: u16) -> Line
     push_decimal(&mut line, u64::from(b));
     push(&mut line, b"\n");
     line
+}
+
+fn bad_database(at: u32, kind: DbKind) -> Line
+    ensures { result.items ≡ database_line at kind }
+{
+    match kind {
+        DbKind::Lsa(kind) => bad_record(at, kind),
+        DbKind::Conflict { first } => conflict(at, first),
+    }
+}
+
+fn bad_record(at: u32, kind: LsaKind) -> Line
+    ensures { result.items ≡ codes "mrt: bad database: " ++ record_words kind ++ codes " at " ++ decimal at ++ codes "\n" }
+{
+    let mut line = line_of(b"mrt: bad database: ");
+    push(&mut line, words_of_record(kind));
+    push(&mut line, b" at ");
+    push_decimal(&mut line, u64::from(at));
+    push(&mut line, b"\n");
+    line
+}
+
+fn words_of_record(kind: LsaKind) -> &'static [u8]
+    ensures words { result.now ≡ record_words kind }
+    ensures short { length result.now ≤ 20 }
+{
+    match kind {
+        LsaKind::Truncated => b"truncated",
+        LsaKind::Length => b"length",
+        LsaKind::Checksum => b"checksum",
+        LsaKind::ReservedSequence => b"reserved-sequence",
+        LsaKind::IdMismatch => b"id-mismatch",
+        LsaKind::Body => b"body",
+        LsaKind::ZeroMetric => b"zero-metric",
+    }
+}
+
+fn conflict(at: u32, first: u32) -> Line
+    ensures { result.items ≡ codes "mrt: bad database: conflict at " ++ decimal at ++ codes " with " ++ decimal first ++ codes "\n" }
+{
+    let mut line = line_of(b"mrt: bad database: conflict at ");
+    push_decimal(&mut line, u64::from(at));
+    push(&mut line, b" with ");
+    push_decimal(&mut line, u64::from(first));
+    push(&mut line, b"\n");
+    line
+}
+
+fn bad_profile(number: u32, kind: ProfileKind) -> Line
+    ensures { result.items ≡ codes "mrt: bad profile: " ++ line_words kind ++ codes " on line " ++ decimal number ++ codes "\n" }
+{
+    let mut line = line_of(b"mrt: bad profile: ");
+    push(&mut line, words_of_line(kind));
+    push(&mut line, b" on line ");
+    push_decimal(&mut line, u64::from(number));
+    push(&mut line, b"\n");
+    line
+}
+
+fn words_of_line(kind: ProfileKind) -> &'static [u8]
+    ensures words { result.now ≡ line_words kind }
+    ensures short { length result.now ≤ 20 }
+{
+    match kind {
+        ProfileKind::Bytes => b"bytes",
+        ProfileKind::Words => b"words",
+        ProfileKind::Address => b"address",
+        ProfileKind::Number => b"number",
+        ProfileKind::Repeated => b"repeated",
+    }
 }
 
 fn bad_certificate(at: u32, kind: CertKind) -> Line
@@ -143,7 +242,12 @@ fn words_of_what(what: What) -> &'static [u8]
 {
     match what {
         What::DatabaseFile => b"database-file",
+        What::ProfileFile => b"profile-file",
         What::CertificateFile => b"certificate-file",
+        What::AreaNodes => b"area-nodes",
+        What::AreaArcs => b"area-arcs",
+        What::IslandNodes => b"island-nodes",
+        What::IslandLinks => b"island-links",
     }
 }
 

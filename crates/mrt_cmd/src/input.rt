@@ -1,32 +1,112 @@
-//! What the bytes of the two files are.
+//! What the bytes of the files are.
 
-ghost use Rattle.std.specs.Prelude.{◌≡◌, ◌≤◌, IfOk, IfErr, length};
-ghost use Rattle.mrt_cmd.specs.PlainArea.{IsAreaOf};
-ghost use Rattle.mrt_cmd.specs.Reading.{HasNoCert, HasNoGraph};
-ghost use Rattle.mrt_cmd.specs.Verdict.{IsCertOf};
+ghost use Rattle.std.specs.Prelude.{◌≡◌, ◌≤◌, ◌<◌, ◌∷◌, [], ℕ, None, IfOk, IfErr, OnOk, length, map};
+ghost use Rattle.lsdb.specs.Conflicts.{least_conflict};
+ghost use Rattle.lsdb.specs.Entries.{entries_in};
+ghost use Rattle.lsdb.specs.Installing.{IsBehind};
+ghost use Rattle.lsdb.specs.Installs.{all_installed};
+ghost use Rattle.ospf_lsa.specs.Lsas.{AreLsas, IsLsa};
+ghost use Rattle.mrt_cmd.specs.Database.{IsDatabase, entering, enters};
+ghost use Rattle.mrt_cmd.specs.Input.{IsCertOf, IsProfile};
+ghost use Rattle.mrt_cmd.specs.Reading.{HasNoCert, HasNoDatabase, HasNoProfile};
 
-use crate::exit::Exit;
+use crate::exit::{DbKind, Exit};
 use cert_format::{CertError, read_cert};
-use mrt_graph::{CertFile, Graph};
-use ospf_lsa::{LsaError, read_lsas};
-use plain_area::plain_graph;
+use lsdb::{
+    Lsdb, an_lsa_without_a_fault_may_be_installed, entries_are_those_of_the_list,
+    refuses_exactly_where_not_settled, tells_the_first_conflict,
+};
+use mrt_graph::CertFile;
+use mrt_island::{Profile, ProfileError, read_profile};
+use ospf_lsa::{Lsa, LsaError, read_lsas};
 use std::alloc::Global;
 
-/// The graph of a plain database.
-pub(crate) fn area_of(alloc: Global, bytes: &[u8]) -> Result<Graph, Exit>
+/// The LS type of a router-LSA (RFC 2328, section A.4.1).
+const ROUTER_LSA: u8 = 1;
+
+/// The LS type of a network-LSA.
+const NETWORK_LSA: u8 = 2;
+
+/// The database of the router-LSAs and network-LSAs that the bytes are.
+pub(crate) fn database_of(alloc: Global, bytes: &[u8]) -> Result<Lsdb, Exit>
     requires { length bytes.now ≤ 8388608 }
-    ensures area { IfOk result (λ graph. IsAreaOf bytes.now graph) }
-    ensures none { IfErr result (HasNoGraph bytes.now) }
+    ensures newest { IfOk result (λ database. IsDatabase bytes.now (map (λ entry. entry.lsa) database.entries)) }
+    ensures settled { IfOk result (λ database. least_conflict database.entries ≡ None) }
+    ensures none { IfErr result (HasNoDatabase bytes.now) }
 {
+    refuses_exactly_where_not_settled();
+    tells_the_first_conflict();
     let lsas = match read_lsas(alloc, bytes) {
         Ok(lsas) => lsas,
-        Err(LsaError::Fault { .. }) => return Err(Exit::NotYet),
+        Err(LsaError::Fault { at, kind }) => {
+            return Err(Exit::BadDatabase {
+                at,
+                kind: DbKind::Lsa(kind),
+            });
+        }
         Err(LsaError::NoMemory) => return Err(Exit::NoMemory),
     };
-    match plain_graph(alloc, lsas.as_slice()) {
-        Ok(Some(graph)) => Ok(graph),
-        Ok(None) => Err(Exit::NotYet),
+    let database = installed(alloc, lsas)?;
+    match database.settled() {
+        Ok(()) => Ok(database),
+        Err(conflict) => Err(Exit::BadDatabase {
+            at: conflict.second,
+            kind: DbKind::Conflict {
+                first: conflict.first,
+            },
+        }),
+    }
+}
+
+/// A database in which the router-LSAs and network-LSAs among these were installed, one after another.
+fn installed(alloc: Global, lsas: Vec<Lsa>) -> Result<Lsdb, Exit>
+    requires { AreLsas 0 lsas.items }
+    ensures entries { IfOk result (λ database. database.entries ≡ entries_in (entering lsas.items)) }
+    ensures none { IfErr result (λ exit. exit ≡ Exit.NoMemory) }
+{
+    entries_are_those_of_the_list();
+    let mut database = Lsdb::new(alloc);
+    for lsa in lsas {
+        enter(&mut database, lsa)?;
+    }
+    Ok(database)
+}
+
+/// Installs an LSA, if it is one that enters the database.
+fn enter(database: &mut Lsdb, lsa: Lsa) -> Result<(), Exit>
+    requires faultless { IsLsa lsa }
+    requires behind { IsBehind database.old.greatest lsa.at }
+    ensures entries { OnOk result (database.new.entries ≡ all_installed database.old.entries (entering (lsa ∷ []))) }
+    ensures behind { OnOk result ((at : ℕ) → lsa.at < at → IsBehind database.new.greatest at) }
+    ensures none { IfErr result (λ exit. exit ≡ Exit.NoMemory) }
+{
+    an_lsa_without_a_fault_may_be_installed();
+    if !enters(&lsa) {
+        return Ok(());
+    }
+    match database.install(lsa) {
+        Ok(_) => Ok(()),
         Err(_) => Err(Exit::NoMemory),
+    }
+}
+
+/// Whether an LSA is one that enters the database.
+fn enters(lsa: &Lsa) -> bool
+    ensures { result ≡ enters lsa.now }
+{
+    lsa.kind == ROUTER_LSA || lsa.kind == NETWORK_LSA
+}
+
+/// The profile that the bytes are.
+pub(crate) fn profile_of(alloc: Global, bytes: &[u8]) -> Result<Profile, Exit>
+    requires { length bytes.now ≤ 33554432 }
+    ensures profile { IfOk result (λ profile. IsProfile bytes.now profile) }
+    ensures none { IfErr result (HasNoProfile bytes.now) }
+{
+    match read_profile(alloc, bytes) {
+        Ok(profile) => Ok(profile),
+        Err(ProfileError::Fault { line, kind }) => Err(Exit::BadProfile { line, kind }),
+        Err(ProfileError::NoMemory) => Err(Exit::NoMemory),
     }
 }
 

@@ -10,7 +10,7 @@ mod reading;
 mod verdict;
 mod words;
 
-pub use exit::{Exit, What};
+pub use exit::{DbKind, Exit, What};
 pub use line::Line;
 pub use program::run;
 

@@ -4,6 +4,8 @@ ghost use Rattle.std.specs.Prelude.{◌≡◌, ◌⊎◌, ◌↔◌, ℕ, List, 
 ghost use Rattle.mrt_io.specs.Counts.{Rose};
 ghost use Rattle.mrt_io.specs.Writing.{Gained};
 ghost use Rattle.cert_format.specs.declared.error.CertKind.{CertKind};
+ghost use Rattle.mrt_island.specs.declared.profile_error.ProfileKind.{ProfileKind};
+ghost use Rattle.mrt_cmd.specs.declared.exit.DbKind.{DbKind};
 ghost use Rattle.mrt_cmd.specs.declared.exit.What.{What};
 ghost use Rattle.mrt_cmd.specs.Asked.{asked};
 ghost use Rattle.mrt_cmd.specs.Comes.{Comes, FailsAt, Gives, GivesText, IsRefused, MissesAt, NamesHeld};
@@ -13,7 +15,7 @@ ghost use Rattle.mrt_cmd.specs.Form.{form_of};
 ghost use Rattle.mrt_cmd.specs.Reading.{IsRefusal, IsRefusalOrFault, IsWordOrMemory};
 ghost use Rattle.mrt_cmd.specs.Run.{GainedLine, IsCutShort, WritesNothing};
 
-use crate::check::check;
+use crate::check::{check_plainly, check_under};
 use crate::exit::Exit;
 use crate::line::Line;
 use crate::words::{Form, read_form};
@@ -50,7 +52,10 @@ pub fn run<F: Shelf, K: Sink, E: Sink>(
     // Each of the other refusals comes only where it is what comes of the files.
     ensures too_large { (what : What) (size : ℕ) → result ≡ Exit.TooLarge what size
         → IsRefused (F.held shelf.old) words.now (Exit.TooLarge what size) }
-    ensures not_yet { result ≡ Exit.NotYet → IsRefused (F.held shelf.old) words.now Exit.NotYet }
+    ensures bad_database { (at : ℕ) (kind : DbKind) → result ≡ Exit.BadDatabase at kind
+        → IsRefused (F.held shelf.old) words.now (Exit.BadDatabase at kind) }
+    ensures bad_profile { (line : ℕ) (kind : ProfileKind) → result ≡ Exit.BadProfile line kind
+        → IsRefused (F.held shelf.old) words.now (Exit.BadProfile line kind) }
     ensures bad_certificate { (at : ℕ) (kind : CertKind) → result ≡ Exit.BadCertificate at kind
         → IsRefused (F.held shelf.old) words.now (Exit.BadCertificate at kind) }
     ensures not_there { (number : ℕ) → result ≡ Exit.NotThere number
@@ -103,7 +108,10 @@ fn answer<F: Shelf, K: Sink>(alloc: Global, words: &[Word], shelf: &mut F, out: 
         → F.faults shelf.new ≡ F.faults shelf.old }
     ensures too_large { (what : What) (size : ℕ) → result ≡ Exit.TooLarge what size
         → IsRefused (F.held shelf.old) words.now (Exit.TooLarge what size) }
-    ensures not_yet { result ≡ Exit.NotYet → IsRefused (F.held shelf.old) words.now Exit.NotYet }
+    ensures bad_database { (at : ℕ) (kind : DbKind) → result ≡ Exit.BadDatabase at kind
+        → IsRefused (F.held shelf.old) words.now (Exit.BadDatabase at kind) }
+    ensures bad_profile { (line : ℕ) (kind : ProfileKind) → result ≡ Exit.BadProfile line kind
+        → IsRefused (F.held shelf.old) words.now (Exit.BadProfile line kind) }
     ensures bad_certificate { (at : ℕ) (kind : CertKind) → result ≡ Exit.BadCertificate at kind
         → IsRefused (F.held shelf.old) words.now (Exit.BadCertificate at kind) }
     ensures not_there { (number : ℕ) → result ≡ Exit.NotThere number
@@ -148,8 +156,14 @@ fn text_of<F: Shelf>(alloc: Global, form: Form<'_>, shelf: &mut F) -> Result<Lin
     match form {
         Form::Check {
             database,
+            profile: None,
             certificate,
-        } => check(alloc, shelf, database, certificate),
+        } => check_plainly(alloc, shelf, database, certificate),
+        Form::Check {
+            database,
+            profile: Some(profile),
+            certificate,
+        } => check_under(alloc, shelf, database, profile, certificate),
     }
 }
 

@@ -2,7 +2,7 @@
 
 ghost use Rattle.std.specs.Prelude.{◌≡◌};
 ghost use Rattle.std.specs.Option.{option_map};
-ghost use Rattle.mrt_cmd.specs.Form.{form_of};
+ghost use Rattle.mrt_cmd.specs.Form.{form_of, profile_name};
 ghost use Rattle.mrt_cmd.specs.Asked.{asked};
 
 use mrt_io::Word;
@@ -10,9 +10,10 @@ use mrt_io::Word;
 /// What the words ask for.
 #[derive(Clone, Copy)]
 pub(crate) enum Form<'a> {
-    /// Check a certificate against a database, under the empty profile.
+    /// Check a certificate against a database, under a profile; without one, under the empty profile.
     Check {
         database: &'a Word,
+        profile: Option<&'a Word>,
         certificate: &'a Word,
     },
 }
@@ -24,14 +25,26 @@ pub(crate) fn read_form(words: &[Word]) -> Option<Form<'_>>
     match words {
         [command, database, profile, certificate]
             if command.bytes() == b"check".as_slice()
-                && profile.bytes() == b"-".as_slice()
                 && !database.bytes().is_empty()
+                && !profile.bytes().is_empty()
                 && !certificate.bytes().is_empty() => {
             Some(Form::Check {
                 database,
+                profile: read_profile_name(profile),
                 certificate,
             })
         }
         _ => None,
+    }
+}
+
+/// The name of a profile; `-` names none.
+fn read_profile_name(word: &Word) -> Option<&Word>
+    ensures { option_map (λ name. name.now) result ≡ profile_name word.now }
+{
+    if word.bytes() == b"-".as_slice() {
+        None
+    } else {
+        Some(word)
     }
 }

@@ -1,0 +1,63 @@
+-- What a check is given.
+use Rattle.std.specs.Prelude.{◌≡◌, ◌⊎◌, ℕ, false, List, Option, Contains, length}
+use Rattle.area_graph.specs.AreaOf.{area_of}
+use Rattle.area_graph.specs.AreaSize.{IsTooLarge}
+use Rattle.area_graph.specs.Nodes.{router}
+use Rattle.area_graph.specs.Parts.{AreaParts}
+use Rattle.cert_format.specs.CertText.{cert_text}
+use Rattle.cert_format.specs.Limits.{IsVersionOne}
+use Rattle.mrt_graph.specs.NewGraph.{IsTooLarge as IsTooLargeGraph}
+use Rattle.mrt_graph.specs.Topology.{Topology}
+use Rattle.mrt_graph.specs.declared.cert.CertFile.{CertFile}
+use Rattle.mrt_graph.specs.TextLines.{text_lines}
+use Rattle.mrt_island.specs.ProfileFaults.{AreFaultless, settings_of}
+use Rattle.mrt_island.specs.IslandOf.{IsIsland}
+use Rattle.mrt_island.specs.Policy.{Policy, policy_of}
+use Rattle.mrt_island.specs.declared.setting.Setting.{Setting}
+use Rattle.ospf_lsa.specs.declared.lsa.Lsa.{Lsa}
+use Rattle.mrt_cmd.specs.Database.{IsDatabase}
+
+-- the bytes are a profile, no line of which has a fault, and this is what its lines say
+pub record IsProfile (bytes : List ℕ) (settings : List Setting) : Type 0 where
+  pub faultless : AreFaultless (text_lines bytes)
+  pub said : settings ≡ settings_of (text_lines bytes)
+
+-- the bytes are the certificate file
+pub record IsCertOf (bytes : List ℕ) (file : CertFile) : Type 0 where
+  pub within : IsVersionOne file
+  pub spelled : bytes ≡ cert_text file
+
+-- the newest LSAs, the settings of the profile, and the certificate file
+pub record Input : Type 0 where
+  pub newest : List Lsa
+  pub settings : List Setting
+  pub file : CertFile
+
+-- what the bytes of the three files hold
+pub record IsInput (database profile certificate : List ℕ) (input : Input) : Type 0 where
+  pub database_is : IsDatabase database input.newest
+  pub profile_is : IsProfile profile input.settings
+  pub certificate_is : IsCertOf certificate input.file
+
+-- the area
+abbrev pub area : Input → AreaParts
+area input = area_of input.newest
+
+-- what the profile says
+abbrev pub policy : Input → Policy
+policy input = policy_of input.settings
+
+-- the area has no more nodes and arcs than an area may have
+abbrev pub HasAreaWithin : Input → Type 0
+HasAreaWithin input = IsTooLarge (length (area input).ids) (length (area input).arcs) → ⊥
+
+-- a router is not in an area, or does not support the Default MRT Profile
+abbrev pub IsMissing : Policy → AreaParts → ℕ → Type 0
+IsMissing policy area number = (Contains area.ids (router number) → ⊥) ⊎ (policy.supports number ≡ false)
+
+-- this is the graph of the island of the certificate's root, and its GADAG root; area and island have no more than they may have
+pub record HasIsland (input : Input) (graph : Topology) (root : ℕ) : Type 0 where
+  pub area_within : HasAreaWithin input
+  pub link_of : List (Option ℕ)
+  pub island : IsIsland (policy input) (area input) input.file.root graph root link_of
+  pub within : IsTooLargeGraph (length graph.ids) (length graph.links) → ⊥

@@ -1,6 +1,0 @@
-use Rattle.std.proofs.Common.{rules}
-use Rattle.std.proofs.lemmas.List.Sorted.{IsNonDecreasingBy-from_sort_by_key}
-use Rattle.plain_area.proofs.order.slots.Goals as goal
-
-pub returns-clause-ascend : goal.returns-clause-ascend
-returns-clause-ascend c = IsNonDecreasingBy-from_sort_by_key (λ slot. slot.router) _ c.in_ok-sort_by_key.ensures.sorted (λ a r q k. search rules)

@@ -1,5 +1,0 @@
-pub mod Between
-pub mod Connecting
-pub mod Order
-pub mod Plain
-pub mod PlainGraph
