@@ -1,6 +1,6 @@
 #!/bin/sh
-# Times `mrt check` of the largest areas that are a ring, a star and a line of 2,048 routers beside sha256sum of their certificates, and prints
-# the ratios and the peak memory. It builds the program where need be; it fetches nothing.
+# Times `mrt check` of the largest areas that are a ring, a star, a line and a mesh of 2,048 routers beside sha256sum of their certificates, and
+# prints the ratios and the peak memory. It builds the program where need be; it fetches nothing. The certificate of the mesh takes a minute.
 set -e
 root=$(cd "$(dirname "$0")/.." && pwd)
 work=$(mktemp -d)
@@ -8,6 +8,7 @@ trap 'rm -rf "$work"' EXIT
 "$root/mrt" check "$root/crates/mrt/data/sample.lsas" - "$root/crates/mrt/data/sample.cert" >/dev/null
 python3 "$root/bench/ring.py" 2048 "$work/ring.cert" "$work/ring.lsas"
 for shape in star line; do python3 "$root/bench/tree.py" $shape 2048 "$work/$shape.cert" "$work/$shape.lsas"; done
+python3 "$root/bench/mesh.py" 2048 "$work/mesh.cert" "$work/mesh.lsas"
 python3 - "$root/crates/mrt/out/mrt" "$work" <<'REPORT'
 import os, resource, subprocess, sys, time
 
@@ -25,7 +26,7 @@ def peak(command):
     child = subprocess.Popen(command, stdout=subprocess.DEVNULL)
     return os.wait4(child.pid, 0)[2].ru_maxrss * 1024
 
-for shape in ("ring", "star", "line"):
+for shape in ("ring", "star", "line", "mesh"):
     cert, area = f"{work}/{shape}.cert", f"{work}/{shape}.lsas"
     check = [program, "check", area, "-", cert]
     size = os.path.getsize(cert)

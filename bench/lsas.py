@@ -1,7 +1,8 @@
-"""LSAs as bytes (RFC 2328, section A.4): router-LSAs with point-to-point and stub links, and their checksum."""
+"""LSAs as bytes (RFC 2328, section A.4): router-LSAs, network-LSAs and any other, with their checksum."""
 import struct
 
-POINT_TO_POINT, STUB = 1, 3
+POINT_TO_POINT, TRANSIT, STUB, VIRTUAL = 1, 2, 3, 4
+FIRST_SEQUENCE = 0x80000001
 
 
 def sums(data):
@@ -13,9 +14,9 @@ def sums(data):
     return c0, c1
 
 
-def lsa(kind, number, router, body):
+def lsa(kind, number, router, body, age=1, sequence=FIRST_SEQUENCE):
     """An LSA of any type with this link state ID, advertising router and body, with a fresh checksum (RFC 2328, section 12.1.7)."""
-    head = struct.pack(">HBBIII", 1, 2, kind, number, router, 0x80000001)
+    head = struct.pack(">HBBIII", age, 2, kind, number, router, sequence)
     tail = struct.pack(">H", 20 + len(body)) + body
     covered = head[2:] + b"\0\0" + tail
     c0, c1 = sums(covered)
@@ -24,7 +25,23 @@ def lsa(kind, number, router, body):
     return head + bytes(value or 255 for value in check) + tail
 
 
-def router_lsa(router, links):
+def router_lsa(router, links, age=1, sequence=FIRST_SEQUENCE, flags=0):
     """A router-LSA of links (ID, data, type, metric)."""
     texts = b"".join(struct.pack(">IIBBH", to, data, kind, 0, metric) for to, data, kind, metric in links)
-    return lsa(1, router, router, struct.pack(">BBH", 0, 0, len(links)) + texts)
+    return lsa(1, router, router, struct.pack(">BBH", flags, 0, len(links)) + texts, age, sequence)
+
+
+def network_lsa(number, router, mask, routers, age=1, sequence=FIRST_SEQUENCE):
+    """A network-LSA: the designated router's interface address and router ID, the mask, and the routers attached."""
+    return lsa(2, number, router, struct.pack(f">I{len(routers)}I", mask, *routers), age, sequence)
+
+
+def address(text):
+    """The number that four bytes in decimal, joined by dots, spell."""
+    a, b, c, d = (int(part) for part in text.split("."))
+    return a << 24 | b << 16 | c << 8 | d
+
+
+def spelled(number):
+    """The spelling of a number as an address."""
+    return ".".join(str(byte) for byte in struct.pack(">I", number))

@@ -1,0 +1,110 @@
+#!/usr/bin/env python3
+"""A plain reference program: writes the certificate of a router's island, and says what `mrt check` is to say of a certificate.
+
+usage: certify.py certify DATABASE PROFILE ROUTER CERTIFICATE
+       certify.py check DATABASE PROFILE CERTIFICATE
+       certify.py rows DATABASE PROFILE ROUTER
+
+PROFILE is the name of a file, or - for the empty profile. `rows` prints the rows of a router and the order of the GADAG. A refusal is
+printed as `mrt` prints it, and its status is the same. It is slow: an island of 2,048 nodes takes a minute or two.
+"""
+import sys
+
+import certificate
+import database
+import island as islands
+import lowpoint
+from database import Id, Refused, text_of
+from lsas import address, spelled
+
+TAGS = ["sole", "head", "top", "below", "above", "unordered", "carried"]
+LIMITS = {"database-file": 8388608, "profile-file": 33554432, "certificate-file": 33554432}
+
+
+def read(name, what):
+    with open(name, "rb") as file:
+        data = file.read(LIMITS[what] + 1)
+    if len(data) > LIMITS[what]:
+        raise Refused(6, f"too large: {what} {len(data)}")
+    return data
+
+
+def read_parts(database_name, profile_name):
+    """The bytes of both files; a profile that is not named is empty."""
+    return read(database_name, "database-file"), b"" if profile_name == "-" else read(profile_name, "profile-file")
+
+
+def area_of(data):
+    return database.area_of(database.newest(database.read_lsas(data)))
+
+
+def island_of(data, profile, router):
+    """The island of a router in the area of a database; what is over its limits is refused."""
+    area, read_profile = area_of(data), islands.read_profile(profile)
+    database.check_size(area)
+    found = islands.island_of(area, read_profile, router)
+    islands.check_size(found)
+    return found
+
+
+def certify(data, profile, router):
+    """The bytes of the certificate of a router's island."""
+    found = island_of(data, profile, router)
+    return certificate.write(found, lowpoint.compute(found))
+
+
+def check(data, profile, cert):
+    """The line of an accepted certificate; another one is refused."""
+    area, read_profile, file = area_of(data), islands.read_profile(profile), certificate.read(cert)
+    database.check_size(area)
+    found = islands.island_of(area, read_profile, file.root)
+    islands.check_size(found)
+    fault = certificate.first_fault(found, file)
+    if fault:
+        raise Refused(1, "no: rule {} at {} {}".format(*fault))
+    return f"accepted root {spelled(file.root)} nodes {len(found.ids)} links {len(found.links)}"
+
+
+def end_text(found, node, link):
+    """The far node of a link, and the link data at this end."""
+    ends = found.links[link]
+    far, data = (ends.b, ends.data_a) if ends.a == node else (ends.a, ends.data_b)
+    return f"{text_of(found.ids[far])}/{spelled(data)}"
+
+
+def rows(data, profile, router):
+    """The rows of a router and the order of the GADAG, as lines."""
+    found = island_of(data, profile, router)
+    cert, source = lowpoint.compute(found), found.ids.index(Id(router, database.ROUTER))
+    lines = [f"router {spelled(router)} root {text_of(found.ids[found.root])} nodes {len(found.ids)} links {len(found.links)}"]
+    for node, row in zip(found.ids, cert.rows[source]):
+        if row:
+            lines.append(f"{text_of(node)} {TAGS[row.tag]} blue {end_text(found, source, row.blue)} red {end_text(found, source, row.red)}")
+    order = sorted(range(len(found.ids)), key=lambda node: cert.order[node])
+    return lines + ["order " + " ".join(text_of(found.ids[node]) for node in order)]
+
+
+def run(command, words):
+    if command == "certify":
+        bytes_of = certify(*read_parts(*words[:2]), address(words[2]))
+        with open(words[3], "wb") as file:
+            file.write(bytes_of)
+    elif command == "check":
+        print(check(*read_parts(*words[:2]), read(words[2], "certificate-file")))
+    else:
+        print("\n".join(rows(*read_parts(*words[:2]), address(words[2]))))
+
+
+def main():
+    counts = {"certify": 4, "check": 3, "rows": 3}
+    if len(sys.argv) < 2 or counts.get(sys.argv[1]) != len(sys.argv) - 2:
+        sys.exit(__doc__)
+    try:
+        run(sys.argv[1], sys.argv[2:])
+    except Refused as refused:
+        print(f"mrt: {refused.line}", file=sys.stderr)
+        sys.exit(refused.status)
+
+
+if __name__ == "__main__":
+    main()

@@ -1,0 +1,305 @@
+#!/usr/bin/env python3
+"""Compares the reference program with worked examples, and with what a certificate promises, on many small random areas.
+
+usage: certify_test.py [AREAS]
+
+Routers are 1 for 1.1.1.1 and so on; a point-to-point link from i to j has metric 10 and link data 0.0.0.j at i.
+"""
+import sys
+from random import Random
+
+import certificate
+import certify
+import island as islands
+import lowpoint
+from database import Refused
+from lsas import POINT_TO_POINT, STUB, TRANSIT, address, network_lsa, router_lsa
+
+
+def router(number):
+    return number * 0x01010101
+
+
+def routers_of(links, lan=None, metrics={}):
+    """The links of each router, by its number; a LAN is its address and the routers on it, each with its interface address on it."""
+    found = {}
+    for one, other in links:
+        metric = metrics.get((one, other), 10)
+        found.setdefault(one, []).append((router(other), other, POINT_TO_POINT, metric))
+        found.setdefault(other, []).append((router(one), one, POINT_TO_POINT, metric))
+    if lan:
+        number, attached = lan
+        for one in attached:
+            found.setdefault(one, []).insert(0, (number, address("10.0.0.0") + one, TRANSIT, 10))
+    return found
+
+
+def area(links, lan=None, metrics={}):
+    found = routers_of(links, lan, metrics)
+    data = b"".join(router_lsa(router(number), found[number]) for number in sorted(found))
+    if lan:
+        number, attached = lan
+        designated = number - address("10.0.0.0")
+        data += network_lsa(number, router(designated), 0xFFFFFF00, [router(designated)] + [router(each) for each in attached if each != designated])
+    return data
+
+
+ALONE = router_lsa(router(1), [])
+WITH_STUB = router_lsa(router(1), [(router(1), 0xFFFFFFFF, STUB, 0)])
+TRIANGLE = area([(1, 2), (1, 3), (2, 3)])
+LINE = area([(1, 2), (2, 3), (3, 4)])
+TWO_TRIANGLES = area([(1, 2), (1, 3), (2, 3), (3, 4), (3, 5), (4, 5)])
+CROSSED = area([(1, 2), (1, 4), (1, 5), (2, 3), (2, 5), (3, 5), (4, 5)])
+UNORDERED = area([(1, 4), (1, 5), (2, 4), (2, 5), (3, 4), (3, 5)])
+LAN = area([(1, 2)], (address("10.0.0.4"), [1, 2, 3, 4]))
+LAN_IN_RING = area([(2, 4), (3, 4), (1, 4)], (address("10.0.0.3"), [1, 2, 3]), {(1, 4): 100})
+PARALLEL = b"".join(router_lsa(router(one), [(router(3 - one), data, POINT_TO_POINT, 10) for data in (1, 2, 3)]) for one in (1, 2))
+CUT = area([(1, 2), (2, 9), (3, 9), (4, 9)])
+
+# Written by hand: the certificates of one router, of the triangle and of the line.
+ALONE_CERT = "4d525443 00010001000001010101 01010101010001 00000000".replace(" ", "")
+TRIANGLE_CERT = """4d525443000100030003 03030303
+01 01010101 0002 0002 0000  01 02020202 0003 0002 0000  01 03030303 0001 0002 0002
+0000 0001 0000 00  0000 0002 0000 00  0001 0002 0000 02
+0000 0001 03  0000 0001 01  0002 0000 04  0002 0000 01  0001 0002 02  0001 0002 02"""
+LINE_CERT = """4d52544300010004000304040404
+01 01010101 0004 0001 0000  01 02020202 0003 0002 0001  01 03030303 0002 0003 0002  01 04040404 0001 0003 0003
+0000 0001 0000 01  0001 0002 0001 01  0002 0003 0002 01
+0000000000 0000000006 0000000006  0000000000 0001000100 0001000106
+0001000106 0001000100 0002000200  0002000206 0002000206 0002000200"""
+
+CERTS = [("one router", ALONE, ALONE_CERT), ("a stub link", WITH_STUB, ALONE_CERT), ("a triangle", TRIANGLE, TRIANGLE_CERT), ("a line", LINE, LINE_CERT)]
+
+# The rows of a router, and the order of the GADAG.
+ROWS = [
+    ("a triangle", TRIANGLE, 2, """
+router 2.2.2.2 root 3.3.3.3 nodes 3 links 3
+1.1.1.1 above blue 3.3.3.3/0.0.0.3 red 1.1.1.1/0.0.0.1
+3.3.3.3 head blue 3.3.3.3/0.0.0.3 red 1.1.1.1/0.0.0.1
+order 3.3.3.3 1.1.1.1 2.2.2.2"""),
+    ("parallel links", PARALLEL, 1, """
+router 1.1.1.1 root 2.2.2.2 nodes 2 links 3
+2.2.2.2 head blue 2.2.2.2/0.0.0.2 red 2.2.2.2/0.0.0.1
+order 2.2.2.2 1.1.1.1"""),
+    ("two triangles", TWO_TRIANGLES, 1, """
+router 1.1.1.1 root 5.5.5.5 nodes 5 links 6
+2.2.2.2 below blue 2.2.2.2/0.0.0.2 red 3.3.3.3/0.0.0.3
+3.3.3.3 head blue 2.2.2.2/0.0.0.2 red 3.3.3.3/0.0.0.3
+4.4.4.4 carried blue 2.2.2.2/0.0.0.2 red 3.3.3.3/0.0.0.3
+5.5.5.5 carried blue 2.2.2.2/0.0.0.2 red 3.3.3.3/0.0.0.3
+order 5.5.5.5 3.3.3.3 1.1.1.1 4.4.4.4 2.2.2.2"""),
+    ("a root that cuts", CUT, 1, """
+router 1.1.1.1 root 9.9.9.9 nodes 5 links 4
+2.2.2.2 sole blue 2.2.2.2/0.0.0.2 red 2.2.2.2/0.0.0.2
+3.3.3.3 carried blue 2.2.2.2/0.0.0.2 red 2.2.2.2/0.0.0.2
+4.4.4.4 carried blue 2.2.2.2/0.0.0.2 red 2.2.2.2/0.0.0.2
+9.9.9.9 carried blue 2.2.2.2/0.0.0.2 red 2.2.2.2/0.0.0.2
+order 9.9.9.9 2.2.2.2 3.3.3.3 4.4.4.4 1.1.1.1"""),
+    ("an unordered pair", UNORDERED, 1, """
+router 1.1.1.1 root 5.5.5.5 nodes 5 links 6
+2.2.2.2 below blue 4.4.4.4/0.0.0.4 red 5.5.5.5/0.0.0.5
+3.3.3.3 unordered blue 5.5.5.5/0.0.0.5 red 4.4.4.4/0.0.0.4
+4.4.4.4 below blue 4.4.4.4/0.0.0.4 red 5.5.5.5/0.0.0.5
+5.5.5.5 head blue 4.4.4.4/0.0.0.4 red 5.5.5.5/0.0.0.5
+order 5.5.5.5 1.1.1.1 3.3.3.3 4.4.4.4 2.2.2.2"""),
+    ("a LAN", LAN, 1, """
+router 1.1.1.1 root 4.4.4.4 nodes 5 links 5
+2.2.2.2 below blue 2.2.2.2/0.0.0.2 red net:10.0.0.4/10.0.0.1
+3.3.3.3 carried blue 2.2.2.2/0.0.0.2 red net:10.0.0.4/10.0.0.1
+4.4.4.4 carried blue 2.2.2.2/0.0.0.2 red net:10.0.0.4/10.0.0.1
+net:10.0.0.4 head blue 2.2.2.2/0.0.0.2 red net:10.0.0.4/10.0.0.1"""),
+    ("a LAN in a ring", LAN_IN_RING, 2, """
+router 2.2.2.2 root 4.4.4.4 nodes 5 links 6
+1.1.1.1 below blue net:10.0.0.3/10.0.0.2 red 4.4.4.4/0.0.0.4
+3.3.3.3 unordered blue 4.4.4.4/0.0.0.4 red net:10.0.0.3/10.0.0.2
+4.4.4.4 head blue net:10.0.0.3/10.0.0.2 red 4.4.4.4/0.0.0.4
+net:10.0.0.3 below blue net:10.0.0.3/10.0.0.2 red 4.4.4.4/0.0.0.4
+order 4.4.4.4 2.2.2.2 3.3.3.3 net:10.0.0.3 1.1.1.1"""),
+]
+
+
+def answer(function, *arguments):
+    """What a function gives, or the line of its refusal."""
+    try:
+        return function(*arguments)
+    except Refused as refused:
+        return refused.line
+
+
+def changed(cert, at, text):
+    return cert[:at] + bytes.fromhex(text) + cert[at + len(text) // 2:]
+
+
+def crossed_by_hand():
+    """A certificate in which one block has two closing links."""
+    found = certify.island_of(CROSSED, b"", router(5))
+    rows = [[lowpoint.Row(0, 0, 0) if s != t else None for t in range(5)] for s in range(5)]
+    return certificate.write(found, lowpoint.Cert([2, 4, 3, 5, 1], [4] * 5, [0, 0, 0, 0, 4], [0] * 7, [0, 0, 0, 0, 2, 0, 2], rows))
+
+
+def checks():
+    """Database, profile, certificate, and what `check` is to say."""
+    triangle, line = bytes.fromhex(TRIANGLE_CERT), bytes.fromhex(LINE_CERT)
+    return [
+        (TRIANGLE, b"", triangle, "accepted root 3.3.3.3 nodes 3 links 3"),
+        (TRIANGLE, b"", changed(triangle, 68, "0002"), "no: rule 10 at 0 1"),
+        (TRIANGLE, b"", changed(triangle, 72, "07"), "bad certificate: tag at 72"),
+        (TRIANGLE, b"", triangle + b"\0", "bad certificate: trailing at 98"),
+        (TRIANGLE, b"", triangle[:-1], "bad certificate: truncated at 97"),
+        (TRIANGLE, b"", changed(triangle, 0, "00"), "bad certificate: magic at 0"),
+        (TRIANGLE, b"", changed(triangle, 68, "0003"), "bad certificate: range at 68"),
+        (CROSSED, b"", crossed_by_hand(), "no: rule 6 at 0 0"),
+        (LINE, b"no-mrt 4.4.4.4", line, "not there: 4.4.4.4"),
+        (LINE, b"no-mrt 1.1.1.1", line, "no: rule 1 at 0 2"),
+        (LINE, b"priority 3.3.3.3 10", line, "no: rule 2 at 2 2"),
+        (LINE, b"priority 4.4.4.4 128\n", line, "accepted root 4.4.4.4 nodes 4 links 3"),
+        (LINE, b"priority 1.1.1.1 10\npriority 1.1.1.1 10", line, "bad profile: repeated on line 2"),
+        (LINE, b"#\xff\n\t \npriority 1.1.1 10", line, "bad profile: address on line 3"),
+        (LINE, b"priority 1.1.1.1 256", line, "bad profile: number on line 1"),
+        (LINE, b"weight 1.1.1.1 2", line, "bad profile: words on line 1"),
+        (TRIANGLE[:143], b"", triangle, "bad database: truncated at 96"),
+        (changed(ALONE, 16, "0000"), b"", triangle, "bad database: checksum at 0"),
+        (changed(ALONE, 18, "0013"), b"", triangle, "bad database: length at 0"),
+        (changed(ALONE, 12, "80000000")[:16] + bytes.fromhex("3527") + ALONE[18:], b"", triangle, "bad database: reserved-sequence at 0"),
+        (router_lsa(router(1), [(router(2), 2, 1, 10), (router(3), 3, 1, 0)]) + TRIANGLE[48:], b"", triangle, "bad database: zero-metric at 0"),
+        (ALONE + changed(ALONE, 20, "ff"), b"", triangle, "bad database: conflict at 24 with 0"),
+        (ALONE + ALONE, b"", bytes.fromhex(ALONE_CERT), "accepted root 1.1.1.1 nodes 1 links 0"),
+    ]
+
+
+# what a certificate promises
+
+def walk(pairs, rows, color, s, t):
+    """The nodes and links of a color's walk; nothing where it meets a node twice or leaves the way."""
+    nodes, links = [s], []
+    while nodes[-1] != t:
+        at = nodes[-1]
+        link = rows[at][t][color]
+        if at not in pairs[link]:
+            return None
+        a, b = pairs[link]
+        nodes.append(b if at == a else a)
+        links.append(link)
+        if len(set(nodes)) < len(nodes):
+            return None
+    return nodes, links
+
+
+def joined(count, pairs, s, t, without_node=None, without_link=None):
+    """Whether a walk joins two nodes without one element."""
+    found, waiting = {s}, [s]
+    while waiting:
+        at = waiting.pop()
+        for link, pair in enumerate(pairs):
+            if at in pair and link != without_link:
+                other = sum(pair) - at
+                if other != without_node and other not in found:
+                    found.add(other)
+                    waiting.append(other)
+    return t in found
+
+
+def is_sound(count, pairs, rows):
+    """Both colors reach every node, and share only what separates the two ends."""
+    for s in range(count):
+        for t in range(count):
+            if s != t:
+                blue, red = (walk(pairs, rows, color, s, t) for color in (0, 1))
+                if blue is None or red is None:
+                    return False
+                nodes = set(blue[0]) & set(red[0]) - {s, t}
+                links = set(blue[1]) & set(red[1])
+                if any(joined(count, pairs, s, t, without_node=node) for node in nodes):
+                    return False
+                if any(joined(count, pairs, s, t, without_link=link) for link in links):
+                    return False
+    return True
+
+
+def random_area(random):
+    """Up to seven routers with links of any metrics, parallel ones among them, and now and then a LAN."""
+    count = random.randint(1, 7)
+    found = {number: [] for number in range(1, count + 1)}
+    for data in range(random.randint(0, 2 * count)):
+        if count > 1:
+            one, other = random.sample(range(1, count + 1), 2)
+            for here, there in ((one, other), (other, one)):
+                found[here].append((router(there), data, POINT_TO_POINT, random.randint(1, 4)))
+    lans = []
+    for number in range(random.randint(0, 2)):
+        attached = random.sample(range(1, count + 1), random.randint(1, count))
+        lan = address("10.0.0.0") + (number << 8) + attached[0]
+        for one in attached:
+            found[one].append((lan, address("10.0.0.0") + (number << 8) + one, TRANSIT, random.randint(1, 4)))
+        lans.append(network_lsa(lan, router(attached[0]), 0xFFFFFF00, [router(one) for one in attached]))
+    return b"".join(router_lsa(router(number), links) for number, links in found.items()) + b"".join(lans)
+
+
+def draws(number):
+    """A stream of numbers below 32,768."""
+    while True:
+        number = (number * 1103515245 + 12345) % 2147483648
+        yield number // 65536
+
+
+def survey_area(number, nodes):
+    """A ring of four fifths of the routers with a chord for each fourth one; each other router hangs on a ring router of its own."""
+    spurs = nodes // 5
+    ring, stream = nodes - spurs, draws(number)
+    links = {each: [] for each in range(1, nodes + 1)}
+    count = 0
+
+    def link(one, other):
+        nonlocal count
+        count += 1
+        links[one].append((other, count, POINT_TO_POINT, 1 + next(stream) % 64))
+        links[other].append((one, count, POINT_TO_POINT, 1 + next(stream) % 64))
+
+    for each in range(ring):
+        link(each + 1, (each + 1) % ring + 1)
+    for each in range(ring // 4):
+        draw = next(stream)
+        link(4 * each + 1, (4 * each + 2 + draw % (ring - 3)) % ring + 1)
+    for each in range(spurs):
+        link(ring + 1 + each, (3 * each + number) % ring + 1)
+    return b"".join(router_lsa(each, links[each]) for each in sorted(links))
+
+
+def survey(number, nodes):
+    """Counts of the certificate of such an area: nodes, links, blocks, sole links, carried rows and others, sums of blue and red."""
+    found = certify.island_of(survey_area(number, nodes), b"", nodes)
+    cert = lowpoint.compute(found)
+    assert answer(certify.check, survey_area(number, nodes), b"", certificate.write(found, cert)).startswith("accepted")
+    rows = [row for rows in cert.rows for row in rows if row]
+    carried = sum(row.tag == lowpoint.CARRIED for row in rows)
+    return (len(found.ids), len(found.links), len(set(cert.link_block)), cert.role.count(lowpoint.SOLE_LINK), len(rows) - carried, carried,
+            sum(row.blue for row in rows), sum(row.red for row in rows))
+
+
+def expect(what, got, wanted):
+    if got != wanted:
+        sys.exit(f"{what}: {got!r}, not {wanted!r}")
+
+
+def main():
+    for what, data, text in CERTS:
+        expect(what, certify.certify(data, b"", router(1)).hex(), bytes.fromhex(text).hex())
+    for what, data, source, text in ROWS:
+        lines = certify.rows(data, b"", router(source))
+        expect(what, lines[:len(text.strip().split("\n"))], text.strip().split("\n"))
+    for number, (data, profile, cert, line) in enumerate(checks()):
+        expect(f"check {number}", answer(certify.check, data, profile, cert), line)
+    expect("survey 0 4", survey(0, 4), (4, 5, 1, 0, 12, 0, 23, 27))
+    expect("survey 7 300", survey(7, 300)[:6], (300, 360, 61, 60, 57480, 32220))
+    areas, random = int(sys.argv[1]) if len(sys.argv) > 1 else 500, Random(1)
+    for number in range(areas):
+        data = random_area(random)
+        cert = certify.certify(data, b"", router(1))
+        expect(f"area {number}", answer(certify.check, data, b"", cert).split(" ")[0], "accepted")
+        file = certificate.read(cert)
+        expect(f"sound {number}", is_sound(len(file.ids), file.pairs, file.cert.rows), True)
+    print(f"{len(CERTS)} certificates, {len(ROWS)} tables, {len(checks())} checks and {areas} random areas as expected")
+
+
+if __name__ == "__main__":
+    main()
