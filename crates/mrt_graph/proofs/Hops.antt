@@ -45,7 +45,7 @@ lead_back links e s v there = go (slice_get links e) there
     go (Some link) h = far_back link s v h
 
 -- the node that a link leads from is one of its two
-same_ends : (links : List Link) (e a b u v : ℕ) → leads links e a ≡ Some b → leads links e u ≡ Some v → (u ≡ a) ⊎ (u ≡ b)
+pub same_ends : (links : List Link) (e a b u v : ℕ) → leads links e a ≡ Some b → leads links e u ≡ Some v → (u ≡ a) ⊎ (u ≡ b)
 same_ends links e a b u v = go (slice_get links e)
   where
     go : (o : Option Link) → option_and_then (far_node a) o ≡ Some b → option_and_then (far_node u) o ≡ Some v → (u ≡ a) ⊎ (u ≡ b)

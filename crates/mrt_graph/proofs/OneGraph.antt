@@ -1,25 +1,43 @@
 -- There is one graph of given identifiers and links.
-use Rattle.std.proofs.Common.{◌≡◌, ◌∙◌, ◌==◌, ℕ, List, length, get_or, sym, arith}
+use Rattle.std.proofs.Common.{◌≡◌, ◌∙◌, ◌==◌, ℕ, Bool, List, length, get_or, refl, sym, arith}
+use Rattle.std.specs.Cmp.{IsTotalOrder}
+use Rattle.std.specs.Ordering.{nat_cmp, ordering_then}
+use Rattle.std.proofs.lemmas.Bool.{eq-eqb}
+use Rattle.std.proofs.lemmas.Cmp.{nat_cmp_total, on_total, then_total}
 use Rattle.std.proofs.lemmas.List.{same_lists}
-use Rattle.std.proofs.lemmas.List.Sorted.{sum_by-IsPermutation}
 use Rattle.std.proofs.lemmas.Option.{slice_get-get_or}
 use Rattle.mrt_graph.specs.declared.link.End.{End}
 use Rattle.mrt_graph.specs.declared.link.LinkIn.{LinkIn}
 use Rattle.mrt_graph.specs.declared.node_id.NodeId.{NodeId}
 use Rattle.mrt_graph.specs.EndsOfLinks.{ends_at}
+use Rattle.mrt_graph.specs.InterfaceOrder.{interface_cmp}
 use Rattle.mrt_graph.specs.NewGraph.{AreEndLists, AreInOrder, IsGraphOf}
 use Rattle.mrt_graph.specs.Topology.{Topology}
 use Rattle.mrt_graph.proofs.EndsKept.{ends_apart}
-use Rattle.mrt_graph.proofs.OneOrder.{AreAlike, one_if, one_order, rises_from_sorted}
+use Rattle.mrt_graph.proofs.InOrder.{OnlyEqualsTie, in_order_is}
+use Rattle.mrt_graph.proofs.Members.{has_from_contains}
+use Rattle.mrt_graph.proofs.Tallies.{count_is_tally, tally_same}
+use Rattle.mrt_graph.proofs.Ties.{nat_tie, then_tie}
+
+interface_total : IsTotalOrder interface_cmp
+interface_total =
+    then_total (then_total (on_total (λ end. end.metric) nat_cmp_total) (on_total (λ end. end.to) nat_cmp_total)) (on_total (λ end. end.link) nat_cmp_total)
+
+-- ends of a node that tie are on one link, so they are one
+ends_tie : (n : ℕ) (links : List LinkIn) → OnlyEqualsTie interface_cmp (ends_at n 0 links) (ends_at n 0 links)
+ends_tie n links = record {
+  same = λ x y in_x in_y tie.
+      let ends = ends_at n 0 links in
+      let link : x.link ≡ y.link = nat_tie x.link y.link (then_tie (ordering_then (nat_cmp x.metric y.metric) (nat_cmp x.to y.to)) (nat_cmp x.link y.link) tie).1 in
+      let on_link : End → Bool = λ end. end.link == x.link in
+      tally_same on_link ends x y (omega (arith, count_is_tally on_link ends, ends_apart x.link n 0 links))
+      (has_from_contains ends x in_x) (eq-eqb x.link x.link refl) (has_from_contains ends y in_y) (eq-eqb y.link x.link (sym link));
+}
 
 one_list : (n : ℕ) (links : List LinkIn) (xs ys : List End) → AreInOrder (ends_at n 0 links) xs → AreInOrder (ends_at n 0 links) ys → xs ≡ ys
 one_list n links xs ys first second =
-    let alike : AreAlike xs ys = record {
-      same = λ f. sum_by-IsPermutation f (ends_at n 0 links) xs first.same ∙ sym (sum_by-IsPermutation f (ends_at n 0 links) ys second.same);
-    } in
-    one_order xs ys alike
-    (λ link. omega (arith, ends_apart link n 0 links, sum_by-IsPermutation (λ end. one_if (end.link == link)) (ends_at n 0 links) xs first.same))
-    (rises_from_sorted xs first.ascending) (rises_from_sorted ys second.ascending)
+    in_order_is interface_cmp interface_total (ends_at n 0 links) xs first.same first.ascending (ends_tie n links)
+    ∙ sym (in_order_is interface_cmp interface_total (ends_at n 0 links) ys second.same second.ascending (ends_tie n links))
 
 one_of_each : (count : ℕ) (links : List LinkIn) (xs ys : List (List End)) → AreEndLists count links xs → AreEndLists count links ys → xs ≡ ys
 one_of_each count links xs ys first second =

@@ -1,12 +1,16 @@
 -- A search with marks and a list settles what paths reach.
-use Rattle.std.proofs.Common.{◌≡◌, ◌⊎◌, ◌<◌, ◌≤◌, ◌+◌, ℕ, zero, suc, Bool, true, false, List, [], ◌∷◌, ◌++◌, length, get_or, set, replicate, inl, inr, refl, sym, ◌∙◌, ap, subst, arith, append_assoc, length-append}
+use Rattle.std.proofs.Common.{◌≡◌, ◌⊎◌, ◌<◌, ◌≤◌, ◌+◌, ◌↔◌, ℕ, zero, suc, Bool, true, false, not, cond, List, [], ◌∷◌, ◌++◌, length, get_or, set, replicate, inl, inr, refl, sym, ◌∙◌, ap, subst, arith, append_assoc, length-append}
 use Rattle.std.specs.Prelude.{Contains}
 use Rattle.std.proofs.lemmas.Bool.{cases_eq, cases_lt}
 use Rattle.std.proofs.lemmas.List.{append-nil, get_or-set_same, get_or-set_other, get_or_default, get_or_append_left}
 use Rattle.std.proofs.lemmas.List.Elements.{Contains-append_left, Contains-append_right, Contains-append_cases, Contains-push}
-use Rattle.mrt_graph.specs.Search.{IsMarked, IsSearch, IsEntering}
+use Rattle.std.proofs.lemmas.List.{length-set}
+use Rattle.std.proofs.lemmas.List.Sums.{sum_by-set}
+use Rattle.std.proofs.lemmas.Option.{slice_get_within, get_or_from_slice_get}
+use Rattle.mrt_graph.specs.Reachable.{Reachable}
+use Rattle.mrt_graph.specs.Search.{Enters, HandsOut, IsBegun, IsMarked, IsSearch, IsEntering, SearchState, unmarked}
 use Rattle.mrt_graph.proofs.Members.{contains_cases, contains_none}
-use Rattle.mrt_graph.proofs.Settled.{IsSettled, reachable_onward}
+use Rattle.mrt_graph.proofs.Settled.{IsSettled, reachable_onward, settled_is_reachable}
 
 -- the one element of a list of one
 pub one_in_one : (u v : ℕ) → Contains (u ∷ []) v → v ≡ u
@@ -170,3 +174,78 @@ entering_same Onto Onto' m0 f0 m1 f1 there back e = record {
 pub entering_longer : (Onto : ℕ → Type 0) (marks : List Bool) (found : List ℕ) (marks' : List Bool) (found' : List ℕ)
     → IsEntering Onto marks found marks' found' → length found ≤ length found'
 entering_longer Onto marks found marks' found' e = omega (arith, ap (λ (f : List ℕ). length f) e.grows, length-append found e.added)
+
+-- the state of these parts
+abbrev pub state_of : List Bool → List ℕ → ℕ → SearchState
+state_of marks found followed = record { marks = marks; found = found; followed = followed }
+
+-- one node fewer has no mark
+unmarked_set : (marks : List Bool) (u : ℕ) → u < length marks → get_or marks u false ≡ false → unmarked (set marks u true) + 1 ≡ unmarked marks
+unmarked_set marks u within none =
+    let f : Bool → ℕ = λ b. cond (not b) 1 0 in
+    let here : f (get_or marks u false) ≡ 1 = ap f none in
+    let gone : f true ≡ 0 = refl in
+    omega (arith, here, gone, sum_by-set f marks u true false within)
+
+-- a search that comes on a node without a mark
+pub enters_new : (marks : List Bool) (found : List ℕ) (followed u : ℕ) → u < length marks → get_or marks u false ≡ false
+    → Enters (λ (v : ℕ). v ≡ u) (state_of marks found followed) (state_of (set marks u true) (found ++ u ∷ []) followed)
+enters_new marks found followed u within none = record {
+  one_each = length-set marks u true;
+  same_followed = refl;
+  same_left = omega (arith, unmarked_set marks u within none, length-append found (u ∷ []));
+  entering = entering_new marks found u within;
+}
+
+-- a search comes on nothing, on some nodes and then on others, or on the same nodes said in another way
+pub enters_none : (search : SearchState) → Enters (λ (v : ℕ). ⊥) search search
+enters_none search = record { one_each = refl; same_followed = refl; same_left = refl; entering = entering_none search.marks search.found }
+
+pub enters_both : (One Other Both : ℕ → Type 0)
+    → ((v : ℕ) → One v → Both v) → ((v : ℕ) → Other v → Both v) → ((v : ℕ) → Both v → One v ⊎ Other v)
+    → (s0 s1 s2 : SearchState) → Enters One s0 s1 → Enters Other s1 s2 → Enters Both s0 s2
+enters_both One Other Both one other both s0 s1 s2 first second = record {
+  one_each = second.one_each ∙ first.one_each;
+  same_followed = second.same_followed ∙ first.same_followed;
+  same_left = second.same_left ∙ first.same_left;
+  entering = entering_both One Other Both one other both s0.marks s0.found s1.marks s1.found s2.marks s2.found first.entering second.entering;
+}
+
+pub enters_same : (Onto Onto' : ℕ → Type 0) (s0 s1 : SearchState) → ((v : ℕ) → Onto v → Onto' v) → ((v : ℕ) → Onto' v → Onto v)
+    → Enters Onto s0 s1 → Enters Onto' s0 s1
+enters_same Onto Onto' s0 s1 there back e = record {
+  one_each = e.one_each;
+  same_followed = e.same_followed;
+  same_left = e.same_left;
+  entering = entering_same Onto Onto' s0.marks s0.found s1.marks s1.found there back e.entering;
+}
+
+-- a search as it stands, along steps from s
+abbrev pub Searches : (ℕ → ℕ → Type 0) → ℕ → SearchState → Type 0
+Searches step s search = IsSearch step s search.marks search.found search.followed
+
+-- it begins
+pub searches_begun : (step : ℕ → ℕ → Type 0) (n s : ℕ) (search : SearchState) → IsBegun n s search → Searches step s search
+searches_begun step n s search begun =
+    subst (λ (done : ℕ). IsSearch step s search.marks search.found done) (sym begun.none_followed) (search_begun step n s search.marks search.found begun.entering)
+
+-- it goes on where the node that it handed out was followed
+pub searches_onward : (step : ℕ → ℕ → Type 0) (s : ℕ) (before handed after : SearchState) (node : ℕ)
+    → Searches step s before → HandsOut before handed node → Enters (step node) handed after → Searches step s after
+searches_onward step s before handed after node search out entered =
+    let more : before.followed < length before.found = slice_get_within before.found before.followed node out.first in
+    let is : get_or before.found before.followed 0 ≡ node = get_or_from_slice_get before.found before.followed node 0 out.first in
+    let from_marks : IsEntering (step node) before.marks handed.found after.marks after.found =
+    subst (λ (m : List Bool). IsEntering (step node) m handed.found after.marks after.found) out.same_marks entered.entering in
+    let from_both : IsEntering (step node) before.marks before.found after.marks after.found =
+    subst (λ (f : List ℕ). IsEntering (step node) before.marks f after.marks after.found) out.same_found from_marks in
+    let at_node : IsEntering (step (get_or before.found before.followed 0)) before.marks before.found after.marks after.found =
+    subst (λ (u : ℕ). IsEntering (step u) before.marks before.found after.marks after.found) (sym is) from_both in
+    subst (λ (done : ℕ). IsSearch step s after.marks after.found done) (sym (entered.same_followed ∙ out.one_more))
+    (search_onward step s before.marks before.found before.followed after.marks after.found search more at_node)
+
+-- and has found exactly what paths reach when no found node is left to follow
+pub searches_ended : (step : ℕ → ℕ → Type 0) (s : ℕ) (search : SearchState) → Searches step s search → length search.found ≤ search.followed
+    → (t : ℕ) → IsMarked search.marks t ↔ Reachable step s t
+searches_ended step s search is over =
+    settled_is_reachable step s (IsMarked search.marks) (search_ended step s search.marks search.found search.followed is over)

@@ -10,6 +10,7 @@ pub mod FirstFault
 pub mod GraphInvariant
 pub mod HeadsAndBlocks
 pub mod Hop
+pub mod InOrder
 pub mod InterfaceOrder
 pub mod Leads
 pub mod NewGraph

@@ -1,5 +1,5 @@
 -- A search along steps, which marks each node that it finds and lists it once, and follows the steps of the listed ones.
-use Rattle.std.specs.Prelude.{◌≡◌, ◌⊎◌, ◌<◌, ℕ, Bool, true, false, not, List, ◌++◌, slice_index_or, count_by, Contains}
+use Rattle.std.specs.Prelude.{◌≡◌, ◌⊎◌, ◌<◌, ◌+◌, ◌-◌, ℕ, Bool, true, false, not, List, [], ◌++◌, Some, length, replicate, slice_get, slice_index_or, count_by, Contains}
 use Rattle.mrt_graph.specs.Reachable.{Reachable}
 
 -- node v has its mark
@@ -28,3 +28,39 @@ pub record IsEntering (onto : ℕ → Type 0) (marks : List Bool) (found : List 
   pub only_them : (v : ℕ) → IsMarked marks' v → IsMarked marks v ⊎ onto v
   pub listed : (v : ℕ) → IsMarked marks' v → IsMarked marks v ⊎ Contains added v
   pub marked : (v : ℕ) → Contains added v → IsMarked marks' v
+
+-- a search as it stands: of each node whether it was found, the found nodes in their order, and how many of these were followed
+pub record SearchState : Type 0 where
+  pub marks : List Bool
+  pub found : List ℕ
+  pub followed : ℕ
+
+-- what is left to do: nodes to find, and found ones to follow
+abbrev pub left_of : SearchState → ℕ
+left_of search = unmarked search.marks + length search.found - search.followed
+
+-- each number of a list is below n
+abbrev pub AreBelow : ℕ → List ℕ → Type 0
+AreBelow n numbers = (k : ℕ) → k < length numbers → slice_index_or numbers k 0 < n
+
+-- a search over so many nodes that has found `start` alone
+pub record IsBegun (count start : ℕ) (search : SearchState) : Type 0 where
+  pub one_each : length search.marks ≡ count
+  pub none_followed : search.followed ≡ 0
+  pub entering : IsEntering (λ v. v ≡ start) (replicate count false) [] search.marks search.found
+
+-- a search comes on the nodes that are `onto`, and follows none
+pub record Enters (onto : ℕ → Type 0) (before after : SearchState) : Type 0 where
+  pub one_each : length after.marks ≡ length before.marks
+  pub same_followed : after.followed ≡ before.followed
+  pub same_left : left_of after ≡ left_of before
+  pub entering : IsEntering onto before.marks before.found after.marks after.found
+
+-- a search hands out the first found node that was not followed, which then counts as followed
+pub record HandsOut (before after : SearchState) (node : ℕ) : Type 0 where
+  pub first : slice_get before.found before.followed ≡ Some node
+  pub within : node < length before.marks
+  pub same_marks : after.marks ≡ before.marks
+  pub same_found : after.found ≡ before.found
+  pub one_more : after.followed ≡ before.followed + 1
+  pub less_left : left_of after < left_of before

@@ -12,6 +12,7 @@ mod graph_tests;
 mod link;
 mod no_memory;
 mod node_id;
+mod node_search;
 #[cfg(test)]
 mod node_tests;
 mod node_text;
@@ -30,6 +31,7 @@ pub use graph_law::one_graph_of_its_parts;
 pub use link::{Element, End, Link, LinkIn};
 pub use no_memory::NoMemory;
 pub use node_id::{Kind, NodeId};
+pub use node_search::NodeSearch;
 pub use node_text::NodeText;
 pub use numbers::{LinkNo, NodeNo};
 pub use seq::Seq;

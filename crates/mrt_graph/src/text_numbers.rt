@@ -2,7 +2,9 @@
 
 ghost use Rattle.std.specs.Prelude.{◌≡◌, ◌<◌, ◌^◌, ◌++◌, ◌∷◌, ◌==◌, ◌||◌, ◌&&◌, nat_lt, length, slice_index, ℕ, List, Some, decimal};
 ghost use Rattle.std.specs.Option.{IfSome, IsSomeAnd};
-ghost use Rattle.mrt_graph.specs.Spelling.{address_in, address_text, number_in};
+ghost use Rattle.mrt_graph.specs.declared.node_id.Kind.TheVariants.{Router};
+ghost use Rattle.mrt_graph.specs.declared.node_id.NodeId.{NodeId};
+ghost use Rattle.mrt_graph.specs.Spelling.{address_in, address_text, node_text, number_in};
 
 use crate::text_lines::cut_at;
 use std::str;
@@ -54,6 +56,9 @@ pub fn read_address(text: &[u8]) -> Option<u32>
     ensures only { (number : ℕ) → number < 2 ^ 32 → text.now ≡ address_text number → result ≡ Some number }
     // Both in one word.
     ensures value { result ≡ address_in text.now }
+    // The text of a router is read back.
+    ensures router { (id : NodeId) → id.kind ≡ Router → id.number < 2 ^ 32 → text.now ≡ node_text id
+        → result ≡ Some id.number }
 {
     address(text)
 }
