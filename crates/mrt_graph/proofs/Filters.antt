@@ -1,5 +1,7 @@
 -- Filters: what they keep, in which order, and sums over it.
-use Rattle.std.proofs.Common.{◌≡◌, ◌∙◌, ◌+◌, ℕ, zero, suc, Bool, true, false, cond, List, [], ◌∷◌, refl, sym, ap, arith}
+use Rattle.std.proofs.Common.{◌≡◌, ◌∙◌, ◌+◌, ℕ, zero, suc, Bool, true, false, cond, List, [], ◌∷◌, Some, slice_get, refl, sym, ap, subst, arith}
+use Rattle.std.proofs.lemmas.List.Elements.{filter_passes}
+use Rattle.std.proofs.lemmas.Option.{slice_get_within, get_or_from_slice_get}
 use Rattle.std.specs.declared.cmp.Ordering.{Ordering}
 use Rattle.std.specs.Cmp.{IsTotalOrder}
 use Rattle.std.specs.List.{AllByRecursion, Contains, filter, sum_by}
@@ -92,3 +94,21 @@ filter-in_order {X} cmp total p xs ties =
           (Contains-from_filter p xs y (Contains-from_in_order cmp (filter p xs) y in_y)) tie;
     } in
     one_order cmp total (filter p (in_order cmp xs)) (in_order cmp (filter p xs)) alike both (rises_filter cmp p (in_order cmp xs) (in_order_rises cmp total xs)) (in_order_rises cmp total (filter p xs))
+
+-- an element of a filtered list passes the test
+pub passes_at : {X : Type 0} (p : X → Bool) (xs : List X) (k : ℕ) (x : X) → slice_get (filter p xs) k ≡ Some x → p x ≡ true
+passes_at {X} p xs k x there =
+    subst (λ (y : X). p y ≡ true) (get_or_from_slice_get (filter p xs) k x x there) (filter_passes p xs k x (slice_get_within (filter p xs) k x there))
+
+later_kept : {X : Type 0} (p : X → Bool) (y x : X) (ys : List X) (b : Bool) → p y ≡ b → (j : ℕ) × (slice_get (filter p ys) j ≡ Some x) → (j : ℕ) × (slice_get (filter p (y ∷ ys)) j ≡ Some x)
+later_kept {X} p y x ys true holds found = (suc found.0, rw holds found.1)
+later_kept {X} p y x ys false fails found = (found.0, rw fails found.1)
+
+-- an element that passes the test is in the filtered list
+pub kept_at : {X : Type 0} (p : X → Bool) (xs : List X) (k : ℕ) (x : X) → slice_get xs k ≡ Some x → p x ≡ true → (j : ℕ) × (slice_get (filter p xs) j ≡ Some x)
+kept_at {X} p [] k x there holds = absurd cc
+kept_at {X} p (y ∷ ys) zero x there holds =
+    let same : y ≡ x = cc in
+    let also : p y ≡ true = ap p same ∙ holds
+    in (zero, rw also there)
+kept_at {X} p (y ∷ ys) (suc k) x there holds = later_kept p y x ys (p y) refl (kept_at p ys k x there holds)

@@ -28,7 +28,7 @@ impl Model for NodeSearch {
 }
 
 impl NodeSearch {
-    ghost use Rattle.std.specs.Prelude.{◌≡◌, ◌<◌, ◌≤◌, IfOk, IfSome, IsNone, length};
+    ghost use Rattle.std.specs.Prelude.{◌≡◌, ◌<◌, ◌≤◌, IfOk, IfSome, IfNone, length};
     ghost use Rattle.mrt_graph.specs.Search.{Enters, HandsOut, IsBegun};
 
     /// A search over `count` nodes that has found `start` alone.
@@ -63,8 +63,8 @@ impl NodeSearch {
     /// The next found node that is to be followed, if one is left.
     pub fn next(&mut self) -> Option<u16>
         ensures some { IfSome result (HandsOut self.old self.new) }
-        ensures none { IsNone result → length self.new.found ≤ self.new.followed }
-        ensures unchanged { IsNone result → self.new ≡ self.old }
+        ensures none { IfNone result (length self.new.found ≤ self.new.followed) }
+        ensures unchanged { IfNone result (self.new ≡ self.old) }
     {
         if self.followed >= self.found.len() {
             return None;

@@ -9,7 +9,7 @@ use Rattle.area_graph.specs.AreaInvariant.{IsArea, arcs_over}
 use Rattle.area_graph.specs.Parts.{AreaParts}
 use Rattle.area_graph.specs.declared.area_types.Arc.{Arc}
 use Rattle.area_graph.specs.declared.area_types.Bond.{Bond}
-use Rattle.mrt_island.proofs.AtPlaces.{one_if}
+use Rattle.mrt_graph.proofs.Tallies.{one_if}
 
 -- how many arcs are of the first n bonds
 abbrev arcs_below : ℕ → List Arc → ℕ

@@ -9,7 +9,7 @@ use Rattle.std.proofs.lemmas.List.{take_all}
 use Rattle.std.proofs.lemmas.List.Sums.{sum_by-cons}
 use Rattle.mrt_graph.specs.Search.{IsMarked}
 use Rattle.mrt_island.specs.Numbering.{flagged, flags_set, number_of}
-use Rattle.mrt_island.proofs.AtPlaces.{one_if}
+use Rattle.mrt_graph.proofs.Tallies.{one_if}
 use Rattle.mrt_island.proofs.Flagging.{set_within}
 
 set_cons : (flag : Bool) (flags : List Bool) → flags_set (flag ∷ flags) ≡ one_if flag + flags_set flags

@@ -18,7 +18,8 @@ use Rattle.area_graph.specs.Parts.{AreaParts}
 use Rattle.area_graph.specs.declared.area_types.Bond.{Bond}
 use Rattle.mrt_island.specs.Policy.{Policy}
 use Rattle.mrt_island.specs.Numbering.{flags_set, ids_of, is_link, link_by, link_numbers, links_of, numbers_from}
-use Rattle.mrt_island.proofs.AtPlaces.{all_at, one_if}
+use Rattle.mrt_graph.proofs.ListTests.{all_at}
+use Rattle.mrt_graph.proofs.Tallies.{one_if}
 use Rattle.mrt_island.proofs.Bounds.{no_bond}
 use Rattle.mrt_island.proofs.Counting.{IsFrom, flagged_filter, flagged_from, length_flagged, set_none, set_one}
 use Rattle.mrt_island.proofs.LinkParts.{IsChosen, is_chosen, same_id}

@@ -19,7 +19,8 @@ use Rattle.mrt_island.specs.Policy.{Policy}
 use Rattle.mrt_island.specs.Eligible.{is_eligible}
 use Rattle.mrt_island.specs.Members.{IsInside, IsMember, Joins}
 use Rattle.mrt_island.specs.Numbering.{flags_set, is_inside, is_link, link_by, links_of, number_of}
-use Rattle.mrt_island.proofs.AtPlaces.{all_at, kept_at}
+use Rattle.mrt_graph.proofs.Filters.{kept_at}
+use Rattle.mrt_graph.proofs.ListTests.{all_at}
 use Rattle.mrt_island.proofs.Counting.{HasNumber, number_rises, numbered_at}
 use Rattle.mrt_island.proofs.Pairing.{eligible_paired}
 use Rattle.mrt_island.proofs.Telling.{far_cases, far_to_a, far_to_b}

@@ -2,12 +2,10 @@ pub mod LinesRead
 pub mod Stores
 pub mod Flagging
 pub mod Choosing
-pub mod AtPlaces
 pub mod Telling
 pub mod Pairing
 pub mod Counting
 pub mod LinkParts
-pub mod Ascending
 pub mod RootSoFar
 pub mod Bounds
 pub mod Joined

@@ -18,7 +18,7 @@ use Rattle.mrt_island.specs.Members.{IsInside, IsMember}
 use Rattle.mrt_island.specs.Numbering.{ids_of, link_numbers, links_of}
 use Rattle.mrt_island.specs.IslandOf.{IsIsland}
 use Rattle.mrt_island.specs.Rooting.{IsChosenBefore, IsRoot}
-use Rattle.mrt_island.proofs.Ascending.{one_place}
+use Rattle.mrt_graph.proofs.NodeIds.{one_place}
 use Rattle.mrt_island.proofs.Counting.{IsFrom, ascend_flagged, flagged_from}
 use Rattle.mrt_island.proofs.GraphOfIsland.{start_inside}
 use Rattle.mrt_island.proofs.Joined.{member_back, member_onward}

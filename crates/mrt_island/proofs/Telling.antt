@@ -6,14 +6,16 @@ use Rattle.std.proofs.lemmas.Bool.{and_parts, cases_lt, eq-eqb, eqb-true, ne_eqb
 use Rattle.std.proofs.lemmas.Bool.Decides.{eqb_tells}
 use Rattle.std.proofs.lemmas.Option.{slice_get_within}
 use Rattle.mrt_graph.specs.Leads.{far_node}
-use Rattle.mrt_graph.specs.Search.{IsEntering, IsMarked}
-use Rattle.mrt_graph.proofs.Searching.{entering_none, entering_both, entering_same}
+use Rattle.mrt_graph.specs.Search.{Enters, IsMarked, SearchState}
+use Rattle.mrt_graph.proofs.ListTests.{all_at}
+use Rattle.mrt_graph.proofs.Searching.{enters_none, enters_both, enters_same}
+use Rattle.mrt_graph.proofs.Tallies.{IsFound, counted_at}
 use Rattle.area_graph.specs.AreaInvariant.{IsArc, IsArea, IsBack, IsBond, IsThere, arcs_over}
 use Rattle.area_graph.specs.Parts.{AreaParts}
 use Rattle.area_graph.specs.declared.area_types.Arc.{Arc}
 use Rattle.area_graph.specs.declared.area_types.Bond.{Bond}
 use Rattle.mrt_island.specs.Members.{nodes_of}
-use Rattle.mrt_island.proofs.AtPlaces.{IsFound, all_at, counted_at, kept_at, passes_at}
+use Rattle.mrt_graph.proofs.Filters.{kept_at, passes_at}
 use Rattle.mrt_island.specs.Searching.{ArePairs, LeadsBy, LeadsOver}
 
 -- one of the first n arcs leads to v over a bond whose flag is set
@@ -24,14 +26,14 @@ pub record IsTold (arcs : List Arc) (flags : List Bool) (n v : ℕ) : Type 0 whe
   pub there : slice_get arcs place ≡ Some arc
   pub leads : LeadsBy flags arc v
 
-pub none_told : (arcs : List Arc) (flags marks : List Bool) (found : List ℕ) → IsEntering (IsTold arcs flags 0) marks found marks found
-none_told arcs flags marks found =
-    entering_same (λ (v : ℕ). ⊥) (IsTold arcs flags 0) marks found marks found (λ v h. absurd h) (λ v h. absurd (omega (arith, h.early))) (entering_none marks found)
+pub none_told : (arcs : List Arc) (flags : List Bool) (search : SearchState) → Enters (IsTold arcs flags 0) search search
+none_told arcs flags search =
+    enters_same (λ (v : ℕ). ⊥) (IsTold arcs flags 0) search search (λ v h. absurd h) (λ v h. absurd (omega (arith, h.early))) (enters_none search)
 
-pub next_told : (arcs : List Arc) (flags : List Bool) (n : ℕ) (arc : Arc) (m0 : List Bool) (f0 : List ℕ) (m1 : List Bool) (f1 : List ℕ) (m2 : List Bool) (f2 : List ℕ)
-    → slice_get arcs n ≡ Some arc → IsEntering (IsTold arcs flags n) m0 f0 m1 f1 → IsEntering (LeadsBy flags arc) m1 f1 m2 f2 → IsEntering (IsTold arcs flags (n + 1)) m0 f0 m2 f2
-next_told arcs flags n arc m0 f0 m1 f1 m2 f2 there before here =
-    entering_both (IsTold arcs flags n) (LeadsBy flags arc) (IsTold arcs flags (n + 1))
+pub next_told : (arcs : List Arc) (flags : List Bool) (n : ℕ) (arc : Arc) (s0 s1 s2 : SearchState)
+    → slice_get arcs n ≡ Some arc → Enters (IsTold arcs flags n) s0 s1 → Enters (LeadsBy flags arc) s1 s2 → Enters (IsTold arcs flags (n + 1)) s0 s2
+next_told arcs flags n arc s0 s1 s2 there before here =
+    enters_both (IsTold arcs flags n) (LeadsBy flags arc) (IsTold arcs flags (n + 1))
     (λ v h. record { place = h.place; arc = h.arc; early = omega (arith, h.early); there = h.there; leads = h.leads })
     (λ v h. record { place = n; arc = arc; early = omega arith; there = there; leads = h })
     (λ v h. elim (cases_lt h.place n) [
@@ -42,7 +44,7 @@ next_told arcs flags n arc m0 f0 m1 f1 m2 f2 there before here =
           let same : h.arc ≡ arc = cc
           in inr (subst (λ (a : Arc). LeadsBy flags a v) same h.leads)
     ])
-    m0 f0 m1 f1 m2 f2 before here
+    s0 s1 s2 before here
 
 -- the arcs that leave node u
 abbrev pub leaving : ℕ → List Arc → List Arc
@@ -128,20 +130,20 @@ leads_told area flags u v kept pairs over =
     }
 
 -- all arcs that leave node u lead to what bonds lead to from there
-all_leaving : (area : AreaParts) (flags : List Bool) (u n : ℕ) (m0 : List Bool) (f0 : List ℕ) (m1 : List Bool) (f1 : List ℕ) → IsArea area → ArePairs area.bonds flags
+all_leaving : (area : AreaParts) (flags : List Bool) (u n : ℕ) (s0 s1 : SearchState) → IsArea area → ArePairs area.bonds flags
     → AllByRecursion (IsArc area.ids area.bonds) (leaving u area.arcs) → n ≡ length (leaving u area.arcs)
-    → IsEntering (IsTold (leaving u area.arcs) flags n) m0 f0 m1 f1 → IsEntering (LeadsOver area.bonds flags u) m0 f0 m1 f1
-all_leaving area flags u n m0 f0 m1 f1 kept pairs arcs all entered =
-    entering_same (IsTold (leaving u area.arcs) flags n) (LeadsOver area.bonds flags u) m0 f0 m1 f1
+    → Enters (IsTold (leaving u area.arcs) flags n) s0 s1 → Enters (LeadsOver area.bonds flags u) s0 s1
+all_leaving area flags u n s0 s1 kept pairs arcs all entered =
+    enters_same (IsTold (leaving u area.arcs) flags n) (LeadsOver area.bonds flags u) s0 s1
     (λ v h. told_leads area flags u n v kept arcs h)
     (λ v h. subst (λ (k : ℕ). IsTold (leaving u area.arcs) flags k v) (sym all) (leads_told area flags u v kept pairs h))
     entered
 
-pub all_told : (area : AreaParts) (arcs : List Arc) (flags : List Bool) (u n : ℕ) (m0 : List Bool) (f0 : List ℕ) (m1 : List Bool) (f1 : List ℕ) → IsArea area
-    → ArePairs area.bonds flags → arcs ≡ leaving u area.arcs → AllByRecursion (IsArc area.ids area.bonds) arcs → n ≡ length arcs
-    → IsEntering (IsTold arcs flags n) m0 f0 m1 f1 → IsEntering (LeadsOver area.bonds flags u) m0 f0 m1 f1
-all_told area arcs flags u n m0 f0 m1 f1 kept pairs is each all entered =
-    all_leaving area flags u n m0 f0 m1 f1 kept pairs
+pub all_told : (area : AreaParts) (arcs : List Arc) (flags : List Bool) (u n : ℕ) (s0 s1 : SearchState) → IsArea area → ArePairs area.bonds flags
+    → arcs ≡ leaving u area.arcs → AllByRecursion (IsArc area.ids area.bonds) arcs → n ≡ length arcs
+    → Enters (IsTold arcs flags n) s0 s1 → Enters (LeadsOver area.bonds flags u) s0 s1
+all_told area arcs flags u n s0 s1 kept pairs is each all entered =
+    all_leaving area flags u n s0 s1 kept pairs
     (subst (λ (l : List Arc). AllByRecursion (IsArc area.ids area.bonds) l) is each)
     (all ∙ ap (λ (l : List Arc). length l) is)
-    (subst (λ (l : List Arc). IsEntering (IsTold l flags n) m0 f0 m1 f1) is entered)
+    (subst (λ (l : List Arc). Enters (IsTold l flags n) s0 s1) is entered)
