@@ -16,13 +16,14 @@ use Rattle.mrt_island.specs.declared.island_error.IslandError.TheVariants as isl
 use Rattle.mrt_island.specs.GraphErrors.{error_of}
 use Rattle.mrt_island.specs.Policy.{Policy}
 use Rattle.mrt_island.specs.Members.{IsInside}
-use Rattle.mrt_island.specs.Numbering.{flagged, flags_set, ids_of, is_link, link_by, link_numbers, links_of, numbers_from}
+use Rattle.mrt_island.specs.Numbering.{AreFlagNumbers, AreLinkNumbers, flagged, flags_set, ids_of, is_link, link_by, links_of}
 use Rattle.mrt_island.specs.IslandOf.{HasSize, IsIsland}
 use Rattle.mrt_island.specs.Outcome.{IsCause, IsRefusal}
 use Rattle.mrt_island.specs.Rooting.{IsRoot}
 use Rattle.mrt_island.proofs.Bounds.{bonds_few}
 use Rattle.mrt_island.proofs.Counting.{flagged_filter, length_flagged}
 use Rattle.mrt_island.proofs.Fitting.{length_links}
+use Rattle.mrt_island.proofs.LinkNumbers.{are_numbers, link_numbers, links_numbered, numbers_from}
 
 pub links_made : (policy : Policy) (area : AreaParts) (inside flags i f : List Bool) (b : List Bond) (links : List LinkIn) → links ≡ map (link_by i) (flagged f b) → i ≡ inside → f ≡ flags → b ≡ area.bonds
     → flags ≡ map (is_link policy area.ids inside) area.bonds → links ≡ links_of policy area inside
@@ -36,9 +37,9 @@ links_made policy area inside flags i f b links made same_i same_f same_b told =
 pub ids_made : (area : AreaParts) (inside i : List Bool) (ids : List NodeId) → ids ≡ flagged i area.ids → i ≡ inside → ids ≡ ids_of area inside
 ids_made area inside i ids made same = made ∙ ap (λ (l : List Bool). flagged l area.ids) same
 
-pub numbers_made : (policy : Policy) (area : AreaParts) (inside flags f : List Bool) (numbers : List (Option ℕ)) → numbers ≡ numbers_from 0 f → f ≡ flags
+pub numbers_made : (policy : Policy) (area : AreaParts) (inside flags f : List Bool) (numbers : List (Option ℕ)) → AreFlagNumbers f numbers → f ≡ flags
     → flags ≡ map (is_link policy area.ids inside) area.bonds → numbers ≡ link_numbers policy area inside
-numbers_made policy area inside flags f numbers made same told = made ∙ ap (λ (l : List Bool). numbers_from 0 l) (same ∙ told)
+numbers_made policy area inside flags f numbers made same told = are_numbers f numbers made ∙ ap (λ (l : List Bool). numbers_from 0 l) (same ∙ told)
 
 -- how many there are at most
 pub nodes_few : (area : AreaParts) (inside : List Bool) → IsArea area → length inside ≡ length area.ids → flags_set inside ≤ 4096
@@ -63,7 +64,7 @@ made_island policy area router inside ids links graph root link_of those same_id
   those = those;
   made = made_of policy area inside ids links graph same_ids same_links made;
   rooted = subst (λ (l : List NodeId). IsRoot policy l root) same_ids rooted;
-  numbered = numbered;
+  numbered = subst (λ (l : List (Option ℕ)). AreLinkNumbers policy area inside l) (sym numbered) (links_numbered policy area inside);
 }
   where
     made_of : (p : Policy) (a : AreaParts) (i : List Bool) (is : List NodeId) (ls : List LinkIn) (g : Topology) → is ≡ ids_of a i → ls ≡ links_of p a i → IsGraphOf is ls g → IsGraphOf (ids_of a i) (links_of p a i) g

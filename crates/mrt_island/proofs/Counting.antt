@@ -12,7 +12,7 @@ use Rattle.mrt_island.specs.Numbering.{flagged, flags_set, number_of}
 use Rattle.mrt_graph.proofs.Tallies.{one_if}
 use Rattle.mrt_island.proofs.Flagging.{set_within}
 
-set_cons : (flag : Bool) (flags : List Bool) → flags_set (flag ∷ flags) ≡ one_if flag + flags_set flags
+pub set_cons : (flag : Bool) (flags : List Bool) → flags_set (flag ∷ flags) ≡ one_if flag + flags_set flags
 set_cons flag flags = sum_by-cons (λ b. one_if b) flag flags
 
 -- a set flag counts one more, another none

@@ -17,17 +17,13 @@ use Rattle.area_graph.specs.Fits.{Fits, IsPairOf, names}
 use Rattle.area_graph.specs.Parts.{AreaParts}
 use Rattle.area_graph.specs.declared.area_types.Bond.{Bond}
 use Rattle.mrt_island.specs.Policy.{Policy}
-use Rattle.mrt_island.specs.Numbering.{flags_set, ids_of, is_link, link_by, link_numbers, links_of, numbers_from}
+use Rattle.mrt_island.specs.Numbering.{flags_set, ids_of, is_link, link_by, links_of}
 use Rattle.mrt_graph.proofs.ListTests.{all_at}
 use Rattle.mrt_graph.proofs.Tallies.{one_if}
 use Rattle.mrt_island.proofs.Bounds.{no_bond}
 use Rattle.mrt_island.proofs.Counting.{IsFrom, flagged_filter, flagged_from, length_flagged, set_none, set_one}
+use Rattle.mrt_island.proofs.LinkNumbers.{length_numbers, link_numbers, numbers_from}
 use Rattle.mrt_island.proofs.LinkParts.{IsChosen, is_chosen, same_id}
-
-pub length_numbers : (number : ℕ) (flags : List Bool) → length (numbers_from number flags) ≡ length flags
-length_numbers number [] = refl
-length_numbers number (true ∷ flags) = omega (arith, length_numbers (number + 1) flags)
-length_numbers number (false ∷ flags) = omega (arith, length_numbers number flags)
 
 -- a bond whose entry names a link passes the test, and stands in the link's place among those that do
 record IsNamed (p : Bond → Bool) (bonds : List Bond) (number link : ℕ) (bond : Bond) : Type 0 where

@@ -5,7 +5,7 @@ use Rattle.mrt_graph.specs.Topology.{Topology}
 use Rattle.area_graph.specs.Parts.{AreaParts}
 use Rattle.mrt_island.specs.Policy.{Policy}
 use Rattle.mrt_island.specs.Members.{IsInside}
-use Rattle.mrt_island.specs.Numbering.{flags_set, ids_of, links_of, link_numbers}
+use Rattle.mrt_island.specs.Numbering.{AreLinkNumbers, flags_set, ids_of, links_of}
 use Rattle.mrt_island.specs.Rooting.{IsRoot}
 
 -- the island of a router: its graph, its root, and which bonds of the area are its links
@@ -14,7 +14,7 @@ pub record IsIsland (policy : Policy) (area : AreaParts) (router : ℕ) (graph :
   pub those : IsInside policy area router inside
   pub made : IsGraphOf (ids_of area inside) (links_of policy area inside) graph
   pub rooted : IsRoot policy (ids_of area inside) root
-  pub numbered : link_of ≡ link_numbers policy area inside
+  pub numbered : AreLinkNumbers policy area inside link_of
 
 -- how many nodes and links an island has, where the flags tell which nodes of the area are inside
 pub record HasSize (policy : Policy) (area : AreaParts) (inside : List Bool) (nodes links : ℕ) : Type 0 where

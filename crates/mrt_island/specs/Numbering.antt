@@ -1,5 +1,5 @@
 -- How the nodes and links of an island are numbered.
-use Rattle.std.specs.Prelude.{◌&&◌, ◌+◌, ℕ, Bool, true, false, List, [], ◌∷◌, Option, Some, None, map, take, count_by, slice_index_or}
+use Rattle.std.specs.Prelude.{◌≡◌, ◌&&◌, ◌<◌, ℕ, Bool, true, false, List, [], ◌∷◌, Option, Some, None, if◌then◌else◌, length, map, take, count_by, slice_get, slice_index_or}
 use Rattle.std.specs.List.{filter}
 use Rattle.mrt_graph.specs.declared.link.LinkIn.{LinkIn}
 use Rattle.mrt_graph.specs.declared.node_id.NodeId.{NodeId}
@@ -50,12 +50,22 @@ link_by inside bond = record {
 abbrev pub links_of : Policy → AreaParts → List Bool → List LinkIn
 links_of policy area inside = map (link_by inside) (filter (is_link policy area.ids inside) area.bonds)
 
--- of each flag the number of those that are set, from that number on; none where it is not set
-abbrev pub numbers_from : ℕ → List Bool → List (Option ℕ)
-numbers_from number [] = []
-numbers_from number (true ∷ flags) = Some number ∷ numbers_from (number + 1) flags
-numbers_from number (false ∷ flags) = None ∷ numbers_from number flags
+-- the number of the flag at a place, where it is set: how many of those before it are set
+abbrev pub number_at : List Bool → ℕ → Option ℕ
+number_at flags k = if slice_index_or flags k false then Some (number_of flags k) else None
 
--- of each bond of the area the number of the link that it is, if it is one
-abbrev pub link_numbers : Policy → AreaParts → List Bool → List (Option ℕ)
-link_numbers policy area inside = numbers_from 0 (map (is_link policy area.ids inside) area.bonds)
+-- of each flag that number
+pub record AreFlagNumbers (flags : List Bool) (numbers : List (Option ℕ)) : Type 0 where
+  pub one_each : length numbers ≡ length flags
+  pub each : (k : ℕ) → k < length flags → slice_get numbers k ≡ Some (number_at flags k)
+
+-- the number of the link that bond number k is, if it is one: how many links stand among the bonds before it
+abbrev pub link_number : Policy → AreaParts → List Bool → ℕ → Bond → Option ℕ
+link_number policy area inside k bond =
+    if is_link policy area.ids inside bond then Some (count_by (is_link policy area.ids inside) (take k area.bonds)) else None
+
+-- of each bond of the area that number
+pub record AreLinkNumbers (policy : Policy) (area : AreaParts) (inside : List Bool) (link_of : List (Option ℕ)) : Type 0 where
+  pub one_each : length link_of ≡ length area.bonds
+  pub each : (k : ℕ) (bond : Bond) → slice_get area.bonds k ≡ Some bond
+      → slice_get link_of k ≡ Some (link_number policy area inside k bond)

@@ -17,7 +17,7 @@ mod settling;
 
 pub use island::{Island, find_island};
 pub use island_error::IslandError;
-pub use island_law::one_island_of_its_members;
+pub use island_law::{a_router_has_one_island, an_island_is_that_of_each_router_in_it};
 pub use profile::Profile;
 pub use profile_error::{ProfileError, ProfileKind};
 pub use profile_reading::read_profile;

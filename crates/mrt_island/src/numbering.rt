@@ -2,7 +2,7 @@
 
 ghost use Rattle.std.specs.Prelude.{◌≡◌, ◌<◌, ◌≤◌, ℕ, IfOk, length, map, slice_index};
 ghost use Rattle.std.specs.List.{AllByRecursion};
-ghost use Rattle.mrt_island.specs.Numbering.{flagged, link_by, number_of, numbers_from};
+ghost use Rattle.mrt_island.specs.Numbering.{AreFlagNumbers, flagged, link_by, number_of};
 
 use area_graph::{Area, Bond, Spot};
 use mrt_graph::{LinkIn, LinkNo, NoMemory, NodeId, NodeNo};
@@ -79,10 +79,10 @@ fn link(inside: &[bool], numbers: &[NodeNo], bond: &Bond) -> LinkIn
     }
 }
 
-/// Of each flag the number of those that are set; none where it is not set.
+/// Of each flag that is set its number: how many of those before it are set.
 pub fn link_numbers(alloc: Global, flags: &[bool]) -> Result<Vec<Option<LinkNo>>, NoMemory>
     requires { length flags.now ≤ 32768 }
-    ensures { IfOk result (λ numbers. numbers.items ≡ numbers_from 0 flags.now) }
+    ensures { IfOk result (λ numbers. AreFlagNumbers flags.now numbers.items) }
 {
     let mut numbers = Vec::with_capacity(alloc, flags.len())?;
     let mut number: u16 = 0;

@@ -6,13 +6,14 @@ use Rattle.mrt_graph.specs.declared.link.LinkIn.{LinkIn}
 use Rattle.mrt_graph.specs.declared.node_id.NodeId.{NodeId}
 use Rattle.mrt_graph.specs.NewGraph.{AreGraphParts, IsGraphOf}
 use Rattle.mrt_graph.specs.NodeOrder.{node_id_cmp}
-use Rattle.mrt_island.specs.Numbering.{ids_of, is_link, link_numbers, links_of}
+use Rattle.mrt_island.specs.Numbering.{ids_of, is_link, links_of}
 use Rattle.mrt_island.specs.Rooting.{HasRouter, IsRoot}
 use Rattle.mrt_island.proofs.Assembling.{graph_cause, ids_made, links_made, made_island, nodes_few, not_large, numbers_made, refused_large}
 use Rattle.mrt_island.proofs.Bounds.{bonds_few}
 use Rattle.mrt_island.proofs.Counting.{ascend_flagged, length_flagged}
 use Rattle.mrt_island.proofs.Fitting.{island_fits}
 use Rattle.mrt_island.proofs.GraphOfIsland.{graph_parts, has_router}
+use Rattle.mrt_island.proofs.LinkNumbers.{link_numbers}
 use Rattle.mrt_island.specs.Policy.{policy_of}
 use Rattle.mrt_island.proofs.island.island_of.Goals as goal
 

@@ -1,6 +1,6 @@
 use Rattle.std.proofs.Common.{◌≡◌, ◌≤◌, ◌++◌, length, drop, vec_len}
 use Rattle.std.specs.Prelude.{vec_capacity}
-use Rattle.mrt_island.specs.Numbering.{numbers_from}
+use Rattle.mrt_island.proofs.LinkNumbers.{numbers_from}
 use Rattle.mrt_island.proofs.numbering.link_numbers.Given as goal
 
 abbrev pub invariant-loop-flag : goal.invariant-loop-flag

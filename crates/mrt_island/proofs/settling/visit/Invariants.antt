@@ -1,4 +1,3 @@
-use Rattle.std.proofs.Common.{◌≡◌, length}
 use Rattle.mrt_graph.specs.Search.{Enters}
 use Rattle.mrt_island.proofs.Telling.{IsTold}
 use Rattle.mrt_island.proofs.settling.visit.Given as goal
