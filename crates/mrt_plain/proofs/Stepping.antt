@@ -1,24 +1,23 @@
 -- A visit of a node comes on what its links lead to, one after another.
-use Rattle.std.proofs.Common.{◌≡◌, ◌<◌, ◌+◌, ℕ, Bool, List, Option, Some, inl, inr, subst, arith}
+use Rattle.std.proofs.Common.{◌≡◌, ◌<◌, ◌+◌, ℕ, Option, Some, inl, inr, subst, arith}
 use Rattle.std.proofs.lemmas.Bool.{cases_lt}
-use Rattle.mrt_graph.specs.Search.{IsEntering}
-use Rattle.mrt_graph.proofs.Searching.{entering_none, entering_both, entering_same}
+use Rattle.mrt_graph.specs.Search.{Enters, SearchState}
+use Rattle.mrt_graph.proofs.Searching.{enters_none, enters_both, enters_same}
 
 -- what the first n of some ways lead to
 abbrev pub LeadsBelow : (ℕ → Option ℕ) → ℕ → ℕ → Type 0
 LeadsBelow ways n v = (k : ℕ) × (k < n) × (ways k ≡ Some v)
 
 -- nothing yet
-pub first_way : (ways : ℕ → Option ℕ) (marks : List Bool) (found : List ℕ) → IsEntering (LeadsBelow ways 0) marks found marks found
-first_way ways marks found =
-    entering_same (λ (v : ℕ). ⊥) (LeadsBelow ways 0) marks found marks found (λ v h. absurd h) (λ v h. absurd (omega (arith, h.1))) (entering_none marks found)
+pub first_way : (ways : ℕ → Option ℕ) (search : SearchState) → Enters (LeadsBelow ways 0) search search
+first_way ways search =
+    enters_same (λ (v : ℕ). ⊥) (LeadsBelow ways 0) search search (λ v h. absurd h) (λ v h. absurd (omega (arith, h.1))) (enters_none search)
 
 -- one way more
-pub next_way : (ways : ℕ → Option ℕ) (n : ℕ) (m0 : List Bool) (f0 : List ℕ) (m1 : List Bool) (f1 : List ℕ) (m2 : List Bool) (f2 : List ℕ)
-    → IsEntering (LeadsBelow ways n) m0 f0 m1 f1 → IsEntering (λ (v : ℕ). ways n ≡ Some v) m1 f1 m2 f2
-    → IsEntering (LeadsBelow ways (n + 1)) m0 f0 m2 f2
-next_way ways n m0 f0 m1 f1 m2 f2 before here =
-    entering_both (LeadsBelow ways n) (λ (v : ℕ). ways n ≡ Some v) (LeadsBelow ways (n + 1))
+pub next_way : (ways : ℕ → Option ℕ) (n : ℕ) (s0 s1 s2 : SearchState) → Enters (LeadsBelow ways n) s0 s1 → Enters (λ (v : ℕ). ways n ≡ Some v) s1 s2
+    → Enters (LeadsBelow ways (n + 1)) s0 s2
+next_way ways n s0 s1 s2 before here =
+    enters_both (LeadsBelow ways n) (λ (v : ℕ). ways n ≡ Some v) (LeadsBelow ways (n + 1))
     (λ v h. (h.0, omega (arith, h.1), h.2))
     (λ v h. (n, omega arith, h))
     (λ v h. elim (cases_lt h.0 n) [
@@ -27,12 +26,11 @@ next_way ways n m0 f0 m1 f1 m2 f2 before here =
           let last : h.0 ≡ n = omega (arith, h.1)
           in inr (subst (λ (k : ℕ). ways k ≡ Some v) last h.2)
     ])
-    m0 f0 m1 f1 m2 f2 before here
+    s0 s1 s2 before here
 
 -- a way past the last leads nowhere
-pub all_ways : (ways : ℕ → Option ℕ) (n : ℕ) (m0 : List Bool) (f0 : List ℕ) (m1 : List Bool) (f1 : List ℕ)
-    → ((k v : ℕ) → ways k ≡ Some v → k < n)
-    → IsEntering (LeadsBelow ways n) m0 f0 m1 f1 → IsEntering (λ (v : ℕ). (k : ℕ) × (ways k ≡ Some v)) m0 f0 m1 f1
-all_ways ways n m0 f0 m1 f1 last e =
-    entering_same (LeadsBelow ways n) (λ (v : ℕ). (k : ℕ) × (ways k ≡ Some v)) m0 f0 m1 f1
+pub all_ways : (ways : ℕ → Option ℕ) (n : ℕ) (s0 s1 : SearchState) → ((k v : ℕ) → ways k ≡ Some v → k < n)
+    → Enters (LeadsBelow ways n) s0 s1 → Enters (λ (v : ℕ). (k : ℕ) × (ways k ≡ Some v)) s0 s1
+all_ways ways n s0 s1 last e =
+    enters_same (LeadsBelow ways n) (λ (v : ℕ). (k : ℕ) × (ways k ≡ Some v)) s0 s1
     (λ v h. (h.0, h.2)) (λ v h. (h.0, last h.0 v h.1, h.1)) e

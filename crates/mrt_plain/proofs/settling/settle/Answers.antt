@@ -1,39 +1,24 @@
-use Rattle.std.proofs.Common.{◌≡◌, ◌∙◌, List, [], false, replicate, ℕ, Bool, subst, arith}
-use Rattle.std.proofs.lemmas.List.{get_or_default}
-use Rattle.mrt_graph.specs.Search.{IsEntering}
-use Rattle.mrt_graph.proofs.Searching.{search_begun, search_onward, search_ended, entering_longer}
-use Rattle.mrt_graph.proofs.Settled.{settled_is_reachable}
+use Rattle.std.proofs.Common.{◌∙◌, ◌↔◌, ℕ, List, Bool, length, ap, subst, sym}
+use Rattle.mrt_graph.specs.Reachable.{Reachable}
+use Rattle.mrt_graph.specs.Search.{Enters, IsMarked, SearchState}
+use Rattle.mrt_graph.proofs.Searching.{Searches, searches_ended, searches_onward}
 use Rattle.mrt_plain.specs.Without.{StepsWithout}
 use Rattle.mrt_plain.proofs.settling.settle.Goals as goal
 
--- a search that begins with no marks and an empty list
-begun_on : (n s : ℕ) (marks : List Bool) (found : List ℕ) (marks' : List Bool) (found' : List ℕ) → marks ≡ replicate n false → found ≡ []
-    → IsEntering (λ (v : ℕ). v ≡ s) marks found marks' found' → IsEntering (λ (v : ℕ). v ≡ s) (replicate n false) [] marks' found'
-begun_on n s marks found marks' found' no_marks none entered =
-    subst (λ (f : List ℕ). IsEntering (λ (v : ℕ). v ≡ s) (replicate n false) f marks' found') none
-    (subst (λ (m : List Bool). IsEntering (λ (v : ℕ). v ≡ s) m found marks' found') no_marks entered)
-
-pub loop-done-init : goal.loop-done-init
-loop-done-init c = record {
-  count = c.enter.ensures.count ∙ c.in_ok-marks.ensures.len;
-  room = c.enter.ensures.room;
-  begun = omega arith;
-  search = search_begun (StepsWithout c.args.links.now c.args.x.now) c.args.count c.args.s _ _
-      (begun_on c.args.count c.args.s _ _ _ _ (c.in_ok-marks.ensures.items_if_clones_equal (λ y same. same)) c.in_ok-found.ensures.items c.enter.ensures.entered);
-}
-
-pub loop-done-preserved : goal.loop-done-preserved
-loop-done-preserved c = record {
-  count = c.visit.ensures.count ∙ c.loop-done.invariant.count;
-  room = c.visit.ensures.room;
-  begun = omega (arith, entering_longer _ _ _ _ _ c.visit.ensures.entered);
-  search = search_onward (StepsWithout c.args.links.now c.args.x.now) c.args.s _ _ c.loop-done.done _ _ c.loop-done.invariant.search (omega arith)
-      (subst (λ (at : ℕ). IsEntering (StepsWithout c.args.links.now c.args.x.now at) c.loop-done.marks.items c.loop-done.found.items c.visit.new.marks.items c.visit.new.found.items)
-      (c.index.ensures ∙ get_or_default c.loop-done.found.items c.loop-done.done c.index.result.now 0 (omega arith))
-      c.visit.ensures.entered);
-}
+pub loop-at-preserved : goal.loop-at-preserved
+loop-at-preserved c =
+    let leads = StepsWithout c.args.links.now c.args.x.now in
+    let out = c.in-Some.ensures.some in
+    record {
+      count = c.visit.ensures.one_each ∙ ap (λ (marks : List Bool). length marks) out.same_marks ∙ c.loop-at.invariant.count;
+      search = searches_onward leads c.args.s c.loop-at.search c.next.new.self c.visit.new.search c.in-Some.at c.loop-at.invariant.search out
+          (subst (λ (at : ℕ). Enters (leads at) c.next.new.self c.visit.new.search) c.new-in-Some.ensures c.visit.ensures);
+    }
 
 pub returns-clause-reached : goal.returns-clause-reached
 returns-clause-reached c t =
-    settled_is_reachable (StepsWithout c.args.links.now c.args.x.now) c.args.s _
-    (search_ended (StepsWithout c.args.links.now c.args.x.now) c.args.s _ _ _ c.loop-done.invariant.search (omega (arith, c.len.ensures, c.loop-done-test.false))) t
+    let leads = StepsWithout c.args.links.now c.args.x.now in
+    let last : Searches leads c.args.s c.next.new.self =
+    subst (λ (search : SearchState). Searches leads c.args.s search) (sym c.in_default.ensures.unchanged) c.loop-at.invariant.search in
+    subst (λ (marks : List Bool). IsMarked marks t ↔ Reachable leads c.args.s t) (sym c.into_marks.ensures)
+    (searches_ended leads c.args.s c.next.new.self last c.in_default.ensures.none t)

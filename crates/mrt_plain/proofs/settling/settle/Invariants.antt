@@ -1,16 +1,14 @@
-use Rattle.std.proofs.Common.{◌≡◌, ◌≤◌, ◌+◌, ◌-◌, vec_len}
-use Rattle.std.specs.Prelude.{vec_capacity}
-use Rattle.mrt_graph.specs.Search.{IsSearch, unmarked}
+use Rattle.std.proofs.Common.{◌≡◌, length}
+use Rattle.mrt_graph.specs.Search.{left_of}
+use Rattle.mrt_graph.proofs.Searching.{Searches}
 use Rattle.mrt_plain.specs.Without.{StepsWithout}
 use Rattle.mrt_plain.proofs.settling.settle.Given as goal
 
-abbrev pub invariant-loop-done : goal.invariant-loop-done
-invariant-loop-done l = record {
-  count : vec_len l.marks ≡ l.fn.count;
-  room : unmarked l.marks.items + vec_len l.found ≤ vec_capacity l.found;
-  begun : l.done ≤ vec_len l.found;
-  search : IsSearch (StepsWithout l.links l.x) l.fn.s l.marks.items l.found.items l.done;
+abbrev pub invariant-loop-at : goal.invariant-loop-at
+invariant-loop-at l = record {
+  count : length l.search.marks ≡ l.fn.count;
+  search : Searches (StepsWithout l.links l.x) l.fn.s l.search;
 }
 
-abbrev pub decreases-loop-done : goal.decreases-loop-done
-decreases-loop-done l = unmarked l.marks.items + vec_len l.found - l.done
+abbrev pub decreases-loop-at : goal.decreases-loop-at
+decreases-loop-at l = left_of l.search
