@@ -11,14 +11,12 @@ use Rattle.mrt_graph.specs.declared.cert.Role.{Role}
 use Rattle.mrt_graph.specs.declared.cert.Role.TheVariants as roles
 use Rattle.mrt_graph.specs.declared.cert.Tag.{Tag}
 use Rattle.mrt_graph.specs.declared.cert.Tag.TheVariants as tags
+use Rattle.mrt_graph.proofs.Bytes.{IsBytes}
 use Rattle.cert_format.specs.CertText.{kind_number, role_number, tag_number}
 use Rattle.cert_format.specs.Layout.{any, Field, Form, Then, within, tag}
 use Rattle.cert_format.specs.FirstFault.{number_of, fault_in}
 use Rattle.cert_format.specs.declared.error.CertError.{CertError}
 use Rattle.cert_format.specs.Reading.{Rest, rest_of, Names, Took, TookField, ReadsNumber, ReadsField}
-
-abbrev pub IsBytes : List ℕ → Type 0
-IsBytes bytes = (i : ℕ) → get_or bytes i 0 < 256
 
 -- numbers of this width and their bytes
 pub record IsWide (w : Width) : Type 0 where
