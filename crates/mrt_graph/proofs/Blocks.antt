@@ -49,17 +49,19 @@ pub record Blocks (w : Words) : Type 0 where
   pub root_within : w.root < w.count
   pub from_within : (e u v : ℕ) → leads w.links e u ≡ Some v → u < w.count
   pub to_within : (e u v : ℕ) → leads w.links e u ≡ Some v → v < w.count
-  pub ends_differ : (e u v : ℕ) → leads w.links e u ≡ Some v → u ≢ v
   pub tied : (e u v : ℕ) → leads w.links e u ≡ Some v → Common w u v (w.part e)
-  pub lone : (e f : ℕ) → w.role e ≡ Sole → w.part e ≡ w.part f → e ≡ f
-  pub lone_member : (e a b : ℕ) → w.role e ≡ Sole → a < w.count → b < w.count → w.block a ≡ w.part e → w.block b ≡ w.part e → a ≡ b
+  pub lone : (e u v f x y : ℕ) → leads w.links e u ≡ Some v → u ≢ v → w.role e ≡ Sole → leads w.links f x ≡ Some y
+      → w.part e ≡ w.part f → e ≡ f
+  pub lone_member : (e u v a b : ℕ) → leads w.links e u ≡ Some v → u ≢ v → w.role e ≡ Sole
+      → a < w.count → b < w.count → w.block a ≡ w.part e → w.block b ≡ w.part e → a ≡ b
   pub root_head : w.head w.root ≡ w.root
   pub root_block : w.block w.root ≡ w.root
   pub head_within : (a : ℕ) → a < w.count → w.head a < w.count
   pub head_lower : (a : ℕ) → Member w a → w.order (w.head a) < w.order a
   pub not_roots : (a : ℕ) → Member w a → w.block a ≢ w.root
   pub one_head : (a b : ℕ) → a < w.count → b < w.count → w.block a ≡ w.block b → w.head a ≡ w.head b
-  pub order_within : (a : ℕ) → a < w.count → w.order a ≤ w.count
+  pub most : ℕ
+  pub order_within : (a : ℕ) → a < w.count → w.order a ≤ most
   pub one_order : (a b : ℕ) → a < w.count → b < w.count → w.order a ≡ w.order b → a ≡ b
 
 -- the chain of y, that is y, its head, the head of that and so on, meets a member of m's block

@@ -16,7 +16,7 @@ use Rattle.mrt_graph.specs.Hop.{Hop, color_hop, hop_over}
 use Rattle.mrt_graph.specs.Leads.{leads}
 use Rattle.mrt_graph.specs.Reaches.{AreDifferent, Reaches}
 use Rattle.mrt_graph.specs.Rows.{Rows, link_of_color}
-use Rattle.mrt_graph.specs.Separates.{IsBetween, Separates}
+use Rattle.mrt_graph.specs.Separates.{IsNeitherEnd, Separates}
 use Rattle.mrt_graph.specs.Sound.{SoundFor}
 use Rattle.mrt_graph.specs.Uses.{Uses, nodes_met}
 use Rattle.mrt_graph.specs.Walk.{Walk}
@@ -105,7 +105,7 @@ on_of : (links : List Link) (s t : ℕ) (hops : List Hop) (x : Element) → Trai
 on_of links s t hops (elements.Link e) trail uses = has (links_on hops) e uses
 on_of links s t hops (elements.Node x) trail uses = subst (λ (xs : List ℕ). Has xs x) (met_of links s t hops trail) (has (nodes_met links s (links_on hops)) x uses)
 
-separates : (links : List Link) (x : Element) (s t : ℕ) → IsBetween x s t → Parts links x s t → Separates links x s t
+separates : (links : List Link) (x : Element) (s t : ℕ) → IsNeitherEnd x s t → Parts links x s t → Separates links x s t
 separates links x s t between parts = record {
   between = between;
   on_every_walk = λ walk is.
@@ -144,7 +144,7 @@ module _ (links : List Link) (n : ℕ) (rows : Rows) (ends : (e u v : ℕ) → l
 
   -- two ways that share only what parts s and t are sound
   pub sound_for : (blue : Way (color_hop links rows Blue t) t s) (red : Way (color_hop links rows Red t) t s)
-      → ((x : Element) → IsBetween x s t → On s blue.hops x → On s red.hops x → Parts links x s t) → SoundFor links n rows s t
+      → ((x : Element) → IsNeitherEnd x s t → On s blue.hops x → On s red.hops x → Parts links x s t) → SoundFor links n rows s t
   sound_for blue red apart = record {
     blue = reaches Blue blue;
     red = reaches Red red;

@@ -2,7 +2,7 @@
 use Rattle.std.specs.Prelude.{◌≢◌, ◌<◌, ℕ, List, Option}
 use Rattle.mrt_graph.specs.declared.link.Element.{Element}
 use Rattle.mrt_graph.specs.Hop.{Hop}
-use Rattle.mrt_graph.specs.Separates.{IsBetween}
+use Rattle.mrt_graph.specs.Separates.{IsNeitherEnd}
 use Rattle.mrt_graph.proofs.Blocks.{Words, Member, At, Related}
 use Rattle.mrt_graph.proofs.Trails.{Has, Differ, Follows, On, Parts, nodes_on}
 
@@ -16,7 +16,7 @@ pub record Way (next : ℕ → Option Hop) (t s : ℕ) : Type 0 where
 pub record Good (w : Words) (s t : ℕ) : Type 0 where
   pub blue : Way (w.blue t) t s
   pub red : Way (w.red t) t s
-  pub apart : (x : Element) → IsBetween x s t → On s blue.hops x → On s red.hops x → Parts w.links x s t
+  pub apart : (x : Element) → IsNeitherEnd x s t → On s blue.hops x → On s red.hops x → Parts w.links x s t
 
 -- the same of two related nodes, and all nodes met are in their common block or its head: m is a member of that block
 pub record Near (w : Words) (s t : ℕ) : Type 0 where

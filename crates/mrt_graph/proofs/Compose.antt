@@ -5,7 +5,7 @@ use Rattle.mrt_graph.specs.declared.link.Element.{Element}
 use Rattle.mrt_graph.specs.declared.link.Element.TheVariants as elements
 use Rattle.mrt_graph.specs.declared.link.Link.{Link}
 use Rattle.mrt_graph.specs.Hop.{Hop}
-use Rattle.mrt_graph.specs.Separates.{IsBetween}
+use Rattle.mrt_graph.specs.Separates.{IsNeitherEnd}
 use Rattle.mrt_graph.proofs.Blocks.{Words}
 use Rattle.mrt_graph.proofs.Claims.{Good}
 use Rattle.mrt_graph.proofs.Hops.{back_round, cut, ends_are_on, follows_join, follows_trail, front_round, has_joined, link_from, link_joined, on_back, on_front, rounds_join}
@@ -68,11 +68,11 @@ parts_back links x s v t via parts hops trail =
     let c = cut links s v t hops trail (via hops trail) in
     subst (λ (hs : List Hop). On s hs x) c.joined (on_back links s v x c.front c.back c.front_trail (parts c.back c.back_trail))
 
-between_front : (x : Element) (s v t : ℕ) → IsBetween x s t → IsOther v x → IsBetween x s v
+between_front : (x : Element) (s v t : ℕ) → IsNeitherEnd x s t → IsOther v x → IsNeitherEnd x s v
 between_front (elements.Link e) s v t between other = tt
 between_front (elements.Node x) s v t between other = (between.0, other)
 
-between_back : (x : Element) (s v t : ℕ) → IsBetween x s t → IsOther v x → IsBetween x v t
+between_back : (x : Element) (s v t : ℕ) → IsNeitherEnd x s t → IsOther v x → IsNeitherEnd x v t
 between_back (elements.Link e) s v t between other = tt
 between_back (elements.Node x) s v t between other = (other, between.1)
 
@@ -97,7 +97,7 @@ module _ (w : Words) (rows : Rows w) (s v t : ℕ) (m : Meeting w s v t) where
   red_trail : Trail w.links v m.second.red.hops t
   red_trail = follows_trail w.links (w.red t) (rows.red_leads t) t v m.second.red.hops m.second.red.follows
 
-  shared_other : (x : Element) → IsOther v x → IsBetween x s t
+  shared_other : (x : Element) → IsOther v x → IsNeitherEnd x s t
       → On s (m.first.blue.hops ++ m.second.blue.hops) x → On s (m.first.red.hops ++ m.second.red.hops) x → Parts w.links x s t
   shared_other x other between blue red = elim (on_joined s v x m.first.blue.hops m.second.blue.hops blue) [
     | inl blue_front ↦ elim (on_joined s v x m.first.red.hops m.second.red.hops red) [
@@ -110,7 +110,7 @@ module _ (w : Words) (rows : Rows w) (s v t : ℕ) (m : Meeting w s v t) where
     ]
   ]
 
-  shared : (x : Element) → IsBetween x s t
+  shared : (x : Element) → IsNeitherEnd x s t
       → On s (m.first.blue.hops ++ m.second.blue.hops) x → On s (m.first.red.hops ++ m.second.red.hops) x → Parts w.links x s t
   shared (elements.Link e) between blue red = shared_other (elements.Link e) tt between blue red
   shared (elements.Node x) between blue red = elim (cases_eq x v) [

@@ -5,7 +5,7 @@ use Rattle.mrt_graph.specs.declared.link.Element.{Element}
 use Rattle.mrt_graph.specs.declared.link.Element.TheVariants as elements
 use Rattle.mrt_graph.specs.Hop.{Hop}
 use Rattle.mrt_graph.specs.Leads.{leads}
-use Rattle.mrt_graph.specs.Separates.{IsBetween}
+use Rattle.mrt_graph.specs.Separates.{IsNeitherEnd}
 use Rattle.mrt_graph.proofs.Blocks.{Words, Blocks, Common, Peers, ToHead, FromHead, Member, At, Inner, Top, Below, Here}
 use Rattle.mrt_graph.proofs.Claims.{Near, Way}
 use Rattle.mrt_graph.proofs.RowFacts.{NearRow, Rows, SoleRow}
@@ -21,12 +21,14 @@ module _ (w : Words) (b : Blocks w) (rows : Rows w) (s t : ℕ) (other : s ≢ t
     t_at : At w m t
     parts : Parts w.links (elements.Link e) s t
 
-  this_link : (e m : ℕ) (hops : List Hop) → w.role e ≡ roles.Sole → w.part e ≡ w.block m → Crosses w m s hops → Has (links_on hops) e
-  this_link e m hops sole of_block c = subst (Has (links_on hops)) (sym (b.lone e c.link sole (of_block ∙ sym c.of_block))) c.on_walk
+  this_link : (e m : ℕ) (hops : List Hop) → leads w.links e s ≡ Some t → w.role e ≡ roles.Sole → w.part e ≡ w.block m → Crosses w m s hops → Has (links_on hops) e
+  this_link e m hops there sole of_block c =
+      let one = b.lone e s t c.link c.from c.to there other sole c.leads_on (of_block ∙ sym c.of_block) in
+      subst (Has (links_on hops)) (sym one) c.on_walk
 
-  side : (e : ℕ) → w.role e ≡ roles.Sole → Common w s t (w.part e) → Side e
-  side e sole (Peers same is) = absurd (other (b.lone_member e s t sole s_within t_within (sym is) (sym same ∙ sym is)))
-  side e sole (ToHead head is) =
+  side : (e : ℕ) → leads w.links e s ≡ Some t → w.role e ≡ roles.Sole → Common w s t (w.part e) → Side e
+  side e there sole (Peers same is) = absurd (other (b.lone_member e s t s t there other sole s_within t_within (sym is) (sym same ∙ sym is)))
+  side e there sole (ToHead head is) =
       let member : Member w s = record { within = s_within; not_root = λ root. other (root ∙ sym b.root_head ∙ ap w.head (sym root) ∙ head) } in
       record {
         m = s;
@@ -34,11 +36,11 @@ module _ (w : Words) (b : Blocks w) (rows : Rows w) (s t : ℕ) (other : s ≢ t
         s_at = Inner s_within refl;
         t_at = Top (sym head);
         parts = λ hops trail. elim (leaves w b s s t hops member trail (Here s refl)) [
-          | inl c ↦ this_link e s hops sole is c
+          | inl c ↦ this_link e s hops there sole is c
           | inr below ↦ absurd (head_not_below w b s member (subst (Below w s) (sym head) below))
         ];
       }
-  side e sole (FromHead head is) =
+  side e there sole (FromHead head is) =
       let member : Member w t = record { within = t_within; not_root = λ root. other (sym head ∙ ap w.head root ∙ b.root_head ∙ sym root) } in
       record {
         m = t;
@@ -46,7 +48,7 @@ module _ (w : Words) (b : Blocks w) (rows : Rows w) (s t : ℕ) (other : s ≢ t
         s_at = Top (sym head);
         t_at = Inner t_within refl;
         parts = λ hops trail. elim (enters w b t s t hops member trail (Here t refl)) [
-          | inl c ↦ this_link e t hops sole is c
+          | inl c ↦ this_link e t hops there sole is c
           | inr below ↦ absurd (head_not_below w b t member (subst (Below w t) (sym head) below))
         ];
       }
@@ -70,7 +72,7 @@ module _ (w : Words) (b : Blocks w) (rows : Rows w) (s t : ℕ) (other : s ≢ t
     | inr end ↦ subst (At w d.m) (sym end) d.t_at
   ]
 
-  shared : (hop : Hop) → hop.to ≡ t → Side hop.link → (x : Element) → IsBetween x s t → On s (hop ∷ []) x → Parts w.links x s t
+  shared : (hop : Hop) → hop.to ≡ t → Side hop.link → (x : Element) → IsNeitherEnd x s t → On s (hop ∷ []) x → Parts w.links x s t
   shared hop there d (elements.Link e) between on = elim on [
     | inl same ↦ subst (λ (k : ℕ). Parts w.links (elements.Link k) s t) same d.parts
     | inr none ↦ absurd none
@@ -88,7 +90,9 @@ module _ (w : Words) (b : Blocks w) (rows : Rows w) (s t : ℕ) (other : s ≢ t
       let f : leads w.links r.red.link s ≡ Some r.red.to = rows.red_leads t s r.red r.red_is in
       let g : r.blue.to ≡ t = sole.there in
       cc) in
-      let d = side r.blue.link sole.sole r.blue_block in
+      let to : leads w.links r.blue.link s ≡ Some t =
+      subst (λ (v : ℕ). leads w.links r.blue.link s ≡ Some v) sole.there (rows.blue_leads t s r.blue r.blue_is) in
+      let d = side r.blue.link to sole.sole r.blue_block in
       record {
         m = d.m;
         member = d.member;

@@ -1,5 +1,5 @@
 -- The claim on two related nodes whose row is not Sole.
-use Rattle.std.proofs.Common.{◌≡◌, ◌≢◌, ◌⊎◌, ◌∙◌, ◌<◌, ℕ, List, [], ◌∷◌, Option, Some, refl, sym, subst, inl, inr}
+use Rattle.std.proofs.Common.{◌≡◌, ◌≢◌, ◌⊎◌, ◌∙◌, ◌<◌, ℕ, List, [], ◌∷◌, Option, Some, refl, sym, ap, subst, inl, inr, arith}
 use Rattle.std.proofs.lemmas.Bool.{cases_eq}
 use Rattle.mrt_graph.specs.declared.cert.Color.{Color}
 use Rattle.mrt_graph.specs.declared.cert.Color.TheVariants.{Blue, Red}
@@ -8,7 +8,7 @@ use Rattle.mrt_graph.specs.declared.link.Element.{Element}
 use Rattle.mrt_graph.specs.declared.link.Element.TheVariants as elements
 use Rattle.mrt_graph.specs.Hop.{Hop}
 use Rattle.mrt_graph.specs.Leads.{leads}
-use Rattle.mrt_graph.specs.Separates.{IsBetween}
+use Rattle.mrt_graph.specs.Separates.{IsNeitherEnd}
 use Rattle.mrt_graph.proofs.Arrival.{Descends, Arrives, arrives_from}
 use Rattle.mrt_graph.proofs.Blocks.{Words, Member, At, Blocks}
 use Rattle.mrt_graph.proofs.Claims.{Near}
@@ -62,7 +62,7 @@ module _ (w : Words) (b : Blocks w) (r : Rows w) (m t : ℕ) (member : Member w 
     Met color x = At w m x × Meets color (w.tag s t) (w.order s) (w.tag x t) (w.order x)
 
     abbrev rank_of : Color → ℕ → ℕ
-    rank_of color x = rank color w.count (w.tag x t) (w.order x)
+    rank_of color x = rank color b.most (w.tag x t) (w.order x)
 
     -- a step leads to t, or to what may be met, and the rank falls
     falls : (color : Color) (x : ℕ) (hop : Hop) → Met color x → At w m hop.to → Goes w t x color hop
@@ -70,7 +70,7 @@ module _ (w : Words) (b : Blocks w) (r : Rows w) (m t : ℕ) (member : Member w 
     falls color x hop met at (There there may) = inl there
     falls color x hop met at (Onward other move) = inr (
       (at, meets_on (w.tag s t) (w.order s) move met.1),
-      rank_falls w.count (b.order_within hop.to (at_within w b m hop.to member at)) move,
+      rank_falls b.most (b.order_within hop.to (at_within w b m hop.to member at)) move,
     )
 
     descends : (color : Color) (x : ℕ) → Met color x → x ≢ t → Descends (next_of w color t) (rank_of color) (Met color) t x
@@ -79,6 +79,17 @@ module _ (w : Words) (b : Blocks w) (r : Rows w) (m t : ℕ) (member : Member w 
         (λ sole. meets_no_sole color (w.tag s t) (w.order s) (w.order x) (subst (λ T. Meets color (w.tag s t) (w.order s) T (w.order x)) sole met.1)) in
         let on = step w b r m t member target color x met.0 other x_not_sole in
         record { hop = on.hop; takes = on.takes; goes = falls color x on.hop met on.at on.goes }
+
+    -- and so it does not lead where it comes from
+    not_itself : (color : Color) (x : ℕ) (hop : Hop) → Met color x → x ≢ t → next_of w color t x ≡ Some hop → hop.to ≢ x
+    not_itself color x hop met other takes same =
+        let d = descends color x met other in
+        let one : d.hop ≡ hop = cc (d.takes, takes) in
+        let to : d.hop.to ≡ x = ap (λ (h : Hop). h.to) one ∙ same in
+        elim d.goes [
+          | inl there ↦ other (sym to ∙ there)
+          | inr lower ↦ omega (arith, lower.1, ap (rank_of color) to)
+        ]
 
     arrives : (color : Color) → Arrives (next_of w color t) (rank_of color) (Met color) t s
     arrives color = arrives_from (next_of w color t) (rank_of color) (Met color) t (descends color) s
@@ -137,13 +148,13 @@ module _ (w : Words) (b : Blocks w) (r : Rows w) (m t : ℕ) (member : Member w 
           | inl end ↦ end
           | inr other ↦
               let back = end_on_both e hop.hop.to hop.start (lead_back w.links e hop.start hop.hop.to touches) on_blue on_red other in
-              absurd (b.ends_differ e hop.start hop.hop.to touches (start ∙ sym back))
+              absurd (not_itself color hop.start hop.hop (met_on color hop.start hop.met hop.not_last) hop.not_last hop.takes (back ∙ sym start))
         ] in
         subst (λ (k : ℕ). Ends color (w.tag s t) (w.role k)) hop.over
         (straight color hop.hop (subst (λ (u : ℕ). next_of w color t u ≡ Some hop.hop) start hop.takes) there)
 
     -- nothing but s and t is on the ways of both
-    apart : (x : Element) → IsBetween x s t → On s (arrives Blue).hops x → On s (arrives Red).hops x → ⊥
+    apart : (x : Element) → IsNeitherEnd x s t → On s (arrives Blue).hops x → On s (arrives Red).hops x → ⊥
     apart (elements.Link e) between blue red =
         never_both (w.tag s t) (w.role e) (straight_on_both Blue e blue blue red) (straight_on_both Red e red blue red)
     apart (elements.Node x) between blue red = between.0 (node_on_both x blue red between.1)

@@ -13,12 +13,12 @@ pub record Tagged (w : Words) (t : ℕ) (tag : Tag) (v : ℕ) : Type 0 where
   pub is : w.tag v t ≡ tag
 
 -- and v has a greater order than s
-pub record Rises (w : Words) (s t : ℕ) (tag : Tag) (v : ℕ) : Type 0 where
+pub record HigherTagged (w : Words) (s t : ℕ) (tag : Tag) (v : ℕ) : Type 0 where
   pub order : w.order s < w.order v
   pub tagged : Tagged w t tag v
 
 -- and v has a smaller order than s
-pub record Falls (w : Words) (s t : ℕ) (tag : Tag) (v : ℕ) : Type 0 where
+pub record LowerTagged (w : Words) (s t : ℕ) (tag : Tag) (v : ℕ) : Type 0 where
   pub order : w.order v < w.order s
   pub tagged : Tagged w t tag v
 
@@ -62,19 +62,19 @@ pub record TopRow (w : Words) (s t : ℕ) (blue red : Hop) : Type 0 where
 pub record BelowRow (w : Words) (s t : ℕ) (blue red : Hop) : Type 0 where
   pub block : w.block s ≡ w.block t
   pub order : w.order s < w.order t
-  pub blue_goes : (blue.to ≡ t) ⊎ Rises w s t tags.Below blue.to
-  pub red_goes : Falls w s t tags.Below red.to ⊎ OverPlain w (w.head s) red
+  pub blue_goes : (blue.to ≡ t) ⊎ HigherTagged w s t tags.Below blue.to
+  pub red_goes : LowerTagged w s t tags.Below red.to ⊎ OverPlain w (w.head s) red
 
 pub record AboveRow (w : Words) (s t : ℕ) (blue red : Hop) : Type 0 where
   pub block : w.block s ≡ w.block t
   pub order : w.order t < w.order s
-  pub blue_goes : Rises w s t tags.Above blue.to ⊎ OverClosing w (w.head s) blue
-  pub red_goes : (red.to ≡ t) ⊎ Falls w s t tags.Above red.to
+  pub blue_goes : HigherTagged w s t tags.Above blue.to ⊎ OverClosing w (w.head s) blue
+  pub red_goes : (red.to ≡ t) ⊎ LowerTagged w s t tags.Above red.to
 
 pub record UnorderedRow (w : Words) (s t : ℕ) (blue red : Hop) : Type 0 where
   pub block : w.block s ≡ w.block t
-  pub blue_goes : (Falls w s t tags.Unordered blue.to ⊎ Falls w s t tags.Below blue.to) ⊎ OverPlain w (w.head s) blue
-  pub red_goes : Rises w s t tags.Unordered red.to ⊎ Rises w s t tags.Above red.to
+  pub blue_goes : (LowerTagged w s t tags.Unordered blue.to ⊎ LowerTagged w s t tags.Below blue.to) ⊎ OverPlain w (w.head s) blue
+  pub red_goes : HigherTagged w s t tags.Unordered red.to ⊎ HigherTagged w s t tags.Above red.to
 
 -- what each tag says of a row of s for t with these hops; a carried row has no hops of its own
 abbrev pub Says : Words → Tag → ℕ → ℕ → Hop → Hop → Type 0

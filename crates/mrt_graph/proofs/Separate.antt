@@ -10,6 +10,9 @@ use Rattle.mrt_graph.proofs.Trails.{Has, Trail, links_on, nodes_on}
 -- a walk goes over a link of m's block, and meets the head of m
 pub record Crosses (w : Words) (m s : ℕ) (hops : List Hop) : Type 0 where
   pub link : ℕ
+  pub from : ℕ
+  pub to : ℕ
+  pub leads_on : leads w.links link from ≡ Some to
   pub on_walk : Has (links_on hops) link
   pub of_block : w.part link ≡ w.block m
   pub head_met : Has (nodes_on s hops) (w.head m)
@@ -45,20 +48,20 @@ module _ (w : Words) (b : Blocks w) where
   leaves m s t [] member trail below = inr (subst (Below w m) trail below)
   leaves m s t (hop ∷ hops) member trail below = elim (crossing hop.link m s hop.to member trail.0 below) [
     | inl still ↦ elim (leaves m hop.to t hops member trail.1 still) [
-      | inl later ↦ inl (record { link = later.link; on_walk = inr later.on_walk; of_block = later.of_block; head_met = inr later.head_met })
+      | inl later ↦ inl (record { link = later.link; from = later.from; to = later.to; leads_on = later.leads_on; on_walk = inr later.on_walk; of_block = later.of_block; head_met = inr later.head_met })
       | inr within ↦ inr within
     ]
-    | inr out ↦ inl (record { link = hop.link; on_walk = inl refl; of_block = out.1; head_met = inr (inl out.0) })
+    | inr out ↦ inl (record { link = hop.link; from = s; to = hop.to; leads_on = trail.0; on_walk = inl refl; of_block = out.1; head_met = inr (inl out.0) })
   ]
 
   -- and so does one from elsewhere to below it
   pub enters : (m s t : ℕ) (hops : List Hop) → Member w m → Trail w.links s hops t → Below w m t → Crosses w m s hops ⊎ Below w m s
   enters m s t [] member trail below = inr (subst (Below w m) (sym trail) below)
   enters m s t (hop ∷ hops) member trail below = elim (enters m hop.to t hops member trail.1 below) [
-    | inl later ↦ inl (record { link = later.link; on_walk = inr later.on_walk; of_block = later.of_block; head_met = inr later.head_met })
+    | inl later ↦ inl (record { link = later.link; from = later.from; to = later.to; leads_on = later.leads_on; on_walk = inr later.on_walk; of_block = later.of_block; head_met = inr later.head_met })
     | inr still ↦ elim (crossing hop.link m hop.to s member (lead_back w.links hop.link s hop.to trail.0) still) [
       | inl within ↦ inr within
-      | inr out ↦ inl (record { link = hop.link; on_walk = inl refl; of_block = out.1; head_met = inl out.0 })
+      | inr out ↦ inl (record { link = hop.link; from = s; to = hop.to; leads_on = trail.0; on_walk = inl refl; of_block = out.1; head_met = inl out.0 })
     ]
   ]
 

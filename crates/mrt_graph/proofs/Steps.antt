@@ -83,7 +83,10 @@ module _ (w : Words) (b : Blocks w) (r : Rows w) (m t : ℕ) (member : Member w 
       let row = row_at v at v_differs in
       let says : SoleRow w v t row.blue row.red = subst (λ T. Says w T v t row.blue row.red) is_sole row.says in
       let part : w.part row.blue.link ≡ w.block m = at_common w b m v t (w.part row.blue.link) member at target v_differs row.blue_block in
-      let one : row.blue.link ≡ e = b.lone row.blue.link e says.sole (part ∙ sym in_block) in
+      let over = r.blue_leads t v row.blue row.blue_is in
+      let not_back : v ≢ row.blue.to = λ back. v_differs (back ∙ says.there) in
+      let one : row.blue.link ≡ e =
+      b.lone row.blue.link v row.blue.to e s v over not_back says.sole there (part ∙ sym in_block) in
       let on : leads w.links e v ≡ Some row.blue.to = subst (λ (k : ℕ). leads w.links k v ≡ Some row.blue.to) one (r.blue_leads t v row.blue row.blue_is) in
       let back : leads w.links e v ≡ Some s = lead_back w.links e s v there in
       let same : s ≡ row.blue.to = cc (on, back) in

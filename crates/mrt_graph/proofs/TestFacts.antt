@@ -1,24 +1,25 @@
 -- What the tests of a certificate's words tell.
-use Rattle.std.proofs.Common.{◌≡◌, ◌≢◌, ◌∙◌, ◌==◌, ◌&&◌, ◌||◌, ℕ, Bool, true, false, List, Option, Some, None, refl, sym, inl, inr}
-use Rattle.std.proofs.lemmas.Bool.{and_parts, or_cases, eqb-true, eq-eqb, ltb-true, false≢true, or_left, or_right}
-use Rattle.std.proofs.lemmas.Bool.Decides.{eqb_tells}
-use Rattle.std.specs.Option.{option_map_or}
+use Rattle.std.proofs.Common.{◌≡◌, ◌≢◌, ◌∙◌, ◌==◌, ◌&&◌, ◌||◌, ◌<◌, ℕ, Bool, true, false, List, Option, Some, None, not, length, slice_get, refl, sym, ap, inl, inr}
+use Rattle.std.proofs.lemmas.Bool.{and_parts, cases_Bool, or_cases, eqb-true, eqb-false, ltb-true, false≢true, not-true}
+use Rattle.std.specs.Option.{option_and_then, option_map_or, unwrap_or}
 use Rattle.std.specs.Prelude.{nat_lt}
+use Rattle.mrt_graph.specs.declared.cert.CertLink.{CertLink}
 use Rattle.mrt_graph.specs.declared.cert.Role.{Role}
 use Rattle.mrt_graph.specs.declared.cert.Role.TheVariants as roles
 use Rattle.mrt_graph.specs.declared.cert.Row.{Row}
 use Rattle.mrt_graph.specs.declared.cert.Tag.{Tag}
 use Rattle.mrt_graph.specs.declared.cert.Tag.TheVariants as tags
 use Rattle.mrt_graph.specs.declared.link.Link.{Link}
-use Rattle.mrt_graph.specs.Certificate.{Certificate, row_of}
-use Rattle.mrt_graph.specs.CertWords.{order_of, head_of, block_of, row_for, tagged}
+use Rattle.mrt_graph.specs.BothThere.{are_different, are_equal, both, is_less}
+use Rattle.mrt_graph.specs.Certificate.{Certificate, are_two, row_of}
+use Rattle.mrt_graph.specs.CertWords.{order_of, head_of, block_of, has_role, tagged}
 use Rattle.mrt_graph.specs.Leads.{leads}
-use Rattle.mrt_graph.specs.Related.{related, is_common_block}
+use Rattle.mrt_graph.specs.Related.{are_unrelated, is_common_block}
 use Rattle.mrt_graph.specs.Roles.{is_plain, is_sole, is_closing}
-use Rattle.mrt_graph.specs.RowRules.{leads_where, rises, falls}
+use Rattle.mrt_graph.specs.RowRules.{leads_where, higher_tagged, lower_tagged}
 use Rattle.mrt_graph.specs.Tags.{same_tag}
 use Rattle.mrt_graph.proofs.Blocks.{Common, Peers, ToHead, FromHead, Related, InOne, Under, Over}
-use Rattle.mrt_graph.proofs.RowFacts.{Tagged, Rises, Falls}
+use Rattle.mrt_graph.proofs.RowFacts.{Tagged, HigherTagged, LowerTagged}
 use Rattle.mrt_graph.proofs.WordsOf.{words_of}
 
 -- a || b, where a is false
@@ -60,11 +61,65 @@ pub role_closing : (role : Role) → is_closing role ≡ true → role ≡ roles
 role_closing roles.Closing is = refl
 role_closing _ is = absurd (false≢true is)
 
--- a row for another node is a row
-pub row_for_other : (c : Certificate) (s t : ℕ) → s ≢ t → row_for c s t ≡ row_of c s t
-row_for_other c s t differ = elim (eqb_tells s t) [
-  | inl same ↦ absurd (differ same.1)
-  | inr other ↦ rw other.0 refl
+-- two things that are there, and pass a test
+pub record Pass {A B : Type 0} (test : A → B → Bool) (x : Option A) (y : Option B) : Type 0 where
+  pub first : A
+  pub second : B
+  pub first_is : x ≡ Some first
+  pub second_is : y ≡ Some second
+  pub passes : test first second ≡ true
+
+pub both_pass : {A B : Type 0} (test : A → B → Bool) (x : Option A) (y : Option B) → both test x y ≡ true → Pass test x y
+both_pass test None y holds = absurd (false≢true holds)
+both_pass test (Some a) None holds = absurd (false≢true holds)
+both_pass test (Some a) (Some b) holds = record { first = a; second = b; first_is = refl; second_is = refl; passes = holds }
+
+-- a number that is there
+pub number_is : (x : Option ℕ) (k : ℕ) → x ≡ Some k → unwrap_or x 0 ≡ k
+number_is x k is = ap (λ (o : Option ℕ). unwrap_or o 0) is
+
+pub equal_numbers : (x y : Option ℕ) → are_equal x y ≡ true → unwrap_or x 0 ≡ unwrap_or y 0
+equal_numbers x y holds =
+    let p = both_pass (λ a b. a == b) x y holds in
+    number_is x p.first p.first_is ∙ eqb-true p.first p.second p.passes ∙ sym (number_is y p.second p.second_is)
+
+pub different_numbers : (x y : Option ℕ) → are_different x y ≡ true → unwrap_or x 0 ≢ unwrap_or y 0
+different_numbers x y holds = λ same.
+    let p = both_pass (λ a b. not (a == b)) x y holds in
+    eqb-false p.first p.second (not-true (p.first == p.second) p.passes)
+    (sym (number_is x p.first p.first_is) ∙ same ∙ number_is y p.second p.second_is)
+
+pub less_numbers : (x y : Option ℕ) → is_less x y ≡ true → unwrap_or x 0 < unwrap_or y 0
+less_numbers x y holds =
+    let p = both_pass nat_lt x y holds in
+    rw (number_is x p.first p.first_is, number_is y p.second p.second_is) (ltb-true p.first p.second p.passes)
+
+-- what is found by a number is found by the number that is there
+pub found_by : {X : Type 0} (f : ℕ → Option X) (x : Option ℕ) (found : X) → option_and_then f x ≡ Some found → f (unwrap_or x 0) ≡ Some found
+found_by f None found is = cc
+found_by f (Some k) found is = is
+
+-- a link that has a role
+pub record Roled (c : Certificate) (e : ℕ) (test : Role → Bool) : Type 0 where
+  pub link : CertLink
+  pub is : slice_get c.links e ≡ Some link
+  pub passes : test link.role ≡ true
+
+pub role_there : (c : Certificate) (e : ℕ) (test : Role → Bool) → has_role test c e ≡ true → Roled c e test
+role_there c e test holds = go (slice_get c.links e) refl holds
+  where
+    go : (o : Option CertLink) → slice_get c.links e ≡ o → option_map_or (λ link. test link.role) o false ≡ true → Roled c e test
+    go None is passes = absurd (false≢true passes)
+    go (Some link) is passes = record { link = link; is = is; passes = passes }
+
+-- a row is one of two nodes
+pub row_of_two : (c : Certificate) (s t : ℕ) (row : Row) → row_of c s t ≡ Some row → s ≢ t
+row_of_two c s t row is = elim (cases_Bool (are_two (length c.nodes) s t)) [
+  | inl two ↦
+      let later = and_parts (nat_lt s (length c.nodes)) _ two in
+      let differ = and_parts (nat_lt t (length c.nodes)) _ later.1 in
+      eqb-false s t (not-true (s == t) differ.1)
+  | inr fails ↦ let none : ◌≡◌ {A = Option Row} None (Some row) = rw fails at is in absurd (cc)
 ]
 
 -- where a link leads, if it leads where a test holds
@@ -81,38 +136,67 @@ leads_to links e s test holds = go (leads links e s) refl holds
     go (Some v) is passes = record { to = v; leads_on = is; passes = passes }
 
 module _ (links : List Link) (root : ℕ) (c : Certificate) where
-  -- the test of related nodes passes, and that of a common block tells
-  pub related_passes : (s t : ℕ) → Related (words_of links root c) s t → related c s t ≡ true
-  related_passes s t (InOne one) = or_left (block_of c s == block_of c t) _ (eq-eqb _ _ one)
-  related_passes s t (Under up) = or_right (block_of c s == block_of c t) _ (or_left (head_of c s == t) _ (eq-eqb _ _ up))
-  related_passes s t (Over down) = or_right (block_of c s == block_of c t) _ (or_right (head_of c s == t) _ (eq-eqb _ _ down))
+  -- what the tests of a link's role tell
+  pub plain_is : (e : ℕ) → has_role is_plain c e ≡ true → (words_of links root c).role e ≡ roles.Plain
+  plain_is e holds =
+      let there = role_there c e is_plain holds in
+      ap (λ (o : Option CertLink). option_map_or (λ link. link.role) o roles.Plain) there.is ∙ role_plain _ there.passes
 
-  pub common_block : (s t k : ℕ) → is_common_block c s t k ≡ true → Common (words_of links root c) s t k
-  common_block s t k holds = elim (or_cases ((block_of c s == block_of c t) && (k == block_of c s)) _ holds) [
-    | inl peers ↦ let both = and_parts (block_of c s == block_of c t) _ peers in Peers (eqb-true _ _ both.0) (eqb-true _ _ both.1)
-    | inr heads ↦ elim (or_cases ((head_of c s == t) && (k == block_of c s)) _ heads) [
-      | inl up ↦ let both = and_parts (head_of c s == t) _ up in ToHead (eqb-true _ _ both.0) (eqb-true _ _ both.1)
-      | inr down ↦ let both = and_parts (head_of c t == s) _ down in FromHead (eqb-true _ _ both.0) (eqb-true _ _ both.1)
+  pub sole_is : (e : ℕ) → has_role is_sole c e ≡ true → (words_of links root c).role e ≡ roles.Sole
+  sole_is e holds =
+      let there = role_there c e is_sole holds in
+      ap (λ (o : Option CertLink). option_map_or (λ link. link.role) o roles.Plain) there.is ∙ role_sole _ there.passes
+
+  pub closing_is : (e : ℕ) → has_role is_closing c e ≡ true → (words_of links root c).role e ≡ roles.Closing
+  closing_is e holds =
+      let there = role_there c e is_closing holds in
+      ap (λ (o : Option CertLink). option_map_or (λ link. link.role) o roles.Plain) there.is ∙ role_closing _ there.passes
+
+  -- and those of two nodes
+  pub unrelated_apart : (s t : ℕ) → are_unrelated c s t ≡ true → Related (words_of links root c) s t → ⊥
+  unrelated_apart s t holds related =
+      let blocks = and_parts (are_different (block_of c s) (block_of c t)) _ holds in
+      let heads = and_parts (are_different (head_of c s) (Some t)) _ blocks.1 in
+      go related blocks.0 heads.0 heads.1
+    where
+      go : Related (words_of links root c) s t → are_different (block_of c s) (block_of c t) ≡ true
+          → are_different (head_of c s) (Some t) ≡ true → are_different (head_of c t) (Some s) ≡ true → ⊥
+      go (InOne one) blocks up down = different_numbers (block_of c s) (block_of c t) blocks one
+      go (Under under) blocks up down = different_numbers (head_of c s) (Some t) up under
+      go (Over over) blocks up down = different_numbers (head_of c t) (Some s) down over
+
+  pub common_block : (s t : ℕ) (k : Option ℕ) → is_common_block c s t k ≡ true → Common (words_of links root c) s t (unwrap_or k 0)
+  common_block s t k holds = elim (or_cases (are_equal (block_of c s) (block_of c t) && are_equal k (block_of c s)) _ holds) [
+    | inl peers ↦
+        let both = and_parts (are_equal (block_of c s) (block_of c t)) _ peers in
+        Peers (equal_numbers (block_of c s) (block_of c t) both.0) (equal_numbers k (block_of c s) both.1)
+    | inr heads ↦ elim (or_cases (are_equal (head_of c s) (Some t) && are_equal k (block_of c s)) _ heads) [
+      | inl up ↦
+          let both = and_parts (are_equal (head_of c s) (Some t)) _ up in
+          ToHead (equal_numbers (head_of c s) (Some t) both.0) (equal_numbers k (block_of c s) both.1)
+      | inr down ↦
+          let both = and_parts (are_equal (head_of c t) (Some s)) _ down in
+          FromHead (equal_numbers (head_of c t) (Some s) both.0) (equal_numbers k (block_of c t) both.1)
     ]
   ]
 
   -- what is tagged
   pub is_tagged : (v t : ℕ) (T : Tag) → tagged c v t T ≡ true → Tagged (words_of links root c) t T v
-  is_tagged v t T holds = elim (eqb_tells v t) [
-    | inl same ↦ let none : option_map_or (λ (row : Row). same_tag row.tag T) None false ≡ true = rw same.0 at holds in absurd (false≢true none)
-    | inr other ↦ record { not_there = other.1; is = go (row_for c v t) holds }
-  ]
+  is_tagged v t T holds = go (row_of c v t) refl holds
     where
-      go : (o : Option Row) → option_map_or (λ row. same_tag row.tag T) o false ≡ true → option_map_or (λ row. row.tag) o tags.Carried ≡ T
-      go None passes = absurd (false≢true passes)
-      go (Some row) passes = tag_is row.tag T passes
+      go : (o : Option Row) → row_of c v t ≡ o → option_map_or (λ row. same_tag row.tag T) o false ≡ true → Tagged (words_of links root c) t T v
+      go None is passes = absurd (false≢true passes)
+      go (Some row) is passes = record {
+        not_there = row_of_two c v t row is;
+        is = ap (λ (o : Option Row). option_map_or (λ row. row.tag) o tags.Carried) is ∙ tag_is row.tag T passes;
+      }
 
-  pub is_rising : (s t : ℕ) (T : Tag) (v : ℕ) → rises c s t T v ≡ true → Rises (words_of links root c) s t T v
-  is_rising s t T v holds =
-      let both = and_parts (nat_lt (order_of c s) (order_of c v)) _ holds in
-      record { order = ltb-true _ _ both.0; tagged = is_tagged v t T both.1 }
+  pub is_higher : (s t : ℕ) (T : Tag) (v : ℕ) → higher_tagged c s t T v ≡ true → HigherTagged (words_of links root c) s t T v
+  is_higher s t T v holds =
+      let both = and_parts (is_less (order_of c s) (order_of c v)) _ holds in
+      record { order = less_numbers (order_of c s) (order_of c v) both.0; tagged = is_tagged v t T both.1 }
 
-  pub is_falling : (s t : ℕ) (T : Tag) (v : ℕ) → falls c s t T v ≡ true → Falls (words_of links root c) s t T v
-  is_falling s t T v holds =
-      let both = and_parts (nat_lt (order_of c v) (order_of c s)) _ holds in
-      record { order = ltb-true _ _ both.0; tagged = is_tagged v t T both.1 }
+  pub is_lower : (s t : ℕ) (T : Tag) (v : ℕ) → lower_tagged c s t T v ≡ true → LowerTagged (words_of links root c) s t T v
+  is_lower s t T v holds =
+      let both = and_parts (is_less (order_of c v) (order_of c s)) _ holds in
+      record { order = less_numbers (order_of c v) (order_of c s) both.0; tagged = is_tagged v t T both.1 }

@@ -5,12 +5,12 @@ use Rattle.mrt_graph.specs.declared.link.Element.{Element}
 use Rattle.mrt_graph.specs.declared.link.Link.{Link}
 use Rattle.mrt_graph.specs.ColorWalk.{color_walk}
 use Rattle.mrt_graph.specs.Rows.{Rows}
-use Rattle.mrt_graph.specs.Separates.{IsBetween, Separates}
+use Rattle.mrt_graph.specs.Separates.{IsNeitherEnd, Separates}
 use Rattle.mrt_graph.specs.Uses.{Uses}
 
 -- each link that both color walks from s to t use, and each node other than s and t that both use, separates s and t
 abbrev pub Apart : List Link → ℕ → Rows → ℕ → ℕ → Type 0
-Apart links n rows s t = (x : Element) → IsBetween x s t
+Apart links n rows s t = (x : Element) → IsNeitherEnd x s t
     → Uses links s (color_walk links n rows Blue s t) x
     → Uses links s (color_walk links n rows Red s t) x
     → Separates links x s t

@@ -1,5 +1,5 @@
 -- What a certificate holds, and what each certificate keeps.
-use Rattle.std.specs.Prelude.{◌≡◌, ◌<◌, ◌≤◌, ◌*◌, ◌-◌, ℕ, List, Option, length, slice_get}
+use Rattle.std.specs.Prelude.{◌≡◌, ◌==◌, ◌<◌, ◌≤◌, ◌*◌, ◌-◌, ◌&&◌, ℕ, Bool, List, Option, None, length, not, nat_lt, slice_get, if◌then◌else◌}
 use Rattle.std.specs.List.{AllByRecursion}
 use Rattle.mrt_graph.specs.declared.cert.CertNode.{CertNode}
 use Rattle.mrt_graph.specs.declared.cert.CertLink.{CertLink}
@@ -43,6 +43,11 @@ pub record IsCertificate (c : Certificate) : Type 0 where
   pub links_kept : AllByRecursion (IsCertLink (length c.nodes)) c.links
   pub rows_kept : AllByRecursion (IsCertRow (length c.links)) c.rows
 
--- the row of s for t; to be asked of two different nodes alone
+-- s and t are two of n nodes
+abbrev pub are_two : ℕ → ℕ → ℕ → Bool
+are_two n s t = nat_lt s n && (nat_lt t n && not (s == t))
+
+-- the row of s for t; none where s is t, or one of them is no node
 abbrev pub row_of : Certificate → ℕ → ℕ → Option Row
-row_of c s t = slice_get c.rows (place_of_row (length c.nodes) s t)
+row_of c s t =
+    if are_two (length c.nodes) s t then slice_get c.rows (place_of_row (length c.nodes) s t) else None

@@ -1,5 +1,6 @@
 pub mod Accepted
 pub mod Apart
+pub mod BothThere
 pub mod CertWords
 pub mod Certificate
 pub mod ColorWalk
@@ -24,7 +25,8 @@ pub mod RootAndOrders
 pub mod RowPlace
 pub mod RowRules
 pub mod Rows
-pub mod SameNetwork
+pub mod Rules
+pub mod SameGraph
 pub mod Search
 pub mod Separates
 pub mod Sound
@@ -32,6 +34,5 @@ pub mod Spelling
 pub mod Tags
 pub mod TextLines
 pub mod Topology
-pub mod TreeRows
 pub mod Uses
 pub mod Walk

@@ -7,11 +7,11 @@ use Rattle.mrt_graph.specs.Uses.{Uses}
 use Rattle.mrt_graph.specs.Walk.{Walk}
 
 -- a link, or a node other than s and t
-abbrev pub IsBetween : Element → ℕ → ℕ → Type 0
-IsBetween (elements.Link e) s t = ⊤
-IsBetween (elements.Node x) s t = (x ≢ s) × (x ≢ t)
+abbrev pub IsNeitherEnd : Element → ℕ → ℕ → Type 0
+IsNeitherEnd (elements.Link e) s t = ⊤
+IsNeitherEnd (elements.Node x) s t = (x ≢ s) × (x ≢ t)
 
 -- x is a link, or a node other than s and t, and every walk from s to t uses it
 pub record Separates (links : List Link) (x : Element) (s t : ℕ) : Type 0 where
-  pub between : IsBetween x s t
+  pub between : IsNeitherEnd x s t
   pub on_every_walk : (walk : List ℕ) → Walk links s walk t → Uses links s walk x

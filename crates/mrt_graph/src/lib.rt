@@ -24,7 +24,7 @@ mod text_numbers;
 mod text_tests;
 
 pub use cert::{Cert, CertFile, CertLink, CertNode, Color, Role, Row, Tag};
-pub use cert_law::{accepted_implies_sound, accepted_rows_lead_on, accepted_tree_is_sound};
+pub use cert_law::{accepted_implies_sound, accepted_or_one_first_fault, accepted_rows_lead_on};
 pub use graph::Graph;
 pub use graph_error::GraphError;
 pub use graph_law::one_graph_of_its_parts;

@@ -1,7 +1,7 @@
 -- The first rule: the certificate speaks of this graph.
-use Rattle.std.specs.Prelude.{◌≡◌, ◌==◌, ◌&&◌, ℕ, Bool, false, Option, length, slice_get}
-use Rattle.std.specs.Option.{option_map_or}
+use Rattle.std.specs.Prelude.{◌≡◌, ◌==◌, ◌&&◌, ℕ, Bool, length, slice_get}
 use Rattle.mrt_graph.specs.declared.node_id.NodeId.{NodeId}
+use Rattle.mrt_graph.specs.BothThere.{both}
 use Rattle.mrt_graph.specs.Certificate.{Certificate}
 use Rattle.mrt_graph.specs.NodeOrder.{rank_of}
 use Rattle.mrt_graph.specs.Places.{Each, IsFirst}
@@ -11,10 +11,6 @@ use Rattle.mrt_graph.specs.Topology.{Topology}
 pub record SameCounts (g : Topology) (c : Certificate) : Type 0 where
   pub nodes : length c.nodes ≡ length g.ids
   pub links : length c.links ≡ length g.links
-
--- two things that are both there, and pass a test
-abbrev pub both : {A B : Type 0} → (A → B → Bool) → Option A → Option B → Bool
-both test x y = option_map_or (λ a. option_map_or (test a) y false) x false
 
 -- two identifiers have one number and one kind
 abbrev pub same_id : NodeId → NodeId → Bool
@@ -26,18 +22,19 @@ same_node g c a = both (λ id node. same_id id node.id) (slice_get g.ids a) (sli
 
 -- link e's two nodes are the graph's
 abbrev pub same_link : Topology → Certificate → ℕ → Bool
-same_link g c e = both (λ link words. (link.a == words.a) && (link.b == words.b)) (slice_get g.links e) (slice_get c.links e)
+same_link g c e =
+    both (λ link words. (link.a == words.a) && (link.b == words.b)) (slice_get g.links e) (slice_get c.links e)
 
 -- the counts of nodes and links are the graph's; each node's identifier is; each link's two nodes are
-pub record SameNetwork (g : Topology) (c : Certificate) : Type 0 where
+pub record SameGraph (g : Topology) (c : Certificate) : Type 0 where
   pub counts : SameCounts g c
   pub nodes : Each (same_node g c) (length c.nodes)
   pub links : Each (same_link g c) (length c.links)
 
 -- its faults: other counts, at 0 and 2; else the least node with another identifier, and 0; else the least link with
 -- other nodes, and 1
-pub data NetworkFault (g : Topology) (c : Certificate) : ℕ → ℕ → Type 0 where
-  OtherCounts : (SameCounts g c → ⊥) → NetworkFault g c 0 2
-  OtherNode : (a : ℕ) → SameCounts g c → IsFirst (same_node g c) (length c.nodes) a → NetworkFault g c a 0
+pub data GraphFault (g : Topology) (c : Certificate) : ℕ → ℕ → Type 0 where
+  OtherCounts : (SameCounts g c → ⊥) → GraphFault g c 0 2
+  OtherNode : (a : ℕ) → SameCounts g c → IsFirst (same_node g c) (length c.nodes) a → GraphFault g c a 0
   OtherLink : (e : ℕ) → SameCounts g c → Each (same_node g c) (length c.nodes)
-      → IsFirst (same_link g c) (length c.links) e → NetworkFault g c e 1
+      → IsFirst (same_link g c) (length c.links) e → GraphFault g c e 1
