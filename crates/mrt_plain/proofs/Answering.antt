@@ -8,7 +8,7 @@ use Rattle.mrt_graph.specs.declared.link.Link.{Link}
 use Rattle.mrt_graph.specs.ColorWalk.{color_walk}
 use Rattle.mrt_graph.specs.Reaches.{AreDifferent, Reaches}
 use Rattle.mrt_graph.specs.Rows.{Rows}
-use Rattle.mrt_graph.specs.Separates.{IsBetween, Separates}
+use Rattle.mrt_graph.specs.Separates.{IsNeitherEnd, Separates}
 use Rattle.mrt_graph.specs.Uses.{Uses, nodes_met}
 use Rattle.mrt_graph.specs.Walk.{Walk}
 
@@ -40,7 +40,7 @@ reaches_told links n rows color s t walk nodes end told is met walks ends differ
 
 -- Apart, of two walks
 abbrev pub AreApart : List Link → ℕ → ℕ → List ℕ → List ℕ → Type 0
-AreApart links s t blue red = (x : Element) → IsBetween x s t → Uses links s blue x → Uses links s red x → Separates links x s t
+AreApart links s t blue red = (x : Element) → IsNeitherEnd x s t → Uses links s blue x → Uses links s red x → Separates links x s t
 
 -- of their links alone
 abbrev pub LinksApart : List Link → ℕ → ℕ → List ℕ → List ℕ → Type 0
@@ -48,7 +48,7 @@ LinksApart links s t blue red = (e : ℕ) → Contains blue e → Contains red e
 
 -- of the nodes that they meet alone
 abbrev pub NodesApart : List Link → ℕ → ℕ → List ℕ → List ℕ → Type 0
-NodesApart links s t blue red = (v : ℕ) → Contains blue v → Contains red v → IsBetween (elements.Node v) s t → Separates links (elements.Node v) s t
+NodesApart links s t blue red = (v : ℕ) → Contains blue v → Contains red v → IsNeitherEnd (elements.Node v) s t → Separates links (elements.Node v) s t
 
 -- the same, of lists that are equal to these
 pub links_at : (links : List Link) (s t : ℕ) (blue red blue' red' : List ℕ) (told : Bool) → blue ≡ blue' → red ≡ red'

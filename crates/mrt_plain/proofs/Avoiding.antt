@@ -12,7 +12,7 @@ use Rattle.mrt_graph.specs.declared.link.Link.{Link}
 use Rattle.mrt_graph.specs.Leads.{leads, far_node}
 use Rattle.mrt_graph.specs.Reachable.{Path, Reachable}
 use Rattle.mrt_graph.specs.Search.{IsMarked}
-use Rattle.mrt_graph.specs.Separates.{IsBetween, Separates}
+use Rattle.mrt_graph.specs.Separates.{IsNeitherEnd, Separates}
 use Rattle.mrt_graph.specs.Uses.{Uses, nodes_met}
 use Rattle.mrt_graph.specs.Walk.{Walk}
 use Rattle.mrt_graph.proofs.Members.{contains_cases, contains_first, contains_later, contains_none}
@@ -110,7 +110,7 @@ unfolding Elsewhere
 elsewhere_onward (elements.Link a) e v clear = tt
 elsewhere_onward (elements.Node y) e v clear = differ v y clear
 
-pub elsewhere_between : (x : Element) (s t : ℕ) → IsBetween x s t → Elsewhere x s
+pub elsewhere_between : (x : Element) (s t : ℕ) → IsNeitherEnd x s t → Elsewhere x s
 unfolding Elsewhere
 elsewhere_between (elements.Link a) s t between = tt
 elsewhere_between (elements.Node y) s t between = λ same. between.0 (sym same)
@@ -157,7 +157,7 @@ walk_without links x (v ∷ vs) s t elsewhere p =
     }
 
 -- x separates s and t exactly where no path without it leads from the one to the other
-pub separates_where : (links : List Link) (x : Element) (s t : ℕ) → IsBetween x s t → (Reachable (StepsWithout links x) s t → ⊥) → Separates links x s t
+pub separates_where : (links : List Link) (x : Element) (s t : ℕ) → IsNeitherEnd x s t → (Reachable (StepsWithout links x) s t → ⊥) → Separates links x s t
 separates_where links x s t between none = record {
   between = between;
   on_every_walk = λ walk w. elim (uses_or_path links x walk s t w) [ inl uses ↦ uses | inr path ↦ absurd (none path) ];
@@ -170,7 +170,7 @@ separates_none links x s t separates path =
 
 -- the answer read off the mark of t
 pub told_by_mark : (links : List Link) (x : Element) (s t : ℕ) (marks : List Bool) (mark : Bool) → t < length marks → mark ≡ get_or marks t mark
-    → IsBetween x s t → (IsMarked marks t ↔ Reachable (StepsWithout links x) s t) → IsTrue (not mark) ↔ Separates links x s t
+    → IsNeitherEnd x s t → (IsMarked marks t ↔ Reachable (StepsWithout links x) s t) → IsTrue (not mark) ↔ Separates links x s t
 told_by_mark links x s t marks mark within read between reached =
     let here : mark ≡ get_or marks t false = read ∙ get_or_default marks t mark false within in (
       (λ test. separates_where links x s t between (λ path. absurd_not mark (here ∙ reached.1 path) test)),

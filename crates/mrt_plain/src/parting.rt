@@ -1,7 +1,7 @@
 //! What separates two nodes.
 
 ghost use Rattle.std.specs.Prelude.{◌<◌, ◌↔◌, IfOk, IsTrue};
-ghost use Rattle.mrt_graph.specs.Separates.{IsBetween, Separates};
+ghost use Rattle.mrt_graph.specs.Separates.{IsNeitherEnd, Separates};
 ghost use Rattle.mrt_plain.specs.Within.{AreWithin};
 
 use crate::settling::settle;
@@ -31,7 +31,7 @@ pub fn separates(
 
 /// Whether `x` is a link, or a node other than `s` and `t`.
 fn is_between(x: &Element, s: NodeNo, t: NodeNo) -> bool
-    ensures { IsTrue result ↔ IsBetween x.now s t }
+    ensures { IsTrue result ↔ IsNeitherEnd x.now s t }
 {
     match x {
         Element::Link(_) => true,

@@ -3,7 +3,7 @@
 ghost use Rattle.std.specs.Prelude.{◌≡◌, ◌<◌, ◌↔◌, ℕ, IfOk, IsTrue, Contains, length};
 ghost use Rattle.mrt_graph.specs.Apart.{Apart};
 ghost use Rattle.mrt_graph.specs.Certificate.{row_of};
-ghost use Rattle.mrt_graph.specs.Separates.{IsBetween, Separates};
+ghost use Rattle.mrt_graph.specs.Separates.{IsNeitherEnd, Separates};
 ghost use Rattle.mrt_plain.specs.Within.{AreWithin};
 
 use crate::parting::separates;
@@ -93,7 +93,7 @@ fn shared_nodes_separate(
     requires source { s < count }
     requires target { t < count }
     ensures { IfOk result (λ yes. IsTrue yes ↔
-        ((v : ℕ) → Contains blue.now v → Contains red.now v → IsBetween (Element.Node v) s t
+        ((v : ℕ) → Contains blue.now v → Contains red.now v → IsNeitherEnd (Element.Node v) s t
         → Separates links.now (Element.Node v) s t)) }
 {
     for v in blue {
@@ -118,7 +118,7 @@ fn node_passes(
     requires source { s < count }
     requires target { t < count }
     ensures { IfOk result (λ yes. IsTrue yes ↔
-        (Contains red.now v → IsBetween (Element.Node v) s t → Separates links.now (Element.Node v) s t)) }
+        (Contains red.now v → IsNeitherEnd (Element.Node v) s t → Separates links.now (Element.Node v) s t)) }
 {
     if !red.contains(&v) {
         return Ok(true);

@@ -1,6 +1,6 @@
 use Rattle.std.proofs.Common.{ℕ}
 use Rattle.mrt_graph.specs.declared.link.Element.TheVariants as elements
-use Rattle.mrt_graph.specs.Separates.{IsBetween, Separates}
+use Rattle.mrt_graph.specs.Separates.{IsNeitherEnd, Separates}
 use Rattle.mrt_plain.proofs.Answering.{accepted, refused}
 use Rattle.mrt_plain.proofs.Shared.{contains_read, shared_all, shared_more}
 use Rattle.mrt_plain.proofs.sharing.shared_nodes_separate.Goals as goal
@@ -17,5 +17,5 @@ returns-then-not-branch c =
 
 pub returns : goal.returns
 returns c =
-    accepted (shared_all (λ (v : ℕ). IsBetween (elements.Node v) c.args.s c.args.t → Separates c.args.links.now (elements.Node v) c.args.s c.args.t)
+    accepted (shared_all (λ (v : ℕ). IsNeitherEnd (elements.Node v) c.args.s c.args.t → Separates c.args.links.now (elements.Node v) c.args.s c.args.t)
     c.args.blue.now c.args.red.now c.loop-v.v-index c.loop-v-test.false c.loop-v.invariant)

@@ -1,8 +1,8 @@
 use Rattle.std.proofs.Common.{ℕ}
 use Rattle.mrt_graph.specs.declared.link.Element.TheVariants as elements
-use Rattle.mrt_graph.specs.Separates.{IsBetween, Separates}
+use Rattle.mrt_graph.specs.Separates.{IsNeitherEnd, Separates}
 use Rattle.mrt_plain.proofs.Shared.{SharedBelow}
 use Rattle.mrt_plain.proofs.sharing.shared_nodes_separate.Given as goal
 
 abbrev pub invariant-loop-v : goal.invariant-loop-v
-invariant-loop-v l = SharedBelow (λ (v : ℕ). IsBetween (elements.Node v) l.s l.t → Separates l.links (elements.Node v) l.s l.t) l.blue l.red l.v-index
+invariant-loop-v l = SharedBelow (λ (v : ℕ). IsNeitherEnd (elements.Node v) l.s l.t → Separates l.links (elements.Node v) l.s l.t) l.blue l.red l.v-index
