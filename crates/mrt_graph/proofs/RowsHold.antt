@@ -15,7 +15,7 @@ use Rattle.mrt_graph.specs.CertWords.{head_of, link_block}
 use Rattle.mrt_graph.specs.Hop.{hop_over, color_hop}
 use Rattle.mrt_graph.specs.Leads.{leads}
 use Rattle.mrt_graph.specs.Related.{are_unrelated, is_common_block}
-use Rattle.mrt_graph.specs.RowRules.{row_rule, carrier, same_links}
+use Rattle.mrt_graph.specs.RowRules.{row_rule, carrier, lies_in_block, same_links}
 use Rattle.mrt_graph.specs.Rows.{link_of_color}
 use Rattle.mrt_graph.specs.Rules.{TagRule, BlockRule}
 use Rattle.mrt_graph.specs.Tags.{same_tag}
@@ -63,8 +63,7 @@ module _ (g : Topology) (root : ℕ) (file : CertFile) (accepted : Accepted g ro
   module _ (s t : ℕ) (s_within : s < length file.cert.nodes) (t_within : t < length file.cert.nodes) (differ : s ≢ t) where
     -- the row of s for t, and what the fourteenth rule asks of it
     in_block_there : Passing
-        (λ (row : Row). same_tag row.tag tags.Carried
-        || (is_common_block file.cert s t (link_block file.cert row.blue) && is_common_block file.cert s t (link_block file.cert row.red)))
+        (λ (row : Row). same_tag row.tag tags.Carried || lies_in_block file.cert s t row)
         (row_of file.cert s t)
     in_block_there = some_passes _ (row_of file.cert s t)
         (unless (s == t) _ (accepted BlockRule s t s_within t_within) (ne_eqb s t differ))
@@ -87,7 +86,7 @@ module _ (g : Topology) (root : ℕ) (file : CertFile) (accepted : Accepted g ro
     tag_known = ap (λ (o : Option Row). option_map_or (λ r. r.tag) o tags.Carried) there
 
     -- unless it is Carried, its links lie in the common block
-    in_block : row.tag ≢ tags.Carried → (is_common_block file.cert s t (link_block file.cert row.blue) && is_common_block file.cert s t (link_block file.cert row.red)) ≡ true
+    in_block : row.tag ≢ tags.Carried → lies_in_block file.cert s t row ≡ true
     in_block near = unless (same_tag row.tag tags.Carried) _ in_block_there.passes
         (false_from_ne_true (same_tag row.tag tags.Carried) (λ same. near (tag_is row.tag tags.Carried same)))
 

@@ -13,10 +13,9 @@ use Rattle.mrt_graph.specs.declared.link.Link.{Link}
 use Rattle.mrt_graph.specs.BothThere.{are_different, are_equal, both, is_less}
 use Rattle.mrt_graph.specs.Certificate.{Certificate, are_two, row_of}
 use Rattle.mrt_graph.specs.CertWords.{order_of, head_of, block_of, has_role, tagged}
-use Rattle.mrt_graph.specs.Leads.{leads}
 use Rattle.mrt_graph.specs.Related.{are_unrelated, is_common_block}
 use Rattle.mrt_graph.specs.Roles.{is_plain, is_sole, is_closing}
-use Rattle.mrt_graph.specs.RowRules.{leads_where, higher_tagged, lower_tagged}
+use Rattle.mrt_graph.specs.RowRules.{higher_tagged, lower_tagged}
 use Rattle.mrt_graph.specs.Tags.{same_tag}
 use Rattle.mrt_graph.proofs.Blocks.{Common, Peers, ToHead, FromHead, Related, InOne, Under, Over}
 use Rattle.mrt_graph.proofs.RowFacts.{Tagged, HigherTagged, LowerTagged}
@@ -121,19 +120,6 @@ row_of_two c s t row is = elim (cases_Bool (are_two (length c.nodes) s t)) [
       eqb-false s t (not-true (s == t) differ.1)
   | inr fails ↦ let none : ◌≡◌ {A = Option Row} None (Some row) = rw fails at is in absurd (cc)
 ]
-
--- where a link leads, if it leads where a test holds
-pub record LeadsTo (links : List Link) (e s : ℕ) (test : ℕ → Bool) : Type 0 where
-  pub to : ℕ
-  pub leads_on : leads links e s ≡ Some to
-  pub passes : test to ≡ true
-
-pub leads_to : (links : List Link) (e s : ℕ) (test : ℕ → Bool) → leads_where links e s test ≡ true → LeadsTo links e s test
-leads_to links e s test holds = go (leads links e s) refl holds
-  where
-    go : (o : Option ℕ) → leads links e s ≡ o → option_map_or test o false ≡ true → LeadsTo links e s test
-    go None is passes = absurd (false≢true passes)
-    go (Some v) is passes = record { to = v; leads_on = is; passes = passes }
 
 module _ (links : List Link) (root : ℕ) (c : Certificate) where
   -- what the tests of a link's role tell
