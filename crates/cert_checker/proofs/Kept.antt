@@ -1,10 +1,11 @@
--- What is kept behind one more row, and behind the rows of one more source.
+-- What is kept after one more row, and after the rows of one more source.
 use Rattle.std.proofs.Common.{◌≡◌, ◌<◌, ◌≤◌, ◌+◌, ℕ, Bool, true, false, Option, Some, None, below_more, nat_le, arith}
 use borrow.Author.Count.{below_none}
 use Rattle.std.proofs.lemmas.Bool.{cond_both, leb-true, leb-false}
 use Rattle.cert_checker.specs.declared.fault.Fault.{Fault}
-use Rattle.cert_checker.specs.RowTests.{FirstBefore, HeldBefore, JudgedRow, KeptBefore, better}
+use Rattle.cert_checker.specs.RowFaults.{FirstBefore, HeldBefore, JudgedRow, KeptBefore, better}
 use Rattle.mrt_graph.specs.Places.{Each, IsFirstPair}
+use Rattle.mrt_graph.specs.Rules.{Rule}
 
 held_more : (test : ℕ → ℕ → Bool) (n s t : ℕ) → HeldBefore test n s t → test s t ≡ true → HeldBefore test n s (t + 1)
 held_more test n s t held here = record {
@@ -23,35 +24,35 @@ first_here test n s t source target held fails = record {
   before_second = held.targets;
 }
 
-pub kept_more : (test : ℕ → ℕ → ℕ → Bool) (n s t : ℕ) → s < n → t < n → (kept : Option Fault) (judged : Option ℕ)
+pub kept_more : (test : Rule → ℕ → ℕ → Bool) (n s t : ℕ) → s < n → t < n → (kept : Option Fault) (judged : Option ℕ)
     → KeptBefore test n s t kept → JudgedRow (λ rule. test rule s t) judged
     → KeptBefore test n s (t + 1) (better kept judged s t)
 kept_more test n s t source target None None held clean = λ rule. held_more (test rule) n s t (held rule) (clean rule)
 kept_more test n s t source target (Some fault) None known clean = record {
-  from_seven = known.from_seven;
-  to_fourteen = known.to_fourteen;
+  rule = known.rule;
+  numbered = known.numbered;
   here = known.here;
-  earlier = λ rule less. held_more (test rule) n s t (known.earlier rule less) (clean rule);
+  earlier = λ other less. held_more (test other) n s t (known.earlier other less) (clean other);
 }
-kept_more test n s t source target None (Some rule) held first = record {
-  from_seven = first.from_seven;
-  to_fourteen = first.to_fourteen;
-  here = first_here (test rule) n s t source target (held rule) first.fails;
+kept_more test n s t source target None (Some number) held first = record {
+  rule = first.rule;
+  numbered = first.numbered;
+  here = first_here (test first.rule) n s t source target (held first.rule) first.fails;
   earlier = λ other less. held_more (test other) n s t (held other) (first.earlier other less);
 }
-kept_more test n s t source target (Some fault) (Some rule) known first =
-    cond_both (nat_le fault.rule rule) fault (record { rule = rule; a = s; b = t })
+kept_more test n s t source target (Some fault) (Some number) known first =
+    cond_both (nat_le fault.rule number) fault (record { rule = number; a = s; b = t })
     (λ (least : Fault). FirstBefore test n s (t + 1) least)
-    (λ is. let least : fault.rule ≤ rule = leb-true _ _ is in record {
-      from_seven = known.from_seven;
-      to_fourteen = known.to_fourteen;
+    (λ is. let least : fault.rule ≤ number = leb-true _ _ is in record {
+      rule = known.rule;
+      numbered = known.numbered;
       here = known.here;
       earlier = λ other less. held_more (test other) n s t (known.earlier other less) (first.earlier other (omega arith));
     })
-    (λ is. let lesser : rule < fault.rule = leb-false _ _ is in record {
-      from_seven = first.from_seven;
-      to_fourteen = first.to_fourteen;
-      here = first_here (test rule) n s t source target (known.earlier rule lesser) first.fails;
+    (λ is. let lesser : number < fault.rule = leb-false _ _ is in record {
+      rule = first.rule;
+      numbered = first.numbered;
+      here = first_here (test first.rule) n s t source target (known.earlier first.rule (omega (arith, first.numbered))) first.fails;
       earlier = λ other less. held_more (test other) n s t (known.earlier other (omega arith)) (first.earlier other less);
     })
 
@@ -61,18 +62,18 @@ held_row test n s held = record {
   targets = below_none (λ y. test (s + 1) y ≡ true);
 }
 
-pub kept_row : (test : ℕ → ℕ → ℕ → Bool) (n s : ℕ) (kept : Option Fault) → KeptBefore test n s n kept
+pub kept_row : (test : Rule → ℕ → ℕ → Bool) (n s : ℕ) (kept : Option Fault) → KeptBefore test n s n kept
     → KeptBefore test n (s + 1) 0 kept
 kept_row test n s None held = λ rule. held_row (test rule) n s (held rule)
 kept_row test n s (Some fault) known = record {
-  from_seven = known.from_seven;
-  to_fourteen = known.to_fourteen;
+  rule = known.rule;
+  numbered = known.numbered;
   here = known.here;
-  earlier = λ rule less. held_row (test rule) n s (known.earlier rule less);
+  earlier = λ other less. held_row (test other) n s (known.earlier other less);
 }
 
 -- before the first row nothing is known, and nothing asked
-pub kept_start : (test : ℕ → ℕ → ℕ → Bool) (n : ℕ) → KeptBefore test n 0 0 None
+pub kept_start : (test : Rule → ℕ → ℕ → Bool) (n : ℕ) → KeptBefore test n 0 0 None
 kept_start test n = λ rule. record {
   sources = λ x y below within. below_none (λ x. test rule x y ≡ true) x below;
   targets = below_none (λ y. test rule 0 y ≡ true);

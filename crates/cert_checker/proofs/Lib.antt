@@ -1,5 +1,3 @@
 pub mod Kept
-pub mod Rest
-pub mod RowChain
-pub mod Searches
+pub mod RowJudged
 pub mod Verdicts

@@ -2,4 +2,4 @@ pub mod Found
 pub mod Judged
 pub mod LikeBefore
 pub mod RowAt
-pub mod RowTests
+pub mod RowFaults

@@ -1,10 +1,9 @@
 //! The third and the fourth rule: heads, and the blocks of links.
 
-ghost use Rattle.std.specs.Prelude.{ℕ, true, IsTrue, ◌≡◌, ◌<◌, Some, length, slice_get};
-ghost use Rattle.cert_checker.specs.Found.{FoundFirst, FoundPair};
+ghost use Rattle.std.specs.Prelude.{ℕ, IsTrue, ◌≡◌, ◌<◌, Some, MatchOption, length};
+ghost use Rattle.cert_checker.specs.Found.{FoundFirst};
 ghost use Rattle.cert_checker.specs.LikeBefore.{IsLikeBefore};
-ghost use Rattle.mrt_graph.specs.CertWords.{block_of};
-ghost use Rattle.mrt_graph.specs.HeadsAndBlocks.{placed, one_head, heads_hold, link_placed};
+ghost use Rattle.mrt_graph.specs.HeadsAndBlocks.{HeadFails, HeadFault, HeadHolds, HeadsHold, link_placed, one_head, placed};
 ghost use Rattle.mrt_graph.specs.Related.{is_common_block};
 
 use crate::place::Place;
@@ -13,7 +12,7 @@ use mrt_graph::{Cert, LinkNo, NodeNo};
 /// The least node that is not placed, and 0; or that shares its block with nodes of another head, and the least of
 /// those.
 pub(crate) fn head_fault(c: &Cert, root: NodeNo) -> Option<Place>
-    ensures { FoundPair (heads_hold c.now root) (length c.now.nodes) result }
+    ensures { MatchOption result (HeadsHold c.now root) (λ place. HeadFault c.now root place.a place.b) }
 {
     for a in 0..c.node_count() {
         if let Some(b) = head_fault_at(c, root, NodeNo::new(a)) {
@@ -26,13 +25,13 @@ pub(crate) fn head_fault(c: &Cert, root: NodeNo) -> Option<Place>
 /// Nodes stand beside others of their block for the most part, so a node like the one before it needs no search.
 fn head_fault_at(c: &Cert, root: NodeNo, a: NodeNo) -> Option<u16>
     requires within { a < length c.now.nodes }
-    requires before { (x y : ℕ) → x < a → y < length c.now.nodes → heads_hold c.now root x y ≡ true }
-    ensures { FoundFirst (heads_hold c.now root a) (length c.now.nodes) result }
+    requires before { (x : ℕ) → x < a → HeadHolds c.now root x }
+    ensures { MatchOption result (HeadHolds c.now root a) (HeadFails c.now root a) }
 {
     if !is_placed(c, root, a) {
         return Some(0);
     }
-    if is_like_before(c, a) {
+    if is_like_before(c, root, a) {
         return None;
     }
     first_other_head(c, a)
@@ -49,12 +48,12 @@ fn is_placed(c: &Cert, root: NodeNo, a: NodeNo) -> bool
     c.node(node.head).order < node.order && node.block != root
 }
 
-/// Whether the node has the block and the head of the node before it.
-pub(crate) fn is_like_before(c: &Cert, a: NodeNo) -> bool
+/// Whether the node before `a` is not the root, and has its block and its head.
+pub(crate) fn is_like_before(c: &Cert, root: NodeNo, a: NodeNo) -> bool
     requires { a < length c.now.nodes }
-    ensures { IsTrue result → IsLikeBefore c.now a }
+    ensures { IsTrue result → IsLikeBefore c.now root a }
 {
-    if a.get() == 0 {
+    if a.get() == 0 || a.get() - 1 == root.get() {
         return false;
     }
     let node = c.node(a);
@@ -66,14 +65,23 @@ fn first_other_head(c: &Cert, a: NodeNo) -> Option<u16>
     requires { a < length c.now.nodes }
     ensures { FoundFirst (one_head c.now a) (length c.now.nodes) result }
 {
-    let node = c.node(a);
     for b in 0..c.node_count() {
-        let other = c.node(NodeNo::new(b));
-        if node.block == other.block && node.head != other.head {
+        if !have_one_head(c, a, NodeNo::new(b)) {
             return Some(b);
         }
     }
     None
+}
+
+/// Whether two nodes have one head, if they have one block.
+fn have_one_head(c: &Cert, a: NodeNo, b: NodeNo) -> bool
+    requires node { a < length c.now.nodes }
+    requires other { b < length c.now.nodes }
+    ensures { result ≡ one_head c.now a b }
+{
+    let node = c.node(a);
+    let other = c.node(b);
+    node.block != other.block || node.head == other.head
 }
 
 /// The least link whose block is not the common block of its two nodes.
@@ -100,7 +108,7 @@ fn is_link_placed(c: &Cert, e: LinkNo) -> bool
 pub(crate) fn has_common_block(c: &Cert, s: NodeNo, t: NodeNo, k: NodeNo) -> bool
     requires source { s < length c.now.nodes }
     requires target { t < length c.now.nodes }
-    ensures { result ≡ is_common_block c.now s t k }
+    ensures { result ≡ is_common_block c.now s t (Some k) }
 {
     let from = c.node(s);
     let to = c.node(t);

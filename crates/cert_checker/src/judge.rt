@@ -7,13 +7,13 @@ ghost use Rattle.mrt_graph.specs.Certificate.{row_of};
 ghost use Rattle.mrt_graph.specs.FirstFault.{FirstFault};
 ghost use Rattle.mrt_graph.specs.Sound.{Sound};
 
-use crate::block_links::{first_lone_link_fault, first_many_links_fault};
+use crate::block_links::{first_closed_fault, first_lone_fault};
 use crate::heads::{first_misplaced_link, head_fault};
 use crate::orders::order_fault;
 use crate::rows::first_row_fault;
-use crate::same_network::network_fault;
+use crate::same_graph::graph_fault;
 use crate::verdict::Verdict;
-use mrt_graph::{CertFile, Graph, NodeNo, accepted_implies_sound};
+use mrt_graph::{CertFile, Graph, NodeNo, accepted_implies_sound, accepted_or_one_first_fault};
 
 /// Judges a certificate file for a graph and its root: yes where all fourteen rules hold; else the first rule that
 /// fails and its least place.
@@ -28,24 +28,16 @@ pub fn check(g: &Graph, root: NodeNo, f: &CertFile) -> Verdict
     ensures sound { result ≡ Verdict.Yes → Sound g.now.links (length g.now.ids) (row_of f.now.cert) }
     ensures no { (rule a b : ℕ) → ((result ≡ Verdict.No rule a b) ↔ FirstFault g.now root f.now rule a b) }
 {
-    sound_if_accepted(g, root, f);
-    judge(g, root, f)
-}
-
-/// The law at these values: the rows of a file that is accepted are sound.
-fn sound_if_accepted(g: &Graph, root: NodeNo, f: &CertFile)
-    ensures { Accepted g.now root f.now → Sound g.now.links (length g.now.ids) (row_of f.now.cert) }
-{
-    // What each certificate keeps is known from its counts.
-    let _ = f.cert.node_count();
     accepted_implies_sound();
+    accepted_or_one_first_fault();
+    judge(g, root, f)
 }
 
 fn judge(g: &Graph, root: NodeNo, f: &CertFile) -> Verdict
     requires { root < length g.now.ids }
     ensures { Judged g.now root f.now result }
 {
-    if let Some(place) = network_fault(g, &f.cert) {
+    if let Some(place) = graph_fault(g, &f.cert) {
         return Verdict::No {
             rule: 1,
             a: place.a,
@@ -73,14 +65,14 @@ fn judge(g: &Graph, root: NodeNo, f: &CertFile) -> Verdict
             b: 0,
         };
     }
-    if let Some(node) = first_lone_link_fault(&f.cert, root) {
+    if let Some(node) = first_lone_fault(&f.cert, root) {
         return Verdict::No {
             rule: 5,
             a: node,
             b: 0,
         };
     }
-    if let Some(node) = first_many_links_fault(&f.cert, root) {
+    if let Some(node) = first_closed_fault(&f.cert, root) {
         return Verdict::No {
             rule: 6,
             a: node,

@@ -7,13 +7,13 @@ mod check_tests;
 mod fault;
 mod heads;
 mod judge;
-mod member_rows;
+mod near_rows;
 mod orders;
 mod place;
 mod row_rules;
 mod row_words;
 mod rows;
-mod same_network;
+mod same_graph;
 #[cfg(test)]
 mod test_certs;
 mod verdict;

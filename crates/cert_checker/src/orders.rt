@@ -3,7 +3,7 @@
 ghost use Rattle.std.specs.Prelude.{◌≡◌, ◌<◌, length, MatchOption};
 ghost use Rattle.cert_checker.specs.Found.{FoundFirst, FoundPair};
 ghost use Rattle.mrt_graph.specs.RootAndOrders.{RootAndOrders, OrderFault, root_stands, orders_differ};
-ghost use Rattle.mrt_graph.specs.SameNetwork.{SameCounts};
+ghost use Rattle.mrt_graph.specs.SameGraph.{SameCounts};
 
 use crate::place::Place;
 use mrt_graph::{Cert, CertFile, Graph, NodeNo};

@@ -1,11 +1,10 @@
 //! Words of the rules on rows: where a link leads, what tag a row has, which role a link has.
 
 ghost use Rattle.std.specs.Prelude.{◌≡◌, ◌<◌, ◌≤◌, IfSome, length};
-ghost use Rattle.mrt_graph.specs.CertWords.{role_of, tagged};
+ghost use Rattle.mrt_graph.specs.CertWords.{has_role, tagged};
 ghost use Rattle.mrt_graph.specs.Leads.{leads};
-ghost use Rattle.mrt_graph.specs.RowRules.{rises, falls, plain_to_head, closing_to_head};
-ghost use Rattle.mrt_graph.specs.Roles.{is_plain, is_sole, is_closing};
-ghost use Rattle.mrt_graph.specs.SameNetwork.{SameCounts};
+ghost use Rattle.mrt_graph.specs.Roles.{is_closing, is_plain, is_sole};
+ghost use Rattle.mrt_graph.specs.SameGraph.{SameCounts};
 ghost use Rattle.mrt_graph.specs.Tags.{tag_number};
 
 use mrt_graph::{Cert, Graph, LinkNo, NodeNo, Role, Tag};
@@ -47,47 +46,9 @@ pub(crate) fn number_of(tag: Tag) -> u8
     tag as u8
 }
 
-/// Whether `v` has a greater order than `s`, and its row for `t` has this tag.
-pub(crate) fn is_above(c: &Cert, s: NodeNo, t: NodeNo, tag: Tag, v: NodeNo) -> bool
-    requires source { s < length c.now.nodes }
-    requires target { t < length c.now.nodes }
-    requires next { v < length c.now.nodes }
-    ensures { result ≡ rises c.now s t tag v }
-{
-    c.node(s).order < c.node(v).order && has_tag(c, v, t, tag)
-}
-
-/// Whether `v` has a smaller order than `s`, and its row for `t` has this tag.
-pub(crate) fn is_below(c: &Cert, s: NodeNo, t: NodeNo, tag: Tag, v: NodeNo) -> bool
-    requires source { s < length c.now.nodes }
-    requires target { t < length c.now.nodes }
-    requires next { v < length c.now.nodes }
-    ensures { result ≡ falls c.now s t tag v }
-{
-    c.node(v).order < c.node(s).order && has_tag(c, v, t, tag)
-}
-
-/// Whether the link is plain, and `v` is the head of `s`.
-pub(crate) fn is_plain_home(c: &Cert, e: LinkNo, s: NodeNo, v: NodeNo) -> bool
-    requires link { e < length c.now.links }
-    requires source { s < length c.now.nodes }
-    ensures { result ≡ plain_to_head c.now e s v }
-{
-    is_plain_link(c, e) && v == c.node(s).head
-}
-
-/// Whether the link is closing, and `v` is the head of `s`.
-pub(crate) fn is_closing_home(c: &Cert, e: LinkNo, s: NodeNo, v: NodeNo) -> bool
-    requires link { e < length c.now.links }
-    requires source { s < length c.now.nodes }
-    ensures { result ≡ closing_to_head c.now e s v }
-{
-    is_closing_link(c, e) && v == c.node(s).head
-}
-
 pub(crate) fn is_plain_link(c: &Cert, e: LinkNo) -> bool
     requires { e < length c.now.links }
-    ensures { result ≡ is_plain (role_of c.now e) }
+    ensures { result ≡ has_role is_plain c.now e }
 {
     match c.link(e).role {
         Role::Plain => true,
@@ -97,7 +58,7 @@ pub(crate) fn is_plain_link(c: &Cert, e: LinkNo) -> bool
 
 pub(crate) fn is_sole_link(c: &Cert, e: LinkNo) -> bool
     requires { e < length c.now.links }
-    ensures { result ≡ is_sole (role_of c.now e) }
+    ensures { result ≡ has_role is_sole c.now e }
 {
     match c.link(e).role {
         Role::Sole => true,
@@ -107,7 +68,7 @@ pub(crate) fn is_sole_link(c: &Cert, e: LinkNo) -> bool
 
 pub(crate) fn is_closing_link(c: &Cert, e: LinkNo) -> bool
     requires { e < length c.now.links }
-    ensures { result ≡ is_closing (role_of c.now e) }
+    ensures { result ≡ has_role is_closing c.now e }
 {
     match c.link(e).role {
         Role::Closing => true,

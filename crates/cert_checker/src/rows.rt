@@ -1,15 +1,17 @@
 //! Rules seven to fourteen, in one pass over the rows in their order.
 
-ghost use Rattle.std.specs.Prelude.{◌≡◌, ◌<◌, ◌+◌, length};
-ghost use Rattle.cert_checker.specs.RowAt.{IsRowAt};
-ghost use Rattle.cert_checker.specs.RowTests.{JudgedRow, KeptBefore, better, lesser_fault, lies_in_block, row_test};
+ghost use Rattle.std.specs.Prelude.{◌≡◌, ◌<◌, ◌+◌, ◌||◌, length};
+ghost use Rattle.cert_checker.specs.RowFaults.{JudgedRow, KeptBefore, better, lesser_fault, row_test};
+ghost use Rattle.mrt_graph.specs.declared.cert.Tag.TheVariants.{Carried};
 ghost use Rattle.mrt_graph.specs.Certificate.{IsCertRow};
-ghost use Rattle.mrt_graph.specs.SameNetwork.{SameCounts};
+ghost use Rattle.mrt_graph.specs.RowRules.{lies_in_block};
+ghost use Rattle.mrt_graph.specs.SameGraph.{SameCounts};
+ghost use Rattle.mrt_graph.specs.Tags.{same_tag};
 
 use crate::fault::Fault;
-use crate::row_rules::{keeps_rule, lies_in_common_block};
+use crate::row_rules::{is_carried, keeps_rule, lies_in_common_block};
 use crate::row_words::number_of;
-use mrt_graph::{Cert, Graph, NodeNo, Row, Tag};
+use mrt_graph::{Cert, Graph, NodeNo, Row};
 
 /// The first rule on rows that fails, and its first place.
 ///
@@ -104,7 +106,7 @@ fn is_in_block(c: &Cert, s: NodeNo, t: NodeNo, row: &Row) -> bool
     requires source { s < length c.now.nodes }
     requires target { t < length c.now.nodes }
     requires row { IsCertRow (length c.now.links) row.now }
-    ensures { result ≡ lies_in_block c.now s t row.now }
+    ensures { result ≡ (same_tag row.now.tag Carried || lies_in_block c.now s t row.now) }
 {
-    number_of(row.tag) == number_of(Tag::Carried) || lies_in_common_block(c, s, t, row)
+    is_carried(row.tag) || lies_in_common_block(c, s, t, row)
 }

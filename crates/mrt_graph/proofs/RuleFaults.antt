@@ -181,18 +181,30 @@ to_fourteen : (rule : Rule) → rule_number rule < 15
 to_fourteen (TagRule T) = omega (arith, tag_few T)
 to_fourteen _ = omega arith
 
+-- all rules before that number hold
+abbrev pub HoldBefore : Topology → ℕ → CertFile → ℕ → Type 0
+HoldBefore g root file number = (rule : Rule) → rule_number rule < number → (told g root file rule).Holds
+
 module _ (g : Topology) (root : ℕ) (file : CertFile) where
+  pub hold_none : HoldBefore g root file 1
+  hold_none = λ rule less. absurd (omega (arith, less, from_one rule))
+
+  -- and one rule more
+  pub hold_more : (rule : Rule) → HoldBefore g root file (rule_number rule) → (told g root file rule).Holds
+      → HoldBefore g root file (rule_number rule + 1)
+  hold_more rule before holds = λ other less. elim (cases_eq (rule_number other) (rule_number rule)) [
+    | inl same ↦ subst (λ r. (told g root file r).Holds) (one_rule rule other (sym same)) holds
+    | inr apart ↦ before other (omega (arith, less, apart))
+  ]
+
   record Fault : Type 0 where
     number : ℕ
     a : ℕ
     b : ℕ
     fault : FirstFault g root file number a b
 
-  -- all rules before that number hold
-  abbrev HoldBefore : ℕ → Type 0
-  HoldBefore number = (rule : Rule) → rule_number rule < number → (told g root file rule).Holds
-
-  and_then : (rule : Rule) → HoldBefore (rule_number rule) ⊎ Fault → HoldBefore (rule_number rule + 1) ⊎ Fault
+  and_then : (rule : Rule) → HoldBefore g root file (rule_number rule) ⊎ Fault
+      → HoldBefore g root file (rule_number rule + 1) ⊎ Fault
   and_then rule (inr fault) = inr fault
   and_then rule (inl before) = elim (rule_told g root file rule).either [
     | inr found ↦ inr (record {
@@ -201,18 +213,15 @@ module _ (g : Topology) (root : ℕ) (file : CertFile) where
       b = found.1.0;
       fault = record { rule = rule; numbered = refl; fails = found.1.1; earlier = before };
     })
-    | inl holds ↦ inl (λ other less. elim (cases_eq (rule_number other) (rule_number rule)) [
-      | inl same ↦ subst (λ r. (told g root file r).Holds) (one_rule rule other (sym same)) holds
-      | inr apart ↦ before other (omega (arith, less, apart))
-    ])
+    | inl holds ↦ inl (hold_more rule before holds)
   ]
 
-  all_or_fault : HoldBefore 15 ⊎ Fault
+  all_or_fault : HoldBefore g root file 15 ⊎ Fault
   all_or_fault =
       and_then BlockRule (and_then (TagRule Carried) (and_then (TagRule Unordered) (and_then (TagRule Above)
       (and_then (TagRule Below) (and_then (TagRule Top) (and_then (TagRule Head) (and_then (TagRule Sole)
       (and_then ClosedRule (and_then LoneRule (and_then LinkRule (and_then HeadRule (and_then OrderRule
-      (and_then GraphRule (inl (λ rule less. absurd (omega (arith, less, from_one rule)))))))))))))))))
+      (and_then GraphRule (inl hold_none))))))))))))))
 
   pub accepted_or_faulty : Accepted g root file ⊎ ((rule : ℕ) × ((a : ℕ) × ((b : ℕ) × FirstFault g root file rule a b)))
   accepted_or_faulty = elim all_or_fault [

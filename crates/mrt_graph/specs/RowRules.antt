@@ -40,8 +40,8 @@ closing_to_head c e s v = has_role is_closing c e && are_equal (head_of c s) (So
 -- Of a row of s for t that is not Carried, blue and red are here the nodes to which its two links lead from s.
 
 -- Sole: blue and red are one link, its role is sole, and it leads to t
-abbrev pub sole_row : Certificate → ℕ → Row → ℕ → ℕ → Bool
-sole_row c t row blue red = (row.blue == row.red) && (has_role is_sole c row.blue && (blue == t))
+abbrev pub sole_row : Certificate → ℕ → Row → ℕ → Bool
+sole_row c t row blue = (row.blue == row.red) && (has_role is_sole c row.blue && (blue == t))
 
 -- Head: the head of s is t; blue leads to a node of the block of s with a greater order, or is closing and leads to t;
 -- red leads to a node of the block of s with a smaller order, or is plain and leads to t
@@ -85,7 +85,7 @@ unordered_row c s t row blue red =
 
 -- these by the tag; a Carried row is none of them
 abbrev pub near_row : Tag → Certificate → ℕ → ℕ → Row → ℕ → ℕ → Bool
-near_row Sole c s t row blue red = sole_row c t row blue red
+near_row Sole c s t row blue red = sole_row c t row blue
 near_row Head c s t row blue red = head_row c s t row blue red
 near_row Top c s t row blue red = top_row c s t row blue red
 near_row Below c s t row blue red = below_row c s t row blue red

@@ -1,52 +1,95 @@
-use Rattle.std.proofs.Common.{inr, ◌+◌, length}
-use Rattle.cert_checker.proofs.RowChain.{each_along, in_block_is, in_turn, tagged_is}
-use Rattle.mrt_graph.specs.declared.cert.Tag.{Tag}
-use Rattle.mrt_graph.specs.declared.cert.Tag.TheVariants.{Sole, Head, Top, Below, Above, Unordered, Carried}
-use Rattle.mrt_graph.specs.Tags.{tag_number}
+use Rattle.std.proofs.Common.{ℕ, length, refl}
+use Rattle.cert_checker.proofs.Verdicts.{all_hold, row_fails}
+use Rattle.mrt_graph.specs.declared.cert.CertFile.{CertFile}
+use Rattle.mrt_graph.specs.Rules.{GraphRule, OrderRule, HeadRule, LinkRule, LoneRule, ClosedRule, told}
+use Rattle.mrt_graph.specs.Topology.{Topology}
+use Rattle.mrt_graph.proofs.RuleFaults.{HoldBefore, hold_none, hold_more}
 use Rattle.cert_checker.proofs.judge.judge.Goals as goal
+
+module _ (g : Topology) (root : ℕ) (file : CertFile) (graph : (told g root file GraphRule).Holds) where
+  one : HoldBefore g root file 2
+  one = hold_more g root file GraphRule (hold_none g root file) graph
+
+  module _ (orders : (told g root file OrderRule).Holds) where
+    two : HoldBefore g root file 3
+    two = hold_more g root file OrderRule one orders
+
+    module _ (heads : (told g root file HeadRule).Holds) where
+      three : HoldBefore g root file 4
+      three = hold_more g root file HeadRule two heads
+
+      module _ (links : (told g root file LinkRule).Holds) where
+        four : HoldBefore g root file 5
+        four = hold_more g root file LinkRule three links
+
+        module _ (lone : (told g root file LoneRule).Holds) where
+          five : HoldBefore g root file 6
+          five = hold_more g root file LoneRule four lone
+
+          six : (told g root file ClosedRule).Holds → HoldBefore g root file 7
+          six closed = hold_more g root file ClosedRule five closed
+
+pub returns-in-Some : goal.returns-in-Some
+returns-in-Some c = record {
+  rule = GraphRule;
+  numbered = refl;
+  fails = c.in-Some.ensures;
+  earlier = hold_none c.args.g.now c.args.root c.args.f.now;
+}
+
+pub returns-in-Some-order_fault : goal.returns-in-Some-order_fault
+returns-in-Some-order_fault c = record {
+  rule = OrderRule;
+  numbered = refl;
+  fails = c.in-Some-order_fault.ensures;
+  earlier = one c.args.g.now c.args.root c.args.f.now c.in_default.ensures;
+}
+
+pub returns-in-Some-head_fault : goal.returns-in-Some-head_fault
+returns-in-Some-head_fault c = record {
+  rule = HeadRule;
+  numbered = refl;
+  fails = c.in-Some-head_fault.ensures;
+  earlier = two c.args.g.now c.args.root c.args.f.now c.in_default.ensures c.in_default-order_fault.ensures;
+}
+
+pub returns-in-Some-first_misplaced_link : goal.returns-in-Some-first_misplaced_link
+returns-in-Some-first_misplaced_link c = record {
+  rule = LinkRule;
+  numbered = refl;
+  fails = (c.in-Some-first_misplaced_link.ensures, refl);
+  earlier = three c.args.g.now c.args.root c.args.f.now c.in_default.ensures c.in_default-order_fault.ensures
+      c.in_default-head_fault.ensures;
+}
+
+pub returns-in-Some-first_lone_fault : goal.returns-in-Some-first_lone_fault
+returns-in-Some-first_lone_fault c = record {
+  rule = LoneRule;
+  numbered = refl;
+  fails = (c.in-Some-first_lone_fault.ensures, refl);
+  earlier = four c.args.g.now c.args.root c.args.f.now c.in_default.ensures c.in_default-order_fault.ensures
+      c.in_default-head_fault.ensures c.in_default-first_misplaced_link.ensures;
+}
+
+pub returns-in-Some-first_closed_fault : goal.returns-in-Some-first_closed_fault
+returns-in-Some-first_closed_fault c = record {
+  rule = ClosedRule;
+  numbered = refl;
+  fails = (c.in-Some-first_closed_fault.ensures, refl);
+  earlier = five c.args.g.now c.args.root c.args.f.now c.in_default.ensures c.in_default-order_fault.ensures
+      c.in_default-head_fault.ensures c.in_default-first_misplaced_link.ensures c.in_default-first_lone_fault.ensures;
+}
 
 pub returns-in-None : goal.returns-in-None
 returns-in-None c =
-    let g = c.args.g.now in
-    let root = c.args.root in
-    let cert = c.args.f.now.cert in
-    let n = length cert.nodes in
-    let rows = λ (T : Tag). each_along _ _ (tagged_is g root cert T) n (λ x y first second. (c.in-None.ensures (7 + tag_number T)).sources x y first second) in
-    record {
-      same_network = c.in_default.ensures;
-      root_and_orders = c.in_default-order_fault.ensures;
-      heads = c.in_default-head_fault.ensures;
-      links_placed = c.in_default-first_misplaced_link.ensures;
-      lone_links = c.in_default-first_lone_link_fault.ensures;
-      many_links = c.in_default-first_many_links_fault.ensures;
-      sole = rows Sole;
-      head = rows Head;
-      top = rows Top;
-      below = rows Below;
-      above = rows Above;
-      unordered = rows Unordered;
-      carried = rows Carried;
-      in_block = each_along _ _ (in_block_is g root cert) n (λ x y first second. (c.in-None.ensures 14).sources x y first second);
-    }
+    all_hold c.args.g.now c.args.root c.args.f.now
+    (six c.args.g.now c.args.root c.args.f.now c.in_default.ensures c.in_default-order_fault.ensures
+    c.in_default-head_fault.ensures c.in_default-first_misplaced_link.ensures c.in_default-first_lone_fault.ensures
+    c.in_default-first_closed_fault.ensures) c.in-None.ensures
 
 pub returns-in-Some-first_row_fault : goal.returns-in-Some-first_row_fault
 returns-in-Some-first_row_fault c =
-    inr (
-      c.in_default.ensures,
-      inr (
-        c.in_default-order_fault.ensures,
-        inr (
-          c.in_default-head_fault.ensures,
-          inr (
-            c.in_default-first_misplaced_link.ensures,
-            inr (
-              c.in_default-first_lone_link_fault.ensures,
-              inr (
-                c.in_default-first_many_links_fault.ensures,
-                in_turn c.args.g.now c.args.root c.args.f.now c.in-Some-first_row_fault.fault c.in-Some-first_row_fault.ensures,
-              ),
-            ),
-          ),
-        ),
-      ),
-    )
+    row_fails c.args.g.now c.args.root c.args.f.now
+    (six c.args.g.now c.args.root c.args.f.now c.in_default.ensures c.in_default-order_fault.ensures
+    c.in_default-head_fault.ensures c.in_default-first_misplaced_link.ensures c.in_default-first_lone_fault.ensures
+    c.in_default-first_closed_fault.ensures) c.in-Some-first_row_fault.fault c.in-Some-first_row_fault.ensures

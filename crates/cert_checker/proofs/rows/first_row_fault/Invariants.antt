@@ -1,5 +1,5 @@
 use Rattle.std.proofs.Common.{length}
-use Rattle.cert_checker.specs.RowTests.{KeptBefore, row_test}
+use Rattle.cert_checker.specs.RowFaults.{KeptBefore, row_test}
 use Rattle.cert_checker.proofs.rows.first_row_fault.Given as goal
 
 abbrev pub invariant-loop-s : goal.invariant-loop-s

@@ -1,6 +1,6 @@
 use Rattle.std.proofs.Common.{◌≡◌, ◌<◌, length, arith}
 use Rattle.cert_checker.proofs.Kept.{kept_more, kept_row}
-use Rattle.cert_checker.specs.RowTests.{JudgedRow, row_test}
+use Rattle.cert_checker.specs.RowFaults.{JudgedRow, row_test}
 use Rattle.cert_checker.proofs.rows.judge_rows_of.Goals as goal
 
 pub loop-t-preserved : goal.loop-t-preserved

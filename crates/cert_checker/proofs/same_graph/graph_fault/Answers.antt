@@ -1,5 +1,5 @@
-use Rattle.mrt_graph.specs.SameNetwork.{OtherCounts, OtherNode, OtherLink}
-use Rattle.cert_checker.proofs.same_network.network_fault.Goals as goal
+use Rattle.mrt_graph.specs.SameGraph.{OtherCounts, OtherNode, OtherLink}
+use Rattle.cert_checker.proofs.same_graph.graph_fault.Goals as goal
 
 pub returns-then-not-counts_agree : goal.returns-then-not-counts_agree
 returns-then-not-counts_agree c = OtherCounts c.if-not-counts_agree.ensures

@@ -2,14 +2,14 @@
 
 ghost use Rattle.std.specs.Prelude.{◌≡◌, ◌<◌, length, MatchBool, MatchOption};
 ghost use Rattle.cert_checker.specs.Found.{FoundFirst};
-ghost use Rattle.mrt_graph.specs.SameNetwork.{SameCounts, SameNetwork, NetworkFault, same_id, same_node, same_link};
+ghost use Rattle.mrt_graph.specs.SameGraph.{GraphFault, SameCounts, SameGraph, same_id, same_link, same_node};
 
 use crate::place::Place;
 use mrt_graph::{Cert, Graph, LinkNo, NodeId, NodeNo};
 
 /// Other counts at 0 and 2; the least node with another identifier, and 0; the least link with other nodes, and 1.
-pub(crate) fn network_fault(g: &Graph, c: &Cert) -> Option<Place>
-    ensures { MatchOption result (SameNetwork g.now c.now) (λ place. NetworkFault g.now c.now place.a place.b) }
+pub(crate) fn graph_fault(g: &Graph, c: &Cert) -> Option<Place>
+    ensures { MatchOption result (SameGraph g.now c.now) (λ place. GraphFault g.now c.now place.a place.b) }
 {
     if !counts_agree(g, c) {
         return Some(Place { a: 0, b: 2 });

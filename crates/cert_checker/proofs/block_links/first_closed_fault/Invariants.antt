@@ -1,0 +1,6 @@
+use Rattle.mrt_graph.specs.Places.{Each}
+use Rattle.mrt_graph.specs.HeadsAndBlocks.{closed_block}
+use Rattle.cert_checker.proofs.block_links.first_closed_fault.Given as goal
+
+abbrev pub invariant-loop-a : goal.invariant-loop-a
+invariant-loop-a l = Each (closed_block l.c l.root) l.a
