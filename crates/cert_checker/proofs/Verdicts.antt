@@ -58,7 +58,7 @@ module _ (g : Topology) (root : ℕ) (file : CertFile) where
   -- what a verdict says, where no file is accepted and faulty, and each has one first fault
   module _ (never_both : (rule a b : ℕ) → Accepted g root file → FirstFault g root file rule a b → ⊥)
       (one : (rule a b number x y : ℕ) → FirstFault g root file rule a b → FirstFault g root file number x y
-      → (rule ≡ number) × ((a ≡ x) × (b ≡ y))) where
+      → (rule ≡ number) × (a ≡ x) × (b ≡ y)) where
     pub yes_exactly : (verdict : Verdict) → Judged g root file verdict → (verdict ≡ Yes) ↔ Accepted g root file
     yes_exactly verdict judged = (λ is. subst (λ (v : Verdict). Judged g root file v) is judged, only verdict judged)
       where
@@ -74,4 +74,4 @@ module _ (g : Topology) (root : ℕ) (file : CertFile) where
         only Yes held fault = absurd (never_both rule a b held fault)
         only (No number x y) found fault =
             let same = one number x y rule a b found fault in
-            let s0 = same.0 in let s1 = same.1.0 in let s2 = same.1.1 in cc
+            let s0 = same.0 in let s1 = same.1 in let s2 = same.2 in cc

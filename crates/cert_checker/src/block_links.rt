@@ -110,7 +110,7 @@ fn all_sole(c: &Cert, k: NodeNo) -> bool
     c.links()
         .iter()
         .filter(|link| link.block == k)
-        .all(|link| is_alone(link.role))
+        .all(|link| matches!(link.role, Role::Sole))
 }
 
 fn none_sole(c: &Cert, k: NodeNo) -> bool
@@ -119,7 +119,7 @@ fn none_sole(c: &Cert, k: NodeNo) -> bool
     c.links()
         .iter()
         .filter(|link| link.block == k)
-        .all(|link| !is_alone(link.role))
+        .all(|link| !matches!(link.role, Role::Sole))
 }
 
 fn closings_join_greatest(c: &Cert, head: NodeNo, k: NodeNo) -> bool
@@ -163,23 +163,5 @@ fn none_above(c: &Cert, k: NodeNo, order: u16) -> bool
 fn closes(link: CertLink, k: NodeNo) -> bool
     ensures { result ≡ ((link.block == k) && is_closing link.role) }
 {
-    link.block == k && is_last(link.role)
-}
-
-fn is_alone(role: Role) -> bool
-    ensures { result ≡ is_sole role }
-{
-    match role {
-        Role::Sole => true,
-        Role::Plain | Role::Closing => false,
-    }
-}
-
-fn is_last(role: Role) -> bool
-    ensures { result ≡ is_closing role }
-{
-    match role {
-        Role::Closing => true,
-        Role::Plain | Role::Sole => false,
-    }
+    link.block == k && matches!(link.role, Role::Closing)
 }

@@ -3,7 +3,15 @@
 ghost use Rattle.std.specs.Prelude.{ℕ, IsTrue, ◌≡◌, ◌<◌, Some, MatchOption, length};
 ghost use Rattle.cert_checker.specs.Found.{FoundFirst};
 ghost use Rattle.cert_checker.specs.LikeBefore.{IsLikeBefore};
-ghost use Rattle.mrt_graph.specs.HeadsAndBlocks.{HeadFails, HeadFault, HeadHolds, HeadsHold, link_placed, one_head, placed};
+ghost use Rattle.mrt_graph.specs.HeadsAndBlocks.{
+  HeadFails,
+  HeadFault,
+  HeadHolds,
+  HeadsHold,
+  link_placed,
+  one_head,
+  placed,
+};
 ghost use Rattle.mrt_graph.specs.Related.{is_common_block};
 
 use crate::place::Place;
@@ -12,7 +20,8 @@ use mrt_graph::{Cert, LinkNo, NodeNo};
 /// The least node that is not placed, and 0; or that shares its block with nodes of another head, and the least of
 /// those.
 pub(crate) fn head_fault(c: &Cert, root: NodeNo) -> Option<Place>
-    ensures { MatchOption result (HeadsHold c.now root) (λ place. HeadFault c.now root place.a place.b) }
+    ensures { MatchOption result (HeadsHold c.now root)
+        (λ place. HeadFault c.now root place.a place.b) }
 {
     for a in 0..c.node_count() {
         if let Some(b) = head_fault_at(c, root, NodeNo::new(a)) {

@@ -18,7 +18,8 @@ use mrt_graph::{CertFile, Graph, NodeNo, accepted_implies_sound, accepted_or_one
 /// Judges a certificate file for a graph and its root: yes where all fourteen rules hold; else the first rule that
 /// fails and its least place.
 ///
-/// A yes alone, whoever wrote the file, implies that both colors reach every destination and share only what every walk uses.
+/// A yes alone, whoever wrote the file, implies that both colors reach every destination and share only what every walk
+/// uses.
 ///
 /// A later rule is read only where all earlier ones hold. No memory is taken. Rules 1 to 6 take time in proportion to
 /// nodes times links at worst, the others one pass over the rows.
@@ -26,7 +27,8 @@ pub fn check(g: &Graph, root: NodeNo, f: &CertFile) -> Verdict
     requires { root < length g.now.ids }
     ensures yes { (result ≡ Verdict.Yes) ↔ Accepted g.now root f.now }
     ensures sound { result ≡ Verdict.Yes → Sound g.now.links (length g.now.ids) (row_of f.now.cert) }
-    ensures no { (rule a b : ℕ) → ((result ≡ Verdict.No rule a b) ↔ FirstFault g.now root f.now rule a b) }
+    ensures no { (rule a b : ℕ)
+        → ((result ≡ Verdict.No rule a b) ↔ FirstFault g.now root f.now rule a b) }
 {
     accepted_implies_sound();
     accepted_or_one_first_fault();

@@ -12,7 +12,8 @@ use mrt_graph::{Cert, CertFile, Graph, NodeNo};
 pub(crate) fn order_fault(g: &Graph, root: NodeNo, f: &CertFile) -> Option<Place>
     requires counts { SameCounts g.now f.now.cert }
     requires root { root < length g.now.ids }
-    ensures { MatchOption result (RootAndOrders g.now root f.now) (λ place. OrderFault g.now root f.now place.a place.b) }
+    ensures { MatchOption result (RootAndOrders g.now root f.now)
+        (λ place. OrderFault g.now root f.now place.a place.b) }
 {
     if !is_root_first(g, root, f) {
         let at = root.get();

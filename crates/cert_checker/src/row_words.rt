@@ -50,28 +50,19 @@ pub(crate) fn is_plain_link(c: &Cert, e: LinkNo) -> bool
     requires { e < length c.now.links }
     ensures { result ≡ has_role is_plain c.now e }
 {
-    match c.link(e).role {
-        Role::Plain => true,
-        Role::Sole | Role::Closing => false,
-    }
+    matches!(c.link(e).role, Role::Plain)
 }
 
 pub(crate) fn is_sole_link(c: &Cert, e: LinkNo) -> bool
     requires { e < length c.now.links }
     ensures { result ≡ has_role is_sole c.now e }
 {
-    match c.link(e).role {
-        Role::Sole => true,
-        Role::Plain | Role::Closing => false,
-    }
+    matches!(c.link(e).role, Role::Sole)
 }
 
 pub(crate) fn is_closing_link(c: &Cert, e: LinkNo) -> bool
     requires { e < length c.now.links }
     ensures { result ≡ has_role is_closing c.now e }
 {
-    match c.link(e).role {
-        Role::Closing => true,
-        Role::Plain | Role::Sole => false,
-    }
+    matches!(c.link(e).role, Role::Closing)
 }

@@ -19,7 +19,8 @@ use mrt_graph::{Cert, Graph, NodeNo, Row};
 /// the place where it failed first.
 pub(crate) fn first_row_fault(g: &Graph, c: &Cert, root: NodeNo) -> Option<Fault>
     requires { SameCounts g.now c.now }
-    ensures { KeptBefore (row_test g.now root c.now) (length c.now.nodes) (length c.now.nodes) 0 result }
+    ensures { KeptBefore (row_test g.now root c.now) (length c.now.nodes)
+        (length c.now.nodes) 0 result }
 {
     let mut kept = None;
     for s in 0..c.node_count() {

@@ -9,7 +9,8 @@ use mrt_graph::{Cert, Graph, LinkNo, NodeId, NodeNo};
 
 /// Other counts at 0 and 2; the least node with another identifier, and 0; the least link with other nodes, and 1.
 pub(crate) fn graph_fault(g: &Graph, c: &Cert) -> Option<Place>
-    ensures { MatchOption result (SameGraph g.now c.now) (λ place. GraphFault g.now c.now place.a place.b) }
+    ensures { MatchOption result (SameGraph g.now c.now)
+        (λ place. GraphFault g.now c.now place.a place.b) }
 {
     if !counts_agree(g, c) {
         return Some(Place { a: 0, b: 2 });

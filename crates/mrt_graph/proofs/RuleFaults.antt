@@ -223,10 +223,10 @@ module _ (g : Topology) (root : ℕ) (file : CertFile) where
       (and_then ClosedRule (and_then LoneRule (and_then LinkRule (and_then HeadRule (and_then OrderRule
       (and_then GraphRule (inl hold_none))))))))))))))
 
-  pub accepted_or_faulty : Accepted g root file ⊎ ((rule : ℕ) × ((a : ℕ) × ((b : ℕ) × FirstFault g root file rule a b)))
+  pub accepted_or_faulty : Accepted g root file ⊎ ((rule a b : ℕ) × FirstFault g root file rule a b)
   accepted_or_faulty = elim all_or_fault [
     | inl all ↦ inl (λ rule. all rule (to_fourteen rule))
-    | inr fault ↦ inr (fault.number, (fault.a, (fault.b, fault.fault)))
+    | inr fault ↦ inr (fault.number, fault.a, fault.b, fault.fault)
   ]
 
   pub never_both : (rule a b : ℕ) → Accepted g root file → FirstFault g root file rule a b → ⊥
@@ -237,14 +237,13 @@ module _ (g : Topology) (root : ℕ) (file : CertFile) where
       (rule_told g root file fault.rule).never_both a b (other.earlier fault.rule (omega (arith, less, fault.numbered))) fault.fails
 
   pub one_fault : (rule a b number x y : ℕ) → FirstFault g root file rule a b → FirstFault g root file number x y
-      → (rule ≡ number) × ((a ≡ x) × (b ≡ y))
+      → (rule ≡ number) × (a ≡ x) × (b ≡ y)
   one_fault rule a b number x y fault other = elim (cases_order rule number) [
     | inl same ↦
-        let one = one_rule other.rule fault.rule (other.numbered ∙ sym same ∙ sym fault.numbered) in (
-          same,
-          (rule_told g root file fault.rule).one_place a b x y fault.fails
-              (subst (λ r. (told g root file r).FailsAt x y) one other.fails),
-        )
+        let one = one_rule other.rule fault.rule (other.numbered ∙ sym same ∙ sym fault.numbered) in
+        let place = (rule_told g root file fault.rule).one_place a b x y fault.fails
+        (subst (λ r. (told g root file r).FailsAt x y) one other.fails) in
+        (same, place.0, place.1)
     | inr (inl less) ↦ absurd (not_earlier rule a b number x y fault other less)
     | inr (inr less) ↦ absurd (not_earlier number x y rule a b other fault less)
   ]

@@ -28,10 +28,10 @@ pub fn accepted_rows_lead_on()
 /// never both, and the rule and its place are the only ones.
 pub fn accepted_or_one_first_fault()
     ensures either { (g : Topology) (root : ℕ) (file : CertFile)
-        → Accepted g root file ⊎ ((rule : ℕ) × ((a : ℕ) × ((b : ℕ) × FirstFault g root file rule a b))) }
+        → Accepted g root file ⊎ ((rule a b : ℕ) × FirstFault g root file rule a b) }
     ensures never_both { (g : Topology) (root : ℕ) (file : CertFile) (rule a b : ℕ)
         → Accepted g root file → FirstFault g root file rule a b → ⊥ }
     ensures one { (g : Topology) (root : ℕ) (file : CertFile) (rule a b number x y : ℕ)
         → FirstFault g root file rule a b → FirstFault g root file number x y
-        → (rule ≡ number) × ((a ≡ x) × (b ≡ y)) }
+        → (rule ≡ number) × (a ≡ x) × (b ≡ y) }
 {}
