@@ -47,18 +47,22 @@ kept_more test n s t source target (Some fault) (Some number) known first =
       rule = known.rule;
       numbered = known.numbered;
       here = known.here;
-      earlier = λ other less. held_more (test other) n s t (known.earlier other less) (first.earlier other (omega arith));
+      earlier = λ other less. held_more (test other) n s t (known.earlier other less)
+          (first.earlier other (omega arith));
     })
     (λ is. let lesser : number < fault.rule = leb-false _ _ is in record {
       rule = first.rule;
       numbered = first.numbered;
-      here = first_here (test first.rule) n s t source target (known.earlier first.rule (omega (arith, first.numbered))) first.fails;
-      earlier = λ other less. held_more (test other) n s t (known.earlier other (omega arith)) (first.earlier other less);
+      here = first_here (test first.rule) n s t source target
+          (known.earlier first.rule (omega (arith, first.numbered))) first.fails;
+      earlier = λ other less. held_more (test other) n s t (known.earlier other (omega arith))
+          (first.earlier other less);
     })
 
 held_row : (test : ℕ → ℕ → Bool) (n s : ℕ) → HeldBefore test n s n → HeldBefore test n (s + 1) 0
 held_row test n s held = record {
-  sources = λ x y below within. below_more (λ x. Each (test x) n) s (λ x below y within. held.sources x y below within) held.targets x below y within;
+  sources = λ x y below within. below_more (λ x. Each (test x) n) s
+      (λ x below y within. held.sources x y below within) held.targets x below y within;
   targets = below_none (λ y. test (s + 1) y ≡ true);
 }
 

@@ -13,16 +13,21 @@ use Rattle.mrt_graph.specs.Tags.{same_tag, tag_number}
 use Rattle.mrt_graph.specs.Topology.{Topology}
 use Rattle.mrt_graph.proofs.TestFacts.{tag_is, tag_itself}
 
-module _ (g : Topology) (root : ℕ) (c : Certificate) (s t : ℕ) (row : Row) (differ : s ≢ t) (there : row_of c s t ≡ Some row) where
+module _ (g : Topology) (root : ℕ) (c : Certificate) (s t : ℕ) (row : Row) (differ : s ≢ t)
+    (there : row_of c s t ≡ Some row) where
   -- what is asked of the row
-  tagged_is : (T : Tag) → rows_tagged T g.links c root s t ≡ (not (same_tag row.tag T) || row_rule T g.links c root s t row)
+  tagged_is : (T : Tag)
+      → rows_tagged T g.links c root s t ≡ (not (same_tag row.tag T) || row_rule T g.links c root s t row)
   tagged_is T =
-      ap (λ (same : Bool). same || option_map_or (λ r. not (same_tag r.tag T) || row_rule T g.links c root s t r) (row_of c s t) false) (ne_eqb s t differ)
-      ∙ ap (λ (o : Option Row). option_map_or (λ r. not (same_tag r.tag T) || row_rule T g.links c root s t r) o false) there
+      ap (λ (same : Bool). same || option_map_or (λ r. not (same_tag r.tag T) || row_rule T g.links c root s t r)
+      (row_of c s t) false) (ne_eqb s t differ)
+      ∙ ap (λ (o : Option Row). option_map_or (λ r. not (same_tag r.tag T) || row_rule T g.links c root s t r) o
+      false) there
 
   in_block_is : rows_in_block c s t ≡ (same_tag row.tag Carried || lies_in_block c s t row)
   in_block_is =
-      ap (λ (same : Bool). same || option_map_or (λ r. same_tag r.tag Carried || lies_in_block c s t r) (row_of c s t) false) (ne_eqb s t differ)
+      ap (λ (same : Bool). same || option_map_or (λ r. same_tag r.tag Carried || lies_in_block c s t r) (row_of c s t)
+      false) (ne_eqb s t differ)
       ∙ ap (λ (o : Option Row). option_map_or (λ r. same_tag r.tag Carried || lies_in_block c s t r) o false) there
 
   other_tag : (T : Tag) → same_tag row.tag T ≡ false → rows_tagged T g.links c root s t ≡ true
@@ -38,7 +43,8 @@ module _ (g : Topology) (root : ℕ) (c : Certificate) (s t : ℕ) (row : Row) (
   ]
 
   -- the row breaks the rule of its tag, which is the first that asks anything of it
-  pub breaks_tag : (number : ℕ) → number ≡ tag_number row.tag → number ≤ 6 → row_rule row.tag g.links c root s t row ≡ false
+  pub breaks_tag : (number : ℕ) → number ≡ tag_number row.tag → number ≤ 6
+      → row_rule row.tag g.links c root s t row ≡ false
       → FailsFirst (λ rule. row_test g root c rule s t) (7 + number)
   breaks_tag number is few breaks = record {
     rule = TagRule row.tag;
@@ -48,12 +54,14 @@ module _ (g : Topology) (root : ℕ) (c : Certificate) (s t : ℕ) (row : Row) (
   }
     where
       go : (other : Rule) → rule_number other < 7 + number → row_test g root c other s t ≡ true
-      go (TagRule T) less = other_tag T (ne_eqb (tag_number row.tag) (tag_number T) (λ same. omega (arith, less, same, is)))
+      go (TagRule T) less =
+          other_tag T (ne_eqb (tag_number row.tag) (tag_number T) (λ same. omega (arith, less, same, is)))
       go BlockRule less = absurd (omega (arith, less, few))
       go _ less = refl
 
   -- it keeps that rule, and breaks the fourteenth
-  pub breaks_block : row_rule row.tag g.links c root s t row ≡ true → (same_tag row.tag Carried || lies_in_block c s t row) ≡ false
+  pub breaks_block : row_rule row.tag g.links c root s t row ≡ true
+      → (same_tag row.tag Carried || lies_in_block c s t row) ≡ false
       → FailsFirst (λ rule. row_test g root c rule s t) 14
   breaks_block keeps breaks = record { rule = BlockRule; numbered = refl; fails = in_block_is ∙ breaks; earlier = go }
     where

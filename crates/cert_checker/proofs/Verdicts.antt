@@ -17,7 +17,8 @@ use Rattle.mrt_graph.proofs.RuleFaults.{HoldBefore}
 module _ (g : Topology) (root : ℕ) (file : CertFile) where
   -- all six rules hold, and all on rows
   pub all_hold : HoldBefore g root file 7
-      → ((rule : Rule) → HeldBefore (row_test g root file.cert rule) (length file.cert.nodes) (length file.cert.nodes) 0)
+      → ((rule : Rule)
+      → HeldBefore (row_test g root file.cert rule) (length file.cert.nodes) (length file.cert.nodes) 0)
       → Accepted g root file
   all_hold before held (TagRule T) = λ a b first second. (held (TagRule T)).sources a b first second
   all_hold before held BlockRule = λ a b first second. (held BlockRule).sources a b first second
@@ -68,9 +69,11 @@ module _ (g : Topology) (root : ℕ) (file : CertFile) where
 
     pub no_exactly : (verdict : Verdict) → Judged g root file verdict
         → (rule a b : ℕ) → (verdict ≡ No rule a b) ↔ FirstFault g root file rule a b
-    no_exactly verdict judged rule a b = (λ is. subst (λ (v : Verdict). Judged g root file v) is judged, only verdict judged)
+    no_exactly verdict judged rule a b =
+        (λ is. subst (λ (v : Verdict). Judged g root file v) is judged, only verdict judged)
       where
-        only : (verdict : Verdict) → Judged g root file verdict → FirstFault g root file rule a b → verdict ≡ No rule a b
+        only : (verdict : Verdict) → Judged g root file verdict → FirstFault g root file rule a b
+            → verdict ≡ No rule a b
         only Yes held fault = absurd (never_both rule a b held fault)
         only (No number x y) found fault =
             let same = one number x y rule a b found fault in

@@ -46,7 +46,8 @@ touch links e u v to = go (slice_get links e) refl to
     go (Some link) is to = record { link = link; is = is; ends = far_ends link u v to }
 
 -- a node of which something is known is there
-node_there : (f : CertNode → ℕ) (nodes : List CertNode) (a k : ℕ) → option_map f (slice_get nodes a) ≡ Some k → a < length nodes
+node_there : (f : CertNode → ℕ) (nodes : List CertNode) (a k : ℕ) → option_map f (slice_get nodes a) ≡ Some k
+    → a < length nodes
 node_there f nodes a k is = go (slice_get nodes a) refl is
   where
     go : (o : Option CertNode) → slice_get nodes a ≡ o → option_map f o ≡ Some k → a < length nodes
@@ -68,7 +69,8 @@ module _ (g : Topology) (root : ℕ) (file : CertFile) (accepted : Accepted g ro
 
   root_within : root < w.count
   root_within =
-      let stands = (and_parts (option_map_or (λ id. id.number == file.root) (slice_get g.ids root) false) _ ordered.root_first).0 in
+      let stands =
+      (and_parts (option_map_or (λ id. id.number == file.root) (slice_get g.ids root) false) _ ordered.root_first).0 in
       let id = some_passes (λ id. id.number == file.root) (slice_get g.ids root) stands in
       omega (arith, slice_get_within g.ids root id.value id.is, same_graph.counts.nodes)
 
@@ -77,7 +79,8 @@ module _ (g : Topology) (root : ℕ) (file : CertFile) (accepted : Accepted g ro
   order_within a within =
       let node = there file.cert.nodes a within in
       let at = get_or-le-sum_by (λ (node : CertNode). node.order) file.cert.nodes a node.0 within in
-      let is : w.order a ≡ node.0.order = ap (λ (o : Option CertNode). unwrap_or (option_map (λ node. node.order) o) 0) node.1 in
+      let is : w.order a ≡ node.0.order =
+      ap (λ (o : Option CertNode). unwrap_or (option_map (λ node. node.order) o) 0) node.1 in
       omega (arith, is, rw (get_or_from_slice_get file.cert.nodes a node.0 node.0 node.1) at at)
 
   one_order : (a b : ℕ) → a < w.count → b < w.count → w.order a ≡ w.order b → a ≡ b
@@ -98,8 +101,10 @@ module _ (g : Topology) (root : ℕ) (file : CertFile) (accepted : Accepted g ro
   root_placed : (w.head root ≡ root) × (w.block root ≡ root)
   root_placed =
       let tests = rw (eq-eqb root root refl) at (head_holds root root_within).alone in
-      let both = and_parts (are_equal (head_of file.cert root) (Some root)) _ tests in
-      (equal_numbers (head_of file.cert root) (Some root) both.0, equal_numbers (block_of file.cert root) (Some root) both.1)
+      let both = and_parts (are_equal (head_of file.cert root) (Some root)) _ tests in (
+        equal_numbers (head_of file.cert root) (Some root) both.0,
+        equal_numbers (block_of file.cert root) (Some root) both.1,
+      )
 
   record Placed (a : ℕ) : Type 0 where
     head_within : w.head a < w.count
@@ -116,52 +121,69 @@ module _ (g : Topology) (root : ℕ) (file : CertFile) (accepted : Accepted g ro
       let lower : unwrap_or head_order 0 < w.order a = less_numbers head_order (order_of file.cert a) parts.0 in
       record {
         head_within = node_there (λ node. node.order) file.cert.nodes (w.head a) less.first found;
-        head_lower = omega (arith, lower, number_is head_order less.first less.first_is, number_is (order_of file.cert (w.head a)) less.first found);
+        head_lower = omega (
+          arith,
+          lower,
+          number_is head_order less.first less.first_is,
+          number_is
+              (order_of file.cert (w.head a)) less.first found,
+        );
         not_root = different_numbers (block_of file.cert a) (Some root) parts.1;
       }
 
   head_within : (a : ℕ) → a < w.count → w.head a < w.count
   head_within a within = elim (cases_eq a root) [
-    | inl same ↦ subst (λ (x : ℕ). w.head x < w.count) (sym same) (subst (λ (x : ℕ). x < w.count) (sym root_placed.0) root_within)
+    | inl same ↦ subst (λ (x : ℕ). w.head x < w.count) (sym same)
+        (subst (λ (x : ℕ). x < w.count) (sym root_placed.0) root_within)
     | inr other ↦ (member_placed a within other).head_within
   ]
 
   one_head_at : (a b : ℕ) → a < w.count → b < w.count → w.block a ≡ w.block b → w.head a ≡ w.head b
   one_head_at a b a_within b_within same =
-      elim (or_cases (are_different (block_of file.cert a) (block_of file.cert b)) _ ((head_holds a a_within).beside b b_within)) [
+      elim (or_cases (are_different (block_of file.cert a) (block_of file.cert b)) _
+      ((head_holds a a_within).beside b b_within)) [
         | inl apart ↦ absurd (different_numbers (block_of file.cert a) (block_of file.cert b) apart same)
         | inr one ↦ equal_numbers (head_of file.cert a) (head_of file.cert b) one
       ]
 
   -- links
-  placed_link : (e : ℕ) (words : CertLink) → slice_get file.cert.links e ≡ Some words → is_common_block file.cert words.a words.b (Some words.block) ≡ true
+  placed_link : (e : ℕ) (words : CertLink) → slice_get file.cert.links e ≡ Some words
+      → is_common_block file.cert words.a words.b (Some words.block) ≡ true
   placed_link e words is = rw is at (accepted LinkRule e (slice_get_within file.cert.links e words is))
 
-  link_common : (e : ℕ) (words : CertLink) → slice_get file.cert.links e ≡ Some words → Common w words.a words.b words.block
-  link_common e words is = common_block g.links root file.cert words.a words.b (Some words.block) (placed_link e words is)
+  link_common : (e : ℕ) (words : CertLink) → slice_get file.cert.links e ≡ Some words
+      → Common w words.a words.b words.block
+  link_common e words is =
+      common_block g.links root file.cert words.a words.b (Some words.block) (placed_link e words is)
 
   -- two nodes with a common block are there
   with_head : (a b : ℕ) → are_equal (head_of file.cert a) (Some b) ≡ true → (a < w.count) × (b < w.count)
   with_head a b same =
       let p = both_pass (λ x y. x == y) (head_of file.cert a) (Some b) same in
-      let within = node_there (λ node. node.head) file.cert.nodes a p.first p.first_is in
-      (within, subst (λ (x : ℕ). x < w.count) (equal_numbers (head_of file.cert a) (Some b) same) (head_within a within))
+      let within = node_there (λ node. node.head) file.cert.nodes a p.first p.first_is in (
+        within,
+        subst (λ (x : ℕ). x < w.count) (equal_numbers (head_of file.cert a) (Some b) same)
+            (head_within a within),
+      )
 
   two_within : (a b : ℕ) (k : Option ℕ) → is_common_block file.cert a b k ≡ true → (a < w.count) × (b < w.count)
-  two_within a b k holds = elim (or_cases (are_equal (block_of file.cert a) (block_of file.cert b) && are_equal k (block_of file.cert a)) _ holds) [
-    | inl peers ↦
-        let same = (and_parts (are_equal (block_of file.cert a) (block_of file.cert b)) _ peers).0 in
-        let p = both_pass (λ x y. x == y) (block_of file.cert a) (block_of file.cert b) same in (
-          node_there (λ node. node.block) file.cert.nodes a p.first p.first_is,
-          node_there (λ node. node.block) file.cert.nodes b p.second p.second_is,
-        )
-    | inr heads ↦ elim (or_cases (are_equal (head_of file.cert a) (Some b) && are_equal k (block_of file.cert a)) _ heads) [
-      | inl up ↦ with_head a b (and_parts (are_equal (head_of file.cert a) (Some b)) _ up).0
-      | inr down ↦
-          let both = with_head b a (and_parts (are_equal (head_of file.cert b) (Some a)) _ down).0 in
-          (both.1, both.0)
-    ]
-  ]
+  two_within a b k holds =
+      elim (or_cases (are_equal (block_of file.cert a) (block_of file.cert b) && are_equal k (block_of file.cert a)) _
+      holds) [
+        | inl peers ↦
+            let same = (and_parts (are_equal (block_of file.cert a) (block_of file.cert b)) _ peers).0 in
+            let p = both_pass (λ x y. x == y) (block_of file.cert a) (block_of file.cert b) same in (
+              node_there (λ node. node.block) file.cert.nodes a p.first p.first_is,
+              node_there (λ node. node.block) file.cert.nodes b p.second p.second_is,
+            )
+        | inr heads ↦ elim (or_cases (are_equal (head_of file.cert a) (Some b) && are_equal k (block_of file.cert a)) _
+            heads) [
+              | inl up ↦ with_head a b (and_parts (are_equal (head_of file.cert a) (Some b)) _ up).0
+              | inr down ↦
+                  let both = with_head b a (and_parts (are_equal (head_of file.cert b) (Some a)) _ down).0 in
+                  (both.1, both.0)
+            ]
+      ]
 
   -- where a link leads, as the certificate has it
   record Led (e u v : ℕ) : Type 0 where
@@ -172,12 +194,16 @@ module _ (g : Topology) (root : ℕ) (file : CertFile) (accepted : Accepted g ro
   led : (e u v : ℕ) → leads g.links e u ≡ Some v → Led e u v
   led e u v to =
       let t = touch g.links e u v to in
-      let same = both_pass (λ link words. (link.a == words.a) && (link.b == words.b)) (slice_get g.links e) (slice_get file.cert.links e)
+      let same =
+      both_pass (λ link words. (link.a == words.a) && (link.b == words.b)) (slice_get g.links e)
+      (slice_get file.cert.links e)
       (same_graph.links e (omega (arith, slice_get_within g.links e t.link t.is, same_graph.counts.links))) in
       let one : same.first ≡ t.link = cc (same.first_is, t.is) in
       let both = and_parts (same.first.a == same.second.a) _ same.passes in
-      let a : same.second.a ≡ t.link.a = sym (eqb-true same.first.a same.second.a both.0) ∙ ap (λ (l : Link). l.a) one in
-      let b : same.second.b ≡ t.link.b = sym (eqb-true same.first.b same.second.b both.1) ∙ ap (λ (l : Link). l.b) one in
+      let a : same.second.a ≡ t.link.a =
+      sym (eqb-true same.first.a same.second.a both.0) ∙ ap (λ (l : Link). l.a) one in
+      let b : same.second.b ≡ t.link.b =
+      sym (eqb-true same.first.b same.second.b both.1) ∙ ap (λ (l : Link). l.b) one in
       record {
         words = same.second;
         is = same.second_is;
@@ -252,16 +278,20 @@ module _ (g : Topology) (root : ℕ) (file : CertFile) (accepted : Accepted g ro
   lone_at m within other =
       let rule = unless (m == root) _ (accepted LoneRule m within) (ne_eqb m root other) in
       let block = some_passes (lone_if_one_link file.cert) (block_of file.cert m) rule in
-      subst (λ (k : ℕ). lone_if_one_link file.cert k ≡ true) (sym (number_is (block_of file.cert m) block.value block.is)) block.passes
+      subst (λ (k : ℕ). lone_if_one_link file.cert k ≡ true)
+      (sym (number_is (block_of file.cert m) block.value block.is)) block.passes
 
   closed_at : (m : ℕ) → m < w.count → m ≢ root → closed_unless_one_link file.cert (w.head m) (w.block m) ≡ true
   closed_at m within other =
       let rule = unless (m == root) _ (accepted ClosedRule m within) (ne_eqb m root other) in
       let p = both_pass (closed_unless_one_link file.cert) (head_of file.cert m) (block_of file.cert m) rule in
-      subst (λ (h : ℕ). closed_unless_one_link file.cert h (w.block m) ≡ true) (sym (number_is (head_of file.cert m) p.first p.first_is))
-      (subst (λ (k : ℕ). closed_unless_one_link file.cert p.first k ≡ true) (sym (number_is (block_of file.cert m) p.second p.second_is)) p.passes)
+      subst (λ (h : ℕ). closed_unless_one_link file.cert h (w.block m) ≡ true)
+      (sym (number_is (head_of file.cert m) p.first p.first_is))
+      (subst (λ (k : ℕ). closed_unless_one_link file.cert p.first k ≡ true)
+      (sym (number_is (block_of file.cert m) p.second p.second_is)) p.passes)
 
-  one_link_of : (words : CertLink) (e m : ℕ) → slice_get file.cert.links e ≡ Some words → words.role ≡ roles.Sole → m < w.count → m ≢ root
+  one_link_of : (words : CertLink) (e m : ℕ) → slice_get file.cert.links e ≡ Some words → words.role ≡ roles.Sole
+      → m < w.count → m ≢ root
       → w.block m ≡ words.block → length (links_of file.cert words.block) ≡ 1
   one_link_of words e m is sole within other block =
       let here : closed_unless_one_link file.cert (w.head m) words.block ≡ true =
@@ -269,9 +299,11 @@ module _ (g : Topology) (root : ℕ) (file : CertFile) (accepted : Accepted g ro
       elim (or_cases (length (links_of file.cert words.block) == 1) _ here) [
         | inl one ↦ eqb-true (length (links_of file.cert words.block)) 1 one
         | inr more ↦
-            let none = (and_parts (list_all (λ link. not (is_sole link.role)) (links_of file.cert words.block)) _ more).0 in
+            let none =
+            (and_parts (list_all (λ link. not (is_sole link.role)) (links_of file.cert words.block)) _ more).0 in
             let not_sole : not (is_sole words.role) ≡ true =
-            passes_too (λ link. link.block == words.block) (λ link. not (is_sole link.role)) file.cert.links e words none is (eq-eqb words.block words.block refl) in
+            passes_too (λ link. link.block == words.block) (λ link. not (is_sole link.role)) file.cert.links e words
+            none is (eq-eqb words.block words.block refl) in
             absurd (true≢false (sym (ap is_sole sole) ∙ not-true (is_sole words.role) not_sole))
       ]
 
@@ -289,18 +321,24 @@ module _ (g : Topology) (root : ℕ) (file : CertFile) (accepted : Accepted g ro
       let part = part_is e l.words l.is in
       let within = led_within e u v l in
       let of = member_of u v l.words.block within.0 within.1 differ (led_tied e u v l) in
-      let sole : l.words.role ≡ roles.Sole = sym (ap (λ (o : Option CertLink). option_map_or (λ link. link.role) o roles.Plain) l.is) ∙ role in
+      let sole : l.words.role ≡ roles.Sole =
+      sym (ap (λ (o : Option CertLink). option_map_or (λ link. link.role) o roles.Plain) l.is) ∙ role in
       let one : length (links_of file.cert (w.part e)) ≡ 1 =
-      subst (λ (k : ℕ). length (links_of file.cert k) ≡ 1) (sym part) (one_link_of l.words e of.m l.is sole of.within of.not_root of.block) in
+      subst (λ (k : ℕ). length (links_of file.cert k) ≡ 1) (sym part)
+      (one_link_of l.words e of.m l.is sole of.within of.not_root of.block) in
       let here : lone_if_one_link file.cert (w.part e) ≡ true =
-      subst (λ (k : ℕ). lone_if_one_link file.cert k ≡ true) (of.block ∙ sym part) (lone_at of.m of.within of.not_root) in
-      let tests = implied (length (links_of file.cert (w.part e)) == 1) _ here (eq-eqb (length (links_of file.cert (w.part e))) 1 one) in
+      subst (λ (k : ℕ). lone_if_one_link file.cert k ≡ true) (of.block ∙ sym part)
+      (lone_at of.m of.within of.not_root) in
+      let tests =
+      implied (length (links_of file.cert (w.part e)) == 1) _ here
+      (eq-eqb (length (links_of file.cert (w.part e))) 1 one) in
       record {
         words = l.words;
         is = l.is;
         block = sym part;
         one_link = one;
-        one_member = eqb-true (length (members file.cert (w.part e))) 1 (and_parts (length (members file.cert (w.part e)) == 1) _ tests).0;
+        one_member = eqb-true (length (members file.cert (w.part e))) 1
+            (and_parts (length (members file.cert (w.part e)) == 1) _ tests).0;
       }
 
   lone : (e u v f x y : ℕ) → leads g.links e u ≡ Some v → u ≢ v → w.role e ≡ roles.Sole → leads g.links f x ≡ Some y
@@ -309,7 +347,8 @@ module _ (g : Topology) (root : ℕ) (file : CertFile) (accepted : Accepted g ro
       let l = lone_block_of e u v to differ sole in
       let other = led f x y other_to in
       let block : other.words.block ≡ w.part e = sym (part_is f other.words other.is) ∙ sym same in
-      one_passes (λ link. link.block == w.part e) file.cert.links e f l.words other.words l.one_link l.is (eq-eqb l.words.block (w.part e) l.block)
+      one_passes (λ link. link.block == w.part e) file.cert.links e f l.words other.words l.one_link l.is
+      (eq-eqb l.words.block (w.part e) l.block)
       other.is (eq-eqb other.words.block (w.part e) block)
 
   lone_member : (e u v a b : ℕ) → leads g.links e u ≡ Some v → u ≢ v → w.role e ≡ roles.Sole → a < w.count → b < w.count

@@ -28,7 +28,8 @@ not_beside : (test : ℕ → ℕ → Bool) (n a b x y : ℕ) → IsFirstPair tes
 not_beside test n a b x y first other same less =
     both_ways _ first.fails (subst (λ (z : ℕ). test z b ≡ true) (sym same) (other.before_second b less))
 
-pub one_pair : (test : ℕ → ℕ → Bool) (n a b x y : ℕ) → IsFirstPair test n a b → IsFirstPair test n x y → (a ≡ x) × (b ≡ y)
+pub one_pair : (test : ℕ → ℕ → Bool) (n a b x y : ℕ) → IsFirstPair test n a b → IsFirstPair test n x y
+    → (a ≡ x) × (b ≡ y)
 one_pair test n a b x y first other = elim (cases_order a x) [
   | inl same ↦ (
     same,
@@ -66,21 +67,22 @@ each_first test n = elim (first_of (λ a. test a ≡ true) (λ a. test a ≡ fal
 ]
 
 pub pairs_first : (test : ℕ → ℕ → Bool) (n : ℕ) → EachPair test n ⊎ ((a : ℕ) × ((b : ℕ) × IsFirstPair test n a b))
-pairs_first test n = elim (first_of (λ a. Each (test a) n) (λ a. (b : ℕ) × IsFirst (test a) n b) n (λ a within. each_first (test a) n)) [
-  | inl each ↦ inl (λ a b first second. each a first b second)
-  | inr found ↦
-      let beside = found.1.1.0 in
-      inr (
-        found.0,
-        (
-          beside.0,
-          record {
-            first_within = found.1.0;
-            second_within = beside.1.within;
-            fails = beside.1.fails;
-            before_first = λ x y below within. found.1.1.1 x below y within;
-            before_second = beside.1.before;
-          },
-        ),
-      )
-]
+pairs_first test n =
+    elim (first_of (λ a. Each (test a) n) (λ a. (b : ℕ) × IsFirst (test a) n b) n (λ a within. each_first (test a) n)) [
+      | inl each ↦ inl (λ a b first second. each a first b second)
+      | inr found ↦
+          let beside = found.1.1.0 in
+          inr (
+            found.0,
+            (
+              beside.0,
+              record {
+                first_within = found.1.0;
+                second_within = beside.1.within;
+                fails = beside.1.fails;
+                before_first = λ x y below within. found.1.1.1 x below y within;
+                before_second = beside.1.before;
+              },
+            ),
+          )
+    ]

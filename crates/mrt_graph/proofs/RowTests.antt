@@ -33,41 +33,57 @@ module _ (links : List Link) (root : ℕ) (c : Certificate) where
   higher : (s v : ℕ) → higher_beside c s v ≡ true → Higher (words_of links root c) s v
   higher s v holds =
       let both = and_parts (are_equal (block_of c v) (block_of c s)) _ holds in
-      record { block = equal_numbers (block_of c v) (block_of c s) both.0; order = less_numbers (order_of c s) (order_of c v) both.1 }
+      record {
+        block = equal_numbers (block_of c v) (block_of c s) both.0;
+        order = less_numbers (order_of c s) (order_of c v) both.1;
+      }
 
   lower : (s v : ℕ) → lower_beside c s v ≡ true → Lower (words_of links root c) s v
   lower s v holds =
       let both = and_parts (are_equal (block_of c v) (block_of c s)) _ holds in
-      record { block = equal_numbers (block_of c v) (block_of c s) both.0; order = less_numbers (order_of c v) (order_of c s) both.1 }
+      record {
+        block = equal_numbers (block_of c v) (block_of c s) both.0;
+        order = less_numbers (order_of c v) (order_of c s) both.1;
+      }
 
-  over_plain : (e v u : ℕ) → (has_role is_plain c e && (v == u)) ≡ true → OverPlain (words_of links root c) u (hop_to e v)
+  over_plain : (e v u : ℕ) → (has_role is_plain c e && (v == u)) ≡ true
+      → OverPlain (words_of links root c) u (hop_to e v)
   over_plain e v u holds =
       let both = and_parts (has_role is_plain c e) _ holds in
       record { plain = plain_is links root c e both.0; there = eqb-true _ _ both.1 }
 
-  over_closing : (e v u : ℕ) → (has_role is_closing c e && (v == u)) ≡ true → OverClosing (words_of links root c) u (hop_to e v)
+  over_closing : (e v u : ℕ) → (has_role is_closing c e && (v == u)) ≡ true
+      → OverClosing (words_of links root c) u (hop_to e v)
   over_closing e v u holds =
       let both = and_parts (has_role is_closing c e) _ holds in
       record { closing = closing_is links root c e both.0; there = eqb-true _ _ both.1 }
 
-  home_over_plain : (e v s : ℕ) → plain_to_head c e s v ≡ true → OverPlain (words_of links root c) ((words_of links root c).head s) (hop_to e v)
+  home_over_plain : (e v s : ℕ) → plain_to_head c e s v ≡ true
+      → OverPlain (words_of links root c) ((words_of links root c).head s) (hop_to e v)
   home_over_plain e v s holds =
       let both = and_parts (has_role is_plain c e) _ holds in
       record { plain = plain_is links root c e both.0; there = sym (equal_numbers (head_of c s) (Some v) both.1) }
 
-  home_over_closing : (e v s : ℕ) → closing_to_head c e s v ≡ true → OverClosing (words_of links root c) ((words_of links root c).head s) (hop_to e v)
+  home_over_closing : (e v s : ℕ) → closing_to_head c e s v ≡ true
+      → OverClosing (words_of links root c) ((words_of links root c).head s) (hop_to e v)
   home_over_closing e v s holds =
       let both = and_parts (has_role is_closing c e) _ holds in
       record { closing = closing_is links root c e both.0; there = sym (equal_numbers (head_of c s) (Some v) both.1) }
 
   module _ (s t : ℕ) (row : Row) (blue red : ℕ) where
-    sole_says : near_row tags.Sole c s t row blue red ≡ true → SoleRow (words_of links root c) s t (hop_to row.blue blue) (hop_to row.red red)
+    sole_says : near_row tags.Sole c s t row blue red ≡ true
+        → SoleRow (words_of links root c) s t (hop_to row.blue blue) (hop_to row.red red)
     sole_says holds =
         let one = and_parts (row.blue == row.red) _ holds in
         let sole = and_parts (has_role is_sole c row.blue) _ one.1 in
-        record { one_link = eqb-true _ _ one.0; sole = sole_is links root c row.blue sole.0; there = eqb-true _ _ sole.1 }
+        record {
+          one_link = eqb-true _ _ one.0;
+          sole = sole_is links root c row.blue sole.0;
+          there = eqb-true _ _ sole.1;
+        }
 
-    head_says : near_row tags.Head c s t row blue red ≡ true → HeadRow (words_of links root c) s t (hop_to row.blue blue) (hop_to row.red red)
+    head_says : near_row tags.Head c s t row blue red ≡ true
+        → HeadRow (words_of links root c) s t (hop_to row.blue blue) (hop_to row.red red)
     head_says holds =
         let head = and_parts (are_equal (head_of c s) (Some t)) _ holds in
         let sides = and_parts (higher_beside c s blue || (has_role is_closing c row.blue && (blue == t))) _ head.1 in
@@ -83,7 +99,8 @@ module _ (links : List Link) (root : ℕ) (c : Certificate) where
           ];
         }
 
-    top_says : near_row tags.Top c s t row blue red ≡ true → TopRow (words_of links root c) s t (hop_to row.blue blue) (hop_to row.red red)
+    top_says : near_row tags.Top c s t row blue red ≡ true
+        → TopRow (words_of links root c) s t (hop_to row.blue blue) (hop_to row.red red)
     top_says holds =
         let head = and_parts (are_equal (head_of c t) (Some s)) _ holds in
         let sides = and_parts (has_role is_plain c row.blue && ((blue == t) || tagged c blue t tags.Below)) _ head.1 in
@@ -103,7 +120,8 @@ module _ (links : List Link) (root : ℕ) (c : Certificate) where
           ];
         }
 
-    below_says : near_row tags.Below c s t row blue red ≡ true → BelowRow (words_of links root c) s t (hop_to row.blue blue) (hop_to row.red red)
+    below_says : near_row tags.Below c s t row blue red ≡ true
+        → BelowRow (words_of links root c) s t (hop_to row.blue blue) (hop_to row.red red)
     below_says holds =
         let one = and_parts (are_equal (block_of c s) (block_of c t)) _ holds in
         let order = and_parts (is_less (order_of c s) (order_of c t)) _ one.1 in
@@ -121,7 +139,8 @@ module _ (links : List Link) (root : ℕ) (c : Certificate) where
           ];
         }
 
-    above_says : near_row tags.Above c s t row blue red ≡ true → AboveRow (words_of links root c) s t (hop_to row.blue blue) (hop_to row.red red)
+    above_says : near_row tags.Above c s t row blue red ≡ true
+        → AboveRow (words_of links root c) s t (hop_to row.blue blue) (hop_to row.red red)
     above_says holds =
         let one = and_parts (are_equal (block_of c s) (block_of c t)) _ holds in
         let order = and_parts (is_less (order_of c t) (order_of c s)) _ one.1 in
@@ -160,7 +179,8 @@ module _ (links : List Link) (root : ℕ) (c : Certificate) where
           ];
         }
 
-    says : (T : Tag) → near_row T c s t row blue red ≡ true → Says (words_of links root c) T s t (hop_to row.blue blue) (hop_to row.red red)
+    says : (T : Tag) → near_row T c s t row blue red ≡ true
+        → Says (words_of links root c) T s t (hop_to row.blue blue) (hop_to row.red red)
     says tags.Sole holds = sole_says holds
     says tags.Head holds = head_says holds
     says tags.Top holds = top_says holds
@@ -169,7 +189,8 @@ module _ (links : List Link) (root : ℕ) (c : Certificate) where
     says tags.Unordered holds = unordered_says holds
     says tags.Carried holds = absurd (false≢true holds)
 
-  told_near : (s t : ℕ) (row : Row) (T : Tag) → both (near_row T c s t row) (leads links row.blue s) (leads links row.red s) ≡ true
+  told_near : (s t : ℕ) (row : Row) (T : Tag)
+      → both (near_row T c s t row) (leads links row.blue s) (leads links row.red s) ≡ true
       → Told (words_of links root c) s t row T
   told_near s t row T holds =
       let p = both_pass (near_row T c s t row) (leads links row.blue s) (leads links row.red s) holds in
@@ -182,7 +203,8 @@ module _ (links : List Link) (root : ℕ) (c : Certificate) where
       }
 
   -- a row that is not Carried
-  pub told : (s t : ℕ) (row : Row) (T : Tag) → T ≢ tags.Carried → row_rule T links c root s t row ≡ true → Told (words_of links root c) s t row T
+  pub told : (s t : ℕ) (row : Row) (T : Tag) → T ≢ tags.Carried → row_rule T links c root s t row ≡ true
+      → Told (words_of links root c) s t row T
   told s t row tags.Carried near holds = absurd (near refl)
   told s t row tags.Sole near holds = told_near s t row tags.Sole holds
   told s t row tags.Head near holds = told_near s t row tags.Head holds

@@ -30,7 +30,8 @@ each_told test n = record {
 }
 
 pairs_told : (test : ℕ → ℕ → Bool) (n : ℕ) → IsTold (told_of_pairs test n)
-pairs_told test n = record { either = pairs_first test n; never_both = each_or_pair test n; one_place = one_pair test n }
+pairs_told test n =
+    record { either = pairs_first test n; never_both = each_or_pair test n; one_place = one_pair test n }
 
 -- ---- the first rule
 
@@ -66,14 +67,18 @@ graph_one g c a b x y (OtherCounts other) (OtherNode v counts first) = absurd (o
 graph_one g c a b x y (OtherCounts other) (OtherLink e counts nodes first) = absurd (other counts)
 graph_one g c a b x y (OtherNode u counts first) (OtherCounts other) = absurd (other counts)
 graph_one g c a b x y (OtherNode u counts first) (OtherNode v same second) = (one_first _ _ _ _ first second, refl)
-graph_one g c a b x y (OtherNode u counts first) (OtherLink e same nodes second) = absurd (each_or_first _ _ _ nodes first)
+graph_one g c a b x y (OtherNode u counts first) (OtherLink e same nodes second) =
+    absurd (each_or_first _ _ _ nodes first)
 graph_one g c a b x y (OtherLink d counts nodes first) (OtherCounts other) = absurd (other counts)
-graph_one g c a b x y (OtherLink d counts nodes first) (OtherNode v same second) = absurd (each_or_first _ _ _ nodes second)
-graph_one g c a b x y (OtherLink d counts nodes first) (OtherLink e same others second) = (one_first _ _ _ _ first second, refl)
+graph_one g c a b x y (OtherLink d counts nodes first) (OtherNode v same second) =
+    absurd (each_or_first _ _ _ nodes second)
+graph_one g c a b x y (OtherLink d counts nodes first) (OtherLink e same others second) =
+    (one_first _ _ _ _ first second, refl)
 
 -- ---- the second rule
 
-orders_either : (g : Topology) (root : ℕ) (file : CertFile) → RootAndOrders g root file ⊎ ((a : ℕ) × ((b : ℕ) × OrderFault g root file a b))
+orders_either : (g : Topology) (root : ℕ) (file : CertFile)
+    → RootAndOrders g root file ⊎ ((a : ℕ) × ((b : ℕ) × OrderFault g root file a b))
 orders_either g root file = elim (cases_Bool (root_stands g root file)) [
   | inr fails ↦ inr (root, (root, AtRoot fails))
   | inl stands ↦ elim (pairs_first (orders_differ file.cert) (length file.cert.nodes)) [
@@ -82,7 +87,8 @@ orders_either g root file = elim (cases_Bool (root_stands g root file)) [
   ]
 ]
 
-orders_never : (g : Topology) (root : ℕ) (file : CertFile) (a b : ℕ) → RootAndOrders g root file → OrderFault g root file a b → ⊥
+orders_never : (g : Topology) (root : ℕ) (file : CertFile) (a b : ℕ) → RootAndOrders g root file
+    → OrderFault g root file a b → ⊥
 orders_never g root file a b hold (AtRoot fails) = both_ways _ fails hold.root_first
 orders_never g root file a b hold (EqualOrders x y stands first) = each_or_pair _ _ _ _ hold.orders first
 
@@ -91,7 +97,8 @@ orders_one : (g : Topology) (root : ℕ) (file : CertFile) (a b x y : ℕ) → O
 orders_one g root file a b x y (AtRoot fails) (AtRoot again) = (refl, refl)
 orders_one g root file a b x y (AtRoot fails) (EqualOrders u v stands first) = absurd (both_ways _ fails stands)
 orders_one g root file a b x y (EqualOrders u v stands first) (AtRoot fails) = absurd (both_ways _ fails stands)
-orders_one g root file a b x y (EqualOrders d e stands first) (EqualOrders u v again second) = one_pair _ _ _ _ _ _ first second
+orders_one g root file a b x y (EqualOrders d e stands first) (EqualOrders u v again second) =
+    one_pair _ _ _ _ _ _ first second
 
 -- ---- the third rule
 
@@ -116,7 +123,8 @@ head_one c root a b y (Beside u alone first) (Beside v again second) = one_first
 
 heads_either : (c : Certificate) (root : ℕ) → HeadsHold c root ⊎ ((a : ℕ) × ((b : ℕ) × HeadFault c root a b))
 heads_either c root =
-    elim (first_of (HeadHolds c root) (λ a. (b : ℕ) × HeadFails c root a b) (length c.nodes) (λ a within. head_either c root a)) [
+    elim (first_of (HeadHolds c root) (λ a. (b : ℕ) × HeadFails c root a b) (length c.nodes)
+    (λ a within. head_either c root a)) [
       | inl hold ↦ inl hold
       | inr found ↦
           let fails = found.1.1.0 in
@@ -128,7 +136,11 @@ heads_never c root a b hold fault = head_never c root a b (hold a fault.within) 
 
 heads_one : (c : Certificate) (root a b x y : ℕ) → HeadFault c root a b → HeadFault c root x y → (a ≡ x) × (b ≡ y)
 heads_one c root a b x y fault other = elim (cases_order a x) [
-  | inl same ↦ (same, head_one c root a b y fault.fails (subst (λ (z : ℕ). HeadFails c root z y) (sym same) other.fails))
+  | inl same ↦ (
+    same,
+    head_one c root a b y fault.fails
+        (subst (λ (z : ℕ). HeadFails c root z y) (sym same) other.fails),
+  )
   | inr (inl less) ↦ absurd (head_never c root a b (other.before a less) fault.fails)
   | inr (inr less) ↦ absurd (head_never c root x y (fault.before x less) other.fails)
 ]
@@ -137,11 +149,23 @@ heads_one c root a b x y fault other = elim (cases_order a x) [
 
 pub rule_told : (g : Topology) (root : ℕ) (file : CertFile) (rule : Rule) → IsTold (told g root file rule)
 rule_told g root file GraphRule =
-    record { either = graph_either g file.cert; never_both = graph_never g file.cert; one_place = graph_one g file.cert }
+    record {
+      either = graph_either g file.cert;
+      never_both = graph_never g file.cert;
+      one_place = graph_one g file.cert;
+    }
 rule_told g root file OrderRule =
-    record { either = orders_either g root file; never_both = orders_never g root file; one_place = orders_one g root file }
+    record {
+      either = orders_either g root file;
+      never_both = orders_never g root file;
+      one_place = orders_one g root file;
+    }
 rule_told g root file HeadRule =
-    record { either = heads_either file.cert root; never_both = heads_never file.cert root; one_place = heads_one file.cert root }
+    record {
+      either = heads_either file.cert root;
+      never_both = heads_never file.cert root;
+      one_place = heads_one file.cert root;
+    }
 rule_told g root file LinkRule = each_told _ _
 rule_told g root file LoneRule = each_told _ _
 rule_told g root file ClosedRule = each_told _ _
@@ -230,11 +254,14 @@ module _ (g : Topology) (root : ℕ) (file : CertFile) where
   ]
 
   pub never_both : (rule a b : ℕ) → Accepted g root file → FirstFault g root file rule a b → ⊥
-  never_both rule a b accepted fault = (rule_told g root file fault.rule).never_both a b (accepted fault.rule) fault.fails
+  never_both rule a b accepted fault =
+      (rule_told g root file fault.rule).never_both a b (accepted fault.rule) fault.fails
 
-  not_earlier : (rule a b number x y : ℕ) → FirstFault g root file rule a b → FirstFault g root file number x y → rule < number → ⊥
+  not_earlier : (rule a b number x y : ℕ) → FirstFault g root file rule a b → FirstFault g root file number x y
+      → rule < number → ⊥
   not_earlier rule a b number x y fault other less =
-      (rule_told g root file fault.rule).never_both a b (other.earlier fault.rule (omega (arith, less, fault.numbered))) fault.fails
+      (rule_told g root file fault.rule).never_both a b
+      (other.earlier fault.rule (omega (arith, less, fault.numbered))) fault.fails
 
   pub one_fault : (rule a b number x y : ℕ) → FirstFault g root file rule a b → FirstFault g root file number x y
       → (rule ≡ number) × (a ≡ x) × (b ≡ y)

@@ -68,10 +68,12 @@ pub record Pass {A B : Type 0} (test : A → B → Bool) (x : Option A) (y : Opt
   pub second_is : y ≡ Some second
   pub passes : test first second ≡ true
 
-pub both_pass : {A B : Type 0} (test : A → B → Bool) (x : Option A) (y : Option B) → both test x y ≡ true → Pass test x y
+pub both_pass : {A B : Type 0} (test : A → B → Bool) (x : Option A) (y : Option B) → both test x y ≡ true
+    → Pass test x y
 both_pass test None y holds = absurd (false≢true holds)
 both_pass test (Some a) None holds = absurd (false≢true holds)
-both_pass test (Some a) (Some b) holds = record { first = a; second = b; first_is = refl; second_is = refl; passes = holds }
+both_pass test (Some a) (Some b) holds =
+    record { first = a; second = b; first_is = refl; second_is = refl; passes = holds }
 
 -- a number that is there
 pub number_is : (x : Option ℕ) (k : ℕ) → x ≡ Some k → unwrap_or x 0 ≡ k
@@ -94,7 +96,8 @@ less_numbers x y holds =
     rw (number_is x p.first p.first_is, number_is y p.second p.second_is) (ltb-true p.first p.second p.passes)
 
 -- what is found by a number is found by the number that is there
-pub found_by : {X : Type 0} (f : ℕ → Option X) (x : Option ℕ) (found : X) → option_and_then f x ≡ Some found → f (unwrap_or x 0) ≡ Some found
+pub found_by : {X : Type 0} (f : ℕ → Option X) (x : Option ℕ) (found : X) → option_and_then f x ≡ Some found
+    → f (unwrap_or x 0) ≡ Some found
 found_by f None found is = cc
 found_by f (Some k) found is = is
 
@@ -107,7 +110,8 @@ pub record Roled (c : Certificate) (e : ℕ) (test : Role → Bool) : Type 0 whe
 pub role_there : (c : Certificate) (e : ℕ) (test : Role → Bool) → has_role test c e ≡ true → Roled c e test
 role_there c e test holds = go (slice_get c.links e) refl holds
   where
-    go : (o : Option CertLink) → slice_get c.links e ≡ o → option_map_or (λ link. test link.role) o false ≡ true → Roled c e test
+    go : (o : Option CertLink) → slice_get c.links e ≡ o → option_map_or (λ link. test link.role) o false ≡ true
+        → Roled c e test
     go None is passes = absurd (false≢true passes)
     go (Some link) is passes = record { link = link; is = is; passes = passes }
 
@@ -136,7 +140,8 @@ module _ (links : List Link) (root : ℕ) (c : Certificate) where
   pub closing_is : (e : ℕ) → has_role is_closing c e ≡ true → (words_of links root c).role e ≡ roles.Closing
   closing_is e holds =
       let there = role_there c e is_closing holds in
-      ap (λ (o : Option CertLink). option_map_or (λ link. link.role) o roles.Plain) there.is ∙ role_closing _ there.passes
+      ap (λ (o : Option CertLink). option_map_or (λ link. link.role) o roles.Plain) there.is
+      ∙ role_closing _ there.passes
 
   -- and those of two nodes
   pub unrelated_apart : (s t : ℕ) → are_unrelated c s t ≡ true → Related (words_of links root c) s t → ⊥
@@ -151,38 +156,43 @@ module _ (links : List Link) (root : ℕ) (c : Certificate) where
       go (Under under) blocks up down = different_numbers (head_of c s) (Some t) up under
       go (Over over) blocks up down = different_numbers (head_of c t) (Some s) down over
 
-  pub common_block : (s t : ℕ) (k : Option ℕ) → is_common_block c s t k ≡ true → Common (words_of links root c) s t (unwrap_or k 0)
-  common_block s t k holds = elim (or_cases (are_equal (block_of c s) (block_of c t) && are_equal k (block_of c s)) _ holds) [
-    | inl peers ↦
-        let both = and_parts (are_equal (block_of c s) (block_of c t)) _ peers in
-        Peers (equal_numbers (block_of c s) (block_of c t) both.0) (equal_numbers k (block_of c s) both.1)
-    | inr heads ↦ elim (or_cases (are_equal (head_of c s) (Some t) && are_equal k (block_of c s)) _ heads) [
-      | inl up ↦
-          let both = and_parts (are_equal (head_of c s) (Some t)) _ up in
-          ToHead (equal_numbers (head_of c s) (Some t) both.0) (equal_numbers k (block_of c s) both.1)
-      | inr down ↦
-          let both = and_parts (are_equal (head_of c t) (Some s)) _ down in
-          FromHead (equal_numbers (head_of c t) (Some s) both.0) (equal_numbers k (block_of c t) both.1)
-    ]
-  ]
+  pub common_block : (s t : ℕ) (k : Option ℕ) → is_common_block c s t k ≡ true
+      → Common (words_of links root c) s t (unwrap_or k 0)
+  common_block s t k holds =
+      elim (or_cases (are_equal (block_of c s) (block_of c t) && are_equal k (block_of c s)) _ holds) [
+        | inl peers ↦
+            let both = and_parts (are_equal (block_of c s) (block_of c t)) _ peers in
+            Peers (equal_numbers (block_of c s) (block_of c t) both.0) (equal_numbers k (block_of c s) both.1)
+        | inr heads ↦ elim (or_cases (are_equal (head_of c s) (Some t) && are_equal k (block_of c s)) _ heads) [
+          | inl up ↦
+              let both = and_parts (are_equal (head_of c s) (Some t)) _ up in
+              ToHead (equal_numbers (head_of c s) (Some t) both.0) (equal_numbers k (block_of c s) both.1)
+          | inr down ↦
+              let both = and_parts (are_equal (head_of c t) (Some s)) _ down in
+              FromHead (equal_numbers (head_of c t) (Some s) both.0) (equal_numbers k (block_of c t) both.1)
+        ]
+      ]
 
   -- what is tagged
   pub is_tagged : (v t : ℕ) (T : Tag) → tagged c v t T ≡ true → Tagged (words_of links root c) t T v
   is_tagged v t T holds = go (row_of c v t) refl holds
     where
-      go : (o : Option Row) → row_of c v t ≡ o → option_map_or (λ row. same_tag row.tag T) o false ≡ true → Tagged (words_of links root c) t T v
+      go : (o : Option Row) → row_of c v t ≡ o → option_map_or (λ row. same_tag row.tag T) o false ≡ true
+          → Tagged (words_of links root c) t T v
       go None is passes = absurd (false≢true passes)
       go (Some row) is passes = record {
         not_there = row_of_two c v t row is;
         is = ap (λ (o : Option Row). option_map_or (λ row. row.tag) o tags.Carried) is ∙ tag_is row.tag T passes;
       }
 
-  pub is_higher : (s t : ℕ) (T : Tag) (v : ℕ) → higher_tagged c s t T v ≡ true → HigherTagged (words_of links root c) s t T v
+  pub is_higher : (s t : ℕ) (T : Tag) (v : ℕ) → higher_tagged c s t T v ≡ true
+      → HigherTagged (words_of links root c) s t T v
   is_higher s t T v holds =
       let both = and_parts (is_less (order_of c s) (order_of c v)) _ holds in
       record { order = less_numbers (order_of c s) (order_of c v) both.0; tagged = is_tagged v t T both.1 }
 
-  pub is_lower : (s t : ℕ) (T : Tag) (v : ℕ) → lower_tagged c s t T v ≡ true → LowerTagged (words_of links root c) s t T v
+  pub is_lower : (s t : ℕ) (T : Tag) (v : ℕ) → lower_tagged c s t T v ≡ true
+      → LowerTagged (words_of links root c) s t T v
   is_lower s t T v holds =
       let both = and_parts (is_less (order_of c v) (order_of c s)) _ holds in
       record { order = less_numbers (order_of c v) (order_of c s) both.0; tagged = is_tagged v t T both.1 }

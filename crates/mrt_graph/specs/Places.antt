@@ -15,7 +15,8 @@ pub record IsFirst (test : ℕ → Bool) (n a : ℕ) : Type 0 where
 abbrev pub EachPair : (ℕ → ℕ → Bool) → ℕ → Type 0
 EachPair test n = (a b : ℕ) → a < n → b < n → test a b ≡ true
 
--- among the pairs of numbers below n where the test fails, a is the least first one and b the least second one beside it
+-- among the pairs of numbers below n where the test fails, a is the least first one, and b the least second one beside
+-- it
 pub record IsFirstPair (test : ℕ → ℕ → Bool) (n a b : ℕ) : Type 0 where
   pub first_within : a < n
   pub second_within : b < n

@@ -59,8 +59,8 @@ top_row c s t row blue red =
     && ((has_role is_plain c row.blue && ((blue == t) || tagged c blue t Below))
     && (has_role is_closing c row.red && ((red == t) || tagged c red t Above)))
 
--- Below: s and t have one block, s has the smaller order; blue leads to t, or to a node of greater order whose row for t
--- is Below; red leads to a node of smaller order whose row for t is Below, or is plain and leads to the head of s
+-- Below: s and t have one block, s has the smaller order; blue leads to t, or to a node of greater order whose row for
+-- t is Below; red leads to a node of smaller order whose row for t is Below, or is plain and leads to the head of s
 abbrev pub below_row : Certificate → ℕ → ℕ → Row → ℕ → ℕ → Bool
 below_row c s t row blue red =
     are_equal (block_of c s) (block_of c t) && (is_less (order_of c s) (order_of c t)
@@ -68,7 +68,8 @@ below_row c s t row blue red =
     && (lower_tagged c s t Below red || plain_to_head c row.red s red)))
 
 -- Above: s and t have one block, s has the greater order; blue leads to a node of greater order whose row for t is
--- Above, or is closing and leads to the head of s; red leads to t, or to a node of smaller order whose row for t is Above
+-- Above, or is closing and leads to the head of s; red leads to t, or to a node of smaller order whose row for t is
+-- Above
 abbrev pub above_row : Certificate → ℕ → ℕ → Row → ℕ → ℕ → Bool
 above_row c s t row blue red =
     are_equal (block_of c s) (block_of c t) && (is_less (order_of c t) (order_of c s)

@@ -6,7 +6,8 @@ use Rattle.mrt_graph.specs.HeadsAndBlocks.{Alone, Beside, HeadFails, HeadHolds, 
 use Rattle.cert_checker.proofs.heads.head_fault_at.Goals as goal
 
 -- what a search for another head has found at a node that is placed
-found_beside : (c : Certificate) (root a : ℕ) → placed c root a ≡ true → (found : Option ℕ) → FoundFirst (one_head c a) (length c.nodes) found
+found_beside : (c : Certificate) (root a : ℕ) → placed c root a ≡ true → (found : Option ℕ)
+    → FoundFirst (one_head c a) (length c.nodes) found
     → MatchOption found (HeadHolds c root a) (HeadFails c root a)
 found_beside c root a alone None beside = record { alone = alone; beside = beside }
 found_beside c root a alone (Some b) first = Beside b alone first

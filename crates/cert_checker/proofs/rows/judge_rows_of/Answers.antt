@@ -7,7 +7,8 @@ pub loop-t-preserved : goal.loop-t-preserved
 loop-t-preserved c =
     let test = row_test c.args.g.now c.args.root c.args.c.now in
     let within : c.loop-t.t < length c.args.c.now.nodes = omega arith in
-    let judged : JudgedRow (λ rule. test rule c.args.s c.loop-t.t) c.row_fault.result = rw c.new.ensures at c.row_fault.ensures in
+    let judged : JudgedRow (λ rule. test rule c.args.s c.loop-t.t) c.row_fault.result =
+    rw c.new.ensures at c.row_fault.ensures in
     rw (c.keep-kept.ensures, c.new-in-loop-t.ensures)
     (kept_more test _ _ _ c.requires.source within _ _ c.loop-t.invariant judged)
 
