@@ -1,7 +1,7 @@
 -- A body is read as it is written, and written as it is read.
-use Rattle.std.proofs.Common.{◌≡◌, ℕ, suc, ◌+◌, ◌-◌, ◌*◌, ◌/◌, ◌%◌, ◌^◌, ◌<◌, ◌≤◌, Bool, true, false, List, [], ◌∷◌, ◌++◌, length, drop, Option, Some, None, Ok, Err, inl, inr, refl, sym, ap, subst, ◌∙◌, arith}
+use Rattle.std.proofs.Common.{◌≡◌, ℕ, ◌+◌, ◌-◌, ◌*◌, ◌/◌, ◌%◌, ◌^◌, ◌<◌, ◌≤◌, Bool, true, false, List, [], ◌∷◌, ◌++◌, length, drop, Option, Some, None, Ok, Err, inl, inr, refl, sym, ap, subst, ◌∙◌, arith}
 use Rattle.std.specs.Int.{w8, w16, w32, to_be_bytes}
-use Rattle.std.specs.List.{flat_map, list_any, AllByRecursion}
+use Rattle.std.specs.List.{flat_map, list_any}
 use Rattle.std.specs.Option.{option_map_or}
 use Rattle.std.proofs.lemmas.Bool.{cases_lt, le-ltb, lt-ltb, eq-eqb, ne_eqb}
 use Rattle.std.proofs.lemmas.Bool.Decides.{eqb_tells}
@@ -12,21 +12,24 @@ use Rattle.ospf_lsa.specs.declared.lsa.RouterLink.{RouterLink}
 use Rattle.ospf_lsa.specs.declared.lsa.Body.{Body}
 use Rattle.ospf_lsa.specs.declared.lsa.Body.TheVariants.{Router, Network, Other}
 use Rattle.ospf_lsa.specs.LsaText.{link_text, body_text}
-use Rattle.ospf_lsa.specs.Reading.{number_at, numbers_in, links_in, body_links, body_in, with_links, router_body, network_body, typed_body}
-use Rattle.ospf_lsa.specs.Lsas.{has_zero_metric, IsByte, IsRouterLink, IsRouterBody, IsNetworkBody, IsBodyOf}
-use Rattle.ospf_lsa.proofs.Numbers.{IsBytes, bytes_behind, spelled8, spelled16, spelled32, spelled_at, number_fits, numbers_spelled, numbers_fit, numbers_read, length_numbers}
-use Rattle.ospf_lsa.proofs.Links.{AreSpelled, links_spelled, links_read, length_link}
+use Rattle.ospf_lsa.specs.Header.{number_at}
+use Rattle.ospf_lsa.specs.Reading.{numbers_in, links_in, body_links, body_in, with_links, router_body, network_body, typed_body}
+use Rattle.ospf_lsa.specs.Faults.{SpellsLinks}
+use Rattle.ospf_lsa.specs.Lsas.{has_zero_metric, FitsBody, IsOfType, KeepsMetrics}
+use Rattle.ospf_lsa.proofs.Numbers.{IsBytes, all_bytes, bytes_behind, spelled8, spelled16, spelled32, spelled_at, number_fits, numbers_spelled, numbers_fit, numbers_read, length_numbers}
+use Rattle.ospf_lsa.proofs.Links.{links_spelled, links_read, length_link}
 
 -- a body of this type that is read is spelled by its bytes
 pub record IsSpelledBody (kind : ℕ) (bytes : List ℕ) (body : Body) : Type 0 where
   pub text : bytes ≡ body_text body
-  pub so : IsBodyOf kind body
+  pub of_type : IsOfType kind body
+  pub fits : FitsBody body
+  pub metrics : KeepsMetrics body
 
 -- the links of a body that are read are spelled by its bytes
 record IsSpelledRouter (bytes : List ℕ) (links : List RouterLink) : Type 0 where
-  long : 4 ≤ length bytes
-  so : AreSpelled (number_at 2 2 bytes) (drop 4 bytes) links
   text : bytes ≡ body_text (body_in bytes links)
+  fit : FitsBody (body_in bytes links)
 
 links_of_spelled : (bytes : List ℕ) (links : List RouterLink) → body_links bytes ≡ Some links → IsBytes bytes → IsSpelledRouter bytes links
 links_of_spelled bytes links e are = elim (cases_lt (length bytes) 4) [
@@ -35,24 +38,26 @@ links_of_spelled bytes links e are = elim (cases_lt (length bytes) 4) [
       let opened : body_links bytes ≡ links_in (number_at 2 2 bytes) (drop 4 bytes) = rw (le-ltb _ _ long) refl in
       let so = links_spelled (number_at 2 2 bytes) (drop 4 bytes) links (sym opened ∙ e) (bytes_behind 4 bytes are) in
       record {
-        long = long;
-        so = so;
         text = spelled_at w8 0 1 bytes spelled8 refl (omega arith) are
             ∙ ap (λ (t : List ℕ). to_be_bytes w8 (number_at 0 1 bytes) ++ t) (spelled_at w8 1 2 bytes spelled8 refl (omega arith) are
             ∙ ap (λ (t : List ℕ). to_be_bytes w8 (number_at 1 1 bytes) ++ t) (spelled_at w16 2 4 bytes spelled16 refl long are
             ∙ ap (λ (n : ℕ). to_be_bytes w16 n ++ drop 4 bytes) (sym so.many)
             ∙ ap (λ (t : List ℕ). to_be_bytes w16 (length links) ++ t) so.spelled));
+        fit = (number_fits 1 0 bytes are, number_fits 1 1 bytes are, so.fit);
       }
 ]
+
+-- links that are read are those of the body
+pub links_found : (bytes : List ℕ) (links : List RouterLink) → body_links bytes ≡ Some links → IsBytes bytes → SpellsLinks bytes links
+links_found bytes links e are =
+    let read = links_of_spelled bytes links e are in
+    record { flags = number_at 0 1 bytes; spare = number_at 1 1 bytes; fits = read.fit; spelled = read.text }
 
 router_made : (kind : ℕ) (bytes : List ℕ) (links : List RouterLink) → kind ≡ 1 → body_links bytes ≡ Some links → list_any has_zero_metric links ≡ false → IsBytes bytes
     → IsSpelledBody kind bytes (body_in bytes links)
 router_made kind bytes links is found metrics are =
     let read = links_of_spelled bytes links found are in
-    record {
-      text = read.text;
-      so = (is, record { flags_fit = number_fits 1 0 bytes are; spare_fits = number_fits 1 1 bytes are; links_kept = read.so.kept metrics });
-    }
+    record { text = read.text; of_type = is; fits = read.fit; metrics = metrics }
 
 router_spelled : (kind : ℕ) (bytes : List ℕ) (body : Body) → kind ≡ 1 → router_body bytes ≡ Ok body → IsBytes bytes → IsSpelledBody kind bytes body
 router_spelled kind bytes body is e are = by_links (body_links bytes) refl e
@@ -81,7 +86,9 @@ network_made kind bytes is long whole are =
           ∙ ap (λ (t : List ℕ). to_be_bytes w32 (number_at 0 4 bytes) ++ t) (spelled
           ∙ ap (λ (t : List ℕ). flat_map (to_be_bytes w32) (numbers_in ((length bytes - 4) / 4) (drop 4 bytes)) ++ t) none
           ∙ append-nil (flat_map (to_be_bytes w32) (numbers_in ((length bytes - 4) / 4) (drop 4 bytes))));
-      so = (is, record { mask_fits = number_fits 4 0 bytes are; routers_fit = numbers_fit ((length bytes - 4) / 4) (drop 4 bytes) (bytes_behind 4 bytes are) });
+      of_type = is;
+      fits = (number_fits 4 0 bytes are, numbers_fit ((length bytes - 4) / 4) (drop 4 bytes) (bytes_behind 4 bytes are));
+      metrics = tt;
     }
 
 network_spelled : (kind : ℕ) (bytes : List ℕ) (body : Body) → kind ≡ 2 → network_body bytes ≡ Ok body → IsBytes bytes → IsSpelledBody kind bytes body
@@ -96,10 +103,6 @@ network_spelled kind bytes body is e are = elim (cases_lt (length bytes) 4) [
   ]
 ]
 
-pub all_bytes : (bytes : List ℕ) → IsBytes bytes → AllByRecursion IsByte bytes
-all_bytes [] are = tt
-all_bytes (byte ∷ bytes) are = (are 0, all_bytes bytes (λ i. are (suc i)))
-
 pub body_spelled : (kind : ℕ) (bytes : List ℕ) (body : Body) → typed_body kind bytes ≡ Ok body → IsBytes bytes → IsSpelledBody kind bytes body
 body_spelled kind bytes body e are = elim (eqb_tells kind 1) [
   | inl router ↦ let opened : typed_body kind bytes ≡ router_body bytes = rw (router.0) refl in router_spelled kind bytes body router.1 (sym opened ∙ e) are
@@ -108,7 +111,7 @@ body_spelled kind bytes body e are = elim (eqb_tells kind 1) [
     | inr no_network ↦
         let opened : typed_body kind bytes ≡ Ok (Other bytes) = rw (no_router.0, no_network.0) refl in
         let same : Other bytes ≡ body = cc in
-        subst (λ (b : Body). IsSpelledBody kind bytes b) same (record { text = refl; so = (no_router.1, no_network.1, all_bytes bytes are) })
+        subst (λ (b : Body). IsSpelledBody kind bytes b) same (record { text = refl; of_type = (no_router.1, no_network.1); fits = all_bytes bytes are; metrics = tt })
   ]
 ]
 
@@ -116,37 +119,38 @@ pub length_links : (links : List RouterLink) → length links ≤ length (flat_m
 length_links [] = omega arith
 length_links (link ∷ links) = omega (arith, length-append (link_text link) (flat_map link_text links), length_link link, length_links links)
 
-metrics_kept : (links : List RouterLink) → AllByRecursion IsRouterLink links → list_any has_zero_metric links ≡ false
-metrics_kept [] kept = refl
-metrics_kept (link ∷ links) kept = rw (kept.0.metric_kept, metrics_kept links kept.1) refl
-
 -- the links of a body that is written are read
-links_of_read : (flags spare : ℕ) (links : List RouterLink) → IsRouterBody flags spare links → length (body_text (Router flags spare links)) < 2 ^ 16
+links_of_read : (flags spare : ℕ) (links : List RouterLink) → FitsBody (Router flags spare links) → length (body_text (Router flags spare links)) < 2 ^ 16
     → (body_links (body_text (Router flags spare links)) ≡ Some links) × (body_in (body_text (Router flags spare links)) links ≡ Router flags spare links)
-links_of_read flags spare links kept fits =
+links_of_read flags spare links fit fits =
     let text : List ℕ = body_text (Router flags spare links) in
     let long : 4 ≤ length (body_text (Router flags spare links)) = omega arith in
     let few : length links < 2 ^ 16 = omega (arith, length_links links) in
     let count : number_at 2 2 (body_text (Router flags spare links)) ≡ length links = big_number-reads_back 2 (length links) (flat_map link_text links) few in
-    let first : number_at 0 1 (body_text (Router flags spare links)) ≡ flags = big_number-reads_back 1 flags (drop 1 (body_text (Router flags spare links))) kept.flags_fit in
-    let second : number_at 1 1 (body_text (Router flags spare links)) ≡ spare = big_number-reads_back 1 spare (drop 2 (body_text (Router flags spare links))) kept.spare_fits in
+    let first : number_at 0 1 (body_text (Router flags spare links)) ≡ flags = big_number-reads_back 1 flags (drop 1 (body_text (Router flags spare links))) fit.0 in
+    let second : number_at 1 1 (body_text (Router flags spare links)) ≡ spare = big_number-reads_back 1 spare (drop 2 (body_text (Router flags spare links))) fit.1 in
     let opened : body_links (body_text (Router flags spare links)) ≡ links_in (number_at 2 2 (body_text (Router flags spare links))) (flat_map link_text links) = rw (le-ltb _ _ long) refl in (
-      opened ∙ ap (λ (n : ℕ). links_in n (flat_map link_text links)) count ∙ links_read links kept.links_kept,
+      opened ∙ ap (λ (n : ℕ). links_in n (flat_map link_text links)) count ∙ links_read links fit.2,
       ap (λ (f : ℕ). Router f (number_at 1 1 (body_text (Router flags spare links))) links) first ∙ ap (λ (s : ℕ). Router flags s links) second,
     )
 
-router_read : (kind flags spare : ℕ) (links : List RouterLink) → kind ≡ 1 → IsRouterBody flags spare links → length (body_text (Router flags spare links)) < 2 ^ 16
+-- the links that bytes spell are read from them
+pub spelled_found : (bytes : List ℕ) (links : List RouterLink) → length bytes < 2 ^ 16 → SpellsLinks bytes links → body_links bytes ≡ Some links
+spelled_found bytes links short spells =
+    let fits : length (body_text (Router spells.flags spells.spare links)) < 2 ^ 16 = subst (λ (t : List ℕ). length t < 2 ^ 16) spells.spelled short in
+    ap body_links spells.spelled ∙ (links_of_read spells.flags spells.spare links spells.fits fits).0
+
+router_read : (kind flags spare : ℕ) (links : List RouterLink) → kind ≡ 1 → FitsBody (Router flags spare links) → list_any has_zero_metric links ≡ false → length (body_text (Router flags spare links)) < 2 ^ 16
     → typed_body kind (body_text (Router flags spare links)) ≡ Ok (Router flags spare links)
-router_read kind flags spare links is kept fits =
-    let read = links_of_read flags spare links kept fits in
+router_read kind flags spare links is fit metrics fits =
+    let read = links_of_read flags spare links fit fits in
     let opened : typed_body kind (body_text (Router flags spare links)) ≡ router_body (body_text (Router flags spare links)) = rw (eq-eqb kind 1 is) refl in
-    let metrics : list_any has_zero_metric links ≡ false = metrics_kept links kept.links_kept in
     let made : with_links (body_text (Router flags spare links)) links ≡ Ok (body_in (body_text (Router flags spare links)) links) = rw metrics refl in
     opened ∙ ap (λ (o : Option (List RouterLink)). option_map_or (with_links (body_text (Router flags spare links))) o (Err kinds.Body)) read.0
     ∙ made ∙ ap Ok read.1
 
-network_read : (kind mask : ℕ) (routers : List ℕ) → kind ≡ 2 → IsNetworkBody mask routers → typed_body kind (body_text (Network mask routers)) ≡ Ok (Network mask routers)
-network_read kind mask routers is kept =
+network_read : (kind mask : ℕ) (routers : List ℕ) → kind ≡ 2 → FitsBody (Network mask routers) → typed_body kind (body_text (Network mask routers)) ≡ Ok (Network mask routers)
+network_read kind mask routers is fit =
     let len : length (body_text (Network mask routers)) ≡ 4 + 4 * length routers = omega (arith, length_numbers routers) in
     let opened : typed_body kind (body_text (Network mask routers)) ≡ network_body (body_text (Network mask routers)) = rw (ne_eqb kind 1 (omega (arith, is)), eq-eqb kind 2 is) refl in
     let long : 4 ≤ length (body_text (Network mask routers)) = omega (arith, len) in
@@ -154,15 +158,15 @@ network_read kind mask routers is kept =
     let count : (length (body_text (Network mask routers)) - 4) / 4 ≡ length routers = omega (arith, len) in
     let made : network_body (body_text (Network mask routers))
     ≡ Ok (Network (number_at 0 4 (body_text (Network mask routers))) (numbers_in ((length (body_text (Network mask routers)) - 4) / 4) (flat_map (to_be_bytes w32) routers))) = rw (le-ltb _ _ long, eq-eqb _ _ whole) refl in
-    let first : number_at 0 4 (body_text (Network mask routers)) ≡ mask = big_number-reads_back 4 mask (flat_map (to_be_bytes w32) routers) kept.mask_fits in
+    let first : number_at 0 4 (body_text (Network mask routers)) ≡ mask = big_number-reads_back 4 mask (flat_map (to_be_bytes w32) routers) fit.0 in
     let read : numbers_in (length routers) (flat_map (to_be_bytes w32) routers) ≡ routers =
-    ap (numbers_in (length routers)) (sym (append-nil (flat_map (to_be_bytes w32) routers))) ∙ numbers_read routers [] kept.routers_fit in
+    ap (numbers_in (length routers)) (sym (append-nil (flat_map (to_be_bytes w32) routers))) ∙ numbers_read routers [] fit.1 in
     opened ∙ made
     ∙ ap (λ (n : ℕ). Ok (Network (number_at 0 4 (body_text (Network mask routers))) (numbers_in n (flat_map (to_be_bytes w32) routers)))) count
     ∙ ap (λ (m : ℕ). Ok (Network m (numbers_in (length routers) (flat_map (to_be_bytes w32) routers)))) first
     ∙ ap (λ (r : List ℕ). Ok (Network mask r)) read
 
-pub body_read : (kind : ℕ) (body : Body) → IsBodyOf kind body → length (body_text body) < 2 ^ 16 → typed_body kind (body_text body) ≡ Ok body
-body_read kind (Router flags spare links) so fits = router_read kind flags spare links so.0 so.1 fits
-body_read kind (Network mask routers) so fits = network_read kind mask routers so.0 so.1
-body_read kind (Other bytes) so fits = rw (ne_eqb kind 1 so.0, ne_eqb kind 2 so.1) refl
+pub body_read : (kind : ℕ) (body : Body) → IsOfType kind body → FitsBody body → KeepsMetrics body → length (body_text body) < 2 ^ 16 → typed_body kind (body_text body) ≡ Ok body
+body_read kind (Router flags spare links) is fit metrics fits = router_read kind flags spare links is fit metrics fits
+body_read kind (Network mask routers) is fit metrics fits = network_read kind mask routers is fit
+body_read kind (Other bytes) is fit metrics fits = rw (ne_eqb kind 1 is.0, ne_eqb kind 2 is.1) refl

@@ -1,9 +1,13 @@
 pub mod Bodies
+pub mod FaultlessAtFront
 pub mod Files
+pub mod FirstFaultsTold
 pub mod Fresh
 pub mod HeaderFaults
+pub mod KindsInOrder
 pub mod Links
 pub mod Numbers
+pub mod OneReading
 pub mod Records
 pub mod Renewals
 pub mod SumParts

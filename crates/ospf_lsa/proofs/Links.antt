@@ -1,7 +1,7 @@
 -- The links of a router-LSA are read as they are written, and written as they are read.
-use Rattle.std.proofs.Common.{◌≡◌, ◌||◌, true, ℕ, zero, suc, ◌+◌, ◌-◌, ◌*◌, ◌^◌, ◌<◌, ◌≤◌, Bool, false, List, [], ◌∷◌, ◌++◌, length, drop, Option, Some, None, inl, inr, refl, sym, ap, subst, ◌∙◌, append_assoc, arith}
+use Rattle.std.proofs.Common.{◌≡◌, ℕ, zero, suc, ◌+◌, ◌-◌, ◌*◌, ◌^◌, ◌<◌, ◌≤◌, List, [], ◌∷◌, ◌++◌, length, drop, Option, Some, None, inl, inr, refl, sym, ap, subst, ◌∙◌, append_assoc, arith}
 use Rattle.std.specs.Int.{w8, w16, w32, to_be_bytes}
-use Rattle.std.specs.List.{flat_map, list_any, AllByRecursion}
+use Rattle.std.specs.List.{flat_map, AllByRecursion}
 use Rattle.std.specs.Option.{option_map, option_and_then}
 use Rattle.std.proofs.lemmas.Bool.{cases_lt, le-ltb, lt-ltb}
 use Rattle.std.proofs.lemmas.Bool.Decides.{nat_tests}
@@ -9,8 +9,9 @@ use Rattle.std.proofs.lemmas.List.{drop-drop, drop_at, length-append, length-dro
 use Rattle.byteorder.specs.Numbers.{big_number-reads_back}
 use Rattle.ospf_lsa.specs.declared.lsa.RouterLink.{RouterLink}
 use Rattle.ospf_lsa.specs.LsaText.{link_text}
-use Rattle.ospf_lsa.specs.Reading.{number_at, numbers_in, link_in, link_length, first_link, links_in}
-use Rattle.ospf_lsa.specs.Lsas.{has_zero_metric, IsRouterLink}
+use Rattle.ospf_lsa.specs.Header.{number_at}
+use Rattle.ospf_lsa.specs.Reading.{numbers_in, link_in, link_length, first_link, links_in}
+use Rattle.ospf_lsa.specs.Lsas.{FitsLink}
 use Rattle.ospf_lsa.proofs.Numbers.{IsBytes, bytes_behind, spelled8, spelled16, spelled32, spelled_at, number_fits, numbers_spelled, numbers_many, numbers_fit, numbers_read, length_numbers}
 
 -- a link that is whole
@@ -51,14 +52,13 @@ link_spelled bytes long enough are =
     (metric ∙ ap (λ (t : List ℕ). to_be_bytes w16 (number_at 10 2 bytes) ++ t)
     (tos ∙ ap (λ (t : List ℕ). flat_map (to_be_bytes w32) (numbers_in entries (drop 12 bytes)) ++ t) behind)))))
 
--- what a link that is read keeps
-link_kept : (bytes : List ℕ) → IsBytes bytes → has_zero_metric (link_in bytes) ≡ false → IsRouterLink (link_in bytes)
-link_kept bytes are kept = record {
+-- each number of a link that is read fits its field
+link_fits : (bytes : List ℕ) → IsBytes bytes → FitsLink (link_in bytes)
+link_fits bytes are = record {
   id = number_fits 4 0 bytes are;
   link_data = number_fits 4 4 bytes are;
   kind = number_fits 1 8 bytes are;
   metric = number_fits 2 10 bytes are;
-  metric_kept = kept;
   few_entries = subst (λ (n : ℕ). n < 2 ^ 8) (sym (numbers_many (number_at 9 1 bytes) (drop 12 bytes))) (number_fits 1 9 bytes are);
   entries = numbers_fit (number_at 9 1 bytes) (drop 12 bytes) (bytes_behind 12 bytes are);
 }
@@ -76,19 +76,19 @@ link_is x y i d k m t =
     ∙ ap (λ (v : List ℕ). made y.id y.link_data y.kind y.metric v) t
 
 -- a link that is written is read
-link_read : (link : RouterLink) (rest : List ℕ) → IsRouterLink link → first_link (link_text link ++ rest) ≡ Some (link, length (link_text link))
-link_read link rest kept =
+link_read : (link : RouterLink) (rest : List ℕ) → FitsLink link → first_link (link_text link ++ rest) ≡ Some (link, length (link_text link))
+link_read link rest fits =
     let bytes : List ℕ = link_text link ++ rest in
     let tail : List ℕ = flat_map (to_be_bytes w32) link.tos ++ rest in
     let long : 12 ≤ length (link_text link ++ rest) = omega (arith, length-append (link_text link) rest, length_link link) in
-    let entries : number_at 9 1 (link_text link ++ rest) ≡ length link.tos = big_number-reads_back 1 (length link.tos) (to_be_bytes w16 link.metric ++ tail) kept.few_entries in
+    let entries : number_at 9 1 (link_text link ++ rest) ≡ length link.tos = big_number-reads_back 1 (length link.tos) (to_be_bytes w16 link.metric ++ tail) fits.few_entries in
     let enough : link_length (link_text link ++ rest) ≤ length (link_text link ++ rest) = omega (arith, length-append (link_text link) rest, length_link link, entries) in
     let same : link_in (link_text link ++ rest) ≡ link = link_is (link_in (link_text link ++ rest)) link
-    (big_number-reads_back 4 link.id (to_be_bytes w32 link.link_data ++ (to_be_bytes w8 link.kind ++ (to_be_bytes w8 (length link.tos) ++ (to_be_bytes w16 link.metric ++ tail)))) kept.id)
-    (big_number-reads_back 4 link.link_data (to_be_bytes w8 link.kind ++ (to_be_bytes w8 (length link.tos) ++ (to_be_bytes w16 link.metric ++ tail))) kept.link_data)
-    (big_number-reads_back 1 link.kind (to_be_bytes w8 (length link.tos) ++ (to_be_bytes w16 link.metric ++ tail)) kept.kind)
-    (big_number-reads_back 2 link.metric tail kept.metric)
-    (ap (λ (n : ℕ). numbers_in n tail) entries ∙ numbers_read link.tos rest kept.entries) in
+    (big_number-reads_back 4 link.id (to_be_bytes w32 link.link_data ++ (to_be_bytes w8 link.kind ++ (to_be_bytes w8 (length link.tos) ++ (to_be_bytes w16 link.metric ++ tail)))) fits.id)
+    (big_number-reads_back 4 link.link_data (to_be_bytes w8 link.kind ++ (to_be_bytes w8 (length link.tos) ++ (to_be_bytes w16 link.metric ++ tail))) fits.link_data)
+    (big_number-reads_back 1 link.kind (to_be_bytes w8 (length link.tos) ++ (to_be_bytes w16 link.metric ++ tail)) fits.kind)
+    (big_number-reads_back 2 link.metric tail fits.metric)
+    (ap (λ (n : ℕ). numbers_in n tail) entries ∙ numbers_read link.tos rest fits.entries) in
     let len : link_length (link_text link ++ rest) ≡ length (link_text link) = omega (arith, length_link link, entries) in
     let some : first_link (link_text link ++ rest) ≡ Some (link_in (link_text link ++ rest), link_length (link_text link ++ rest)) = rw (le-ltb _ _ long, le-ltb _ _ enough) refl in
     some ∙ ap (λ (l : RouterLink). Some (l, link_length (link_text link ++ rest))) same ∙ ap (λ (n : ℕ). Some (link, n)) len
@@ -97,15 +97,11 @@ link_read link rest kept =
 pub record AreSpelled (count : ℕ) (bytes : List ℕ) (links : List RouterLink) : Type 0 where
   pub spelled : bytes ≡ flat_map link_text links
   pub many : length links ≡ count
-  pub kept : list_any has_zero_metric links ≡ false → AllByRecursion IsRouterLink links
+  pub fit : AllByRecursion FitsLink links
 
 none_left : (bytes : List ℕ) (links : List RouterLink) → links_in 0 bytes ≡ Some links → AreSpelled 0 bytes links
-none_left [] links e = let none : [] ≡ links = cc in subst (λ (ls : List RouterLink). AreSpelled 0 [] ls) none (record { spelled = refl; many = refl; kept = λ k. tt })
+none_left [] links e = let none : [] ≡ links = cc in subst (λ (ls : List RouterLink). AreSpelled 0 [] ls) none (record { spelled = refl; many = refl; fit = tt })
 none_left (b ∷ bs) links e = let none : links_in 0 (b ∷ bs) ≡ None = grind (arith, nat_tests) in absurd cc
-
-or_false : (a b : Bool) → (a || b) ≡ false → (a ≡ false) × (b ≡ false)
-or_false false b e = (refl, e)
-or_false true b e = absurd cc
 
 -- a link, and those behind it
 one_more : (count : ℕ) (bytes : List ℕ) (x : RouterLink × ℕ) (links : List RouterLink) → IsBytes bytes → IsWhole bytes x → AreSpelled count (drop x.1 bytes) links → AreSpelled (suc count) bytes (x.0 ∷ links)
@@ -115,10 +111,7 @@ one_more count bytes x links are whole later = record {
       ∙ ap (λ (l : RouterLink). link_text l ++ drop x.1 bytes) (sym whole.link)
       ∙ ap (λ (t : List ℕ). link_text x.0 ++ t) later.spelled;
   many = ap suc later.many;
-  kept = λ k.
-      let both = or_false (has_zero_metric x.0) (list_any has_zero_metric links) k in
-      let here : has_zero_metric (link_in bytes) ≡ false = ap has_zero_metric (sym whole.link) ∙ both.0 in
-      (subst IsRouterLink (sym whole.link) (link_kept bytes are here), later.kept both.1);
+  fit = (subst FitsLink (sym whole.link) (link_fits bytes are), later.fit);
 }
 
 pub links_spelled : (count : ℕ) (bytes : List ℕ) (links : List RouterLink) → links_in count bytes ≡ Some links → IsBytes bytes → AreSpelled count bytes links
@@ -142,12 +135,12 @@ links_spelled (suc count) bytes links e are = by_first count (λ rest ls found s
         by_rest count bytes links x are (link_whole bytes x found) (λ ls so. ih (drop x.1 bytes) ls so (bytes_behind x.1 bytes are)) (links_in count (drop x.1 bytes)) refl e
 
 -- links that are written are read
-pub links_read : (links : List RouterLink) → AllByRecursion IsRouterLink links → links_in (length links) (flat_map link_text links) ≡ Some links
-links_read [] kept = refl
-links_read (link ∷ links) kept =
-    let here = link_read link (flat_map link_text links) kept.0 in
+pub links_read : (links : List RouterLink) → AllByRecursion FitsLink links → links_in (length links) (flat_map link_text links) ≡ Some links
+links_read [] fit = refl
+links_read (link ∷ links) fit =
+    let here = link_read link (flat_map link_text links) fit.0 in
     let behind : drop (length (link_text link)) (link_text link ++ flat_map link_text links) ≡ flat_map link_text links = drop_at (link_text link) (flat_map link_text links) (length (link_text link)) refl in
-    let later = links_read links kept.1 in
+    let later = links_read links fit.1 in
     ap (option_and_then (λ (first : RouterLink × ℕ). option_map (λ (ls : List RouterLink). first.0 ∷ ls) (links_in (length links) (drop first.1 (link_text link ++ flat_map link_text links))))) here
     ∙ ap (λ (t : List ℕ). option_map (λ (ls : List RouterLink). link ∷ ls) (links_in (length links) t)) behind
     ∙ ap (option_map (λ (ls : List RouterLink). link ∷ ls)) later

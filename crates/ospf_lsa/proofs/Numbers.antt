@@ -1,20 +1,43 @@
 -- Numbers in network order are read as they are written, and written as they are read.
-use Rattle.std.proofs.Common.{◌≡◌, ℕ, zero, suc, ◌+◌, ◌-◌, ◌*◌, ◌%◌, ◌^◌, ◌<◌, ◌≤◌, List, [], ◌∷◌, ◌++◌, length, get_or, drop, refl, sym, ap, subst, ◌∙◌, append_assoc, arith}
+use Rattle.std.proofs.Common.{◌≡◌, ℕ, zero, suc, ◌+◌, ◌-◌, ◌*◌, ◌%◌, ◌^◌, ◌<◌, ◌≤◌, List, [], ◌∷◌, ◌++◌, length, get_or, take, drop, inl, inr, refl, sym, ap, subst, ◌∙◌, append_assoc, arith}
 use Rattle.std.specs.Int.{Width, w8, w16, w32, byte_len, to_be_bytes}
 use Rattle.std.specs.List.{flat_map, AllByRecursion}
-use Rattle.std.proofs.lemmas.List.{get_or-drop, drop-drop, length-append, length-drop}
+use Rattle.std.proofs.lemmas.List.{get_or-drop, get_or-take, drop-drop, length-append, length-drop, length-take}
+use Rattle.std.proofs.lemmas.Bool.{cases_lt}
 use Rattle.std.proofs.lemmas.Nat.{be_bytes_2, be_bytes_4}
 use Rattle.byteorder.specs.Endian.{big_number}
 use Rattle.byteorder.specs.Numbers.{big_from-lt, big_number-reads_back}
-use Rattle.ospf_lsa.specs.Reading.{number_at, numbers_in}
-use Rattle.ospf_lsa.specs.Lsas.{Is32Bits}
+use Rattle.ospf_lsa.specs.Header.{number_at}
+use Rattle.ospf_lsa.specs.Reading.{numbers_in}
+use Rattle.ospf_lsa.specs.Lsas.{Is32Bits, IsByte}
 
 abbrev pub IsBytes : List ℕ → Type 0
 IsBytes bytes = (i : ℕ) → get_or bytes i 0 < 256
 
+pub all_bytes : (bytes : List ℕ) → IsBytes bytes → AllByRecursion IsByte bytes
+all_bytes [] are = tt
+all_bytes (byte ∷ bytes) are = (are 0, all_bytes bytes (λ i. are (suc i)))
+
+pub bytes_of_all : (bytes : List ℕ) → AllByRecursion IsByte bytes → IsBytes bytes
+bytes_of_all [] all i = omega arith
+bytes_of_all (byte ∷ bytes) all zero = all.0
+bytes_of_all (byte ∷ bytes) all (suc i) = bytes_of_all bytes all.1 i
+
 -- what is behind bytes is bytes
 pub bytes_behind : (n : ℕ) (bytes : List ℕ) → IsBytes bytes → IsBytes (drop n bytes)
 bytes_behind n bytes are i = subst (λ (b : ℕ). b < 256) (sym (get_or-drop n bytes i 0)) (are (n + i))
+
+nothing_past : (xs : List ℕ) (k : ℕ) → length xs ≤ k → get_or xs k 0 ≡ 0
+nothing_past [] k past = refl
+nothing_past (x ∷ xs) zero past = absurd (omega arith)
+nothing_past (x ∷ xs) (suc k) past = nothing_past xs k (omega arith)
+
+-- what is taken of bytes is bytes
+pub bytes_taken : (n : ℕ) (bytes : List ℕ) → IsBytes bytes → IsBytes (take n bytes)
+bytes_taken n bytes are k = elim (cases_lt k (length (take n bytes))) [
+  | inl inside ↦ subst (λ (b : ℕ). b < 256) (sym (get_or-take n bytes k 0 (omega (arith, length-take n bytes)))) (are k)
+  | inr outside ↦ omega (arith, nothing_past (take n bytes) k outside)
+]
 
 -- the numbers of this width are spelled by the bytes that they are read from
 pub record IsSpelled (w : Width) : Type 0 where

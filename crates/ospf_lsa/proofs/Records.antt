@@ -13,15 +13,11 @@ use Rattle.ospf_lsa.specs.declared.lsa.Body.{Body}
 use Rattle.ospf_lsa.specs.declared.lsa.Lsa.{Lsa}
 use Rattle.ospf_lsa.specs.LsaText.{body_text, lsa_length, header_text, lsa_text, covered_text}
 use Rattle.ospf_lsa.specs.Checksum.{is_good}
-use Rattle.ospf_lsa.specs.Reading.{number_at, lsa_in, length_field, covered_bytes, header_fault, body_bytes, typed_body, with_body, record_in}
+use Rattle.ospf_lsa.specs.Header.{number_at, length_field, covered_bytes, body_bytes}
+use Rattle.ospf_lsa.specs.Reading.{lsa_in, header_fault, typed_body, with_body, record_in}
 use Rattle.ospf_lsa.specs.Lsas.{IsLsa}
-use Rattle.ospf_lsa.proofs.Numbers.{IsBytes, bytes_behind, spelled8, spelled16, spelled32, spelled_at, number_fits}
+use Rattle.ospf_lsa.proofs.Numbers.{IsBytes, bytes_behind, bytes_taken, spelled8, spelled16, spelled32, spelled_at, number_fits}
 use Rattle.ospf_lsa.proofs.Bodies.{body_spelled, body_read}
-
-nothing_past : (xs : List ℕ) (k : ℕ) → length xs ≤ k → get_or xs k 0 ≡ 0
-nothing_past [] k past = refl
-nothing_past (x ∷ xs) zero past = absurd (omega arith)
-nothing_past (x ∷ xs) (suc k) past = nothing_past xs k (omega arith)
 
 -- a header without a fault
 pub record IsHeader (bytes : List ℕ) : Type 0 where
@@ -97,16 +93,10 @@ record_spelled at bytes x e are =
     let read = record_parts at bytes x e in
     subst (λ (y : Lsa × ℕ). IsSpelledLsa at bytes y) (sym read.is) (spells read.body read.header read.in_bytes)
   where
-    taken : (bytes : List ℕ) (i : ℕ) → IsBytes bytes → IsBytes (take i bytes)
-    taken bytes i are k = elim (cases_lt k (length (take i bytes))) [
-      | inl inside ↦ subst (λ (b : ℕ). b < 256) (sym (get_or-take i bytes k 0 (omega (arith, length-take i bytes)))) (are k)
-      | inr outside ↦ omega (arith, nothing_past (take i bytes) k outside)
-    ]
-
     spells : (body : Body) → IsHeader bytes → typed_body (number_at 3 1 bytes) (body_bytes bytes) ≡ Ok body → IsSpelledLsa at bytes (lsa_in at bytes body, length_field bytes)
     spells body header found =
         let n = length_field bytes in
-        let read = body_spelled (number_at 3 1 bytes) (body_bytes bytes) body found (taken (drop 20 bytes) (n - 20) (bytes_behind 20 bytes are)) in
+        let read = body_spelled (number_at 3 1 bytes) (body_bytes bytes) body found (bytes_taken (n - 20) (drop 20 bytes) (bytes_behind 20 bytes are)) in
         let len : length (body_bytes bytes) ≡ n - 20 = simp (length-take, length-drop) (omega (arith, header.within)) in
         let whole : n ≡ 20 + length (body_text body) = omega (arith, header.least, len, ap length read.text) in
         let parts : drop 20 bytes ≡ body_text body ++ drop n bytes =
@@ -120,17 +110,21 @@ record_spelled at bytes x e are =
         record {
           placed = refl;
           kept = record {
-            age = number_fits 2 0 bytes are;
-            options = number_fits 1 2 bytes are;
-            kind = number_fits 1 3 bytes are;
-            id = number_fits 4 4 bytes are;
-            router = number_fits 4 8 bytes are;
-            sequence = sfits_to_z {w = w32} (Fits-of_lt {w = w32} (number_fits 4 12 bytes are));
+            header = record {
+              age = number_fits 2 0 bytes are;
+              options = number_fits 1 2 bytes are;
+              kind = number_fits 1 3 bytes are;
+              id = number_fits 4 4 bytes are;
+              router = number_fits 4 8 bytes are;
+              sequence = sfits_to_z {w = w32} (Fits-of_lt {w = w32} (number_fits 4 12 bytes are));
+            };
             checksum = number_fits 2 16 bytes are;
             good = ap (λ (t : List ℕ). is_good t (number_at 16 2 bytes)) (sym covered) ∙ header.good;
             not_reserved = λ e. header.not_reserved (sym (of_z-to_z w32 (number_at 12 4 bytes) (number_fits 4 12 bytes are)) ∙ ap (cast_unsigned w32) e ∙ of_z-to_z w32 (2 ^ 31) (omega arith));
             own_id = header.own_id;
-            body = read.so;
+            of_type = read.of_type;
+            body = read.fits;
+            metrics = read.metrics;
             length_fits = subst (λ (k : ℕ). k < 2 ^ 16) whole (number_fits 2 18 bytes are);
           };
           text = text;
@@ -161,33 +155,48 @@ read_so at bytes body header found =
     ap (λ (o : Option LsaKind). option_map_or Err o (with_body at bytes (typed_body (number_at 3 1 bytes) (body_bytes bytes)))) (header_passes bytes header)
     ∙ ap (with_body at bytes) found
 
+-- where an LSA without a fault stands at the front, the fields are its own
+pub record IsAtFront (lsa : Lsa) (rest : List ℕ) : Type 0 where
+  pub header : IsHeader (lsa_text lsa ++ rest)
+  pub kind : number_at 3 1 (lsa_text lsa ++ rest) ≡ lsa.kind
+  pub len : length_field (lsa_text lsa ++ rest) ≡ lsa_length lsa
+  pub body : body_bytes (lsa_text lsa ++ rest) ≡ body_text lsa.body
+  pub same : lsa_in lsa.at (lsa_text lsa ++ rest) lsa.body ≡ lsa
+
+pub at_front : (lsa : Lsa) (rest : List ℕ) → IsLsa lsa → IsAtFront lsa rest
+at_front lsa rest kept =
+    let len : length_field (lsa_text lsa ++ rest) ≡ lsa_length lsa = big_number-reads_back 2 (lsa_length lsa) (drop 20 (lsa_text lsa ++ rest)) kept.length_fits in
+    let age : number_at 0 2 (lsa_text lsa ++ rest) ≡ lsa.age = big_number-reads_back 2 lsa.age (drop 2 (lsa_text lsa ++ rest)) kept.header.age in
+    let options : number_at 2 1 (lsa_text lsa ++ rest) ≡ lsa.options = big_number-reads_back 1 lsa.options (drop 3 (lsa_text lsa ++ rest)) kept.header.options in
+    let kind : number_at 3 1 (lsa_text lsa ++ rest) ≡ lsa.kind = big_number-reads_back 1 lsa.kind (drop 4 (lsa_text lsa ++ rest)) kept.header.kind in
+    let id : number_at 4 4 (lsa_text lsa ++ rest) ≡ lsa.id = big_number-reads_back 4 lsa.id (drop 8 (lsa_text lsa ++ rest)) kept.header.id in
+    let router : number_at 8 4 (lsa_text lsa ++ rest) ≡ lsa.router = big_number-reads_back 4 lsa.router (drop 12 (lsa_text lsa ++ rest)) kept.header.router in
+    let sequence : number_at 12 4 (lsa_text lsa ++ rest) ≡ cast_unsigned w32 lsa.sequence = big_number-reads_back 4 (cast_unsigned w32 lsa.sequence) (drop 16 (lsa_text lsa ++ rest)) (Fits-lt-pow {w = w32} (Fits-of_z {w = w32} kept.header.sequence)) in
+    let checksum : number_at 16 2 (lsa_text lsa ++ rest) ≡ lsa.checksum = big_number-reads_back 2 lsa.checksum (drop 18 (lsa_text lsa ++ rest)) kept.checksum in
+    let signed : cast_signed w32 (number_at 12 4 (lsa_text lsa ++ rest)) ≡ lsa.sequence = ap (cast_signed w32) sequence ∙ to_z-of_z w32 lsa.sequence kept.header.sequence in
+    let covered : covered_bytes (lsa_text lsa ++ rest) ≡ covered_text lsa = covered_so lsa rest (length_field (lsa_text lsa ++ rest)) len in
+    record {
+      header = record {
+        long = omega arith;
+        within = omega (arith, len, length-append (body_text lsa.body) rest);
+        least = omega (arith, len);
+        good = ap (λ (t : List ℕ). is_good t (number_at 16 2 (lsa_text lsa ++ rest))) covered ∙ ap (is_good (covered_text lsa)) checksum ∙ kept.good;
+        not_reserved = λ e. kept.not_reserved (sym signed ∙ ap (cast_signed w32) e);
+        own_id = λ is. id ∙ kept.own_id (sym kind ∙ is) ∙ sym router;
+      };
+      kind = kind;
+      len = len;
+      body = ap (λ (n : ℕ). take (n - 20) (body_text lsa.body ++ rest)) len ∙ take_at (body_text lsa.body) rest (lsa_length lsa - 20) (omega arith);
+      same = lsa_is (lsa_in lsa.at (lsa_text lsa ++ rest) lsa.body) lsa refl age options kind id router signed checksum refl;
+    }
+
 pub record_read : (lsa : Lsa) (rest : List ℕ) → IsLsa lsa → record_in lsa.at (lsa_text lsa ++ rest) ≡ Ok (lsa, lsa_length lsa)
 record_read lsa rest kept =
-    let len : length_field (lsa_text lsa ++ rest) ≡ lsa_length lsa = big_number-reads_back 2 (lsa_length lsa) (drop 20 (lsa_text lsa ++ rest)) kept.length_fits in
-    let age : number_at 0 2 (lsa_text lsa ++ rest) ≡ lsa.age = big_number-reads_back 2 lsa.age (drop 2 (lsa_text lsa ++ rest)) kept.age in
-    let options : number_at 2 1 (lsa_text lsa ++ rest) ≡ lsa.options = big_number-reads_back 1 lsa.options (drop 3 (lsa_text lsa ++ rest)) kept.options in
-    let kind : number_at 3 1 (lsa_text lsa ++ rest) ≡ lsa.kind = big_number-reads_back 1 lsa.kind (drop 4 (lsa_text lsa ++ rest)) kept.kind in
-    let id : number_at 4 4 (lsa_text lsa ++ rest) ≡ lsa.id = big_number-reads_back 4 lsa.id (drop 8 (lsa_text lsa ++ rest)) kept.id in
-    let router : number_at 8 4 (lsa_text lsa ++ rest) ≡ lsa.router = big_number-reads_back 4 lsa.router (drop 12 (lsa_text lsa ++ rest)) kept.router in
-    let sequence : number_at 12 4 (lsa_text lsa ++ rest) ≡ cast_unsigned w32 lsa.sequence = big_number-reads_back 4 (cast_unsigned w32 lsa.sequence) (drop 16 (lsa_text lsa ++ rest)) (Fits-lt-pow {w = w32} (Fits-of_z {w = w32} kept.sequence)) in
-    let checksum : number_at 16 2 (lsa_text lsa ++ rest) ≡ lsa.checksum = big_number-reads_back 2 lsa.checksum (drop 18 (lsa_text lsa ++ rest)) kept.checksum in
-    let signed : cast_signed w32 (number_at 12 4 (lsa_text lsa ++ rest)) ≡ lsa.sequence = ap (cast_signed w32) sequence ∙ to_z-of_z w32 lsa.sequence kept.sequence in
-    let covered : covered_bytes (lsa_text lsa ++ rest) ≡ covered_text lsa = covered_so lsa rest (length_field (lsa_text lsa ++ rest)) len in
-    let header : IsHeader (lsa_text lsa ++ rest) = record {
-      long = omega arith;
-      within = omega (arith, len, length-append (body_text lsa.body) rest);
-      least = omega (arith, len);
-      good = ap (λ (t : List ℕ). is_good t (number_at 16 2 (lsa_text lsa ++ rest))) covered ∙ ap (is_good (covered_text lsa)) checksum ∙ kept.good;
-      not_reserved = λ e. kept.not_reserved (sym signed ∙ ap (cast_signed w32) e);
-      own_id = λ is. id ∙ kept.own_id (sym kind ∙ is) ∙ sym router;
-    } in
-    let body : body_bytes (lsa_text lsa ++ rest) ≡ body_text lsa.body =
-    ap (λ (n : ℕ). take (n - 20) (body_text lsa.body ++ rest)) len ∙ take_at (body_text lsa.body) rest (lsa_length lsa - 20) (omega arith) in
+    let front = at_front lsa rest kept in
     let short : length (body_text lsa.body) < 2 ^ 16 = omega (arith, kept.length_fits) in
     let found : typed_body (number_at 3 1 (lsa_text lsa ++ rest)) (body_bytes (lsa_text lsa ++ rest)) ≡ Ok lsa.body =
-    ap (λ (t : List ℕ). typed_body (number_at 3 1 (lsa_text lsa ++ rest)) t) body ∙ ap (λ (k : ℕ). typed_body k (body_text lsa.body)) kind ∙ body_read lsa.kind lsa.body kept.body short in
-    let same : lsa_in lsa.at (lsa_text lsa ++ rest) lsa.body ≡ lsa =
-    lsa_is (lsa_in lsa.at (lsa_text lsa ++ rest) lsa.body) lsa refl age options kind id router signed checksum refl in
-    read_so lsa.at (lsa_text lsa ++ rest) lsa.body header found
-    ∙ ap (λ (l : Lsa). Ok (l, length_field (lsa_text lsa ++ rest))) same
-    ∙ ap (λ (n : ℕ). Ok (lsa, n)) len
+    ap (λ (t : List ℕ). typed_body (number_at 3 1 (lsa_text lsa ++ rest)) t) front.body ∙ ap (λ (k : ℕ). typed_body k (body_text lsa.body)) front.kind
+    ∙ body_read lsa.kind lsa.body kept.of_type kept.body kept.metrics short in
+    read_so lsa.at (lsa_text lsa ++ rest) lsa.body front.header found
+    ∙ ap (λ (l : Lsa). Ok (l, length_field (lsa_text lsa ++ rest))) front.same
+    ∙ ap (λ (n : ℕ). Ok (lsa, n)) front.len

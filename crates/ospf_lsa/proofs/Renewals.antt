@@ -6,8 +6,8 @@ use Rattle.std.proofs.lemmas.List.{append-nil}
 use Rattle.ospf_lsa.specs.declared.lsa.Lsa.{Lsa}
 use Rattle.ospf_lsa.specs.Checksum.{is_good, fresh_checksum}
 use Rattle.ospf_lsa.specs.LsaText.{body_text, lsa_length, lsa_text, covered_text, lsas_text}
-use Rattle.ospf_lsa.specs.Lsas.{IsBodyOf, AreLsas}
-use Rattle.ospf_lsa.specs.Written.{with_checksum, renewed, renewed_at_front, KeepsMetrics, IsReadable, FitsHeader}
+use Rattle.ospf_lsa.specs.Lsas.{AreLsas, FitsBody, FitsHeader, IsOfType}
+use Rattle.ospf_lsa.specs.Written.{renewed, renewed_at_front, with_checksum, IsReadable}
 use Rattle.ospf_lsa.proofs.Fresh.{fresh_good, fresh_small}
 
 -- what stands before the checksum field, but for the age
@@ -44,21 +44,25 @@ unfolding before behind
 renewed_fits lsa = fresh_small (before lsa) (behind lsa) refl
 
 -- what is written of an LSA without these faults is one without any
-pub renewed_kept : (lsa : Lsa) → FitsHeader lsa → (KeepsMetrics lsa.body → IsBodyOf lsa.kind lsa.body) → lsa_length lsa ≤ 65535 → IsReadable lsa → AreLsas 0 (renewed_at_front lsa ∷ [])
-renewed_kept lsa header body fits kept = (
+pub renewed_kept : (lsa : Lsa) → FitsHeader lsa → IsOfType lsa.kind lsa.body → FitsBody lsa.body → lsa_length lsa ≤ 65535 → IsReadable lsa → AreLsas 0 (renewed_at_front lsa ∷ [])
+renewed_kept lsa header of_type body fits kept = (
   refl,
   record {
-    age = header.age;
-    options = header.options;
-    kind = header.kind;
-    id = header.id;
-    router = header.router;
-    sequence = header.sequence;
+    header = record {
+      age = header.age;
+      options = header.options;
+      kind = header.kind;
+      id = header.id;
+      router = header.router;
+      sequence = header.sequence;
+    };
     checksum = renewed_fits lsa;
     good = renewed_good lsa;
     not_reserved = kept.not_reserved;
     own_id = kept.own_id;
-    body = body kept.metrics;
+    of_type = of_type;
+    body = body;
+    metrics = kept.metrics;
     length_fits = omega (arith, fits);
   },
   tt,

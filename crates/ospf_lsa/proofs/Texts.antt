@@ -1,13 +1,7 @@
 -- What loops that write leave.
-use Rattle.std.proofs.Common.{◌≡◌, ℕ, suc, ◌+◌, ◌<◌, ◌||◌, Bool, true, false, List, ◌∷◌, ◌++◌, length, get_or, drop, refl, sym, ap, subst, ◌∙◌, append_assoc, add-one}
-use Rattle.std.specs.List.{flat_map, list_any, AllByRecursion}
+use Rattle.std.proofs.Common.{◌≡◌, ℕ, suc, ◌+◌, ◌<◌, List, ◌∷◌, ◌++◌, length, get_or, drop, refl, sym, ap, subst, ◌∙◌, append_assoc, add-one}
+use Rattle.std.specs.List.{flat_map, AllByRecursion}
 use Rattle.std.proofs.Math.Seq.{drop-cons}
-use Rattle.ospf_lsa.specs.declared.lsa.RouterLink.{RouterLink}
-use Rattle.ospf_lsa.specs.Lsas.{has_zero_metric, IsRouterLink}
-
--- links none of which has a metric of 0 where it may not
-abbrev pub AreKept : List RouterLink → Type 0
-AreKept links = list_any has_zero_metric links ≡ false → AllByRecursion IsRouterLink links
 
 -- the element that a loop is at, and those behind it
 pub next_of : {X : Type 0} (xs : List X) (i : ℕ) (x : X) → i < length xs → x ≡ get_or xs i x → drop i xs ≡ x ∷ drop (i + 1) xs
@@ -30,13 +24,3 @@ all_more P xs i x lt is here later = subst (λ ys. AllByRecursion P ys) (sym (ne
 
 pub all_parts : {X : Type 0} (P : X → Type 0) (xs : List X) (i : ℕ) (x : X) → i < length xs → x ≡ get_or xs i x → AllByRecursion P (drop i xs) → P x × AllByRecursion P (drop (i + 1) xs)
 all_parts P xs i x lt is all = subst (λ ys. AllByRecursion P ys) (next_of xs i x lt is) all
-
-or_false : (a b : Bool) → (a || b) ≡ false → (a ≡ false) × (b ≡ false)
-or_false false b e = (refl, e)
-or_false true b e = absurd cc
-
-pub kept_more : (links : List RouterLink) (i : ℕ) (link : RouterLink) → i < length links → link ≡ get_or links i link → (has_zero_metric link ≡ false → IsRouterLink link)
-    → AreKept (drop (i + 1) links) → AreKept (drop i links)
-kept_more links i link lt is here later = subst AreKept (sym (next_of links i link lt is)) (λ e.
-    let both = or_false (has_zero_metric link) (list_any has_zero_metric (drop (i + 1) links)) e in
-    (here both.0, later both.1))

@@ -1,6 +1,9 @@
 pub mod Checksum
+pub mod Faults
+pub mod Header
 pub mod LsaText
 pub mod Lsas
 pub mod Outcome
 pub mod Reading
+pub mod Types
 pub mod Written

@@ -6,9 +6,9 @@ use Rattle.ospf_lsa.specs.declared.error.LsaKind.{LsaKind}
 use Rattle.ospf_lsa.specs.declared.error.LsaError.{LsaError}
 use Rattle.ospf_lsa.specs.declared.error.LsaError.TheVariants.{NoMemory}
 use Rattle.ospf_lsa.specs.declared.lsa.Lsa.{Lsa}
+use Rattle.ospf_lsa.specs.Faults.{HasFirstFault}
 use Rattle.ospf_lsa.specs.LsaText.{lsas_text}
 use Rattle.ospf_lsa.specs.Lsas.{AreLsas}
-use Rattle.ospf_lsa.specs.Reading.{record_in}
 
 -- these LSAs are the answer, or there was no memory
 abbrev pub AreAnswer : List Lsa → Result (Vec Lsa Global) LsaError → Type 0
@@ -26,4 +26,4 @@ pub record IsFirstFault (bytes : List ℕ) (at : ℕ) (kind : LsaKind) : Type 0 
   pub faultless : AreLsas 0 before
   pub spelled : take at bytes ≡ lsas_text before
   pub more : at < length bytes
-  pub fault : record_in at (drop at bytes) ≡ Err kind
+  pub fault : HasFirstFault kind (drop at bytes)

@@ -1,9 +1,8 @@
--- What the steps of reading answer.
-use Rattle.std.specs.Prelude.{◌≡◌, ◌+◌, ◌-◌, ◌*◌, ◌/◌, ◌%◌, ◌^◌, ◌&&◌, ◌==◌, ℕ, zero, suc, not, nat_lt, List, [], ◌∷◌, length, take, drop, Option, Some, None, Result, Ok, Err, if◌then◌else◌}
+-- What the private steps of reading answer. No contract of a public function cites it.
+use Rattle.std.specs.Prelude.{◌≡◌, ◌+◌, ◌-◌, ◌*◌, ◌/◌, ◌%◌, ◌^◌, ◌&&◌, ◌==◌, ℕ, zero, suc, not, nat_lt, List, [], ◌∷◌, length, drop, Option, Some, None, Result, Ok, Err, if◌then◌else◌}
 use Rattle.std.specs.Int.{w32, cast_signed}
 use Rattle.std.specs.List.{list_any}
 use Rattle.std.specs.Option.{option_map, option_map_or, option_and_then}
-use Rattle.byteorder.specs.Endian.{big_number}
 use Rattle.ospf_lsa.specs.declared.error.LsaKind.{LsaKind}
 use Rattle.ospf_lsa.specs.declared.error.LsaKind.TheVariants as kinds
 use Rattle.ospf_lsa.specs.declared.error.LsaError.{LsaError}
@@ -13,11 +12,9 @@ use Rattle.ospf_lsa.specs.declared.lsa.Body.{Body}
 use Rattle.ospf_lsa.specs.declared.lsa.Body.TheVariants.{Router, Network, Other}
 use Rattle.ospf_lsa.specs.declared.lsa.Lsa.{Lsa}
 use Rattle.ospf_lsa.specs.Checksum.{is_good}
+use Rattle.ospf_lsa.specs.Header.{number_at, type_field, id_field, router_field, sequence_field, checksum_field, length_field, covered_bytes, body_bytes}
 use Rattle.ospf_lsa.specs.Lsas.{has_zero_metric}
-
--- the number in so many bytes from this place on
-abbrev pub number_at : ℕ → ℕ → List ℕ → ℕ
-number_at place count bytes = big_number count (drop place bytes)
+use Rattle.ospf_lsa.specs.Types.{router_lsa, network_lsa}
 
 -- so many numbers of 32 bits
 abbrev pub numbers_in : ℕ → List ℕ → List ℕ
@@ -64,21 +61,13 @@ lsa_in at bytes body = record {
   at = at;
   age = number_at 0 2 bytes;
   options = number_at 2 1 bytes;
-  kind = number_at 3 1 bytes;
-  id = number_at 4 4 bytes;
-  router = number_at 8 4 bytes;
-  sequence = cast_signed w32 (number_at 12 4 bytes);
-  checksum = number_at 16 2 bytes;
+  kind = type_field bytes;
+  id = id_field bytes;
+  router = router_field bytes;
+  sequence = cast_signed w32 (sequence_field bytes);
+  checksum = checksum_field bytes;
   body = body;
 }
-
--- an LSA's length field
-abbrev pub length_field : List ℕ → ℕ
-length_field bytes = number_at 18 2 bytes
-
--- the bytes that an LSA's checksum covers, from its options to its end
-abbrev pub covered_bytes : List ℕ → List ℕ
-covered_bytes bytes = take (length_field bytes - 2) (drop 2 bytes)
 
 -- the first fault that an LSA shows before its body is looked at; a router-LSA (type 1) has its advertising router as link state ID
 abbrev pub header_fault : List ℕ → Option LsaKind
@@ -86,13 +75,9 @@ header_fault bytes =
     if nat_lt (length bytes) 20 then Some kinds.Truncated
     else (if nat_lt (length bytes) (length_field bytes) then Some kinds.Truncated
     else (if nat_lt (length_field bytes) 20 then Some kinds.Length
-    else (if not (is_good (covered_bytes bytes) (number_at 16 2 bytes)) then Some kinds.Checksum
-    else (if number_at 12 4 bytes == 2 ^ 31 then Some kinds.ReservedSequence
-    else (if (number_at 3 1 bytes == 1) && not (number_at 4 4 bytes == number_at 8 4 bytes) then Some kinds.IdMismatch else None)))))
-
--- the bytes of an LSA's body
-abbrev pub body_bytes : List ℕ → List ℕ
-body_bytes bytes = take (length_field bytes - 20) (drop 20 bytes)
+    else (if not (is_good (covered_bytes bytes) (checksum_field bytes)) then Some kinds.Checksum
+    else (if sequence_field bytes == 2 ^ 31 then Some kinds.ReservedSequence
+    else (if (type_field bytes == router_lsa) && not (id_field bytes == router_field bytes) then Some kinds.IdMismatch else None)))))
 
 -- a router-LSA's body of these links; none may have the metric 0 where it leads to a router or to a transit network
 abbrev pub with_links : List ℕ → List RouterLink → Result Body LsaKind
@@ -111,7 +96,7 @@ network_body bytes =
 
 -- the body of an LSA of this type, or its first fault; of types other than 1 and 2 it is any bytes
 abbrev pub typed_body : ℕ → List ℕ → Result Body LsaKind
-typed_body kind bytes = if kind == 1 then router_body bytes else (if kind == 2 then network_body bytes else Ok (Other bytes))
+typed_body kind bytes = if kind == router_lsa then router_body bytes else (if kind == network_lsa then network_body bytes else Ok (Other bytes))
 
 -- the LSA of this body and its length
 abbrev pub with_body : ℕ → List ℕ → Result Body LsaKind → Result (Lsa × ℕ) LsaKind
@@ -121,7 +106,7 @@ with_body at bytes (Err kind) = Err kind
 -- the LSA at the front and its length, or its first fault
 abbrev pub record_in : ℕ → List ℕ → Result (Lsa × ℕ) LsaKind
 record_in at bytes =
-    option_map_or Err (header_fault bytes) (with_body at bytes (typed_body (number_at 3 1 bytes) (body_bytes bytes)))
+    option_map_or Err (header_fault bytes) (with_body at bytes (typed_body (type_field bytes) (body_bytes bytes)))
 
 -- the answer is this LSA, or this fault at this place, or there was no memory
 abbrev pub Answers : ℕ → Result (Lsa × ℕ) LsaKind → Result (Lsa × ℕ) LsaError → Type 0

@@ -1,15 +1,15 @@
 -- LSAs as they are written.
-use Rattle.std.specs.Prelude.{◌≡◌, ◌≢◌, ◌<◌, ◌≤◌, ◌^◌, ℕ, false, length}
+use Rattle.std.specs.Prelude.{◌≡◌, ◌≢◌, ◌≤◌, ◌^◌, ℕ, length}
 use Rattle.std.specs.Int.{w32, cast_signed}
-use Rattle.std.specs.Int.RustNames.{FitsSigned}
-use Rattle.std.specs.List.{list_any, AllByRecursion}
+use Rattle.std.specs.List.{AllByRecursion}
 use Rattle.ospf_lsa.specs.declared.lsa.RouterLink.{RouterLink}
 use Rattle.ospf_lsa.specs.declared.lsa.Body.{Body}
 use Rattle.ospf_lsa.specs.declared.lsa.Body.TheVariants.{Router, Network, Other}
 use Rattle.ospf_lsa.specs.declared.lsa.Lsa.{Lsa}
 use Rattle.ospf_lsa.specs.Checksum.{fresh_checksum}
 use Rattle.ospf_lsa.specs.LsaText.{covered_text}
-use Rattle.ospf_lsa.specs.Lsas.{has_zero_metric}
+use Rattle.ospf_lsa.specs.Lsas.{KeepsMetrics}
+use Rattle.ospf_lsa.specs.Types.{router_lsa}
 
 -- an LSA but for its checksum, which is this one
 abbrev pub with_checksum : Lsa → ℕ → Lsa
@@ -23,12 +23,6 @@ renewed lsa = with_checksum lsa (fresh_checksum (covered_text (with_checksum lsa
 abbrev pub renewed_at_front : Lsa → Lsa
 renewed_at_front lsa = record (renewed lsa) { at = 0 }
 
--- a body is of the kind that its LSA's type asks for: 1 is a router-LSA, 2 a network-LSA
-abbrev pub IsOfType : ℕ → Body → Type 0
-IsOfType kind (Router flags spare links) = kind ≡ 1
-IsOfType kind (Network mask routers) = kind ≡ 2
-IsOfType kind (Other bytes) = (kind ≢ 1) × (kind ≢ 2)
-
 -- the number of a link's TOS entries fits its byte
 abbrev pub HasFewEntries : RouterLink → Type 0
 HasFewEntries link = length link.tos ≤ 255
@@ -39,24 +33,9 @@ HasShortLinks (Router flags spare links) = AllByRecursion HasFewEntries links
 HasShortLinks (Network mask routers) = Unit {0}
 HasShortLinks (Other bytes) = Unit {0}
 
--- none of a body's links leads to a router or to a transit network with metric 0
-abbrev pub KeepsMetrics : Body → Type 0
-KeepsMetrics (Router flags spare links) = list_any has_zero_metric links ≡ false
-KeepsMetrics (Network mask routers) = Unit {0}
-KeepsMetrics (Other bytes) = Unit {0}
-
 -- an LSA without the faults that writing leaves as they are: its sequence number is not the reserved one, the link state ID of a
 -- router-LSA is its advertising router, and no metric is 0 where it may not be
 pub record IsReadable (lsa : Lsa) : Type 0 where
   pub not_reserved : lsa.sequence ≢ cast_signed w32 (2 ^ 31)
-  pub own_id : lsa.kind ≡ 1 → lsa.id ≡ lsa.router
+  pub own_id : lsa.kind ≡ router_lsa → lsa.id ≡ lsa.router
   pub metrics : KeepsMetrics lsa.body
-
--- each number of a header fits its field
-pub record FitsHeader (lsa : Lsa) : Type 0 where
-  pub age : lsa.age < 2 ^ 16
-  pub options : lsa.options < 2 ^ 8
-  pub kind : lsa.kind < 2 ^ 8
-  pub id : lsa.id < 2 ^ 32
-  pub router : lsa.router < 2 ^ 32
-  pub sequence : FitsSigned w32 lsa.sequence

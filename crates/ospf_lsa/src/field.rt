@@ -2,7 +2,8 @@
 
 ghost use Rattle.std.specs.Prelude.{◌≡◌, ◌≤◌, ◌+◌, ◌*◌, IfOk, length, drop};
 ghost use Rattle.std.specs.Int.{w32, cast_signed};
-ghost use Rattle.ospf_lsa.specs.Reading.{number_at, numbers_in};
+ghost use Rattle.ospf_lsa.specs.Header.{number_at};
+ghost use Rattle.ospf_lsa.specs.Reading.{numbers_in};
 
 use byteorder::{BigEndian, ByteOrder};
 use std::alloc::{AllocError, Global};

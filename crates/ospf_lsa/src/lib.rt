@@ -7,6 +7,7 @@ mod error;
 mod field;
 mod link;
 mod lsa;
+mod lsa_law;
 mod reading;
 mod record;
 mod writing;
@@ -14,6 +15,7 @@ mod writing;
 pub use checksum::sums;
 pub use error::{LsaError, LsaKind};
 pub use lsa::{Body, Lsa, RouterLink};
+pub use lsa_law::bytes_are_lsas_or_have_a_fault;
 pub use reading::read_lsas;
 pub use writing::write_lsa;
 

@@ -3,7 +3,8 @@
 ghost use Rattle.std.specs.Prelude.{◌≡◌, ◌≤◌, IfOk, length};
 ghost use Rattle.std.specs.Option.{IfNone};
 ghost use Rattle.ospf_lsa.specs.Checksum.{is_good};
-ghost use Rattle.ospf_lsa.specs.Reading.{Answers, body_bytes, covered_bytes, header_fault, length_field, number_at, record_in};
+ghost use Rattle.ospf_lsa.specs.Header.{body_bytes, checksum_field, covered_bytes, length_field};
+ghost use Rattle.ospf_lsa.specs.Reading.{Answers, header_fault, record_in};
 
 use crate::body::{ROUTER_LSA, body};
 use crate::checksum::sums;
@@ -80,7 +81,7 @@ fn fault_of_header(bytes: &[u8]) -> Option<LsaKind>
 fn has_good_checksum(bytes: &[u8]) -> bool
     requires header { 20 ≤ length_field bytes.now }
     requires within { length_field bytes.now ≤ length bytes.now }
-    ensures { result ≡ is_good (covered_bytes bytes.now) (number_at 16 2 bytes.now) }
+    ensures { result ≡ is_good (covered_bytes bytes.now) (checksum_field bytes.now) }
 {
     let (first, second) = sums(&bytes[2..usize::from(number_16(bytes, 18))]);
     first == 0 && (second == 0 && number_16(bytes, 16) != 0)

@@ -1,21 +1,11 @@
 //! LSAs written.
 
-ghost use Rattle.std.specs.Prelude.{◌≡◌, ◌≤◌, ◌<◌, ◌+◌, ◌*◌, ◌^◌, ◌++◌, IfOk, false, [], ◌∷◌, length, vec_len, vec_capacity};
+ghost use Rattle.std.specs.Prelude.{◌≡◌, ◌≤◌, ◌<◌, ◌+◌, ◌*◌, ◌^◌, ◌++◌, IfOk, [], ◌∷◌, length, vec_len, vec_capacity};
 ghost use Rattle.std.specs.Int.{w32, to_be_bytes};
-ghost use Rattle.std.specs.List.{flat_map, list_any, AllByRecursion};
+ghost use Rattle.std.specs.List.{flat_map, AllByRecursion};
 ghost use Rattle.ospf_lsa.specs.LsaText.{link_text, body_text, header_text, lsa_length, lsa_text, lsas_text};
-ghost use Rattle.ospf_lsa.specs.Lsas.{has_zero_metric, AreLsas, Is32Bits, IsBodyOf, IsByte, IsNetworkBody, IsRouterBody, IsRouterLink};
-ghost use Rattle.ospf_lsa.specs.Written.{
-  HasFewEntries,
-  FitsHeader,
-  HasShortLinks,
-  IsReadable,
-  IsOfType,
-  KeepsMetrics,
-  renewed,
-  renewed_at_front,
-  with_checksum,
-};
+ghost use Rattle.ospf_lsa.specs.Lsas.{AreLsas, FitsBody, FitsHeader, FitsLink, Is32Bits, IsByte, IsOfType};
+ghost use Rattle.ospf_lsa.specs.Written.{renewed, renewed_at_front, with_checksum, HasFewEntries, HasShortLinks, IsReadable};
 
 use crate::checksum::fresh;
 use crate::field::behind;
@@ -67,7 +57,7 @@ fn unchecked(alloc: Global, lsa: &Lsa) -> Result<Vec<u8>, NoMemory>
     requires fits { lsa_length lsa.now ≤ 65535 }
     ensures text { IfOk result (λ bytes. bytes.items ≡ lsa_text (with_checksum lsa.now 0)) }
     ensures header { IfOk result (λ bytes. FitsHeader lsa.now) }
-    ensures body { KeepsMetrics lsa.now.body → IfOk result (λ bytes. IsBodyOf lsa.now.kind lsa.now.body) }
+    ensures body { IfOk result (λ bytes. FitsBody lsa.now.body) }
 {
     let length = HEADER + body_length(&lsa.body);
     let mut bytes = Vec::with_capacity(alloc, length)?;
@@ -133,7 +123,7 @@ fn put_body(out: &mut Vec<u8>, kind: u8, body: &Body)
     requires short { length (body_text body.now) < 2 ^ 16 }
     requires room { vec_len out.old + length (body_text body.now) ≤ vec_capacity out.old }
     ensures text { out.new.items ≡ out.old.items ++ body_text body.now }
-    ensures kept { KeepsMetrics body.now → IsBodyOf kind body.now }
+    ensures fits { FitsBody body.now }
 {
     match body {
         Body::Router {
@@ -152,7 +142,7 @@ fn put_router(out: &mut Vec<u8>, flags: u8, spare: u8, links: &[RouterLink])
     requires short { length (flat_map link_text links.now) < 2 ^ 16 }
     requires room { vec_len out.old + (4 + length (flat_map link_text links.now)) ≤ vec_capacity out.old }
     ensures text { out.new.items ≡ out.old.items ++ body_text (Body.Router flags spare links.now) }
-    ensures kept { list_any has_zero_metric links.now ≡ false → IsRouterBody flags spare links.now }
+    ensures fits { FitsBody (Body.Router flags spare links.now) }
 {
     let [count, count_low] = (links.len() as u16).to_be_bytes();
     out.extend_from_slice(&[flags, spare, count, count_low])
@@ -165,7 +155,7 @@ fn put_links(out: &mut Vec<u8>, links: &[RouterLink])
     requires entries { AllByRecursion HasFewEntries links.now }
     requires room { vec_len out.old + length (flat_map link_text links.now) ≤ vec_capacity out.old }
     ensures text { out.new.items ≡ out.old.items ++ flat_map link_text links.now }
-    ensures kept { list_any has_zero_metric links.now ≡ false → AllByRecursion IsRouterLink links.now }
+    ensures fits { AllByRecursion FitsLink links.now }
 {
     for link in links {
         put_link(out, link);
@@ -178,7 +168,7 @@ fn put_link(out: &mut Vec<u8>, link: &RouterLink)
     requires room { vec_len out.old + length (link_text link.now) ≤ vec_capacity out.old }
     ensures text { out.new.items ≡ out.old.items ++ link_text link.now }
     ensures capacity { vec_capacity out.old ≤ vec_capacity out.new }
-    ensures kept { has_zero_metric link.now ≡ false → IsRouterLink link.now }
+    ensures fits { FitsLink link.now }
 {
     let entries = link.tos.as_slice();
     out.extend_from_slice(&front(link, entries.len() as u8))
@@ -190,7 +180,7 @@ fn put_link(out: &mut Vec<u8>, link: &RouterLink)
 fn front(link: &RouterLink, entries: u8) -> [u8; 12]
     requires { entries ≡ length link.now.tos }
     ensures text { result ++ flat_map (to_be_bytes w32) link.now.tos ≡ link_text link.now }
-    ensures kept { has_zero_metric link.now ≡ false → AllByRecursion Is32Bits link.now.tos → IsRouterLink link.now }
+    ensures fits { AllByRecursion Is32Bits link.now.tos → FitsLink link.now }
 {
     let RouterLink {
         id,
@@ -209,7 +199,7 @@ fn front(link: &RouterLink, entries: u8) -> [u8; 12]
 fn put_network(out: &mut Vec<u8>, mask: u32, routers: &[u32])
     requires { vec_len out.old + (4 + length (flat_map (to_be_bytes w32) routers.now)) ≤ vec_capacity out.old }
     ensures text { out.new.items ≡ out.old.items ++ body_text (Body.Network mask routers.now) }
-    ensures kept { IsNetworkBody mask routers.now }
+    ensures fits { FitsBody (Body.Network mask routers.now) }
 {
     out.extend_from_slice(&mask.to_be_bytes()).unwrap();
     put_numbers(out, routers);

@@ -2,8 +2,9 @@ use Rattle.std.proofs.Common.{ap, length, drop, ◌+◌, arith}
 use Rattle.std.specs.List.{flat_map}
 use Rattle.std.proofs.lemmas.List.{length-append}
 use Rattle.ospf_lsa.specs.LsaText.{link_text}
+use Rattle.ospf_lsa.specs.Lsas.{FitsLink}
 use Rattle.ospf_lsa.specs.Written.{HasFewEntries}
-use Rattle.ospf_lsa.proofs.Texts.{texts_of, one_more_text, all_parts, kept_more}
+use Rattle.ospf_lsa.proofs.Texts.{texts_of, one_more_text, all_more, all_parts}
 use Rattle.ospf_lsa.proofs.writing.put_links.Goals as goal
 
 -- What the next link requires follows from what is left.
@@ -30,5 +31,5 @@ loop-link-preserved c = record {
     length-append (link_text c.link-item.result) (flat_map link_text (drop (c.loop-link.link-index + 1) c.args.links.now)),
   );
   entries = (all_parts HasFewEntries c.args.links.now c.loop-link.link-index c.link-item.result c.loop-link-test.true c.link-item.is c.loop-link.invariant.entries).1;
-  kept = λ later. c.loop-link.invariant.kept (kept_more c.args.links.now c.loop-link.link-index c.link-item.result c.loop-link-test.true c.link-item.is c.put_link.ensures.kept later);
+  fits = λ later. c.loop-link.invariant.fits (all_more FitsLink c.args.links.now c.loop-link.link-index c.link-item.result c.loop-link-test.true c.link-item.is c.put_link.ensures.fits later);
 }

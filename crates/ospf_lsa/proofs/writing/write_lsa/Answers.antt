@@ -13,6 +13,6 @@ returns-clause-text c =
 
 pub returns-clause-read : goal.returns-clause-read
 returns-clause-read c = λ kept. (
-  renewed_kept c.args.lsa.now c.in_ok-bytes.ensures.header c.in_ok-bytes.ensures.body c.requires.fits kept,
+  renewed_kept c.args.lsa.now c.in_ok-bytes.ensures.header c.requires.kind c.in_ok-bytes.ensures.body c.requires.fits kept,
   text_alone c.args.lsa.now _ (returns-clause-text c),
 )
