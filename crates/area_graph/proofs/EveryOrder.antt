@@ -60,9 +60,9 @@ chosen_once lsas key =
 -- what says the same as an LSA that may stand in a database may stand in one
 kept_like : (x y : Lsa) → timeless x ≡ timeless y → IsKept x → IsKept y
 kept_like x y same kept =
-    let moved : IsKept (timeless x) = record { body = kept.body; own_id = kept.own_id; metrics = kept.metrics } in
+    let moved : IsKept (timeless x) = record { type = kept.type; body = kept.body; own_id = kept.own_id; metrics = kept.metrics } in
     let there : IsKept (timeless y) = subst IsKept same moved in
-    record { body = there.body; own_id = there.own_id; metrics = there.metrics }
+    record { type = there.type; body = there.body; own_id = there.own_id; metrics = there.metrics }
 
 say_all : (one other : List Lsa) → IsPermutation (map timeless one) (map timeless other) → SayAll one other
 say_all one other moves = λ said has.

@@ -1,5 +1,5 @@
 -- What an area's entries keep.
-use Rattle.std.proofs.Common.{◌≡◌, ◌≢◌, ◌∙◌, ◌≤◌, ◌+◌, ◌++◌, ◌==◌, ℕ, suc, Bool, true, false, not, cond, zero-add, add-zero, List, [], ◌∷◌, Option, Some, None, get_or, map, slice_get, refl, sym, ap, subst, inl, inr, arith}
+use Rattle.std.proofs.Common.{◌≡◌, ◌≢◌, ◌∙◌, ◌≤◌, ◌+◌, ◌++◌, ◌==◌, ◌⊎◌, ℕ, suc, Bool, true, false, not, cond, zero-add, add-zero, List, [], ◌∷◌, Option, Some, None, get_or, map, slice_get, refl, sym, ap, subst, inl, inr, arith}
 use Rattle.std.specs.List.{AllByRecursion, IsDistinct, filter, list_any}
 use Rattle.std.specs.Ordering.{on}
 use Rattle.std.specs.Option.{option_map, option_and_then, option_to_list}
@@ -13,12 +13,12 @@ use Rattle.mrt_graph.specs.GraphInvariant.{IsNetwork}
 use Rattle.mrt_graph.specs.NodeOrder.{rank_of, node_id_cmp}
 use Rattle.mrt_graph.specs.declared.node_id.Kind.TheVariants as kinds
 use Rattle.mrt_graph.specs.declared.node_id.NodeId.{NodeId}
-use Rattle.ospf_lsa.specs.Lsas.{has_zero_metric}
+use Rattle.ospf_lsa.specs.Lsas.{has_zero_metric, IsOfType, KeepsMetrics}
 use Rattle.ospf_lsa.specs.declared.lsa.Body.{Body}
 use Rattle.ospf_lsa.specs.declared.lsa.Body.TheVariants.{Router, Network, Other}
 use Rattle.ospf_lsa.specs.declared.lsa.Lsa.{Lsa}
 use Rattle.ospf_lsa.specs.declared.lsa.RouterLink.{RouterLink}
-use Rattle.lsdb.specs.Installing.{IsBodyOf, HasMetrics, IsKept}
+use Rattle.lsdb.specs.Installing.{IsKept}
 use Rattle.lsdb.specs.Rank.{is_at_max_age}
 use Rattle.area_graph.specs.Bonds.{same_entry}
 use Rattle.area_graph.specs.Entries.{far_of, entry_of_link, entry_of_listed, entries_of_links, entries_of_listed, entries_of, entries_from, entries}
@@ -145,13 +145,13 @@ all_listed_kept ids tail own place (listed ∷ others) at_tail =
     all_with (IsEntry ids) (entry_of_listed ids tail place listed) (entries_of_listed ids tail (place + 1) others)
     (λ e is. listed_kept ids tail own place listed e at_tail is) (all_listed_kept ids tail own (place + 1) others at_tail)
 
-body_kept : (ids : List NodeId) (tail : ℕ) (lsa : Lsa) (body : Body) → IsBodyOf lsa.kind body → HasMetrics body → slice_get ids tail ≡ Some (node_of lsa)
+body_kept : (ids : List NodeId) (tail : ℕ) (lsa : Lsa) (body : Body) → (lsa.kind ≡ 1) ⊎ (lsa.kind ≡ 2) → IsOfType lsa.kind body → KeepsMetrics body → slice_get ids tail ≡ Some (node_of lsa)
     → AllByRecursion (IsEntry ids) (entries_of ids tail lsa.id body)
-body_kept ids tail lsa (Router flags spare links) kind metrics at_tail =
+body_kept ids tail lsa (Router flags spare links) type kind metrics at_tail =
     links_kept ids tail lsa.id 0 links (at_tail ∙ ap (λ (x : NodeId). Some x) (of_router lsa kind)) metrics
-body_kept ids tail lsa (Network mask routers) kind metrics at_tail =
+body_kept ids tail lsa (Network mask routers) type kind metrics at_tail =
     all_listed_kept ids tail lsa.id 0 routers (at_tail ∙ ap (λ (x : NodeId). Some x) (of_network lsa kind))
-body_kept ids tail lsa (Other bytes) kind metrics at_tail = absurd kind
+body_kept ids tail lsa (Other bytes) type kind metrics at_tail = absurd (elim type [ inl is ↦ kind.0 is | inr is ↦ kind.1 is ])
 
 all_append : {X : Type 0} (P : X → Type 0) (xs ys : List X) → AllByRecursion P xs → AllByRecursion P ys → AllByRecursion P (xs ++ ys)
 all_append P [] ys here later = later
@@ -168,7 +168,7 @@ unfolding StandFrom
 from_kept ids tail [] kept stand = tt
 from_kept ids tail (lsa ∷ lsas) kept stand =
     all_append (IsEntry ids) (entries_of ids tail lsa.id lsa.body) (entries_from ids (tail + 1) lsas)
-    (body_kept ids tail lsa lsa.body kept.0.body kept.0.metrics stand.0) (from_kept ids (tail + 1) lsas kept.1 stand.1)
+    (body_kept ids tail lsa lsa.body kept.0.type kept.0.body kept.0.metrics stand.0) (from_kept ids (tail + 1) lsas kept.1 stand.1)
 
 stand_from : (ids : List NodeId) (tail : ℕ) (lsas : List Lsa) → ((k : ℕ) → slice_get ids (tail + k) ≡ slice_get (map node_of lsas) k) → StandFrom ids tail lsas
 unfolding StandFrom

@@ -1,6 +1,6 @@
 -- Speakers that are sorted by node, and of one node by the greatest advertising router first, are those that speak, once the later ones
 -- of each node are left out.
-use Rattle.std.proofs.Common.{◌≡◌, ◌∙◌, ◌<◌, ◌&&◌, ◌==◌, ℕ, Bool, true, false, not, cond, ltb, List, [], ◌∷◌, ◌⊎◌, length, get_or, map, refl, sym, ap, subst, inl, inr, arith}
+use Rattle.std.proofs.Common.{◌≡◌, ◌∙◌, ◌<◌, ◌&&◌, ◌==◌, ℕ, Bool, true, false, not, cond, ltb, List, [], ◌∷◌, length, get_or, map, refl, sym, ap, subst, inl, inr, arith}
 use Rattle.std.specs.declared.cmp.Ordering.{Ordering}
 use Rattle.std.specs.declared.cmp.Ordering.TheVariants.{Less, Equal, Greater}
 use Rattle.std.specs.List.{AllByRecursion, AllPairs, AllZip, IsDistinct, filter, dedup}
@@ -14,10 +14,8 @@ use Rattle.std.proofs.lemmas.List.Kept.{AllPairs-filter}
 use Rattle.std.proofs.lemmas.Map.Keys.{apart_from_distinct, IsDistinct-from_apart}
 use Rattle.mrt_graph.specs.NodeOrder.{rank_of, node_id_cmp}
 use Rattle.mrt_graph.specs.declared.node_id.NodeId.{NodeId}
-use Rattle.ospf_lsa.specs.declared.lsa.Body.{Body}
-use Rattle.ospf_lsa.specs.declared.lsa.Body.TheVariants.{Router, Network, Other}
 use Rattle.ospf_lsa.specs.declared.lsa.Lsa.{Lsa}
-use Rattle.lsdb.specs.Installing.{IsBodyOf, IsKept}
+use Rattle.lsdb.specs.Installing.{IsKept}
 use Rattle.lsdb.specs.Keys.{key_of, same_key, AreDistinct}
 use Rattle.lsdb.specs.Rank.{is_at_max_age}
 use Rattle.lsdb.specs.declared.key.Key.{Key}
@@ -30,11 +28,6 @@ use Rattle.area_graph.proofs.Foremost.{is_over, none_over, greatest_first, AreFo
 use Rattle.area_graph.proofs.SameNodes.{node_id_total, node_is, ties_are_same, equal_numbers}
 
 -- ---- LSAs that may stand in a database
-
-pub kind_by : (kind : ℕ) (body : Body) → IsBodyOf kind body → (kind ≡ 1) ⊎ (kind ≡ 2)
-kind_by kind (Router flags spare links) is = inl is
-kind_by kind (Network mask routers) is = inr is
-kind_by kind (Other bytes) is = absurd is
 
 -- the node of an LSA of that LS type and link state ID
 abbrev pub node_by : ℕ → ℕ → NodeId
@@ -53,14 +46,14 @@ router_is_no_network m n is =
 -- LSAs of one node have one LS type
 one_kind : (one other : Lsa) → IsKept one → IsKept other → node_of one ≡ node_of other → one.kind ≡ other.kind
 one_kind one other kept kept' same =
-    elim (kind_by one.kind one.body kept.body) [
+    elim kept.type [
       | inl is ↦
-          elim (kind_by other.kind other.body kept'.body) [
+          elim kept'.type [
             | inl is' ↦ is ∙ sym is'
             | inr is' ↦ absurd (router_is_no_network one.id other.id (sym (of_router one is) ∙ same ∙ of_network other is'))
           ]
       | inr is ↦
-          elim (kind_by other.kind other.body kept'.body) [
+          elim kept'.type [
             | inl is' ↦ absurd (router_is_no_network other.id one.id (sym (of_router other is') ∙ sym same ∙ of_network one is))
             | inr is' ↦ is ∙ sym is'
           ]

@@ -1,5 +1,5 @@
 -- Lists of LSAs that say the same have the same nodes, and so the same area.
-use Rattle.std.proofs.Common.{◌≡◌, ◌∙◌, ◌<◌, ◌≤◌, ◌+◌, ◌%◌, ◌^◌, ◌&&◌, ◌==◌, ◌⊎◌, ◌++◌, ℕ, Bool, true, false, not, List, [], ◌∷◌, if◌then◌else◌, map, inl, inr, refl, sym, ap, subst, arith}
+use Rattle.std.proofs.Common.{◌≡◌, ◌∙◌, ◌<◌, ◌≤◌, ◌+◌, ◌%◌, ◌^◌, ◌&&◌, ◌==◌, ◌++◌, ℕ, Bool, true, false, not, List, [], ◌∷◌, if◌then◌else◌, map, inl, inr, refl, sym, ap, subst, arith}
 use Rattle.std.specs.Prelude.{nat_le, nat_lt}
 use Rattle.std.specs.declared.cmp.Ordering.{Ordering}
 use Rattle.std.specs.declared.cmp.Ordering.TheVariants.{Less, Equal, Greater}
@@ -11,9 +11,7 @@ use Rattle.std.proofs.lemmas.Cmp.{nat_cmp_total, on_total, then_total}
 use Rattle.mrt_graph.specs.NodeOrder.{rank_of, node_id_cmp}
 use Rattle.mrt_graph.specs.declared.node_id.NodeId.{NodeId}
 use Rattle.ospf_lsa.specs.declared.lsa.Lsa.{Lsa}
-use Rattle.ospf_lsa.specs.declared.lsa.Body.{Body}
-use Rattle.ospf_lsa.specs.declared.lsa.Body.TheVariants.{Router, Network, Other}
-use Rattle.lsdb.specs.Installing.{IsBodyOf, IsKept}
+use Rattle.lsdb.specs.Installing.{IsKept}
 use Rattle.lsdb.specs.Keys.{key_of, same_key, is_of}
 use Rattle.lsdb.specs.Orders.{timeless}
 use Rattle.lsdb.specs.Rank.{is_at_max_age}
@@ -112,17 +110,12 @@ speakers_say one other there back = λ said has.
     subst (Has (map timeless (speakers other))) from.is (speaker_alike one other from.origin there back from.there)
 
 -- the node of an LSA that may stand in a database
-kind_of : (kind : ℕ) (body : Body) → IsBodyOf kind body → (kind ≡ 1) ⊎ (kind ≡ 2)
-kind_of kind (Router flags spare links) is = inl is
-kind_of kind (Network mask routers) is = inr is
-kind_of kind (Other bytes) is = absurd is
-
 record IsNode (lsa : Lsa) : Type 0 where
   number : (node_of lsa).number ≡ lsa.id
   rank : rank_of (node_of lsa).kind + 1 ≡ lsa.kind
 
 node_is : (lsa : Lsa) → IsKept lsa → IsNode lsa
-node_is lsa kept = elim (kind_of lsa.kind lsa.body kept.body) [
+node_is lsa kept = elim kept.type [
   | inl one ↦
       let is : node_of lsa ≡ router lsa.id = ap (λ (b : Bool). if b then router lsa.id else network lsa.id) (eq-eqb lsa.kind 1 one) in
       record { number = ap (λ (n : NodeId). n.number) is; rank = ap (λ (n : NodeId). rank_of n.kind + 1) is ∙ sym one }

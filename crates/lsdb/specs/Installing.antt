@@ -1,12 +1,10 @@
 -- What installing an LSA does to the entries of a database.
-use Rattle.std.specs.Prelude.{◌≡◌, ◌<◌, ℕ, Bool, false, List, [], ◌∷◌, Option, Some, None, if◌then◌else◌}
-use Rattle.std.specs.List.{list_any}
+use Rattle.std.specs.Prelude.{◌≡◌, ◌<◌, ◌⊎◌, ℕ, Bool, List, [], ◌∷◌, Option, Some, None, if◌then◌else◌}
 use Rattle.std.specs.Option.{is_some}
 use Rattle.std.specs.declared.cmp.Ordering.{Ordering}
 use Rattle.std.specs.declared.cmp.Ordering.TheVariants.{Less, Equal, Greater}
-use Rattle.ospf_lsa.specs.Lsas.{has_zero_metric}
-use Rattle.ospf_lsa.specs.declared.lsa.Body.{Body}
-use Rattle.ospf_lsa.specs.declared.lsa.Body.TheVariants.{Router, Network, Other}
+use Rattle.ospf_lsa.specs.Lsas.{IsOfType, KeepsMetrics}
+use Rattle.ospf_lsa.specs.Types.{router_lsa, network_lsa}
 use Rattle.ospf_lsa.specs.declared.lsa.Lsa.{Lsa}
 use Rattle.lsdb.specs.declared.change.Change.{Change}
 use Rattle.lsdb.specs.declared.change.Change.TheVariants.{Added, Replaced, Older, Same, Clash}
@@ -44,23 +42,13 @@ installed (entry ∷ entries) lsa =
     if same_key (key_of lsa) (key_of entry.lsa) then (changed entry lsa (change_of entry.lsa lsa) ∷ entries, change_of entry.lsa lsa)
     else (entry ∷ (installed entries lsa).0, (installed entries lsa).1)
 
--- the body is that of the LS type: 1 for a router, 2 for a network
-abbrev pub IsBodyOf : ℕ → Body → Type 0
-IsBodyOf kind (Router flags spare links) = kind ≡ 1
-IsBodyOf kind (Network mask routers) = kind ≡ 2
-IsBodyOf kind (Other bytes) = ⊥
-
--- no link to a router or to a transit network has metric 0
-abbrev pub HasMetrics : Body → Type 0
-HasMetrics (Router flags spare links) = list_any has_zero_metric links ≡ false
-HasMetrics (Network mask routers) = Unit {0}
-HasMetrics (Other bytes) = Unit {0}
-
--- an LSA that may stand in a database
+-- an LSA that may stand in a database: it is a router-LSA or a network-LSA and has the body of its type, the link state ID of a
+-- router-LSA is its advertising router, and no metric is 0 where it may not be
 pub record IsKept (lsa : Lsa) : Type 0 where
-  pub body : IsBodyOf lsa.kind lsa.body
-  pub own_id : lsa.kind ≡ 1 → lsa.id ≡ lsa.router
-  pub metrics : HasMetrics lsa.body
+  pub type : (lsa.kind ≡ router_lsa) ⊎ (lsa.kind ≡ network_lsa)
+  pub body : IsOfType lsa.kind lsa.body
+  pub own_id : lsa.kind ≡ router_lsa → lsa.id ≡ lsa.router
+  pub metrics : KeepsMetrics lsa.body
 
 -- a place behind the greatest
 abbrev pub IsBehind : Option ℕ → ℕ → Type 0

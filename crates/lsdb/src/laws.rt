@@ -4,6 +4,7 @@ ghost use Rattle.std.specs.Prelude.{◌≡◌, ◌↔◌, ◌⊎◌, List, [], N
 ghost use Rattle.std.specs.Option.{option_map};
 ghost use Rattle.ospf_lsa.specs.declared.lsa.Lsa.{Lsa};
 ghost use Rattle.ospf_lsa.specs.Lsas.{IsLsa};
+ghost use Rattle.ospf_lsa.specs.Types.{network_lsa, router_lsa};
 ghost use Rattle.lsdb.specs.Changes.{HasRankOfFirst, IsOfNewKey, IsOutranked, OutranksAll};
 ghost use Rattle.lsdb.specs.Conflicts.{least_conflict};
 ghost use Rattle.lsdb.specs.Disagreements.{IsFirstConflictOf};
@@ -76,5 +77,5 @@ pub fn every_order_holds_the_same_lsas()
 
 /// An LSA without a fault that is a router-LSA or a network-LSA may be installed, but for its place.
 pub fn an_lsa_without_a_fault_may_be_installed()
-    ensures { (lsa : Lsa) → IsLsa lsa → (lsa.kind ≡ 1) ⊎ (lsa.kind ≡ 2) → IsKept lsa }
+    ensures { (lsa : Lsa) → IsLsa lsa → (lsa.kind ≡ router_lsa) ⊎ (lsa.kind ≡ network_lsa) → IsKept lsa }
 {}
