@@ -5,6 +5,7 @@ use Rattle.std.specs.List.{list_any, find, cons_option}
 use Rattle.std.specs.Option.{option_map}
 use Rattle.std.proofs.lemmas.Bool.Decides.{nat_tests}
 use Rattle.std.proofs.lemmas.Option.{same_Some}
+use Rattle.std.proofs.lemmas.Bool.{and_parts}
 use Rattle.ospf_lsa.specs.declared.lsa.Lsa.{Lsa}
 use Rattle.lsdb.specs.declared.change.Conflict.{Conflict}
 use Rattle.lsdb.specs.declared.key.Key.{Key}
@@ -16,10 +17,10 @@ use Rattle.lsdb.specs.Newest.{is_newest, newest_of, same_but_age}
 use Rattle.lsdb.proofs.Arrivals.{any_key}
 use Rattle.lsdb.proofs.Lists.{entries_at}
 use Rattle.lsdb.proofs.Settling.{none_of_two}
-use Rattle.lsdb.proofs.Stores.{and_parts, key_is}
+use Rattle.lsdb.proofs.Stores.{key_is}
 use Rattle.lsdb.proofs.Tops.{first_of_filter}
 
-here : {X : Type 0} (x : X) (xs : List X) → Contains (x ∷ xs) x
+pub here : {X : Type 0} (x : X) (xs : List X) → Contains (x ∷ xs) x
 here x xs = (0, omega arith, refl)
 
 pub later : {X : Type 0} (x y : X) (xs : List X) → Contains xs y → Contains (x ∷ xs) y

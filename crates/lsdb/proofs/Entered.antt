@@ -1,6 +1,7 @@
 -- The entries of a list have its keys, each once.
 use Rattle.std.proofs.Common.{◌≡◌, ◌∙◌, false, List, [], ◌∷◌, map, refl, sym, ap, subst}
 use Rattle.std.specs.List.{list_any, cons_option, AllByRecursion, IsDistinct}
+use Rattle.std.proofs.lemmas.Bool.{or_parts}
 use Rattle.ospf_lsa.specs.declared.lsa.Lsa.{Lsa}
 use Rattle.lsdb.specs.declared.key.Key.{Key}
 use Rattle.lsdb.specs.Entries.{Entry, entry_of}
@@ -8,7 +9,6 @@ use Rattle.lsdb.specs.Keys.{key_of, same_key, keys_in}
 use Rattle.lsdb.specs.Orders.{newest_in}
 use Rattle.lsdb.proofs.Arrivals.{AreDistinct, HaveInstances, have_instances, keys_distinct}
 use Rattle.lsdb.proofs.Lists.{entries_at, newest_there}
-use Rattle.lsdb.proofs.Tops.{or_parts}
 
 keys_at : (lsas : List Lsa) (keys : List Key) → HaveInstances lsas keys → map key_of (map (λ (e : Entry). e.lsa) (entries_at lsas keys)) ≡ keys
 keys_at lsas [] have = refl

@@ -6,6 +6,7 @@ use Rattle.std.specs.declared.cmp.Ordering.{Ordering}
 use Rattle.std.specs.declared.cmp.Ordering.TheVariants.{Less, Equal, Greater}
 use Rattle.std.proofs.lemmas.List.{append-nil, append_assoc}
 use Rattle.std.proofs.lemmas.List.Elements.{filter-append, filter_map-append}
+use Rattle.std.proofs.lemmas.Bool.{and_parts, or_parts}
 use Rattle.ospf_lsa.specs.declared.lsa.Lsa.{Lsa}
 use Rattle.lsdb.specs.declared.change.Change.{Change}
 use Rattle.lsdb.specs.declared.key.Key.{Key}
@@ -17,8 +18,8 @@ use Rattle.lsdb.specs.Newest.{same_but_age, is_newest, newest_of}
 use Rattle.lsdb.specs.Rank.{rank_cmp, outranks}
 use Rattle.lsdb.specs.Store.{is_entry_of}
 use Rattle.lsdb.proofs.Arrivals.{own_key, differ_both, keys_step, keys_with, AreDistinct, keys_distinct, HaveInstances, have_instances, any_key}
-use Rattle.lsdb.proofs.Stores.{and_parts, chosen, key_is, installed_new, unchosen}
-use Rattle.lsdb.proofs.Tops.{first_of_filter, or_parts, tops, tops_step, joined, joined_by}
+use Rattle.lsdb.proofs.Stores.{chosen, key_is, installed_new, unchosen}
+use Rattle.lsdb.proofs.Tops.{first_of_filter, tops, tops_step, joined, joined_by}
 
 -- a filter by two tests
 and_by : (b : Bool) (x : Lsa) (xs : List Lsa) (q : Lsa → Bool) (rest : Bool) → rest ≡ list_any q xs → ((b && q x) || rest) ≡ list_any q (cond b (x ∷ xs) xs)

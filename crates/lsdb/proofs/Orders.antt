@@ -2,6 +2,7 @@
 use Rattle.std.proofs.Common.{◌≡◌, ◌∙◌, ◌||◌, ◌&&◌, Bool, true, false, List, [], ◌∷◌, Some, slice_get, refl, sym, ap, subst}
 use Rattle.std.specs.List.{list_all, list_any}
 use Rattle.std.specs.Option.{option_map}
+use Rattle.std.proofs.lemmas.Bool.{and_parts, and_from, not-true}
 use Rattle.ospf_lsa.specs.declared.lsa.Lsa.{Lsa}
 use Rattle.lsdb.specs.declared.key.Key.{Key}
 use Rattle.lsdb.specs.Keys.{key_of, same_key, is_of}
@@ -12,10 +13,8 @@ use Rattle.lsdb.proofs.Agreements.{Agree, newest_agrees, settled_agree}
 use Rattle.lsdb.proofs.Alike.{alike_equiv}
 use Rattle.lsdb.proofs.Arrivals.{others, own_key}
 use Rattle.lsdb.proofs.Lists.{Newest, any_and, newest_is_tops, newest_there, pass_none}
-use Rattle.lsdb.proofs.Settling.{both_true}
-use Rattle.lsdb.proofs.Stores.{and_parts}
 use Rattle.lsdb.proofs.Timeless.{aged_alike, equal_rank, timeless_is}
-use Rattle.lsdb.proofs.Tops.{First, first_of_filter, tops, not_true}
+use Rattle.lsdb.proofs.Tops.{First, first_of_filter, tops}
 
 -- what no LSA of a list passes, its first that a filter lets through does not
 not_first_by : (b : Bool) (keep test : Lsa → Bool) (lsas : List Lsa) (m : Lsa) → First keep lsas m → list_any test lsas ≡ false → test m ≡ b → test m ≡ false
@@ -34,7 +33,7 @@ not_above lsas others key agree both =
     let m' = both.other.first in
     let first = first_of_filter (λ lsa. is_of key lsa && is_newest lsas lsa) lsas m both.one.rest both.one.are in
     let first' = first_of_filter (λ lsa. is_of key lsa && is_newest others lsa) others m' both.other.rest both.other.are in
-    let free = not_true _ (sym (newest_agrees lsas others agree m) ∙ (and_parts _ _ first.passes).1) in
+    let free = not-true _ (sym (newest_agrees lsas others agree m) ∙ (and_parts _ _ first.passes).1) in
     let none = not_first_by _ (λ lsa. is_of key lsa && is_newest others lsa) (λ other. is_of (key_of m) other && outranks other m) others m' first' free refl in
     sym (ap (λ (k : Key). same_key k (key_of m') && outranks m' m) both.one.of_key
     ∙ ap (λ (k : Key). same_key key k && outranks m' m) both.other.of_key
@@ -61,7 +60,7 @@ first_alike lsas others key agree both alike =
     let passes = and_parts (is_of key m) (is_newest lsas m) first.passes in
     let here : list_any (λ x. (is_of key x && is_newest others x) && same_but_age m x) lsas ≡ true =
     first.among (λ x. (is_of key x && is_newest others x) && same_but_age m x)
-    (both_true _ _ (both_true _ _ passes.0 (sym (newest_agrees lsas others agree m) ∙ passes.1)) (alike_equiv.refl m)) in
+    (and_from _ _ (and_from _ _ passes.0 (sym (newest_agrees lsas others agree m) ∙ passes.1)) (alike_equiv.refl m)) in
     let there : list_any (same_but_age m) (newest_of others key) ≡ true =
     sym (any_and (λ lsa. is_of key lsa && is_newest others lsa) (same_but_age m) others)
     ∙ sym (agree (λ x. (is_of key x && is_newest others x) && same_but_age m x) (λ x. refl)) ∙ here in
@@ -101,10 +100,6 @@ told_by true told lsas others key there there' same =
     let both : BothNewest lsas others key = record { one = newest_there lsas key there; other = newest_there others key there' } in
     told_there told lsas others key both (same both)
 told_by false told lsas others key there there' same = told_nowhere told lsas others key there there'
-
-pub aged_told : (lsas others : List Lsa) → Agree lsas others → (key : Key) → option_map is_at_max_age (first_newest lsas key) ≡ option_map is_at_max_age (first_newest others key)
-aged_told lsas others agree key =
-    told_by (list_any (is_of key) lsas) is_at_max_age lsas others key refl (sym (agree (is_of key) (λ x. refl))) (first_aged lsas others key agree)
 
 pub timeless_told : (lsas others : List Lsa) → Agree lsas others → IsSettled lsas → (key : Key)
     → option_map timeless (first_newest lsas key) ≡ option_map timeless (first_newest others key)

@@ -2,6 +2,7 @@
 use Rattle.std.proofs.Common.{◌≡◌, ◌∙◌, ◌<◌, ◌&&◌, ℕ, Bool, true, false, not, cond, List, [], ◌∷◌, Option, Some, None, Contains, refl, sym, ap, subst, inl, inr, arith}
 use Rattle.std.specs.List.{filter, find}
 use Rattle.std.proofs.lemmas.List.Elements.{All-contains, All-contains_itself, All-filter, filter_passes}
+use Rattle.std.proofs.lemmas.Bool.{and_parts}
 use Rattle.ospf_lsa.specs.declared.lsa.Lsa.{Lsa}
 use Rattle.lsdb.specs.declared.change.Conflict.{Conflict}
 use Rattle.lsdb.specs.declared.key.Key.{Key}
@@ -12,7 +13,7 @@ use Rattle.lsdb.specs.Installs.{AreBehind}
 use Rattle.lsdb.specs.Keys.{key_of, is_of}
 use Rattle.lsdb.specs.Newest.{is_newest, newest_of, same_but_age}
 use Rattle.lsdb.proofs.Conflicting.{entry_of_pair, first_of_list, here_or_later, later, nowhere, quiet_entry}
-use Rattle.lsdb.proofs.Stores.{and_parts, key_is}
+use Rattle.lsdb.proofs.Stores.{key_is}
 
 behind_first : (first at : ℕ) (lsas : List Lsa) (lsa : Lsa) → first < at → AreBehind (Some at) lsas → Contains lsas lsa → first < lsa.at
 behind_first first at [] lsa below rise there = absurd (nowhere lsa there)

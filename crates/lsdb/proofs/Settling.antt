@@ -2,6 +2,7 @@
 use Rattle.std.proofs.Common.{◌≡◌, ◌∙◌, ◌||◌, ◌&&◌, Bool, true, false, not, cond, List, [], ◌∷◌, Option, Some, None, if◌then◌else◌, refl, sym, ap, subst}
 use Rattle.std.specs.List.{list_all, list_any, find, cons_option}
 use Rattle.std.specs.Option.{option_map}
+use Rattle.std.proofs.lemmas.Bool.{and_parts, and_from}
 use Rattle.ospf_lsa.specs.declared.lsa.Lsa.{Lsa}
 use Rattle.lsdb.specs.declared.change.Conflict.{Conflict}
 use Rattle.lsdb.specs.declared.key.Key.{Key}
@@ -12,11 +13,8 @@ use Rattle.lsdb.specs.Newest.{are_alike, newest_of, same_but_age, IsSettled}
 use Rattle.lsdb.proofs.Alike.{alike_equiv}
 use Rattle.lsdb.proofs.Arrivals.{HaveInstances, have_instances, any_key}
 use Rattle.lsdb.proofs.Lists.{entries_at, entry_from, newest_is_tops, newest_there, pass_none}
-use Rattle.lsdb.proofs.Stores.{and_parts, key_is}
+use Rattle.lsdb.proofs.Stores.{key_is}
 use Rattle.lsdb.proofs.Tops.{tops}
-
-pub both_true : (a b : Bool) → a ≡ true → b ≡ true → (a && b) ≡ true
-both_true a b x y = ap (λ (c : Bool). c && b) x ∙ y
 
 all_found_by : (b : Bool) (m l : Lsa) (ls : List Lsa) → (list_all (same_but_age m) ls ≡ true → find (λ lsa. not (same_but_age m lsa)) ls ≡ None)
     → (b && list_all (same_but_age m) ls) ≡ true → cond (not b) (Some l) (find (λ lsa. not (same_but_age m lsa)) ls) ≡ None
@@ -40,18 +38,18 @@ as_first : (m one : Lsa) (ls : List Lsa) → same_but_age m one ≡ true → lis
 as_first m one [] same h = refl
 as_first m one (l ∷ ls) same h =
     let parts = and_parts (same_but_age m l) _ h in
-    both_true _ _ (sym (alike_equiv.congr m one l same) ∙ parts.0) (as_first m one ls same parts.1)
+    and_from _ _ (sym (alike_equiv.congr m one l same) ∙ parts.0) (as_first m one ls same parts.1)
 
 each_alike : (m : Lsa) (all ls : List Lsa) → list_all (same_but_age m) all ≡ true → list_all (same_but_age m) ls ≡ true
     → list_all (λ one. list_all (same_but_age one) all) ls ≡ true
 each_alike m all [] whole h = refl
 each_alike m all (l ∷ ls) whole h =
     let parts = and_parts (same_but_age m l) _ h in
-    both_true _ _ (as_first m l all parts.0 whole) (each_alike m all ls whole parts.1)
+    and_from _ _ (as_first m l all parts.0 whole) (each_alike m all ls whole parts.1)
 
 alike_from : (m : Lsa) (ms : List Lsa) → find (λ lsa. not (same_but_age m lsa)) ms ≡ None → are_alike (m ∷ ms) ≡ true
 alike_from m ms none =
-    let whole = both_true _ _ (alike_equiv.refl m) (all_alike m ms none) in each_alike m (m ∷ ms) (m ∷ ms) whole whole
+    let whole = and_from _ _ (alike_equiv.refl m) (all_alike m ms none) in each_alike m (m ∷ ms) (m ∷ ms) whole whole
 
 none_from : (m : Lsa) (ms : List Lsa) → are_alike (m ∷ ms) ≡ true → find (λ lsa. not (same_but_age m lsa)) ms ≡ None
 none_from m ms alike = none_differs m ms (and_parts (same_but_age m m) _ (and_parts (list_all (same_but_age m) (m ∷ ms)) _ alike).0).1

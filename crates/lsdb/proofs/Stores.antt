@@ -1,5 +1,5 @@
 -- The database's parts and its entries.
-use Rattle.std.proofs.Common.{◌≡◌, ◌∙◌, ◌<◌, ◌+◌, ◌++◌, ◌&&◌, ◌||◌, ◌==◌, ℕ, zero, suc, Bool, true, false, List, [], ◌∷◌, Option, Some, None, length, map, get_or, set, slice_get, if◌then◌else◌, refl, sym, ap, subst, inl, inr, arith}
+use Rattle.std.proofs.Common.{◌≡◌, ◌∙◌, ◌<◌, ◌+◌, ◌++◌, ◌||◌, ℕ, zero, suc, Bool, true, false, List, [], ◌∷◌, Option, Some, None, length, map, get_or, set, slice_get, if◌then◌else◌, refl, sym, ap, subst, inl, inr, arith}
 use Rattle.std.specs.List.{list_any, position, AllByRecursion, IsDistinct}
 use Rattle.std.specs.Cmp.{IsEquivalence, and_equiv, on_equiv}
 use Rattle.std.proofs.lemmas.Cmp.{nat_eq_equiv}
@@ -8,7 +8,7 @@ use Rattle.std.specs.Option.{is_some, option_map}
 use Rattle.std.proofs.lemmas.Option.{get_or_from_slice_get, same_Some, slice_get-map, slice_get_cases}
 use Rattle.std.proofs.lemmas.List.{set-get_or, length-map, map-append, length-append}
 use Rattle.std.proofs.lemmas.List.Quantifiers.{position-Some}
-use Rattle.std.proofs.lemmas.Bool.Decides.{eqb_tells}
+use Rattle.std.proofs.lemmas.Bool.{and_parts, or_parts, eqb-true}
 use Rattle.ospf_lsa.specs.declared.lsa.Lsa.{Lsa}
 use Rattle.lsdb.specs.declared.change.Change.{Change}
 use Rattle.lsdb.specs.declared.change.Change.TheVariants.{Added}
@@ -52,13 +52,6 @@ parts_of (lsa ∷ lsas) (place ∷ places) zero entry there =
     record { lsa = ap (λ (e : Entry). Some e.lsa) same; place = ap (λ (e : Entry). Some e.differing) same }
 parts_of (lsa ∷ lsas) (place ∷ places) (suc i) entry there =
     let rest = parts_of lsas places i entry there in record { lsa = rest.lsa; place = rest.place }
-
-pub entry_at : (lsas : List Lsa) (places : List (Option ℕ)) (i : ℕ) (lsa : Lsa) (place : Option ℕ) → slice_get lsas i ≡ Some lsa → slice_get places i ≡ Some place
-    → slice_get (entries_of lsas places) i ≡ Some (record { lsa = lsa; differing = place })
-entry_at [] places i lsa place of_lsa of_place = absurd cc
-entry_at (x ∷ lsas) [] i lsa place of_lsa of_place = absurd cc
-entry_at (x ∷ lsas) (p ∷ places) zero lsa place of_lsa of_place = cc
-entry_at (x ∷ lsas) (p ∷ places) (suc i) lsa place of_lsa of_place = entry_at lsas places i lsa place of_lsa of_place
 
 -- writing what is there changes nothing
 pub set_there : {X : Type 0} (xs : List X) (i : ℕ) (x : X) → slice_get xs i ≡ Some x → set xs i x ≡ xs
@@ -118,25 +111,14 @@ met_database db es new i entry lsa change change' same same_change is =
     ∙ ap (λ (c : Change). holding (set es i (changed entry lsa c)) lsa.at) same_change
     ∙ ap (λ (e : List Entry). holding (set e i (changed entry lsa change')) lsa.at) same
 
-pub and_parts : (a b : Bool) → (a && b) ≡ true → (a ≡ true) × (b ≡ true)
-and_parts true b h = (refl, h)
-and_parts false b h = absurd cc
-
-or_parts : (a b : Bool) → (a || b) ≡ false → (a ≡ false) × (b ≡ false)
-or_parts true b h = absurd cc
-or_parts false b h = (refl, h)
-
-eqb_is : (a b : ℕ) → (a == b) ≡ true → a ≡ b
-eqb_is a b h = elim (eqb_tells a b) [ inl same ↦ same.1 | inr other ↦ let no = other.0 in absurd cc ]
-
 -- keys that are told to be one are equal
 pub key_is : (one other : Key) → same_key one other ≡ true → other ≡ one
 key_is one other h =
     let first = and_parts _ _ h in
     let second = and_parts _ _ first.1 in
-    let kind : other.kind ≡ one.kind = sym (eqb_is _ _ first.0) in
-    let id : other.id ≡ one.id = sym (eqb_is _ _ second.0) in
-    let router : other.router ≡ one.router = sym (eqb_is _ _ second.1) in
+    let kind : other.kind ≡ one.kind = sym (eqb-true _ _ first.0) in
+    let id : other.id ≡ one.id = sym (eqb-true _ _ second.0) in
+    let router : other.router ≡ one.router = sym (eqb-true _ _ second.1) in
     let make : ℕ → ℕ → ℕ → Key = λ k i r. record { kind = k; id = i; router = r } in
     ap (λ (k : ℕ). make k other.id other.router) kind ∙ ap (λ (i : ℕ). make one.kind i other.router) id ∙ ap (λ (r : ℕ). make one.kind one.id r) router
 

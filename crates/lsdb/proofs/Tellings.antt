@@ -5,6 +5,7 @@ use Rattle.std.specs.Ordering.{is_gt}
 use Rattle.std.specs.declared.cmp.Ordering.{Ordering}
 use Rattle.std.specs.declared.cmp.Ordering.TheVariants.{Less, Equal, Greater}
 use Rattle.std.proofs.lemmas.Option.{same_Some}
+use Rattle.std.proofs.lemmas.Bool.{or_parts, and_from, not-true}
 use Rattle.ospf_lsa.specs.declared.lsa.Lsa.{Lsa}
 use Rattle.lsdb.specs.declared.change.Change.{Change}
 use Rattle.lsdb.specs.declared.change.Change.TheVariants.{Added, Replaced, Older, Same, Clash}
@@ -20,9 +21,8 @@ use Rattle.lsdb.specs.Rank.{outranks, rank_cmp}
 use Rattle.lsdb.proofs.Arrivals.{any_key, HaveInstances, have_instances}
 use Rattle.lsdb.proofs.Lists.{all_of_list, any_entries, entries_at, Newest, newest_is_tops, newest_there, pass_none}
 use Rattle.lsdb.proofs.Ranks.{above, flipped, greater_is, same_below}
-use Rattle.lsdb.proofs.Settling.{both_true}
 use Rattle.lsdb.proofs.Stores.{chosen, installed_new, key_is, unchosen}
-use Rattle.lsdb.proofs.Tops.{First, first_of_filter, not_true, or_parts, tops, unbeaten}
+use Rattle.lsdb.proofs.Tops.{First, first_of_filter, tops, unbeaten}
 
 -- what an install tells where the key's first newest instance is known
 same_first : (lsas : List Lsa) (x m : Lsa) (ms : List Lsa) (key : Key) → (newest : Newest lsas key) → newest_of lsas (key_of x) ≡ m ∷ ms → key ≡ key_of x
@@ -109,12 +109,12 @@ first_of_instances lsas x t =
     (sym (newest_is_tops lsas (key_of x)) ∙ t.newest)
 
 unbeaten_first : (lsas : List Lsa) (x : Lsa) → (t : Told lsas x) → list_any (λ other. outranks other t.first) (instances_of lsas x) ≡ false
-unbeaten_first lsas x t = let first = first_of_instances lsas x t in not_true _ first.passes
+unbeaten_first lsas x t = let first = first_of_instances lsas x t in not-true _ first.passes
 
 all_above : (ls : List Lsa) (x m : Lsa) → rank_cmp x m ≡ Greater → list_any (λ other. outranks other m) ls ≡ false → list_all (outranks x) ls ≡ true
 all_above [] x m is free = refl
 all_above (l ∷ ls) x m is free =
-    let parts = or_parts (outranks l m) _ free in both_true _ _ (ap is_gt (above x l m parts.0 is)) (all_above ls x m is parts.1)
+    let parts = or_parts (outranks l m) _ free in and_from _ _ (ap is_gt (above x l m parts.0 is)) (all_above ls x m is parts.1)
 
 none_fails_by : (b : Bool) (rest any : Bool) → (rest ≡ true → any ≡ false) → (b && rest) ≡ true → (not b || any) ≡ false
 none_fails_by true rest any h all = h all

@@ -6,7 +6,8 @@ use Rattle.std.specs.declared.cmp.Ordering.{Ordering}
 use Rattle.std.specs.declared.cmp.Ordering.TheVariants.{Less, Equal, Greater}
 use Rattle.std.proofs.lemmas.List.{append-nil}
 use Rattle.std.proofs.lemmas.List.Folds.{list_any-append}
-use Rattle.std.proofs.lemmas.List.Elements.{filter-append}
+use Rattle.std.proofs.lemmas.List.Elements.{filter-append, filter_agree}
+use Rattle.std.proofs.lemmas.Bool.{or_parts, not-true}
 use Rattle.ospf_lsa.specs.declared.lsa.Lsa.{Lsa}
 use Rattle.lsdb.specs.Rank.{rank_cmp, outranks}
 use Rattle.lsdb.proofs.Ranks.{flipped, none_outranks_itself, greater_is, greater_trans, above, same_above, same_below}
@@ -29,15 +30,6 @@ abbrev pub joined : List Lsa → Lsa → List Lsa
 joined [] x = x ∷ []
 joined (m ∷ ms) x = joined_by (rank_cmp x m) m ms x
 
-pub filter_eq : {X : Type 0} (p q : X → Bool) → ((x : X) → p x ≡ q x) → (xs : List X) → filter p xs ≡ filter q xs
-filter_eq p q h [] = refl
-filter_eq {X = X} p q h (x ∷ xs) =
-    ap (λ (b : Bool). cond b (x ∷ filter p xs) (filter p xs)) (h x) ∙ ap (λ (r : List X). cond (q x) (x ∷ r) r) (filter_eq p q h xs)
-
-pub or_parts : (a b : Bool) → (a || b) ≡ false → (a ≡ false) × (b ≡ false)
-or_parts true b h = absurd cc
-or_parts false b h = (refl, h)
-
 or_second : (a b : Bool) → b ≡ true → (a || b) ≡ true
 or_second true b h = refl
 or_second false b h = h
@@ -50,10 +42,6 @@ absorbed : (a b : Bool) → (b ≡ true → a ≡ true) → not (a || (b || fals
 absorbed true b h = refl
 absorbed false true h = let other = h refl in absurd cc
 absorbed false false h = refl
-
-pub not_true : (a : Bool) → not a ≡ true → a ≡ false
-not_true true h = absurd cc
-not_true false h = refl
 
 beaten : (lsas : List Lsa) (any : Lsa → Bool) (x m : Lsa) → rank_cmp x m ≡ Greater → list_any (λ other. outranks other m) lsas ≡ false
     → filter (λ lsa. not (any lsa || (outranks x lsa || false))) lsas ≡ []
@@ -104,21 +92,21 @@ joins_by : (r : Ordering) (lsas : List Lsa) (x m : Lsa) (ms : List Lsa) → tops
     → filter (is_top_with lsas x) lsas ++ filter (is_top_with lsas x) (x ∷ []) ≡ joined_by r m ms x
 joins_by Greater lsas x m ms are is =
     let first = first_of_filter (λ lsa. not (list_any (λ other. outranks other lsa) lsas)) lsas m ms are in
-    let free = not_true _ first.passes in
+    let free = not-true _ first.passes in
     ap (λ (r : List Lsa). r ++ filter (is_top_with lsas x) (x ∷ [])) (beaten lsas (λ lsa. list_any (λ other. outranks other lsa) lsas) x m is free)
     ∙ last_in lsas x (unbeaten lsas x m (λ l below. ap is_gt (flipped x l Greater (above x l m below is))) free)
 joins_by Less lsas x m ms are is =
     let first = first_of_filter (λ lsa. not (list_any (λ other. outranks other lsa) lsas)) lsas m ms are in
     ap (λ (r : List Lsa). r ++ filter (is_top_with lsas x) (x ∷ []))
-    (filter_eq (is_top_with lsas x) (λ lsa. not (list_any (λ other. outranks other lsa) lsas))
+    (filter_agree (is_top_with lsas x) (λ lsa. not (list_any (λ other. outranks other lsa) lsas))
     (λ l. absorbed _ (outranks x l) (λ yes. first.among (λ other. outranks other l) (ap is_gt (greater_trans m x l (flipped x m Less is) (greater_is _ yes))))) lsas ∙ are)
     ∙ ap (λ (r : List Lsa). (m ∷ ms) ++ r) (last_out lsas x (first.among (λ other. outranks other x) (ap is_gt (flipped x m Less is))))
     ∙ append-nil (m ∷ ms)
 joins_by Equal lsas x m ms are is =
     let first = first_of_filter (λ lsa. not (list_any (λ other. outranks other lsa) lsas)) lsas m ms are in
-    let free = not_true _ first.passes in
+    let free = not-true _ first.passes in
     ap (λ (r : List Lsa). r ++ filter (is_top_with lsas x) (x ∷ []))
-    (filter_eq (is_top_with lsas x) (λ lsa. not (list_any (λ other. outranks other lsa) lsas))
+    (filter_agree (is_top_with lsas x) (λ lsa. not (list_any (λ other. outranks other lsa) lsas))
     (λ l. absorbed _ (outranks x l) (λ yes. first.among (λ other. outranks other l) (sym (same_above x m l is) ∙ yes))) lsas ∙ are)
     ∙ ap (λ (r : List Lsa). (m ∷ ms) ++ r) (last_in lsas x (unbeaten lsas x m (λ l below. same_below x m l is ∙ below) free))
 
@@ -130,6 +118,6 @@ joins lsas (m ∷ ms) x are some = joins_by (rank_cmp x m) lsas x m ms are refl
 
 pub tops_step : (lsas : List Lsa) (x : Lsa) → (tops lsas ≡ [] → lsas ≡ []) → tops (lsas ++ x ∷ []) ≡ joined (tops lsas) x
 tops_step lsas x some =
-    filter_eq (λ lsa. not (list_any (λ other. outranks other lsa) (lsas ++ x ∷ []))) (is_top_with lsas x)
+    filter_agree (λ lsa. not (list_any (λ other. outranks other lsa) (lsas ++ x ∷ []))) (is_top_with lsas x)
     (λ l. ap not (list_any-append (λ other. outranks other l) lsas (x ∷ []))) (lsas ++ x ∷ [])
     ∙ filter-append (is_top_with lsas x) lsas (x ∷ []) ∙ joins lsas (tops lsas) x refl some

@@ -1,5 +1,6 @@
 -- Lists that hold the same LSAs, and what of a database does not hang on their order.
 use Rattle.std.specs.Prelude.{◌↔◌, List, Option, if◌then◌else◌, map, slice_get, Contains, IsPermutation}
+use Rattle.ospf_lsa.specs.Types.{max_age}
 use Rattle.ospf_lsa.specs.declared.lsa.Lsa.{Lsa}
 use Rattle.lsdb.specs.declared.key.Key.{Key}
 use Rattle.lsdb.specs.Entries.{entries_in}
@@ -20,7 +21,7 @@ HoldTheSame lsas others = (lsa : Lsa) → Contains (map without_place lsas) lsa 
 
 -- an LSA without its place, and of its age only whether it is MaxAge
 abbrev pub timeless : Lsa → Lsa
-timeless lsa = record lsa { at = 0; age = if is_at_max_age lsa then 3600 else 0 }
+timeless lsa = record lsa { at = 0; age = if is_at_max_age lsa then max_age else 0 }
 
 -- the first newest instance of a key, if it has an instance
 abbrev pub first_newest : List Lsa → Key → Option Lsa

@@ -2,11 +2,12 @@
 use Rattle.std.specs.Prelude.{◌%◌, ◌^◌, Bool, nat_le}
 use Rattle.std.specs.Ordering.{int_cmp, nat_cmp, bool_cmp, ordering_then, is_gt}
 use Rattle.std.specs.declared.cmp.Ordering.{Ordering}
+use Rattle.ospf_lsa.specs.Types.{max_age}
 use Rattle.ospf_lsa.specs.declared.lsa.Lsa.{Lsa}
 
--- whether its age, without the highest bit of its field, is MaxAge, 3,600, or more
+-- whether its age, without the highest bit of its field, is MaxAge or more
 abbrev pub is_at_max_age : Lsa → Bool
-is_at_max_age lsa = nat_le 3600 (lsa.age % 2 ^ 15)
+is_at_max_age lsa = nat_le max_age (lsa.age % 2 ^ 15)
 
 -- the order of ranks: by sequence number, which has a sign, then by checksum, and then an LSA at MaxAge is above one that is not
 abbrev pub rank_cmp : Lsa → Lsa → Ordering

@@ -4,11 +4,8 @@ ghost use Rattle.std.specs.Prelude.{◌≡◌};
 ghost use Rattle.lsdb.specs.Rank.{is_at_max_age, rank_cmp};
 ghost use Rattle.lsdb.specs.Newest.{same_but_age};
 
-use ospf_lsa::Lsa;
+use ospf_lsa::{Lsa, MAX_AGE};
 use std::cmp::Ordering;
-
-/// An age from here on is MaxAge (RFC 2328, section B).
-const MAX_AGE: u16 = 3600;
 
 /// The bits of the age field that count the seconds; the highest is the DoNotAge bit (RFC 1793, section 2.2).
 const SECONDS: u16 = 0x8000;

@@ -1,7 +1,6 @@
 //! Laws over whole lists of installs. They hold of the definitions alone; the functions do nothing.
 
 ghost use Rattle.std.specs.Prelude.{◌≡◌, ◌↔◌, ◌⊎◌, List, [], None, Some, true, false, map, IsPermutation};
-ghost use Rattle.std.specs.Option.{option_map};
 ghost use Rattle.ospf_lsa.specs.declared.lsa.Lsa.{Lsa};
 ghost use Rattle.ospf_lsa.specs.Lsas.{IsLsa};
 ghost use Rattle.ospf_lsa.specs.Types.{network_lsa, router_lsa};
@@ -12,9 +11,8 @@ ghost use Rattle.lsdb.specs.Entries.{entries_in};
 ghost use Rattle.lsdb.specs.Installing.{installed, IsKept};
 ghost use Rattle.lsdb.specs.Installs.{all_installed, AreBehind};
 ghost use Rattle.lsdb.specs.Keys.{key_of, keys_in, AreDistinct};
-ghost use Rattle.lsdb.specs.Newest.{IsSettled};
-ghost use Rattle.lsdb.specs.Orders.{first_newest, newest_in, timeless, AreReordered, HoldTheSame};
-ghost use Rattle.lsdb.specs.Rank.{is_at_max_age};
+ghost use Rattle.lsdb.specs.Newest.{newest_of, IsSettled};
+ghost use Rattle.lsdb.specs.Orders.{newest_in, timeless, AreReordered, HoldTheSame};
 ghost use Rattle.lsdb.specs.declared.change.Conflict.{Conflict};
 ghost use Rattle.lsdb.specs.declared.key.Key.{Key};
 
@@ -56,23 +54,24 @@ pub fn each_change_is_told_of_the_list()
     ensures clash { (lsas : List Lsa) (lsa : Lsa) → ((installed (all_installed [] lsas) lsa).1 ≡ Change.Clash) ↔ HasRankOfFirst lsas lsa false }
 {}
 
-/// Lists that hold the same LSAs but for their places, in whatever order and number, have the same keys, each of them at MaxAge in both or
-/// in neither, and are settled together. Where they are, their newest instances differ in nothing but place and the seconds of their age.
+/// Lists that hold the same LSAs but for their places, in whatever order and number, have the same newest instances of
+/// each key, ages included, and the same keys, and are settled together. Where they are, the first newest instances of
+/// each key differ in nothing but place and the seconds of their age.
 pub fn the_same_lsas_give_the_same_database()
-    ensures settled { (lsas others : List Lsa) → HoldTheSame lsas others → IsSettled lsas ↔ IsSettled others }
+    ensures newest { (lsas others : List Lsa) → HoldTheSame lsas others
+        → (key : Key) → HoldTheSame (newest_of lsas key) (newest_of others key) }
     ensures keys { (lsas others : List Lsa) → HoldTheSame lsas others → IsPermutation (keys_in lsas) (keys_in others) }
-    ensures aged { (lsas others : List Lsa) → HoldTheSame lsas others
-        → (key : Key) → option_map is_at_max_age (first_newest lsas key) ≡ option_map is_at_max_age (first_newest others key) }
-    ensures newest { (lsas others : List Lsa) → HoldTheSame lsas others → IsSettled lsas
-        → (key : Key) → option_map timeless (first_newest lsas key) ≡ option_map timeless (first_newest others key) }
+    ensures settled { (lsas others : List Lsa) → HoldTheSame lsas others → IsSettled lsas ↔ IsSettled others }
     ensures listed { (lsas others : List Lsa) → HoldTheSame lsas others → IsSettled lsas
         → IsPermutation (map timeless (newest_in lsas)) (map timeless (newest_in others)) }
-    ensures timeless { (lsa : Lsa) → is_at_max_age (timeless lsa) ≡ is_at_max_age lsa }
 {}
 
-/// A list in another order, the places left out, holds the same LSAs.
-pub fn every_order_holds_the_same_lsas()
-    ensures { (lsas others : List Lsa) → AreReordered lsas others → HoldTheSame lsas others }
+/// A list in another order, the places left out, holds the same LSAs, and the newest instances of each key are the same
+/// in another order.
+pub fn every_order_gives_the_same_newest_instances()
+    ensures held { (lsas others : List Lsa) → AreReordered lsas others → HoldTheSame lsas others }
+    ensures newest { (lsas others : List Lsa) → AreReordered lsas others
+        → (key : Key) → AreReordered (newest_of lsas key) (newest_of others key) }
 {}
 
 /// An LSA without a fault that is a router-LSA or a network-LSA may be installed, but for its place.

@@ -7,15 +7,9 @@ ghost use Rattle.ospf_lsa.specs.Reading.{body_links, network_body, router_body, 
 use crate::error::LsaKind;
 use crate::field::{behind, number_8, number_16, number_32, numbers};
 use crate::link::{any_zero_metric, links};
-use crate::lsa::{Body, RouterLink};
+use crate::lsa::{Body, NETWORK_LSA, ROUTER_LSA, RouterLink};
 use mrt_graph::Seq;
 use std::alloc::{AllocError, Global};
-
-/// The LS type of a router-LSA (RFC 2328, section A.4.1).
-pub const ROUTER_LSA: u8 = 1;
-
-/// The LS type of a network-LSA (RFC 2328, section A.4.1).
-pub const NETWORK_LSA: u8 = 2;
 
 /// The body of an LSA of this type, or its first fault.
 pub fn body(alloc: Global, kind: u8, bytes: &[u8]) -> Result<Result<Body, LsaKind>, AllocError>

@@ -2,6 +2,15 @@
 
 use mrt_graph::Seq;
 
+/// The LS type of a router-LSA (RFC 2328, section A.4.1).
+pub const ROUTER_LSA: u8 = 1;
+
+/// The LS type of a network-LSA (RFC 2328, section A.4.1).
+pub const NETWORK_LSA: u8 = 2;
+
+/// MaxAge, in seconds (RFC 2328, appendix B).
+pub const MAX_AGE: u16 = 3600;
+
 /// A link of a router-LSA (RFC 2328, section A.4.2).
 #[derive(Debug, Drop, PartialEq, Eq)]
 pub struct RouterLink {

@@ -6,11 +6,11 @@ ghost use Rattle.ospf_lsa.specs.Checksum.{is_good};
 ghost use Rattle.ospf_lsa.specs.Header.{body_bytes, checksum_field, covered_bytes, length_field};
 ghost use Rattle.ospf_lsa.specs.Reading.{Answers, header_fault, record_in};
 
-use crate::body::{ROUTER_LSA, body};
+use crate::body::body;
 use crate::checksum::sums;
 use crate::error::{LsaError, LsaKind};
 use crate::field::{number_8, number_16, number_32, signed_32};
-use crate::lsa::Lsa;
+use crate::lsa::{Lsa, ROUTER_LSA};
 use std::alloc::Global;
 
 /// The bytes of a header (RFC 2328, section A.4.1).
