@@ -3,6 +3,7 @@ use Rattle.std.proofs.Common.{◌≡◌, ◌∙◌, ◌||◌, ◌&&◌, Bool, tr
 use Rattle.std.specs.List.{filter, list_all, list_any}
 use Rattle.std.proofs.lemmas.List.Folds.{Any-from_list_any, list_any_at}
 use Rattle.std.proofs.lemmas.List.Sorted.{Contains-permutation, IsPermutation-sym}
+use Rattle.mrt_graph.proofs.Members.{same_tests}
 use Rattle.ospf_lsa.specs.declared.lsa.Lsa.{Lsa}
 use Rattle.lsdb.specs.declared.key.Key.{Key}
 use Rattle.lsdb.specs.Keys.{key_of, is_of}
@@ -17,11 +18,6 @@ IsPlaceless test = (lsa : Lsa) → test lsa ≡ test (without_place lsa)
 -- such a test passes of some LSA of the one list exactly where it does of the other
 abbrev pub Agree : List Lsa → List Lsa → Type 0
 Agree lsas others = (test : Lsa → Bool) → IsPlaceless test → list_any test lsas ≡ list_any test others
-
-pub same_truth : (a b : Bool) → (a ≡ true → b ≡ true) → (b ≡ true → a ≡ true) → a ≡ b
-same_truth true b there back = sym (there refl)
-same_truth false true there back = back refl
-same_truth false false there back = refl
 
 any_without_place : (test : Lsa → Bool) → IsPlaceless test → (lsas : List Lsa) → list_any test lsas ≡ list_any test (map without_place lsas)
 any_without_place test placeless [] = refl
@@ -38,7 +34,7 @@ any_of_more test xs ys more h =
 pub same_agree : (lsas others : List Lsa) → HoldTheSame lsas others → Agree lsas others
 same_agree lsas others same test placeless =
     any_without_place test placeless lsas
-    ∙ same_truth _ _ (any_of_more test (map without_place lsas) (map without_place others) (λ x. (same x).0))
+    ∙ same_tests _ _ (any_of_more test (map without_place lsas) (map without_place others) (λ x. (same x).0))
     (any_of_more test (map without_place others) (map without_place lsas) (λ x. (same x).1))
     ∙ sym (any_without_place test placeless others)
 

@@ -1,11 +1,12 @@
 -- The conflict that is told has the least second place of all.
-use Rattle.std.proofs.Common.{◌≡◌, ◌∙◌, ◌<◌, ◌≤◌, ◌||◌, ◌&&◌, ◌⊎◌, ℕ, zero, suc, Bool, true, false, not, List, [], ◌∷◌, Option, Some, None, Contains, if◌then◌else◌, length, get_or, refl, sym, ap, subst, inl, inr, arith}
+use Rattle.std.proofs.Common.{◌≡◌, ◌∙◌, ◌<◌, ◌≤◌, ◌||◌, ◌&&◌, ℕ, Bool, true, false, not, List, [], ◌∷◌, Option, Some, None, Contains, if◌then◌else◌, refl, sym, ap, subst, inl, inr, arith}
 use Rattle.std.specs.Prelude.{nat_lt}
 use Rattle.std.specs.List.{list_any, find, cons_option}
 use Rattle.std.specs.Option.{option_map}
 use Rattle.std.proofs.lemmas.Bool.Decides.{nat_tests}
 use Rattle.std.proofs.lemmas.Option.{same_Some}
 use Rattle.std.proofs.lemmas.Bool.{and_parts}
+use Rattle.mrt_graph.proofs.Members.{contains_cases, contains_first, contains_later, contains_none}
 use Rattle.ospf_lsa.specs.declared.lsa.Lsa.{Lsa}
 use Rattle.lsdb.specs.declared.change.Conflict.{Conflict}
 use Rattle.lsdb.specs.declared.key.Key.{Key}
@@ -20,36 +21,20 @@ use Rattle.lsdb.proofs.Settling.{none_of_two}
 use Rattle.lsdb.proofs.Stores.{key_is}
 use Rattle.lsdb.proofs.Tops.{first_of_filter}
 
-pub here : {X : Type 0} (x : X) (xs : List X) → Contains (x ∷ xs) x
-here x xs = (0, omega arith, refl)
-
-pub later : {X : Type 0} (x y : X) (xs : List X) → Contains xs y → Contains (x ∷ xs) y
-later x y xs there = (suc there.0, omega (arith, there.1), there.2)
-
-cases_at : {X : Type 0} (k : ℕ) (x y : X) (xs : List X) → k < length (x ∷ xs) → get_or (x ∷ xs) k y ≡ y → (x ≡ y) ⊎ Contains xs y
-cases_at zero x y xs inside is = inl is
-cases_at (suc k) x y xs inside is = inr (k, omega (arith, inside), is)
-
 behind : {X : Type 0} (x : Option X) (y : X) (xs : List X) → Contains xs y → Contains (cons_option x xs) y
 behind None y xs there = there
-behind (Some x) y xs there = later x y xs there
-
-pub here_or_later : {X : Type 0} (x y : X) (xs : List X) → Contains (x ∷ xs) y → (x ≡ y) ⊎ Contains xs y
-here_or_later x y xs there = cases_at there.0 x y xs there.1 there.2
-
-pub nowhere : {X : Type 0} (y : X) → Contains [] y → ⊥
-nowhere y there = omega (arith, there.1)
+behind (Some x) y xs there = contains_later x y xs there
 
 -- no entry of these has a conflict with a lesser second place
 abbrev pub FreeBelow : ℕ → List Entry → Type 0
 FreeBelow least entries = (other : Entry) (conflict : Conflict) → Contains entries other → conflict_of other ≡ Some conflict → least ≤ conflict.second
 
 pub quiet_entry : (entries : List Entry) → least_conflict entries ≡ None → (entry : Entry) → Contains entries entry → conflict_of entry ≡ None
-quiet_entry [] none entry there = absurd (nowhere entry there)
+quiet_entry [] none entry there = absurd (contains_none entry there)
 quiet_entry (e ∷ entries) none entry there =
     let parts = none_of_two (conflict_of e) (least_conflict entries) none in
-    elim (here_or_later e entry entries there) [
-      | inl same ↦ subst (λ (x : Entry). conflict_of x ≡ None) same parts.0
+    elim (contains_cases e entry entries there) [
+      | inl same ↦ subst (λ (x : Entry). conflict_of x ≡ None) (sym same) parts.0
       | inr more ↦ quiet_entry entries parts.1 entry more
     ]
 
@@ -60,8 +45,8 @@ quiet_below entries least none other conflict there is = let quiet = quiet_entry
 one_more : (e : Entry) (entries : List Entry) (least : ℕ) → ((conflict : Conflict) → conflict_of e ≡ Some conflict → least ≤ conflict.second)
     → FreeBelow least entries → FreeBelow least (e ∷ entries)
 one_more e entries least first rest other conflict there is =
-    elim (here_or_later e other entries there) [
-      | inl same ↦ first conflict (ap conflict_of same ∙ is)
+    elim (contains_cases e other entries there) [
+      | inl same ↦ first conflict (sym (ap conflict_of same) ∙ is)
       | inr more ↦ rest other conflict more is
     ]
 
@@ -72,7 +57,7 @@ told_later : (e : Entry) (entries : List Entry) (conflict : Conflict) → ((c : 
     → IsFirstConflict entries conflict → IsFirstConflict (e ∷ entries) conflict
 told_later e entries conflict first rest = record {
   entry = rest.entry;
-  there = later e rest.entry entries rest.there;
+  there = contains_later e rest.entry entries rest.there;
   its = rest.its;
   least = one_more e entries conflict.second first rest.least;
 }
@@ -80,7 +65,7 @@ told_later e entries conflict first rest = record {
 told_here : (e : Entry) (entries : List Entry) (conflict : Conflict) → conflict_of e ≡ Some conflict → FreeBelow conflict.second entries → IsFirstConflict (e ∷ entries) conflict
 told_here e entries conflict is rest = record {
   entry = e;
-  there = here e entries;
+  there = contains_first e entries;
   its = is;
   least = one_more e entries conflict.second
       (λ c its. let same : conflict ≡ c = same_Some conflict c (sym is ∙ its) in subst (λ (x : Conflict). conflict.second ≤ x.second) same (omega arith)) rest;
@@ -120,7 +105,7 @@ entry_by : (b : Bool) (lsas : List Lsa) (key first : Key) (keys : List Key) (ent
 entry_by true lsas key first keys entry is there of_key rest =
     let same : first ≡ key = key_is key first is in
     subst (λ (o : Option Entry). Contains (cons_option o (entries_at lsas keys)) entry)
-    (sym (ap (λ (k : Key). entry_of (newest_of lsas k)) same ∙ of_key)) (here entry (entries_at lsas keys))
+    (sym (ap (λ (k : Key). entry_of (newest_of lsas k)) same ∙ of_key)) (contains_first entry (entries_at lsas keys))
 entry_by false lsas key first keys entry is there of_key rest = behind (entry_of (newest_of lsas first)) entry (entries_at lsas keys) (rest there)
 
 entry_stands : (lsas : List Lsa) (key : Key) (keys : List Key) (entry : Entry) → list_any (same_key key) keys ≡ true → entry_of (newest_of lsas key) ≡ Some entry
@@ -138,13 +123,13 @@ key_by : (o : Option Entry) (lsas : List Lsa) (key : Key) (keys : List Key) (ent
     → (Contains (entries_at lsas keys) entry → KeyOf lsas entry) → Contains (cons_option o (entries_at lsas keys)) entry → KeyOf lsas entry
 key_by None lsas key keys entry is rest there = rest there
 key_by (Some first) lsas key keys entry is rest there =
-    elim (here_or_later first entry (entries_at lsas keys) there) [
-      | inl same ↦ record { key = key; is = is ∙ ap (λ (e : Entry). Some e) same }
+    elim (contains_cases first entry (entries_at lsas keys) there) [
+      | inl same ↦ record { key = key; is = is ∙ sym (ap (λ (e : Entry). Some e) same) }
       | inr more ↦ rest more
     ]
 
 key_of_entry : (lsas : List Lsa) (keys : List Key) (entry : Entry) → Contains (entries_at lsas keys) entry → KeyOf lsas entry
-key_of_entry lsas [] entry there = absurd (nowhere entry there)
+key_of_entry lsas [] entry there = absurd (contains_none entry there)
 key_of_entry lsas (key ∷ keys) entry there = key_by (entry_of (newest_of lsas key)) lsas key keys entry refl (key_of_entry lsas keys entry) there
 
 -- an entry's conflict is one of the list

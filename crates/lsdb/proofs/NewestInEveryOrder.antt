@@ -1,10 +1,12 @@
 -- The newest instances of a key are the same LSAs, ages included, whatever the order.
-use Rattle.std.proofs.Common.{◌≡◌, ◌∙◌, ◌&&◌, ◌==◌, ◌⊎◌, Bool, true, false, cond, List, [], ◌∷◌, Contains, map, inl, inr, refl, sym, ap, subst}
+use Rattle.std.proofs.Common.{◌≡◌, ◌∙◌, ◌&&◌, ◌==◌, Bool, true, false, cond, List, [], ◌∷◌, Contains, map, refl, sym, ap, subst}
 use Rattle.std.specs.List.{filter}
 use Rattle.std.specs.List.Sorted.{IsPermutation}
 use Rattle.std.proofs.lemmas.Bool.{and_parts, and_from, eqb-true}
 use Rattle.std.proofs.lemmas.Cmp.{nat_eq_equiv}
 use Rattle.std.proofs.lemmas.List.Elements.{filter_agree}
+use Rattle.std.proofs.lemmas.List.Sorted.{IsPermutation-sym}
+use Rattle.mrt_graph.proofs.Filters.{alike_filter, Contains-filter, Contains-from_filter, passes_from_filter}
 use Rattle.ospf_lsa.specs.declared.lsa.Lsa.{Lsa}
 use Rattle.lsdb.specs.declared.key.Key.{Key}
 use Rattle.lsdb.specs.Keys.{is_of}
@@ -12,39 +14,8 @@ use Rattle.lsdb.specs.Newest.{is_newest, newest_of, same_but_age}
 use Rattle.lsdb.specs.Orders.{without_place, AreReordered, HoldTheSame}
 use Rattle.lsdb.proofs.Agreements.{Agree, IsPlaceless, newest_agrees, reordered_same, same_agree}
 use Rattle.lsdb.proofs.Alike.{alike_equiv}
-use Rattle.lsdb.proofs.Conflicting.{here, here_or_later, later, nowhere}
-use Rattle.lsdb.proofs.SameCounts.{IsEquality, kept_sums, reordered_from_sums}
+use Rattle.lsdb.proofs.SameCounts.{IsEquality, reordered_from_alike}
 use Rattle.lsdb.proofs.Timeless.{lsa_is}
-
--- ---- membership of what passes a test
-
--- a thing that a test passes and that is in a list
-record IsKeptIn {X : Type 0} (p : X → Bool) (xs : List X) (x : X) : Type 0 where
-  passes : p x ≡ true
-  there : Contains xs x
-
-kept_there_by : {X : Type 0} (p : X → Bool) (y : X) (ys : List X) (x : X) (b : Bool) → p y ≡ b → (Contains (filter p ys) x → IsKeptIn p ys x)
-    → Contains (cond b (y ∷ filter p ys) (filter p ys)) x → IsKeptIn p (y ∷ ys) x
-kept_there_by {X = X} p y ys x true is rest has = elim (here_or_later y x (filter p ys) has) [
-  | inl same ↦ subst (λ (z : X). IsKeptIn p (y ∷ ys) z) same (record { passes = is; there = here y ys })
-  | inr more ↦ let kept = rest more in record { passes = kept.passes; there = later y x ys kept.there }
-]
-kept_there_by p y ys x false is rest has = let kept = rest has in record { passes = kept.passes; there = later y x ys kept.there }
-
-kept_there : {X : Type 0} (p : X → Bool) (xs : List X) (x : X) → Contains (filter p xs) x → IsKeptIn p xs x
-kept_there p [] x has = absurd (nowhere x has)
-kept_there p (y ∷ ys) x has = kept_there_by p y ys x (p y) refl (kept_there p ys x) has
-
-kept_has_by : {X : Type 0} (p : X → Bool) (y : X) (ys : List X) (x : X) (b : Bool) → p y ≡ b → p x ≡ true → (Contains ys x → Contains (filter p ys) x)
-    → (y ≡ x) ⊎ Contains ys x → Contains (cond b (y ∷ filter p ys) (filter p ys)) x
-kept_has_by {X = X} p y ys x true is passes rest (inl same) = subst (λ (z : X). Contains (y ∷ filter p ys) z) same (here y (filter p ys))
-kept_has_by p y ys x true is passes rest (inr more) = later y x (filter p ys) (rest more)
-kept_has_by p y ys x false is passes rest (inl same) = let fails : p x ≡ false = ap p (sym same) ∙ is in absurd cc
-kept_has_by p y ys x false is passes rest (inr more) = rest more
-
-kept_has : {X : Type 0} (p : X → Bool) (xs : List X) (x : X) → p x ≡ true → Contains xs x → Contains (filter p xs) x
-kept_has p [] x passes has = absurd (nowhere x has)
-kept_has p (y ∷ ys) x passes has = kept_has_by p y ys x (p y) refl passes (kept_has p ys x passes) (here_or_later y x ys has)
 
 -- ---- without places
 
@@ -72,16 +43,20 @@ of_other lsas others key agree =
 
 -- ---- the laws
 
+-- what passes a test in the one list is in the other, and passes there
+carried : (p : Lsa → Bool) (xs ys : List Lsa) (x : Lsa) {kept kept' : List Lsa} → (Contains xs x → Contains ys x) → kept ≡ filter p xs → kept' ≡ filter p ys → Contains kept x → Contains kept' x
+carried p xs ys x more are are' has =
+    let there : Contains (filter p xs) x = subst (λ (ls : List Lsa). Contains ls x) are has in
+    subst (λ (ls : List Lsa). Contains ls x) (sym are') (Contains-filter p ys x (more (Contains-from_filter p xs x there)) (passes_from_filter p xs x there))
+
 pub same_newest : (lsas others : List Lsa) → HoldTheSame lsas others → (key : Key) → HoldTheSame (newest_of lsas key) (newest_of others key)
 same_newest lsas others same key lsa =
     let agree = same_agree lsas others same in
     let p : Lsa → Bool = λ x. is_of key x && is_newest lsas x in (
       λ has.
-          let kept = kept_there p (map without_place lsas) lsa (subst (λ (ls : List Lsa). Contains ls lsa) (of_one lsas key) has) in
-          subst (λ (ls : List Lsa). Contains ls lsa) (sym (of_other lsas others key agree)) (kept_has p (map without_place others) lsa kept.passes ((same lsa).0 kept.there)),
+          carried p (map without_place lsas) (map without_place others) lsa (same lsa).0 (of_one lsas key) (of_other lsas others key agree) has,
       λ has.
-          let kept = kept_there p (map without_place others) lsa (subst (λ (ls : List Lsa). Contains ls lsa) (of_other lsas others key agree) has) in
-          subst (λ (ls : List Lsa). Contains ls lsa) (sym (of_one lsas key)) (kept_has p (map without_place lsas) lsa kept.passes ((same lsa).1 kept.there)),
+          carried p (map without_place others) (map without_place lsas) lsa (same lsa).1 (of_other lsas others key agree) (of_one lsas key) has,
     )
 
 same_lsa : Lsa → Lsa → Bool
@@ -103,5 +78,5 @@ reordered_newest lsas others moves key =
     let p : Lsa → Bool = λ x. is_of key x && is_newest lsas x in
     subst (λ (ls : List Lsa). IsPermutation ls (map without_place (newest_of others key))) (sym (of_one lsas key))
     (subst (λ (ls : List Lsa). IsPermutation (filter p (map without_place lsas)) ls) (sym (of_other lsas others key agree))
-    (reordered_from_sums same_lsa lsa_equality (filter p (map without_place lsas)) (filter p (map without_place others))
-    (kept_sums p (map without_place lsas) (map without_place others) moves)))
+    (reordered_from_alike same_lsa lsa_equality (filter p (map without_place lsas)) (filter p (map without_place others))
+    (alike_filter p (map without_place others) (map without_place lsas) (IsPermutation-sym (map without_place lsas) (map without_place others) moves))))

@@ -3,6 +3,7 @@ use Rattle.std.proofs.Common.{◌≡◌, ◌∙◌, ◌<◌, ◌&&◌, ℕ, Bool
 use Rattle.std.specs.List.{filter, find}
 use Rattle.std.proofs.lemmas.List.Elements.{All-contains, All-contains_itself, All-filter, filter_passes}
 use Rattle.std.proofs.lemmas.Bool.{and_parts}
+use Rattle.mrt_graph.proofs.Members.{contains_cases, contains_later, contains_none}
 use Rattle.ospf_lsa.specs.declared.lsa.Lsa.{Lsa}
 use Rattle.lsdb.specs.declared.change.Conflict.{Conflict}
 use Rattle.lsdb.specs.declared.key.Key.{Key}
@@ -12,35 +13,35 @@ use Rattle.lsdb.specs.Entries.{entries_in}
 use Rattle.lsdb.specs.Installs.{AreBehind}
 use Rattle.lsdb.specs.Keys.{key_of, is_of}
 use Rattle.lsdb.specs.Newest.{is_newest, newest_of, same_but_age}
-use Rattle.lsdb.proofs.Conflicting.{entry_of_pair, first_of_list, here_or_later, later, nowhere, quiet_entry}
+use Rattle.lsdb.proofs.Conflicting.{entry_of_pair, first_of_list, quiet_entry}
 use Rattle.lsdb.proofs.Stores.{key_is}
 
 behind_first : (first at : ℕ) (lsas : List Lsa) (lsa : Lsa) → first < at → AreBehind (Some at) lsas → Contains lsas lsa → first < lsa.at
-behind_first first at [] lsa below rise there = absurd (nowhere lsa there)
+behind_first first at [] lsa below rise there = absurd (contains_none lsa there)
 behind_first first at (l ∷ lsas) lsa below rise there =
-    elim (here_or_later l lsa lsas there) [
-      | inl same ↦ subst (λ (x : Lsa). first < x.at) same (omega (arith, below, rise.0))
+    elim (contains_cases l lsa lsas there) [
+      | inl same ↦ subst (λ (x : Lsa). first < x.at) (sym same) (omega (arith, below, rise.0))
       | inr more ↦ behind_first first l.at lsas lsa (omega (arith, below, rise.0)) rise.1 more
     ]
 
 behind_all : (at : ℕ) (lsas : List Lsa) (lsa : Lsa) → AreBehind (Some at) lsas → Contains lsas lsa → at < lsa.at
-behind_all at [] lsa rise there = absurd (nowhere lsa there)
+behind_all at [] lsa rise there = absurd (contains_none lsa there)
 behind_all at (l ∷ lsas) lsa rise there =
-    elim (here_or_later l lsa lsas there) [
-      | inl same ↦ subst (λ (x : Lsa). at < x.at) same rise.0
+    elim (contains_cases l lsa lsas there) [
+      | inl same ↦ subst (λ (x : Lsa). at < x.at) (sym same) rise.0
       | inr more ↦ behind_first at l.at lsas lsa rise.0 rise.1 more
     ]
 
 -- LSAs at one place are one
 one_at : (greatest : Option ℕ) (lsas : List Lsa) (one other : Lsa) → AreBehind greatest lsas → Contains lsas one → Contains lsas other → one.at ≡ other.at → one ≡ other
-one_at greatest [] one other rise there there' same = absurd (nowhere one there)
+one_at greatest [] one other rise there there' same = absurd (contains_none one there)
 one_at greatest (l ∷ lsas) one other rise there there' same =
-    elim (here_or_later l one lsas there) [
-      | inl first ↦ elim (here_or_later l other lsas there') [
-        | inl first' ↦ sym first ∙ first'
+    elim (contains_cases l one lsas there) [
+      | inl first ↦ elim (contains_cases l other lsas there') [
+        | inl first' ↦ first ∙ sym first'
         | inr more' ↦ let below = behind_all l.at lsas other rise.1 more' in let at = ap (λ (x : Lsa). x.at) first in absurd (omega (arith, below, at, same))
       ]
-      | inr more ↦ elim (here_or_later l other lsas there') [
+      | inr more ↦ elim (contains_cases l other lsas there') [
         | inl first' ↦ let below = behind_all l.at lsas one rise.1 more in let at = ap (λ (x : Lsa). x.at) first' in absurd (omega (arith, below, at, same))
         | inr more' ↦ one_at (Some l.at) lsas one other rise.1 more more' same
       ]
@@ -48,7 +49,7 @@ one_at greatest (l ∷ lsas) one other rise there there' same =
 
 found_by : (b : Bool) (test : Lsa → Bool) (l x : Lsa) (ls : List Lsa) → (find test ls ≡ Some x → Contains ls x) → cond b (Some l) (find test ls) ≡ Some x → Contains (l ∷ ls) x
 found_by true test l x ls rest h = let same : l ≡ x = cc in subst (λ (y : Lsa). Contains (l ∷ ls) y) same (0, omega arith, refl)
-found_by false test l x ls rest h = later l x ls (rest h)
+found_by false test l x ls rest h = contains_later l x ls (rest h)
 
 found_there : (test : Lsa → Bool) (ls : List Lsa) (x : Lsa) → find test ls ≡ Some x → Contains ls x
 found_there test [] x h = absurd cc
@@ -63,7 +64,7 @@ second_of : (lsas : List Lsa) (conflict : Conflict) → (pair : IsConflictOf lsa
 second_of lsas conflict pair =
     let among : Contains (newest_of lsas pair.key) pair.second =
     subst (λ (ts : List Lsa). Contains ts pair.second) (sym pair.newest)
-    (later pair.first pair.second pair.others (found_there (λ lsa. not (same_but_age pair.first lsa)) pair.others pair.second pair.differs)) in
+    (contains_later pair.first pair.second pair.others (found_there (λ lsa. not (same_but_age pair.first lsa)) pair.others pair.second pair.differs)) in
     let keep : Lsa → Bool = λ lsa. is_of pair.key lsa && is_newest lsas lsa in
     let passes : keep pair.second ≡ true =
     All-contains (λ lsa. keep lsa ≡ true) (filter keep lsas) pair.second (filter_passes keep lsas) among in

@@ -1,31 +1,16 @@
--- Lists that hold each thing in the same number are each the other in another order, and so are their parts that pass a test.
-use Rattle.std.proofs.Common.{◌≡◌, ◌∙◌, ◌<◌, ◌+◌, ℕ, Bool, true, false, cond, List, [], ◌∷◌, ◌++◌, zero-add, refl, sym, ap, subst, arith}
-use Rattle.std.specs.List.{filter, sum_by}
+-- Lists of which each sum is the same are each the other in another order.
+use Rattle.std.proofs.Common.{◌≡◌, ◌<◌, ◌+◌, ℕ, Bool, true, false, cond, List, [], ◌∷◌, ◌++◌, refl, sym, ap, subst, arith}
+use Rattle.std.specs.List.{sum_by}
 use Rattle.std.specs.List.Sorted.{IsPermutation}
-use Rattle.std.proofs.lemmas.List.Sorted.{IsPermutation-refl, IsPermutation-sym, IsPermutation-trans, IsPermutation-cons, IsPermutation-middle, sum_by-IsPermutation}
+use Rattle.std.proofs.lemmas.List.Sorted.{IsPermutation-refl, IsPermutation-sym, IsPermutation-trans, IsPermutation-cons, IsPermutation-middle}
 use Rattle.std.proofs.lemmas.List.Sums.{sum_by-append, sum_by-cons}
-
--- two lists have the same sums, whatever is summed
-abbrev pub HaveSameSums : {X : Type 0} → List X → List X → Type 0
-HaveSameSums {X = X} xs ys = (f : X → ℕ) → sum_by f xs ≡ sum_by f ys
+use Rattle.mrt_graph.proofs.InOrder.{AreAlike}
 
 -- a list with a thing taken out
 pub record IsTaken {X : Type 0} (x : X) (ys : List X) : Type 0 where
   pub front : List X
   pub later : List X
   pub parts : ys ≡ front ++ x ∷ later
-
-sum_by_test : {X : Type 0} (f : X → ℕ) (p : X → Bool) (x : X) (xs : List X) (b : Bool) → sum_by f (filter p xs) ≡ sum_by (λ y. cond (p y) (f y) 0) xs
-    → sum_by f (cond b (x ∷ filter p xs) (filter p xs)) ≡ cond b (f x) 0 + sum_by (λ y. cond (p y) (f y) 0) xs
-sum_by_test f p x xs true rest = sum_by-cons f x (filter p xs) ∙ ap (λ (n : ℕ). f x + n) rest
-sum_by_test f p x xs false rest = rest ∙ sym (zero-add (sum_by (λ y. cond (p y) (f y) 0) xs))
-
-sum_kept : {X : Type 0} (f : X → ℕ) (p : X → Bool) (xs : List X) → sum_by f (filter p xs) ≡ sum_by (λ x. cond (p x) (f x) 0) xs
-sum_kept f p [] = refl
-sum_kept f p (x ∷ xs) = sum_by_test f p x xs (p x) (sum_kept f p xs) ∙ sym (sum_by-cons (λ y. cond (p y) (f y) 0) x xs)
-
-pub kept_sums : {X : Type 0} (p : X → Bool) (xs ys : List X) → IsPermutation xs ys → HaveSameSums (filter p xs) (filter p ys)
-kept_sums p xs ys moves f = sum_kept f p xs ∙ sym (sum_by-IsPermutation (λ x. cond (p x) (f x) 0) xs ys moves) ∙ sym (sum_kept f p ys)
 
 -- a test that passes of equal things, and of no others
 pub record IsEquality {X : Type 0} (same : X → X → Bool) : Type 0 where
@@ -48,15 +33,16 @@ no_sum : {X : Type 0} (ys : List X) → sum_by (λ y. 1) ys ≡ 0 → ys ≡ []
 no_sum [] none = refl
 no_sum (y ∷ ys) none = absurd (omega (arith, none, sum_by-cons (λ z. 1) y ys))
 
-pub reordered_from_sums : {X : Type 0} (same : X → X → Bool) → IsEquality same → (xs ys : List X) → HaveSameSums xs ys → IsPermutation xs ys
-reordered_from_sums same exact [] ys sums = subst (IsPermutation []) (sym (no_sum ys (sym (sums (λ y. 1))))) (IsPermutation-refl [])
-reordered_from_sums {X = X} same exact (x ∷ xs) ys sums =
+pub reordered_from_alike : {X : Type 0} (same : X → X → Bool) → IsEquality same → (xs ys : List X) → AreAlike xs ys → IsPermutation xs ys
+reordered_from_alike same exact [] ys alike = subst (IsPermutation []) (sym (no_sum ys (sym (alike.same (λ y. 1))))) (IsPermutation-refl [])
+reordered_from_alike {X = X} same exact (x ∷ xs) ys alike =
     let one : ℕ = 1 in
     let own : cond (same x x) 1 0 ≡ one = ap (λ (b : Bool). cond b one 0) (exact.own x) in
-    let out = take_out same exact x ys (omega (arith, own, sum_by-cons (λ y. cond (same x y) 1 0) x xs, sums (λ y. cond (same x y) 1 0))) in
-    let fewer : HaveSameSums xs (out.front ++ out.later) = λ f.
-    omega (arith, sums f, sum_by-cons f x xs, ap (sum_by f) out.parts, sum_by-append f out.front (x ∷ out.later), sum_by-cons f x out.later, sum_by-append f out.front out.later) in
+    let out = take_out same exact x ys (omega (arith, own, sum_by-cons (λ y. cond (same x y) 1 0) x xs, alike.same (λ y. cond (same x y) 1 0))) in
+    let fewer : AreAlike xs (out.front ++ out.later) = record {
+      same = λ f. omega (arith, alike.same f, sum_by-cons f x xs, ap (sum_by f) out.parts, sum_by-append f out.front (x ∷ out.later), sum_by-cons f x out.later, sum_by-append f out.front out.later);
+    } in
     subst (IsPermutation (x ∷ xs)) (sym out.parts)
     (IsPermutation-trans (x ∷ xs) (x ∷ (out.front ++ out.later)) (out.front ++ x ∷ out.later)
-    (IsPermutation-cons x xs (out.front ++ out.later) (reordered_from_sums same exact xs (out.front ++ out.later) fewer))
+    (IsPermutation-cons x xs (out.front ++ out.later) (reordered_from_alike same exact xs (out.front ++ out.later) fewer))
     (IsPermutation-sym (out.front ++ x ∷ out.later) (x ∷ (out.front ++ out.later)) (IsPermutation-middle out.front x out.later)))
