@@ -18,7 +18,8 @@ IsOfNewKey lsas lsa = list_any (is_of (key_of lsa)) lsas ≡ false
 
 -- there are instances of its key, and it outranks all of them
 abbrev pub OutranksAll : List Lsa → Lsa → Type 0
-OutranksAll lsas lsa = (list_any (is_of (key_of lsa)) lsas ≡ true) × (list_all (outranks lsa) (instances_of lsas lsa) ≡ true)
+OutranksAll lsas lsa =
+    (list_any (is_of (key_of lsa)) lsas ≡ true) × (list_all (outranks lsa) (instances_of lsas lsa) ≡ true)
 
 -- an instance of its key outranks it
 abbrev pub IsOutranked : List Lsa → Lsa → Type 0

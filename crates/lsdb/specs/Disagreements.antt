@@ -8,7 +8,8 @@ use Rattle.lsdb.specs.Conflicts.{conflict_of}
 use Rattle.lsdb.specs.Entries.{Entry}
 use Rattle.lsdb.specs.Newest.{newest_of, same_but_age}
 
--- the places of a key's first newest instance and of the first newest one that differs from it in more than place and age
+-- the places of a key's first newest instance and of the first newest one that differs from it in more than place and
+-- age
 pub record IsConflictOf (lsas : List Lsa) (conflict : Conflict) : Type 0 where
   pub key : Key
   pub first : Lsa
@@ -28,4 +29,5 @@ pub record IsFirstConflict (entries : List Entry) (conflict : Conflict) : Type 0
   pub entry : Entry
   pub there : Contains entries entry
   pub its : conflict_of entry ≡ Some conflict
-  pub least : (other : Entry) (conflict' : Conflict) → Contains entries other → conflict_of other ≡ Some conflict' → conflict.second ≤ conflict'.second
+  pub least : (other : Entry) (conflict' : Conflict) → Contains entries other → conflict_of other ≡ Some conflict'
+      → conflict.second ≤ conflict'.second

@@ -6,8 +6,8 @@ use Rattle.ospf_lsa.specs.declared.lsa.Lsa.{Lsa}
 use Rattle.lsdb.specs.Keys.{keys_in}
 use Rattle.lsdb.specs.Newest.{same_but_age, newest_of}
 
--- an entry: the first newest instance of a key, and the place of the first newest instance that differs from it in anything but
--- place and age, if there is one
+-- an entry: the first newest instance of a key, and the place of the first newest instance that differs from it in
+-- anything but place and age, if there is one
 pub record Entry : Type 0 where
   pub lsa : Lsa
   pub differing : Option ℕ
@@ -20,8 +20,10 @@ pub record Database : Type 0 where
 -- the entry of the newest instances of a key
 abbrev pub entry_of : List Lsa → Option Entry
 entry_of [] = None
-entry_of (first ∷ others) =
-    Some (record { lsa = first; differing = option_map (λ lsa. lsa.at) (find (λ lsa. not (same_but_age first lsa)) others) })
+entry_of (first ∷ others) = Some (record {
+  lsa = first;
+  differing = option_map (λ lsa. lsa.at) (find (λ lsa. not (same_but_age first lsa)) others);
+})
 
 -- the entries of a list of LSAs, in the order of their keys' first arrival
 abbrev pub entries_in : List Lsa → List Entry

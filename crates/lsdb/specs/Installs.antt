@@ -9,7 +9,7 @@ abbrev pub all_installed : List Entry → List Lsa → List Entry
 all_installed entries [] = entries
 all_installed entries (lsa ∷ lsas) = all_installed (installed entries lsa).0 lsas
 
--- the places of LSAs rise, and are behind the greatest before them
+-- the places of LSAs rise, and come after the greatest before them
 abbrev pub AreBehind : Option ℕ → List Lsa → Type 0
 AreBehind greatest [] = Unit {0}
 AreBehind greatest (lsa ∷ lsas) = IsBehind greatest lsa.at × AreBehind (Some lsa.at) lsas

@@ -14,11 +14,13 @@ use Rattle.lsdb.specs.Rank.{outranks}
 -- whether two links of router-LSAs are alike
 abbrev pub same_link : RouterLink → RouterLink → Bool
 same_link one other =
-    (one.id == other.id) && ((one.link_data == other.link_data) && ((one.kind == other.kind) && ((one.metric == other.metric) && pointwise nat_eq one.tos other.tos)))
+    (one.id == other.id) && ((one.link_data == other.link_data) && ((one.kind == other.kind)
+    && ((one.metric == other.metric) && pointwise nat_eq one.tos other.tos)))
 
 -- whether two bodies are alike
 abbrev pub same_body : Body → Body → Bool
-same_body (Router flags spare links) (Router flags' spare' links') = (flags == flags') && ((spare == spare') && pointwise same_link links links')
+same_body (Router flags spare links) (Router flags' spare' links') =
+    (flags == flags') && ((spare == spare') && pointwise same_link links links')
 same_body (Network mask routers) (Network mask' routers') = (mask == mask') && pointwise nat_eq routers routers'
 same_body (Other bytes) (Other bytes') = pointwise nat_eq bytes bytes'
 same_body _ _ = false
@@ -26,8 +28,9 @@ same_body _ _ = false
 -- whether two instances differ in nothing but their place in the file and their age
 abbrev pub same_but_age : Lsa → Lsa → Bool
 same_but_age one other =
-    (((((one.options == other.options) && (one.kind == other.kind)) && (one.id == other.id)) && (one.router == other.router))
-    && int_eq one.sequence other.sequence) && (one.checksum == other.checksum) && same_body one.body other.body
+    (((((one.options == other.options) && (one.kind == other.kind)) && (one.id == other.id))
+    && (one.router == other.router)) && int_eq one.sequence other.sequence) && (one.checksum == other.checksum)
+    && same_body one.body other.body
 
 -- whether no instance of an LSA's key has a greater rank than this one
 abbrev pub is_newest : List Lsa → Lsa → Bool

@@ -9,7 +9,8 @@ use Rattle.ospf_lsa.specs.declared.lsa.Lsa.{Lsa}
 abbrev pub is_at_max_age : Lsa → Bool
 is_at_max_age lsa = nat_le max_age (lsa.age % 2 ^ 15)
 
--- the order of ranks: by sequence number, which has a sign, then by checksum, and then an LSA at MaxAge is above one that is not
+-- the order of ranks: by sequence number, which has a sign, then by checksum, and then an LSA at MaxAge is above one
+-- that is not
 abbrev pub rank_cmp : Lsa → Lsa → Ordering
 rank_cmp one other =
     ordering_then (ordering_then (int_cmp one.sequence other.sequence) (nat_cmp one.checksum other.checksum))

@@ -18,40 +18,48 @@ ghost use Rattle.lsdb.specs.declared.key.Key.{Key};
 
 use crate::change::Change;
 
-/// After any list of installs into a database without LSAs, its entries are those of the whole list: for each key, in the
-/// order of first arrival, the first newest instance and the place of the first newest one that differs from it.
+/// After any list of installs into a database without LSAs, its entries are those of the whole list: for each key, in
+/// the order of first arrival, the first newest instance and the place of the first newest one that differs from it.
 pub fn entries_are_those_of_the_list()
     ensures { (lsas : List Lsa) → all_installed [] lsas ≡ entries_in lsas }
 {}
 
-/// There is one first newest instance of each key of the list, in the order of first arrival, and no two are of one key.
+/// There is one first newest instance of each key of the list, in the order of first arrival, and no two are of one
+/// key.
 pub fn each_key_has_one_newest_instance()
     ensures keys { (lsas : List Lsa) → map key_of (newest_in lsas) ≡ keys_in lsas }
     ensures distinct { (lsas : List Lsa) → AreDistinct (newest_in lsas) }
 {}
 
-/// Such a database has no conflict exactly where, in the whole list, the newest instances of each key differ in nothing but
-/// their places and ages.
+/// Such a database has no conflict exactly where, in the whole list, the newest instances of each key differ in nothing
+/// but their places and ages.
 pub fn refuses_exactly_where_not_settled()
     ensures none { (lsas : List Lsa) → IsSettled lsas → least_conflict (entries_in lsas) ≡ None }
     ensures settled { (lsas : List Lsa) → least_conflict (entries_in lsas) ≡ None → IsSettled lsas }
 {}
 
-/// The conflict of such a database is that of the list: the places of a key's first newest instance and of the first newest one that
-/// differs from it in more than place and age, and no other key has such a pair with a lesser second place. Where the places of the LSAs
-/// rise there is one such conflict at most.
+/// The conflict of such a database is that of the list: the places of a key's first newest instance and of the first
+/// newest one that differs from it in more than place and age, and no other key has such a pair with a lesser second
+/// place. Where the places of the LSAs rise there is at most one such conflict.
 pub fn tells_the_first_conflict()
-    ensures told { (lsas : List Lsa) (conflict : Conflict) → least_conflict (entries_in lsas) ≡ Some conflict → IsFirstConflictOf lsas conflict }
-    ensures only { (lsas : List Lsa) (conflict : Conflict) → AreBehind None lsas → IsFirstConflictOf lsas conflict → least_conflict (entries_in lsas) ≡ Some conflict }
+    ensures told { (lsas : List Lsa) (conflict : Conflict)
+        → least_conflict (entries_in lsas) ≡ Some conflict → IsFirstConflictOf lsas conflict }
+    ensures only { (lsas : List Lsa) (conflict : Conflict) → AreBehind None lsas
+        → IsFirstConflictOf lsas conflict → least_conflict (entries_in lsas) ≡ Some conflict }
 {}
 
 /// What one more install tells, after any list of them, is what the LSA is to those of the list.
 pub fn each_change_is_told_of_the_list()
-    ensures added { (lsas : List Lsa) (lsa : Lsa) → ((installed (all_installed [] lsas) lsa).1 ≡ Change.Added) ↔ IsOfNewKey lsas lsa }
-    ensures replaced { (lsas : List Lsa) (lsa : Lsa) → ((installed (all_installed [] lsas) lsa).1 ≡ Change.Replaced) ↔ OutranksAll lsas lsa }
-    ensures older { (lsas : List Lsa) (lsa : Lsa) → ((installed (all_installed [] lsas) lsa).1 ≡ Change.Older) ↔ IsOutranked lsas lsa }
-    ensures same { (lsas : List Lsa) (lsa : Lsa) → ((installed (all_installed [] lsas) lsa).1 ≡ Change.Same) ↔ HasRankOfFirst lsas lsa true }
-    ensures clash { (lsas : List Lsa) (lsa : Lsa) → ((installed (all_installed [] lsas) lsa).1 ≡ Change.Clash) ↔ HasRankOfFirst lsas lsa false }
+    ensures added { (lsas : List Lsa) (lsa : Lsa)
+        → ((installed (all_installed [] lsas) lsa).1 ≡ Change.Added) ↔ IsOfNewKey lsas lsa }
+    ensures replaced { (lsas : List Lsa) (lsa : Lsa)
+        → ((installed (all_installed [] lsas) lsa).1 ≡ Change.Replaced) ↔ OutranksAll lsas lsa }
+    ensures older { (lsas : List Lsa) (lsa : Lsa)
+        → ((installed (all_installed [] lsas) lsa).1 ≡ Change.Older) ↔ IsOutranked lsas lsa }
+    ensures same { (lsas : List Lsa) (lsa : Lsa)
+        → ((installed (all_installed [] lsas) lsa).1 ≡ Change.Same) ↔ HasRankOfFirst lsas lsa true }
+    ensures clash { (lsas : List Lsa) (lsa : Lsa)
+        → ((installed (all_installed [] lsas) lsa).1 ≡ Change.Clash) ↔ HasRankOfFirst lsas lsa false }
 {}
 
 /// Lists that hold the same LSAs but for their places, in whatever order and number, have the same newest instances of
@@ -60,8 +68,10 @@ pub fn each_change_is_told_of_the_list()
 pub fn the_same_lsas_give_the_same_database()
     ensures newest { (lsas others : List Lsa) → HoldTheSame lsas others
         → (key : Key) → HoldTheSame (newest_of lsas key) (newest_of others key) }
-    ensures keys { (lsas others : List Lsa) → HoldTheSame lsas others → IsPermutation (keys_in lsas) (keys_in others) }
-    ensures settled { (lsas others : List Lsa) → HoldTheSame lsas others → IsSettled lsas ↔ IsSettled others }
+    ensures keys { (lsas others : List Lsa) → HoldTheSame lsas others
+        → IsPermutation (keys_in lsas) (keys_in others) }
+    ensures settled { (lsas others : List Lsa) → HoldTheSame lsas others
+        → IsSettled lsas ↔ IsSettled others }
     ensures listed { (lsas others : List Lsa) → HoldTheSame lsas others → IsSettled lsas
         → IsPermutation (map timeless (newest_in lsas)) (map timeless (newest_in others)) }
 {}

@@ -78,12 +78,14 @@ impl Lsdb {
         }
     }
 
-    /// A refusal where two newest instances of one key differ in more than their places and ages; of several such conflicts
-    /// the one with the least second place.
+    /// A refusal where two newest instances of one key differ in more than their places and ages; of several such
+    /// conflicts the one with the least second place.
     pub fn settled(&self) -> Result<(), Conflict>
         ensures told { result ≡ settled_by (least_conflict self.now.entries) }
-        ensures ok { (result ≡ Ok tt) ↔ ((entry : Entry) → Contains self.now.entries entry → entry.differing ≡ None) }
-        ensures least { (conflict : Conflict) → result ≡ Err conflict → IsFirstConflict self.now.entries conflict }
+        ensures ok { (result ≡ Ok tt)
+            ↔ ((entry : Entry) → Contains self.now.entries entry → entry.differing ≡ None) }
+        ensures least { (conflict : Conflict)
+            → result ≡ Err conflict → IsFirstConflict self.now.entries conflict }
     {
         match least(&self.lsas, &self.differing) {
             None => Ok(()),
@@ -97,7 +99,8 @@ impl Lsdb {
         requires key { key ≡ key_of lsa }
         requires absent { list_any (is_entry_of key) self.old.entries ≡ false }
         ensures change { IfOk result (λ change. change ≡ Change.Added) }
-        ensures entries { OnOk result (self.new.entries ≡ self.old.entries ++ record { lsa = lsa; differing = None } ∷ []) }
+        ensures entries { OnOk result
+            (self.new.entries ≡ self.old.entries ++ record { lsa = lsa; differing = None } ∷ []) }
         ensures greatest { OnOk result (self.new.greatest ≡ Some lsa.at) }
         ensures err { OnErr result (self.new ≡ self.old) }
     {
@@ -115,7 +118,10 @@ impl Lsdb {
         requires kept { IsKept lsa }
         requires there { IsEntryOf (key_of lsa) (slice_get self.old.entries place) }
         ensures { (entry : Entry) → slice_get self.old.entries place ≡ Some entry
-            → (self.new ≡ record { entries = slice_set self.old.entries place (changed entry lsa (change_of entry.lsa lsa)); greatest = Some lsa.at })
+            → (self.new ≡ record {
+              entries = slice_set self.old.entries place (changed entry lsa (change_of entry.lsa lsa));
+              greatest = Some lsa.at;
+            })
             × (result ≡ change_of entry.lsa lsa) }
     {
         self.greatest = Some(lsa.at);

@@ -42,9 +42,14 @@ pub fn meet(lsas: &mut Vec<Lsa>, differing: &mut Vec<Option<u32>>, place: usize,
     requires key { slice_get (map key_of lsas.old.items) place ≡ Some (key_of lsa) }
     requires kept { AllByRecursion IsKept lsas.old.items }
     requires may_stand { IsKept lsa }
-    ensures change { (entry : Entry) → slice_get (entries_of lsas.old.items differing.old.items) place ≡ Some entry → result ≡ change_of entry.lsa lsa }
-    ensures entries { (entry : Entry) → slice_get (entries_of lsas.old.items differing.old.items) place ≡ Some entry
-        → entries_of lsas.new.items differing.new.items ≡ slice_set (entries_of lsas.old.items differing.old.items) place (changed entry lsa (change_of entry.lsa lsa)) }
+    ensures change { (entry : Entry)
+        → slice_get (entries_of lsas.old.items differing.old.items) place ≡ Some entry
+        → result ≡ change_of entry.lsa lsa }
+    ensures entries { (entry : Entry)
+        → slice_get (entries_of lsas.old.items differing.old.items) place ≡ Some entry
+        → entries_of lsas.new.items differing.new.items
+        ≡ slice_set (entries_of lsas.old.items differing.old.items) place
+        (changed entry lsa (change_of entry.lsa lsa)) }
     ensures keys { map key_of lsas.new.items ≡ map key_of lsas.old.items }
     ensures noted { length differing.new.items ≡ length lsas.new.items }
     ensures kept { AllByRecursion IsKept lsas.new.items }
@@ -67,8 +72,10 @@ fn turn(
     requires key { slice_get (map key_of lsas.old.items) place ≡ Some (key_of lsa) }
     requires kept { AllByRecursion IsKept lsas.old.items }
     requires may_stand { IsKept lsa }
-    ensures entries { (entry : Entry) → slice_get (entries_of lsas.old.items differing.old.items) place ≡ Some entry
-        → entries_of lsas.new.items differing.new.items ≡ slice_set (entries_of lsas.old.items differing.old.items) place (changed entry lsa change) }
+    ensures entries { (entry : Entry)
+        → slice_get (entries_of lsas.old.items differing.old.items) place ≡ Some entry
+        → entries_of lsas.new.items differing.new.items
+        ≡ slice_set (entries_of lsas.old.items differing.old.items) place (changed entry lsa change) }
     ensures keys { map key_of lsas.new.items ≡ map key_of lsas.old.items }
     ensures noted { length differing.new.items ≡ length lsas.new.items }
     ensures kept { AllByRecursion IsKept lsas.new.items }

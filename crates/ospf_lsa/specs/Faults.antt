@@ -11,8 +11,8 @@ use Rattle.ospf_lsa.specs.LsaText.{body_text}
 use Rattle.ospf_lsa.specs.Lsas.{has_zero_metric, FitsBody}
 use Rattle.ospf_lsa.specs.Types.{router_lsa, network_lsa}
 
--- these bytes are a router-LSA's body of these links: its flags, its spare byte, the number of its links, and they themselves, with
--- nothing behind them; each number fits its field, that of a link's TOS entries too
+-- these bytes are a router-LSA's body of these links: its flags, its spare byte, the number of its links, and they
+-- themselves, with nothing after them; each number fits its field, that of a link's TOS entries too
 pub record SpellsLinks (bytes : List ℕ) (links : List RouterLink) : Type 0 where
   pub flags : ℕ
   pub spare : ℕ
@@ -39,7 +39,8 @@ HasReservedSequence bytes = sequence_field bytes ≡ 2 ^ 31
 abbrev pub HasIdMismatch : List ℕ → Type 0
 HasIdMismatch bytes = (type_field bytes ≡ router_lsa) × (id_field bytes ≢ router_field bytes)
 
--- it is a router-LSA, and its body is not that of any links; or it is a network-LSA, and its length is below 24 or no multiple of 4
+-- it is a router-LSA, and its body is not that of any links; or it is a network-LSA, and its length is below 24 or no
+-- multiple of 4
 abbrev pub HasBadBody : List ℕ → Type 0
 HasBadBody bytes =
     ((type_field bytes ≡ router_lsa) × ((links : List RouterLink) → ¬ SpellsLinks (body_bytes bytes) links))
@@ -48,7 +49,8 @@ HasBadBody bytes =
 -- it is a router-LSA, and its body is that of links of which one to a router or to a transit network has metric 0
 abbrev pub HasZeroMetric : List ℕ → Type 0
 HasZeroMetric bytes =
-    (type_field bytes ≡ router_lsa) × ((links : List RouterLink) × SpellsLinks (body_bytes bytes) links × (list_any has_zero_metric links ≡ true))
+    (type_field bytes ≡ router_lsa)
+    × ((links : List RouterLink) × SpellsLinks (body_bytes bytes) links × (list_any has_zero_metric links ≡ true))
 
 -- it has a fault of this kind
 abbrev pub HasFault : LsaKind → List ℕ → Type 0

@@ -10,8 +10,8 @@ use Rattle.ospf_lsa.specs.declared.lsa.Lsa.{Lsa}
 -- a link of a router-LSA: its ID, its data, its type, the number of its TOS entries, its metric, and these entries
 abbrev pub link_text : RouterLink → List ℕ
 link_text link =
-    to_be_bytes w32 link.id ++ (to_be_bytes w32 link.link_data ++ (to_be_bytes w8 link.kind ++ (to_be_bytes w8 (length link.tos)
-    ++ (to_be_bytes w16 link.metric ++ flat_map (to_be_bytes w32) link.tos))))
+    to_be_bytes w32 link.id ++ (to_be_bytes w32 link.link_data ++ (to_be_bytes w8 link.kind
+    ++ (to_be_bytes w8 (length link.tos) ++ (to_be_bytes w16 link.metric ++ flat_map (to_be_bytes w32) link.tos))))
 
 -- of a router its flags, the spare byte, the number of its links, and these; of a network its mask and its routers
 abbrev pub body_text : Body → List ℕ
@@ -28,13 +28,14 @@ lsa_length lsa = 20 + length (body_text lsa.body)
 abbrev pub header_text : Lsa → ℕ → List ℕ
 header_text lsa length =
     to_be_bytes w16 lsa.age ++ (to_be_bytes w8 lsa.options ++ (to_be_bytes w8 lsa.kind ++ (to_be_bytes w32 lsa.id
-    ++ (to_be_bytes w32 lsa.router ++ (to_be_bytes w32 (cast_unsigned w32 lsa.sequence) ++ (to_be_bytes w16 lsa.checksum ++ to_be_bytes w16 length))))))
+    ++ (to_be_bytes w32 lsa.router ++ (to_be_bytes w32 (cast_unsigned w32 lsa.sequence)
+    ++ (to_be_bytes w16 lsa.checksum ++ to_be_bytes w16 length))))))
 
 -- an LSA: its header and its body; its place is no part of its bytes
 abbrev pub lsa_text : Lsa → List ℕ
 lsa_text lsa = header_text lsa (lsa_length lsa) ++ body_text lsa.body
 
--- the bytes of an LSA that its checksum covers: all behind its age
+-- the bytes of an LSA that its checksum covers: all after its age
 abbrev pub covered_text : Lsa → List ℕ
 covered_text lsa = drop 2 (lsa_text lsa)
 

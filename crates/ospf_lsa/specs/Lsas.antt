@@ -59,9 +59,9 @@ KeepsMetrics (Router flags spare links) = list_any has_zero_metric links ≡ fal
 KeepsMetrics (Network mask routers) = Unit {0}
 KeepsMetrics (Other bytes) = Unit {0}
 
--- an LSA without a fault: each number fits its field, the checksum is good, the sequence number is not the reserved one, 0x80000000,
--- the link state ID of a router-LSA is its advertising router, the body is of its type, no metric is 0 where it may not be, and all is
--- no longer than its length field can say
+-- an LSA without a fault: each number fits its field, the checksum is good, the sequence number is not the reserved
+-- one, 0x80000000, the link state ID of a router-LSA is its advertising router, the body is of its type, no metric is 0
+-- where it may not be, and the whole is at most as long as its length field can say
 pub record IsLsa (lsa : Lsa) : Type 0 where
   pub header : FitsHeader lsa
   pub checksum : lsa.checksum < 2 ^ 16
@@ -73,7 +73,7 @@ pub record IsLsa (lsa : Lsa) : Type 0 where
   pub metrics : KeepsMetrics lsa.body
   pub length_fits : lsa_length lsa < 2 ^ 16
 
--- such LSAs one after another, the first at this place, each of the others behind the one before it
+-- such LSAs one after another, the first at this place, each of the others where the one before it ends
 abbrev pub AreLsas : ℕ → List Lsa → Type 0
 AreLsas at [] = Unit {0}
 AreLsas at (lsa ∷ lsas) = (lsa.at ≡ at) × IsLsa lsa × AreLsas (at + lsa_length lsa) lsas

@@ -41,13 +41,14 @@ first_link bytes =
     if nat_lt (length bytes) 12 then None
     else (if nat_lt (length bytes) (link_length bytes) then None else Some (link_in bytes, link_length bytes))
 
--- so many links, and nothing behind them
+-- so many links, and nothing after them
 abbrev pub links_in : ℕ → List ℕ → Option (List RouterLink)
 links_in zero bytes = if length bytes == 0 then Some [] else None
 links_in (suc count) bytes =
-    option_and_then (λ first. option_map (λ links. first.0 ∷ links) (links_in count (drop first.1 bytes))) (first_link bytes)
+    option_and_then (λ first. option_map (λ links. first.0 ∷ links) (links_in count (drop first.1 bytes)))
+    (first_link bytes)
 
--- the links in a router-LSA's body, behind its flags, its spare byte and the count of its links
+-- the links in a router-LSA's body, after its flags, its spare byte and the count of its links
 abbrev pub body_links : List ℕ → Option (List RouterLink)
 body_links bytes = if nat_lt (length bytes) 4 then None else links_in (number_at 2 2 bytes) (drop 4 bytes)
 
@@ -69,7 +70,7 @@ lsa_in at bytes body = record {
   body = body;
 }
 
--- the first fault that an LSA shows before its body is looked at; a router-LSA (type 1) has its advertising router as link state ID
+-- the first fault that an LSA shows before its body is looked at
 abbrev pub header_fault : List ℕ → Option LsaKind
 header_fault bytes =
     if nat_lt (length bytes) 20 then Some kinds.Truncated
@@ -77,7 +78,8 @@ header_fault bytes =
     else (if nat_lt (length_field bytes) 20 then Some kinds.Length
     else (if not (is_good (covered_bytes bytes) (checksum_field bytes)) then Some kinds.Checksum
     else (if sequence_field bytes == 2 ^ 31 then Some kinds.ReservedSequence
-    else (if (type_field bytes == router_lsa) && not (id_field bytes == router_field bytes) then Some kinds.IdMismatch else None)))))
+    else (if (type_field bytes == router_lsa) && not (id_field bytes == router_field bytes) then Some kinds.IdMismatch
+    else None)))))
 
 -- a router-LSA's body of these links; none may have the metric 0 where it leads to a router or to a transit network
 abbrev pub with_links : List ℕ → List RouterLink → Result Body LsaKind
@@ -87,7 +89,7 @@ with_links bytes links = if list_any has_zero_metric links then Err kinds.ZeroMe
 abbrev pub router_body : List ℕ → Result Body LsaKind
 router_body bytes = option_map_or (with_links bytes) (body_links bytes) (Err kinds.Body)
 
--- a network-LSA's body, or its fault: 4 bytes are the mask, and each 4 bytes behind it are a router
+-- a network-LSA's body, or its fault: 4 bytes are the mask, and each 4 bytes after it are a router
 abbrev pub network_body : List ℕ → Result Body LsaKind
 network_body bytes =
     if nat_lt (length bytes) 4 then Err kinds.Body
@@ -96,7 +98,9 @@ network_body bytes =
 
 -- the body of an LSA of this type, or its first fault; of types other than 1 and 2 it is any bytes
 abbrev pub typed_body : ℕ → List ℕ → Result Body LsaKind
-typed_body kind bytes = if kind == router_lsa then router_body bytes else (if kind == network_lsa then network_body bytes else Ok (Other bytes))
+typed_body kind bytes =
+    if kind == router_lsa then router_body bytes
+    else (if kind == network_lsa then network_body bytes else Ok (Other bytes))
 
 -- the LSA of this body and its length
 abbrev pub with_body : ℕ → List ℕ → Result Body LsaKind → Result (Lsa × ℕ) LsaKind

@@ -33,8 +33,8 @@ HasShortLinks (Router flags spare links) = AllByRecursion HasFewEntries links
 HasShortLinks (Network mask routers) = Unit {0}
 HasShortLinks (Other bytes) = Unit {0}
 
--- an LSA without the faults that writing leaves as they are: its sequence number is not the reserved one, the link state ID of a
--- router-LSA is its advertising router, and no metric is 0 where it may not be
+-- an LSA without the faults that writing leaves as they are: its sequence number is not the reserved one, the link
+-- state ID of a router-LSA is its advertising router, and no metric is 0 where it may not be
 pub record IsReadable (lsa : Lsa) : Type 0 where
   pub not_reserved : lsa.sequence ≢ cast_signed w32 (2 ^ 31)
   pub own_id : lsa.kind ≡ router_lsa → lsa.id ≡ lsa.router

@@ -1,11 +1,11 @@
-//! What stands behind the header of an LSA, by its type.
+//! What stands after the header of an LSA, by its type.
 
 ghost use Rattle.std.specs.Prelude.{◌≡◌, ◌≤◌, IfOk, IfSome, length};
 ghost use Rattle.std.specs.Option.{option_map};
 ghost use Rattle.ospf_lsa.specs.Reading.{body_links, network_body, router_body, typed_body};
 
 use crate::error::LsaKind;
-use crate::field::{behind, number_8, number_16, number_32, numbers};
+use crate::field::{after, number_8, number_16, number_32, numbers};
 use crate::link::{any_zero_metric, links};
 use crate::lsa::{Body, NETWORK_LSA, ROUTER_LSA, RouterLink};
 use mrt_graph::Seq;
@@ -63,7 +63,7 @@ fn network(alloc: Global, bytes: &[u8]) -> Result<Result<Body, LsaKind>, AllocEr
     if bytes.len() % 4 != 0 {
         return Ok(Err(LsaKind::Body));
     }
-    let routers = numbers(alloc, behind(bytes, 4), (bytes.len() - 4) / 4)?;
+    let routers = numbers(alloc, after(bytes, 4), (bytes.len() - 4) / 4)?;
     Ok(Ok(Body::Network {
         mask: number_32(bytes, 0),
         routers: Seq::from_vec(routers),

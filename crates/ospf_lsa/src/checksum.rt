@@ -44,8 +44,8 @@ fn added(before: (u8, u8), run: &[u8]) -> (u8, u8)
     ((first % 255) as u8, (second % 255) as u8)
 }
 
-/// The checksum of the bytes that it covers, in which its field of two bytes, behind 14 others, is taken as 0 (RFC 905, annex B). Both
-/// sums of these bytes are 0 where the field holds it.
+/// The checksum of the bytes that it covers, in which its field of two bytes, after 14 others, is taken as 0 (RFC 905,
+/// annex B). Both sums of these bytes are 0 where the field holds it.
 #[tactic(auto, unfolding(crate::specs::Checksum::fresh_checksum))]
 pub fn fresh(covered: &[u8]) -> u16
     requires few { length covered.now ≤ 65535 }

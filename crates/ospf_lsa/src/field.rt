@@ -37,8 +37,8 @@ pub fn signed_32(bytes: &[u8], place: usize) -> i32
     BigEndian::read_i32(&bytes[place..])
 }
 
-/// The bytes behind so many.
-pub fn behind(bytes: &[u8], count: usize) -> &[u8]
+/// The bytes after so many.
+pub fn after(bytes: &[u8], count: usize) -> &[u8]
     requires { count ≤ length bytes.now }
     ensures { result.now ≡ drop count bytes.now }
 {

@@ -6,7 +6,7 @@ ghost use Rattle.std.specs.Option.{option_map};
 ghost use Rattle.ospf_lsa.specs.Reading.{first_link, links_in};
 ghost use Rattle.ospf_lsa.specs.Lsas.{has_zero_metric};
 
-use crate::field::{behind, number_8, number_16, number_32, numbers};
+use crate::field::{after, number_8, number_16, number_32, numbers};
 use crate::lsa::RouterLink;
 use mrt_graph::Seq;
 use std::alloc::{AllocError, Global};
@@ -14,7 +14,7 @@ use std::alloc::{AllocError, Global};
 /// The bytes of a link without TOS entries.
 pub const LINK: usize = 12;
 
-/// So many links and nothing behind them, where the bytes are that.
+/// So many links and nothing after them, where the bytes are that.
 pub fn links(alloc: Global, bytes: &[u8], count: u16) -> Result<Option<Vec<RouterLink>>, AllocError>
     ensures { IfOk result (λ links. option_map (λ v. v.items) links ≡ links_in count bytes.now) }
 {
@@ -25,7 +25,7 @@ pub fn links(alloc: Global, bytes: &[u8], count: u16) -> Result<Option<Vec<Route
             return Ok(None);
         };
         links.push_reserved(link);
-        rest = behind(rest, length);
+        rest = after(rest, length);
     }
     if rest.is_empty() {
         Ok(Some(links))
@@ -48,7 +48,7 @@ fn link(alloc: Global, bytes: &[u8]) -> Result<Option<(RouterLink, usize)>, Allo
     if bytes.len() < length {
         return Ok(None);
     }
-    let tos = numbers(alloc, behind(bytes, LINK), entries)?;
+    let tos = numbers(alloc, after(bytes, LINK), entries)?;
     let link = RouterLink {
         id: number_32(bytes, 0),
         link_data: number_32(bytes, 4),

@@ -25,10 +25,10 @@ pub struct RouterLink {
     pub tos: Seq<u32>,
 }
 
-/// What stands behind the header of an LSA.
+/// What stands after the header of an LSA.
 #[derive(Debug, Drop, PartialEq, Eq)]
 pub enum Body {
-    /// Of a router-LSA: its flags, the byte behind them, and its links (RFC 2328, section A.4.2).
+    /// Of a router-LSA: its flags, the byte after them, and its links (RFC 2328, section A.4.2).
     Router {
         flags: u8,
         spare: u8,

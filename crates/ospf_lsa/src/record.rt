@@ -87,7 +87,7 @@ fn has_good_checksum(bytes: &[u8]) -> bool
     first == 0 && (second == 0 && number_16(bytes, 16) != 0)
 }
 
-/// The bytes of the body behind the header at the front.
+/// The bytes of the body after the header at the front.
 fn body_of(bytes: &[u8]) -> &[u8]
     requires header { 20 ≤ length_field bytes.now }
     requires within { length_field bytes.now ≤ length bytes.now }

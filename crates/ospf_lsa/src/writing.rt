@@ -8,7 +8,7 @@ ghost use Rattle.ospf_lsa.specs.Lsas.{AreLsas, FitsBody, FitsHeader, FitsLink, I
 ghost use Rattle.ospf_lsa.specs.Written.{renewed, renewed_at_front, with_checksum, HasFewEntries, HasShortLinks, IsReadable};
 
 use crate::checksum::fresh;
-use crate::field::behind;
+use crate::field::after;
 use crate::link::LINK;
 use crate::lsa::{Body, Lsa, RouterLink};
 use crate::record::HEADER;
@@ -21,14 +21,15 @@ const AGE: usize = 2;
 /// The place of the checksum field (RFC 2328, section A.4.1).
 const CHECKSUM: usize = 16;
 
-/// The bytes of an LSA (RFC 2328, section A.4), with its length and a fresh checksum (section 12.1.7); its own `checksum` is not used.
+/// The bytes of an LSA (RFC 2328, section A.4), with its length and a fresh checksum (section 12.1.7); its own
+/// `checksum` is not used.
 ///
 /// The type must be 1 for a router-LSA's body, 2 for a network-LSA's, and another one for [`Body::Other`]. The whole may
 /// have at most 65,535 bytes, and each link at most 255 TOS entries.
 ///
 /// Where its sequence number is not the reserved one, a router-LSA has its advertising router as link state ID, and no
-/// link to a router or to a transit network in it has metric 0, [`read_lsas`](crate::read_lsas) reads this one LSA from the bytes, equal but for
-/// `at`, which is 0, and for the checksum.
+/// link to a router or to a transit network in it has metric 0, [`read_lsas`](crate::read_lsas) reads this one LSA
+/// from the bytes, equal but for `at`, which is 0, and for the checksum.
 ///
 /// # Errors
 ///
@@ -40,10 +41,12 @@ pub fn write_lsa(alloc: Global, lsa: &Lsa) -> Result<Vec<u8>, NoMemory>
     ensures text { IfOk result (λ bytes. bytes.items ≡ lsa_text (renewed lsa.now)) }
     ensures len { IfOk result (λ bytes. length bytes.items ≡ lsa_length lsa.now) }
     // What is written is read as the one LSA.
-    ensures read { IsReadable lsa.now → IfOk result (λ bytes. AreLsas 0 (renewed_at_front lsa.now ∷ []) × (bytes.items ≡ lsas_text (renewed_at_front lsa.now ∷ []))) }
+    ensures read { IsReadable lsa.now → IfOk result (λ bytes.
+        AreLsas 0 (renewed_at_front lsa.now ∷ [])
+        × (bytes.items ≡ lsas_text (renewed_at_front lsa.now ∷ []))) }
 {
     let mut bytes = unchecked(alloc, lsa)?;
-    let checksum = fresh(behind(&bytes, AGE));
+    let checksum = fresh(after(&bytes, AGE));
     let [high, low] = checksum.to_be_bytes();
     bytes[CHECKSUM] = high;
     bytes[CHECKSUM + 1] = low;

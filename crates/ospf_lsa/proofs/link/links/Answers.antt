@@ -17,8 +17,8 @@ loop-preserved c =
     let least : 12 ≤ c.in-Some.length = subst (λ (o : Option (RouterLink × ℕ)). IfSome o (λ x. 12 ≤ x.1)) c.in-Some.is c.in_ok-link.ensures.some in
     let within : c.in-Some.length ≤ length c.loop.rest.now = subst (λ (o : Option (RouterLink × ℕ)). IfSome o (λ x. x.1 ≤ length c.loop.rest.now)) c.in-Some.is c.in_ok-link.ensures.within in
     record {
-      whole = rw c.behind-rest.ensures next;
+      whole = rw c.after-rest.ensures next;
       many = omega arith;
-      taken = rw c.behind-rest.ensures (simp length-drop (omega arith));
+      taken = rw c.after-rest.ensures (simp length-drop (omega arith));
       room = omega arith;
     }

@@ -10,9 +10,9 @@ use Rattle.ospf_lsa.proofs.reading.read_lsas.Goals as goal
 
 pub loop-at-preserved : goal.loop-at-preserved
 loop-at-preserved c = record {
-  within = omega (arith, c.in_ok-lsa.ensures.within, ap length c.behind.ensures, length-drop c.loop-at.at c.args.bytes.now);
+  within = omega (arith, c.in_ok-lsa.ensures.within, ap length c.after.ensures, length-drop c.loop-at.at c.args.bytes.now);
   read = read_more c.args.bytes.now c.loop-at.lsas.items c.push.new.self.items c.loop-at.at (c.in_ok-lsa.lsa, c.in_ok-lsa.length) (λ i. Fits-lt-pow {w = w8} (c.type_inv.bytes i)) c.loop-at.invariant.read
-      (ap (record_in c.loop-at.at) (sym c.behind.ensures) ∙ c.in_ok-lsa.ensures.answer) c.in_ok-push.ensures.items;
+      (ap (record_in c.loop-at.at) (sym c.after.ensures) ∙ c.in_ok-lsa.ensures.answer) c.in_ok-push.ensures.items;
 }
 
 pub loop-at-init : goal.loop-at-init
@@ -34,14 +34,14 @@ returns-in_err-lsa-clause-fault c = λ at kind told.
     let p = err_from_is_err_and c.from_residual.result c.from_residual.ensures.1 in
     let first = p.1 in
     let second = p.2 in
-    told_first c.args.bytes.now c.behind.result.now c.loop-at.lsas.items c.loop-at.at c.in_err-lsa.field-0.0 (λ i. Fits-lt-pow {w = w8} (c.type_inv.bytes i)) c.loop-at-test.true c.loop-at.invariant.read c.behind.ensures c.in_err-lsa.ensures.answer at kind cc
+    told_first c.args.bytes.now c.after.result.now c.loop-at.lsas.items c.loop-at.at c.in_err-lsa.field-0.0 (λ i. Fits-lt-pow {w = w8} (c.type_inv.bytes i)) c.loop-at-test.true c.loop-at.invariant.read c.after.ensures c.in_err-lsa.ensures.answer at kind cc
 
 pub returns-in_err-lsa-clause-only : goal.returns-in_err-lsa-clause-only
 returns-in_err-lsa-clause-only c =
     let p = err_from_is_err_and c.from_residual.result c.from_residual.ensures.1 in
-    rw (p.1, p.2) (none_read c.args.bytes.now c.in_err-lsa.field-0.0 (told_first c.args.bytes.now c.behind.result.now c.loop-at.lsas.items c.loop-at.at c.in_err-lsa.field-0.0 (λ i. Fits-lt-pow {w = w8} (c.type_inv.bytes i)) c.loop-at-test.true c.loop-at.invariant.read c.behind.ensures c.in_err-lsa.ensures.answer))
+    rw (p.1, p.2) (none_read c.args.bytes.now c.in_err-lsa.field-0.0 (told_first c.args.bytes.now c.after.result.now c.loop-at.lsas.items c.loop-at.at c.in_err-lsa.field-0.0 (λ i. Fits-lt-pow {w = w8} (c.type_inv.bytes i)) c.loop-at-test.true c.loop-at.invariant.read c.after.ensures c.in_err-lsa.ensures.answer))
 
 pub returns-in_err-lsa-clause-faulty : goal.returns-in_err-lsa-clause-faulty
 returns-in_err-lsa-clause-faulty c =
     let p = err_from_is_err_and c.from_residual.result c.from_residual.ensures.1 in
-    rw (p.1, p.2) (first_told c.args.bytes.now c.in_err-lsa.field-0.0 (told_first c.args.bytes.now c.behind.result.now c.loop-at.lsas.items c.loop-at.at c.in_err-lsa.field-0.0 (λ i. Fits-lt-pow {w = w8} (c.type_inv.bytes i)) c.loop-at-test.true c.loop-at.invariant.read c.behind.ensures c.in_err-lsa.ensures.answer))
+    rw (p.1, p.2) (first_told c.args.bytes.now c.in_err-lsa.field-0.0 (told_first c.args.bytes.now c.after.result.now c.loop-at.lsas.items c.loop-at.at c.in_err-lsa.field-0.0 (λ i. Fits-lt-pow {w = w8} (c.type_inv.bytes i)) c.loop-at-test.true c.loop-at.invariant.read c.after.ensures c.in_err-lsa.ensures.answer))

@@ -9,7 +9,7 @@ pub returns-clause-text : goal.returns-clause-text
 returns-clause-text c =
     field_set c.args.lsa.now c.fresh-checksum.result c.in_ok-bytes.bytes.items c.to_be_bytes.result c.in_ok-bytes.ensures.text c.to_be_bytes.ensures
     ∙ ap (λ (n : ℕ). lsa_text (with_checksum c.args.lsa.now n))
-    (checksum_of c.args.lsa.now c.in_ok-bytes.bytes.items c.behind.result.now c.fresh-checksum.result c.in_ok-bytes.ensures.text (c.behind.ensures ∙ ap (drop 2) c.deref.ensures.value) c.fresh-checksum.ensures)
+    (checksum_of c.args.lsa.now c.in_ok-bytes.bytes.items c.after.result.now c.fresh-checksum.result c.in_ok-bytes.ensures.text (c.after.ensures ∙ ap (drop 2) c.deref.ensures.value) c.fresh-checksum.ensures)
 
 pub returns-clause-read : goal.returns-clause-read
 returns-clause-read c = λ kept. (
