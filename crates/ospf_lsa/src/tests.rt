@@ -3,7 +3,8 @@
 ghost use Rattle.std.specs.Prelude.{◌≤◌, [], ◌∷◌};
 ghost use Rattle.ospf_lsa.specs.LsaText.{lsa_length};
 ghost use Rattle.ospf_lsa.specs.Outcome.{AreAnswer};
-ghost use Rattle.ospf_lsa.specs.Written.{HasShortLinks, IsOfType, IsReadable, renewed_at_front};
+ghost use Rattle.ospf_lsa.specs.Lsas.{IsOfType};
+ghost use Rattle.ospf_lsa.specs.Written.{HasShortLinks, IsReadable, renewed_at_front};
 
 use super::*;
 use mrt_graph::Seq;
