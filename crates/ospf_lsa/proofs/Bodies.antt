@@ -16,7 +16,8 @@ use Rattle.ospf_lsa.specs.Header.{number_at}
 use Rattle.ospf_lsa.specs.Reading.{numbers_in, links_in, body_links, body_in, with_links, router_body, network_body, typed_body}
 use Rattle.ospf_lsa.specs.Faults.{SpellsLinks}
 use Rattle.ospf_lsa.specs.Lsas.{has_zero_metric, FitsBody, IsOfType, KeepsMetrics}
-use Rattle.ospf_lsa.proofs.Numbers.{IsBytes, all_bytes, bytes_behind, spelled8, spelled16, spelled32, spelled_at, number_fits, numbers_spelled, numbers_fit, numbers_read, length_numbers}
+use Rattle.mrt_graph.proofs.Bytes.{IsBytes, bytes_after}
+use Rattle.ospf_lsa.proofs.Numbers.{all_bytes, spelled8, spelled16, spelled32, spelled_at, number_fits, numbers_spelled, numbers_fit, numbers_read, length_numbers}
 use Rattle.ospf_lsa.proofs.Links.{links_spelled, links_read, length_link}
 
 -- a body of this type that is read is spelled by its bytes
@@ -36,7 +37,7 @@ links_of_spelled bytes links e are = elim (cases_lt (length bytes) 4) [
   | inl short ↦ let none : body_links bytes ≡ None = rw (lt-ltb _ _ short) refl in absurd cc
   | inr long ↦
       let opened : body_links bytes ≡ links_in (number_at 2 2 bytes) (drop 4 bytes) = rw (le-ltb _ _ long) refl in
-      let so = links_spelled (number_at 2 2 bytes) (drop 4 bytes) links (sym opened ∙ e) (bytes_behind 4 bytes are) in
+      let so = links_spelled (number_at 2 2 bytes) (drop 4 bytes) links (sym opened ∙ e) (bytes_after 4 bytes are) in
       record {
         text = spelled_at w8 0 1 bytes spelled8 refl (omega arith) are
             ∙ ap (λ (t : List ℕ). to_be_bytes w8 (number_at 0 1 bytes) ++ t) (spelled_at w8 1 2 bytes spelled8 refl (omega arith) are
@@ -79,7 +80,7 @@ network_made kind bytes is long whole are =
     let count : ℕ = (length bytes - 4) / 4 in
     let all : 4 * ((length bytes - 4) / 4) ≡ length (drop 4 bytes) = simp length-drop (omega (arith, long, whole)) in
     let routers : List ℕ = numbers_in ((length bytes - 4) / 4) (drop 4 bytes) in
-    let spelled = numbers_spelled ((length bytes - 4) / 4) (drop 4 bytes) (omega (arith, all)) (bytes_behind 4 bytes are) in
+    let spelled = numbers_spelled ((length bytes - 4) / 4) (drop 4 bytes) (omega (arith, all)) (bytes_after 4 bytes are) in
     let none : drop (4 * ((length bytes - 4) / 4)) (drop 4 bytes) ≡ [] = drop_all (4 * ((length bytes - 4) / 4)) (drop 4 bytes) (omega (arith, all)) in
     record {
       text = spelled_at w32 0 4 bytes spelled32 refl long are
@@ -87,7 +88,7 @@ network_made kind bytes is long whole are =
           ∙ ap (λ (t : List ℕ). flat_map (to_be_bytes w32) (numbers_in ((length bytes - 4) / 4) (drop 4 bytes)) ++ t) none
           ∙ append-nil (flat_map (to_be_bytes w32) (numbers_in ((length bytes - 4) / 4) (drop 4 bytes))));
       of_type = is;
-      fits = (number_fits 4 0 bytes are, numbers_fit ((length bytes - 4) / 4) (drop 4 bytes) (bytes_behind 4 bytes are));
+      fits = (number_fits 4 0 bytes are, numbers_fit ((length bytes - 4) / 4) (drop 4 bytes) (bytes_after 4 bytes are));
       metrics = tt;
     }
 

@@ -1,5 +1,5 @@
 -- Where an LSA without a fault stands at the front of bytes, the record there has no fault.
-use Rattle.std.proofs.Common.{◌≡◌, ◌<◌, ◌+◌, ◌*◌, ◌^◌, ◌⊎◌, ℕ, Bool, true, false, List, ◌++◌, length, Option, Some, inl, inr, refl, sym, ap, subst, ◌∙◌, arith}
+use Rattle.std.proofs.Common.{◌≡◌, ◌<◌, ◌+◌, ◌*◌, ◌^◌, ℕ, Bool, true, false, List, ◌++◌, length, Option, Some, inl, inr, sym, ap, subst, ◌∙◌, arith}
 use Rattle.std.specs.List.{list_any}
 use Rattle.ospf_lsa.specs.declared.error.LsaKind.{LsaKind}
 use Rattle.ospf_lsa.specs.declared.error.LsaKind.TheVariants as kinds

@@ -13,7 +13,8 @@ use Rattle.ospf_lsa.specs.Lsas.{AreLsas, IsByte, IsLsa}
 use Rattle.ospf_lsa.specs.Outcome.{IsFirstFault}
 use Rattle.ospf_lsa.specs.Reading.{record_in, Answers}
 use Rattle.ospf_lsa.proofs.FirstFaultsTold.{told_is_first}
-use Rattle.ospf_lsa.proofs.Numbers.{IsBytes, bytes_behind, bytes_of_all}
+use Rattle.mrt_graph.proofs.Bytes.{IsBytes, bytes_after}
+use Rattle.ospf_lsa.proofs.Numbers.{bytes_of_all}
 use Rattle.ospf_lsa.proofs.OneReading.{length_lsa, never_both, one_fault}
 use Rattle.ospf_lsa.proofs.Records.{record_spelled}
 
@@ -35,7 +36,7 @@ one_more_kept (first ∷ read) lsa start are placed kept =
 pub read_more : (bytes : List ℕ) (read read' : List Lsa) (at : ℕ) (x : Lsa × ℕ) → IsBytes bytes → IsReadTo bytes read at → record_in at (drop at bytes) ≡ Ok x → read' ≡ read ++ x.0 ∷ []
     → IsReadTo bytes read' (at + x.1)
 read_more bytes read read' at x are so_far found grown =
-    let here = record_spelled at (drop at bytes) x found (bytes_behind at bytes are) in
+    let here = record_spelled at (drop at bytes) x found (bytes_after at bytes are) in
     let behind : drop x.1 (drop at bytes) ≡ drop (at + x.1) bytes = drop-drop x.1 at bytes in
     let texts : lsas_text (read ++ x.0 ∷ []) ≡ lsas_text read ++ lsa_text x.0 =
     flat_map-append lsa_text read (x.0 ∷ []) ∙ ap (λ (t : List ℕ). lsas_text read ++ t) (append-nil (lsa_text x.0)) in
@@ -60,7 +61,7 @@ first_found bytes read at kind are lt so_far fault = record {
   faultless = so_far.so;
   spelled = ap (take at) so_far.spelled ∙ take_at (lsas_text read) (drop at bytes) at so_far.placed;
   more = lt;
-  fault = told_is_first at (drop at bytes) kind fault (bytes_behind at bytes are);
+  fault = told_is_first at (drop at bytes) kind fault (bytes_after at bytes are);
 }
 
 -- these bytes are LSAs, or have a first fault
@@ -79,7 +80,7 @@ either_from (suc steps) bytes read at are enough so_far = elim (cases_lt at (len
         → IsBytes bytes → length bytes ≤ at + suc steps → IsReadTo bytes read at → at < length bytes → (r : Result (Lsa × ℕ) LsaKind) → record_in at (drop at bytes) ≡ r → AreEither bytes
     by_record bytes read at go are enough so_far more (Err kind) told = inr (at, kind, first_found bytes read at kind are more so_far told)
     by_record bytes read at go are enough so_far more (Ok x) found =
-        let here = record_spelled at (drop at bytes) x found (bytes_behind at bytes are) in
+        let here = record_spelled at (drop at bytes) x found (bytes_after at bytes are) in
         go (read ++ x.0 ∷ []) (at + x.1) (omega (arith, enough, here.len)) (read_more bytes read (read ++ x.0 ∷ []) at x are so_far found refl)
 
 pub either_of : (bytes : List ℕ) → AllByRecursion IsByte bytes → AreEither bytes

@@ -1,5 +1,5 @@
 -- The fault that reading tells of a record is its first.
-use Rattle.std.proofs.Common.{◌≡◌, ◌≢◌, ◌<◌, ◌≤◌, ◌-◌, ◌/◌, ◌%◌, ◌^◌, ◌⊎◌, ℕ, Bool, true, false, List, length, take, drop, Option, Some, None, Result, Ok, Err, inl, inr, refl, sym, ap, subst, ◌∙◌, arith}
+use Rattle.std.proofs.Common.{◌≡◌, ◌≢◌, ◌<◌, ◌-◌, ◌/◌, ◌%◌, ◌^◌, ◌⊎◌, ℕ, Bool, true, false, List, length, drop, Option, Some, None, Result, Ok, Err, inl, inr, refl, sym, ap, subst, ◌∙◌, arith}
 use Rattle.std.specs.List.{list_any}
 use Rattle.std.specs.Option.{option_map_or}
 use Rattle.std.proofs.lemmas.Bool.{cases_lt, le-ltb, lt-ltb}
@@ -10,7 +10,6 @@ use Rattle.ospf_lsa.specs.declared.error.LsaKind.TheVariants as kinds
 use Rattle.ospf_lsa.specs.declared.lsa.RouterLink.{RouterLink}
 use Rattle.ospf_lsa.specs.declared.lsa.Body.{Body}
 use Rattle.ospf_lsa.specs.declared.lsa.Body.TheVariants.{Network, Other}
-use Rattle.ospf_lsa.specs.declared.lsa.Lsa.{Lsa}
 use Rattle.ospf_lsa.specs.Checksum.{is_good}
 use Rattle.ospf_lsa.specs.Faults.{SpellsLinks, HasFault, HasFirstFault, HasBadBody, order_of}
 use Rattle.ospf_lsa.specs.Header.{number_at, type_field, id_field, router_field, sequence_field, checksum_field, length_field, covered_bytes, body_bytes}
@@ -20,7 +19,8 @@ use Rattle.ospf_lsa.proofs.Bodies.{links_found, spelled_found}
 use Rattle.ospf_lsa.proofs.FaultlessAtFront.{opposite}
 use Rattle.ospf_lsa.proofs.HeaderFaults.{IsWhole, short_told, cut_told, length_told, checksum_told, sequence_told, router_told}
 use Rattle.ospf_lsa.proofs.KindsInOrder.{NoneBefore, first_of}
-use Rattle.ospf_lsa.proofs.Numbers.{IsBytes, bytes_behind, bytes_taken, number_fits}
+use Rattle.mrt_graph.proofs.Bytes.{IsBytes, bytes_after}
+use Rattle.ospf_lsa.proofs.Numbers.{bytes_taken, number_fits}
 use Rattle.ospf_lsa.proofs.Records.{IsHeader, header_passes, header_whole}
 
 -- a header without a fault has none of the faults that are told before the body's
@@ -195,5 +195,5 @@ told_is_first at bytes told e are = by_header (header_fault bytes) refl e
     told_of_body (Err kind) h = let same : kind ≡ told = cc in ap Err same
 
     by_header : (o : Option LsaKind) → header_fault bytes ≡ o → option_map_or Err o (with_body at bytes (typed_body (type_field bytes) (body_bytes bytes))) ≡ Err told → HasFirstFault told bytes
-    by_header None found h = body_first bytes told (header_whole bytes found) are (bytes_taken (length_field bytes - 20) (drop 20 bytes) (bytes_behind 20 bytes are)) (told_of_body (typed_body (type_field bytes) (body_bytes bytes)) h)
+    by_header None found h = body_first bytes told (header_whole bytes found) are (bytes_taken (length_field bytes - 20) (drop 20 bytes) (bytes_after 20 bytes are)) (told_of_body (typed_body (type_field bytes) (body_bytes bytes)) h)
     by_header (Some kind) found h = let same : kind ≡ told = cc in header_first bytes told (found ∙ ap Some same)

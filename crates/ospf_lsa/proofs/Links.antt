@@ -12,7 +12,8 @@ use Rattle.ospf_lsa.specs.LsaText.{link_text}
 use Rattle.ospf_lsa.specs.Header.{number_at}
 use Rattle.ospf_lsa.specs.Reading.{numbers_in, link_in, link_length, first_link, links_in}
 use Rattle.ospf_lsa.specs.Lsas.{FitsLink}
-use Rattle.ospf_lsa.proofs.Numbers.{IsBytes, bytes_behind, spelled8, spelled16, spelled32, spelled_at, number_fits, numbers_spelled, numbers_many, numbers_fit, numbers_read, length_numbers}
+use Rattle.mrt_graph.proofs.Bytes.{IsBytes, bytes_after}
+use Rattle.ospf_lsa.proofs.Numbers.{spelled8, spelled16, spelled32, spelled_at, number_fits, numbers_spelled, numbers_many, numbers_fit, numbers_read, length_numbers}
 
 -- a link that is whole
 pub record IsWhole (bytes : List ℕ) (x : RouterLink × ℕ) : Type 0 where
@@ -42,7 +43,7 @@ link_spelled bytes long enough are =
     let kind = spelled_at w8 8 9 bytes spelled8 refl (omega arith) are in
     let count = spelled_at w8 9 10 bytes spelled8 refl (omega arith) are in
     let metric = spelled_at w16 10 12 bytes spelled16 refl (omega arith) are in
-    let tos = numbers_spelled entries (drop 12 bytes) (simp length-drop (omega arith)) (bytes_behind 12 bytes are) in
+    let tos = numbers_spelled entries (drop 12 bytes) (simp length-drop (omega arith)) (bytes_after 12 bytes are) in
     let behind : drop (4 * entries) (drop 12 bytes) ≡ drop (link_length bytes) bytes = drop-drop (4 * entries) 12 bytes in
     let many : to_be_bytes w8 entries ≡ to_be_bytes w8 (length (numbers_in entries (drop 12 bytes))) = ap (to_be_bytes w8) (sym (numbers_many entries (drop 12 bytes))) in
     id ∙ ap (λ (t : List ℕ). to_be_bytes w32 (number_at 0 4 bytes) ++ t)
@@ -60,7 +61,7 @@ link_fits bytes are = record {
   kind = number_fits 1 8 bytes are;
   metric = number_fits 2 10 bytes are;
   few_entries = subst (λ (n : ℕ). n < 2 ^ 8) (sym (numbers_many (number_at 9 1 bytes) (drop 12 bytes))) (number_fits 1 9 bytes are);
-  entries = numbers_fit (number_at 9 1 bytes) (drop 12 bytes) (bytes_behind 12 bytes are);
+  entries = numbers_fit (number_at 9 1 bytes) (drop 12 bytes) (bytes_after 12 bytes are);
 }
 
 pub length_link : (link : RouterLink) → length (link_text link) ≡ 12 + 4 * length link.tos
@@ -132,7 +133,7 @@ links_spelled (suc count) bytes links e are = by_first count (λ rest ls found s
         → option_and_then (λ first. option_map (λ ls. first.0 ∷ ls) (links_in count (drop first.1 bytes))) o ≡ Some links → AreSpelled (suc count) bytes links
     by_first count ih bytes links are None found e = absurd cc
     by_first count ih bytes links are (Some x) found e =
-        by_rest count bytes links x are (link_whole bytes x found) (λ ls so. ih (drop x.1 bytes) ls so (bytes_behind x.1 bytes are)) (links_in count (drop x.1 bytes)) refl e
+        by_rest count bytes links x are (link_whole bytes x found) (λ ls so. ih (drop x.1 bytes) ls so (bytes_after x.1 bytes are)) (links_in count (drop x.1 bytes)) refl e
 
 -- links that are written are read
 pub links_read : (links : List RouterLink) → AllByRecursion FitsLink links → links_in (length links) (flat_map link_text links) ≡ Some links

@@ -2,17 +2,15 @@
 use Rattle.std.proofs.Common.{◌≡◌, ℕ, zero, suc, ◌+◌, ◌-◌, ◌*◌, ◌%◌, ◌^◌, ◌<◌, ◌≤◌, List, [], ◌∷◌, ◌++◌, length, get_or, take, drop, inl, inr, refl, sym, ap, subst, ◌∙◌, append_assoc, arith}
 use Rattle.std.specs.Int.{Width, w8, w16, w32, byte_len, to_be_bytes}
 use Rattle.std.specs.List.{flat_map, AllByRecursion}
-use Rattle.std.proofs.lemmas.List.{get_or-drop, get_or-take, drop-drop, length-append, length-drop, length-take}
+use Rattle.std.proofs.lemmas.List.{get_or-take, drop-drop, length-append, length-drop, length-take}
 use Rattle.std.proofs.lemmas.Bool.{cases_lt}
 use Rattle.std.proofs.lemmas.Nat.{be_bytes_2, be_bytes_4}
+use Rattle.mrt_graph.proofs.Bytes.{IsBytes, bytes_after}
 use Rattle.byteorder.specs.Endian.{big_number}
 use Rattle.byteorder.specs.Numbers.{big_from-lt, big_number-reads_back}
 use Rattle.ospf_lsa.specs.Header.{number_at}
 use Rattle.ospf_lsa.specs.Reading.{numbers_in}
 use Rattle.ospf_lsa.specs.Lsas.{Is32Bits, IsByte}
-
-abbrev pub IsBytes : List ℕ → Type 0
-IsBytes bytes = (i : ℕ) → get_or bytes i 0 < 256
 
 pub all_bytes : (bytes : List ℕ) → IsBytes bytes → AllByRecursion IsByte bytes
 all_bytes [] are = tt
@@ -22,10 +20,6 @@ pub bytes_of_all : (bytes : List ℕ) → AllByRecursion IsByte bytes → IsByte
 bytes_of_all [] all i = omega arith
 bytes_of_all (byte ∷ bytes) all zero = all.0
 bytes_of_all (byte ∷ bytes) all (suc i) = bytes_of_all bytes all.1 i
-
--- what is behind bytes is bytes
-pub bytes_behind : (n : ℕ) (bytes : List ℕ) → IsBytes bytes → IsBytes (drop n bytes)
-bytes_behind n bytes are i = subst (λ (b : ℕ). b < 256) (sym (get_or-drop n bytes i 0)) (are (n + i))
 
 nothing_past : (xs : List ℕ) (k : ℕ) → length xs ≤ k → get_or xs k 0 ≡ 0
 nothing_past [] k past = refl
@@ -93,12 +87,12 @@ pub spelled_at : (w : Width) (p q : ℕ) (bytes : List ℕ) → IsSpelled w → 
     → drop p bytes ≡ to_be_bytes w (number_at p (byte_len w) bytes) ++ drop q bytes
 spelled_at w p q bytes is e len are =
     let behind : drop (byte_len w) (drop p bytes) ≡ drop q bytes = drop-drop (byte_len w) p bytes ∙ ap (λ (n : ℕ). drop n bytes) (sym e) in
-    is.spelled (drop p bytes) (simp length-drop (omega arith)) (bytes_behind p bytes are)
+    is.spelled (drop p bytes) (simp length-drop (omega arith)) (bytes_after p bytes are)
     ∙ ap (λ (t : List ℕ). to_be_bytes w (number_at p (byte_len w) bytes) ++ t) behind
 
 -- a number in so many bytes
 pub number_fits : (n p : ℕ) (bytes : List ℕ) → IsBytes bytes → number_at p n bytes < 256 ^ n
-number_fits n p bytes are = big_from-lt 0 n (drop p bytes) (bytes_behind p bytes are)
+number_fits n p bytes are = big_from-lt 0 n (drop p bytes) (bytes_after p bytes are)
 
 -- numbers of 32 bits, as they were read
 pub numbers_spelled : (count : ℕ) (bytes : List ℕ) → 4 * count ≤ length bytes → IsBytes bytes
@@ -106,7 +100,7 @@ pub numbers_spelled : (count : ℕ) (bytes : List ℕ) → 4 * count ≤ length 
 numbers_spelled zero bytes len are = refl
 numbers_spelled (suc count) bytes len are =
     let place : 4 * suc count ≡ 4 + 4 * count = omega arith in
-    let later = numbers_spelled count (drop 4 bytes) (simp length-drop (omega arith)) (bytes_behind 4 bytes are) in
+    let later = numbers_spelled count (drop 4 bytes) (simp length-drop (omega arith)) (bytes_after 4 bytes are) in
     four_spelled bytes (omega arith) are
     ∙ ap (λ (t : List ℕ). to_be_bytes w32 (big_number 4 bytes) ++ t) later
     ∙ sym (append_assoc (to_be_bytes w32 (big_number 4 bytes)) (flat_map (to_be_bytes w32) (numbers_in count (drop 4 bytes))) (drop (4 * count) (drop 4 bytes)))
@@ -119,7 +113,7 @@ numbers_many (suc count) bytes = ap suc (numbers_many count (drop 4 bytes))
 
 pub numbers_fit : (count : ℕ) (bytes : List ℕ) → IsBytes bytes → AllByRecursion Is32Bits (numbers_in count bytes)
 numbers_fit zero bytes are = tt
-numbers_fit (suc count) bytes are = (number_fits 4 0 bytes are, numbers_fit count (drop 4 bytes) (bytes_behind 4 bytes are))
+numbers_fit (suc count) bytes are = (number_fits 4 0 bytes are, numbers_fit count (drop 4 bytes) (bytes_after 4 bytes are))
 
 -- and as they were written
 pub numbers_read : (xs : List ℕ) (rest : List ℕ) → AllByRecursion Is32Bits xs → numbers_in (length xs) (flat_map (to_be_bytes w32) xs ++ rest) ≡ xs

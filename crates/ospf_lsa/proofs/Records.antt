@@ -1,11 +1,10 @@
 -- An LSA is read as it is written, and written as it is read.
-use Rattle.std.proofs.Common.{◌≡◌, ◌≢◌, ℕ, ℤ, zero, suc, ◌+◌, ◌-◌, ◌^◌, ◌<◌, ◌≤◌, true, List, [], ◌∷◌, ◌++◌, length, get_or, take, drop, Option, Some, None, Result, Ok, Err, inl, inr, refl, sym, ap, subst, ◌∙◌, arith}
+use Rattle.std.proofs.Common.{◌≡◌, ◌≢◌, ℕ, ℤ, ◌+◌, ◌-◌, ◌^◌, ◌<◌, ◌≤◌, true, List, ◌++◌, length, take, drop, Option, Some, None, Result, Ok, Err, inl, inr, refl, sym, ap, subst, ◌∙◌, arith}
 use Rattle.std.specs.Int.{w8, w16, w32, to_be_bytes, cast_unsigned, cast_signed}
 use Rattle.std.specs.Option.{option_map_or}
-use Rattle.std.proofs.lemmas.Bool.{cases_lt}
 use Rattle.std.proofs.lemmas.Bool.Decides.{eqb_tells, nat_tests}
 use Rattle.std.proofs.lemmas.Int.{of_z-to_z, to_z-of_z}
-use Rattle.std.proofs.lemmas.List.{drop-drop, take_at, take-append-drop, length-append, length-drop, length-take, get_or-take}
+use Rattle.std.proofs.lemmas.List.{drop-drop, take_at, take-append-drop, length-append, length-drop, length-take}
 use Rattle.std.proofs.Math.Facts.{sfits_to_z, Fits-lt-pow, Fits-of_lt, Fits-of_z}
 use Rattle.byteorder.specs.Numbers.{big_number-reads_back}
 use Rattle.ospf_lsa.specs.declared.error.LsaKind.{LsaKind}
@@ -16,7 +15,8 @@ use Rattle.ospf_lsa.specs.Checksum.{is_good}
 use Rattle.ospf_lsa.specs.Header.{number_at, length_field, covered_bytes, body_bytes}
 use Rattle.ospf_lsa.specs.Reading.{lsa_in, header_fault, typed_body, with_body, record_in}
 use Rattle.ospf_lsa.specs.Lsas.{IsLsa}
-use Rattle.ospf_lsa.proofs.Numbers.{IsBytes, bytes_behind, bytes_taken, spelled8, spelled16, spelled32, spelled_at, number_fits}
+use Rattle.mrt_graph.proofs.Bytes.{IsBytes, bytes_after}
+use Rattle.ospf_lsa.proofs.Numbers.{bytes_taken, spelled8, spelled16, spelled32, spelled_at, number_fits}
 use Rattle.ospf_lsa.proofs.Bodies.{body_spelled, body_read}
 
 -- a header without a fault
@@ -96,7 +96,7 @@ record_spelled at bytes x e are =
     spells : (body : Body) → IsHeader bytes → typed_body (number_at 3 1 bytes) (body_bytes bytes) ≡ Ok body → IsSpelledLsa at bytes (lsa_in at bytes body, length_field bytes)
     spells body header found =
         let n = length_field bytes in
-        let read = body_spelled (number_at 3 1 bytes) (body_bytes bytes) body found (bytes_taken (n - 20) (drop 20 bytes) (bytes_behind 20 bytes are)) in
+        let read = body_spelled (number_at 3 1 bytes) (body_bytes bytes) body found (bytes_taken (n - 20) (drop 20 bytes) (bytes_after 20 bytes are)) in
         let len : length (body_bytes bytes) ≡ n - 20 = simp (length-take, length-drop) (omega (arith, header.within)) in
         let whole : n ≡ 20 + length (body_text body) = omega (arith, header.least, len, ap length read.text) in
         let parts : drop 20 bytes ≡ body_text body ++ drop n bytes =
