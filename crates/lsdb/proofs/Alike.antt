@@ -12,8 +12,10 @@ use Rattle.lsdb.specs.Newest.{same_link, same_body, same_but_age}
 
 link_equiv : IsEquivalence same_link
 link_equiv =
-    and_equiv (on_equiv (λ (l : RouterLink). l.id) nat_eq_equiv) (and_equiv (on_equiv (λ (l : RouterLink). l.link_data) nat_eq_equiv)
-    (and_equiv (on_equiv (λ (l : RouterLink). l.kind) nat_eq_equiv) (and_equiv (on_equiv (λ (l : RouterLink). l.metric) nat_eq_equiv)
+    and_equiv (on_equiv (λ (l : RouterLink). l.id) nat_eq_equiv)
+    (and_equiv (on_equiv (λ (l : RouterLink). l.link_data) nat_eq_equiv)
+    (and_equiv (on_equiv (λ (l : RouterLink). l.kind) nat_eq_equiv)
+    (and_equiv (on_equiv (λ (l : RouterLink). l.metric) nat_eq_equiv)
     (on_equiv (λ (l : RouterLink). l.tos) (lists_equiv nat_eq_equiv)))))
 
 abbrev RouterParts : Type 0
@@ -24,7 +26,9 @@ same_router a b = (a.0 == b.0) && ((a.1 == b.1) && pointwise same_link a.2 b.2)
 
 router_equiv : IsEquivalence same_router
 router_equiv =
-    and_equiv (on_equiv (λ (p : RouterParts). p.0) nat_eq_equiv) (and_equiv (on_equiv (λ (p : RouterParts). p.1) nat_eq_equiv) (on_equiv (λ (p : RouterParts). p.2) (lists_equiv link_equiv)))
+    and_equiv (on_equiv (λ (p : RouterParts). p.0) nat_eq_equiv)
+    (and_equiv (on_equiv (λ (p : RouterParts). p.1) nat_eq_equiv)
+    (on_equiv (λ (p : RouterParts). p.2) (lists_equiv link_equiv)))
 
 abbrev NetworkParts : Type 0
 NetworkParts = ℕ × List ℕ
@@ -33,7 +37,8 @@ abbrev same_network : NetworkParts → NetworkParts → Bool
 same_network a b = (a.0 == b.0) && pointwise nat_eq a.1 b.1
 
 network_equiv : IsEquivalence same_network
-network_equiv = and_equiv (on_equiv (λ (p : NetworkParts). p.0) nat_eq_equiv) (on_equiv (λ (p : NetworkParts). p.1) (lists_equiv nat_eq_equiv))
+network_equiv = and_equiv (on_equiv (λ (p : NetworkParts). p.0) nat_eq_equiv)
+    (on_equiv (λ (p : NetworkParts). p.1) (lists_equiv nat_eq_equiv))
 
 bytes_equiv : IsEquivalence (pointwise nat_eq)
 bytes_equiv = lists_equiv nat_eq_equiv
@@ -55,7 +60,8 @@ body_symm (Other b) (Network m r) = refl
 body_symm (Other b) (Other b') = bytes_equiv.symm b b'
 
 body_congr : (a b c : Body) → same_body a b ≡ true → same_body a c ≡ same_body b c
-body_congr (Router f s l) (Router f' s' l') (Router f'' s'' l'') h = router_equiv.congr (f, s, l) (f', s', l') (f'', s'', l'') h
+body_congr (Router f s l) (Router f' s' l') (Router f'' s'' l'') h =
+    router_equiv.congr (f, s, l) (f', s', l') (f'', s'', l'') h
 body_congr (Router f s l) (Router f' s' l') (Network m r) h = refl
 body_congr (Router f s l) (Router f' s' l') (Other b) h = refl
 body_congr (Router f s l) (Network m r) c h = absurd cc
@@ -76,6 +82,10 @@ body_equiv = record { refl = body_refl; symm = body_symm; congr = body_congr }
 
 pub alike_equiv : IsEquivalence same_but_age
 alike_equiv =
-    and_equiv (and_equiv (and_equiv (and_equiv (and_equiv (and_equiv (on_equiv (λ (l : Lsa). l.options) nat_eq_equiv) (on_equiv (λ (l : Lsa). l.kind) nat_eq_equiv))
-    (on_equiv (λ (l : Lsa). l.id) nat_eq_equiv)) (on_equiv (λ (l : Lsa). l.router) nat_eq_equiv)) (on_equiv (λ (l : Lsa). l.sequence) int_eq_equiv))
+    and_equiv (and_equiv
+    (and_equiv (and_equiv
+    (and_equiv (and_equiv (on_equiv (λ (l : Lsa). l.options) nat_eq_equiv)
+    (on_equiv (λ (l : Lsa). l.kind) nat_eq_equiv))
+    (on_equiv (λ (l : Lsa). l.id) nat_eq_equiv)) (on_equiv (λ (l : Lsa). l.router) nat_eq_equiv))
+    (on_equiv (λ (l : Lsa). l.sequence) int_eq_equiv))
     (on_equiv (λ (l : Lsa). l.checksum) nat_eq_equiv)) (on_equiv (λ (l : Lsa). l.body) body_equiv)

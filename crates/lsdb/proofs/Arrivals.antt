@@ -30,18 +30,23 @@ abbrev pub others : Key → List Key → List Key
 others first keys = filter (λ key. not (same_key first key)) keys
 
 -- a key that differs from the one left out is there as before
-pub any_other : (key first : Key) (keys : List Key) → same_key key first ≡ false → list_any (same_key key) (others first keys) ≡ list_any (same_key key) keys
+pub any_other : (key first : Key) (keys : List Key) → same_key key first ≡ false
+    → list_any (same_key key) (others first keys) ≡ list_any (same_key key) keys
 any_other key first keys differ =
     any-filter_same (same_key key) (λ k. not (same_key first k)) true
-    (λ k told. ap not (subst (λ (x : Key). same_key first x ≡ false) (sym (key_is key k told)) (differ_both key first differ))) keys
+    (λ k told. ap not
+    (subst (λ (x : Key). same_key first x ≡ false) (sym (key_is key k told)) (differ_both key first differ))) keys
 
-pub first_is_there : (b : Bool) (key first : Key) (keys : List Key) → same_key key first ≡ b → list_any (same_key key) keys ≡ false → list_any (same_key key) (others first keys) ≡ false
+pub first_is_there : (b : Bool) (key first : Key) (keys : List Key) → same_key key first ≡ b
+    → list_any (same_key key) keys ≡ false → list_any (same_key key) (others first keys) ≡ false
 first_is_there true key first keys is none =
     any-filter_same (same_key key) (λ k. not (same_key first k)) false
-    (λ k told. ap not (subst (λ (x : Key). same_key first x ≡ true) (sym (key_is key k told)) (subst (λ (x : Key). same_key first x ≡ true) (key_is key first is) (own_key first)))) keys
+    (λ k told. ap not
+    (subst (λ (x : Key). same_key first x ≡ true) (sym (key_is key k told))
+    (subst (λ (x : Key). same_key first x ≡ true) (key_is key first is) (own_key first)))) keys
 first_is_there false key first keys is none = any_other key first keys is ∙ none
 
--- the keys with one more behind, where it is new
+-- the keys with one more after, where it is new
 abbrev pub keys_with : Bool → Key → List Key → List Key
 keys_with there key keys = if there then keys else keys ++ key ∷ []
 
@@ -51,7 +56,8 @@ keys_step_there true key first keys is = refl
 keys_step_there false key first keys is =
     ap (λ (ks : List Key). first ∷ ks)
     (filter-append (λ k. not (same_key first k)) keys (key ∷ [])
-    ∙ ap (λ (b : Bool). others first keys ++ cond (not b) (key ∷ []) []) (subst (λ (x : Key). same_key first x ≡ true) (key_is key first is) (own_key first))
+    ∙ ap (λ (b : Bool). others first keys ++ cond (not b) (key ∷ []) [])
+    (subst (λ (x : Key). same_key first x ≡ true) (key_is key first is) (own_key first))
     ∙ append-nil (others first keys))
 
 keys_step_other : (there : Bool) (key first : Key) (keys : List Key) → same_key key first ≡ false
@@ -67,13 +73,16 @@ keys_step_by : (b : Bool) (key first : Key) (keys : List Key) → same_key key f
     ≡ keys_with (list_any (same_key key) (first ∷ others first keys)) key (first ∷ others first keys)
 keys_step_by true key first keys is =
     keys_step_there (list_any (same_key key) keys) key first keys is
-    ∙ sym (ap (λ (b : Bool). keys_with (b || list_any (same_key key) (others first keys)) key (first ∷ others first keys)) is)
+    ∙ sym (ap (λ (b : Bool). keys_with (b || list_any (same_key key) (others first keys)) key
+    (first ∷ others first keys)) is)
 keys_step_by false key first keys is =
     keys_step_other (list_any (same_key key) keys) key first keys is
-    ∙ sym (ap (λ (b : Bool). keys_with (b || list_any (same_key key) (others first keys)) key (first ∷ others first keys)) is
+    ∙ sym (ap (λ (b : Bool). keys_with (b || list_any (same_key key) (others first keys)) key
+    (first ∷ others first keys)) is
     ∙ ap (λ (b : Bool). keys_with b key (first ∷ others first keys)) (any_other key first keys is))
 
-pub keys_step : (lsas : List Lsa) (x : Lsa) → keys_in (lsas ++ x ∷ []) ≡ keys_with (list_any (same_key (key_of x)) (keys_in lsas)) (key_of x) (keys_in lsas)
+pub keys_step : (lsas : List Lsa) (x : Lsa)
+    → keys_in (lsas ++ x ∷ []) ≡ keys_with (list_any (same_key (key_of x)) (keys_in lsas)) (key_of x) (keys_in lsas)
 keys_step [] x = refl
 keys_step (l ∷ lsas) x =
     ap (λ (ks : List Key). key_of l ∷ others (key_of l) ks) (keys_step lsas x)
@@ -84,21 +93,24 @@ abbrev pub AreDistinct : List Key → Type 0
 AreDistinct [] = Unit {0}
 AreDistinct (key ∷ keys) = (list_any (same_key key) keys ≡ false) × AreDistinct keys
 
-distinct_by : (b : Bool) (first key : Key) (keys : List Key) → same_key first key ≡ b → list_any (same_key key) keys ≡ false → AreDistinct (others first keys)
+distinct_by : (b : Bool) (first key : Key) (keys : List Key) → same_key first key ≡ b
+    → list_any (same_key key) keys ≡ false → AreDistinct (others first keys)
     → AreDistinct (cond (not b) (key ∷ others first keys) (others first keys))
 distinct_by true first key keys is none rest = rest
 distinct_by false first key keys is none rest = (first_is_there (same_key key first) key first keys refl none, rest)
 
 pub distinct_others : (first : Key) (keys : List Key) → AreDistinct keys → AreDistinct (others first keys)
 distinct_others first [] distinct = tt
-distinct_others first (key ∷ keys) distinct = distinct_by (same_key first key) first key keys refl distinct.0 (distinct_others first keys distinct.1)
+distinct_others first (key ∷ keys) distinct = distinct_by (same_key first key) first key keys refl distinct.0
+    (distinct_others first keys distinct.1)
 
 pub none_left : (first : Key) (keys : List Key) → list_any (same_key first) (others first keys) ≡ false
 none_left first keys = any-filter_same (same_key first) (λ k. not (same_key first k)) false (λ k told. ap not told) keys
 
 pub keys_distinct : (lsas : List Lsa) → AreDistinct (keys_in lsas)
 keys_distinct [] = tt
-keys_distinct (l ∷ lsas) = (none_left (key_of l) (keys_in lsas), distinct_others (key_of l) (keys_in lsas) (keys_distinct lsas))
+keys_distinct (l ∷ lsas) =
+    (none_left (key_of l) (keys_in lsas), distinct_others (key_of l) (keys_in lsas) (keys_distinct lsas))
 
 -- each key has an instance in the list
 abbrev pub HaveInstances : List Lsa → List Key → Type 0
@@ -108,23 +120,29 @@ or_later : (a b : Bool) → b ≡ true → (a || b) ≡ true
 or_later true b h = refl
 or_later false b h = h
 
-more_by : (b : Bool) (l : Lsa) (lsas : List Lsa) (first key : Key) (keys : List Key) → list_any (is_of key) lsas ≡ true → HaveInstances (l ∷ lsas) (others first keys)
+more_by : (b : Bool) (l : Lsa) (lsas : List Lsa) (first key : Key) (keys : List Key)
+    → list_any (is_of key) lsas ≡ true → HaveInstances (l ∷ lsas) (others first keys)
     → HaveInstances (l ∷ lsas) (cond (not b) (key ∷ others first keys) (others first keys))
 more_by true l lsas first key keys is rest = rest
 more_by false l lsas first key keys is rest = (or_later (is_of key l) _ is, rest)
 
-more_instances : (l : Lsa) (lsas : List Lsa) (first : Key) (keys : List Key) → HaveInstances lsas keys → HaveInstances (l ∷ lsas) (others first keys)
+more_instances : (l : Lsa) (lsas : List Lsa) (first : Key) (keys : List Key) → HaveInstances lsas keys
+    → HaveInstances (l ∷ lsas) (others first keys)
 more_instances l lsas first [] have = tt
 more_instances l lsas first (key ∷ keys) have =
     more_by (same_key first key) l lsas first key keys have.0 (more_instances l lsas first keys have.1)
 
 pub have_instances : (lsas : List Lsa) → HaveInstances lsas (keys_in lsas)
 have_instances [] = tt
-have_instances (l ∷ lsas) =
-    (ap (λ (b : Bool). b || list_any (is_of (key_of l)) lsas) (own_key (key_of l)), more_instances l lsas (key_of l) (keys_in lsas) (have_instances lsas))
+have_instances (l ∷ lsas) = (
+  ap (λ (b : Bool). b || list_any (is_of (key_of l)) lsas) (own_key (key_of l)),
+  more_instances l lsas (key_of l)
+      (keys_in lsas) (have_instances lsas),
+)
 
 -- a key is among the keys of a list where it has an instance there
-any_by : (b : Bool) (key first : Key) (keys : List Key) (rest : Bool) → same_key key first ≡ b → list_any (same_key key) keys ≡ rest
+any_by : (b : Bool) (key first : Key) (keys : List Key) (rest : Bool) → same_key key first ≡ b
+    → list_any (same_key key) keys ≡ rest
     → (b || list_any (same_key key) (others first keys)) ≡ (b || rest)
 any_by true key first keys rest is same = refl
 any_by false key first keys rest is same = any_other key first keys is ∙ same

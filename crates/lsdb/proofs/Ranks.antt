@@ -10,7 +10,8 @@ use Rattle.lsdb.specs.Rank.{rank_cmp, is_at_max_age, outranks}
 
 pub ranks_total : IsTotalOrder rank_cmp
 ranks_total =
-    then_total (then_total (on_total (λ (l : Lsa). l.sequence) int_cmp_total) (on_total (λ (l : Lsa). l.checksum) nat_cmp_total)) (on_total is_at_max_age bool_cmp_total)
+    then_total (then_total (on_total (λ (l : Lsa). l.sequence) int_cmp_total)
+    (on_total (λ (l : Lsa). l.checksum) nat_cmp_total)) (on_total is_at_max_age bool_cmp_total)
 
 pub flipped : (x y : Lsa) (r : Ordering) → rank_cmp x y ≡ r → rank_cmp y x ≡ ordering_reverse r
 flipped x y r is = ranks_total.antisymm y x ∙ ap ordering_reverse is
@@ -32,7 +33,8 @@ pub greater_trans : (a b c : Lsa) → rank_cmp a b ≡ Greater → rank_cmp b c 
 greater_trans a b c ab bc = flipped c a Less (ranks_total.trans c b a (flipped b c Greater bc) (flipped a b Greater ab))
 
 -- what is above one that is not outranked by a third is above the third
-above_by : (r : Ordering) (x l m : Lsa) → rank_cmp l m ≡ r → is_gt r ≡ false → rank_cmp x m ≡ Greater → rank_cmp x l ≡ Greater
+above_by : (r : Ordering) (x l m : Lsa) → rank_cmp l m ≡ r → is_gt r ≡ false → rank_cmp x m ≡ Greater
+    → rank_cmp x l ≡ Greater
 above_by Less x l m is free xm = greater_trans x m l xm (flipped l m Less is)
 above_by Equal x l m is free xm = flipped l x Less (ranks_total.congr l m x is ∙ flipped x m Greater xm)
 above_by Greater x l m is free xm = absurd cc
@@ -45,4 +47,5 @@ same_above x m l is = ap is_gt (ranks_total.congr x m l is)
 
 pub same_below : (x m l : Lsa) → rank_cmp x m ≡ Equal → outranks l x ≡ outranks l m
 same_below x m l is =
-    ap is_gt (ranks_total.antisymm l x ∙ ap ordering_reverse (ranks_total.congr x m l is) ∙ sym (ranks_total.antisymm l m))
+    ap is_gt (ranks_total.antisymm l x ∙ ap ordering_reverse (ranks_total.congr x m l is)
+    ∙ sym (ranks_total.antisymm l m))

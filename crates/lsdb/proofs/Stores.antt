@@ -18,33 +18,42 @@ use Rattle.lsdb.specs.Installing.{change_of, changed, installed, noted, IsKept}
 use Rattle.lsdb.specs.Keys.{key_of, same_key}
 use Rattle.lsdb.specs.Store.{entries_of, IsStore, IsEntryOf, is_entry_of}
 
-pub lsas_of_entries : (lsas : List Lsa) (places : List (Option ℕ)) → length places ≡ length lsas → map (λ (entry : Entry). entry.lsa) (entries_of lsas places) ≡ lsas
+pub lsas_of_entries : (lsas : List Lsa) (places : List (Option ℕ)) → length places ≡ length lsas
+    → map (λ (entry : Entry). entry.lsa) (entries_of lsas places) ≡ lsas
 lsas_of_entries [] places even = refl
 lsas_of_entries (lsa ∷ lsas) [] even = absurd (omega (arith, even))
-lsas_of_entries (lsa ∷ lsas) (place ∷ places) even = ap (λ (rest : List Lsa). lsa ∷ rest) (lsas_of_entries lsas places (omega (arith, even)))
+lsas_of_entries (lsa ∷ lsas) (place ∷ places) even =
+    ap (λ (rest : List Lsa). lsa ∷ rest) (lsas_of_entries lsas places (omega (arith, even)))
 
-pub entries_set : (lsas : List Lsa) (places : List (Option ℕ)) (i : ℕ) (lsa : Lsa) (place : Option ℕ) → length places ≡ length lsas
-    → entries_of (set lsas i lsa) (set places i place) ≡ set (entries_of lsas places) i (record { lsa = lsa; differing = place })
+pub entries_set : (lsas : List Lsa) (places : List (Option ℕ)) (i : ℕ) (lsa : Lsa) (place : Option ℕ)
+    → length places ≡ length lsas
+    → entries_of (set lsas i lsa) (set places i place) ≡ set (entries_of lsas places) i
+    (record { lsa = lsa; differing = place })
 entries_set [] places i lsa place even = refl
 entries_set (x ∷ lsas) [] i lsa place even = absurd (omega (arith, even))
 entries_set (x ∷ lsas) (p ∷ places) zero lsa place even = refl
 entries_set (x ∷ lsas) (p ∷ places) (suc i) lsa place even =
-    ap (λ (rest : List Entry). record { lsa = x; differing = p } ∷ rest) (entries_set lsas places i lsa place (omega (arith, even)))
+    ap (λ (rest : List Entry). record { lsa = x; differing = p } ∷ rest)
+    (entries_set lsas places i lsa place (omega (arith, even)))
 
-pub entries_added : (lsas : List Lsa) (places : List (Option ℕ)) (lsa : Lsa) (place : Option ℕ) → length places ≡ length lsas
-    → entries_of (lsas ++ lsa ∷ []) (places ++ place ∷ []) ≡ entries_of lsas places ++ record { lsa = lsa; differing = place } ∷ []
+pub entries_added : (lsas : List Lsa) (places : List (Option ℕ)) (lsa : Lsa) (place : Option ℕ)
+    → length places ≡ length lsas
+    → entries_of (lsas ++ lsa ∷ []) (places ++ place ∷ [])
+    ≡ entries_of lsas places ++ record { lsa = lsa; differing = place } ∷ []
 entries_added [] [] lsa place even = refl
 entries_added [] (p ∷ places) lsa place even = absurd (omega (arith, even))
 entries_added (x ∷ lsas) [] lsa place even = absurd (omega (arith, even))
 entries_added (x ∷ lsas) (p ∷ places) lsa place even =
-    ap (λ (rest : List Entry). record { lsa = x; differing = p } ∷ rest) (entries_added lsas places lsa place (omega (arith, even)))
+    ap (λ (rest : List Entry). record { lsa = x; differing = p } ∷ rest)
+    (entries_added lsas places lsa place (omega (arith, even)))
 
 -- the parts of an entry
 pub record Parts (lsas : List Lsa) (places : List (Option ℕ)) (i : ℕ) (entry : Entry) : Type 0 where
   pub lsa : slice_get lsas i ≡ Some entry.lsa
   pub place : slice_get places i ≡ Some entry.differing
 
-pub parts_of : (lsas : List Lsa) (places : List (Option ℕ)) (i : ℕ) (entry : Entry) → slice_get (entries_of lsas places) i ≡ Some entry → Parts lsas places i entry
+pub parts_of : (lsas : List Lsa) (places : List (Option ℕ)) (i : ℕ) (entry : Entry)
+    → slice_get (entries_of lsas places) i ≡ Some entry → Parts lsas places i entry
 parts_of [] places i entry there = absurd cc
 parts_of (lsa ∷ lsas) [] i entry there = absurd cc
 parts_of (lsa ∷ lsas) (place ∷ places) zero entry there =
@@ -55,31 +64,41 @@ parts_of (lsa ∷ lsas) (place ∷ places) (suc i) entry there =
 
 -- writing what is there changes nothing
 pub set_there : {X : Type 0} (xs : List X) (i : ℕ) (x : X) → slice_get xs i ≡ Some x → set xs i x ≡ xs
-set_there {X = X} xs i x there = subst (λ (y : X). set xs i y ≡ xs) (get_or_from_slice_get xs i x x there) (set-get_or xs i x)
+set_there {X = X} xs i x there = subst (λ (y : X). set xs i y ≡ xs) (get_or_from_slice_get xs i x x there)
+    (set-get_or xs i x)
 
 -- where a place is noted, it stays
-pub stays : (places : List (Option ℕ)) (i at : ℕ) (found : Option ℕ) → is_some found ≡ true → found ≡ get_or places i found
-    → (place : Option ℕ) → slice_get places i ≡ Some place → places ≡ set places i (if is_some place then place else Some at)
+pub stays : (places : List (Option ℕ)) (i at : ℕ) (found : Option ℕ) → is_some found ≡ true
+    → found ≡ get_or places i found
+    → (place : Option ℕ) → slice_get places i ≡ Some place
+    → places ≡ set places i (if is_some place then place else Some at)
 stays places i at found some found_is None there =
     let none : found ≡ None = found_is ∙ get_or_from_slice_get places i None found there in
     let quiet : is_some found ≡ false = ap is_some none in absurd cc
 stays places i at found some found_is (Some p) there = sym (set_there places i (Some p) there)
 
 -- noting the place of a differing instance
-pub noted_at : (lsas : List Lsa) (places places' : List (Option ℕ)) (i at : ℕ) (entry : Entry) → length places ≡ length lsas
-    → ((place : Option ℕ) → slice_get places i ≡ Some place → places' ≡ set places i (if is_some place then place else Some at))
-    → slice_get (entries_of lsas places) i ≡ Some entry → entries_of lsas places' ≡ set (entries_of lsas places) i (noted entry at)
+pub noted_at : (lsas : List Lsa) (places places' : List (Option ℕ)) (i at : ℕ) (entry : Entry)
+    → length places ≡ length lsas
+    → ((place : Option ℕ) → slice_get places i ≡ Some place
+    → places' ≡ set places i (if is_some place then place else Some at))
+    → slice_get (entries_of lsas places) i ≡ Some entry
+    → entries_of lsas places' ≡ set (entries_of lsas places) i (noted entry at)
 noted_at lsas places places' i at entry even written there =
     let parts = parts_of lsas places i entry there in
     rw (written entry.differing parts.place)
-    (subst (λ (l : List Lsa). entries_of l (set places i (if is_some entry.differing then entry.differing else Some at)) ≡ set (entries_of lsas places) i (noted entry at))
+    (subst (λ (l : List Lsa). entries_of l
+    (set places i (if is_some entry.differing then entry.differing else Some at))
+    ≡ set (entries_of lsas places) i (noted entry at))
     (set_there lsas i entry.lsa parts.lsa)
     (entries_set lsas places i entry.lsa (if is_some entry.differing then entry.differing else Some at) even))
 
 -- another instance of a key has the same key
-pub keys_set : (lsas : List Lsa) (i : ℕ) (lsa : Lsa) → slice_get (map key_of lsas) i ≡ Some (key_of lsa) → map key_of (set lsas i lsa) ≡ map key_of lsas
+pub keys_set : (lsas : List Lsa) (i : ℕ) (lsa : Lsa) → slice_get (map key_of lsas) i ≡ Some (key_of lsa)
+    → map key_of (set lsas i lsa) ≡ map key_of lsas
 keys_set [] i lsa there = refl
-keys_set (x ∷ lsas) zero lsa there = ap (λ (key : Key). key ∷ map key_of lsas) (sym (same_Some (key_of x) (key_of lsa) there))
+keys_set (x ∷ lsas) zero lsa there =
+    ap (λ (key : Key). key ∷ map key_of lsas) (sym (same_Some (key_of x) (key_of lsa) there))
 keys_set (x ∷ lsas) (suc i) lsa there = ap (λ (rest : List Key). key_of x ∷ rest) (keys_set lsas i lsa there)
 
 -- an instance of the key stands at the place
@@ -87,25 +106,31 @@ pub record Standing (lsas : List Lsa) (key : Key) (i : ℕ) : Type 0 where
   pub inside : i < length lsas
   pub keyed : slice_get (map key_of lsas) i ≡ Some key
 
-pub standing : (lsas : List Lsa) (places : List (Option ℕ)) (key : Key) (i : ℕ) → IsEntryOf key (slice_get (entries_of lsas places) i) → Standing lsas key i
+pub standing : (lsas : List Lsa) (places : List (Option ℕ)) (key : Key) (i : ℕ)
+    → IsEntryOf key (slice_get (entries_of lsas places) i) → Standing lsas key i
 standing [] places key i there = absurd there
 standing (x ∷ lsas) [] key i there = absurd there
-standing (x ∷ lsas) (p ∷ places) key zero there = record { inside = omega arith; keyed = ap (λ (k : Key). Some k) there }
+standing (x ∷ lsas) (p ∷ places) key zero there =
+    record { inside = omega arith; keyed = ap (λ (k : Key). Some k) there }
 standing (x ∷ lsas) (p ∷ places) key (suc i) there =
     let rest = standing lsas places key i there in record { inside = omega (arith, rest.inside); keyed = rest.keyed }
 
 -- the instance that an index gives is that of the entry
-pub instance_of : (lsas : List Lsa) (places : List (Option ℕ)) (i : ℕ) (entry : Entry) (found : Lsa) → found ≡ get_or lsas i found
+pub instance_of : (lsas : List Lsa) (places : List (Option ℕ)) (i : ℕ) (entry : Entry) (found : Lsa)
+    → found ≡ get_or lsas i found
     → slice_get (entries_of lsas places) i ≡ Some entry → found ≡ entry.lsa
-instance_of lsas places i entry found is there = is ∙ get_or_from_slice_get lsas i entry.lsa found (parts_of lsas places i entry there).lsa
+instance_of lsas places i entry found is there = is
+    ∙ get_or_from_slice_get lsas i entry.lsa found (parts_of lsas places i entry there).lsa
 
 -- a database of these entries, to which this place was the last
 abbrev pub holding : List Entry → ℕ → Database
 holding es at = record { entries = es; greatest = Some at }
 
 -- the database after an instance met the entry of its key
-pub met_database : (db : Database) (es new : List Entry) (i : ℕ) (entry : Entry) (lsa : Lsa) (change change' : Change) → es ≡ db.entries → change ≡ change'
-    → new ≡ set es i (changed entry lsa change) → holding new lsa.at ≡ holding (set db.entries i (changed entry lsa change')) lsa.at
+pub met_database : (db : Database) (es new : List Entry) (i : ℕ) (entry : Entry) (lsa : Lsa)
+    (change change' : Change) → es ≡ db.entries → change ≡ change'
+    → new ≡ set es i (changed entry lsa change)
+    → holding new lsa.at ≡ holding (set db.entries i (changed entry lsa change')) lsa.at
 met_database db es new i entry lsa change change' same same_change is =
     ap (λ (n : List Entry). holding n lsa.at) is
     ∙ ap (λ (c : Change). holding (set es i (changed entry lsa c)) lsa.at) same_change
@@ -120,21 +145,25 @@ key_is one other h =
     let id : other.id ≡ one.id = sym (eqb-true _ _ second.0) in
     let router : other.router ≡ one.router = sym (eqb-true _ _ second.1) in
     let make : ℕ → ℕ → ℕ → Key = λ k i r. record { kind = k; id = i; router = r } in
-    ap (λ (k : ℕ). make k other.id other.router) kind ∙ ap (λ (i : ℕ). make one.kind i other.router) id ∙ ap (λ (r : ℕ). make one.kind one.id r) router
+    ap (λ (k : ℕ). make k other.id other.router) kind ∙ ap (λ (i : ℕ). make one.kind i other.router) id
+    ∙ ap (λ (r : ℕ). make one.kind one.id r) router
 
 -- the first entry of a key
 pub record Found (key : Key) (entries : List Entry) (i : ℕ) : Type 0 where
   pub entry : Entry
   pub there : slice_get entries i ≡ Some entry
   pub same : same_key key (key_of entry.lsa) ≡ true
-  pub first : (k : ℕ) (other : Entry) → k < i → slice_get entries k ≡ Some other → same_key key (key_of other.lsa) ≡ false
+  pub first : (k : ℕ) (other : Entry) → k < i → slice_get entries k ≡ Some other
+      → same_key key (key_of other.lsa) ≡ false
 
-key_at : (es : List Entry) (i : ℕ) (entry : Entry) (d : Key) → slice_get es i ≡ Some entry → get_or (map (λ (e : Entry). key_of e.lsa) es) i d ≡ key_of entry.lsa
+key_at : (es : List Entry) (i : ℕ) (entry : Entry) (d : Key) → slice_get es i ≡ Some entry
+    → get_or (map (λ (e : Entry). key_of e.lsa) es) i d ≡ key_of entry.lsa
 key_at es i entry d there =
     get_or_from_slice_get (map (λ (e : Entry). key_of e.lsa) es) i (key_of entry.lsa) d
     (slice_get-map (λ (e : Entry). key_of e.lsa) es i ∙ ap (option_map (λ (e : Entry). key_of e.lsa)) there)
 
-found_in : (key : Key) (es : List Entry) (i : ℕ) → position (same_key key) (map (λ (e : Entry). key_of e.lsa) es) ≡ Some i → Found key es i
+found_in : (key : Key) (es : List Entry) (i : ℕ)
+    → position (same_key key) (map (λ (e : Entry). key_of e.lsa) es) ≡ Some i → Found key es i
 found_in key es i is =
     let at = position-Some (same_key key) (map (λ (e : Entry). key_of e.lsa) es) i key is in
     elim ((slice_get_cases es i).1) [
@@ -142,18 +171,23 @@ found_in key es i is =
         entry = here.0;
         there = here.2;
         same = subst (λ (k : Key). same_key key k ≡ true) (key_at es i here.0 key here.2) at.1;
-        first = λ k other lt there. subst (λ (n : Key). same_key key n ≡ false) (key_at es k other key there) (at.2 k lt);
+        first = λ k other lt there. subst (λ (n : Key). same_key key n ≡ false) (key_at es k other key there)
+            (at.2 k lt);
       }
       | inr past ↦ absurd (omega (arith, length-map es (λ (e : Entry). key_of e.lsa), at.0, past.0))
     ]
 
-keys_of_entries : (lsas : List Lsa) (places : List (Option ℕ)) → length places ≡ length lsas → map (λ (e : Entry). key_of e.lsa) (entries_of lsas places) ≡ map key_of lsas
+keys_of_entries : (lsas : List Lsa) (places : List (Option ℕ)) → length places ≡ length lsas
+    → map (λ (e : Entry). key_of e.lsa) (entries_of lsas places) ≡ map key_of lsas
 keys_of_entries [] places even = refl
 keys_of_entries (x ∷ lsas) [] even = absurd (omega (arith, even))
-keys_of_entries (x ∷ lsas) (p ∷ places) even = ap (λ (rest : List Key). key_of x ∷ rest) (keys_of_entries lsas places (omega (arith, even)))
+keys_of_entries (x ∷ lsas) (p ∷ places) even =
+    ap (λ (rest : List Key). key_of x ∷ rest) (keys_of_entries lsas places (omega (arith, even)))
 
-pub found_at : (key : Key) (keys : List Key) (lsas : List Lsa) (places : List (Option ℕ)) (i : ℕ) (db : Database) (lsa : Lsa) → key ≡ key_of lsa
-    → IsStore keys lsas places → entries_of lsas places ≡ db.entries → Some i ≡ position (same_key key) keys → Found (key_of lsa) db.entries i
+pub found_at : (key : Key) (keys : List Key) (lsas : List Lsa) (places : List (Option ℕ)) (i : ℕ) (db : Database)
+    (lsa : Lsa) → key ≡ key_of lsa
+    → IsStore keys lsas places → entries_of lsas places ≡ db.entries → Some i ≡ position (same_key key) keys
+    → Found (key_of lsa) db.entries i
 found_at key keys lsas places i db lsa is store same at =
     subst (λ (k : Key). Found k db.entries i) is
     (subst (λ (es : List Entry). Found key es i) same
@@ -161,13 +195,16 @@ found_at key keys lsas places i db lsa is store same at =
     (ap (position (same_key key)) (keys_of_entries lsas places store.noted ∙ sym store.keyed) ∙ sym at)))
 
 pub found_is_of : (key : Key) (es : List Entry) (i : ℕ) → Found key es i → IsEntryOf key (slice_get es i)
-found_is_of key es i found = subst (λ (o : Option Entry). IsEntryOf key o) (sym found.there) (key_is key (key_of found.entry.lsa) found.same)
+found_is_of key es i found = subst (λ (o : Option Entry). IsEntryOf key o) (sym found.there)
+    (key_is key (key_of found.entry.lsa) found.same)
 
-any_of_keys : (key : Key) (es : List Entry) → list_any (is_entry_of key) es ≡ list_any (same_key key) (map (λ (e : Entry). key_of e.lsa) es)
+any_of_keys : (key : Key) (es : List Entry)
+    → list_any (is_entry_of key) es ≡ list_any (same_key key) (map (λ (e : Entry). key_of e.lsa) es)
 any_of_keys key [] = refl
 any_of_keys key (e ∷ es) = ap (λ (b : Bool). same_key key (key_of e.lsa) || b) (any_of_keys key es)
 
-pub lacking : (key : Key) (keys : List Key) (lsas : List Lsa) (places : List (Option ℕ)) (db : Database) → IsStore keys lsas places
+pub lacking : (key : Key) (keys : List Key) (lsas : List Lsa) (places : List (Option ℕ)) (db : Database)
+    → IsStore keys lsas places
     → entries_of lsas places ≡ db.entries → list_any (is_entry_of key) db.entries ≡ list_any (same_key key) keys
 lacking key keys lsas places db store same =
     ap (list_any (is_entry_of key)) (sym same) ∙ any_of_keys key (entries_of lsas places)
@@ -189,36 +226,46 @@ installed_new (e ∷ es) lsa none =
     unchosen (same_key (key_of lsa) (key_of e.lsa)) _ _ parts.0
     ∙ ap (λ (r : List Entry × Change). (e ∷ r.0, r.1)) (installed_new es lsa parts.1)
 
-pub installed_there : (es : List Entry) (lsa : Lsa) (i : ℕ) (entry : Entry) → slice_get es i ≡ Some entry → same_key (key_of lsa) (key_of entry.lsa) ≡ true
+pub installed_there : (es : List Entry) (lsa : Lsa) (i : ℕ) (entry : Entry) → slice_get es i ≡ Some entry
+    → same_key (key_of lsa) (key_of entry.lsa) ≡ true
     → ((k : ℕ) (other : Entry) → k < i → slice_get es k ≡ Some other → same_key (key_of lsa) (key_of other.lsa) ≡ false)
     → installed es lsa ≡ (set es i (changed entry lsa (change_of entry.lsa lsa)), change_of entry.lsa lsa)
 installed_there [] lsa i entry there same first = absurd cc
 installed_there (e ∷ es) lsa zero entry there same first =
     let is : e ≡ entry = same_Some e entry there in
-    subst (λ (x : Entry). installed (x ∷ es) lsa ≡ (changed entry lsa (change_of entry.lsa lsa) ∷ es, change_of entry.lsa lsa)) (sym is)
+    subst (λ (x : Entry). installed (x ∷ es) lsa
+    ≡ (changed entry lsa (change_of entry.lsa lsa) ∷ es, change_of entry.lsa lsa)) (sym is)
     (chosen (same_key (key_of lsa) (key_of entry.lsa)) _ _ same)
 installed_there (e ∷ es) lsa (suc i) entry there same first =
     unchosen (same_key (key_of lsa) (key_of e.lsa)) _ _ (first 0 e (omega arith) refl)
-    ∙ ap (λ (r : List Entry × Change). (e ∷ r.0, r.1)) (installed_there es lsa i entry there same (λ k other lt at. first (suc k) other (omega (arith, lt)) at))
+    ∙ ap (λ (r : List Entry × Change). (e ∷ r.0, r.1))
+    (installed_there es lsa i entry there same (λ k other lt at. first (suc k) other (omega (arith, lt)) at))
 
-kept_more : (lsas : List Lsa) (lsa : Lsa) → AllByRecursion IsKept lsas → IsKept lsa → AllByRecursion IsKept (lsas ++ lsa ∷ [])
+kept_more : (lsas : List Lsa) (lsa : Lsa) → AllByRecursion IsKept lsas → IsKept lsa
+    → AllByRecursion IsKept (lsas ++ lsa ∷ [])
 kept_more [] lsa kept more = (more, tt)
 kept_more (x ∷ lsas) lsa kept more = (kept.0, kept_more lsas lsa kept.1 more)
 
 key_equiv : IsEquivalence same_key
 key_equiv =
-    and_equiv (on_equiv (λ (k : Key). k.kind) nat_eq_equiv) (and_equiv (on_equiv (λ (k : Key). k.id) nat_eq_equiv) (on_equiv (λ (k : Key). k.router) nat_eq_equiv))
+    and_equiv (on_equiv (λ (k : Key). k.kind) nat_eq_equiv)
+    (and_equiv (on_equiv (λ (k : Key). k.id) nat_eq_equiv) (on_equiv (λ (k : Key). k.router) nat_eq_equiv))
 
 -- the parts after an instance of a new key
-pub store_added : (keys keys' : List Key) (lsas lsas' : List Lsa) (places places' : List (Option ℕ)) (key : Key) (lsa : Lsa) → IsStore keys lsas places
-    → keys' ≡ (if list_any (same_key key) keys then keys else keys ++ key ∷ []) → list_any (same_key key) keys ≡ false → key ≡ key_of lsa
+pub store_added : (keys keys' : List Key) (lsas lsas' : List Lsa) (places places' : List (Option ℕ)) (key : Key)
+    (lsa : Lsa) → IsStore keys lsas places
+    → keys' ≡ (if list_any (same_key key) keys then keys else keys ++ key ∷ [])
+    → list_any (same_key key) keys ≡ false → key ≡ key_of lsa
     → lsas' ≡ lsas ++ lsa ∷ [] → places' ≡ places ++ None ∷ [] → IsKept lsa → IsStore keys' lsas' places'
 store_added keys keys' lsas lsas' places places' key lsa store inserted none is added noted_none kept = record {
   distinct = subst (IsDistinct same_key) (sym (ap (map key_of) added ∙ map-append key_of lsas (lsa ∷ [])))
       (IsDistinct-push key_equiv (map key_of lsas) (key_of lsa) store.distinct
-      (ap (list_any (same_key (key_of lsa))) (sym store.keyed) ∙ ap (λ (k : Key). list_any (same_key k) keys) (sym is) ∙ none));
+      (ap (list_any (same_key (key_of lsa))) (sym store.keyed)
+      ∙ ap (λ (k : Key). list_any (same_key k) keys) (sym is) ∙ none));
   keyed = inserted ∙ unchosen (list_any (same_key key) keys) _ _ none ∙ ap (λ (k : Key). keys ++ k ∷ []) is
-      ∙ ap (λ (ks : List Key). ks ++ key_of lsa ∷ []) store.keyed ∙ sym (map-append key_of lsas (lsa ∷ [])) ∙ ap (map key_of) (sym added);
-  noted = ap length noted_none ∙ length-append places (None ∷ []) ∙ ap (λ (n : ℕ). n + 1) store.noted ∙ sym (length-append lsas (lsa ∷ [])) ∙ ap length (sym added);
+      ∙ ap (λ (ks : List Key). ks ++ key_of lsa ∷ []) store.keyed ∙ sym (map-append key_of lsas (lsa ∷ []))
+      ∙ ap (map key_of) (sym added);
+  noted = ap length noted_none ∙ length-append places (None ∷ []) ∙ ap (λ (n : ℕ). n + 1) store.noted
+      ∙ sym (length-append lsas (lsa ∷ [])) ∙ ap length (sym added);
   kept = subst (AllByRecursion IsKept) (sym added) (kept_more lsas lsa store.kept kept);
 }

@@ -17,7 +17,8 @@ use Rattle.lsdb.specs.Orders.{timeless}
 use Rattle.lsdb.specs.Rank.{is_at_max_age, outranks, rank_cmp}
 use Rattle.lsdb.proofs.Ranks.{flipped}
 
-list_is : {A : Type 0} (test : A → A → Bool) → ((a b : A) → test a b ≡ true → a ≡ b) → (xs ys : List A) → pointwise test xs ys ≡ true → xs ≡ ys
+list_is : {A : Type 0} (test : A → A → Bool) → ((a b : A) → test a b ≡ true → a ≡ b) → (xs ys : List A)
+    → pointwise test xs ys ≡ true → xs ≡ ys
 list_is test is [] [] h = refl
 list_is test is [] (y ∷ ys) h = absurd cc
 list_is test is (x ∷ xs) [] h = absurd cc
@@ -31,7 +32,8 @@ link_is a b h =
     let second = and_parts _ _ first.1 in
     let third = and_parts _ _ second.1 in
     let fourth = and_parts _ _ third.1 in
-    let make : ℕ → ℕ → ℕ → ℕ → List ℕ → RouterLink = λ i d k m t. record { id = i; link_data = d; kind = k; metric = m; tos = t } in
+    let make : ℕ → ℕ → ℕ → ℕ → List ℕ
+    → RouterLink = λ i d k m t. record { id = i; link_data = d; kind = k; metric = m; tos = t } in
     ap (λ (i : ℕ). make i a.link_data a.kind a.metric a.tos) (eqb-true _ _ first.0)
     ∙ ap (λ (d : ℕ). make b.id d a.kind a.metric a.tos) (eqb-true _ _ second.0)
     ∙ ap (λ (k : ℕ). make b.id b.link_data k a.metric a.tos) (eqb-true _ _ third.0)
@@ -49,14 +51,16 @@ body_is (Router f s l) (Other b) h = absurd cc
 body_is (Network m r) (Router f s l) h = absurd cc
 body_is (Network m r) (Network m' r') h =
     let first = and_parts _ _ h in
-    ap (λ (x : ℕ). Network x r) (eqb-true m m' first.0) ∙ ap (λ (x : List ℕ). Network m' x) (list_is nat_eq eqb-true r r' first.1)
+    ap (λ (x : ℕ). Network x r) (eqb-true m m' first.0)
+    ∙ ap (λ (x : List ℕ). Network m' x) (list_is nat_eq eqb-true r r' first.1)
 body_is (Network m r) (Other b) h = absurd cc
 body_is (Other b) (Router f s l) h = absurd cc
 body_is (Other b) (Network m r) h = absurd cc
 body_is (Other b) (Other b') h = ap (λ (x : List ℕ). Other x) (list_is nat_eq eqb-true b b' h)
 
 -- instances that differ in nothing but place and age are one, with one place and one age
-same_parts : (a b : Lsa) (at age : ℕ) → same_but_age a b ≡ true → record a { at = at; age = age } ≡ record b { at = at; age = age }
+same_parts : (a b : Lsa) (at age : ℕ) → same_but_age a b ≡ true
+    → record a { at = at; age = age } ≡ record b { at = at; age = age }
 same_parts a b at age same =
     let to_body = and_parts _ _ same in
     let to_checksum = and_parts _ _ to_body.0 in
@@ -65,26 +69,31 @@ same_parts a b at age same =
     let to_id = and_parts _ _ to_router.0 in
     let to_kind = and_parts _ _ to_id.0 in
     let make : ℕ → ℕ → ℕ → ℕ → ℤ → ℕ → Body → Lsa =
-    λ o k i r s c y. record { at = at; age = age; options = o; kind = k; id = i; router = r; sequence = s; checksum = c; body = y } in
+    λ o k i r s c y. record
+    { at = at; age = age; options = o; kind = k; id = i; router = r; sequence = s; checksum = c; body = y } in
     ap (λ (o : ℕ). make o a.kind a.id a.router a.sequence a.checksum a.body) (eqb-true _ _ to_kind.0)
     ∙ ap (λ (k : ℕ). make b.options k a.id a.router a.sequence a.checksum a.body) (eqb-true _ _ to_kind.1)
     ∙ ap (λ (i : ℕ). make b.options b.kind i a.router a.sequence a.checksum a.body) (eqb-true _ _ to_id.1)
     ∙ ap (λ (r : ℕ). make b.options b.kind b.id r a.sequence a.checksum a.body) (eqb-true _ _ to_router.1)
-    ∙ ap (λ (s : ℤ). make b.options b.kind b.id b.router s a.checksum a.body) ((Decides-int_eq a.sequence b.sequence).0 to_sequence.1)
+    ∙ ap (λ (s : ℤ). make b.options b.kind b.id b.router s a.checksum a.body)
+    ((Decides-int_eq a.sequence b.sequence).0 to_sequence.1)
     ∙ ap (λ (c : ℕ). make b.options b.kind b.id b.router b.sequence c a.body) (eqb-true _ _ to_checksum.1)
     ∙ ap (λ (y : Body). make b.options b.kind b.id b.router b.sequence b.checksum y) (body_is _ _ to_body.1)
 
 -- with the same place and the same age they are one
 pub lsa_is : (a b : Lsa) → same_but_age a b ≡ true → a.age ≡ b.age → a.at ≡ b.at → a ≡ b
 lsa_is a b same age at =
-    same_parts a b a.at a.age same ∙ ap (λ (n : ℕ). record b { at = n; age = a.age }) at ∙ ap (λ (n : ℕ). record b { at = b.at; age = n }) age
+    same_parts a b a.at a.age same ∙ ap (λ (n : ℕ). record b { at = n; age = a.age }) at
+    ∙ ap (λ (n : ℕ). record b { at = b.at; age = n }) age
 
 -- both or neither at MaxAge, they differ in nothing but place and the seconds of their age
 pub timeless_is : (a b : Lsa) → same_but_age a b ≡ true → is_at_max_age a ≡ is_at_max_age b → timeless a ≡ timeless b
 timeless_is a b same aged =
-    same_parts a b 0 (if is_at_max_age a then max_age else 0) same ∙ ap (λ (g : Bool). record b { at = 0; age = if g then max_age else 0 }) aged
+    same_parts a b 0 (if is_at_max_age a then max_age else 0) same
+    ∙ ap (λ (g : Bool). record b { at = 0; age = if g then max_age else 0 }) aged
 
-aged_from : (sequence checksum : Ordering) (a b : Bool) → ordering_then (ordering_then sequence checksum) (bool_cmp a b) ≡ Equal → a ≡ b
+aged_from : (sequence checksum : Ordering) (a b : Bool)
+    → ordering_then (ordering_then sequence checksum) (bool_cmp a b) ≡ Equal → a ≡ b
 aged_from Less checksum a b h = absurd cc
 aged_from Greater checksum a b h = absurd cc
 aged_from Equal Less a b h = absurd cc
@@ -96,10 +105,13 @@ aged_from Equal Equal false true h = absurd cc
 
 -- of one rank both are at MaxAge or neither
 pub aged_alike : (a b : Lsa) → rank_cmp a b ≡ Equal → is_at_max_age a ≡ is_at_max_age b
-aged_alike a b h = aged_from (int_cmp a.sequence b.sequence) (nat_cmp a.checksum b.checksum) (is_at_max_age a) (is_at_max_age b) h
+aged_alike a b h = aged_from (int_cmp a.sequence b.sequence) (nat_cmp a.checksum b.checksum) (is_at_max_age a)
+    (is_at_max_age b) h
 
-equal_by : (r : Ordering) (a b : Lsa) → rank_cmp a b ≡ r → outranks a b ≡ false → outranks b a ≡ false → rank_cmp a b ≡ Equal
-equal_by Less a b is ab ba = let back = flipped a b Less is in let told : is_gt (rank_cmp b a) ≡ true = ap is_gt back in absurd cc
+equal_by : (r : Ordering) (a b : Lsa) → rank_cmp a b ≡ r → outranks a b ≡ false → outranks b a ≡ false
+    → rank_cmp a b ≡ Equal
+equal_by Less a b is ab ba = let back = flipped a b Less is in
+    let told : is_gt (rank_cmp b a) ≡ true = ap is_gt back in absurd cc
 equal_by Equal a b is ab ba = is
 equal_by Greater a b is ab ba = let told : is_gt (rank_cmp a b) ≡ true = ap is_gt is in absurd cc
 

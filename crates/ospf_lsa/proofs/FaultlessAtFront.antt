@@ -24,7 +24,8 @@ record IsRecord (bytes : List ℕ) (kind : ℕ) (body : Body) : Type 0 where
   len : length_field bytes ≡ 20 + length (body_text body)
   short : length (body_text body) < 2 ^ 16
 
-no_bad_body : (bytes : List ℕ) (kind : ℕ) (body : Body) → IsRecord bytes kind body → IsOfType kind body → FitsBody body → ¬ HasBadBody bytes
+no_bad_body : (bytes : List ℕ) (kind : ℕ) (body : Body) → IsRecord bytes kind body → IsOfType kind body
+    → FitsBody body → ¬ HasBadBody bytes
 no_bad_body bytes kind (Router flags spare links) is of_type fits bad = elim bad [
   | inl router ↦ router.1 links (record { flags = flags; spare = spare; fits = fits; spelled = is.text })
   | inr network ↦ omega (arith, is.type, of_type, network.0)
@@ -40,14 +41,19 @@ no_bad_body bytes kind (Other other) is of_type fits bad = elim bad [
   | inr network ↦ of_type.1 (sym is.type ∙ network.0)
 ]
 
-same_links : (links others : List RouterLink) (o : Option (List RouterLink)) → o ≡ Some links → o ≡ Some others → links ≡ others
+same_links : (links others : List RouterLink) (o : Option (List RouterLink)) → o ≡ Some links → o ≡ Some others
+    → links ≡ others
 same_links links others o e f = cc
 
-no_zero_metric : (bytes : List ℕ) (kind : ℕ) (body : Body) → IsRecord bytes kind body → IsOfType kind body → FitsBody body → KeepsMetrics body → ¬ HasZeroMetric bytes
+no_zero_metric : (bytes : List ℕ) (kind : ℕ) (body : Body) → IsRecord bytes kind body → IsOfType kind body
+    → FitsBody body → KeepsMetrics body → ¬ HasZeroMetric bytes
 no_zero_metric bytes kind (Router flags spare links) is of_type fits metrics zero =
-    let spells : SpellsLinks (body_bytes bytes) links = record { flags = flags; spare = spare; fits = fits; spelled = is.text } in
+    let spells : SpellsLinks (body_bytes bytes) links =
+    record { flags = flags; spare = spare; fits = fits; spelled = is.text } in
     let short : length (body_bytes bytes) < 2 ^ 16 = subst (λ (t : List ℕ). length t < 2 ^ 16) (sym is.text) is.short in
-    let same : zero.1.0 ≡ links = same_links zero.1.0 links (body_links (body_bytes bytes)) (spelled_found (body_bytes bytes) zero.1.0 short zero.1.1) (spelled_found (body_bytes bytes) links short spells) in
+    let same : zero.1.0 ≡ links = same_links zero.1.0 links (body_links (body_bytes bytes))
+    (spelled_found (body_bytes bytes) zero.1.0 short zero.1.1)
+    (spelled_found (body_bytes bytes) links short spells) in
     let both : true ≡ false = sym zero.1.2 ∙ ap (list_any has_zero_metric) same ∙ metrics in
     absurd cc
 no_zero_metric bytes kind (Network mask routers) is of_type fits metrics zero = omega (arith, is.type, of_type, zero.0)
@@ -57,7 +63,8 @@ no_zero_metric bytes kind (Other other) is of_type fits metrics zero = of_type.0
 pub opposite : (b : Bool) → b ≡ true → b ≡ false → ⊥
 opposite b passes fails = absurd cc
 
-pub no_fault_at_front : (lsa : Lsa) (rest : List ℕ) → IsLsa lsa → (kind : LsaKind) → ¬ HasFault kind (lsa_text lsa ++ rest)
+pub no_fault_at_front : (lsa : Lsa) (rest : List ℕ) → IsLsa lsa → (kind : LsaKind)
+    → ¬ HasFault kind (lsa_text lsa ++ rest)
 no_fault_at_front lsa rest is kind = by_kind kind (at_front lsa rest is)
   where
     so : IsAtFront lsa rest → IsRecord (lsa_text lsa ++ rest) lsa.kind lsa.body
@@ -69,8 +76,12 @@ no_fault_at_front lsa rest is kind = by_kind kind (at_front lsa rest is)
       | inr cut ↦ omega (arith, front.header.within, cut)
     ]
     by_kind kinds.Length front fault = omega (arith, front.header.least, fault)
-    by_kind kinds.Checksum front fault = opposite (is_good (covered_bytes (lsa_text lsa ++ rest)) (checksum_field (lsa_text lsa ++ rest))) front.header.good fault
+    by_kind kinds.Checksum front fault =
+        opposite (is_good (covered_bytes (lsa_text lsa ++ rest)) (checksum_field (lsa_text lsa ++ rest)))
+        front.header.good fault
     by_kind kinds.ReservedSequence front fault = front.header.not_reserved fault
     by_kind kinds.IdMismatch front fault = fault.1 (front.header.own_id fault.0)
-    by_kind kinds.Body front fault = no_bad_body (lsa_text lsa ++ rest) lsa.kind lsa.body (so front) is.of_type is.body fault
-    by_kind kinds.ZeroMetric front fault = no_zero_metric (lsa_text lsa ++ rest) lsa.kind lsa.body (so front) is.of_type is.body is.metrics fault
+    by_kind kinds.Body front fault = no_bad_body (lsa_text lsa ++ rest) lsa.kind lsa.body
+        (so front) is.of_type is.body fault
+    by_kind kinds.ZeroMetric front fault = no_zero_metric (lsa_text lsa ++ rest) lsa.kind lsa.body
+        (so front) is.of_type is.body is.metrics fault

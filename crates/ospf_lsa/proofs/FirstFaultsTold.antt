@@ -24,9 +24,11 @@ use Rattle.ospf_lsa.proofs.Numbers.{bytes_taken, number_fits}
 use Rattle.ospf_lsa.proofs.Records.{IsHeader, header_passes, header_whole}
 
 -- a header without a fault has none of the faults that are told before the body's
-header_none : (place : ℕ) (bytes : List ℕ) → place < 7 → IsHeader bytes → (5 < place → ¬ HasBadBody bytes) → NoneBefore place bytes
+header_none : (place : ℕ) (bytes : List ℕ) → place < 7 → IsHeader bytes → (5 < place → ¬ HasBadBody bytes)
+    → NoneBefore place bytes
 header_none place bytes few is body = record {
-  truncated = λ lt fault. elim fault [ inl cut ↦ omega (arith, is.long, cut) | inr cut ↦ omega (arith, is.within, cut) ];
+  truncated = λ lt fault. elim fault
+      [ inl cut ↦ omega (arith, is.long, cut) | inr cut ↦ omega (arith, is.within, cut) ];
   short = λ lt fault. omega (arith, is.least, fault);
   checksum = λ lt fault. opposite (is_good (covered_bytes bytes) (checksum_field bytes)) is.good fault;
   sequence = λ lt fault. is.not_reserved fault;
@@ -64,7 +66,8 @@ header_first bytes told e = elim (cases_lt (length bytes) 20) [
     })
     | inr within ↦ elim (cases_lt (length_field bytes) 20) [
       | inl little ↦ told_so kinds.Length (length_told bytes long within little) little (record {
-        truncated = λ lt fault. elim fault [ inl cut ↦ omega (arith, long, cut) | inr cut ↦ omega (arith, within, cut) ];
+        truncated = λ lt fault. elim fault
+            [ inl cut ↦ omega (arith, long, cut) | inr cut ↦ omega (arith, within, cut) ];
         short = λ lt. absurd (omega (arith, lt));
         checksum = λ lt. absurd (omega (arith, lt));
         sequence = λ lt. absurd (omega (arith, lt));
@@ -72,32 +75,52 @@ header_first bytes told e = elim (cases_lt (length bytes) 20) [
         body = λ lt. absurd (omega (arith, lt));
         few = omega arith;
       })
-      | inr least ↦ by_checksum (is_good (covered_bytes bytes) (checksum_field bytes)) (record { long = long; within = within; least = least }) refl
+      | inr least ↦ by_checksum (is_good (covered_bytes bytes) (checksum_field bytes))
+          (record { long = long; within = within; least = least }) refl
     ]
   ]
 ]
   where
-    told_so : (kind : LsaKind) → Some kind ≡ header_fault bytes → HasFault kind bytes → NoneBefore (order_of kind) bytes → HasFirstFault told bytes
-    told_so kind is fault none = subst (λ (k : LsaKind). HasFirstFault k bytes) (same_told kind told (header_fault bytes) is e) (first_of kind bytes fault none)
+    told_so : (kind : LsaKind) → Some kind ≡ header_fault bytes → HasFault kind bytes
+        → NoneBefore (order_of kind) bytes → HasFirstFault told bytes
+    told_so kind is fault none =
+        subst (λ (k : LsaKind). HasFirstFault k bytes) (same_told kind told (header_fault bytes) is e)
+        (first_of kind bytes fault none)
 
-    by_id : (whole : IsWhole bytes) → is_good (covered_bytes bytes) (checksum_field bytes) ≡ true → sequence_field bytes ≢ 2 ^ 31 → (type_field bytes ≡ 1) → HasFirstFault told bytes
+    by_id : (whole : IsWhole bytes) → is_good (covered_bytes bytes) (checksum_field bytes) ≡ true
+        → sequence_field bytes ≢ 2 ^ 31 → (type_field bytes ≡ 1) → HasFirstFault told bytes
     by_id whole good kept router = elim (eqb_tells (id_field bytes) (router_field bytes)) [
-      | inl same ↦ absurd (told_none told (header_fault bytes) (header_passes bytes (record { long = whole.long; within = whole.within; least = whole.least; good = good; not_reserved = kept; own_id = λ is. same.1 })) e)
-      | inr other ↦ told_so kinds.IdMismatch (router_told bytes whole good kept router other.1) (router, other.1) (record {
-        truncated = λ lt fault. elim fault [ inl cut ↦ omega (arith, whole.long, cut) | inr cut ↦ omega (arith, whole.within, cut) ];
-        short = λ lt fault. omega (arith, whole.least, fault);
-        checksum = λ lt fault. opposite (is_good (covered_bytes bytes) (checksum_field bytes)) good fault;
-        sequence = λ lt. kept;
-        id = λ lt. absurd (omega (arith, lt));
-        body = λ lt. absurd (omega (arith, lt));
-        few = omega arith;
-      })
+      | inl same ↦
+          absurd (told_none told (header_fault bytes)
+          (header_passes bytes
+          (record {
+            long = whole.long;
+            within = whole.within;
+            least = whole.least;
+            good = good;
+            not_reserved =
+                kept;
+            own_id = λ is. same.1;
+          })) e)
+      | inr other ↦ told_so kinds.IdMismatch (router_told bytes whole good kept router other.1) (router, other.1)
+          (record {
+            truncated = λ lt fault. elim fault
+                [ inl cut ↦ omega (arith, whole.long, cut) | inr cut ↦ omega (arith, whole.within, cut) ];
+            short = λ lt fault. omega (arith, whole.least, fault);
+            checksum = λ lt fault. opposite (is_good (covered_bytes bytes) (checksum_field bytes)) good fault;
+            sequence = λ lt. kept;
+            id = λ lt. absurd (omega (arith, lt));
+            body = λ lt. absurd (omega (arith, lt));
+            few = omega arith;
+          })
     ]
 
-    by_sequence : (whole : IsWhole bytes) → is_good (covered_bytes bytes) (checksum_field bytes) ≡ true → HasFirstFault told bytes
+    by_sequence : (whole : IsWhole bytes) → is_good (covered_bytes bytes) (checksum_field bytes) ≡ true
+        → HasFirstFault told bytes
     by_sequence whole good = elim (eqb_tells (sequence_field bytes) (2 ^ 31)) [
       | inl reserved ↦ told_so kinds.ReservedSequence (sequence_told bytes whole good reserved.1) reserved.1 (record {
-        truncated = λ lt fault. elim fault [ inl cut ↦ omega (arith, whole.long, cut) | inr cut ↦ omega (arith, whole.within, cut) ];
+        truncated = λ lt fault. elim fault
+            [ inl cut ↦ omega (arith, whole.long, cut) | inr cut ↦ omega (arith, whole.within, cut) ];
         short = λ lt fault. omega (arith, whole.least, fault);
         checksum = λ lt fault. opposite (is_good (covered_bytes bytes) (checksum_field bytes)) good fault;
         sequence = λ lt. absurd (omega (arith, lt));
@@ -107,13 +130,26 @@ header_first bytes told e = elim (cases_lt (length bytes) 20) [
       })
       | inr kept ↦ elim (eqb_tells (type_field bytes) 1) [
         | inl router ↦ by_id whole good kept.1 router.1
-        | inr other ↦ absurd (told_none told (header_fault bytes) (header_passes bytes (record { long = whole.long; within = whole.within; least = whole.least; good = good; not_reserved = kept.1; own_id = λ is. absurd (other.1 is) })) e)
+        | inr other ↦
+            absurd (told_none told (header_fault bytes)
+            (header_passes bytes
+            (record {
+              long = whole.long;
+              within = whole.within;
+              least = whole.least;
+              good = good;
+              not_reserved =
+                  kept.1;
+              own_id = λ is. absurd (other.1 is);
+            })) e)
       ]
     ]
 
-    by_checksum : (b : Bool) → IsWhole bytes → is_good (covered_bytes bytes) (checksum_field bytes) ≡ b → HasFirstFault told bytes
+    by_checksum : (b : Bool) → IsWhole bytes → is_good (covered_bytes bytes) (checksum_field bytes) ≡ b
+        → HasFirstFault told bytes
     by_checksum false whole bad = told_so kinds.Checksum (checksum_told bytes whole bad) bad (record {
-      truncated = λ lt fault. elim fault [ inl cut ↦ omega (arith, whole.long, cut) | inr cut ↦ omega (arith, whole.within, cut) ];
+      truncated = λ lt fault. elim fault
+          [ inl cut ↦ omega (arith, whole.long, cut) | inr cut ↦ omega (arith, whole.within, cut) ];
       short = λ lt fault. omega (arith, whole.least, fault);
       checksum = λ lt. absurd (omega (arith, lt));
       sequence = λ lt. absurd (omega (arith, lt));
@@ -140,60 +176,94 @@ same_kind kind told r e f = cc
 ok_kind : (body : Body) (told : LsaKind) (r : Result Body LsaKind) → r ≡ Ok body → r ≡ Err told → ⊥
 ok_kind body told r e f = absurd cc
 
-router_first : (bytes : List ℕ) (told : LsaKind) → type_field bytes ≡ 1 → IsHeader bytes → IsBytes bytes → IsBytes (body_bytes bytes)
+router_first : (bytes : List ℕ) (told : LsaKind) → type_field bytes ≡ 1 → IsHeader bytes → IsBytes bytes
+    → IsBytes (body_bytes bytes)
     → router_body (body_bytes bytes) ≡ Err told → HasFirstFault told bytes
 router_first bytes told router is are body_are e = by_links (body_links (body_bytes bytes)) refl
   where
-    by_metrics : (links : List RouterLink) (b : Bool) → body_links (body_bytes bytes) ≡ Some links → list_any has_zero_metric links ≡ b → with_links (body_bytes bytes) links ≡ Err told → HasFirstFault told bytes
+    by_metrics : (links : List RouterLink) (b : Bool) → body_links (body_bytes bytes) ≡ Some links
+        → list_any has_zero_metric links ≡ b → with_links (body_bytes bytes) links ≡ Err told → HasFirstFault told bytes
     by_metrics links true found zero h =
         let spells : SpellsLinks (body_bytes bytes) links = links_found (body_bytes bytes) links found body_are in
         let refused : with_links (body_bytes bytes) links ≡ Err kinds.ZeroMetric = rw zero refl in
-        subst (λ (k : LsaKind). HasFirstFault k bytes) (same_kind kinds.ZeroMetric told (with_links (body_bytes bytes) links) refused h)
-        (first_of kinds.ZeroMetric bytes (router, (links, spells, zero)) (header_none 6 bytes (omega arith) is (λ lt bad. elim bad [
+        subst (λ (k : LsaKind). HasFirstFault k bytes)
+        (same_kind kinds.ZeroMetric told (with_links (body_bytes bytes) links) refused h)
+        (first_of kinds.ZeroMetric bytes (router, (links, spells, zero))
+        (header_none 6 bytes (omega arith) is (λ lt bad. elim bad [
           | inl refused ↦ refused.1 links spells
           | inr network ↦ omega (arith, router, network.0)
         ])))
-    by_metrics links false found none h = absurd (ok_kind (body_in (body_bytes bytes) links) told (with_links (body_bytes bytes) links) (rw none refl) h)
+    by_metrics links false found none h =
+        absurd (ok_kind (body_in (body_bytes bytes) links) told (with_links (body_bytes bytes) links) (rw none refl) h)
 
     by_links : (o : Option (List RouterLink)) → body_links (body_bytes bytes) ≡ o → HasFirstFault told bytes
     by_links None found =
-        let refused : router_body (body_bytes bytes) ≡ Err kinds.Body = ap (λ (o : Option (List RouterLink)). option_map_or (with_links (body_bytes bytes)) o (Err kinds.Body)) found in
-        subst (λ (k : LsaKind). HasFirstFault k bytes) (same_kind kinds.Body told (router_body (body_bytes bytes)) refused e)
-        (first_of kinds.Body bytes (inl (router, λ links spells. no_links links (body_links (body_bytes bytes)) found (spelled_found (body_bytes bytes) links (body_short bytes is are) spells)))
+        let refused : router_body (body_bytes bytes) ≡ Err kinds.Body =
+        ap (λ (o : Option (List RouterLink)). option_map_or (with_links (body_bytes bytes)) o (Err kinds.Body))
+        found in
+        subst (λ (k : LsaKind). HasFirstFault k bytes)
+        (same_kind kinds.Body told (router_body (body_bytes bytes)) refused e)
+        (first_of kinds.Body bytes
+        (inl (
+          router,
+          λ links spells. no_links links (body_links (body_bytes bytes)) found
+              (spelled_found (body_bytes bytes) links (body_short bytes is are) spells),
+        ))
         (header_none 5 bytes (omega arith) is (λ lt. absurd (omega (arith, lt)))))
     by_links (Some links) found =
         by_metrics links (list_any has_zero_metric links) found refl
-        (sym (ap (λ (o : Option (List RouterLink)). option_map_or (with_links (body_bytes bytes)) o (Err kinds.Body)) found) ∙ e)
+        (sym (ap (λ (o : Option (List RouterLink)). option_map_or (with_links (body_bytes bytes)) o (Err kinds.Body))
+        found) ∙ e)
 
-network_first : (bytes : List ℕ) (told : LsaKind) → type_field bytes ≡ 2 → IsHeader bytes → network_body (body_bytes bytes) ≡ Err told → HasFirstFault told bytes
+network_first : (bytes : List ℕ) (told : LsaKind) → type_field bytes ≡ 2 → IsHeader bytes
+    → network_body (body_bytes bytes) ≡ Err told → HasFirstFault told bytes
 network_first bytes told network is e = elim (cases_lt (length (body_bytes bytes)) 4) [
   | inl short ↦ told_so (rw (lt-ltb _ _ short) refl) (inl (omega (arith, short, body_long bytes is, is.least)))
   | inr long ↦ elim (eqb_tells (length (body_bytes bytes) % 4) 0) [
-    | inl whole ↦ absurd (ok_kind (Network (number_at 0 4 (body_bytes bytes)) (numbers_in ((length (body_bytes bytes) - 4) / 4) (drop 4 (body_bytes bytes)))) told (network_body (body_bytes bytes)) (rw (le-ltb _ _ long, whole.0) refl) e)
-    | inr odd ↦ told_so (rw (le-ltb _ _ long, odd.0) refl) (inr (λ even. odd.1 (omega (arith, even, body_long bytes is, is.least))))
+    | inl whole ↦
+        absurd (ok_kind
+        (Network (number_at 0 4 (body_bytes bytes))
+        (numbers_in ((length (body_bytes bytes) - 4) / 4) (drop 4 (body_bytes bytes)))) told
+        (network_body (body_bytes bytes)) (rw (le-ltb _ _ long, whole.0) refl) e)
+    | inr odd ↦ told_so (rw (le-ltb _ _ long, odd.0) refl)
+        (inr (λ even. odd.1 (omega (arith, even, body_long bytes is, is.least))))
   ]
 ]
   where
-    told_so : network_body (body_bytes bytes) ≡ Err kinds.Body → ((length_field bytes < 24) ⊎ (length_field bytes % 4 ≢ 0)) → HasFirstFault told bytes
-    told_so refused bad = subst (λ (k : LsaKind). HasFirstFault k bytes) (same_kind kinds.Body told (network_body (body_bytes bytes)) refused e)
-        (first_of kinds.Body bytes (inr (network, bad)) (header_none 5 bytes (omega arith) is (λ lt. absurd (omega (arith, lt)))))
+    told_so : network_body (body_bytes bytes) ≡ Err kinds.Body
+        → ((length_field bytes < 24) ⊎ (length_field bytes % 4 ≢ 0)) → HasFirstFault told bytes
+    told_so refused bad =
+        subst (λ (k : LsaKind). HasFirstFault k bytes)
+        (same_kind kinds.Body told (network_body (body_bytes bytes)) refused e)
+        (first_of kinds.Body bytes (inr (network, bad))
+        (header_none 5 bytes (omega arith) is (λ lt. absurd (omega (arith, lt)))))
 
-body_first : (bytes : List ℕ) (told : LsaKind) → IsHeader bytes → IsBytes bytes → IsBytes (body_bytes bytes) → typed_body (type_field bytes) (body_bytes bytes) ≡ Err told → HasFirstFault told bytes
+body_first : (bytes : List ℕ) (told : LsaKind) → IsHeader bytes → IsBytes bytes → IsBytes (body_bytes bytes)
+    → typed_body (type_field bytes) (body_bytes bytes) ≡ Err told → HasFirstFault told bytes
 body_first bytes told is are body_are e = elim (eqb_tells (type_field bytes) 1) [
-  | inl router ↦ let opened : typed_body (type_field bytes) (body_bytes bytes) ≡ router_body (body_bytes bytes) = rw (router.0) refl in router_first bytes told router.1 is are body_are (sym opened ∙ e)
+  | inl router ↦ let opened : typed_body (type_field bytes) (body_bytes bytes) ≡ router_body (body_bytes bytes) =
+      rw (router.0) refl in router_first bytes told router.1 is are body_are (sym opened ∙ e)
   | inr no_router ↦ elim (eqb_tells (type_field bytes) 2) [
-    | inl network ↦ let opened : typed_body (type_field bytes) (body_bytes bytes) ≡ network_body (body_bytes bytes) = rw (no_router.0, network.0) refl in network_first bytes told network.1 is (sym opened ∙ e)
-    | inr no_network ↦ absurd (ok_kind (Other (body_bytes bytes)) told (typed_body (type_field bytes) (body_bytes bytes)) (rw (no_router.0, no_network.0) refl) e)
+    | inl network ↦ let opened : typed_body (type_field bytes) (body_bytes bytes) ≡ network_body (body_bytes bytes) =
+        rw (no_router.0, network.0) refl in network_first bytes told network.1 is (sym opened ∙ e)
+    | inr no_network ↦
+        absurd (ok_kind (Other (body_bytes bytes)) told (typed_body (type_field bytes) (body_bytes bytes))
+        (rw (no_router.0, no_network.0) refl) e)
   ]
 ]
 
-pub told_is_first : (at : ℕ) (bytes : List ℕ) (told : LsaKind) → record_in at bytes ≡ Err told → IsBytes bytes → HasFirstFault told bytes
+pub told_is_first : (at : ℕ) (bytes : List ℕ) (told : LsaKind) → record_in at bytes ≡ Err told → IsBytes bytes
+    → HasFirstFault told bytes
 told_is_first at bytes told e are = by_header (header_fault bytes) refl e
   where
     told_of_body : (r : Result Body LsaKind) → with_body at bytes r ≡ Err told → r ≡ Err told
     told_of_body (Ok body) h = absurd cc
     told_of_body (Err kind) h = let same : kind ≡ told = cc in ap Err same
 
-    by_header : (o : Option LsaKind) → header_fault bytes ≡ o → option_map_or Err o (with_body at bytes (typed_body (type_field bytes) (body_bytes bytes))) ≡ Err told → HasFirstFault told bytes
-    by_header None found h = body_first bytes told (header_whole bytes found) are (bytes_taken (length_field bytes - 20) (drop 20 bytes) (bytes_after 20 bytes are)) (told_of_body (typed_body (type_field bytes) (body_bytes bytes)) h)
+    by_header : (o : Option LsaKind) → header_fault bytes ≡ o
+        → option_map_or Err o (with_body at bytes (typed_body (type_field bytes) (body_bytes bytes))) ≡ Err told
+        → HasFirstFault told bytes
+    by_header None found h = body_first bytes told (header_whole bytes found) are
+        (bytes_taken (length_field bytes - 20) (drop 20 bytes) (bytes_after 20 bytes are))
+        (told_of_body (typed_body (type_field bytes) (body_bytes bytes)) h)
     by_header (Some kind) found h = let same : kind ≡ told = cc in header_first bytes told (found ∙ ap Some same)

@@ -20,10 +20,12 @@ record AreSmall (sums : ℕ × ℕ) : Type 0 where
 
 sums_small : (bytes : List ℕ) (c0 c1 : ℕ) → c0 < 255 → c1 < 255 → AreSmall (sums_from c0 c1 bytes)
 sums_small [] c0 c1 first second = record { first = first; second = second }
-sums_small (byte ∷ bytes) c0 c1 first second = sums_small bytes ((c0 + byte) % 255) ((c1 + (c0 + byte) % 255) % 255) (omega arith) (omega arith)
+sums_small (byte ∷ bytes) c0 c1 first second = sums_small bytes ((c0 + byte) % 255) ((c1 + (c0 + byte) % 255) % 255)
+    (omega arith) (omega arith)
 
--- the sums of bytes and of those behind them
-sums_behind : (front rest : List ℕ) (c0 c1 : ℕ) → sums_from c0 c1 (front ++ rest) ≡ sums_from (sums_from c0 c1 front).0 (sums_from c0 c1 front).1 rest
+-- the sums of bytes and of those after them
+sums_behind : (front rest : List ℕ) (c0 c1 : ℕ)
+    → sums_from c0 c1 (front ++ rest) ≡ sums_from (sums_from c0 c1 front).0 (sums_from c0 c1 front).1 rest
 sums_behind [] rest c0 c1 = refl
 sums_behind (byte ∷ front) rest c0 c1 = sums_behind front rest ((c0 + byte) % 255) ((c1 + (c0 + byte) % 255) % 255)
 
@@ -38,18 +40,29 @@ ends_higher : (bytes : List ℕ) (c0 c1 d0 d1 by0 by1 : ℕ) → AreAlike d0 (c0
 ends_higher [] c0 c1 d0 d1 by0 by1 first second = record { first = first; second = omega (arith, second) }
 ends_higher (byte ∷ bytes) c0 c1 d0 d1 by0 by1 first second =
     let one : AreAlike ((d0 + byte) % 255) ((c0 + byte) % 255 + by0) = omega (arith, first) in
-    let two : AreAlike ((d1 + (d0 + byte) % 255) % 255) ((c1 + (c0 + byte) % 255) % 255 + (by1 + by0)) = omega (arith, second, one) in
-    let later = ends_higher bytes ((c0 + byte) % 255) ((c1 + (c0 + byte) % 255) % 255) ((d0 + byte) % 255) ((d1 + (d0 + byte) % 255) % 255) by0 (by1 + by0) one two in
-    record { first = later.first; second = later.second ∙ ap (λ (n : ℕ). ((sums_from c0 c1 (byte ∷ bytes)).1 + n) % 255) (omega arith) }
+    let two : AreAlike ((d1 + (d0 + byte) % 255) % 255) ((c1 + (c0 + byte) % 255) % 255 + (by1 + by0)) =
+    omega (arith, second, one) in
+    let later = ends_higher bytes ((c0 + byte) % 255) ((c1 + (c0 + byte) % 255) % 255) ((d0 + byte) % 255)
+    ((d1 + (d0 + byte) % 255) % 255) by0 (by1 + by0) one two in
+    record {
+      first = later.first;
+      second = later.second
+          ∙ ap (λ (n : ℕ). ((sums_from c0 c1 (byte ∷ bytes)).1 + n) % 255) (omega arith);
+    }
 
 -- the sums with a field of these two bytes, over those with a field of zeros
 field_higher : (front tail : List ℕ) (x y : ℕ)
-    → AreHigher (sums_of (front ++ (0 ∷ 0 ∷ tail))) (sums_of (front ++ (x ∷ y ∷ tail))) (x + y) (2 * x + y + length tail * (x + y))
+    → AreHigher (sums_of (front ++ (0 ∷ 0 ∷ tail))) (sums_of (front ++ (x ∷ y ∷ tail))) (x + y)
+    (2 * x + y + length tail * (x + y))
 field_higher front tail x y =
-    let begun : AreHigher (sums_from (sums_of front).0 (sums_of front).1 (0 ∷ 0 ∷ tail)) (sums_from (sums_of front).0 (sums_of front).1 (x ∷ y ∷ tail)) (x + y) (2 * x + y + length tail * (x + y)) = after (sums_of front).0 (sums_of front).1 in
+    let begun : AreHigher (sums_from (sums_of front).0 (sums_of front).1 (0 ∷ 0 ∷ tail))
+    (sums_from (sums_of front).0 (sums_of front).1 (x ∷ y ∷ tail)) (x + y) (2 * x + y + length tail * (x + y)) =
+    after (sums_of front).0 (sums_of front).1 in
     rw (sums_behind front (0 ∷ 0 ∷ tail) 0 0, sums_behind front (x ∷ y ∷ tail) 0 0) begun
   where
-    after : (c0 c1 : ℕ) → AreHigher (sums_from c0 c1 (0 ∷ 0 ∷ tail)) (sums_from c0 c1 (x ∷ y ∷ tail)) (x + y) (2 * x + y + length tail * (x + y))
+    after : (c0 c1 : ℕ)
+        → AreHigher (sums_from c0 c1 (0 ∷ 0 ∷ tail)) (sums_from c0 c1 (x ∷ y ∷ tail)) (x + y)
+        (2 * x + y + length tail * (x + y))
     after c0 c1 = ends_higher tail _ _ _ _ (x + y) (2 * x + y) (omega arith) (omega arith)
 
 -- what is known of a check byte
@@ -64,13 +77,15 @@ check_is number = elim (eqb_tells (number % 255) 0) [
   | inr some ↦ rw (some.0) (record { least = omega (arith, some.1); most = omega arith; alike = omega arith })
 ]
 
--- the two sums with the check bytes of sums c0 and c1 over so many bytes behind the field
-sums_vanish : (n c0 c1 x y : ℕ) → c0 < 255 → c1 < 255 → AreAlike x ((n + 1) * c0 + (255 - c1)) → AreAlike y (c1 + (n + 2) * (255 - c0))
+-- the two sums with the check bytes of sums c0 and c1 over so many bytes after the field
+sums_vanish : (n c0 c1 x y : ℕ) → c0 < 255 → c1 < 255 → AreAlike x ((n + 1) * c0 + (255 - c1))
+    → AreAlike y (c1 + (n + 2) * (255 - c0))
     → AreAlike (c0 + (x + y)) 0 × AreAlike (c1 + (2 * x + y + n * (x + y))) 0
 sums_vanish n c0 c1 x y small0 small1 is_x is_y =
     by_negatives (255 - c0) (255 - c1) (omega arith) (omega arith) is_x is_y
   where
-    by_negatives : (a b : ℕ) → c0 + a ≡ 255 → c1 + b ≡ 255 → AreAlike x ((n + 1) * c0 + b) → AreAlike y (c1 + (n + 2) * a)
+    by_negatives : (a b : ℕ) → c0 + a ≡ 255 → c1 + b ≡ 255 → AreAlike x ((n + 1) * c0 + b)
+        → AreAlike y (c1 + (n + 2) * a)
         → AreAlike (c0 + (x + y)) 0 × AreAlike (c1 + (2 * x + y + n * (x + y))) 0
     by_negatives a b e f is_x is_y =
         let n0 : n * c0 + n * a ≡ n * 255 = omega (arith, ap (λ (s : ℕ). n * s) e) in
@@ -86,30 +101,40 @@ none_left sum higher small alike none = omega (arith, small, alike, none)
 
 -- the two check bytes of these bytes with a field of zeros
 record AreChecks (front tail : List ℕ) (x y : ℕ) : Type 0 where
-  first : IsCheck ((length tail + 1) * (sums_of (front ++ (0 ∷ 0 ∷ tail))).0 + (255 - (sums_of (front ++ (0 ∷ 0 ∷ tail))).1)) x
-  second : IsCheck ((sums_of (front ++ (0 ∷ 0 ∷ tail))).1 + (length tail + 2) * (255 - (sums_of (front ++ (0 ∷ 0 ∷ tail))).0)) y
+  first : IsCheck
+      ((length tail + 1) * (sums_of (front ++ (0 ∷ 0 ∷ tail))).0 + (255 - (sums_of (front ++ (0 ∷ 0 ∷ tail))).1)) x
+  second : IsCheck
+      ((sums_of (front ++ (0 ∷ 0 ∷ tail))).1 + (length tail + 2) * (255 - (sums_of (front ++ (0 ∷ 0 ∷ tail))).0)) y
   whole : fresh_checksum (front ++ (0 ∷ 0 ∷ tail)) ≡ 256 * x + y
 
 checks_are : (front tail : List ℕ) → length front ≡ 14
-    → AreChecks front tail (first_check (length (front ++ (0 ∷ 0 ∷ tail))) (sums_of (front ++ (0 ∷ 0 ∷ tail)))) (second_check (length (front ++ (0 ∷ 0 ∷ tail))) (sums_of (front ++ (0 ∷ 0 ∷ tail))))
+    → AreChecks front tail (first_check (length (front ++ (0 ∷ 0 ∷ tail))) (sums_of (front ++ (0 ∷ 0 ∷ tail))))
+    (second_check (length (front ++ (0 ∷ 0 ∷ tail))) (sums_of (front ++ (0 ∷ 0 ∷ tail))))
 unfolding fresh_checksum
 checks_are front tail placed =
-    let size : length (front ++ (0 ∷ 0 ∷ tail)) ≡ 16 + length tail = omega (arith, placed, length-append front (0 ∷ 0 ∷ tail)) in
+    let size : length (front ++ (0 ∷ 0 ∷ tail)) ≡ 16 + length tail =
+    omega (arith, placed, length-append front (0 ∷ 0 ∷ tail)) in
     let one : length (front ++ (0 ∷ 0 ∷ tail)) - 15 ≡ length tail + 1 = omega (arith, size) in
     let two : length (front ++ (0 ∷ 0 ∷ tail)) - 14 ≡ length tail + 2 = omega (arith, size) in
     let c0 : ℕ = (sums_of (front ++ (0 ∷ 0 ∷ tail))).0 in
     let c1 : ℕ = (sums_of (front ++ (0 ∷ 0 ∷ tail))).1 in
     record {
-      first = subst (λ (n : ℕ). IsCheck (n * c0 + (255 - c1)) (first_check (length (front ++ (0 ∷ 0 ∷ tail))) (sums_of (front ++ (0 ∷ 0 ∷ tail))))) one
+      first = subst
+          (λ (n : ℕ). IsCheck (n * c0 + (255 - c1))
+          (first_check (length (front ++ (0 ∷ 0 ∷ tail))) (sums_of (front ++ (0 ∷ 0 ∷ tail))))) one
           (check_is ((length (front ++ (0 ∷ 0 ∷ tail)) - 15) * c0 + (255 - c1)));
-      second = subst (λ (n : ℕ). IsCheck (c1 + n * (255 - c0)) (second_check (length (front ++ (0 ∷ 0 ∷ tail))) (sums_of (front ++ (0 ∷ 0 ∷ tail))))) two
+      second = subst
+          (λ (n : ℕ). IsCheck (c1 + n * (255 - c0))
+          (second_check (length (front ++ (0 ∷ 0 ∷ tail))) (sums_of (front ++ (0 ∷ 0 ∷ tail))))) two
           (check_is (c1 + (length (front ++ (0 ∷ 0 ∷ tail)) - 14) * (255 - c0)));
       whole = refl;
     }
 
 -- with these check bytes the checksum is good
-made_good : (front tail : List ℕ) (x y c0 c1 : ℕ) → c0 < 255 → c1 < 255 → IsCheck ((length tail + 1) * c0 + (255 - c1)) x → IsCheck (c1 + (length tail + 2) * (255 - c0)) y
-    → AreHigher (c0, c1) (sums_of (front ++ (x ∷ y ∷ tail))) (x + y) (2 * x + y + length tail * (x + y)) → is_good (front ++ (x ∷ y ∷ tail)) (256 * x + y) ≡ true
+made_good : (front tail : List ℕ) (x y c0 c1 : ℕ) → c0 < 255 → c1 < 255
+    → IsCheck ((length tail + 1) * c0 + (255 - c1)) x → IsCheck (c1 + (length tail + 2) * (255 - c0)) y
+    → AreHigher (c0, c1) (sums_of (front ++ (x ∷ y ∷ tail))) (x + y) (2 * x + y + length tail * (x + y))
+    → is_good (front ++ (x ∷ y ∷ tail)) (256 * x + y) ≡ true
 unfolding is_good
 made_good front tail x y c0 c1 small0 small1 first second higher =
     let gone = sums_vanish (length tail) c0 c1 x y small0 small1 first.alike second.alike in
@@ -120,16 +145,24 @@ made_good front tail x y c0 c1 small0 small1 first second higher =
     rw (eq-eqb _ _ none0, eq-eqb _ _ none1, ne_eqb _ _ some) refl
 
 pub fresh_good : (front tail : List ℕ) → length front ≡ 14
-    → is_good (front ++ (fresh_checksum (front ++ (0 ∷ 0 ∷ tail)) / 256 % 256 ∷ fresh_checksum (front ++ (0 ∷ 0 ∷ tail)) % 256 ∷ tail)) (fresh_checksum (front ++ (0 ∷ 0 ∷ tail))) ≡ true
+    → is_good (front ++
+    (fresh_checksum (front ++ (0 ∷ 0 ∷ tail)) / 256 % 256 ∷ fresh_checksum (front ++ (0 ∷ 0 ∷ tail)) % 256 ∷ tail))
+    (fresh_checksum (front ++ (0 ∷ 0 ∷ tail))) ≡ true
 fresh_good front tail placed = by_checks _ _ (checks_are front tail placed)
   where
     by_checks : (x y : ℕ) → AreChecks front tail x y
-        → is_good (front ++ (fresh_checksum (front ++ (0 ∷ 0 ∷ tail)) / 256 % 256 ∷ fresh_checksum (front ++ (0 ∷ 0 ∷ tail)) % 256 ∷ tail)) (fresh_checksum (front ++ (0 ∷ 0 ∷ tail))) ≡ true
+        → is_good (front ++
+        (fresh_checksum (front ++ (0 ∷ 0 ∷ tail)) / 256 % 256 ∷ fresh_checksum
+        (front ++ (0 ∷ 0 ∷ tail)) % 256 ∷ tail)) (fresh_checksum (front ++ (0 ∷ 0 ∷ tail))) ≡ true
     by_checks x y are =
-        let high : fresh_checksum (front ++ (0 ∷ 0 ∷ tail)) / 256 % 256 ≡ x = omega (arith, are.whole, are.first.most, are.second.most) in
+        let high : fresh_checksum (front ++ (0 ∷ 0 ∷ tail)) / 256 % 256 ≡ x =
+        omega (arith, are.whole, are.first.most, are.second.most) in
         let low : fresh_checksum (front ++ (0 ∷ 0 ∷ tail)) % 256 ≡ y = omega (arith, are.whole, are.second.most) in
         let small = sums_small (front ++ (0 ∷ 0 ∷ tail)) 0 0 (omega arith) (omega arith) in
-        rw (high, low, are.whole) (made_good front tail x y (sums_of (front ++ (0 ∷ 0 ∷ tail))).0 (sums_of (front ++ (0 ∷ 0 ∷ tail))).1 small.first small.second are.first are.second (field_higher front tail x y))
+        rw (high, low, are.whole)
+        (made_good front tail x y (sums_of (front ++ (0 ∷ 0 ∷ tail))).0
+        (sums_of (front ++ (0 ∷ 0 ∷ tail))).1 small.first small.second are.first are.second
+        (field_higher front tail x y))
 
 -- it fits its field
 pub fresh_small : (front tail : List ℕ) → length front ≡ 14 → fresh_checksum (front ++ (0 ∷ 0 ∷ tail)) < 2 ^ 16

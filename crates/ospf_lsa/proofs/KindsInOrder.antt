@@ -25,12 +25,14 @@ kind_back kinds.IdMismatch = refl
 kind_back kinds.Body = refl
 kind_back kinds.ZeroMetric = refl
 
-pub one_first_kind : (bytes : List ℕ) (kind other : LsaKind) → HasFirstFault kind bytes → HasFirstFault other bytes → kind ≡ other
+pub one_first_kind : (bytes : List ℕ) (kind other : LsaKind) → HasFirstFault kind bytes → HasFirstFault other bytes
+    → kind ≡ other
 one_first_kind bytes kind other first second = elim (cases_lt (order_of kind) (order_of other)) [
   | inl below ↦ absurd (second.none_earlier kind below first.fault)
   | inr above ↦ elim (cases_lt (order_of other) (order_of kind)) [
     | inl below ↦ absurd (first.none_earlier other below second.fault)
-    | inr same ↦ let equal : order_of kind ≡ order_of other = omega (arith, above, same) in sym (kind_back kind) ∙ ap kind_at equal ∙ kind_back other
+    | inr same ↦ let equal : order_of kind ≡ order_of other = omega (arith, above, same) in sym (kind_back kind)
+        ∙ ap kind_at equal ∙ kind_back other
   ]
 ]
 
@@ -44,7 +46,8 @@ pub record NoneBefore (place : ℕ) (bytes : List ℕ) : Type 0 where
   pub body : 5 < place → ¬ HasBadBody bytes
   pub few : place < 7
 
-none_of : (place : ℕ) (bytes : List ℕ) → NoneBefore place bytes → (other : LsaKind) → order_of other < place → ¬ HasFault other bytes
+none_of : (place : ℕ) (bytes : List ℕ) → NoneBefore place bytes → (other : LsaKind) → order_of other < place
+    → ¬ HasFault other bytes
 none_of place bytes none kinds.Truncated below = none.truncated below
 none_of place bytes none kinds.Length below = none.short below
 none_of place bytes none kinds.Checksum below = none.checksum below
@@ -53,5 +56,6 @@ none_of place bytes none kinds.IdMismatch below = none.id below
 none_of place bytes none kinds.Body below = none.body below
 none_of place bytes none kinds.ZeroMetric below = absurd (omega (arith, below, none.few))
 
-pub first_of : (kind : LsaKind) (bytes : List ℕ) → HasFault kind bytes → NoneBefore (order_of kind) bytes → HasFirstFault kind bytes
+pub first_of : (kind : LsaKind) (bytes : List ℕ) → HasFault kind bytes → NoneBefore (order_of kind) bytes
+    → HasFirstFault kind bytes
 first_of kind bytes fault none = record { fault = fault; none_earlier = none_of (order_of kind) bytes none }

@@ -35,20 +35,24 @@ bytes_taken n bytes are k = elim (cases_lt k (length (take n bytes))) [
 
 -- the numbers of this width are spelled by the bytes that they are read from
 pub record IsSpelled (w : Width) : Type 0 where
-  pub spelled : (bytes : List ℕ) → byte_len w ≤ length bytes → IsBytes bytes → bytes ≡ to_be_bytes w (big_number (byte_len w) bytes) ++ drop (byte_len w) bytes
+  pub spelled : (bytes : List ℕ) → byte_len w ≤ length bytes → IsBytes bytes
+      → bytes ≡ to_be_bytes w (big_number (byte_len w) bytes) ++ drop (byte_len w) bytes
 
-one_spelled : (bytes : List ℕ) → 1 ≤ length bytes → IsBytes bytes → bytes ≡ to_be_bytes w8 (big_number 1 bytes) ++ drop 1 bytes
+one_spelled : (bytes : List ℕ) → 1 ≤ length bytes → IsBytes bytes
+    → bytes ≡ to_be_bytes w8 (big_number 1 bytes) ++ drop 1 bytes
 one_spelled [] len are = absurd (omega arith)
 one_spelled (a ∷ r) len are =
     let small : a < 256 = are 0 in
     let same : a ≡ (a * 256 ^ 0 + 0) % 256 = omega arith in
     ap (λ (x : ℕ). x ∷ r) same
 
-two_spelled : (bytes : List ℕ) → 2 ≤ length bytes → IsBytes bytes → bytes ≡ to_be_bytes w16 (big_number 2 bytes) ++ drop 2 bytes
+two_spelled : (bytes : List ℕ) → 2 ≤ length bytes → IsBytes bytes
+    → bytes ≡ to_be_bytes w16 (big_number 2 bytes) ++ drop 2 bytes
 two_spelled [] len are = absurd (omega arith)
 two_spelled (a ∷ []) len are = absurd (omega arith)
 two_spelled (a ∷ b ∷ r) len are =
-    let front : to_be_bytes w16 (big_number 2 (a ∷ b ∷ r)) ≡ a ∷ b ∷ [] = be_bytes_2 (a ∷ b ∷ []) (big_number 2 (a ∷ b ∷ r)) refl (two a b (are 0) (are 1)) (omega arith) in
+    let front : to_be_bytes w16 (big_number 2 (a ∷ b ∷ r)) ≡ a ∷ b ∷ [] =
+    be_bytes_2 (a ∷ b ∷ []) (big_number 2 (a ∷ b ∷ r)) refl (two a b (are 0) (are 1)) (omega arith) in
     ap (λ (t : List ℕ). t ++ r) (sym front)
   where
     two : (a b : ℕ) → a < 256 → b < 256 → (i : ℕ) → get_or (a ∷ b ∷ []) i 0 < 256
@@ -56,14 +60,16 @@ two_spelled (a ∷ b ∷ r) len are =
     two a b la lb (suc zero) = lb
     two a b la lb (suc (suc i)) = omega arith
 
-four_spelled : (bytes : List ℕ) → 4 ≤ length bytes → IsBytes bytes → bytes ≡ to_be_bytes w32 (big_number 4 bytes) ++ drop 4 bytes
+four_spelled : (bytes : List ℕ) → 4 ≤ length bytes → IsBytes bytes
+    → bytes ≡ to_be_bytes w32 (big_number 4 bytes) ++ drop 4 bytes
 four_spelled [] len are = absurd (omega arith)
 four_spelled (a ∷ []) len are = absurd (omega arith)
 four_spelled (a ∷ b ∷ []) len are = absurd (omega arith)
 four_spelled (a ∷ b ∷ c ∷ []) len are = absurd (omega arith)
 four_spelled (a ∷ b ∷ c ∷ d ∷ r) len are =
     let front : to_be_bytes w32 (big_number 4 (a ∷ b ∷ c ∷ d ∷ r)) ≡ a ∷ b ∷ c ∷ d ∷ [] =
-    be_bytes_4 (a ∷ b ∷ c ∷ d ∷ []) (big_number 4 (a ∷ b ∷ c ∷ d ∷ r)) refl (four a b c d (are 0) (are 1) (are 2) (are 3)) (omega arith) in
+    be_bytes_4 (a ∷ b ∷ c ∷ d ∷ []) (big_number 4 (a ∷ b ∷ c ∷ d ∷ r)) refl
+    (four a b c d (are 0) (are 1) (are 2) (are 3)) (omega arith) in
     ap (λ (t : List ℕ). t ++ r) (sym front)
   where
     four : (a b c d : ℕ) → a < 256 → b < 256 → c < 256 → d < 256 → (i : ℕ) → get_or (a ∷ b ∷ c ∷ d ∷ []) i 0 < 256
@@ -83,10 +89,12 @@ pub spelled32 : IsSpelled w32
 spelled32 = record { spelled = four_spelled }
 
 -- a number at a place is spelled there
-pub spelled_at : (w : Width) (p q : ℕ) (bytes : List ℕ) → IsSpelled w → q ≡ p + byte_len w → q ≤ length bytes → IsBytes bytes
+pub spelled_at : (w : Width) (p q : ℕ) (bytes : List ℕ) → IsSpelled w → q ≡ p + byte_len w → q ≤ length bytes
+    → IsBytes bytes
     → drop p bytes ≡ to_be_bytes w (number_at p (byte_len w) bytes) ++ drop q bytes
 spelled_at w p q bytes is e len are =
-    let behind : drop (byte_len w) (drop p bytes) ≡ drop q bytes = drop-drop (byte_len w) p bytes ∙ ap (λ (n : ℕ). drop n bytes) (sym e) in
+    let behind : drop (byte_len w) (drop p bytes) ≡ drop q bytes = drop-drop (byte_len w) p bytes
+    ∙ ap (λ (n : ℕ). drop n bytes) (sym e) in
     is.spelled (drop p bytes) (simp length-drop (omega arith)) (bytes_after p bytes are)
     ∙ ap (λ (t : List ℕ). to_be_bytes w (number_at p (byte_len w) bytes) ++ t) behind
 
@@ -103,7 +111,8 @@ numbers_spelled (suc count) bytes len are =
     let later = numbers_spelled count (drop 4 bytes) (simp length-drop (omega arith)) (bytes_after 4 bytes are) in
     four_spelled bytes (omega arith) are
     ∙ ap (λ (t : List ℕ). to_be_bytes w32 (big_number 4 bytes) ++ t) later
-    ∙ sym (append_assoc (to_be_bytes w32 (big_number 4 bytes)) (flat_map (to_be_bytes w32) (numbers_in count (drop 4 bytes))) (drop (4 * count) (drop 4 bytes)))
+    ∙ sym (append_assoc (to_be_bytes w32 (big_number 4 bytes))
+    (flat_map (to_be_bytes w32) (numbers_in count (drop 4 bytes))) (drop (4 * count) (drop 4 bytes)))
     ∙ ap (λ (t : List ℕ). flat_map (to_be_bytes w32) (numbers_in (suc count) bytes) ++ t)
     (drop-drop (4 * count) 4 bytes ∙ ap (λ (n : ℕ). drop n bytes) (sym place))
 
@@ -113,15 +122,19 @@ numbers_many (suc count) bytes = ap suc (numbers_many count (drop 4 bytes))
 
 pub numbers_fit : (count : ℕ) (bytes : List ℕ) → IsBytes bytes → AllByRecursion Is32Bits (numbers_in count bytes)
 numbers_fit zero bytes are = tt
-numbers_fit (suc count) bytes are = (number_fits 4 0 bytes are, numbers_fit count (drop 4 bytes) (bytes_after 4 bytes are))
+numbers_fit (suc count) bytes are =
+    (number_fits 4 0 bytes are, numbers_fit count (drop 4 bytes) (bytes_after 4 bytes are))
 
 -- and as they were written
-pub numbers_read : (xs : List ℕ) (rest : List ℕ) → AllByRecursion Is32Bits xs → numbers_in (length xs) (flat_map (to_be_bytes w32) xs ++ rest) ≡ xs
+pub numbers_read : (xs : List ℕ) (rest : List ℕ) → AllByRecursion Is32Bits xs
+    → numbers_in (length xs) (flat_map (to_be_bytes w32) xs ++ rest) ≡ xs
 numbers_read [] rest fit = refl
 numbers_read (x ∷ xs) rest fit =
-    let whole : flat_map (to_be_bytes w32) (x ∷ xs) ++ rest ≡ to_be_bytes w32 x ++ (flat_map (to_be_bytes w32) xs ++ rest) =
+    let whole : flat_map (to_be_bytes w32) (x ∷ xs) ++ rest
+    ≡ to_be_bytes w32 x ++ (flat_map (to_be_bytes w32) xs ++ rest) =
     append_assoc (to_be_bytes w32 x) (flat_map (to_be_bytes w32) xs) rest in
-    let here : number_at 0 4 (to_be_bytes w32 x ++ (flat_map (to_be_bytes w32) xs ++ rest)) ≡ x = big_number-reads_back 4 x (flat_map (to_be_bytes w32) xs ++ rest) fit.0 in
+    let here : number_at 0 4 (to_be_bytes w32 x ++ (flat_map (to_be_bytes w32) xs ++ rest)) ≡ x =
+    big_number-reads_back 4 x (flat_map (to_be_bytes w32) xs ++ rest) fit.0 in
     let later = numbers_read xs rest fit.1 in
     ap (λ (t : List ℕ). numbers_in (suc (length xs)) t) whole
     ∙ ap (λ (y : ℕ). y ∷ numbers_in (length xs) (flat_map (to_be_bytes w32) xs ++ rest)) here
@@ -129,16 +142,21 @@ numbers_read (x ∷ xs) rest fit =
 
 pub length_numbers : (xs : List ℕ) → length (flat_map (to_be_bytes w32) xs) ≡ 4 * length xs
 length_numbers [] = refl
-length_numbers (x ∷ xs) = omega (arith, length-append (to_be_bytes w32 x) (flat_map (to_be_bytes w32) xs), length_numbers xs)
+length_numbers (x ∷ xs) =
+    omega (arith, length-append (to_be_bytes w32 x) (flat_map (to_be_bytes w32) xs), length_numbers xs)
 
 -- one more number of those that a loop reads
-pub numbers_next : (count i x : ℕ) (bytes made made' all : List ℕ) → i < count → x ≡ number_at (4 * i) 4 bytes → made' ≡ made ++ x ∷ []
-    → made ++ numbers_in (count - i) (drop (4 * i) bytes) ≡ all → made' ++ numbers_in (count - (i + 1)) (drop (4 * (i + 1)) bytes) ≡ all
+pub numbers_next : (count i x : ℕ) (bytes made made' all : List ℕ) → i < count → x ≡ number_at (4 * i) 4 bytes
+    → made' ≡ made ++ x ∷ []
+    → made ++ numbers_in (count - i) (drop (4 * i) bytes) ≡ all
+    → made' ++ numbers_in (count - (i + 1)) (drop (4 * (i + 1)) bytes) ≡ all
 numbers_next count i x bytes made made' all lt is grown so_far =
     let left : count - i ≡ suc (count - (i + 1)) = omega arith in
     let place : 4 * i + 4 ≡ 4 * (i + 1) = omega arith in
-    let behind : drop 4 (drop (4 * i) bytes) ≡ drop (4 * (i + 1)) bytes = drop-drop 4 (4 * i) bytes ∙ ap (λ (n : ℕ). drop n bytes) place in
-    let opened : numbers_in (count - i) (drop (4 * i) bytes) ≡ x ∷ numbers_in (count - (i + 1)) (drop (4 * (i + 1)) bytes) = rw (left, behind, is) refl in
+    let behind : drop 4 (drop (4 * i) bytes) ≡ drop (4 * (i + 1)) bytes = drop-drop 4 (4 * i) bytes
+    ∙ ap (λ (n : ℕ). drop n bytes) place in
+    let opened : numbers_in (count - i) (drop (4 * i) bytes) ≡ x ∷ numbers_in (count - (i + 1))
+    (drop (4 * (i + 1)) bytes) = rw (left, behind, is) refl in
     ap (λ (t : List ℕ). t ++ numbers_in (count - (i + 1)) (drop (4 * (i + 1)) bytes)) grown
     ∙ append_assoc made (x ∷ []) (numbers_in (count - (i + 1)) (drop (4 * (i + 1)) bytes))
     ∙ ap (λ (t : List ℕ). made ++ t) (sym opened) ∙ so_far

@@ -25,10 +25,13 @@ short_links (Network mask routers) fits = tt
 short_links (Other bytes) fits = tt
 
 pub faultless_written : (lsa : Lsa) → IsLsa lsa → IsWritable lsa
-faultless_written lsa is = record { kind = is.of_type; entries = short_links lsa.body is.body; fits = omega (arith, is.length_fits) }
+faultless_written lsa is =
+    record { kind = is.of_type; entries = short_links lsa.body is.body; fits = omega (arith, is.length_fits) }
 
 -- each LSA of a file is without a fault
-pub faultless_at : (lsas : List Lsa) (at i : ℕ) (lsa : Lsa) → AreLsas at lsas → i < length lsas → lsa ≡ get_or lsas i lsa → IsLsa lsa
+pub faultless_at : (lsas : List Lsa) (at i : ℕ) (lsa : Lsa) → AreLsas at lsas → i < length lsas
+    → lsa ≡ get_or lsas i lsa → IsLsa lsa
 faultless_at [] at i lsa are lt is = absurd (omega arith)
 faultless_at (first ∷ lsas) at zero lsa are lt is = subst IsLsa (sym is) are.1
-faultless_at (first ∷ lsas) at (suc i) lsa are lt is = faultless_at lsas (at + lsa_length first) i lsa are.2 (omega arith) is
+faultless_at (first ∷ lsas) at (suc i) lsa are lt is = faultless_at lsas (at + lsa_length first) i lsa are.2
+    (omega arith) is

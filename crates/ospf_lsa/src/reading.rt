@@ -15,9 +15,9 @@ use std::alloc::Global;
 /// The LSAs that the bytes are, one after another and nothing between them (RFC 2328, section A.4). There are at most
 /// 8,388,608 bytes; no bytes are no LSAs.
 ///
-/// Each is without the faults of [`LsaKind`](crate::LsaKind). A router-LSA and a network-LSA are read as such; of an LSA
-/// of another type the length, the checksum and the sequence number are looked at, and its body is kept as bytes. It is
-/// one pass, and the room for each body is reserved once.
+/// Each is without the faults of [`LsaKind`](crate::LsaKind). A router-LSA and a network-LSA are read as such; of an
+/// LSA of another type the length, the checksum and the sequence number are looked at, and its body is kept as bytes.
+/// It is one pass, and the room for each body is reserved once.
 ///
 /// # Errors
 ///

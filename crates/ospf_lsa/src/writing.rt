@@ -24,8 +24,8 @@ const CHECKSUM: usize = 16;
 /// The bytes of an LSA (RFC 2328, section A.4), with its length and a fresh checksum (section 12.1.7); its own
 /// `checksum` is not used.
 ///
-/// The type must be 1 for a router-LSA's body, 2 for a network-LSA's, and another one for [`Body::Other`]. The whole may
-/// have at most 65,535 bytes, and each link at most 255 TOS entries.
+/// The type must be 1 for a router-LSA's body, 2 for a network-LSA's, and another one for [`Body::Other`]. The whole
+/// may have at most 65,535 bytes, and each link at most 255 TOS entries.
 ///
 /// Where its sequence number is not the reserved one, a router-LSA has its advertising router as link state ID, and no
 /// link to a router or to a transit network in it has metric 0, [`read_lsas`](crate::read_lsas) reads this one LSA

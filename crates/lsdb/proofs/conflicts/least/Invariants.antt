@@ -9,4 +9,8 @@ abbrev pub invariant-loop-lsa : goal.invariant-loop-lsa
 invariant-loop-lsa l =
     let lsas = iter_rest (zip_first l.lsa-iterator) in
     let places = iter_rest (zip_second l.lsa-iterator) in
-    record { even : length places ≡ length lsas; rest : earlier l.least (least_conflict (entries_of lsas places)) ≡ least_conflict (entries_of l.lsas l.differing) }
+    record {
+      even : length places ≡ length lsas;
+      rest : earlier l.least (least_conflict (entries_of lsas places))
+          ≡ least_conflict (entries_of l.lsas l.differing);
+    }

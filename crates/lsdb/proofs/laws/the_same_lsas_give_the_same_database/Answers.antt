@@ -12,7 +12,8 @@ returns-clause-keys c = λ lsas others same. keys_reordered lsas others (same_ag
 
 pub returns-clause-settled : goal.returns-clause-settled
 returns-clause-settled c = λ lsas others same.
-    let agree = same_agree lsas others same in (settled_agree lsas others agree, settled_agree others lsas (swapped lsas others agree))
+    let agree = same_agree lsas others same in
+    (settled_agree lsas others agree, settled_agree others lsas (swapped lsas others agree))
 
 pub returns-clause-listed : goal.returns-clause-listed
 returns-clause-listed c = λ lsas others same. newest_reordered lsas others (same_agree lsas others same)

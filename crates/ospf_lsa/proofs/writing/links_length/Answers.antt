@@ -13,6 +13,8 @@ loop-link-preserved c =
       arith,
       length_link c.link-item.result,
       c.loop-link.invariant,
-      ap length (texts_of link_text c.args.links.now c.loop-link.link-index c.link-item.result c.loop-link-test.true c.link-item.is),
-      length-append (link_text c.link-item.result) (flat_map link_text (drop (c.loop-link.link-index + 1) c.args.links.now)),
+      ap length (texts_of link_text c.args.links.now c.loop-link.link-index c.link-item.result c.loop-link-test.true
+          c.link-item.is),
+      length-append (link_text c.link-item.result)
+          (flat_map link_text (drop (c.loop-link.link-index + 1) c.args.links.now)),
     ))

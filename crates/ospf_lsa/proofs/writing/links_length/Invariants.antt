@@ -5,4 +5,5 @@ use Rattle.ospf_lsa.proofs.writing.links_length.Given as goal
 
 -- What is left to count, and what was counted, is all.
 abbrev pub invariant-loop-link : goal.invariant-loop-link
-invariant-loop-link l = l.total + length (flat_map link_text (drop l.link-index l.links)) ≡ length (flat_map link_text l.links)
+invariant-loop-link l = l.total + length (flat_map link_text (drop l.link-index l.links))
+    ≡ length (flat_map link_text l.links)

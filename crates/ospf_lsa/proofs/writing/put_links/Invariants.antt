@@ -5,7 +5,7 @@ use Rattle.ospf_lsa.specs.Lsas.{FitsLink}
 use Rattle.ospf_lsa.specs.Written.{HasFewEntries}
 use Rattle.ospf_lsa.proofs.writing.put_links.Given as goal
 
--- What is left to add, behind what was added, is all.
+-- What is left to add, after what was added, is all.
 abbrev pub invariant-loop-link : goal.invariant-loop-link
 invariant-loop-link l = record {
   text : l.out.items ++ flat_map link_text (drop l.link-index l.links) ≡ l.fn.out.items ++ flat_map link_text l.links;

@@ -5,7 +5,8 @@ use Rattle.lsdb.proofs.lsdb.Lsdb.settled.Goals as goal
 
 pub returns-in-None-clause-ok : goal.returns-in-None-clause-ok
 returns-in-None-clause-ok c =
-    let none : least_conflict c.args.self.now.entries ≡ None = search rules in (λ ok. all_quiet c.args.self.now.entries none, λ quiet. refl)
+    let none : least_conflict c.args.self.now.entries ≡ None =
+    search rules in (λ ok. all_quiet c.args.self.now.entries none, λ quiet. refl)
 
 pub returns-in-Some-clause-ok : goal.returns-in-Some-clause-ok
 returns-in-Some-clause-ok c =
