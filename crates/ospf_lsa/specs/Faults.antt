@@ -12,7 +12,7 @@ use Rattle.ospf_lsa.specs.Lsas.{has_zero_metric, FitsBody}
 use Rattle.ospf_lsa.specs.Types.{router_lsa, network_lsa}
 
 -- these bytes are a router-LSA's body of these links: its flags, its spare byte, the number of its links, and they
--- themselves, with nothing after them; each number fits its field, that of a link's TOS entries too
+-- themselves, with nothing after them; each number fits its field, the count of a link's TOS entries among them
 pub record SpellsLinks (bytes : List ℕ) (links : List RouterLink) : Type 0 where
   pub flags : ℕ
   pub spare : ℕ

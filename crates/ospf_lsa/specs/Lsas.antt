@@ -23,7 +23,7 @@ Is32Bits number = number < 2 ^ 32
 abbrev pub IsByte : ℕ → Type 0
 IsByte number = number < 2 ^ 8
 
--- each number of a link fits its field, that of its TOS entries too
+-- each number of a link fits its field, the count of its TOS entries among them
 pub record FitsLink (link : RouterLink) : Type 0 where
   pub id : link.id < 2 ^ 32
   pub link_data : link.link_data < 2 ^ 32
