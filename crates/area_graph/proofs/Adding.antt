@@ -6,10 +6,10 @@ use Rattle.std.proofs.lemmas.List.{append-nil, append_assoc, drop_more, drop_all
 use Rattle.std.proofs.lemmas.Option.{slice_get-get_or, slice_get_within, get_or_from_slice_get}
 use Rattle.mrt_graph.specs.declared.node_id.NodeId.{NodeId}
 use Rattle.ospf_lsa.specs.declared.lsa.Lsa.{Lsa}
-use Rattle.area_graph.specs.Entries.{entry_of_listed, entries_of_listed, entries_of, entries_from}
+use Rattle.area_graph.specs.NumberedEntries.{entry_of_listed, entries_of_listed, entries_of, entries_from}
 use Rattle.area_graph.specs.Nodes.{speakers}
 use Rattle.area_graph.specs.Speaking.{IsSpeakerOf}
-use Rattle.area_graph.specs.declared.entry.Entry.{Entry}
+use Rattle.area_graph.specs.declared.entry.NumberedEntry.{NumberedEntry as Entry}
 use Rattle.area_graph.specs.declared.speaker.Speaker.{Speaker}
 use Rattle.area_graph.proofs.Alongside.{Beside, zip_at, length_zip}
 

@@ -1,8 +1,10 @@
 -- Two lists whose elements are related place by place.
-use Rattle.std.proofs.Common.{◌≡◌, ◌∙◌, ◌||◌, ◌++◌, ℕ, zero, suc, Bool, true, false, cond, List, [], ◌∷◌, Some, length, map, slice_get, refl, ap, subst, arith}
+use Rattle.std.proofs.Common.{◌≡◌, ◌∙◌, ◌||◌, ◌++◌, ℕ, zero, suc, Bool, true, false, cond, List, [], ◌∷◌, Option, Some, None, length, map, slice_get, inl, inr, refl, sym, ap, subst, arith}
 use Rattle.std.specs.declared.cmp.Ordering.{Ordering}
-use Rattle.std.specs.List.{AllByRecursion, AllZip, IsDistinct, filter, list_any}
+use Rattle.std.specs.Prelude.{nat_lt}
+use Rattle.std.specs.List.{AllByRecursion, AllZip, IsDistinct, filter, find, list_any, position, position_or_len}
 use Rattle.std.specs.Ordering.{is_lt}
+use Rattle.std.proofs.lemmas.Bool.{cases_Bool}
 use Rattle.std.proofs.lemmas.Option.{same_Some}
 use Rattle.area_graph.specs.InOrder.{put_in_order, in_order}
 
@@ -101,3 +103,50 @@ module _ {A B : Type 0} (R : A → B → Type 0) where
   zip_at (x ∷ xs) (y ∷ ys) zero a zip there = record { other = y; there = refl; related = subst (λ (z : A). R z y) (same_Some x a there) zip.0 }
   zip_at (x ∷ xs) (y ∷ ys) (suc i) a zip there =
       let rest = zip_at xs ys i a zip.1 there in record { other = rest.other; there = rest.there; related = rest.related }
+
+  -- lists one after the other
+  pub zip_append : (xs xs' : List A) (ys ys' : List B) → AllZip R xs ys → AllZip R xs' ys' → AllZip R (xs ++ xs') (ys ++ ys')
+  zip_append [] xs' [] ys' zip zip' = zip'
+  zip_append [] xs' (y ∷ ys) ys' zip zip' = absurd zip
+  zip_append (x ∷ xs) xs' [] ys' zip zip' = absurd zip
+  zip_append (x ∷ xs) xs' (y ∷ ys) ys' zip zip' = (zip.0, zip_append xs xs' ys ys' zip.1 zip')
+
+  -- both are there and related, or neither is
+  abbrev pub AreBoth : Option A → Option B → Type 0
+  AreBoth None None = Unit {0}
+  AreBoth None (Some b) = ⊥
+  AreBoth (Some a) None = ⊥
+  AreBoth (Some a) (Some b) = R a b
+
+  find_by : (p : A → Bool) (q : B → Bool) (a : A) (b : B) (xs : List A) (ys : List B) (t u : Bool) → t ≡ u → R a b → AreBoth (find p xs) (find q ys)
+      → AreBoth (cond t (Some a) (find p xs)) (cond u (Some b) (find q ys))
+  find_by p q a b xs ys true true same here rest = here
+  find_by p q a b xs ys true false same here rest = absurd cc
+  find_by p q a b xs ys false true same here rest = absurd cc
+  find_by p q a b xs ys false false same here rest = rest
+
+  pub zip_find : (p : A → Bool) (q : B → Bool) → ((a : A) (b : B) → R a b → p a ≡ q b) → (xs : List A) (ys : List B) → AllZip R xs ys
+      → AreBoth (find p xs) (find q ys)
+  zip_find p q same [] [] zip = tt
+  zip_find p q same [] (y ∷ ys) zip = absurd zip
+  zip_find p q same (x ∷ xs) [] zip = absurd zip
+  zip_find p q same (x ∷ xs) (y ∷ ys) zip = find_by p q x y xs ys (p x) (q y) (same x y zip.0) zip.0 (zip_find p q same xs ys zip.1)
+
+  zip_place : (p : A → Bool) (q : B → Bool) → ((a : A) (b : B) → R a b → p a ≡ q b) → (xs : List A) (ys : List B) → AllZip R xs ys
+      → position_or_len p xs ≡ position_or_len q ys
+  zip_place p q same [] [] zip = refl
+  zip_place p q same [] (y ∷ ys) zip = absurd zip
+  zip_place p q same (x ∷ xs) [] zip = absurd zip
+  zip_place p q same (x ∷ xs) (y ∷ ys) zip = elim (cases_Bool (p x)) [
+    | inl passes ↦ let also : q y ≡ true = sym (same x y zip.0) ∙ passes in rw (passes, also) refl
+    | inr fails ↦
+        let also : q y ≡ false = sym (same x y zip.0) ∙ fails in
+        let rest = zip_place p q same xs ys zip.1 in
+        rw (fails, also) (omega (arith, rest))
+  ]
+
+  pub zip_position : (p : A → Bool) (q : B → Bool) → ((a : A) (b : B) → R a b → p a ≡ q b) → (xs : List A) (ys : List B) → AllZip R xs ys
+      → position p xs ≡ position q ys
+  zip_position p q same xs ys zip =
+      ap (λ (n : ℕ). cond (nat_lt n (length xs)) (Some n) None) (zip_place p q same xs ys zip)
+      ∙ ap (λ (n : ℕ). cond (nat_lt (position_or_len q ys) n) (Some (position_or_len q ys)) None) (length_zip xs ys zip)

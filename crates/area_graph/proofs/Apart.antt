@@ -12,9 +12,9 @@ use Rattle.std.proofs.lemmas.List.{get_or-take, get_or_default, length-take-le}
 use Rattle.std.proofs.lemmas.List.Elements.{recursion_from_All, filter_agree}
 use Rattle.std.proofs.lemmas.List.Sorted.{IsPermutation-sym, list_any-IsPermutation, sum_by-IsPermutation}
 use Rattle.std.proofs.lemmas.List.Sums.{sum_by-cons, sum_by-le-sum_by, sum_by_more_le, get_or-le-sum_by}
-use Rattle.area_graph.specs.declared.entry.Entry.{Entry}
-use Rattle.area_graph.specs.Arcs.{answers, is_arc, arc_cmp, pairing_cmp, arcs_among}
-use Rattle.area_graph.specs.Bonds.{same_entry}
+use Rattle.area_graph.specs.declared.entry.NumberedEntry.{NumberedEntry as Entry}
+use Rattle.area_graph.specs.NumberedArcs.{answers, is_arc, arc_cmp, pairing_cmp, arcs_among}
+use Rattle.area_graph.specs.NumberedBonds.{same_entry}
 use Rattle.area_graph.specs.InOrder.{in_order}
 use Rattle.area_graph.specs.Listed.{AreApart}
 use Rattle.area_graph.proofs.InOrder.{AreAlike, OnlyEqualsTie, one_if, Rises, one_order, in_order_rises, in_order_sorted, in_order_moves, sum_by-in_order, Contains-from_in_order, Contains-in_order, contains_later}

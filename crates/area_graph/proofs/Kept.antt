@@ -11,11 +11,11 @@ use Rattle.std.proofs.lemmas.Option.{same_Some}
 use Rattle.mrt_graph.specs.NodeOrder.{node_id_cmp}
 use Rattle.mrt_graph.specs.declared.node_id.NodeId.{NodeId}
 use Rattle.area_graph.specs.declared.area_types.Bond.{Bond}
-use Rattle.area_graph.specs.declared.entry.Entry.{Entry}
-use Rattle.area_graph.specs.Arcs.{arc_cmp, pairing_cmp, is_arc, arcs_among}
+use Rattle.area_graph.specs.declared.entry.NumberedEntry.{NumberedEntry as Entry}
+use Rattle.area_graph.specs.NumberedArcs.{arc_cmp, pairing_cmp, is_arc, arcs_among}
 use Rattle.area_graph.specs.AreaInvariant.{by_tail_cmp, by_nodes_cmp, IsArea}
-use Rattle.area_graph.specs.AreaOf.{numbered, bond_from, arcs_of, bonds_of}
-use Rattle.area_graph.specs.Bonds.{partner, Tie, pair_of, pairs, singles, ties, same_entry}
+use Rattle.area_graph.specs.NumberedArea.{numbered, bond_from, arcs_of, bonds_of}
+use Rattle.area_graph.specs.NumberedBonds.{partner, Tie, pair_of, pairs, singles, ties, same_entry}
 use Rattle.area_graph.specs.InOrder.{in_order}
 use Rattle.area_graph.specs.Listed.{IsEntry, AreEntries}
 use Rattle.area_graph.proofs.InOrder.{Rises, is_before, in_order_rises, sorted_from_rises, length-in_order}

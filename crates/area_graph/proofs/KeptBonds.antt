@@ -1,16 +1,16 @@
 -- What an area keeps of its arcs and bonds.
-use Rattle.std.proofs.Common.{◌≡◌, ◌∙◌, ◌≤◌, ◌&&◌, ◌==◌, ◌⊎◌, ◌≢◌, ℕ, Bool, true, false, List, Option, Some, None, slice_get, inl, inr, refl, sym, ap, subst, arith}
+use Rattle.std.proofs.Common.{◌≡◌, ◌∙◌, ◌≤◌, ◌&&◌, ◌==◌, ◌⊎◌, ◌≢◌, ℕ, Bool, true, false, List, Option, Some, None, slice_get, length, inl, inr, refl, sym, ap, subst, arith}
 use Rattle.std.specs.List.{AllByRecursion}
 use Rattle.std.specs.Option.{option_map, unwrap_or}
 use Rattle.std.proofs.lemmas.Bool.{and_parts, and_from, or_left, or_right, eq-eqb, eqb-true, false_from_ne_true}
 use Rattle.std.proofs.lemmas.Option.{same_Some, slice_get-map}
 use Rattle.mrt_graph.specs.declared.node_id.NodeId.{NodeId}
 use Rattle.area_graph.specs.declared.area_types.Bond.{Bond}
-use Rattle.area_graph.specs.declared.entry.Entry.{Entry}
-use Rattle.area_graph.specs.Arcs.{arc_cmp}
+use Rattle.area_graph.specs.declared.entry.NumberedEntry.{NumberedEntry as Entry}
+use Rattle.area_graph.specs.NumberedArcs.{arc_cmp}
 use Rattle.area_graph.specs.AreaInvariant.{IsThere, IsBack, IsArc, IsBond, arcs_over, HasArcs}
-use Rattle.area_graph.specs.AreaOf.{numbered, bond_by, bond_from, arcs_of, bonds_of}
-use Rattle.area_graph.specs.Bonds.{Tie, ties, same_entry, is_of, bond_of}
+use Rattle.area_graph.specs.NumberedArea.{numbered, bond_by, bond_from, arcs_of, bonds_of}
+use Rattle.area_graph.specs.NumberedBonds.{Tie, ties, same_entry, is_of, bond_of}
 use Rattle.area_graph.specs.InOrder.{in_order}
 use Rattle.area_graph.specs.Listed.{IsEntry}
 use Rattle.area_graph.proofs.KeptLists.{Has, all_has, all_from_has, all_map, has_at, tally, count_is_tally, tally_map, same_tests, tally_alike, tally_none, position_of_one, Placed, placed}
@@ -33,7 +33,7 @@ pub number_is : (arcs : List Entry) (arc : Entry) (place : ℕ) (tie : Tie) → 
     → slice_get (ties arcs) place ≡ Some tie → is_of arc tie ≡ true → bond_of (ties arcs) arc ≡ place
 number_is arcs arc place tie once has different there is =
     let one : tally (is_of arc) (ties arcs) ≤ 1 = omega (arith, of_one_tie arcs arc once has different) in
-    ap (λ o. unwrap_or o 0) (position_of_one (is_of arc) (ties arcs) place tie one there is)
+    ap (λ o. unwrap_or o (length (ties arcs))) (position_of_one (is_of arc) (ties arcs) place tie one there is)
 
 pub of_bond : (arcs : List Entry) (arc : Entry) → Once arcs → Has arcs arc → arc.tail ≢ arc.far → IsOfBond arcs arc
 of_bond arcs arc once has different =

@@ -25,4 +25,6 @@ pub mod Turns
 pub mod Ties
 pub mod Singles
 pub mod Paired
+pub mod ByNumber
+pub mod ListedByNumber
 pub mod Built

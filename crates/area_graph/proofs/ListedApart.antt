@@ -20,11 +20,12 @@ use Rattle.ospf_lsa.specs.declared.lsa.Lsa.{Lsa}
 use Rattle.ospf_lsa.specs.declared.lsa.RouterLink.{RouterLink}
 use Rattle.lsdb.specs.Installing.{IsKept}
 use Rattle.lsdb.specs.Rank.{is_at_max_age}
-use Rattle.area_graph.specs.Bonds.{same_entry}
-use Rattle.area_graph.specs.Entries.{far_of, entry_of_link, entry_of_listed, entries_of_links, entries_of_listed, entries_of, entries_from, entries}
+use Rattle.area_graph.specs.NumberedBonds.{same_entry}
+use Rattle.area_graph.specs.NumberedEntries.{entry_of_link, entry_of_listed, entries_of_links, entries_of_listed, entries_of, entries_from, entries}
+use Rattle.area_graph.specs.Entries.{far_of}
 use Rattle.area_graph.specs.Listed.{IsEntry, AreEntries}
 use Rattle.area_graph.specs.Nodes.{router, network, same_node, node_of, number_of, live, speaks, speakers, nodes}
-use Rattle.area_graph.specs.declared.entry.Entry.{Entry}
+use Rattle.area_graph.specs.declared.entry.NumberedEntry.{NumberedEntry as Entry}
 use Rattle.area_graph.proofs.InOrder.{all_in_order}
 use Rattle.area_graph.proofs.OneOfEachNode.{of_router, of_network}
 use Rattle.area_graph.proofs.SameNodes.{node_is}
@@ -126,7 +127,7 @@ listed_kept ids tail own place listed e at_tail is =
       of_router = λ other. absurd (other (network_is_network ids tail own at_tail));
     }))
 
-all_with : {X : Type 0} (P : X → Type 0) (o : Option X) (rest : List X) → ((x : X) → o ≡ Some x → P x) → AllByRecursion P rest → AllByRecursion P (option_to_list o ++ rest)
+pub all_with : {X : Type 0} (P : X → Type 0) (o : Option X) (rest : List X) → ((x : X) → o ≡ Some x → P x) → AllByRecursion P rest → AllByRecursion P (option_to_list o ++ rest)
 all_with P None rest here later = later
 all_with P (Some x) rest here later = (here x refl, later)
 
@@ -153,25 +154,23 @@ body_kept ids tail lsa (Network mask routers) type kind metrics at_tail =
     all_listed_kept ids tail lsa.id 0 routers (at_tail ∙ ap (λ (x : NodeId). Some x) (of_network lsa kind))
 body_kept ids tail lsa (Other bytes) type kind metrics at_tail = absurd (elim type [ inl is ↦ kind.0 is | inr is ↦ kind.1 is ])
 
-all_append : {X : Type 0} (P : X → Type 0) (xs ys : List X) → AllByRecursion P xs → AllByRecursion P ys → AllByRecursion P (xs ++ ys)
+pub all_append : {X : Type 0} (P : X → Type 0) (xs ys : List X) → AllByRecursion P xs → AllByRecursion P ys → AllByRecursion P (xs ++ ys)
 all_append P [] ys here later = later
 all_append P (x ∷ xs) ys here later = (here.0, all_append P xs ys here.1 later)
 
 -- LSAs that speak for the nodes from that number on
-StandFrom : List NodeId → ℕ → List Lsa → Type 0
+abbrev pub StandFrom : List NodeId → ℕ → List Lsa → Type 0
 StandFrom ids tail [] = Unit {0}
 StandFrom ids tail (lsa ∷ lsas) = (slice_get ids tail ≡ Some (node_of lsa)) × StandFrom ids (tail + 1) lsas
 
 from_kept : (ids : List NodeId) (tail : ℕ) (lsas : List Lsa) → AllByRecursion IsKept lsas → StandFrom ids tail lsas
     → AllByRecursion (IsEntry ids) (entries_from ids tail lsas)
-unfolding StandFrom
 from_kept ids tail [] kept stand = tt
 from_kept ids tail (lsa ∷ lsas) kept stand =
     all_append (IsEntry ids) (entries_of ids tail lsa.id lsa.body) (entries_from ids (tail + 1) lsas)
     (body_kept ids tail lsa lsa.body kept.0.type kept.0.body kept.0.metrics stand.0) (from_kept ids (tail + 1) lsas kept.1 stand.1)
 
-stand_from : (ids : List NodeId) (tail : ℕ) (lsas : List Lsa) → ((k : ℕ) → slice_get ids (tail + k) ≡ slice_get (map node_of lsas) k) → StandFrom ids tail lsas
-unfolding StandFrom
+pub stand_from : (ids : List NodeId) (tail : ℕ) (lsas : List Lsa) → ((k : ℕ) → slice_get ids (tail + k) ≡ slice_get (map node_of lsas) k) → StandFrom ids tail lsas
 stand_from ids tail [] at = tt
 stand_from ids tail (lsa ∷ lsas) at = (
   ap (slice_get ids) (sym (add-zero tail)) ∙ at 0,

@@ -63,7 +63,7 @@ number_by : (b : Bool) (id : ℕ) → (cond b (router id) (network id)).number �
 number_by true id = refl
 number_by false id = refl
 
-number_of_node : (kind id : ℕ) → (node_by kind id).number ≡ id
+pub number_of_node : (kind id : ℕ) → (node_by kind id).number ≡ id
 number_of_node kind id = number_by (kind == 1) id
 
 -- LSAs of one node and one advertising router have one key

@@ -2,8 +2,8 @@
 use Rattle.std.proofs.Common.{◌≤◌, List, length, arith}
 use Rattle.std.specs.List.{AllByRecursion, filter}
 use Rattle.mrt_graph.specs.declared.node_id.NodeId.{NodeId}
-use Rattle.area_graph.specs.declared.entry.Entry.{Entry}
-use Rattle.area_graph.specs.Arcs.{is_arc, pairing_cmp, arcs_among}
+use Rattle.area_graph.specs.declared.entry.NumberedEntry.{NumberedEntry as Entry}
+use Rattle.area_graph.specs.NumberedArcs.{is_arc, pairing_cmp, arcs_among}
 use Rattle.area_graph.specs.Listed.{AreApart, AreEntries, IsEntry}
 use Rattle.area_graph.specs.Pairing.{AreOrdered, IsBetween}
 use Rattle.area_graph.proofs.Apart.{all_filter, arcs_apart, arcs_sorted}

@@ -6,9 +6,9 @@ use Rattle.std.proofs.lemmas.Bool.{or_from, or_left, cases_lt}
 use Rattle.std.proofs.lemmas.List.{append_assoc, append-nil, length-append, length-map, length-take-le, map-append, take-append-drop, take_all}
 use Rattle.std.proofs.lemmas.List.Elements.{filter-append, filter_more}
 use Rattle.std.proofs.lemmas.List.Sums.{count_by-le-length, length-filter}
-use Rattle.area_graph.specs.declared.entry.Entry.{Entry}
-use Rattle.area_graph.specs.Arcs.{arc_cmp}
-use Rattle.area_graph.specs.Bonds.{Tie, same_entry, partner, pair_of, pairs, singles, ties, is_of, bond_of}
+use Rattle.area_graph.specs.declared.entry.NumberedEntry.{NumberedEntry as Entry}
+use Rattle.area_graph.specs.NumberedArcs.{arc_cmp}
+use Rattle.area_graph.specs.NumberedBonds.{Tie, same_entry, partner, pair_of, pairs, singles, ties, is_of, bond_of}
 use Rattle.area_graph.specs.InOrder.{in_order}
 use Rattle.area_graph.specs.Pairing.{AreOrdered, IsBetween}
 use Rattle.area_graph.proofs.Apart.{AreApart-in_order, same_itself}
@@ -153,12 +153,12 @@ number_by None arcs ordered place arc within at between is =
     (all_append (λ tie. is_of arc tie ≡ false) (pairs arcs) (singles_upto arcs place) none (none_single arcs arc (take place (ordered_arcs arcs)) differ))
     (or_left (same_entry arc arc) false (same_itself arc)) in
     ap (λ (o : Option ℕ). unwrap_or o (length (ties_upto arcs place))) (position_is_none (is_of arc) (pairs arcs) none)
-    ∙ sym (ap (λ (o : Option ℕ). unwrap_or o 0) found)
+    ∙ sym (ap (λ (o : Option ℕ). unwrap_or o (length (ties arcs))) found)
 number_by (Some back) arcs ordered place arc within at between is =
     let there = Contains-from_in_order arc_cmp arcs arc (place, within, at) in
     let has = pair_there arcs ordered arc back there between is in
     ap (λ (o : Option ℕ). unwrap_or o (length (ties_upto arcs place))) has.1
-    ∙ sym (ap (λ (o : Option ℕ). unwrap_or o 0) (position_stays (is_of arc) (pairs arcs) (singles arcs) has.0 has.1))
+    ∙ sym (ap (λ (o : Option ℕ). unwrap_or o (length (ties arcs))) (position_stays (is_of arc) (pairs arcs) (singles arcs) has.0 has.1))
 
 -- the number of an arc's bond: that of its pair, or else how many bonds there are before
 pub number_is : (arcs : List Entry) → AreOrdered arcs → (place : ℕ) (arc : Entry) → place < length (ordered_arcs arcs) → get_or (ordered_arcs arcs) place arc ≡ arc → IsBetween arc

@@ -17,10 +17,9 @@ use Rattle.lsdb.specs.Orders.{timeless}
 use Rattle.lsdb.specs.Rank.{is_at_max_age}
 use Rattle.lsdb.proofs.Arrivals.{own_key}
 use Rattle.lsdb.specs.declared.key.Key.{Key}
-use Rattle.area_graph.specs.declared.entry.Entry.{Entry}
 use Rattle.area_graph.specs.Arcs.{arcs_among}
-use Rattle.area_graph.specs.AreaOf.{arcs_of, bonds_of, area_of}
-use Rattle.area_graph.specs.Entries.{entries_of, entries_from}
+use Rattle.area_graph.specs.AreaOf.{area_of, area_with}
+use Rattle.area_graph.specs.Entries.{entries_of, entries_in}
 use Rattle.area_graph.specs.Nodes.{router, network, same_node, node_of, live, is_above, speaks, speakers}
 use Rattle.area_graph.specs.Parts.{AreaParts}
 use Rattle.area_graph.proofs.InOrder.{Rises, is_before, before_ranks, in_order_rises, Contains-in_order, not_before_itself}
@@ -238,23 +237,21 @@ same_speakers one other newest newest' there back =
     (climbs_timeless (speakers other) (speakers_climb other newest')) (speakers_say one other there back) (speakers_say other one back there)
 
 -- the area of LSAs that speak
-abbrev area_with : List NodeId → List Entry → AreaParts
-area_with ids all = record { ids = ids; arcs = arcs_of (arcs_among all); bonds = bonds_of (arcs_among all) }
-
 abbrev area_by : List Lsa → AreaParts
-area_by speaking = area_with (map node_of speaking) (entries_from (map node_of speaking) 0 speaking)
+area_by speaking = area_with (map node_of speaking) (arcs_among (entries_in speaking))
 
 nodes_timeless : (xs : List Lsa) → map node_of (map timeless xs) ≡ map node_of xs
 nodes_timeless [] = refl
 nodes_timeless (x ∷ xs) = ap (λ rest. node_of x ∷ rest) (nodes_timeless xs)
 
-entries_timeless : (ids : List NodeId) (tail : ℕ) (xs : List Lsa) → entries_from ids tail (map timeless xs) ≡ entries_from ids tail xs
-entries_timeless ids tail [] = refl
-entries_timeless ids tail (x ∷ xs) = ap (λ rest. entries_of ids tail x.id x.body ++ rest) (entries_timeless ids (tail + 1) xs)
+entries_timeless : (xs : List Lsa) → entries_in (map timeless xs) ≡ entries_in xs
+entries_timeless [] = refl
+entries_timeless (x ∷ xs) = ap (λ rest. entries_of (node_of x) x.body ++ rest) (entries_timeless xs)
 
 area_timeless : (xs : List Lsa) → area_by (map timeless xs) ≡ area_by xs
 area_timeless xs =
-    ap (λ ids. area_with ids (entries_from ids 0 (map timeless xs))) (nodes_timeless xs) ∙ ap (area_with (map node_of xs)) (entries_timeless (map node_of xs) 0 xs)
+    ap (λ ids. area_with ids (arcs_among (entries_in (map timeless xs)))) (nodes_timeless xs)
+    ∙ ap (λ all. area_with (map node_of xs) (arcs_among all)) (entries_timeless xs)
 
 -- LSAs that say the same have the same area
 pub same_area : (one other : List Lsa) → AreNewest one → AreNewest other → SayAll one other → SayAll other one → area_of one ≡ area_of other

@@ -6,9 +6,9 @@ use Rattle.std.proofs.lemmas.List.{get_or_default}
 use Rattle.std.proofs.lemmas.List.Elements.{Contains-get_or}
 use Rattle.std.proofs.lemmas.List.Sorted.{sorted_far}
 use Rattle.std.proofs.lemmas.List.Sums.{sum_by-cons, length-filter, prefix_len-le-length, fails_before_first, passes_at_first}
-use Rattle.area_graph.specs.declared.entry.Entry.{Entry}
-use Rattle.area_graph.specs.Arcs.{answers, pairing_cmp}
-use Rattle.area_graph.specs.Bonds.{same_way, same_entry, turn_of, are_partners, partner}
+use Rattle.area_graph.specs.declared.entry.NumberedEntry.{NumberedEntry as Entry}
+use Rattle.area_graph.specs.NumberedArcs.{answers, pairing_cmp}
+use Rattle.area_graph.specs.NumberedBonds.{same_way, same_entry, turn_of, are_partners, partner}
 use Rattle.area_graph.specs.Pairing.{AreOrdered}
 use Rattle.area_graph.specs.Ways.{is_before_way, IsFirstOf}
 use Rattle.area_graph.proofs.Apart.{pairing_tie, pairing_total}

@@ -12,8 +12,8 @@ use Rattle.std.proofs.lemmas.List.{get_or_default}
 use Rattle.std.proofs.lemmas.List.Elements.{recursion_from_All}
 use Rattle.std.proofs.lemmas.List.Sorted.{sorted_far}
 use Rattle.std.proofs.lemmas.Map.Keys.{ge_from_not_lt}
-use Rattle.area_graph.specs.declared.entry.Entry.{Entry}
-use Rattle.area_graph.specs.Arcs.{answers, is_arc, pairing_cmp}
+use Rattle.area_graph.specs.declared.entry.NumberedEntry.{NumberedEntry as Entry}
+use Rattle.area_graph.specs.NumberedArcs.{answers, is_arc, pairing_cmp}
 use Rattle.area_graph.specs.Ways.{is_before_way, IsFirstOf}
 use Rattle.area_graph.proofs.Apart.{pairing_total}
 use Rattle.area_graph.proofs.InOrder.{is_before, before_ranks}

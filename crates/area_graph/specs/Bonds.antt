@@ -1,21 +1,23 @@
 -- How arcs are paired, and the bonds that they make. The lists of arcs are in the order in which they are paired.
-use Rattle.std.specs.Prelude.{◌++◌, ◌==◌, ◌&&◌, ◌||◌, ℕ, Bool, nat_lt, List, length, map, Option, Some, None}
-use Rattle.std.specs.List.{filter, filter_map, find, position}
-use Rattle.std.specs.Option.{is_none, option_map, option_map_or, unwrap_or}
+use Rattle.std.specs.Prelude.{◌++◌, ◌==◌, ◌&&◌, ◌||◌, ℕ, Bool, false, List, length, Option}
+use Rattle.std.specs.List.{count_by, filter, find, position}
+use Rattle.std.specs.Option.{is_none, is_some, option_map_or, unwrap_or}
 use Rattle.std.specs.Ordering.{is_lt}
-use Rattle.area_graph.specs.declared.entry.Entry.{Entry}
-use Rattle.area_graph.specs.Arcs.{answers, arc_cmp, pairing_cmp}
+use Rattle.mrt_graph.specs.NodeOrder.{node_id_cmp}
+use Rattle.area_graph.specs.Arcs.{answers, arc_cmp, parallel_cmp}
+use Rattle.area_graph.specs.Entries.{Entry}
 use Rattle.area_graph.specs.InOrder.{in_order}
+use Rattle.area_graph.specs.Nodes.{same_node}
 
--- whether two arcs lead from one node to one node
-abbrev pub same_way : Entry → Entry → Bool
-same_way arc other = (other.tail == arc.tail) && (other.far == arc.far)
+-- whether two arcs have one direction: they lead from one node to one node
+abbrev pub same_direction : Entry → Entry → Bool
+same_direction arc other = same_node other.from arc.from && same_node other.to arc.to
 
--- how many arcs of the same way stand before an arc, by link data, then by place
+-- how many parallel arcs of its direction stand before an arc
 abbrev pub turn_of : List Entry → Entry → ℕ
-turn_of arcs arc = length (filter (λ other. same_way arc other && is_lt (pairing_cmp other arc)) arcs)
+turn_of arcs arc = length (filter (λ other. same_direction arc other && is_lt (parallel_cmp other arc)) arcs)
 
--- the k-th arc of one way and the k-th of the way back are partners
+-- an arc, and one of the way back before which as many parallel arcs stand, are partners
 abbrev pub are_partners : List Entry → Entry → Entry → Bool
 are_partners arcs arc back = answers arc back && (turn_of arcs back == turn_of arcs arc)
 
@@ -23,35 +25,26 @@ are_partners arcs arc back = answers arc back && (turn_of arcs back == turn_of a
 abbrev pub partner : List Entry → Entry → Option Entry
 partner arcs arc = find (are_partners arcs arc) arcs
 
--- what makes a bond: two partners, or one arc that has no partner
-pub record Tie : Type 0 where
-  pub one : Entry
-  pub other : Option Entry
+-- the pairs, each told by its arc that leaves the lower node: by lower node, then by higher node, then as parallel arcs
+abbrev pub pairs : List Entry → List Entry
+pairs arcs = filter (λ arc. is_some (partner arcs arc)) (filter (λ arc. is_lt (node_id_cmp arc.from arc.to)) arcs)
 
--- a bond of an arc and its partner, if it has one
-abbrev pub pair_of : List Entry → Entry → Option Tie
-pair_of arcs arc = option_map (λ back. record { one = arc; other = Some back }) (partner arcs arc)
+-- the arcs that have no partner, in the order of arcs
+abbrev pub singles : List Entry → List Entry
+singles arcs = filter (λ arc. is_none (partner arcs arc)) (in_order arc_cmp arcs)
 
--- the pairs, each told by the arc that leaves the lower node: by lower, then by higher node, and then as they are paired
-abbrev pub pairs : List Entry → List Tie
-pairs arcs = filter_map (pair_of arcs) (filter (λ arc. nat_lt arc.tail arc.far) arcs)
-
--- the arcs without a partner, in the order of arcs
-abbrev pub singles : List Entry → List Tie
-singles arcs = map (λ arc. record { one = arc; other = None }) (filter (λ arc. is_none (partner arcs arc)) (in_order arc_cmp arcs))
-
--- the bonds: first the pairs, then the single arcs
-abbrev pub ties : List Entry → List Tie
-ties arcs = pairs arcs ++ singles arcs
+-- the bonds, each told by one of its arcs: first the pairs, then the single arcs
+abbrev pub bonds : List Entry → List Entry
+bonds arcs = pairs arcs ++ singles arcs
 
 -- whether two entries are one: each has a place of its own in its node's LSA
 abbrev pub same_entry : Entry → Entry → Bool
-same_entry entry other = (other.tail == entry.tail) && (other.place == entry.place)
+same_entry entry other = same_node other.from entry.from && (other.place == entry.place)
 
--- whether an arc is of a bond
-abbrev pub is_of : Entry → Tie → Bool
-is_of arc tie = same_entry arc tie.one || option_map_or (same_entry arc) tie.other Bool.false
+-- whether an arc is of a bond: it tells the bond, or is the partner of the one that does
+abbrev pub is_of : List Entry → Entry → Entry → Bool
+is_of arcs arc bond = same_entry arc bond || option_map_or (same_entry arc) (partner arcs bond) false
 
--- the number of an arc's bond: the place of the bond that it is of
-abbrev pub bond_of : List Tie → Entry → ℕ
-bond_of all arc = unwrap_or (position (is_of arc) all) 0
+-- the number of an arc's bond: its place among the bonds (their count, which is the number of none, where the arc is of none)
+abbrev pub bond_of : List Entry → Entry → ℕ
+bond_of arcs arc = unwrap_or (position (is_of arcs arc) (bonds arcs)) (length (bonds arcs))

@@ -2,11 +2,15 @@ pub mod InOrder
 pub mod Nodes
 pub mod Speaking
 pub mod Entries
+pub mod NumberedEntries
 pub mod Arcs
+pub mod NumberedArcs
 pub mod Bonds
+pub mod NumberedBonds
 pub mod Parts
 pub mod Ways
 pub mod AreaOf
+pub mod NumberedArea
 pub mod Pairing
 pub mod Listed
 pub mod AreaInvariant

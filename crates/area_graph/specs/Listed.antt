@@ -3,8 +3,8 @@ use Rattle.std.specs.Prelude.{◌≡◌, ◌≢◌, ◌<◌, ◌≤◌, ℕ, fal
 use Rattle.std.specs.List.{AllByRecursion}
 use Rattle.mrt_graph.specs.GraphInvariant.{IsNetwork}
 use Rattle.mrt_graph.specs.declared.node_id.NodeId.{NodeId}
-use Rattle.area_graph.specs.declared.entry.Entry.{Entry}
-use Rattle.area_graph.specs.Bonds.{same_entry}
+use Rattle.area_graph.specs.declared.entry.NumberedEntry.{NumberedEntry as Entry}
+use Rattle.area_graph.specs.NumberedBonds.{same_entry}
 
 -- an entry leads from one node to another, not both of them networks; a network's has metric 0 and link data 0, a router's a metric of at
 -- least 1

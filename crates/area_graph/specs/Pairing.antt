@@ -2,10 +2,10 @@
 use Rattle.std.specs.Prelude.{◌<◌, ◌≢◌, ℕ, nat_lt, List, take}
 use Rattle.std.specs.List.{filter, filter_map, position}
 use Rattle.std.specs.List.Sorted.{IsSorted}
-use Rattle.area_graph.specs.declared.entry.Entry.{Entry}
+use Rattle.area_graph.specs.declared.entry.NumberedEntry.{NumberedEntry as Entry}
 use Rattle.area_graph.specs.declared.pairing.Numbered.{Numbered}
-use Rattle.area_graph.specs.Arcs.{pairing_cmp}
-use Rattle.area_graph.specs.Bonds.{Tie, is_of, pair_of, pairs}
+use Rattle.area_graph.specs.NumberedArcs.{pairing_cmp}
+use Rattle.area_graph.specs.NumberedBonds.{Tie, is_of, pair_of, pairs}
 use Rattle.area_graph.specs.Listed.{AreApart}
 
 -- arcs in the order in which they are paired, each of them once

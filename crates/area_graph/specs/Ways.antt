@@ -1,7 +1,7 @@
 -- The ways of entries: from which node to which they lead. Where the entries of a way begin among entries that are ordered to be paired.
 use Rattle.std.specs.Prelude.{◌≡◌, ◌≤◌, ◌==◌, ◌&&◌, ◌||◌, ℕ, Bool, true, false, nat_lt, List, length}
 use Rattle.std.specs.List.{AllWithin}
-use Rattle.area_graph.specs.declared.entry.Entry.{Entry}
+use Rattle.area_graph.specs.declared.entry.NumberedEntry.{NumberedEntry as Entry}
 
 -- whether an entry stands before those of a way: it leaves a lower node, or the same one and leads to a lower one
 abbrev pub is_before_way : ℕ → ℕ → Entry → Bool

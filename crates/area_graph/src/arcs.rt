@@ -3,17 +3,20 @@
 ghost use Rattle.std.specs.Prelude.{◌≡◌, IfOk, IfErr};
 ghost use Rattle.std.specs.List.{filter};
 ghost use Rattle.std.specs.List.Sorted.{IsSorted};
-ghost use Rattle.area_graph.specs.Arcs.{arcs_among, is_arc, pairing_cmp};
+ghost use Rattle.area_graph.specs.NumberedArcs.{arcs_among, is_arc, pairing_cmp};
 ghost use Rattle.area_graph.specs.InOrder.{in_order};
 ghost use Rattle.area_graph.specs.Listed.{AreApart};
 ghost use Rattle.area_graph.specs.Ways.{IsFirstOf};
 
 use crate::area_error::AreaError;
-use crate::entry::Entry;
+use crate::entry::NumberedEntry;
 use std::alloc::Global;
 
 /// The entries that are arcs, ordered by tail, far node, link data and place.
-pub fn arcs_by_way(alloc: Global, mut entries: Vec<Entry>) -> Result<Vec<Entry>, AreaError>
+pub fn arcs_by_way(
+    alloc: Global,
+    mut entries: Vec<NumberedEntry>,
+) -> Result<Vec<NumberedEntry>, AreaError>
     requires { AreApart entries.items }
     ensures arcs { IfOk result (λ arcs. arcs.items ≡ arcs_among entries.items) }
     ensures refused { IfErr result (λ error. error ≡ AreaError.NoMemory) }
@@ -23,7 +26,7 @@ pub fn arcs_by_way(alloc: Global, mut entries: Vec<Entry>) -> Result<Vec<Entry>,
 }
 
 /// Orders entries by tail, far node, link data and place.
-fn sort_by_way(entries: &mut Vec<Entry>)
+fn sort_by_way(entries: &mut Vec<NumberedEntry>)
     requires { AreApart entries.old.items }
     ensures { entries.new.items ≡ in_order pairing_cmp entries.old.items }
 {
@@ -31,7 +34,7 @@ fn sort_by_way(entries: &mut Vec<Entry>)
 }
 
 /// The entries, in their order, that an entry leads back for.
-fn answered(alloc: Global, entries: &[Entry]) -> Result<Vec<Entry>, AreaError>
+fn answered(alloc: Global, entries: &[NumberedEntry]) -> Result<Vec<NumberedEntry>, AreaError>
     requires { IsSorted pairing_cmp entries.now }
     ensures arcs { IfOk result (λ arcs. arcs.items ≡ filter (is_arc entries.now) entries.now) }
     ensures refused { IfErr result (λ error. error ≡ AreaError.NoMemory) }
@@ -46,7 +49,7 @@ fn answered(alloc: Global, entries: &[Entry]) -> Result<Vec<Entry>, AreaError>
 }
 
 /// Whether one of the entries leads back for this one.
-fn is_answered(entries: &[Entry], entry: Entry) -> bool
+fn is_answered(entries: &[NumberedEntry], entry: NumberedEntry) -> bool
     requires { IsSorted pairing_cmp entries.now }
     ensures { result ≡ is_arc entries.now entry }
 {
@@ -58,7 +61,7 @@ fn is_answered(entries: &[Entry], entry: Entry) -> bool
 }
 
 /// How many entries stand before those that lead from `tail` to `far`.
-pub fn first_of(entries: &[Entry], tail: usize, far: usize) -> usize
+pub fn first_of(entries: &[NumberedEntry], tail: usize, far: usize) -> usize
     requires { IsSorted pairing_cmp entries.now }
     ensures { IsFirstOf tail far entries.now result }
 {

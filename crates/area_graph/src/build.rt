@@ -3,7 +3,8 @@
 ghost use Rattle.std.specs.Prelude.{◌≡◌, ◌<◌, ◌≤◌, ◌-◌, ◌^◌, ◌⊎◌, None, IfOk, IfErr, length, map, min};
 ghost use Rattle.std.specs.List.{AllByRecursion};
 ghost use Rattle.lsdb.specs.Conflicts.{least_conflict};
-ghost use Rattle.area_graph.specs.AreaOf.{arcs_of, area_of, bonds_of};
+ghost use Rattle.area_graph.specs.AreaOf.{area_of};
+ghost use Rattle.area_graph.specs.NumberedArea.{arcs_of, bonds_of};
 ghost use Rattle.area_graph.specs.AreaInvariant.{IsArea};
 ghost use Rattle.area_graph.specs.Pairing.{AreOrdered, IsBetween};
 ghost use Rattle.area_graph.specs.AreaSize.{IsTooLarge, too_large as error_of};
@@ -11,7 +12,7 @@ ghost use Rattle.area_graph.specs.AreaSize.{IsTooLarge, too_large as error_of};
 use crate::arcs::arcs_by_way;
 use crate::area::Area;
 use crate::area_error::AreaError;
-use crate::entry::{Entry, Listing};
+use crate::entry::{Listing, NumberedEntry};
 use crate::listing::listing;
 use crate::pairing::pair_arcs;
 use crate::starts::starts;
@@ -53,7 +54,7 @@ pub fn build_area(alloc: Global, database: &Lsdb) -> Result<Area, AreaError>
 }
 
 /// Refuses more nodes or arcs than an area may have.
-fn check_size(ids: &[NodeId], by_way: &[Entry]) -> Result<(), AreaError>
+fn check_size(ids: &[NodeId], by_way: &[NumberedEntry]) -> Result<(), AreaError>
     ensures within { IfOk result (λ _. IsTooLarge (length ids.now) (length by_way.now) → ⊥) }
     ensures refused { IfErr result (λ error. IsTooLarge (length ids.now) (length by_way.now) × (error ≡ error_of (length ids.now) (length by_way.now))) }
 {
@@ -67,7 +68,11 @@ fn check_size(ids: &[NodeId], by_way: &[Entry]) -> Result<(), AreaError>
 }
 
 /// The area of these nodes and arcs, which are in the order in which they are paired.
-fn area_of_arcs(alloc: Global, ids: Vec<NodeId>, by_way: &[Entry]) -> Result<Area, AreaError>
+fn area_of_arcs(
+    alloc: Global,
+    ids: Vec<NodeId>,
+    by_way: &[NumberedEntry],
+) -> Result<Area, AreaError>
     requires ordered { AreOrdered by_way.now }
     requires between { AllByRecursion IsBetween by_way.now }
     requires few { length by_way.now ≤ 32768 }

@@ -5,12 +5,13 @@ ghost use Rattle.std.specs.List.{AllByRecursion, AllZip};
 ghost use Rattle.std.specs.List.Sorted.{IsStrictlySortedBy};
 ghost use Rattle.std.specs.Option.{option_to_list};
 ghost use Rattle.mrt_graph.specs.NodeOrder.{node_id_cmp};
-ghost use Rattle.area_graph.specs.Entries.{far_of, entry_of_link, entry_of_listed, entries_of_links, entries_of_listed, entries_of, entries_from};
+ghost use Rattle.area_graph.specs.NumberedEntries.{entry_of_link, entry_of_listed, entries_of_links, entries_of_listed, entries_of, entries_from};
+ghost use Rattle.area_graph.specs.Entries.{far_of};
 ghost use Rattle.area_graph.specs.Nodes.{number_of, speakers as all_speakers};
 ghost use Rattle.area_graph.specs.Speaking.{IsSpeakerOf};
 
 use crate::area_error::AreaError;
-use crate::entry::Entry;
+use crate::entry::NumberedEntry;
 use crate::speaker::Speaker;
 use mrt_graph::{Kind, NodeId};
 use ospf_lsa::{Body, Lsa, RouterLink};
@@ -28,7 +29,7 @@ pub fn entries(
     lsas: &[Lsa],
     speakers: &[Speaker],
     ids: &[NodeId],
-) -> Result<Vec<Entry>, AreaError>
+) -> Result<Vec<NumberedEntry>, AreaError>
     requires speak { AllZip (IsSpeakerOf lsas.now) speakers.now (all_speakers lsas.now) }
     requires ascend { IsStrictlySortedBy node_id_cmp ids.now }
     ensures entries { IfOk result (λ found. found.items ≡ entries_from ids.now 0 (all_speakers lsas.now)) }
@@ -43,7 +44,7 @@ pub fn entries(
 
 /// Adds the entries of an LSA that speaks for node number `tail`.
 fn add_entries(
-    found: &mut Vec<Entry>,
+    found: &mut Vec<NumberedEntry>,
     ids: &[NodeId],
     tail: usize,
     lsa: &Lsa,
@@ -61,7 +62,7 @@ fn add_entries(
 
 /// Adds the entries for the links of the router `own`, node number `tail`.
 fn add_links(
-    found: &mut Vec<Entry>,
+    found: &mut Vec<NumberedEntry>,
     ids: &[NodeId],
     tail: usize,
     own: u32,
@@ -80,7 +81,7 @@ fn add_links(
 
 /// Adds the entries for the routers of a network, node number `tail`.
 fn add_listed(
-    found: &mut Vec<Entry>,
+    found: &mut Vec<NumberedEntry>,
     ids: &[NodeId],
     tail: usize,
     routers: &[u32],
@@ -97,7 +98,7 @@ fn add_listed(
 }
 
 /// Adds an entry, if there is one, where there is room.
-fn put(found: &mut Vec<Entry>, entry: Option<Entry>)
+fn put(found: &mut Vec<NumberedEntry>, entry: Option<NumberedEntry>)
     requires { vec_len found.old < vec_capacity found.old }
     ensures items { found.new.items ≡ found.old.items ++ option_to_list entry }
     ensures len { vec_len found.new ≤ vec_len found.old + 1 }
@@ -109,12 +110,18 @@ fn put(found: &mut Vec<Entry>, entry: Option<Entry>)
 }
 
 /// The entry for a link, if it leads to a node.
-fn of_link(ids: &[NodeId], tail: usize, own: u32, place: usize, link: &RouterLink) -> Option<Entry>
+fn of_link(
+    ids: &[NodeId],
+    tail: usize,
+    own: u32,
+    place: usize,
+    link: &RouterLink,
+) -> Option<NumberedEntry>
     requires ascend { IsStrictlySortedBy node_id_cmp ids.now }
     ensures { result ≡ entry_of_link ids.now tail own place link.now }
 {
     let far = number(ids, far_end(own, link)?)?;
-    Some(Entry {
+    Some(NumberedEntry {
         tail,
         far,
         metric: link.metric,
@@ -139,7 +146,7 @@ fn far_end(own: u32, link: &RouterLink) -> Option<NodeId>
 }
 
 /// The entry for a router that a network lists, if it is a node.
-fn of_listed(ids: &[NodeId], tail: usize, place: usize, router: u32) -> Option<Entry>
+fn of_listed(ids: &[NodeId], tail: usize, place: usize, router: u32) -> Option<NumberedEntry>
     requires ascend { IsStrictlySortedBy node_id_cmp ids.now }
     ensures { result ≡ entry_of_listed ids.now tail place router }
 {
@@ -150,7 +157,7 @@ fn of_listed(ids: &[NodeId], tail: usize, place: usize, router: u32) -> Option<E
             number: router,
         },
     )?;
-    Some(Entry {
+    Some(NumberedEntry {
         tail,
         far,
         metric: 0,

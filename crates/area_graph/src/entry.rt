@@ -2,7 +2,7 @@ use mrt_graph::NodeId;
 
 /// What an LSA lists and leads from one node of an area to another: a link of a router, or a router of a network.
 #[derive(Clone, Copy)]
-pub struct Entry {
+pub struct NumberedEntry {
     /// The number of the LSA's node.
     pub tail: usize,
     /// The number of the node that it leads to.
@@ -17,5 +17,5 @@ pub struct Entry {
 #[derive(Drop)]
 pub struct Listing {
     pub ids: Vec<NodeId>,
-    pub entries: Vec<Entry>,
+    pub entries: Vec<NumberedEntry>,
 }

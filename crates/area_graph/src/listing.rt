@@ -6,7 +6,7 @@ ghost use Rattle.std.specs.List.Sorted.{IsStrictlySortedBy};
 ghost use Rattle.mrt_graph.specs.NodeOrder.{node_id_cmp};
 ghost use Rattle.lsdb.specs.Installing.{IsKept};
 ghost use Rattle.lsdb.specs.Keys.{AreDistinct};
-ghost use Rattle.area_graph.specs.Entries.{entries as all_entries};
+ghost use Rattle.area_graph.specs.NumberedEntries.{entries as all_entries};
 ghost use Rattle.area_graph.specs.Listed.{AreEntries};
 ghost use Rattle.area_graph.specs.Nodes.{nodes};
 

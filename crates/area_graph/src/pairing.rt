@@ -3,23 +3,23 @@
 ghost use Rattle.std.specs.Prelude.{◌≡◌, ◌<◌, ◌≤◌, ◌+◌, ◌++◌, ◌∷◌, [], ℕ, length, map, take, if◌then◌else◌, IfOk, IfErr, OnOk, MatchOption, IfSome, Some, None, slice_index_or};
 ghost use Rattle.std.specs.List.{AllByRecursion, position};
 ghost use Rattle.std.specs.Option.{is_none, unwrap_or};
-ghost use Rattle.area_graph.specs.AreaOf.{arcs_of, bonds_of, bond_by, bond_from, numbered as with_bond};
-ghost use Rattle.area_graph.specs.Arcs.{arc_cmp};
-ghost use Rattle.area_graph.specs.Bonds.{is_of, pairs, partner, ties};
+ghost use Rattle.area_graph.specs.NumberedArea.{arcs_of, bonds_of, bond_by, bond_from, numbered as with_bond};
+ghost use Rattle.area_graph.specs.NumberedArcs.{arc_cmp};
+ghost use Rattle.area_graph.specs.NumberedBonds.{is_of, pairs, partner, ties};
 ghost use Rattle.area_graph.specs.InOrder.{in_order};
 ghost use Rattle.area_graph.specs.Pairing.{AreOrdered, IsBetween, pairs_upto, with_pair};
 
 use crate::arcs::first_of;
 use crate::area_error::AreaError;
 use crate::area_types::{Arc, Bond};
-use crate::entry::Entry;
+use crate::entry::NumberedEntry;
 use crate::numbers::{BondNo, Spot};
 use std::alloc::Global;
 
 /// An arc, and the number of the pair that it is of, if it is of one.
 #[derive(Clone, Copy)]
 pub struct Numbered {
-    pub arc: Entry,
+    pub arc: NumberedEntry,
     pub pair: Option<usize>,
 }
 
@@ -31,7 +31,7 @@ pub struct Paired {
 }
 
 /// The arcs and the bonds that these entries make.
-pub fn pair_arcs(alloc: Global, arcs: &[Entry]) -> Result<Paired, AreaError>
+pub fn pair_arcs(alloc: Global, arcs: &[NumberedEntry]) -> Result<Paired, AreaError>
     requires ordered { AreOrdered arcs.now }
     requires between { AllByRecursion IsBetween arcs.now }
     requires few { length arcs.now ≤ 32768 }
@@ -47,7 +47,7 @@ pub fn pair_arcs(alloc: Global, arcs: &[Entry]) -> Result<Paired, AreaError>
 }
 
 /// The place of an arc's partner, if it has one.
-fn partner_place(arcs: &[Entry], place: usize, arc: Entry) -> Option<usize>
+fn partner_place(arcs: &[NumberedEntry], place: usize, arc: NumberedEntry) -> Option<usize>
     requires ordered { AreOrdered arcs.now }
     requires within { place < length arcs.now }
     requires there { slice_index_or arcs.now place arc ≡ arc }
@@ -65,7 +65,7 @@ fn partner_place(arcs: &[Entry], place: usize, arc: Entry) -> Option<usize>
 }
 
 /// The bond that an arc and its partner make.
-fn pair_bond(one: Entry, other: Entry) -> Bond
+fn pair_bond(one: NumberedEntry, other: NumberedEntry) -> Bond
     requires { IsBetween one }
     ensures { result ≡ bond_by one (Some other) }
 {
@@ -81,7 +81,7 @@ fn pair_bond(one: Entry, other: Entry) -> Bond
 }
 
 /// The bond that an arc without a partner makes.
-fn single_bond(one: Entry) -> Bond
+fn single_bond(one: NumberedEntry) -> Bond
     requires { IsBetween one }
     ensures { result ≡ bond_by one None }
 {
@@ -99,9 +99,9 @@ fn single_bond(one: Entry) -> Bond
 /// The number of the pair that an arc is of. The arc that leaves the lower node puts their bond behind the others; the other one comes
 /// later, and takes its number.
 fn pair_number(
-    arcs: &[Entry],
+    arcs: &[NumberedEntry],
     place: usize,
-    arc: Entry,
+    arc: NumberedEntry,
     numbered: &[Numbered],
     bonds: &mut Vec<Bond>,
 ) -> Result<Option<usize>, AreaError>
@@ -130,7 +130,7 @@ fn pair_number(
 /// The arcs, each with the number of its pair. Puts the bonds of the pairs into the list.
 fn number_pairs(
     alloc: Global,
-    arcs: &[Entry],
+    arcs: &[NumberedEntry],
     bonds: &mut Vec<Bond>,
 ) -> Result<Vec<Numbered>, AreaError>
     requires ordered { AreOrdered arcs.now }
@@ -149,7 +149,7 @@ fn number_pairs(
 }
 
 /// Orders numbered arcs by tail, metric, far node, link data and place.
-fn sort_by_arc(arcs: &[Entry], numbered: &mut Vec<Numbered>)
+fn sort_by_arc(arcs: &[NumberedEntry], numbered: &mut Vec<Numbered>)
     requires ordered { AreOrdered arcs.now }
     requires numbered { numbered.old.items ≡ map (with_pair arcs.now) arcs.now }
     ensures { numbered.new.items ≡ map (with_pair arcs.now) (in_order arc_cmp arcs.now) }
@@ -185,7 +185,7 @@ fn bond_number(numbered: Numbered, bonds: &mut Vec<Bond>) -> Result<usize, AreaE
 /// The arcs with the numbers of their bonds. Puts the bonds of single arcs behind those of the pairs.
 fn number_all(
     alloc: Global,
-    arcs: &[Entry],
+    arcs: &[NumberedEntry],
     numbered: &[Numbered],
     bonds: &mut Vec<Bond>,
 ) -> Result<Vec<Arc>, AreaError>

@@ -1,5 +1,5 @@
 use Rattle.std.proofs.Common.{◌≡◌, ◌∙◌}
-use Rattle.area_graph.specs.Arcs.{pairing_cmp}
+use Rattle.area_graph.specs.NumberedArcs.{pairing_cmp}
 use Rattle.area_graph.specs.InOrder.{in_order}
 use Rattle.area_graph.proofs.Apart.{arcs_in_order, pairing_total}
 use Rattle.area_graph.proofs.InOrder.{in_order_sorted}

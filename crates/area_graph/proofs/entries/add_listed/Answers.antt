@@ -1,6 +1,6 @@
 use Rattle.std.proofs.Common.{◌∙◌, ◌++◌, Option, ap, arith}
 use Rattle.std.specs.Option.{option_to_list}
-use Rattle.area_graph.specs.declared.entry.Entry.{Entry}
+use Rattle.area_graph.specs.declared.entry.NumberedEntry.{NumberedEntry as Entry}
 use Rattle.area_graph.proofs.Adding.{listed_more}
 use Rattle.area_graph.proofs.entries.add_listed.Goals as goal
 

@@ -2,10 +2,10 @@ use Rattle.std.proofs.Common.{◌≡◌, ◌∙◌, List, map, ap, sym, subst}
 use Rattle.std.specs.List.Sorted.{IsStrictlySortedBy}
 use Rattle.mrt_graph.specs.NodeOrder.{node_id_cmp}
 use Rattle.mrt_graph.specs.declared.node_id.NodeId.{NodeId}
-use Rattle.area_graph.specs.Entries.{entries, entries_from}
+use Rattle.area_graph.specs.NumberedEntries.{entries, entries_from}
 use Rattle.area_graph.specs.Listed.{AreEntries}
 use Rattle.area_graph.specs.Nodes.{nodes, speakers}
-use Rattle.area_graph.specs.declared.entry.Entry.{Entry}
+use Rattle.area_graph.specs.declared.entry.NumberedEntry.{NumberedEntry as Entry}
 use Rattle.area_graph.specs.declared.speaker.Speaker.{Speaker}
 use Rattle.area_graph.proofs.ListedApart.{are_entries}
 use Rattle.area_graph.proofs.OneOfEachNode.{ids_are_nodes}

@@ -5,11 +5,11 @@ use Rattle.std.proofs.lemmas.List.{get_or-map, get_or_default, length-map, map-a
 use Rattle.std.proofs.lemmas.List.Elements.{All-from_recursion, Contains-get_or}
 use Rattle.area_graph.specs.declared.area_types.Arc.{Arc}
 use Rattle.area_graph.specs.declared.area_types.Bond.{Bond}
-use Rattle.area_graph.specs.declared.entry.Entry.{Entry}
+use Rattle.area_graph.specs.declared.entry.NumberedEntry.{NumberedEntry as Entry}
 use Rattle.area_graph.specs.declared.pairing.Numbered.{Numbered}
-use Rattle.area_graph.specs.AreaOf.{bond_by, bond_from, numbered as with_bond}
-use Rattle.area_graph.specs.Arcs.{arc_cmp}
-use Rattle.area_graph.specs.Bonds.{is_of, pairs, ties, bond_of}
+use Rattle.area_graph.specs.NumberedArea.{bond_by, bond_from, numbered as with_bond}
+use Rattle.area_graph.specs.NumberedArcs.{arc_cmp}
+use Rattle.area_graph.specs.NumberedBonds.{is_of, pairs, ties, bond_of}
 use Rattle.area_graph.specs.InOrder.{in_order}
 use Rattle.area_graph.specs.Pairing.{AreOrdered, IsBetween, with_pair}
 use Rattle.area_graph.proofs.InOrder.{all_in_order, Contains-from_in_order}

@@ -1,5 +1,5 @@
 use Rattle.std.proofs.Common.{◌≡◌, map, take}
-use Rattle.area_graph.specs.AreaOf.{bond_from}
+use Rattle.area_graph.specs.NumberedArea.{bond_from}
 use Rattle.area_graph.specs.Pairing.{pairs_upto, with_pair}
 use Rattle.area_graph.proofs.pairing.number_pairs.Given as goal
 

@@ -1,10 +1,10 @@
 use Rattle.std.proofs.Common.{◌≡◌, ◌∙◌, ◌<◌, ◌≤◌, ◌++◌, ◌∷◌, [], List, Some, None, length, map, take, get_or, sym, ap, arith}
 use Rattle.std.proofs.lemmas.List.{get_or-map, get_or-take, get_or_default, length-map, length-take-le, map_push}
 use Rattle.area_graph.specs.declared.area_types.Bond.{Bond}
-use Rattle.area_graph.specs.declared.entry.Entry.{Entry}
+use Rattle.area_graph.specs.declared.entry.NumberedEntry.{NumberedEntry as Entry}
 use Rattle.area_graph.specs.declared.pairing.Numbered.{Numbered}
-use Rattle.area_graph.specs.AreaOf.{bond_from}
-use Rattle.area_graph.specs.Bonds.{Tie, is_of, pairs}
+use Rattle.area_graph.specs.NumberedArea.{bond_from}
+use Rattle.area_graph.specs.NumberedBonds.{Tie, is_of, pairs}
 use Rattle.area_graph.specs.Pairing.{pairs_upto, with_pair}
 use Rattle.area_graph.proofs.Ties.{none_of_single, pair_place, pairs_more_none, pairs_more_pair, partners_number, position_is_none}
 use Rattle.area_graph.proofs.pairing.pair_number.Goals as goal

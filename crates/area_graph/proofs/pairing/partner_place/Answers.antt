@@ -1,6 +1,6 @@
 use Rattle.std.proofs.Common.{◌≡◌, ◌∙◌, ◌+◌, ◌-◌, ℕ, get_or, sym, ap, arith}
 use Rattle.std.proofs.lemmas.List.{get_or_default}
-use Rattle.area_graph.specs.declared.entry.Entry.{Entry}
+use Rattle.area_graph.specs.declared.entry.NumberedEntry.{NumberedEntry as Entry}
 use Rattle.area_graph.proofs.Turns.{partner_at, partner_none, partner_before}
 use Rattle.area_graph.proofs.pairing.partner_place.Goals as goal
 use Rattle.area_graph.proofs.pairing.partner_place.Goals.{else-other-arcs-via-then-other-arcs+then-arcs-other+else-arcs-other-2, else-other-arcs-via-then-other-arcs+else-arcs-other, else-other-arcs-via-else-other-arcs}

@@ -4,9 +4,9 @@ use Rattle.std.specs.List.Sorted.{IsPermutation, IsSorted, IsSortedBy}
 use Rattle.std.proofs.lemmas.List.{get_or-map, length-map}
 use Rattle.std.proofs.lemmas.List.Elements.{All-from_recursion, recursion_from_All}
 use Rattle.std.proofs.lemmas.List.Sorted.{All-permutation, IsPermutation-map, answers_always}
-use Rattle.area_graph.specs.declared.entry.Entry.{Entry}
+use Rattle.area_graph.specs.declared.entry.NumberedEntry.{NumberedEntry as Entry}
 use Rattle.area_graph.specs.declared.pairing.Numbered.{Numbered}
-use Rattle.area_graph.specs.Arcs.{arc_cmp}
+use Rattle.area_graph.specs.NumberedArcs.{arc_cmp}
 use Rattle.area_graph.specs.InOrder.{in_order}
 use Rattle.area_graph.specs.Pairing.{with_pair}
 use Rattle.area_graph.proofs.Apart.{arc_ties_alone, arc_total}

@@ -1,0 +1,31 @@
+-- Arcs and bonds by number, as the code makes them.
+use Rattle.std.specs.Prelude.{true, false, List, map, Option, Some, None}
+use Rattle.area_graph.specs.declared.area_types.Arc.{Arc}
+use Rattle.area_graph.specs.declared.area_types.Bond.{Bond}
+use Rattle.area_graph.specs.declared.entry.NumberedEntry.{NumberedEntry as Entry}
+use Rattle.area_graph.specs.NumberedArcs.{arc_cmp}
+use Rattle.area_graph.specs.NumberedBonds.{Tie, ties, bond_of}
+use Rattle.area_graph.specs.InOrder.{in_order}
+
+-- an arc with the number of its bond
+abbrev pub numbered : List Tie → Entry → Arc
+numbered all arc = record { tail = arc.tail; to = arc.far; metric = arc.metric; link_data = arc.link_data; bond = bond_of all arc }
+
+-- a bond of one arc, and of two
+abbrev pub bond_by : Entry → Option Entry → Bond
+bond_by one None =
+    record { a = one.tail; b = one.far; paired = false; data_a = one.link_data; data_b = 0; metric_a = one.metric; metric_b = 0 }
+bond_by one (Some other) =
+    record { a = one.tail; b = one.far; paired = true; data_a = one.link_data; data_b = other.link_data; metric_a = one.metric; metric_b = other.metric }
+
+-- the bond that a tie makes
+abbrev pub bond_from : Tie → Bond
+bond_from tie = bond_by tie.one tie.other
+
+-- the arcs in their order, each with the number of its bond
+abbrev pub arcs_of : List Entry → List Arc
+arcs_of all = map (numbered (ties all)) (in_order arc_cmp all)
+
+-- the bonds
+abbrev pub bonds_of : List Entry → List Bond
+bonds_of all = map bond_from (ties all)
