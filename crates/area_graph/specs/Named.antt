@@ -1,5 +1,5 @@
 -- The bond that a router and link data name.
-use Rattle.std.specs.Prelude.{ℕ, Bool, ◌&&◌, ◌==◌, Option}
+use Rattle.std.specs.Prelude.{◌≡◌, ℕ, Bool, ◌&&◌, ◌==◌, Contains, List, Option, Some}
 use Rattle.std.specs.List.{find}
 use Rattle.std.specs.Option.{option_map, option_map_or}
 use Rattle.std.specs.Prelude.{slice_get}
@@ -15,3 +15,9 @@ has_name area number link_data arc =
 -- the bond of the first arc that leaves that router with that link data
 abbrev pub bond_named : AreaParts → ℕ → ℕ → Option ℕ
 bond_named area number link_data = option_map (λ arc. arc.bond) (find (has_name area number link_data) area.arcs)
+
+-- an arc of an area that leaves that router and has that link data there
+pub record IsNamed (area : AreaParts) (number link_data : ℕ) (arc : Arc) : Type 0 where
+  pub there : Contains area.arcs arc
+  pub tail : slice_get area.ids arc.tail ≡ Some (router number)
+  pub data_there : arc.link_data ≡ link_data

@@ -45,7 +45,7 @@ impl Area {
     ghost use Rattle.std.specs.Prelude.{◌≡◌, ◌<◌, ◌==◌, ◌↔◌, IfSome, IsNone, Some, Contains, length, slice_get};
     ghost use Rattle.std.specs.List.{AllByRecursion, filter};
     ghost use Rattle.area_graph.specs.AreaInvariant.{IsArc, IsArea};
-    ghost use Rattle.area_graph.specs.Named.{bond_named};
+    ghost use Rattle.area_graph.specs.Named.{IsNamed, bond_named};
 
     /// An area of these parts.
     pub(crate) fn of_parts(
@@ -117,7 +117,8 @@ impl Area {
 
     /// The bond of the first arc of that router with that link data, if there is one.
     pub fn named(&self, router: u32, link_data: u32) -> Option<BondNo>
-        ensures { result ≡ bond_named self.now router link_data }
+        ensures bond { result ≡ bond_named self.now router link_data }
+        ensures none { IsNone result ↔ ((arc : Arc) → IsNamed self.now router link_data arc → ⊥) }
     {
         let id = NodeId {
             kind: Kind::Router,

@@ -5,17 +5,17 @@ use Rattle.mrt_graph.specs.declared.node_id.NodeId.{NodeId}
 use Rattle.area_graph.specs.declared.area_types.Arc.{Arc}
 use Rattle.area_graph.specs.AreaInvariant.{IsArea}
 use Rattle.area_graph.specs.Nodes.{router}
-use Rattle.area_graph.proofs.Naming.{named_in_row, not_named}
+use Rattle.area_graph.proofs.Naming.{named_in_row, none_named, not_named}
 use Rattle.area_graph.proofs.area.Area.named.Goals as goal
 
-pub returns-in_err-place : goal.returns-in_err-place
-returns-in_err-place c =
+pub returns-in_err-place-clause-bond : goal.returns-in_err-place-clause-bond
+returns-in_err-place-clause-bond c =
     let ids : c.deref.result.now ≡ c.args.self.now.ids = search rules in
     let absent = subst (λ (ids : List NodeId). Contains ids (router c.args.router) → ⊥) ids (c.in_err-place.ensures.none.0 refl) in
     c.from_residual.ensures ∙ sym (not_named c.args.self.now c.args.router c.args.link_data absent)
 
-pub returns : goal.returns
-returns c =
+pub returns-clause-bond : goal.returns-clause-bond
+returns-clause-bond c =
     let kept : IsArea c.args.self.now = subst IsArea c.self.view_is c.self.invariant.0 in
     let ids : c.deref.result.now ≡ c.args.self.now.ids = search rules in
     let spot : c.new-spot.result ≡ c.in_ok-place.place = search rules in
@@ -28,3 +28,9 @@ returns c =
     c.with_data.ensures
     ∙ ap (λ (arcs : List Arc). option_map (λ arc. arc.bond) (find (λ arc. arc.link_data == c.args.link_data) arcs)) value
     ∙ named_in_row c.args.self.now c.args.router c.args.link_data c.new-spot.result kept there
+
+pub returns-in_err-place-clause-none : goal.returns-in_err-place-clause-none
+returns-in_err-place-clause-none c = none_named c.args.self.now c.args.router c.args.link_data c.from_residual.result (returns-in_err-place-clause-bond c)
+
+pub returns-clause-none : goal.returns-clause-none
+returns-clause-none c = none_named c.args.self.now c.args.router c.args.link_data c.with_data.result (returns-clause-bond c)
