@@ -6,7 +6,7 @@ use Rattle.std.specs.List.{AllByRecursion, AllZip, IsDistinct, filter, find, lis
 use Rattle.std.specs.Ordering.{is_lt}
 use Rattle.std.proofs.lemmas.Bool.{cases_Bool}
 use Rattle.std.proofs.lemmas.Option.{same_Some}
-use Rattle.area_graph.specs.InOrder.{put_in_order, in_order}
+use Rattle.mrt_graph.specs.InOrder.{put_in_order, in_order}
 
 module _ {A B : Type 0} (R : A → B → Type 0) where
   filter_by : (a : A) (b : B) (xs : List A) (ys : List B) (t u : Bool) → t ≡ u → R a b → AllZip R xs ys → AllZip R (cond t (a ∷ xs) xs) (cond u (b ∷ ys) ys)

@@ -12,12 +12,16 @@ use Rattle.std.proofs.lemmas.List.{get_or-take, get_or_default, length-take-le}
 use Rattle.std.proofs.lemmas.List.Elements.{recursion_from_All, filter_agree}
 use Rattle.std.proofs.lemmas.List.Sorted.{IsPermutation-sym, list_any-IsPermutation, sum_by-IsPermutation}
 use Rattle.std.proofs.lemmas.List.Sums.{sum_by-cons, sum_by-le-sum_by, sum_by_more_le, get_or-le-sum_by}
+use Rattle.mrt_graph.proofs.InOrder.{AreAlike, Contains-from_in_order, Contains-in_order, OnlyEqualsTie, Rises, in_order_moves, in_order_rises, in_order_sorted, one_order, sum_by-in_order}
+use Rattle.mrt_graph.proofs.Members.{contains_later}
+use Rattle.mrt_graph.proofs.Tallies.{one_if}
+use Rattle.mrt_graph.proofs.Filters.{Contains-filter, Contains-from_filter, filter-in_order, passes_from_filter, sum_by-filter}
+use Rattle.mrt_graph.proofs.Ties.{nat_tie, then_tie}
 use Rattle.area_graph.specs.declared.entry.NumberedEntry.{NumberedEntry as Entry}
 use Rattle.area_graph.specs.NumberedArcs.{answers, is_arc, arc_cmp, pairing_cmp, arcs_among}
 use Rattle.area_graph.specs.NumberedBonds.{same_entry}
-use Rattle.area_graph.specs.InOrder.{in_order}
+use Rattle.mrt_graph.specs.InOrder.{in_order}
 use Rattle.area_graph.specs.Listed.{AreApart}
-use Rattle.area_graph.proofs.InOrder.{AreAlike, OnlyEqualsTie, one_if, Rises, one_order, in_order_rises, in_order_sorted, in_order_moves, sum_by-in_order, Contains-from_in_order, Contains-in_order, contains_later}
 
 pub pairing_total : IsTotalOrder pairing_cmp
 pairing_total =
@@ -96,11 +100,6 @@ sum_kept_by : {X : Type 0} (b : Bool) (f : X → ℕ) (x : X) (xs : List X) (res
 sum_kept_by true f x xs rest is = sum_by-cons f x xs ∙ ap (λ n. f x + n) is
 sum_kept_by false f x xs rest is = is ∙ omega arith
 
-pub sum_by-filter : {X : Type 0} (p : X → Bool) (f : X → ℕ) (xs : List X) → sum_by f (filter p xs) ≡ sum_by (λ x. cond (p x) (f x) 0) xs
-sum_by-filter p f [] = refl
-sum_by-filter p f (x ∷ xs) =
-    sum_kept_by (p x) f x (filter p xs) (sum_by (λ y. cond (p y) (f y) 0) xs) (sum_by-filter p f xs) ∙ sym (sum_by-cons (λ y. cond (p y) (f y) 0) x xs)
-
 part_le : (b : Bool) (n : ℕ) → cond b n 0 ≤ n
 part_le true n = omega arith
 part_le false n = omega arith
@@ -124,15 +123,6 @@ same_in xs apart x y in_x in_y same =
           let differ : same_entry y x ≡ false = rw (at_y, in_x.2) at (apart in_y.0 in_x.0 x above in_x.1) in
           absurd (both_ways (same_entry y x) differ (same_back x y same))
     ]
-
--- what a tie by two tests says
-pub then_tie : (o p : Ordering) → ordering_then o p ≡ Equal → (o ≡ Equal) × (p ≡ Equal)
-then_tie Less p h = absurd cc
-then_tie Equal p h = (refl, h)
-then_tie Greater p h = absurd cc
-
-pub nat_tie : (a b : ℕ) → nat_cmp a b ≡ Equal → a ≡ b
-nat_tie a b h = ranked a b Equal (sym h)
 
 pub pairing_tie : (x y : Entry) → pairing_cmp x y ≡ Equal → same_entry x y ≡ true
 pairing_tie x y tie =
@@ -164,18 +154,10 @@ kept_by true x y xs ys rest (zero, within, is) = (0, omega arith, is)
 kept_by true x y xs ys rest (suc k, within, is) = contains_later x y xs (rest (k, omega (arith, within), is))
 kept_by false x y xs ys rest there = contains_later x y xs (rest there)
 
-pub Contains-from_filter : {X : Type 0} (p : X → Bool) (xs : List X) (y : X) → Contains (filter p xs) y → Contains xs y
-Contains-from_filter p [] y there = there
-Contains-from_filter p (x ∷ xs) y there = kept_by (p x) x y xs (filter p xs) (Contains-from_filter p xs y) there
-
 passes_by : {X : Type 0} (b : Bool) (p : X → Bool) (x y : X) (ys : List X) → p x ≡ b → (Contains ys y → p y ≡ true) → Contains (cond b (x ∷ ys) ys) y → p y ≡ true
 passes_by true p x y ys is rest (zero, within, at) = ap p (sym at) ∙ is
 passes_by true p x y ys is rest (suc k, within, at) = rest (k, omega (arith, within), at)
 passes_by false p x y ys is rest there = rest there
-
-pub passes_from_filter : {X : Type 0} (p : X → Bool) (xs : List X) (y : X) → Contains (filter p xs) y → p y ≡ true
-passes_from_filter p [] y there = absurd (omega (arith, there.1))
-passes_from_filter p (x ∷ xs) y there = passes_by (p x) p x y (filter p xs) refl (passes_from_filter p xs y) there
 
 contains_by : {X : Type 0} (b : Bool) (p : X → Bool) (x y : X) (xs ys : List X) → p x ≡ b → p y ≡ true → (Contains xs y → Contains ys y) → Contains (x ∷ xs) y → Contains (cond b (x ∷ ys) ys) y
 contains_by true p x y xs ys is passes rest (zero, within, at) = (0, omega arith, at)
@@ -183,41 +165,13 @@ contains_by true p x y xs ys is passes rest (suc k, within, at) = contains_later
 contains_by false p x y xs ys is passes rest (zero, within, at) = absurd (both_ways (p x) is (ap p at ∙ passes))
 contains_by false p x y xs ys is passes rest (suc k, within, at) = rest (k, omega (arith, within), at)
 
-pub Contains-filter : {X : Type 0} (p : X → Bool) (xs : List X) (y : X) → Contains xs y → p y ≡ true → Contains (filter p xs) y
-Contains-filter p [] y there passes = there
-Contains-filter p (x ∷ xs) y there passes = contains_by (p x) p x y xs (filter p xs) refl passes (λ later. Contains-filter p xs y later passes) there
-
 all_kept_by : {X : Type 0} (b : Bool) (P : X → Type 0) (x : X) (xs : List X) → P x → AllByRecursion P xs → AllByRecursion P (cond b (x ∷ xs) xs)
 all_kept_by true P x xs px all = (px, all)
 all_kept_by false P x xs px all = all
 
-pub all_filter : {X : Type 0} (p : X → Bool) (P : X → Type 0) (xs : List X) → AllByRecursion P xs → AllByRecursion P (filter p xs)
-all_filter p P [] all = tt
-all_filter p P (x ∷ xs) all = all_kept_by (p x) P x (filter p xs) all.0 (all_filter p P xs all.1)
-
 rises_kept_by : {X : Type 0} (b : Bool) (cmp : X → X → Ordering) (x : X) (xs : List X) → Rises cmp (x ∷ xs) → Rises cmp (cond b (x ∷ xs) xs)
 rises_kept_by true cmp x xs rises = rises
 rises_kept_by false cmp x xs rises = rises.1
-
-pub rises_filter : {X : Type 0} (cmp : X → X → Ordering) (p : X → Bool) (xs : List X) → Rises cmp xs → Rises cmp (filter p xs)
-rises_filter cmp p [] rises = tt
-rises_filter cmp p (x ∷ xs) rises =
-    rises_kept_by (p x) cmp x (filter p xs) (all_filter p _ xs rises.0, rises_filter cmp p xs rises.1)
-
--- a filter of a list in order is the filter's list in order
-pub filter-in_order : {X : Type 0} (cmp : X → X → Ordering) → IsTotalOrder cmp → (p : X → Bool) (xs : List X) → OnlyEqualsTie cmp xs xs
-    → filter p (in_order cmp xs) ≡ in_order cmp (filter p xs)
-filter-in_order {X} cmp total p xs ties =
-    let alike : AreAlike (filter p (in_order cmp xs)) (in_order cmp (filter p xs)) = record {
-      same = λ f.
-          sum_by-filter p f (in_order cmp xs) ∙ sum_by-in_order cmp (λ x. cond (p x) (f x) 0) xs ∙ sym (sum_by-filter p f xs) ∙ sym (sum_by-in_order cmp f (filter p xs));
-    } in
-    let both : OnlyEqualsTie cmp (filter p (in_order cmp xs)) (in_order cmp (filter p xs)) = record {
-      same = λ x y in_x in_y tie.
-          ties.same x y (Contains-from_in_order cmp xs x (Contains-from_filter p (in_order cmp xs) x in_x))
-          (Contains-from_filter p xs y (Contains-from_in_order cmp (filter p xs) y in_y)) tie;
-    } in
-    one_order cmp total (filter p (in_order cmp xs)) (in_order cmp (filter p xs)) alike both (rises_filter cmp p (in_order cmp xs) (in_order_rises cmp total xs)) (in_order_rises cmp total (filter p xs))
 
 -- what the arcs among entries are
 pub arcs_sorted : (all : List Entry) → IsSorted pairing_cmp (arcs_among all)

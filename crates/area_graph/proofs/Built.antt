@@ -9,6 +9,7 @@ use Rattle.std.proofs.lemmas.List.{length-map}
 use Rattle.mrt_graph.specs.NodeOrder.{node_id_cmp}
 use Rattle.mrt_graph.specs.declared.node_id.NodeId.{NodeId}
 use Rattle.ospf_lsa.specs.declared.lsa.Lsa.{Lsa}
+use Rattle.mrt_graph.proofs.InOrder.{length-in_order}
 use Rattle.area_graph.specs.declared.entry.NumberedEntry.{NumberedEntry as Entry}
 use Rattle.area_graph.specs.AreaInvariant.{IsArea}
 use Rattle.area_graph.specs.AreaOf.{area_of}
@@ -19,12 +20,11 @@ use Rattle.area_graph.specs.declared.area_error.AreaError.TheVariants.{NoMemory}
 use Rattle.area_graph.specs.NumberedArcs.{arc_cmp, arcs_among}
 use Rattle.area_graph.specs.NumberedBonds.{ties}
 use Rattle.area_graph.specs.NumberedEntries.{entries}
-use Rattle.area_graph.specs.InOrder.{in_order}
+use Rattle.mrt_graph.specs.InOrder.{in_order}
 use Rattle.area_graph.specs.Listed.{AreEntries}
 use Rattle.area_graph.specs.Nodes.{nodes}
 use Rattle.area_graph.specs.Pairing.{AreOrdered, IsBetween}
 use Rattle.area_graph.specs.Parts.{AreaParts}
-use Rattle.area_graph.proofs.InOrder.{length-in_order}
 use Rattle.area_graph.proofs.Kept.{area_kept}
 use Rattle.area_graph.proofs.ListedByNumber.{area_by_number}
 use Rattle.area_graph.proofs.Paired.{arcs_are_between, arcs_are_ordered}

@@ -16,6 +16,9 @@ use Rattle.std.proofs.lemmas.Map.Keys.{Less-from_sorted}
 use Rattle.std.proofs.lemmas.Option.{same_Some, get_or_from_slice_get}
 use Rattle.mrt_graph.specs.NodeOrder.{node_id_cmp}
 use Rattle.mrt_graph.specs.declared.node_id.NodeId.{NodeId}
+use Rattle.mrt_graph.proofs.Filters.{all_filter, filter_agree_in}
+use Rattle.mrt_graph.proofs.Members.{all_weaker}
+use Rattle.mrt_graph.proofs.NodeIds.{node_id_total}
 use Rattle.area_graph.specs.declared.area_types.Arc.{Arc}
 use Rattle.area_graph.specs.declared.area_types.Bond.{Bond}
 use Rattle.area_graph.specs.declared.entry.NumberedEntry.{NumberedEntry}
@@ -23,17 +26,16 @@ use Rattle.area_graph.specs.AreaOf.{arc_from, area_with, bond_by, bond_from, pla
 use Rattle.area_graph.specs.Arcs.{answers, arc_cmp, arcs_among, is_arc, pairing_cmp, parallel_cmp}
 use Rattle.area_graph.specs.Bonds.{are_partners, bond_of, bonds, is_of, pairs, partner, same_direction, same_entry, singles, turn_of}
 use Rattle.area_graph.specs.Entries.{Entry}
-use Rattle.area_graph.specs.InOrder.{in_order}
-use Rattle.area_graph.specs.Nodes.{number_of, same_node}
+use Rattle.mrt_graph.specs.InOrder.{in_order}
+use Rattle.mrt_graph.specs.SameNetwork.{same_id}
+use Rattle.area_graph.specs.Nodes.{number_of}
 use Rattle.area_graph.specs.NumberedArcs.{answers as n_answers, arc_cmp as n_arc_cmp, arcs_among as n_arcs_among, is_arc as n_is_arc, pairing_cmp as n_pairing_cmp}
 use Rattle.area_graph.specs.NumberedArea.{arcs_of, bond_by as n_bond_by, bond_from as n_bond_from, bonds_of, numbered}
 use Rattle.area_graph.specs.NumberedBonds.{Tie, are_partners as n_are_partners, bond_of as n_bond_of, is_of as n_is_of, pair_of, pairs as n_pairs, partner as n_partner, same_entry as n_same_entry, same_way, singles as n_singles, ties, turn_of as n_turn_of}
 use Rattle.area_graph.specs.Parts.{AreaParts}
 use Rattle.area_graph.proofs.Alongside.{AreBoth, length_zip, zip_any, zip_append, zip_filter, zip_find, zip_in_order, zip_map, zip_position}
-use Rattle.area_graph.proofs.Apart.{all_filter}
-use Rattle.area_graph.proofs.Foremost.{filter_agree_in}
-use Rattle.area_graph.proofs.InOrder.{all_weaker}
-use Rattle.area_graph.proofs.Placing.{node_id_total, not_one_node, number_found, number_within, one_node, same_itself}
+use Rattle.area_graph.proofs.Placing.{number_found, number_within}
+use Rattle.area_graph.proofs.SameIds.{not_one_node, one_node, same_itself}
 
 -- an entry by identifiers and an entry by numbers are one entry
 pub record IsNumbered (ids : List NodeId) (entry : Entry) (numbered : NumberedEntry) : Type 0 where
@@ -103,11 +105,11 @@ module _ (ids : List NodeId) (ascend : IsStrictlySortedBy node_id_cmp ids) where
 
   -- ---- nodes and their numbers
 
-  same_numbers : (a b : NodeId) (i j : ℕ) → number_of ids a ≡ Some i → number_of ids b ≡ Some j → same_node a b ≡ (i == j)
+  same_numbers : (a b : NodeId) (i j : ℕ) → number_of ids a ≡ Some i → number_of ids b ≡ Some j → same_id a b ≡ (i == j)
   same_numbers a b i j at_a at_b = elim (eqb_tells i j) [
     | inl same ↦
         let is : a ≡ b = same_Some a b (sym (number_found ids a i at_a) ∙ ap (slice_get ids) same.1 ∙ number_found ids b j at_b) in
-        ap (same_node a) (sym is) ∙ same_itself a ∙ sym same.0
+        ap (same_id a) (sym is) ∙ same_itself a ∙ sym same.0
     | inr other ↦ not_one_node a b (λ same. other.1 (same_Some i j (sym at_a ∙ ap (number_of ids) same ∙ at_b))) ∙ sym other.0
   ]
 
@@ -129,17 +131,17 @@ module _ (ids : List NodeId) (ascend : IsStrictlySortedBy node_id_cmp ids) where
 
   answers_alike : (entry back : Entry) (n m : NumberedEntry) → R entry n → R back m → answers entry back ≡ n_answers n m
   answers_alike entry back n m r s =
-      and_alike (same_node back.from entry.to) (same_node back.to entry.from) (m.tail == n.far) (m.far == n.tail)
+      and_alike (same_id back.from entry.to) (same_id back.to entry.from) (m.tail == n.far) (m.far == n.tail)
       (same_numbers back.from entry.to m.tail n.far s.from r.to) (same_numbers back.to entry.from m.far n.tail s.to r.from)
 
   direction_alike : (arc other : Entry) (n m : NumberedEntry) → R arc n → R other m → same_direction arc other ≡ same_way n m
   direction_alike arc other n m r s =
-      and_alike (same_node other.from arc.from) (same_node other.to arc.to) (m.tail == n.tail) (m.far == n.far)
+      and_alike (same_id other.from arc.from) (same_id other.to arc.to) (m.tail == n.tail) (m.far == n.far)
       (same_numbers other.from arc.from m.tail n.tail s.from r.from) (same_numbers other.to arc.to m.far n.far s.to r.to)
 
   entry_alike : (entry other : Entry) (n m : NumberedEntry) → R entry n → R other m → same_entry entry other ≡ n_same_entry n m
   entry_alike entry other n m r s =
-      and_alike (same_node other.from entry.from) (other.place == entry.place) (m.tail == n.tail) (m.place == n.place)
+      and_alike (same_id other.from entry.from) (other.place == entry.place) (m.tail == n.tail) (m.place == n.place)
       (same_numbers other.from entry.from m.tail n.tail s.from r.from) (eq_alike other.place entry.place m.place n.place s.place r.place)
 
   lower_alike : (arc : Entry) (n : NumberedEntry) → R arc n → is_lt (node_id_cmp arc.from arc.to) ≡ nat_lt n.tail n.far
@@ -183,14 +185,14 @@ module _ (ids : List NodeId) (ascend : IsStrictlySortedBy node_id_cmp ids) where
       any_gives (answers entry) (leads_on ids entry ≡ true) all
       (all_weaker (IsOfNode ids) (λ back. answers entry back ≡ true → leads_on ids entry ≡ true)
       (λ back of_node passes.
-      let parts = and_parts (same_node back.from entry.to) (same_node back.to entry.from) passes in
+      let parts = and_parts (same_id back.from entry.to) (same_id back.to entry.from) passes in
       subst (λ (id : NodeId). is_some (number_of ids id) ≡ true) (one_node back.from entry.to parts.0) of_node) all of_nodes)
       is
 
   -- what answers an entry of a node that is there leads to that node
   answer_leads : (entry : Entry) → IsOfNode ids entry → (back : Entry) → answers entry back ≡ true → leads_on ids back ≡ true
   answer_leads entry of_node back passes =
-      let parts = and_parts (same_node back.from entry.to) (same_node back.to entry.from) passes in
+      let parts = and_parts (same_id back.from entry.to) (same_id back.to entry.from) passes in
       subst (λ (id : NodeId). is_some (number_of ids id) ≡ true) (sym (one_node back.to entry.from parts.1)) of_node
 
   -- entries to nodes that are not there drop out by themselves

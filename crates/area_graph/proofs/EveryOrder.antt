@@ -17,8 +17,9 @@ use Rattle.lsdb.proofs.Arrivals.{AreDistinct, keys_distinct}
 use Rattle.lsdb.proofs.Entered.{keys_of_newest}
 use Rattle.lsdb.proofs.Reordered.{newest_reordered}
 use Rattle.lsdb.proofs.Stores.{key_is}
+use Rattle.mrt_graph.proofs.Members.{Has, all_filter_map, all_has, contains_from_has, has_filter, has_from_contains, is_from, none_pass}
+use Rattle.mrt_graph.proofs.Tallies.{one_if, tally, tally_map, tally_none}
 use Rattle.area_graph.specs.AreaOf.{area_of}
-use Rattle.area_graph.proofs.KeptLists.{Has, all_has, has_filter, all_filter_map, none_pass, has_from_contains, contains_from_has, is_from, one_if, tally, tally_map, tally_none}
 use Rattle.area_graph.proofs.Speaking.{SayAll, alike, same_area}
 
 -- a newest instance of a key is one of the records

@@ -15,8 +15,9 @@ use Rattle.std.proofs.lemmas.List.Kept.{IsStrictlySortedBy-dedup}
 use Rattle.std.proofs.lemmas.List.Sorted.{list_any-IsPermutation, sum_by-IsPermutation, IsPermutation-sym, Contains-permutation}
 use Rattle.std.proofs.lemmas.List.Sums.{sum_by-cons}
 use Rattle.std.proofs.lemmas.Map.Keys.{apart_from_distinct, IsDistinct-IsPermutation, sorted_from_all_adjacent, sorted_head, sorted_tail}
-use Rattle.area_graph.specs.InOrder.{in_order}
-use Rattle.area_graph.proofs.InOrder.{AreAlike, is_before, OnlyEqualsTie, Rises, one_order, in_order_rises, sum_by-in_order, Contains-from_in_order}
+use Rattle.mrt_graph.specs.InOrder.{in_order}
+use Rattle.mrt_graph.proofs.InOrder.{AreAlike, Contains-from_in_order, OnlyEqualsTie, Rises, in_order_rises, is_before, one_order, sum_by-in_order}
+use Rattle.mrt_graph.proofs.Filters.{Contains-from_filter, alike_filter, filter_agree_in}
 
 -- whether the second ties with the first in the main order, and has the greater number
 abbrev pub is_over : {X : Type 0} → (X → X → Ordering) → (X → ℕ) → X → X → Bool
@@ -34,27 +35,10 @@ greatest_first_total main number total = then_total total (back_total (on_total 
 
 -- ---- filters
 
-pub filter_agree_in : {X : Type 0} (p q : X → Bool) (xs : List X) → AllByRecursion (λ x. p x ≡ q x) xs → filter p xs ≡ filter q xs
-filter_agree_in p q [] agree = refl
-filter_agree_in {X} p q (x ∷ xs) agree =
-    ap (λ (b : Bool). cond b (x ∷ filter p xs) (filter p xs)) agree.0 ∙ ap (λ (r : List X). cond (q x) (x ∷ r) r) (filter_agree_in p q xs agree.1)
-
 sum_by_filter_step : {X : Type 0} (f : X → ℕ) (p : X → Bool) (x : X) (xs : List X) (b : Bool) → p x ≡ b → sum_by f (filter p xs) ≡ sum_by (λ y. cond (p y) (f y) 0) xs
     → sum_by f (cond b (x ∷ filter p xs) (filter p xs)) ≡ cond b (f x) 0 + sum_by (λ y. cond (p y) (f y) 0) xs
 sum_by_filter_step f p x xs true is rest = omega (arith, sum_by-cons f x (filter p xs), rest)
 sum_by_filter_step f p x xs false is rest = omega (arith, rest)
-
-sum_by-filter : {X : Type 0} (f : X → ℕ) (p : X → Bool) (xs : List X) → sum_by f (filter p xs) ≡ sum_by (λ y. cond (p y) (f y) 0) xs
-sum_by-filter f p [] = refl
-sum_by-filter f p (x ∷ xs) = sum_by_filter_step f p x xs (p x) refl (sum_by-filter f p xs) ∙ sym (sum_by-cons (λ y. cond (p y) (f y) 0) x xs)
-
-pub alike_filter : {X : Type 0} (p : X → Bool) (xs ys : List X) → IsPermutation xs ys → AreAlike (filter p ys) (filter p xs)
-alike_filter {X} p xs ys moves = record {
-  same = λ f. sum_by-filter f p ys ∙ sum_by-IsPermutation (λ (y : X). cond (p y) (f y) 0) xs ys moves ∙ sym (sum_by-filter f p xs);
-}
-
-pub Contains-from_filter : {X : Type 0} (p : X → Bool) (xs : List X) (x : X) → Contains (filter p xs) x → Contains xs x
-Contains-from_filter p xs x there = All-contains (Contains xs) (filter p xs) x (All-filter p (Contains xs) xs (All-contains_itself xs)) there
 
 pub passes_in_filter : {X : Type 0} (p : X → Bool) (xs : List X) (x : X) → Contains (filter p xs) x → p x ≡ true
 passes_in_filter p xs x there = All-contains (λ y. p y ≡ true) (filter p xs) x (filter_passes p xs) there

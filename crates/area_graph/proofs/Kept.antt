@@ -10,25 +10,22 @@ use Rattle.std.proofs.lemmas.List.{map-append, length-map}
 use Rattle.std.proofs.lemmas.Option.{same_Some}
 use Rattle.mrt_graph.specs.NodeOrder.{node_id_cmp}
 use Rattle.mrt_graph.specs.declared.node_id.NodeId.{NodeId}
+use Rattle.mrt_graph.proofs.InOrder.{Rises, in_order_rises, is_before, length-in_order, sorted_from_rises}
+use Rattle.mrt_graph.proofs.Members.{all_filter_map, all_from_has, all_has, all_map, has_at, has_filter}
+use Rattle.mrt_graph.proofs.Tallies.{tally, tally_filtered}
+use Rattle.mrt_graph.proofs.Filters.{rises_filter}
+use Rattle.mrt_graph.proofs.Ties.{first_not_lt}
 use Rattle.area_graph.specs.declared.area_types.Bond.{Bond}
 use Rattle.area_graph.specs.declared.entry.NumberedEntry.{NumberedEntry as Entry}
 use Rattle.area_graph.specs.NumberedArcs.{arc_cmp, pairing_cmp, is_arc, arcs_among}
 use Rattle.area_graph.specs.AreaInvariant.{by_tail_cmp, by_nodes_cmp, IsArea}
 use Rattle.area_graph.specs.NumberedArea.{numbered, bond_from, arcs_of, bonds_of}
 use Rattle.area_graph.specs.NumberedBonds.{partner, Tie, pair_of, pairs, singles, ties, same_entry}
-use Rattle.area_graph.specs.InOrder.{in_order}
+use Rattle.mrt_graph.specs.InOrder.{in_order}
 use Rattle.area_graph.specs.Listed.{IsEntry, AreEntries}
-use Rattle.area_graph.proofs.InOrder.{Rises, is_before, in_order_rises, sorted_from_rises, length-in_order}
-use Rattle.area_graph.proofs.KeptLists.{all_has, has_at, all_from_has, all_map, all_filter_map, has_filter, tally, tally_filtered}
 use Rattle.area_graph.proofs.KeptTurns.{pairing_total, arc_total, Once, once_from_apart}
 use Rattle.area_graph.proofs.KeptTies.{has_in_order, tally_in_order, single_tie, makes_pair, all_pairs, all_singles}
 use Rattle.area_graph.proofs.KeptBonds.{AllEntries, arcs_kept, bonds_kept, bonds_have_arcs}
-
--- what an order by two tests says of the first
-first_not_lt : (o p : Ordering) → is_lt (ordering_then o p) ≡ false → is_lt o ≡ false
-first_not_lt Less p h = h
-first_not_lt Equal p h = refl
-first_not_lt Greater p h = refl
 
 -- a list rises as another one does, if each of its elements stands for one of the other's
 rises_map : {X Y : Type 0} (cmp : X → X → Ordering) (other : Y → Y → Ordering) (f : X → Y)
@@ -47,10 +44,6 @@ rises_cond cmp p x xs true later rest = (
   rest,
 )
 rises_cond cmp p x xs false later rest = rest
-
-rises_filter : {X : Type 0} (cmp : X → X → Ordering) (p : X → Bool) (xs : List X) → Rises cmp xs → Rises cmp (filter p xs)
-rises_filter cmp p [] rises = tt
-rises_filter cmp p (x ∷ xs) rises = rises_cond cmp p x xs (p x) rises.0 (rises_filter cmp p xs rises.1)
 
 -- arcs by tail
 by_tail : (ties : List Tie) (x y : Entry) → is_before arc_cmp y x ≡ false → is_before by_tail_cmp (numbered ties y) (numbered ties x) ≡ false

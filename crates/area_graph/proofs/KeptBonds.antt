@@ -5,15 +5,16 @@ use Rattle.std.specs.Option.{option_map, unwrap_or}
 use Rattle.std.proofs.lemmas.Bool.{and_parts, and_from, or_left, or_right, eq-eqb, eqb-true, false_from_ne_true}
 use Rattle.std.proofs.lemmas.Option.{same_Some, slice_get-map}
 use Rattle.mrt_graph.specs.declared.node_id.NodeId.{NodeId}
+use Rattle.mrt_graph.proofs.Members.{Has, all_from_has, all_has, all_map, has_at, same_tests}
+use Rattle.mrt_graph.proofs.Tallies.{IsFound, count_is_tally, found_at, position_of_one, tally, tally_alike, tally_map, tally_none}
 use Rattle.area_graph.specs.declared.area_types.Bond.{Bond}
 use Rattle.area_graph.specs.declared.entry.NumberedEntry.{NumberedEntry as Entry}
 use Rattle.area_graph.specs.NumberedArcs.{arc_cmp}
 use Rattle.area_graph.specs.AreaInvariant.{IsThere, IsBack, IsArc, IsBond, arcs_over, HasArcs}
 use Rattle.area_graph.specs.NumberedArea.{numbered, bond_by, bond_from, arcs_of, bonds_of}
 use Rattle.area_graph.specs.NumberedBonds.{Tie, ties, same_entry, is_of, bond_of}
-use Rattle.area_graph.specs.InOrder.{in_order}
+use Rattle.mrt_graph.specs.InOrder.{in_order}
 use Rattle.area_graph.specs.Listed.{IsEntry}
-use Rattle.area_graph.proofs.KeptLists.{Has, all_has, all_from_has, all_map, has_at, tally, count_is_tally, tally_map, same_tests, tally_alike, tally_none, position_of_one, Placed, placed}
 use Rattle.area_graph.proofs.KeptTurns.{own_entry, Once, one_member, partner_is}
 use Rattle.area_graph.proofs.KeptTies.{has_in_order, tally_in_order, IsOther, IsTie, pair_tie, single_tie, ties_kept, of_two, of_one, count_itself, of_one_tie}
 
@@ -38,13 +39,13 @@ number_is arcs arc place tie once has different there is =
 pub of_bond : (arcs : List Entry) (arc : Entry) → Once arcs → Has arcs arc → arc.tail ≢ arc.far → IsOfBond arcs arc
 of_bond arcs arc once has different =
     let one = of_one_tie arcs arc once has different in
-    let found : Placed (is_of arc) (ties arcs) = placed (is_of arc) (ties arcs) (omega (arith, one)) in
+    let found : IsFound (is_of arc) (ties arcs) = found_at (is_of arc) (ties arcs) (omega (arith, one)) in
     record {
       place = found.place;
-      tie = found.member;
+      tie = found.item;
       there = found.there;
       is = found.passes;
-      number = number_is arcs arc found.place found.member once has different found.there found.passes;
+      number = number_is arcs arc found.place found.item once has different found.there found.passes;
     }
 
 -- which of a tie's arcs an arc is

@@ -6,12 +6,13 @@ use Rattle.std.specs.Option.{is_none, option_map, option_map_or}
 use Rattle.std.specs.declared.cmp.Ordering.{Ordering}
 use Rattle.std.proofs.lemmas.Bool.{cases_order, and_parts, and_from, or_cases, or_left, or_right, lt-ltb, ltb-true, false_from_ne_true}
 use Rattle.std.proofs.lemmas.Option.{same_Some}
+use Rattle.mrt_graph.proofs.InOrder.{all_in_order, sum_by-in_order}
+use Rattle.mrt_graph.proofs.Members.{Has, all_append, all_filter_map, all_from_has, all_has, all_map, has_filter, same_tests}
+use Rattle.mrt_graph.proofs.Tallies.{count_is_tally, one_if, tally, tally_alike, tally_append, tally_filter, tally_filter_map, tally_map, tally_none, tally_some}
 use Rattle.area_graph.specs.declared.entry.NumberedEntry.{NumberedEntry as Entry}
 use Rattle.area_graph.specs.NumberedArcs.{arc_cmp}
 use Rattle.area_graph.specs.NumberedBonds.{partner, Tie, pair_of, pairs, singles, ties, same_entry, is_of}
-use Rattle.area_graph.specs.InOrder.{in_order}
-use Rattle.area_graph.proofs.InOrder.{all_in_order, sum_by-in_order}
-use Rattle.area_graph.proofs.KeptLists.{Has, all_has, all_from_has, all_map, all_append, has_filter, all_filter_map, one_if, tally, count_is_tally, tally_append, tally_map, tally_filter, tally_filter_map, same_tests, tally_alike, tally_none, tally_some}
+use Rattle.mrt_graph.specs.InOrder.{in_order}
 use Rattle.area_graph.proofs.KeptTurns.{own_entry, Once, one_member, partner_is, partner_back}
 
 -- a list in order has the members of the list

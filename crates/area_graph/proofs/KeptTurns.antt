@@ -8,12 +8,13 @@ use Rattle.std.specs.Ordering.{is_lt, nat_cmp, ordering_then, ordering_reverse, 
 use Rattle.std.proofs.lemmas.Bool.{cases_Bool, and_parts, and_from, eq-eqb, eqb-true, false_from_ne_true}
 use Rattle.std.proofs.lemmas.Cmp.{nat_cmp_total, on_total, then_total}
 use Rattle.std.proofs.lemmas.List.Elements.{recursion_from_All}
+use Rattle.mrt_graph.proofs.InOrder.{not_before_itself}
+use Rattle.mrt_graph.proofs.Members.{Has, all_has, find_has, find_only}
+use Rattle.mrt_graph.proofs.Tallies.{length_is_tally, one_if, tally, tally_fewer, tally_none, tally_same}
 use Rattle.area_graph.specs.declared.entry.NumberedEntry.{NumberedEntry as Entry}
 use Rattle.area_graph.specs.NumberedArcs.{answers, arc_cmp, pairing_cmp}
 use Rattle.area_graph.specs.NumberedBonds.{same_way, turn_of, are_partners, partner, same_entry}
 use Rattle.area_graph.specs.Listed.{AreApart}
-use Rattle.area_graph.proofs.InOrder.{not_before_itself}
-use Rattle.area_graph.proofs.KeptLists.{Has, all_has, one_if, tally, length_is_tally, tally_none, tally_same, tally_fewer, find_has, find_only}
 
 pub pairing_total : IsTotalOrder pairing_cmp
 pairing_total =

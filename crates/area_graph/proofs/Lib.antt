@@ -3,10 +3,8 @@ pub mod Placing
 pub mod Slices
 pub mod Ahead
 pub mod Rows
-pub mod InOrder
 pub mod Apart
 pub mod Ways
-pub mod KeptLists
 pub mod KeptTurns
 pub mod KeptTies
 pub mod KeptBonds
@@ -14,11 +12,10 @@ pub mod Kept
 pub mod Speaking
 pub mod EveryOrder
 pub mod Foremost
-pub mod SameNodes
+pub mod SameIds
 pub mod Alongside
 pub mod OneOfEachNode
 pub mod LiveOnes
-pub mod Numbering
 pub mod Adding
 pub mod ListedApart
 pub mod Turns

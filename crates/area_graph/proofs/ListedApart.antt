@@ -20,22 +20,25 @@ use Rattle.ospf_lsa.specs.declared.lsa.Lsa.{Lsa}
 use Rattle.ospf_lsa.specs.declared.lsa.RouterLink.{RouterLink}
 use Rattle.lsdb.specs.Installing.{IsKept}
 use Rattle.lsdb.specs.Rank.{is_at_max_age}
+use Rattle.mrt_graph.proofs.InOrder.{all_in_order}
+use Rattle.mrt_graph.proofs.Members.{all_append}
+use Rattle.mrt_graph.proofs.Filters.{all_filter}
 use Rattle.area_graph.specs.NumberedBonds.{same_entry}
 use Rattle.area_graph.specs.NumberedEntries.{entry_of_link, entry_of_listed, entries_of_links, entries_of_listed, entries_of, entries_from, entries}
 use Rattle.area_graph.specs.Entries.{far_of}
 use Rattle.area_graph.specs.Listed.{IsEntry, AreEntries}
-use Rattle.area_graph.specs.Nodes.{router, network, same_node, node_of, number_of, live, speaks, speakers, nodes}
+use Rattle.mrt_graph.specs.SameNetwork.{same_id}
+use Rattle.area_graph.specs.Nodes.{router, network, node_of, number_of, live, speaks, speakers, nodes}
 use Rattle.area_graph.specs.declared.entry.NumberedEntry.{NumberedEntry as Entry}
-use Rattle.area_graph.proofs.InOrder.{all_in_order}
 use Rattle.area_graph.proofs.OneOfEachNode.{of_router, of_network}
-use Rattle.area_graph.proofs.SameNodes.{node_is}
+use Rattle.area_graph.proofs.SameIds.{one_node}
 
 -- ---- numbers of nodes
 
 pub number_there : (ids : List NodeId) (id : NodeId) (n : ℕ) → number_of ids id ≡ Some n → slice_get ids n ≡ Some id
 number_there ids id n found =
-    let parts = position-Some (same_node id) ids n id found in
-    slice_get-get_or ids n id parts.0 ∙ ap (λ (x : NodeId). Some x) (sym (node_is id (get_or ids n id) parts.1))
+    let parts = position-Some (same_id id) ids n id found in
+    slice_get-get_or ids n id parts.0 ∙ ap (λ (x : NodeId). Some x) (sym (one_node id (get_or ids n id) parts.1))
 
 -- two numbers of different nodes differ
 numbers_differ : (ids : List NodeId) (m n : ℕ) (a b : NodeId) → slice_get ids m ≡ Some a → slice_get ids n ≡ Some b → (a ≡ b → ⊥) → m ≢ n
@@ -154,10 +157,6 @@ body_kept ids tail lsa (Network mask routers) type kind metrics at_tail =
     all_listed_kept ids tail lsa.id 0 routers (at_tail ∙ ap (λ (x : NodeId). Some x) (of_network lsa kind))
 body_kept ids tail lsa (Other bytes) type kind metrics at_tail = absurd (elim type [ inl is ↦ kind.0 is | inr is ↦ kind.1 is ])
 
-pub all_append : {X : Type 0} (P : X → Type 0) (xs ys : List X) → AllByRecursion P xs → AllByRecursion P ys → AllByRecursion P (xs ++ ys)
-all_append P [] ys here later = later
-all_append P (x ∷ xs) ys here later = (here.0, all_append P xs ys here.1 later)
-
 -- LSAs that speak for the nodes from that number on
 abbrev pub StandFrom : List NodeId → ℕ → List Lsa → Type 0
 StandFrom ids tail [] = Unit {0}
@@ -177,14 +176,11 @@ stand_from ids tail (lsa ∷ lsas) at = (
   stand_from ids (tail + 1) lsas (λ k. let next : tail + 1 + k ≡ tail + suc k = omega arith in ap (slice_get ids) next ∙ at (suc k)),
 )
 
-filter_kept : {X : Type 0} (P : X → Type 0) (p : X → Bool) (xs : List X) → AllByRecursion P xs → AllByRecursion P (filter p xs)
-filter_kept P p xs all = recursion_from_All P (filter p xs) (All-filter p P xs (All-from_recursion P xs all))
-
 pub entries_kept : (lsas : List Lsa) → AllByRecursion IsKept lsas → AllByRecursion (IsEntry (nodes lsas)) (entries lsas)
 entries_kept lsas kept =
     from_kept (nodes lsas) 0 (speakers lsas)
     (all_in_order (on node_of node_id_cmp) IsKept (filter (speaks (live lsas)) (live lsas))
-    (filter_kept IsKept (speaks (live lsas)) (live lsas) (filter_kept IsKept (λ lsa. not (is_at_max_age lsa)) lsas kept)))
+    (all_filter (speaks (live lsas)) IsKept (live lsas) (all_filter (λ lsa. not (is_at_max_age lsa)) IsKept lsas kept)))
     (stand_from (nodes lsas) 0 (speakers lsas) (λ k. ap (slice_get (nodes lsas)) (zero-add k)))
 
 -- ---- no two entries have one node and one place

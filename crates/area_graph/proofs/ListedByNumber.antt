@@ -11,6 +11,7 @@ use Rattle.ospf_lsa.specs.declared.lsa.Body.{Body}
 use Rattle.ospf_lsa.specs.declared.lsa.Body.TheVariants.{Router, Network, Other}
 use Rattle.ospf_lsa.specs.declared.lsa.Lsa.{Lsa}
 use Rattle.ospf_lsa.specs.declared.lsa.RouterLink.{RouterLink}
+use Rattle.mrt_graph.proofs.Members.{all_append}
 use Rattle.area_graph.specs.declared.entry.NumberedEntry.{NumberedEntry}
 use Rattle.area_graph.specs.Arcs.{arcs, arcs_among}
 use Rattle.area_graph.specs.AreaOf.{area_of}
@@ -21,7 +22,7 @@ use Rattle.area_graph.specs.NumberedArea.{arcs_of, bonds_of}
 use Rattle.area_graph.specs.NumberedEntries.{entries as n_entries, entries_from, entries_of as n_entries_of, entries_of_links as n_entries_of_links, entries_of_listed as n_entries_of_listed, entry_of_link as n_entry_of_link, entry_of_listed as n_entry_of_listed}
 use Rattle.area_graph.proofs.Alongside.{zip_append}
 use Rattle.area_graph.proofs.ByNumber.{IsNumbered, IsOfNode, leads_on, area_alike, arcs_alike}
-use Rattle.area_graph.proofs.ListedApart.{StandFrom, all_append, all_with, stand_from}
+use Rattle.area_graph.proofs.ListedApart.{StandFrom, all_with, stand_from}
 use Rattle.area_graph.proofs.OneOfEachNode.{number_of_node}
 use Rattle.area_graph.proofs.Placing.{place_of_one}
 

@@ -12,37 +12,18 @@ use Rattle.std.proofs.lemmas.Bool.{and_parts, cases_Bool, cases_lt, eq-eqb, eqb-
 use Rattle.std.proofs.lemmas.Bool.Decides.{eqb_tells}
 use Rattle.mrt_graph.specs.NodeOrder.{node_id_cmp}
 use Rattle.mrt_graph.specs.declared.node_id.NodeId.{NodeId}
+use Rattle.mrt_graph.proofs.Members.{Has, contains_from_has, find_has, has_from_contains}
+use Rattle.mrt_graph.proofs.NodeIds.{one_place}
 use Rattle.area_graph.specs.declared.area_types.Arc.{Arc}
 use Rattle.area_graph.specs.AreaInvariant.{IsArea}
 use Rattle.area_graph.specs.Named.{IsNamed, has_name, bond_named}
-use Rattle.area_graph.specs.Nodes.{router, same_node}
+use Rattle.mrt_graph.specs.SameNetwork.{same_id}
+use Rattle.area_graph.specs.Nodes.{router}
 use Rattle.area_graph.specs.Parts.{AreaParts}
-use Rattle.area_graph.proofs.KeptLists.{Has, contains_from_has, find_has, has_from_contains}
-use Rattle.area_graph.proofs.Placing.{node_id_total, one_node, same_itself}
+use Rattle.area_graph.proofs.SameIds.{one_node, same_itself}
 
 contained : (ids : List NodeId) (k : ℕ) (id : NodeId) → slice_get ids k ≡ Some id → Contains ids id
 contained ids k id at = subst (Contains ids) (get_or_from_slice_get ids k id id at) (Contains-get_or ids k id (slice_get_within ids k id at))
-
--- of two different places of ascending identifiers the identifiers differ
-pub places_differ : (ids : List NodeId) (j k : ℕ) (id : NodeId) → IsStrictlySortedBy node_id_cmp ids → slice_get ids j ≡ Some id → slice_get ids k ≡ Some id → j ≡ k
-places_differ ids j k id ascend at_j at_k =
-    let tie : node_id_cmp id id ≡ Equal = tied_itself node_id_total id in
-    let is_j : get_or ids j id ≡ id = get_or_from_slice_get ids j id id at_j in
-    let is_k : get_or ids k id ≡ id = get_or_from_slice_get ids k id id at_k in
-    elim (cases_lt j k) [
-      | inl lt ↦
-          let less : node_id_cmp (get_or ids j id) (get_or ids k id) ≡ Less = Less-from_sorted node_id_cmp ids j k id ascend lt (slice_get_within ids k id at_k) in
-          absurd (less_is_not_equal (sym (subst (λ (x : NodeId). node_id_cmp x id ≡ Less) is_j (subst (λ (y : NodeId). node_id_cmp (get_or ids j id) y ≡ Less) is_k less)) ∙ tie))
-      | inr le ↦ elim (cases_lt k j) [
-        | inl lt ↦
-            let less : node_id_cmp (get_or ids k id) (get_or ids j id) ≡ Less = Less-from_sorted node_id_cmp ids k j id ascend lt (slice_get_within ids j id at_j) in
-            absurd (less_is_not_equal (sym (subst (λ (x : NodeId). node_id_cmp x id ≡ Less) is_k (subst (λ (y : NodeId). node_id_cmp (get_or ids k id) y ≡ Less) is_j less)) ∙ tie))
-        | inr le' ↦ omega (arith, le, le')
-      ]
-    ]
-  where
-    less_is_not_equal : Less ≡ Equal → ⊥
-    less_is_not_equal e = absurd cc
 
 -- the name of an arc, told by its tail's number
 named_by : (area : AreaParts) (number link_data s : ℕ) (arc : Arc) → IsStrictlySortedBy node_id_cmp area.ids → slice_get area.ids s ≡ Some (router number)
@@ -52,13 +33,13 @@ named_by area number link_data s arc ascend there = elim (eqb_tells arc.tail s) 
       let tail : slice_get area.ids arc.tail ≡ Some (router number) = subst (λ (k : ℕ). slice_get area.ids k ≡ Some (router number)) (sym same.1) there in
       rw (tail, same.0, same_itself (router number)) refl
   | inr other ↦ elim (slice_get_cases area.ids arc.tail).1 [
-    | inl seen ↦ rw (seen.2, other.0) (differs (same_node (router number) seen.0) seen.0 refl seen.2 other.1)
+    | inl seen ↦ rw (seen.2, other.0) (differs (same_id (router number) seen.0) seen.0 refl seen.2 other.1)
     | inr past ↦ rw (past.1, other.0) refl
   ]
 ]
   where
-    differs : (b : Bool) (id : NodeId) → same_node (router number) id ≡ b → slice_get area.ids arc.tail ≡ Some id → arc.tail ≢ s → (same_node (router number) id && (arc.link_data == link_data)) ≡ false
-    differs true id e at other = absurd (other (places_differ area.ids arc.tail s (router number) ascend (subst (λ (x : NodeId). slice_get area.ids arc.tail ≡ Some x) (sym (one_node (router number) id e)) at) there))
+    differs : (b : Bool) (id : NodeId) → same_id (router number) id ≡ b → slice_get area.ids arc.tail ≡ Some id → arc.tail ≢ s → (same_id (router number) id && (arc.link_data == link_data)) ≡ false
+    differs true id e at other = absurd (other (one_place area.ids arc.tail s (router number) ascend (subst (λ (x : NodeId). slice_get area.ids arc.tail ≡ Some x) (sym (one_node (router number) id e)) at) there))
     differs false id e at other = rw e refl
 
 -- the first arc with that name is the first of its node's with that link data
@@ -84,12 +65,12 @@ none_without : (area : AreaParts) (number link_data : ℕ) (xs : List Arc) → �
 none_without area number link_data [] absent = refl
 none_without area number link_data (x ∷ xs) absent =
     let quiet : has_name area number link_data x ≡ false = elim (slice_get_cases area.ids x.tail).1 [
-      | inl seen ↦ rw seen.2 (differs (same_node (router number) seen.0) seen.0 refl seen.2)
+      | inl seen ↦ rw seen.2 (differs (same_id (router number) seen.0) seen.0 refl seen.2)
       | inr past ↦ rw past.1 refl
     ] in
     rw quiet (none_without area number link_data xs absent)
   where
-    differs : (b : Bool) (id : NodeId) → same_node (router number) id ≡ b → slice_get area.ids x.tail ≡ Some id → (same_node (router number) id && (x.link_data == link_data)) ≡ false
+    differs : (b : Bool) (id : NodeId) → same_id (router number) id ≡ b → slice_get area.ids x.tail ≡ Some id → (same_id (router number) id && (x.link_data == link_data)) ≡ false
     differs true id e at = absurd (absent (subst (Contains area.ids) (sym (one_node (router number) id e)) (contained area.ids x.tail id at)))
     differs false id e at = rw e refl
 
@@ -113,13 +94,13 @@ name_of area number link_data arc named =
     let same : (arc.link_data == link_data) ≡ true = eq-eqb arc.link_data link_data named.data_there in
     rw (named.tail, same_itself (router number), same) refl
 
-node_by : (o : Option NodeId) (number : ℕ) → option_map_or (same_node (router number)) o false ≡ true → o ≡ Some (router number)
+node_by : (o : Option NodeId) (number : ℕ) → option_map_or (same_id (router number)) o false ≡ true → o ≡ Some (router number)
 node_by None number is = absurd cc
 node_by (Some id) number is = ap (λ (x : NodeId). Some x) (sym (one_node (router number) id is))
 
 name_tells : (area : AreaParts) (number link_data : ℕ) (arc : Arc) → Contains area.arcs arc → has_name area number link_data arc ≡ true → IsNamed area number link_data arc
 name_tells area number link_data arc there has =
-    let parts = and_parts (option_map_or (same_node (router number)) (slice_get area.ids arc.tail) false) (arc.link_data == link_data) has in
+    let parts = and_parts (option_map_or (same_id (router number)) (slice_get area.ids arc.tail) false) (arc.link_data == link_data) has in
     record { there = there; tail = node_by (slice_get area.ids arc.tail) number parts.0; data_there = eqb-true arc.link_data link_data parts.1 }
 
 none_by : (area : AreaParts) (number link_data : ℕ) (o : Option Arc) → find (has_name area number link_data) area.arcs ≡ o

@@ -19,13 +19,15 @@ use Rattle.lsdb.specs.Installing.{IsKept}
 use Rattle.lsdb.specs.Keys.{key_of, same_key, AreDistinct}
 use Rattle.lsdb.specs.Rank.{is_at_max_age}
 use Rattle.lsdb.specs.declared.key.Key.{Key}
-use Rattle.area_graph.specs.InOrder.{in_order}
-use Rattle.area_graph.specs.Nodes.{router, network, same_node, node_of, live, is_above, speaks, speakers, nodes}
+use Rattle.mrt_graph.specs.InOrder.{in_order}
+use Rattle.mrt_graph.proofs.NodeIds.{node_id_total}
+use Rattle.mrt_graph.specs.SameNetwork.{same_id}
+use Rattle.area_graph.specs.Nodes.{router, network, node_of, live, is_above, speaks, speakers, nodes}
 use Rattle.area_graph.specs.Speaking.{IsSpeakerOf}
 use Rattle.area_graph.specs.declared.speaker.Speaker.{Speaker}
 use Rattle.area_graph.proofs.Alongside.{zip_any, zip_filter, zip_map, zip_in_order, zip_distinct}
 use Rattle.area_graph.proofs.Foremost.{is_over, none_over, greatest_first, AreForemost, foremost}
-use Rattle.area_graph.proofs.SameNodes.{node_id_total, node_is, ties_are_same, equal_numbers}
+use Rattle.area_graph.proofs.SameIds.{one_node, ties_are_same, equal_numbers}
 
 -- ---- LSAs that may stand in a database
 
@@ -96,7 +98,7 @@ apart_by_keys : (one other : Lsa) → IsKept one → IsKept other → same_key (
 apart_by_keys one other kept kept' differ =
     false_from_ne_true (eq_by_cmp lsa_cmp one other) (λ tie.
     let parts = tie_parts (by_node one other) other.router one.router tie in
-    let same = node_is (node_of one) (node_of other) (sym (ties_are_same (node_of one) (node_of other)) ∙ parts.0) in
+    let same = one_node (node_of one) (node_of other) (sym (ties_are_same (node_of one) (node_of other)) ∙ parts.0) in
     let told = one_key one other kept kept' same (sym parts.1) in cc)
 
 pub live_differ : (lsas : List Lsa) → AllByRecursion IsKept lsas → AreDistinct lsas → IsDistinct (eq_by_cmp lsa_cmp) (live lsas)
@@ -129,8 +131,8 @@ module _ (lsas : List Lsa) where
   over_as_above s t a b one other =
       ap (λ (o : Ordering). is_eq o && ltb s.router t.router) (ids_as_nodes s t a b one other)
       ∙ ap (λ (c : Bool). c && ltb s.router t.router) (ties_are_same (node_of a) (node_of b))
-      ∙ ap (λ (n : ℕ). same_node (node_of a) (node_of b) && ltb n t.router) one.router
-      ∙ ap (λ (n : ℕ). same_node (node_of a) (node_of b) && ltb a.router n) other.router
+      ∙ ap (λ (n : ℕ). same_id (node_of a) (node_of b) && ltb n t.router) one.router
+      ∙ ap (λ (n : ℕ). same_id (node_of a) (node_of b) && ltb a.router n) other.router
 
   module _ (all : List Speaker) (zip : AllZip (IsSpeakerOf lsas) all (live lsas)) where
     free_as_speaks : (s : Speaker) (a : Lsa) → IsSpeakerOf lsas s a → none_over by_id (λ x. x.router) all s ≡ speaks (live lsas) a

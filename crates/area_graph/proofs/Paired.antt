@@ -2,12 +2,14 @@
 use Rattle.std.proofs.Common.{◌≤◌, List, length, arith}
 use Rattle.std.specs.List.{AllByRecursion, filter}
 use Rattle.mrt_graph.specs.declared.node_id.NodeId.{NodeId}
+use Rattle.mrt_graph.proofs.Filters.{all_filter}
+use Rattle.mrt_graph.proofs.InOrder.{all_in_order}
+use Rattle.mrt_graph.proofs.Members.{all_weaker}
 use Rattle.area_graph.specs.declared.entry.NumberedEntry.{NumberedEntry as Entry}
 use Rattle.area_graph.specs.NumberedArcs.{is_arc, pairing_cmp, arcs_among}
 use Rattle.area_graph.specs.Listed.{AreApart, AreEntries, IsEntry}
 use Rattle.area_graph.specs.Pairing.{AreOrdered, IsBetween}
-use Rattle.area_graph.proofs.Apart.{all_filter, arcs_apart, arcs_sorted}
-use Rattle.area_graph.proofs.InOrder.{all_in_order, all_weaker}
+use Rattle.area_graph.proofs.Apart.{arcs_apart, arcs_sorted}
 
 pub arcs_are_ordered : (all : List Entry) → AreApart all → AreOrdered (arcs_among all)
 arcs_are_ordered all apart = record { sorted = arcs_sorted all; apart = arcs_apart all apart }

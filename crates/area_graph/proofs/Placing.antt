@@ -20,7 +20,11 @@ use Rattle.mrt_graph.specs.NodeOrder.{node_id_cmp, rank_of}
 use Rattle.mrt_graph.specs.declared.node_id.Kind.{Kind}
 use Rattle.mrt_graph.specs.declared.node_id.Kind.TheVariants.{Router, Network}
 use Rattle.mrt_graph.specs.declared.node_id.NodeId.{NodeId}
-use Rattle.area_graph.specs.Nodes.{number_of, same_node}
+use Rattle.mrt_graph.proofs.NodeIds.{lower_differs, node_id_total, same_parts, tied_nodes}
+use Rattle.mrt_graph.proofs.Ties.{greater_not_equal, less_not_equal}
+use Rattle.mrt_graph.specs.SameNetwork.{same_id}
+use Rattle.area_graph.specs.Nodes.{number_of}
+use Rattle.area_graph.proofs.SameIds.{not_one_node, one_node, same_itself}
 
 -- the place of the first element that passes
 first_len : {X : Type 0} (p : X → Bool) (xs : List X) (i : ℕ) (d : X) → i < length xs → p (get_or xs i d) ≡ true → ((k : ℕ) → k < i → p (get_or xs k d) ≡ false) → position_or_len p xs ≡ i
@@ -47,73 +51,9 @@ no_place p xs none =
     let past = le-ltb (length xs) (length xs) (omega arith) in
     subst (λ (n : ℕ). cond (nat_lt n (length xs)) (Some n) None ≡ None) (sym at) (rw past refl)
 
-pub node_id_total : IsTotalOrder node_id_cmp
-node_id_total = then_total (on_total (λ id. id.number) nat_cmp_total) (on_total (λ id. rank_of id.kind) nat_cmp_total)
-
-both : (a b : Bool) → (a && b) ≡ true → (a ≡ true) × (b ≡ true)
-both true b e = (refl, e)
-both false b e = absurd cc
-
-same_kind : (one other : Kind) → rank_of one ≡ rank_of other → one ≡ other
-same_kind Router Router e = refl
-same_kind Router Network e = absurd (omega (arith, e))
-same_kind Network Router e = absurd (omega (arith, e))
-same_kind Network Network e = refl
-
-pub same_parts : (one other : NodeId) → one.number ≡ other.number → rank_of one.kind ≡ rank_of other.kind → one ≡ other
-same_parts one other number rank = let kind = same_kind one.kind other.kind rank in λ i. record { kind = kind i; number = number i }
-
--- two identifiers that are told to be one are one
-pub one_node : (one other : NodeId) → same_node one other ≡ true → one ≡ other
-one_node one other e =
-    let parts = both (one.number == other.number) (rank_of one.kind == rank_of other.kind) e in
-    same_parts one other (eqb-true one.number other.number parts.0) (eqb-true (rank_of one.kind) (rank_of other.kind) parts.1)
-
-pub same_itself : (id : NodeId) → same_node id id ≡ true
-same_itself id = let number = eq-eqb id.number id.number refl in let kind = eq-eqb (rank_of id.kind) (rank_of id.kind) refl in rw (number, kind) refl
-
-pub not_one_node : (one other : NodeId) → one ≢ other → same_node one other ≡ false
-not_one_node one other differ = go (same_node one other) refl
-  where
-    go : (b : Bool) → same_node one other ≡ b → same_node one other ≡ false
-    go true e = absurd (differ (one_node one other e))
-    go false e = e
-
-nat_ties : (a b : ℕ) → nat_cmp a b ≡ Equal → a ≡ b
-nat_ties a b e = elim (cases_lt a b) [
-  | inl lt ↦ let less : nat_cmp a b ≡ Less = rw (lt-ltb a b lt) refl in absurd cc
-  | inr ge ↦ elim (eqb_tells a b) [
-    | inl same ↦ same.1
-    | inr other ↦ let greater : nat_cmp a b ≡ Greater = rw (le-ltb a b ge, other.0) refl in absurd cc
-  ]
-]
-
-both_tie : (o p : Ordering) → ordering_then o p ≡ Equal → (o ≡ Equal) × (p ≡ Equal)
-both_tie Less p e = absurd cc
-both_tie Equal p e = (refl, e)
-both_tie Greater p e = absurd cc
-
--- identifiers of which neither is above the other are one
-pub tied_nodes : (one other : NodeId) → node_id_cmp one other ≡ Equal → one ≡ other
-tied_nodes one other e =
-    let parts = both_tie (nat_cmp one.number other.number) (nat_cmp (rank_of one.kind) (rank_of other.kind)) e in
-    same_parts one other (nat_ties one.number other.number parts.0) (nat_ties (rank_of one.kind) (rank_of other.kind) parts.1)
-
-less_not_equal : (o : Ordering) → o ≡ Less → o ≡ Equal → ⊥
-less_not_equal o less equal = absurd cc
-
-greater_not_equal : (o : Ordering) → o ≡ Greater → o ≡ Equal → ⊥
-greater_not_equal o greater equal = absurd cc
-
--- a lower place has a lower identifier, so another one
-pub lower_differs : (ids : List NodeId) (j k : ℕ) (d : NodeId) → IsStrictlySortedBy node_id_cmp ids → j < k → k < length ids → get_or ids j d ≢ get_or ids k d
-lower_differs ids j k d ascend lt within = λ same.
-    less_not_equal (node_id_cmp (get_or ids j d) (get_or ids k d)) (Less-from_sorted node_id_cmp ids j k d ascend lt within)
-    (subst (λ (id : NodeId). node_id_cmp (get_or ids j d) id ≡ Equal) same (tied_itself node_id_total (get_or ids j d)))
-
 pub place_of_one : (ids : List NodeId) (i : ℕ) (id : NodeId) → IsStrictlySortedBy node_id_cmp ids → i < length ids → get_or ids i id ≡ id → number_of ids id ≡ Some i
 place_of_one ids i id ascend lt there =
-    first_place (same_node id) ids i id lt (subst (λ (x : NodeId). same_node id x ≡ true) (sym there) (same_itself id))
+    first_place (same_id id) ids i id lt (subst (λ (x : NodeId). same_id id x ≡ true) (sym there) (same_itself id))
     (λ k low. not_one_node id (get_or ids k id) (λ same. lower_differs ids k i id ascend low lt (sym same ∙ sym there)))
 
 sorted_pairs : (ids : List NodeId) → IsStrictlySortedBy node_id_cmp ids → IsSortedBy (λ a b. is_lt (node_id_cmp a b)) ids
@@ -126,7 +66,7 @@ pub place_tells : (ids : List NodeId) (id : NodeId) (r : Result ℕ ℕ) → IsS
 place_tells ids id (Ok i) ascend inside found = sym (place_of_one ids i id ascend inside (tied_nodes (get_or ids i id) id (found id)))
 place_tells ids id (Err i) ascend inside found =
     let parts = found (searchable_from_sorted node_id_total (λ (x : NodeId). x) ids id (sorted_pairs ids ascend)) in
-    sym (no_place (same_node id) ids (recursion_from_All (λ x. same_node id x ≡ false) ids (λ k d lt. not_one_node id (get_or ids k d) (λ same.
+    sym (no_place (same_id id) ids (recursion_from_All (λ x. same_id id x ≡ false) ids (λ k d lt. not_one_node id (get_or ids k d) (λ same.
     let tie : node_id_cmp (get_or ids k d) id ≡ Equal = subst (λ (x : NodeId). node_id_cmp x id ≡ Equal) same (tied_itself node_id_total id) in
     elim (cases_lt k i) [
       | inl before ↦ less_not_equal (node_id_cmp (get_or ids k d) id) (parts.0 k d (omega arith) before) tie
@@ -134,11 +74,11 @@ place_tells ids id (Err i) ascend inside found =
     ]))))
 
 pub number_within : (ids : List NodeId) (id : NodeId) (i : ℕ) → number_of ids id ≡ Some i → i < length ids
-number_within ids id i e = (position-Some (same_node id) ids i id e).0
+number_within ids id i e = (position-Some (same_id id) ids i id e).0
 
 pub number_found : (ids : List NodeId) (id : NodeId) (i : ℕ) → number_of ids id ≡ Some i → slice_get ids i ≡ Some id
 number_found ids id i e =
-    let parts = position-Some (same_node id) ids i id e in
+    let parts = position-Some (same_id id) ids i id e in
     let is : id ≡ get_or ids i id = one_node id (get_or ids i id) parts.1 in
     slice_get-get_or ids i id parts.0 ∙ ap (λ (x : NodeId). Some x) (sym is)
 

@@ -6,13 +6,14 @@ use Rattle.std.proofs.lemmas.Bool.{or_from, or_left, cases_lt}
 use Rattle.std.proofs.lemmas.List.{append_assoc, append-nil, length-append, length-map, length-take-le, map-append, take-append-drop, take_all}
 use Rattle.std.proofs.lemmas.List.Elements.{filter-append, filter_more}
 use Rattle.std.proofs.lemmas.List.Sums.{count_by-le-length, length-filter}
+use Rattle.mrt_graph.proofs.InOrder.{Contains-from_in_order, length-in_order}
+use Rattle.mrt_graph.proofs.Members.{all_append, all_weaker}
 use Rattle.area_graph.specs.declared.entry.NumberedEntry.{NumberedEntry as Entry}
 use Rattle.area_graph.specs.NumberedArcs.{arc_cmp}
 use Rattle.area_graph.specs.NumberedBonds.{Tie, same_entry, partner, pair_of, pairs, singles, ties, is_of, bond_of}
-use Rattle.area_graph.specs.InOrder.{in_order}
+use Rattle.mrt_graph.specs.InOrder.{in_order}
 use Rattle.area_graph.specs.Pairing.{AreOrdered, IsBetween}
 use Rattle.area_graph.proofs.Apart.{AreApart-in_order, same_itself}
-use Rattle.area_graph.proofs.InOrder.{Contains-from_in_order, all_weaker, length-in_order}
 use Rattle.area_graph.proofs.Ties.{IsEarlier, earlier_differ, is_forward, none_of_single, pair_place, partners_number, place_below, position_is, position_is_none, position_stays}
 use Rattle.area_graph.proofs.Turns.{partner_back, partner_found}
 
@@ -106,11 +107,6 @@ none_by (Some back) arcs ordered arc there between is = ap is_none (pair_there a
 -- an arc is of no pair exactly where it has no partner
 pub single_is : (arcs : List Entry) → AreOrdered arcs → (arc : Entry) → Contains arcs arc → IsBetween arc → is_none (position (is_of arc) (pairs arcs)) ≡ is_single arcs arc
 single_is arcs ordered arc there between = none_by (partner arcs arc) arcs ordered arc there between refl
-
--- the single arcs before one are others
-all_append : {X : Type 0} (P : X → Type 0) (xs ys : List X) → AllByRecursion P xs → AllByRecursion P ys → AllByRecursion P (xs ++ ys)
-all_append P [] ys one other = other
-all_append P (x ∷ xs) ys one other = (one.0, all_append P xs ys one.1 other)
 
 none_single_by : (b : Bool) (arcs : List Entry) (arc x : Entry) (some : List Entry) → same_entry arc x ≡ false → AllByRecursion (λ tie. is_of arc tie ≡ false) (map single_of (filter (is_single arcs) some))
     → AllByRecursion (λ tie. is_of arc tie ≡ false) (map single_of (cond b (x ∷ filter (is_single arcs) some) (filter (is_single arcs) some)))

@@ -15,6 +15,9 @@ use Rattle.std.proofs.lemmas.List.Elements.{recursion_from_All}
 use Rattle.std.proofs.lemmas.List.Sorted.{ranks_by, sorted_far}
 use Rattle.std.proofs.lemmas.List.Sums.{sum_by-cons}
 use Rattle.std.proofs.lemmas.Map.Keys.{ge_from_not_lt}
+use Rattle.mrt_graph.proofs.InOrder.{before_ranks, is_before}
+use Rattle.mrt_graph.proofs.Tallies.{one_if}
+use Rattle.mrt_graph.proofs.Ties.{first_not_lt}
 use Rattle.area_graph.specs.declared.area_types.Arc.{Arc}
 use Rattle.area_graph.specs.AreaInvariant.{by_tail_cmp}
 use Rattle.area_graph.specs.Starts.{AreStarts, below, starts_to}
@@ -24,23 +27,12 @@ by_tail_total =
     then_total (then_total (then_total (on_total (λ arc. arc.tail) nat_cmp_total) (on_total (λ arc. arc.metric) nat_cmp_total)) (on_total (λ arc. arc.to) nat_cmp_total))
     (on_total (λ arc. arc.link_data) nat_cmp_total)
 
-abbrev is_before : Arc → Arc → Bool
-is_before x y = is_lt (by_tail_cmp x y)
-
-before_ranks : IsStrictWeakOrder is_before
-before_ranks = ranks_by by_tail_total (λ arc. arc)
-
 -- no later arc has a lower tail
 abbrev pub Climbs : List Arc → Type 0
 Climbs [] = Unit {0}
 Climbs (x ∷ xs) = AllByRecursion (λ arc. x.tail ≤ arc.tail) xs × Climbs xs
 
-first_not_lt : (o p : Ordering) → is_lt (ordering_then o p) ≡ false → is_lt o ≡ false
-first_not_lt Less p h = h
-first_not_lt Equal p h = refl
-first_not_lt Greater p h = refl
-
-tails : (x y : Arc) → is_before y x ≡ false → x.tail ≤ y.tail
+tails : (x y : Arc) → is_before by_tail_cmp y x ≡ false → x.tail ≤ y.tail
 tails x y h =
     ge_from_not_lt y.tail x.tail (first_not_lt (nat_cmp y.tail x.tail) (nat_cmp y.metric x.metric)
     (first_not_lt (ordering_then (nat_cmp y.tail x.tail) (nat_cmp y.metric x.metric)) (nat_cmp y.to x.to)
@@ -49,28 +41,22 @@ tails x y h =
 sorted_later : (x : Arc) (xs : List Arc) → IsSorted by_tail_cmp (x ∷ xs) → IsSorted by_tail_cmp xs
 sorted_later x xs sorted = λ k d low within.
     let next : suc k + 1 ≡ suc (k + 1) = omega arith in
-    subst (λ place. is_before (get_or (x ∷ xs) place d) (get_or xs k d) ≡ false) next (sorted (suc k) d (omega arith) (omega arith))
+    subst (λ place. is_before by_tail_cmp (get_or (x ∷ xs) place d) (get_or xs k d) ≡ false) next (sorted (suc k) d (omega arith) (omega arith))
 
 pub climbs : (xs : List Arc) → IsSorted by_tail_cmp xs → Climbs xs
 climbs [] sorted = tt
 climbs (x ∷ xs) sorted = (
-  recursion_from_All (λ arc. x.tail ≤ arc.tail) xs (λ k d within. tails x (get_or xs k d) (sorted_far is_before before_ranks (x ∷ xs) sorted 0 (suc k) d (omega arith) (omega arith))),
+  recursion_from_All (λ arc. x.tail ≤ arc.tail) xs (λ k d within. tails x (get_or xs k d) (sorted_far (is_before by_tail_cmp) (before_ranks by_tail_cmp by_tail_total) (x ∷ xs) sorted 0 (suc k) d (omega arith) (omega arith))),
   climbs xs (sorted_later x xs sorted),
 )
 
-one_if : Bool → ℕ
-one_if b = cond b 1 0
-
 below_cons : (s : ℕ) (x : Arc) (xs : List Arc) → below s (x ∷ xs) ≡ one_if (nat_lt x.tail s) + below s xs
-unfolding one_if
 below_cons s x xs = sum_by-cons (λ (arc : Arc). cond (nat_lt arc.tail s) 1 0) x xs
 
 below_yes : (s : ℕ) (x : Arc) (xs : List Arc) → x.tail < s → below s (x ∷ xs) ≡ suc (below s xs)
-unfolding one_if
 below_yes s x xs lt = let e = lt-ltb x.tail s lt in below_cons s x xs ∙ rw e (omega arith)
 
 below_no : (s : ℕ) (x : Arc) (xs : List Arc) → s ≤ x.tail → below s (x ∷ xs) ≡ below s xs
-unfolding one_if
 below_no s x xs le = let e = le-ltb x.tail s le in below_cons s x xs ∙ rw e (omega arith)
 
 -- where no arc has a lower tail than x, and x none below s, none is below s
@@ -148,14 +134,6 @@ bounded s (x ∷ xs) climb = elim (cases_lt x.tail s) [
 pub arcs_of_node : (s : ℕ) (xs : List Arc) → Climbs xs → take (below (s + 1) xs - below s xs) (drop (below s xs) xs) ≡ filter (λ arc. arc.tail == s) xs
 unfolding AreOf
 arcs_of_node s xs climb = bounded s xs climb
-
-pub filter_kept : (P : Arc → Type 0) (p : Arc → Bool) (xs : List Arc) → AllByRecursion P xs → AllByRecursion P (filter p xs)
-filter_kept P p [] all = tt
-filter_kept P p (x ∷ xs) all = go (p x) refl (filter_kept P p xs all.1)
-  where
-    go : (b : Bool) → p x ≡ b → AllByRecursion P (filter p xs) → AllByRecursion P (filter p (x ∷ xs))
-    go true e rest = rw e (all.0, rest)
-    go false e rest = rw e rest
 
 -- an arc at a place beyond that of the last one below s
 pub none_further : (s : ℕ) (xs : List Arc) (at : ℕ) (d : Arc) → Climbs xs → at < length xs → s ≤ (get_or xs at d).tail → below s xs ≤ at

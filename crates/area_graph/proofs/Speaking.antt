@@ -17,13 +17,15 @@ use Rattle.lsdb.specs.Orders.{timeless}
 use Rattle.lsdb.specs.Rank.{is_at_max_age}
 use Rattle.lsdb.proofs.Arrivals.{own_key}
 use Rattle.lsdb.specs.declared.key.Key.{Key}
+use Rattle.mrt_graph.proofs.InOrder.{Contains-in_order, Rises, before_ranks, in_order_rises, is_before, not_before_itself}
+use Rattle.mrt_graph.proofs.Members.{Has, all_from_has, all_has, all_map, contains_from_has, filter_has, has_filter, has_from_contains, has_map, is_from, none_pass, pass_none}
+use Rattle.mrt_graph.proofs.Tallies.{one_if, tally, tally_filtered, tally_some}
 use Rattle.area_graph.specs.Arcs.{arcs_among}
 use Rattle.area_graph.specs.AreaOf.{area_of, area_with}
 use Rattle.area_graph.specs.Entries.{entries_of, entries_in}
-use Rattle.area_graph.specs.Nodes.{router, network, same_node, node_of, live, is_above, speaks, speakers}
+use Rattle.mrt_graph.specs.SameNetwork.{same_id}
+use Rattle.area_graph.specs.Nodes.{router, network, node_of, live, is_above, speaks, speakers}
 use Rattle.area_graph.specs.Parts.{AreaParts}
-use Rattle.area_graph.proofs.InOrder.{Rises, is_before, before_ranks, in_order_rises, Contains-in_order, not_before_itself}
-use Rattle.area_graph.proofs.KeptLists.{Has, all_has, all_from_has, all_map, has_filter, filter_has, none_pass, pass_none, has_from_contains, contains_from_has, has_map, is_from, one_if, tally, tally_filtered, tally_some}
 use Rattle.area_graph.proofs.KeptTies.{has_in_order, tally_in_order}
 
 age_by : (b : Bool) → nat_le 3600 ((if b then 3600 else 0) % 2 ^ 15) ≡ b
@@ -140,9 +142,9 @@ one_key lsas x y kept_x kept_y speaks_x speaks_y tie =
     let ties = both_tie (nat_cmp n.number m.number) (nat_cmp (rank_of n.kind) (rank_of m.kind)) tie in
     let number : n.number ≡ m.number = equal_is n.number m.number ties.0 in
     let rank : rank_of n.kind ≡ rank_of m.kind = equal_is (rank_of n.kind) (rank_of m.kind) ties.1 in
-    let there : same_node n m ≡ true =
+    let there : same_id n m ≡ true =
     and_from (n.number == m.number) (rank_of n.kind == rank_of m.kind) (eq-eqb n.number m.number number) (eq-eqb (rank_of n.kind) (rank_of m.kind) rank) in
-    let back : same_node m n ≡ true =
+    let back : same_id m n ≡ true =
     and_from (m.number == n.number) (rank_of m.kind == rank_of n.kind) (eq-eqb m.number n.number (sym number)) (eq-eqb (rank_of m.kind) (rank_of n.kind) (sym rank)) in
     let upper : nat_lt x.router y.router ≡ false = ap (λ b. b && nat_lt x.router y.router) (sym there) ∙ speaks_x.highest y speaks_y.there speaks_y.alive in
     let lower : nat_lt y.router x.router ≡ false = ap (λ b. b && nat_lt y.router x.router) (sym back) ∙ speaks_y.highest x speaks_x.there speaks_x.alive in

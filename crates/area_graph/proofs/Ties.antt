@@ -6,12 +6,12 @@ use Rattle.std.specs.Option.{option_map, option_map_or}
 use Rattle.std.proofs.lemmas.Bool.{or_from, or_left, ltb-true, lt-ltb, le-ltb, false_from_ne_true, both_ways}
 use Rattle.std.proofs.lemmas.List.{append_assoc, append-nil, get_or_default, get_or-take, length-append, length-take-le, take-append-drop, take_all}
 use Rattle.std.proofs.lemmas.List.Elements.{Contains-get_or, filter-append, filter_map-append, filter_more, recursion_from_All}
+use Rattle.mrt_graph.proofs.Members.{all_weaker}
 use Rattle.area_graph.specs.declared.entry.NumberedEntry.{NumberedEntry as Entry}
 use Rattle.area_graph.specs.NumberedBonds.{Tie, same_entry, partner, pair_of, pairs, is_of}
 use Rattle.area_graph.specs.Listed.{AreApart}
 use Rattle.area_graph.specs.Pairing.{AreOrdered, pairs_upto}
 use Rattle.area_graph.proofs.Apart.{same_back, same_in, same_itself}
-use Rattle.area_graph.proofs.InOrder.{all_weaker}
 use Rattle.area_graph.proofs.Turns.{partner_back, partner_found}
 
 -- the first place that passes, of joined lists

@@ -6,13 +6,15 @@ use Rattle.std.proofs.lemmas.List.{get_or_default}
 use Rattle.std.proofs.lemmas.List.Elements.{Contains-get_or}
 use Rattle.std.proofs.lemmas.List.Sorted.{sorted_far}
 use Rattle.std.proofs.lemmas.List.Sums.{sum_by-cons, length-filter, prefix_len-le-length, fails_before_first, passes_at_first}
+use Rattle.mrt_graph.proofs.InOrder.{before_ranks, is_before, tied}
+use Rattle.mrt_graph.proofs.Members.{contains_first, contains_later}
+use Rattle.mrt_graph.proofs.Tallies.{one_if}
 use Rattle.area_graph.specs.declared.entry.NumberedEntry.{NumberedEntry as Entry}
 use Rattle.area_graph.specs.NumberedArcs.{answers, pairing_cmp}
 use Rattle.area_graph.specs.NumberedBonds.{same_way, same_entry, turn_of, are_partners, partner}
 use Rattle.area_graph.specs.Pairing.{AreOrdered}
 use Rattle.area_graph.specs.Ways.{is_before_way, IsFirstOf}
 use Rattle.area_graph.proofs.Apart.{pairing_tie, pairing_total}
-use Rattle.area_graph.proofs.InOrder.{is_before, before_ranks, contains_first, contains_later, one_if, tied}
 use Rattle.area_graph.proofs.Ways.{answers_from, answers_parts, below_from_true, partitioned, squeezed, upto_from_false, ways_climb}
 
 -- arcs stand in order

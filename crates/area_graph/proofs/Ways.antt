@@ -12,20 +12,12 @@ use Rattle.std.proofs.lemmas.List.{get_or_default}
 use Rattle.std.proofs.lemmas.List.Elements.{recursion_from_All}
 use Rattle.std.proofs.lemmas.List.Sorted.{sorted_far}
 use Rattle.std.proofs.lemmas.Map.Keys.{ge_from_not_lt}
+use Rattle.mrt_graph.proofs.InOrder.{before_ranks, is_before}
+use Rattle.mrt_graph.proofs.Ties.{first_not_lt, second_not_lt}
 use Rattle.area_graph.specs.declared.entry.NumberedEntry.{NumberedEntry as Entry}
 use Rattle.area_graph.specs.NumberedArcs.{answers, is_arc, pairing_cmp}
 use Rattle.area_graph.specs.Ways.{is_before_way, IsFirstOf}
 use Rattle.area_graph.proofs.Apart.{pairing_total}
-use Rattle.area_graph.proofs.InOrder.{is_before, before_ranks}
-
--- what an order by two tests says of the first, and of the second where the first ties
-pub first_not_lt : (o p : Ordering) → is_lt (ordering_then o p) ≡ false → is_lt o ≡ false
-first_not_lt Less p h = h
-first_not_lt Equal p h = refl
-first_not_lt Greater p h = refl
-
-pub second_not_lt : (o p : Ordering) → o ≡ Equal → is_lt (ordering_then o p) ≡ false → is_lt p ≡ false
-second_not_lt o p tie h = subst (λ q. is_lt (ordering_then q p) ≡ false) tie h
 
 -- the way from one node to another does not stand behind that of another pair of nodes
 abbrev pub IsWayUpto : ℕ → ℕ → ℕ → ℕ → Type 0

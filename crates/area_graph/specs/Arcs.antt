@@ -6,12 +6,12 @@ use Rattle.std.specs.declared.cmp.Ordering.{Ordering}
 use Rattle.mrt_graph.specs.NodeOrder.{node_id_cmp}
 use Rattle.ospf_lsa.specs.declared.lsa.Lsa.{Lsa}
 use Rattle.area_graph.specs.Entries.{Entry, entries}
-use Rattle.area_graph.specs.InOrder.{in_order}
-use Rattle.area_graph.specs.Nodes.{same_node}
+use Rattle.mrt_graph.specs.InOrder.{in_order}
+use Rattle.mrt_graph.specs.SameNetwork.{same_id}
 
 -- whether an entry leads back between the two nodes of this one
 abbrev pub answers : Entry → Entry → Bool
-answers entry back = same_node back.from entry.to && same_node back.to entry.from
+answers entry back = same_id back.from entry.to && same_id back.to entry.from
 
 -- an arc is an entry that another one answers
 abbrev pub is_arc : List Entry → Entry → Bool

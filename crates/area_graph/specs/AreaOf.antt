@@ -8,7 +8,7 @@ use Rattle.area_graph.specs.declared.area_types.Bond.{Bond}
 use Rattle.area_graph.specs.Arcs.{arcs, arc_cmp}
 use Rattle.area_graph.specs.Bonds.{bond_of, bonds, partner}
 use Rattle.area_graph.specs.Entries.{Entry}
-use Rattle.area_graph.specs.InOrder.{in_order}
+use Rattle.mrt_graph.specs.InOrder.{in_order}
 use Rattle.area_graph.specs.Nodes.{nodes, number_of}
 use Rattle.area_graph.specs.Parts.{AreaParts}
 

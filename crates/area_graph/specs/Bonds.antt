@@ -6,12 +6,12 @@ use Rattle.std.specs.Ordering.{is_lt}
 use Rattle.mrt_graph.specs.NodeOrder.{node_id_cmp}
 use Rattle.area_graph.specs.Arcs.{answers, arc_cmp, parallel_cmp}
 use Rattle.area_graph.specs.Entries.{Entry}
-use Rattle.area_graph.specs.InOrder.{in_order}
-use Rattle.area_graph.specs.Nodes.{same_node}
+use Rattle.mrt_graph.specs.InOrder.{in_order}
+use Rattle.mrt_graph.specs.SameNetwork.{same_id}
 
 -- whether two arcs have one direction: they lead from one node to one node
 abbrev pub same_direction : Entry → Entry → Bool
-same_direction arc other = same_node other.from arc.from && same_node other.to arc.to
+same_direction arc other = same_id other.from arc.from && same_id other.to arc.to
 
 -- how many parallel arcs of its direction stand before an arc
 abbrev pub turn_of : List Entry → Entry → ℕ
@@ -39,7 +39,7 @@ bonds arcs = pairs arcs ++ singles arcs
 
 -- whether two entries are one: each has a place of its own in its node's LSA
 abbrev pub same_entry : Entry → Entry → Bool
-same_entry entry other = same_node other.from entry.from && (other.place == entry.place)
+same_entry entry other = same_id other.from entry.from && (other.place == entry.place)
 
 -- whether an arc is of a bond: it tells the bond, or is the partner of the one that does
 abbrev pub is_of : List Entry → Entry → Entry → Bool

@@ -1,4 +1,3 @@
-pub mod InOrder
 pub mod Nodes
 pub mod Speaking
 pub mod Entries

@@ -4,13 +4,14 @@ use Rattle.std.specs.List.{find}
 use Rattle.std.specs.Option.{option_map, option_map_or}
 use Rattle.std.specs.Prelude.{slice_get}
 use Rattle.area_graph.specs.declared.area_types.Arc.{Arc}
-use Rattle.area_graph.specs.Nodes.{router, same_node}
+use Rattle.mrt_graph.specs.SameNetwork.{same_id}
+use Rattle.area_graph.specs.Nodes.{router}
 use Rattle.area_graph.specs.Parts.{AreaParts}
 
 -- whether an arc leaves that router and has that link data there
 abbrev pub has_name : AreaParts → ℕ → ℕ → Arc → Bool
 has_name area number link_data arc =
-    option_map_or (same_node (router number)) (slice_get area.ids arc.tail) Bool.false && (arc.link_data == link_data)
+    option_map_or (same_id (router number)) (slice_get area.ids arc.tail) Bool.false && (arc.link_data == link_data)
 
 -- the bond of the first arc that leaves that router with that link data
 abbrev pub bond_named : AreaParts → ℕ → ℕ → Option ℕ

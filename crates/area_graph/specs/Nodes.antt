@@ -2,12 +2,13 @@
 use Rattle.std.specs.Prelude.{ℕ, Bool, not, ◌&&◌, ◌==◌, nat_lt, List, map, Option, if◌then◌else◌}
 use Rattle.std.specs.List.{filter, list_any, position}
 use Rattle.std.specs.Ordering.{on}
-use Rattle.mrt_graph.specs.NodeOrder.{rank_of, node_id_cmp}
+use Rattle.mrt_graph.specs.NodeOrder.{node_id_cmp}
 use Rattle.mrt_graph.specs.declared.node_id.Kind.TheVariants as kinds
 use Rattle.mrt_graph.specs.declared.node_id.NodeId.{NodeId}
+use Rattle.mrt_graph.specs.SameNetwork.{same_id}
 use Rattle.ospf_lsa.specs.declared.lsa.Lsa.{Lsa}
 use Rattle.lsdb.specs.Rank.{is_at_max_age}
-use Rattle.area_graph.specs.InOrder.{in_order}
+use Rattle.mrt_graph.specs.InOrder.{in_order}
 
 -- the router of that ID, and the network of that designated router's interface address
 abbrev pub router : ℕ → NodeId
@@ -15,10 +16,6 @@ router number = record { kind = kinds.Router; number = number }
 
 abbrev pub network : ℕ → NodeId
 network number = record { kind = kinds.Network; number = number }
-
--- whether two identifiers are one
-abbrev pub same_node : NodeId → NodeId → Bool
-same_node one other = (one.number == other.number) && (rank_of one.kind == rank_of other.kind)
 
 -- the node that an LSA of a database is of: a router for a router-LSA, a network for a network-LSA
 abbrev pub node_of : Lsa → NodeId
@@ -30,7 +27,7 @@ live lsas = filter (λ lsa. not (is_at_max_age lsa)) lsas
 
 -- whether an LSA is of the same node as this one, and its advertising router is greater
 abbrev pub is_above : Lsa → Lsa → Bool
-is_above lsa other = same_node (node_of lsa) (node_of other) && nat_lt lsa.router other.router
+is_above lsa other = same_id (node_of lsa) (node_of other) && nat_lt lsa.router other.router
 
 -- whether an LSA speaks for its node among live ones: of several of one network that of the greatest advertising router does
 abbrev pub speaks : List Lsa → Lsa → Bool
@@ -46,4 +43,4 @@ nodes lsas = map node_of (speakers lsas)
 
 -- a node's number: its place among the nodes
 abbrev pub number_of : List NodeId → NodeId → Option ℕ
-number_of ids id = position (same_node id) ids
+number_of ids id = position (same_id id) ids

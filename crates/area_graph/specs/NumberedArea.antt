@@ -5,7 +5,7 @@ use Rattle.area_graph.specs.declared.area_types.Bond.{Bond}
 use Rattle.area_graph.specs.declared.entry.NumberedEntry.{NumberedEntry as Entry}
 use Rattle.area_graph.specs.NumberedArcs.{arc_cmp}
 use Rattle.area_graph.specs.NumberedBonds.{Tie, ties, bond_of}
-use Rattle.area_graph.specs.InOrder.{in_order}
+use Rattle.mrt_graph.specs.InOrder.{in_order}
 
 -- an arc with the number of its bond
 abbrev pub numbered : List Tie → Entry → Arc

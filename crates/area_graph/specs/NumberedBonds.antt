@@ -5,7 +5,7 @@ use Rattle.std.specs.Option.{is_none, option_map, option_map_or, unwrap_or}
 use Rattle.std.specs.Ordering.{is_lt}
 use Rattle.area_graph.specs.declared.entry.NumberedEntry.{NumberedEntry as Entry}
 use Rattle.area_graph.specs.NumberedArcs.{answers, arc_cmp, pairing_cmp}
-use Rattle.area_graph.specs.InOrder.{in_order}
+use Rattle.mrt_graph.specs.InOrder.{in_order}
 
 -- whether two arcs lead from one node to one node
 abbrev pub same_way : Entry → Entry → Bool

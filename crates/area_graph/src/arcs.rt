@@ -4,7 +4,7 @@ ghost use Rattle.std.specs.Prelude.{◌≡◌, IfOk, IfErr};
 ghost use Rattle.std.specs.List.{filter};
 ghost use Rattle.std.specs.List.Sorted.{IsSorted};
 ghost use Rattle.area_graph.specs.NumberedArcs.{arcs_among, is_arc, pairing_cmp};
-ghost use Rattle.area_graph.specs.InOrder.{in_order};
+ghost use Rattle.mrt_graph.specs.InOrder.{in_order};
 ghost use Rattle.area_graph.specs.Listed.{AreApart};
 ghost use Rattle.area_graph.specs.Ways.{IsFirstOf};
 

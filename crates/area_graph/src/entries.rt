@@ -7,11 +7,12 @@ ghost use Rattle.std.specs.Option.{option_to_list};
 ghost use Rattle.mrt_graph.specs.NodeOrder.{node_id_cmp};
 ghost use Rattle.area_graph.specs.NumberedEntries.{entry_of_link, entry_of_listed, entries_of_links, entries_of_listed, entries_of, entries_from};
 ghost use Rattle.area_graph.specs.Entries.{far_of};
-ghost use Rattle.area_graph.specs.Nodes.{number_of, speakers as all_speakers};
+ghost use Rattle.area_graph.specs.Nodes.{speakers as all_speakers};
 ghost use Rattle.area_graph.specs.Speaking.{IsSpeakerOf};
 
 use crate::area_error::AreaError;
 use crate::entry::NumberedEntry;
+use crate::places::place_of;
 use crate::speaker::Speaker;
 use mrt_graph::{Kind, NodeId};
 use ospf_lsa::{Body, Lsa, RouterLink};
@@ -120,7 +121,7 @@ fn of_link(
     requires ascend { IsStrictlySortedBy node_id_cmp ids.now }
     ensures { result ≡ entry_of_link ids.now tail own place link.now }
 {
-    let far = number(ids, far_end(own, link)?)?;
+    let far = place_of(ids, far_end(own, link)?)?;
     Some(NumberedEntry {
         tail,
         far,
@@ -150,7 +151,7 @@ fn of_listed(ids: &[NodeId], tail: usize, place: usize, router: u32) -> Option<N
     requires ascend { IsStrictlySortedBy node_id_cmp ids.now }
     ensures { result ≡ entry_of_listed ids.now tail place router }
 {
-    let far = number(
+    let far = place_of(
         ids,
         NodeId {
             kind: Kind::Router,
@@ -164,12 +165,4 @@ fn of_listed(ids: &[NodeId], tail: usize, place: usize, router: u32) -> Option<N
         link_data: 0,
         place,
     })
-}
-
-/// The number of a node, if it is one.
-fn number(ids: &[NodeId], id: NodeId) -> Option<usize>
-    requires ascend { IsStrictlySortedBy node_id_cmp ids.now }
-    ensures { result ≡ number_of ids.now id }
-{
-    ids.binary_search(&id).ok()
 }

@@ -6,7 +6,7 @@ ghost use Rattle.std.specs.Option.{is_none, unwrap_or};
 ghost use Rattle.area_graph.specs.NumberedArea.{arcs_of, bonds_of, bond_by, bond_from, numbered as with_bond};
 ghost use Rattle.area_graph.specs.NumberedArcs.{arc_cmp};
 ghost use Rattle.area_graph.specs.NumberedBonds.{is_of, pairs, partner, ties};
-ghost use Rattle.area_graph.specs.InOrder.{in_order};
+ghost use Rattle.mrt_graph.specs.InOrder.{in_order};
 ghost use Rattle.area_graph.specs.Pairing.{AreOrdered, IsBetween, pairs_upto, with_pair};
 
 use crate::arcs::first_of;

@@ -3,6 +3,7 @@ use Rattle.std.specs.List.{AllByRecursion, Contains, position}
 use Rattle.std.specs.Option.{is_none, unwrap_or}
 use Rattle.std.proofs.lemmas.List.{get_or-map, get_or_default, length-map, map-append, map_more}
 use Rattle.std.proofs.lemmas.List.Elements.{All-from_recursion, Contains-get_or}
+use Rattle.mrt_graph.proofs.InOrder.{Contains-from_in_order, all_in_order}
 use Rattle.area_graph.specs.declared.area_types.Arc.{Arc}
 use Rattle.area_graph.specs.declared.area_types.Bond.{Bond}
 use Rattle.area_graph.specs.declared.entry.NumberedEntry.{NumberedEntry as Entry}
@@ -10,9 +11,8 @@ use Rattle.area_graph.specs.declared.pairing.Numbered.{Numbered}
 use Rattle.area_graph.specs.NumberedArea.{bond_by, bond_from, numbered as with_bond}
 use Rattle.area_graph.specs.NumberedArcs.{arc_cmp}
 use Rattle.area_graph.specs.NumberedBonds.{is_of, pairs, ties, bond_of}
-use Rattle.area_graph.specs.InOrder.{in_order}
+use Rattle.mrt_graph.specs.InOrder.{in_order}
 use Rattle.area_graph.specs.Pairing.{AreOrdered, IsBetween, with_pair}
-use Rattle.area_graph.proofs.InOrder.{all_in_order, Contains-from_in_order}
 use Rattle.area_graph.proofs.Singles.{is_single, number_bound, number_is, ordered_arcs, single_is, single_of, ties_more, ties_upto}
 use Rattle.area_graph.proofs.pairing.number_all.Goals as goal
 

@@ -2,7 +2,7 @@ use Rattle.std.proofs.Common.{◌≡◌, map, take}
 use Rattle.area_graph.specs.NumberedArea.{bond_from, numbered as with_bond}
 use Rattle.area_graph.specs.NumberedArcs.{arc_cmp}
 use Rattle.area_graph.specs.NumberedBonds.{ties}
-use Rattle.area_graph.specs.InOrder.{in_order}
+use Rattle.mrt_graph.specs.InOrder.{in_order}
 use Rattle.area_graph.proofs.Singles.{ties_upto}
 use Rattle.area_graph.proofs.pairing.number_all.Given as goal
 

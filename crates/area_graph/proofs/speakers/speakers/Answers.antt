@@ -7,13 +7,13 @@ use Rattle.std.proofs.lemmas.Cmp.{on_total}
 use Rattle.std.proofs.lemmas.Fn.{dedup_same}
 use Rattle.std.proofs.lemmas.List.Sorted.{answers_always}
 use Rattle.mrt_graph.specs.NodeOrder.{node_id_cmp}
+use Rattle.mrt_graph.proofs.InOrder.{before_ranks}
+use Rattle.mrt_graph.proofs.NodeIds.{node_id_total}
 use Rattle.area_graph.specs.Nodes.{speakers}
 use Rattle.area_graph.specs.Speaking.{IsSpeakerOf}
 use Rattle.area_graph.specs.declared.speaker.Speaker.{Speaker}
 use Rattle.area_graph.proofs.Foremost.{greatest_first_total}
-use Rattle.area_graph.proofs.InOrder.{before_ranks}
 use Rattle.area_graph.proofs.OneOfEachNode.{by_id, speaker_cmp, found, found_speak, ids_ascend}
-use Rattle.area_graph.proofs.SameNodes.{node_id_total}
 use Rattle.area_graph.proofs.speakers.speakers.Goals as goal
 
 sorted : (c : goal.After-dedup_by_key) → IsSorted speaker_cmp c.sort_unstable_by.new.self.items
