@@ -7,15 +7,15 @@ use Rattle.std.specs.List.{AllByRecursion, Contains, filter, count_by, sum_by}
 use Rattle.std.specs.List.Sorted.{IsSorted, IsPermutation}
 use Rattle.std.specs.Ordering.{nat_cmp, ordering_then}
 use Rattle.std.proofs.lemmas.Bool.{and_parts, and_from, eqb-true, eq-eqb, cases_Bool, cases_order, false_from_ne_true, both_ways}
-use Rattle.std.proofs.lemmas.Cmp.{nat_cmp_total, on_total, then_total, ranked}
+use Rattle.std.proofs.lemmas.Cmp.{nat_cmp_total, on_total, then_total}
 use Rattle.std.proofs.lemmas.List.{get_or-take, get_or_default, length-take-le}
 use Rattle.std.proofs.lemmas.List.Elements.{recursion_from_All, filter_agree}
 use Rattle.std.proofs.lemmas.List.Sorted.{IsPermutation-sym, list_any-IsPermutation, sum_by-IsPermutation}
-use Rattle.std.proofs.lemmas.List.Sums.{sum_by-cons, sum_by-le-sum_by, sum_by_more_le, get_or-le-sum_by}
-use Rattle.mrt_graph.proofs.InOrder.{AreAlike, Contains-from_in_order, Contains-in_order, OnlyEqualsTie, Rises, in_order_moves, in_order_rises, in_order_sorted, one_order, sum_by-in_order}
-use Rattle.mrt_graph.proofs.Members.{contains_later}
-use Rattle.mrt_graph.proofs.Tallies.{one_if}
-use Rattle.mrt_graph.proofs.Filters.{Contains-filter, Contains-from_filter, filter-in_order, passes_from_filter, sum_by-filter}
+use Rattle.std.proofs.lemmas.List.Sums.{sum_by_more_le, get_or-le-sum_by}
+use Rattle.mrt_graph.proofs.InOrder.{OnlyEqualsTie, in_order_moves, in_order_sorted}
+use Rattle.mrt_graph.proofs.Members.{Has, all_has, has_from_contains}
+use Rattle.mrt_graph.proofs.Tallies.{count_is_tally, one_if, tally, tally_filtered, tally_none, tally_same, tally_some}
+use Rattle.mrt_graph.proofs.Filters.{filter-in_order}
 use Rattle.mrt_graph.proofs.Ties.{nat_tie, then_tie}
 use Rattle.area_graph.specs.declared.entry.NumberedEntry.{NumberedEntry as Entry}
 use Rattle.area_graph.specs.NumberedArcs.{answers, is_arc, arc_cmp, pairing_cmp, arcs_among}
@@ -54,28 +54,32 @@ same_through x y z xy xz =
 pub apart_later : (x : Entry) (xs : List Entry) → AreApart (x ∷ xs) → AreApart xs
 apart_later x xs apart = λ j k d below within. apart (suc j) (suc k) d (omega arith) (omega arith)
 
-pub count_none : {X : Type 0} (p : X → Bool) (xs : List X) → AllByRecursion (λ x. p x ≡ false) xs → count_by p xs ≡ 0
-count_none p [] none = refl
-count_none p (x ∷ xs) none =
-    let first : one_if (p x) ≡ 0 = rw none.0 refl in sum_by-cons (λ y. cond (p y) 1 0) x xs ∙ omega (arith, first, count_none p xs none.1)
+-- no two of these are one entry
+abbrev pub Once : List Entry → Type 0
+Once xs = (entry : Entry) → tally (same_entry entry) xs ≤ 1
 
--- each is there once
-pub once_from_apart : (xs : List Entry) → AreApart xs → (e : Entry) → count_by (same_entry e) xs ≤ 1
-once_from_apart [] apart e = omega arith
-once_from_apart (x ∷ xs) apart e =
-    let counted = sum_by-cons (λ y. cond (same_entry e y) 1 0) x xs in
-    elim (cases_Bool (same_entry e x)) [
-      | inl same ↦
-          let none : count_by (same_entry e) xs ≡ 0 =
-          count_none (same_entry e) xs (recursion_from_All (λ y. same_entry e y ≡ false) xs
-          (λ k d within. false_from_ne_true (same_entry e (get_or xs k d))
-          (λ also. both_ways (same_entry x (get_or xs k d)) (apart 0 (suc k) d (omega arith) (omega arith)) (same_through e x (get_or xs k d) same also)))) in
-          let one : one_if (same_entry e x) ≡ 1 = rw same refl in
-          omega (arith, counted, none, one)
-      | inr other ↦
-          let nothing : one_if (same_entry e x) ≡ 0 = rw other refl in
-          omega (arith, counted, nothing, once_from_apart xs (apart_later x xs apart) e)
-    ]
+pub once_from_apart : (xs : List Entry) → AreApart xs → Once xs
+once_from_apart [] apart = λ entry. omega arith
+once_from_apart (x ∷ xs) apart = λ entry. elim (cases_Bool (same_entry entry x)) [
+  | inl same ↦
+      let others : AllByRecursion (λ y. same_entry x y ≡ false) xs =
+      recursion_from_All (λ y. same_entry x y ≡ false) xs (λ k d within. apart 0 (suc k) d (omega arith) (omega arith)) in
+      let none : tally (same_entry entry) xs ≡ 0 = tally_none (same_entry entry) xs (λ y has. false_from_ne_true (same_entry entry y)
+      (λ also. both_ways (same_entry x y) (all_has (λ z. same_entry x z ≡ false) xs y others has) (same_through entry x y same also))) in
+      let first : one_if (same_entry entry x) ≡ 1 = ap one_if same in
+      omega (arith, none, first)
+  | inr other ↦
+      let first : one_if (same_entry entry x) ≡ 0 = ap one_if other in
+      omega (arith, first, once_from_apart xs (apart_later x xs apart) entry)
+]
+
+-- members that are one entry are one
+pub one_member : (xs : List Entry) (x y : Entry) → Once xs → Has xs x → Has xs y → same_entry x y ≡ true → x ≡ y
+one_member xs x y once has_x has_y same = tally_same (same_entry x) xs x y (once x) has_x (same_itself x) has_y same
+
+-- a member counts once
+pub count_itself : (xs : List Entry) (x : Entry) → Once xs → Has xs x → tally (same_entry x) xs ≡ 1
+count_itself xs x once has = omega (arith, once x, tally_some (same_entry x) xs x has (same_itself x))
 
 two_pass : {X : Type 0} (p : X → Bool) (xs : List X) (j k : ℕ) (d : X) → j < k → k < length xs → p (get_or xs j d) ≡ true → p (get_or xs k d) ≡ true → 2 ≤ count_by p xs
 two_pass {X} p xs j k d below within at_j at_k =
@@ -86,43 +90,23 @@ two_pass {X} p xs j k d below within at_j at_k =
     let second : one_if (p (get_or xs k d)) ≡ 1 = rw at_k refl in
     omega (arith, first, second, get_or-le-sum_by f (take k xs) j d (omega arith), sum_by_more_le f xs k d within)
 
-pub apart_from_once : (xs : List Entry) → ((e : Entry) → count_by (same_entry e) xs ≤ 1) → AreApart xs
+pub apart_from_once : (xs : List Entry) → Once xs → AreApart xs
 apart_from_once xs once = λ j k d below within.
     false_from_ne_true (same_entry (get_or xs j d) (get_or xs k d))
-    (λ same. absurd (omega (arith, once (get_or xs j d), two_pass (same_entry (get_or xs j d)) xs j k d below within (same_itself (get_or xs j d)) same)))
+    (λ same. absurd (omega (arith, once (get_or xs j d), count_is_tally (same_entry (get_or xs j d)) xs,
+    two_pass (same_entry (get_or xs j d)) xs j k d below within (same_itself (get_or xs j d)) same)))
 
 pub AreApart-permutation : (xs ys : List Entry) → IsPermutation xs ys → AreApart xs → AreApart ys
 AreApart-permutation xs ys moves apart =
-    apart_from_once ys (λ e. omega (arith, once_from_apart xs apart e, sum_by-IsPermutation (λ y. cond (same_entry e y) 1 0) xs ys moves))
-
--- a sum over what a filter keeps
-sum_kept_by : {X : Type 0} (b : Bool) (f : X → ℕ) (x : X) (xs : List X) (rest : ℕ) → sum_by f xs ≡ rest → sum_by f (cond b (x ∷ xs) xs) ≡ cond b (f x) 0 + rest
-sum_kept_by true f x xs rest is = sum_by-cons f x xs ∙ ap (λ n. f x + n) is
-sum_kept_by false f x xs rest is = is ∙ omega arith
-
-part_le : (b : Bool) (n : ℕ) → cond b n 0 ≤ n
-part_le true n = omega arith
-part_le false n = omega arith
+    apart_from_once ys (λ e. omega (arith, once_from_apart xs apart e, count_is_tally (same_entry e) xs, count_is_tally (same_entry e) ys,
+    sum_by-IsPermutation (λ y. cond (same_entry e y) 1 0) xs ys moves))
 
 pub AreApart-filter : (p : Entry → Bool) (xs : List Entry) → AreApart xs → AreApart (filter p xs)
-AreApart-filter p xs apart =
-    apart_from_once (filter p xs) (λ e.
-    let f : Entry → ℕ = λ y. cond (same_entry e y) 1 0 in
-    omega (arith, once_from_apart xs apart e, sum_by-filter p f xs, sum_by-le-sum_by (λ y. cond (p y) (f y) 0) f xs (λ y. part_le (p y) (f y))))
+AreApart-filter p xs apart = apart_from_once (filter p xs) (λ e. omega (arith, once_from_apart xs apart e, tally_filtered (same_entry e) p xs))
 
 -- of entries that are apart one is equal to another where they have one node and one place
-pub same_in : (xs : List Entry) → AreApart xs → (x y : Entry) → Contains xs x → Contains xs y → same_entry x y ≡ true → x ≡ y
-same_in xs apart x y in_x in_y same =
-    let at_y : get_or xs in_y.0 x ≡ y = get_or_default xs in_y.0 x y in_y.1 ∙ in_y.2 in
-    elim (cases_order in_x.0 in_y.0) [
-      | inl equal ↦ sym in_x.2 ∙ ap (λ k. get_or xs k x) equal ∙ at_y
-      | inr (inl below) ↦
-          let differ : same_entry x y ≡ false = rw (in_x.2, at_y) at (apart in_x.0 in_y.0 x below in_y.1) in
-          absurd (both_ways (same_entry x y) differ same)
-      | inr (inr above) ↦
-          let differ : same_entry y x ≡ false = rw (at_y, in_x.2) at (apart in_y.0 in_x.0 x above in_x.1) in
-          absurd (both_ways (same_entry y x) differ (same_back x y same))
-    ]
+same_in : (xs : List Entry) → AreApart xs → (x y : Entry) → Contains xs x → Contains xs y → same_entry x y ≡ true → x ≡ y
+same_in xs apart x y in_x in_y same = one_member xs x y (once_from_apart xs apart) (has_from_contains xs x in_x) (has_from_contains xs y in_y) same
 
 pub pairing_tie : (x y : Entry) → pairing_cmp x y ≡ Equal → same_entry x y ≡ true
 pairing_tie x y tie =
@@ -148,47 +132,12 @@ arc_ties_alone xs apart = record { same = λ x y in_x in_y tie. same_in xs apart
 pub AreApart-in_order : (cmp : Entry → Entry → Ordering) (xs : List Entry) → AreApart xs → AreApart (in_order cmp xs)
 AreApart-in_order cmp xs apart = AreApart-permutation xs (in_order cmp xs) (in_order_moves cmp xs) apart
 
--- a filter keeps elements, and their order
-kept_by : {X : Type 0} (b : Bool) (x y : X) (xs ys : List X) → (Contains ys y → Contains xs y) → Contains (cond b (x ∷ ys) ys) y → Contains (x ∷ xs) y
-kept_by true x y xs ys rest (zero, within, is) = (0, omega arith, is)
-kept_by true x y xs ys rest (suc k, within, is) = contains_later x y xs (rest (k, omega (arith, within), is))
-kept_by false x y xs ys rest there = contains_later x y xs (rest there)
-
-passes_by : {X : Type 0} (b : Bool) (p : X → Bool) (x y : X) (ys : List X) → p x ≡ b → (Contains ys y → p y ≡ true) → Contains (cond b (x ∷ ys) ys) y → p y ≡ true
-passes_by true p x y ys is rest (zero, within, at) = ap p (sym at) ∙ is
-passes_by true p x y ys is rest (suc k, within, at) = rest (k, omega (arith, within), at)
-passes_by false p x y ys is rest there = rest there
-
-contains_by : {X : Type 0} (b : Bool) (p : X → Bool) (x y : X) (xs ys : List X) → p x ≡ b → p y ≡ true → (Contains xs y → Contains ys y) → Contains (x ∷ xs) y → Contains (cond b (x ∷ ys) ys) y
-contains_by true p x y xs ys is passes rest (zero, within, at) = (0, omega arith, at)
-contains_by true p x y xs ys is passes rest (suc k, within, at) = contains_later x y ys (rest (k, omega (arith, within), at))
-contains_by false p x y xs ys is passes rest (zero, within, at) = absurd (both_ways (p x) is (ap p at ∙ passes))
-contains_by false p x y xs ys is passes rest (suc k, within, at) = rest (k, omega (arith, within), at)
-
-all_kept_by : {X : Type 0} (b : Bool) (P : X → Type 0) (x : X) (xs : List X) → P x → AllByRecursion P xs → AllByRecursion P (cond b (x ∷ xs) xs)
-all_kept_by true P x xs px all = (px, all)
-all_kept_by false P x xs px all = all
-
-rises_kept_by : {X : Type 0} (b : Bool) (cmp : X → X → Ordering) (x : X) (xs : List X) → Rises cmp (x ∷ xs) → Rises cmp (cond b (x ∷ xs) xs)
-rises_kept_by true cmp x xs rises = rises
-rises_kept_by false cmp x xs rises = rises.1
-
 -- what the arcs among entries are
 pub arcs_sorted : (all : List Entry) → IsSorted pairing_cmp (arcs_among all)
 arcs_sorted all = in_order_sorted pairing_cmp pairing_total (filter (is_arc all) all)
 
 pub arcs_apart : (all : List Entry) → AreApart all → AreApart (arcs_among all)
 arcs_apart all apart = AreApart-in_order pairing_cmp (filter (is_arc all) all) (AreApart-filter (is_arc all) all apart)
-
-pub arc_is_entry : (all : List Entry) (arc : Entry) → Contains (arcs_among all) arc → Contains all arc
-arc_is_entry all arc there = Contains-from_filter (is_arc all) all arc (Contains-from_in_order pairing_cmp (filter (is_arc all) all) arc there)
-
-pub arc_is_answered : (all : List Entry) (arc : Entry) → Contains (arcs_among all) arc → is_arc all arc ≡ true
-arc_is_answered all arc there = passes_from_filter (is_arc all) all arc (Contains-from_in_order pairing_cmp (filter (is_arc all) all) arc there)
-
-pub answered_is_arc : (all : List Entry) (entry : Entry) → Contains all entry → is_arc all entry ≡ true → Contains (arcs_among all) entry
-answered_is_arc all entry there answered =
-    Contains-in_order pairing_cmp (filter (is_arc all) all) entry (Contains-filter (is_arc all) all entry there answered)
 
 -- the arcs among entries that are put in order first
 pub arcs_in_order : (all : List Entry) → AreApart all → filter (is_arc (in_order pairing_cmp all)) (in_order pairing_cmp all) ≡ arcs_among all

@@ -18,7 +18,6 @@ use Rattle.area_graph.specs.AreaSize.{IsTooLarge, too_large as error_of}
 use Rattle.area_graph.specs.declared.area_error.AreaError.{AreaError}
 use Rattle.area_graph.specs.declared.area_error.AreaError.TheVariants.{NoMemory}
 use Rattle.area_graph.specs.NumberedArcs.{arc_cmp, arcs_among}
-use Rattle.area_graph.specs.NumberedBonds.{ties}
 use Rattle.area_graph.specs.NumberedEntries.{entries}
 use Rattle.mrt_graph.specs.InOrder.{in_order}
 use Rattle.area_graph.specs.Listed.{AreEntries}
@@ -41,7 +40,7 @@ parts_are lsas ids all by_way ascend ids_are all_are by_way_are =
 
 -- there are as many arcs as entries that are arcs
 pub as_many : (by_way : List Entry) → length (arcs_of by_way) ≡ length by_way
-as_many by_way = length-map (in_order arc_cmp by_way) (numbered (ties by_way)) ∙ length-in_order arc_cmp by_way
+as_many by_way = length-map (in_order arc_cmp by_way) (numbered by_way) ∙ length-in_order arc_cmp by_way
 
 pub ordered : (all by_way : List Entry) (ids : List NodeId) → by_way ≡ arcs_among all → AreEntries ids all → AreOrdered by_way
 ordered all by_way ids are kept = subst AreOrdered (sym are) (arcs_are_ordered all kept.apart)

@@ -24,14 +24,14 @@ use Rattle.area_graph.specs.declared.area_types.Bond.{Bond}
 use Rattle.area_graph.specs.declared.entry.NumberedEntry.{NumberedEntry}
 use Rattle.area_graph.specs.AreaOf.{arc_from, area_with, bond_by, bond_from, place_among}
 use Rattle.area_graph.specs.Arcs.{answers, arc_cmp, arcs_among, is_arc, pairing_cmp, parallel_cmp}
-use Rattle.area_graph.specs.Bonds.{are_partners, bond_of, bonds, is_of, pairs, partner, same_direction, same_entry, singles, turn_of}
+use Rattle.area_graph.specs.Bonds.{are_partners, bond_of, bonds, is_of, pairs, partner, same_direction, same_entry, singles, tells_pair, turn_of}
 use Rattle.area_graph.specs.Entries.{Entry}
 use Rattle.mrt_graph.specs.InOrder.{in_order}
 use Rattle.mrt_graph.specs.SameNetwork.{same_id}
 use Rattle.area_graph.specs.Nodes.{number_of}
 use Rattle.area_graph.specs.NumberedArcs.{answers as n_answers, arc_cmp as n_arc_cmp, arcs_among as n_arcs_among, is_arc as n_is_arc, pairing_cmp as n_pairing_cmp}
 use Rattle.area_graph.specs.NumberedArea.{arcs_of, bond_by as n_bond_by, bond_from as n_bond_from, bonds_of, numbered}
-use Rattle.area_graph.specs.NumberedBonds.{Tie, are_partners as n_are_partners, bond_of as n_bond_of, is_of as n_is_of, pair_of, pairs as n_pairs, partner as n_partner, same_entry as n_same_entry, same_way, singles as n_singles, ties, turn_of as n_turn_of}
+use Rattle.area_graph.specs.NumberedBonds.{are_partners as n_are_partners, bond_of as n_bond_of, bonds as n_bonds, is_of as n_is_of, is_single, pairs as n_pairs, partner as n_partner, same_entry as n_same_entry, same_way, singles as n_singles, tells_pair as n_tells_pair, turn_of as n_turn_of}
 use Rattle.area_graph.specs.Parts.{AreaParts}
 use Rattle.area_graph.proofs.Alongside.{AreBoth, length_zip, zip_any, zip_append, zip_filter, zip_find, zip_in_order, zip_map, zip_position}
 use Rattle.area_graph.proofs.Placing.{number_found, number_within}
@@ -250,58 +250,32 @@ module _ (ids : List NodeId) (ascend : IsStrictlySortedBy node_id_cmp ids) where
 
     -- ---- bonds
 
-    -- an arc tells the bond that a tie makes
-    record IsToldBy (one : Entry) (tie : Tie) : Type 0 where
-      first : R one tie.one
-      second : AreBoth R (partner arcs one) tie.other
+    some_alike : (o : Option Entry) (p : Option NumberedEntry) → AreBoth R o p → is_some o ≡ is_some p
+    some_alike None None both = refl
+    some_alike None (Some m) both = absurd both
+    some_alike (Some back) None both = absurd both
+    some_alike (Some back) (Some m) both = refl
 
-    pair_more : (x : Entry) (n : NumberedEntry) (o : Option Entry) (p : Option NumberedEntry) → partner arcs x ≡ o → R x n → AreBoth R o p → (xs : List Entry) (made : List Tie)
-        → AllZip IsToldBy xs made
-        → AllZip IsToldBy (cond (is_some o) (x ∷ xs) xs) (cons_option (option_map (λ back. record { one = n; other = Some back }) p) made)
-    pair_more x n None None is r both xs made rest = rest
-    pair_more x n None (Some m) is r both xs made rest = absurd both
-    pair_more x n (Some back) None is r both xs made rest = absurd both
-    pair_more x n (Some back) (Some m) is r both xs made rest =
-        (record { first = r; second = subst (λ (o : Option Entry). AreBoth R o (Some m)) (sym is) both }, rest)
+    none_alike : (o : Option Entry) (p : Option NumberedEntry) → AreBoth R o p → is_none o ≡ is_none p
+    none_alike None None both = refl
+    none_alike None (Some m) both = absurd both
+    none_alike (Some back) None both = absurd both
+    none_alike (Some back) (Some m) both = refl
 
-    pairs_among : (xs : List Entry) (ns : List NumberedEntry) → AllZip R xs ns
-        → AllZip IsToldBy (filter (λ arc. is_some (partner arcs arc)) xs) (filter_map (pair_of nums) ns)
-    pairs_among [] [] zipped = tt
-    pairs_among [] (n ∷ ns) zipped = absurd zipped
-    pairs_among (x ∷ xs) [] zipped = absurd zipped
-    pairs_among (x ∷ xs) (n ∷ ns) zipped =
-        pair_more x n (partner arcs x) (n_partner nums n) refl zipped.0 (partner_alike x n zipped.0) (filter (λ arc. is_some (partner arcs arc)) xs) (filter_map (pair_of nums) ns)
-        (pairs_among xs ns zipped.1)
-
-    pairs_alike : AllZip IsToldBy (pairs arcs) (n_pairs nums)
-    pairs_alike =
-        pairs_among (filter (λ arc. is_lt (node_id_cmp arc.from arc.to)) arcs) (filter (λ n. nat_lt n.tail n.far) nums)
-        (zip_filter R (λ arc. is_lt (node_id_cmp arc.from arc.to)) (λ n. nat_lt n.tail n.far) (λ arc n r. lower_alike arc n r) arcs nums zip)
-
-    single_more : (x : Entry) (n : NumberedEntry) (o : Option Entry) (p : Option NumberedEntry) → partner arcs x ≡ o → R x n → AreBoth R o p → (xs : List Entry) (ns : List NumberedEntry)
-        → AllZip IsToldBy xs (map (λ arc. record { one = arc; other = None }) ns)
-        → AllZip IsToldBy (cond (is_none o) (x ∷ xs) xs) (map (λ arc. record { one = arc; other = None }) (cond (is_none p) (n ∷ ns) ns))
-    single_more x n None None is r both xs ns rest = (record { first = r; second = subst (λ (o : Option Entry). AreBoth R o None) (sym is) both }, rest)
-    single_more x n None (Some m) is r both xs ns rest = absurd both
-    single_more x n (Some back) None is r both xs ns rest = absurd both
-    single_more x n (Some back) (Some m) is r both xs ns rest = rest
-
-    singles_among : (xs : List Entry) (ns : List NumberedEntry) → AllZip R xs ns
-        → AllZip IsToldBy (filter (λ arc. is_none (partner arcs arc)) xs) (map (λ arc. record { one = arc; other = None }) (filter (λ n. is_none (n_partner nums n)) ns))
-    singles_among [] [] zipped = tt
-    singles_among [] (n ∷ ns) zipped = absurd zipped
-    singles_among (x ∷ xs) [] zipped = absurd zipped
-    singles_among (x ∷ xs) (n ∷ ns) zipped =
-        single_more x n (partner arcs x) (n_partner nums n) refl zipped.0 (partner_alike x n zipped.0) (filter (λ arc. is_none (partner arcs arc)) xs)
-        (filter (λ n. is_none (n_partner nums n)) ns) (singles_among xs ns zipped.1)
+    tells_alike : (arc : Entry) (n : NumberedEntry) → R arc n → tells_pair arcs arc ≡ n_tells_pair nums n
+    tells_alike arc n r =
+        and_alike (is_lt (node_id_cmp arc.from arc.to)) (is_some (partner arcs arc)) (nat_lt n.tail n.far) (is_some (n_partner nums n)) (lower_alike arc n r)
+        (some_alike (partner arcs arc) (n_partner nums n) (partner_alike arc n r))
 
     ordered_alike : AllZip R (in_order arc_cmp arcs) (in_order n_arc_cmp nums)
     ordered_alike = zip_in_order R arc_cmp n_arc_cmp (λ arc other n m r s. arc_alike arc other n m r s) arcs nums zip
 
-    bonds_alike : AllZip IsToldBy (bonds arcs) (ties nums)
+    bonds_alike : AllZip R (bonds arcs) (n_bonds nums)
     bonds_alike =
-        zip_append IsToldBy (pairs arcs) (singles arcs) (n_pairs nums) (n_singles nums) pairs_alike
-        (singles_among (in_order arc_cmp arcs) (in_order n_arc_cmp nums) ordered_alike)
+        zip_append R (pairs arcs) (singles arcs) (n_pairs nums) (n_singles nums)
+        (zip_filter R (tells_pair arcs) (n_tells_pair nums) (λ arc n r. tells_alike arc n r) arcs nums zip)
+        (zip_filter R (λ arc. is_none (partner arcs arc)) (is_single nums) (λ arc n r. none_alike (partner arcs arc) (n_partner nums n) (partner_alike arc n r))
+        (in_order arc_cmp arcs) (in_order n_arc_cmp nums) ordered_alike)
 
     of_other : (arc : Entry) (n : NumberedEntry) (o : Option Entry) (p : Option NumberedEntry) → R arc n → AreBoth R o p
         → option_map_or (same_entry arc) o false ≡ option_map_or (n_same_entry n) p false
@@ -310,20 +284,20 @@ module _ (ids : List NodeId) (ascend : IsStrictlySortedBy node_id_cmp ids) where
     of_other arc n (Some back) None r both = absurd both
     of_other arc n (Some back) (Some m) r both = entry_alike arc back n m r both
 
-    of_alike : (arc : Entry) (n : NumberedEntry) → R arc n → (one : Entry) (tie : Tie) → IsToldBy one tie → is_of arcs arc one ≡ n_is_of n tie
-    of_alike arc n r one tie told =
-        ap (λ b. b || option_map_or (same_entry arc) (partner arcs one) false) (entry_alike arc one n tie.one r told.first)
-        ∙ ap (λ b. n_same_entry n tie.one || b) (of_other arc n (partner arcs one) tie.other r told.second)
+    of_alike : (arc : Entry) (n : NumberedEntry) → R arc n → (one : Entry) (m : NumberedEntry) → R one m → is_of arcs arc one ≡ n_is_of nums n m
+    of_alike arc n r one m s =
+        ap (λ b. b || option_map_or (same_entry arc) (partner arcs one) false) (entry_alike arc one n m r s)
+        ∙ ap (λ b. n_same_entry n m || b) (of_other arc n (partner arcs one) (n_partner nums m) r (partner_alike one m s))
 
-    bond_alike : (arc : Entry) (n : NumberedEntry) → R arc n → bond_of arcs arc ≡ n_bond_of (ties nums) n
+    bond_alike : (arc : Entry) (n : NumberedEntry) → R arc n → bond_of arcs arc ≡ n_bond_of nums n
     bond_alike arc n r =
         ap (λ (o : Option ℕ). unwrap_or o (length (bonds arcs)))
-        (zip_position IsToldBy (is_of arcs arc) (n_is_of n) (λ one tie told. of_alike arc n r one tie told) (bonds arcs) (ties nums) bonds_alike)
-        ∙ ap (λ (count : ℕ). unwrap_or (position (n_is_of n) (ties nums)) count) (length_zip IsToldBy (bonds arcs) (ties nums) bonds_alike)
+        (zip_position R (is_of arcs arc) (n_is_of nums n) (λ one m s. of_alike arc n r one m s) (bonds arcs) (n_bonds nums) bonds_alike)
+        ∙ ap (λ (count : ℕ). unwrap_or (position (n_is_of nums n) (n_bonds nums)) count) (length_zip R (bonds arcs) (n_bonds nums) bonds_alike)
 
     -- ---- the parts of the area
 
-    numbered_alike : (arc : Entry) (n : NumberedEntry) → R arc n → arc_from ids arcs arc ≡ numbered (ties nums) n
+    numbered_alike : (arc : Entry) (n : NumberedEntry) → R arc n → arc_from ids arcs arc ≡ numbered nums n
     numbered_alike arc n r =
         let tail : place_among ids arc.from ≡ n.tail = ap (λ (o : Option ℕ). unwrap_or o (length ids)) r.from in
         let to : place_among ids arc.to ≡ n.far = ap (λ (o : Option ℕ). unwrap_or o (length ids)) r.to in
@@ -353,7 +327,8 @@ module _ (ids : List NodeId) (ascend : IsStrictlySortedBy node_id_cmp ids) where
     pub area_alike : area_with ids arcs ≡ record { ids = ids; arcs = arcs_of nums; bonds = bonds_of nums }
     area_alike =
         let arcs_are : map (arc_from ids arcs) (in_order arc_cmp arcs) ≡ arcs_of nums =
-        zip_map R (arc_from ids arcs) (numbered (ties nums)) (λ arc n r. numbered_alike arc n r) (in_order arc_cmp arcs) (in_order n_arc_cmp nums) ordered_alike in
+        zip_map R (arc_from ids arcs) (numbered nums) (λ arc n r. numbered_alike arc n r) (in_order arc_cmp arcs) (in_order n_arc_cmp nums) ordered_alike in
         let bonds_are : map (bond_from ids arcs) (bonds arcs) ≡ bonds_of nums =
-        zip_map IsToldBy (bond_from ids arcs) n_bond_from (λ one tie told. bond_made one tie.one (partner arcs one) tie.other told.first told.second) (bonds arcs) (ties nums) bonds_alike in
+        zip_map R (bond_from ids arcs) (n_bond_from nums) (λ one m r. bond_made one m (partner arcs one) (n_partner nums m) r (partner_alike one m r)) (bonds arcs) (n_bonds nums)
+        bonds_alike in
         λ i. record { ids = ids; arcs = arcs_are i; bonds = bonds_are i }

@@ -5,8 +5,9 @@ pub mod Ahead
 pub mod Rows
 pub mod Apart
 pub mod Ways
-pub mod KeptTurns
-pub mod KeptTies
+pub mod OrderedMembers
+pub mod Partners
+pub mod OneBond
 pub mod KeptBonds
 pub mod Kept
 pub mod Speaking
@@ -19,8 +20,7 @@ pub mod LiveOnes
 pub mod Adding
 pub mod ListedApart
 pub mod Turns
-pub mod Ties
-pub mod Singles
+pub mod BondNumbers
 pub mod Paired
 pub mod ByNumber
 pub mod ListedByNumber

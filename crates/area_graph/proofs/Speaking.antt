@@ -26,7 +26,7 @@ use Rattle.area_graph.specs.Entries.{entries_of, entries_in}
 use Rattle.mrt_graph.specs.SameNetwork.{same_id}
 use Rattle.area_graph.specs.Nodes.{router, network, node_of, live, is_above, speaks, speakers}
 use Rattle.area_graph.specs.Parts.{AreaParts}
-use Rattle.area_graph.proofs.KeptTies.{has_in_order, tally_in_order}
+use Rattle.area_graph.proofs.OrderedMembers.{has_in_order, tally_in_order}
 
 age_by : (b : Bool) → nat_le 3600 ((if b then 3600 else 0) % 2 ^ 15) ≡ b
 age_by true = refl

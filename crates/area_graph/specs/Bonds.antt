@@ -25,9 +25,13 @@ are_partners arcs arc back = answers arc back && (turn_of arcs back == turn_of a
 abbrev pub partner : List Entry → Entry → Option Entry
 partner arcs arc = find (are_partners arcs arc) arcs
 
--- the pairs, each told by its arc that leaves the lower node: by lower node, then by higher node, then as parallel arcs
+-- whether an arc tells a pair: it has a partner, and it leaves the lower of the two nodes
+abbrev pub tells_pair : List Entry → Entry → Bool
+tells_pair arcs arc = is_lt (node_id_cmp arc.from arc.to) && is_some (partner arcs arc)
+
+-- the pairs, each told by one of its arcs: by lower node, then by higher node, then as parallel arcs
 abbrev pub pairs : List Entry → List Entry
-pairs arcs = filter (λ arc. is_some (partner arcs arc)) (filter (λ arc. is_lt (node_id_cmp arc.from arc.to)) arcs)
+pairs arcs = filter (tells_pair arcs) arcs
 
 -- the arcs that have no partner, in the order of arcs
 abbrev pub singles : List Entry → List Entry

@@ -4,28 +4,28 @@ use Rattle.area_graph.specs.declared.area_types.Arc.{Arc}
 use Rattle.area_graph.specs.declared.area_types.Bond.{Bond}
 use Rattle.area_graph.specs.declared.entry.NumberedEntry.{NumberedEntry as Entry}
 use Rattle.area_graph.specs.NumberedArcs.{arc_cmp}
-use Rattle.area_graph.specs.NumberedBonds.{Tie, ties, bond_of}
+use Rattle.area_graph.specs.NumberedBonds.{bond_of, bonds, partner}
 use Rattle.mrt_graph.specs.InOrder.{in_order}
 
 -- an arc with the number of its bond
-abbrev pub numbered : List Tie → Entry → Arc
-numbered all arc = record { tail = arc.tail; to = arc.far; metric = arc.metric; link_data = arc.link_data; bond = bond_of all arc }
+abbrev pub numbered : List Entry → Entry → Arc
+numbered arcs arc = record { tail = arc.tail; to = arc.far; metric = arc.metric; link_data = arc.link_data; bond = bond_of arcs arc }
 
--- a bond of one arc, and of two
+-- the bond of an arc and of its partner, if it has one
 abbrev pub bond_by : Entry → Option Entry → Bond
 bond_by one None =
     record { a = one.tail; b = one.far; paired = false; data_a = one.link_data; data_b = 0; metric_a = one.metric; metric_b = 0 }
 bond_by one (Some other) =
     record { a = one.tail; b = one.far; paired = true; data_a = one.link_data; data_b = other.link_data; metric_a = one.metric; metric_b = other.metric }
 
--- the bond that a tie makes
-abbrev pub bond_from : Tie → Bond
-bond_from tie = bond_by tie.one tie.other
+-- the bond that an arc tells
+abbrev pub bond_from : List Entry → Entry → Bond
+bond_from arcs one = bond_by one (partner arcs one)
 
 -- the arcs in their order, each with the number of its bond
 abbrev pub arcs_of : List Entry → List Arc
-arcs_of all = map (numbered (ties all)) (in_order arc_cmp all)
+arcs_of arcs = map (numbered arcs) (in_order arc_cmp arcs)
 
 -- the bonds
 abbrev pub bonds_of : List Entry → List Bond
-bonds_of all = map bond_from (ties all)
+bonds_of arcs = map (bond_from arcs) (bonds arcs)

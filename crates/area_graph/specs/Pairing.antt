@@ -1,11 +1,12 @@
 -- Arcs as they are paired in one pass over them.
-use Rattle.std.specs.Prelude.{◌<◌, ◌≢◌, ℕ, nat_lt, List, take}
-use Rattle.std.specs.List.{filter, filter_map, position}
+use Rattle.std.specs.Prelude.{◌<◌, ◌≢◌, ◌++◌, ℕ, List, take}
+use Rattle.std.specs.List.{filter, position}
 use Rattle.std.specs.List.Sorted.{IsSorted}
+use Rattle.mrt_graph.specs.InOrder.{in_order}
 use Rattle.area_graph.specs.declared.entry.NumberedEntry.{NumberedEntry as Entry}
 use Rattle.area_graph.specs.declared.pairing.Numbered.{Numbered}
-use Rattle.area_graph.specs.NumberedArcs.{pairing_cmp}
-use Rattle.area_graph.specs.NumberedBonds.{Tie, is_of, pair_of, pairs}
+use Rattle.area_graph.specs.NumberedArcs.{arc_cmp, pairing_cmp}
+use Rattle.area_graph.specs.NumberedBonds.{is_of, is_single, pairs, tells_pair}
 use Rattle.area_graph.specs.Listed.{AreApart}
 
 -- arcs in the order in which they are paired, each of them once
@@ -20,9 +21,13 @@ pub record IsBetween (arc : Entry) : Type 0 where
   pub different : arc.tail ≢ arc.far
 
 -- the pairs that the first of the arcs tell
-abbrev pub pairs_upto : List Entry → ℕ → List Tie
-pairs_upto arcs count = filter_map (pair_of arcs) (filter (λ arc. nat_lt arc.tail arc.far) (take count arcs))
+abbrev pub pairs_upto : List Entry → ℕ → List Entry
+pairs_upto arcs count = filter (tells_pair arcs) (take count arcs)
+
+-- the bonds of all pairs, and of single arcs among the first of the arcs in their order
+abbrev pub bonds_upto : List Entry → ℕ → List Entry
+bonds_upto arcs count = pairs arcs ++ filter (is_single arcs) (take count (in_order arc_cmp arcs))
 
 -- an arc with the number of the pair that it is of, if it is of one
 abbrev pub with_pair : List Entry → Entry → Numbered
-with_pair arcs arc = record { arc = arc; pair = position (is_of arc) (pairs arcs) }
+with_pair arcs arc = record { arc = arc; pair = position (is_of arcs arc) (pairs arcs) }

@@ -3,9 +3,9 @@
 ghost use Rattle.std.specs.Prelude.{◌≡◌, ◌<◌, ◌≤◌, ◌+◌, ◌++◌, ◌∷◌, [], ℕ, length, map, take, if◌then◌else◌, IfOk, IfErr, OnOk, MatchOption, IfSome, Some, None, slice_index_or};
 ghost use Rattle.std.specs.List.{AllByRecursion, position};
 ghost use Rattle.std.specs.Option.{is_none, unwrap_or};
-ghost use Rattle.area_graph.specs.NumberedArea.{arcs_of, bonds_of, bond_by, bond_from, numbered as with_bond};
+ghost use Rattle.area_graph.specs.NumberedArea.{arcs_of, bonds_of, bond_by, bond_from};
 ghost use Rattle.area_graph.specs.NumberedArcs.{arc_cmp};
-ghost use Rattle.area_graph.specs.NumberedBonds.{is_of, pairs, partner, ties};
+ghost use Rattle.area_graph.specs.NumberedBonds.{is_of, pairs, partner};
 ghost use Rattle.mrt_graph.specs.InOrder.{in_order};
 ghost use Rattle.area_graph.specs.Pairing.{AreOrdered, IsBetween, pairs_upto, with_pair};
 
@@ -110,9 +110,9 @@ fn pair_number(
     requires there { slice_index_or arcs.now place arc ≡ arc }
     requires between { IsBetween arc }
     requires earlier { numbered.now ≡ map (with_pair arcs.now) (take place arcs.now) }
-    requires pairs { bonds.old.items ≡ map bond_from (pairs_upto arcs.now place) }
-    ensures number { IfOk result (λ pair. pair ≡ position (is_of arc) (pairs arcs.now)) }
-    ensures pairs { OnOk result (bonds.new.items ≡ map bond_from (pairs_upto arcs.now (place + 1))) }
+    requires pairs { bonds.old.items ≡ map (bond_from arcs.now) (pairs_upto arcs.now place) }
+    ensures number { IfOk result (λ pair. pair ≡ position (is_of arcs.now arc) (pairs arcs.now)) }
+    ensures pairs { OnOk result (bonds.new.items ≡ map (bond_from arcs.now) (pairs_upto arcs.now (place + 1))) }
     ensures refused { IfErr result (λ error. error ≡ AreaError.NoMemory) }
 {
     let Some(other) = partner_place(arcs, place, arc) else {
@@ -137,7 +137,7 @@ fn number_pairs(
     requires between { AllByRecursion IsBetween arcs.now }
     requires none { bonds.old.items ≡ [] }
     ensures numbered { IfOk result (λ numbered. numbered.items ≡ map (with_pair arcs.now) arcs.now) }
-    ensures pairs { OnOk result (bonds.new.items ≡ map bond_from (pairs arcs.now)) }
+    ensures pairs { OnOk result (bonds.new.items ≡ map (bond_from arcs.now) (pairs arcs.now)) }
     ensures refused { IfErr result (λ error. error ≡ AreaError.NoMemory) }
 {
     let mut numbered = Vec::with_capacity(alloc, arcs.len())?;
@@ -193,7 +193,7 @@ fn number_all(
     requires between { AllByRecursion IsBetween arcs.now }
     requires few { length arcs.now ≤ 32768 }
     requires numbered { numbered.now ≡ map (with_pair arcs.now) (in_order arc_cmp arcs.now) }
-    requires pairs { bonds.old.items ≡ map bond_from (pairs arcs.now) }
+    requires pairs { bonds.old.items ≡ map (bond_from arcs.now) (pairs arcs.now) }
     ensures arcs { IfOk result (λ all. all.items ≡ arcs_of arcs.now) }
     ensures bonds { OnOk result (bonds.new.items ≡ bonds_of arcs.now) }
     ensures refused { IfErr result (λ error. error ≡ AreaError.NoMemory) }

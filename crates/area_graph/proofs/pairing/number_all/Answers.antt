@@ -1,8 +1,9 @@
-use Rattle.std.proofs.Common.{◌≡◌, ◌∙◌, ◌<◌, ◌+◌, ◌++◌, ℕ, Bool, true, false, cond, if◌then◌else◌, List, [], ◌∷◌, None, length, map, take, get_or, refl, sym, ap, arith}
+use Rattle.std.proofs.Common.{◌≡◌, ◌∙◌, ◌<◌, ◌+◌, ◌++◌, ℕ, Bool, true, false, cond, if◌then◌else◌, List, [], ◌∷◌, Option, Some, None, length, map, take, get_or, refl, sym, ap, arith}
 use Rattle.std.specs.List.{AllByRecursion, Contains, position}
 use Rattle.std.specs.Option.{is_none, unwrap_or}
 use Rattle.std.proofs.lemmas.List.{get_or-map, get_or_default, length-map, map-append, map_more}
 use Rattle.std.proofs.lemmas.List.Elements.{All-from_recursion, Contains-get_or}
+use Rattle.mrt_graph.proofs.Members.{has_from_contains}
 use Rattle.mrt_graph.proofs.InOrder.{Contains-from_in_order, all_in_order}
 use Rattle.area_graph.specs.declared.area_types.Arc.{Arc}
 use Rattle.area_graph.specs.declared.area_types.Bond.{Bond}
@@ -10,10 +11,11 @@ use Rattle.area_graph.specs.declared.entry.NumberedEntry.{NumberedEntry as Entry
 use Rattle.area_graph.specs.declared.pairing.Numbered.{Numbered}
 use Rattle.area_graph.specs.NumberedArea.{bond_by, bond_from, numbered as with_bond}
 use Rattle.area_graph.specs.NumberedArcs.{arc_cmp}
-use Rattle.area_graph.specs.NumberedBonds.{is_of, pairs, ties, bond_of}
+use Rattle.area_graph.specs.NumberedBonds.{is_of, is_single, pairs, partner, bond_of}
 use Rattle.mrt_graph.specs.InOrder.{in_order}
-use Rattle.area_graph.specs.Pairing.{AreOrdered, IsBetween, with_pair}
-use Rattle.area_graph.proofs.Singles.{is_single, number_bound, number_is, ordered_arcs, single_is, single_of, ties_more, ties_upto}
+use Rattle.area_graph.specs.Pairing.{AreOrdered, IsBetween, bonds_upto, with_pair}
+use Rattle.area_graph.proofs.Apart.{once_from_apart}
+use Rattle.area_graph.proofs.BondNumbers.{bonds_more, number_bound, number_is, ordered_arcs, single_is}
 use Rattle.area_graph.proofs.pairing.number_all.Goals as goal
 
 -- what is read past the end of a list
@@ -64,13 +66,13 @@ overflow_cast-x-in-loop-x c =
     omega (arith, between.far)
 
 -- the number that an arc gets
-number_of : (arcs : List Entry) (x : Numbered) (place : ℕ) (bonds : List Bond) (number : ℕ) → At arcs x place → bonds ≡ map bond_from (ties_upto arcs place)
+number_of : (arcs : List Entry) (x : Numbered) (place : ℕ) (bonds : List Bond) (number : ℕ) → At arcs x place → bonds ≡ map (bond_from arcs) (bonds_upto arcs place)
     → number ≡ unwrap_or x.pair (length bonds)
-    → number ≡ unwrap_or (position (is_of (get_or (ordered_arcs arcs) place nothing)) (pairs arcs)) (length (ties_upto arcs place))
+    → number ≡ unwrap_or (position (is_of arcs (get_or (ordered_arcs arcs) place nothing)) (pairs arcs)) (length (bonds_upto arcs place))
 number_of arcs x place bonds number at made is =
-    let long : length bonds ≡ length (ties_upto arcs place) = ap length made ∙ length-map (ties_upto arcs place) bond_from in
+    let long : length bonds ≡ length (bonds_upto arcs place) = ap length made ∙ length-map (bonds_upto arcs place) (bond_from arcs) in
     is ∙ ap (λ (y : Numbered). unwrap_or y.pair (length bonds)) at.is
-    ∙ ap (λ n. unwrap_or (position (is_of (get_or (ordered_arcs arcs) place nothing)) (pairs arcs)) n) long
+    ∙ ap (λ n. unwrap_or (position (is_of arcs (get_or (ordered_arcs arcs) place nothing)) (pairs arcs)) n) long
 
 pub overflow_cast-number : goal.overflow_cast-number
 overflow_cast-number c =
@@ -83,34 +85,37 @@ overflow_cast-number c =
 
 -- the arc that is made of it
 arc_made : (arcs : List Entry) → AreOrdered arcs → (x : Numbered) (place number tail to bond : ℕ) → At arcs x place
-    → number ≡ unwrap_or (position (is_of (get_or (ordered_arcs arcs) place nothing)) (pairs arcs)) (length (ties_upto arcs place))
+    → number ≡ unwrap_or (position (is_of arcs (get_or (ordered_arcs arcs) place nothing)) (pairs arcs)) (length (bonds_upto arcs place))
     → tail ≡ x.arc.tail → to ≡ x.arc.far → bond ≡ number
-    → record { tail = tail; to = to; metric = x.arc.metric; link_data = x.arc.link_data; bond = bond } ≡ with_bond (ties arcs) (get_or (ordered_arcs arcs) place nothing)
+    → record { tail = tail; to = to; metric = x.arc.metric; link_data = x.arc.link_data; bond = bond } ≡ with_bond arcs (get_or (ordered_arcs arcs) place nothing)
 arc_made arcs ordered x place number tail to bond at is is_tail is_to is_bond =
     let arc : Entry = get_or (ordered_arcs arcs) place nothing in
     let tail_is : tail ≡ arc.tail = is_tail ∙ ap (λ (y : Numbered). y.arc.tail) at.is in
     let to_is : to ≡ arc.far = is_to ∙ ap (λ (y : Numbered). y.arc.far) at.is in
     let metric_is : x.arc.metric ≡ arc.metric = ap (λ (y : Numbered). y.arc.metric) at.is in
     let data_is : x.arc.link_data ≡ arc.link_data = ap (λ (y : Numbered). y.arc.link_data) at.is in
-    let bond_is : bond ≡ bond_of (ties arcs) arc = is_bond ∙ is ∙ number_is arcs ordered place arc at.within (get_or_default (ordered_arcs arcs) place arc nothing at.within) at.between in
+    let bond_is : bond ≡ bond_of arcs arc = is_bond ∙ is ∙ number_is arcs place arc (once_from_apart arcs ordered.apart) at.within (get_or_default (ordered_arcs arcs) place arc nothing at.within) at.between.different in
     λ i. record { tail = tail_is i; to = to_is i; metric = metric_is i; link_data = data_is i; bond = bond_is i }
 
--- the bond that is put behind the others
-single_made : (b : Bool) (arc : Entry) → (if b then bond_by arc None ∷ [] else []) ≡ map bond_from (map single_of (cond b (arc ∷ []) []))
-single_made true arc = refl
-single_made false arc = refl
+-- the bond that is put after the others
+single_made : (arcs : List Entry) (arc : Entry) (o : Option Entry) → partner arcs arc ≡ o
+    → (if is_none o then bond_by arc None ∷ [] else []) ≡ map (bond_from arcs) (cond (is_none o) (arc ∷ []) [])
+single_made arcs arc None is = ap (λ (o : Option Entry). bond_by arc o ∷ []) (sym is)
+single_made arcs arc (Some back) is = refl
 
-bonds_made : (arcs : List Entry) → AreOrdered arcs → (x : Numbered) (place : ℕ) (bonds new : List Bond) → At arcs x place → bonds ≡ map bond_from (ties_upto arcs place)
-    → new ≡ bonds ++ (if is_none x.pair then bond_by x.arc None ∷ [] else []) → new ≡ map bond_from (ties_upto arcs (place + 1))
+bonds_made : (arcs : List Entry) → AreOrdered arcs → (x : Numbered) (place : ℕ) (bonds new : List Bond) → At arcs x place → bonds ≡ map (bond_from arcs) (bonds_upto arcs place)
+    → new ≡ bonds ++ (if is_none x.pair then bond_by x.arc None ∷ [] else []) → new ≡ map (bond_from arcs) (bonds_upto arcs (place + 1))
 bonds_made arcs ordered x place bonds new at is is_new =
     let arc : Entry = get_or (ordered_arcs arcs) place nothing in
     let there : Contains arcs arc = Contains-from_in_order arc_cmp arcs arc (Contains-get_or (ordered_arcs arcs) place nothing at.within) in
+    let more : List Entry = cond (is_single arcs arc) (arc ∷ []) [] in
     is_new ∙ ap (λ (y : Numbered). bonds ++ (if is_none y.pair then bond_by y.arc None ∷ [] else [])) at.is
-    ∙ ap (λ b. bonds ++ (if b then bond_by arc None ∷ [] else [])) (single_is arcs ordered arc there at.between)
-    ∙ ap (λ (l : List Bond). bonds ++ l) (single_made (is_single arcs arc) arc)
-    ∙ ap (λ (l : List Bond). l ++ map bond_from (map single_of (cond (is_single arcs arc) (arc ∷ []) []))) is
-    ∙ sym (map-append bond_from (ties_upto arcs place) (map single_of (cond (is_single arcs arc) (arc ∷ []) [])))
-    ∙ ap (map bond_from) (sym (ties_more arcs place nothing at.within))
+    ∙ ap (λ b. bonds ++ (if b then bond_by arc None ∷ [] else []))
+    (single_is arcs arc (once_from_apart arcs ordered.apart) (has_from_contains arcs arc there) at.between.different)
+    ∙ ap (λ (l : List Bond). bonds ++ l) (single_made arcs arc (partner arcs arc) refl)
+    ∙ ap (λ (l : List Bond). l ++ map (bond_from arcs) more) is
+    ∙ sym (map-append (bond_from arcs) (bonds_upto arcs place) more)
+    ∙ ap (map (bond_from arcs)) (sym (bonds_more arcs place nothing at.within))
 
 pub loop-x-preserved : goal.loop-x-preserved
 loop-x-preserved c =
@@ -124,7 +129,7 @@ loop-x-preserved c =
     record {
       arcs =
           c.in_ok-push.ensures.items ∙ ap (λ (l : List Arc). l ++ arc ∷ []) c.loop-x.invariant.arcs
-          ∙ ap (λ (y : Arc). map (with_bond (ties arcs)) (take place (ordered_arcs arcs)) ++ y ∷ []) made
-          ∙ sym (map_more (with_bond (ties arcs)) (ordered_arcs arcs) place nothing at.within);
+          ∙ ap (λ (y : Arc). map (with_bond arcs) (take place (ordered_arcs arcs)) ++ y ∷ []) made
+          ∙ sym (map_more (with_bond arcs) (ordered_arcs arcs) place nothing at.within);
       bonds = bonds_made arcs c.requires.ordered x place c.loop-x.bonds.items c.bond_number.new.bonds.items at c.loop-x.invariant.bonds c.in_ok-number.ensures.bonds;
     }

@@ -6,5 +6,5 @@ use Rattle.area_graph.proofs.pairing.number_pairs.Given as goal
 abbrev pub invariant-loop-place : goal.invariant-loop-place
 invariant-loop-place l = record {
   numbered : l.numbered.items ≡ map (with_pair l.arcs) (take l.place l.arcs);
-  pairs : l.bonds.items ≡ map bond_from (pairs_upto l.arcs l.place);
+  pairs : l.bonds.items ≡ map (bond_from l.arcs) (pairs_upto l.arcs l.place);
 }
