@@ -46,7 +46,7 @@ router_is_no_network m n is =
     let ranks : 0 ≡ 1 = ap (λ (id : NodeId). rank_of id.kind) is in omega (arith, ranks)
 
 -- LSAs of one node have one LS type
-one_kind : (one other : Lsa) → IsKept one → IsKept other → node_of one ≡ node_of other → one.kind ≡ other.kind
+pub one_kind : (one other : Lsa) → IsKept one → IsKept other → node_of one ≡ node_of other → one.kind ≡ other.kind
 one_kind one other kept kept' same =
     elim kept.type [
       | inl is ↦
@@ -68,12 +68,14 @@ number_by false id = refl
 pub number_of_node : (kind id : ℕ) → (node_by kind id).number ≡ id
 number_of_node kind id = number_by (kind == 1) id
 
+pub one_id : (one other : Lsa) → node_of one ≡ node_of other → one.id ≡ other.id
+one_id one other same = sym (number_of_node one.kind one.id) ∙ ap (λ (n : NodeId). n.number) same ∙ number_of_node other.kind other.id
+
 -- LSAs of one node and one advertising router have one key
 one_key : (one other : Lsa) → IsKept one → IsKept other → node_of one ≡ node_of other → one.router ≡ other.router → same_key (key_of one) (key_of other) ≡ true
 one_key one other kept kept' same same_router =
-    let id : one.id ≡ other.id = sym (number_of_node one.kind one.id) ∙ ap (λ (n : NodeId). n.number) same ∙ number_of_node other.kind other.id in
     and_from _ _ (eq-eqb one.kind other.kind (one_kind one other kept kept' same))
-    (and_from _ _ (eq-eqb one.id other.id id) (eq-eqb one.router other.router same_router))
+    (and_from _ _ (eq-eqb one.id other.id (one_id one other same)) (eq-eqb one.router other.router same_router))
 
 -- ---- live LSAs differ in node or advertising router
 

@@ -26,6 +26,9 @@ use Rattle.area_graph.specs.Entries.{entries_of, entries_in}
 use Rattle.mrt_graph.specs.SameNetwork.{same_id}
 use Rattle.area_graph.specs.Nodes.{router, network, node_of, live, is_above, speaks, speakers}
 use Rattle.area_graph.specs.Parts.{AreaParts}
+use Rattle.mrt_graph.proofs.NodeIds.{node_id_total, tied_nodes}
+use Rattle.area_graph.proofs.OneOfEachNode.{one_id, one_kind}
+use Rattle.area_graph.proofs.SameIds.{flipped, same_itself}
 use Rattle.area_graph.proofs.OrderedMembers.{has_in_order, tally_in_order}
 
 age_by : (b : Bool) → nat_le 3600 ((if b then 3600 else 0) % 2 ^ 15) ≡ b
@@ -60,7 +63,7 @@ abbrev by_node : Lsa → Lsa → Ordering
 by_node = on node_of node_id_cmp
 
 nodes_total : IsTotalOrder by_node
-nodes_total = on_total node_of (then_total (on_total (λ id. id.number) nat_cmp_total) (on_total (λ id. rank_of id.kind) nat_cmp_total))
+nodes_total = on_total node_of node_id_total
 
 abbrev is_live : Lsa → Bool
 is_live lsa = not (is_at_max_age lsa)
@@ -110,48 +113,16 @@ speakers_say one other there back = λ said has.
     let from = is_from timeless (speakers one) said has in
     subst (Has (map timeless (speakers other))) from.is (speaker_alike one other from.origin there back from.there)
 
--- the node of an LSA that may stand in a database
-record IsNode (lsa : Lsa) : Type 0 where
-  number : (node_of lsa).number ≡ lsa.id
-  rank : rank_of (node_of lsa).kind + 1 ≡ lsa.kind
-
-node_is : (lsa : Lsa) → IsKept lsa → IsNode lsa
-node_is lsa kept = elim kept.type [
-  | inl one ↦
-      let is : node_of lsa ≡ router lsa.id = ap (λ (b : Bool). if b then router lsa.id else network lsa.id) (eq-eqb lsa.kind 1 one) in
-      record { number = ap (λ (n : NodeId). n.number) is; rank = ap (λ (n : NodeId). rank_of n.kind + 1) is ∙ sym one }
-  | inr two ↦
-      let differs : (lsa.kind == 1) ≡ false = ap (λ n. n == 1) two in
-      let is : node_of lsa ≡ network lsa.id = ap (λ (b : Bool). if b then router lsa.id else network lsa.id) differs in
-      record { number = ap (λ (n : NodeId). n.number) is; rank = ap (λ (n : NodeId). rank_of n.kind + 1) is ∙ sym two }
-]
-
-both_tie : (o p : Ordering) → ordering_then o p ≡ Equal → (o ≡ Equal) × (p ≡ Equal)
-both_tie Less p tie = absurd cc
-both_tie Equal p tie = (refl, tie)
-both_tie Greater p tie = absurd cc
-
-equal_is : (a b : ℕ) → nat_cmp a b ≡ Equal → a ≡ b
-equal_is a b tie = subst (λ o. MatchOrdering o (a < b) (a ≡ b) (b < a)) tie (ranks a b)
-
 -- LSAs that speak for one node are of one key
-one_key : (lsas : List Lsa) (x y : Lsa) → IsKept x → IsKept y → IsSpeaker lsas x → IsSpeaker lsas y → by_node x y ≡ Equal → key_of x ≡ key_of y
-one_key lsas x y kept_x kept_y speaks_x speaks_y tie =
-    let n = node_of x in
-    let m = node_of y in
-    let ties = both_tie (nat_cmp n.number m.number) (nat_cmp (rank_of n.kind) (rank_of m.kind)) tie in
-    let number : n.number ≡ m.number = equal_is n.number m.number ties.0 in
-    let rank : rank_of n.kind ≡ rank_of m.kind = equal_is (rank_of n.kind) (rank_of m.kind) ties.1 in
-    let there : same_id n m ≡ true =
-    and_from (n.number == m.number) (rank_of n.kind == rank_of m.kind) (eq-eqb n.number m.number number) (eq-eqb (rank_of n.kind) (rank_of m.kind) rank) in
-    let back : same_id m n ≡ true =
-    and_from (m.number == n.number) (rank_of m.kind == rank_of n.kind) (eq-eqb m.number n.number (sym number)) (eq-eqb (rank_of m.kind) (rank_of n.kind) (sym rank)) in
+same_key_of : (lsas : List Lsa) (x y : Lsa) → IsKept x → IsKept y → IsSpeaker lsas x → IsSpeaker lsas y → by_node x y ≡ Equal → key_of x ≡ key_of y
+same_key_of lsas x y kept_x kept_y speaks_x speaks_y tie =
+    let node : node_of x ≡ node_of y = tied_nodes (node_of x) (node_of y) tie in
+    let there : same_id (node_of x) (node_of y) ≡ true = subst (λ (n : NodeId). same_id (node_of x) n ≡ true) node (same_itself (node_of x)) in
     let upper : nat_lt x.router y.router ≡ false = ap (λ b. b && nat_lt x.router y.router) (sym there) ∙ speaks_x.highest y speaks_y.there speaks_y.alive in
-    let lower : nat_lt y.router x.router ≡ false = ap (λ b. b && nat_lt y.router x.router) (sym back) ∙ speaks_y.highest x speaks_x.there speaks_x.alive in
-    let node_x = node_is x kept_x in
-    let node_y = node_is y kept_y in
-    let kind : x.kind ≡ y.kind = omega (arith, rank, node_x.rank, node_y.rank) in
-    let id : x.id ≡ y.id = omega (arith, number, node_x.number, node_y.number) in
+    let lower : nat_lt y.router x.router ≡ false =
+    ap (λ b. b && nat_lt y.router x.router) (sym (flipped (node_of x) (node_of y) there)) ∙ speaks_y.highest x speaks_x.there speaks_x.alive in
+    let kind : x.kind ≡ y.kind = one_kind x y kept_x kept_y node in
+    let id : x.id ≡ y.id = one_id x y node in
     let router : x.router ≡ y.router = omega (arith, ltb-false x.router y.router upper, ltb-false y.router x.router lower) in
     λ i. record { kind = kind i; id = id i; router = router i }
 
@@ -231,7 +202,7 @@ speakers_climb lsas newest =
     (λ x y has_x has_y tie.
     let speaks_x = speaker_is lsas x has_x in
     let speaks_y = speaker_is lsas y has_y in
-    one_key lsas x y (newest.kept x speaks_x.there) (newest.kept y speaks_y.there) speaks_x speaks_y tie)
+    same_key_of lsas x y (newest.kept x speaks_x.there) (newest.kept y speaks_y.there) speaks_x speaks_y tie)
 
 same_speakers : (one other : List Lsa) → AreNewest one → AreNewest other → SayAll one other → SayAll other one → map timeless (speakers one) ≡ map timeless (speakers other)
 same_speakers one other newest newest' there back =
