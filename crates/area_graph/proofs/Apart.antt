@@ -1,14 +1,14 @@
 -- Entries of which no two have one node and one place in its LSA: in whatever order they stand, and which of them tie.
-use Rattle.std.proofs.Common.{◌≡◌, ◌∙◌, ◌≤◌, ◌<◌, ◌+◌, ◌==◌, ℕ, zero, suc, Bool, true, false, cond, List, [], ◌∷◌, length, get_or, take, refl, sym, ap, inl, inr, arith}
+use Rattle.std.proofs.Common.{◌≡◌, ◌∙◌, ◌≤◌, ◌<◌, ◌==◌, ℕ, suc, Bool, true, false, cond, List, [], ◌∷◌, length, get_or, take, refl, sym, ap, inl, inr, arith}
 use Rattle.std.specs.declared.cmp.Ordering.{Ordering}
-use Rattle.std.specs.declared.cmp.Ordering.TheVariants.{Less, Equal, Greater}
+use Rattle.std.specs.declared.cmp.Ordering.TheVariants.{Equal}
 use Rattle.std.specs.Cmp.{IsTotalOrder}
-use Rattle.std.specs.List.{AllByRecursion, Contains, filter, count_by, sum_by}
+use Rattle.std.specs.List.{AllByRecursion, Contains, filter, count_by}
 use Rattle.std.specs.List.Sorted.{IsSorted, IsPermutation}
 use Rattle.std.specs.Ordering.{nat_cmp, ordering_then}
-use Rattle.std.proofs.lemmas.Bool.{and_parts, and_from, eqb-true, eq-eqb, cases_Bool, cases_order, false_from_ne_true, both_ways}
+use Rattle.std.proofs.lemmas.Bool.{and_parts, and_from, eqb-true, eq-eqb, cases_Bool, false_from_ne_true, both_ways}
 use Rattle.std.proofs.lemmas.Cmp.{nat_cmp_total, on_total, then_total}
-use Rattle.std.proofs.lemmas.List.{get_or-take, get_or_default, length-take-le}
+use Rattle.std.proofs.lemmas.List.{get_or-take, length-take-le}
 use Rattle.std.proofs.lemmas.List.Elements.{recursion_from_All, filter_agree}
 use Rattle.std.proofs.lemmas.List.Sorted.{IsPermutation-sym, list_any-IsPermutation, sum_by-IsPermutation}
 use Rattle.std.proofs.lemmas.List.Sums.{sum_by_more_le, get_or-le-sum_by}
@@ -93,13 +93,22 @@ two_pass {X} p xs j k d below within at_j at_k =
 pub apart_from_once : (xs : List Entry) → Once xs → AreApart xs
 apart_from_once xs once = λ j k d below within.
     false_from_ne_true (same_entry (get_or xs j d) (get_or xs k d))
-    (λ same. absurd (omega (arith, once (get_or xs j d), count_is_tally (same_entry (get_or xs j d)) xs,
-    two_pass (same_entry (get_or xs j d)) xs j k d below within (same_itself (get_or xs j d)) same)))
+    (λ same. absurd (omega (
+      arith,
+      once (get_or xs j d),
+      count_is_tally (same_entry (get_or xs j d)) xs,
+      two_pass (same_entry (get_or xs j d)) xs j k d below within (same_itself (get_or xs j d)) same,
+    )))
 
 pub AreApart-permutation : (xs ys : List Entry) → IsPermutation xs ys → AreApart xs → AreApart ys
 AreApart-permutation xs ys moves apart =
-    apart_from_once ys (λ e. omega (arith, once_from_apart xs apart e, count_is_tally (same_entry e) xs, count_is_tally (same_entry e) ys,
-    sum_by-IsPermutation (λ y. cond (same_entry e y) 1 0) xs ys moves))
+    apart_from_once ys (λ e. omega (
+      arith,
+      once_from_apart xs apart e,
+      count_is_tally (same_entry e) xs,
+      count_is_tally (same_entry e) ys,
+      sum_by-IsPermutation (λ y. cond (same_entry e y) 1 0) xs ys moves,
+    ))
 
 pub AreApart-filter : (p : Entry → Bool) (xs : List Entry) → AreApart xs → AreApart (filter p xs)
 AreApart-filter p xs apart = apart_from_once (filter p xs) (λ e. omega (arith, once_from_apart xs apart e, tally_filtered (same_entry e) p xs))

@@ -1,17 +1,16 @@
 -- Entries by identifiers and entries by numbers are filtered, ordered, paired and numbered alike.
-use Rattle.std.proofs.Common.{◌≡◌, ◌∙◌, ◌<◌, ◌&&◌, ◌||◌, ◌++◌, ◌==◌, ℕ, Bool, true, false, cond, List, [], ◌∷◌, Option, Some, None, length, map, get_or, slice_get, inl, inr, refl, sym, ap, subst, arith}
+use Rattle.std.proofs.Common.{◌≡◌, ◌∙◌, ◌<◌, ◌&&◌, ◌||◌, ◌==◌, ℕ, Bool, true, false, cond, List, [], ◌∷◌, Option, Some, None, length, map, get_or, slice_get, inl, inr, refl, sym, ap, subst, arith}
 use Rattle.std.specs.Prelude.{nat_lt}
 use Rattle.std.specs.Cmp.{nat_cmp_is}
-use Rattle.std.specs.List.{AllByRecursion, AllZip, cons_option, filter, filter_map, list_any, position}
+use Rattle.std.specs.List.{AllByRecursion, AllZip, filter, list_any, position}
 use Rattle.std.specs.List.Sorted.{IsStrictlySortedBy}
-use Rattle.std.specs.Option.{is_none, is_some, option_map, option_map_or, option_and_then, option_to_list, unwrap_or}
+use Rattle.std.specs.Option.{is_none, is_some, option_map_or, unwrap_or}
 use Rattle.std.specs.Ordering.{is_lt, nat_cmp, ordering_then, ordering_reverse}
 use Rattle.std.specs.declared.cmp.Ordering.{Ordering}
 use Rattle.std.specs.declared.cmp.Ordering.TheVariants.{Less, Equal, Greater}
-use Rattle.std.proofs.lemmas.Bool.{and_parts, cases_Bool, cases_order, eqb-true, or_cases}
+use Rattle.std.proofs.lemmas.Bool.{and_parts, cases_order, eqb-true, or_cases}
 use Rattle.std.proofs.lemmas.Bool.Decides.{eqb_tells, nat_tests}
 use Rattle.std.proofs.lemmas.Cmp.{tied_itself}
-use Rattle.std.proofs.lemmas.List.Elements.{filter-append}
 use Rattle.std.proofs.lemmas.Map.Keys.{Less-from_sorted}
 use Rattle.std.proofs.lemmas.Option.{same_Some, get_or_from_slice_get}
 use Rattle.mrt_graph.specs.NodeOrder.{node_id_cmp}
@@ -19,8 +18,6 @@ use Rattle.mrt_graph.specs.declared.node_id.NodeId.{NodeId}
 use Rattle.mrt_graph.proofs.Filters.{all_filter, filter_agree_in}
 use Rattle.mrt_graph.proofs.Members.{all_weaker}
 use Rattle.mrt_graph.proofs.NodeIds.{node_id_total}
-use Rattle.area_graph.specs.declared.area_types.Arc.{Arc}
-use Rattle.area_graph.specs.declared.area_types.Bond.{Bond}
 use Rattle.area_graph.specs.declared.entry.NumberedEntry.{NumberedEntry}
 use Rattle.area_graph.specs.AreaOf.{arc_from, area_with, bond_by, bond_from, place_among}
 use Rattle.area_graph.specs.Arcs.{answers, arc_cmp, arcs_among, is_arc, pairing_cmp, parallel_cmp}
@@ -32,7 +29,6 @@ use Rattle.area_graph.specs.Nodes.{number_of}
 use Rattle.area_graph.specs.NumberedArcs.{answers as n_answers, arc_cmp as n_arc_cmp, arcs_among as n_arcs_among, is_arc as n_is_arc, pairing_cmp as n_pairing_cmp}
 use Rattle.area_graph.specs.NumberedArea.{arcs_of, bond_by as n_bond_by, bond_from as n_bond_from, bonds_of, numbered}
 use Rattle.area_graph.specs.NumberedBonds.{are_partners as n_are_partners, bond_of as n_bond_of, bonds as n_bonds, is_of as n_is_of, is_single, pairs as n_pairs, partner as n_partner, same_entry as n_same_entry, same_way, singles as n_singles, tells_pair as n_tells_pair, turn_of as n_turn_of}
-use Rattle.area_graph.specs.Parts.{AreaParts}
 use Rattle.area_graph.proofs.Alongside.{AreBoth, length_zip, zip_any, zip_append, zip_filter, zip_find, zip_in_order, zip_map, zip_position}
 use Rattle.area_graph.proofs.Placing.{number_found, number_within}
 use Rattle.area_graph.proofs.SameIds.{not_one_node, one_node, same_itself}

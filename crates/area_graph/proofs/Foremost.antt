@@ -9,10 +9,10 @@ use Rattle.std.specs.Ordering.{is_eq, is_lt, nat_cmp, on, flip_args, eq_by_cmp, 
 use Rattle.std.proofs.lemmas.Bool.{lt-ltb, le-ltb, ltb-true, cases_order, not-true, and_parts, and_from, or_from}
 use Rattle.std.proofs.lemmas.Cmp.{nat_cmp_total, on_total, then_total, back_total, tied_back, alike_right, eq_by_cmp_equiv, ranked}
 use Rattle.std.proofs.lemmas.List.{get_or_default}
-use Rattle.std.proofs.lemmas.List.Elements.{All-filter, All-contains, All-contains_itself, filter_agree, filter_passes}
+use Rattle.std.proofs.lemmas.List.Elements.{All-contains, filter_agree, filter_passes}
 use Rattle.std.proofs.lemmas.List.Folds.{list_any_at}
 use Rattle.std.proofs.lemmas.List.Kept.{IsStrictlySortedBy-dedup}
-use Rattle.std.proofs.lemmas.List.Sorted.{list_any-IsPermutation, sum_by-IsPermutation, IsPermutation-sym, Contains-permutation}
+use Rattle.std.proofs.lemmas.List.Sorted.{list_any-IsPermutation, IsPermutation-sym, Contains-permutation}
 use Rattle.std.proofs.lemmas.List.Sums.{sum_by-cons}
 use Rattle.std.proofs.lemmas.Map.Keys.{apart_from_distinct, IsDistinct-IsPermutation, sorted_from_all_adjacent, sorted_head, sorted_tail}
 use Rattle.mrt_graph.specs.InOrder.{in_order}

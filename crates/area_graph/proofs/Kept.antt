@@ -1,9 +1,7 @@
 -- What an area of entries keeps.
 use Rattle.std.proofs.Common.{◌≡◌, ◌∙◌, ◌<◌, ◌≤◌, ◌++◌, ℕ, zero, suc, Bool, true, false, cond, List, [], ◌∷◌, Option, Some, None, length, map, slice_get, refl, sym, ap, subst, arith}
-use Rattle.std.specs.Prelude.{nat_lt}
 use Rattle.std.specs.declared.cmp.Ordering.{Ordering}
-use Rattle.std.specs.declared.cmp.Ordering.TheVariants.{Less, Equal, Greater}
-use Rattle.std.specs.List.{AllByRecursion, filter, filter_map}
+use Rattle.std.specs.List.{AllByRecursion, filter}
 use Rattle.std.specs.List.Sorted.{IsSorted, IsStrictlySortedBy}
 use Rattle.std.specs.Ordering.{is_lt, nat_cmp, ordering_then}
 use Rattle.std.proofs.lemmas.List.{map-append, length-map}
@@ -11,8 +9,7 @@ use Rattle.std.proofs.lemmas.Option.{same_Some}
 use Rattle.mrt_graph.specs.NodeOrder.{node_id_cmp}
 use Rattle.mrt_graph.specs.declared.node_id.NodeId.{NodeId}
 use Rattle.mrt_graph.proofs.InOrder.{Rises, in_order_rises, is_before, length-in_order, sorted_from_rises}
-use Rattle.mrt_graph.proofs.Members.{all_filter_map, all_from_has, all_has, all_map, has_at, has_filter}
-use Rattle.mrt_graph.proofs.Tallies.{tally, tally_filtered}
+use Rattle.mrt_graph.proofs.Members.{all_from_has, all_has, all_map, has_at, has_filter}
 use Rattle.mrt_graph.proofs.Filters.{rises_filter}
 use Rattle.mrt_graph.proofs.Ties.{first_not_lt}
 use Rattle.area_graph.specs.declared.area_types.Bond.{Bond}

@@ -1,5 +1,5 @@
 -- What LSAs list, by identifiers and by numbers.
-use Rattle.std.proofs.Common.{◌≡◌, ◌∙◌, ◌+◌, ◌++◌, ℕ, true, cond, List, [], ◌∷◌, Option, Some, None, length, map, slice_get, zero-add, refl, sym, ap, subst}
+use Rattle.std.proofs.Common.{◌≡◌, ◌+◌, ℕ, true, cond, List, [], ◌∷◌, Option, Some, None, slice_get, zero-add, refl, sym, ap, subst}
 use Rattle.std.specs.List.{AllByRecursion, AllZip, filter}
 use Rattle.std.specs.List.Sorted.{IsStrictlySortedBy}
 use Rattle.std.specs.Option.{is_some, option_map, option_and_then, option_to_list}
@@ -13,7 +13,7 @@ use Rattle.ospf_lsa.specs.declared.lsa.Lsa.{Lsa}
 use Rattle.ospf_lsa.specs.declared.lsa.RouterLink.{RouterLink}
 use Rattle.mrt_graph.proofs.Members.{all_append}
 use Rattle.area_graph.specs.declared.entry.NumberedEntry.{NumberedEntry}
-use Rattle.area_graph.specs.Arcs.{arcs, arcs_among}
+use Rattle.area_graph.specs.Arcs.{arcs}
 use Rattle.area_graph.specs.AreaOf.{area_of}
 use Rattle.area_graph.specs.Entries.{Entry, entries, entries_in, entries_of, entries_of_links, entries_of_listed, entry_of_link, entry_of_listed, far_of}
 use Rattle.area_graph.specs.Nodes.{router, node_of, nodes, number_of, speakers}

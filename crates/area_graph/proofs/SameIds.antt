@@ -2,14 +2,10 @@
 use Rattle.std.proofs.Common.{◌≢◌, false, ◌≡◌, ◌∙◌, ◌&&◌, ◌==◌, ℕ, Bool, true, refl, ap, subst, arith}
 use Rattle.std.specs.declared.cmp.Ordering.{Ordering}
 use Rattle.std.specs.declared.cmp.Ordering.TheVariants.{Less, Equal, Greater}
-use Rattle.std.specs.Cmp.{IsTotalOrder}
 use Rattle.std.specs.Ordering.{is_eq, nat_cmp, ordering_then, eq_by_cmp}
-use Rattle.std.proofs.lemmas.Bool.{eqb-true, eq-eqb, and_parts, and_from}
+use Rattle.std.proofs.lemmas.Bool.{eqb-true, eq-eqb, and_parts}
 use Rattle.std.proofs.lemmas.Bool.Decides.{nat_tests}
-use Rattle.std.proofs.lemmas.Cmp.{nat_cmp_total, on_total, then_total}
 use Rattle.mrt_graph.specs.NodeOrder.{rank_of, node_id_cmp}
-use Rattle.mrt_graph.specs.declared.node_id.Kind.{Kind}
-use Rattle.mrt_graph.specs.declared.node_id.Kind.TheVariants.{Router, Network}
 use Rattle.mrt_graph.specs.declared.node_id.NodeId.{NodeId}
 use Rattle.mrt_graph.proofs.NodeIds.{same_parts}
 use Rattle.mrt_graph.specs.SameNetwork.{same_id}

@@ -1,14 +1,14 @@
 -- Lists of LSAs that say the same have the same nodes, and so the same area.
-use Rattle.std.proofs.Common.{◌≡◌, ◌∙◌, ◌<◌, ◌≤◌, ◌+◌, ◌%◌, ◌^◌, ◌&&◌, ◌==◌, ◌++◌, ℕ, Bool, true, false, not, List, [], ◌∷◌, if◌then◌else◌, map, inl, inr, refl, sym, ap, subst, arith}
+use Rattle.std.proofs.Common.{◌≡◌, ◌∙◌, ◌≤◌, ◌%◌, ◌^◌, ◌&&◌, ◌++◌, Bool, true, false, not, List, [], ◌∷◌, if◌then◌else◌, map, inl, inr, refl, sym, ap, subst, arith}
 use Rattle.std.specs.Prelude.{nat_le, nat_lt}
 use Rattle.std.specs.declared.cmp.Ordering.{Ordering}
 use Rattle.std.specs.declared.cmp.Ordering.TheVariants.{Less, Equal, Greater}
-use Rattle.std.specs.Cmp.{IsTotalOrder, ranks}
+use Rattle.std.specs.Cmp.{IsTotalOrder}
 use Rattle.std.specs.List.{AllByRecursion, filter, list_any}
-use Rattle.std.specs.Ordering.{is_lt, nat_cmp, on, ordering_then, ordering_reverse, MatchOrdering}
-use Rattle.std.proofs.lemmas.Bool.{and_from, eq-eqb, ltb-false, not-true, not_from_false}
-use Rattle.std.proofs.lemmas.Cmp.{nat_cmp_total, on_total, then_total}
-use Rattle.mrt_graph.specs.NodeOrder.{rank_of, node_id_cmp}
+use Rattle.std.specs.Ordering.{is_lt, on, ordering_reverse}
+use Rattle.std.proofs.lemmas.Bool.{ltb-false, not-true, not_from_false}
+use Rattle.std.proofs.lemmas.Cmp.{on_total}
+use Rattle.mrt_graph.specs.NodeOrder.{node_id_cmp}
 use Rattle.mrt_graph.specs.declared.node_id.NodeId.{NodeId}
 use Rattle.ospf_lsa.specs.declared.lsa.Lsa.{Lsa}
 use Rattle.lsdb.specs.Installing.{IsKept}
@@ -24,7 +24,7 @@ use Rattle.area_graph.specs.Arcs.{arcs_among}
 use Rattle.area_graph.specs.AreaOf.{area_of, area_with}
 use Rattle.area_graph.specs.Entries.{entries_of, entries_in}
 use Rattle.mrt_graph.specs.SameNetwork.{same_id}
-use Rattle.area_graph.specs.Nodes.{router, network, node_of, live, is_above, speaks, speakers}
+use Rattle.area_graph.specs.Nodes.{node_of, live, is_above, speaks, speakers}
 use Rattle.area_graph.specs.Parts.{AreaParts}
 use Rattle.mrt_graph.proofs.NodeIds.{node_id_total, tied_nodes}
 use Rattle.area_graph.proofs.OneOfEachNode.{one_id, one_kind}

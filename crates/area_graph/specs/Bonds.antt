@@ -1,6 +1,6 @@
 -- How arcs are paired, and the bonds that they make. The lists of arcs are in the order in which they are paired.
 use Rattle.std.specs.Prelude.{◌++◌, ◌==◌, ◌&&◌, ◌||◌, ℕ, Bool, false, List, length, Option}
-use Rattle.std.specs.List.{count_by, filter, find, position}
+use Rattle.std.specs.List.{filter, find, position}
 use Rattle.std.specs.Option.{is_none, is_some, option_map_or, unwrap_or}
 use Rattle.std.specs.Ordering.{is_lt}
 use Rattle.mrt_graph.specs.NodeOrder.{node_id_cmp}

@@ -1,5 +1,5 @@
 -- Entries as the code holds them: by the numbers of their nodes, and none for a node that is not there.
-use Rattle.std.specs.Prelude.{◌++◌, ◌+◌, ◌==◌, ℕ, List, [], ◌∷◌, Option, Some, None, if◌then◌else◌}
+use Rattle.std.specs.Prelude.{◌++◌, ◌+◌, ℕ, List, [], ◌∷◌, Option}
 use Rattle.std.specs.Option.{option_map, option_and_then, option_to_list}
 use Rattle.mrt_graph.specs.declared.node_id.NodeId.{NodeId}
 use Rattle.ospf_lsa.specs.declared.lsa.RouterLink.{RouterLink}

@@ -1,12 +1,12 @@
-use Rattle.std.proofs.Common.{◌≡◌, ◌∙◌, ◌<◌, ◌≤◌, ◌++◌, ◌∷◌, [], List, Option, Some, None, length, map, take, get_or, sym, ap, arith}
+use Rattle.std.proofs.Common.{◌≡◌, ◌∙◌, ◌<◌, ◌≤◌, ◌++◌, ◌∷◌, [], List, Some, None, length, map, take, get_or, sym, ap, arith}
 use Rattle.std.proofs.lemmas.List.{get_or-map, get_or-take, get_or_default, length-map, length-take-le, map_push}
-use Rattle.mrt_graph.proofs.Members.{Has, has_from_contains}
+use Rattle.mrt_graph.proofs.Members.{has_from_contains}
 use Rattle.area_graph.specs.declared.area_types.Bond.{Bond}
 use Rattle.area_graph.specs.declared.entry.NumberedEntry.{NumberedEntry as Entry}
 use Rattle.area_graph.specs.declared.pairing.Numbered.{Numbered}
 use Rattle.area_graph.specs.NumberedArea.{bond_by, bond_from}
-use Rattle.area_graph.specs.Pairing.{AreOrdered, pairs_upto, with_pair}
-use Rattle.area_graph.proofs.Apart.{Once, once_from_apart}
+use Rattle.area_graph.specs.Pairing.{pairs_upto, with_pair}
+use Rattle.area_graph.proofs.Apart.{once_from_apart}
 use Rattle.area_graph.proofs.BondNumbers.{none_of_single, pair_place, pairs_more_back, pairs_more_none, pairs_more_pair, partners_number}
 use Rattle.area_graph.proofs.pairing.pair_number.Goals as goal
 
