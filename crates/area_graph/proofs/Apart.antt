@@ -44,9 +44,6 @@ same_from x y tail place = and_from (y.tail == x.tail) (y.place == x.place) (eq-
 pub same_itself : (x : Entry) → same_entry x x ≡ true
 same_itself x = same_from x x refl refl
 
-pub same_back : (x y : Entry) → same_entry x y ≡ true → same_entry y x ≡ true
-same_back x y same = let parts = same_parts x y same in same_from y x (sym parts.0) (sym parts.1)
-
 pub same_through : (x y z : Entry) → same_entry x y ≡ true → same_entry x z ≡ true → same_entry y z ≡ true
 same_through x y z xy xz =
     let one = same_parts x y xy in let other = same_parts x z xz in same_from y z (other.0 ∙ sym one.0) (other.1 ∙ sym one.1)

@@ -99,18 +99,9 @@ pub pairs_more_pair : (arcs : List Entry) (place : ℕ) (arc back : Entry) → p
 pairs_more_pair arcs place arc back within at lower found =
     pairs_more arcs place arc within at ∙ ap (λ b. pairs_upto arcs place ++ cond b (arc ∷ []) []) (from_tells arcs arc back lower found)
 
-pub pairs_all : (arcs : List Entry) (count : ℕ) → length arcs ≤ count → pairs_upto arcs count ≡ pairs arcs
-pairs_all arcs count all = ap (filter (tells_pair arcs)) (take_all count arcs all)
-
 -- the arcs of an area in their order
 abbrev pub ordered_arcs : List Entry → List Entry
 ordered_arcs arcs = in_order arc_cmp arcs
-
-pub bonds_none : (arcs : List Entry) → bonds_upto arcs 0 ≡ pairs arcs
-bonds_none arcs = append-nil (pairs arcs)
-
-pub bonds_all : (arcs : List Entry) (count : ℕ) → length (ordered_arcs arcs) ≤ count → bonds_upto arcs count ≡ bonds arcs
-bonds_all arcs count all = ap (λ (l : List Entry). pairs arcs ++ filter (is_single arcs) l) (take_all count (ordered_arcs arcs) all)
 
 pub bonds_more : (arcs : List Entry) (place : ℕ) (d : Entry) → place < length (ordered_arcs arcs)
     → bonds_upto arcs (place + 1) ≡ bonds_upto arcs place ++ cond (is_single arcs (get_or (ordered_arcs arcs) place d)) (get_or (ordered_arcs arcs) place d ∷ []) []

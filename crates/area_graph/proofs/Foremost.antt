@@ -35,11 +35,6 @@ greatest_first_total main number total = then_total total (back_total (on_total 
 
 -- ---- filters
 
-sum_by_filter_step : {X : Type 0} (f : X → ℕ) (p : X → Bool) (x : X) (xs : List X) (b : Bool) → p x ≡ b → sum_by f (filter p xs) ≡ sum_by (λ y. cond (p y) (f y) 0) xs
-    → sum_by f (cond b (x ∷ filter p xs) (filter p xs)) ≡ cond b (f x) 0 + sum_by (λ y. cond (p y) (f y) 0) xs
-sum_by_filter_step f p x xs true is rest = omega (arith, sum_by-cons f x (filter p xs), rest)
-sum_by_filter_step f p x xs false is rest = omega (arith, rest)
-
 pub passes_in_filter : {X : Type 0} (p : X → Bool) (xs : List X) (x : X) → Contains (filter p xs) x → p x ≡ true
 passes_in_filter p xs x there = All-contains (λ y. p y ≡ true) (filter p xs) x (filter_passes p xs) there
 

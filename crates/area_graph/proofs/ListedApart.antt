@@ -46,9 +46,6 @@ numbers_differ ids m n a b at_m at_n differ same = differ (same_Some a b (sym at
 kind_at : (ids : List NodeId) (n : ℕ) (id : NodeId) → slice_get ids n ≡ Some id → option_map (λ (x : NodeId). x.kind) (slice_get ids n) ≡ Some id.kind
 kind_at ids n id there = ap (option_map (λ (x : NodeId). x.kind)) there
 
-rank_differs : (a b : NodeId) → a ≡ b → rank_of a.kind ≡ rank_of b.kind
-rank_differs a b same = ap (λ (x : NodeId). rank_of x.kind) same
-
 router_not_network : (ids : List NodeId) (n number : ℕ) → slice_get ids n ≡ Some (router number) → IsNetwork ids n → ⊥
 router_not_network ids n number there is =
     let same : kinds.Router ≡ kinds.Network = same_Some kinds.Router kinds.Network (sym (kind_at ids n (router number) there) ∙ is) in

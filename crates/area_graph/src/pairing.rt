@@ -96,7 +96,7 @@ fn single_bond(one: NumberedEntry) -> Bond
     }
 }
 
-/// The number of the pair that an arc is of. The arc that leaves the lower node puts their bond behind the others; the other one comes
+/// The number of the pair that an arc is of. The arc that leaves the lower node puts their bond after the others; the other one comes
 /// later, and takes its number.
 fn pair_number(
     arcs: &[NumberedEntry],
@@ -165,7 +165,7 @@ fn sort_by_arc(arcs: &[NumberedEntry], numbered: &mut Vec<Numbered>)
     });
 }
 
-/// The number of an arc's bond. An arc without a partner puts its bond behind the others.
+/// The number of an arc's bond. An arc without a partner puts its bond after the others.
 fn bond_number(numbered: Numbered, bonds: &mut Vec<Bond>) -> Result<usize, AreaError>
     requires { IsBetween numbered.arc }
     ensures number { IfOk result (λ number. number ≡ unwrap_or numbered.pair (length bonds.old.items)) }
@@ -182,7 +182,7 @@ fn bond_number(numbered: Numbered, bonds: &mut Vec<Bond>) -> Result<usize, AreaE
     }
 }
 
-/// The arcs with the numbers of their bonds. Puts the bonds of single arcs behind those of the pairs.
+/// The arcs with the numbers of their bonds. Puts the bonds of single arcs after those of the pairs.
 fn number_all(
     alloc: Global,
     arcs: &[NumberedEntry],
