@@ -12,6 +12,7 @@ use Rattle.std.proofs.lemmas.List.{get_or-take, length-take-le}
 use Rattle.std.proofs.lemmas.List.Elements.{recursion_from_All, filter_agree}
 use Rattle.std.proofs.lemmas.List.Sorted.{IsPermutation-sym, list_any-IsPermutation, sum_by-IsPermutation}
 use Rattle.std.proofs.lemmas.List.Sums.{sum_by_more_le, get_or-le-sum_by}
+use Rattle.mrt_graph.specs.InOrder.{in_order}
 use Rattle.mrt_graph.proofs.InOrder.{OnlyEqualsTie, in_order_moves, in_order_sorted}
 use Rattle.mrt_graph.proofs.Members.{Has, all_has, has_from_contains}
 use Rattle.mrt_graph.proofs.Tallies.{count_is_tally, one_if, tally, tally_filtered, tally_none, tally_same, tally_some}
@@ -20,7 +21,6 @@ use Rattle.mrt_graph.proofs.Ties.{nat_tie, then_tie}
 use Rattle.area_graph.specs.declared.entry.NumberedEntry.{NumberedEntry as Entry}
 use Rattle.area_graph.specs.NumberedArcs.{answers, is_arc, arc_cmp, pairing_cmp, arcs_among}
 use Rattle.area_graph.specs.NumberedBonds.{same_entry}
-use Rattle.mrt_graph.specs.InOrder.{in_order}
 use Rattle.area_graph.specs.Listed.{AreApart}
 
 pub pairing_total : IsTotalOrder pairing_cmp

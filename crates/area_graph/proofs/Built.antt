@@ -8,8 +8,9 @@ use Rattle.std.proofs.lemmas.Bool.{cases_lt}
 use Rattle.std.proofs.lemmas.List.{length-map}
 use Rattle.mrt_graph.specs.NodeOrder.{node_id_cmp}
 use Rattle.mrt_graph.specs.declared.node_id.NodeId.{NodeId}
-use Rattle.ospf_lsa.specs.declared.lsa.Lsa.{Lsa}
+use Rattle.mrt_graph.specs.InOrder.{in_order}
 use Rattle.mrt_graph.proofs.InOrder.{length-in_order}
+use Rattle.ospf_lsa.specs.declared.lsa.Lsa.{Lsa}
 use Rattle.area_graph.specs.declared.entry.NumberedEntry.{NumberedEntry as Entry}
 use Rattle.area_graph.specs.AreaInvariant.{IsArea}
 use Rattle.area_graph.specs.AreaOf.{area_of}
@@ -19,7 +20,6 @@ use Rattle.area_graph.specs.declared.area_error.AreaError.{AreaError}
 use Rattle.area_graph.specs.declared.area_error.AreaError.TheVariants.{NoMemory}
 use Rattle.area_graph.specs.NumberedArcs.{arc_cmp, arcs_among}
 use Rattle.area_graph.specs.NumberedEntries.{entries}
-use Rattle.mrt_graph.specs.InOrder.{in_order}
 use Rattle.area_graph.specs.Listed.{AreEntries}
 use Rattle.area_graph.specs.Nodes.{nodes}
 use Rattle.area_graph.specs.Pairing.{AreOrdered, IsBetween}

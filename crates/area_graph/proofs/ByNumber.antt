@@ -15,6 +15,8 @@ use Rattle.std.proofs.lemmas.Map.Keys.{Less-from_sorted}
 use Rattle.std.proofs.lemmas.Option.{same_Some, get_or_from_slice_get}
 use Rattle.mrt_graph.specs.NodeOrder.{node_id_cmp}
 use Rattle.mrt_graph.specs.declared.node_id.NodeId.{NodeId}
+use Rattle.mrt_graph.specs.InOrder.{in_order}
+use Rattle.mrt_graph.specs.SameNetwork.{same_id}
 use Rattle.mrt_graph.proofs.Filters.{all_filter, filter_agree_in}
 use Rattle.mrt_graph.proofs.Members.{all_weaker}
 use Rattle.mrt_graph.proofs.NodeIds.{node_id_total}
@@ -23,8 +25,6 @@ use Rattle.area_graph.specs.AreaOf.{arc_from, area_with, bond_by, bond_from, pla
 use Rattle.area_graph.specs.Arcs.{answers, arc_cmp, arcs_among, is_arc, pairing_cmp, parallel_cmp}
 use Rattle.area_graph.specs.Bonds.{are_partners, bond_of, bonds, is_of, pairs, partner, same_direction, same_entry, singles, tells_pair, turn_of}
 use Rattle.area_graph.specs.Entries.{Entry}
-use Rattle.mrt_graph.specs.InOrder.{in_order}
-use Rattle.mrt_graph.specs.SameNetwork.{same_id}
 use Rattle.area_graph.specs.Nodes.{number_of}
 use Rattle.area_graph.specs.NumberedArcs.{answers as n_answers, arc_cmp as n_arc_cmp, arcs_among as n_arcs_among, is_arc as n_is_arc, pairing_cmp as n_pairing_cmp}
 use Rattle.area_graph.specs.NumberedArea.{arcs_of, bond_by as n_bond_by, bond_from as n_bond_from, bonds_of, numbered}

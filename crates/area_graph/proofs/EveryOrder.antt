@@ -5,6 +5,8 @@ use Rattle.std.specs.List.Sorted.{IsPermutation}
 use Rattle.std.proofs.lemmas.Bool.{cases_Bool}
 use Rattle.std.proofs.lemmas.List.Sorted.{IsPermutation-sym, Contains-permutation}
 use Rattle.std.proofs.lemmas.Option.{same_Some}
+use Rattle.mrt_graph.proofs.Members.{Has, all_filter_map, all_has, contains_from_has, has_filter, has_from_contains, is_from, none_pass}
+use Rattle.mrt_graph.proofs.Tallies.{one_if, tally, tally_map, tally_none}
 use Rattle.ospf_lsa.specs.declared.lsa.Lsa.{Lsa}
 use Rattle.lsdb.specs.declared.key.Key.{Key}
 use Rattle.lsdb.specs.Entries.{Entry, entry_of, entries_in}
@@ -17,8 +19,6 @@ use Rattle.lsdb.proofs.Arrivals.{AreDistinct, keys_distinct}
 use Rattle.lsdb.proofs.Entered.{keys_of_newest}
 use Rattle.lsdb.proofs.Reordered.{newest_reordered}
 use Rattle.lsdb.proofs.Stores.{key_is}
-use Rattle.mrt_graph.proofs.Members.{Has, all_filter_map, all_has, contains_from_has, has_filter, has_from_contains, is_from, none_pass}
-use Rattle.mrt_graph.proofs.Tallies.{one_if, tally, tally_map, tally_none}
 use Rattle.area_graph.specs.AreaOf.{area_of}
 use Rattle.area_graph.proofs.Speaking.{SayAll, alike, same_area}
 

@@ -8,6 +8,7 @@ use Rattle.std.proofs.lemmas.List.{map-append, length-map}
 use Rattle.std.proofs.lemmas.Option.{same_Some}
 use Rattle.mrt_graph.specs.NodeOrder.{node_id_cmp}
 use Rattle.mrt_graph.specs.declared.node_id.NodeId.{NodeId}
+use Rattle.mrt_graph.specs.InOrder.{in_order}
 use Rattle.mrt_graph.proofs.InOrder.{Rises, in_order_rises, is_before, length-in_order, sorted_from_rises}
 use Rattle.mrt_graph.proofs.Members.{all_from_has, all_has, all_map, has_at, has_filter}
 use Rattle.mrt_graph.proofs.Filters.{rises_filter}
@@ -18,7 +19,6 @@ use Rattle.area_graph.specs.NumberedArcs.{arc_cmp, pairing_cmp, is_arc, arcs_amo
 use Rattle.area_graph.specs.AreaInvariant.{by_tail_cmp, by_nodes_cmp, IsArea}
 use Rattle.area_graph.specs.NumberedArea.{numbered, bond_by, bond_from, arcs_of, bonds_of}
 use Rattle.area_graph.specs.NumberedBonds.{partner, tells_pair, is_single, pairs, singles}
-use Rattle.mrt_graph.specs.InOrder.{in_order}
 use Rattle.area_graph.specs.Listed.{IsEntry, AreEntries}
 use Rattle.area_graph.proofs.Apart.{arc_total, arcs_apart, once_from_apart, pairing_total}
 use Rattle.area_graph.proofs.OneBond.{single, tells}

@@ -12,6 +12,10 @@ use Rattle.mrt_graph.specs.GraphInvariant.{IsNetwork}
 use Rattle.mrt_graph.specs.NodeOrder.{rank_of, node_id_cmp}
 use Rattle.mrt_graph.specs.declared.node_id.Kind.TheVariants as kinds
 use Rattle.mrt_graph.specs.declared.node_id.NodeId.{NodeId}
+use Rattle.mrt_graph.specs.SameNetwork.{same_id}
+use Rattle.mrt_graph.proofs.InOrder.{all_in_order}
+use Rattle.mrt_graph.proofs.Members.{all_append}
+use Rattle.mrt_graph.proofs.Filters.{all_filter}
 use Rattle.ospf_lsa.specs.Lsas.{has_zero_metric, IsOfType, KeepsMetrics}
 use Rattle.ospf_lsa.specs.declared.lsa.Body.{Body}
 use Rattle.ospf_lsa.specs.declared.lsa.Body.TheVariants.{Router, Network, Other}
@@ -19,14 +23,10 @@ use Rattle.ospf_lsa.specs.declared.lsa.Lsa.{Lsa}
 use Rattle.ospf_lsa.specs.declared.lsa.RouterLink.{RouterLink}
 use Rattle.lsdb.specs.Installing.{IsKept}
 use Rattle.lsdb.specs.Rank.{is_at_max_age}
-use Rattle.mrt_graph.proofs.InOrder.{all_in_order}
-use Rattle.mrt_graph.proofs.Members.{all_append}
-use Rattle.mrt_graph.proofs.Filters.{all_filter}
 use Rattle.area_graph.specs.NumberedBonds.{same_entry}
 use Rattle.area_graph.specs.NumberedEntries.{entry_of_link, entry_of_listed, entries_of_links, entries_of_listed, entries_of, entries_from, entries}
 use Rattle.area_graph.specs.Entries.{far_of}
 use Rattle.area_graph.specs.Listed.{IsEntry, AreEntries}
-use Rattle.mrt_graph.specs.SameNetwork.{same_id}
 use Rattle.area_graph.specs.Nodes.{router, network, node_of, number_of, live, speaks, speakers, nodes}
 use Rattle.area_graph.specs.declared.entry.NumberedEntry.{NumberedEntry as Entry}
 use Rattle.area_graph.proofs.OneOfEachNode.{of_router, of_network}

@@ -7,11 +7,11 @@ use Rattle.std.proofs.lemmas.List.Elements.{filter-append}
 use Rattle.std.proofs.lemmas.Option.{same_Some, get_or_from_slice_get, slice_get_within}
 use Rattle.mrt_graph.specs.NodeOrder.{node_id_cmp}
 use Rattle.mrt_graph.specs.declared.node_id.NodeId.{NodeId}
+use Rattle.mrt_graph.proofs.Members.{all_append}
 use Rattle.ospf_lsa.specs.declared.lsa.Body.{Body}
 use Rattle.ospf_lsa.specs.declared.lsa.Body.TheVariants.{Router, Network, Other}
 use Rattle.ospf_lsa.specs.declared.lsa.Lsa.{Lsa}
 use Rattle.ospf_lsa.specs.declared.lsa.RouterLink.{RouterLink}
-use Rattle.mrt_graph.proofs.Members.{all_append}
 use Rattle.area_graph.specs.declared.entry.NumberedEntry.{NumberedEntry}
 use Rattle.area_graph.specs.Arcs.{arcs}
 use Rattle.area_graph.specs.AreaOf.{area_of}

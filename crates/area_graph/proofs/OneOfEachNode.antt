@@ -14,14 +14,14 @@ use Rattle.std.proofs.lemmas.List.Kept.{AllPairs-filter}
 use Rattle.std.proofs.lemmas.Map.Keys.{apart_from_distinct, IsDistinct-from_apart}
 use Rattle.mrt_graph.specs.NodeOrder.{rank_of, node_id_cmp}
 use Rattle.mrt_graph.specs.declared.node_id.NodeId.{NodeId}
+use Rattle.mrt_graph.specs.InOrder.{in_order}
+use Rattle.mrt_graph.specs.SameNetwork.{same_id}
+use Rattle.mrt_graph.proofs.NodeIds.{node_id_total}
 use Rattle.ospf_lsa.specs.declared.lsa.Lsa.{Lsa}
 use Rattle.lsdb.specs.Installing.{IsKept}
 use Rattle.lsdb.specs.Keys.{key_of, same_key, AreDistinct}
 use Rattle.lsdb.specs.Rank.{is_at_max_age}
 use Rattle.lsdb.specs.declared.key.Key.{Key}
-use Rattle.mrt_graph.specs.InOrder.{in_order}
-use Rattle.mrt_graph.proofs.NodeIds.{node_id_total}
-use Rattle.mrt_graph.specs.SameNetwork.{same_id}
 use Rattle.area_graph.specs.Nodes.{router, network, node_of, live, is_above, speaks, speakers, nodes}
 use Rattle.area_graph.specs.Speaking.{IsSpeakerOf}
 use Rattle.area_graph.specs.declared.speaker.Speaker.{Speaker}

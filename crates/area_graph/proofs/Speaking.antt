@@ -10,23 +10,23 @@ use Rattle.std.proofs.lemmas.Bool.{ltb-false, not-true, not_from_false}
 use Rattle.std.proofs.lemmas.Cmp.{on_total}
 use Rattle.mrt_graph.specs.NodeOrder.{node_id_cmp}
 use Rattle.mrt_graph.specs.declared.node_id.NodeId.{NodeId}
+use Rattle.mrt_graph.specs.SameNetwork.{same_id}
+use Rattle.mrt_graph.proofs.InOrder.{Contains-in_order, Rises, before_ranks, in_order_rises, is_before, not_before_itself}
+use Rattle.mrt_graph.proofs.Members.{Has, all_from_has, all_has, all_map, contains_from_has, filter_has, has_filter, has_from_contains, has_map, is_from, none_pass, pass_none}
+use Rattle.mrt_graph.proofs.Tallies.{one_if, tally, tally_filtered, tally_some}
+use Rattle.mrt_graph.proofs.NodeIds.{node_id_total, tied_nodes}
 use Rattle.ospf_lsa.specs.declared.lsa.Lsa.{Lsa}
 use Rattle.lsdb.specs.Installing.{IsKept}
 use Rattle.lsdb.specs.Keys.{key_of, same_key, is_of}
 use Rattle.lsdb.specs.Orders.{timeless}
 use Rattle.lsdb.specs.Rank.{is_at_max_age}
-use Rattle.lsdb.proofs.Arrivals.{own_key}
 use Rattle.lsdb.specs.declared.key.Key.{Key}
-use Rattle.mrt_graph.proofs.InOrder.{Contains-in_order, Rises, before_ranks, in_order_rises, is_before, not_before_itself}
-use Rattle.mrt_graph.proofs.Members.{Has, all_from_has, all_has, all_map, contains_from_has, filter_has, has_filter, has_from_contains, has_map, is_from, none_pass, pass_none}
-use Rattle.mrt_graph.proofs.Tallies.{one_if, tally, tally_filtered, tally_some}
+use Rattle.lsdb.proofs.Arrivals.{own_key}
 use Rattle.area_graph.specs.Arcs.{arcs_among}
 use Rattle.area_graph.specs.AreaOf.{area_of, area_with}
 use Rattle.area_graph.specs.Entries.{entries_of, entries_in}
-use Rattle.mrt_graph.specs.SameNetwork.{same_id}
 use Rattle.area_graph.specs.Nodes.{node_of, live, is_above, speaks, speakers}
 use Rattle.area_graph.specs.Parts.{AreaParts}
-use Rattle.mrt_graph.proofs.NodeIds.{node_id_total, tied_nodes}
 use Rattle.area_graph.proofs.OneOfEachNode.{one_id, one_kind}
 use Rattle.area_graph.proofs.SameIds.{flipped, same_itself}
 use Rattle.area_graph.proofs.OrderedMembers.{has_in_order, tally_in_order}

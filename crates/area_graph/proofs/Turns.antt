@@ -65,7 +65,7 @@ first_upto tail far arcs first i d is_first at_tail at_far =
       | inr above ↦ above
     ]
 
--- the turn of an arc is how far behind the first of its way it stands
+-- the turn of an arc is how far after the first of its way it stands
 pub turn_is : (tail far : ℕ) (arcs : List Entry) (first i : ℕ) (d : Entry) → AreOrdered arcs → IsFirstOf tail far arcs first → i < length arcs
     → (get_or arcs i d).tail ≡ tail → (get_or arcs i d).far ≡ far → turn_of arcs (get_or arcs i d) + first ≡ i
 turn_is tail far arcs first i d ordered is_first within at_tail at_far =
@@ -92,7 +92,7 @@ turn_is tail far arcs first i d ordered is_first within at_tail at_far =
     rw (← read) (and_right (same_way arc (get_or arcs k d)) (is_before pairing_cmp (get_or arcs k d) arc) (not_before arcs ordered i k d from under))) in
     omega (arith, count, length-filter p arcs)
 
--- the partner stands as far behind the first of the way back as the arc behind the first of its own
+-- the partner stands as far after the first of the way back as the arc after the first of its own
 pub partner_at : (arcs : List Entry) → AreOrdered arcs → (arc : Entry) (place first first_back : ℕ) → place < length arcs → get_or arcs place arc ≡ arc
     → IsFirstOf arc.tail arc.far arcs first → IsFirstOf arc.far arc.tail arcs first_back → (d : Entry) → first_back + (place - first) < length arcs
     → (get_or arcs (first_back + (place - first)) d).tail ≡ arc.far → (get_or arcs (first_back + (place - first)) d).far ≡ arc.tail

@@ -18,7 +18,7 @@ use Rattle.area_graph.specs.NumberedArcs.{answers, is_arc, pairing_cmp}
 use Rattle.area_graph.specs.Ways.{is_before_way, IsFirstOf}
 use Rattle.area_graph.proofs.Apart.{pairing_total}
 
--- the way from one node to another does not stand behind that of another pair of nodes
+-- the way from one node to another does not stand after that of another pair of nodes
 abbrev pub IsWayUpto : ℕ → ℕ → ℕ → ℕ → Type 0
 IsWayUpto tail far tail' far' = (tail < tail') ⊎ ((tail ≡ tail') × (far ≤ far'))
 

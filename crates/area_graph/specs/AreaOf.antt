@@ -2,13 +2,13 @@
 use Rattle.std.specs.Prelude.{ℕ, true, false, List, length, map, Option, Some, None}
 use Rattle.std.specs.Option.{unwrap_or}
 use Rattle.mrt_graph.specs.declared.node_id.NodeId.{NodeId}
+use Rattle.mrt_graph.specs.InOrder.{in_order}
 use Rattle.ospf_lsa.specs.declared.lsa.Lsa.{Lsa}
 use Rattle.area_graph.specs.declared.area_types.Arc.{Arc}
 use Rattle.area_graph.specs.declared.area_types.Bond.{Bond}
 use Rattle.area_graph.specs.Arcs.{arcs, arc_cmp}
 use Rattle.area_graph.specs.Bonds.{bond_of, bonds, partner}
 use Rattle.area_graph.specs.Entries.{Entry}
-use Rattle.mrt_graph.specs.InOrder.{in_order}
 use Rattle.area_graph.specs.Nodes.{nodes, number_of}
 use Rattle.area_graph.specs.Parts.{AreaParts}
 

@@ -4,10 +4,10 @@ use Rattle.std.specs.List.{filter, find, position}
 use Rattle.std.specs.Option.{is_none, is_some, option_map_or, unwrap_or}
 use Rattle.std.specs.Ordering.{is_lt}
 use Rattle.mrt_graph.specs.NodeOrder.{node_id_cmp}
-use Rattle.area_graph.specs.Arcs.{answers, arc_cmp, parallel_cmp}
-use Rattle.area_graph.specs.Entries.{Entry}
 use Rattle.mrt_graph.specs.InOrder.{in_order}
 use Rattle.mrt_graph.specs.SameNetwork.{same_id}
+use Rattle.area_graph.specs.Arcs.{answers, arc_cmp, parallel_cmp}
+use Rattle.area_graph.specs.Entries.{Entry}
 
 -- whether two arcs have one direction: they lead from one node to one node
 abbrev pub same_direction : Entry → Entry → Bool

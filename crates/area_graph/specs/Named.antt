@@ -1,10 +1,9 @@
 -- The bond that a router and link data name.
-use Rattle.std.specs.Prelude.{◌≡◌, ℕ, Bool, ◌&&◌, ◌==◌, Contains, Option, Some}
+use Rattle.std.specs.Prelude.{◌≡◌, ◌&&◌, ◌==◌, ℕ, Bool, Contains, Option, Some, slice_get}
 use Rattle.std.specs.List.{find}
 use Rattle.std.specs.Option.{option_map, option_map_or}
-use Rattle.std.specs.Prelude.{slice_get}
-use Rattle.area_graph.specs.declared.area_types.Arc.{Arc}
 use Rattle.mrt_graph.specs.SameNetwork.{same_id}
+use Rattle.area_graph.specs.declared.area_types.Arc.{Arc}
 use Rattle.area_graph.specs.Nodes.{router}
 use Rattle.area_graph.specs.Parts.{AreaParts}
 

@@ -3,10 +3,10 @@ use Rattle.std.specs.Prelude.{Bool, ◌&&◌, ◌==◌, List}
 use Rattle.std.specs.List.{filter, list_any}
 use Rattle.std.specs.Ordering.{nat_cmp, on, then_cmp}
 use Rattle.std.specs.declared.cmp.Ordering.{Ordering}
+use Rattle.mrt_graph.specs.InOrder.{in_order}
 use Rattle.ospf_lsa.specs.declared.lsa.Lsa.{Lsa}
 use Rattle.area_graph.specs.declared.entry.NumberedEntry.{NumberedEntry as Entry}
 use Rattle.area_graph.specs.NumberedEntries.{entries}
-use Rattle.mrt_graph.specs.InOrder.{in_order}
 
 -- whether an entry leads back between the two nodes of this one
 abbrev pub answers : Entry → Entry → Bool

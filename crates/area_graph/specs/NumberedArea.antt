@@ -1,11 +1,11 @@
 -- Arcs and bonds by number, as the code makes them.
 use Rattle.std.specs.Prelude.{true, false, List, map, Option, Some, None}
+use Rattle.mrt_graph.specs.InOrder.{in_order}
 use Rattle.area_graph.specs.declared.area_types.Arc.{Arc}
 use Rattle.area_graph.specs.declared.area_types.Bond.{Bond}
 use Rattle.area_graph.specs.declared.entry.NumberedEntry.{NumberedEntry as Entry}
 use Rattle.area_graph.specs.NumberedArcs.{arc_cmp}
 use Rattle.area_graph.specs.NumberedBonds.{bond_of, bonds, partner}
-use Rattle.mrt_graph.specs.InOrder.{in_order}
 
 -- an arc with the number of its bond
 abbrev pub numbered : List Entry → Entry → Arc

@@ -1,7 +1,7 @@
 use Rattle.std.proofs.Common.{◌≡◌, ◌∙◌}
+use Rattle.mrt_graph.specs.InOrder.{in_order}
 use Rattle.mrt_graph.proofs.InOrder.{in_order_sorted}
 use Rattle.area_graph.specs.NumberedArcs.{pairing_cmp}
-use Rattle.mrt_graph.specs.InOrder.{in_order}
 use Rattle.area_graph.proofs.Apart.{arcs_in_order, pairing_total}
 use Rattle.area_graph.proofs.arcs.arcs_by_way.Goals as goal
 

@@ -1,7 +1,7 @@
 use Rattle.std.proofs.Common.{◌≡◌, ◌∙◌, ◌⊎◌, List, length, map, sym, ap, subst}
 use Rattle.std.specs.Prelude.{IfOk}
-use Rattle.lsdb.specs.Entries.{Entry as DatabaseEntry}
 use Rattle.ospf_lsa.specs.declared.lsa.Lsa.{Lsa}
+use Rattle.lsdb.specs.Entries.{Entry as DatabaseEntry}
 use Rattle.area_graph.specs.AreaOf.{area_of}
 use Rattle.area_graph.specs.AreaSize.{IsTooLarge, too_large as error_of}
 use Rattle.area_graph.specs.NumberedEntries.{entries}

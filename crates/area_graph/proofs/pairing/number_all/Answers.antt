@@ -3,6 +3,7 @@ use Rattle.std.specs.List.{AllByRecursion, Contains, position}
 use Rattle.std.specs.Option.{is_none, unwrap_or}
 use Rattle.std.proofs.lemmas.List.{get_or-map, get_or_default, length-map, map-append, map_more}
 use Rattle.std.proofs.lemmas.List.Elements.{All-from_recursion, Contains-get_or}
+use Rattle.mrt_graph.specs.InOrder.{in_order}
 use Rattle.mrt_graph.proofs.Members.{has_from_contains}
 use Rattle.mrt_graph.proofs.InOrder.{Contains-from_in_order, all_in_order}
 use Rattle.area_graph.specs.declared.area_types.Arc.{Arc}
@@ -12,7 +13,6 @@ use Rattle.area_graph.specs.declared.pairing.Numbered.{Numbered}
 use Rattle.area_graph.specs.NumberedArea.{bond_by, bond_from, numbered as with_bond}
 use Rattle.area_graph.specs.NumberedArcs.{arc_cmp}
 use Rattle.area_graph.specs.NumberedBonds.{is_of, is_single, pairs, partner, bond_of}
-use Rattle.mrt_graph.specs.InOrder.{in_order}
 use Rattle.area_graph.specs.Pairing.{AreOrdered, IsBetween, bonds_upto, with_pair}
 use Rattle.area_graph.proofs.Apart.{once_from_apart}
 use Rattle.area_graph.proofs.BondNumbers.{bonds_more, number_bound, number_is, ordered_arcs, single_is}

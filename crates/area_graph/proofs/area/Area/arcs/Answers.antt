@@ -1,8 +1,8 @@
 use Rattle.std.proofs.Common.{rules, ◌≡◌, ◌==◌, subst, sym}
 use Rattle.std.specs.List.{AllByRecursion, filter}
+use Rattle.mrt_graph.proofs.Filters.{all_filter}
 use Rattle.area_graph.specs.declared.area_types.Arc.{Arc}
 use Rattle.area_graph.specs.AreaInvariant.{IsArc, IsArea}
-use Rattle.mrt_graph.proofs.Filters.{all_filter}
 use Rattle.area_graph.proofs.area.Area.arcs.Goals as goal
 
 pub returns-clause-kept : goal.returns-clause-kept
