@@ -165,13 +165,13 @@ module _ (ids : List NodeId) (ascend : IsStrictlySortedBy node_id_cmp ids) where
 
   arc_alike : (arc other : Entry) (n m : NumberedEntry) → R arc n → R other m → arc_cmp arc other ≡ n_arc_cmp n m
   arc_alike arc other n m r s =
-      then_alike _ _ _ _
-      (then_alike _ _ _ _
-      (then_alike _ _ _ _
+      let first = ordering_then (nat_cmp n.tail m.tail) (nat_cmp n.metric m.metric) in
+      let far = nat_cmp n.far m.far in
+      let last = ordering_then (nat_cmp n.link_data m.link_data) (nat_cmp n.place m.place) in
+      then_alike _ _ first (ordering_then far last)
       (then_alike _ _ _ _ (same_order arc.from other.from n.tail m.tail r.from s.from) (nat_alike arc.metric other.metric n.metric m.metric r.metric s.metric))
-      (same_order arc.to other.to n.far m.far r.to s.to))
-      (nat_alike arc.link_data other.link_data n.link_data m.link_data r.link_data s.link_data))
-      (nat_alike arc.place other.place n.place m.place r.place s.place)
+      (then_alike _ _ far last (same_order arc.to other.to n.far m.far r.to s.to) (parallel_alike arc other n m r s))
+      ∙ then_regrouped first far last ∙ then_regrouped (ordering_then first far) (nat_cmp n.link_data m.link_data) (nat_cmp n.place m.place)
 
   -- ---- arcs
 

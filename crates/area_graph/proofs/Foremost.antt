@@ -252,7 +252,8 @@ module _ {X : Type 0} (main : X → X → Ordering) (number : X → ℕ) (total 
       one_order main total (dedup (eq_by_cmp main) ys) (in_order main (filter p xs)) alike_all ties (rises_from_strict (dedup (eq_by_cmp main) ys) strict_main)
       (in_order_rises main total (filter p xs))
 
-  -- a list that is sorted by the main order, and of elements that tie by the greatest number first, without the later ones of each run
+  -- a list that is sorted by the main order, and of elements that tie by the greatest number first, without the later
+  -- ones of each run
   pub record AreForemost (xs ys : List X) : Type 0 where
     pub ascend : IsStrictlySortedBy main (dedup (eq_by_cmp main) ys)
     pub are : dedup (eq_by_cmp main) ys ≡ in_order main (filter (none_over main number xs) xs)

@@ -1,4 +1,5 @@
--- Which entries are arcs, and how arcs are ordered (RFC 2328, section 16.1: each link is looked for in the LSA of its far node).
+-- Which entries are arcs, and how arcs are ordered (RFC 2328, section 16.1: each link is looked for in the LSA of its
+-- far node).
 use Rattle.std.specs.Prelude.{Bool, ◌&&◌, List}
 use Rattle.std.specs.List.{filter, list_any}
 use Rattle.std.specs.Ordering.{nat_cmp, on, then_cmp}
@@ -17,15 +18,15 @@ answers entry back = same_id back.from entry.to && same_id back.to entry.from
 abbrev pub is_arc : List Entry → Entry → Bool
 is_arc all entry = list_any (answers entry) all
 
--- the order of arcs: by the node that they leave, then by metric, then by far node, then by link data, then by place in the LSA
-abbrev pub arc_cmp : Entry → Entry → Ordering
-arc_cmp =
-    then_cmp (then_cmp (then_cmp (then_cmp (on (λ arc. arc.from) node_id_cmp) (on (λ arc. arc.metric) nat_cmp)) (on (λ arc. arc.to) node_id_cmp))
-    (on (λ arc. arc.link_data) nat_cmp)) (on (λ arc. arc.place) nat_cmp)
-
 -- the order of parallel arcs: by link data, then by place in the LSA
 abbrev pub parallel_cmp : Entry → Entry → Ordering
 parallel_cmp = then_cmp (on (λ arc. arc.link_data) nat_cmp) (on (λ arc. arc.place) nat_cmp)
+
+-- the order of arcs: by the node that they leave, then by metric, then by far node, then as parallel arcs
+abbrev pub arc_cmp : Entry → Entry → Ordering
+arc_cmp =
+    then_cmp (then_cmp (on (λ arc. arc.from) node_id_cmp) (on (λ arc. arc.metric) nat_cmp))
+    (then_cmp (on (λ arc. arc.to) node_id_cmp) parallel_cmp)
 
 -- the order in which arcs are paired: by the node that they leave, then by far node, then as parallel arcs
 abbrev pub pairing_cmp : Entry → Entry → Ordering

@@ -14,7 +14,8 @@ use Rattle.area_graph.specs.Parts.{AreaParts}
 -- arcs ascend by tail, then by metric, then by far node, then by link data
 abbrev pub by_tail_cmp : Arc → Arc → Ordering
 by_tail_cmp =
-    then_cmp (then_cmp (then_cmp (on (λ arc. arc.tail) nat_cmp) (on (λ arc. arc.metric) nat_cmp)) (on (λ arc. arc.to) nat_cmp))
+    then_cmp
+    (then_cmp (then_cmp (on (λ arc. arc.tail) nat_cmp) (on (λ arc. arc.metric) nat_cmp)) (on (λ arc. arc.to) nat_cmp))
     (on (λ arc. arc.link_data) nat_cmp)
 
 -- pairs ascend by their lower, then by their higher node
@@ -36,8 +37,8 @@ pub record IsBack (bond : Bond) (arc : Arc) : Type 0 where
   pub metric : arc.metric ≡ bond.metric_b
   pub link_data : arc.link_data ≡ bond.data_b
 
--- an arc: its bond has its two nodes, and the metric and the link data at its tail; of a network's arcs both are 0, and a router's have
--- a metric of at least 1
+-- an arc: its bond has its two nodes, and the metric and the link data at its tail; of a network's arcs both are 0, and
+-- a router's have a metric of at least 1
 pub record IsArc (ids : List NodeId) (bonds : List Bond) (arc : Arc) : Type 0 where
   pub bond : Bond
   pub there : slice_get bonds arc.bond ≡ Some bond
@@ -45,8 +46,8 @@ pub record IsArc (ids : List NodeId) (bonds : List Bond) (arc : Arc) : Type 0 wh
   pub of_network : IsNetwork ids arc.tail → (arc.metric ≡ 0) × (arc.link_data ≡ 0)
   pub of_router : ¬ IsNetwork ids arc.tail → 1 ≤ arc.metric
 
--- a bond: two different nodes of the area, not both of them networks; of a pair the first is the lower one; where it is no pair, its
--- second node has metric 0 and link data 0
+-- a bond: two different nodes of the area, not both of them networks; of a pair the first is the lower one; where it is
+-- no pair, its second node has metric 0 and link data 0
 pub record IsBond (ids : List NodeId) (bond : Bond) : Type 0 where
   pub a : bond.a < length ids
   pub b : bond.b < length ids
@@ -72,7 +73,7 @@ pub record IsArea (area : AreaParts) : Type 0 where
   pub arcs_ascend : IsSorted by_tail_cmp area.arcs
   pub arcs_kept : AllByRecursion (IsArc area.ids area.bonds) area.arcs
   pub bonds_kept : AllByRecursion (IsBond area.ids) area.bonds
-  pub pairs_first : (j k : ℕ) (one other : Bond) → j < k → slice_get area.bonds j ≡ Some one → slice_get area.bonds k ≡ Some other
-      → other.paired ≡ true → one.paired ≡ true
+  pub pairs_first : (j k : ℕ) (one other : Bond) → j < k → slice_get area.bonds j ≡ Some one
+      → slice_get area.bonds k ≡ Some other → other.paired ≡ true → one.paired ≡ true
   pub pairs_ascend : IsSorted by_nodes_cmp (filter (λ bond. bond.paired) area.bonds)
   pub arcs_of_bonds : (k : ℕ) (bond : Bond) → slice_get area.bonds k ≡ Some bond → HasArcs area.arcs k bond

@@ -12,14 +12,21 @@ use Rattle.area_graph.specs.Entries.{Entry}
 use Rattle.area_graph.specs.Nodes.{nodes, number_of}
 use Rattle.area_graph.specs.Parts.{AreaParts}
 
--- the number of a node: its place among the nodes (their count, which is the number of none, where it is not one of them)
+-- the number of a node: its place among the nodes (their count, which is the number of none, where it is not one of
+-- them)
 abbrev pub place_among : List NodeId → NodeId → ℕ
 place_among ids id = unwrap_or (number_of ids id) (length ids)
 
 -- an arc by the numbers of its nodes and of its bond
 abbrev pub arc_from : List NodeId → List Entry → Entry → Arc
 arc_from ids arcs arc =
-    record { tail = place_among ids arc.from; to = place_among ids arc.to; metric = arc.metric; link_data = arc.link_data; bond = bond_of arcs arc }
+    record {
+      tail = place_among ids arc.from;
+      to = place_among ids arc.to;
+      metric = arc.metric;
+      link_data = arc.link_data;
+      bond = bond_of arcs arc;
+    }
 
 -- the bond of an arc and of its partner, if it has one, by the numbers of its nodes
 abbrev pub bond_by : List NodeId → Entry → Option Entry → Bond
@@ -51,7 +58,11 @@ bond_from ids arcs one = bond_by ids one (partner arcs one)
 -- nodes, arcs in their order, and bonds, by number
 abbrev pub area_with : List NodeId → List Entry → AreaParts
 area_with ids arcs =
-    record { ids = ids; arcs = map (arc_from ids arcs) (in_order arc_cmp arcs); bonds = map (bond_from ids arcs) (bonds arcs) }
+    record {
+      ids = ids;
+      arcs = map (arc_from ids arcs) (in_order arc_cmp arcs);
+      bonds = map (bond_from ids arcs) (bonds arcs);
+    }
 
 -- the area of newest LSAs
 abbrev pub area_of : List Lsa → AreaParts

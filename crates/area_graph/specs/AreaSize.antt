@@ -7,6 +7,7 @@ use Rattle.area_graph.specs.declared.area_error.AreaError.TheVariants.{TooLarge}
 abbrev pub IsTooLarge : ℕ → ℕ → Type 0
 IsTooLarge nodes arcs = (4096 < nodes) ⊎ (32768 < arcs)
 
--- the answer where they are too many: both counts, each told as a number of 32 bits, the greatest one where it is greater
+-- the answer where they are too many: both counts, each told as a number of 32 bits, the greatest one where it is
+-- greater
 abbrev pub too_large : ℕ → ℕ → AreaError
 too_large nodes arcs = TooLarge (min nodes (2 ^ 32 - 1)) (min arcs (2 ^ 32 - 1))

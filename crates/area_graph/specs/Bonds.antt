@@ -49,6 +49,7 @@ same_entry entry other = same_id other.from entry.from && (other.place == entry.
 abbrev pub is_of : List Entry → Entry → Entry → Bool
 is_of arcs arc bond = same_entry arc bond || option_map_or (same_entry arc) (partner arcs bond) false
 
--- the number of an arc's bond: its place among the bonds (their count, which is the number of none, where the arc is of none)
+-- the number of an arc's bond: its place among the bonds (their count, which is the number of none, where the arc is of
+-- none)
 abbrev pub bond_of : List Entry → Entry → ℕ
 bond_of arcs arc = unwrap_or (position (is_of arcs arc) (bonds arcs)) (length (bonds arcs))

@@ -1,4 +1,5 @@
--- What the LSAs of an area list: the links of routers and the routers of networks (RFC 2328, sections 12.4.1 and 12.4.2).
+-- What the LSAs of an area list: the links of routers and the routers of networks (RFC 2328, sections 12.4.1 and
+-- 12.4.2).
 use Rattle.std.specs.Prelude.{◌++◌, ◌+◌, ◌==◌, ℕ, List, [], ◌∷◌, Option, Some, None, if◌then◌else◌}
 use Rattle.std.specs.Option.{option_map, option_to_list}
 use Rattle.mrt_graph.specs.declared.node_id.NodeId.{NodeId}
@@ -8,8 +9,8 @@ use Rattle.ospf_lsa.specs.declared.lsa.Body.TheVariants.{Router, Network, Other}
 use Rattle.ospf_lsa.specs.declared.lsa.Lsa.{Lsa}
 use Rattle.area_graph.specs.Nodes.{router, network, node_of, speakers}
 
--- what an LSA lists and leads from its node to another one: a link of a router, or a router of a network; its place is that among all
--- that the LSA lists, from 0
+-- what an LSA lists and leads from its node to another one: a link of a router, or a router of a network; its place is
+-- that among all that the LSA lists, from 0
 pub record Entry : Type 0 where
   pub from : NodeId
   pub to : NodeId
@@ -17,11 +18,12 @@ pub record Entry : Type 0 where
   pub link_data : ℕ
   pub place : ℕ
 
--- where a link of a router leads: a point-to-point link (type 1) to another router, a link to a transit network (type 2) to that
--- network; any other nowhere
+-- where a link of a router leads: a point-to-point link (type 1) to another router, a link to a transit network (type
+-- 2) to that network; any other nowhere
 abbrev pub far_of : ℕ → RouterLink → Option NodeId
 far_of own link =
-    if link.kind == 1 then (if link.id == own then None else Some (router link.id)) else (if link.kind == 2 then Some (network link.id) else None)
+    if link.kind == 1 then (if link.id == own then None else Some (router link.id))
+    else (if link.kind == 2 then Some (network link.id) else None)
 
 -- the entry for a link that stands at that place in the LSA of a router, if it leads somewhere
 abbrev pub entry_of_link : NodeId → ℕ → RouterLink → Option Entry
@@ -36,12 +38,14 @@ entry_of_listed from place listed = record { from = from; to = router listed; me
 -- the entries for the links of a router from that place on
 abbrev pub entries_of_links : NodeId → ℕ → List RouterLink → List Entry
 entries_of_links from place [] = []
-entries_of_links from place (link ∷ links) = option_to_list (entry_of_link from place link) ++ entries_of_links from (place + 1) links
+entries_of_links from place (link ∷ links) =
+    option_to_list (entry_of_link from place link) ++ entries_of_links from (place + 1) links
 
 -- the entries for the routers of a network from that place on
 abbrev pub entries_of_listed : NodeId → ℕ → List ℕ → List Entry
 entries_of_listed from place [] = []
-entries_of_listed from place (listed ∷ others) = entry_of_listed from place listed ∷ entries_of_listed from (place + 1) others
+entries_of_listed from place (listed ∷ others) =
+    entry_of_listed from place listed ∷ entries_of_listed from (place + 1) others
 
 -- the entries of a node's LSA
 abbrev pub entries_of : NodeId → Body → List Entry

@@ -17,12 +17,12 @@ pub record IsPairOf (area : AreaParts) (graph : Topology) (bond : Bond) (link : 
   pub a : slice_get area.ids bond.a ≡ slice_get graph.ids link.a
   pub b : slice_get area.ids bond.b ≡ slice_get graph.ids link.b
 
--- the list has an entry for each bond of the area and names links of the graph alone; each node of the graph is a node of the area;
--- each link is named for exactly one bond, which is a pair with the link's two nodes
+-- the list has an entry for each bond of the area and names links of the graph alone; each node of the graph is a node
+-- of the area; each link is named for exactly one bond, which is a pair with the link's two nodes
 pub record Fits (area : AreaParts) (graph : Topology) (link_of : List (Option ℕ)) : Type 0 where
   pub an_entry_each : length link_of ≡ length area.bonds
   pub links_alone : (k e : ℕ) → slice_get link_of k ≡ Some (Some e) → e < length graph.links
   pub nodes : (id : NodeId) → Contains graph.ids id → Contains area.ids id
   pub one_bond_each : (e : ℕ) → e < length graph.links → count_by (names e) link_of ≡ 1
-  pub pairs : (k e : ℕ) (bond : Bond) (link : Link) → slice_get link_of k ≡ Some (Some e) → slice_get area.bonds k ≡ Some bond
-      → slice_get graph.links e ≡ Some link → IsPairOf area graph bond link
+  pub pairs : (k e : ℕ) (bond : Bond) (link : Link) → slice_get link_of k ≡ Some (Some e)
+      → slice_get area.bonds k ≡ Some bond → slice_get graph.links e ≡ Some link → IsPairOf area graph bond link

@@ -29,7 +29,8 @@ live lsas = filter (λ lsa. not (is_at_max_age lsa)) lsas
 abbrev pub is_above : Lsa → Lsa → Bool
 is_above lsa other = same_id (node_of lsa) (node_of other) && nat_lt lsa.router other.router
 
--- whether an LSA speaks for its node among live ones: of several of one network that of the greatest advertising router does
+-- whether an LSA speaks for its node among live ones: of several of one network that of the greatest advertising router
+-- does
 abbrev pub speaks : List Lsa → Lsa → Bool
 speaks lsas lsa = not (list_any (is_above lsa) lsas)
 

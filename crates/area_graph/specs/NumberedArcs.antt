@@ -19,13 +19,16 @@ is_arc all entry = list_any (answers entry) all
 -- arcs are ordered by tail, then by metric, then by far node, then by link data, then by place in the LSA
 abbrev pub arc_cmp : Entry → Entry → Ordering
 arc_cmp =
-    then_cmp (then_cmp (then_cmp (then_cmp (on (λ arc. arc.tail) nat_cmp) (on (λ arc. arc.metric) nat_cmp)) (on (λ arc. arc.far) nat_cmp))
+    then_cmp
+    (then_cmp
+    (then_cmp (then_cmp (on (λ arc. arc.tail) nat_cmp) (on (λ arc. arc.metric) nat_cmp)) (on (λ arc. arc.far) nat_cmp))
     (on (λ arc. arc.link_data) nat_cmp)) (on (λ arc. arc.place) nat_cmp)
 
 -- to be paired, arcs are ordered by their two nodes, then by link data, then by place
 abbrev pub pairing_cmp : Entry → Entry → Ordering
 pairing_cmp =
-    then_cmp (then_cmp (then_cmp (on (λ arc. arc.tail) nat_cmp) (on (λ arc. arc.far) nat_cmp)) (on (λ arc. arc.link_data) nat_cmp))
+    then_cmp
+    (then_cmp (then_cmp (on (λ arc. arc.tail) nat_cmp) (on (λ arc. arc.far) nat_cmp)) (on (λ arc. arc.link_data) nat_cmp))
     (on (λ arc. arc.place) nat_cmp)
 
 -- the arcs among entries, as they are paired

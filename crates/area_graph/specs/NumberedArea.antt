@@ -9,14 +9,31 @@ use Rattle.area_graph.specs.NumberedBonds.{bond_of, bonds, partner}
 
 -- an arc with the number of its bond
 abbrev pub numbered : List Entry → Entry → Arc
-numbered arcs arc = record { tail = arc.tail; to = arc.far; metric = arc.metric; link_data = arc.link_data; bond = bond_of arcs arc }
+numbered arcs arc =
+    record { tail = arc.tail; to = arc.far; metric = arc.metric; link_data = arc.link_data; bond = bond_of arcs arc }
 
 -- the bond of an arc and of its partner, if it has one
 abbrev pub bond_by : Entry → Option Entry → Bond
 bond_by one None =
-    record { a = one.tail; b = one.far; paired = false; data_a = one.link_data; data_b = 0; metric_a = one.metric; metric_b = 0 }
+    record {
+      a = one.tail;
+      b = one.far;
+      paired = false;
+      data_a = one.link_data;
+      data_b = 0;
+      metric_a = one.metric;
+      metric_b = 0;
+    }
 bond_by one (Some other) =
-    record { a = one.tail; b = one.far; paired = true; data_a = one.link_data; data_b = other.link_data; metric_a = one.metric; metric_b = other.metric }
+    record {
+      a = one.tail;
+      b = one.far;
+      paired = true;
+      data_a = one.link_data;
+      data_b = other.link_data;
+      metric_a = one.metric;
+      metric_b = other.metric;
+    }
 
 -- the bond that an arc tells
 abbrev pub bond_from : List Entry → Entry → Bond

@@ -1,4 +1,5 @@
--- How arcs are paired, and the bonds that they make, as the code holds them. The lists of arcs are in the order in which they are paired.
+-- How arcs are paired, and the bonds that they make, as the code holds them. The lists of arcs are in the order in
+-- which they are paired.
 use Rattle.std.specs.Prelude.{◌++◌, ◌==◌, ◌&&◌, ◌||◌, ℕ, Bool, false, nat_lt, List, length, Option}
 use Rattle.std.specs.List.{filter, find, position}
 use Rattle.std.specs.Option.{is_none, is_some, option_map_or, unwrap_or}

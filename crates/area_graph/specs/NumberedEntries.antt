@@ -10,17 +10,19 @@ use Rattle.area_graph.specs.declared.entry.NumberedEntry.{NumberedEntry as Entry
 use Rattle.area_graph.specs.Entries.{far_of}
 use Rattle.area_graph.specs.Nodes.{router, number_of, speakers, nodes}
 
--- the entry for a link of node number `tail`, the router `own`, that stands at that place in its LSA; none where it does not lead
--- to a node of the area
+-- the entry for a link of node number `tail`, the router `own`, that stands at that place in its LSA; none where it
+-- does not lead to a node of the area
 abbrev pub entry_of_link : List NodeId → ℕ → ℕ → ℕ → RouterLink → Option Entry
 entry_of_link ids tail own place link =
-    option_map (λ far. record { tail = tail; far = far; metric = link.metric; link_data = link.link_data; place = place })
+    option_map
+    (λ far. record { tail = tail; far = far; metric = link.metric; link_data = link.link_data; place = place })
     (option_and_then (number_of ids) (far_of own link))
 
 -- the entry for a router that a network lists: it has metric 0 and link data 0
 abbrev pub entry_of_listed : List NodeId → ℕ → ℕ → ℕ → Option Entry
 entry_of_listed ids tail place listed =
-    option_map (λ far. record { tail = tail; far = far; metric = 0; link_data = 0; place = place }) (number_of ids (router listed))
+    option_map (λ far. record { tail = tail; far = far; metric = 0; link_data = 0; place = place })
+    (number_of ids (router listed))
 
 -- the entries for the links of a router-LSA from that place on
 abbrev pub entries_of_links : List NodeId → ℕ → ℕ → ℕ → List RouterLink → List Entry

@@ -1,4 +1,5 @@
--- The ways of entries: from which node to which they lead. Where the entries of a way begin among entries that are ordered to be paired.
+-- The ways of entries: from which node to which they lead. Where the entries of a way begin among entries that are
+-- ordered to be paired.
 use Rattle.std.specs.Prelude.{◌≡◌, ◌≤◌, ◌==◌, ◌&&◌, ◌||◌, ℕ, Bool, true, false, nat_lt, List, length}
 use Rattle.std.specs.List.{AllWithin}
 use Rattle.area_graph.specs.declared.entry.NumberedEntry.{NumberedEntry as Entry}

@@ -13,12 +13,12 @@ use crate::places::place_of;
 use mrt_graph::{Kind, NodeId};
 use std::marker::Model;
 
-/// The graph of an OSPF area (RFC 2328, section 16.1): routers and transit networks, the arcs between them, and the bonds that
-/// these make.
+/// The graph of an OSPF area (RFC 2328, section 16.1): routers and transit networks, the arcs between them, and the
+/// bonds that these make.
 ///
-/// It has at most 4,096 nodes and 32,768 arcs. Nodes are numbered from 0 by ascending identifier. Arcs are numbered by tail, then
-/// by metric, then by far node, then by link data, then by their place in the LSA. Of the bonds the pairs come first, by lower,
-/// then by higher node, and after them the single arcs in the order of arcs.
+/// It has at most 4,096 nodes and 32,768 arcs. Nodes are numbered from 0 by ascending identifier. Arcs are numbered by
+/// tail, then by metric, then by far node, then by link data, then by their place in the LSA. Of the bonds the pairs
+/// come first, by lower, then by higher node, and after them the single arcs in the order of arcs.
 #[derive(Drop)]
 pub struct Area {
     ids: Vec<NodeId>,

@@ -28,11 +28,11 @@ const MAX_ARCS: usize = 32768;
 
 /// The area that the newest LSAs of a settled database give (RFC 2328, section 16.1).
 ///
-/// Its nodes are the routers of live router-LSAs, and the networks of live network-LSAs; of several of one network that of the
-/// greatest advertising router counts. A link or a listing is an arc exactly where the LSA of its far node answers it: a point-to-point
-/// link is answered by one back, a link to a transit network by the network's listing of the router, and that by the link. For
-/// two nodes the arcs of each direction are put in order of link data, then of place in the LSA, and the k-th of one makes a pair with the
-/// k-th of the other.
+/// Its nodes are the routers of live router-LSAs, and the networks of live network-LSAs; of several of one network that
+/// of the greatest advertising router counts. A link or a listing is an arc exactly where the LSA of its far node
+/// answers it: a point-to-point link is answered by one back, a link to a transit network by the network's listing of
+/// the router, and that by the link. For two nodes the arcs of each direction are put in order of link data, then of
+/// place in the LSA, and the k-th of one makes a pair with the k-th of the other.
 ///
 /// # Errors
 ///

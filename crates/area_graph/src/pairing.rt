@@ -96,8 +96,8 @@ fn single_bond(one: NumberedEntry) -> Bond
     }
 }
 
-/// The number of the pair that an arc is of. The arc that leaves the lower node puts their bond after the others; the other one comes
-/// later, and takes its number.
+/// The number of the pair that an arc is of. The arc that leaves the lower node puts their bond after the others; the
+/// other one comes later, and takes its number.
 fn pair_number(
     arcs: &[NumberedEntry],
     place: usize,

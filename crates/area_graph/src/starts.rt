@@ -9,7 +9,8 @@ use crate::area_error::AreaError;
 use crate::area_types::Arc;
 use std::alloc::Global;
 
-/// Of each of so many nodes the number of arcs that leave a lower node, and after them the number of those that leave any of them.
+/// Of each of so many nodes the number of arcs that leave a lower node, and after them the number of those that leave
+/// any of them.
 pub fn starts(alloc: Global, count: usize, arcs: &[Arc]) -> Result<Vec<usize>, AreaError>
     requires few { count ≤ 4096 }
     requires ascend { IsSorted by_tail_cmp arcs.now }
