@@ -1,9 +1,9 @@
 -- The number of an arc's bond: that of its pair, or else how many bonds stand before.
 use Rattle.std.proofs.Common.{◌≡◌, ◌∙◌, ◌≤◌, ◌<◌, ◌+◌, ◌++◌, ◌≢◌, ℕ, zero, suc, Bool, true, false, cond, List, [], ◌∷◌, Option, Some, None, length, get_or, take, slice_get, inl, inr, refl, sym, ap, subst, arith}
-use Rattle.std.specs.List.{filter, position, position_or_len}
+use Rattle.std.specs.List.{AllByRecursion, filter, position, position_or_len}
 use Rattle.std.specs.Option.{is_none, unwrap_or}
 use Rattle.std.specs.Prelude.{nat_lt}
-use Rattle.std.proofs.lemmas.Bool.{cases_Bool, le-ltb, ltb-true}
+use Rattle.std.proofs.lemmas.Bool.{cases_Bool, ltb-true}
 use Rattle.std.proofs.lemmas.List.{append-nil, append_assoc, length-append, length-take-le, take_all}
 use Rattle.std.proofs.lemmas.List.Elements.{filter_more}
 use Rattle.std.proofs.lemmas.List.Sums.{count_by-le-length, length-filter}
@@ -19,22 +19,21 @@ use Rattle.area_graph.specs.Pairing.{pairs_upto, bonds_upto}
 use Rattle.area_graph.proofs.Apart.{Once}
 use Rattle.area_graph.proofs.OneBond.{from_tells, not_both, of_either, of_itself, of_no_pair, of_one_bond, of_one_pair, of_partner, tells}
 use Rattle.area_graph.proofs.OrderedMembers.{has_in_order}
+use Rattle.area_graph.proofs.Placing.{no_place}
 use Rattle.area_graph.proofs.Partners.{partner_back, partner_is}
 
 -- ---- places in lists
 
 -- where none passes there is no place
-none_len : {X : Type 0} (p : X → Bool) (xs : List X) → tally p xs ≡ 0 → position_or_len p xs ≡ length xs
-none_len p [] none = refl
-none_len p (x ∷ xs) none = elim (cases_Bool (p x)) [
+all_fail : {X : Type 0} (p : X → Bool) (xs : List X) → tally p xs ≡ 0 → AllByRecursion (λ x. p x ≡ false) xs
+all_fail p [] none = tt
+all_fail p (x ∷ xs) none = elim (cases_Bool (p x)) [
   | inl passes ↦ let first : one_if (p x) ≡ 1 = ap one_if passes in absurd (omega (arith, none, first))
-  | inr fails ↦ let rest = none_len p xs (omega (arith, none)) in rw fails (omega (arith, rest))
+  | inr fails ↦ (fails, all_fail p xs (omega (arith, none)))
 ]
 
 position_of_none : {X : Type 0} (p : X → Bool) (xs : List X) → tally p xs ≡ 0 → position p xs ≡ None
-position_of_none p xs none =
-    let past = le-ltb (length xs) (length xs) (omega arith) in
-    subst (λ (n : ℕ). cond (nat_lt n (length xs)) (Some n) None ≡ None) (sym (none_len p xs none)) (rw past refl)
+position_of_none p xs none = no_place p xs (all_fail p xs none)
 
 at_left : {X : Type 0} (xs ys : List X) (k : ℕ) (x : X) → slice_get xs k ≡ Some x → slice_get (xs ++ ys) k ≡ Some x
 at_left [] ys k x there = absurd cc

@@ -14,7 +14,7 @@ use Rattle.ospf_lsa.specs.declared.lsa.Lsa.{Lsa}
 use Rattle.area_graph.specs.declared.entry.NumberedEntry.{NumberedEntry as Entry}
 use Rattle.area_graph.specs.AreaInvariant.{IsArea}
 use Rattle.area_graph.specs.AreaOf.{area_of}
-use Rattle.area_graph.specs.NumberedArea.{arcs_of, bonds_of, numbered}
+use Rattle.area_graph.specs.NumberedArea.{arcs_of, numbered, parts_of}
 use Rattle.area_graph.specs.AreaSize.{IsTooLarge, too_large as error_of}
 use Rattle.area_graph.specs.declared.area_error.AreaError.{AreaError}
 use Rattle.area_graph.specs.declared.area_error.AreaError.TheVariants.{NoMemory}
@@ -28,14 +28,10 @@ use Rattle.area_graph.proofs.Kept.{area_kept}
 use Rattle.area_graph.proofs.ListedByNumber.{area_by_number}
 use Rattle.area_graph.proofs.Paired.{arcs_are_between, arcs_are_ordered}
 
--- an area of these nodes and arcs
-abbrev pub parts : List NodeId → List Entry → AreaParts
-parts ids by_way = record { ids = ids; arcs = arcs_of by_way; bonds = bonds_of by_way }
-
-pub parts_are : (lsas : List Lsa) (ids : List NodeId) (all by_way : List Entry) → IsStrictlySortedBy node_id_cmp ids → ids ≡ nodes lsas → all ≡ entries lsas → by_way ≡ arcs_among all → parts ids by_way ≡ area_of lsas
+pub parts_are : (lsas : List Lsa) (ids : List NodeId) (all by_way : List Entry) → IsStrictlySortedBy node_id_cmp ids → ids ≡ nodes lsas → all ≡ entries lsas → by_way ≡ arcs_among all → parts_of ids by_way ≡ area_of lsas
 parts_are lsas ids all by_way ascend ids_are all_are by_way_are =
     let arcs_are : by_way ≡ arcs_among (entries lsas) = by_way_are ∙ ap arcs_among all_are in
-    ap (λ (xs : List NodeId). parts xs by_way) ids_are ∙ ap (λ (xs : List Entry). parts (nodes lsas) xs) arcs_are
+    ap (λ (xs : List NodeId). parts_of xs by_way) ids_are ∙ ap (λ (xs : List Entry). parts_of (nodes lsas) xs) arcs_are
     ∙ sym (area_by_number lsas (subst (IsStrictlySortedBy node_id_cmp) ids_are ascend))
 
 -- there are as many arcs as entries that are arcs
@@ -65,10 +61,10 @@ between all by_way ids are kept within = subst (AllByRecursion IsBetween) (sym a
 pub few_arcs : (by_way : List Entry) (ids : List NodeId) → (IsTooLarge (length ids) (length by_way) → ⊥) → length by_way ≤ 32768
 few_arcs by_way ids within = (few (length ids) (length by_way) within).1
 
-pub is_area : (all by_way : List Entry) (ids : List NodeId) → by_way ≡ arcs_among all → AreEntries ids all → IsStrictlySortedBy node_id_cmp ids → (IsTooLarge (length ids) (length by_way) → ⊥) → IsArea (parts ids by_way)
+pub is_area : (all by_way : List Entry) (ids : List NodeId) → by_way ≡ arcs_among all → AreEntries ids all → IsStrictlySortedBy node_id_cmp ids → (IsTooLarge (length ids) (length by_way) → ⊥) → IsArea (parts_of ids by_way)
 is_area all by_way ids are kept ascend within =
     let sizes = few (length ids) (length by_way) within in
-    subst (λ (xs : List Entry). IsArea (parts ids xs)) (sym are) (area_kept ids all kept ascend sizes.0 (subst (λ (xs : List Entry). length xs ≤ 32768) are sizes.1))
+    subst (λ (xs : List Entry). IsArea (parts_of ids xs)) (sym are) (area_kept ids all kept ascend sizes.0 (subst (λ (xs : List Entry). length xs ≤ 32768) are sizes.1))
 
 -- where the parts are too large, so is the area
 pub too_large_is : (lsas : List Lsa) (ids : List NodeId) (all by_way : List Entry) (error : AreaError) → IsStrictlySortedBy node_id_cmp ids → ids ≡ nodes lsas → all ≡ entries lsas → by_way ≡ arcs_among all

@@ -1,5 +1,5 @@
 -- Areas that are too large.
-use Rattle.std.specs.Prelude.{◌<◌, ◌-◌, ◌^◌, ◌⊎◌, ℕ, min}
+use Rattle.std.specs.Prelude.{◌≡◌, ◌<◌, ◌-◌, ◌^◌, ◌⊎◌, ℕ, min}
 use Rattle.area_graph.specs.declared.area_error.AreaError.{AreaError}
 use Rattle.area_graph.specs.declared.area_error.AreaError.TheVariants.{TooLarge}
 
@@ -11,3 +11,7 @@ IsTooLarge nodes arcs = (4096 < nodes) ⊎ (32768 < arcs)
 -- greater
 abbrev pub too_large : ℕ → ℕ → AreaError
 too_large nodes arcs = TooLarge (min nodes (2 ^ 32 - 1)) (min arcs (2 ^ 32 - 1))
+
+-- the error tells that they are too many, and both counts
+abbrev pub TellsTooLarge : ℕ → ℕ → AreaError → Type 0
+TellsTooLarge nodes arcs error = IsTooLarge nodes arcs × (error ≡ too_large nodes arcs)

@@ -1,6 +1,8 @@
 -- Arcs and bonds by number, as the code makes them.
 use Rattle.std.specs.Prelude.{true, false, List, map, Option, Some, None}
 use Rattle.mrt_graph.specs.InOrder.{in_order}
+use Rattle.mrt_graph.specs.declared.node_id.NodeId.{NodeId}
+use Rattle.area_graph.specs.Parts.{AreaParts}
 use Rattle.area_graph.specs.declared.area_types.Arc.{Arc}
 use Rattle.area_graph.specs.declared.area_types.Bond.{Bond}
 use Rattle.area_graph.specs.declared.entry.NumberedEntry.{NumberedEntry as Entry}
@@ -46,3 +48,7 @@ arcs_of arcs = map (numbered arcs) (in_order arc_cmp arcs)
 -- the bonds
 abbrev pub bonds_of : List Entry → List Bond
 bonds_of arcs = map (bond_from arcs) (bonds arcs)
+
+-- the area of these nodes and arcs
+abbrev pub parts_of : List NodeId → List Entry → AreaParts
+parts_of ids arcs = record { ids = ids; arcs = arcs_of arcs; bonds = bonds_of arcs }

@@ -4,10 +4,10 @@ ghost use Rattle.std.specs.Prelude.{◌≡◌, ◌<◌, ◌≤◌, ◌-◌, ◌^
 ghost use Rattle.std.specs.List.{AllByRecursion};
 ghost use Rattle.lsdb.specs.Conflicts.{least_conflict};
 ghost use Rattle.area_graph.specs.AreaOf.{area_of};
-ghost use Rattle.area_graph.specs.NumberedArea.{arcs_of, bonds_of};
+ghost use Rattle.area_graph.specs.NumberedArea.{parts_of};
 ghost use Rattle.area_graph.specs.AreaInvariant.{IsArea};
 ghost use Rattle.area_graph.specs.Pairing.{AreOrdered, IsBetween};
-ghost use Rattle.area_graph.specs.AreaSize.{IsTooLarge, too_large as error_of};
+ghost use Rattle.area_graph.specs.AreaSize.{IsTooLarge, TellsTooLarge};
 
 use crate::arcs::arcs_by_way;
 use crate::area::Area;
@@ -45,7 +45,7 @@ pub fn build_area(alloc: Global, database: &Lsdb) -> Result<Area, AreaError>
         IfOk result (λ _. IsTooLarge (length area.ids) (length area.arcs) → ⊥) }
     ensures refused { let area = area_of (map (λ entry. entry.lsa) database.now.entries) in
         IfErr result (λ error. (error ≡ AreaError.NoMemory)
-        ⊎ (IsTooLarge (length area.ids) (length area.arcs) × (error ≡ error_of (length area.ids) (length area.arcs)))) }
+        ⊎ TellsTooLarge (length area.ids) (length area.arcs) error) }
 {
     let Listing { ids, entries } = listing(alloc, database.newest())?;
     let by_way = arcs_by_way(alloc, entries)?;
@@ -56,7 +56,7 @@ pub fn build_area(alloc: Global, database: &Lsdb) -> Result<Area, AreaError>
 /// Refuses more nodes or arcs than an area may have.
 fn check_size(ids: &[NodeId], by_way: &[NumberedEntry]) -> Result<(), AreaError>
     ensures within { IfOk result (λ _. IsTooLarge (length ids.now) (length by_way.now) → ⊥) }
-    ensures refused { IfErr result (λ error. IsTooLarge (length ids.now) (length by_way.now) × (error ≡ error_of (length ids.now) (length by_way.now))) }
+    ensures refused { IfErr result (λ error. TellsTooLarge (length ids.now) (length by_way.now) error) }
 {
     if ids.len() > MAX_NODES || by_way.len() > MAX_ARCS {
         return Err(AreaError::TooLarge {
@@ -76,8 +76,8 @@ fn area_of_arcs(
     requires ordered { AreOrdered by_way.now }
     requires between { AllByRecursion IsBetween by_way.now }
     requires few { length by_way.now ≤ 32768 }
-    requires kept { IsArea (record { ids = ids.items; arcs = arcs_of by_way.now; bonds = bonds_of by_way.now }) }
-    ensures area { IfOk result (λ area. area ≡ record { ids = ids.items; arcs = arcs_of by_way.now; bonds = bonds_of by_way.now }) }
+    requires kept { IsArea (parts_of ids.items by_way.now) }
+    ensures area { IfOk result (λ area. area ≡ parts_of ids.items by_way.now) }
     ensures refused { IfErr result (λ error. error ≡ AreaError.NoMemory) }
 {
     let paired = pair_arcs(alloc, by_way)?;

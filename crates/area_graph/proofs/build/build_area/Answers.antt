@@ -8,7 +8,8 @@ use Rattle.area_graph.specs.NumberedEntries.{entries}
 use Rattle.area_graph.specs.Nodes.{nodes}
 use Rattle.area_graph.specs.declared.area_error.AreaError.TheVariants.{NoMemory}
 use Rattle.area_graph.specs.Parts.{AreaParts}
-use Rattle.area_graph.proofs.Built.{between, is_area, ordered, parts, parts_are, handed_on, not_too_large, too_large_is}
+use Rattle.area_graph.proofs.Built.{between, handed_on, is_area, not_too_large, ordered, parts_are, too_large_is}
+use Rattle.area_graph.specs.NumberedArea.{parts_of}
 use Rattle.area_graph.proofs.build.build_area.Goals as goal
 
 pub returns-in_err-check_size-clause-refused : goal.returns-in_err-check_size-clause-refused
@@ -41,8 +42,8 @@ area_of_arcs-requires-clause-kept c =
 pub returns-clause-area : goal.returns-clause-area
 returns-clause-area c =
     let lsas : List Lsa = map (λ (entry : DatabaseEntry). entry.lsa) c.args.database.now.entries in
-    let are : parts c.in_ok-ids.field-0.ids.items c.deref-3.result.now ≡ area_of lsas =
-    subst (λ (ls : List Lsa). parts c.in_ok-ids.field-0.ids.items c.deref-3.result.now ≡ area_of ls) c.newest.ensures.lsas
+    let are : parts_of c.in_ok-ids.field-0.ids.items c.deref-3.result.now ≡ area_of lsas =
+    subst (λ (ls : List Lsa). parts_of c.in_ok-ids.field-0.ids.items c.deref-3.result.now ≡ area_of ls) c.newest.ensures.lsas
     (parts_are c.newest.result.now c.in_ok-ids.field-0.ids.items c.in_ok-ids.field-0.entries.items c.deref-3.result.now c.in_ok-ids.ensures.ascend c.in_ok-ids.ensures.ids
     c.in_ok-ids.ensures.entries (c.deref-3.ensures.value ∙ c.in_ok-by_way.ensures.arcs)) in
     subst (λ (a : AreaParts). IfOk c.area_of_arcs.result (λ area. area ≡ a)) are c.area_of_arcs.ensures.area
