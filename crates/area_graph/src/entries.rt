@@ -3,10 +3,10 @@
 ghost use Rattle.std.specs.Prelude.{◌≡◌, ◌+◌, ◌<◌, ◌≤◌, ◌++◌, IfOk, IfErr, IfSome, OnOk, length, vec_len, vec_capacity};
 ghost use Rattle.std.specs.List.{AllByRecursion, AllZip};
 ghost use Rattle.std.specs.List.Sorted.{IsStrictlySortedBy};
-ghost use Rattle.std.specs.Option.{option_to_list};
+ghost use Rattle.std.specs.Option.{option_and_then, option_to_list};
 ghost use Rattle.mrt_graph.specs.NodeOrder.{node_id_cmp};
-ghost use Rattle.area_graph.specs.NumberedEntries.{entry_of_link, entry_of_listed, entries_of_links, entries_of_listed, entries_of, entries_from};
-ghost use Rattle.area_graph.specs.Entries.{far_of};
+ghost use Rattle.area_graph.specs.NumberedEntries.{by_number, entries_from, numbered_entry};
+ghost use Rattle.area_graph.specs.Entries.{far_of, entry_of_link, entry_of_listed, entries_of_links, entries_of_listed, entries_of};
 ghost use Rattle.area_graph.specs.Nodes.{speakers as all_speakers};
 ghost use Rattle.area_graph.specs.Speaking.{IsSpeakerOf};
 
@@ -38,39 +38,40 @@ pub fn entries(
 {
     let mut found = Vec::new(alloc);
     for (tail, speaker) in speakers.iter().enumerate() {
-        add_entries(&mut found, ids, tail, &lsas[speaker.at])?;
+        add_entries(&mut found, ids, tail, speaker.id, &lsas[speaker.at].body)?;
     }
     Ok(found)
 }
 
-/// Adds the entries of an LSA that speaks for node number `tail`.
+/// Adds the entries of the LSA that speaks for node number `tail`, which is `own`.
 fn add_entries(
     found: &mut Vec<NumberedEntry>,
     ids: &[NodeId],
     tail: usize,
-    lsa: &Lsa,
+    own: NodeId,
+    body: &Body,
 ) -> Result<(), AreaError>
     requires ascend { IsStrictlySortedBy node_id_cmp ids.now }
-    ensures entries { OnOk result (found.new.items ≡ found.old.items ++ entries_of ids.now tail lsa.now.id lsa.now.body) }
+    ensures entries { OnOk result (found.new.items ≡ found.old.items ++ by_number ids.now tail (entries_of own body.now)) }
     ensures refused { IfErr result (λ error. error ≡ AreaError.NoMemory) }
 {
-    match &lsa.body {
-        Body::Router { links, .. } => add_links(found, ids, tail, lsa.id, links.as_slice()),
+    match body {
+        Body::Router { links, .. } => add_links(found, ids, tail, own, links.as_slice()),
         Body::Network { routers, .. } => add_listed(found, ids, tail, routers.as_slice()),
         Body::Other { .. } => Ok(()),
     }
 }
 
-/// Adds the entries for the links of the router `own`, node number `tail`.
+/// Adds the entries for the links of the router `own`, which is node number `tail`.
 fn add_links(
     found: &mut Vec<NumberedEntry>,
     ids: &[NodeId],
     tail: usize,
-    own: u32,
+    own: NodeId,
     links: &[RouterLink],
 ) -> Result<(), AreaError>
     requires ascend { IsStrictlySortedBy node_id_cmp ids.now }
-    ensures entries { OnOk result (found.new.items ≡ found.old.items ++ entries_of_links ids.now tail own 0 links.now) }
+    ensures entries { OnOk result (found.new.items ≡ found.old.items ++ by_number ids.now tail (entries_of_links own 0 links.now)) }
     ensures refused { IfErr result (λ error. error ≡ AreaError.NoMemory) }
 {
     found.reserve(links.len())?;
@@ -88,7 +89,7 @@ fn add_listed(
     routers: &[u32],
 ) -> Result<(), AreaError>
     requires ascend { IsStrictlySortedBy node_id_cmp ids.now }
-    ensures entries { OnOk result (found.new.items ≡ found.old.items ++ entries_of_listed ids.now tail 0 routers.now) }
+    ensures entries { (own : NodeId) → OnOk result (found.new.items ≡ found.old.items ++ by_number ids.now tail (entries_of_listed own 0 routers.now)) }
     ensures refused { IfErr result (λ error. error ≡ AreaError.NoMemory) }
 {
     found.reserve(routers.len())?;
@@ -114,12 +115,12 @@ fn put(found: &mut Vec<NumberedEntry>, entry: Option<NumberedEntry>)
 fn of_link(
     ids: &[NodeId],
     tail: usize,
-    own: u32,
+    own: NodeId,
     place: usize,
     link: &RouterLink,
 ) -> Option<NumberedEntry>
     requires ascend { IsStrictlySortedBy node_id_cmp ids.now }
-    ensures { result ≡ entry_of_link ids.now tail own place link.now }
+    ensures { result ≡ option_and_then (numbered_entry ids.now tail) (entry_of_link own place link.now) }
 {
     let far = place_of(ids, far_end(own, link)?)?;
     Some(NumberedEntry {
@@ -132,11 +133,11 @@ fn of_link(
 }
 
 /// Where a link of the router `own` leads, if it is to a node.
-fn far_end(own: u32, link: &RouterLink) -> Option<NodeId>
-    ensures { result ≡ far_of own link.now }
+fn far_end(own: NodeId, link: &RouterLink) -> Option<NodeId>
+    ensures { result ≡ far_of own.number link.now }
 {
     let kind = match link.kind {
-        POINT_TO_POINT if link.id != own => Kind::Router,
+        POINT_TO_POINT if link.id != own.number => Kind::Router,
         TRANSIT => Kind::Network,
         _ => return None,
     };
@@ -149,7 +150,7 @@ fn far_end(own: u32, link: &RouterLink) -> Option<NodeId>
 /// The entry for a router that a network lists, if it is a node.
 fn of_listed(ids: &[NodeId], tail: usize, place: usize, router: u32) -> Option<NumberedEntry>
     requires ascend { IsStrictlySortedBy node_id_cmp ids.now }
-    ensures { result ≡ entry_of_listed ids.now tail place router }
+    ensures { (own : NodeId) → result ≡ numbered_entry ids.now tail (entry_of_listed own place router) }
 {
     let far = place_of(
         ids,
