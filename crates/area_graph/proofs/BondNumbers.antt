@@ -4,7 +4,7 @@ use Rattle.std.specs.List.{AllByRecursion, filter, position, position_or_len}
 use Rattle.std.specs.Option.{is_none, unwrap_or}
 use Rattle.std.specs.Prelude.{nat_lt}
 use Rattle.std.proofs.lemmas.Bool.{cases_Bool, ltb-true}
-use Rattle.std.proofs.lemmas.List.{append-nil, append_assoc, length-append, length-take-le, take_all}
+use Rattle.std.proofs.lemmas.List.{append-nil, append_assoc, length-append, length-take-le}
 use Rattle.std.proofs.lemmas.List.Elements.{filter_more}
 use Rattle.std.proofs.lemmas.List.Sums.{count_by-le-length, length-filter}
 use Rattle.std.proofs.lemmas.Option.{same_Some}

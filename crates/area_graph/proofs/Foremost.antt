@@ -13,7 +13,6 @@ use Rattle.std.proofs.lemmas.List.Elements.{All-contains, filter_agree, filter_p
 use Rattle.std.proofs.lemmas.List.Folds.{list_any_at}
 use Rattle.std.proofs.lemmas.List.Kept.{IsStrictlySortedBy-dedup}
 use Rattle.std.proofs.lemmas.List.Sorted.{list_any-IsPermutation, IsPermutation-sym, Contains-permutation}
-use Rattle.std.proofs.lemmas.List.Sums.{sum_by-cons}
 use Rattle.std.proofs.lemmas.Map.Keys.{apart_from_distinct, IsDistinct-IsPermutation, sorted_from_all_adjacent, sorted_head, sorted_tail}
 use Rattle.mrt_graph.specs.InOrder.{in_order}
 use Rattle.mrt_graph.proofs.InOrder.{AreAlike, Contains-from_in_order, OnlyEqualsTie, Rises, in_order_rises, is_before, one_order, sum_by-in_order}

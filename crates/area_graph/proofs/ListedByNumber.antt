@@ -1,10 +1,10 @@
 -- What LSAs list, by identifiers and by numbers.
-use Rattle.std.proofs.Common.{◌≡◌, ◌∙◌, ◌+◌, ◌++◌, ℕ, true, cond, List, [], ◌∷◌, Option, Some, None, slice_get, zero-add, refl, sym, ap, subst}
+use Rattle.std.proofs.Common.{◌≡◌, ◌∙◌, ◌+◌, ◌++◌, ℕ, cond, List, [], ◌∷◌, Option, Some, None, slice_get, zero-add, refl, sym, ap, subst}
 use Rattle.std.specs.List.{AllByRecursion, AllZip, cons_option, filter}
 use Rattle.std.specs.List.Sorted.{IsStrictlySortedBy}
-use Rattle.std.specs.Option.{is_some, option_map, option_and_then, option_to_list}
+use Rattle.std.specs.Option.{is_some, option_map, option_to_list}
 use Rattle.std.proofs.lemmas.List.Elements.{filter-append}
-use Rattle.std.proofs.lemmas.Option.{same_Some, get_or_from_slice_get, slice_get_within}
+use Rattle.std.proofs.lemmas.Option.{get_or_from_slice_get, slice_get_within}
 use Rattle.mrt_graph.specs.NodeOrder.{node_id_cmp}
 use Rattle.mrt_graph.specs.declared.node_id.NodeId.{NodeId}
 use Rattle.mrt_graph.proofs.Members.{all_append, all_weaker}
@@ -16,7 +16,7 @@ use Rattle.area_graph.specs.declared.entry.NumberedEntry.{NumberedEntry}
 use Rattle.area_graph.specs.Arcs.{arcs}
 use Rattle.area_graph.specs.AreaOf.{area_of}
 use Rattle.area_graph.specs.Entries.{Entry, entries, entries_in, entries_of, entries_of_links, entries_of_listed, far_of}
-use Rattle.area_graph.specs.Nodes.{router, node_of, nodes, number_of, speakers}
+use Rattle.area_graph.specs.Nodes.{node_of, nodes, number_of, speakers}
 use Rattle.area_graph.specs.NumberedArcs.{arcs_among as n_arcs_among}
 use Rattle.area_graph.specs.NumberedArea.{arcs_of, bonds_of}
 use Rattle.area_graph.specs.NumberedEntries.{by_number, entries as n_entries, entries_from}
