@@ -16,7 +16,7 @@ use Rattle.std.proofs.lemmas.Option.{same_Some, get_or_from_slice_get}
 use Rattle.mrt_graph.specs.NodeOrder.{node_id_cmp}
 use Rattle.mrt_graph.specs.declared.node_id.NodeId.{NodeId}
 use Rattle.mrt_graph.specs.InOrder.{in_order}
-use Rattle.mrt_graph.specs.SameNetwork.{same_id}
+use Rattle.mrt_graph.specs.SameGraph.{same_id}
 use Rattle.mrt_graph.proofs.Filters.{all_filter, filter_agree_in}
 use Rattle.mrt_graph.proofs.Members.{all_weaker}
 use Rattle.mrt_graph.proofs.NodeIds.{node_id_total}

@@ -1,5 +1,5 @@
 -- What an area's entries keep.
-use Rattle.std.proofs.Common.{◌≡◌, ◌≢◌, ◌∙◌, ◌≤◌, ◌+◌, ◌++◌, ◌==◌, ℕ, suc, Bool, true, false, not, cond, zero-add, add-zero, List, [], ◌∷◌, Option, Some, None, map, slice_get, refl, sym, ap, subst, inl, inr, arith}
+use Rattle.std.proofs.Common.{◌≡◌, ◌≢◌, ◌∙◌, ◌⊎◌, ◌≤◌, ◌+◌, ◌++◌, ◌==◌, ℕ, suc, Bool, true, false, not, cond, zero-add, add-zero, List, [], ◌∷◌, Option, Some, None, map, slice_get, refl, sym, ap, subst, inl, inr, arith}
 use Rattle.std.specs.List.{AllByRecursion, IsDistinct, cons_option, filter, list_any}
 use Rattle.std.specs.Ordering.{on}
 use Rattle.std.specs.Option.{option_map, option_to_list}
@@ -107,12 +107,13 @@ routers_listed own place (listed ∷ others) = (
   routers_listed own (place + 1) others,
 )
 
-body_listed : (lsa : Lsa) (body : Body) → IsBodyOf lsa.kind body → HasMetrics body → AllByRecursion (IsListed (node_of lsa)) (entries_of (node_of lsa) body)
-body_listed lsa (Router flags spare links) kind metrics =
+body_listed : (lsa : Lsa) (body : Body) → (lsa.kind ≡ 1) ⊎ (lsa.kind ≡ 2) → IsOfType lsa.kind body → KeepsMetrics body
+    → AllByRecursion (IsListed (node_of lsa)) (entries_of (node_of lsa) body)
+body_listed lsa (Router flags spare links) type kind metrics =
     subst (λ (own : NodeId). AllByRecursion (IsListed own) (entries_of_links own 0 links)) (sym (of_router lsa kind)) (links_listed lsa.id 0 links metrics)
-body_listed lsa (Network mask routers) kind metrics =
+body_listed lsa (Network mask routers) type kind metrics =
     subst (λ (own : NodeId). AllByRecursion (IsListed own) (entries_of_listed own 0 routers)) (sym (of_network lsa kind)) (routers_listed lsa.id 0 routers)
-body_listed lsa (Other bytes) kind metrics = absurd kind
+body_listed lsa (Other bytes) type kind metrics = elim type [ inl one ↦ absurd (kind.0 one) | inr two ↦ absurd (kind.1 two) ]
 
 -- ---- by number
 
@@ -151,7 +152,7 @@ from_kept : (ids : List NodeId) (tail : ℕ) (lsas : List Lsa) → AllByRecursio
 from_kept ids tail [] kept stand = tt
 from_kept ids tail (lsa ∷ lsas) kept stand =
     all_append (IsEntry ids) (by_number ids tail (entries_of (node_of lsa) lsa.body)) (entries_from ids (tail + 1) lsas)
-    (all_kept ids tail (node_of lsa) (entries_of (node_of lsa) lsa.body) stand.0 (body_listed lsa lsa.body kept.0.body kept.0.metrics))
+    (all_kept ids tail (node_of lsa) (entries_of (node_of lsa) lsa.body) stand.0 (body_listed lsa lsa.body kept.0.type kept.0.body kept.0.metrics))
     (from_kept ids (tail + 1) lsas kept.1 stand.1)
 
 pub stand_from : (ids : List NodeId) (tail : ℕ) (lsas : List Lsa) → ((k : ℕ) → slice_get ids (tail + k) ≡ slice_get (map node_of lsas) k) → StandFrom ids tail lsas

@@ -15,7 +15,7 @@ use Rattle.std.proofs.lemmas.Map.Keys.{Less-from_sorted}
 use Rattle.std.proofs.lemmas.Option.{slice_get-get_or, get_or_from_slice_get}
 use Rattle.mrt_graph.specs.NodeOrder.{node_id_cmp}
 use Rattle.mrt_graph.specs.declared.node_id.NodeId.{NodeId}
-use Rattle.mrt_graph.specs.SameNetwork.{same_id}
+use Rattle.mrt_graph.specs.SameGraph.{same_id}
 use Rattle.mrt_graph.proofs.NodeIds.{lower_differs, node_id_total, tied_nodes}
 use Rattle.mrt_graph.proofs.Ties.{greater_not_equal, less_not_equal}
 use Rattle.area_graph.specs.Nodes.{number_of}

@@ -7,7 +7,7 @@ use Rattle.std.proofs.lemmas.Bool.{eqb-true, eq-eqb, and_parts}
 use Rattle.std.proofs.lemmas.Bool.Decides.{nat_tests}
 use Rattle.mrt_graph.specs.NodeOrder.{rank_of, node_id_cmp}
 use Rattle.mrt_graph.specs.declared.node_id.NodeId.{NodeId}
-use Rattle.mrt_graph.specs.SameNetwork.{same_id}
+use Rattle.mrt_graph.specs.SameGraph.{same_id}
 use Rattle.mrt_graph.proofs.NodeIds.{same_parts}
 
 -- two identifiers that are told to be one are one

@@ -10,7 +10,7 @@ use Rattle.std.proofs.lemmas.Bool.{ltb-false, not-true, not_from_false}
 use Rattle.std.proofs.lemmas.Cmp.{on_total}
 use Rattle.mrt_graph.specs.NodeOrder.{node_id_cmp}
 use Rattle.mrt_graph.specs.declared.node_id.NodeId.{NodeId}
-use Rattle.mrt_graph.specs.SameNetwork.{same_id}
+use Rattle.mrt_graph.specs.SameGraph.{same_id}
 use Rattle.mrt_graph.proofs.InOrder.{Contains-in_order, Rises, before_ranks, in_order_rises, is_before, not_before_itself}
 use Rattle.mrt_graph.proofs.Members.{Has, all_from_has, all_has, all_map, contains_from_has, filter_has, has_filter, has_from_contains, has_map, is_from, none_pass, pass_none}
 use Rattle.mrt_graph.proofs.Tallies.{one_if, tally, tally_filtered, tally_some}

@@ -5,7 +5,7 @@ use Rattle.std.specs.Option.{is_none, is_some, option_map_or, unwrap_or}
 use Rattle.std.specs.Ordering.{is_lt}
 use Rattle.mrt_graph.specs.NodeOrder.{node_id_cmp}
 use Rattle.mrt_graph.specs.InOrder.{in_order}
-use Rattle.mrt_graph.specs.SameNetwork.{same_id}
+use Rattle.mrt_graph.specs.SameGraph.{same_id}
 use Rattle.area_graph.specs.Arcs.{answers, arc_cmp, parallel_cmp}
 use Rattle.area_graph.specs.Entries.{Entry}
 

@@ -2,7 +2,7 @@
 use Rattle.std.specs.Prelude.{◌≡◌, ◌&&◌, ◌==◌, ℕ, Bool, Contains, Option, Some, slice_get}
 use Rattle.std.specs.List.{find}
 use Rattle.std.specs.Option.{option_map, option_map_or}
-use Rattle.mrt_graph.specs.SameNetwork.{same_id}
+use Rattle.mrt_graph.specs.SameGraph.{same_id}
 use Rattle.area_graph.specs.declared.area_types.Arc.{Arc}
 use Rattle.area_graph.specs.Nodes.{router}
 use Rattle.area_graph.specs.Parts.{AreaParts}
