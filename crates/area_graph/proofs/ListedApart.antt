@@ -21,7 +21,7 @@ use Rattle.ospf_lsa.specs.declared.lsa.Body.TheVariants.{Router, Network, Other}
 use Rattle.ospf_lsa.specs.declared.lsa.Lsa.{Lsa}
 use Rattle.ospf_lsa.specs.declared.lsa.RouterLink.{RouterLink}
 use Rattle.lsdb.specs.Installing.{IsKept}
-use Rattle.lsdb.specs.Rank.{is_at_max_age}
+use Rattle.ospf_lsa.specs.MaxAge.{is_at_max_age}
 use Rattle.area_graph.specs.NumberedBonds.{same_entry}
 use Rattle.area_graph.specs.NumberedEntries.{by_number, entries, entries_from, numbered_entry}
 use Rattle.area_graph.specs.Entries.{Entry, entries_of, entries_of_links, entries_of_listed, entry_of_link, far_of}

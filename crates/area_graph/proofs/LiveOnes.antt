@@ -6,7 +6,7 @@ use Rattle.std.proofs.lemmas.List.Elements.{filter_more}
 use Rattle.std.proofs.lemmas.Option.{slice_get-get_or}
 use Rattle.mrt_graph.specs.declared.node_id.NodeId.{NodeId}
 use Rattle.ospf_lsa.specs.declared.lsa.Lsa.{Lsa}
-use Rattle.lsdb.specs.Rank.{is_at_max_age}
+use Rattle.ospf_lsa.specs.MaxAge.{is_at_max_age}
 use Rattle.area_graph.specs.Nodes.{node_of, live}
 use Rattle.area_graph.specs.Speaking.{IsSpeakerOf}
 use Rattle.area_graph.specs.declared.speaker.Speaker.{Speaker}

@@ -20,7 +20,7 @@ use Rattle.mrt_graph.proofs.NodeIds.{node_id_total}
 use Rattle.ospf_lsa.specs.declared.lsa.Lsa.{Lsa}
 use Rattle.lsdb.specs.Installing.{IsKept}
 use Rattle.lsdb.specs.Keys.{key_of, same_key, AreDistinct}
-use Rattle.lsdb.specs.Rank.{is_at_max_age}
+use Rattle.ospf_lsa.specs.MaxAge.{is_at_max_age}
 use Rattle.lsdb.specs.declared.key.Key.{Key}
 use Rattle.area_graph.specs.Nodes.{router, network, node_of, live, is_above, speaks, speakers, nodes}
 use Rattle.area_graph.specs.Speaking.{IsSpeakerOf}

@@ -19,7 +19,7 @@ use Rattle.ospf_lsa.specs.declared.lsa.Lsa.{Lsa}
 use Rattle.lsdb.specs.Installing.{IsKept}
 use Rattle.lsdb.specs.Keys.{key_of, same_key, is_of}
 use Rattle.lsdb.specs.Orders.{timeless}
-use Rattle.lsdb.specs.Rank.{is_at_max_age}
+use Rattle.ospf_lsa.specs.MaxAge.{is_at_max_age}
 use Rattle.lsdb.specs.declared.key.Key.{Key}
 use Rattle.lsdb.proofs.Arrivals.{own_key}
 use Rattle.area_graph.specs.Arcs.{arcs_among}

@@ -6,24 +6,15 @@ ghost use Rattle.std.specs.List.Sorted.{IsStrictlySortedBy};
 ghost use Rattle.mrt_graph.specs.NodeOrder.{node_id_cmp};
 ghost use Rattle.lsdb.specs.Installing.{IsKept};
 ghost use Rattle.lsdb.specs.Keys.{AreDistinct};
-ghost use Rattle.lsdb.specs.Rank.{is_at_max_age};
+ghost use Rattle.ospf_lsa.specs.MaxAge.{is_at_max_age};
 ghost use Rattle.area_graph.specs.Nodes.{node_of, live, speakers as all_speakers};
 ghost use Rattle.area_graph.specs.Speaking.{IsSpeakerOf};
 
 use crate::area_error::AreaError;
 use crate::speaker::Speaker;
 use mrt_graph::{Kind, NodeId};
-use ospf_lsa::Lsa;
+use ospf_lsa::{Lsa, ROUTER_LSA};
 use std::alloc::Global;
-
-/// An age from here on is MaxAge (RFC 2328, section B).
-const MAX_AGE: u16 = 3600;
-
-/// The bits of the age field that count the seconds; the highest is the DoNotAge bit (RFC 1793, section 2.2).
-const SECONDS: u16 = 0x8000;
-
-/// The LS type of a router-LSA (RFC 2328, section A.4.1).
-const ROUTER_LSA: u8 = 1;
 
 /// The LSAs that speak for the nodes of an area, by ascending node.
 pub fn speakers(alloc: Global, lsas: &[Lsa]) -> Result<Vec<Speaker>, AreaError>
@@ -68,11 +59,11 @@ fn live_ones(alloc: Global, lsas: &[Lsa]) -> Result<Vec<Speaker>, AreaError>
     Ok(found)
 }
 
-/// Whether an LSA is not at MaxAge.
+/// Whether an LSA is not withdrawn.
 fn is_live(lsa: &Lsa) -> bool
     ensures { result ≡ not (is_at_max_age lsa.now) }
 {
-    lsa.age % SECONDS < MAX_AGE
+    !lsa.is_at_max_age()
 }
 
 /// The node that an LSA is of.

@@ -8,7 +8,8 @@ use Rattle.lsdb.specs.declared.key.Key.{Key}
 use Rattle.lsdb.specs.Keys.{key_of, same_key, is_of}
 use Rattle.lsdb.specs.Newest.{are_alike, is_newest, newest_of, same_but_age, IsSettled}
 use Rattle.lsdb.specs.Orders.{first_newest, timeless}
-use Rattle.lsdb.specs.Rank.{is_at_max_age, outranks}
+use Rattle.ospf_lsa.specs.MaxAge.{is_at_max_age}
+use Rattle.lsdb.specs.Rank.{outranks}
 use Rattle.lsdb.proofs.Agreements.{Agree, newest_agrees, settled_agree}
 use Rattle.lsdb.proofs.Alike.{alike_equiv}
 use Rattle.lsdb.proofs.Arrivals.{others, own_key}

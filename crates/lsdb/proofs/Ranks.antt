@@ -6,7 +6,8 @@ use Rattle.std.specs.declared.cmp.Ordering.{Ordering}
 use Rattle.std.specs.declared.cmp.Ordering.TheVariants.{Less, Equal, Greater}
 use Rattle.std.proofs.lemmas.Cmp.{then_total, on_total, int_cmp_total, nat_cmp_total}
 use Rattle.ospf_lsa.specs.declared.lsa.Lsa.{Lsa}
-use Rattle.lsdb.specs.Rank.{rank_cmp, is_at_max_age, outranks}
+use Rattle.ospf_lsa.specs.MaxAge.{is_at_max_age}
+use Rattle.lsdb.specs.Rank.{rank_cmp, outranks}
 
 pub ranks_total : IsTotalOrder rank_cmp
 ranks_total =

@@ -14,7 +14,8 @@ use Rattle.ospf_lsa.specs.declared.lsa.Body.TheVariants.{Router, Network, Other}
 use Rattle.ospf_lsa.specs.declared.lsa.Lsa.{Lsa}
 use Rattle.lsdb.specs.Newest.{same_link, same_body, same_but_age}
 use Rattle.lsdb.specs.Orders.{timeless}
-use Rattle.lsdb.specs.Rank.{is_at_max_age, outranks, rank_cmp}
+use Rattle.ospf_lsa.specs.MaxAge.{is_at_max_age}
+use Rattle.lsdb.specs.Rank.{outranks, rank_cmp}
 use Rattle.lsdb.proofs.Ranks.{flipped}
 
 list_is : {A : Type 0} (test : A → A → Bool) → ((a b : A) → test a b ≡ true → a ≡ b) → (xs ys : List A)

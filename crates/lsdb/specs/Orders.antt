@@ -5,7 +5,7 @@ use Rattle.ospf_lsa.specs.declared.lsa.Lsa.{Lsa}
 use Rattle.lsdb.specs.declared.key.Key.{Key}
 use Rattle.lsdb.specs.Entries.{entries_in}
 use Rattle.lsdb.specs.Newest.{newest_of}
-use Rattle.lsdb.specs.Rank.{is_at_max_age}
+use Rattle.ospf_lsa.specs.MaxAge.{is_at_max_age}
 
 -- an LSA without its place
 abbrev pub without_place : Lsa → Lsa

@@ -1,13 +1,9 @@
 -- Which of two instances of an LSA is newer (RFC 2328, section 13.1).
-use Rattle.std.specs.Prelude.{◌%◌, ◌^◌, Bool, nat_le}
+use Rattle.std.specs.Prelude.{Bool}
 use Rattle.std.specs.Ordering.{int_cmp, nat_cmp, bool_cmp, ordering_then, is_gt}
 use Rattle.std.specs.declared.cmp.Ordering.{Ordering}
-use Rattle.ospf_lsa.specs.Types.{max_age}
+use Rattle.ospf_lsa.specs.MaxAge.{is_at_max_age}
 use Rattle.ospf_lsa.specs.declared.lsa.Lsa.{Lsa}
-
--- whether its age, without the highest bit of its field, is MaxAge or more
-abbrev pub is_at_max_age : Lsa → Bool
-is_at_max_age lsa = nat_le max_age (lsa.age % 2 ^ 15)
 
 -- the order of ranks: by sequence number, which has a sign, then by checksum, and then an LSA at MaxAge is above one
 -- that is not

@@ -1,30 +1,20 @@
 //! Which of two instances is newer, and whether they differ (RFC 2328, section 13.1).
 
 ghost use Rattle.std.specs.Prelude.{◌≡◌};
-ghost use Rattle.lsdb.specs.Rank.{is_at_max_age, rank_cmp};
+ghost use Rattle.lsdb.specs.Rank.{rank_cmp};
 ghost use Rattle.lsdb.specs.Newest.{same_but_age};
 
-use ospf_lsa::{Lsa, MAX_AGE};
+use ospf_lsa::Lsa;
 use std::cmp::Ordering;
-
-/// The bits of the age field that count the seconds; the highest is the DoNotAge bit (RFC 1793, section 2.2).
-const SECONDS: u16 = 0x8000;
-
-/// Whether the LSA is at MaxAge.
-fn at_max_age(lsa: &Lsa) -> bool
-    ensures { result ≡ is_at_max_age lsa.now }
-{
-    MAX_AGE <= lsa.age % SECONDS
-}
 
 /// Whether an instance is older or newer than another one, or of the same rank.
 pub fn compare_ranks(one: &Lsa, other: &Lsa) -> Ordering
     ensures { result ≡ rank_cmp one.now other.now }
 {
-    (one.sequence, one.checksum, at_max_age(one)).cmp(&(
+    (one.sequence, one.checksum, one.is_at_max_age()).cmp(&(
         other.sequence,
         other.checksum,
-        at_max_age(other),
+        other.is_at_max_age(),
     ))
 }
 

@@ -3,6 +3,7 @@ pub mod Faults
 pub mod Header
 pub mod LsaText
 pub mod Lsas
+pub mod MaxAge
 pub mod Outcome
 pub mod Reading
 pub mod Types

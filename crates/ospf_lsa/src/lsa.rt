@@ -1,5 +1,8 @@
 //! Link state advertisements (RFC 2328, section A.4).
 
+ghost use Rattle.std.specs.Prelude.{◌≡◌};
+ghost use Rattle.ospf_lsa.specs.MaxAge.{is_at_max_age};
+
 use mrt_graph::Seq;
 
 /// The LS type of a router-LSA (RFC 2328, section A.4.1).
@@ -9,7 +12,10 @@ pub const ROUTER_LSA: u8 = 1;
 pub const NETWORK_LSA: u8 = 2;
 
 /// MaxAge, in seconds (RFC 2328, appendix B).
-pub const MAX_AGE: u16 = 3600;
+const MAX_AGE: u16 = 3600;
+
+/// The bits of the age field that count the seconds; the highest is the DoNotAge bit (RFC 1793, section 2.2).
+const SECONDS: u16 = 0x8000;
 
 /// A link of a router-LSA (RFC 2328, section A.4.2).
 #[derive(Debug, Drop, PartialEq, Eq)]
@@ -63,4 +69,13 @@ pub struct Lsa {
     /// The checksum field as it stands.
     pub checksum: u16,
     pub body: Body,
+}
+
+impl Lsa {
+    /// Whether it is at MaxAge, so that it is withdrawn (RFC 2328, section 14).
+    pub fn is_at_max_age(&self) -> bool
+        ensures { result ≡ is_at_max_age self.now }
+    {
+        MAX_AGE <= self.age % SECONDS
+    }
 }
