@@ -11,51 +11,24 @@ The profile takes the neighbours of router 1 out of the island, so that the cert
 import sys
 from random import Random
 
+import areas
 import certificate
 import certify
 import lowpoint
-from lsas import POINT_TO_POINT, router_lsa, spelled
+from lsas import spelled
+
+SHAPES = {"circle": areas.circle, "bundles": areas.bundles, "star": areas.star}
 
 
-def pairs_of(shape, n):
-    """The two routers of each link."""
-    if shape == "circle":
-        return [(router, (router - 1 + step) % n + 1) for router in range(1, n + 1) for step in range(1, 5)]
-    if shape == "bundles":
-        return [(pair, pair + 1) for pair in (1, 3, 5, 7) for _ in range(n)]
-    return [(1, router) for router in range(2, n + 1)]
-
-
-def links_of(pairs):
-    """The links of each router: neighbour, link data, type, metric. Link data is the link's number from 1, at both ends."""
-    links = {}
-    for number, (one, other) in enumerate(pairs, 1):
-        links.setdefault(one, []).append((other, number, POINT_TO_POINT, 1))
-        links.setdefault(other, []).append((one, number, POINT_TO_POINT, 1))
-    return links
-
-
-def database(links):
-    random, routers = Random(1), list(links)
-    random.shuffle(routers)
-    for router in routers:
-        random.shuffle(links[router])
-    return b"".join(router_lsa(router, links[router]) for router in routers)
-
-
-def write(path, data):
-    with open(path, "wb") as file:
-        file.write(data)
-
-
-def main():
-    links = links_of(pairs_of(sys.argv[1], int(sys.argv[2])))
-    data = database(links)
+def write_files(shape, n, database_name, profile_name, certificate_name):
+    links = areas.numbered(SHAPES[shape](n))
+    data = areas.shuffled(links, Random(1))
     profile = "".join(f"no-mrt {spelled(router)}\n" for router in sorted({link[0] for link in links[1]})).encode()
     island = certify.island_of(data, profile, 1)
-    write(sys.argv[3], data)
-    write(sys.argv[4], profile)
-    write(sys.argv[5], certificate.write(island, lowpoint.compute(island)))
+    areas.write(database_name, data)
+    areas.write(profile_name, profile)
+    areas.write(certificate_name, certificate.write(island, lowpoint.compute(island)))
 
 
-main()
+if __name__ == "__main__":
+    write_files(sys.argv[1], int(sys.argv[2]), *sys.argv[3:])

@@ -2,59 +2,28 @@
 """Compares the reference program with worked examples, and with what a certificate promises, on many small random areas.
 
 usage: certify_test.py [AREAS]
-
-Routers are 1 for 1.1.1.1 and so on; a point-to-point link from i to j has metric 10 and link data 0.0.0.j at i.
 """
 import sys
 from random import Random
 
 import certificate
 import certify
-import island as islands
 import lowpoint
+from areas import random_area, router, survey_area, worked
 from database import Refused
-from lsas import POINT_TO_POINT, STUB, TRANSIT, address, network_lsa, router_lsa
-
-
-def router(number):
-    return number * 0x01010101
-
-
-def routers_of(links, lan=None, metrics={}):
-    """The links of each router, by its number; a LAN is its address and the routers on it, each with its interface address on it."""
-    found = {}
-    for one, other in links:
-        metric = metrics.get((one, other), 10)
-        found.setdefault(one, []).append((router(other), other, POINT_TO_POINT, metric))
-        found.setdefault(other, []).append((router(one), one, POINT_TO_POINT, metric))
-    if lan:
-        number, attached = lan
-        for one in attached:
-            found.setdefault(one, []).insert(0, (number, address("10.0.0.0") + one, TRANSIT, 10))
-    return found
-
-
-def area(links, lan=None, metrics={}):
-    found = routers_of(links, lan, metrics)
-    data = b"".join(router_lsa(router(number), found[number]) for number in sorted(found))
-    if lan:
-        number, attached = lan
-        designated = number - address("10.0.0.0")
-        data += network_lsa(number, router(designated), 0xFFFFFF00, [router(designated)] + [router(each) for each in attached if each != designated])
-    return data
-
+from lsas import POINT_TO_POINT, STUB, address, router_lsa
 
 ALONE = router_lsa(router(1), [])
 WITH_STUB = router_lsa(router(1), [(router(1), 0xFFFFFFFF, STUB, 0)])
-TRIANGLE = area([(1, 2), (1, 3), (2, 3)])
-LINE = area([(1, 2), (2, 3), (3, 4)])
-TWO_TRIANGLES = area([(1, 2), (1, 3), (2, 3), (3, 4), (3, 5), (4, 5)])
-CROSSED = area([(1, 2), (1, 4), (1, 5), (2, 3), (2, 5), (3, 5), (4, 5)])
-UNORDERED = area([(1, 4), (1, 5), (2, 4), (2, 5), (3, 4), (3, 5)])
-LAN = area([(1, 2)], (address("10.0.0.4"), [1, 2, 3, 4]))
-LAN_IN_RING = area([(2, 4), (3, 4), (1, 4)], (address("10.0.0.3"), [1, 2, 3]), {(1, 4): 100})
+TRIANGLE = worked([(1, 2), (1, 3), (2, 3)])
+LINE = worked([(1, 2), (2, 3), (3, 4)])
+TWO_TRIANGLES = worked([(1, 2), (1, 3), (2, 3), (3, 4), (3, 5), (4, 5)])
+CROSSED = worked([(1, 2), (1, 4), (1, 5), (2, 3), (2, 5), (3, 5), (4, 5)])
+UNORDERED = worked([(1, 4), (1, 5), (2, 4), (2, 5), (3, 4), (3, 5)])
+LAN = worked([(1, 2)], (address("10.0.0.4"), [1, 2, 3, 4]))
+LAN_IN_RING = worked([(2, 4), (3, 4), (1, 4)], (address("10.0.0.3"), [1, 2, 3]), {(1, 4): 100})
 PARALLEL = b"".join(router_lsa(router(one), [(router(3 - one), data, POINT_TO_POINT, 10) for data in (1, 2, 3)]) for one in (1, 2))
-CUT = area([(1, 2), (2, 9), (3, 9), (4, 9)])
+CUT = worked([(1, 2), (2, 9), (3, 9), (4, 9)])
 
 # Written by hand: the certificates of one router, of the triangle and of the line.
 ALONE_CERT = "4d525443 00010001000001010101 01010101010001 00000000".replace(" ", "")
@@ -214,55 +183,6 @@ def is_sound(count, pairs, rows):
                 if any(joined(count, pairs, s, t, without_link=link) for link in links):
                     return False
     return True
-
-
-def random_area(random):
-    """Up to seven routers with links of any metrics, parallel ones among them, and now and then a LAN."""
-    count = random.randint(1, 7)
-    found = {number: [] for number in range(1, count + 1)}
-    for data in range(random.randint(0, 2 * count)):
-        if count > 1:
-            one, other = random.sample(range(1, count + 1), 2)
-            for here, there in ((one, other), (other, one)):
-                found[here].append((router(there), data, POINT_TO_POINT, random.randint(1, 4)))
-    lans = []
-    for number in range(random.randint(0, 2)):
-        attached = random.sample(range(1, count + 1), random.randint(1, count))
-        lan = address("10.0.0.0") + (number << 8) + attached[0]
-        for one in attached:
-            found[one].append((lan, address("10.0.0.0") + (number << 8) + one, TRANSIT, random.randint(1, 4)))
-        lans.append(network_lsa(lan, router(attached[0]), 0xFFFFFF00, [router(one) for one in attached]))
-    return b"".join(router_lsa(router(number), links) for number, links in found.items()) + b"".join(lans)
-
-
-def draws(number):
-    """A stream of numbers below 32,768."""
-    while True:
-        number = (number * 1103515245 + 12345) % 2147483648
-        yield number // 65536
-
-
-def survey_area(number, nodes):
-    """A ring of four fifths of the routers with a chord for each fourth one; each other router hangs on a ring router of its own."""
-    spurs = nodes // 5
-    ring, stream = nodes - spurs, draws(number)
-    links = {each: [] for each in range(1, nodes + 1)}
-    count = 0
-
-    def link(one, other):
-        nonlocal count
-        count += 1
-        links[one].append((other, count, POINT_TO_POINT, 1 + next(stream) % 64))
-        links[other].append((one, count, POINT_TO_POINT, 1 + next(stream) % 64))
-
-    for each in range(ring):
-        link(each + 1, (each + 1) % ring + 1)
-    for each in range(ring // 4):
-        draw = next(stream)
-        link(4 * each + 1, (4 * each + 2 + draw % (ring - 3)) % ring + 1)
-    for each in range(spurs):
-        link(ring + 1 + each, (3 * each + number) % ring + 1)
-    return b"".join(router_lsa(each, links[each]) for each in sorted(links))
 
 
 def survey(number, nodes):

@@ -10,7 +10,7 @@ ROUTER, NETWORK = 1, 2
 AREA_NODES, AREA_ARCS = 4096, 32768
 
 RouterLink = namedtuple("RouterLink", "id data kind metric")
-# `text` is the LSA behind its age field; `body` the links of a router-LSA, the routers of a network-LSA, else nothing.
+# `text` is the LSA after its age field; `body` the links of a router-LSA, the routers of a network-LSA, else nothing.
 Lsa = namedtuple("Lsa", "at age kind id router sequence checksum text body")
 # Identifiers are ordered by number; at one number a router comes before a network, as kinds are numbered.
 Id = namedtuple("Id", "number kind")

@@ -3,7 +3,7 @@
 
 usage: lan.py sample CERTIFICATE DATABASE PROFILE
 
-Routers 10.255.1.1 to 10.255.1.4 are on the LAN 198.51.100.0/29, with 10.255.1.4 as its designated router. Behind them stand:
+Routers 10.255.1.1 to 10.255.1.4 are on the LAN 198.51.100.0/29, with 10.255.1.4 as its designated router. The others:
 
     10.255.1.1 --- 10.255.1.5
     10.255.1.2 === 10.255.1.5   two parallel links
@@ -13,6 +13,7 @@ Routers 10.255.1.1 to 10.255.1.4 are on the LAN 198.51.100.0/29, with 10.255.1.4
 """
 import sys
 
+import areas
 import certify
 from lsas import POINT_TO_POINT, STUB, TRANSIT, address, lsa, network_lsa, router_lsa
 
@@ -72,16 +73,12 @@ def database():
     ])
 
 
-def write(path, data):
-    with open(path, "wb") as file:
-        file.write(data)
-
-
 def main():
     data = database()
-    write(sys.argv[2], certify.certify(data, PROFILE, router(1)))
-    write(sys.argv[3], data)
-    write(sys.argv[4], PROFILE)
+    areas.write(sys.argv[2], certify.certify(data, PROFILE, router(1)))
+    areas.write(sys.argv[3], data)
+    areas.write(sys.argv[4], PROFILE)
 
 
-main()
+if __name__ == "__main__":
+    main()

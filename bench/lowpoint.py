@@ -102,7 +102,7 @@ def ears(island, tree):
 # order and directions
 
 def order_list(island, gadag):
-    """The order of the GADAG: each node stands behind all nodes from which counted links enter it."""
+    """The order of the GADAG: each node stands after all nodes from which counted links enter it."""
     leaves = lambda node, link: gadag.leads[link] and gadag.leads[link][0] == node and gadag.role[link] != CLOSING
     entering = [0] * len(island.ids)
     for link, pair in enumerate(gadag.leads):

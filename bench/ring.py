@@ -9,6 +9,7 @@ ring, so that router i has order i + 1, and the link of routers n - 1 and n clos
 import struct
 import sys
 
+import areas
 from lsas import POINT_TO_POINT, router_lsa
 
 PLAIN, CLOSING = 0, 2
@@ -52,12 +53,10 @@ def database(n):
         router_lsa(router, [(following(router), 1, POINT_TO_POINT, 1), (before(router), 2, POINT_TO_POINT, 1)]) for router in range(1, n + 1))
 
 
-def main():
-    n = int(sys.argv[1])
-    with open(sys.argv[2], "wb") as file:
-        file.write(certificate(n))
-    with open(sys.argv[3], "wb") as file:
-        file.write(database(n))
+def write_files(n, certificate_name, database_name):
+    areas.write(certificate_name, certificate(n))
+    areas.write(database_name, database(n))
 
 
-main()
+if __name__ == "__main__":
+    write_files(int(sys.argv[1]), *sys.argv[2:])

@@ -10,7 +10,8 @@ the root, and its block is named by itself. The rows for a neighbour are the lin
 import struct
 import sys
 
-from lsas import POINT_TO_POINT, STUB, router_lsa
+import areas
+from lsas import POINT_TO_POINT, STUB, address, router_lsa
 
 SOLE_ROLE, SOLE, CARRIED = 1, 0, 6
 
@@ -24,7 +25,7 @@ def certificate(ids, edges):
         ends[a].append((b, number))
         ends[b].append((a, number))
     root = n - 1
-    # Nodes in the order in which the walk from the root meets them; behind each node its link and its head.
+    # Nodes in the order in which the walk from the root meets them; for each node its link and its head.
     head, up, order = [None] * n, [None] * n, []
     head[root] = root
     waiting = [root]
@@ -60,11 +61,6 @@ def certificate(ids, edges):
     return b"".join(parts)
 
 
-def write(path, data):
-    with open(path, "wb") as file:
-        file.write(data)
-
-
 def database(ids, links):
     """Router-LSAs of links by router: ID, data, type, metric."""
     return b"".join(router_lsa(router, links[router]) for router in ids)
@@ -75,11 +71,6 @@ def shaped(shape, n):
     if shape == "star":
         return [(node, n - 1) for node in range(n - 1)]
     return [(node, node + 1) for node in range(n - 1)]
-
-
-def address(text):
-    a, b, c, d = (int(part) for part in text.split("."))
-    return a << 24 | b << 16 | c << 8 | d
 
 
 def sample():
@@ -100,21 +91,28 @@ def sample():
     return ids, edges, links
 
 
-def main():
-    if sys.argv[1] == "sample":
-        ids, edges, links = sample()
-        write(sys.argv[2], certificate(ids, edges))
-        write(sys.argv[3], database(ids, links))
-        return
-    n = int(sys.argv[2])
-    ids = list(range(1, n + 1))
-    edges = shaped(sys.argv[1], n)
+def write_files(shape, n, certificate_name, database_name):
+    ids, edges = list(range(1, n + 1)), shaped(shape, n)
     links = {router: [] for router in ids}
     for a, b in edges:
         links[ids[a]].append((ids[b], b, POINT_TO_POINT, 1))
         links[ids[b]].append((ids[a], a + 1, POINT_TO_POINT, 1))
-    write(sys.argv[3], certificate(ids, edges))
-    write(sys.argv[4], database(ids, links))
+    areas.write(certificate_name, certificate(ids, edges))
+    areas.write(database_name, database(ids, links))
 
 
-main()
+def write_sample(certificate_name, database_name):
+    ids, edges, links = sample()
+    areas.write(certificate_name, certificate(ids, edges))
+    areas.write(database_name, database(ids, links))
+
+
+def main():
+    if sys.argv[1] == "sample":
+        write_sample(*sys.argv[2:])
+    else:
+        write_files(sys.argv[1], int(sys.argv[2]), *sys.argv[3:])
+
+
+if __name__ == "__main__":
+    main()

@@ -1,22 +1,17 @@
-#!/bin/sh
-# Times 1,000, 10,000 and 100,000 installs into a database, of as many keys and of ten, and prints the time of one install and how it grows.
-# What grows with the keys is the cost of fresh memory and of the processor's caches, so the program runs once more over memory that it keeps.
-# It builds a small program over lsdb in a folder of its own; it fetches nothing.
-set -e
-root=$(cd "$(dirname "$0")/.." && pwd)
-work=$(mktemp -d)
-trap 'rm -rf "$work"' EXIT
+#!/usr/bin/env python3
+"""Times 1,000, 10,000 and 100,000 installs into a database, of as many keys and of ten, and prints the time of one install and how it grows.
 
-mkdir "$work/crates"
-cp -r "$root/HANDLES" "$work"
-for crate in mrt_graph ospf_lsa lsdb; do
-    mkdir "$work/crates/$crate"
-    for part in src specs proofs; do cp -r "$root/crates/$crate/$part" "$work/crates/$crate"; done
-done
-grep -E '^(mrt_graph|ospf_lsa|lsdb):' "$root/crates.txt" >"$work/crates.txt"
-echo 'timing: lsdb ospf_lsa mrt_graph anyhow' >>"$work/crates.txt"
-mkdir -p "$work/crates/timing/src" "$work/crates/timing/proofs/fill"
-cat >"$work/crates/timing/src/main.rt" <<'PROGRAM'
+What grows with the keys is the cost of fresh memory and of the processor's caches, so the program runs once more over memory that it keeps.
+It builds a small program beside lsdb in a folder of its own; it fetches nothing.
+"""
+import os
+import subprocess
+import sys
+import tempfile
+
+import beside
+
+PROGRAM = """\
 #![tactic(auto)]
 
 ghost use Rattle.std.specs.Prelude.{◌≡◌, ◌<◌};
@@ -86,26 +81,24 @@ fn main(rt: HostRuntime) -> Result<()> {
     }
     Ok(())
 }
-PROGRAM
-cat >"$work/crates/timing/proofs/fill/Invariants.antt" <<'INVARIANTS'
+"""
+
+INVARIANTS = """\
 use Rattle.lsdb.specs.Installing.{IsBehind}
 use Rattle.timing.proofs.fill.Given as goal
 
 abbrev pub invariant-loop-at : goal.invariant-loop-at
 invariant-loop-at l = IsBehind l.lsdb.greatest l.at
-INVARIANTS
-(cd "$work/crates/timing" && rt run >"$work/log" 2>&1) || { tail -n 40 "$work/log"; exit 1; }
+"""
 
-"$work/crates/timing/out/timing" >"$work/fresh"
-MALLOC_MMAP_THRESHOLD_=4000000000 MALLOC_TRIM_THRESHOLD_=8000000000 MALLOC_TOP_PAD_=100000000 "$work/crates/timing/out/timing" >"$work/kept"
-python3 - "$work" <<'REPORT'
-import sys
+# Memory that is kept: none of it goes back to the system, so that only the first round asks for it.
+KEPT = {"MALLOC_MMAP_THRESHOLD_": "4000000000", "MALLOC_TRIM_THRESHOLD_": "8000000000", "MALLOC_TOP_PAD_": "100000000"}
 
 
-def times(name):
-    """The least time of one install, in nanoseconds, by the counts of installs and of keys."""
+def runs_of(lines):
+    """For each run its counts of installs and of keys, and the times of its rounds in nanoseconds."""
     runs = []
-    for line in open(f"{sys.argv[1]}/{name}"):
+    for line in lines:
         first, *rest = line.split()
         if first == "begin":
             runs.append((tuple(map(int, rest)), []))
@@ -114,17 +107,29 @@ def times(name):
             if int(rest[0]) != min(count, keys):
                 sys.exit(f"{rest[0]} newest instances of {keys} keys")
             runs[-1][1].append(int(first))
+    return runs
+
+
+def times(program, settings):
+    """The least time of one install, in nanoseconds, by the counts of installs and of keys."""
+    done = subprocess.run([program], stdout=subprocess.PIPE, env={**os.environ, **settings}, check=True)
     best = {}
-    for case, taken in runs:
+    for case, taken in runs_of(done.stdout.decode().splitlines()):
         each = sum(taken) / len(taken) / case[0]
         best[case] = min(each, best.get(case, each))
     return best
 
 
-for name in ("fresh", "kept"):
-    best = times(name)
-    for keys in (None, 10):
-        each = [best[count, keys or count] for count in (1000, 10000, 100000)]
-        print(f"{name} memory, {keys or 'as many'} keys: {each[0]:.0f}, {each[1]:.0f} and {each[2]:.0f} ns for one of 1,000, 10,000 and 100,000 installs, "
-              f"ratio {each[2] / each[0]:.2f}")
-REPORT
+def main():
+    with tempfile.TemporaryDirectory() as folder:
+        program = beside.build(folder, ["lsdb", "ospf_lsa", "mrt_graph"], PROGRAM, proofs={"fill/Invariants.antt": INVARIANTS})
+        for name, settings in (("fresh", {}), ("kept", KEPT)):
+            best = times(program, settings)
+            for keys in (None, 10):
+                each = [best[count, keys or count] for count in (1000, 10000, 100000)]
+                print(f"{name} memory, {keys or 'as many'} keys: {each[0]:.0f}, {each[1]:.0f} and {each[2]:.0f} ns for one of 1,000, 10,000 and "
+                      f"100,000 installs, ratio {each[2] / each[0]:.2f}")
+
+
+if __name__ == "__main__":
+    main()
