@@ -1,8 +1,6 @@
 pub mod Naming
 pub mod Placing
 pub mod Slices
-pub mod Ahead
-pub mod Rows
 pub mod Apart
 pub mod Ways
 pub mod OrderedMembers

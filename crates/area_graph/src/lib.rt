@@ -23,6 +23,3 @@ pub use area_types::{Arc, Bond};
 pub use build::build_area;
 pub use laws::the_same_records_give_the_same_area;
 pub use numbers::{ArcNo, BondNo, Spot};
-
-#[cfg(test)]
-mod tests;

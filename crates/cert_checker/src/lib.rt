@@ -2,8 +2,6 @@
 #![tactic(auto)]
 
 mod block_links;
-#[cfg(test)]
-mod check_tests;
 mod fault;
 mod heads;
 mod judge;
@@ -14,8 +12,6 @@ mod row_rules;
 mod row_words;
 mod rows;
 mod same_graph;
-#[cfg(test)]
-mod test_certs;
 mod verdict;
 
 pub use judge::check;

@@ -16,6 +16,3 @@ mod writing;
 pub use error::{CertError, CertKind};
 pub use reading::{one_spelling, read_cert};
 pub use writing::write_cert;
-
-#[cfg(test)]
-mod tests;

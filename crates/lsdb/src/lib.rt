@@ -18,8 +18,3 @@ pub use laws::{
     tells_the_first_conflict, the_same_lsas_give_the_same_database,
 };
 pub use lsdb::Lsdb;
-
-#[cfg(test)]
-mod tests;
-#[cfg(test)]
-mod triangle;

@@ -13,6 +13,3 @@ mod words;
 pub use exit::{DbKind, Exit, What};
 pub use line::Line;
 pub use program::run;
-
-#[cfg(test)]
-mod tests;

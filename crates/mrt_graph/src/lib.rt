@@ -7,21 +7,15 @@ mod graph;
 mod graph_ends;
 mod graph_error;
 mod graph_law;
-#[cfg(test)]
-mod graph_tests;
 mod link;
 mod no_memory;
 mod node_id;
 mod node_search;
-#[cfg(test)]
-mod node_tests;
 mod node_text;
 mod numbers;
 mod seq;
 mod text_lines;
 mod text_numbers;
-#[cfg(test)]
-mod text_tests;
 
 pub use cert::{Cert, CertFile, CertLink, CertNode, Color, Role, Row, Tag};
 pub use cert_law::{accepted_implies_sound, accepted_or_one_first_fault, accepted_rows_lead_on};

@@ -17,6 +17,3 @@ pub use mem_sink::MemSink;
 pub use put::put_all;
 pub use std_sink::StdSink;
 pub use word::Word;
-
-#[cfg(test)]
-mod tests;

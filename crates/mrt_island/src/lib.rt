@@ -22,8 +22,3 @@ pub use profile::Profile;
 pub use profile_error::{ProfileError, ProfileKind};
 pub use profile_reading::read_profile;
 pub use setting::Setting;
-
-#[cfg(test)]
-mod island_tests;
-#[cfg(test)]
-mod profile_tests;

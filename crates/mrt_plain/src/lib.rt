@@ -2,13 +2,9 @@
 #![tactic(auto)]
 
 mod arrival;
-#[cfg(test)]
-mod fixtures;
 mod graph_links;
 mod hop;
 mod parting;
-#[cfg(test)]
-mod plain_tests;
 mod settling;
 mod sharing;
 mod soundness;

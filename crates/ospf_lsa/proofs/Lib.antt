@@ -12,4 +12,3 @@ pub mod Records
 pub mod Renewals
 pub mod SumParts
 pub mod Texts
-pub mod Writable

@@ -18,6 +18,3 @@ pub use lsa::{Body, Lsa, NETWORK_LSA, ROUTER_LSA, RouterLink};
 pub use lsa_law::bytes_are_lsas_or_have_a_fault;
 pub use reading::read_lsas;
 pub use writing::write_lsa;
-
-#[cfg(test)]
-mod tests;

@@ -1,0 +1,167 @@
+//! The database of three routers, each linked to both others, with two older instances of the first, in every order.
+
+ghost use Rattle.std.specs.Prelude.{◌≡◌, Some, IfOk, OnOk, false};
+ghost use Rattle.std.specs.List.{list_any};
+ghost use Rattle.ospf_lsa.specs.Lsas.{has_zero_metric};
+ghost use Rattle.lsdb.specs.Installing.{IsBehind, IsKept};
+
+use lsdb::*;
+use mrt_graph::{NoMemory, Seq};
+use ospf_lsa::{Body, Lsa, RouterLink};
+use std::alloc::Global;
+use std::test::*;
+
+/// An instance of a router's LSA, with links to these routers or with none.
+struct Instance {
+    router: u32,
+    sequence: i32,
+    age: u16,
+    checksum: u16,
+    linked: bool,
+    others: [u32; 2],
+}
+
+/// The older instances stand first.
+const INSTANCES: [Instance; 5] = [
+    Instance {
+        router: 0x0101_0101,
+        sequence: -0x7fff_ffff,
+        age: 1,
+        checksum: 0x21f0,
+        linked: true,
+        others: [0x0202_0202, 0x0303_0303],
+    },
+    Instance {
+        router: 0x0101_0101,
+        sequence: -0x7fff_fffe,
+        age: 3600,
+        checksum: 0x3129,
+        linked: false,
+        others: [0, 0],
+    },
+    Instance {
+        router: 0x0101_0101,
+        sequence: -0x7fff_fffd,
+        age: 1,
+        checksum: 0x1df2,
+        linked: true,
+        others: [0x0202_0202, 0x0303_0303],
+    },
+    Instance {
+        router: 0x0202_0202,
+        sequence: -0x7fff_ffff,
+        age: 1,
+        checksum: 0xa46a,
+        linked: true,
+        others: [0x0101_0101, 0x0303_0303],
+    },
+    Instance {
+        router: 0x0303_0303,
+        sequence: -0x7fff_ffff,
+        age: 1,
+        checksum: 0xeb20,
+        linked: true,
+        others: [0x0101_0101, 0x0202_0202],
+    },
+];
+
+fn link(alloc: Global, to: u32) -> RouterLink
+    ensures { has_zero_metric result ≡ false }
+{
+    RouterLink {
+        id: to,
+        link_data: to % 256,
+        kind: 1,
+        metric: 10,
+        tos: Seq::from_vec(Vec::new(alloc)),
+    }
+}
+
+fn links(alloc: Global, instance: &Instance) -> Result<Seq<RouterLink>, NoMemory>
+    ensures { IfOk result (λ links. list_any has_zero_metric links ≡ false) }
+{
+    let mut links = Vec::new(alloc);
+    if instance.linked {
+        links.push(link(alloc, instance.others[0]))?;
+        links.push(link(alloc, instance.others[1]))?;
+    }
+    Ok(Seq::from_vec(links))
+}
+
+fn lsa(alloc: Global, at: u32, instance: &Instance) -> Result<Lsa, NoMemory>
+    ensures kept { IfOk result IsKept }
+    ensures place { IfOk result (λ lsa. lsa.at ≡ at) }
+{
+    let links = links(alloc, instance)?;
+    Ok(Lsa {
+        at,
+        age: instance.age,
+        options: 2,
+        kind: 1,
+        id: instance.router,
+        router: instance.router,
+        sequence: instance.sequence,
+        checksum: instance.checksum,
+        body: Body::Router {
+            flags: 0,
+            spare: 0,
+            links,
+        },
+    })
+}
+
+fn put(lsdb: &mut Lsdb, alloc: Global, at: u32, number: usize) -> Result<(), NoMemory>
+    requires { IsBehind lsdb.old.greatest at }
+    ensures { OnOk result (lsdb.new.greatest ≡ Some at) }
+{
+    let lsa = lsa(alloc, at, &INSTANCES[number % 5])?;
+    lsdb.install(lsa)?;
+    Ok(())
+}
+
+fn filled(alloc: Global, order: [usize; 5]) -> Result<Lsdb, NoMemory> {
+    let mut lsdb = Lsdb::new(alloc);
+    put(&mut lsdb, alloc, 0, order[0])?;
+    put(&mut lsdb, alloc, 48, order[1])?;
+    put(&mut lsdb, alloc, 96, order[2])?;
+    put(&mut lsdb, alloc, 144, order[3])?;
+    put(&mut lsdb, alloc, 192, order[4])?;
+    Ok(lsdb)
+}
+
+/// One of the 120 orders of five, by its number.
+fn order(number: usize) -> [usize; 5] {
+    let mut order = [0, 1, 2, 3, 4];
+    let mut choices = number;
+    for place in 0..5 {
+        let left = 5 - place;
+        order.swap(place, place + choices % left);
+        choices /= left;
+    }
+    order
+}
+
+/// Whether it is the newest instance of its router, but for its place.
+fn is_expected(alloc: Global, newest: &Lsa) -> Result<bool, NoMemory> {
+    for instance in &INSTANCES[2..] {
+        if instance.router == newest.router {
+            let expected = lsa(alloc, newest.at, instance)?;
+            return Ok(*newest == expected);
+        }
+    }
+    Ok(false)
+}
+
+#[test]
+fn every_order_has_the_same_newest_instances(rt: HostRuntime) -> Result<(), Fail> {
+    for number in 0..120 {
+        let lsdb = filled(rt.alloc(), order(number)).ok().ok_or("no memory")?;
+        assert!(rt; lsdb.settled().is_ok(), "order {number}");
+        assert_eq!(rt; lsdb.newest().len(), 3, "order {number}");
+        for newest in lsdb.newest() {
+            let is_expected = is_expected(rt.alloc(), newest).ok().ok_or("no memory")?;
+            assert!(rt; is_expected, "order {number}");
+        }
+    }
+    Ok(())
+}

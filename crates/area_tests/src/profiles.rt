@@ -1,0 +1,196 @@
+//! Small profile files.
+
+use mrt_island::{Profile, ProfileError, ProfileKind, read_profile};
+use std::alloc::Global;
+
+/// The profile of a small file.
+fn profile_of(alloc: Global, text: &[u8]) -> Result<Profile, ProfileError> {
+    if text.len() > 1000 {
+        return Err(ProfileError::NoMemory);
+    }
+    read_profile(alloc, text)
+}
+
+/// A file, and its first line with a fault.
+struct Spoilt {
+    text: &'static [u8],
+    line: u32,
+    kind: ProfileKind,
+}
+
+const SPOILT: &[Spoilt] = &[
+    Spoilt {
+        text: b"priority 1.1.1.1 10\npriority 1.1.1.1 10\n",
+        line: 2,
+        kind: ProfileKind::Repeated,
+    },
+    Spoilt {
+        text: b"priority 1.1.1.1 10\n# again\n\npriority\t1.1.1.1  20",
+        line: 4,
+        kind: ProfileKind::Repeated,
+    },
+    Spoilt {
+        text: b"no-mrt 1.1.1.1\nno-mrt 2.2.2.2\nno-mrt 1.1.1.1",
+        line: 3,
+        kind: ProfileKind::Repeated,
+    },
+    Spoilt {
+        text: b"ineligible 1.1.1.1 0.0.0.1\nineligible 1.1.1.1 0.0.0.2\nineligible 1.1.1.1 0.0.0.1\n",
+        line: 3,
+        kind: ProfileKind::Repeated,
+    },
+    Spoilt {
+        text: b"priority 1.1.1 10",
+        line: 1,
+        kind: ProfileKind::Address,
+    },
+    Spoilt {
+        text: b"priority 1.1.1 256",
+        line: 1,
+        kind: ProfileKind::Address,
+    },
+    Spoilt {
+        text: b"ineligible 1.1.1.1 7",
+        line: 1,
+        kind: ProfileKind::Address,
+    },
+    Spoilt {
+        text: b"no-mrt 1.1.1.01",
+        line: 1,
+        kind: ProfileKind::Address,
+    },
+    Spoilt {
+        text: b"priority 1.1.1.1 256",
+        line: 1,
+        kind: ProfileKind::Number,
+    },
+    Spoilt {
+        text: b"priority 1.1.1.1 010",
+        line: 1,
+        kind: ProfileKind::Number,
+    },
+    Spoilt {
+        text: b"weight 1.1.1.1 2",
+        line: 1,
+        kind: ProfileKind::Words,
+    },
+    Spoilt {
+        text: b"priority 1.1.1.1",
+        line: 1,
+        kind: ProfileKind::Words,
+    },
+    Spoilt {
+        text: b"priority 1.1.1.1 2 3",
+        line: 1,
+        kind: ProfileKind::Words,
+    },
+    Spoilt {
+        text: b"no-mrt 1.1.1.1 2.2.2.2",
+        line: 1,
+        kind: ProfileKind::Words,
+    },
+    Spoilt {
+        text: b"\nno-mrt",
+        line: 2,
+        kind: ProfileKind::Words,
+    },
+    Spoilt {
+        text: b"# \x80 may stand here\nno-mrt 1.1.1.1 \x80\n",
+        line: 2,
+        kind: ProfileKind::Bytes,
+    },
+    // One of two carriage returns stays, and so does one at the end of a file without a line feed.
+    Spoilt {
+        text: b"no-mrt 1.1.1.1\r\nno-mrt 2.2.2.2\r\r\n",
+        line: 2,
+        kind: ProfileKind::Bytes,
+    },
+    Spoilt {
+        text: b"no-mrt 1.1.1.1\r",
+        line: 1,
+        kind: ProfileKind::Bytes,
+    },
+    // The first line with a fault is told, not the first fault in the order of the kinds.
+    Spoilt {
+        text: b"priority 1.1.1.1 300\nno-mrt\nno-mrt 1.1.1.1 \x80\n",
+        line: 1,
+        kind: ProfileKind::Number,
+    },
+];
+
+#[test]
+fn the_first_fault_is_told(rt: HostRuntime) {
+    for spoilt in SPOILT {
+        match profile_of(rt.alloc(), spoilt.text) {
+            Ok(_) => assert!(rt; false, "no fault in line {}", spoilt.line),
+            Err(error) => assert_eq!(rt;
+                error,
+                ProfileError::Fault {
+                    line: spoilt.line,
+                    kind: spoilt.kind
+                }
+            ),
+        }
+    }
+}
+
+/// A file, and what its profile says of router 1.1.1.1 and its links with link data 0.0.0.7.
+struct Said {
+    text: &'static [u8],
+    priority: u8,
+    supports: bool,
+    eligible: bool,
+}
+
+const SAID: &[Said] = &[
+    Said {
+        text: b"",
+        priority: 128,
+        supports: true,
+        eligible: true,
+    },
+    Said {
+        text: b"# only\n#comments \x80\xff\r\n\t\n \t \r\n\n",
+        priority: 128,
+        supports: true,
+        eligible: true,
+    },
+    Said {
+        text: b"priority 1.1.1.1 0",
+        priority: 0,
+        supports: true,
+        eligible: true,
+    },
+    Said {
+        text: b"  priority 2.2.2.2 9\r\n\tpriority \t1.1.1.1 255 \r\n",
+        priority: 255,
+        supports: true,
+        eligible: true,
+    },
+    Said {
+        text: b"no-mrt 2.2.2.2\nno-mrt 1.1.1.1\nineligible 2.2.2.2 0.0.0.7",
+        priority: 128,
+        supports: false,
+        eligible: true,
+    },
+    Said {
+        text: b"ineligible 1.1.1.1 0.0.0.8\nineligible 1.1.1.1 0.0.0.7\nno-mrt 0.0.0.7\n",
+        priority: 128,
+        supports: true,
+        eligible: false,
+    },
+];
+
+#[test]
+fn the_lines_are_what_the_profile_says(rt: HostRuntime) {
+    for said in SAID {
+        match profile_of(rt.alloc(), said.text) {
+            Err(error) => assert!(rt; false, "{error:?}"),
+            Ok(profile) => {
+                assert_eq!(rt; profile.priority(0x0101_0101), said.priority);
+                assert_eq!(rt; profile.supports(0x0101_0101), said.supports);
+                assert_eq!(rt; profile.eligible(0x0101_0101, 7), said.eligible);
+            }
+        }
+    }
+}

@@ -1,0 +1,3 @@
+pub mod LowerNeighbours
+pub mod Made
+pub mod RouterGraphs

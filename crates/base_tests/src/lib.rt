@@ -1,0 +1,21 @@
+//! Tests of graphs, texts and certificates, of the checker, of the plain programs and of the devices.
+#![tactic(auto)]
+
+#[cfg(test)]
+mod cert_files;
+#[cfg(test)]
+mod devices;
+#[cfg(test)]
+mod graphs;
+#[cfg(test)]
+mod judging;
+#[cfg(test)]
+mod node_texts;
+#[cfg(test)]
+mod numbers_and_words;
+#[cfg(test)]
+mod plain_islands;
+#[cfg(test)]
+mod plain_programs;
+#[cfg(test)]
+mod verdicts;

@@ -1,0 +1,5 @@
+//! Tests of the top call.
+#![tactic(auto)]
+
+#[cfg(test)]
+mod calls;
