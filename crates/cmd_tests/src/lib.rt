@@ -2,4 +2,24 @@
 #![tactic(auto)]
 
 #[cfg(test)]
-mod calls;
+mod accepted;
+#[cfg(test)]
+mod bad_databases;
+#[cfg(test)]
+mod calling;
+#[cfg(test)]
+mod every_order;
+#[cfg(test)]
+mod failing_devices;
+#[cfg(test)]
+mod files;
+#[cfg(test)]
+mod limits;
+#[cfg(test)]
+mod profiles;
+#[cfg(test)]
+mod refused;
+#[cfg(test)]
+mod spoilt_files;
+#[cfg(test)]
+mod words;

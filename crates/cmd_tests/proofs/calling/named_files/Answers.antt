@@ -2,7 +2,7 @@ use Rattle.std.proofs.Common.{refl, ◌≡◌, ℕ, List, [], ◌∷◌, codes, 
 use Rattle.std.specs.Global.{Vec}
 use Rattle.mrt_io.specs.Memory.{HasDistinctNames}
 use Rattle.mrt_io.specs.Named.{named}
-use Rattle.cmd_tests.proofs.calls.named_files.Goals as goal
+use Rattle.cmd_tests.proofs.calling.named_files.Goals as goal
 
 -- `db`, `prof` and `cert` are three names
 three_names : (first second third : List ℕ) (x y z : Vec ℕ) → first ≡ codes "db" → second ≡ codes "prof" → third ≡ codes "cert"

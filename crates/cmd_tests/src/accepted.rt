@@ -1,0 +1,133 @@
+//! Certificates that are accepted.
+
+use crate::calling::{CHECK, Case, comes_out};
+use crate::files::{
+    CERTIFICATE, LAN, LAN_CERTIFICATE, LINE, LINE_CERTIFICATE, ONE_SIDED, RING, RING_CERTIFICATE,
+    ROUTER, SETTLED, STUB, THREE_LINKS, THREE_LINKS_CERTIFICATE, TRANSIT, TRIANGLE,
+    TRIANGLE_CERTIFICATE, UNAGED,
+};
+use mrt_cmd::Exit;
+
+const CASES: &[Case] = &[
+    Case {
+        name: "one router",
+        words: CHECK,
+        database: ROUTER,
+        profile: b"",
+        certificate: CERTIFICATE,
+        exit: Exit::Done,
+        out: b"accepted root 1.1.1.1 nodes 1 links 0\n",
+        err: b"",
+    },
+    Case {
+        name: "a stub link",
+        words: CHECK,
+        database: STUB,
+        profile: b"",
+        certificate: CERTIFICATE,
+        exit: Exit::Done,
+        out: b"accepted root 1.1.1.1 nodes 1 links 0\n",
+        err: b"",
+    },
+    Case {
+        name: "DoNotAge",
+        words: CHECK,
+        database: UNAGED,
+        profile: b"",
+        certificate: CERTIFICATE,
+        exit: Exit::Done,
+        out: b"accepted root 1.1.1.1 nodes 1 links 0\n",
+        err: b"",
+    },
+    Case {
+        name: "a triangle",
+        words: CHECK,
+        database: TRIANGLE,
+        profile: b"",
+        certificate: TRIANGLE_CERTIFICATE,
+        exit: Exit::Done,
+        out: b"accepted root 3.3.3.3 nodes 3 links 3\n",
+        err: b"",
+    },
+    Case {
+        name: "a line",
+        words: CHECK,
+        database: LINE,
+        profile: b"",
+        certificate: LINE_CERTIFICATE,
+        exit: Exit::Done,
+        out: b"accepted root 4.4.4.4 nodes 4 links 3\n",
+        err: b"",
+    },
+    Case {
+        name: "another ear",
+        words: CHECK,
+        database: RING,
+        profile: b"",
+        certificate: RING_CERTIFICATE,
+        exit: Exit::Done,
+        out: b"accepted root 5.5.5.5 nodes 5 links 5\n",
+        err: b"",
+    },
+    Case {
+        name: "a LAN",
+        words: CHECK,
+        database: LAN,
+        profile: b"",
+        certificate: LAN_CERTIFICATE,
+        exit: Exit::Done,
+        out: b"accepted root 4.4.4.4 nodes 5 links 5\n",
+        err: b"",
+    },
+    Case {
+        name: "three links",
+        words: CHECK,
+        database: THREE_LINKS,
+        profile: b"",
+        certificate: THREE_LINKS_CERTIFICATE,
+        exit: Exit::Done,
+        out: b"accepted root 2.2.2.2 nodes 2 links 3\n",
+        err: b"",
+    },
+    Case {
+        name: "a link to a network that is not there",
+        words: CHECK,
+        database: TRANSIT,
+        profile: b"",
+        certificate: CERTIFICATE,
+        exit: Exit::Done,
+        out: b"accepted root 1.1.1.1 nodes 1 links 0\n",
+        err: b"",
+    },
+    Case {
+        name: "a link that one router lists",
+        words: CHECK,
+        database: ONE_SIDED,
+        profile: b"",
+        certificate: CERTIFICATE,
+        exit: Exit::Done,
+        out: b"accepted root 1.1.1.1 nodes 1 links 0\n",
+        err: b"",
+    },
+    Case {
+        name: "a conflict that is settled",
+        words: CHECK,
+        database: SETTLED,
+        profile: b"",
+        certificate: CERTIFICATE,
+        exit: Exit::Done,
+        out: b"accepted root 1.1.1.1 nodes 1 links 0\n",
+        err: b"",
+    },
+];
+
+fn cases() -> &'static [Case] {
+    CASES
+}
+
+#[test]
+fn accepted_certificates(rt: HostRuntime) {
+    for case in cases() {
+        assert!(rt; comes_out(rt.alloc(), case), "{}", case.name);
+    }
+}

@@ -1,0 +1,163 @@
+//! Databases with a fault or a conflict.
+
+use crate::calling::{CHECK, Case, UNDER, comes_out};
+use crate::files::{CERTIFICATE, CONFLICT, CONFLICTS};
+use mrt_cmd::{DbKind, Exit};
+use ospf_lsa::LsaKind;
+
+const CASES: &[Case] = &[
+    Case {
+        name: "junk",
+        words: CHECK,
+        database: b"junk",
+        profile: b"",
+        certificate: b"junk",
+        exit: Exit::BadDatabase {
+            at: 0,
+            kind: DbKind::Lsa(LsaKind::Truncated),
+        },
+        out: b"",
+        err: b"mrt: bad database: truncated at 0\n",
+    },
+    Case {
+        name: "a fault: checksum",
+        words: CHECK,
+        database: b"\x00\x01\x02\x01\x01\x01\x01\x01\x01\x01\x01\x01\x80\x00\x00\x01\x00\x00\x00\x18\x00\x00\x00\x00",
+        profile: b"",
+        certificate: b"junk",
+        exit: Exit::BadDatabase {
+            at: 0,
+            kind: DbKind::Lsa(LsaKind::Checksum),
+        },
+        out: b"",
+        err: b"mrt: bad database: checksum at 0\n",
+    },
+    Case {
+        name: "a fault: length",
+        words: CHECK,
+        database: b"\x00\x01\x02\x01\x01\x01\x01\x01\x01\x01\x01\x01\x80\x00\x00\x01\x33\x28\x00\x13\x00\x00\x00\x00",
+        profile: b"",
+        certificate: b"junk",
+        exit: Exit::BadDatabase {
+            at: 0,
+            kind: DbKind::Lsa(LsaKind::Length),
+        },
+        out: b"",
+        err: b"mrt: bad database: length at 0\n",
+    },
+    Case {
+        name: "a fault: reserved-sequence",
+        words: CHECK,
+        database: b"\x00\x01\x02\x01\x01\x01\x01\x01\x01\x01\x01\x01\x80\x00\x00\x00\x35\x27\x00\x18\x00\x00\x00\x00",
+        profile: b"",
+        certificate: b"junk",
+        exit: Exit::BadDatabase {
+            at: 0,
+            kind: DbKind::Lsa(LsaKind::ReservedSequence),
+        },
+        out: b"",
+        err: b"mrt: bad database: reserved-sequence at 0\n",
+    },
+    Case {
+        name: "a fault: zero-metric",
+        words: CHECK,
+        database: b"\x00\x01\x02\x01\x01\x01\x01\x01\x01\x01\x01\x01\x80\x00\x00\x01\xf3\x28\x00\x30\x00\x00\x00\x02\x02\x02\x02\x02\x00\x00\x00\x02\x01\x00\x00\x0a\x03\x03\x03\x03\x00\x00\x00\x03\x01\x00\x00\x00\x00\x01\x02\x01\x02\x02\x02\x02\x02\x02\x02\x02\x80\x00\x00\x01\xa4\x6a\x00\x30\x00\x00\x00\x02\x01\x01\x01\x01\x00\x00\x00\x01\x01\x00\x00\x0a\x03\x03\x03\x03\x00\x00\x00\x03\x01\x00\x00\x0a\x00\x01\x02\x01\x03\x03\x03\x03\x03\x03\x03\x03\x80\x00\x00\x01\xeb\x20\x00\x30\x00\x00\x00\x02\x01\x01\x01\x01\x00\x00\x00\x01\x01\x00\x00\x0a\x02\x02\x02\x02\x00\x00\x00\x02\x01\x00\x00\x0a",
+        profile: b"",
+        certificate: b"junk",
+        exit: Exit::BadDatabase {
+            at: 0,
+            kind: DbKind::Lsa(LsaKind::ZeroMetric),
+        },
+        out: b"",
+        err: b"mrt: bad database: zero-metric at 0\n",
+    },
+    Case {
+        name: "a fault: id-mismatch",
+        words: CHECK,
+        database: b"\x00\x01\x02\x01\x02\x02\x02\x02\x01\x01\x01\x01\x80\x00\x00\x01\x05\x52\x00\x18\x00\x00\x00\x00",
+        profile: b"",
+        certificate: b"junk",
+        exit: Exit::BadDatabase {
+            at: 0,
+            kind: DbKind::Lsa(LsaKind::IdMismatch),
+        },
+        out: b"",
+        err: b"mrt: bad database: id-mismatch at 0\n",
+    },
+    Case {
+        name: "a fault: body",
+        words: CHECK,
+        database: b"\x00\x01\x02\x02\x0a\x00\x00\x04\x01\x01\x01\x01\x80\x00\x00\x01\xac\xa1\x00\x1a\x00\x00\x00\x00\x00\x00",
+        profile: b"",
+        certificate: b"junk",
+        exit: Exit::BadDatabase {
+            at: 0,
+            kind: DbKind::Lsa(LsaKind::Body),
+        },
+        out: b"",
+        err: b"mrt: bad database: body at 0\n",
+    },
+    Case {
+        name: "a fault: truncated",
+        words: CHECK,
+        database: b"\x00\x01\x02\x01\x01\x01\x01\x01\x01\x01\x01\x01\x80\x00\x00\x01\x33\x28\x00",
+        profile: b"",
+        certificate: b"junk",
+        exit: Exit::BadDatabase {
+            at: 0,
+            kind: DbKind::Lsa(LsaKind::Truncated),
+        },
+        out: b"",
+        err: b"mrt: bad database: truncated at 0\n",
+    },
+    Case {
+        name: "a conflict",
+        words: CHECK,
+        database: CONFLICT,
+        profile: b"",
+        certificate: CERTIFICATE,
+        exit: Exit::BadDatabase {
+            at: 24,
+            kind: DbKind::Conflict { first: 0 },
+        },
+        out: b"",
+        err: b"mrt: bad database: conflict at 24 with 0\n",
+    },
+    Case {
+        name: "two conflicts",
+        words: CHECK,
+        database: CONFLICTS,
+        profile: b"",
+        certificate: CERTIFICATE,
+        exit: Exit::BadDatabase {
+            at: 72,
+            kind: DbKind::Conflict { first: 24 },
+        },
+        out: b"",
+        err: b"mrt: bad database: conflict at 72 with 24\n",
+    },
+    Case {
+        name: "a bad database before a bad line",
+        words: UNDER,
+        database: b"junk",
+        profile: b"weight",
+        certificate: b"junk",
+        exit: Exit::BadDatabase {
+            at: 0,
+            kind: DbKind::Lsa(LsaKind::Truncated),
+        },
+        out: b"",
+        err: b"mrt: bad database: truncated at 0\n",
+    },
+];
+
+fn cases() -> &'static [Case] {
+    CASES
+}
+
+#[test]
+fn bad_databases(rt: HostRuntime) {
+    for case in cases() {
+        assert!(rt; comes_out(rt.alloc(), case), "{}", case.name);
+    }
+}

@@ -1,0 +1,142 @@
+//! Calls of the top call over devices in memory.
+
+ghost use Rattle.std.specs.Prelude.{◌≤◌, IfOk, length};
+ghost use Rattle.mrt_io.specs.Memory.{HasDistinctNames};
+ghost use Rattle.mrt_io.specs.Named.{named};
+
+use mrt_cmd::{Exit, run};
+use mrt_graph::NoMemory;
+use mrt_io::{MemShelf, MemSink, Word};
+use std::alloc::Global;
+
+/// A call of the top call, and what is to come of it.
+pub struct Case {
+    pub name: &'static str,
+    pub words: &'static [&'static str],
+    pub database: &'static [u8],
+    pub profile: &'static [u8],
+    pub certificate: &'static [u8],
+    pub exit: Exit,
+    pub out: &'static [u8],
+    pub err: &'static [u8],
+}
+
+pub const CHECK: &[&str] = &["check", "db", "-", "cert"];
+
+pub const UNDER: &[&str] = &["check", "db", "prof", "cert"];
+
+/// Files `db`, `prof` and `cert`.
+#[derive(Clone, Copy)]
+pub struct Files<'a> {
+    pub database: &'a [u8],
+    pub profile: &'a [u8],
+    pub certificate: &'a [u8],
+}
+
+/// A database and a certificate, and an empty profile.
+pub fn two<'a>(database: &'a [u8], certificate: &'a [u8]) -> Files<'a> {
+    Files {
+        database,
+        profile: b"",
+        certificate,
+    }
+}
+
+/// What the top call left.
+#[derive(Drop)]
+pub struct Left {
+    pub exit: Exit,
+    pub out: MemSink,
+    pub err: MemSink,
+}
+
+/// Runs these words over a shelf with these files that fails these calls.
+pub fn left_by(
+    alloc: Global,
+    words: &[&str],
+    files: Files<'_>,
+    fails: Vec<u32>,
+    mut out: MemSink,
+    mut err: MemSink,
+) -> Result<Left, NoMemory> {
+    let words = list_of(alloc, words)?;
+    let mut shelf = MemShelf::new(named_files(alloc, files)?, fails);
+    let exit = run(alloc, words.as_slice(), &mut shelf, &mut out, &mut err);
+    Ok(Left { exit, out, err })
+}
+
+fn list_of(alloc: Global, words: &[&str]) -> Result<Vec<Word>, NoMemory> {
+    let mut list = Vec::new(alloc);
+    for word in words {
+        list.push(Word::new(alloc, word.as_bytes())?)?;
+    }
+    Ok(list)
+}
+
+/// Runs these words over devices that do not fail.
+pub fn calmly(alloc: Global, words: &[&str], files: Files<'_>) -> Result<Left, NoMemory> {
+    left_by(
+        alloc,
+        words,
+        files,
+        Vec::new(alloc),
+        sink(alloc)?,
+        sink(alloc)?,
+    )
+}
+
+fn named_files(alloc: Global, files: Files<'_>) -> Result<Vec<(Word, Vec<u8>)>, NoMemory>
+    ensures { IfOk result (λ files. HasDistinctNames (named files.items)) }
+{
+    let mut list = Vec::new(alloc);
+    list.push((
+        Word::new(alloc, b"db")?,
+        Vec::from_slice(alloc, files.database)?,
+    ))?;
+    list.push((
+        Word::new(alloc, b"prof")?,
+        Vec::from_slice(alloc, files.profile)?,
+    ))?;
+    list.push((
+        Word::new(alloc, b"cert")?,
+        Vec::from_slice(alloc, files.certificate)?,
+    ))?;
+    Ok(list)
+}
+
+/// A sink with ample room.
+pub fn sink(alloc: Global) -> Result<MemSink, NoMemory> {
+    MemSink::new(alloc, 1000, 1000, Vec::new(alloc))
+}
+
+/// Whether words over devices that do not fail come to this exit, and this is written.
+pub fn comes_to(
+    alloc: Global,
+    words: &[&str],
+    files: Files<'_>,
+    exit: Exit,
+    out: &[u8],
+    err: &[u8],
+) -> bool {
+    match calmly(alloc, words, files) {
+        Ok(left) => left.exit == exit && left.out.bytes() == out && left.err.bytes() == err,
+        Err(NoMemory) => false,
+    }
+}
+
+/// Whether a call comes to what is expected of it.
+pub fn comes_out(alloc: Global, case: &Case) -> bool {
+    let files = Files {
+        database: case.database,
+        profile: case.profile,
+        certificate: case.certificate,
+    };
+    comes_to(alloc, case.words, files, case.exit, case.out, case.err)
+}
+
+/// The first bytes, as many as that.
+pub fn front(bytes: &[u8], count: usize) -> &[u8]
+    ensures { length result.now ≤ count }
+{
+    &bytes[..count.min(bytes.len())]
+}

@@ -1,0 +1,149 @@
+//! Profiles, and what the island is under each.
+
+use crate::calling::{Case, UNDER, comes_out};
+use crate::files::{LINE, LINE_CERTIFICATE, TRIANGLE, TRIANGLE_CERTIFICATE};
+use mrt_cmd::Exit;
+use mrt_island::ProfileKind;
+
+const CASES: &[Case] = &[
+    Case {
+        name: "the root does not take part",
+        words: UNDER,
+        database: LINE,
+        profile: b"no-mrt 4.4.4.4",
+        certificate: LINE_CERTIFICATE,
+        exit: Exit::NotThere {
+            number: 0x0404_0404,
+        },
+        out: b"",
+        err: b"mrt: not there: 4.4.4.4\n",
+    },
+    Case {
+        name: "a router less",
+        words: UNDER,
+        database: LINE,
+        profile: b"no-mrt 1.1.1.1\n",
+        certificate: LINE_CERTIFICATE,
+        exit: Exit::No {
+            rule: 1,
+            a: 0,
+            b: 2,
+        },
+        out: b"",
+        err: b"mrt: no: rule 1 at 0 2\n",
+    },
+    Case {
+        name: "another root",
+        words: UNDER,
+        database: LINE,
+        profile: b"priority 3.3.3.3 10\r\n",
+        certificate: LINE_CERTIFICATE,
+        exit: Exit::No {
+            rule: 2,
+            a: 2,
+            b: 2,
+        },
+        out: b"",
+        err: b"mrt: no: rule 2 at 2 2\n",
+    },
+    Case {
+        name: "the same root",
+        words: UNDER,
+        database: LINE,
+        profile: b"# the default\n\npriority 4.4.4.4 128\n",
+        certificate: LINE_CERTIFICATE,
+        exit: Exit::Done,
+        out: b"accepted root 4.4.4.4 nodes 4 links 3\n",
+        err: b"",
+    },
+    Case {
+        name: "a link less",
+        words: UNDER,
+        database: TRIANGLE,
+        profile: b"ineligible 1.1.1.1 0.0.0.2",
+        certificate: TRIANGLE_CERTIFICATE,
+        exit: Exit::No {
+            rule: 1,
+            a: 0,
+            b: 2,
+        },
+        out: b"",
+        err: b"mrt: no: rule 1 at 0 2\n",
+    },
+    Case {
+        name: "a bad line: repeated",
+        words: UNDER,
+        database: LINE,
+        profile: b"priority 1.1.1.1 10\npriority 1.1.1.1 10",
+        certificate: b"junk",
+        exit: Exit::BadProfile {
+            line: 2,
+            kind: ProfileKind::Repeated,
+        },
+        out: b"",
+        err: b"mrt: bad profile: repeated on line 2\n",
+    },
+    Case {
+        name: "a bad line: address",
+        words: UNDER,
+        database: LINE,
+        profile: b"priority 1.1.1 10",
+        certificate: b"junk",
+        exit: Exit::BadProfile {
+            line: 1,
+            kind: ProfileKind::Address,
+        },
+        out: b"",
+        err: b"mrt: bad profile: address on line 1\n",
+    },
+    Case {
+        name: "a bad line: number",
+        words: UNDER,
+        database: LINE,
+        profile: b"priority 1.1.1.1 256",
+        certificate: b"junk",
+        exit: Exit::BadProfile {
+            line: 1,
+            kind: ProfileKind::Number,
+        },
+        out: b"",
+        err: b"mrt: bad profile: number on line 1\n",
+    },
+    Case {
+        name: "a bad line: words",
+        words: UNDER,
+        database: LINE,
+        profile: b"weight 1.1.1.1 2",
+        certificate: b"junk",
+        exit: Exit::BadProfile {
+            line: 1,
+            kind: ProfileKind::Words,
+        },
+        out: b"",
+        err: b"mrt: bad profile: words on line 1\n",
+    },
+    Case {
+        name: "a bad line: bytes",
+        words: UNDER,
+        database: LINE,
+        profile: b"# \x80\n\x80",
+        certificate: b"junk",
+        exit: Exit::BadProfile {
+            line: 2,
+            kind: ProfileKind::Bytes,
+        },
+        out: b"",
+        err: b"mrt: bad profile: bytes on line 2\n",
+    },
+];
+
+fn cases() -> &'static [Case] {
+    CASES
+}
+
+#[test]
+fn profiles(rt: HostRuntime) {
+    for case in cases() {
+        assert!(rt; comes_out(rt.alloc(), case), "{}", case.name);
+    }
+}

@@ -1,0 +1,126 @@
+//! Certificates that are refused.
+
+use crate::calling::{CHECK, Case, comes_out};
+use crate::files::{
+    CERTIFICATE, FIVE, FIVE_CERTIFICATE, LINE, LINE_CERTIFICATE, OLD, OTHER, ROUTER, TRIANGLE,
+    TRIANGLE_CERTIFICATE, TWO_TREES,
+};
+use cert_format::CertKind;
+use mrt_cmd::Exit;
+
+const CASES: &[Case] = &[
+    Case {
+        name: "two islands",
+        words: CHECK,
+        database: TWO_TREES,
+        profile: b"",
+        certificate: CERTIFICATE,
+        exit: Exit::No {
+            rule: 1,
+            a: 0,
+            b: 2,
+        },
+        out: b"",
+        err: b"mrt: no: rule 1 at 0 2\n",
+    },
+    Case {
+        name: "two closing links",
+        words: CHECK,
+        database: FIVE,
+        profile: b"",
+        certificate: FIVE_CERTIFICATE,
+        exit: Exit::No {
+            rule: 6,
+            a: 0,
+            b: 0,
+        },
+        out: b"",
+        err: b"mrt: no: rule 6 at 0 0\n",
+    },
+    Case {
+        name: "another graph",
+        words: CHECK,
+        database: TRIANGLE,
+        profile: b"",
+        certificate: LINE_CERTIFICATE,
+        exit: Exit::NotThere {
+            number: 0x0404_0404,
+        },
+        out: b"",
+        err: b"mrt: not there: 4.4.4.4\n",
+    },
+    Case {
+        name: "fewer nodes",
+        words: CHECK,
+        database: LINE,
+        profile: b"",
+        certificate: TRIANGLE_CERTIFICATE,
+        exit: Exit::No {
+            rule: 1,
+            a: 0,
+            b: 2,
+        },
+        out: b"",
+        err: b"mrt: no: rule 1 at 0 2\n",
+    },
+    Case {
+        name: "another router",
+        words: CHECK,
+        database: ROUTER,
+        profile: b"",
+        certificate: OTHER,
+        exit: Exit::NotThere {
+            number: 0x0202_0202,
+        },
+        out: b"",
+        err: b"mrt: not there: 2.2.2.2\n",
+    },
+    Case {
+        name: "MaxAge",
+        words: CHECK,
+        database: OLD,
+        profile: b"",
+        certificate: CERTIFICATE,
+        exit: Exit::NotThere {
+            number: 0x0101_0101,
+        },
+        out: b"",
+        err: b"mrt: not there: 1.1.1.1\n",
+    },
+    Case {
+        name: "no LSA",
+        words: CHECK,
+        database: b"",
+        profile: b"",
+        certificate: CERTIFICATE,
+        exit: Exit::NotThere {
+            number: 0x0101_0101,
+        },
+        out: b"",
+        err: b"mrt: not there: 1.1.1.1\n",
+    },
+    Case {
+        name: "junk beside a router",
+        words: CHECK,
+        database: ROUTER,
+        profile: b"",
+        certificate: b"junk",
+        exit: Exit::BadCertificate {
+            at: 0,
+            kind: CertKind::Magic,
+        },
+        out: b"",
+        err: b"mrt: bad certificate: magic at 0\n",
+    },
+];
+
+fn cases() -> &'static [Case] {
+    CASES
+}
+
+#[test]
+fn refused_certificates(rt: HostRuntime) {
+    for case in cases() {
+        assert!(rt; comes_out(rt.alloc(), case), "{}", case.name);
+    }
+}

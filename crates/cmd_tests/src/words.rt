@@ -1,0 +1,112 @@
+//! Words that name no file, and words that are none of the forms.
+
+use crate::calling::{Case, comes_out};
+use crate::files::{CERTIFICATE, ROUTER};
+use mrt_cmd::Exit;
+
+const USAGE: &[u8] =
+    b"mrt: usage: check DB PROFILE CERT, certify DB PROFILE ROUTER, table DB PROFILE ROUTER, trace DB PROFILE FROM TO blue/red/repair [FAIL], fabric DB PROFILE SCRIPT, survey NUMBER NODES\n";
+
+const CASES: &[Case] = &[
+    Case {
+        name: "no database",
+        words: &["check", "x", "-", "cert"],
+        database: ROUTER,
+        profile: b"",
+        certificate: CERTIFICATE,
+        exit: Exit::ReadFault { word: 1 },
+        out: b"",
+        err: b"mrt: read fault: word 1\n",
+    },
+    Case {
+        name: "no profile",
+        words: &["check", "db", "x", "cert"],
+        database: ROUTER,
+        profile: b"",
+        certificate: CERTIFICATE,
+        exit: Exit::ReadFault { word: 2 },
+        out: b"",
+        err: b"mrt: read fault: word 2\n",
+    },
+    Case {
+        name: "no certificate",
+        words: &["check", "db", "-", "x"],
+        database: ROUTER,
+        profile: b"",
+        certificate: CERTIFICATE,
+        exit: Exit::ReadFault { word: 3 },
+        out: b"",
+        err: b"mrt: read fault: word 3\n",
+    },
+    Case {
+        name: "no words",
+        words: &[],
+        database: ROUTER,
+        profile: b"",
+        certificate: CERTIFICATE,
+        exit: Exit::Usage,
+        out: b"",
+        err: USAGE,
+    },
+    Case {
+        name: "a command alone",
+        words: &["check"],
+        database: ROUTER,
+        profile: b"",
+        certificate: CERTIFICATE,
+        exit: Exit::Usage,
+        out: b"",
+        err: USAGE,
+    },
+    Case {
+        name: "a word more",
+        words: &["check", "db", "-", "cert", "c"],
+        database: ROUTER,
+        profile: b"",
+        certificate: CERTIFICATE,
+        exit: Exit::Usage,
+        out: b"",
+        err: USAGE,
+    },
+    Case {
+        name: "an empty name",
+        words: &["check", "", "-", "cert"],
+        database: ROUTER,
+        profile: b"",
+        certificate: CERTIFICATE,
+        exit: Exit::Usage,
+        out: b"",
+        err: USAGE,
+    },
+    Case {
+        name: "an empty profile",
+        words: &["check", "db", "", "cert"],
+        database: ROUTER,
+        profile: b"",
+        certificate: CERTIFICATE,
+        exit: Exit::Usage,
+        out: b"",
+        err: USAGE,
+    },
+    Case {
+        name: "a command to come",
+        words: &["table", "db", "-"],
+        database: ROUTER,
+        profile: b"",
+        certificate: CERTIFICATE,
+        exit: Exit::Usage,
+        out: b"",
+        err: USAGE,
+    },
+];
+
+fn cases() -> &'static [Case] {
+    CASES
+}
+
+#[test]
+fn words(rt: HostRuntime) {
+    for case in cases() {
+        assert!(rt; comes_out(rt.alloc(), case), "{}", case.name);
+    }
+}
