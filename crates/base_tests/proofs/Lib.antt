@@ -1,3 +1,2 @@
 pub mod LowerNeighbours
-pub mod Made
 pub mod RouterGraphs

@@ -1,9 +1,8 @@
 //! The certificates of three small networks, whole and spoilt.
 
 use cert_format::*;
-use mrt_graph::{CertFile, NoMemory, Tag};
+use mrt_graph::{CertFile, CertNode, NoMemory, Row, Tag};
 use std::alloc::Global;
-use std::test::*;
 
 /// One router alone.
 const ALONE: [u8; 25] = [
@@ -44,6 +43,11 @@ const STARTS: [u32; 51] = [
     98,
 ];
 
+/// The three files.
+fn files() -> [&'static [u8]; 3] {
+    [&ALONE, &TRIANGLE, &LINE]
+}
+
 fn rewritten(alloc: Global, bytes: &[u8]) -> Result<Vec<u8>, CertError> {
     let file = read_cert(alloc, bytes)?;
     match write_cert(alloc, &file) {
@@ -52,31 +56,69 @@ fn rewritten(alloc: Global, bytes: &[u8]) -> Result<Vec<u8>, CertError> {
     }
 }
 
-#[test]
-fn what_is_read_is_written_again(rt: HostRuntime) {
-    for bytes in [ALONE.as_slice(), TRIANGLE.as_slice(), LINE.as_slice()] {
-        match rewritten(rt.alloc(), bytes) {
-            Ok(text) => assert_eq!(rt; text.as_slice(), bytes),
-            Err(_) => assert!(rt; false, "{} bytes are not read", bytes.len()),
-        }
+/// Whether these bytes are read, and written again as they were.
+fn is_written_again(alloc: Global, bytes: &[u8]) -> bool {
+    match rewritten(alloc, bytes) {
+        Ok(text) => text.as_slice() == bytes,
+        Err(_) => false,
     }
 }
 
 #[test]
-fn fields_are_where_they_belong(rt: HostRuntime) -> Result<(), Fail> {
-    let file = read_cert(rt.alloc(), &TRIANGLE)
-        .ok()
-        .ok_or("the triangle is read")?;
-    assert_eq!(rt; file.root, 0x03030303);
-    assert_eq!(rt; file.cert.node_count(), 3);
-    assert_eq!(rt; file.cert.link_count(), 3);
-    for (node, order) in file.cert.nodes().iter().zip([2, 3, 1]) {
-        assert_eq!(rt; node.order, order);
+fn what_is_read_is_written_again(rt: HostRuntime) {
+    for bytes in files() {
+        assert!(rt;
+            is_written_again(rt.alloc(), bytes),
+            "{} bytes",
+            bytes.len()
+        );
     }
-    for (row, tag) in file.cert.rows().iter().zip([Tag::Below, Tag::Head]) {
-        assert!(rt; row.tag == tag);
+}
+
+/// Whether the orders of the nodes are these.
+fn has_orders(nodes: &[CertNode], orders: &[u16]) -> bool {
+    for (node, order) in nodes.iter().zip(orders) {
+        if node.order != *order {
+            return false;
+        }
     }
-    Ok(())
+    nodes.len() == orders.len()
+}
+
+/// Whether the tags of the rows are these.
+fn has_tags(rows: &[Row], tags: &[Tag]) -> bool {
+    for (row, tag) in rows.iter().zip(tags) {
+        if row.tag != *tag {
+            return false;
+        }
+    }
+    rows.len() == tags.len()
+}
+
+/// Whether this is the file of the triangle.
+fn is_triangle(file: &CertFile) -> bool {
+    let tags = [
+        Tag::Below,
+        Tag::Head,
+        Tag::Above,
+        Tag::Head,
+        Tag::Top,
+        Tag::Top,
+    ];
+    file.root == 0x03030303
+        && file.cert.link_count() == 3
+        && has_orders(file.cert.nodes(), &[2, 3, 1])
+        && has_tags(file.cert.rows(), &tags)
+}
+
+fn is_read_as_triangle(alloc: Global, bytes: &[u8]) -> Result<bool, CertError> {
+    let file = read_cert(alloc, bytes)?;
+    Ok(is_triangle(&file))
+}
+
+#[test]
+fn fields_are_where_they_belong(rt: HostRuntime) {
+    assert!(rt; is_read_as_triangle(rt.alloc(), &TRIANGLE) == Ok(true));
 }
 
 /// The triangle's bytes with one or two others in their places.
@@ -90,40 +132,55 @@ fn spoilt(places: &[(usize, u8)]) -> [u8; 98] {
     bytes
 }
 
-fn is_fault(answer: Result<CertFile, CertError>, at: u32, kind: CertKind) -> bool {
-    match answer {
+/// Whether a file has this as its first fault.
+fn has_fault(alloc: Global, bytes: &[u8], at: u32, kind: CertKind) -> bool {
+    match read_cert(alloc, bytes) {
         Err(error) => error == CertError::Fault { at, kind },
         Ok(_) => false,
     }
 }
 
+/// Two places with the bytes that are put there, and the fault that is told then.
+type Told = (&'static [(usize, u8)], u32, CertKind);
+
+const SPOILT: &[Told] = &[
+    (&[(0, 0), (0, 0)], 0, CertKind::Magic),
+    (&[(3, 0), (9, 9)], 0, CertKind::Magic),
+    (&[(5, 2), (5, 2)], 4, CertKind::Magic),
+    (&[(6, 0), (7, 0)], 6, CertKind::Range),
+    (&[(8, 0x20), (9, 1)], 8, CertKind::Range),
+    (&[(14, 0), (14, 0)], 14, CertKind::Range),
+    (&[(14, 3), (14, 3)], 14, CertKind::Range),
+    (&[(20, 0), (20, 0)], 19, CertKind::Range),
+    (&[(20, 4), (20, 4)], 19, CertKind::Range),
+    (&[(22, 3), (24, 3)], 21, CertKind::Range),
+    (&[(24, 3), (25, 3)], 23, CertKind::Range),
+    (&[(47, 1), (47, 1)], 49, CertKind::Range),
+    (&[(50, 0), (50, 0)], 49, CertKind::Range),
+    (&[(50, 3), (50, 3)], 49, CertKind::Range),
+    (&[(52, 3), (52, 3)], 51, CertKind::Range),
+    (&[(53, 3), (53, 3)], 53, CertKind::Range),
+    (&[(68, 0), (69, 3)], 68, CertKind::Range),
+    (&[(71, 3), (72, 7)], 70, CertKind::Range),
+    (&[(72, 7), (72, 7)], 72, CertKind::Tag),
+];
+
+fn spoilt_ones() -> &'static [Told] {
+    SPOILT
+}
+
 #[test]
 fn a_spoilt_field_is_named(rt: HostRuntime) {
-    let cases = [
-        ([(0, 0), (0, 0)], 0, CertKind::Magic),
-        ([(3, 0), (9, 9)], 0, CertKind::Magic),
-        ([(5, 2), (5, 2)], 4, CertKind::Magic),
-        ([(6, 0), (7, 0)], 6, CertKind::Range),
-        ([(8, 0x20), (9, 1)], 8, CertKind::Range),
-        ([(14, 0), (14, 0)], 14, CertKind::Range),
-        ([(14, 3), (14, 3)], 14, CertKind::Range),
-        ([(20, 0), (20, 0)], 19, CertKind::Range),
-        ([(20, 4), (20, 4)], 19, CertKind::Range),
-        ([(22, 3), (24, 3)], 21, CertKind::Range),
-        ([(24, 3), (25, 3)], 23, CertKind::Range),
-        ([(47, 1), (47, 1)], 49, CertKind::Range),
-        ([(50, 0), (50, 0)], 49, CertKind::Range),
-        ([(50, 3), (50, 3)], 49, CertKind::Range),
-        ([(52, 3), (52, 3)], 51, CertKind::Range),
-        ([(53, 3), (53, 3)], 53, CertKind::Range),
-        ([(68, 0), (69, 3)], 68, CertKind::Range),
-        ([(71, 3), (72, 7)], 70, CertKind::Range),
-        ([(72, 7), (72, 7)], 72, CertKind::Tag),
-    ];
-    for (places, at, kind) in cases {
-        let answer = read_cert(rt.alloc(), &spoilt(&places));
-        assert!(rt; is_fault(answer, at, kind), "the fault at {at}");
+    for (places, at, kind) in spoilt_ones() {
+        let is_so = has_fault(rt.alloc(), &spoilt(places), *at, *kind);
+        assert!(rt; is_so, "the fault at {at}");
     }
+}
+
+/// Whether the triangle's file is cut short there.
+fn is_cut_at(alloc: Global, start: u32, length: u32) -> bool {
+    let cut = &TRIANGLE[..TRIANGLE.len().min(length as usize)];
+    has_fault(alloc, cut, start, CertKind::Truncated)
 }
 
 #[test]
@@ -132,21 +189,27 @@ fn a_cut_field_is_named(rt: HostRuntime) {
         let [start, end] = pair else {
             continue;
         };
-        for len in *start..*end {
-            let cut = &TRIANGLE[..TRIANGLE.len().min(len as usize)];
-            let answer = read_cert(rt.alloc(), cut);
+        for length in *start..*end {
             assert!(rt;
-                is_fault(answer, *start, CertKind::Truncated),
-                "cut to {len} bytes"
+                is_cut_at(rt.alloc(), *start, length),
+                "cut to {length} bytes"
             );
         }
     }
 }
 
+/// The triangle's file with one byte more.
+fn longer() -> [u8; 99] {
+    let mut bytes = [0; 99];
+    for (place, byte) in TRIANGLE.iter().enumerate() {
+        if place < bytes.len() {
+            bytes[place] = *byte;
+        }
+    }
+    bytes
+}
+
 #[test]
-fn nothing_follows_the_last_row(rt: HostRuntime) -> Result<(), Fail> {
-    let mut bytes = Vec::from_slice(rt.alloc(), &TRIANGLE)?;
-    bytes.push(0)?;
-    assert!(rt; is_fault(read_cert(rt.alloc(), &bytes), 98, CertKind::Trailing));
-    Ok(())
+fn nothing_follows_the_last_row(rt: HostRuntime) {
+    assert!(rt; has_fault(rt.alloc(), &longer(), 98, CertKind::Trailing));
 }

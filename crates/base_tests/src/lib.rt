@@ -4,6 +4,8 @@
 #[cfg(test)]
 mod cert_files;
 #[cfg(test)]
+mod certs;
+#[cfg(test)]
 mod devices;
 #[cfg(test)]
 mod graphs;
@@ -17,5 +19,7 @@ mod numbers_and_words;
 mod plain_islands;
 #[cfg(test)]
 mod plain_programs;
+#[cfg(test)]
+mod router_graphs;
 #[cfg(test)]
 mod verdicts;

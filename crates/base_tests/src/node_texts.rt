@@ -1,26 +1,53 @@
-//! Identifiers: their texts and their order.
+//! Identifiers: their texts, which are read back, and their order.
 
-use mrt_graph::{Kind, NodeId, NodeText};
+use mrt_graph::{Kind, NodeId, NodeText, read_address};
+
+/// Each identifier is below the next one.
+const IDS: &[(Kind, u32, &[u8])] = &[
+    (Kind::Router, 0, b"0.0.0.0"),
+    (Kind::Router, 1, b"0.0.0.1"),
+    (Kind::Router, 0x0101_0101, b"1.1.1.1"),
+    (Kind::Network, 0x0101_0101, b"net:1.1.1.1"),
+    (Kind::Router, 0x0a00_0004, b"10.0.0.4"),
+    (Kind::Router, 0xff00_ff00, b"255.0.255.0"),
+    (Kind::Router, 0xffff_ffff, b"255.255.255.255"),
+    (Kind::Network, 0xffff_ffff, b"net:255.255.255.255"),
+];
+
+fn ids() -> &'static [(Kind, u32, &'static [u8])] {
+    IDS
+}
+
+/// What a text is read as: a router's is its number, a network's is none.
+fn read_of(kind: Kind, number: u32) -> Option<u32> {
+    match kind {
+        Kind::Router => Some(number),
+        Kind::Network => None,
+    }
+}
 
 #[test]
-fn texts_and_order(rt: HostRuntime) {
-    // Each identifier is below the next one.
-    let ids = [
-        (Kind::Router, 0, b"0.0.0.0".as_slice()),
-        (Kind::Router, 0x0101_0101, b"1.1.1.1".as_slice()),
-        (Kind::Network, 0x0101_0101, b"net:1.1.1.1".as_slice()),
-        (Kind::Router, 0x0a00_0004, b"10.0.0.4".as_slice()),
-        (
-            Kind::Network,
-            0xffff_ffff,
-            b"net:255.255.255.255".as_slice(),
-        ),
-    ];
-    let mut last: Option<NodeId> = None;
-    for (kind, number, text) in ids {
+fn texts(rt: HostRuntime) {
+    for &(kind, number, text) in ids() {
+        let named = NodeText::new(NodeId { kind, number });
+        assert_eq!(rt; named.bytes(), text);
+        assert_eq!(rt; read_address(text), read_of(kind, number));
+    }
+}
+
+fn is_ascending(ids: &[(Kind, u32, &[u8])]) -> bool {
+    let mut last = None;
+    for &(kind, number, _) in ids {
         let id = NodeId { kind, number };
-        assert_eq!(rt; NodeText::new(id).bytes(), text);
-        assert!(rt; last.is_none_or(|below| below < id));
+        if last >= Some(id) {
+            return false;
+        }
         last = Some(id);
     }
+    true
+}
+
+#[test]
+fn order(rt: HostRuntime) {
+    assert!(rt; is_ascending(ids()));
 }

@@ -1,8 +1,6 @@
 //! Numbers, addresses, lines and words.
 
-use mrt_graph::{
-    Kind, NodeId, NodeText, first_line, first_word, is_passed_over, read_address, read_number,
-};
+use mrt_graph::{first_line, first_word, is_passed_over, read_address, read_number};
 
 struct Case {
     text: &'static [u8],
@@ -123,24 +121,21 @@ const ADDRESSES: &[Case] = &[
     },
 ];
 
-#[test]
-fn numbers_and_addresses(rt: HostRuntime) {
-    for case in NUMBERS {
-        assert_eq!(rt; read_number(case.text), case.number);
-    }
-    for case in ADDRESSES {
-        assert_eq!(rt; read_address(case.text), case.number);
-    }
+fn numbers() -> &'static [Case] {
+    NUMBERS
+}
+
+fn addresses() -> &'static [Case] {
+    ADDRESSES
 }
 
 #[test]
-fn names_of_routers_are_read_back(rt: HostRuntime) {
-    for number in [0, 1, 0x0a00_0004, 0xff00_ff00, 0xffff_ffff] {
-        let id = NodeId {
-            kind: Kind::Router,
-            number,
-        };
-        assert_eq!(rt; read_address(NodeText::new(id).bytes()), Some(number));
+fn numbers_and_addresses(rt: HostRuntime) {
+    for case in numbers() {
+        assert_eq!(rt; read_number(case.text), case.number);
+    }
+    for case in addresses() {
+        assert_eq!(rt; read_address(case.text), case.number);
     }
 }
 
@@ -191,22 +186,8 @@ const LINES: &[Line] = &[
     },
 ];
 
-#[test]
-fn lines_and_words(rt: HostRuntime) {
-    let mut text = TEXT;
-    for line in LINES {
-        match first_line(text) {
-            None => assert!(rt; false, "a line is missing"),
-            Some((bytes, rest)) => {
-                assert_eq!(rt; bytes, line.bytes);
-                assert_eq!(rt; is_passed_over(bytes), line.passed_over);
-                assert!(rt; has_words(bytes, line.words));
-                text = rest;
-            }
-        }
-    }
-    assert!(rt; first_line(text).is_none());
-    assert!(rt; first_line(b"").is_none());
+fn lines() -> &'static [Line] {
+    LINES
 }
 
 /// Whether the line has these words and no others.
@@ -224,4 +205,31 @@ fn has_words(line: &[u8], words: &[&[u8]]) -> bool {
         }
     }
     first_word(line).is_none()
+}
+
+fn is_line(bytes: &[u8], line: &Line) -> bool {
+    bytes == line.bytes && is_passed_over(bytes) == line.passed_over && has_words(bytes, line.words)
+}
+
+/// Whether the text has these lines and no others.
+fn has_lines(text: &[u8], lines: &[Line]) -> bool {
+    let mut text = text;
+    for line in lines {
+        match first_line(text) {
+            None => return false,
+            Some((bytes, rest)) => {
+                if !is_line(bytes, line) {
+                    return false;
+                }
+                text = rest;
+            }
+        }
+    }
+    first_line(text).is_none()
+}
+
+#[test]
+fn lines_and_words(rt: HostRuntime) {
+    assert!(rt; has_lines(TEXT, lines()));
+    assert!(rt; has_lines(b"", &[]));
 }

@@ -1,328 +1,695 @@
-//! Small islands by hand: routers 1, 2, 3 and so on are nodes 0, 1, 2.
+//! The plain programs on small islands by hand.
 
-use crate::plain_islands::{cert, links_between, one_router};
+use crate::plain_islands::{Island, cert_of, links_between};
+use crate::router_graphs::plain_graph;
+use mrt_graph::{Color, Element, GraphError, Link, LinkNo, NoMemory, NodeNo};
 use mrt_plain::{apart, follow, links_of, reaches, separates, sound};
-use mrt_graph::{Color, Element, LinkNo, NodeNo};
+use std::alloc::Global;
 use std::process::Abort;
-use std::test::Fail;
 
-const TRIANGLE: [(u16, u16); 3] = [(0, 1), (0, 2), (1, 2)];
-/// The rows of the triangle's certificate.
-const ROWS: [(u16, u16); 6] = [(0, 1), (0, 1), (2, 0), (2, 0), (1, 2), (1, 2)];
+const TRIANGLE_LINKS: &[(u16, u16)] = &[(0, 1), (0, 2), (1, 2)];
+
+const TRIANGLE: Island = Island {
+    routers: 3,
+    pairs: TRIANGLE_LINKS,
+    rows: &[(0, 1), (0, 1), (2, 0), (2, 0), (1, 2), (1, 2)],
+};
+
 /// The same but for the blue link of router 3 for router 1, by which blue goes to and fro.
-const LOOPING: [(u16, u16); 6] = [(0, 1), (0, 1), (2, 0), (2, 0), (2, 2), (1, 2)];
+const LOOPING: Island = Island {
+    routers: 3,
+    pairs: TRIANGLE_LINKS,
+    rows: &[(0, 1), (0, 1), (2, 0), (2, 0), (2, 2), (1, 2)],
+};
+
 /// The same but for the blue link of router 1 for router 2, which is not one of router 1.
-const UNTOUCHED: [(u16, u16); 6] = [(2, 1), (0, 1), (2, 0), (2, 0), (1, 2), (1, 2)];
+const UNTOUCHED: Island = Island {
+    routers: 3,
+    pairs: TRIANGLE_LINKS,
+    rows: &[(2, 1), (0, 1), (2, 0), (2, 0), (1, 2), (1, 2)],
+};
+
 /// The same but for the red link of router 1 for router 2, which is the blue one too.
-const ONE_COLOR: [(u16, u16); 6] = [(0, 0), (0, 1), (2, 0), (2, 0), (1, 2), (1, 2)];
+const ONE_COLOR: Island = Island {
+    routers: 3,
+    pairs: TRIANGLE_LINKS,
+    rows: &[(0, 0), (0, 1), (2, 0), (2, 0), (1, 2), (1, 2)],
+};
 
-const LINE: [(u16, u16); 3] = [(0, 1), (1, 2), (2, 3)];
-/// The links of the line's certificate, of which each row has one for both colors.
-const LINE_ROWS: [u16; 12] = [0, 0, 0, 0, 1, 1, 1, 1, 2, 2, 2, 2];
+const LINE_LINKS: &[(u16, u16)] = &[(0, 1), (1, 2), (2, 3)];
 
-const TWO_TRIANGLES: [(u16, u16); 6] = [(0, 1), (0, 2), (1, 2), (2, 3), (2, 4), (3, 4)];
+/// Each row has one link for both colors.
+const LINE: Island = Island {
+    routers: 4,
+    pairs: LINE_LINKS,
+    rows: &[
+        (0, 0),
+        (0, 0),
+        (0, 0),
+        (0, 0),
+        (1, 1),
+        (1, 1),
+        (1, 1),
+        (1, 1),
+        (2, 2),
+        (2, 2),
+        (2, 2),
+        (2, 2),
+    ],
+};
 
-const PARALLEL: [(u16, u16); 2] = [(0, 1), (0, 1)];
-/// Routers 1, 2 and 3 have a link to each of routers 4 and 5.
-const CROSSED: [(u16, u16); 6] = [(0, 3), (0, 4), (1, 3), (1, 4), (2, 3), (2, 4)];
+const PARALLEL_LINKS: &[(u16, u16)] = &[(0, 1), (0, 1)];
 
-const RING: [(u16, u16); 5] = [(0, 1), (0, 4), (1, 2), (2, 3), (3, 4)];
-/// Routers 1 and 2 in a row, and routers 3 and 4, at router 5.
-const STAR: [(u16, u16); 4] = [(0, 1), (1, 4), (2, 4), (3, 4)];
+const PARALLEL: Island = Island {
+    routers: 2,
+    pairs: PARALLEL_LINKS,
+    rows: &[(1, 0), (0, 1)],
+};
 
-/// How many routers, the links between them, and the rows by their two links.
-type Island<'a> = (u16, &'a [(u16, u16)], &'a [(u16, u16)]);
+const PARALLEL_ONE_COLOR: Island = Island {
+    routers: 2,
+    pairs: PARALLEL_LINKS,
+    rows: &[(1, 1), (0, 1)],
+};
 
-fn both(links: &[u16; 12]) -> [(u16, u16); 12] {
-    let mut rows = [(0, 0); 12];
-    for place in 0..12 {
-        rows[place] = (links[place], links[place]);
-    }
-    rows
+const ONE_LINK: Island = Island {
+    routers: 2,
+    pairs: &[(0, 1)],
+    rows: &[(0, 0), (0, 0)],
+};
+
+/// Routers 1, 2 and 3 have a link to each of routers 4 and 5; rows of router 1, and of routers 4 and 5 on the way, for router 3.
+const CROSSED: Island = Island {
+    routers: 5,
+    pairs: &[(0, 3), (0, 4), (1, 3), (1, 4), (2, 3), (2, 4)],
+    rows: &[
+        (0, 0),
+        (1, 0),
+        (0, 0),
+        (0, 0),
+        (0, 0),
+        (0, 0),
+        (0, 0),
+        (0, 0),
+        (0, 0),
+        (0, 0),
+        (0, 0),
+        (0, 0),
+        (0, 0),
+        (0, 0),
+        (0, 4),
+        (0, 0),
+        (0, 0),
+        (0, 0),
+        (5, 0),
+        (0, 0),
+    ],
+};
+
+const TWO_TRIANGLES_LINKS: &[(u16, u16)] = &[(0, 1), (0, 2), (1, 2), (2, 3), (2, 4), (3, 4)];
+
+/// Two triangles that share router 3: the colors go from router 1 to router 3 by two ways, and from there to router 5 by one link.
+const ONE_WAY: Island = Island {
+    routers: 5,
+    pairs: TWO_TRIANGLES_LINKS,
+    rows: &[
+        (0, 0),
+        (0, 0),
+        (0, 0),
+        (0, 1),
+        (0, 0),
+        (0, 0),
+        (0, 0),
+        (2, 0),
+        (0, 0),
+        (0, 0),
+        (0, 0),
+        (4, 4),
+        (0, 0),
+        (0, 0),
+        (0, 0),
+        (0, 0),
+        (0, 0),
+        (0, 0),
+        (0, 0),
+        (0, 0),
+    ],
+};
+
+/// The same, but the colors go on from router 3 by two ways again.
+const TWO_WAYS: Island = Island {
+    routers: 5,
+    pairs: TWO_TRIANGLES_LINKS,
+    rows: &[
+        (0, 0),
+        (0, 0),
+        (0, 0),
+        (0, 1),
+        (0, 0),
+        (0, 0),
+        (0, 0),
+        (2, 0),
+        (0, 0),
+        (0, 0),
+        (0, 0),
+        (3, 4),
+        (0, 0),
+        (0, 0),
+        (0, 0),
+        (5, 0),
+        (0, 0),
+        (0, 0),
+        (0, 0),
+        (0, 0),
+    ],
+};
+
+const SOUNDNESS: &[(Island, bool)] = &[
+    (TRIANGLE, true),
+    (LOOPING, false),
+    (UNTOUCHED, false),
+    (ONE_COLOR, false),
+    (LINE, true),
+    (PARALLEL, true),
+    (PARALLEL_ONE_COLOR, false),
+    (ONE_LINK, true),
+];
+
+fn soundness() -> &'static [(Island, bool)] {
+    SOUNDNESS
 }
 
-/// Rows of five routers that are all the same, but for these, each by its place.
-fn rows_but(rt: &impl Abort, others: &[(usize, u16, u16)]) -> [(u16, u16); 20] {
-    let mut rows = [(0, 0); 20];
-    for (place, blue, red) in others {
-        assert!(rt; *place < 20);
-        rows[*place] = (*blue, *red);
-    }
-    rows
+fn is_sound(rt: &impl Abort, alloc: Global, island: &Island) -> Result<bool, NoMemory> {
+    let links = links_between(rt, alloc, island.routers, island.pairs)?;
+    let cert = cert_of(rt, alloc, island)?;
+    sound(alloc, &links, &cert)
 }
 
 #[test]
-fn sound_rows(rt: HostRuntime) -> Result<(), Fail> {
-    let alloc = rt.alloc();
-    let line = both(&LINE_ROWS);
-    let cases = [
-        (3, TRIANGLE.as_slice(), ROWS.as_slice(), true),
-        (3, TRIANGLE.as_slice(), LOOPING.as_slice(), false),
-        (3, TRIANGLE.as_slice(), UNTOUCHED.as_slice(), false),
-        (3, TRIANGLE.as_slice(), ONE_COLOR.as_slice(), false),
-        (4, LINE.as_slice(), line.as_slice(), true),
-        (2, PARALLEL.as_slice(), [(1, 0), (0, 1)].as_slice(), true),
-        (2, PARALLEL.as_slice(), [(1, 1), (0, 1)].as_slice(), false),
-        (2, [(0, 1)].as_slice(), [(0, 0), (0, 0)].as_slice(), true),
-    ];
-    for (place, (count, pairs, rows, wanted)) in cases.iter().enumerate() {
-        assert!(rt; *count >= 2);
-        let links = links_between(&rt, alloc, *count, pairs)?;
-        let c = cert(&rt, alloc, *count, pairs.len() as u16, rows)?;
-        assert_eq!(rt; sound(alloc, &links, &c)?, *wanted, "case {place}");
+fn sound_rows(rt: HostRuntime) {
+    for (place, (island, wanted)) in soundness().iter().enumerate() {
+        let found = is_sound(&rt, rt.alloc(), island);
+        assert!(rt; found == Ok(*wanted), "case {place}");
     }
-    Ok(())
+}
+
+/// A color walk: the links that it takes and the nodes that it meets.
+struct Walk {
+    island: Island,
+    color: Color,
+    from: u16,
+    to: u16,
+    links: &'static [u16],
+    nodes: &'static [u16],
+}
+
+const WALKS: &[Walk] = &[
+    Walk {
+        island: TRIANGLE,
+        color: Color::Blue,
+        from: 0,
+        to: 1,
+        links: &[0],
+        nodes: &[0, 1],
+    },
+    Walk {
+        island: TRIANGLE,
+        color: Color::Blue,
+        from: 2,
+        to: 1,
+        links: &[1, 0],
+        nodes: &[2, 0, 1],
+    },
+    Walk {
+        island: TRIANGLE,
+        color: Color::Red,
+        from: 2,
+        to: 1,
+        links: &[2],
+        nodes: &[2, 1],
+    },
+    Walk {
+        island: TRIANGLE,
+        color: Color::Red,
+        from: 1,
+        to: 1,
+        links: &[],
+        nodes: &[1],
+    },
+    Walk {
+        island: LOOPING,
+        color: Color::Blue,
+        from: 1,
+        to: 0,
+        links: &[2, 2, 2],
+        nodes: &[1, 2, 1, 2],
+    },
+    Walk {
+        island: UNTOUCHED,
+        color: Color::Blue,
+        from: 0,
+        to: 1,
+        links: &[],
+        nodes: &[0],
+    },
+    Walk {
+        island: LINE,
+        color: Color::Red,
+        from: 0,
+        to: 3,
+        links: &[0, 1, 2],
+        nodes: &[0, 1, 2, 3],
+    },
+    Walk {
+        island: CROSSED,
+        color: Color::Blue,
+        from: 0,
+        to: 2,
+        links: &[1, 5],
+        nodes: &[0, 4, 2],
+    },
+    Walk {
+        island: CROSSED,
+        color: Color::Red,
+        from: 0,
+        to: 2,
+        links: &[0, 4],
+        nodes: &[0, 3, 2],
+    },
+];
+
+fn walks() -> &'static [Walk] {
+    WALKS
 }
 
 /// Whether the numbers of links are these.
 fn are_links(links: &[LinkNo], wanted: &[u16]) -> bool {
+    for (link, number) in links.iter().zip(wanted) {
+        if link.get() != *number {
+            return false;
+        }
+    }
     links.len() == wanted.len()
-        && links
-            .iter()
-            .zip(wanted)
-            .all(|(link, number)| link.get() == *number)
 }
 
 /// Whether the numbers of nodes are these.
 fn are_nodes(nodes: &[NodeNo], wanted: &[u16]) -> bool {
+    for (node, number) in nodes.iter().zip(wanted) {
+        if node.get() != *number {
+            return false;
+        }
+    }
     nodes.len() == wanted.len()
-        && nodes
-            .iter()
-            .zip(wanted)
-            .all(|(node, number)| node.get() == *number)
+}
+
+fn goes_as_told(rt: &impl Abort, alloc: Global, walk: &Walk) -> Result<bool, NoMemory> {
+    let island = &walk.island;
+    assert!(rt; walk.from < island.routers && walk.to < island.routers);
+    let links = links_between(rt, alloc, island.routers, island.pairs)?;
+    let cert = cert_of(rt, alloc, island)?;
+    let (s, t) = (NodeNo::new(walk.from), NodeNo::new(walk.to));
+    let course = follow(alloc, &links, &cert, walk.color, s, t)?;
+    Ok(are_links(&course.links, walk.links) && are_nodes(&course.nodes, walk.nodes))
 }
 
 #[test]
-fn walks(rt: HostRuntime) -> Result<(), Fail> {
-    let alloc = rt.alloc();
-    let (line_rows, crossed_rows) = (
-        both(&LINE_ROWS),
-        rows_but(&rt, &[(1, 1, 0), (14, 0, 4), (18, 5, 0)]),
-    );
-    let triangle: Island = (3, TRIANGLE.as_slice(), ROWS.as_slice());
-    let looping: Island = (3, TRIANGLE.as_slice(), LOOPING.as_slice());
-    let untouched: Island = (3, TRIANGLE.as_slice(), UNTOUCHED.as_slice());
-    let line: Island = (4, LINE.as_slice(), line_rows.as_slice());
-    let crossed: Island = (5, CROSSED.as_slice(), crossed_rows.as_slice());
-    let cases = [
-        (
-            triangle,
-            Color::Blue,
-            0,
-            1,
-            [0].as_slice(),
-            [0, 1].as_slice(),
-        ),
-        (
-            triangle,
-            Color::Blue,
-            2,
-            1,
-            [1, 0].as_slice(),
-            [2, 0, 1].as_slice(),
-        ),
-        (
-            triangle,
-            Color::Red,
-            2,
-            1,
-            [2].as_slice(),
-            [2, 1].as_slice(),
-        ),
-        (triangle, Color::Red, 1, 1, [].as_slice(), [1].as_slice()),
-        (
-            looping,
-            Color::Blue,
-            1,
-            0,
-            [2, 2, 2].as_slice(),
-            [1, 2, 1, 2].as_slice(),
-        ),
-        (untouched, Color::Blue, 0, 1, [].as_slice(), [0].as_slice()),
-        (
-            line,
-            Color::Red,
-            0,
-            3,
-            [0, 1, 2].as_slice(),
-            [0, 1, 2, 3].as_slice(),
-        ),
-        (
-            crossed,
-            Color::Blue,
-            0,
-            2,
-            [1, 5].as_slice(),
-            [0, 4, 2].as_slice(),
-        ),
-        (
-            crossed,
-            Color::Red,
-            0,
-            2,
-            [0, 4].as_slice(),
-            [0, 3, 2].as_slice(),
-        ),
-    ];
-    for (place, ((count, pairs, rows), color, s, t, gone, met)) in cases.iter().enumerate() {
-        assert!(rt; *count >= 2 && *s < *count && *t < *count);
-        let links = links_between(&rt, alloc, *count, pairs)?;
-        let c = cert(&rt, alloc, *count, pairs.len() as u16, rows)?;
-        let course = follow(alloc, &links, &c, *color, NodeNo::new(*s), NodeNo::new(*t))?;
-        assert!(rt; are_links(&course.links, gone), "links of case {place}");
-        assert!(rt; are_nodes(&course.nodes, met), "nodes of case {place}");
+fn color_walks(rt: HostRuntime) {
+    for (place, walk) in walks().iter().enumerate() {
+        let is_so = goes_as_told(&rt, rt.alloc(), walk);
+        assert!(rt; is_so == Ok(true), "case {place}");
     }
-    Ok(())
 }
 
-/// Each case: whether blue arrives, whether red does, and whether they are apart. In the last two, of two triangles that
-/// share router 3, the colors go from router 1 to router 3 by two ways, and from there to router 5 by one link, or by two
-/// ways again.
+/// Whether the colors arrive, and whether they are apart.
+struct Pair {
+    island: Island,
+    from: u16,
+    to: u16,
+    blue: bool,
+    red: bool,
+    apart: bool,
+}
+
+const PAIRS: &[Pair] = &[
+    Pair {
+        island: TRIANGLE,
+        from: 2,
+        to: 0,
+        blue: true,
+        red: true,
+        apart: true,
+    },
+    Pair {
+        island: LOOPING,
+        from: 1,
+        to: 0,
+        blue: false,
+        red: true,
+        apart: true,
+    },
+    Pair {
+        island: UNTOUCHED,
+        from: 0,
+        to: 1,
+        blue: false,
+        red: true,
+        apart: true,
+    },
+    Pair {
+        island: ONE_COLOR,
+        from: 0,
+        to: 1,
+        blue: true,
+        red: true,
+        apart: false,
+    },
+    Pair {
+        island: ONE_COLOR,
+        from: 0,
+        to: 0,
+        blue: true,
+        red: true,
+        apart: true,
+    },
+    Pair {
+        island: LINE,
+        from: 0,
+        to: 3,
+        blue: true,
+        red: true,
+        apart: true,
+    },
+    Pair {
+        island: ONE_WAY,
+        from: 0,
+        to: 4,
+        blue: true,
+        red: true,
+        apart: false,
+    },
+    Pair {
+        island: TWO_WAYS,
+        from: 0,
+        to: 4,
+        blue: true,
+        red: true,
+        apart: true,
+    },
+];
+
+fn pairs() -> &'static [Pair] {
+    PAIRS
+}
+
+fn arrives(rt: &impl Abort, alloc: Global, pair: &Pair, color: Color) -> Result<bool, NoMemory> {
+    let island = &pair.island;
+    assert!(rt; pair.from < island.routers && pair.to < island.routers);
+    let links = links_between(rt, alloc, island.routers, island.pairs)?;
+    let cert = cert_of(rt, alloc, island)?;
+    let (s, t) = (NodeNo::new(pair.from), NodeNo::new(pair.to));
+    reaches(alloc, &links, &cert, color, s, t)
+}
+
+fn are_apart(rt: &impl Abort, alloc: Global, pair: &Pair) -> Result<bool, NoMemory> {
+    let island = &pair.island;
+    assert!(rt; pair.from < island.routers && pair.to < island.routers);
+    let links = links_between(rt, alloc, island.routers, island.pairs)?;
+    let cert = cert_of(rt, alloc, island)?;
+    let (s, t) = (NodeNo::new(pair.from), NodeNo::new(pair.to));
+    apart(alloc, &links, &cert, s, t)
+}
+
 #[test]
-fn arrives_and_apart(rt: HostRuntime) -> Result<(), Fail> {
-    let alloc = rt.alloc();
-    let line_rows = both(&LINE_ROWS);
-    let one_way = rows_but(&rt, &[(3, 0, 1), (7, 2, 0), (11, 4, 4)]);
-    let two_ways = rows_but(&rt, &[(3, 0, 1), (7, 2, 0), (11, 3, 4), (15, 5, 0)]);
-    let cases = [
-        (
-            3,
-            TRIANGLE.as_slice(),
-            ROWS.as_slice(),
-            2,
-            0,
-            (true, true, true),
-        ),
-        (
-            3,
-            TRIANGLE.as_slice(),
-            LOOPING.as_slice(),
-            1,
-            0,
-            (false, true, true),
-        ),
-        (
-            3,
-            TRIANGLE.as_slice(),
-            UNTOUCHED.as_slice(),
-            0,
-            1,
-            (false, true, true),
-        ),
-        (
-            3,
-            TRIANGLE.as_slice(),
-            ONE_COLOR.as_slice(),
-            0,
-            1,
-            (true, true, false),
-        ),
-        (
-            3,
-            TRIANGLE.as_slice(),
-            ONE_COLOR.as_slice(),
-            0,
-            0,
-            (true, true, true),
-        ),
-        (
-            4,
-            LINE.as_slice(),
-            line_rows.as_slice(),
-            0,
-            3,
-            (true, true, true),
-        ),
-        (
-            5,
-            TWO_TRIANGLES.as_slice(),
-            one_way.as_slice(),
-            0,
-            4,
-            (true, true, false),
-        ),
-        (
-            5,
-            TWO_TRIANGLES.as_slice(),
-            two_ways.as_slice(),
-            0,
-            4,
-            (true, true, true),
-        ),
-    ];
-    for (place, (count, pairs, rows, s, t, (blue, red, are_apart))) in cases.iter().enumerate() {
-        assert!(rt; *count >= 2 && *s < *count && *t < *count);
-        let links = links_between(&rt, alloc, *count, pairs)?;
-        let c = cert(&rt, alloc, *count, pairs.len() as u16, rows)?;
-        let (s, t) = (NodeNo::new(*s), NodeNo::new(*t));
-        assert_eq!(rt;
-            reaches(alloc, &links, &c, Color::Blue, s, t)?,
-            *blue,
-            "blue of {place}"
-        );
-        assert_eq!(rt;
-            reaches(alloc, &links, &c, Color::Red, s, t)?,
-            *red,
-            "red of {place}"
-        );
-        assert_eq!(rt;
-            apart(alloc, &links, &c, s, t)?,
-            *are_apart,
-            "apart of {place}"
-        );
+fn arrives_and_apart(rt: HostRuntime) {
+    for (place, pair) in pairs().iter().enumerate() {
+        let blue = arrives(&rt, rt.alloc(), pair, Color::Blue);
+        assert!(rt; blue == Ok(pair.blue), "blue of {place}");
+        let red = arrives(&rt, rt.alloc(), pair, Color::Red);
+        assert!(rt; red == Ok(pair.red), "red of {place}");
+        let is_so = are_apart(&rt, rt.alloc(), pair);
+        assert!(rt; is_so == Ok(pair.apart), "apart of {place}");
     }
-    Ok(())
 }
 
-fn link(number: u16) -> Element {
-    Element::Link(LinkNo::new(number))
+/// An element by its number.
+#[derive(Clone, Copy)]
+enum Told {
+    Link(u16),
+    Node(u16),
 }
 
-fn node(number: u16) -> Element {
-    Element::Node(NodeNo::new(number))
+/// Whether an element separates two routers, among so many with links between these.
+struct Cut {
+    routers: u16,
+    pairs: &'static [(u16, u16)],
+    element: Told,
+    from: u16,
+    to: u16,
+    separates: bool,
 }
+
+const RING_LINKS: &[(u16, u16)] = &[(0, 1), (0, 4), (1, 2), (2, 3), (3, 4)];
+
+/// Routers 1 and 2 in a row, and routers 3 and 4, at router 5.
+const STAR_LINKS: &[(u16, u16)] = &[(0, 1), (1, 4), (2, 4), (3, 4)];
 
 /// The last eight: the ends themselves, one node as both ends, numbers that nothing has, and nodes that no walk joins.
-#[test]
-fn separating(rt: HostRuntime) -> Result<(), Fail> {
-    let alloc = rt.alloc();
-    let cases = [
-        (5, TWO_TRIANGLES.as_slice(), node(2), 0, 4, true),
-        (5, TWO_TRIANGLES.as_slice(), node(1), 0, 4, false),
-        (5, TWO_TRIANGLES.as_slice(), node(3), 0, 4, false),
-        (5, TWO_TRIANGLES.as_slice(), node(2), 0, 1, false),
-        (5, TWO_TRIANGLES.as_slice(), link(1), 0, 4, false),
-        (5, TWO_TRIANGLES.as_slice(), link(4), 0, 4, false),
-        (2, PARALLEL.as_slice(), link(0), 0, 1, false),
-        (2, PARALLEL.as_slice(), link(1), 1, 0, false),
-        (2, [(0, 1)].as_slice(), link(0), 0, 1, true),
-        (5, STAR.as_slice(), link(0), 0, 2, true),
-        (5, STAR.as_slice(), link(0), 1, 2, false),
-        (5, STAR.as_slice(), node(4), 2, 3, true),
-        (5, STAR.as_slice(), node(4), 0, 1, false),
-        (5, RING.as_slice(), node(1), 0, 2, false),
-        (5, RING.as_slice(), link(0), 0, 1, false),
-        (4, LINE.as_slice(), node(0), 0, 3, false),
-        (4, LINE.as_slice(), node(3), 0, 3, false),
-        (4, LINE.as_slice(), node(1), 0, 0, false),
-        (4, LINE.as_slice(), link(0), 0, 0, false),
-        (4, LINE.as_slice(), link(9), 0, 3, false),
-        (4, LINE.as_slice(), node(9), 0, 3, false),
-        (3, [(0, 1)].as_slice(), link(0), 0, 2, true),
-        (3, [(0, 1)].as_slice(), node(1), 0, 2, true),
-    ];
-    for (place, (count, pairs, x, s, t, wanted)) in cases.iter().enumerate() {
-        assert!(rt; *s < *count && *t < *count);
-        let links = links_between(&rt, alloc, *count, pairs)?;
-        let found = separates(alloc, &links, *count, *x, NodeNo::new(*s), NodeNo::new(*t))?;
-        assert_eq!(rt; found, *wanted, "case {place}");
+const CUTS: &[Cut] = &[
+    Cut {
+        routers: 5,
+        pairs: TWO_TRIANGLES_LINKS,
+        element: Told::Node(2),
+        from: 0,
+        to: 4,
+        separates: true,
+    },
+    Cut {
+        routers: 5,
+        pairs: TWO_TRIANGLES_LINKS,
+        element: Told::Node(1),
+        from: 0,
+        to: 4,
+        separates: false,
+    },
+    Cut {
+        routers: 5,
+        pairs: TWO_TRIANGLES_LINKS,
+        element: Told::Node(3),
+        from: 0,
+        to: 4,
+        separates: false,
+    },
+    Cut {
+        routers: 5,
+        pairs: TWO_TRIANGLES_LINKS,
+        element: Told::Node(2),
+        from: 0,
+        to: 1,
+        separates: false,
+    },
+    Cut {
+        routers: 5,
+        pairs: TWO_TRIANGLES_LINKS,
+        element: Told::Link(1),
+        from: 0,
+        to: 4,
+        separates: false,
+    },
+    Cut {
+        routers: 5,
+        pairs: TWO_TRIANGLES_LINKS,
+        element: Told::Link(4),
+        from: 0,
+        to: 4,
+        separates: false,
+    },
+    Cut {
+        routers: 2,
+        pairs: PARALLEL_LINKS,
+        element: Told::Link(0),
+        from: 0,
+        to: 1,
+        separates: false,
+    },
+    Cut {
+        routers: 2,
+        pairs: PARALLEL_LINKS,
+        element: Told::Link(1),
+        from: 1,
+        to: 0,
+        separates: false,
+    },
+    Cut {
+        routers: 2,
+        pairs: &[(0, 1)],
+        element: Told::Link(0),
+        from: 0,
+        to: 1,
+        separates: true,
+    },
+    Cut {
+        routers: 5,
+        pairs: STAR_LINKS,
+        element: Told::Link(0),
+        from: 0,
+        to: 2,
+        separates: true,
+    },
+    Cut {
+        routers: 5,
+        pairs: STAR_LINKS,
+        element: Told::Link(0),
+        from: 1,
+        to: 2,
+        separates: false,
+    },
+    Cut {
+        routers: 5,
+        pairs: STAR_LINKS,
+        element: Told::Node(4),
+        from: 2,
+        to: 3,
+        separates: true,
+    },
+    Cut {
+        routers: 5,
+        pairs: STAR_LINKS,
+        element: Told::Node(4),
+        from: 0,
+        to: 1,
+        separates: false,
+    },
+    Cut {
+        routers: 5,
+        pairs: RING_LINKS,
+        element: Told::Node(1),
+        from: 0,
+        to: 2,
+        separates: false,
+    },
+    Cut {
+        routers: 5,
+        pairs: RING_LINKS,
+        element: Told::Link(0),
+        from: 0,
+        to: 1,
+        separates: false,
+    },
+    Cut {
+        routers: 4,
+        pairs: LINE_LINKS,
+        element: Told::Node(0),
+        from: 0,
+        to: 3,
+        separates: false,
+    },
+    Cut {
+        routers: 4,
+        pairs: LINE_LINKS,
+        element: Told::Node(3),
+        from: 0,
+        to: 3,
+        separates: false,
+    },
+    Cut {
+        routers: 4,
+        pairs: LINE_LINKS,
+        element: Told::Node(1),
+        from: 0,
+        to: 0,
+        separates: false,
+    },
+    Cut {
+        routers: 4,
+        pairs: LINE_LINKS,
+        element: Told::Link(0),
+        from: 0,
+        to: 0,
+        separates: false,
+    },
+    Cut {
+        routers: 4,
+        pairs: LINE_LINKS,
+        element: Told::Link(9),
+        from: 0,
+        to: 3,
+        separates: false,
+    },
+    Cut {
+        routers: 4,
+        pairs: LINE_LINKS,
+        element: Told::Node(9),
+        from: 0,
+        to: 3,
+        separates: false,
+    },
+    Cut {
+        routers: 3,
+        pairs: &[(0, 1)],
+        element: Told::Link(0),
+        from: 0,
+        to: 2,
+        separates: true,
+    },
+    Cut {
+        routers: 3,
+        pairs: &[(0, 1)],
+        element: Told::Node(1),
+        from: 0,
+        to: 2,
+        separates: true,
+    },
+];
+
+fn cuts() -> &'static [Cut] {
+    CUTS
+}
+
+fn element(told: Told) -> Element {
+    match told {
+        Told::Link(number) => Element::Link(LinkNo::new(number)),
+        Told::Node(number) => Element::Node(NodeNo::new(number)),
     }
-    Ok(())
+}
+
+fn is_separated(rt: &impl Abort, alloc: Global, cut: &Cut) -> Result<bool, NoMemory> {
+    assert!(rt; cut.from < cut.routers && cut.to < cut.routers);
+    let links = links_between(rt, alloc, cut.routers, cut.pairs)?;
+    let (s, t) = (NodeNo::new(cut.from), NodeNo::new(cut.to));
+    separates(alloc, &links, cut.routers, element(cut.element), s, t)
 }
 
 #[test]
-fn links_of_a_graph(rt: HostRuntime) -> Result<(), Fail> {
-    let graph = one_router(rt.alloc())?;
-    assert!(rt; links_of(rt.alloc(), &graph)?.is_empty());
-    Ok(())
+fn separating(rt: HostRuntime) {
+    for (place, cut) in cuts().iter().enumerate() {
+        let found = is_separated(&rt, rt.alloc(), cut);
+        assert!(rt; found == Ok(cut.separates), "case {place}");
+    }
+}
+
+/// Whether these are the links, by their two nodes.
+fn are_between(links: &[Link], pairs: &[(u16, u16)]) -> bool {
+    for (link, (a, b)) in links.iter().zip(pairs) {
+        if link.a.get() != *a || link.b.get() != *b {
+            return false;
+        }
+    }
+    links.len() == pairs.len()
+}
+
+fn has_its_links(
+    rt: &impl Abort,
+    alloc: Global,
+    count: u16,
+    pairs: &[(u16, u16)],
+) -> Result<bool, GraphError> {
+    let graph = plain_graph(rt, alloc, count, pairs)?;
+    let links = links_of(alloc, &graph)?;
+    Ok(are_between(&links, pairs))
+}
+
+#[test]
+fn links_of_a_graph(rt: HostRuntime) {
+    assert!(rt; has_its_links(&rt, rt.alloc(), 1, &[]) == Ok(true));
+    assert!(rt; has_its_links(&rt, rt.alloc(), 5, RING_LINKS) == Ok(true));
 }

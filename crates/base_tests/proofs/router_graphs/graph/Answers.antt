@@ -1,5 +1,5 @@
 use Rattle.std.proofs.Common.{arith}
-use Rattle.base_tests.proofs.graphs.graph.Goals as goal
+use Rattle.base_tests.proofs.router_graphs.graph.Goals as goal
 use Rattle.base_tests.proofs.RouterGraphs.{router_parts}
 
 pub new-requires : goal.new-requires

@@ -1,7 +1,7 @@
 use Rattle.std.proofs.Common.{◌≡◌, ◌<◌, ◌+◌, ℕ, length, slice_index_or}
 use Rattle.mrt_graph.specs.declared.node_id.Kind.TheVariants.{Router}
 use Rattle.mrt_graph.specs.declared.node_id.NodeId.{NodeId}
-use Rattle.base_tests.proofs.graphs.routers.Given as goal
+use Rattle.base_tests.proofs.router_graphs.routers.Given as goal
 
 abbrev pub invariant-loop-k : goal.invariant-loop-k
 invariant-loop-k l = record {
