@@ -1,15 +1,15 @@
 //! The database of three routers, each linked to both others, with two older instances of the first, in every order.
 
-ghost use Rattle.std.specs.Prelude.{◌≡◌, Some, IfOk, OnOk, false};
+ghost use Rattle.std.specs.Prelude.{◌≡◌, IfOk, false};
 ghost use Rattle.std.specs.List.{list_any};
 ghost use Rattle.ospf_lsa.specs.Lsas.{has_zero_metric};
-ghost use Rattle.lsdb.specs.Installing.{IsBehind, IsKept};
+ghost use Rattle.lsdb.specs.Installing.{IsKept};
 
-use lsdb::*;
+use crate::installing::put;
+use lsdb::Lsdb;
 use mrt_graph::{NoMemory, Seq};
 use ospf_lsa::{Body, Lsa, RouterLink};
 use std::alloc::Global;
-use std::test::*;
 
 /// An instance of a router's LSA, with links to these routers or with none.
 struct Instance {
@@ -110,22 +110,13 @@ fn lsa(alloc: Global, at: u32, instance: &Instance) -> Result<Lsa, NoMemory>
     })
 }
 
-fn put(lsdb: &mut Lsdb, alloc: Global, at: u32, number: usize) -> Result<(), NoMemory>
-    requires { IsBehind lsdb.old.greatest at }
-    ensures { OnOk result (lsdb.new.greatest ≡ Some at) }
-{
-    let lsa = lsa(alloc, at, &INSTANCES[number % 5])?;
-    lsdb.install(lsa)?;
-    Ok(())
-}
-
+/// The instances in this order, each at its place in the order.
 fn filled(alloc: Global, order: [usize; 5]) -> Result<Lsdb, NoMemory> {
     let mut lsdb = Lsdb::new(alloc);
-    put(&mut lsdb, alloc, 0, order[0])?;
-    put(&mut lsdb, alloc, 48, order[1])?;
-    put(&mut lsdb, alloc, 96, order[2])?;
-    put(&mut lsdb, alloc, 144, order[3])?;
-    put(&mut lsdb, alloc, 192, order[4])?;
+    for place in 0..5 {
+        let number = order[place as usize] % 5;
+        put(&mut lsdb, lsa(alloc, place, &INSTANCES[number])?)?;
+    }
     Ok(lsdb)
 }
 
@@ -152,16 +143,24 @@ fn is_expected(alloc: Global, newest: &Lsa) -> Result<bool, NoMemory> {
     Ok(false)
 }
 
-#[test]
-fn every_order_has_the_same_newest_instances(rt: HostRuntime) -> Result<(), Fail> {
-    for number in 0..120 {
-        let lsdb = filled(rt.alloc(), order(number)).ok().ok_or("no memory")?;
-        assert!(rt; lsdb.settled().is_ok(), "order {number}");
-        assert_eq!(rt; lsdb.newest().len(), 3, "order {number}");
-        for newest in lsdb.newest() {
-            let is_expected = is_expected(rt.alloc(), newest).ok().ok_or("no memory")?;
-            assert!(rt; is_expected, "order {number}");
+fn are_expected(alloc: Global, newest: &[Lsa]) -> Result<bool, NoMemory> {
+    for lsa in newest {
+        if !is_expected(alloc, lsa)? {
+            return Ok(false);
         }
     }
-    Ok(())
+    Ok(newest.len() == 3)
+}
+
+fn is_settled_as_expected(alloc: Global, number: usize) -> Result<bool, NoMemory> {
+    let lsdb = filled(alloc, order(number))?;
+    Ok(lsdb.settled().is_ok() && are_expected(alloc, lsdb.newest())?)
+}
+
+#[test]
+fn every_order_has_the_same_newest_instances(rt: HostRuntime) {
+    for number in 0..120 {
+        let is_so = is_settled_as_expected(rt.alloc(), number);
+        assert!(rt; is_so == Ok(true), "order {number}");
+    }
 }

@@ -1,19 +1,22 @@
-//! Small databases, in every order and spoilt.
+//! Instances of the LSAs of one router and of two, and what a database says of them.
 
-ghost use Rattle.std.specs.Prelude.{◌≡◌, Some, IfOk, OnOk};
-ghost use Rattle.lsdb.specs.Installing.{IsBehind, IsKept};
+ghost use Rattle.std.specs.Prelude.{◌≡◌};
+ghost use Rattle.lsdb.specs.Installing.{IsKept};
 
-use lsdb::*;
+use crate::installing::put;
+use lsdb::{Change, Conflict, Lsdb};
 use mrt_graph::{NoMemory, Seq};
 use ospf_lsa::{Body, Lsa};
 use std::alloc::Global;
-use std::test::*;
 
-/// A router-LSA without links.
-fn instance(alloc: Global, at: u32, router: u32, sequence: i32, age: u16, flags: u8) -> Lsa
+/// Router, sequence number, age and flags of a router-LSA without links.
+type Instance = (u32, i32, u16, u8);
+
+fn lsa(alloc: Global, at: u32, instance: Instance) -> Lsa
     ensures kept { IsKept result }
     ensures place { result.at ≡ at }
 {
+    let (router, sequence, age, flags) = instance;
     Lsa {
         at,
         age,
@@ -31,96 +34,112 @@ fn instance(alloc: Global, at: u32, router: u32, sequence: i32, age: u16, flags:
     }
 }
 
-/// Instances after a first one of router 1, with sequence 1, age 1 and flags 0; and what the second changes.
-#[test]
-fn two_instances_of_one_router(rt: HostRuntime) -> Result<(), Fail> {
-    let rows = [
-        // The same once more.
-        (1, 1, 0, Change::Same),
-        // The highest bit of the age alone.
-        (1, 0x8001, 0, Change::Same),
-        // Other flags, which the checksum as it stands does not tell.
-        (1, 1, 0xff, Change::Clash),
-        // A greater sequence number, a smaller one, and one that is greater without a sign.
-        (2, 1, 0, Change::Replaced),
-        (0, 1, 0, Change::Older),
-        (-0x7fff_ffff, 1, 0, Change::Older),
-        // MaxAge.
-        (1, 3600, 0, Change::Replaced),
-        (1, 3599, 0, Change::Same),
-    ];
-    for (sequence, age, flags, change) in rows {
-        let mut lsdb = Lsdb::new(rt.alloc());
-        let first = lsdb
-            .install(instance(rt.alloc(), 0, 1, 1, 1, 0))
-            .ok()
-            .ok_or("no memory")?;
-        assert_eq!(rt; first, Change::Added);
-        let second = lsdb
-            .install(instance(rt.alloc(), 24, 1, sequence, age, flags))
-            .ok()
-            .ok_or("no memory")?;
-        assert_eq!(rt; second, change);
-        assert_eq!(rt; lsdb.newest().len(), 1);
-        let settled = if change == Change::Clash {
-            Err(Conflict {
-                first: 0,
-                second: 24,
-            })
-        } else {
-            Ok(())
-        };
-        assert!(rt; lsdb.settled() == settled);
-    }
-    Ok(())
+/// The instance that comes first.
+const FIRST: Instance = (1, 1, 1, 0);
+
+/// Instances after that one, and what each changes.
+const SECOND: &[(Instance, Change)] = &[
+    // The same once more.
+    ((1, 1, 1, 0), Change::Same),
+    // The highest bit of the age alone.
+    ((1, 1, 0x8001, 0), Change::Same),
+    // Other flags, which the checksum as it stands does not tell.
+    ((1, 1, 1, 0xff), Change::Clash),
+    // A greater sequence number, a smaller one, and one that is greater without a sign.
+    ((1, 2, 1, 0), Change::Replaced),
+    ((1, 0, 1, 0), Change::Older),
+    ((1, -0x7fff_ffff, 1, 0), Change::Older),
+    // MaxAge.
+    ((1, 1, 3600, 0), Change::Replaced),
+    ((1, 1, 3599, 0), Change::Same),
+    // Another router.
+    ((2, 1, 1, 0), Change::Added),
+];
+
+fn second_ones() -> &'static [(Instance, Change)] {
+    SECOND
 }
 
-fn put(lsdb: &mut Lsdb, lsa: Lsa) -> Result<(), NoMemory>
-    requires kept { IsKept lsa }
-    requires behind { IsBehind lsdb.old.greatest lsa.at }
-    ensures { OnOk result (lsdb.new.greatest ≡ Some lsa.at) }
-{
-    lsdb.install(lsa)?;
-    Ok(())
+/// Whether a database says of the two instances at 0 and 24 what follows from a change.
+fn follows(lsdb: &Lsdb, change: Change) -> bool {
+    let settled = if change == Change::Clash {
+        Err(Conflict {
+            first: 0,
+            second: 24,
+        })
+    } else {
+        Ok(())
+    };
+    let count = if change == Change::Added { 2 } else { 1 };
+    lsdb.settled() == settled && lsdb.newest().len() == count
 }
 
-/// Two routers with instances that differ: those of router 2 end first.
-fn spoilt(alloc: Global) -> Result<Lsdb, NoMemory>
-    ensures { IfOk result (λ lsdb. lsdb.greatest ≡ Some 96) }
-{
+fn is_changed_so(alloc: Global, second: Instance, change: Change) -> Result<bool, NoMemory> {
     let mut lsdb = Lsdb::new(alloc);
-    put(&mut lsdb, instance(alloc, 0, 1, 1, 1, 0))?;
-    put(&mut lsdb, instance(alloc, 24, 2, 1, 1, 0))?;
-    put(&mut lsdb, instance(alloc, 48, 2, 1, 1, 1))?;
-    put(&mut lsdb, instance(alloc, 72, 1, 1, 1, 1))?;
-    put(&mut lsdb, instance(alloc, 96, 2, 1, 1, 2))?;
+    put(&mut lsdb, lsa(alloc, 0, FIRST))?;
+    let found = lsdb.install(lsa(alloc, 24, second))?;
+    Ok(found == change && follows(&lsdb, change))
+}
+
+#[test]
+fn two_instances(rt: HostRuntime) {
+    for (second, change) in second_ones() {
+        let is_so = is_changed_so(rt.alloc(), *second, *change);
+        assert!(rt; is_so == Ok(true), "{change:?}");
+    }
+}
+
+/// Two routers with instances that differ, those of router 2 first; the last one settles them.
+const INSTANCES: &[Instance] = &[
+    (1, 1, 1, 0),
+    (2, 1, 1, 0),
+    (2, 1, 1, 1),
+    (1, 1, 1, 1),
+    (2, 1, 1, 2),
+    (2, 2, 1, 0),
+];
+
+/// The first of these instances, as many as that, each at its place in the list.
+fn first_of_them(alloc: Global, count: u32) -> Result<Lsdb, NoMemory> {
+    let mut lsdb = Lsdb::new(alloc);
+    for place in 0..count {
+        if let Some(instance) = INSTANCES.get(place as usize) {
+            put(&mut lsdb, lsa(alloc, place, *instance))?;
+        }
+    }
     Ok(lsdb)
+}
+
+fn settled_of(alloc: Global, count: u32) -> Result<Result<(), Conflict>, NoMemory> {
+    let lsdb = first_of_them(alloc, count)?;
+    Ok(lsdb.settled())
 }
 
 /// Of two conflicts the one with the least second place is told, and a newer instance ends one.
 #[test]
-fn conflicts_of_two_routers(rt: HostRuntime) -> Result<(), Fail> {
-    let mut lsdb = spoilt(rt.alloc()).ok().ok_or("no memory")?;
-    assert!(rt;
-        lsdb.settled()
-            == Err(Conflict {
-                first: 24,
-                second: 48
-            })
-    );
-    put(&mut lsdb, instance(rt.alloc(), 120, 2, 2, 1, 0))
-        .ok()
-        .ok_or("no memory")?;
-    assert!(rt;
-        lsdb.settled()
-            == Err(Conflict {
-                first: 0,
-                second: 72
-            })
-    );
-    for (lsa, (router, at)) in lsdb.newest().iter().zip([(1, 0), (2, 120)]) {
-        assert_eq!(rt; lsa.router, router);
-        assert_eq!(rt; lsa.at, at);
+fn conflicts_of_two_routers(rt: HostRuntime) {
+    for (count, first, second) in [(5, 1, 2), (6, 0, 3)] {
+        let settled = settled_of(rt.alloc(), count);
+        assert!(rt; settled == Ok(Err(Conflict { first, second })), "{count}");
     }
-    Ok(())
+}
+
+/// Whether the newest instances are those of these routers from these places.
+fn are_newest(lsas: &[Lsa], told: &[(u32, u32)]) -> bool {
+    for (lsa, (router, at)) in lsas.iter().zip(told) {
+        if lsa.router != *router || lsa.at != *at {
+            return false;
+        }
+    }
+    lsas.len() == told.len()
+}
+
+fn has_newest(alloc: Global, count: u32, told: &[(u32, u32)]) -> Result<bool, NoMemory> {
+    let lsdb = first_of_them(alloc, count)?;
+    Ok(are_newest(lsdb.newest(), told))
+}
+
+#[test]
+fn newest_instances_of_two_routers(rt: HostRuntime) {
+    assert!(rt; has_newest(rt.alloc(), 6, &[(1, 0), (2, 5)]) == Ok(true));
 }

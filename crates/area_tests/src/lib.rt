@@ -2,14 +2,28 @@
 #![tactic(auto)]
 
 #[cfg(test)]
-mod areas;
+mod databases;
 #[cfg(test)]
 mod every_order;
+#[cfg(test)]
+mod installing;
 #[cfg(test)]
 mod instances;
 #[cfg(test)]
 mod islands;
 #[cfg(test)]
-mod lsa_records;
+mod limits;
+#[cfg(test)]
+mod lsa_faults;
+#[cfg(test)]
+mod lsa_files;
+#[cfg(test)]
+mod lsa_reading;
+#[cfg(test)]
+mod lsa_writing;
+#[cfg(test)]
+mod many_routers;
 #[cfg(test)]
 mod profiles;
+#[cfg(test)]
+mod small_areas;

@@ -118,19 +118,22 @@ const SPOILT: &[Spoilt] = &[
     },
 ];
 
+fn spoilt_ones() -> &'static [Spoilt] {
+    SPOILT
+}
+
+fn fault_of(alloc: Global, text: &[u8]) -> Option<ProfileError> {
+    profile_of(alloc, text).err()
+}
+
 #[test]
 fn the_first_fault_is_told(rt: HostRuntime) {
-    for spoilt in SPOILT {
-        match profile_of(rt.alloc(), spoilt.text) {
-            Ok(_) => assert!(rt; false, "no fault in line {}", spoilt.line),
-            Err(error) => assert_eq!(rt;
-                error,
-                ProfileError::Fault {
-                    line: spoilt.line,
-                    kind: spoilt.kind
-                }
-            ),
-        }
+    for spoilt in spoilt_ones() {
+        let fault = ProfileError::Fault {
+            line: spoilt.line,
+            kind: spoilt.kind,
+        };
+        assert_eq!(rt; fault_of(rt.alloc(), spoilt.text), Some(fault));
     }
 }
 
@@ -181,16 +184,22 @@ const SAID: &[Said] = &[
     },
 ];
 
+fn said_ones() -> &'static [Said] {
+    SAID
+}
+
+fn says(alloc: Global, said: &Said) -> Result<bool, ProfileError> {
+    let profile = profile_of(alloc, said.text)?;
+    Ok(
+        profile.priority(0x0101_0101) == said.priority
+            && profile.supports(0x0101_0101) == said.supports
+            && profile.eligible(0x0101_0101, 7) == said.eligible,
+    )
+}
+
 #[test]
 fn the_lines_are_what_the_profile_says(rt: HostRuntime) {
-    for said in SAID {
-        match profile_of(rt.alloc(), said.text) {
-            Err(error) => assert!(rt; false, "{error:?}"),
-            Ok(profile) => {
-                assert_eq!(rt; profile.priority(0x0101_0101), said.priority);
-                assert_eq!(rt; profile.supports(0x0101_0101), said.supports);
-                assert_eq!(rt; profile.eligible(0x0101_0101, 7), said.eligible);
-            }
-        }
+    for (place, said) in said_ones().iter().enumerate() {
+        assert!(rt; says(rt.alloc(), said) == Ok(true), "case {place}");
     }
 }

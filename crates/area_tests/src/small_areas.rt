@@ -1,20 +1,9 @@
-//! Small areas of databases that are given as bytes, and areas as large as they may be.
+//! Small areas of databases that are given as bytes.
 
-ghost use Rattle.std.specs.Prelude.{◌≡◌, None, IfOk, IfSome, OnOk, Some, false};
-ghost use Rattle.std.specs.List.{list_any};
-ghost use Rattle.lsdb.specs.Conflicts.{least_conflict};
-ghost use Rattle.lsdb.specs.Installing.{IsBehind, IsKept};
-ghost use Rattle.ospf_lsa.specs.Lsas.{AreLsas, has_zero_metric};
-
-use area_graph::*;
-use lsdb::{Lsdb, an_lsa_without_a_fault_may_be_installed};
-use mrt_graph::{Kind, NoMemory, NodeId, Seq};
-use ospf_lsa::{Body, Lsa, RouterLink, read_lsas};
+use crate::databases::area_of;
+use area_graph::{Arc, ArcNo, Area, Bond, BondNo, Spot};
+use mrt_graph::{Kind, NodeId};
 use std::alloc::Global;
-use std::test::*;
-
-/// The most bytes that are read as LSAs.
-const MOST: usize = 8_388_608;
 
 /// Tail, far node, metric, link data, bond.
 type ArcTold = (u16, u16, u16, u32, u16);
@@ -386,37 +375,8 @@ const CASES: &[Case] = &[
     },
 ];
 
-/// A database of the LSAs that are a router's or a network's.
-fn installed(alloc: Global, lsas: Vec<Lsa>) -> Result<Lsdb, NoMemory>
-    requires { AreLsas 0 lsas.items }
-{
-    an_lsa_without_a_fault_may_be_installed();
-    let mut database = Lsdb::new(alloc);
-    for lsa in lsas {
-        if lsa.kind == 1 || lsa.kind == 2 {
-            database.install(lsa)?;
-        }
-    }
-    Ok(database)
-}
-
-/// The settled database of bytes.
-fn database(alloc: Global, bytes: &[u8]) -> Option<Lsdb>
-    ensures { IfSome result (λ database. least_conflict database.entries ≡ None) }
-{
-    if MOST < bytes.len() {
-        return None;
-    }
-    let lsas = read_lsas(alloc, bytes).ok()?;
-    let database = installed(alloc, lsas).ok()?;
-    database.settled().ok()?;
-    Some(database)
-}
-
-/// The area of bytes.
-fn area_of(alloc: Global, bytes: &[u8]) -> Option<Area> {
-    let database = database(alloc, bytes)?;
-    build_area(alloc, &database).ok()
+fn cases() -> &'static [Case] {
+    CASES
 }
 
 /// Whether these are the identifiers of the nodes, and each is found.
@@ -431,8 +391,8 @@ fn has_ids(area: &Area, ids: &[(Kind, u32)]) -> bool {
     usize::from(area.count()) == ids.len()
 }
 
-/// The place behind these arcs, where they are those told from that place on.
-fn behind(arcs: &[Arc], told: &[ArcTold], from: usize) -> Option<usize> {
+/// The place after these arcs, where they are those told from that place on.
+fn place_after(arcs: &[Arc], told: &[ArcTold], from: usize) -> Option<usize> {
     let mut at = from;
     for arc in arcs {
         let (tail, to, metric, link_data, bond) = *told.get(at)?;
@@ -455,8 +415,8 @@ fn behind(arcs: &[Arc], told: &[ArcTold], from: usize) -> Option<usize> {
 fn has_arcs(area: &Area, told: &[ArcTold]) -> bool {
     let mut at = 0;
     for number in 0..area.count() {
-        match behind(area.arcs(Spot::new(number)), told, at) {
-            Some(behind) => at = behind,
+        match place_after(area.arcs(Spot::new(number)), told, at) {
+            Some(after) => at = after,
             None => return false,
         }
     }
@@ -482,15 +442,20 @@ fn are_bonds(bonds: &[Bond], told: &[BondTold]) -> bool {
     bonds.len() == told.len()
 }
 
+fn is_as_told(alloc: Global, case: &Case) -> Option<bool> {
+    let area = area_of(alloc, case.bytes)?;
+    Some(
+        has_ids(&area, case.ids)
+            && has_arcs(&area, case.arcs)
+            && are_bonds(area.bonds(), case.bonds),
+    )
+}
+
 #[test]
-fn databases_have_these_areas(rt: HostRuntime) -> Result<(), Fail> {
-    for case in CASES {
-        let area = area_of(rt.alloc(), case.bytes).ok_or("no area")?;
-        assert!(rt; has_ids(&area, case.ids), "{}", case.name);
-        assert!(rt; has_arcs(&area, case.arcs), "{}", case.name);
-        assert!(rt; are_bonds(area.bonds(), case.bonds), "{}", case.name);
+fn databases_have_these_areas(rt: HostRuntime) {
+    for case in cases() {
+        assert!(rt; is_as_told(rt.alloc(), case) == Some(true), "{}", case.name);
     }
-    Ok(())
 }
 
 /// A network and a router of one number, 2.2.2.2; router 1.1.1.1 has a link to each.
@@ -501,43 +466,73 @@ const ONE_NUMBER: &[u8] =
 const UNNUMBERED: &[u8] =
     b"\x00\x01\x02\x01\x01\x01\x01\x01\x01\x01\x01\x01\x80\x00\x00\x01\x87\x40\x00\x3c\x00\x00\x00\x03\x02\x02\x02\x02\x00\x00\x00\x07\x01\x00\x00\x1e\x02\x02\x02\x02\x00\x00\x00\x07\x01\x00\x00\x0a\x02\x02\x02\x02\x00\x00\x00\x07\x01\x00\x00\x14\x00\x01\x02\x01\x02\x02\x02\x02\x02\x02\x02\x02\x80\x00\x00\x01\x02\xf0\x00\x3c\x00\x00\x00\x03\x01\x01\x01\x01\x00\x00\x00\x09\x01\x00\x00\x05\x01\x01\x01\x01\x00\x00\x00\x09\x01\x00\x00\x06\x01\x01\x01\x01\x00\x00\x00\x09\x01\x00\x00\x04";
 
-#[test]
-fn nodes_are_found_by_kind_and_number(rt: HostRuntime) -> Result<(), Fail> {
-    let area = area_of(rt.alloc(), ONE_NUMBER).ok_or("no area")?;
-    let cases = [
-        (Kind::Router, 0x0101_0101, Some(Spot::new(0))),
-        (Kind::Router, 0x0202_0202, Some(Spot::new(1))),
-        (Kind::Network, 0x0202_0202, Some(Spot::new(2))),
-        (Kind::Network, 0x0101_0101, None),
-        (Kind::Router, 0x0303_0303, None),
-    ];
-    for (kind, number, found) in cases {
-        assert!(rt; area.find(NodeId { kind, number }) == found, "{number}");
+/// Kind and number of a node, and its place if it is there.
+const FOUND: &[(Kind, u32, Option<u16>)] = &[
+    (Kind::Router, 0x0101_0101, Some(0)),
+    (Kind::Router, 0x0202_0202, Some(1)),
+    (Kind::Network, 0x0202_0202, Some(2)),
+    (Kind::Network, 0x0101_0101, None),
+    (Kind::Router, 0x0303_0303, None),
+];
+
+fn is_found(area: &Area, kind: Kind, number: u32, place: Option<u16>) -> bool {
+    match (area.find(NodeId { kind, number }), place) {
+        (Some(spot), Some(place)) => spot == Spot::new(place),
+        (None, None) => true,
+        _ => false,
     }
-    Ok(())
+}
+
+fn are_found(alloc: Global) -> Option<bool> {
+    let area = area_of(alloc, ONE_NUMBER)?;
+    for &(kind, number, place) in FOUND {
+        if !is_found(&area, kind, number, place) {
+            return Some(false);
+        }
+    }
+    Some(true)
 }
 
 #[test]
-fn bonds_are_named_by_the_first_arc(rt: HostRuntime) -> Result<(), Fail> {
-    let cases = [
-        (ONE_NUMBER, 0x0101_0101, 8, Some(BondNo::new(1))),
-        (ONE_NUMBER, 0x0202_0202, 10, Some(BondNo::new(2))),
-        // The network's arcs have link data 0.
-        (ONE_NUMBER, 0x0202_0202, 0, None),
-        (ONE_NUMBER, 0x0303_0303, 8, None),
-        // Of three arcs that with the least metric comes first.
-        (UNNUMBERED, 0x0101_0101, 7, Some(BondNo::new(1))),
-        (UNNUMBERED, 0x0202_0202, 9, Some(BondNo::new(2))),
-        (UNNUMBERED, 0x0202_0202, 7, None),
-    ];
-    for (bytes, router, link_data, bond) in cases {
-        let area = area_of(rt.alloc(), bytes).ok_or("no area")?;
-        assert!(rt;
-            area.named(router, link_data) == bond,
-            "{router} {link_data}"
-        );
+fn nodes_are_found_by_kind_and_number(rt: HostRuntime) {
+    assert!(rt; are_found(rt.alloc()) == Some(true));
+}
+
+/// A database, a router and link data, and the bond that they name.
+const NAMED: &[(&[u8], u32, u32, Option<u16>)] = &[
+    (ONE_NUMBER, 0x0101_0101, 8, Some(1)),
+    (ONE_NUMBER, 0x0202_0202, 10, Some(2)),
+    // The network's arcs have link data 0.
+    (ONE_NUMBER, 0x0202_0202, 0, None),
+    (ONE_NUMBER, 0x0303_0303, 8, None),
+    // Of three arcs that with the least metric comes first.
+    (UNNUMBERED, 0x0101_0101, 7, Some(1)),
+    (UNNUMBERED, 0x0202_0202, 9, Some(2)),
+    (UNNUMBERED, 0x0202_0202, 7, None),
+];
+
+fn named_ones() -> &'static [(&'static [u8], u32, u32, Option<u16>)] {
+    NAMED
+}
+
+fn named_of(alloc: Global, bytes: &[u8], router: u32, link_data: u32) -> Option<Option<BondNo>> {
+    let area = area_of(alloc, bytes)?;
+    Some(area.named(router, link_data))
+}
+
+fn bond(number: Option<u16>) -> Option<BondNo> {
+    match number {
+        Some(number) => Some(BondNo::new(number)),
+        None => None,
     }
-    Ok(())
+}
+
+#[test]
+fn bonds_are_named_by_the_first_arc(rt: HostRuntime) {
+    for &(bytes, router, link_data, number) in named_ones() {
+        let found = named_of(rt.alloc(), bytes, router, link_data);
+        assert!(rt; found == Some(bond(number)), "{router} {link_data}");
+    }
 }
 
 /// Whether the first node has three arcs, and they are those with the first numbers.
@@ -555,108 +550,12 @@ fn has_three_first(area: &Area) -> bool {
     row.len() == 3
 }
 
-#[test]
-fn arcs_have_numbers(rt: HostRuntime) -> Result<(), Fail> {
-    let area = area_of(rt.alloc(), UNNUMBERED).ok_or("no area")?;
-    assert!(rt; has_three_first(&area));
-    Ok(())
-}
-
-fn link(alloc: Global, to: u32) -> RouterLink
-    ensures { has_zero_metric result ≡ false }
-{
-    RouterLink {
-        id: to,
-        link_data: 0,
-        kind: 1,
-        metric: 10,
-        tos: Seq::from_vec(Vec::new(alloc)),
-    }
-}
-
-/// That many links to a router.
-fn links(alloc: Global, to: u32, count: usize) -> Result<Seq<RouterLink>, NoMemory>
-    ensures { IfOk result (λ links. list_any has_zero_metric links ≡ false) }
-{
-    let mut links = Vec::with_capacity(alloc, count)?;
-    for _ in 0..count {
-        links.push(link(alloc, to))?;
-    }
-    Ok(Seq::from_vec(links))
-}
-
-/// Installs the LSA of a router, at the place of its own number, with so many links to another.
-fn put(
-    database: &mut Lsdb,
-    alloc: Global,
-    number: u32,
-    to: u32,
-    count: usize,
-) -> Result<(), NoMemory>
-    requires behind { IsBehind database.old.greatest number }
-    ensures { OnOk result (database.new.greatest ≡ Some number) }
-{
-    let links = links(alloc, to, count)?;
-    database.install(Lsa {
-        at: number,
-        age: 1,
-        options: 2,
-        kind: 1,
-        id: number,
-        router: number,
-        sequence: 1,
-        checksum: 0,
-        body: Body::Router {
-            flags: 0,
-            spare: 0,
-            links,
-        },
-    })?;
-    Ok(())
-}
-
-/// That many routers, of which the first two have so many links to each other.
-fn routers(alloc: Global, count: u32, linked: usize) -> Result<Lsdb, NoMemory> {
-    let mut database = Lsdb::new(alloc);
-    put(&mut database, alloc, 0, 1, linked)?;
-    put(&mut database, alloc, 1, 0, linked)?;
-    for number in 2..count {
-        put(&mut database, alloc, number, 0, 0)?;
-    }
-    Ok(database)
-}
-
-/// The area of a database, where it is settled.
-fn area_in(alloc: Global, database: &Lsdb) -> Option<Result<Area, AreaError>> {
-    database.settled().ok()?;
-    Some(build_area(alloc, database))
+fn numbers_are_so(alloc: Global) -> Option<bool> {
+    let area = area_of(alloc, UNNUMBERED)?;
+    Some(has_three_first(&area))
 }
 
 #[test]
-fn areas_have_4096_nodes_and_32768_arcs_at_most(rt: HostRuntime) -> Result<(), Fail> {
-    let cases = [
-        (4096, 16384, None),
-        (
-            4097,
-            0,
-            Some(AreaError::TooLarge {
-                nodes: 4097,
-                arcs: 0,
-            }),
-        ),
-        (
-            2,
-            16385,
-            Some(AreaError::TooLarge {
-                nodes: 2,
-                arcs: 32770,
-            }),
-        ),
-    ];
-    for (count, linked, refusal) in cases {
-        let database = routers(rt.alloc(), count, linked).ok().ok_or("no memory")?;
-        let area = area_in(rt.alloc(), &database).ok_or("not settled")?;
-        assert!(rt; area.err() == refusal, "{count} {linked}");
-    }
-    Ok(())
+fn arcs_have_numbers(rt: HostRuntime) {
+    assert!(rt; numbers_are_so(rt.alloc()) == Some(true));
 }

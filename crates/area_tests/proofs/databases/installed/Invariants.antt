@@ -1,7 +1,7 @@
 use Rattle.std.proofs.Common.{◌≡◌, length}
 use Rattle.std.specs.Vec.Iter.{into_iter_items, into_iter_len}
 use Rattle.area_tests.proofs.Ahead.{AreAhead}
-use Rattle.area_tests.proofs.areas.installed.Given as goal
+use Rattle.area_tests.proofs.databases.installed.Given as goal
 
 abbrev pub invariant-loop-lsa : goal.invariant-loop-lsa
 invariant-loop-lsa l = record {

@@ -2,7 +2,7 @@ use Rattle.std.proofs.Common.{List, subst, sym}
 use Rattle.ospf_lsa.specs.declared.lsa.Lsa.{Lsa}
 use Rattle.ospf_lsa.specs.Lsas.{AreLsas}
 use Rattle.area_tests.proofs.Writable.{faultless_at, faultless_written}
-use Rattle.area_tests.proofs.lsa_records.written_again.Goals as goal
+use Rattle.area_tests.proofs.lsa_writing.written_again.Goals as goal
 
 -- What is read is without a fault.
 pub write_lsa-requires : goal.write_lsa-requires

@@ -1,0 +1,88 @@
+//! The largest areas and islands, and larger ones.
+
+use crate::many_routers::{Many, database_of};
+use area_graph::{Area, AreaError, build_area};
+use mrt_island::{IslandError, Profile, find_island};
+use std::alloc::Global;
+
+fn area_of(alloc: Global, many: Many) -> Result<Area, AreaError> {
+    let database = database_of(alloc, many)?;
+    match database.settled() {
+        Ok(()) => build_area(alloc, &database),
+        Err(_) => Err(AreaError::NoMemory),
+    }
+}
+
+/// Whether so many routers, linked so, are too many for an area, and then by which counts.
+const AREAS: &[(Many, Option<AreaError>)] = &[
+    (
+        Many {
+            routers: 4096,
+            in_ring: false,
+            linked: 16384,
+        },
+        None,
+    ),
+    (
+        Many {
+            routers: 4097,
+            in_ring: false,
+            linked: 0,
+        },
+        Some(AreaError::TooLarge {
+            nodes: 4097,
+            arcs: 0,
+        }),
+    ),
+    (
+        Many {
+            routers: 2,
+            in_ring: false,
+            linked: 16385,
+        },
+        Some(AreaError::TooLarge {
+            nodes: 2,
+            arcs: 32770,
+        }),
+    ),
+];
+
+fn areas() -> &'static [(Many, Option<AreaError>)] {
+    AREAS
+}
+
+fn refusal_of(alloc: Global, many: Many) -> Option<AreaError> {
+    area_of(alloc, many).err()
+}
+
+#[test]
+fn areas_have_4096_nodes_and_32768_arcs_at_most(rt: HostRuntime) {
+    for (many, refusal) in areas() {
+        let found = refusal_of(rt.alloc(), *many);
+        assert!(rt; found == *refusal, "{} {}", many.routers, many.linked);
+    }
+}
+
+/// The counts of nodes and links of the island of router 0, where so many routers are in a ring.
+fn island_counts(alloc: Global, routers: u32) -> Result<(u16, u16), IslandError> {
+    let ring = Many {
+        routers,
+        in_ring: true,
+        linked: 0,
+    };
+    let Ok(area) = area_of(alloc, ring) else {
+        return Err(IslandError::NoMemory);
+    };
+    let island = find_island(alloc, &area, &Profile::empty(alloc), 0)?;
+    Ok((island.graph.node_count(), island.graph.link_count()))
+}
+
+#[test]
+fn islands_have_2048_nodes_at_most(rt: HostRuntime) {
+    assert!(rt; island_counts(rt.alloc(), 2048) == Ok((2048, 2048)));
+    let refusal = IslandError::TooLarge {
+        nodes: 2049,
+        links: 2049,
+    };
+    assert!(rt; island_counts(rt.alloc(), 2049) == Err(refusal));
+}
