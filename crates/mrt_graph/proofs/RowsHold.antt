@@ -1,5 +1,5 @@
 -- What the rules on rows make of an accepted certificate's rows.
-use Rattle.std.proofs.Common.{◌≡◌, ◌≢◌, ◌⊎◌, ◌∙◌, ◌<◌, ◌==◌, ◌&&◌, ◌||◌, ℕ, true, false, List, Option, Some, not, length, refl, sym, ap, subst, inl, inr}
+use Rattle.std.proofs.Common.{◌≡◌, ◌≢◌, ◌⊎◌, ◌∙◌, ◌<◌, ◌==◌, ◌||◌, ℕ, true, false, List, Option, Some, not, length, refl, sym, ap, subst, inl, inr}
 use Rattle.std.proofs.lemmas.Bool.{and_parts, eqb-true, eq-eqb, ne_eqb, false_from_ne_true}
 use Rattle.std.specs.Option.{option_map_or, option_map, option_and_then, unwrap_or}
 use Rattle.mrt_graph.specs.declared.cert.CertFile.{CertFile}

@@ -1,16 +1,24 @@
 -- A search with marks and a list settles what paths reach.
 use Rattle.std.proofs.Common.{◌≡◌, ◌⊎◌, ◌<◌, ◌≤◌, ◌+◌, ◌↔◌, ℕ, zero, suc, Bool, true, false, not, cond, List, [], ◌∷◌, ◌++◌, length, get_or, set, replicate, inl, inr, refl, sym, ◌∙◌, ap, subst, arith, append_assoc, length-append}
 use Rattle.std.specs.Prelude.{Contains}
-use Rattle.std.proofs.lemmas.Bool.{cases_eq, cases_lt}
+use Rattle.std.proofs.lemmas.Bool.{both_ways, cases_eq, cases_lt}
 use Rattle.std.proofs.lemmas.List.{append-nil, get_or-set_same, get_or-set_other, get_or_default, get_or_append_left}
 use Rattle.std.proofs.lemmas.List.Elements.{Contains-append_left, Contains-append_right, Contains-append_cases, Contains-push}
 use Rattle.std.proofs.lemmas.List.{length-set}
 use Rattle.std.proofs.lemmas.List.Sums.{sum_by-set}
 use Rattle.std.proofs.lemmas.Option.{slice_get_within, get_or_from_slice_get}
 use Rattle.mrt_graph.specs.Reachable.{Reachable}
-use Rattle.mrt_graph.specs.Search.{Enters, HandsOut, IsBegun, IsMarked, IsSearch, IsEntering, SearchState, unmarked}
+use Rattle.mrt_graph.specs.Search.{Enters, HandsOut, IsBegun, IsMarked, IsEntering, SearchState, unmarked}
 use Rattle.mrt_graph.proofs.Members.{contains_cases, contains_none}
 use Rattle.mrt_graph.proofs.Settled.{IsSettled, reachable_onward, settled_is_reachable}
+
+-- a search from s that has followed the steps of the first `done` of the nodes that it found
+pub record IsSearch (step : ℕ → ℕ → Type 0) (s : ℕ) (marks : List Bool) (found : List ℕ) (done : ℕ) : Type 0 where
+  pub begun : IsMarked marks s
+  pub listed : (v : ℕ) → IsMarked marks v → Contains found v
+  pub marked : (v : ℕ) → Contains found v → IsMarked marks v
+  pub followed : (k v : ℕ) → k < done → step (get_or found k 0) v → IsMarked marks v
+  pub reached : (v : ℕ) → IsMarked marks v → Reachable step s v
 
 -- the one element of a list of one
 pub one_in_one : (u v : ℕ) → Contains (u ∷ []) v → v ≡ u
@@ -26,6 +34,7 @@ entering_none marks found = record {
   only_them = λ v m. inl m;
   listed = λ v m. inl m;
   marked = λ v c. absurd (contains_none v c);
+  fresh = λ v c m. contains_none v c;
 }
 
 -- coming on a node that has its mark changes nothing
@@ -38,6 +47,7 @@ entering_marked marks found u has = record {
   only_them = λ v m. inl m;
   listed = λ v m. inl m;
   marked = λ v c. absurd (contains_none v c);
+  fresh = λ v c m. contains_none v c;
 }
 
 -- a mark set at u is u's, and each other mark is as before
@@ -51,8 +61,9 @@ mark_kept marks u v within m = elim (cases_eq v u) [
 ]
 
 -- coming on any other node marks it and lists it last
-pub entering_new : (marks : List Bool) (found : List ℕ) (u : ℕ) → u < length marks → IsEntering (λ (v : ℕ). v ≡ u) marks found (set marks u true) (found ++ u ∷ [])
-entering_new marks found u within = record {
+pub entering_new : (marks : List Bool) (found : List ℕ) (u : ℕ) → u < length marks → get_or marks u false ≡ false
+    → IsEntering (λ (v : ℕ). v ≡ u) marks found (set marks u true) (found ++ u ∷ [])
+entering_new marks found u within unmarked = record {
   added = u ∷ [];
   grows = refl;
   kept = λ v m. mark_kept marks u v within m;
@@ -60,6 +71,7 @@ entering_new marks found u within = record {
   only_them = λ v m. mark_set marks u v within m;
   listed = λ v m. elim (mark_set marks u v within m) [ inl old ↦ inl old | inr same ↦ inr (subst (λ (w : ℕ). Contains (u ∷ []) w) (sym same) (Contains-push [] u)) ];
   marked = λ v c. subst (λ (w : ℕ). IsMarked (set marks u true) w) (sym (one_in_one u v c)) (get_or-set_same marks u true false within);
+  fresh = λ v c m. both_ways (get_or marks u false) unmarked (subst (λ (w : ℕ). IsMarked marks w) (one_in_one u v c) m);
 }
 
 -- coming on some nodes and then on others is coming on all of these
@@ -81,6 +93,7 @@ entering_both One Other Both one other both m0 f0 m1 f1 m2 f2 first second = rec
     | inr b ↦ inr (Contains-append_right first.added second.added v b)
   ];
   marked = λ v c. elim (Contains-append_cases first.added second.added v c) [ inl a ↦ second.kept v (first.marked v a) | inr b ↦ second.marked v b ];
+  fresh = λ v c m. elim (Contains-append_cases first.added second.added v c) [ inl a ↦ first.fresh v a m | inr b ↦ second.fresh v b (first.kept v m) ];
 }
 
 -- at first no node has a mark
@@ -168,6 +181,7 @@ entering_same Onto Onto' m0 f0 m1 f1 there back e = record {
   only_them = λ v m. elim (e.only_them v m) [ inl old ↦ inl old | inr new ↦ inr (there v new) ];
   listed = e.listed;
   marked = e.marked;
+  fresh = e.fresh;
 }
 
 -- the list grows
@@ -194,7 +208,7 @@ enters_new marks found followed u within none = record {
   one_each = length-set marks u true;
   same_followed = refl;
   same_left = omega (arith, unmarked_set marks u within none, length-append found (u ∷ []));
-  entering = entering_new marks found u within;
+  entering = entering_new marks found u within none;
 }
 
 -- a search comes on nothing, on some nodes and then on others, or on the same nodes said in another way

@@ -1,6 +1,5 @@
 -- A search along steps, which marks each node that it finds and lists it once, and follows the steps of the listed ones.
-use Rattle.std.specs.Prelude.{◌≡◌, ◌⊎◌, ◌<◌, ◌+◌, ◌-◌, ℕ, Bool, true, false, not, List, [], ◌++◌, Some, length, replicate, slice_get, slice_index_or, count_by, Contains}
-use Rattle.mrt_graph.specs.Reachable.{Reachable}
+use Rattle.std.specs.Prelude.{◌≡◌, ◌⊎◌, ◌<◌, ◌+◌, ◌-◌, ℕ, Bool, true, false, not, List, [], ◌∷◌, ◌++◌, Some, if◌then◌else◌, length, replicate, slice_get, slice_index_or, count_by, Contains}
 
 -- node v has its mark
 abbrev pub IsMarked : List Bool → ℕ → Type 0
@@ -10,15 +9,7 @@ IsMarked marks v = slice_index_or marks v false ≡ true
 abbrev pub unmarked : List Bool → ℕ
 unmarked marks = count_by not marks
 
--- a search from s that has followed the steps of the first `done` of the nodes that it found
-pub record IsSearch (step : ℕ → ℕ → Type 0) (s : ℕ) (marks : List Bool) (found : List ℕ) (done : ℕ) : Type 0 where
-  pub begun : IsMarked marks s
-  pub listed : (v : ℕ) → IsMarked marks v → Contains found v
-  pub marked : (v : ℕ) → Contains found v → IsMarked marks v
-  pub followed : (k v : ℕ) → k < done → step (slice_index_or found k 0) v → IsMarked marks v
-  pub reached : (v : ℕ) → IsMarked marks v → Reachable step s v
-
--- what a search does where it comes on the nodes that are `onto`: it marks and lists those that have no mark
+-- what a search does where it comes on the nodes that are `onto`: it marks those that have no mark, and lists them
 pub record IsEntering (onto : ℕ → Type 0) (marks : List Bool) (found : List ℕ) (marks' : List Bool) (found' : List ℕ)
     : Type 0 where
   pub added : List ℕ
@@ -28,6 +19,7 @@ pub record IsEntering (onto : ℕ → Type 0) (marks : List Bool) (found : List 
   pub only_them : (v : ℕ) → IsMarked marks' v → IsMarked marks v ⊎ onto v
   pub listed : (v : ℕ) → IsMarked marks' v → IsMarked marks v ⊎ Contains added v
   pub marked : (v : ℕ) → Contains added v → IsMarked marks' v
+  pub fresh : (v : ℕ) → Contains added v → IsMarked marks v → ⊥
 
 -- a search as it stands: of each node whether it was found, the found nodes in their order, and how many of these were followed
 pub record SearchState : Type 0 where
@@ -47,9 +39,14 @@ AreBelow n numbers = (k : ℕ) → k < length numbers → slice_index_or numbers
 pub record IsBegun (count start : ℕ) (search : SearchState) : Type 0 where
   pub one_each : length search.marks ≡ count
   pub none_followed : search.followed ≡ 0
+  pub alone : search.found ≡ start ∷ []
   pub entering : IsEntering (λ v. v ≡ start) (replicate count false) [] search.marks search.found
 
--- a search comes on the nodes that are `onto`, and follows none
+-- the found nodes where a search comes on a node: the node is listed last, if it has no mark
+abbrev pub found_with : SearchState → ℕ → List ℕ
+found_with search node = if slice_index_or search.marks node false then search.found else search.found ++ node ∷ []
+
+-- a search comes on the nodes that are `onto`, and follows none; it lists as many as it marks
 pub record Enters (onto : ℕ → Type 0) (before after : SearchState) : Type 0 where
   pub one_each : length after.marks ≡ length before.marks
   pub same_followed : after.followed ≡ before.followed

@@ -29,7 +29,7 @@ impl Model for NodeSearch {
 
 impl NodeSearch {
     ghost use Rattle.std.specs.Prelude.{◌≡◌, ◌<◌, ◌≤◌, IfOk, IfSome, IfNone, length};
-    ghost use Rattle.mrt_graph.specs.Search.{Enters, HandsOut, IsBegun};
+    ghost use Rattle.mrt_graph.specs.Search.{Enters, HandsOut, IsBegun, found_with};
 
     /// A search over `count` nodes that has found `start` alone.
     pub fn new(alloc: Global, count: u16, start: u16) -> Result<NodeSearch, NoMemory>
@@ -50,7 +50,8 @@ impl NodeSearch {
     /// Finds a node, if it is not found yet.
     pub fn enter(&mut self, node: u16)
         requires { node < length self.old.marks }
-        ensures { Enters (λ v. v ≡ node) self.old self.new }
+        ensures entered { Enters (λ v. v ≡ node) self.old self.new }
+        ensures listed { self.new.found ≡ found_with self.old node }
     {
         let place = node as usize;
         if self.marks[place] {
