@@ -14,8 +14,12 @@ names link (Some other) = other == link
 -- a bond is the pair that a link stands for: its two nodes in the area are the link's two nodes in the graph
 pub record IsPairOf (area : AreaParts) (graph : Topology) (bond : Bond) (link : Link) : Type 0 where
   pub paired : bond.paired ≡ true
-  pub a : slice_get area.ids bond.a ≡ slice_get graph.ids link.a
-  pub b : slice_get area.ids bond.b ≡ slice_get graph.ids link.b
+  pub id_a : NodeId
+  pub a_there : slice_get area.ids bond.a ≡ Some id_a
+  pub a_here : slice_get graph.ids link.a ≡ Some id_a
+  pub id_b : NodeId
+  pub b_there : slice_get area.ids bond.b ≡ Some id_b
+  pub b_here : slice_get graph.ids link.b ≡ Some id_b
 
 -- the list has an entry for each bond of the area and names links of the graph alone; each node of the graph is a node
 -- of the area; each link is named for exactly one bond, which is a pair with the link's two nodes

@@ -26,7 +26,7 @@ pub fn starts(alloc: Global, count: usize, arcs: &[Arc]) -> Result<Vec<usize>, A
     Ok(starts)
 }
 
-/// The number of arcs that leave a node below `s`, which are no fewer than `from`.
+/// The number of arcs that leave a node below `s`, which are at least `from`.
 fn first_from(arcs: &[Arc], from: usize, s: usize) -> usize
     requires ascend { IsSorted by_tail_cmp arcs.now }
     requires from { from ≤ below s arcs.now }

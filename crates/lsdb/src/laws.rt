@@ -26,7 +26,7 @@ pub fn entries_are_those_of_the_list()
 
 /// There is one first newest instance of each key of the list, in the order of first arrival, and no two are of one
 /// key.
-pub fn each_key_has_one_newest_instance()
+pub fn each_key_has_one_first_newest_instance()
     ensures keys { (lsas : List Lsa) → map key_of (newest_in lsas) ≡ keys_in lsas }
     ensures distinct { (lsas : List Lsa) → AreDistinct (newest_in lsas) }
 {}
@@ -64,7 +64,7 @@ pub fn each_change_is_told_of_the_list()
 
 /// Lists that hold the same LSAs but for their places, in whatever order and number, have the same newest instances of
 /// each key, ages included, and the same keys, and are settled together. Where they are, the first newest instances of
-/// each key differ in nothing but place and the seconds of their age.
+/// each key differ in nothing but place and age field, and are at MaxAge together.
 pub fn the_same_lsas_give_the_same_database()
     ensures newest { (lsas others : List Lsa) → HoldTheSame lsas others
         → (key : Key) → HoldTheSame (newest_of lsas key) (newest_of others key) }

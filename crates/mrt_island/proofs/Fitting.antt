@@ -18,7 +18,7 @@ use Rattle.area_graph.specs.Parts.{AreaParts}
 use Rattle.area_graph.specs.declared.area_types.Bond.{Bond}
 use Rattle.mrt_island.specs.Policy.{Policy}
 use Rattle.mrt_island.specs.Numbering.{flags_set, ids_of, is_link, link_by, links_of}
-use Rattle.mrt_graph.proofs.ListTests.{all_at}
+use Rattle.mrt_graph.proofs.ListTests.{all_at, there as there_at}
 use Rattle.mrt_graph.proofs.Tallies.{one_if}
 use Rattle.mrt_island.proofs.Bounds.{no_bond}
 use Rattle.mrt_island.proofs.Counting.{IsFrom, flagged_filter, flagged_from, length_flagged, set_none, set_one}
@@ -110,10 +110,22 @@ pair_of_link policy area inside graph k number bond link kept count ids links na
     let is_bond : IsBond area.ids bond = all_at (IsBond area.ids) area.bonds k bond kept.bonds_kept there in
     let both : Some (pair_of (link_by inside bond)) ≡ Some link = sym (pair_at policy area inside k number bond named there) ∙ ap (λ (l : List Link). slice_get l number) (sym links) ∙ at in
     let same : pair_of (link_by inside bond) ≡ link = cc in
+    let a : slice_get area.ids bond.a ≡ slice_get graph.ids link.a =
+    sym (same_id area.ids inside bond.a is_bond.a chosen.a)
+    ∙ ap (λ (l : List NodeId). slice_get l (pair_of (link_by inside bond)).a) (sym ids) ∙ ap (λ (p : Link). slice_get graph.ids p.a) same in
+    let b : slice_get area.ids bond.b ≡ slice_get graph.ids link.b =
+    sym (same_id area.ids inside bond.b is_bond.b chosen.b)
+    ∙ ap (λ (l : List NodeId). slice_get l (pair_of (link_by inside bond)).b) (sym ids) ∙ ap (λ (p : Link). slice_get graph.ids p.b) same in
+    let at_a = there_at area.ids bond.a is_bond.a in
+    let at_b = there_at area.ids bond.b is_bond.b in
     record {
       paired = chosen.paired;
-      a = sym (same_id area.ids inside bond.a is_bond.a chosen.a) ∙ ap (λ (l : List NodeId). slice_get l (pair_of (link_by inside bond)).a) (sym ids) ∙ ap (λ (p : Link). slice_get graph.ids p.a) same;
-      b = sym (same_id area.ids inside bond.b is_bond.b chosen.b) ∙ ap (λ (l : List NodeId). slice_get l (pair_of (link_by inside bond)).b) (sym ids) ∙ ap (λ (p : Link). slice_get graph.ids p.b) same;
+      id_a = at_a.0;
+      a_there = at_a.1;
+      a_here = sym a ∙ at_a.1;
+      id_b = at_b.0;
+      b_there = at_b.1;
+      b_here = sym b ∙ at_b.1;
     }
 
 -- a node of the island is one of the area

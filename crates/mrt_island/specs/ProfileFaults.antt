@@ -20,12 +20,12 @@ setting_of line = if is_passed_over line then None else result_ok (line_setting 
 abbrev pub settings_of : List (List ℕ) → List Setting
 settings_of lines = filter_map setting_of lines
 
--- the first fault of a line that is not passed over, behind lines that say so much
+-- the first fault of a line that is not passed over, after lines that say so much
 abbrev pub fault_in : List Setting → Result Setting ProfileKind → Option ProfileKind
 fault_in earlier (Err kind) = Some kind
 fault_in earlier (Ok setting) = if list_any (same_subject setting) earlier then Some Repeated else None
 
--- the first fault of a line behind lines that say so much, if it has one
+-- the first fault of a line after lines that say so much, if it has one
 abbrev pub fault_behind : List Setting → List ℕ → Option ProfileKind
 fault_behind earlier line = if is_passed_over line then None else fault_in earlier (line_setting line)
 

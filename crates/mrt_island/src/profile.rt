@@ -41,7 +41,8 @@ impl Profile {
         }
     }
 
-    /// The router's GADAG root selection priority: the router with the least one is the root. It is 128 where none is given.
+    /// The router's GADAG root selection priority, 128 where none is given: of an island the router with the least one is
+    /// the root, and among equals the one with the highest router ID.
     pub fn priority(&self, router: u32) -> u8
         ensures { result ≡ priority_of self.now router }
     {
@@ -67,7 +68,8 @@ impl Profile {
             .contains_key(&Subject::Ineligible { router, link_data })
     }
 
-    /// Takes in a setting, unless its subject is there already: tells whether it was new. It stands at the end then.
+    /// Takes in a setting, and tells whether its subject is new; then it stands at the end. Where it is not, its value takes
+    /// the place of the one that was there, and the profile is to be given up.
     pub(crate) fn add(&mut self, setting: Setting) -> Result<bool, NoMemory>
         ensures told { IfOk result (λ is_new. is_new ≡ not (list_any (same_subject setting) self.old)) }
         ensures added { IfOk result (λ is_new. is_new ≡ true → self.new ≡ self.old ++ setting ∷ []) }

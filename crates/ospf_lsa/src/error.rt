@@ -19,7 +19,8 @@ pub enum LsaKind {
     ReservedSequence,
     /// It is a router-LSA, and link state ID and advertising router differ.
     IdMismatch,
-    /// Its body is not as its type has it.
+    /// It is a router-LSA whose body is not exactly its counted links, or a network-LSA whose length is below 24 or no
+    /// multiple of 4.
     Body,
     /// It is a router-LSA, and a link to a router or to a transit network in it has metric 0.
     ZeroMetric,

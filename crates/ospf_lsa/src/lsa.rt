@@ -14,7 +14,7 @@ pub const NETWORK_LSA: u8 = 2;
 /// MaxAge, in seconds (RFC 2328, appendix B).
 const MAX_AGE: u16 = 3600;
 
-/// The bits of the age field that count the seconds; the highest is the DoNotAge bit (RFC 1793, section 2.2).
+/// How many ages the 15 low bits of the age field tell; the bit above them is DoNotAge (RFC 1793, section 2.2).
 const SECONDS: u16 = 0x8000;
 
 /// A link of a router-LSA (RFC 2328, section A.4.2).
