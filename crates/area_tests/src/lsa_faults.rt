@@ -171,8 +171,8 @@ fn a_spoilt_network_is_named(rt: HostRuntime) {
     }
 }
 
-/// Whether the triangle's file, cut after so many bytes of the record at `at`, is read where these are none, and else is cut short
-/// in that record.
+/// Whether the triangle's file, cut after so many bytes of the record at `at`, is read where these are none, and else
+/// is cut short in that record.
 fn is_cut(alloc: Global, at: u32, more: u32) -> bool {
     let length = at as usize + more as usize;
     let cut = &TRIANGLE[..length.min(144)];

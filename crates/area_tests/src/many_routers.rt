@@ -11,7 +11,8 @@ use mrt_graph::{NoMemory, Seq};
 use ospf_lsa::{Body, Lsa, RouterLink};
 use std::alloc::Global;
 
-/// So many routers, from number 0 on, in a ring; or where it is none, of which the first two have so many links to each other.
+/// So many routers, from number 0 on, in a ring; or where it is none, of which the first two have so many links to each
+/// other.
 #[derive(Clone, Copy)]
 pub struct Many {
     pub routers: u32,

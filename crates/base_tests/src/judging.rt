@@ -1,4 +1,5 @@
-//! Certificate files for graphs of routers, and what the checker says of them. Routers 1, 2, 3 and so on are nodes 0, 1, 2.
+//! Certificate files for graphs of routers, and what the checker says of them. Routers 1, 2, 3 and so on are nodes 0,
+//! 1, 2.
 
 use crate::certs::cert;
 use crate::router_graphs::plain_graph;

@@ -1,6 +1,6 @@
-//! Small islands by hand, as the plain programs read them: links between so many routers, and the rows of a certificate by their
-//! two links. Routers 1, 2, 3 and so on are nodes 0, 1, 2. Of a certificate's words on nodes and links, and of tags, those
-//! programs read nothing, so they are the same for all.
+//! Small islands by hand, as the plain programs read them: links between so many routers, and the rows of a certificate
+//! by their two links. Routers 1, 2, 3 and so on are nodes 0, 1, 2. Of a certificate's words on nodes and links, and of
+//! tags, those programs read nothing, so they are the same for all.
 
 ghost use Rattle.std.specs.Prelude.{◌≡◌, IfOk, length};
 ghost use Rattle.mrt_plain.specs.Within.{AreWithin};

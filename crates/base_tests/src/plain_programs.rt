@@ -78,7 +78,8 @@ const ONE_LINK: Island = Island {
     rows: &[(0, 0), (0, 0)],
 };
 
-/// Routers 1, 2 and 3 have a link to each of routers 4 and 5; rows of router 1, and of routers 4 and 5 on the way, for router 3.
+/// Routers 1, 2 and 3 have a link to each of routers 4 and 5; rows of router 1, and of routers 4 and 5 on the way, for
+/// router 3.
 const CROSSED: Island = Island {
     routers: 5,
     pairs: &[(0, 3), (0, 4), (1, 3), (1, 4), (2, 3), (2, 4)],
@@ -108,7 +109,8 @@ const CROSSED: Island = Island {
 
 const TWO_TRIANGLES_LINKS: &[(u16, u16)] = &[(0, 1), (0, 2), (1, 2), (2, 3), (2, 4), (3, 4)];
 
-/// Two triangles that share router 3: the colors go from router 1 to router 3 by two ways, and from there to router 5 by one link.
+/// Two triangles that share router 3: the colors go from router 1 to router 3 by two ways, and from there to router 5
+/// by one link.
 const ONE_WAY: Island = Island {
     routers: 5,
     pairs: TWO_TRIANGLES_LINKS,

@@ -16,7 +16,8 @@ use std::process::Abort;
 /// Routers with the numbers from 1 on.
 fn routers(alloc: Global, count: u16) -> Result<Vec<NodeId>, NoMemory>
     ensures count { IfOk result (λ ids. length ids.items ≡ count) }
-    ensures routers { IfOk result (λ ids. (k : ℕ) (d : NodeId) → k < count → slice_index_or ids.items k d ≡ record { kind = Kind.Router; number = k + 1 }) }
+    ensures routers { IfOk result (λ ids. (k : ℕ) (d : NodeId) → k < count
+        → slice_index_or ids.items k d ≡ record { kind = Kind.Router; number = k + 1 }) }
 {
     let mut ids = Vec::new(alloc);
     for k in 0..count {
@@ -44,7 +45,8 @@ fn is_before(x: &LinkIn, y: &LinkIn) -> bool
 }
 
 fn assert_ascending(rt: &impl Abort, links: &[LinkIn])
-    ensures { (k : ℕ) (d : LinkIn) → k + 1 < length links.now → is_lt (pair_cmp (pair_of (slice_index_or links.now (k + 1) d)) (pair_of (slice_index_or links.now k d))) ≡ false }
+    ensures { (k : ℕ) (d : LinkIn) → k + 1 < length links.now
+        → is_lt (pair_cmp (pair_of (slice_index_or links.now (k + 1) d)) (pair_of (slice_index_or links.now k d))) ≡ false }
 {
     for i in 1..links.len() {
         assert!(rt; !is_before(&links[i], &links[i - 1]));

@@ -343,8 +343,8 @@ const TWO_CLOSING_LINKS: Island = Island {
     cases: &[(Edit::Nothing, Edit::Nothing, Some((6, 0, 0)))],
 };
 
-/// A node above the root in the root's block: with another head it is a fault of the root and that node, with the root as head one of
-/// that node alone.
+/// A node above the root in the root's block: with another head it is a fault of the root and that node, with the root
+/// as head one of that node alone.
 const STRAY_MEMBER: Island = Island {
     name: "a stray member",
     routers: 3,

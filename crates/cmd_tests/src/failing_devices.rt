@@ -25,7 +25,8 @@ fn failing_shelves(rt: HostRuntime) {
 
 const ACCEPTED: &[u8] = b"accepted root 1.1.1.1 nodes 1 links 0\n";
 
-/// An output: its room, how many bytes it takes at a time, the call that it fails, and how many of the 38 bytes it takes.
+/// An output: its room, how many bytes it takes at a time, the call that it fails, and how many of the 38 bytes it
+/// takes.
 struct Output {
     room: u32,
     step: u32,

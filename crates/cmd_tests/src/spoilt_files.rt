@@ -8,7 +8,8 @@ use mrt_graph::NoMemory;
 use ospf_lsa::LsaKind;
 use std::alloc::Global;
 
-/// The first bytes of a database, and the first of a certificate, one of them changed; a byte past the certificate's last is 0.
+/// The first bytes of a database, and the first of a certificate, one of them changed; a byte past the certificate's
+/// last is 0.
 struct Case {
     database: &'static [u8],
     kept: usize,
