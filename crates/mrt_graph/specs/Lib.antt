@@ -34,5 +34,6 @@ pub mod Spelling
 pub mod Tags
 pub mod TextLines
 pub mod Topology
+pub mod TreeWords
 pub mod Uses
 pub mod Walk

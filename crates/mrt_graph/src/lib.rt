@@ -16,6 +16,7 @@ mod numbers;
 mod seq;
 mod text_lines;
 mod text_numbers;
+mod tree;
 
 pub use cert::{Cert, CertFile, CertLink, CertNode, Color, Role, Row, Tag};
 pub use cert_law::{accepted_implies_sound, accepted_or_one_first_fault, accepted_rows_lead_on};
@@ -31,3 +32,4 @@ pub use numbers::{LinkNo, NodeNo};
 pub use seq::Seq;
 pub use text_lines::{first_line, first_word, is_passed_over};
 pub use text_numbers::{read_address, read_number};
+pub use tree::{Tree, TreeNode};

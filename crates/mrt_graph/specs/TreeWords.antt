@@ -1,0 +1,20 @@
+-- What a search tree says of a node. A node that is not there has number 0, which is no node's number.
+use Rattle.std.specs.Prelude.{ℕ, List, Option, None, slice_get}
+use Rattle.std.specs.Option.{option_and_then, option_map_or}
+use Rattle.mrt_graph.specs.declared.tree.TreeNode.{TreeNode}
+
+-- a node's number
+abbrev pub number_of : List TreeNode → ℕ → ℕ
+number_of tree v = option_map_or (λ node. node.number) (slice_get tree v) 0
+
+-- the link over which a node was found; the root has none
+abbrev pub parent_link : List TreeNode → ℕ → Option ℕ
+parent_link tree v = option_and_then (λ node. node.parent) (slice_get tree v)
+
+-- a node's lowpoint
+abbrev pub low_of : List TreeNode → ℕ → ℕ
+low_of tree v = option_map_or (λ node. node.low) (slice_get tree v) 0
+
+-- the link with which the way to a node's lowpoint begins
+abbrev pub low_link : List TreeNode → ℕ → Option ℕ
+low_link tree v = option_and_then (λ node. node.low_link) (slice_get tree v)
