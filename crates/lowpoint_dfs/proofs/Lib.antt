@@ -1,0 +1,10 @@
+pub mod Ancestors
+pub mod FoundInTurn
+pub mod LowReached
+pub mod LowestSoFar
+pub mod LowpointsGiven
+pub mod NodesListed
+pub mod OneSearch
+pub mod ParentsFirst
+pub mod SearchGoesOn
+pub mod WholeTree

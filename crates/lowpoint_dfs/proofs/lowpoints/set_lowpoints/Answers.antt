@@ -1,0 +1,21 @@
+use Rattle.std.proofs.Common.{◌≡◌, ◌∙◌, ◌-◌, ◌+◌, ℕ, Some, length, slice_get, refl, sym, ap, subst, arith}
+use Rattle.std.proofs.lemmas.Option.{slice_get_read}
+use Rattle.mrt_graph.proofs.ListPlaces.{place_of}
+use Rattle.lowpoint_dfs.proofs.LowpointsGiven.{AreGiven, one_more}
+use Rattle.lowpoint_dfs.proofs.lowpoints.set_lowpoints.Goals as goal
+
+pub loop-place-preserved : goal.loop-place-preserved
+loop-place-preserved c =
+    let kept = c.loop-place.invariant in
+    let place = c.loop-place.place - 1 in
+    let are : AreGiven c.args.g.now c.args.nodes.now.items c.loop-place.nodes.items c.args.order.now (place + 1) =
+    record { one_each = kept.one_each; alike = kept.alike; done = λ k v from at. kept.done k v (omega (arith, from, c.loop-place-test.true)) at } in
+    let next =
+    one_more c.args.g.now c.args.nodes.now.items c.loop-place.nodes.items c.set_lowpoint.new.nodes.items c.args.order.now place c.index-order-place.result c.ends.result.now
+    c.requires.kept c.requires.numbered are
+    (slice_get_read c.args.order.now (length c.args.order.now) place c.index-order-place.result refl (omega (arith, c.loop-place-test.true, c.loop-place.auto.place)) c.index-order-place.is)
+    c.ends.ensures.value c.set_lowpoint.ensures in
+    record { one_each = next.one_each; alike = next.alike; done = next.done }
+
+pub returns-clause-lowpoints : goal.returns-clause-lowpoints
+returns-clause-lowpoints c = λ v listed. let place = place_of c.args.order.now v listed in c.loop-place.invariant.done place.0 v (omega (arith, c.loop-place-test.false)) place.1
