@@ -1,10 +1,12 @@
 pub mod Ancestors
 pub mod FoundInTurn
+pub mod HandGraphs
 pub mod LowReached
 pub mod LowestSoFar
 pub mod LowpointsGiven
 pub mod NodesListed
 pub mod OneSearch
 pub mod ParentsFirst
+pub mod SearchExists
 pub mod SearchGoesOn
 pub mod WholeTree

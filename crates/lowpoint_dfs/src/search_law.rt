@@ -25,9 +25,11 @@ ghost use Rattle.lowpoint_dfs.specs.Lowpoint.{IsLeast};
 ghost use Rattle.lowpoint_dfs.specs.SearchTree.{IsSearchTree};
 ghost use Rattle.lowpoint_dfs.specs.Subtree.{HasParent, IsInSubtree, IsReachedFrom};
 
-/// A law: a graph has one search tree from its root.
+/// A law: a graph has exactly one search tree from its root.
 pub fn one_search()
-    ensures { (g : Topology) (root : ℕ) (tree other : List TreeNode) → IsTopology g → root < length g.ids
+    ensures some { (g : Topology) (root : ℕ) → IsTopology g → root < length g.ids
+        → (tree : List TreeNode) × IsSearchTree g root tree }
+    ensures one { (g : Topology) (root : ℕ) (tree other : List TreeNode) → IsTopology g → root < length g.ids
         → IsSearchTree g root tree → IsSearchTree g root other → tree ≡ other }
 {}
 

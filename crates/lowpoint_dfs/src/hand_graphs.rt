@@ -1,0 +1,126 @@
+//! Graphs by hand, for tests: routers first, then networks. Node k has the number k + 1.
+
+ghost use Rattle.std.specs.Prelude.{
+  ◌≡◌,
+  ◌<◌,
+  ◌≤◌,
+  ◌+◌,
+  ◌==◌,
+  ℕ,
+  IfOk,
+  true,
+  false,
+  length,
+  nat_lt,
+  slice_index_or,
+  if◌then◌else◌,
+};
+ghost use Rattle.std.specs.List.{All, list_any};
+ghost use Rattle.std.specs.Ordering.{is_lt};
+ghost use Rattle.mrt_graph.specs.declared.link.LinkIn.{LinkIn};
+ghost use Rattle.mrt_graph.specs.declared.node_id.NodeId.{NodeId};
+ghost use Rattle.mrt_graph.specs.EndRows.{IsWithin};
+ghost use Rattle.mrt_graph.specs.EndsOfLinks.{pair_of};
+ghost use Rattle.mrt_graph.specs.NewGraph.{pair_cmp};
+
+use mrt_graph::{Graph, GraphError, Kind, LinkIn, NoMemory, NodeId, NodeNo};
+use std::alloc::Global;
+use std::process::Abort;
+
+/// So many nodes, the first of them routers, the others networks.
+fn identifiers(alloc: Global, count: u16, routers: u16) -> Result<Vec<NodeId>, NoMemory>
+    ensures count { IfOk result (λ ids. length ids.items ≡ count) }
+    ensures ids { IfOk result (λ ids. (k : ℕ) (d : NodeId) → k < count → slice_index_or ids.items k d
+        ≡ record { kind = if nat_lt k routers then Kind.Router else Kind.Network; number = k + 1 }) }
+{
+    let mut ids = Vec::new(alloc);
+    for k in 0..count {
+        ids.push(identifier(k, routers))?;
+    }
+    Ok(ids)
+}
+
+fn identifier(k: u16, routers: u16) -> NodeId
+    ensures { result ≡ record { kind = if nat_lt k routers then Kind.Router else Kind.Network; number = k + 1 } }
+{
+    let number = k as u32 + 1;
+    if k < routers {
+        return NodeId {
+            kind: Kind::Router,
+            number,
+        };
+    }
+    NodeId {
+        kind: Kind::Network,
+        number,
+    }
+}
+
+fn assert_within(rt: &impl Abort, count: u16, routers: u16, links: &[LinkIn])
+    ensures within { All (IsWithin count) links.now }
+    ensures routers { All (λ link. link.a < routers) links.now }
+{
+    for link in links {
+        assert!(rt; link.a < link.b);
+        assert!(rt; link.b.get() < count);
+        assert!(rt; link.a.get() < routers);
+    }
+}
+
+fn is_before(x: &LinkIn, y: &LinkIn) -> bool
+    ensures { result ≡ is_lt (pair_cmp (pair_of x.now) (pair_of y.now)) }
+{
+    (x.a.get(), x.b.get()) < (y.a.get(), y.b.get())
+}
+
+fn assert_ascending(rt: &impl Abort, links: &[LinkIn])
+    ensures { (k : ℕ) (d : LinkIn) → k + 1 < length links.now → is_lt (pair_cmp
+        (pair_of (slice_index_or links.now (k + 1) d)) (pair_of (slice_index_or links.now k d))) ≡ false }
+{
+    for i in 1..links.len() {
+        assert!(rt; !is_before(&links[i], &links[i - 1]));
+    }
+}
+
+fn has_lower(links: &[LinkIn], n: u16) -> bool
+    ensures { result ≡ list_any (λ link. link.b == n) links.now }
+{
+    links.iter().any(|link| link.b.get() == n)
+}
+
+/// Asserts that each node but the first has a neighbour below it, so that the links connect all nodes.
+fn assert_connected(rt: &impl Abort, count: u16, links: &[LinkIn])
+    ensures { (n : ℕ) → 1 ≤ n → n < count → list_any (λ link. link.b == n) links.now ≡ true }
+{
+    for n in 1..count {
+        assert!(rt; has_lower(links, n));
+    }
+}
+
+/// A graph of so many nodes, the first of them routers, with these links.
+pub fn graph(
+    rt: &impl Abort,
+    alloc: Global,
+    count: u16,
+    routers: u16,
+    links: Vec<LinkIn>,
+) -> Result<Graph, GraphError> {
+    assert!(rt; count > 0);
+    assert_within(rt, count, routers, &links);
+    assert_ascending(rt, &links);
+    assert_connected(rt, count, &links);
+    let ids = identifiers(alloc, count, routers)?;
+    Graph::new(alloc, ids, links)
+}
+
+/// A link between two nodes, with its metric at each of them.
+pub fn link(a: u16, b: u16, metric_a: u16, metric_b: u16) -> LinkIn {
+    LinkIn {
+        a: NodeNo::new(a),
+        b: NodeNo::new(b),
+        metric_a,
+        metric_b,
+        data_a: 0,
+        data_b: 0,
+    }
+}
