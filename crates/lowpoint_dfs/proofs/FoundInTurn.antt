@@ -1,12 +1,11 @@
 -- What stands at each place of a search order.
-use Rattle.std.proofs.Common.{◌≡◌, ◌⊎◌, ◌<◌, ◌+◌, ◌++◌, ◌∙◌, ℕ, zero, suc, List, [], ◌∷◌, Some, None, length, slice_get, inl, inr, refl, sym, subst, arith}
-use Rattle.std.specs.Prelude.{Contains}
-use Rattle.std.proofs.lemmas.Option.{same_Some, slice_get_within}
+use Rattle.std.proofs.Common.{◌≡◌, ◌⊎◌, ◌<◌, ◌+◌, ◌∙◌, ℕ, zero, suc, List, [], ◌∷◌, Some, None, length, slice_get, inl, inr, refl, sym, subst, arith}
+use Rattle.std.proofs.lemmas.Option.{same_Some}
 use Rattle.mrt_graph.specs.declared.tree.TreeNode.{TreeNode}
 use Rattle.mrt_graph.specs.GraphInvariant.{IsEnd, IsTopology}
 use Rattle.mrt_graph.specs.Topology.{Topology}
 use Rattle.mrt_graph.specs.TreeWords.{number_of, parent_link}
-use Rattle.mrt_graph.proofs.ListPlaces.{at_left, at_last, contains_at, pushed_at}
+use Rattle.mrt_graph.proofs.ListPlaces.{at_left, pushed_at}
 use Rattle.mrt_graph.proofs.ListTests.{all_at}
 use Rattle.lowpoint_dfs.specs.FirstEnd.{IsFirstEnd}
 use Rattle.lowpoint_dfs.specs.SearchOrder.{IsFoundNext, IsSearchOrder, Begun, Found}

@@ -1,9 +1,8 @@
 -- One end more, while the least of a node's number and of its ends' offers is found.
-use Rattle.std.proofs.Common.{◌≡◌, ◌⊎◌, ◌<◌, ◌≤◌, ◌+◌, ◌∙◌, ℕ, List, Option, Some, None, slice_get, inl, inr, refl, sym, ap, subst, arith}
+use Rattle.std.proofs.Common.{◌≡◌, ◌<◌, ◌≤◌, ◌+◌, ◌∙◌, ℕ, List, Option, Some, None, slice_get, inl, inr, refl, sym, ap, subst, arith}
 use Rattle.std.proofs.lemmas.Bool.{cases_lt, lt-ltb, le-ltb}
 use Rattle.mrt_graph.specs.declared.link.End.{End}
 use Rattle.mrt_graph.specs.declared.tree.TreeNode.{TreeNode}
-use Rattle.mrt_graph.specs.TreeWords.{number_of}
 use Rattle.lowpoint_dfs.specs.declared.lowpoints.Lowest.{Lowest}
 use Rattle.lowpoint_dfs.specs.Lowering.{IsLowFrom, Own, Offered, IsLowest, lowered}
 use Rattle.lowpoint_dfs.specs.Lowpoint.{offer}

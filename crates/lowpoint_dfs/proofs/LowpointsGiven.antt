@@ -1,21 +1,17 @@
 -- A node that is given the least of its number and of its ends' offers has its lowpoint, and the nodes after it keep theirs.
-use Rattle.std.proofs.Common.{◌≡◌, ◌≢◌, ◌⊎◌, ◌<◌, ◌≤◌, ◌+◌, ◌==◌, ◌∙◌, ℕ, Bool, true, false, List, Option, Some, None, length, set, slice_get, inl, inr, refl, sym, ap, subst, arith}
+use Rattle.std.proofs.Common.{◌≡◌, ◌≢◌, ◌⊎◌, ◌<◌, ◌≤◌, ◌+◌, ◌==◌, ◌∙◌, ℕ, Bool, true, false, List, Option, Some, None, length, slice_get, inl, inr, refl, sym, ap, subst, arith}
 use Rattle.std.specs.Option.{option_and_then, option_map_or}
 use Rattle.std.proofs.lemmas.Bool.{cases_Bool, cases_eq, cases_lt, eqb-true}
-use Rattle.std.proofs.lemmas.List.{length-set}
 use Rattle.std.proofs.lemmas.Option.{slice_get_within}
 use Rattle.mrt_graph.specs.declared.link.End.{End}
 use Rattle.mrt_graph.specs.declared.tree.TreeNode.{TreeNode}
 use Rattle.mrt_graph.specs.GraphInvariant.{IsTopology}
 use Rattle.mrt_graph.specs.Leads.{leads}
 use Rattle.mrt_graph.specs.Topology.{Topology}
-use Rattle.mrt_graph.specs.TreeWords.{number_of, parent_link, low_of, low_link}
+use Rattle.mrt_graph.specs.TreeWords.{number_of, parent_link, low_of}
 use Rattle.mrt_graph.proofs.EndsAt.{end_leads}
 use Rattle.mrt_graph.proofs.Hops.{lead_back}
-use Rattle.mrt_graph.proofs.ListPlaces.{set_there, set_elsewhere}
-use Rattle.lowpoint_dfs.specs.declared.lowpoints.Lowest.{Lowest}
-use Rattle.lowpoint_dfs.specs.FirstEnd.{IsFirstEnd}
-use Rattle.lowpoint_dfs.specs.Lowering.{AreAlike, AreNumbered, IsGiven, IsLowFrom, IsLowest, Own, Offered}
+use Rattle.lowpoint_dfs.specs.Lowering.{AreAlike, AreNumbered, IsGiven, IsLowFrom, Own, Offered}
 use Rattle.lowpoint_dfs.specs.Lowpoint.{HasLowpoint, IsLeast, IsLowLink, ByOffer, ByParent, IsOffered, is_parent_link, offer}
 use Rattle.lowpoint_dfs.specs.Subtree.{parent_of}
 use Rattle.lowpoint_dfs.proofs.ParentsFirst.{parent_over}

@@ -1,11 +1,10 @@
 -- A search that has gone on until its listed nodes are done has listed each node once.
-use Rattle.std.proofs.Common.{◌≡◌, ◌<◌, ◌≤◌, ◌+◌, ◌==◌, ◌∙◌, ℕ, zero, suc, true, false, List, [], ◌∷◌, Some, length, slice_get, count_by, inl, inr, refl, sym, subst, arith}
+use Rattle.std.proofs.Common.{◌≡◌, ◌<◌, ◌==◌, ◌∙◌, ℕ, List, [], ◌∷◌, Some, length, slice_get, count_by, subst, arith}
 use Rattle.std.specs.Prelude.{Contains}
 use Rattle.mrt_graph.specs.declared.tree.TreeNode.{TreeNode}
 use Rattle.mrt_graph.specs.GraphInvariant.{IsTopology}
 use Rattle.mrt_graph.specs.Leads.{leads}
 use Rattle.mrt_graph.specs.Topology.{Topology}
-use Rattle.mrt_graph.specs.TreeWords.{number_of}
 use Rattle.mrt_graph.specs.Walk.{Walk}
 use Rattle.mrt_graph.proofs.EndsAt.{IsEndOver, leads_end}
 use Rattle.mrt_graph.proofs.FewNumbers.{IsAtOnePlace, tally_once}

@@ -1,8 +1,8 @@
 -- A graph has one search tree from its root.
-use Rattle.std.proofs.Common.{◌≡◌, ◌≢◌, ◌⊎◌, ◌<◌, ◌≤◌, ◌+◌, ◌++◌, ◌∙◌, ℕ, zero, suc, true, false, List, [], ◌∷◌, Option, Some, None, length, slice_get, inl, inr, refl, sym, ap, subst, arith, length-append}
+use Rattle.std.proofs.Common.{◌≡◌, ◌<◌, ◌≤◌, ◌+◌, ◌++◌, ◌∙◌, ℕ, zero, suc, List, [], ◌∷◌, Option, Some, None, length, slice_get, inl, inr, refl, sym, ap, subst, arith, length-append}
 use Rattle.std.specs.Option.{option_and_then, option_map_or}
 use Rattle.std.specs.Prelude.{Contains}
-use Rattle.std.proofs.lemmas.Bool.{cases_eq, cases_lt}
+use Rattle.std.proofs.lemmas.Bool.{cases_lt}
 use Rattle.std.proofs.lemmas.List.Elements.{Contains-push_cases}
 use Rattle.std.proofs.lemmas.Option.{slice_get_past, slice_get_within}
 use Rattle.mrt_graph.specs.declared.link.End.{End}
@@ -18,7 +18,7 @@ use Rattle.mrt_graph.proofs.ListTests.{there}
 use Rattle.mrt_graph.proofs.Members.{contains_none}
 use Rattle.lowpoint_dfs.specs.FirstEnd.{IsFirstEnd}
 use Rattle.lowpoint_dfs.specs.Lowering.{AreAlike}
-use Rattle.lowpoint_dfs.specs.Lowpoint.{HasLowpoint, IsLowLink, ByOffer, ByParent, IsOffered, is_parent_link, offer}
+use Rattle.lowpoint_dfs.specs.Lowpoint.{HasLowpoint, IsLowLink, ByOffer, ByParent, offer}
 use Rattle.lowpoint_dfs.specs.SearchOrder.{IsDone, IsFoundNext, IsSearchOrder, Begun, Found}
 use Rattle.lowpoint_dfs.specs.SearchTree.{IsSearchTree}
 use Rattle.lowpoint_dfs.specs.Subtree.{parent_of}

@@ -1,27 +1,26 @@
 -- A graph has a search tree from its root.
-use Rattle.std.proofs.Common.{◌≡◌, ◌≢◌, ◌⊎◌, ◌<◌, ◌≤◌, ◌+◌, ◌++◌, ◌∙◌, ℕ, zero, suc, List, [], ◌∷◌, Option, Some, None, length, get_or, set, replicate, slice_get, inl, inr, refl, sym, ap, subst, arith, length-append}
+use Rattle.std.proofs.Common.{◌≡◌, ◌⊎◌, ◌<◌, ◌≤◌, ◌+◌, ◌++◌, ◌∙◌, ℕ, zero, suc, List, [], ◌∷◌, Option, Some, None, length, set, replicate, slice_get, inl, inr, refl, sym, ap, subst, arith, length-append}
 use Rattle.std.specs.Option.{option_and_then, option_map_or}
 use Rattle.std.specs.Prelude.{Contains}
 use Rattle.std.proofs.lemmas.Bool.{cases_eq, cases_lt}
 use Rattle.std.proofs.lemmas.List.{length-set}
-use Rattle.std.proofs.lemmas.Option.{same_Some, slice_get_within, slice_get_past}
+use Rattle.std.proofs.lemmas.Option.{same_Some, slice_get_within}
 use Rattle.mrt_graph.specs.declared.link.End.{End}
 use Rattle.mrt_graph.specs.declared.tree.TreeNode.{TreeNode}
 use Rattle.mrt_graph.specs.GraphInvariant.{IsEnd, IsTopology}
 use Rattle.mrt_graph.specs.Topology.{Topology}
-use Rattle.mrt_graph.specs.TreeWords.{number_of, parent_link, low_of, low_link}
+use Rattle.mrt_graph.specs.TreeWords.{number_of, parent_link}
 use Rattle.mrt_graph.proofs.EndsAt.{list_of_ends}
 use Rattle.mrt_graph.proofs.ListPlaces.{contains_at, place_of, set_there, set_elsewhere}
 use Rattle.mrt_graph.proofs.ListTests.{all_at, there}
 use Rattle.mrt_graph.proofs.Members.{listed_or_not}
 use Rattle.lowpoint_dfs.specs.declared.lowpoints.Lowest.{Lowest}
 use Rattle.lowpoint_dfs.specs.Finding.{IsFinished, IsSearching, LeadToFound, found_node}
-use Rattle.lowpoint_dfs.specs.FirstEnd.{IsFirstEnd}
-use Rattle.lowpoint_dfs.specs.Lowering.{AreAlike, AreNumbered, IsGiven, IsLowest, Own, lowered}
+use Rattle.lowpoint_dfs.specs.Lowering.{AreNumbered, IsGiven, IsLowest, Own, lowered}
 use Rattle.lowpoint_dfs.specs.Lowpoint.{offer}
 use Rattle.lowpoint_dfs.specs.SearchOrder.{IsDone}
 use Rattle.lowpoint_dfs.specs.SearchTree.{IsSearchTree}
-use Rattle.lowpoint_dfs.proofs.FoundInTurn.{first_within, listed_within, number_at}
+use Rattle.lowpoint_dfs.proofs.FoundInTurn.{listed_within, number_at}
 use Rattle.lowpoint_dfs.proofs.LowestSoFar.{lowest_more}
 use Rattle.lowpoint_dfs.proofs.LowpointsGiven.{AreGiven, one_more}
 use Rattle.lowpoint_dfs.proofs.SearchGoesOn.{beginning, finding, room_left}

@@ -3,7 +3,7 @@ use Rattle.std.specs.Prelude.{◌≡◌, ◌<◌, ◌≤◌, ◌==◌, ◌+◌, 
 use Rattle.mrt_graph.specs.declared.link.End.{End}
 use Rattle.mrt_graph.specs.declared.tree.TreeNode.{TreeNode}
 use Rattle.mrt_graph.specs.Topology.{Topology}
-use Rattle.mrt_graph.specs.TreeWords.{number_of, parent_link}
+use Rattle.mrt_graph.specs.TreeWords.{number_of}
 use Rattle.lowpoint_dfs.specs.SearchOrder.{IsDone, IsSearchOrder}
 
 -- a node with its number and its parent link; its lowpoint is its own number at first
@@ -20,7 +20,8 @@ left_at nodes here = unfound nodes * (length nodes + 1) + number_of nodes here
 
 -- all ends from one place to another lead to found nodes
 abbrev pub LeadToFound : List TreeNode → List End → ℕ → ℕ → Type 0
-LeadToFound nodes ends from to = (k : ℕ) (end : End) → from ≤ k → k < to → slice_get ends k ≡ Some end → 1 ≤ number_of nodes end.to
+LeadToFound nodes ends from to =
+    (k : ℕ) (end : End) → from ≤ k → k < to → slice_get ends k ≡ Some end → 1 ≤ number_of nodes end.to
 
 -- a search that is at node `here`: all that it has listed after `here` is done, and of each node the ends that it has
 -- passed lead to found nodes

@@ -1,5 +1,5 @@
 -- Lowpoints on their way: the least of a node's number and of the offers of its first ends.
-use Rattle.std.specs.Prelude.{◌≡◌, ◌≢◌, ◌<◌, ◌≤◌, ◌+◌, ℕ, List, Option, Some, None, Contains, length, slice_get, nat_lt, if◌then◌else◌}
+use Rattle.std.specs.Prelude.{◌≡◌, ◌≢◌, ◌<◌, ◌≤◌, ◌+◌, ℕ, List, Option, Some, None, length, slice_get, nat_lt, if◌then◌else◌}
 use Rattle.mrt_graph.specs.declared.link.End.{End}
 use Rattle.mrt_graph.specs.declared.tree.TreeNode.{TreeNode}
 use Rattle.mrt_graph.specs.Topology.{Topology}

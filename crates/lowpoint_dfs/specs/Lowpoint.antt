@@ -1,5 +1,5 @@
 -- Lowpoints.
-use Rattle.std.specs.Prelude.{◌≡◌, ◌≢◌, ◌<◌, ◌≤◌, ◌⊎◌, ◌==◌, ℕ, Bool, false, List, Option, Some, None, slice_get, if◌then◌else◌}
+use Rattle.std.specs.Prelude.{◌≡◌, ◌<◌, ◌≤◌, ◌⊎◌, ◌==◌, ℕ, Bool, false, List, Option, Some, None, slice_get, if◌then◌else◌}
 use Rattle.std.specs.Option.{option_map_or}
 use Rattle.mrt_graph.specs.declared.link.End.{End}
 use Rattle.mrt_graph.specs.declared.tree.TreeNode.{TreeNode}
@@ -32,8 +32,8 @@ pub record IsOffered (g : Topology) (tree : List TreeNode) (v n : ℕ) : Type 0 
   pub there : slice_get ends place ≡ Some end
   pub offers : offer tree v end ≡ Some n
 
--- the link of a node's lowpoint: that of the first end that offers it, if it is below the node's number; else the node's
--- parent link, so that the root has none
+-- the link of a node's lowpoint: that of the first end that offers it, if it is below the node's number; else the
+-- node's parent link, so that the root has none
 pub data IsLowLink (g : Topology) (tree : List TreeNode) (v : ℕ) : Type 0 where
   ByOffer : (end : End) → low_of tree v < number_of tree v
       → IsFirstEnd g (λ end. offer tree v end ≡ Some (low_of tree v)) v end → low_link tree v ≡ Some end.link

@@ -12,8 +12,8 @@ pub record IsDone (g : Topology) (listed : List ℕ) (v : ℕ) : Type 0 where
   pub list : slice_get g.ends v ≡ Some ends
   pub all_inside : (k : ℕ) (end : End) → slice_get ends k ≡ Some end → Contains listed end.to
 
--- what a search that has listed these nodes finds next: at the latest of them with an end to a node outside the list, by
--- its first such end, that end's node over that end's link
+-- what a search that has listed these nodes finds next: at the latest of them with an end to a node outside the list,
+-- by its first such end, that end's node over that end's link
 pub record IsFoundNext (g : Topology) (listed : List ℕ) (node link : ℕ) : Type 0 where
   pub place : ℕ
   pub at : ℕ
@@ -24,8 +24,9 @@ pub record IsFoundNext (g : Topology) (listed : List ℕ) (node link : ℕ) : Ty
   pub over : end.link ≡ link
   pub to : end.to ≡ node
 
--- the lists that a search from the root comes by: the root alone, then each with the next node behind the last one.
--- In the tree a node's number is its place in the list, counted from 1, and its parent link the one over which it was found
+-- the lists that a search from the root makes: the root alone, then each list with the node that is found next at its
+-- end. In the tree a node's number is its place in the list, counted from 1, and its parent link the one over which
+-- it was found; the root has none
 pub data IsSearchOrder (g : Topology) (root : ℕ) (tree : List TreeNode) : List ℕ → Type 0 where
   Begun : number_of tree root ≡ 1 → parent_link tree root ≡ None → IsSearchOrder g root tree (root ∷ [])
   Found : (listed : List ℕ) (node link : ℕ) → IsSearchOrder g root tree listed → IsFoundNext g listed node link

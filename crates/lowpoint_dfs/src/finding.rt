@@ -60,7 +60,8 @@ pub struct Found {
 /// It needs no stack: the way back from a node is its parent link. Of each node it keeps how many ends it has passed.
 pub fn find_nodes(alloc: Global, g: &Graph, root: NodeNo) -> Result<Found, NoMemory>
     requires { root < length g.now.ids }
-    ensures finished { IfOk result (λ found. IsFinished g.now root found.nodes.items found.order.items) }
+    ensures finished { IfOk result
+        (λ found. IsFinished g.now root found.nodes.items found.order.items) }
     ensures kept { IsTopology g.now }
 {
     let count = g.node_count() as usize;
@@ -75,8 +76,8 @@ pub fn find_nodes(alloc: Global, g: &Graph, root: NodeNo) -> Result<Found, NoMem
     Ok(Found { nodes, order })
 }
 
-/// Finds the next node from here, if an end leads to one; else goes back. It answers where the search is then, None where
-/// it has come back to the root and found all.
+/// Finds the next node from here, if an end leads to one; else goes back. It answers where the search is then, None
+/// where it has come back to the root and found all.
 fn step(
     g: &Graph,
     root: NodeNo,
@@ -87,12 +88,15 @@ fn step(
 ) -> Option<NodeNo>
     requires kept { IsTopology g.now }
     requires root { root < length g.now.ids }
-    requires searching { IsSearching g.now root nodes.old.items order.old.items passed.old.items here }
+    requires searching { IsSearching g.now root nodes.old.items order.old.items passed.old.items
+        here }
     requires room { length g.now.ids ≤ vec_capacity order.old }
-    ensures onward { IfSome result (IsSearching g.now root nodes.new.items order.new.items passed.new.items) }
+    ensures onward { IfSome result (IsSearching g.now root nodes.new.items order.new.items
+        passed.new.items) }
     ensures finished { IfNone result (IsFinished g.now root nodes.new.items order.new.items) }
     ensures room { length g.now.ids ≤ vec_capacity order.new }
-    ensures left { IfSome result (λ next. left_at nodes.new.items next < left_at nodes.old.items here) }
+    ensures left { IfSome result
+        (λ next. left_at nodes.new.items next < left_at nodes.old.items here) }
 {
     let ends = g.ends(here);
     let place = look_on(nodes, ends, passed, here);
@@ -107,14 +111,16 @@ fn step(
     Some(parent(g, nodes, here))
 }
 
-/// Passes the ends of a node, from where it was left, until one leads to a node that is not found. It answers that end's
-/// place, or the count of ends where there is none.
+/// Passes the ends of a node, from where it was left, until one leads to a node that is not found. It answers that
+/// end's place, or the count of ends where there is none.
 fn look_on(nodes: &[TreeNode], ends: &[End], passed: &mut Vec<usize>, here: NodeNo) -> usize
     requires within { AllByRecursion (λ end. end.to < length nodes.now) ends.now }
     requires here { here < length passed.old.items }
     ensures passed { passed.new.items ≡ slice_set passed.old.items here result }
-    ensures inside { LeadToFound nodes.now ends.now (slice_index_or passed.old.items here 0) result }
-    ensures outside { (end : End) → slice_get ends.now result ≡ Some end → number_of nodes.now end.to ≡ 0 }
+    ensures inside { LeadToFound nodes.now ends.now (slice_index_or passed.old.items here 0)
+        result }
+    ensures outside { (end : End) → slice_get ends.now result ≡ Some end
+        → number_of nodes.now end.to ≡ 0 }
 {
     let at = here.get() as usize;
     let place = first_outside(nodes, ends, passed[at]);
@@ -122,11 +128,13 @@ fn look_on(nodes: &[TreeNode], ends: &[End], passed: &mut Vec<usize>, here: Node
     place
 }
 
-/// The place of the first end, from `from` on, that leads to a node that is not found; the count of ends where none does.
+/// The place of the first end, from `from` on, that leads to a node that is not found; the count of ends where none
+/// does.
 fn first_outside(nodes: &[TreeNode], ends: &[End], from: usize) -> usize
     requires { AllByRecursion (λ end. end.to < length nodes.now) ends.now }
     ensures inside { LeadToFound nodes.now ends.now from result }
-    ensures outside { (end : End) → slice_get ends.now result ≡ Some end → number_of nodes.now end.to ≡ 0 }
+    ensures outside { (end : End) → slice_get ends.now result ≡ Some end
+        → number_of nodes.now end.to ≡ 0 }
 {
     for place in from..ends.len() {
         if !is_found(nodes, ends[place].to) {
@@ -148,7 +156,8 @@ fn find(nodes: &mut Vec<TreeNode>, order: &mut Vec<NodeNo>, v: NodeNo, link: Opt
     requires within { v < length nodes.old.items }
     requires small { length order.old.items < 2 ^ 16 - 1 }
     requires room { length order.old.items < vec_capacity order.old }
-    ensures nodes { nodes.new.items ≡ slice_set nodes.old.items v (found_node (length order.old.items + 1) link) }
+    ensures nodes { nodes.new.items
+        ≡ slice_set nodes.old.items v (found_node (length order.old.items + 1) link) }
     ensures order { order.new.items ≡ order.old.items ++ v ∷ [] }
     ensures room { vec_capacity order.new ≡ vec_capacity order.old }
 {

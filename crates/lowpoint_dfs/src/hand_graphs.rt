@@ -30,7 +30,8 @@ use std::process::Abort;
 /// So many nodes, the first of them routers, the others networks.
 fn identifiers(alloc: Global, count: u16, routers: u16) -> Result<Vec<NodeId>, NoMemory>
     ensures count { IfOk result (λ ids. length ids.items ≡ count) }
-    ensures ids { IfOk result (λ ids. (k : ℕ) (d : NodeId) → k < count → slice_index_or ids.items k d
+    ensures ids { IfOk result (λ ids. (k : ℕ) (d : NodeId) → k < count
+        → slice_index_or ids.items k d
         ≡ record { kind = if nat_lt k routers then Kind.Router else Kind.Network; number = k + 1 }) }
 {
     let mut ids = Vec::new(alloc);
@@ -41,7 +42,8 @@ fn identifiers(alloc: Global, count: u16, routers: u16) -> Result<Vec<NodeId>, N
 }
 
 fn identifier(k: u16, routers: u16) -> NodeId
-    ensures { result ≡ record { kind = if nat_lt k routers then Kind.Router else Kind.Network; number = k + 1 } }
+    ensures { result ≡ record
+        { kind = if nat_lt k routers then Kind.Router else Kind.Network; number = k + 1 } }
 {
     let number = k as u32 + 1;
     if k < routers {

@@ -27,8 +27,8 @@ struct Lowest {
     link: Option<LinkNo>,
 }
 
-/// Gives each node of the list its lowpoint. The list has parents before their children and is gone through from its end,
-/// so that a node's children have theirs when its turn comes.
+/// Gives each node of the list its lowpoint. The list has parents before their children and is gone through from its
+/// end, so that a node's children have theirs when its turn comes.
 pub fn set_lowpoints(g: &Graph, nodes: &mut Vec<TreeNode>, order: &[NodeNo])
     requires kept { IsTopology g.now }
     requires one_each { length nodes.old.items ≡ length g.now.ids }

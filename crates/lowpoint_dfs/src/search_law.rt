@@ -29,7 +29,8 @@ ghost use Rattle.lowpoint_dfs.specs.Subtree.{HasParent, IsInSubtree, IsReachedFr
 pub fn one_search()
     ensures some { (g : Topology) (root : ℕ) → IsTopology g → root < length g.ids
         → (tree : List TreeNode) × IsSearchTree g root tree }
-    ensures one { (g : Topology) (root : ℕ) (tree other : List TreeNode) → IsTopology g → root < length g.ids
+    ensures one { (g : Topology) (root : ℕ) (tree other : List TreeNode) → IsTopology g
+        → root < length g.ids
         → IsSearchTree g root tree → IsSearchTree g root other → tree ≡ other }
 {}
 
@@ -43,22 +44,27 @@ pub fn each_node_is_listed_once()
 /// A law: a node's number is its place in the search's list, counted from 1; so numbers differ, and each is at most the
 /// count of nodes.
 pub fn numbers_are_places()
-    ensures places { (g : Topology) (root : ℕ) (tree : List TreeNode) → IsTopology g → root < length g.ids
+    ensures places { (g : Topology) (root : ℕ) (tree : List TreeNode) → IsTopology g
+        → root < length g.ids
         → (search : IsSearchTree g root tree) → (k v : ℕ) → slice_get search.order k ≡ Some v
         → number_of tree v ≡ k + 1 }
-    ensures within { (g : Topology) (root : ℕ) (tree : List TreeNode) → IsTopology g → root < length g.ids
+    ensures within { (g : Topology) (root : ℕ) (tree : List TreeNode) → IsTopology g
+        → root < length g.ids
         → IsSearchTree g root tree → (v : ℕ) → v < length g.ids
         → (1 ≤ number_of tree v) × (number_of tree v ≤ length g.ids) }
-    ensures differ { (g : Topology) (root : ℕ) (tree : List TreeNode) → IsTopology g → root < length g.ids
+    ensures differ { (g : Topology) (root : ℕ) (tree : List TreeNode) → IsTopology g
+        → root < length g.ids
         → IsSearchTree g root tree → (u v : ℕ) → u < length g.ids → v < length g.ids
         → number_of tree u ≡ number_of tree v → u ≡ v }
 {}
 
 /// A law: the root has number 1 and no parent; each other node has a parent with a lower number.
 pub fn each_node_but_the_root_has_a_parent()
-    ensures root { (g : Topology) (root : ℕ) (tree : List TreeNode) → IsTopology g → root < length g.ids
+    ensures root { (g : Topology) (root : ℕ) (tree : List TreeNode) → IsTopology g
+        → root < length g.ids
         → IsSearchTree g root tree → (number_of tree root ≡ 1) × (parent_link tree root ≡ None) }
-    ensures others { (g : Topology) (root : ℕ) (tree : List TreeNode) → IsTopology g → root < length g.ids
+    ensures others { (g : Topology) (root : ℕ) (tree : List TreeNode) → IsTopology g
+        → root < length g.ids
         → IsSearchTree g root tree → (v : ℕ) → v < length g.ids → v ≢ root → HasParent g tree v }
 {}
 

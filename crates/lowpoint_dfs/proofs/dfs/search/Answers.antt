@@ -1,7 +1,3 @@
-use Rattle.std.proofs.Common.{◌≡◌, List, ℕ, sym, subst}
-use Rattle.mrt_graph.specs.declared.tree.TreeNode.{TreeNode}
-use Rattle.lowpoint_dfs.specs.Lowering.{AreNumbered}
-use Rattle.lowpoint_dfs.specs.SearchTree.{IsSearchTree}
 use Rattle.lowpoint_dfs.proofs.WholeTree.{numbered, whole_tree}
 use Rattle.lowpoint_dfs.proofs.dfs.search.Goals as goal
 

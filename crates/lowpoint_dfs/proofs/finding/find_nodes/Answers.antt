@@ -1,4 +1,4 @@
-use Rattle.std.proofs.Common.{◌≡◌, ◌∙◌, ◌++◌, [], ◌∷◌, refl, ap, List, ℕ, arith, None, length}
+use Rattle.std.proofs.Common.{refl, arith, None}
 use Rattle.lowpoint_dfs.proofs.SearchGoesOn.{begun}
 use Rattle.lowpoint_dfs.proofs.finding.find_nodes.Goals as goal
 

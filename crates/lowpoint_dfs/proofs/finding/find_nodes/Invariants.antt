@@ -1,4 +1,4 @@
-use Rattle.std.proofs.Common.{◌≡◌, ◌≤◌, length, vec_capacity}
+use Rattle.std.proofs.Common.{◌≤◌, length, vec_capacity}
 use Rattle.lowpoint_dfs.specs.Finding.{IsSearching, left_at}
 use Rattle.lowpoint_dfs.proofs.finding.find_nodes.Given as goal
 

@@ -1,4 +1,4 @@
-use Rattle.std.proofs.Common.{◌≡◌, ◌∙◌, ◌-◌, ◌+◌, ℕ, Some, length, slice_get, refl, sym, ap, subst, arith}
+use Rattle.std.proofs.Common.{◌-◌, ◌+◌, length, refl, arith}
 use Rattle.std.proofs.lemmas.Option.{slice_get_read}
 use Rattle.mrt_graph.proofs.ListPlaces.{place_of}
 use Rattle.lowpoint_dfs.proofs.LowpointsGiven.{AreGiven, one_more}
