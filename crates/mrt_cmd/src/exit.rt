@@ -97,22 +97,42 @@ impl Exit {
             Exit::No { rule, a, b } => no(*rule, *a, *b),
             Exit::Usage => line_of(USAGE),
             Exit::BadDatabase { at, kind } => bad_database(*at, *kind),
-            Exit::BadProfile { line, kind } => bad_profile(*line, *kind),
-            Exit::BadCertificate { at, kind } => bad_certificate(*at, *kind),
-            Exit::TooLarge { what, size } => too_large(*what, *size),
+            Exit::BadProfile { line, kind } => numbered(
+                b"mrt: bad profile: ",
+                words_of_line(*kind),
+                b" on line ",
+                u64::from(*line),
+            ),
+            Exit::BadCertificate { at, kind } => numbered(
+                b"mrt: bad certificate: ",
+                words_of_kind(*kind),
+                b" at ",
+                u64::from(*at),
+            ),
+            Exit::TooLarge { what, size } => numbered(
+                b"mrt: too large: ",
+                words_of_what(*what),
+                b" ",
+                u64::from(*size),
+            ),
             Exit::NotThere { number } => not_there(*number),
-            Exit::ReadFault { word } => numbered(b"mrt: read fault: word ", u64::from(*word)),
-            Exit::WriteFault { taken } => numbered(b"mrt: write fault after ", *taken),
+            Exit::ReadFault { word } => numbered(b"mrt: read fault: ", b"word", b" ", u64::from(*word)),
+            Exit::WriteFault { taken } => numbered(b"mrt: write fault ", b"after", b" ", *taken),
             Exit::NoMemory => line_of(b"mrt: no memory\n"),
         }
     }
 }
 
-fn numbered(text: &[u8], number: u64) -> Line
-    requires { length text.now ≤ 200 }
-    ensures { result.items ≡ text.now ++ decimal number ++ codes "\n" }
+/// A line of a text, some words, what stands before the number, and the number.
+fn numbered(text: &[u8], words: &[u8], before: &[u8], number: u64) -> Line
+    requires text { length text.now ≤ 40 }
+    requires words { length words.now ≤ 20 }
+    requires before { length before.now ≤ 20 }
+    ensures { result.items ≡ text.now ++ words.now ++ before.now ++ decimal number ++ codes "\n" }
 {
     let mut line = line_of(text);
+    push(&mut line, words);
+    push(&mut line, before);
     push_decimal(&mut line, number);
     push(&mut line, b"\n");
     line
@@ -135,18 +155,23 @@ fn bad_database(at: u32, kind: DbKind) -> Line
     ensures { result.items ≡ database_line at kind }
 {
     match kind {
-        DbKind::Lsa(kind) => bad_record(at, kind),
+        DbKind::Lsa(kind) => numbered(
+            b"mrt: bad database: ",
+            words_of_record(kind),
+            b" at ",
+            u64::from(at),
+        ),
         DbKind::Conflict { first } => conflict(at, first),
     }
 }
 
-fn bad_record(at: u32, kind: LsaKind) -> Line
-    ensures { result.items ≡ codes "mrt: bad database: " ++ record_words kind ++ codes " at " ++ decimal at ++ codes "\n" }
+fn conflict(at: u32, first: u32) -> Line
+    ensures { result.items ≡ codes "mrt: bad database: conflict at " ++ decimal at ++ codes " with " ++ decimal first ++ codes "\n" }
 {
-    let mut line = line_of(b"mrt: bad database: ");
-    push(&mut line, words_of_record(kind));
-    push(&mut line, b" at ");
+    let mut line = line_of(b"mrt: bad database: conflict at ");
     push_decimal(&mut line, u64::from(at));
+    push(&mut line, b" with ");
+    push_decimal(&mut line, u64::from(first));
     push(&mut line, b"\n");
     line
 }
@@ -166,28 +191,6 @@ fn words_of_record(kind: LsaKind) -> &'static [u8]
     }
 }
 
-fn conflict(at: u32, first: u32) -> Line
-    ensures { result.items ≡ codes "mrt: bad database: conflict at " ++ decimal at ++ codes " with " ++ decimal first ++ codes "\n" }
-{
-    let mut line = line_of(b"mrt: bad database: conflict at ");
-    push_decimal(&mut line, u64::from(at));
-    push(&mut line, b" with ");
-    push_decimal(&mut line, u64::from(first));
-    push(&mut line, b"\n");
-    line
-}
-
-fn bad_profile(number: u32, kind: ProfileKind) -> Line
-    ensures { result.items ≡ codes "mrt: bad profile: " ++ line_words kind ++ codes " on line " ++ decimal number ++ codes "\n" }
-{
-    let mut line = line_of(b"mrt: bad profile: ");
-    push(&mut line, words_of_line(kind));
-    push(&mut line, b" on line ");
-    push_decimal(&mut line, u64::from(number));
-    push(&mut line, b"\n");
-    line
-}
-
 fn words_of_line(kind: ProfileKind) -> &'static [u8]
     ensures words { result.now ≡ line_words kind }
     ensures short { length result.now ≤ 20 }
@@ -201,17 +204,6 @@ fn words_of_line(kind: ProfileKind) -> &'static [u8]
     }
 }
 
-fn bad_certificate(at: u32, kind: CertKind) -> Line
-    ensures { result.items ≡ codes "mrt: bad certificate: " ++ kind_words kind ++ codes " at " ++ decimal at ++ codes "\n" }
-{
-    let mut line = line_of(b"mrt: bad certificate: ");
-    push(&mut line, words_of_kind(kind));
-    push(&mut line, b" at ");
-    push_decimal(&mut line, u64::from(at));
-    push(&mut line, b"\n");
-    line
-}
-
 fn words_of_kind(kind: CertKind) -> &'static [u8]
     ensures words { result.now ≡ kind_words kind }
     ensures short { length result.now ≤ 20 }
@@ -223,17 +215,6 @@ fn words_of_kind(kind: CertKind) -> &'static [u8]
         CertKind::Tag => b"tag",
         CertKind::Trailing => b"trailing",
     }
-}
-
-fn too_large(what: What, size: u32) -> Line
-    ensures { result.items ≡ codes "mrt: too large: " ++ what_words what ++ codes " " ++ decimal size ++ codes "\n" }
-{
-    let mut line = line_of(b"mrt: too large: ");
-    push(&mut line, words_of_what(what));
-    push(&mut line, b" ");
-    push_decimal(&mut line, u64::from(size));
-    push(&mut line, b"\n");
-    line
 }
 
 fn words_of_what(what: What) -> &'static [u8]
