@@ -1,3 +1,4 @@
 pub mod Databases
 pub mod Entering
 pub mod Refusals
+pub mod Unread

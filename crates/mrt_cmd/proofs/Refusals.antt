@@ -10,19 +10,7 @@ use Rattle.mrt_graph.specs.declared.node_id.NodeId.{NodeId}
 use Rattle.mrt_island.specs.IslandOf.{IsIsland, IsOver}
 use Rattle.mrt_island.specs.Policy.{Policy}
 use Rattle.mrt_cmd.specs.declared.exit.Exit.{Exit}
-use Rattle.mrt_cmd.specs.declared.exit.Exit.TheVariants.{
-  Done,
-  No,
-  Usage,
-  BadDatabase,
-  BadProfile,
-  BadCertificate,
-  TooLarge,
-  NotThere,
-  ReadFault,
-  WriteFault,
-  NoMemory,
-}
+use Rattle.mrt_cmd.specs.declared.exit.Exit.TheVariants as exits
 use Rattle.mrt_cmd.specs.declared.exit.What.TheVariants as whats
 use Rattle.mrt_io.specs.Holding.{Files}
 use Rattle.mrt_cmd.specs.Comes.{AreRead}
@@ -37,51 +25,27 @@ handed_on (Ok t) exit is P held = tt
 handed_on (Err told) exit is P held = subst P (sym is) held
 
 pub large_island_told : (policy : Policy) (area : AreaParts) (router nodes links : ℕ) → IsOver policy area router nodes links
-    → HasNoIsland policy area router (if nat_lt 2048 nodes then TooLarge whats.IslandNodes nodes else TooLarge whats.IslandLinks links)
+    → HasNoIsland policy area router (if nat_lt 2048 nodes then exits.TooLarge whats.IslandNodes nodes else exits.TooLarge whats.IslandLinks links)
 large_island_told policy area router nodes links over = go (nat_lt 2048 nodes) refl
   where
-    go : (b : Bool) → nat_lt 2048 nodes ≡ b → HasNoIsland policy area router (if nat_lt 2048 nodes then TooLarge whats.IslandNodes nodes else TooLarge whats.IslandLinks links)
+    go : (b : Bool) → nat_lt 2048 nodes ≡ b → HasNoIsland policy area router (if nat_lt 2048 nodes then exits.TooLarge whats.IslandNodes nodes else exits.TooLarge whats.IslandLinks links)
     go true e = rw e (links, over, ltb-true 2048 nodes e)
     go false e = rw e (nodes, over, ltb-false 2048 nodes e)
 
 pub area_refused : (input : Input) (exit : Exit) → HasNoArea (area input) exit → IsVerdictFor input exit
-area_refused input (TooLarge what size) said = inl (inl said)
-area_refused input NoMemory said = inr refl
-area_refused input Done said = absurd said
-area_refused input (No rule a b) said = absurd said
-area_refused input Usage said = absurd said
-area_refused input (BadDatabase at kind) said = absurd said
-area_refused input (BadProfile line kind) said = absurd said
-area_refused input (BadCertificate at kind) said = absurd said
-area_refused input (NotThere number) said = absurd said
-area_refused input (ReadFault word) said = absurd said
-area_refused input (WriteFault taken) said = absurd said
+area_refused input (exits.TooLarge what size) said = inl (inl said)
+area_refused input exits.NoMemory said = inr refl
+area_refused input exit said = absurd said
 
 pub island_refused : (input : Input) → HasAreaWithin input → (exit : Exit) → HasNoIsland (policy input) (area input) input.file.root exit → IsVerdictFor input exit
-island_refused input within (TooLarge what size) said = inl (inr (within, said))
-island_refused input within (NotThere number) said = inl (within, said.0, said.1)
-island_refused input within NoMemory said = inr refl
-island_refused input within Done said = absurd said
-island_refused input within (No rule a b) said = absurd said
-island_refused input within Usage said = absurd said
-island_refused input within (BadDatabase at kind) said = absurd said
-island_refused input within (BadProfile line kind) said = absurd said
-island_refused input within (BadCertificate at kind) said = absurd said
-island_refused input within (ReadFault word) said = absurd said
-island_refused input within (WriteFault taken) said = absurd said
+island_refused input within (exits.TooLarge what size) said = inl (inr (within, said))
+island_refused input within (exits.NotThere number) said = inl (within, said.0, said.1)
+island_refused input within exits.NoMemory said = inr refl
+island_refused input within exit said = absurd said
 
 rejected : (input : Input) (graph : Topology) (root : ℕ) → HasIsland input graph root → (exit : Exit) → IsRejected graph root input.file exit → IsVerdictFor input exit
-rejected input graph root island (No rule a b) said = inl (graph, root, island, said)
-rejected input graph root island (TooLarge what size) said = absurd said
-rejected input graph root island (NotThere number) said = absurd said
-rejected input graph root island NoMemory said = absurd said
-rejected input graph root island Done said = absurd said
-rejected input graph root island Usage said = absurd said
-rejected input graph root island (BadDatabase at kind) said = absurd said
-rejected input graph root island (BadProfile line kind) said = absurd said
-rejected input graph root island (BadCertificate at kind) said = absurd said
-rejected input graph root island (ReadFault word) said = absurd said
-rejected input graph root island (WriteFault taken) said = absurd said
+rejected input graph root island (exits.No rule a b) said = inl (graph, root, island, said)
+rejected input graph root island exit said = absurd said
 
 pub rejected_over : {T : Type 0} (result : Result T Exit) (input : Input) (graph : Topology) (root : ℕ) → HasIsland input graph root
     → IfErr result (IsRejected graph root input.file) → IfErr result (IsVerdictFor input)
@@ -98,17 +62,10 @@ root_within policy area router graph root link_of island =
 verdict_over : (database profile certificate : List ℕ) (input : Input) → IsInput database profile certificate input → (exit : Exit) → IsVerdictFor input exit
     → IsVerdictOver database profile certificate exit
 verdict_over database profile certificate input given exit (inr memory) = subst (IsVerdictOver database profile certificate) (sym memory) (inr refl)
-verdict_over database profile certificate input given (TooLarge what size) (inl said) = inl (input, given, said)
-verdict_over database profile certificate input given (NotThere number) (inl said) = inl (input, given, said)
-verdict_over database profile certificate input given (No rule a b) (inl said) = inl (input, given, said)
-verdict_over database profile certificate input given NoMemory (inl said) = absurd said
-verdict_over database profile certificate input given Done (inl said) = absurd said
-verdict_over database profile certificate input given Usage (inl said) = absurd said
-verdict_over database profile certificate input given (BadDatabase at kind) (inl said) = absurd said
-verdict_over database profile certificate input given (BadProfile line kind) (inl said) = absurd said
-verdict_over database profile certificate input given (BadCertificate at kind) (inl said) = absurd said
-verdict_over database profile certificate input given (ReadFault word) (inl said) = absurd said
-verdict_over database profile certificate input given (WriteFault taken) (inl said) = absurd said
+verdict_over database profile certificate input given (exits.TooLarge what size) (inl said) = inl (input, given, said)
+verdict_over database profile certificate input given (exits.NotThere number) (inl said) = inl (input, given, said)
+verdict_over database profile certificate input given (exits.No rule a b) (inl said) = inl (input, given, said)
+verdict_over database profile certificate input given exit (inl said) = absurd said
 
 pub verdicts_over : {T : Type 0} (answer : Result T Exit) (database profile certificate : List ℕ) (input : Input) → IsInput database profile certificate input
     → IfErr answer (IsVerdictFor input) → IfErr answer (IsVerdictOver database profile certificate)
@@ -117,47 +74,23 @@ verdicts_over (Err exit) database profile certificate input given said = verdict
 
 -- what is said of the bytes that were read is a refusal of the form
 refusal_over : (held : Option Files) (database : List ℕ) (profile : Option (List ℕ)) (certificate area lines bytes : List ℕ) (exit : Exit)
-    → AreRead held database profile certificate area lines bytes → IsRefusedOver area lines bytes exit ⊎ (exit ≡ NoMemory)
+    → AreRead held database profile certificate area lines bytes → IsRefusedOver area lines bytes exit ⊎ (exit ≡ exits.NoMemory)
     → IsRefusal held (Check database profile certificate) exit
 refusal_over held database profile certificate area lines bytes exit read (inl refused) = inl (inr (area, lines, bytes, read, refused))
 refusal_over held database profile certificate area lines bytes exit read (inr memory) = inr memory
 
 calm_refusal : (held : Option Files) (database : List ℕ) (profile : Option (List ℕ)) (certificate area lines bytes : List ℕ) (exit : Exit)
     → AreRead held database profile certificate area lines bytes → IsVerdictOver area lines bytes exit → IsRefusal held (Check database profile certificate) exit
-calm_refusal held database profile certificate area lines bytes (ReadFault word) read said = absurd said
-calm_refusal held database profile certificate area lines bytes Done read said = refusal_over held database profile certificate area lines bytes Done read said
-calm_refusal held database profile certificate area lines bytes (No rule a b) read said = refusal_over held database profile certificate area lines bytes (No rule a b) read said
-calm_refusal held database profile certificate area lines bytes Usage read said = refusal_over held database profile certificate area lines bytes Usage read said
-calm_refusal held database profile certificate area lines bytes (BadDatabase at kind) read said =
-    refusal_over held database profile certificate area lines bytes (BadDatabase at kind) read said
-calm_refusal held database profile certificate area lines bytes (BadProfile line kind) read said =
-    refusal_over held database profile certificate area lines bytes (BadProfile line kind) read said
-calm_refusal held database profile certificate area lines bytes (BadCertificate at kind) read said =
-    refusal_over held database profile certificate area lines bytes (BadCertificate at kind) read said
-calm_refusal held database profile certificate area lines bytes (TooLarge what size) read said =
-    refusal_over held database profile certificate area lines bytes (TooLarge what size) read said
-calm_refusal held database profile certificate area lines bytes (NotThere number) read said =
-    refusal_over held database profile certificate area lines bytes (NotThere number) read said
-calm_refusal held database profile certificate area lines bytes (WriteFault taken) read said =
-    refusal_over held database profile certificate area lines bytes (WriteFault taken) read said
-calm_refusal held database profile certificate area lines bytes NoMemory read said = refusal_over held database profile certificate area lines bytes NoMemory read said
+calm_refusal held database profile certificate area lines bytes (exits.ReadFault word) read said = absurd said
+calm_refusal held database profile certificate area lines bytes exit read said = refusal_over held database profile certificate area lines bytes exit read said
 
 -- a refusal of a form that names no file is so also where the shelf may have failed
-or_fault : (held : Option Files) (form : Form) (before now : ℕ) (exit : Exit) → ((word : ℕ) → exit ≡ ReadFault word → ⊥) → IsRefusal held form exit
+or_fault : (held : Option Files) (form : Form) (before now : ℕ) (exit : Exit) → ((word : ℕ) → exit ≡ exits.ReadFault word → ⊥) → IsRefusal held form exit
     → IsRefusalOrFault held form before now exit
-or_fault held form before now (ReadFault word) never said = absurd (never word refl)
-or_fault held form before now Done never said = said
-or_fault held form before now (No rule a b) never said = said
-or_fault held form before now Usage never said = said
-or_fault held form before now (BadDatabase at kind) never said = said
-or_fault held form before now (BadProfile line kind) never said = said
-or_fault held form before now (BadCertificate at kind) never said = said
-or_fault held form before now (TooLarge what size) never said = said
-or_fault held form before now (NotThere number) never said = said
-or_fault held form before now (WriteFault taken) never said = said
-or_fault held form before now NoMemory never said = said
+or_fault held form before now (exits.ReadFault word) never said = absurd (never word refl)
+or_fault held form before now exit never said = said
 
-no_file : (area lines bytes : List ℕ) (exit : Exit) → IsVerdictOver area lines bytes exit → (word : ℕ) → exit ≡ ReadFault word → ⊥
+no_file : (area lines bytes : List ℕ) (exit : Exit) → IsVerdictOver area lines bytes exit → (word : ℕ) → exit ≡ exits.ReadFault word → ⊥
 no_file area lines bytes exit said word is = subst (IsVerdictOver area lines bytes) is said
 
 -- of an answer

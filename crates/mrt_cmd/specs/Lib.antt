@@ -4,6 +4,7 @@ pub mod Exits
 pub mod Files
 pub mod Form
 pub mod Database
+pub mod Faults
 pub mod Input
 pub mod Reading
 pub mod Run

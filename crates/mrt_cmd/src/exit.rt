@@ -116,7 +116,12 @@ impl Exit {
                 u64::from(*size),
             ),
             Exit::NotThere { number } => not_there(*number),
-            Exit::ReadFault { word } => numbered(b"mrt: read fault: ", b"word", b" ", u64::from(*word)),
+            Exit::ReadFault { word } => numbered(
+                b"mrt: read fault: ",
+                b"word",
+                b" ",
+                u64::from(*word),
+            ),
             Exit::WriteFault { taken } => numbered(b"mrt: write fault ", b"after", b" ", *taken),
             Exit::NoMemory => line_of(b"mrt: no memory\n"),
         }

@@ -10,15 +10,15 @@ ghost use Rattle.mrt_cmd.specs.Database.{IsDatabase, entering, enters};
 ghost use Rattle.mrt_cmd.specs.Input.{IsCertOf, IsProfile};
 ghost use Rattle.mrt_cmd.specs.Reading.{HasNoCert, HasNoDatabase, HasNoProfile};
 
-use crate::exit::{DbKind, Exit};
-use cert_format::{CertError, read_cert};
+use crate::exit::Exit;
+use cert_format::read_cert;
 use lsdb::{
     Lsdb, an_lsa_without_a_fault_may_be_installed, entries_are_those_of_the_list,
     refuses_exactly_where_not_settled, tells_the_first_conflict,
 };
 use mrt_graph::CertFile;
-use mrt_island::{Profile, ProfileError, read_profile};
-use ospf_lsa::{Lsa, LsaError, read_lsas};
+use mrt_island::{Profile, read_profile};
+use ospf_lsa::{Lsa, read_lsas};
 use std::alloc::Global;
 
 /// The LS type of a router-LSA (RFC 2328, section A.4.1).
@@ -36,26 +36,10 @@ pub(crate) fn database_of(alloc: Global, bytes: &[u8]) -> Result<Lsdb, Exit>
 {
     refuses_exactly_where_not_settled();
     tells_the_first_conflict();
-    let lsas = match read_lsas(alloc, bytes) {
-        Ok(lsas) => lsas,
-        Err(LsaError::Fault { at, kind }) => {
-            return Err(Exit::BadDatabase {
-                at,
-                kind: DbKind::Lsa(kind),
-            });
-        }
-        Err(LsaError::NoMemory) => return Err(Exit::NoMemory),
-    };
+    let lsas = read_lsas(alloc, bytes)?;
     let database = installed(alloc, lsas)?;
-    match database.settled() {
-        Ok(()) => Ok(database),
-        Err(conflict) => Err(Exit::BadDatabase {
-            at: conflict.second,
-            kind: DbKind::Conflict {
-                first: conflict.first,
-            },
-        }),
-    }
+    database.settled()?;
+    Ok(database)
 }
 
 /// A database in which the router-LSAs and network-LSAs among these were installed, one after another.
@@ -84,10 +68,8 @@ fn enter(database: &mut Lsdb, lsa: Lsa) -> Result<(), Exit>
     if !enters(&lsa) {
         return Ok(());
     }
-    match database.install(lsa) {
-        Ok(_) => Ok(()),
-        Err(_) => Err(Exit::NoMemory),
-    }
+    database.install(lsa)?;
+    Ok(())
 }
 
 /// Whether an LSA is one that enters the database.
@@ -103,11 +85,7 @@ pub(crate) fn profile_of(alloc: Global, bytes: &[u8]) -> Result<Profile, Exit>
     ensures profile { IfOk result (λ profile. IsProfile bytes.now profile) }
     ensures none { IfErr result (HasNoProfile bytes.now) }
 {
-    match read_profile(alloc, bytes) {
-        Ok(profile) => Ok(profile),
-        Err(ProfileError::Fault { line, kind }) => Err(Exit::BadProfile { line, kind }),
-        Err(ProfileError::NoMemory) => Err(Exit::NoMemory),
-    }
+    Ok(read_profile(alloc, bytes)?)
 }
 
 /// The certificate file that the bytes are.
@@ -115,9 +93,5 @@ pub(crate) fn cert_of(alloc: Global, bytes: &[u8]) -> Result<CertFile, Exit>
     ensures file { IfOk result (λ file. IsCertOf bytes.now file) }
     ensures none { IfErr result (HasNoCert bytes.now) }
 {
-    match read_cert(alloc, bytes) {
-        Ok(file) => Ok(file),
-        Err(CertError::Fault { at, kind }) => Err(Exit::BadCertificate { at, kind }),
-        Err(CertError::NoMemory) => Err(Exit::NoMemory),
-    }
+    Ok(read_cert(alloc, bytes)?)
 }

@@ -3,8 +3,10 @@
 
 mod check;
 mod exit;
+mod fault;
 mod input;
 mod line;
+mod named_file;
 mod program;
 mod reading;
 mod verdict;

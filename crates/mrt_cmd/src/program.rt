@@ -15,11 +15,11 @@ ghost use Rattle.mrt_cmd.specs.Form.{form_of};
 ghost use Rattle.mrt_cmd.specs.Reading.{IsRefusal, IsRefusalOrFault, IsWordOrMemory};
 ghost use Rattle.mrt_cmd.specs.Run.{GainedLine, IsCutShort, WritesNothing};
 
-use crate::check::{check_plainly, check_under};
+use crate::check::check;
 use crate::exit::Exit;
 use crate::line::Line;
 use crate::words::{Form, read_form};
-use mrt_io::{PutError, Shelf, Sink, Word, put_all};
+use mrt_io::{Shelf, Sink, Word, put_all};
 use std::alloc::Global;
 
 /// Does what the words ask for: reads the files that they name, writes the text of the answer to `out`, or else one line on
@@ -87,58 +87,12 @@ pub fn run<F: Shelf, K: Sink, E: Sink>(
     ensures line { (result ≡ Exit.Done → ⊥) → GainedLine (E.healthy_for err.old) (E.faults err.old) (E.faults err.new)
         (E.written err.old) (E.written err.new) (line_of result) }
 {
-    let exit = answer(alloc, words, shelf, out);
-    if exit != Exit::Done {
-        put_line(err, exit);
-    }
-    exit
-}
-
-/// The same but for the line.
-fn answer<F: Shelf, K: Sink>(alloc: Global, words: &[Word], shelf: &mut F, out: &mut K) -> Exit
-    ensures usage { (result ≡ Exit.Usage) ↔ IsNone (form_of words.now) }
-    ensures usage_reads_nothing { result ≡ Exit.Usage → shelf.new ≡ shelf.old }
-    ensures read_fault { (word : ℕ) → result ≡ Exit.ReadFault word
-        → FailsAt (F.held shelf.old) words.now word × Rose (F.faults shelf.old) (F.faults shelf.new) }
-    ensures healthy_read { F.healthy shelf.old → (word : ℕ) → result ≡ Exit.ReadFault word
-        → IsRefused (F.held shelf.old) words.now (Exit.ReadFault word) }
-    ensures missing { F.healthy shelf.old → (word : ℕ) → MissesAt (F.held shelf.old) words.now word
-        → (result ≡ Exit.ReadFault word) ⊎ (result ≡ Exit.NoMemory) }
-    ensures no_read_fault { F.healthy shelf.old → NamesHeld (F.held shelf.old) words.now
-        → F.faults shelf.new ≡ F.faults shelf.old }
-    ensures too_large { (what : What) (size : ℕ) → result ≡ Exit.TooLarge what size
-        → IsRefused (F.held shelf.old) words.now (Exit.TooLarge what size) }
-    ensures bad_database { (at : ℕ) (kind : DbKind) → result ≡ Exit.BadDatabase at kind
-        → IsRefused (F.held shelf.old) words.now (Exit.BadDatabase at kind) }
-    ensures bad_profile { (line : ℕ) (kind : ProfileKind) → result ≡ Exit.BadProfile line kind
-        → IsRefused (F.held shelf.old) words.now (Exit.BadProfile line kind) }
-    ensures bad_certificate { (at : ℕ) (kind : CertKind) → result ≡ Exit.BadCertificate at kind
-        → IsRefused (F.held shelf.old) words.now (Exit.BadCertificate at kind) }
-    ensures not_there { (number : ℕ) → result ≡ Exit.NotThere number
-        → IsRefused (F.held shelf.old) words.now (Exit.NotThere number) }
-    ensures no { (rule a b : ℕ) → result ≡ Exit.No rule a b
-        → IsRefused (F.held shelf.old) words.now (Exit.No rule a b) }
-    ensures done { result ≡ Exit.Done → (text : List ℕ) × GivesText (F.held shelf.old) words.now text
-        × Gained (K.written out.old) text (K.written out.new) }
-    ensures write_fault { (taken : ℕ) → result ≡ Exit.WriteFault taken
-        → (text : List ℕ) × GivesText (F.held shelf.old) words.now text
-        × IsCutShort (K.healthy_for out.old) (K.faults out.old) (K.faults out.new)
-        (K.written out.old) (K.written out.new) text taken }
-    ensures no_write_fault { ((text : List ℕ) → GivesText (F.held shelf.old) words.now text → K.healthy_for out.old (length text))
-        → K.faults out.new ≡ K.faults out.old }
-    ensures writes_nothing { WritesNothing result → out.new ≡ out.old }
-    ensures calm { (Rose (F.faults shelf.old) (F.faults shelf.new) → ⊥) → (Rose (K.faults out.old) (K.faults out.new) → ⊥)
-        → Comes (F.held shelf.old) words.now result ⊎ (result ≡ Exit.NoMemory) }
-    ensures healthy { F.healthy shelf.old
-        → ((text : List ℕ) → GivesText (F.held shelf.old) words.now text → K.healthy_for out.old (length text))
-        → Comes (F.held shelf.old) words.now result ⊎ (result ≡ Exit.NoMemory) }
-{
     let Some(form) = read_form(words) else {
-        return Exit::Usage;
+        return put_line(err, Exit::Usage);
     };
     match text_of(alloc, form, shelf) {
-        Ok(text) => put_text(out, text.as_slice()),
-        Err(exit) => exit,
+        Ok(text) => put_text(out, err, text.as_slice()),
+        Err(exit) => put_line(err, exit),
     }
 }
 
@@ -156,19 +110,14 @@ fn text_of<F: Shelf>(alloc: Global, form: Form<'_>, shelf: &mut F) -> Result<Lin
     match form {
         Form::Check {
             database,
-            profile: None,
+            profile,
             certificate,
-        } => check_plainly(alloc, shelf, database, certificate),
-        Form::Check {
-            database,
-            profile: Some(profile),
-            certificate,
-        } => check_under(alloc, shelf, database, profile, certificate),
+        } => check(alloc, shelf, database, profile, certificate),
     }
 }
 
-/// Writes the answer's text.
-fn put_text<K: Sink>(out: &mut K, text: &[u8]) -> Exit
+/// Writes the answer's text, or else the line of the fault.
+fn put_text<K: Sink, E: Sink>(out: &mut K, err: &mut E, text: &[u8]) -> Exit
     ensures kind { WritesNothing result → ⊥ }
     ensures done { result ≡ Exit.Done → Gained (K.written out.old) text.now (K.written out.new) }
     ensures write_fault { (taken : ℕ) → result ≡ Exit.WriteFault taken
@@ -177,17 +126,22 @@ fn put_text<K: Sink>(out: &mut K, text: &[u8]) -> Exit
     ensures calm { (Rose (K.faults out.old) (K.faults out.new) → ⊥) → result ≡ Exit.Done }
     ensures healthy { K.healthy_for out.old (length text.now) → result ≡ Exit.Done }
     ensures no_fault { K.healthy_for out.old (length text.now) → K.faults out.new ≡ K.faults out.old }
+    ensures silent { result ≡ Exit.Done → err.new ≡ err.old }
+    ensures line { (result ≡ Exit.Done → ⊥) → GainedLine (E.healthy_for err.old) (E.faults err.old) (E.faults err.new)
+        (E.written err.old) (E.written err.new) (line_of result) }
 {
     match put_all(out, text) {
         Ok(()) => Exit::Done,
-        Err(PutError::Failed { taken }) => Exit::WriteFault { taken },
+        Err(fault) => put_line(err, Exit::from(fault)),
     }
 }
 
-/// Writes the exit's line, as far as the sink takes it.
-fn put_line<E: Sink>(err: &mut E, exit: Exit)
-    ensures { GainedLine (E.healthy_for err.old) (E.faults err.old) (E.faults err.new)
+/// Writes the exit's line, as far as the sink takes it, and is the exit.
+fn put_line<E: Sink>(err: &mut E, exit: Exit) -> Exit
+    ensures same { result ≡ exit }
+    ensures line { GainedLine (E.healthy_for err.old) (E.faults err.old) (E.faults err.new)
         (E.written err.old) (E.written err.new) (line_of exit) }
 {
     let _ = put_all(err, exit.line().as_slice());
+    exit
 }

@@ -1,49 +1,71 @@
-//! The files that the words name.
+//! Reading the files that the words name.
 
-ghost use Rattle.std.specs.Prelude.{◌≡◌, ◌≤◌, ◌<◌, ◌-◌, ◌^◌, IfOk, IfErr};
+ghost use Rattle.std.specs.Prelude.{◌≡◌, ◌≤◌, ◌<◌, ◌-◌, ◌^◌, IfOk, IfErr, IfSome};
+ghost use Rattle.std.specs.Option.{IsSomeAnd, option_map};
 ghost use Rattle.mrt_io.specs.Counts.{Rose};
 ghost use Rattle.mrt_io.specs.Holding.{IsKnownThere};
-ghost use Rattle.mrt_cmd.specs.Files.{IsReadAs, NamedFile};
+ghost use Rattle.mrt_cmd.specs.Comes.{IsProfileRead};
+ghost use Rattle.mrt_cmd.specs.Files.{IsReadAs, profile_file};
 ghost use Rattle.mrt_cmd.specs.Reading.{IsUnread, IsUnreadOrFault};
 
-use crate::exit::{Exit, What};
+use crate::exit::Exit;
+use crate::named_file::NamedFile;
 use mrt_io::{Shelf, ShelfError, Word};
 use std::alloc::Global;
 
-/// The bytes of the file that stands at this place among the words, at most `limit` of them.
+/// The bytes of a file.
 pub(crate) fn read_file<F: Shelf>(
     alloc: Global,
     shelf: &mut F,
-    name: &Word,
-    word: u8,
-    what: What,
-    limit: u32,
+    file: &NamedFile<'_>,
 ) -> Result<Vec<u8>, Exit>
-    requires { limit < 2 ^ 32 - 1 }
-    ensures read { let file : NamedFile = record { place = word; name = name.now; what = what; limit = limit } in
-        IfOk result (λ bytes. IsReadAs (F.held shelf.old) file bytes.items) }
-    ensures refused { let file : NamedFile = record { place = word; name = name.now; what = what; limit = limit } in
-        IfErr result (IsUnreadOrFault (F.held shelf.old) file (F.faults shelf.old) (F.faults shelf.new)) }
+    requires { file.now.limit < 2 ^ 32 - 1 }
+    ensures read { IfOk result (λ bytes. IsReadAs (F.held shelf.old) file.now bytes.items) }
+    ensures refused { IfErr result (IsUnreadOrFault (F.held shelf.old) file.now (F.faults shelf.old) (F.faults shelf.new)) }
 
     // Where no count rose, and over a healthy shelf, a refusal is due to the files that are held.
-    ensures calm { let file : NamedFile = record { place = word; name = name.now; what = what; limit = limit } in
-        (Rose (F.faults shelf.old) (F.faults shelf.new) → ⊥) → IfErr result (IsUnread (F.held shelf.old) file) }
-    ensures healthy { let file : NamedFile = record { place = word; name = name.now; what = what; limit = limit } in
-        F.healthy shelf.old → IfErr result (IsUnread (F.held shelf.old) file) }
+    ensures calm { (Rose (F.faults shelf.old) (F.faults shelf.new) → ⊥) → IfErr result (IsUnread (F.held shelf.old) file.now) }
+    ensures healthy { F.healthy shelf.old → IfErr result (IsUnread (F.held shelf.old) file.now) }
 
     ensures count { F.faults shelf.old ≤ F.faults shelf.new }
     ensures unchanged { F.held shelf.new ≡ F.held shelf.old }
-    ensures no_fault { F.healthy shelf.old → IsKnownThere (F.held shelf.old) name.now
+    ensures no_fault { F.healthy shelf.old → IsKnownThere (F.held shelf.old) file.now.name
         → F.faults shelf.new ≡ F.faults shelf.old }
-    ensures stays_healthy { F.healthy shelf.old → IsKnownThere (F.held shelf.old) name.now → F.healthy shelf.new }
+    ensures stays_healthy { F.healthy shelf.old → IsKnownThere (F.held shelf.old) file.now.name → F.healthy shelf.new }
 {
-    match shelf.read(alloc, name, limit) {
+    match shelf.read(alloc, file.name, file.limit) {
         Ok(bytes) => Ok(bytes),
-        Err(ShelfError::Failed) => Err(Exit::ReadFault { word }),
+        Err(ShelfError::Failed) => Err(Exit::ReadFault { word: file.place }),
         Err(ShelfError::TooLong) => Err(Exit::TooLarge {
-            what,
-            size: limit + 1,
+            what: file.what,
+            size: file.limit + 1,
         }),
         Err(ShelfError::NoMemory) => Err(Exit::NoMemory),
+    }
+}
+
+/// The bytes of the profile; without a name they are none, and nothing is read.
+pub(crate) fn read_profile_file<F: Shelf>(
+    alloc: Global,
+    shelf: &mut F,
+    profile: Option<&Word>,
+) -> Result<Vec<u8>, Exit>
+    ensures read { IfOk result (λ bytes. IsProfileRead (F.held shelf.old) (option_map (λ name. name.now) profile.entry) bytes.items) }
+    ensures refused { IfErr result (λ exit. IsSomeAnd (option_map (λ name. name.now) profile.entry)
+        (λ name. IsUnreadOrFault (F.held shelf.old) (profile_file name) (F.faults shelf.old) (F.faults shelf.new) exit)) }
+    ensures calm { (Rose (F.faults shelf.old) (F.faults shelf.new) → ⊥)
+        → IfErr result (λ exit. IsSomeAnd (option_map (λ name. name.now) profile.entry) (λ name. IsUnread (F.held shelf.old) (profile_file name) exit)) }
+    ensures healthy { F.healthy shelf.old
+        → IfErr result (λ exit. IsSomeAnd (option_map (λ name. name.now) profile.entry) (λ name. IsUnread (F.held shelf.old) (profile_file name) exit)) }
+    ensures count { F.faults shelf.old ≤ F.faults shelf.new }
+    ensures unchanged { F.held shelf.new ≡ F.held shelf.old }
+    ensures no_fault { F.healthy shelf.old → IfSome (option_map (λ name. name.now) profile.entry) (IsKnownThere (F.held shelf.old))
+        → F.faults shelf.new ≡ F.faults shelf.old }
+    ensures stays_healthy { F.healthy shelf.old → IfSome (option_map (λ name. name.now) profile.entry) (IsKnownThere (F.held shelf.old))
+        → F.healthy shelf.new }
+{
+    match profile {
+        None => Ok(Vec::new(alloc)),
+        Some(name) => read_file(alloc, shelf, &NamedFile::profile(name)),
     }
 }

@@ -12,16 +12,14 @@ ghost use Rattle.mrt_cmd.specs.Reading.{HasNoArea, HasNoIsland, IsRejected, IsVe
 ghost use Rattle.mrt_cmd.specs.Verdict.{IsAccepted, IsAcceptedFor, accepted_line as line_of_accepted};
 
 use crate::exit::{Exit, What};
+use crate::fault::too_large;
 use crate::line::{Line, line_of, push, push_address, push_decimal};
-use area_graph::{Area, AreaError, build_area};
+use area_graph::{Area, build_area};
 use cert_checker::{Verdict, check};
 use lsdb::Lsdb;
 use mrt_graph::{CertFile, Graph, NodeNo};
 use mrt_island::{Island, IslandError, Profile, find_island};
 use std::alloc::Global;
-
-/// The most nodes that an area may have.
-const AREA_NODES: u32 = 4096;
 
 /// The most nodes that an island may have.
 const ISLAND_NODES: u32 = 2048;
@@ -52,27 +50,7 @@ fn area_of(alloc: Global, database: &Lsdb) -> Result<Area, Exit>
         IfOk result (λ _. IsTooLarge (length area.ids) (length area.arcs) → ⊥) }
     ensures refused { IfErr result (HasNoArea (area_of_newest (map (λ entry. entry.lsa) database.now.entries))) }
 {
-    match build_area(alloc, database) {
-        Ok(area) => Ok(area),
-        Err(AreaError::TooLarge { nodes, arcs }) => Err(large_area(nodes, arcs)),
-        Err(AreaError::NoMemory) => Err(Exit::NoMemory),
-    }
-}
-
-/// What is too large of an area that is so: its nodes, or where these are within their limit its arcs.
-fn large_area(nodes: u32, arcs: u32) -> Exit
-    ensures { result ≡ (if nat_lt 4096 nodes then Exit.TooLarge What.AreaNodes nodes else Exit.TooLarge What.AreaArcs arcs) }
-{
-    if nodes > AREA_NODES {
-        return Exit::TooLarge {
-            what: What::AreaNodes,
-            size: nodes,
-        };
-    }
-    Exit::TooLarge {
-        what: What::AreaArcs,
-        size: arcs,
-    }
+    Ok(build_area(alloc, database)?)
 }
 
 /// The island of a router.
@@ -84,24 +62,14 @@ fn island_of(alloc: Global, area: &Area, profile: &Profile, router: u32) -> Resu
         Ok(island) => Ok(island),
         Err(IslandError::NotThere) => Err(Exit::NotThere { number: router }),
         Err(IslandError::Unsupported) => Err(Exit::NotThere { number: router }),
-        Err(IslandError::TooLarge { nodes, links }) => Err(large_island(nodes, links)),
+        Err(IslandError::TooLarge { nodes, links }) => Err(too_large(
+            ISLAND_NODES,
+            What::IslandNodes,
+            nodes,
+            What::IslandLinks,
+            links,
+        )),
         Err(IslandError::NoMemory) => Err(Exit::NoMemory),
-    }
-}
-
-/// What is too large of an island that is so: its nodes, or where these are within their limit its links.
-fn large_island(nodes: u32, links: u32) -> Exit
-    ensures { result ≡ (if nat_lt 2048 nodes then Exit.TooLarge What.IslandNodes nodes else Exit.TooLarge What.IslandLinks links) }
-{
-    if nodes > ISLAND_NODES {
-        return Exit::TooLarge {
-            what: What::IslandNodes,
-            size: nodes,
-        };
-    }
-    Exit::TooLarge {
-        what: What::IslandLinks,
-        size: links,
     }
 }
 
