@@ -1,18 +1,24 @@
 //! The program: the machine's files and streams, the arguments as words, and the exit's status.
 #![tactic(auto)]
 
-ghost use Rattle.std.specs.Prelude.{◌≡◌, ◌⊎◌, IfErr};
+ghost use Rattle.std.specs.Prelude.{◌≡◌, Err, IfErr, IfOk};
+ghost use Rattle.std.specs.IoError.{error_kind};
+ghost use Rattle.std.specs.Vec.Iter.{into_iter_items};
+ghost use Rattle.mrt.specs.Arguments.{exit_of, words_of};
 
 use mrt_cmd::{Exit, run};
 use mrt_io::{FileShelf, StdSink, Word, put_all};
+use std::alloc::Global;
 use std::env;
+use std::env::Args;
+use std::io;
 use std::io::ErrorKind;
 use std::process::ExitCode;
 
 fn main(rt: HostRuntime) -> ExitCode {
     let mut out = StdSink::new(rt.stdout());
     let mut err = StdSink::new(rt.stderr());
-    let exit = match words(&rt) {
+    let exit = match words(rt.alloc(), env::args(&rt)) {
         Ok(words) => {
             let mut shelf = FileShelf::new(&rt);
             run(rt.alloc(), words.as_slice(), &mut shelf, &mut out, &mut err)
@@ -25,29 +31,36 @@ fn main(rt: HostRuntime) -> ExitCode {
     ExitCode::from(exit.status())
 }
 
-/// The program's arguments. An argument that is no text is none that a form has; nothing else is refused but for want of memory.
-fn words(rt: &HostRuntime) -> Result<Vec<Word>, Exit>
-    ensures { IfErr result (λ exit. (exit ≡ Exit.Usage) ⊎ (exit ≡ Exit.NoMemory)) }
+/// The words: the arguments after the program's name. Want of memory for them is `NoMemory`; an argument that is no text
+/// is none that a form has, so it comes to `Usage`.
+fn words(alloc: Global, args: io::Result<Args>) -> Result<Vec<Word>, Exit>
+    ensures unread { IfErr args (λ error. result ≡ Err (exit_of (error_kind error))) }
+    ensures words { IfOk args (λ read. IfOk result (λ words. words.items ≡ words_of (into_iter_items read))) }
+    ensures no_memory { IfOk args (λ read. IfErr result (λ exit. exit ≡ Exit.NoMemory)) }
 {
-    let args = match env::args(rt) {
-        Ok(args) => args,
-        Err(error) => return Err(exit_of(error.kind())),
-    };
-    let mut words = Vec::new(rt.alloc());
-    for arg in args.skip(1) {
-        let Ok(word) = Word::new(rt.alloc(), arg.as_bytes()) else {
-            return Err(Exit::NoMemory);
-        };
-        if words.push(word).is_err() {
-            return Err(Exit::NoMemory);
-        }
+    match args {
+        Ok(args) => words_of(alloc, args),
+        Err(error) => Err(exit_of(error.kind())),
+    }
+}
+
+/// The arguments as words, but for the program's name.
+fn words_of(alloc: Global, args: Args) -> Result<Vec<Word>, Exit>
+    ensures words { IfOk result (λ words. words.items ≡ words_of (into_iter_items args)) }
+    ensures no_memory { IfErr result (λ exit. exit ≡ Exit.NoMemory) }
+{
+    let mut args = args;
+    let mut words = Vec::new(alloc);
+    args.next();
+    for arg in args {
+        words.push(Word::new(alloc, arg.as_bytes())?)?;
     }
     Ok(words)
 }
 
-/// What comes of arguments that were not read.
+/// The exit where the arguments were not read.
 fn exit_of(kind: ErrorKind) -> Exit
-    ensures { (result ≡ Exit.Usage) ⊎ (result ≡ Exit.NoMemory) }
+    ensures { result ≡ exit_of kind }
 {
     match kind {
         ErrorKind::OutOfMemory => Exit::NoMemory,

@@ -12,6 +12,7 @@ use mrt_graph::NoMemory;
 use mrt_io::PutError;
 use mrt_island::ProfileError;
 use ospf_lsa::LsaError;
+use std::alloc::AllocFailed;
 
 /// The most nodes that an area may have.
 const AREA_NODES: u32 = 4096;
@@ -20,6 +21,14 @@ impl From<NoMemory> for Exit {
     ghost from_gives = { λ _ exit. exit ≡ no_memory };
 
     fn from(_: NoMemory) -> Exit {
+        Exit::NoMemory
+    }
+}
+
+impl<T: Drop> From<AllocFailed<T>> for Exit {
+    ghost from_gives = { λ _ exit. exit ≡ no_memory };
+
+    fn from(_: AllocFailed<T>) -> Exit {
         Exit::NoMemory
     }
 }
