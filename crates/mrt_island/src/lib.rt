@@ -14,6 +14,7 @@ mod profile_reading;
 mod rooting;
 mod setting;
 mod settling;
+mod size_law;
 
 pub use island::{Island, find_island};
 pub use island_error::IslandError;
@@ -22,3 +23,4 @@ pub use profile::Profile;
 pub use profile_error::{ProfileError, ProfileKind};
 pub use profile_reading::read_profile;
 pub use setting::Setting;
+pub use size_law::an_island_has_one_size;
