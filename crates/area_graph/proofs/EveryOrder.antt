@@ -30,7 +30,7 @@ chosen_by lsas key entry (first ∷ rest) is made =
     let among : Has (newest_of lsas key) entry.lsa = subst (λ (instances : List Lsa). Has instances entry.lsa) (sym is) (inl same) in
     (has_filter (λ lsa. is_of key lsa && is_newest lsas lsa) lsas entry.lsa among).0
 
-chosen : (lsas : List Lsa) (lsa : Lsa) → Has (newest_in lsas) lsa → Has lsas lsa
+pub chosen : (lsas : List Lsa) (lsa : Lsa) → Has (newest_in lsas) lsa → Has lsas lsa
 chosen lsas lsa has =
     let from = is_from (λ (entry : Entry). entry.lsa) (entries_in lsas) lsa has in
     let all = all_filter_map (λ entry. Has lsas entry.lsa) (λ key. entry_of (newest_of lsas key)) (keys_in lsas)

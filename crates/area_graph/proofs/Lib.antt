@@ -5,6 +5,7 @@ pub mod Apart
 pub mod Ways
 pub mod OrderedMembers
 pub mod Partners
+pub mod NewestArea
 pub mod OneBond
 pub mod KeptBonds
 pub mod Kept

@@ -4,6 +4,7 @@
 mod arcs;
 mod area;
 mod area_error;
+mod area_law;
 mod area_types;
 mod build;
 mod entries;
@@ -19,6 +20,7 @@ mod starts;
 
 pub use area::Area;
 pub use area_error::AreaError;
+pub use area_law::the_newest_records_give_an_area;
 pub use area_types::{Arc, Bond};
 pub use build::build_area;
 pub use laws::the_same_records_give_the_same_area;
