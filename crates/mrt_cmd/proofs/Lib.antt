@@ -1,4 +1,7 @@
 pub mod Databases
 pub mod Entering
+pub mod OneExit
+pub mod OneReading
+pub mod OneVerdict
 pub mod Refusals
 pub mod Unread

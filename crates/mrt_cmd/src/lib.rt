@@ -9,9 +9,11 @@ mod line;
 mod named_file;
 mod program;
 mod reading;
+mod run_law;
 mod verdict;
 mod words;
 
 pub use exit::{DbKind, Exit, What};
 pub use line::Line;
 pub use program::run;
+pub use run_law::one_exit_comes;

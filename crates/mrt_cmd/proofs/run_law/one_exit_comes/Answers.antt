@@ -1,0 +1,29 @@
+use Rattle.mrt_cmd.specs.Form.{form_of}
+use Rattle.mrt_cmd.proofs.OneExit.{Laws, one_exit, one_text}
+use Rattle.mrt_cmd.proofs.run_law.one_exit_comes.Goals as goal
+
+-- the laws of the layers below
+laws : goal.After-accepted_or_one_first_fault → Laws
+laws c = record {
+  databases = record {
+    never_both = c.bytes_are_lsas_or_have_a_fault.ensures.never_both;
+    one_list = c.bytes_are_lsas_or_have_a_fault.ensures.one_list;
+    one_fault = c.bytes_are_lsas_or_have_a_fault.ensures.one_fault;
+    settled = c.refuses_exactly_where_not_settled.ensures.none;
+    only = c.tells_the_first_conflict.ensures.only;
+  };
+  certs = record { one = c.one_spelling.ensures.one; faultless = c.one_spelling.ensures.faultless };
+  islands = record {
+    one_island = c.a_router_has_one_island.ensures;
+    one_size = c.an_island_has_one_size.ensures.one;
+    size = c.an_island_has_one_size.ensures.graph;
+  };
+  rules = record { never_both = c.accepted_or_one_first_fault.ensures.never_both; one = c.accepted_or_one_first_fault.ensures.one };
+  areas = record { stands = c.an_lsa_without_a_fault_may_be_installed.ensures; area = c.the_newest_records_give_an_area.ensures };
+}
+
+pub returns-clause-exit : goal.returns-clause-exit
+returns-clause-exit c = λ files words exit other. one_exit (laws c) files (form_of words) exit other
+
+pub returns-clause-text : goal.returns-clause-text
+returns-clause-text c = λ files words text other. one_text (laws c) files (form_of words) text other

@@ -1,0 +1,31 @@
+//! That the words and what the shelf holds have one exit.
+
+ghost use Rattle.std.specs.Prelude.{◌≡◌, ℕ, List, Some};
+ghost use Rattle.mrt_io.specs.Holding.{Files};
+ghost use Rattle.mrt_cmd.specs.declared.exit.Exit.{Exit};
+ghost use Rattle.mrt_cmd.specs.Comes.{Comes, GivesText};
+
+use area_graph::the_newest_records_give_an_area;
+use cert_format::one_spelling;
+use lsdb::{an_lsa_without_a_fault_may_be_installed, refuses_exactly_where_not_settled, tells_the_first_conflict};
+use mrt_graph::accepted_or_one_first_fault;
+use mrt_island::{a_router_has_one_island, an_island_has_one_size};
+use ospf_lsa::bytes_are_lsas_or_have_a_fault;
+
+/// Laws: over a shelf that tells what it holds, one exit comes of the words at most, and one text.
+pub fn one_exit_comes()
+    ensures exit { (files : Files) (words : List (List ℕ)) (exit other : Exit)
+        → Comes (Some files) words exit → Comes (Some files) words other → exit ≡ other }
+    ensures text { (files : Files) (words : List (List ℕ)) (text other : List ℕ)
+        → GivesText (Some files) words text → GivesText (Some files) words other → text ≡ other }
+{
+    bytes_are_lsas_or_have_a_fault();
+    refuses_exactly_where_not_settled();
+    tells_the_first_conflict();
+    one_spelling();
+    an_lsa_without_a_fault_may_be_installed();
+    the_newest_records_give_an_area();
+    a_router_has_one_island();
+    an_island_has_one_size();
+    accepted_or_one_first_fault();
+}
