@@ -1,5 +1,6 @@
 pub mod Databases
 pub mod Entering
+pub mod Exactly
 pub mod OneExit
 pub mod OneReading
 pub mod OneVerdict

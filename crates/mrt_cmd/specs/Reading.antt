@@ -84,7 +84,3 @@ IsVerdictFor input exit = IsRefusedFor input exit ⊎ (exit ≡ NoMemory)
 abbrev pub IsVerdictOver : List ℕ → List ℕ → List ℕ → Exit → Type 0
 IsVerdictOver area lines bytes (ReadFault word) = ⊥
 IsVerdictOver area lines bytes exit = IsRefusedOver area lines bytes exit ⊎ (exit ≡ NoMemory)
-
--- the file at this word was not read, or there was no memory
-abbrev pub IsWordOrMemory : ℕ → Exit → Type 0
-IsWordOrMemory word exit = (exit ≡ ReadFault word) ⊎ (exit ≡ NoMemory)

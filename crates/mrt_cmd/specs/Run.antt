@@ -1,9 +1,19 @@
 -- What the top call says of its sinks.
 use Rattle.std.specs.Prelude.{◌⊎◌, ◌<◌, ℕ, List, Option, length, take}
 use Rattle.mrt_io.specs.Counts.{Rose}
+use Rattle.mrt_io.specs.Holding.{Files}
 use Rattle.mrt_io.specs.Writing.{Gained}
+use Rattle.mrt_cmd.specs.Comes.{GivesText}
 use Rattle.mrt_cmd.specs.declared.exit.Exit.{Exit}
 use Rattle.mrt_cmd.specs.declared.exit.Exit.TheVariants.{Done, WriteFault}
+
+-- no fault of a device decides: its count of faults did not rise in the call, or the device was healthy for it
+abbrev pub IsUndisturbed : Type 0 → ℕ → ℕ → Type 0
+IsUndisturbed Healthy before now = (Rose before now → ⊥) ⊎ Healthy
+
+-- a sink is healthy for the text that the words give, if they give one
+abbrev pub IsHealthyForText : (ℕ → Type 0) → Option Files → List (List ℕ) → Type 0
+IsHealthyForText healthy_for held words = (text : List ℕ) → GivesText held words text → healthy_for (length text)
 
 -- a sink failed behind so many bytes of a text, fewer than all: it gained just these, its count of faults rose, and it was not
 -- healthy for the text

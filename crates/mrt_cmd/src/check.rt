@@ -1,12 +1,12 @@
 //! `check DB PROFILE CERT`: the verdict on a certificate.
 
-ghost use Rattle.std.specs.Prelude.{◌≡◌, ◌≤◌, ℕ, IfOk, IfErr, IsErr, length};
+ghost use Rattle.std.specs.Prelude.{◌≡◌, ◌≤◌, IfOk, IfErr, length};
 ghost use Rattle.std.specs.Option.{option_map};
 ghost use Rattle.mrt_io.specs.Counts.{Rose};
 ghost use Rattle.mrt_cmd.specs.Comes.{Gives};
-ghost use Rattle.mrt_cmd.specs.Files.{AreThere, IsFirstMissing, files_of};
+ghost use Rattle.mrt_cmd.specs.Files.{AreThere, files_of};
 ghost use Rattle.mrt_cmd.specs.Form.{Check};
-ghost use Rattle.mrt_cmd.specs.Reading.{IsRefusal, IsRefusalOrFault, IsVerdictOver, IsWordOrMemory};
+ghost use Rattle.mrt_cmd.specs.Reading.{IsRefusal, IsRefusalOrFault, IsVerdictOver};
 ghost use Rattle.mrt_cmd.specs.Verdict.{GivesOver};
 
 use crate::exit::Exit;
@@ -38,9 +38,6 @@ pub(crate) fn check<F: Shelf>(
     ensures healthy { let form = Check database.now (option_map (λ name. name.now) profile.entry) certificate.now in
         F.healthy shelf.old → IfErr result (IsRefusal (F.held shelf.old) form) }
 
-    ensures missing { let form = Check database.now (option_map (λ name. name.now) profile.entry) certificate.now in
-        F.healthy shelf.old → (word : ℕ) → IsFirstMissing (F.held shelf.old) (files_of form) word
-        → IfErr result (IsWordOrMemory word) × IsErr result }
     ensures no_fault { let form = Check database.now (option_map (λ name. name.now) profile.entry) certificate.now in
         F.healthy shelf.old → AreThere (F.held shelf.old) (files_of form) → F.faults shelf.new ≡ F.faults shelf.old }
 {

@@ -1,6 +1,6 @@
 //! The top call.
 
-ghost use Rattle.std.specs.Prelude.{◌≡◌, ◌⊎◌, ◌↔◌, ℕ, List, IfErr, IfOk, IsErr, IsNone, length};
+ghost use Rattle.std.specs.Prelude.{◌≡◌, ◌⊎◌, ◌↔◌, ℕ, List, IfErr, IfOk, IsNone, IsSome, length};
 ghost use Rattle.mrt_io.specs.Counts.{Rose};
 ghost use Rattle.mrt_io.specs.Writing.{Gained};
 ghost use Rattle.cert_format.specs.declared.error.CertKind.{CertKind};
@@ -10,14 +10,15 @@ ghost use Rattle.mrt_cmd.specs.declared.exit.What.{What};
 ghost use Rattle.mrt_cmd.specs.Asked.{asked};
 ghost use Rattle.mrt_cmd.specs.Comes.{Comes, FailsAt, Gives, GivesText, IsRefused, MissesAt, NamesHeld};
 ghost use Rattle.mrt_cmd.specs.Exits.{line_of};
-ghost use Rattle.mrt_cmd.specs.Files.{AreThere, IsFirstMissing, files_of};
+ghost use Rattle.mrt_cmd.specs.Files.{AreThere, files_of};
 ghost use Rattle.mrt_cmd.specs.Form.{form_of};
-ghost use Rattle.mrt_cmd.specs.Reading.{IsRefusal, IsRefusalOrFault, IsWordOrMemory};
-ghost use Rattle.mrt_cmd.specs.Run.{GainedLine, IsCutShort, WritesNothing};
+ghost use Rattle.mrt_cmd.specs.Reading.{IsRefusal, IsRefusalOrFault};
+ghost use Rattle.mrt_cmd.specs.Run.{GainedLine, IsHealthyForText, IsUndisturbed, IsCutShort, WritesNothing};
 
 use crate::check::check;
 use crate::exit::Exit;
 use crate::line::Line;
+use crate::run_law::one_exit_comes;
 use crate::words::{Form, read_form};
 use mrt_io::{Shelf, Sink, Word, put_all};
 use std::alloc::Global;
@@ -38,14 +39,12 @@ pub fn run<F: Shelf, K: Sink, E: Sink>(
     ensures usage { (result ≡ Exit.Usage) ↔ IsNone (form_of words.now) }
     ensures usage_reads_nothing { result ≡ Exit.Usage → shelf.new ≡ shelf.old }
 
-    // `ReadFault` comes only where the shelf's count of faults rose in this call; over a healthy shelf just where it is what comes
-    // of the files, and that shelf has no fault where each name is held.
+    // `ReadFault` comes only where the shelf's count of faults rose in this call; over a healthy shelf that tells what it holds
+    // just where it names the first file that is not held, and that shelf has no fault where each name is held.
     ensures read_fault { (word : ℕ) → result ≡ Exit.ReadFault word
         → FailsAt (F.held shelf.old) words.now word × Rose (F.faults shelf.old) (F.faults shelf.new) }
-    ensures healthy_read { F.healthy shelf.old → (word : ℕ) → result ≡ Exit.ReadFault word
-        → IsRefused (F.held shelf.old) words.now (Exit.ReadFault word) }
-    ensures missing { F.healthy shelf.old → (word : ℕ) → MissesAt (F.held shelf.old) words.now word
-        → (result ≡ Exit.ReadFault word) ⊎ (result ≡ Exit.NoMemory) }
+    ensures healthy_read { F.healthy shelf.old → IsSome (F.held shelf.old)
+        → (result ≡ Exit.NoMemory) ⊎ ((word : ℕ) → (result ≡ Exit.ReadFault word) ↔ MissesAt (F.held shelf.old) words.now word) }
     ensures no_read_fault { F.healthy shelf.old → NamesHeld (F.held shelf.old) words.now
         → F.faults shelf.new ≡ F.faults shelf.old }
 
@@ -71,22 +70,26 @@ pub fn run<F: Shelf, K: Sink, E: Sink>(
         → (text : List ℕ) × GivesText (F.held shelf.old) words.now text
         × IsCutShort (K.healthy_for out.old) (K.faults out.old) (K.faults out.new)
         (K.written out.old) (K.written out.new) text taken }
-    ensures no_write_fault { ((text : List ℕ) → GivesText (F.held shelf.old) words.now text → K.healthy_for out.old (length text))
+    ensures no_write_fault { IsHealthyForText (K.healthy_for out.old) (F.held shelf.old) words.now
         → K.faults out.new ≡ K.faults out.old }
     ensures writes_nothing { WritesNothing result → out.new ≡ out.old }
 
-    // Where no count rose, and over healthy devices, the exit is what comes of the words, but for want of memory.
-    ensures calm { (Rose (F.faults shelf.old) (F.faults shelf.new) → ⊥) → (Rose (K.faults out.old) (K.faults out.new) → ⊥)
+    // Where no fault of the shelf or of the output decides, the exit is what comes of the words, but for want of memory;
+    // where the shelf tells what it holds, each exit comes exactly where it is that.
+    ensures comes { IsUndisturbed (F.healthy shelf.old) (F.faults shelf.old) (F.faults shelf.new)
+        → IsUndisturbed (IsHealthyForText (K.healthy_for out.old) (F.held shelf.old) words.now) (K.faults out.old) (K.faults out.new)
         → Comes (F.held shelf.old) words.now result ⊎ (result ≡ Exit.NoMemory) }
-    ensures healthy { F.healthy shelf.old
-        → ((text : List ℕ) → GivesText (F.held shelf.old) words.now text → K.healthy_for out.old (length text))
-        → Comes (F.held shelf.old) words.now result ⊎ (result ≡ Exit.NoMemory) }
+    ensures exactly { IsUndisturbed (F.healthy shelf.old) (F.faults shelf.old) (F.faults shelf.new)
+        → IsUndisturbed (IsHealthyForText (K.healthy_for out.old) (F.held shelf.old) words.now) (K.faults out.old) (K.faults out.new)
+        → IsSome (F.held shelf.old)
+        → (result ≡ Exit.NoMemory) ⊎ ((exit : Exit) → (result ≡ exit) ↔ Comes (F.held shelf.old) words.now exit) }
 
     // On `Done` nothing is put to `err`, else the exit's line, as far as `err` takes it.
     ensures silent { result ≡ Exit.Done → err.new ≡ err.old }
     ensures line { (result ≡ Exit.Done → ⊥) → GainedLine (E.healthy_for err.old) (E.faults err.old) (E.faults err.new)
         (E.written err.old) (E.written err.new) (line_of result) }
 {
+    one_exit_comes();
     let Some(form) = read_form(words) else {
         return put_line(err, Exit::Usage);
     };
@@ -102,8 +105,6 @@ fn text_of<F: Shelf>(alloc: Global, form: Form<'_>, shelf: &mut F) -> Result<Lin
     ensures refused { IfErr result (IsRefusalOrFault (F.held shelf.old) (asked form.entry) (F.faults shelf.old) (F.faults shelf.new)) }
     ensures calm { (Rose (F.faults shelf.old) (F.faults shelf.new) → ⊥) → IfErr result (IsRefusal (F.held shelf.old) (asked form.entry)) }
     ensures healthy { F.healthy shelf.old → IfErr result (IsRefusal (F.held shelf.old) (asked form.entry)) }
-    ensures missing { F.healthy shelf.old → (word : ℕ) → IsFirstMissing (F.held shelf.old) (files_of (asked form.entry)) word
-        → IfErr result (IsWordOrMemory word) × IsErr result }
     ensures no_fault { F.healthy shelf.old → AreThere (F.held shelf.old) (files_of (asked form.entry))
         → F.faults shelf.new ≡ F.faults shelf.old }
 {
