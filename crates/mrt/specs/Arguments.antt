@@ -12,7 +12,8 @@ use Rattle.mrt_cmd.specs.declared.exit.Exit.TheVariants.{Usage, NoMemory}
 abbrev pub words_of : List (String Global) → List (List ℕ)
 words_of arguments = map string_bytes (drop 1 arguments)
 
--- the exit where the arguments were not read: for want of memory, or else since one of them is no text, which is no word of any form
+-- the exit where the arguments were not read: for want of memory, or else since one of them is no text, which is no
+-- word of any form
 abbrev pub exit_of : ErrorKind → Exit
 exit_of OutOfMemory = NoMemory
 exit_of _ = Usage

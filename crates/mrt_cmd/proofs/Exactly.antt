@@ -11,9 +11,11 @@ use Rattle.mrt_cmd.specs.Form.{Form, Check, form_of}
 
 -- one exit comes of the words at most
 abbrev pub ComesOnce : Type 0
-ComesOnce = (files : Files) (words : List (List ℕ)) (exit other : Exit) → Comes (Some files) words exit → Comes (Some files) words other → exit ≡ other
+ComesOnce = (files : Files) (words : List (List ℕ)) (exit other : Exit) → Comes (Some files) words exit
+    → Comes (Some files) words other → exit ≡ other
 
-pub exactly : (held : Option Files) (words : List (List ℕ)) (result : Exit) → ComesOnce → Comes held words result ⊎ (result ≡ exits.NoMemory) → IsSome held
+pub exactly : (held : Option Files) (words : List (List ℕ)) (result : Exit) → ComesOnce
+    → Comes held words result ⊎ (result ≡ exits.NoMemory) → IsSome held
     → (result ≡ exits.NoMemory) ⊎ ((exit : Exit) → (result ≡ exit) ↔ Comes held words exit)
 exactly None words result once comes told = absurd cc
 exactly (Some files) words result once (inl comes) told =
@@ -36,17 +38,20 @@ missing_comes files None word (inr (inr refused)) = absurd refused
 missing_comes files (Some (Check database profile certificate)) word (inr (inr (inl missing))) = missing
 missing_comes files (Some (Check database profile certificate)) word (inr (inr (inr said))) = absurd said.4.2
 
-comes_missing : (files : Files) (form : Option Form) (word : ℕ) → IsSomeAnd form (λ it. IsFirstMissing (Some files) (files_of it) word)
+comes_missing : (files : Files) (form : Option Form) (word : ℕ)
+    → IsSomeAnd form (λ it. IsFirstMissing (Some files) (files_of it) word)
     → IsSomeAnd form (λ it. Refuses (Some files) it (exits.ReadFault word))
 comes_missing files None word missing = absurd missing
 comes_missing files (Some (Check database profile certificate)) word missing = inl missing
 
-pub exactly_missing : (held : Option Files) (words : List (List ℕ)) (result : Exit) → ComesOnce → Comes held words result ⊎ (result ≡ exits.NoMemory) → IsSome held
+pub exactly_missing : (held : Option Files) (words : List (List ℕ)) (result : Exit) → ComesOnce
+    → Comes held words result ⊎ (result ≡ exits.NoMemory) → IsSome held
     → (result ≡ exits.NoMemory) ⊎ ((word : ℕ) → (result ≡ exits.ReadFault word) ↔ MissesAt held words word)
 exactly_missing None words result once comes told = absurd cc
 exactly_missing (Some files) words result once (inl comes) told =
     inr (λ word. (
       λ is. missing_comes files (form_of words) word (subst (Comes (Some files) words) is comes),
-      λ missing. once files words result (exits.ReadFault word) comes (inr (inr (comes_missing files (form_of words) word missing))),
+      λ missing. once files words result (exits.ReadFault word) comes (inr
+          (inr (comes_missing files (form_of words) word missing))),
     ))
 exactly_missing (Some files) words result once (inr memory) told = inl memory

@@ -1,5 +1,23 @@
 -- What is said of the area, the island and the certificate is one.
-use Rattle.std.proofs.Common.{◌≡◌, ◌∙◌, ◌<◌, ◌≤◌, ◌⊎◌, ℕ, List, Bool, Option, length, refl, sym, ap, subst, inl, inr, arith}
+use Rattle.std.proofs.Common.{
+  ◌≡◌,
+  ◌∙◌,
+  ◌<◌,
+  ◌≤◌,
+  ◌⊎◌,
+  ℕ,
+  List,
+  Bool,
+  Option,
+  length,
+  refl,
+  sym,
+  ap,
+  subst,
+  inl,
+  inr,
+  arith,
+}
 use Rattle.std.specs.Prelude.{Contains, Some, slice_get}
 use Rattle.mrt_graph.specs.declared.node_id.NodeId.{NodeId}
 use Rattle.std.proofs.lemmas.Option.{get_or_from_slice_get, slice_get_within}
@@ -21,7 +39,8 @@ use Rattle.mrt_cmd.specs.declared.exit.What.TheVariants as whats
 use Rattle.mrt_cmd.specs.Input.{IsMissing}
 use Rattle.mrt_cmd.specs.Verdict.{IsLargeArea, IsLargeIsland}
 
-pub one_large_area : (area : AreaParts) (what other : What) (size count : ℕ) → IsLargeArea area what size → IsLargeArea area other count → (what ≡ other) × (size ≡ count)
+pub one_large_area : (area : AreaParts) (what other : What) (size count : ℕ) → IsLargeArea area what size
+    → IsLargeArea area other count → (what ≡ other) × (size ≡ count)
 one_large_area area whats.AreaNodes whats.AreaNodes size count one two = (refl, one.1 ∙ sym two.1)
 one_large_area area whats.AreaNodes whats.AreaArcs size count one two = absurd (omega (arith, one.0, two.0))
 one_large_area area whats.AreaArcs whats.AreaNodes size count one two = absurd (omega (arith, one.0, two.0))
@@ -30,58 +49,78 @@ one_large_area area whats.AreaNodes other size count one two = absurd two
 one_large_area area whats.AreaArcs other size count one two = absurd two
 one_large_area area what other size count one two = absurd one
 
-pub no_large_area : (area : AreaParts) (what : What) (size : ℕ) → ((4096 < length area.ids) ⊎ (32768 < length area.arcs) → ⊥) → IsLargeArea area what size → ⊥
+pub no_large_area : (area : AreaParts) (what : What) (size : ℕ)
+    → ((4096 < length area.ids) ⊎ (32768 < length area.arcs) → ⊥) → IsLargeArea area what size → ⊥
 no_large_area area whats.AreaNodes size within large = within (inl large.0)
 no_large_area area whats.AreaArcs size within large = within (inr large.1)
 no_large_area area what size within large = absurd large
 
 contained : (ids : List NodeId) (place : ℕ) (id : NodeId) → slice_get ids place ≡ Some id → Contains ids id
-contained ids place id at = subst (Contains ids) (get_or_from_slice_get ids place id id at) (Contains-get_or ids place id (slice_get_within ids place id at))
+contained ids place id at = subst (Contains ids) (get_or_from_slice_get ids place id id at)
+    (Contains-get_or ids place id (slice_get_within ids place id at))
 
 -- a router whose island there is is there, and supports the profile
-pub inside_is_there : (policy : Policy) (area : AreaParts) (number : ℕ) (inside : List Bool) → IsInside policy area number inside → IsMissing policy area number → ⊥
-inside_is_there policy area number inside those (inl absent) = absent (contained area.ids those.start (router number) those.there)
+pub inside_is_there : (policy : Policy) (area : AreaParts) (number : ℕ) (inside : List Bool)
+    → IsInside policy area number inside → IsMissing policy area number → ⊥
+inside_is_there policy area number inside those (inl absent) = absent (contained area.ids those.start (router number)
+    those.there)
 inside_is_there policy area number inside those (inr unsupported) =
     let supported = those.supported in
     absurd cc
 
 -- the laws of the layers below on the island of a router
 pub record IslandLaws : Type 0 where
-  pub one_island : (policy : Policy) (area : AreaParts) (number : ℕ) (g h : Topology) (root node : ℕ) (link_of others : List (Option ℕ)) → IsArea area
-      → IsIsland policy area number g root link_of → IsIsland policy area number h node others → (g ≡ h) × (root ≡ node) × (link_of ≡ others)
-  pub one_size : (policy : Policy) (area : AreaParts) (number nodes links others more : ℕ) → IsArea area → IsOver policy area number nodes links
+  pub one_island : (policy : Policy) (area : AreaParts) (number : ℕ) (g h : Topology) (root node : ℕ)
+      (link_of others : List (Option ℕ)) → IsArea area
+      → IsIsland policy area number g root link_of → IsIsland policy area number h node others
+      → (g ≡ h) × (root ≡ node) × (link_of ≡ others)
+  pub one_size : (policy : Policy) (area : AreaParts) (number nodes links others more : ℕ) → IsArea area
+      → IsOver policy area number nodes links
       → IsOver policy area number others more → (nodes ≡ others) × (links ≡ more)
-  pub size : (policy : Policy) (area : AreaParts) (number nodes links : ℕ) (g : Topology) (root : ℕ) (link_of : List (Option ℕ)) → IsArea area
-      → IsOver policy area number nodes links → IsIsland policy area number g root link_of → (nodes ≡ length g.ids) × (links ≡ length g.links)
+  pub size : (policy : Policy) (area : AreaParts) (number nodes links : ℕ) (g : Topology) (root : ℕ)
+      (link_of : List (Option ℕ)) → IsArea area
+      → IsOver policy area number nodes links → IsIsland policy area number g root link_of
+      → (nodes ≡ length g.ids) × (links ≡ length g.links)
 
 module _ (laws : IslandLaws) (policy : Policy) (area : AreaParts) (kept : IsArea area) (number : ℕ) where
-  pub one_large_island : (what other : What) (size count : ℕ) → IsLargeIsland policy area number what size → IsLargeIsland policy area number other count
+  pub one_large_island : (what other : What) (size count : ℕ) → IsLargeIsland policy area number what size
+      → IsLargeIsland policy area number other count
       → (what ≡ other) × (size ≡ count)
-  one_large_island whats.IslandNodes whats.IslandNodes size count one two = (refl, (laws.one_size policy area number size one.0 count two.0 kept one.1 two.1).0)
+  one_large_island whats.IslandNodes whats.IslandNodes size count one two =
+      (refl, (laws.one_size policy area number size one.0 count two.0 kept one.1 two.1).0)
   one_large_island whats.IslandNodes whats.IslandLinks size count one two =
       let same = (laws.one_size policy area number size one.0 two.0 count kept one.1 two.1).0 in
       absurd (omega (arith, same, one.2, two.2))
   one_large_island whats.IslandLinks whats.IslandNodes size count one two =
       let same = (laws.one_size policy area number one.0 size count two.0 kept one.1 two.1).0 in
       absurd (omega (arith, same, one.2, two.2))
-  one_large_island whats.IslandLinks whats.IslandLinks size count one two = (refl, (laws.one_size policy area number one.0 size two.0 count kept one.1 two.1).1)
+  one_large_island whats.IslandLinks whats.IslandLinks size count one two =
+      (refl, (laws.one_size policy area number one.0 size two.0 count kept one.1 two.1).1)
   one_large_island whats.IslandNodes other size count one two = absurd two
   one_large_island whats.IslandLinks other size count one two = absurd two
   one_large_island what other size count one two = absurd one
 
-  no_over : (nodes links : ℕ) (graph : Topology) (root : ℕ) (link_of : List (Option ℕ)) → IsIsland policy area number graph root link_of
+  no_over : (nodes links : ℕ) (graph : Topology) (root : ℕ) (link_of : List (Option ℕ))
+      → IsIsland policy area number graph root link_of
       → (IsTooLarge (length graph.ids) (length graph.links) → ⊥) → IsOver policy area number nodes links → ⊥
   no_over nodes links graph root link_of island within over =
       let same = laws.size policy area number nodes links graph root link_of kept over island in
-      within (subst (λ (n : ℕ). IsTooLarge n (length graph.links)) same.0 (subst (λ (n : ℕ). IsTooLarge nodes n) same.1 over.too_large))
+      within (subst (λ (n : ℕ). IsTooLarge n (length graph.links)) same.0
+      (subst (λ (n : ℕ). IsTooLarge nodes n) same.1 over.too_large))
 
-  pub no_large_island : (what : What) (size : ℕ) (graph : Topology) (root : ℕ) (link_of : List (Option ℕ)) → IsIsland policy area number graph root link_of
+  pub no_large_island : (what : What) (size : ℕ) (graph : Topology) (root : ℕ) (link_of : List (Option ℕ))
+      → IsIsland policy area number graph root link_of
       → (IsTooLarge (length graph.ids) (length graph.links) → ⊥) → IsLargeIsland policy area number what size → ⊥
-  no_large_island whats.IslandNodes size graph root link_of island within large = no_over size large.0 graph root link_of island within large.1
-  no_large_island whats.IslandLinks size graph root link_of island within large = no_over large.0 size graph root link_of island within large.1
+  no_large_island whats.IslandNodes size graph root link_of island within large = no_over size large.0 graph root
+      link_of island within large.1
+  no_large_island whats.IslandLinks size graph root link_of island within large = no_over large.0 size graph root
+      link_of island within large.1
   no_large_island what size graph root link_of island within large = absurd large
 
-  pub missing_is_not_large : (what : What) (size : ℕ) → IsMissing policy area number → IsLargeIsland policy area number what size → ⊥
-  missing_is_not_large whats.IslandNodes size missing large = inside_is_there policy area number large.1.inside large.1.those missing
-  missing_is_not_large whats.IslandLinks size missing large = inside_is_there policy area number large.1.inside large.1.those missing
+  pub missing_is_not_large : (what : What) (size : ℕ) → IsMissing policy area number
+      → IsLargeIsland policy area number what size → ⊥
+  missing_is_not_large whats.IslandNodes size missing large = inside_is_there policy area number large.1.inside
+      large.1.those missing
+  missing_is_not_large whats.IslandLinks size missing large = inside_is_there policy area number large.1.inside
+      large.1.those missing
   missing_is_not_large what size missing large = absurd large

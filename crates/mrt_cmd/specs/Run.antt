@@ -15,7 +15,7 @@ IsUndisturbed Healthy before now = (Rose before now → ⊥) ⊎ Healthy
 abbrev pub IsHealthyForText : (ℕ → Type 0) → Option Files → List (List ℕ) → Type 0
 IsHealthyForText healthy_for held words = (text : List ℕ) → GivesText held words text → healthy_for (length text)
 
--- a sink failed behind so many bytes of a text, fewer than all: it gained just these, its count of faults rose, and it was not
+-- a sink failed after so many bytes of a text, fewer than all: it gained just these, its count of faults rose, and it was not
 -- healthy for the text
 pub record IsCutShort (healthy_for : ℕ → Type 0) (before now : ℕ) (old new : Option (List ℕ)) (text : List ℕ) (taken : ℕ)
     : Type 0 where

@@ -58,7 +58,7 @@ pub enum Exit {
     NotThere { number: u32 },
     /// The file that this word names could not be read; the command is word 0.
     ReadFault { word: u8 },
-    /// The output failed behind so many bytes of the text.
+    /// The output failed after so many bytes of the text.
     WriteFault { taken: u64 },
     NoMemory,
 }

@@ -18,14 +18,8 @@ use lsdb::{
 };
 use mrt_graph::CertFile;
 use mrt_island::{Profile, read_profile};
-use ospf_lsa::{Lsa, read_lsas};
+use ospf_lsa::{Lsa, NETWORK_LSA, ROUTER_LSA, read_lsas};
 use std::alloc::Global;
-
-/// The LS type of a router-LSA (RFC 2328, section A.4.1).
-const ROUTER_LSA: u8 = 1;
-
-/// The LS type of a network-LSA.
-const NETWORK_LSA: u8 = 2;
 
 /// The database of the router-LSAs and network-LSAs that the bytes are.
 pub(crate) fn database_of(alloc: Global, bytes: &[u8]) -> Result<Lsdb, Exit>

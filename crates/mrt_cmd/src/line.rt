@@ -21,7 +21,7 @@ pub(crate) fn line_of(part: &[u8]) -> Line
     line
 }
 
-/// Puts bytes behind a line.
+/// Puts bytes at the end of a line.
 pub(crate) fn push(line: &mut Line, part: &[u8])
     requires { array_vec_len line.old + length part.now ≤ 256 }
     ensures items { line.new.items ≡ line.old.items ++ part.now }
@@ -30,7 +30,7 @@ pub(crate) fn push(line: &mut Line, part: &[u8])
     line.try_extend_from_slice(part).unwrap();
 }
 
-/// Puts a number behind a line.
+/// Puts a number at the end of a line.
 pub(crate) fn push_decimal(line: &mut Line, number: u64)
     requires { array_vec_len line.old + 40 ≤ 256 }
     ensures items { line.new.items ≡ line.old.items ++ decimal number }
@@ -39,7 +39,7 @@ pub(crate) fn push_decimal(line: &mut Line, number: u64)
     push(line, Buffer::new().format(number).as_bytes());
 }
 
-/// Puts an address behind a line.
+/// Puts an address at the end of a line.
 pub(crate) fn push_address(line: &mut Line, number: u32)
     requires { array_vec_len line.old + 19 ≤ 256 }
     ensures items { line.new.items ≡ line.old.items ++ address_text number }

@@ -27,7 +27,7 @@ use std::alloc::Global;
 /// why there is none to `err`.
 ///
 /// Everything is read and all memory is taken before the first byte is written. A fault of `err` changes no exit. `NoMemory` may
-/// come at any place behind `Usage`.
+/// come at any place after `Usage`.
 pub fn run<F: Shelf, K: Sink, E: Sink>(
     alloc: Global,
     words: &[Word],

@@ -7,7 +7,10 @@ ghost use Rattle.mrt_cmd.specs.Comes.{Comes, GivesText};
 
 use area_graph::the_newest_records_give_an_area;
 use cert_format::one_spelling;
-use lsdb::{an_lsa_without_a_fault_may_be_installed, refuses_exactly_where_not_settled, tells_the_first_conflict};
+use lsdb::{
+    an_lsa_without_a_fault_may_be_installed, refuses_exactly_where_not_settled,
+    tells_the_first_conflict,
+};
 use mrt_graph::accepted_or_one_first_fault;
 use mrt_island::{a_router_has_one_island, an_island_has_one_size};
 use ospf_lsa::bytes_are_lsas_or_have_a_fault;

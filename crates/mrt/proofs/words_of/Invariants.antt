@@ -5,4 +5,5 @@ use Rattle.mrt.specs.Arguments.{words_of}
 use Rattle.mrt.proofs.words_of.Given as goal
 
 abbrev pub invariant-loop-arg : goal.invariant-loop-arg
-invariant-loop-arg l = l.words.items ++ map string_bytes (into_iter_items l.arg-iterator) ≡ words_of (into_iter_items l.fn.args)
+invariant-loop-arg l = l.words.items ++ map string_bytes (into_iter_items l.arg-iterator) ≡ words_of
+    (into_iter_items l.fn.args)

@@ -13,8 +13,12 @@ returns-clause-refused c =
       file = c.in_ok-file.file;
     } in
     let given : IsInput c.args.area.items c.args.lines.items c.args.bytes.items input = record {
-      database_is = subst (λ (bytes : List ℕ). IsDatabase bytes input.newest) c.as_slice.ensures.value c.in_ok-database.ensures.newest;
-      profile_is = subst (λ (bytes : List ℕ). IsProfile bytes input.settings) c.as_slice-2.ensures.value c.in_ok-profile.ensures.profile;
-      certificate_is = subst (λ (bytes : List ℕ). IsCertOf bytes input.file) c.as_slice-3.ensures.value c.in_ok-file.ensures.file;
+      database_is = subst (λ (bytes : List ℕ). IsDatabase bytes input.newest) c.as_slice.ensures.value
+          c.in_ok-database.ensures.newest;
+      profile_is = subst (λ (bytes : List ℕ). IsProfile bytes input.settings) c.as_slice-2.ensures.value
+          c.in_ok-profile.ensures.profile;
+      certificate_is = subst (λ (bytes : List ℕ). IsCertOf bytes input.file) c.as_slice-3.ensures.value
+          c.in_ok-file.ensures.file;
     } in
-    verdicts_over c.verdict.result c.args.area.items c.args.lines.items c.args.bytes.items input given c.verdict.ensures.refused
+    verdicts_over c.verdict.result c.args.area.items c.args.lines.items c.args.bytes.items input given
+    c.verdict.ensures.refused

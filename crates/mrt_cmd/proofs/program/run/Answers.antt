@@ -14,21 +14,26 @@ pub returns-in-Ok-clause-comes : goal.returns-in-Ok-clause-comes
 returns-in-Ok-clause-comes g c = λ shelf_spared out_spared.
     let given : GivesText (g.F.Shelf.held c.args.shelf.now) c.args.words.now c.in-Ok.text.items = search rules in
     let done : c.put_text.result ≡ Done = elim out_spared [
-      inl calm ↦ c.put_text.ensures.calm calm
-    | inr healthy ↦ c.put_text.ensures.healthy (rw c.as_slice.ensures.value (healthy c.in-Ok.text.items given))
+      | inl calm ↦ c.put_text.ensures.calm calm
+      | inr healthy ↦ c.put_text.ensures.healthy (rw c.as_slice.ensures.value (healthy c.in-Ok.text.items given))
     ] in
     inl (inr (inl (done, c.in-Ok.text.items, given)))
 
 pub returns-in-Ok-clause-exactly : goal.returns-in-Ok-clause-exactly
 returns-in-Ok-clause-exactly g c = λ shelf_spared out_spared.
-    exactly (g.F.Shelf.held c.args.shelf.now) c.args.words.now c.put_text.result c.one_exit_comes.ensures.exit (returns-in-Ok-clause-comes g c shelf_spared out_spared)
+    exactly (g.F.Shelf.held c.args.shelf.now) c.args.words.now c.put_text.result c.one_exit_comes.ensures.exit
+    (returns-in-Ok-clause-comes g c shelf_spared out_spared)
 
 pub returns-in-Err-clause-healthy_read : goal.returns-in-Err-clause-healthy_read
 returns-in-Err-clause-healthy_read g c = λ healthy.
-    let comes : Comes (g.F.Shelf.held c.args.shelf.now) c.args.words.now c.put_line-in-Err.result ⊎ (c.put_line-in-Err.result ≡ NoMemory) = search rules in
-    exactly_missing (g.F.Shelf.held c.args.shelf.now) c.args.words.now c.put_line-in-Err.result c.one_exit_comes.ensures.exit comes
+    let comes : Comes (g.F.Shelf.held c.args.shelf.now) c.args.words.now c.put_line-in-Err.result ⊎
+    (c.put_line-in-Err.result ≡ NoMemory) = search rules in
+    exactly_missing (g.F.Shelf.held c.args.shelf.now) c.args.words.now c.put_line-in-Err.result
+    c.one_exit_comes.ensures.exit comes
 
 pub returns-in-Err-clause-exactly : goal.returns-in-Err-clause-exactly
 returns-in-Err-clause-exactly g c = λ shelf_spared out_spared.
-    let comes : Comes (g.F.Shelf.held c.args.shelf.now) c.args.words.now c.put_line-in-Err.result ⊎ (c.put_line-in-Err.result ≡ NoMemory) = search rules in
-    exactly (g.F.Shelf.held c.args.shelf.now) c.args.words.now c.put_line-in-Err.result c.one_exit_comes.ensures.exit comes
+    let comes : Comes (g.F.Shelf.held c.args.shelf.now) c.args.words.now c.put_line-in-Err.result ⊎
+    (c.put_line-in-Err.result ≡ NoMemory) = search rules in
+    exactly (g.F.Shelf.held c.args.shelf.now) c.args.words.now c.put_line-in-Err.result c.one_exit_comes.ensures.exit
+    comes

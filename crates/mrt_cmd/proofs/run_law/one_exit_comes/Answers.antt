@@ -18,8 +18,16 @@ laws c = record {
     one_size = c.an_island_has_one_size.ensures.one;
     size = c.an_island_has_one_size.ensures.graph;
   };
-  rules = record { never_both = c.accepted_or_one_first_fault.ensures.never_both; one = c.accepted_or_one_first_fault.ensures.one };
-  areas = record { stands = c.an_lsa_without_a_fault_may_be_installed.ensures; area = c.the_newest_records_give_an_area.ensures };
+  rules = record {
+    never_both = c.accepted_or_one_first_fault.ensures.never_both;
+    one =
+        c.accepted_or_one_first_fault.ensures.one;
+  };
+  areas = record {
+    stands = c.an_lsa_without_a_fault_may_be_installed.ensures;
+    area =
+        c.the_newest_records_give_an_area.ensures;
+  };
 }
 
 pub returns-clause-exit : goal.returns-clause-exit

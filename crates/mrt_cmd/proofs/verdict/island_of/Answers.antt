@@ -6,4 +6,5 @@ use Rattle.mrt_cmd.proofs.verdict.island_of.Goals as goal
 pub returns-in-Err-TooLarge-clause-refused : goal.returns-in-Err-TooLarge-clause-refused
 returns-in-Err-TooLarge-clause-refused c =
     rw c.too_large.ensures
-    (large_island_told (policy_of c.args.profile.now) c.args.area.now c.args.router c.in-Err-TooLarge.nodes c.in-Err-TooLarge.links (c.in-Err-TooLarge.ensures.over _ _ (ap Err c.in-Err-TooLarge.field-0-is)))
+    (large_island_told (policy_of c.args.profile.now) c.args.area.now c.args.router c.in-Err-TooLarge.nodes
+    c.in-Err-TooLarge.links (c.in-Err-TooLarge.ensures.over _ _ (ap Err c.in-Err-TooLarge.field-0-is)))

@@ -14,12 +14,15 @@ returns-in_err-island-clause-refused c =
       settings = c.args.profile.now;
       file = c.args.file.now;
     } in
-    handed_on c.from_residual-in_err-island.result c.in_err-island.field-0.0 c.from_residual-in_err-island.ensures.1 (IsVerdictFor input)
+    handed_on c.from_residual-in_err-island.result c.in_err-island.field-0.0 c.from_residual-in_err-island.ensures.1
+    (IsVerdictFor input)
     (island_refused input c.in_ok-area.ensures.within c.in_err-island.field-0.0
-    (subst (λ (a : AreaParts). HasNoIsland (policy_of c.args.profile.now) a c.args.file.now.root c.in_err-island.field-0.0) c.in_ok-area.ensures.area
+    (subst (λ (a : AreaParts). HasNoIsland (policy_of c.args.profile.now) a c.args.file.now.root
+    c.in_err-island.field-0.0) c.in_ok-area.ensures.area
     c.in_err-island.ensures.refused))
 
 pub judge-requires : goal.judge-requires
 judge-requires c =
-    root_within (policy_of c.args.profile.now) c.in_ok-area.area c.args.file.now.root c.in_ok-island.island.graph c.in_ok-island.island.root
+    root_within (policy_of c.args.profile.now) c.in_ok-area.area c.args.file.now.root c.in_ok-island.island.graph
+    c.in_ok-island.island.root
     c.in_ok-island.island.link_of c.in_ok-island.ensures.island
