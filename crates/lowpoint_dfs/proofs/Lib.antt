@@ -1,6 +1,5 @@
 pub mod Ancestors
 pub mod FoundInTurn
-pub mod HandGraphs
 pub mod LowReached
 pub mod LowestSoFar
 pub mod LowpointsGiven

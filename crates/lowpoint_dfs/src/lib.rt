@@ -3,12 +3,8 @@
 
 mod dfs;
 mod finding;
-#[cfg(test)]
-mod hand_graphs;
 mod lowpoints;
 mod search_law;
-#[cfg(test)]
-mod search_tests;
 
 pub use dfs::search;
 pub use search_law::{

@@ -1,7 +1,7 @@
 use Rattle.std.proofs.Common.{◌<◌, ℕ, slice_index_or}
 use Rattle.mrt_graph.specs.declared.link.LinkIn.{LinkIn}
 use Rattle.mrt_graph.specs.EndRows.{IsWithin}
-use Rattle.lowpoint_dfs.proofs.hand_graphs.assert_within.Given as goal
+use Rattle.computation_tests.proofs.hand_graphs.assert_within.Given as goal
 
 abbrev pub invariant-loop-link : goal.invariant-loop-link
 invariant-loop-link g l = record {

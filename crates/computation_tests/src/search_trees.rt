@@ -3,7 +3,7 @@
 ghost use Rattle.std.specs.Prelude.{◌≡◌, ◌<◌, IfOk, length};
 
 use crate::hand_graphs::{graph, link};
-use crate::search;
+use lowpoint_dfs::search;
 use mrt_graph::{Graph, GraphError, LinkIn, LinkNo, NoMemory, NodeNo, Tree, TreeNode};
 use std::alloc::Global;
 use std::process::Abort;

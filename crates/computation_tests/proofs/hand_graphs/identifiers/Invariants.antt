@@ -2,7 +2,7 @@ use Rattle.std.proofs.Common.{◌≡◌, ◌<◌, ◌+◌, ℕ, length, slice_in
 use Rattle.std.specs.Prelude.{nat_lt, if◌then◌else◌}
 use Rattle.mrt_graph.specs.declared.node_id.Kind.TheVariants.{Network, Router}
 use Rattle.mrt_graph.specs.declared.node_id.NodeId.{NodeId}
-use Rattle.lowpoint_dfs.proofs.hand_graphs.identifiers.Given as goal
+use Rattle.computation_tests.proofs.hand_graphs.identifiers.Given as goal
 
 abbrev pub invariant-loop-k : goal.invariant-loop-k
 invariant-loop-k l = record {

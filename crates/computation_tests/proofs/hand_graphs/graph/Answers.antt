@@ -1,6 +1,6 @@
 use Rattle.std.proofs.Common.{arith}
-use Rattle.lowpoint_dfs.proofs.HandGraphs.{hand_parts}
-use Rattle.lowpoint_dfs.proofs.hand_graphs.graph.Goals as goal
+use Rattle.computation_tests.proofs.HandGraphs.{hand_parts}
+use Rattle.computation_tests.proofs.hand_graphs.graph.Goals as goal
 
 pub new-requires : goal.new-requires
 new-requires g c =

@@ -1,0 +1,7 @@
+//! Tests of the computation: search trees by hand.
+#![tactic(auto)]
+
+#[cfg(test)]
+mod hand_graphs;
+#[cfg(test)]
+mod search_trees;
