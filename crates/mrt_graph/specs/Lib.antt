@@ -8,6 +8,8 @@ pub mod Connected
 pub mod EndRows
 pub mod EndsOfLinks
 pub mod FirstFault
+pub mod GadagLists
+pub mod GadagWords
 pub mod GraphInvariant
 pub mod HeadsAndBlocks
 pub mod Hop

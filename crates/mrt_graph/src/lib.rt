@@ -3,6 +3,7 @@
 
 mod cert;
 mod cert_law;
+mod gadag;
 mod graph;
 mod graph_ends;
 mod graph_error;
@@ -20,6 +21,7 @@ mod tree;
 
 pub use cert::{Cert, CertFile, CertLink, CertNode, Color, Role, Row, Tag};
 pub use cert_law::{accepted_implies_sound, accepted_or_one_first_fault, accepted_rows_lead_on};
+pub use gadag::{Gadag, Mark, Place, Way};
 pub use graph::Graph;
 pub use graph_error::GraphError;
 pub use graph_law::one_graph_of_its_parts;
