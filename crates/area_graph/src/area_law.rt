@@ -10,7 +10,7 @@ ghost use Rattle.area_graph.specs.AreaOf.{area_of};
 ghost use Rattle.area_graph.specs.AreaSize.{IsTooLarge};
 
 /// A law: the newest ones of records that may stand in a database give an area that keeps what each area keeps, where
-/// its nodes and arcs are no more than an area may have.
+/// it has at most as many nodes and arcs as an area may have.
 pub fn the_newest_records_give_an_area()
     ensures { (lsas : List Lsa) → AllByRecursion IsKept lsas
         → (IsTooLarge (length (area_of (newest_in lsas)).ids) (length (area_of (newest_in lsas)).arcs) → ⊥)

@@ -47,7 +47,7 @@ abbrev pub files_of : Form → List NamedFile
 files_of (Check database profile certificate) =
     database_file database ∷ option_to_list (option_map profile_file profile) ++ certificate_file certificate ∷ []
 
--- the file has these bytes, and no more of them than it may have; where it is not told what is held, no claim on the name
+-- the file has these bytes, at most as many as it may have; where it is not told what is held, no claim on the name
 abbrev pub IsReadAs : Option Files → NamedFile → List ℕ → Type 0
 IsReadAs held file bytes = IsFileOf held file.name bytes × (length bytes ≤ file.limit)
 

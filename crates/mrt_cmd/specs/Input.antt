@@ -47,7 +47,7 @@ area input = area_of input.newest
 abbrev pub policy : Input → Policy
 policy input = policy_of input.settings
 
--- the area has no more nodes and arcs than an area may have
+-- the area has at most as many nodes and arcs as an area may have
 abbrev pub HasAreaWithin : Input → Type 0
 HasAreaWithin input = IsTooLarge (length (area input).ids) (length (area input).arcs) → ⊥
 
@@ -55,7 +55,7 @@ HasAreaWithin input = IsTooLarge (length (area input).ids) (length (area input).
 abbrev pub IsMissing : Policy → AreaParts → ℕ → Type 0
 IsMissing policy area number = (Contains area.ids (router number) → ⊥) ⊎ (policy.supports number ≡ false)
 
--- this is the graph of the island of the certificate's root, and its GADAG root; area and island have no more than they may have
+-- this is the graph of the island of the certificate's root, and its GADAG root; area and island are within their limits
 pub record HasIsland (input : Input) (graph : Topology) (root : ℕ) : Type 0 where
   pub area_within : HasAreaWithin input
   pub link_of : List (Option ℕ)
