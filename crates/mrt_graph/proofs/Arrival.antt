@@ -4,7 +4,8 @@ use Rattle.std.proofs.lemmas.Bool.{cases_eq, or_cases, eqb-true, ne_eqb}
 use Rattle.std.proofs.lemmas.Map.Steps.{length-le_from_distinct_below}
 use Rattle.std.specs.List.{AllByRecursion, IsDistinct, list_any}
 use Rattle.mrt_graph.specs.Hop.{Hop}
-use Rattle.mrt_graph.proofs.Trails.{Has, Differ, Follows, nodes_behind, nodes_on}
+use Rattle.mrt_graph.proofs.Members.{Has}
+use Rattle.mrt_graph.proofs.Trails.{Differ, Follows, nodes_behind, nodes_on}
 
 -- the next hop from s leads to t, or into N to a smaller rank
 pub record Descends (next : ℕ → Option Hop) (rank : ℕ → ℕ) (N : ℕ → Type 0) (t s : ℕ) : Type 0 where
@@ -12,7 +13,7 @@ pub record Descends (next : ℕ → Option Hop) (rank : ℕ → ℕ) (N : ℕ �
   pub takes : next s ≡ Some hop
   pub goes : (hop.to ≡ t) ⊎ (N hop.to × (rank hop.to < rank s))
 
--- the hops from s arrive at t, and each node behind them is t, or is in N and has a smaller rank than s
+-- the hops from s arrive at t, and each node after them is t, or is in N and has a smaller rank than s
 pub record Arrives (next : ℕ → Option Hop) (rank : ℕ → ℕ) (N : ℕ → Type 0) (t s : ℕ) : Type 0 where
   pub hops : List Hop
   pub follows : Follows next t s hops

@@ -1,5 +1,5 @@
 -- From walks hop by hop to walks as lists of links.
-use Rattle.std.proofs.Common.{◌≡◌, ◌≢◌, ◌<◌, ◌≤◌, ℕ, zero, suc, List, [], ◌∷◌, Option, Some, None, Contains, get_or, length, inl, inr, refl, sym, ap, subst, arith}
+use Rattle.std.proofs.Common.{◌≡◌, ◌≢◌, ◌<◌, ◌≤◌, ℕ, zero, suc, List, [], ◌∷◌, Option, Some, None, get_or, length, inl, inr, refl, sym, ap, subst, arith}
 use Rattle.std.proofs.lemmas.Bool.{eq-eqb, ne_eqb}
 use Rattle.std.proofs.lemmas.List.{length-map}
 use Rattle.std.proofs.lemmas.List.Kept.{AllPairs-cons}
@@ -23,23 +23,13 @@ use Rattle.mrt_graph.specs.Walk.{Walk}
 use Rattle.mrt_graph.proofs.Arrival.{at_most}
 use Rattle.mrt_graph.proofs.Claims.{Way}
 use Rattle.mrt_graph.proofs.Hops.{follows_trail}
-use Rattle.mrt_graph.proofs.Trails.{Has, Differ, Trail, Follows, IsOnLinks, On, Parts, links_on, nodes_on}
-
--- what is in a list stands at a place of it
-contains : (xs : List ℕ) (x : ℕ) → Has xs x → Contains xs x
-contains [] x h = absurd h
-contains (y ∷ ys) x h = elim h [
-  | inl same ↦ (0, (omega arith), same)
-  | inr later ↦ let c = contains ys x later in (suc c.0, omega (arith, c.1), c.2)
-]
+use Rattle.mrt_graph.proofs.Members.{Has, contains_from_has, has_from_contains}
+use Rattle.mrt_graph.proofs.Trails.{Differ, Trail, Follows, IsOnLinks, On, Parts, links_on, nodes_on}
 
 at_place : (xs : List ℕ) (x d k : ℕ) → k < length xs → get_or xs k d ≡ x → Has xs x
 at_place [] x d k within is = absurd (omega (arith, within))
 at_place (y ∷ ys) x d zero within is = inl is
 at_place (y ∷ ys) x d (suc k) within is = inr (at_place ys x d k (omega (arith, within)) is)
-
-has : (xs : List ℕ) (x : ℕ) → Contains xs x → Has xs x
-has xs x c = at_place xs x x c.0 c.1 c.2
 
 all_differ : (xs : List ℕ) → Differ xs → AreDifferent xs
 all_differ [] differ = λ i j d lt within. absurd (omega (arith, within))
@@ -98,12 +88,14 @@ hops_of links s t (e ∷ es) walk =
     }
 
 uses : (links : List Link) (s t : ℕ) (hops : List Hop) (x : Element) → Trail links s hops t → On s hops x → Uses links s (links_on hops) x
-uses links s t hops (elements.Link e) trail on = contains (links_on hops) e on
-uses links s t hops (elements.Node x) trail on = contains (nodes_met links s (links_on hops)) x (subst (λ (xs : List ℕ). Has xs x) (sym (met_of links s t hops trail)) on)
+uses links s t hops (elements.Link e) trail on = contains_from_has (links_on hops) e on
+uses links s t hops (elements.Node x) trail on =
+    contains_from_has (nodes_met links s (links_on hops)) x (subst (λ (xs : List ℕ). Has xs x) (sym (met_of links s t hops trail)) on)
 
 on_of : (links : List Link) (s t : ℕ) (hops : List Hop) (x : Element) → Trail links s hops t → Uses links s (links_on hops) x → On s hops x
-on_of links s t hops (elements.Link e) trail uses = has (links_on hops) e uses
-on_of links s t hops (elements.Node x) trail uses = subst (λ (xs : List ℕ). Has xs x) (met_of links s t hops trail) (has (nodes_met links s (links_on hops)) x uses)
+on_of links s t hops (elements.Link e) trail uses = has_from_contains (links_on hops) e uses
+on_of links s t hops (elements.Node x) trail uses =
+    subst (λ (xs : List ℕ). Has xs x) (met_of links s t hops trail) (has_from_contains (nodes_met links s (links_on hops)) x uses)
 
 separates : (links : List Link) (x : Element) (s t : ℕ) → IsNeitherEnd x s t → Parts links x s t → Separates links x s t
 separates links x s t between parts = record {

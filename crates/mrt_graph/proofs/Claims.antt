@@ -4,7 +4,8 @@ use Rattle.mrt_graph.specs.declared.link.Element.{Element}
 use Rattle.mrt_graph.specs.Hop.{Hop}
 use Rattle.mrt_graph.specs.Separates.{IsNeitherEnd}
 use Rattle.mrt_graph.proofs.Blocks.{Words, Member, At, Related}
-use Rattle.mrt_graph.proofs.Trails.{Has, Differ, Follows, On, Parts, nodes_on}
+use Rattle.mrt_graph.proofs.Members.{Has}
+use Rattle.mrt_graph.proofs.Trails.{Differ, Follows, On, Parts, nodes_on}
 
 -- the hops that are followed from s arrive at t, and meet no node twice
 pub record Way (next : ℕ → Option Hop) (t s : ℕ) : Type 0 where

@@ -10,7 +10,8 @@ use Rattle.mrt_graph.proofs.Blocks.{Words}
 use Rattle.mrt_graph.proofs.Claims.{Good}
 use Rattle.mrt_graph.proofs.Hops.{back_round, cut, ends_are_on, follows_join, follows_trail, front_round, has_joined, link_from, link_joined, on_back, on_front, rounds_join}
 use Rattle.mrt_graph.proofs.RowFacts.{Rows}
-use Rattle.mrt_graph.proofs.Trails.{Has, Differ, Trail, Follows, IsOnLinks, On, Parts, nodes_on}
+use Rattle.mrt_graph.proofs.Members.{Has}
+use Rattle.mrt_graph.proofs.Trails.{Differ, Trail, Follows, IsOnLinks, On, Parts, nodes_on}
 
 -- x is a link, or a node other than v
 abbrev pub IsOther : ℕ → Element → Type 0

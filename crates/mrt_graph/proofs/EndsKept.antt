@@ -12,11 +12,7 @@ use Rattle.mrt_graph.specs.EndRows.{IsInRange, IsWithin}
 use Rattle.mrt_graph.specs.EndsOfLinks.{end_at, ends_at, pair_of}
 use Rattle.mrt_graph.specs.GraphInvariant.{IsEnd}
 use Rattle.mrt_graph.specs.Leads.{leads, far_node}
-
--- what holds of all elements of two lists holds of those of both
-all_of_both : {X : Type 0} (P : X → Type 0) (xs ys : List X) → AllByRecursion P xs → AllByRecursion P ys → AllByRecursion P (xs ++ ys)
-all_of_both P [] ys first second = second
-all_of_both P (x ∷ xs) ys first second = (first.0, all_of_both P xs ys first.1 second)
+use Rattle.mrt_graph.proofs.Members.{all_append}
 
 -- the link with that number is this one
 record IsNumbered (links : List Link) (number : ℕ) (link : LinkIn) : Type 0 where
@@ -70,7 +66,7 @@ pub ends_kept : (count : ℕ) (links : List Link) (n number : ℕ) (rest : List 
     AllByRecursion (IsEnd count links n) (ends_at n number rest)
 ends_kept count links n number [] numbered range within = tt
 ends_kept count links n number (link ∷ rest) numbered range within =
-    all_of_both (IsEnd count links n) (end_at n number link) (ends_at n (number + 1) rest)
+    all_append (IsEnd count links n) (end_at n number link) (ends_at n (number + 1) rest)
     (end_kept count links n number link (first_numbered links number link rest numbered) range.0 within.0)
     (ends_kept count links n (number + 1) rest (others_numbered links number link rest numbered) range.1 within.1)
 

@@ -9,7 +9,8 @@ use Rattle.mrt_graph.specs.declared.link.Element.TheVariants as elements
 use Rattle.mrt_graph.specs.declared.link.Link.{Link}
 use Rattle.mrt_graph.specs.Hop.{Hop}
 use Rattle.mrt_graph.specs.Leads.{leads, far_node}
-use Rattle.mrt_graph.proofs.Trails.{Has, Differ, Trail, Follows, IsOnLinks, On, links_on, nodes_behind, nodes_on}
+use Rattle.mrt_graph.proofs.Members.{Has}
+use Rattle.mrt_graph.proofs.Trails.{Differ, Trail, Follows, IsOnLinks, On, links_on, nodes_behind, nodes_on}
 
 -- a link leads from one of its nodes to the other
 pub far_ends : (link : Link) (s v : ℕ) → far_node s link ≡ Some v → ((link.a ≡ s) × (link.b ≡ v)) ⊎ ((link.b ≡ s) × (link.a ≡ v))

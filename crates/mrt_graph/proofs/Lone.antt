@@ -10,7 +10,8 @@ use Rattle.mrt_graph.proofs.Blocks.{Words, Blocks, Common, Peers, ToHead, FromHe
 use Rattle.mrt_graph.proofs.Claims.{Near, Way}
 use Rattle.mrt_graph.proofs.RowFacts.{NearRow, Rows, SoleRow}
 use Rattle.mrt_graph.proofs.Separate.{Crosses, enters, head_not_below, leaves}
-use Rattle.mrt_graph.proofs.Trails.{Has, On, Parts, links_on, nodes_on}
+use Rattle.mrt_graph.proofs.Members.{Has}
+use Rattle.mrt_graph.proofs.Trails.{On, Parts, links_on, nodes_on}
 
 module _ (w : Words) (b : Blocks w) (rows : Rows w) (s t : ℕ) (other : s ≢ t) (s_within : s < w.count) (t_within : t < w.count) where
   -- the member among the two, and what parts them

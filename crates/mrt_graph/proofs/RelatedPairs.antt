@@ -17,7 +17,8 @@ use Rattle.mrt_graph.proofs.InBlock.{at_within}
 use Rattle.mrt_graph.proofs.Moves.{Ends, Meets, rank, rank_falls, meets_on, meets_itself, meets_no_sole, both_meet, never_both}
 use Rattle.mrt_graph.proofs.RowFacts.{Says, TopRow, Rows}
 use Rattle.mrt_graph.proofs.Steps.{next_of, Goes, There, On as Onward, step, row_at}
-use Rattle.mrt_graph.proofs.Trails.{Has, Trail, Follows, On, nodes_on, links_on, IsOnLinks}
+use Rattle.mrt_graph.proofs.Members.{Has}
+use Rattle.mrt_graph.proofs.Trails.{Trail, Follows, On, nodes_on, links_on, IsOnLinks}
 
 -- a link on hops to t is that of the next hop of a node that is met and is not t
 record Taken (next : ℕ → Option Hop) (t s e : ℕ) (hops : List Hop) : Type 0 where

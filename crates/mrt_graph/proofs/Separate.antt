@@ -5,7 +5,8 @@ use Rattle.mrt_graph.specs.Hop.{Hop}
 use Rattle.mrt_graph.specs.Leads.{leads}
 use Rattle.mrt_graph.proofs.Blocks.{Words, Blocks, Common, Peers, ToHead, FromHead, Member, Below, Here, Up}
 use Rattle.mrt_graph.proofs.Hops.{lead_back}
-use Rattle.mrt_graph.proofs.Trails.{Has, Trail, links_on, nodes_on}
+use Rattle.mrt_graph.proofs.Members.{Has}
+use Rattle.mrt_graph.proofs.Trails.{Trail, links_on, nodes_on}
 
 -- a walk goes over a link of m's block, and meets the head of m
 pub record Crosses (w : Words) (m s : ℕ) (hops : List Hop) : Type 0 where

@@ -1,15 +1,11 @@
 -- Walks hop by hop: each link with the node that it leads to.
-use Rattle.std.specs.Prelude.{◌≡◌, ◌≢◌, ◌⊎◌, ℕ, List, [], ◌∷◌, Option, Some, map}
+use Rattle.std.specs.Prelude.{◌≡◌, ◌≢◌, ℕ, List, [], ◌∷◌, Option, Some, map}
 use Rattle.mrt_graph.specs.declared.link.Element.{Element}
 use Rattle.mrt_graph.specs.declared.link.Element.TheVariants as elements
 use Rattle.mrt_graph.specs.declared.link.Link.{Link}
 use Rattle.mrt_graph.specs.Hop.{Hop}
 use Rattle.mrt_graph.specs.Leads.{leads}
-
--- x is in the list
-abbrev pub Has : List ℕ → ℕ → Type 0
-Has [] x = ⊥
-Has (y ∷ ys) x = (y ≡ x) ⊎ Has ys x
+use Rattle.mrt_graph.proofs.Members.{Has}
 
 -- no number is in the list twice
 abbrev pub Differ : List ℕ → Type 0
@@ -21,7 +17,7 @@ abbrev pub Trail : List Link → ℕ → List Hop → ℕ → Type 0
 Trail links s [] t = s ≡ t
 Trail links s (hop ∷ hops) t = (leads links hop.link s ≡ Some hop.to) × Trail links hop.to hops t
 
--- the nodes behind the hops
+-- the nodes after the hops
 abbrev pub nodes_behind : List Hop → List ℕ
 nodes_behind hops = map (λ hop. hop.to) hops
 

@@ -6,7 +6,8 @@ use Rattle.mrt_graph.proofs.Blocks.{Words, Blocks, Related, InOne, Under, Over, 
 use Rattle.mrt_graph.proofs.InBlock.{at_related, at_within}
 use Rattle.mrt_graph.proofs.RowFacts.{Rows, SameHops}
 use Rattle.mrt_graph.proofs.Separate.{below_above, enters, head_order, head_not_below, leaves}
-use Rattle.mrt_graph.proofs.Trails.{Has, Parts, nodes_on}
+use Rattle.mrt_graph.proofs.Members.{Has}
+use Rattle.mrt_graph.proofs.Trails.{Parts, nodes_on}
 
 -- the first node of t's chain that is related to s; where the chain ends at the root with none, the head of s
 pub data Toward (w : Words) (s : ℕ) : ℕ → ℕ → Type 0 where
