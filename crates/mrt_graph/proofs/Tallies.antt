@@ -110,7 +110,7 @@ tally_fewer p q (y ∷ ys) x more has fails passes = elim has [
       omega (arith, if_below (p y) (q y) (more y (inl refl)), tally_fewer p q ys x (λ z at. more z (inr at)) later fails passes)
 ]
 
--- a filter counts no more than its list
+-- a filter counts at most what its list counts
 pub tally_filtered : {X : Type 0} (p q : X → Bool) (xs : List X) → tally p (filter q xs) ≤ tally p xs
 tally_filtered p q xs = omega (arith, tally_filter p q xs, tally_below (λ x. q x && p x) p xs (λ x has passes. (and_parts (q x) (p x) passes).1))
 

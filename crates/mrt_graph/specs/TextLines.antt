@@ -4,7 +4,7 @@ use Rattle.std.specs.List.{filter, list_all, slice_split}
 use Rattle.std.specs.Str.Lines.{lines}
 
 -- the lines of a text, the first of which has the number 1: each ends with a line feed or with the end of the text, one carriage
--- return before the line feed is dropped, and an empty last piece behind the last line feed is no line
+-- return before the line feed is dropped, and an empty last piece after the last line feed is no line
 abbrev pub text_lines : List ℕ → List (List ℕ)
 text_lines text = lines text
 

@@ -6,7 +6,7 @@ use Rattle.mrt_graph.specs.declared.link.Element.TheVariants as elements
 use Rattle.mrt_graph.specs.declared.link.Link.{Link}
 use Rattle.mrt_graph.specs.Leads.{leads}
 
--- the nodes that a walk from s meets, in their order: s itself, and the node behind each link
+-- the nodes that a walk from s meets, in their order: s itself, and the node after each link
 abbrev pub nodes_met : List Link → ℕ → List ℕ → List ℕ
 nodes_met links s [] = s ∷ []
 nodes_met links s (e ∷ es) = s ∷ option_map_or (λ v. nodes_met links v es) (leads links e s) []

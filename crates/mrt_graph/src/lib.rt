@@ -1,4 +1,5 @@
-//! The ground of the project: numbers of nodes and links, node identifiers and their texts, graphs and certificates.
+//! The ground of the project: numbers of nodes and links, node identifiers and their texts, graphs and searches in
+//! them, certificates and their laws, and the lines, words and numbers of a text.
 #![tactic(auto)]
 
 mod cert;

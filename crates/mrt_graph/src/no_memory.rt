@@ -1,6 +1,6 @@
 use std::alloc::{AllocError, AllocFailed};
 
-/// The error of a call that found no memory. Nothing that was lent for writing has changed.
+/// The error of a public call that found no memory. Nothing that was lent for writing has changed.
 #[derive(Clone, Copy, Debug, PartialEq, Eq)]
 pub struct NoMemory;
 

@@ -51,7 +51,7 @@ impl NodeText {
     }
 }
 
-/// Puts a byte's number behind the text.
+/// Puts a byte's number after the text.
 fn push_decimal(text: &mut ArrayString<19>, number: u8)
     requires { array_string_len text.old + 3 ≤ 19 }
     ensures value { text.new.bytes ≡ text.old.bytes ++ decimal number }

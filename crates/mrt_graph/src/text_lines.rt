@@ -6,10 +6,10 @@ ghost use Rattle.std.specs.List.{list_all, slice_split};
 ghost use Rattle.std.specs.Str.Lines.{strip_carriage_return};
 ghost use Rattle.mrt_graph.specs.TextLines.{text_lines, words_of, is_blank, is_passed_over};
 
-/// The first line of a text, and what stands behind it. `None` where the text has no line.
+/// The first line of a text, and what stands after it. `None` where the text has no line.
 ///
 /// A line ends with a line feed or with the end of the text; one carriage return before the line feed is dropped. An empty last
-/// piece behind the last line feed is no line.
+/// piece after the last line feed is no line.
 pub fn first_line(text: &[u8]) -> Option<(&[u8], &[u8])>
     ensures { MatchOption result (text_lines text.now ≡ []) (λ x. text_lines text.now ≡ x.0.now ∷ text_lines x.1.now) }
 {
@@ -51,7 +51,7 @@ fn is_comment(line: &[u8]) -> bool
     matches!(line, [b'#', ..])
 }
 
-/// The first word of a line, and what stands behind it. `None` where the line has no word.
+/// The first word of a line, and what stands after it. `None` where the line has no word.
 ///
 /// Words are split by one or more spaces or tabs.
 pub fn first_word(line: &[u8]) -> Option<(&[u8], &[u8])>
@@ -79,7 +79,7 @@ fn is_blank(byte: u8) -> bool
     byte == b' ' || byte == b'\t'
 }
 
-/// The bytes before the first such byte, and those behind it. `None` where there is none.
+/// The bytes before the first such byte, and those after it. `None` where there is none.
 pub(crate) fn cut_at(text: &[u8], byte: u8) -> Option<(&[u8], &[u8])>
     ensures { MatchOption result (slice_split (λ b. b == byte) text.now ≡ text.now ∷ []) (λ x. (text.now ≡ x.0.now ++ byte ∷ x.1.now) × (slice_split (λ b. b == byte) text.now ≡ x.0.now ∷ slice_split (λ b. b == byte) x.1.now)) }
 {

@@ -75,7 +75,7 @@ fn address(text: &[u8]) -> Option<u32>
     Some(u32::from_be_bytes([a, b, c, d]))
 }
 
-/// The number of a byte that stands before the first dot, and what stands behind the dot.
+/// The number of a byte that stands before the first dot, and what stands after the dot.
 fn read_before_dot(text: &[u8]) -> Option<(u8, &[u8])>
     ensures found { IfSome result (λ x. text.now ≡ decimal x.0 ++ 46 ∷ x.1.now) }
     ensures only { (number : ℕ) (rest : List ℕ) → number < 2 ^ 8 → text.now ≡ decimal number ++ 46 ∷ rest → IsSomeAnd result (λ x. (x.0 ≡ number) × (x.1.now ≡ rest)) }
