@@ -37,62 +37,64 @@ plain_to_head c e s v = has_role is_plain c e && are_equal (head_of c s) (Some v
 abbrev pub closing_to_head : Certificate → ℕ → ℕ → ℕ → Bool
 closing_to_head c e s v = has_role is_closing c e && are_equal (head_of c s) (Some v)
 
--- Of a row of s for t that is not Carried, blue and red are here the nodes to which its two links lead from s.
+-- A row of s for t that is not Carried has two links, blue and red: row.blue and row.red. They lead from s to the nodes
+-- blue_to and red_to.
 
 -- Sole: blue and red are one link, its role is sole, and it leads to t
 abbrev pub sole_row : Certificate → ℕ → Row → ℕ → Bool
-sole_row c t row blue = (row.blue == row.red) && (has_role is_sole c row.blue && (blue == t))
+sole_row c t row blue_to = (row.blue == row.red) && (has_role is_sole c row.blue && (blue_to == t))
 
 -- Head: the head of s is t; blue leads to a node of the block of s with a greater order, or is closing and leads to t;
 -- red leads to a node of the block of s with a smaller order, or is plain and leads to t
 abbrev pub head_row : Certificate → ℕ → ℕ → Row → ℕ → ℕ → Bool
-head_row c s t row blue red =
+head_row c s t row blue_to red_to =
     are_equal (head_of c s) (Some t)
-    && ((higher_beside c s blue || (has_role is_closing c row.blue && (blue == t)))
-    && (lower_beside c s red || (has_role is_plain c row.red && (red == t))))
+    && ((higher_beside c s blue_to || (has_role is_closing c row.blue && (blue_to == t)))
+    && (lower_beside c s red_to || (has_role is_plain c row.red && (red_to == t))))
 
 -- Top: the head of t is s; blue is plain, and leads to t or to a node whose row for t is Below; red is closing, and
 -- leads to t or to a node whose row for t is Above
 abbrev pub top_row : Certificate → ℕ → ℕ → Row → ℕ → ℕ → Bool
-top_row c s t row blue red =
+top_row c s t row blue_to red_to =
     are_equal (head_of c t) (Some s)
-    && ((has_role is_plain c row.blue && ((blue == t) || tagged c blue t Below))
-    && (has_role is_closing c row.red && ((red == t) || tagged c red t Above)))
+    && ((has_role is_plain c row.blue && ((blue_to == t) || tagged c blue_to t Below))
+    && (has_role is_closing c row.red && ((red_to == t) || tagged c red_to t Above)))
 
 -- Below: s and t have one block, s has the smaller order; blue leads to t, or to a node of greater order whose row for
 -- t is Below; red leads to a node of smaller order whose row for t is Below, or is plain and leads to the head of s
 abbrev pub below_row : Certificate → ℕ → ℕ → Row → ℕ → ℕ → Bool
-below_row c s t row blue red =
+below_row c s t row blue_to red_to =
     are_equal (block_of c s) (block_of c t) && (is_less (order_of c s) (order_of c t)
-    && (((blue == t) || higher_tagged c s t Below blue)
-    && (lower_tagged c s t Below red || plain_to_head c row.red s red)))
+    && (((blue_to == t) || higher_tagged c s t Below blue_to)
+    && (lower_tagged c s t Below red_to || plain_to_head c row.red s red_to)))
 
 -- Above: s and t have one block, s has the greater order; blue leads to a node of greater order whose row for t is
 -- Above, or is closing and leads to the head of s; red leads to t, or to a node of smaller order whose row for t is
 -- Above
 abbrev pub above_row : Certificate → ℕ → ℕ → Row → ℕ → ℕ → Bool
-above_row c s t row blue red =
+above_row c s t row blue_to red_to =
     are_equal (block_of c s) (block_of c t) && (is_less (order_of c t) (order_of c s)
-    && ((higher_tagged c s t Above blue || closing_to_head c row.blue s blue)
-    && ((red == t) || lower_tagged c s t Above red)))
+    && ((higher_tagged c s t Above blue_to || closing_to_head c row.blue s blue_to)
+    && ((red_to == t) || lower_tagged c s t Above red_to)))
 
 -- Unordered: s and t have one block; blue leads to a node of smaller order whose row for t is Unordered or Below, or is
 -- plain and leads to the head of s; red leads to a node of greater order whose row for t is Unordered or Above
 abbrev pub unordered_row : Certificate → ℕ → ℕ → Row → ℕ → ℕ → Bool
-unordered_row c s t row blue red =
+unordered_row c s t row blue_to red_to =
     are_equal (block_of c s) (block_of c t)
-    && (((lower_tagged c s t Unordered blue || lower_tagged c s t Below blue) || plain_to_head c row.blue s blue)
-    && (higher_tagged c s t Unordered red || higher_tagged c s t Above red))
+    && (((lower_tagged c s t Unordered blue_to || lower_tagged c s t Below blue_to)
+    || plain_to_head c row.blue s blue_to)
+    && (higher_tagged c s t Unordered red_to || higher_tagged c s t Above red_to))
 
 -- these by the tag; a Carried row is none of them
 abbrev pub near_row : Tag → Certificate → ℕ → ℕ → Row → ℕ → ℕ → Bool
-near_row Sole c s t row blue red = sole_row c t row blue
-near_row Head c s t row blue red = head_row c s t row blue red
-near_row Top c s t row blue red = top_row c s t row blue red
-near_row Below c s t row blue red = below_row c s t row blue red
-near_row Above c s t row blue red = above_row c s t row blue red
-near_row Unordered c s t row blue red = unordered_row c s t row blue red
-near_row Carried c s t row blue red = false
+near_row Sole c s t row blue_to red_to = sole_row c t row blue_to
+near_row Head c s t row blue_to red_to = head_row c s t row blue_to red_to
+near_row Top c s t row blue_to red_to = top_row c s t row blue_to red_to
+near_row Below c s t row blue_to red_to = below_row c s t row blue_to red_to
+near_row Above c s t row blue_to red_to = above_row c s t row blue_to red_to
+near_row Unordered c s t row blue_to red_to = unordered_row c s t row blue_to red_to
+near_row Carried c s t row blue_to red_to = false
 
 -- the node for which s has the links that it has for t: the head of t, or where t is the root, the head of s
 abbrev pub carrier : Certificate → ℕ → ℕ → ℕ → Option ℕ
