@@ -17,14 +17,7 @@ pub(crate) fn far_end(g: &Graph, c: &Cert, e: LinkNo, s: NodeNo) -> Option<NodeN
     ensures within { IfSome result (λ v. v < length c.now.nodes) }
 {
     let _same = c.node_count();
-    let link = g.link(e);
-    if link.a == s {
-        return Some(link.b);
-    }
-    if link.b == s {
-        return Some(link.a);
-    }
-    None
+    g.link(e).far_node(s)
 }
 
 /// Whether `v` has a row for `t`, and the row has this tag.

@@ -1,9 +1,13 @@
 //! Links between nodes, and their ends at each of the two.
 
+ghost use Rattle.std.specs.Prelude.{◌≡◌};
+ghost use Rattle.mrt_graph.specs.Leads.{far_node};
+
 use crate::numbers::{LinkNo, NodeNo};
 
 /// A link as [`Graph::new`](crate::Graph::new) takes it: its two nodes, and at each of them the metric and the link
-/// data of the interface (RFC 2328, section A.4.2). A network's end has metric 0 and link data 0.
+/// data of the interface (RFC 2328, section A.4.2). In an island's graph, a network's end has metric 0 and link
+/// data 0.
 #[derive(Clone, Copy, Debug, PartialEq, Eq)]
 pub struct LinkIn {
     pub a: NodeNo,
@@ -19,6 +23,21 @@ pub struct LinkIn {
 pub struct Link {
     pub a: NodeNo,
     pub b: NodeNo,
+}
+
+impl Link {
+    /// The other node of a link that touches `s`. `None` where it does not touch `s`.
+    pub fn far_node(&self, s: NodeNo) -> Option<NodeNo>
+        ensures { result ≡ far_node s self.now }
+    {
+        if self.a == s {
+            Some(self.b)
+        } else if self.b == s {
+            Some(self.a)
+        } else {
+            None
+        }
+    }
 }
 
 /// An interface of a node: the link it is on, the node at the link's other end, and the node's own metric and link

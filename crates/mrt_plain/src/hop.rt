@@ -4,7 +4,7 @@ ghost use Rattle.std.specs.Prelude.{◌≡◌, ◌<◌, ℕ, IfNone, IfSome, [],
 ghost use Rattle.mrt_graph.specs.Certificate.{row_of};
 ghost use Rattle.mrt_graph.specs.Hop.{color_hop};
 ghost use Rattle.mrt_graph.specs.ColorWalk.{links_followed};
-ghost use Rattle.mrt_graph.specs.Leads.{far_node, leads};
+ghost use Rattle.mrt_graph.specs.Leads.{leads};
 ghost use Rattle.mrt_graph.specs.Rows.{link_of_color};
 ghost use Rattle.mrt_plain.specs.Within.{AreWithin};
 ghost use Rattle.mrt_plain.specs.NextHop.{IsNextHop};
@@ -18,25 +18,12 @@ pub struct Hop {
     pub to: NodeNo,
 }
 
-/// The other node of a link that touches `at`.
-fn other_node(link: &Link, at: NodeNo) -> Option<NodeNo>
-    ensures { result ≡ far_node at link.now }
-{
-    if link.a == at {
-        Some(link.b)
-    } else if link.b == at {
-        Some(link.a)
-    } else {
-        None
-    }
-}
-
 /// Where link number `e` leads from `at`.
 pub fn lead(links: &[Link], e: usize, at: NodeNo) -> Option<NodeNo>
     ensures { result ≡ leads links.now e at }
 {
     match links.get(e) {
-        Some(link) => other_node(link, at),
+        Some(link) => link.far_node(at),
         None => None,
     }
 }
