@@ -81,7 +81,7 @@ uses_later links (elements.Link a) s e v es on uses = contains_later e a es uses
 uses_later links (elements.Node y) s e v es on uses =
     subst (λ (met : List ℕ). Contains met y) (sym (met_onward links s e v es on)) (contains_later s y (nodes_met links v es) uses)
 
--- and the first link and the node behind it
+-- and the first link and the node after it
 pub uses_hit : (links : List Link) (x : Element) (s e v : ℕ) (es : List ℕ) → leads links e s ≡ Some v → avoids x e v ≡ false → Uses links s (e ∷ es) x
 uses_hit links (elements.Link a) s e v es on hit = subst (λ (f : ℕ). Contains (e ∷ es) f) (agree e a hit) (contains_first e es)
 uses_hit links (elements.Node y) s e v es on hit =
@@ -104,7 +104,7 @@ pub Elsewhere : Element → ℕ → Type 0
 Elsewhere (elements.Link a) s = ⊤
 Elsewhere (elements.Node y) s = s ≢ y
 
--- so it is behind each step without x, and at the beginning of what x may separate
+-- this holds after each step without x, and at the beginning of what x may separate
 pub elsewhere_onward : (x : Element) (e v : ℕ) → avoids x e v ≡ true → Elsewhere x v
 unfolding Elsewhere
 elsewhere_onward (elements.Link a) e v clear = tt
