@@ -6,7 +6,7 @@ ghost use Rattle.cert_checker.specs.LikeBefore.{IsLikeBefore};
 ghost use Rattle.mrt_graph.specs.HeadsAndBlocks.{
   HeadFails,
   HeadFault,
-  HeadHolds,
+  HeadHoldsAt,
   HeadsHold,
   link_placed,
   one_head,
@@ -14,18 +14,18 @@ ghost use Rattle.mrt_graph.specs.HeadsAndBlocks.{
 };
 ghost use Rattle.mrt_graph.specs.Related.{is_common_block};
 
-use crate::place::Place;
+use crate::fault_at::FaultAt;
 use mrt_graph::{Cert, LinkNo, NodeNo};
 
 /// The least node that is not placed, and 0; or that shares its block with nodes of another head, and the least of
 /// those.
-pub(crate) fn head_fault(c: &Cert, root: NodeNo) -> Option<Place>
+pub(crate) fn head_fault(c: &Cert, root: NodeNo) -> Option<FaultAt>
     ensures { MatchOption result (HeadsHold c.now root)
         (λ place. HeadFault c.now root place.a place.b) }
 {
     for a in 0..c.node_count() {
         if let Some(b) = head_fault_at(c, root, NodeNo::new(a)) {
-            return Some(Place { a, b });
+            return Some(FaultAt { a, b });
         }
     }
     None
@@ -34,8 +34,8 @@ pub(crate) fn head_fault(c: &Cert, root: NodeNo) -> Option<Place>
 /// Nodes stand beside others of their block for the most part, so a node like the one before it needs no search.
 fn head_fault_at(c: &Cert, root: NodeNo, a: NodeNo) -> Option<u16>
     requires within { a < length c.now.nodes }
-    requires before { (x : ℕ) → x < a → HeadHolds c.now root x }
-    ensures { MatchOption result (HeadHolds c.now root a) (HeadFails c.now root a) }
+    requires before { (x : ℕ) → x < a → HeadHoldsAt c.now root x }
+    ensures { MatchOption result (HeadHoldsAt c.now root a) (HeadFails c.now root a) }
 {
     if !is_placed(c, root, a) {
         return Some(0);

@@ -1,13 +1,14 @@
-//! The checker of certificates: fourteen rules, read in order without memory.
+//! The checker of certificates: fourteen rules, read without memory. Rules 1 to 6 are read one after another, rules 7
+//! to 14 in one pass that keeps the least.
 #![tactic(auto)]
 
 mod block_links;
 mod fault;
+mod fault_at;
 mod heads;
 mod judge;
 mod near_rows;
 mod orders;
-mod place;
 mod row_rules;
 mod row_words;
 mod rows;

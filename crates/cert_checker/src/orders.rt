@@ -5,11 +5,11 @@ ghost use Rattle.cert_checker.specs.Found.{FoundFirst, FoundPair};
 ghost use Rattle.mrt_graph.specs.RootAndOrders.{RootAndOrders, OrderFault, root_stands, orders_differ};
 ghost use Rattle.mrt_graph.specs.SameGraph.{SameCounts};
 
-use crate::place::Place;
+use crate::fault_at::FaultAt;
 use mrt_graph::{Cert, CertFile, Graph, NodeNo};
 
 /// The root and the root; or the least node that has an equal above it, and the least of those.
-pub(crate) fn order_fault(g: &Graph, root: NodeNo, f: &CertFile) -> Option<Place>
+pub(crate) fn order_fault(g: &Graph, root: NodeNo, f: &CertFile) -> Option<FaultAt>
     requires counts { SameCounts g.now f.now.cert }
     requires root { root < length g.now.ids }
     ensures { MatchOption result (RootAndOrders g.now root f.now)
@@ -17,7 +17,7 @@ pub(crate) fn order_fault(g: &Graph, root: NodeNo, f: &CertFile) -> Option<Place
 {
     if !is_root_first(g, root, f) {
         let at = root.get();
-        return Some(Place { a: at, b: at });
+        return Some(FaultAt { a: at, b: at });
     }
     first_equal_orders(&f.cert)
 }
@@ -30,12 +30,12 @@ fn is_root_first(g: &Graph, root: NodeNo, f: &CertFile) -> bool
     g.id(root).number == f.root && f.cert.node(root).order == 1
 }
 
-fn first_equal_orders(c: &Cert) -> Option<Place>
+fn first_equal_orders(c: &Cert) -> Option<FaultAt>
     ensures { FoundPair (orders_differ c.now) (length c.now.nodes) result }
 {
     for a in 0..c.node_count() {
         if let Some(b) = first_equal_above(c, NodeNo::new(a)) {
-            return Some(Place { a, b });
+            return Some(FaultAt { a, b });
         }
     }
     None

@@ -4,22 +4,22 @@ ghost use Rattle.std.specs.Prelude.{◌≡◌, ◌<◌, length, MatchBool, Match
 ghost use Rattle.cert_checker.specs.Found.{FoundFirst};
 ghost use Rattle.mrt_graph.specs.SameGraph.{GraphFault, SameCounts, SameGraph, same_id, same_link, same_node};
 
-use crate::place::Place;
+use crate::fault_at::FaultAt;
 use mrt_graph::{Cert, Graph, LinkNo, NodeId, NodeNo};
 
 /// Other counts at 0 and 2; the least node with another identifier, and 0; the least link with other nodes, and 1.
-pub(crate) fn graph_fault(g: &Graph, c: &Cert) -> Option<Place>
+pub(crate) fn graph_fault(g: &Graph, c: &Cert) -> Option<FaultAt>
     ensures { MatchOption result (SameGraph g.now c.now)
         (λ place. GraphFault g.now c.now place.a place.b) }
 {
     if !counts_agree(g, c) {
-        return Some(Place { a: 0, b: 2 });
+        return Some(FaultAt { a: 0, b: 2 });
     }
     if let Some(a) = first_other_node(g, c) {
-        return Some(Place { a, b: 0 });
+        return Some(FaultAt { a, b: 0 });
     }
     if let Some(a) = first_other_link(g, c) {
-        return Some(Place { a, b: 1 });
+        return Some(FaultAt { a, b: 1 });
     }
     None
 }

@@ -13,7 +13,7 @@ use Rattle.mrt_graph.specs.declared.link.Link.{Link}
 use Rattle.mrt_graph.specs.Accepted.{Accepted}
 use Rattle.mrt_graph.specs.BothThere.{are_different, are_equal, is_less}
 use Rattle.mrt_graph.specs.CertWords.{order_of, head_of, block_of, links_of, members}
-use Rattle.mrt_graph.specs.HeadsAndBlocks.{HeadHolds, closed_unless_one_link, lone_if_one_link}
+use Rattle.mrt_graph.specs.HeadsAndBlocks.{HeadHoldsAt, closed_unless_one_link, lone_if_one_link}
 use Rattle.mrt_graph.specs.Leads.{far_node, leads}
 use Rattle.mrt_graph.specs.Related.{is_common_block}
 use Rattle.mrt_graph.specs.Roles.{is_sole}
@@ -64,7 +64,7 @@ module _ (g : Topology) (root : ℕ) (file : CertFile) (accepted : Accepted g ro
   ordered : RootAndOrders g root file
   ordered = accepted OrderRule
 
-  head_holds : (a : ℕ) → a < w.count → HeadHolds file.cert root a
+  head_holds : (a : ℕ) → a < w.count → HeadHoldsAt file.cert root a
   head_holds = accepted HeadRule
 
   root_within : root < w.count

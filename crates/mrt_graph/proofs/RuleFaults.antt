@@ -7,7 +7,7 @@ use Rattle.mrt_graph.specs.declared.cert.Tag.TheVariants.{Sole, Head, Top, Below
 use Rattle.mrt_graph.specs.Accepted.{Accepted}
 use Rattle.mrt_graph.specs.Certificate.{Certificate}
 use Rattle.mrt_graph.specs.FirstFault.{FirstFault}
-use Rattle.mrt_graph.specs.HeadsAndBlocks.{HeadHolds, HeadFails, Alone, Beside, HeadsHold, HeadFault, placed, one_head}
+use Rattle.mrt_graph.specs.HeadsAndBlocks.{HeadHoldsAt, HeadFails, Alone, Beside, HeadsHold, HeadFault, placed, one_head}
 use Rattle.mrt_graph.specs.RootAndOrders.{RootAndOrders, OrderFault, AtRoot, EqualOrders, root_stands, orders_differ}
 use Rattle.mrt_graph.specs.Rules.{Rule, GraphRule, OrderRule, HeadRule, LinkRule, LoneRule, ClosedRule, TagRule, BlockRule, Told, rule_number, told, told_of_each, told_of_pairs}
 use Rattle.mrt_graph.specs.SameGraph.{SameCounts, SameGraph, GraphFault, OtherCounts, OtherNode, OtherLink, same_node, same_link}
@@ -102,7 +102,7 @@ orders_one g root file a b x y (EqualOrders d e stands first) (EqualOrders u v a
 
 -- ---- the third rule
 
-head_either : (c : Certificate) (root a : ℕ) → HeadHolds c root a ⊎ ((b : ℕ) × HeadFails c root a b)
+head_either : (c : Certificate) (root a : ℕ) → HeadHoldsAt c root a ⊎ ((b : ℕ) × HeadFails c root a b)
 head_either c root a = elim (cases_Bool (placed c root a)) [
   | inr fails ↦ inr (0, Alone fails)
   | inl alone ↦ elim (each_first (one_head c a) (length c.nodes)) [
@@ -111,7 +111,7 @@ head_either c root a = elim (cases_Bool (placed c root a)) [
   ]
 ]
 
-head_never : (c : Certificate) (root a b : ℕ) → HeadHolds c root a → HeadFails c root a b → ⊥
+head_never : (c : Certificate) (root a b : ℕ) → HeadHoldsAt c root a → HeadFails c root a b → ⊥
 head_never c root a b holds (Alone fails) = both_ways _ fails holds.alone
 head_never c root a b holds (Beside x alone first) = each_or_first _ _ _ holds.beside first
 
@@ -123,7 +123,7 @@ head_one c root a b y (Beside u alone first) (Beside v again second) = one_first
 
 heads_either : (c : Certificate) (root : ℕ) → HeadsHold c root ⊎ ((a : ℕ) × ((b : ℕ) × HeadFault c root a b))
 heads_either c root =
-    elim (first_of (HeadHolds c root) (λ a. (b : ℕ) × HeadFails c root a b) (length c.nodes)
+    elim (first_of (HeadHoldsAt c root) (λ a. (b : ℕ) × HeadFails c root a b) (length c.nodes)
     (λ a within. head_either c root a)) [
       | inl hold ↦ inl hold
       | inr found ↦

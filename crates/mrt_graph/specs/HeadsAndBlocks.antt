@@ -21,7 +21,7 @@ abbrev pub one_head : Certificate → ℕ → ℕ → Bool
 one_head c a b = are_different (block_of c a) (block_of c b) || are_equal (head_of c a) (head_of c b)
 
 -- the third rule, at a node: it is placed, and all nodes of its block have its head
-pub record HeadHolds (c : Certificate) (root a : ℕ) : Type 0 where
+pub record HeadHoldsAt (c : Certificate) (root a : ℕ) : Type 0 where
   pub alone : placed c root a ≡ true
   pub beside : Each (one_head c a) (length c.nodes)
 
@@ -32,13 +32,13 @@ pub data HeadFails (c : Certificate) (root a : ℕ) : ℕ → Type 0 where
 
 -- the third rule
 abbrev pub HeadsHold : Certificate → ℕ → Type 0
-HeadsHold c root = (a : ℕ) → a < length c.nodes → HeadHolds c root a
+HeadsHold c root = (a : ℕ) → a < length c.nodes → HeadHoldsAt c root a
 
 -- its faults: at the least node, and what is said there
 pub record HeadFault (c : Certificate) (root a b : ℕ) : Type 0 where
   pub within : a < length c.nodes
   pub fails : HeadFails c root a b
-  pub before : (x : ℕ) → x < a → HeadHolds c root x
+  pub before : (x : ℕ) → x < a → HeadHoldsAt c root x
 
 -- the fourth rule, at a link: its block is the common block of its two nodes
 abbrev pub link_placed : Certificate → ℕ → Bool

@@ -2,13 +2,13 @@ use Rattle.std.proofs.Common.{◌≡◌, ◌∙◌, ℕ, true, sym, length, Opti
 use Rattle.std.specs.Option.{MatchOption}
 use Rattle.cert_checker.specs.Found.{FoundFirst}
 use Rattle.mrt_graph.specs.Certificate.{Certificate}
-use Rattle.mrt_graph.specs.HeadsAndBlocks.{Alone, Beside, HeadFails, HeadHolds, one_head, placed}
+use Rattle.mrt_graph.specs.HeadsAndBlocks.{Alone, Beside, HeadFails, HeadHoldsAt, one_head, placed}
 use Rattle.cert_checker.proofs.heads.head_fault_at.Goals as goal
 
 -- what a search for another head has found at a node that is placed
 found_beside : (c : Certificate) (root a : ℕ) → placed c root a ≡ true → (found : Option ℕ)
     → FoundFirst (one_head c a) (length c.nodes) found
-    → MatchOption found (HeadHolds c root a) (HeadFails c root a)
+    → MatchOption found (HeadHoldsAt c root a) (HeadFails c root a)
 found_beside c root a alone None beside = record { alone = alone; beside = beside }
 found_beside c root a alone (Some b) first = Beside b alone first
 

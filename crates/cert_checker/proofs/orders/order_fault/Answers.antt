@@ -1,13 +1,13 @@
 use Rattle.std.proofs.Common.{◌≡◌, ◌∙◌, sym, ℕ, true, length, Option, Some, None}
 use Rattle.std.specs.Option.{MatchOption}
-use Rattle.cert_checker.specs.declared.place.Place.{Place}
+use Rattle.cert_checker.specs.declared.fault_at.FaultAt.{FaultAt}
 use Rattle.cert_checker.specs.Found.{FoundPair}
 use Rattle.mrt_graph.specs.declared.cert.CertFile.{CertFile}
 use Rattle.mrt_graph.specs.RootAndOrders.{RootAndOrders, OrderFault, AtRoot, EqualOrders, root_stands, orders_differ}
 use Rattle.mrt_graph.specs.Topology.{Topology}
 use Rattle.cert_checker.proofs.orders.order_fault.Goals as goal
 
-orders_found : (g : Topology) (root : ℕ) (file : CertFile) → root_stands g root file ≡ true → (found : Option Place)
+orders_found : (g : Topology) (root : ℕ) (file : CertFile) → root_stands g root file ≡ true → (found : Option FaultAt)
     → FoundPair (orders_differ file.cert) (length file.cert.nodes) found
     → MatchOption found (RootAndOrders g root file) (λ place. OrderFault g root file place.a place.b)
 orders_found g root file first None hold = record { root_first = first; orders = hold }
