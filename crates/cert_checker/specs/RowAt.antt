@@ -5,7 +5,7 @@ use Rattle.mrt_graph.specs.Certificate.{Certificate, IsCertRow}
 use Rattle.mrt_graph.specs.SameGraph.{SameCounts}
 use Rattle.mrt_graph.specs.Topology.{Topology}
 
--- the certificate has the graph's counts, and the row is one of two nodes s and t
+-- the certificate has the graph's counts, s and t are two of its nodes, and the row's links are in range
 pub record IsRowAt (g : Topology) (c : Certificate) (s t : ℕ) (row : Row) : Type 0 where
   pub counts : SameCounts g c
   pub source : s < length c.nodes
@@ -13,7 +13,7 @@ pub record IsRowAt (g : Topology) (c : Certificate) (s t : ℕ) (row : Row) : Ty
   pub different : s ≢ t
   pub links : IsCertRow (length c.links) row
 
--- a row of s for t, whose links lead to the nodes blue and red
+-- s, t, blue and red are nodes of the certificate, and the row's links are in range
 pub record IsNearRowAt (c : Certificate) (s t : ℕ) (row : Row) (blue red : ℕ) : Type 0 where
   pub source : s < length c.nodes
   pub target : t < length c.nodes

@@ -21,8 +21,8 @@ use mrt_graph::{CertFile, Graph, NodeNo, accepted_implies_sound, accepted_or_one
 /// A yes alone, whoever wrote the file, implies that both colors reach every destination and share only what every walk
 /// uses.
 ///
-/// A later rule is read only where all earlier ones hold. No memory is taken. Rules 1 to 6 take time in proportion to
-/// nodes times links at worst, the others one pass over the rows.
+/// Rules 1 to 6 are read one after another, rules 7 to 14 in one pass that keeps the least. No memory is taken. Rules 1
+/// to 6 take time in proportion to nodes times links at worst, the others one pass over the rows.
 pub fn check(g: &Graph, root: NodeNo, f: &CertFile) -> Verdict
     requires { root < length g.now.ids }
     ensures yes { (result ≡ Verdict.Yes) ↔ Accepted g.now root f.now }
