@@ -12,7 +12,8 @@ use Rattle.mrt_graph.specs.declared.cert.Role.TheVariants as roles
 use Rattle.mrt_graph.specs.declared.cert.Tag.{Tag}
 use Rattle.mrt_graph.specs.declared.cert.Tag.TheVariants as tags
 use Rattle.mrt_graph.proofs.Bytes.{IsBytes}
-use Rattle.cert_format.specs.CertText.{kind_number, role_number, tag_number}
+use Rattle.mrt_graph.specs.Tags.{tag_number}
+use Rattle.cert_format.specs.CertText.{kind_number, role_number}
 use Rattle.cert_format.specs.Layout.{any, Field, Form, Then, within, tag}
 use Rattle.cert_format.specs.FirstFault.{number_of, fault_in}
 use Rattle.cert_format.specs.declared.error.CertError.{CertError}

@@ -9,6 +9,7 @@ use Rattle.mrt_graph.specs.declared.cert.CertNode.{CertNode}
 use Rattle.mrt_graph.specs.declared.cert.CertLink.{CertLink}
 use Rattle.mrt_graph.specs.declared.cert.Row.{Row}
 use Rattle.mrt_graph.specs.declared.cert.CertFile.{CertFile}
+use Rattle.mrt_graph.proofs.Members.{all_weaker}
 use Rattle.cert_format.specs.declared.error.CertKind.TheVariants.{Trailing}
 use Rattle.cert_format.specs.CertText.{header_text, node_text, link_text, row_text, cert_text}
 use Rattle.cert_format.specs.Layout.{Form, End, any, exactly, within, repeated, header_form, node_form, link_form, row_form}
@@ -16,10 +17,10 @@ use Rattle.cert_format.specs.FirstFault.{fault_in, first_fault}
 use Rattle.cert_format.specs.Limits.{HasNumber, IsVersionOne}
 use Rattle.cert_format.specs.Reading.{Rest, Took, IsListOf, IsNode, IsHeader, ReadsFile}
 use Rattle.cert_format.proofs.Fields.{wide16, wide32, field_passes}
-use Rattle.cert_format.proofs.Lists.{all_pass, each_weaker}
+use Rattle.cert_format.proofs.Lists.{all_pass}
 use Rattle.cert_format.proofs.Parts.{within_allows, node_part, link_part, row_part}
 
--- what is left behind the last row is at fault
+-- what is left after the last row is at fault
 pub trailing : (at : ℕ) (bytes : List ℕ) → bytes ≢ [] → fault_in End at bytes ≡ Some (at, Trailing)
 unfolding fault_in
 trailing at [] some = absurd (some refl)
@@ -37,7 +38,7 @@ are_certificate ns ls rs nodes links root header n l r = record {
   few_nodes = omega (arith, header.few_nodes, n.many);
   few_links = omega (arith, header.few_links, l.many);
   a_row_each = r.many ∙ ap (λ (k : ℕ). k * (k - 1)) (sym n.many);
-  nodes_kept = subst (λ (k : ℕ). AllByRecursion (IsCertNode k) ns) (sym n.many) (each_weaker (IsNode nodes) (IsCertNode nodes) (λ x keeps. keeps.kept) ns n.each);
+  nodes_kept = subst (λ (k : ℕ). AllByRecursion (IsCertNode k) ns) (sym n.many) (all_weaker (IsNode nodes) (IsCertNode nodes) (λ x keeps. keeps.kept) ns n.each);
   links_kept = subst (λ (k : ℕ). AllByRecursion (IsCertLink k) ls) (sym n.many) l.each;
   rows_kept = subst (λ (k : ℕ). AllByRecursion (IsCertRow k) rs) (sym l.many) r.each;
 }
@@ -54,7 +55,7 @@ spells ns ls rs nodes links root b0 b1 b2 b3 b4 header p0 p1 p2 p3 nothing n l r
       record {
         certificate = are_certificate ns ls rs nodes links root header n l r;
         root = header.root_fits;
-        numbers = each_weaker (IsNode nodes) HasNumber (λ x keeps. keeps.number) ns n.each;
+        numbers = all_weaker (IsNode nodes) HasNumber (λ x keeps. keeps.number) ns n.each;
         nodes = omega (arith, header.few_nodes, n.many);
         links = omega (arith, header.few_links, l.many);
       },

@@ -1,8 +1,9 @@
--- Parts one behind another, as a loop reads them.
+-- Parts one after another, as a loop reads them.
 use Rattle.std.proofs.Common.{◌≡◌, ℕ, suc, ◌+◌, ◌-◌, ◌*◌, ◌<◌, List, [], ◌∷◌, ◌++◌, length, get_or, take, refl, sym, ap, subst, ◌∙◌, append_assoc, arith}
 use Rattle.std.specs.List.{flat_map, AllByRecursion}
 use Rattle.std.proofs.lemmas.List.{append-nil, length-append, take_more, flat_map_more}
 use Rattle.std.proofs.lemmas.List.Concat.{flat_map-append}
+use Rattle.mrt_graph.proofs.Members.{all_append}
 use Rattle.cert_format.specs.declared.error.CertError.{CertError}
 use Rattle.cert_format.specs.Layout.{Form, repeated}
 use Rattle.cert_format.specs.FirstFault.{fault_in}
@@ -18,10 +19,6 @@ Took-then x y a b c p q = record {
   parts = p.parts ∙ ap (λ (t : List ℕ). x ++ t) q.parts ∙ sym (append_assoc x y c.bytes);
   place = omega (arith, p.place, q.place, length-append x y);
 }
-
-each_more : {A : Type 0} (Keeps : A → Type 0) (xs : List A) (x : A) → AllByRecursion Keeps xs → Keeps x → AllByRecursion Keeps (xs ++ x ∷ [])
-each_more Keeps [] x all here = (here, tt)
-each_more Keeps (y ∷ xs) x all here = (all.0, each_more Keeps xs x all.1 here)
 
 -- so many parts were read, from start on
 pub record Repeats {A : Type 0} (text : A → List ℕ) (Keeps : A → Type 0) (size count : ℕ) (xs : List A) (start rest : Rest) : Type 0 where
@@ -39,7 +36,7 @@ repeats_more part text Keeps size count xs x start rest after is so_far took her
     flat_map-append text xs (x ∷ []) ∙ ap (λ (t : List ℕ). flat_map text xs ++ t) (append-nil (text x)) in
     record {
       took = subst (λ (t : List ℕ). Took t start after) (sym texts) (Took-then (flat_map text xs) (text x) start rest after so_far.took took);
-      so = record { many = omega (arith, length-append xs (x ∷ []), so_far.so.many); each = each_more Keeps xs x so_far.so.each here };
+      so = record { many = omega (arith, length-append xs (x ∷ []), so_far.so.many); each = all_append Keeps xs (x ∷ []) so_far.so.each (here, tt) };
       placed = grind (arith, so_far.placed, took.place, is.sized x);
     }
 
@@ -96,11 +93,7 @@ list_goes_on part text Keeps size count xs before after is took so next =
     ∙ all_pass part text Keeps size is xs next before.at after.bytes so.each
     ∙ ap (λ (a : ℕ). fault_in next a after.bytes) place
 
-pub each_weaker : {A : Type 0} (P Q : A → Type 0) → ((x : A) → P x → Q x) → (xs : List A) → AllByRecursion P xs → AllByRecursion Q xs
-each_weaker P Q weaker [] all = tt
-each_weaker P Q weaker (x ∷ xs) all = (weaker x all.0, each_weaker P Q weaker xs all.1)
-
--- one more text behind those of the first i
+-- one more text after those of the first i
 pub texts_more : {A : Type 0} (text : A → List ℕ) (xs : List A) (i : ℕ) (x : A) (before now piece after : List ℕ) → i < length xs → x ≡ get_or xs i x
     → now ≡ before ++ flat_map text (take i xs) → piece ≡ text x → after ≡ now ++ piece → after ≡ before ++ flat_map text (take (i + 1) xs)
 texts_more text xs i x before now piece after lt is so_far here e =

@@ -3,7 +3,8 @@ use Rattle.std.proofs.Common.{◌≡◌, ℕ, ◌+◌, ◌<◌, ◌≤◌, true,
 use Rattle.std.specs.Int.{Width, w8, w16, w32}
 use Rattle.std.proofs.lemmas.Bool.Decides.{nat_tests}
 use Rattle.mrt_graph.specs.Certificate.{IsCertLink, IsCertRow}
-use Rattle.cert_format.specs.CertText.{kind_number, role_number, tag_number, node_text, link_text, row_text}
+use Rattle.mrt_graph.specs.Tags.{tag_number}
+use Rattle.cert_format.specs.CertText.{kind_number, role_number, node_text, link_text, row_text}
 use Rattle.cert_format.specs.Layout.{any, within, tag, node_form, link_form, row_form}
 use Rattle.cert_format.specs.FirstFault.{fault_in}
 use Rattle.cert_format.specs.Reading.{IsNode}

@@ -15,7 +15,8 @@ use Rattle.mrt_graph.specs.declared.cert.Row.{Row}
 use Rattle.mrt_graph.specs.declared.cert.CertNode.{CertNode}
 use Rattle.mrt_graph.specs.declared.cert.CertLink.{CertLink}
 use Rattle.mrt_graph.specs.declared.cert.CertFile.{CertFile}
-use Rattle.cert_format.specs.CertText.{kind_number, role_number, tag_number, node_text, link_text, row_text, cert_text}
+use Rattle.mrt_graph.specs.Tags.{tag_number}
+use Rattle.cert_format.specs.CertText.{kind_number, role_number, node_text, link_text, row_text, cert_text}
 use Rattle.cert_format.specs.Limits.{IsVersionOne}
 use Rattle.cert_format.specs.Reading.{IsNode}
 use Rattle.cert_format.proofs.Fields.{IsWide, wide8, wide16, wide32, kind_small, role_small, tag_small}

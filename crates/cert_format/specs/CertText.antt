@@ -6,12 +6,11 @@ use Rattle.mrt_graph.specs.declared.node_id.Kind.{Kind}
 use Rattle.mrt_graph.specs.declared.node_id.Kind.TheVariants as kinds
 use Rattle.mrt_graph.specs.declared.cert.Role.{Role}
 use Rattle.mrt_graph.specs.declared.cert.Role.TheVariants as roles
-use Rattle.mrt_graph.specs.declared.cert.Tag.{Tag}
-use Rattle.mrt_graph.specs.declared.cert.Tag.TheVariants as tags
 use Rattle.mrt_graph.specs.declared.cert.Row.{Row}
 use Rattle.mrt_graph.specs.declared.cert.CertNode.{CertNode}
 use Rattle.mrt_graph.specs.declared.cert.CertLink.{CertLink}
 use Rattle.mrt_graph.specs.declared.cert.CertFile.{CertFile}
+use Rattle.mrt_graph.specs.Tags.{tag_number}
 
 -- the number that spells a kind
 abbrev pub kind_number : Kind → ℕ
@@ -23,16 +22,6 @@ abbrev pub role_number : Role → ℕ
 role_number roles.Plain = 0
 role_number roles.Sole = 1
 role_number roles.Closing = 2
-
--- the number that spells a tag
-abbrev pub tag_number : Tag → ℕ
-tag_number tags.Sole = 0
-tag_number tags.Head = 1
-tag_number tags.Top = 2
-tag_number tags.Below = 3
-tag_number tags.Above = 4
-tag_number tags.Unordered = 5
-tag_number tags.Carried = 6
 
 -- a header: the magic bytes, the version, the number of nodes, the number of links and the root's router ID
 abbrev pub header_text : ℕ → ℕ → ℕ → List ℕ

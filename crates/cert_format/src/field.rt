@@ -3,7 +3,8 @@
 ghost use Rattle.std.specs.Prelude.{◌≡◌, ◌<◌, ◌^◌, ◌-◌, IfSome, false, codes};
 ghost use Rattle.std.specs.Option.{IfNone};
 ghost use Rattle.std.specs.Int.{w8, w16, w32, from_be_bytes};
-ghost use Rattle.cert_format.specs.CertText.{kind_number, role_number, tag_number};
+ghost use Rattle.cert_format.specs.CertText.{kind_number, role_number};
+ghost use Rattle.mrt_graph.specs.Tags.{tag_number};
 ghost use Rattle.cert_format.specs.Layout.{any, exactly, within, tag};
 ghost use Rattle.cert_format.specs.Reading.{ReadsField};
 

@@ -5,7 +5,6 @@ ghost use Rattle.std.specs.List.{flat_map};
 ghost use Rattle.cert_format.specs.CertText.{
   kind_number,
   role_number,
-  tag_number,
   header_text,
   node_text,
   link_text,

@@ -1,6 +1,6 @@
 use Rattle.std.proofs.lemmas.Result.{err_from_is_err_and}
 use Rattle.cert_format.specs.Layout.{tag}
-use Rattle.cert_format.specs.CertText.{tag_number}
+use Rattle.mrt_graph.specs.Tags.{tag_number}
 use Rattle.cert_format.proofs.Fields.{wide8, refused_field, short_field, took_named, tag_allowed}
 use Rattle.cert_format.proofs.field.tag.Goals as goal
 
