@@ -10,7 +10,7 @@ abbrev pub number_of : Field → List ℕ → ℕ
 number_of field bytes = from_be_bytes field.width (take (byte_len field.width) bytes)
 
 -- of bytes that are to have this form, and their first one's place: the place of the first field that is not allowed, and
--- the fault; behind the last field nothing is left (to be unfolded field by field)
+-- the fault; after the last field nothing is left (to be unfolded field by field)
 unfoldable pub fault_in : Form → ℕ → List ℕ → Option (ℕ × CertKind)
 fault_in End at [] = None
 fault_in End at (byte ∷ bytes) = Some (at, Trailing)

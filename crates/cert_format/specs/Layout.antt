@@ -32,7 +32,7 @@ pub data Form : Type 0 where
   End : Form
   Then : Field → (ℕ → Form) → Form
 
--- so many parts, one behind another
+-- so many parts, one after another
 abbrev pub repeated : ℕ → (Form → Form) → Form → Form
 repeated zero part next = next
 repeated (suc count) part next = part (repeated count part next)

@@ -17,7 +17,7 @@ pub enum CertKind {
     Range,
     /// The number is no tag.
     Tag,
-    /// Bytes stand behind the last row.
+    /// Bytes stand after the last row.
     Trailing,
 }
 
