@@ -70,7 +70,7 @@ IsHealthyShelf shelf = NoneFrom shelf.calls shelf.fails × (shelf.faults < last_
 abbrev pub is_read_fault : ShelfInMemory → List ℕ → Bool
 is_read_fault shelf name = is_none (file_of shelf.files name) || is_failing shelf.calls shelf.fails
 
--- the shelf behind a read of this name
+-- the shelf after a read of this name
 abbrev pub shelf_after : ShelfInMemory → List ℕ → ShelfInMemory
 shelf_after shelf name =
     if is_read_fault shelf name then record shelf { calls = counted shelf.calls; faults = counted shelf.faults }
@@ -99,7 +99,7 @@ abbrev pub taken_of : SinkInMemory → List ℕ → Option ℕ
 taken_of sink piece =
     if is_refused sink piece then None else Some (min (min (length piece) sink.step) sink.room)
 
--- the sink behind a call that took so many bytes of a piece, or failed
+-- the sink after a call that took so many bytes of a piece, or failed
 abbrev pub sink_after : SinkInMemory → List ℕ → Option ℕ → SinkInMemory
 sink_after sink piece None = record sink { calls = counted sink.calls; faults = counted sink.faults }
 sink_after sink piece (Some taken) =

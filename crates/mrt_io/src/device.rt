@@ -52,7 +52,7 @@ pub trait Shelf {
     // A healthy shelf reads each name that it holds without a fault.
     ghost healthy: { Self → Type 0 };
 
-    /// The bytes of the file of this name, at most `limit` of them.
+    /// The bytes of the file of this name, which has at most `limit`.
     fn read(&mut self, alloc: Global, name: &Word, limit: u32) -> Result<Vec<u8>, ShelfError>
         ensures bytes { IfOk result (λ file. IsFileOf (held self.old) name.now file.items) }
         ensures within { IfOk result (λ file. vec_len file ≤ limit) }
