@@ -82,6 +82,8 @@ impl Area {
     }
 
     /// The node of this identifier, if there is one.
+    ///
+    /// It is a binary search among the nodes.
     pub fn find(&self, id: NodeId) -> Option<Spot>
         ensures found { IfSome result (λ s. slice_get self.now.ids s ≡ Some id) }
         ensures within { IfSome result (λ s. s < length self.now.ids) }
@@ -116,6 +118,8 @@ impl Area {
     }
 
     /// The bond of the first arc of that router with that link data, if there is one.
+    ///
+    /// It is a binary search among the nodes, and then looks at the router's arcs one after another.
     pub fn named(&self, router: u32, link_data: u32) -> Option<BondNo>
         ensures bond { result ≡ bond_named self.now router link_data }
         ensures none { IsNone result ↔ ((arc : Arc) → IsNamed self.now router link_data arc → ⊥) }

@@ -34,6 +34,28 @@ const MAX_ARCS: usize = 32768;
 /// the router, and that by the link. For two nodes the arcs of each direction are put in order of link data, then of
 /// place in the LSA, and the k-th of one makes a pair with the k-th of the other.
 ///
+/// It takes the time of sorting the entries of all LSAs twice, and of a binary search in them for each entry.
+///
+/// # Example
+///
+/// 1.1.1.1 lists two links to 2.2.2.2, which lists one back. 3.3.3.3 lists a link to 1.1.1.1, which lists none back.
+/// 1.1.1.1 and 2.2.2.2 are on a LAN, whose designated router is 2.2.2.2.
+///
+/// ```text
+///     1.1.1.1 --- 0.0.0.1, metric 10 ---> 2.2.2.2 --- 0.0.0.1, metric 10 ---> 1.1.1.1
+///             --- 0.0.0.2, metric 20 --->
+///     1.1.1.1 --- 10.0.0.1, metric 5 ---> LAN 10.0.0.2 lists 2.2.2.2, then 1.1.1.1
+///     2.2.2.2 --- 10.0.0.2, metric 5 ---> LAN
+///     3.3.3.3 --- 0.0.0.1, metric 10 ---> 1.1.1.1
+///
+///     nodes    0: 1.1.1.1   1: 2.2.2.2   2: 3.3.3.3   3: net:10.0.0.2
+///     arcs     0: 0 -> 3, metric 5, 10.0.0.1, bond 1      4: 1 -> 0, metric 10, 0.0.0.1, bond 0
+///              1: 0 -> 1, metric 10, 0.0.0.1, bond 0      5: 3 -> 0, metric 0, bond 1
+///              2: 0 -> 1, metric 20, 0.0.0.2, bond 3      6: 3 -> 1, metric 0, bond 2
+///              3: 1 -> 3, metric 5, 10.0.0.2, bond 2      none of node 2: nothing answers its link
+///     bonds    0: pair 0, 1   1: pair 0, 3   2: pair 1, 3   3: the single arc from 0 to 1
+/// ```
+///
 /// # Errors
 ///
 /// [`AreaError::TooLarge`] exactly where there are more than 4,096 nodes or more than 32,768 arcs, with both counts.

@@ -23,6 +23,25 @@ use mrt_graph::{CertFile, Graph, NodeNo, accepted_implies_sound, accepted_or_one
 ///
 /// Rules 1 to 6 are read one after another, rules 7 to 14 in one pass that keeps the least. No memory is taken. Rules 1
 /// to 6 take time in proportion to nodes times links at worst, the others one pass over the rows.
+///
+/// # Example
+///
+/// A triangle with its root 3.3.3.3. The one block has nodes 0 and 1 and the head 2; its closing link is link 2.
+///
+/// ```text
+///     node 0, 1.1.1.1      link 0, plain     node 1, 2.2.2.2        row of   for   blue   red   tag
+///     order 2         ---------------------- order 3                 0       1     0      1     Below
+///            \                              /                        0       2     0      1     Head
+///             \                            /                         1       0     2      0     Above
+///        link 1, plain           link 2, closing                     1       2     2      0     Head
+///               \                        /                           2       0     1      2     Top
+///                    node 2, 3.3.3.3                                 2       1     1      2     Top
+///                    order 1
+///
+///     check                                          Yes
+///     with blue 2 in the row of 0 for 1              No { rule: 10, a: 0, b: 1 }: link 2 does not touch node 0
+///     with order 2 at node 1                         No { rule: 2, a: 0, b: 1 }: two nodes have one order
+/// ```
 pub fn check(g: &Graph, root: NodeNo, f: &CertFile) -> Verdict
     requires { root < length g.now.ids }
     ensures yes { (result ≡ Verdict.Yes) ↔ Accepted g.now root f.now }

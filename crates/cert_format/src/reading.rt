@@ -20,6 +20,36 @@ use std::alloc::Global;
 ///
 /// It is one pass. Each list is reserved once, and none for more parts than the bytes that are left could hold.
 ///
+/// It takes time in proportion to the bytes.
+///
+/// # Example
+///
+/// The certificate of a triangle, 98 bytes:
+///
+/// ```text
+///     1.1.1.1 --- link 0 --- 2.2.2.2
+///          \                 /
+///         link 1        link 2, closing
+///             \           /
+///                3.3.3.3, the root
+///
+///      0   4d525443 0001 0003 0003 03030303    MRTC, version 1, three nodes, three links, root 3.3.3.3
+///     14   01 01010101 0002 0002 0000          node 0: router 1.1.1.1, order 2, head 2, block 0
+///     25   01 02020202 0003 0002 0000          node 1: router 2.2.2.2, order 3, head 2, block 0
+///     36   01 03030303 0001 0002 0002          node 2: router 3.3.3.3, order 1, head 2, block 2
+///     47   0000 0001 0000 00                   link 0: nodes 0 and 1, block 0, plain
+///     54   0000 0002 0000 00                   link 1: nodes 0 and 2, block 0, plain
+///     61   0001 0002 0000 02                   link 2: nodes 1 and 2, block 0, closing
+///     68   0000 0001 03    73   0000 0001 01   rows of 0 for 1 and for 2: blue, red, tag
+///     78   0002 0000 04    83   0002 0000 01   rows of 1 for 0 and for 2
+///     88   0001 0002 02    93   0001 0002 02   rows of 2 for 0 and for 1
+///
+///     read_cert                                Ok, with this root and this certificate
+///     with byte 72 made 07                     Err(Fault { at: 72, kind: Tag })
+///     without its last byte                    Err(Fault { at: 97, kind: Truncated })
+///     with one byte more                       Err(Fault { at: 98, kind: Trailing })
+/// ```
+///
 /// # Errors
 ///
 /// [`CertError::Fault`] names the first field that is not allowed, and the place of its first byte;

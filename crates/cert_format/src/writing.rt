@@ -17,6 +17,8 @@ use std::alloc::Global;
 
 /// The bytes of a certificate file of version 1: of n nodes and m links `14 + 11n + 7m + 5n(n - 1)`, reserved once.
 ///
+/// It takes time in proportion to the bytes that it gives.
+///
 /// # Errors
 ///
 /// [`NoMemory`] where there was none for the bytes.

@@ -63,6 +63,9 @@ impl Lsdb {
     }
 
     /// Installs an instance, and tells what it changed. After a refusal nothing has changed.
+    ///
+    /// It takes, over many installs, the time of two look-ups by key, and where there is an instance of the same rank,
+    /// that of comparing the two bodies.
     pub fn install(&mut self, lsa: Lsa) -> Result<Change, NoMemory>
         requires kept { IsKept lsa }
         requires behind { IsBehind self.old.greatest lsa.at }
@@ -80,6 +83,8 @@ impl Lsdb {
 
     /// A refusal where two newest instances of one key differ in more than their places and ages; of several such
     /// conflicts the one with the least second place.
+    ///
+    /// It takes time in proportion to the entries.
     pub fn settled(&self) -> Result<(), Conflict>
         ensures told { result ≡ settled_by (least_conflict self.now.entries) }
         ensures ok { (result ≡ Ok tt)

@@ -9,11 +9,10 @@ ghost use Rattle.mrt.specs.Arguments.{exit_of, words_of};
 use mrt_cmd::{Exit, run};
 use mrt_io::{FileShelf, StdSink, Word, put_all};
 use std::alloc::Global;
-use std::env;
 use std::env::Args;
-use std::io;
 use std::io::ErrorKind;
 use std::process::ExitCode;
+use std::{env, io};
 
 fn main(rt: HostRuntime) -> ExitCode {
     let mut out = StdSink::new(rt.stdout());

@@ -28,6 +28,8 @@ use std::alloc::Global;
 ///
 /// Everything is read and all memory is taken before the first byte is written. A fault of `err` changes no exit. `NoMemory` may
 /// come at any place after `Usage`.
+///
+/// It takes the time of reading the files, of an install for each LSA, of the area and the island, and of `check`.
 pub fn run<F: Shelf, K: Sink, E: Sink>(
     alloc: Global,
     words: &[Word],

@@ -71,6 +71,8 @@ impl Graph {
     /// networks, links ascend by `a`, then by `b`, and together they connect all nodes.
     ///
     /// It answers `TooLarge` exactly where there are more than 2,048 nodes or more than 8,192 links.
+    ///
+    /// It takes time in proportion to nodes and links, and for each node that of sorting its ends.
     pub fn new(alloc: Global, ids: Vec<NodeId>, links: Vec<LinkIn>) -> Result<Graph, GraphError>
         requires { AreGraphParts ids.items links.items }
         ensures made { IfOk result (λ graph. IsGraphOf ids.items links.items graph) }
@@ -129,6 +131,8 @@ impl Graph {
     }
 
     /// The node of this identifier, if there is one.
+    ///
+    /// It looks at the identifiers one after another, so it takes time in proportion to the nodes.
     pub fn find(&self, id: NodeId) -> Option<NodeNo>
         ensures found { IfSome result (λ n. slice_get self.now.ids n ≡ Some id) }
         ensures none { IsNone result ↔ (Contains self.now.ids id → ⊥) }

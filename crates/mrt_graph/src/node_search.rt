@@ -32,6 +32,8 @@ impl NodeSearch {
     ghost use Rattle.mrt_graph.specs.Search.{Enters, HandsOut, IsBegun, found_with};
 
     /// A search over `count` nodes that has found `start` alone.
+    ///
+    /// It takes time in proportion to the nodes; a search takes, beside its steps, as many turns as it finds nodes.
     pub fn new(alloc: Global, count: u16, start: u16) -> Result<NodeSearch, NoMemory>
         requires { start < count }
         ensures { IfOk result (IsBegun count start) }

@@ -47,6 +47,7 @@ impl<T: PartialEq> PartialEq for Seq<T> {
 
     ghost laws = { lists_per T.laws };
 
+    /// It takes time in proportion to the shorter list at most.
     fn eq(&self, other: &Seq<T>) -> bool {
         self.as_slice() == other.as_slice()
     }

@@ -10,6 +10,8 @@ ghost use Rattle.mrt_graph.specs.TextLines.{text_lines, words_of, is_blank, is_p
 ///
 /// A line ends with a line feed or with the end of the text; one carriage return before the line feed is dropped. An empty last
 /// piece after the last line feed is no line.
+///
+/// It takes time in proportion to the line, so all lines of a text take one pass.
 pub fn first_line(text: &[u8]) -> Option<(&[u8], &[u8])>
     ensures { MatchOption result (text_lines text.now ≡ []) (λ x. text_lines text.now ≡ x.0.now ∷ text_lines x.1.now) }
 {
@@ -33,6 +35,8 @@ fn without_return(line: &[u8]) -> &[u8]
 }
 
 /// Whether a line is passed over: its first byte is `#`, or it is of spaces and tabs alone.
+///
+/// It takes time in proportion to the line at most.
 pub fn is_passed_over(line: &[u8]) -> bool
     ensures { result ≡ is_passed_over line.now }
 {
@@ -54,6 +58,8 @@ fn is_comment(line: &[u8]) -> bool
 /// The first word of a line, and what stands after it. `None` where the line has no word.
 ///
 /// Words are split by one or more spaces or tabs.
+///
+/// It takes time in proportion to the word and the blanks before it, so all words of a line take one pass.
 pub fn first_word(line: &[u8]) -> Option<(&[u8], &[u8])>
     ensures { MatchOption result (words_of line.now ≡ []) (λ x. words_of line.now ≡ x.0.now ∷ words_of x.1.now) }
 {

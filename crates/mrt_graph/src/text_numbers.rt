@@ -12,6 +12,8 @@ use std::str;
 /// The number that the text spells in decimal, without a sign and without leading zeros.
 ///
 /// `None` exactly where the text is no such number, or one above 4,294,967,295. It takes no memory.
+///
+/// It takes time in proportion to the text.
 pub fn read_number(text: &[u8]) -> Option<u32>
     // What is read is spelled so.
     ensures found { IfSome result (λ number. text.now ≡ decimal number) }

@@ -35,6 +35,7 @@ impl<'a, R: Files> Shelf for FileShelf<'a, R> {
 
     ghost healthy_below = { λ _ never. absurd never };
 
+    /// It reads at most one byte more than the limit, in pieces of 65,536 bytes at most.
     fn read(&mut self, alloc: Global, name: &Word, limit: u32) -> Result<Vec<u8>, ShelfError> {
         let file = read_file(self.rt, alloc, name, limit);
         if let Err(ShelfError::Failed) = file {

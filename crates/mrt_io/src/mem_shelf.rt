@@ -77,6 +77,7 @@ impl Shelf for MemShelf {
 
     ghost healthy_below = { λ _ healthy. healthy.1 };
 
+    /// It looks at the names and at `fails` one after another, and copies the file once.
     fn read(&mut self, alloc: Global, name: &Word, limit: u32) -> Result<Vec<u8>, ShelfError>
         ensures bytes { IfOk result (λ file. file_of self.old.files name.now ≡ Some file.items) }
         ensures within { IfOk result (λ file. length file.items ≤ limit) }

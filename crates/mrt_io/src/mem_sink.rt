@@ -92,6 +92,7 @@ impl Sink for MemSink {
 
     ghost healthy_below = { λ _ _ healthy. healthy.2 };
 
+    /// It looks at `fails`, and copies the bytes that it takes once.
     fn put(&mut self, piece: &[u8]) -> Result<u32, PutFailed>
         ensures taken { result_ok result ≡ taken_of self.old piece.now }
         ensures after { self.new ≡ sink_after self.old piece.now (taken_of self.old piece.now) }

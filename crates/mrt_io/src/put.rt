@@ -7,6 +7,9 @@ use crate::device::{PutError, Sink};
 /// Writes all the bytes, a piece at a time, or as many as the sink takes before it fails.
 ///
 /// `Failed { taken }` says how many it took, fewer than all. Each turn takes at least one byte or is the last.
+///
+/// Each turn takes at least one byte or ends it, so there are at most as many calls of `put` as there are bytes, and
+/// one more.
 pub fn put_all<K: Sink>(sink: &mut K, bytes: &[u8]) -> Result<(), PutError>
     ensures gained { OnOk result (Gained (K.written sink.old) bytes.now (K.written sink.new)) }
     ensures part { IfErr result (GainedPart (K.written sink.old) bytes.now (K.written sink.new)) }

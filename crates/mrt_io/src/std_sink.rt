@@ -28,6 +28,7 @@ impl<W: Write + Drop> Sink for StdSink<W> {
 
     ghost healthy_below = { λ _ _ never. absurd never };
 
+    /// It calls the stream again only where that was interrupted.
     fn put(&mut self, piece: &[u8]) -> Result<u32, PutFailed> {
         let taken = write_some(
             &mut self.writer,

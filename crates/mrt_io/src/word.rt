@@ -20,6 +20,8 @@ impl Word {
     ghost use Rattle.std.specs.Prelude.{◌≡◌, IfOk};
 
     /// A word of these bytes.
+    ///
+    /// It copies the bytes once.
     pub fn new(alloc: Global, bytes: &[u8]) -> Result<Word, NoMemory>
         ensures { IfOk result (λ word. word ≡ bytes.now) }
     {

@@ -37,6 +37,33 @@ pub struct Island {
 /// A pair is eligible where no router end of it is marked `ineligible` with its link data, and both its nodes support the profile; a
 /// network always does.
 ///
+/// It takes time in proportion to the nodes, arcs and bonds of the area, with a look-up or two in the profile for each
+/// router and each end of a pair, and the time of `Graph::new`.
+///
+/// # Example
+///
+/// All links are point-to-point. The profile has the lines `ineligible 3.3.3.3 10.0.34.3` and `no-mrt 5.5.5.5`.
+///
+/// ```text
+///     1.1.1.1 --------- 2.2.2.2
+///          \             /
+///           \           /
+///             3.3.3.3
+///                | 10.0.34.3
+///                |
+///                | 10.0.34.4
+///             4.4.4.4 --------- 5.5.5.5
+///
+///     bonds of the area        0: 1-2   1: 1-3   2: 2-3   3: 3-4   4: 4-5
+///
+///     island of 1.1.1.1        nodes 0: 1.1.1.1, 1: 2.2.2.2, 2: 3.3.3.3; links 0: 0-1, 1: 0-2, 2: 1-2; root 2, the
+///                              highest router ID among equal priorities
+///                              link_of Some(0), Some(1), Some(2), None, None
+///     island of 4.4.4.4        node 0: 4.4.4.4; no link; root 0; link_of None five times
+///     island of 5.5.5.5        Unsupported
+///     island of 9.9.9.9        NotThere
+/// ```
+///
 /// # Errors
 ///
 /// [`IslandError::NotThere`] exactly where the area has no such router, [`IslandError::Unsupported`] exactly where it is there and the

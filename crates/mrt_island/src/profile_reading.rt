@@ -21,6 +21,8 @@ use std::alloc::Global;
 /// - `no-mrt ROUTER`: the router does not support the Default MRT Profile;
 /// - `ineligible ROUTER DATA`: the router's links with this link data are kept out of each island.
 ///
+/// It takes time in proportion to the bytes, and a look-up for each line.
+///
 /// # Errors
 ///
 /// [`ProfileError::Fault`] names the first line with a fault, from 1, and the first of its faults in the order of [`ProfileKind`].

@@ -10,6 +10,8 @@ use mrt_graph::{Cert, Color, Link, NoMemory, NodeNo};
 use std::alloc::Global;
 
 /// Whether the color walk from `s` ends at `t` and meets no node twice.
+///
+/// It takes time in proportion to the square of the nodes at worst.
 pub fn reaches(
     alloc: Global,
     links: &[Link],

@@ -7,6 +7,8 @@ use mrt_graph::{Graph, Link, LinkNo, NoMemory};
 use std::alloc::Global;
 
 /// The links of a graph, by number, as the other functions here take them.
+///
+/// It takes time in proportion to the links.
 pub fn links_of(alloc: Global, graph: &Graph) -> Result<Vec<Link>, NoMemory>
     ensures links { IfOk result (λ links. links.items ≡ graph.now.links) }
     ensures within { AreWithin (length graph.now.ids) graph.now.links }

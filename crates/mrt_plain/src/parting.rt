@@ -9,6 +9,8 @@ use mrt_graph::{Element, Link, NoMemory, NodeNo};
 use std::alloc::Global;
 
 /// Whether `x` is a link, or a node other than `s` and `t`, that every walk from `s` to `t` uses.
+///
+/// It takes time in proportion to nodes times links at worst.
 pub fn separates(
     alloc: Global,
     links: &[Link],

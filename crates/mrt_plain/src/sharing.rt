@@ -13,6 +13,8 @@ use std::alloc::Global;
 
 /// Whether each link that both color walks from `s` to `t` use, and each node other than `s` and `t` that both use,
 /// separates `s` and `t`.
+///
+/// It takes the time of `separates` for each link and node that both walks use.
 pub fn apart(
     alloc: Global,
     links: &[Link],

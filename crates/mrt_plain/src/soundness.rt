@@ -11,6 +11,8 @@ use mrt_graph::{Cert, Color, Link, NoMemory, NodeNo};
 use std::alloc::Global;
 
 /// Whether the rows are sound on these links.
+///
+/// It takes the time of `apart` for each two nodes.
 pub fn sound(alloc: Global, links: &[Link], c: &Cert) -> Result<bool, NoMemory>
     requires { AreWithin (length c.now.nodes) links.now }
     ensures { IfOk result (λ yes. IsTrue yes ↔ Sound links.now (length c.now.nodes) (row_of c.now)) }

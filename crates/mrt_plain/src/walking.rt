@@ -20,6 +20,8 @@ pub struct Course {
 }
 
 /// The color walk from `s` to `t`.
+///
+/// It takes at most as many steps as there are nodes.
 pub fn follow(
     alloc: Global,
     links: &[Link],

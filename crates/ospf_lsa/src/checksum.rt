@@ -11,6 +11,8 @@ const RUN: usize = 4096;
 /// then the second becomes the second plus the first, both modulo 255 (RFC 905, annex B).
 ///
 /// It takes no memory and reads the bytes once.
+///
+/// It takes time in proportion to the bytes; one remainder is taken for each 4,096 of them.
 pub fn sums(bytes: &[u8]) -> (u8, u8)
     ensures value { result ≡ sums_of bytes.now }
     ensures first { result.0 < 255 }
