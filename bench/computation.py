@@ -1,0 +1,167 @@
+#!/usr/bin/env python3
+"""Times the steps of the computation on islands of 1,024 and 2,048 routers, and prints how the time grows.
+
+The islands are a ring, a grid with 32 in a row, a block with four times as many links as nodes, and a line. A ratio below 2.4 for twice the
+nodes means that the time grows as the island does. It builds a small program beside the crates in a folder of its own; it fetches nothing.
+"""
+import os
+import subprocess
+import sys
+import tempfile
+
+import areas
+import beside
+
+SIZES = 1024, 2048
+SHAPES = {
+    "ring": lambda n: [(each, each % n + 1) for each in range(1, n + 1)],
+    "mesh": lambda n: areas.grid(n, 32),
+    "block": areas.circle,
+    "line": lambda n: [(each, each + 1) for each in range(1, n)],
+}
+CRATES = ["lowpoint_dfs", "mrt_cmd", "mrt_island", "area_graph", "lsdb", "ospf_lsa", "mrt_graph"]
+
+# It reads the database as `mrt_cmd` does.
+PROGRAM = """\
+#![tactic(auto)]
+
+ghost use Rattle.std.specs.Prelude.{◌≡◌, ◌<◌, ◌∷◌, [], ℕ, IfOk, OnOk, length};
+ghost use Rattle.lsdb.specs.Conflicts.{least_conflict};
+ghost use Rattle.lsdb.specs.Entries.{entries_in};
+ghost use Rattle.lsdb.specs.Installing.{IsBehind};
+ghost use Rattle.lsdb.specs.Installs.{all_installed};
+ghost use Rattle.ospf_lsa.specs.Lsas.{AreLsas, IsLsa};
+ghost use Rattle.mrt_cmd.specs.Database.{entering, enters};
+
+use anyhow::{Result, bail};
+use area_graph::build_area;
+use lowpoint_dfs::search;
+use lsdb::{Lsdb, an_lsa_without_a_fault_may_be_installed, entries_are_those_of_the_list};
+use mrt_graph::{Graph, NoMemory, NodeNo};
+use mrt_island::{Island, Profile, find_island};
+use ospf_lsa::{Lsa, read_lsas};
+use std::alloc::Global;
+use std::fs;
+use std::time::Instant;
+
+fn enters(lsa: &Lsa) -> bool
+    ensures { result ≡ enters lsa.now }
+{
+    lsa.kind == 1 || lsa.kind == 2
+}
+
+fn enter(database: &mut Lsdb, lsa: Lsa) -> Result<(), NoMemory>
+    requires faultless { IsLsa lsa }
+    requires behind { IsBehind database.old.greatest lsa.at }
+    ensures entries { OnOk result (database.new.entries ≡ all_installed database.old.entries (entering (lsa ∷ []))) }
+    ensures behind { OnOk result ((at : ℕ) → lsa.at < at → IsBehind database.new.greatest at) }
+{
+    an_lsa_without_a_fault_may_be_installed();
+    if !enters(&lsa) {
+        return Ok(());
+    }
+    match database.install(lsa) {
+        Ok(_) => Ok(()),
+        Err(_) => Err(NoMemory),
+    }
+}
+
+fn installed(alloc: Global, lsas: Vec<Lsa>) -> Result<Lsdb, NoMemory>
+    requires { AreLsas 0 lsas.items }
+    ensures entries { IfOk result (λ database. database.entries ≡ entries_in (entering lsas.items)) }
+{
+    entries_are_those_of_the_list();
+    let mut database = Lsdb::new(alloc);
+    for lsa in lsas {
+        enter(&mut database, lsa)?;
+    }
+    Ok(database)
+}
+
+fn island_of(rt: &HostRuntime, name: &str) -> Result<Island> {
+    let bytes = fs::read(rt, name)?;
+    if bytes.len() > 8_388_608 {
+        bail!("too long");
+    }
+    let Ok(lsas) = read_lsas(rt.alloc(), bytes.as_slice()) else {
+        bail!("no LSAs");
+    };
+    let Ok(database) = installed(rt.alloc(), lsas) else {
+        bail!("no memory");
+    };
+    if database.settled().is_err() {
+        bail!("a conflict");
+    }
+    let Ok(area) = build_area(rt.alloc(), &database) else {
+        bail!("no area");
+    };
+    let Ok(island) = find_island(rt.alloc(), &area, &Profile::empty(rt.alloc()), 1) else {
+        bail!("no island");
+    };
+    Ok(island)
+}
+
+fn time_search(rt: &HostRuntime, name: &str, g: &Graph, root: NodeNo) -> Result<()> {
+    if root.get() >= g.node_count() {
+        bail!("no root");
+    }
+    for _ in 0..15 {
+        let start = Instant::now(rt)?;
+        let Ok(_tree) = search(rt.alloc(), g, root) else {
+            bail!("no memory");
+        };
+        let taken = start.elapsed(rt)?.as_nanos();
+        println!(rt; "{name} {} {} search {taken}", g.node_count(), g.link_count())?;
+    }
+    Ok(())
+}
+
+fn main(rt: HostRuntime) -> Result<()> {
+    for name in [NAMES] {
+        let island = island_of(&rt, name)?;
+        time_search(&rt, name, &island.graph, island.root)?;
+    }
+    Ok(())
+}
+"""
+
+INVARIANTS = """\
+use Rattle.lsdb.specs.Entries.{entries_in}
+use Rattle.mrt_cmd.specs.Database.{entering}
+use Rattle.mrt_cmd.proofs.Entering.{IsUnderWay}
+use Rattle.timing.proofs.installed.Given as goal
+
+abbrev pub invariant-loop-lsa : goal.invariant-loop-lsa
+invariant-loop-lsa l = IsUnderWay l.database l.lsa-iterator.rest.items (entries_in (entering l.fn.lsas.items))
+"""
+
+
+def times(program, folder):
+    """The least time of each step, in nanoseconds, by shape, size and step."""
+    best = {}
+    done = subprocess.run([program], cwd=os.path.join(folder, "crates", "timing"), stdout=subprocess.PIPE, check=True)
+    for line in done.stdout.decode().splitlines():
+        name, nodes, links, step, taken = line.split()
+        shape, size = name.split("-")
+        if (int(nodes), int(links)) != (int(size), len(SHAPES[shape](int(size)))):
+            sys.exit(f"{name}: {nodes} nodes, {links} links")
+        best[shape, int(size), step] = min(int(taken), best.get((shape, int(size), step), int(taken)))
+    return best
+
+
+def main():
+    files = {f"{shape}-{size}": areas.database(areas.numbered(pairs(size))) for shape, pairs in SHAPES.items() for size in SIZES}
+    with tempfile.TemporaryDirectory() as folder:
+        text = PROGRAM.replace("NAMES", ", ".join(f'"{name}"' for name in files))
+        program = beside.build(folder, CRATES, text, proofs={"installed/Invariants.antt": INVARIANTS}, files=files)
+        best = times(program, folder)
+    for shape in SHAPES:
+        for step in sorted({step for _, _, step in best}):
+            half, whole = (best[shape, size, step] for size in SIZES)
+            ratio = whole / half
+            print(f"{step} of a {shape}: {half / 1000:.0f} and {whole / 1000:.0f} µs for {SIZES[0]:,} and {SIZES[1]:,} nodes, ratio {ratio:.2f}"
+                  + ("" if ratio < 2.4 else ", which is TOO MUCH"))
+
+
+if __name__ == "__main__":
+    main()
