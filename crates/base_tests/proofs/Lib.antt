@@ -1,2 +1,1 @@
-pub mod LowerNeighbours
 pub mod RouterGraphs

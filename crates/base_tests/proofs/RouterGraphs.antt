@@ -16,7 +16,7 @@ use Rattle.mrt_graph.specs.EndsOfLinks.{pair_of}
 use Rattle.mrt_graph.specs.GraphInvariant.{IsLink, IsNetwork}
 use Rattle.mrt_graph.specs.NewGraph.{AreGraphParts, pair_cmp}
 use Rattle.mrt_graph.specs.NodeOrder.{node_id_cmp}
-use Rattle.base_tests.proofs.LowerNeighbours.{connected_by_lower, lower_by_test}
+use Rattle.mrt_graph.proofs.LowerNeighbours.{connected_by_lower, lower_by_test}
 
 -- the router of node k
 abbrev router : ℕ → NodeId
