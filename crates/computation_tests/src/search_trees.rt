@@ -27,6 +27,27 @@ struct Case {
 
 const CASES: &[Case] = &[
     Case {
+        name: "parallel links with other metrics at their other ends",
+        count: 2,
+        routers: 2,
+        links: &[(0, 1, 10, 1), (0, 1, 1, 10)],
+        root: 0,
+        tree: &[(1, None, 1, None), (2, Some(1), 1, Some(0))],
+    },
+    Case {
+        name: "a triangle on a bridge",
+        count: 4,
+        routers: 4,
+        links: &[(0, 1, 1, 1), (1, 2, 1, 1), (1, 3, 1, 1), (2, 3, 1, 1)],
+        root: 0,
+        tree: &[
+            (1, None, 1, None),
+            (2, Some(0), 2, Some(0)),
+            (3, Some(1), 2, Some(3)),
+            (4, Some(3), 2, Some(2)),
+        ],
+    },
+    Case {
         name: "one node alone",
         count: 1,
         routers: 1,

@@ -12,14 +12,12 @@ use Rattle.mrt_graph.proofs.EndsAt.{end_leads}
 use Rattle.mrt_graph.proofs.Hops.{lead_back}
 use Rattle.mrt_graph.proofs.ListPlaces.{place_of, contains_at, at_last}
 use Rattle.mrt_graph.proofs.Members.{contains_none}
+use Rattle.std.proofs.lemmas.Option.{same_Some}
 use Rattle.lowpoint_dfs.specs.SearchOrder.{IsFoundNext, IsSearchOrder, Begun, Found}
 use Rattle.lowpoint_dfs.specs.Subtree.{IsInSubtree, Itself, Below, parent_of}
 use Rattle.lowpoint_dfs.proofs.FoundInTurn.{number_at}
 use Rattle.lowpoint_dfs.proofs.NodesListed.{done_leads}
 use Rattle.lowpoint_dfs.proofs.ParentsFirst.{parent_over}
-
-same_some : (a b : ℕ) → Some a ≡ Some b → a ≡ b
-same_some a b same = cc
 
 pub in_subtree_on : (g : Topology) (tree : List TreeNode) (u v w : ℕ) → IsInSubtree g tree u v → IsInSubtree g tree v w → IsInSubtree g tree u w
 in_subtree_on g tree u v w above Itself = above
@@ -30,7 +28,7 @@ pub one_up : (g : Topology) (tree : List TreeNode) (a b v : ℕ) → IsInSubtree
 one_up g tree a b v Itself above = inr above
 one_up g tree a b v (Below x parent is rest) Itself = inl (Below x parent is rest)
 one_up g tree a b v (Below x parent is rest) (Below y other so more) =
-    let same : other ≡ parent = same_some other parent (sym so ∙ is) in
+    let same : other ≡ parent = same_Some other parent (sym so ∙ is) in
     one_up g tree a b parent rest (subst (λ (p : ℕ). IsInSubtree g tree b p) same more)
 
 -- parents have lower numbers
@@ -71,7 +69,7 @@ last_of g root tree order (Found listed node link earlier next number parent) = 
 last_is : (listed : List ℕ) (node last : ℕ) → IsLast (listed ++ node ∷ []) last → node ≡ last
 last_is listed node last is =
     let same : is.place ≡ length listed = omega (arith, is.end, length_pushed listed node) in
-    same_some node last (sym (at_last listed node) ∙ subst (λ (k : ℕ). slice_get (listed ++ node ∷ []) k ≡ Some last) same is.there)
+    same_Some node last (sym (at_last listed node) ∙ subst (λ (k : ℕ). slice_get (listed ++ node ∷ []) k ≡ Some last) same is.there)
 
 -- a listed node with a link to a node outside is an ancestor of the node listed last
 abbrev Wait : Topology → List TreeNode → List ℕ → ℕ → Type 0
@@ -96,7 +94,7 @@ above_next g root tree listed node link last kept fall searched next wait u e v 
               number_at g root tree listed searched place.0 u place.1,
               number_at g root tree listed searched next.place next.at next.there,
             ) in
-            let is : u ≡ next.at = same_some u next.at (sym place.1 ∙ subst (λ (k : ℕ). slice_get listed k ≡ Some next.at) (sym same) next.there) in
+            let is : u ≡ next.at = same_Some u next.at (sym place.1 ∙ subst (λ (k : ℕ). slice_get listed k ≡ Some next.at) (sym same) next.there) in
             subst (λ (w : ℕ). IsInSubtree g tree u w) is Itself
       ]
     ]

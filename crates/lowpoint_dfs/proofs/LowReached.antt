@@ -8,6 +8,7 @@ use Rattle.mrt_graph.specs.Topology.{Topology}
 use Rattle.mrt_graph.specs.TreeWords.{number_of, parent_link, low_of}
 use Rattle.mrt_graph.proofs.EndsAt.{IsEndOver, end_leads, leads_end, list_of_ends}
 use Rattle.mrt_graph.proofs.Hops.{lead_back, same_ends}
+use Rattle.std.proofs.lemmas.Option.{same_Some}
 use Rattle.lowpoint_dfs.specs.Lowpoint.{IsLeast, IsOffered, is_parent_link, offer}
 use Rattle.lowpoint_dfs.specs.SearchTree.{IsSearchTree}
 use Rattle.lowpoint_dfs.specs.Subtree.{IsInSubtree, Itself, Below, IsReachedFrom, parent_of}
@@ -15,9 +16,6 @@ use Rattle.lowpoint_dfs.proofs.Ancestors.{Fall, in_subtree_on, numbers_rise}
 use Rattle.lowpoint_dfs.proofs.LowpointsGiven.{parent_link_is}
 use Rattle.lowpoint_dfs.proofs.ParentsFirst.{IsOver, over_link, parent_over}
 use Rattle.lowpoint_dfs.proofs.WholeTree.{leads_within, link_touches, numbers_within, tree_falls}
-
-same_some : (a b : ℕ) → Some a ≡ Some b → a ≡ b
-same_some a b same = cc
 
 some_none : (n : ℕ) → None ≡ Some n → ⊥
 some_none n same = cc
@@ -98,7 +96,7 @@ own_link_low : (g : Topology) (tree : List TreeNode) (v w e x : ℕ) → Facts g
     → parent_link tree w ≡ Some e → low_of tree v ≤ number_of tree x
 own_link_low g tree v w e x facts within Itself other onward over = absurd (other over)
 own_link_low g tree v w e x facts within (Below y parent is rest) other onward over =
-    let same : parent ≡ x = same_some parent x (sym is ∙ parent_over g tree y e x over onward) in
+    let same : parent ≡ x = same_Some parent x (sym is ∙ parent_over g tree y e x over onward) in
     omega (arith, low_is_own g tree v facts within, numbers_rise g tree v parent facts.fall rest, ap (λ (z : ℕ). number_of tree z) same)
 
 -- a link from below v, its node's own parent link too, reaches at least low(v)
@@ -153,10 +151,10 @@ by_offer g tree v it facts of_child = elim (cases_Bool (is_parent_link tree v it
   | inr free ↦ elim (cases_Bool (is_parent_link tree it.end.to it.end.link)) [
     | inr no_child ↦
         let is : Some (number_of tree it.end.to) ≡ Some (low_of tree v) = rw (free, no_child) at it.offers in
-        reached_over g tree v (low_of tree v) it (low_of tree v) facts free (sym (same_some (number_of tree it.end.to) (low_of tree v) is))
+        reached_over g tree v (low_of tree v) it (low_of tree v) facts free (sym (same_Some (number_of tree it.end.to) (low_of tree v) is))
     | inl child ↦
         let is : Some (low_of tree it.end.to) ≡ Some (low_of tree v) = rw (free, child) at it.offers in
-        let same : low_of tree it.end.to ≡ low_of tree v = same_some (low_of tree it.end.to) (low_of tree v) is in
+        let same : low_of tree it.end.to ≡ low_of tree v = same_Some (low_of tree it.end.to) (low_of tree v) is in
         let onward : leads g.links it.end.link v ≡ Some it.end.to = end_leads g v it.place it.ends it.end facts.kept it.list it.there in
         let parent : parent_of g tree it.end.to ≡ Some v =
         parent_over g tree it.end.to it.end.link v (parent_link_is tree it.end.to it.end.link child) (lead_back g.links it.end.link v it.end.to onward) in

@@ -3,6 +3,7 @@ use Rattle.std.proofs.Common.{◌≡◌, ◌<◌, ◌≤◌, ◌+◌, ◌∙◌,
 use Rattle.std.proofs.lemmas.Bool.{cases_lt, lt-ltb, le-ltb}
 use Rattle.mrt_graph.specs.declared.link.End.{End}
 use Rattle.mrt_graph.specs.declared.tree.TreeNode.{TreeNode}
+use Rattle.std.proofs.lemmas.Option.{same_Some}
 use Rattle.lowpoint_dfs.specs.declared.lowpoints.Lowest.{Lowest}
 use Rattle.lowpoint_dfs.specs.Lowering.{IsLowFrom, Own, Offered, IsLowest, lowered}
 use Rattle.lowpoint_dfs.specs.Lowpoint.{offer}
@@ -22,9 +23,6 @@ offer_there tree v j k ends end other o at there same is =
 
 some_none : (n : ℕ) → None ≡ Some n → ⊥
 some_none n same = cc
-
-same_some : (a b : ℕ) → Some a ≡ Some b → a ≡ b
-same_some a b same = cc
 
 more_from : (tree : List TreeNode) (v k : ℕ) (ends : List End) (known : Lowest) → IsLowFrom tree v ends k known → IsLowFrom tree v ends (k + 1) known
 more_from tree v k ends known (Own low link) = Own low link
@@ -50,7 +48,7 @@ now_lower tree v k n ends end known lowest at is lower = record {
   least = λ j m other early there offers. elim (cases_lt j k) [
     | inl before ↦ omega (arith, lower, lowest.least j m other before there offers)
     | inr now ↦
-        let same : n ≡ m = same_some n m (sym (offer_there tree v j k ends end other (Some n) at there (omega (arith, early, now)) is) ∙ offers) in
+        let same : n ≡ m = same_Some n m (sym (offer_there tree v j k ends end other (Some n) at there (omega (arith, early, now)) is) ∙ offers) in
         omega (arith, same)
   ];
   from = Offered k end (omega arith) at is (omega (arith, lower, lowest.own)) refl
@@ -66,7 +64,7 @@ lowest_given tree v k ends end known (Some n) lowest at is = elim (cases_lt n kn
   | inl lower ↦ rw (lt-ltb n known.low lower) (now_lower tree v k n ends end known lowest at is lower)
   | inr higher ↦ rw (le-ltb n known.low higher) (no_lower tree v k ends known lowest
       (λ m other there offers.
-      let same : n ≡ m = same_some n m (sym (offer_there tree v k k ends end other (Some n) at there refl is) ∙ offers) in omega (arith, same, higher)))
+      let same : n ≡ m = same_Some n m (sym (offer_there tree v k k ends end other (Some n) at there refl is) ∙ offers) in omega (arith, same, higher)))
 ]
 
 pub lowest_more : (tree : List TreeNode) (v k : ℕ) (ends : List End) (end : End) (known : Lowest) → IsLowest tree v ends k known → slice_get ends k ≡ Some end

@@ -2,7 +2,7 @@
 use Rattle.std.proofs.Common.{◌≡◌, ◌≢◌, ◌⊎◌, ◌<◌, ◌≤◌, ◌+◌, ◌==◌, ◌∙◌, ℕ, Bool, true, false, List, Option, Some, None, length, slice_get, inl, inr, refl, sym, ap, subst, arith}
 use Rattle.std.specs.Option.{option_and_then, option_map_or}
 use Rattle.std.proofs.lemmas.Bool.{cases_Bool, cases_eq, cases_lt, eqb-true}
-use Rattle.std.proofs.lemmas.Option.{slice_get_within}
+use Rattle.std.proofs.lemmas.Option.{same_Some, slice_get_within}
 use Rattle.mrt_graph.specs.declared.link.End.{End}
 use Rattle.mrt_graph.specs.declared.tree.TreeNode.{TreeNode}
 use Rattle.mrt_graph.specs.GraphInvariant.{IsTopology}
@@ -172,9 +172,6 @@ pub record AreGiven (g : Topology) (start nodes : List TreeNode) (order : List �
   pub alike : AreAlike start nodes
   pub done : (k v : ℕ) → place ≤ k → slice_get order k ≡ Some v → HasLowpoint g nodes v
 
-same_some : (a b : ℕ) → Some a ≡ Some b → a ≡ b
-same_some a b same = cc
-
 -- one node more
 pub one_more : (g : Topology) (start nodes other : List TreeNode) (order : List ℕ) (place v : ℕ) (ends : List End) → IsTopology g → AreNumbered g start order
     → AreGiven g start nodes order (place + 1) → slice_get order place ≡ Some v → slice_get g.ends v ≡ Some ends → IsGiven nodes v ends other
@@ -191,7 +188,7 @@ one_more g start nodes other order place v ends kept numbered are at list given 
         (omega (arith, later, are.alike.numbers v, are.alike.numbers w, numbered.places place v at, numbered.places k w w_at))
         (are.done k w (omega (arith, later)) w_at)
     | inr now ↦
-        let same : v ≡ w = same_some v w (sym at ∙ subst (λ (i : ℕ). slice_get order i ≡ Some w) (omega (arith, from, now)) w_at) in
+        let same : v ≡ w = same_Some v w (sym at ∙ subst (λ (i : ℕ). slice_get order i ≡ Some w) (omega (arith, from, now)) w_at) in
         subst (λ (x : ℕ). HasLowpoint g other x) same (has_given g nodes other v ends list given)
   ];
 }

@@ -4,7 +4,7 @@ use Rattle.std.specs.Option.{option_and_then, option_map_or}
 use Rattle.std.specs.Prelude.{Contains}
 use Rattle.std.proofs.lemmas.Bool.{cases_lt}
 use Rattle.std.proofs.lemmas.List.Elements.{Contains-push_cases}
-use Rattle.std.proofs.lemmas.Option.{slice_get_past, slice_get_within}
+use Rattle.std.proofs.lemmas.Option.{same_Some, slice_get_past, slice_get_within}
 use Rattle.mrt_graph.specs.declared.link.End.{End}
 use Rattle.mrt_graph.specs.declared.tree.TreeNode.{TreeNode}
 use Rattle.mrt_graph.specs.GraphInvariant.{IsTopology}
@@ -28,27 +28,24 @@ use Rattle.lowpoint_dfs.proofs.LowpointsGiven.{parent_link_is, same_offer}
 use Rattle.lowpoint_dfs.proofs.ParentsFirst.{parent_over}
 use Rattle.lowpoint_dfs.proofs.WholeTree.{leads_within, numbers_within, tree_falls, tree_lists}
 
-same_some : {X : Type 0} (a b : X) → Some a ≡ Some b → a ≡ b
-same_some a b same = cc
-
 -- a node's first end that has what is asked for is one
 pub one_first : (g : Topology) (Asked : End → Type 0) (v : ℕ) (one other : End) → IsFirstEnd g Asked v one → IsFirstEnd g Asked v other → one ≡ other
 one_first g Asked v one other a b =
-    let ends : a.ends ≡ b.ends = same_some a.ends b.ends (sym a.list ∙ b.list) in
+    let ends : a.ends ≡ b.ends = same_Some a.ends b.ends (sym a.list ∙ b.list) in
     let a_there : slice_get b.ends a.place ≡ Some one = subst (λ (xs : List End). slice_get xs a.place ≡ Some one) ends a.there in
     let b_there : slice_get a.ends b.place ≡ Some other = subst (λ (xs : List End). slice_get xs b.place ≡ Some other) (sym ends) b.there in
     elim (cases_lt a.place b.place) [
       | inl early ↦ absurd (b.none_before a.place one early a_there a.asked)
       | inr late ↦ elim (cases_lt b.place a.place) [
         | inl early ↦ absurd (a.none_before b.place other early b_there b.asked)
-        | inr now ↦ same_some one other (sym a_there ∙ subst (λ (k : ℕ). slice_get b.ends k ≡ Some other) (omega (arith, late, now)) b.there)
+        | inr now ↦ same_Some one other (sym a_there ∙ subst (λ (k : ℕ). slice_get b.ends k ≡ Some other) (omega (arith, late, now)) b.there)
       ]
     ]
 
 -- a node with an end to a node outside is not done
 not_done : (g : Topology) (listed : List ℕ) (v : ℕ) (end : End) → IsDone g listed v → IsFirstEnd g (λ end. ¬ Contains listed end.to) v end → ⊥
 not_done g listed v end done first =
-    let ends : first.ends ≡ done.ends = same_some first.ends done.ends (sym first.list ∙ done.list) in
+    let ends : first.ends ≡ done.ends = same_Some first.ends done.ends (sym first.list ∙ done.list) in
     first.asked (done.all_inside first.place end (subst (λ (xs : List End). slice_get xs first.place ≡ Some end) ends first.there))
 
 -- what is found next is one
@@ -62,7 +59,7 @@ one_next g listed node link node' link' a b = elim (cases_lt a.place b.place) [
   | inr late ↦ elim (cases_lt b.place a.place) [
     | inl early ↦ absurd (not_done g listed a.at a.end (b.latest a.place a.at early a.there) a.first)
     | inr now ↦
-        let at : a.at ≡ b.at = same_some a.at b.at (sym a.there ∙ subst (λ (k : ℕ). slice_get listed k ≡ Some b.at) (omega (arith, late, now)) b.there) in
+        let at : a.at ≡ b.at = same_Some a.at b.at (sym a.there ∙ subst (λ (k : ℕ). slice_get listed k ≡ Some b.at) (omega (arith, late, now)) b.there) in
         let end : a.end ≡ b.end = one_first g (λ end. ¬ Contains listed end.to) b.at a.end b.end
         (subst (λ (v : ℕ). IsFirstEnd g (λ end. ¬ Contains listed end.to) v a.end) at a.first) b.first in
         record { nodes = sym a.to ∙ ap (λ (e : End). e.to) end ∙ b.to; links = sym a.over ∙ ap (λ (e : End). e.link) end ∙ b.over }
@@ -222,7 +219,7 @@ same_elements [] [] same each = refl
 same_elements [] (y ∷ ys) same each = absurd (omega (arith, same))
 same_elements (x ∷ xs) [] same each = absurd (omega (arith, same))
 same_elements (x ∷ xs) (y ∷ ys) same each =
-    ap (λ (z : TreeNode). z ∷ xs) (same_some x y (each 0 (omega arith)))
+    ap (λ (z : TreeNode). z ∷ xs) (same_Some x y (each 0 (omega arith)))
     ∙ ap (λ (zs : List TreeNode). y ∷ zs) (same_elements xs ys (omega (arith, same)) (λ k within. each (suc k) (omega (arith, within))))
 
 abbrev of_fields : ℕ → Option ℕ → ℕ → Option ℕ → TreeNode

@@ -2,7 +2,7 @@
 use Rattle.std.proofs.Common.{◌≡◌, ◌≢◌, ◌<◌, ◌≤◌, ◌∙◌, ℕ, List, Option, Some, None, length, slice_get, inl, inr, refl, sym, ap, subst, arith}
 use Rattle.std.specs.Option.{option_and_then}
 use Rattle.std.specs.Prelude.{Contains}
-use Rattle.std.proofs.lemmas.Option.{slice_get_within, slice_get_past}
+use Rattle.std.proofs.lemmas.Option.{same_Some, slice_get_within, slice_get_past}
 use Rattle.std.proofs.lemmas.Bool.{cases_lt}
 use Rattle.mrt_graph.specs.declared.tree.TreeNode.{TreeNode}
 use Rattle.mrt_graph.specs.GraphInvariant.{IsTopology}
@@ -76,9 +76,6 @@ has_parent g root tree order kept within searched ended v v_within other =
       | inr it ↦ found_has_parent g root tree order place.0 v kept searched place.1 it
     ]
 
-same_some : (a b : ℕ) → Some a ≡ Some b → a ≡ b
-same_some a b same = cc
-
 pub no_link_past : (tree : List TreeNode) (v e : ℕ) → length tree ≤ v → parent_link tree v ≡ Some e → ⊥
 no_link_past tree v e past over = let none = rw (slice_get_past tree v past) at over in cc
 
@@ -98,7 +95,7 @@ falls g root tree order kept within searched ended one_each v u is =
                 absurd (some_none over.link (sym over.over ∙ none))
             | inr it ↦
                 let has = found_has_parent g root tree order place.0 v kept searched place.1 it in
-                subst (λ (w : ℕ). number_of tree w < number_of tree v) (same_some has.parent u (sym has.is ∙ is)) has.lower
+                subst (λ (w : ℕ). number_of tree w < number_of tree v) (same_Some has.parent u (sym has.is ∙ is)) has.lower
           ]
     ]
   where

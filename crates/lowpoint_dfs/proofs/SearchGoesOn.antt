@@ -9,7 +9,7 @@ use Rattle.std.proofs.lemmas.List.Elements.{Contains-append_left, Contains-push}
 use Rattle.std.proofs.Math.Nat.{suc-mul}
 use Rattle.std.proofs.lemmas.List.Folds.{sum_by-replicate}
 use Rattle.std.proofs.lemmas.List.Sums.{sum_by-set}
-use Rattle.std.proofs.lemmas.Option.{slice_get_read, slice_get_within, get_or_from_slice_get}
+use Rattle.std.proofs.lemmas.Option.{same_Some, slice_get_read, slice_get_within, get_or_from_slice_get}
 use Rattle.mrt_graph.specs.declared.link.End.{End}
 use Rattle.mrt_graph.specs.declared.tree.TreeNode.{TreeNode}
 use Rattle.mrt_graph.specs.GraphInvariant.{AreEnds, IsEnd, IsTopology}
@@ -26,9 +26,6 @@ use Rattle.lowpoint_dfs.specs.Subtree.{HasParent, parent_of}
 use Rattle.lowpoint_dfs.proofs.Ancestors.{found_over}
 use Rattle.lowpoint_dfs.proofs.FoundInTurn.{IsFoundAt, found_at, listed_within, number_at, root_first}
 use Rattle.lowpoint_dfs.proofs.ParentsFirst.{found_has_parent, parent_over}
-
-same_some : (a b : ℕ) → Some a ≡ Some b → a ≡ b
-same_some a b same = cc
 
 same_lists : (xs ys : List End) → Some xs ≡ Some ys → ys ≡ xs
 same_lists xs ys same = cc
@@ -195,7 +192,7 @@ finishing g root nodes order passed place ends s list found all =
         | inl later ↦ s.later_done k v (omega (arith, first.number, later)) at
         | inr now ↦
             let zero_at : slice_get order 0 ≡ Some v = subst (λ (i : ℕ). slice_get order i ≡ Some v) (omega (arith, now)) at in
-            subst (λ (w : ℕ). IsDone g order w) (same_some root v (sym first.first ∙ zero_at)) (done_here g root nodes order passed root place ends s list found all)
+            subst (λ (w : ℕ). IsDone g order w) (same_Some root v (sym first.first ∙ zero_at)) (done_here g root nodes order passed root place ends s list found all)
       ];
     }
 
@@ -223,7 +220,7 @@ going_back g root nodes order passed here place up ends kept s list found all ot
       | inr it ↦
           let parent : parent_of g nodes here ≡ Some it.next.at =
           parent_over g nodes here it.link it.next.at it.parent (lead_back g.links it.link it.next.at here (found_over g it.before here it.link kept it.next)) in
-          back here_at.0 here_at.1 it (same_some it.next.at up (sym parent ∙ is))
+          back here_at.0 here_at.1 it (same_Some it.next.at up (sym parent ∙ is))
     ]
   where
     back : (k : ℕ) → slice_get order k ≡ Some here → (it : IsFoundAt g root nodes order k here) → it.next.at ≡ up → IsSearching g root nodes order passed up
@@ -243,7 +240,7 @@ going_back g root nodes order passed here place up ends kept s list found all ot
               elim (cases_lt j k) [
                 | inl early ↦
                     let w = there it.before j (omega (arith, early, it.count)) in
-                    let one : w.0 ≡ v = same_some w.0 v (sym (it.stays j w.0 w.1) ∙ v_at) in
+                    let one : w.0 ≡ v = same_Some w.0 v (sym (it.stays j w.0 w.1) ∙ v_at) in
                     done_still g it.before order v
                     (λ x c. let x_at = place_of it.before x c in contains_at order x_at.0 x (it.stays x_at.0 x x_at.1))
                     (it.next.latest j v after (subst (λ (x : ℕ). slice_get it.before j ≡ Some x) one w.1))
@@ -251,7 +248,7 @@ going_back g root nodes order passed here place up ends kept s list found all ot
                   | inl past ↦ s.later_done j v (omega (arith, past, number_at g root nodes order s.searched k here here_at)) v_at
                   | inr now ↦
                       let v_here : slice_get order k ≡ Some v = subst (λ (i : ℕ). slice_get order i ≡ Some v) (omega (arith, later, now)) v_at in
-                      subst (λ (w : ℕ). IsDone g order w) (same_some here v (sym here_at ∙ v_here)) (done_here g root nodes order passed here place ends s list found all)
+                      subst (λ (w : ℕ). IsDone g order w) (same_Some here v (sym here_at ∙ v_here)) (done_here g root nodes order passed here place ends s list found all)
                 ]
               ];
         }

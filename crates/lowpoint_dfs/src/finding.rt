@@ -187,6 +187,5 @@ fn other_node(g: &Graph, link: LinkNo, v: NodeNo) -> NodeNo
     requires { IsSome (leads g.now.links link v) }
     ensures { leads g.now.links link v ≡ Some result }
 {
-    let link = g.link(link);
-    if link.a == v { link.b } else { link.a }
+    g.link(link).far_node(v).unwrap()
 }

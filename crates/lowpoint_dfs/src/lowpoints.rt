@@ -20,7 +20,7 @@ ghost use Rattle.lowpoint_dfs.specs.Lowpoint.{HasLowpoint, is_parent_link, offer
 
 use mrt_graph::{End, Graph, LinkNo, NodeNo, TreeNode};
 
-/// The least number that is known for a node, and the link that leads towards it.
+/// The least number that is known for a node, and the link that offers it; the parent link where that is the node's own.
 #[derive(Drop)]
 struct Lowest {
     low: u16,

@@ -1,4 +1,4 @@
-//! That the words and what the shelf holds have one exit.
+//! That the words and what the shelf holds have at most one exit.
 
 ghost use Rattle.std.specs.Prelude.{◌≡◌, ℕ, List, Some};
 ghost use Rattle.mrt_io.specs.Holding.{Files};

@@ -15,6 +15,6 @@ parent_link tree v = option_and_then (λ node. node.parent) (slice_get tree v)
 abbrev pub low_of : List TreeNode → ℕ → ℕ
 low_of tree v = option_map_or (λ node. node.low) (slice_get tree v) 0
 
--- the link with which the way to a node's lowpoint begins
+-- the link of a node's lowpoint: that of the end that offers it where it is below the node's number, else the parent link
 abbrev pub low_link : List TreeNode → ℕ → Option ℕ
 low_link tree v = option_and_then (λ node. node.low_link) (slice_get tree v)

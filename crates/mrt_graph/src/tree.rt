@@ -3,8 +3,8 @@
 use crate::numbers::{LinkNo, NodeNo};
 use std::marker::Model;
 
-/// What the search says of one node: its number, the link over which it was found, its lowpoint, and the first link
-/// towards the lowpoint (RFC 7811, section 4.3).
+/// What the search says of one node: its number, the link over which it was found, its lowpoint, and the lowpoint's
+/// link (RFC 7811, section 4.3). Where the lowpoint is the node's own number, that is the link over which it was found.
 #[derive(Clone, Copy, Debug, PartialEq, Eq)]
 pub struct TreeNode {
     pub number: u16,

@@ -2,12 +2,10 @@ use Rattle.std.proofs.Common.{◌≡◌, ◌<◌, ◌∙◌, ℕ, List, Some, le
 use Rattle.std.proofs.lemmas.Bool.{eqb-true, eqb-false}
 use Rattle.mrt_graph.specs.TreeWords.{number_of}
 use Rattle.mrt_graph.specs.declared.tree.TreeNode.{TreeNode}
+use Rattle.std.proofs.lemmas.Option.{same_Some}
 use Rattle.lowpoint_dfs.specs.Subtree.{parent_of}
 use Rattle.lowpoint_dfs.proofs.SearchGoesOn.{back_less, ends_within, finding, finished, found_less, going_back, here_within, looking, new_end, parent_here, room_left}
 use Rattle.lowpoint_dfs.proofs.finding.step.Goals as goal
-
-same_some : (a b : ℕ) → Some a ≡ Some b → a ≡ b
-same_some a b same = cc
 
 pub ends-ends-requires : goal.ends-ends-requires
 ends-ends-requires c = here_within c.args.g.now c.args.root _ _ _ c.args.here c.requires.kept c.requires.root c.requires.searching
@@ -85,6 +83,6 @@ returns-clause-left c =
     (eqb-false c.args.here c.args.root (sym c.eq.ensures ∙ c.if-eq.false)) in
     let onward : parent_of c.args.g.now c.args.nodes.now.items c.args.here ≡ Some c.parent.result =
     ap (λ (nodes : List TreeNode). parent_of c.args.g.now nodes c.args.here) (sym c.deref-2.ensures.value) ∙ c.parent.ensures in
-    let same : has.parent ≡ c.parent.result = same_some has.parent c.parent.result (sym has.is ∙ onward) in
+    let same : has.parent ≡ c.parent.result = same_Some has.parent c.parent.result (sym has.is ∙ onward) in
     back_less c.args.nodes.now.items c.parent.result c.args.here
     (subst (λ (p : ℕ). number_of c.args.nodes.now.items p < number_of c.args.nodes.now.items c.args.here) same has.lower)
