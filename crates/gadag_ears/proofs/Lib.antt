@@ -1,0 +1,17 @@
+pub mod ChildEars
+pub mod CommonBlocks
+pub mod CutLists
+pub mod EarBrought
+pub mod EarWalk
+pub mod EarsExist
+pub mod Ended
+pub mod EndsPassed
+pub mod Entering
+pub mod FromSearch
+pub mod HeadsByLowpoints
+pub mod NeighbourEars
+pub mod NextEar
+pub mod Once
+pub mod OneEarOrder
+pub mod SearchFacts
+pub mod TurnsKept

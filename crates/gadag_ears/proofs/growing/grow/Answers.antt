@@ -1,0 +1,78 @@
+use Rattle.std.proofs.Common.{◌≡◌, ◌≤◌, ◌<◌, ◌+◌, ◌++◌, ◌∙◌, ℕ, Bool, List, [], ◌∷◌, length, reverse, vec_capacity, refl, sym, ap, subst, arith}
+use Rattle.std.specs.Prelude.{Contains}
+use Rattle.mrt_graph.specs.declared.tree.TreeNode.{TreeNode}
+use Rattle.mrt_graph.specs.declared.gadag.Place.{Place}
+use Rattle.mrt_graph.specs.Topology.{Topology}
+use Rattle.mrt_graph.proofs.Members.{contains_first}
+use Rattle.gadag_ears.specs.declared.growing.Growing.{Growing}
+use Rattle.gadag_ears.specs.declared.kind.EarKind.{EarKind}
+use Rattle.gadag_ears.specs.Growing.{AreListed, IsLeaving, IsPlaceOfEar, IsTurn, IsWay, StartsEar}
+use Rattle.gadag_ears.proofs.CutLists.{put_in}
+use Rattle.gadag_ears.proofs.EarBrought.{IsFoundEar, ear_of_way, leaving_of, room_for_new, turn_grown, turn_kept}
+use Rattle.gadag_ears.proofs.growing.grow.Goals as goal
+
+-- the ear that was found, for each root of which this is a turn
+found_ear : (g : Topology) (root : ℕ) (tree : List TreeNode) (kind : EarKind) (growing : Growing) (x first stop : ℕ) (new : List ℕ) (listed : List Bool)
+    → listed ≡ growing.listed.items → StartsEar g tree kind growing x first → IsTurn g root tree x growing
+    → ((nodes : List ℕ) → AreListed listed nodes → IsWay g tree kind nodes first new stop) → IsFoundEar g root tree x growing kind first stop new
+found_ear g root tree kind growing x first stop new listed same starts turn way =
+    ear_of_way g root tree kind growing x first stop starts.end new turn starts.begun starts.to
+    (way (growing.order.items ++ x ∷ reverse growing.waiting.items)
+    (subst (λ (xs : List Bool). AreListed xs (growing.order.items ++ x ∷ reverse growing.waiting.items)) (sym same) turn.listed))
+
+stop_within : (g : Topology) (tree : List TreeNode) (kind : EarKind) (growing : Growing) (x first stop : ℕ) (new : List ℕ)
+    → (starts : StartsEar g tree kind growing x first) → IsFoundEar g starts.root tree x growing kind first stop new → stop < length growing.places.items
+stop_within g tree kind growing x first stop new starts found =
+    let inside = (turn_kept g starts.root tree x growing starts.turn).within found.ear.stop found.brings.stop_in in
+    omega (arith, inside, found.is_stop, starts.turn.one_place_each)
+
+pub walk-stop-requires-clause-leaving : goal.walk-stop-requires-clause-leaving
+walk-stop-requires-clause-leaving c =
+    subst (λ (xs : List Bool). IsLeaving c.args.g.now c.args.tree.now c.args.kind xs c.args.first) (sym c.deref.ensures.value)
+    (leaving_of c.args.g.now c.args.tree.now c.args.kind c.args.growing.now c.args.x c.args.first c.requires.starts)
+
+pub place_of_ear-place-requires : goal.place_of_ear-place-requires
+place_of_ear-place-requires c =
+    let starts = c.requires.starts in
+    let found = found_ear c.args.g.now starts.root c.args.tree.now c.args.kind c.args.growing.now c.args.x c.args.first c.walk-stop.result c.walk-stop.new.new.items
+    c.deref.result.now c.deref.ensures.value starts starts.turn c.walk-stop.ensures.way in
+    omega (
+      arith,
+      stop_within c.args.g.now c.args.tree.now c.args.kind c.args.growing.now c.args.x c.args.first c.walk-stop.result c.walk-stop.new.new.items starts found,
+      ap (λ (xs : List Place). length xs) c.deref-2.ensures.value,
+    )
+
+pub enter_all-requires-clause-within : goal.enter_all-requires-clause-within
+enter_all-requires-clause-within c = λ v new.
+    let starts = c.requires.starts in
+    let found = found_ear c.args.g.now starts.root c.args.tree.now c.args.kind c.args.growing.now c.args.x c.args.first c.walk-stop.result c.walk-stop.new.new.items
+    c.deref.result.now c.deref.ensures.value starts starts.turn c.walk-stop.ensures.way in
+    let inside = found.kept.within v (put_in c.args.growing.now.order.items c.args.x (reverse c.args.growing.now.waiting.items) c.walk-stop.new.new.items v new) in
+    omega (arith, inside, starts.turn.one_mark_each)
+
+pub enter_all-requires-clause-room : goal.enter_all-requires-clause-room
+enter_all-requires-clause-room c =
+    let starts = c.requires.starts in
+    let found = found_ear c.args.g.now starts.root c.args.tree.now c.args.kind c.args.growing.now c.args.x c.args.first c.walk-stop.result c.walk-stop.new.new.items
+    c.deref.result.now c.deref.ensures.value starts starts.turn c.walk-stop.ensures.way in
+    let few = room_for_new c.args.g.now c.args.tree.now c.args.growing.now.order.items c.args.x c.args.growing.now.waiting.items c.walk-stop.new.new.items found.kept in
+    omega (arith, few, c.requires.room.waiting)
+
+pub returns-clause-turn : goal.returns-clause-turn
+returns-clause-turn c = λ root turn.
+    let found = found_ear c.args.g.now root c.args.tree.now c.args.kind c.args.growing.now c.args.x c.args.first c.walk-stop.result c.walk-stop.new.new.items
+    c.deref.result.now c.deref.ensures.value c.requires.starts turn c.walk-stop.ensures.way in
+    let place = subst (λ (xs : List Place). IsPlaceOfEar c.args.kind c.args.x c.args.first c.walk-stop.result xs c.place_of_ear-place.result)
+    c.deref-2.ensures.value c.place_of_ear-place.ensures in
+    turn_grown c.args.g.now root c.args.tree.now c.args.x c.args.growing.now c.enter_all.new.growing c.args.kind c.args.first c.walk-stop.result
+    c.place_of_ear-place.result.head c.place_of_ear-place.result.block c.walk-stop.new.new.items turn found place
+    c.enter_all.ensures.order c.enter_all.ensures.waiting c.enter_all.ensures.entered
+
+pub returns-clause-entered : goal.returns-clause-entered
+returns-clause-entered c =
+    let starts = c.requires.starts in
+    let found = found_ear c.args.g.now starts.root c.args.tree.now c.args.kind c.args.growing.now c.args.x c.args.first c.walk-stop.result c.walk-stop.new.new.items
+    c.deref.result.now c.deref.ensures.value starts starts.turn c.walk-stop.ensures.way in
+    c.enter_all.ensures.entered.marked c.args.first
+    (subst (λ (xs : List ℕ). Contains xs c.args.first) found.is_new
+    (subst (λ (v : ℕ). Contains (v ∷ found.ear.others) c.args.first) (sym found.is_first) (contains_first c.args.first found.ear.others)))

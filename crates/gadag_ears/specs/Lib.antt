@@ -1,0 +1,5 @@
+pub mod CommonBlock
+pub mod Ear
+pub mod EarOrder
+pub mod Growing
+pub mod HeadAndBlock

@@ -1,0 +1,86 @@
+//! The GADAG on its way.
+
+ghost use Rattle.std.specs.Prelude.{
+  ◌≡◌,
+  ◌<◌,
+  ◌≤◌,
+  ◌+◌,
+  ◌∷◌,
+  ℕ,
+  List,
+  IfSome,
+  IfNone,
+  Some,
+  Contains,
+  length,
+  vec_capacity,
+};
+ghost use Rattle.mrt_graph.specs.GraphInvariant.{IsTopology};
+ghost use Rattle.lowpoint_dfs.specs.SearchTree.{IsSearchTree};
+ghost use Rattle.gadag_ears.specs.Growing.{
+  HasRoom,
+  IsEntered,
+  IsMarked,
+  IsPlaceOfEar,
+  IsTurn,
+  StartsEar,
+};
+
+use crate::kind::EarKind;
+use crate::walk::walk;
+use mrt_graph::{Graph, NodeNo, Place, Tree};
+
+/// The nodes whose turn is over, in their order; the nodes whose turn is to come, the next one last; of each node whether
+/// it is in the GADAG, and its place there; and room for the new nodes of an ear.
+#[derive(Drop)]
+pub struct Growing {
+    pub order: Vec<NodeNo>,
+    pub waiting: Vec<NodeNo>,
+    pub listed: Vec<bool>,
+    pub places: Vec<Place>,
+    pub added: Vec<NodeNo>,
+}
+
+/// Brings the ear of this kind that begins with this node, in the turn of x.
+pub fn grow(g: &Graph, tree: &Tree, kind: EarKind, growing: &mut Growing, x: NodeNo, first: NodeNo)
+    requires starts { StartsEar g.now tree.now kind growing.old x first }
+    requires room { HasRoom (length g.now.ids) growing.old }
+    ensures turn { (root : ℕ) → IsTurn g.now root tree.now x growing.old → IsTurn g.now root tree.now x growing.new }
+    ensures room { HasRoom (length g.now.ids) growing.new }
+    ensures order { growing.new.order ≡ growing.old.order }
+    ensures grows { (v : ℕ) → IsMarked growing.old.listed.items v → IsMarked growing.new.listed.items v }
+    ensures entered { IsMarked growing.new.listed.items first }
+{
+    let stop = walk(g, tree, kind, &growing.listed, &mut growing.added, first);
+    let place = place_of_ear(kind, x, first, stop, &growing.places);
+    enter_all(growing, place.head, place.block);
+}
+
+/// The place of an ear's new nodes.
+fn place_of_ear(kind: EarKind, x: NodeNo, first: NodeNo, stop: NodeNo, places: &[Place]) -> Place
+    requires { stop < length places.now }
+    ensures { IsPlaceOfEar kind x first stop places.now result }
+{
+    match kind {
+        EarKind::Child if stop == x => Place {
+            head: x,
+            block: first,
+        },
+        _ => places[stop.get() as usize],
+    }
+}
+
+/// Enters the new nodes, the last one first.
+fn enter_all(growing: &mut Growing, head: NodeNo, block: NodeNo)
+    requires within { (v : ℕ) → Contains growing.old.added.items v → v < length growing.old.listed.items }
+    requires one_place_each { length growing.old.places.items ≡ length growing.old.listed.items }
+    requires room { length growing.old.waiting.items + length growing.old.added.items ≤ vec_capacity growing.old.waiting }
+    ensures { IsEntered growing.old head block growing.old.added.items growing.new }
+{
+    'entry: for k in (0..growing.added.len()).rev() {
+        let node = growing.added[k];
+        growing.listed[node.get() as usize] = true;
+        growing.places[node.get() as usize] = Place { head, block };
+        growing.waiting.push_reserved(node);
+    }
+}

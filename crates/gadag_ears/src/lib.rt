@@ -1,0 +1,15 @@
+//! The GADAG of an island: its ears in order, the head and the block of each node, the mark of each link.
+#![tactic(auto)]
+
+mod ears_law;
+mod growing;
+mod kind;
+mod turn;
+mod turns;
+mod walk;
+
+pub use ears_law::{
+    each_node_is_in_the_ear_order_once, ears_stop_ahead, every_ear_stops, heads_by_lowpoints,
+    links_lie_in_common_blocks, neighbours_are_in_after_a_turn, one_ear_order,
+    the_root_is_alone_in_its_block,
+};

@@ -1,0 +1,83 @@
+//! The way of an ear.
+
+ghost use Rattle.std.specs.Prelude.{
+  ◌≡◌,
+  ◌<◌,
+  ◌≤◌,
+  ◌↔◌,
+  ℕ,
+  List,
+  Bool,
+  true,
+  false,
+  IsSome,
+  Some,
+  Contains,
+  length,
+  slice_get,
+  slice_index_or,
+  vec_capacity,
+};
+ghost use Rattle.mrt_graph.specs.Leads.{leads};
+ghost use Rattle.gadag_ears.specs.Ear.{next_node};
+ghost use Rattle.gadag_ears.specs.Growing.{AreListed, IsLeaving, IsWay};
+
+use crate::kind::EarKind;
+use mrt_graph::{Graph, LinkNo, NodeNo, Tree};
+
+/// Goes on from the first node of an ear to the first node that is listed; it answers that node, and leaves the nodes on
+/// the way, the new ones, in `new`.
+pub fn walk(
+    g: &Graph,
+    tree: &Tree,
+    kind: EarKind,
+    listed: &[bool],
+    new: &mut Vec<NodeNo>,
+    first: NodeNo,
+) -> NodeNo
+    requires leaving { IsLeaving g.now tree.now kind listed.now first }
+    requires room { length g.now.ids ≤ vec_capacity new.old }
+    ensures way { (nodes : List ℕ) → AreListed listed.now nodes → IsWay g.now tree.now kind nodes first new.new.items result }
+    ensures room { vec_capacity new.new ≡ vec_capacity new.old }
+{
+    new.clear();
+    let mut here = first;
+    'way: loop {
+        new.push_reserved(here);
+        let next = next_on(g, tree, kind, here);
+        if is_listed(listed, next) {
+            return next;
+        }
+        here = next;
+    }
+}
+
+/// The node to which an ear goes on from here.
+fn next_on(g: &Graph, tree: &Tree, kind: EarKind, here: NodeNo) -> NodeNo
+    requires within { here < length tree.now }
+    requires some { IsSome (next_node g.now tree.now kind here) }
+    ensures { next_node g.now tree.now kind here ≡ Some result }
+{
+    let node = tree.node(here);
+    let link = match kind {
+        EarKind::Child => node.low_link.unwrap(),
+        EarKind::Neighbour => node.parent.unwrap(),
+    };
+    other_node(g, link, here)
+}
+
+/// The other node of a link that touches v.
+pub fn other_node(g: &Graph, link: LinkNo, v: NodeNo) -> NodeNo
+    requires { IsSome (leads g.now.links link v) }
+    ensures { leads g.now.links link v ≡ Some result }
+{
+    g.link(link).far_node(v).unwrap()
+}
+
+/// Whether a node is listed.
+pub fn is_listed(listed: &[bool], v: NodeNo) -> bool
+    requires { v < length listed.now }
+    ensures { result ≡ slice_index_or listed.now v false }
+{
+    listed[v.get() as usize]
+}
