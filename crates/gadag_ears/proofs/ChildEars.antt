@@ -1,15 +1,14 @@
 -- A child ear goes down from its first node, one lowpoint all the way, and stops where that lowpoint is.
-use Rattle.std.proofs.Common.{◌≡◌, ◌≢◌, ◌⊎◌, ◌<◌, ◌≤◌, ◌∙◌, ℕ, List, [], ◌∷◌, Some, length, inl, inr, refl, sym, ap, subst, arith}
+use Rattle.std.proofs.Common.{◌≡◌, ◌⊎◌, ◌<◌, ◌≤◌, ◌∙◌, ℕ, List, [], ◌∷◌, Some, length, inl, inr, refl, sym, ap, subst, arith}
 use Rattle.std.specs.Option.{option_and_then}
 use Rattle.std.specs.Prelude.{Contains}
-use Rattle.std.proofs.lemmas.Bool.{cases_eq}
 use Rattle.std.proofs.lemmas.Option.{same_Some}
 use Rattle.mrt_graph.specs.declared.tree.TreeNode.{TreeNode}
 use Rattle.mrt_graph.specs.Leads.{leads}
 use Rattle.mrt_graph.specs.Topology.{Topology}
 use Rattle.mrt_graph.specs.TreeWords.{number_of, parent_link, low_of, low_link}
 use Rattle.mrt_graph.proofs.Members.{contains_cases, contains_first, contains_later, contains_none}
-use Rattle.lowpoint_dfs.specs.Subtree.{IsInSubtree, Itself, Below, parent_of}
+use Rattle.lowpoint_dfs.specs.Subtree.{IsInSubtree, Below, parent_of}
 use Rattle.gadag_ears.specs.declared.kind.EarKind.TheVariants.{Child}
 use Rattle.gadag_ears.specs.Ear.{GoesOn, next_node}
 use Rattle.gadag_ears.proofs.Once.{one_alone, one_more, times}

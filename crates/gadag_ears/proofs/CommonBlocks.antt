@@ -1,5 +1,5 @@
 -- The common block of a link's two nodes.
-use Rattle.std.proofs.Common.{◌≡◌, ◌≢◌, ◌⊎◌, ◌<◌, ◌≤◌, ◌+◌, ◌++◌, ◌∙◌, ℕ, zero, suc, List, [], ◌∷◌, Option, Some, None, length, slice_get, inl, inr, refl, sym, ap, subst, arith}
+use Rattle.std.proofs.Common.{◌≡◌, ◌≢◌, ◌<◌, ◌≤◌, ◌∙◌, ℕ, zero, suc, List, [], Option, Some, None, length, slice_get, inl, inr, refl, sym, ap, subst, arith}
 use Rattle.std.specs.Option.{option_and_then, option_map}
 use Rattle.std.specs.Prelude.{Contains}
 use Rattle.std.proofs.lemmas.Bool.{cases_eq, cases_lt}
@@ -14,10 +14,10 @@ use Rattle.mrt_graph.specs.Topology.{Topology}
 use Rattle.mrt_graph.specs.TreeWords.{low_of, number_of}
 use Rattle.mrt_graph.proofs.Hops.{far_ends, lead_back}
 use Rattle.mrt_graph.proofs.ListTests.{all_at, there}
-use Rattle.lowpoint_dfs.specs.Subtree.{HasParent, IsInSubtree, Itself, parent_of}
+use Rattle.lowpoint_dfs.specs.Subtree.{IsInSubtree, Itself, parent_of}
 use Rattle.gadag_ears.specs.Ear.{Ear}
 use Rattle.gadag_ears.specs.EarOrder.{AreEars}
-use Rattle.gadag_ears.specs.HeadAndBlock.{ArePlaces, HasPlace, IsPlacedAs}
+use Rattle.gadag_ears.specs.HeadAndBlock.{ArePlaces}
 use Rattle.gadag_ears.specs.CommonBlock.{FirstIsHead, IsCommonBlock, OfBoth, SecondIsHead}
 use Rattle.gadag_ears.proofs.Ended.{each_listed}
 use Rattle.gadag_ears.proofs.HeadsByLowpoints.{IsPlacedByLow, below_head, heads_all}

@@ -1,30 +1,25 @@
 -- The GADAG with one more ear.
-use Rattle.std.proofs.Common.{◌≡◌, ◌≢◌, ◌⊎◌, ◌<◌, ◌≤◌, ◌+◌, ◌++◌, ◌==◌, ◌∙◌, ℕ, Bool, true, false, List, [], ◌∷◌, Option, Some, length, reverse, slice_get, slice_index_or, vec_capacity, inl, inr, refl, sym, ap, subst, arith, length-append}
+use Rattle.std.proofs.Common.{◌≡◌, ◌⊎◌, ◌<◌, ◌≤◌, ◌+◌, ◌++◌, ◌∙◌, ℕ, Bool, List, ◌∷◌, Some, length, reverse, slice_get, inl, inr, refl, sym, ap, subst, arith, length-append}
 use Rattle.std.specs.Option.{option_map}
 use Rattle.std.specs.Prelude.{Contains}
-use Rattle.std.proofs.lemmas.Bool.{cases_eq}
 use Rattle.std.proofs.lemmas.List.{reverse-append, reverse-reverse, length-reverse}
 use Rattle.mrt_graph.specs.declared.gadag.Place.{Place}
 use Rattle.mrt_graph.specs.declared.link.End.{End}
 use Rattle.mrt_graph.specs.declared.tree.TreeNode.{TreeNode}
-use Rattle.mrt_graph.specs.GadagWords.{block_at, head_at}
 use Rattle.mrt_graph.specs.Topology.{Topology}
 use Rattle.mrt_graph.proofs.FewNumbers.{few_numbers}
-use Rattle.mrt_graph.proofs.Members.{contains_cases, contains_first, contains_from_has, contains_later, contains_none, listed_or_not}
+use Rattle.mrt_graph.proofs.Members.{contains_cases, contains_from_has}
 use Rattle.gadag_ears.specs.declared.growing.Growing.{Growing}
 use Rattle.gadag_ears.specs.declared.kind.EarKind.{EarKind}
-use Rattle.gadag_ears.specs.declared.kind.EarKind.TheVariants.{Child, Neighbour}
-use Rattle.gadag_ears.specs.Ear.{Ear, GoesOn, IsBegun, IsNextEar, new_nodes}
+use Rattle.gadag_ears.specs.Ear.{Ear, IsBegun, IsNextEar, new_nodes}
 use Rattle.gadag_ears.specs.EarOrder.{Grown, IsEarOrder}
-use Rattle.gadag_ears.specs.Growing.{AreEntered, AreListed, IsEntered, IsLeaving, IsMarked, IsPlaceOfEar, IsSearched, IsTurn, IsWay, StartsEar}
+use Rattle.gadag_ears.specs.Growing.{AreEntered, AreListed, IsLeaving, IsMarked, IsPlaceOfEar, IsTurn, IsWay, StartsEar}
 use Rattle.gadag_ears.specs.HeadAndBlock.{ArePlaces, BeginsBlock, HasPlace, IsPlacedAs}
 use Rattle.gadag_ears.proofs.CutLists.{in_turn, kept_in, put_cases, put_in}
 use Rattle.gadag_ears.proofs.Ended.{AreEarsIn, ears_in}
 use Rattle.gadag_ears.proofs.FromSearch.{facts_of}
-use Rattle.gadag_ears.proofs.HeadsByLowpoints.{begins_or_not}
 use Rattle.gadag_ears.proofs.NextEar.{IsBrought}
 use Rattle.gadag_ears.proofs.Once.{one_place}
-use Rattle.gadag_ears.proofs.SearchFacts.{AreFacts}
 use Rattle.gadag_ears.proofs.TurnsKept.{AreKept, all_kept, brought_at, kept_next}
 
 -- the list in a turn

@@ -1,5 +1,5 @@
 -- An ear's way exists, and comes to an end.
-use Rattle.std.proofs.Common.{◌≡◌, ◌≢◌, ◌⊎◌, ◌<◌, ◌≤◌, ◌+◌, ◌-◌, ◌++◌, ◌∙◌, ℕ, Bool, true, false, List, [], ◌∷◌, Option, Some, length, slice_index_or, inl, inr, refl, sym, ap, subst, arith, append_assoc}
+use Rattle.std.proofs.Common.{◌≡◌, ◌<◌, ◌≤◌, ◌+◌, ◌-◌, ◌++◌, ◌∙◌, ℕ, Bool, true, false, List, [], ◌∷◌, Some, length, slice_index_or, inl, inr, refl, sym, ap, subst, arith, append_assoc}
 use Rattle.std.specs.Option.{option_and_then}
 use Rattle.std.specs.Prelude.{Contains, IsSome}
 use Rattle.std.proofs.lemmas.Option.{same_Some}
@@ -7,19 +7,19 @@ use Rattle.mrt_graph.specs.declared.link.End.{End}
 use Rattle.mrt_graph.specs.declared.tree.TreeNode.{TreeNode}
 use Rattle.mrt_graph.specs.Leads.{leads}
 use Rattle.mrt_graph.specs.Topology.{Topology}
-use Rattle.mrt_graph.specs.TreeWords.{number_of, low_of, low_link, parent_link}
+use Rattle.mrt_graph.specs.TreeWords.{number_of}
 use Rattle.mrt_graph.proofs.EndsAt.{end_leads}
 use Rattle.lowpoint_dfs.specs.FirstEnd.{IsFirstEnd}
 use Rattle.lowpoint_dfs.specs.Subtree.{IsInSubtree, Itself, parent_of}
 use Rattle.gadag_ears.specs.declared.kind.EarKind.{EarKind}
 use Rattle.gadag_ears.specs.declared.kind.EarKind.TheVariants.{Child, Neighbour}
-use Rattle.gadag_ears.specs.Ear.{GoesOn, IsBegun, LeadsToChild, ToChild, ToNeighbour, next_node}
-use Rattle.gadag_ears.specs.Growing.{AreListed, IsLeaving, IsMarked, IsWay}
+use Rattle.gadag_ears.specs.Ear.{GoesOn, IsBegun, ToChild, ToNeighbour, next_node}
+use Rattle.gadag_ears.specs.Growing.{AreListed, IsLeaving, IsWay}
 use Rattle.gadag_ears.proofs.ChildEars.{IsChildStart, IsOnWay, down_on_way, low_above, way_lower}
 use Rattle.gadag_ears.proofs.FromSearch.{facts_of}
-use Rattle.gadag_ears.proofs.NeighbourEars.{IsClimbing, IsHigher, IsNeighbourStart, climbs}
+use Rattle.gadag_ears.proofs.NeighbourEars.{IsClimbing, IsNeighbourStart, climbs}
 use Rattle.gadag_ears.proofs.TurnsKept.{link_of_next}
-use Rattle.gadag_ears.proofs.SearchFacts.{AreFacts, Down, HangsBelow, IsLowWay, ToParent, Up, ancestors_in, hangs_below, one_parent, parent_above, rises}
+use Rattle.gadag_ears.proofs.SearchFacts.{AreFacts, Down, IsLowWay, ToParent, Up, ancestors_in, hangs_below, one_parent, parent_above, rises}
 
 -- an ear from x at a node on its way, with k new nodes before it
 pub data IsGoing (g : Topology) (tree : List TreeNode) (nodes : List ℕ) (x first link here k : ℕ) : EarKind → Type 0 where

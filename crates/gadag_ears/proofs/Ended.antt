@@ -1,18 +1,16 @@
 -- The list of all turns, and the ears in it.
-use Rattle.std.proofs.Common.{◌≡◌, ◌≢◌, ◌⊎◌, ◌<◌, ◌≤◌, ◌+◌, ◌++◌, ◌==◌, ◌∙◌, ℕ, List, [], ◌∷◌, Some, count_by, length, slice_get, inl, inr, refl, sym, ap, subst, arith}
+use Rattle.std.proofs.Common.{◌≡◌, ◌<◌, ◌≤◌, ◌++◌, ◌==◌, ℕ, List, [], ◌∷◌, Some, count_by, length, inl, inr, sym, subst, arith}
 use Rattle.std.specs.Prelude.{Contains}
-use Rattle.std.proofs.lemmas.Bool.{cases_eq}
-use Rattle.std.proofs.lemmas.List.Elements.{Contains-append_cases}
 use Rattle.mrt_graph.specs.declared.tree.TreeNode.{TreeNode}
 use Rattle.mrt_graph.specs.Leads.{leads}
 use Rattle.mrt_graph.specs.Topology.{Topology}
 use Rattle.mrt_graph.specs.Walk.{Walk}
-use Rattle.mrt_graph.proofs.Members.{contains_cases, contains_first, contains_later, contains_none}
+use Rattle.mrt_graph.proofs.Members.{contains_cases, contains_none}
 use Rattle.mrt_graph.proofs.Tallies.{count_is_tally}
 use Rattle.lowpoint_dfs.specs.SearchOrder.{IsDone}
-use Rattle.gadag_ears.specs.Ear.{Ear, IsNextEar, new_nodes}
+use Rattle.gadag_ears.specs.Ear.{Ear, new_nodes}
 use Rattle.gadag_ears.specs.EarOrder.{AreEars, Begun, Grown, IsEarOrder, Turned}
-use Rattle.gadag_ears.proofs.CutLists.{After, Before, Here, StandsIn, in_over, in_turn, kept_in, put_in, stands_in, turned}
+use Rattle.gadag_ears.proofs.CutLists.{After, Before, Here, StandsIn, in_turn, kept_in, put_in, stands_in, turned}
 use Rattle.gadag_ears.proofs.Once.{some_of, times}
 use Rattle.gadag_ears.proofs.SearchFacts.{AreFacts}
 use Rattle.gadag_ears.proofs.TurnsKept.{AreKept, all_kept, brought_at, done_leads}

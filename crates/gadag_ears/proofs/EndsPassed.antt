@@ -1,19 +1,18 @@
 -- The turn of a node, end by end.
-use Rattle.std.proofs.Common.{◌≡◌, ◌≢◌, ◌⊎◌, ◌<◌, ◌≤◌, ◌+◌, ◌++◌, ◌∙◌, ◌↔◌, ℕ, zero, suc, Bool, true, false, List, [], ◌∷◌, Option, Some, None, length, replicate, reverse, set, slice_get, slice_index_or, vec_capacity, inl, inr, refl, sym, ap, subst, arith}
+use Rattle.std.proofs.Common.{◌≡◌, ◌<◌, ◌≤◌, ◌+◌, ◌++◌, ◌∙◌, ◌↔◌, ℕ, zero, suc, Bool, true, false, List, [], ◌∷◌, Option, Some, None, length, replicate, reverse, set, slice_get, slice_index_or, inl, inr, refl, sym, ap, subst, arith}
 use Rattle.std.specs.Option.{option_and_then, option_map, option_to_list}
 use Rattle.std.specs.Prelude.{Contains, IfNone, IfSome, IsSome, IsTrue, ◌==◌}
 use Rattle.std.proofs.lemmas.Bool.{cases_eq, cases_lt, eq-eqb, eqb-true}
-use Rattle.std.proofs.lemmas.List.{append-nil, get_or-set_other, get_or-set_same, length-replicate, length-set, reverse-append}
+use Rattle.std.proofs.lemmas.List.{get_or-set_other, get_or-set_same, length-replicate, length-set, reverse-append}
 use Rattle.std.proofs.lemmas.Option.{same_Some, slice_get_within}
 use Rattle.mrt_graph.specs.declared.gadag.Place.{Place}
 use Rattle.mrt_graph.specs.declared.link.End.{End}
 use Rattle.mrt_graph.specs.declared.tree.TreeNode.{TreeNode}
-use Rattle.mrt_graph.specs.GadagWords.{block_at, head_at}
 use Rattle.mrt_graph.specs.GraphInvariant.{IsEnd, IsTopology}
 use Rattle.mrt_graph.specs.Leads.{leads}
 use Rattle.mrt_graph.specs.Topology.{Topology}
 use Rattle.mrt_graph.specs.TreeWords.{parent_link}
-use Rattle.mrt_graph.proofs.EndsAt.{IsEndOver, leads_end, list_of_ends}
+use Rattle.mrt_graph.proofs.EndsAt.{IsEndOver, leads_end}
 use Rattle.mrt_graph.proofs.Hops.{lead_back}
 use Rattle.mrt_graph.proofs.ListTests.{all_at}
 use Rattle.mrt_graph.proofs.Members.{contains_cases, contains_first, contains_none}
@@ -24,14 +23,13 @@ use Rattle.lowpoint_dfs.specs.SearchTree.{IsSearchTree}
 use Rattle.lowpoint_dfs.specs.Subtree.{parent_of}
 use Rattle.gadag_ears.specs.declared.growing.Growing.{Growing}
 use Rattle.gadag_ears.specs.declared.kind.EarKind.TheVariants.{Child, Neighbour}
-use Rattle.gadag_ears.specs.Ear.{Ear, LeadsToChild, ToChild, ToNeighbour}
-use Rattle.gadag_ears.specs.EarOrder.{AreEars, Begun, IsEarOrder, Turned}
-use Rattle.gadag_ears.specs.Growing.{AreAllMarked, AreListed, HasRoom, HasSearch, HasTurn, IsAtEnd, IsBeginning, IsEnded, IsMarked, IsSearched, IsTurn, StartsEar}
+use Rattle.gadag_ears.specs.Ear.{LeadsToChild, ToChild, ToNeighbour}
+use Rattle.gadag_ears.specs.EarOrder.{Begun, IsEarOrder, Turned}
+use Rattle.gadag_ears.specs.Growing.{AreAllMarked, AreListed, HasSearch, HasTurn, IsAtEnd, IsBeginning, IsEnded, IsMarked, IsTurn, StartsEar}
 use Rattle.gadag_ears.specs.HeadAndBlock.{ArePlaces}
 use Rattle.gadag_ears.proofs.CutLists.{in_turn, turned}
 use Rattle.gadag_ears.proofs.EarBrought.{room_for_new, turn_kept}
 use Rattle.gadag_ears.proofs.FromSearch.{facts_of}
-use Rattle.gadag_ears.proofs.SearchFacts.{AreFacts}
 
 -- an end of a node leads to a node of the graph
 pub end_within : (g : Topology) (x k : ℕ) (ends : List End) (end : End) → IsTopology g → slice_get g.ends x ≡ Some ends → slice_get ends k ≡ Some end

@@ -1,5 +1,5 @@
 -- The facts on the search tree, from the laws of the search.
-use Rattle.std.proofs.Common.{◌≡◌, ◌≢◌, ◌⊎◌, ◌<◌, ◌≤◌, ◌∙◌, ℕ, true, false, List, Option, Some, None, length, slice_get, inl, inr, refl, sym, ap, subst, arith}
+use Rattle.std.proofs.Common.{◌≡◌, ◌≢◌, ◌<◌, ◌≤◌, ◌∙◌, ℕ, List, Some, None, length, inl, inr, refl, sym, ap, arith}
 use Rattle.std.specs.Option.{option_and_then}
 use Rattle.std.proofs.lemmas.Bool.{cases_Bool}
 use Rattle.std.proofs.lemmas.Option.{same_Some}
@@ -10,9 +10,8 @@ use Rattle.mrt_graph.specs.Topology.{Topology}
 use Rattle.mrt_graph.specs.TreeWords.{number_of, parent_link, low_of, low_link}
 use Rattle.mrt_graph.proofs.EndsAt.{end_leads}
 use Rattle.mrt_graph.proofs.Hops.{lead_back, same_ends}
-use Rattle.lowpoint_dfs.specs.FirstEnd.{IsFirstEnd}
 use Rattle.lowpoint_dfs.specs.Lowpoint.{IsLowLink, ByOffer, ByParent, is_parent_link, offer}
-use Rattle.lowpoint_dfs.specs.Subtree.{IsInSubtree, IsReachedFrom, Itself, Below, parent_of}
+use Rattle.lowpoint_dfs.specs.Subtree.{IsInSubtree, Itself, Below, parent_of}
 use Rattle.lowpoint_dfs.proofs.Ancestors.{in_subtree_on, numbers_rise}
 use Rattle.lowpoint_dfs.proofs.FoundInTurn.{root_first}
 use Rattle.lowpoint_dfs.proofs.LowpointsGiven.{parent_link_is}

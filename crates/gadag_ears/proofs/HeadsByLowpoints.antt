@@ -1,8 +1,7 @@
 -- Heads and blocks as lowpoints tell them.
-use Rattle.std.proofs.Common.{◌≡◌, ◌≢◌, ◌⊎◌, ◌<◌, ◌≤◌, ◌+◌, ◌++◌, ◌∙◌, ℕ, List, [], ◌∷◌, Some, length, inl, inr, refl, sym, ap, subst, arith}
+use Rattle.std.proofs.Common.{◌≡◌, ◌≢◌, ◌⊎◌, ◌<◌, ◌≤◌, ◌++◌, ◌∙◌, ℕ, List, [], ◌∷◌, Some, length, inl, inr, refl, sym, ap, subst, arith}
 use Rattle.std.specs.Prelude.{Contains}
 use Rattle.std.proofs.lemmas.Bool.{cases_eq, cases_lt}
-use Rattle.std.proofs.lemmas.List.Elements.{Contains-append_left, Contains-append_right, Contains-append_cases}
 use Rattle.mrt_graph.specs.declared.gadag.Place.{Place}
 use Rattle.mrt_graph.specs.declared.tree.TreeNode.{TreeNode}
 use Rattle.mrt_graph.specs.GadagWords.{block_at, head_at}
@@ -10,17 +9,16 @@ use Rattle.mrt_graph.specs.Leads.{leads}
 use Rattle.mrt_graph.specs.Topology.{Topology}
 use Rattle.mrt_graph.specs.TreeWords.{number_of, low_of, parent_link}
 use Rattle.mrt_graph.proofs.Hops.{lead_back, same_ends}
-use Rattle.mrt_graph.proofs.Members.{contains_cases, contains_first, contains_later, contains_none, listed_or_not}
-use Rattle.lowpoint_dfs.specs.SearchOrder.{IsDone}
+use Rattle.mrt_graph.proofs.Members.{contains_cases, contains_first, contains_later, contains_none}
 use Rattle.lowpoint_dfs.specs.Subtree.{Below, IsInSubtree, Itself, parent_of}
 use Rattle.gadag_ears.specs.declared.kind.EarKind.{EarKind}
 use Rattle.gadag_ears.specs.declared.kind.EarKind.TheVariants.{Child, Neighbour}
-use Rattle.gadag_ears.specs.Ear.{Ear, IsNextEar, last_node, new_nodes}
+use Rattle.gadag_ears.specs.Ear.{Ear, new_nodes}
 use Rattle.gadag_ears.specs.EarOrder.{Begun, Grown, IsEarOrder, Turned}
 use Rattle.gadag_ears.specs.HeadAndBlock.{ArePlaces, BeginsBlock, HasPlace, IsPlacedAs}
-use Rattle.gadag_ears.proofs.CutLists.{After, Before, Here, StandsIn, in_later, in_over, in_turn, kept_in, put_cases, stands_in, turned}
-use Rattle.gadag_ears.proofs.NextEar.{FromNew, FromStart, FromStop, Heads, IsBrought, IsHung}
-use Rattle.gadag_ears.proofs.SearchFacts.{AreFacts, HangsBelow, ancestors_in, hangs_below, one_parent, parent_above, rises}
+use Rattle.gadag_ears.proofs.CutLists.{in_turn, put_cases, turned}
+use Rattle.gadag_ears.proofs.NextEar.{FromNew, FromStart, FromStop, Heads, IsHung}
+use Rattle.gadag_ears.proofs.SearchFacts.{AreFacts, hangs_below, one_parent, parent_above, rises}
 use Rattle.gadag_ears.proofs.TurnsKept.{AreKept, all_kept, brought_at, ends_ahead}
 
 -- where a node's lowpoint is at least its parent's number, the parent is its head, and the block is named by the node; else

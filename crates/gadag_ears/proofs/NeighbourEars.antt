@@ -1,6 +1,5 @@
 -- A neighbour ear goes up by parents from its first node, and stops strictly below the node where it starts.
-use Rattle.std.proofs.Common.{◌≡◌, ◌≢◌, ◌⊎◌, ◌<◌, ◌≤◌, ◌∙◌, ℕ, List, [], ◌∷◌, Some, length, inl, inr, refl, sym, ap, subst, arith}
-use Rattle.std.specs.Option.{option_and_then}
+use Rattle.std.proofs.Common.{◌≡◌, ◌≢◌, ◌⊎◌, ◌<◌, ◌≤◌, ◌∙◌, ℕ, List, [], ◌∷◌, Some, inl, inr, sym, ap, subst, arith}
 use Rattle.std.specs.Prelude.{Contains}
 use Rattle.std.proofs.lemmas.Option.{same_Some}
 use Rattle.mrt_graph.specs.declared.tree.TreeNode.{TreeNode}
@@ -9,11 +8,11 @@ use Rattle.mrt_graph.specs.Topology.{Topology}
 use Rattle.mrt_graph.specs.TreeWords.{number_of, parent_link, low_of}
 use Rattle.mrt_graph.proofs.Hops.{lead_back, same_ends}
 use Rattle.mrt_graph.proofs.Members.{contains_cases, contains_first, contains_later, contains_none}
-use Rattle.lowpoint_dfs.specs.Subtree.{IsInSubtree, Itself, Below, parent_of}
+use Rattle.lowpoint_dfs.specs.Subtree.{IsInSubtree, parent_of}
 use Rattle.gadag_ears.specs.declared.kind.EarKind.TheVariants.{Neighbour}
 use Rattle.gadag_ears.specs.Ear.{GoesOn}
 use Rattle.gadag_ears.proofs.Once.{one_alone, one_more, times}
-use Rattle.gadag_ears.proofs.SearchFacts.{AreFacts, HangsBelow, ancestors_in, hangs_below, one_parent, parent_above, rises}
+use Rattle.gadag_ears.proofs.SearchFacts.{AreFacts, hangs_below, one_parent, parent_above, rises}
 
 -- of a neighbour ear from x over its neighbour `first`, outside a list that is closed under parents and has x's children
 pub record IsNeighbourStart (g : Topology) (tree : List TreeNode) (listed : List ℕ) (x first link : ℕ) : Type 0 where

@@ -1,22 +1,22 @@
 -- What an ear brings: how each of its new nodes hangs in the search tree, and where it stops.
-use Rattle.std.proofs.Common.{◌≡◌, ◌≢◌, ◌⊎◌, ◌<◌, ◌≤◌, ◌+◌, ◌==◌, ◌∙◌, ℕ, true, false, List, [], ◌∷◌, Some, length, slice_get, inl, inr, refl, sym, ap, subst, arith}
+use Rattle.std.proofs.Common.{◌≡◌, ◌≢◌, ◌<◌, ◌≤◌, ◌==◌, ◌∙◌, ℕ, List, [], ◌∷◌, Some, inl, inr, refl, sym, ap, subst, arith}
 use Rattle.std.specs.Prelude.{Contains}
-use Rattle.std.proofs.lemmas.Bool.{cases_eq, eq-eqb, ne_eqb}
+use Rattle.std.proofs.lemmas.Bool.{cases_eq}
 use Rattle.mrt_graph.specs.declared.link.End.{End}
 use Rattle.mrt_graph.specs.declared.tree.TreeNode.{TreeNode}
 use Rattle.mrt_graph.specs.Leads.{leads}
 use Rattle.mrt_graph.specs.Topology.{Topology}
-use Rattle.mrt_graph.specs.TreeWords.{number_of, parent_link, low_of, low_link}
+use Rattle.mrt_graph.specs.TreeWords.{number_of, low_of}
 use Rattle.mrt_graph.proofs.EndsAt.{end_leads}
-use Rattle.mrt_graph.proofs.Members.{Has, contains_cases, contains_first, contains_from_has, contains_later, contains_none}
-use Rattle.mrt_graph.proofs.Tallies.{tally, tally_none}
+use Rattle.mrt_graph.proofs.Members.{contains_cases, contains_later, contains_none}
+use Rattle.mrt_graph.proofs.Tallies.{tally}
 use Rattle.lowpoint_dfs.specs.FirstEnd.{IsFirstEnd}
 use Rattle.lowpoint_dfs.specs.Subtree.{IsInSubtree, Itself, parent_of}
 use Rattle.gadag_ears.specs.declared.kind.EarKind.{EarKind}
 use Rattle.gadag_ears.specs.declared.kind.EarKind.TheVariants.{Child, Neighbour}
 use Rattle.gadag_ears.specs.Ear.{Ear, GoesOn, IsBegun, IsNextEar, LeadsToChild, ToChild, ToNeighbour, new_nodes}
-use Rattle.gadag_ears.proofs.ChildEars.{AtLow, Back, IsChildStart, IsChildStop, IsChildWay, IsLower, IsOnWay, child_way}
-use Rattle.gadag_ears.proofs.NeighbourEars.{IsClimbing, IsNeighbourStart, IsNeighbourWay, neighbour_way}
+use Rattle.gadag_ears.proofs.ChildEars.{AtLow, Back, IsChildStart, IsChildStop, IsOnWay, child_way}
+use Rattle.gadag_ears.proofs.NeighbourEars.{IsClimbing, IsNeighbourStart, neighbour_way}
 use Rattle.gadag_ears.proofs.SearchFacts.{AreFacts, ancestors_in}
 
 -- how a new node hangs: from another new node; from the node where the ear stops, which is not its start; from the start,

@@ -1,9 +1,8 @@
 -- What holds at each turn of the ear order.
-use Rattle.std.proofs.Common.{◌≡◌, ◌≢◌, ◌⊎◌, ◌<◌, ◌≤◌, ◌+◌, ◌++◌, ◌==◌, ◌∙◌, ℕ, List, [], ◌∷◌, Option, Some, None, length, slice_get, inl, inr, refl, sym, ap, subst, arith}
+use Rattle.std.proofs.Common.{◌≡◌, ◌⊎◌, ◌<◌, ◌≤◌, ◌++◌, ℕ, List, [], ◌∷◌, Option, Some, None, length, inl, inr, refl, sym, ap, subst, arith}
 use Rattle.std.specs.Option.{option_and_then}
 use Rattle.std.specs.Prelude.{Contains}
-use Rattle.std.proofs.lemmas.Bool.{cases_eq}
-use Rattle.std.proofs.lemmas.List.Elements.{Contains-append_left, Contains-append_right, Contains-append_cases}
+use Rattle.std.proofs.lemmas.List.Elements.{Contains-append_cases}
 use Rattle.mrt_graph.specs.declared.tree.TreeNode.{TreeNode}
 use Rattle.mrt_graph.specs.Leads.{leads}
 use Rattle.mrt_graph.specs.Topology.{Topology}
@@ -16,9 +15,9 @@ use Rattle.lowpoint_dfs.specs.Subtree.{parent_of}
 use Rattle.gadag_ears.specs.declared.kind.EarKind.{EarKind}
 use Rattle.gadag_ears.specs.Ear.{Ear, GoesOn, IsNextEar, last_node, new_nodes, next_node, onward_link}
 use Rattle.gadag_ears.specs.EarOrder.{Begun, Grown, IsEarOrder, Turned}
-use Rattle.gadag_ears.proofs.CutLists.{After, Before, Here, StandsIn, in_later, in_over, in_turn, kept_in, not_after, put_cases, put_in, stands_in, times_cut, times_put, turned}
+use Rattle.gadag_ears.proofs.CutLists.{After, Before, Here, StandsIn, in_turn, kept_in, not_after, put_cases, put_in, stands_in, times_put, turned}
 use Rattle.gadag_ears.proofs.NextEar.{FromNew, FromStart, FromStop, Heads, IsBrought, IsHung, IsReady, brought}
-use Rattle.gadag_ears.proofs.Once.{none_of, one_alone, some_of, times}
+use Rattle.gadag_ears.proofs.Once.{none_of, one_alone, times}
 use Rattle.gadag_ears.proofs.SearchFacts.{AreFacts, one_parent}
 
 -- of the list cut at x: it is closed under parents; the nodes whose turn is over have all neighbours in it; and a node whose

@@ -1,4 +1,4 @@
-use Rattle.std.proofs.Common.{◌≡◌, ◌≤◌, ◌<◌, ◌+◌, ◌-◌, ◌++◌, ◌∙◌, ℕ, Bool, true, List, [], ◌∷◌, drop, get_or, length, reverse, set, vec_capacity, vec_len, refl, sym, ap, subst, arith}
+use Rattle.std.proofs.Common.{◌≡◌, ◌≤◌, ◌-◌, ◌++◌, ◌∙◌, ℕ, Bool, true, List, [], ◌∷◌, drop, get_or, length, reverse, set, sym, ap, subst, arith}
 use Rattle.mrt_graph.specs.declared.gadag.Place.{Place}
 use Rattle.gadag_ears.specs.Growing.{AreEntered}
 use Rattle.gadag_ears.proofs.Entering.{drop_from, member_before, one_more_entered, one_more_waits}

@@ -1,5 +1,5 @@
-use Rattle.std.proofs.Common.{◌≡◌, ◌≤◌, ◌<◌, ◌+◌, ◌∙◌, ℕ, Bool, List, Some, length, refl, sym, ap, subst, arith}
-use Rattle.gadag_ears.proofs.EndsPassed.{no_parent_tells, parent_tells, parent_touches}
+use Rattle.std.proofs.Common.{arith}
+use Rattle.gadag_ears.proofs.EndsPassed.{parent_touches}
 use Rattle.gadag_ears.proofs.turn.is_parent.Goals as goal
 
 pub node-requires : goal.node-requires

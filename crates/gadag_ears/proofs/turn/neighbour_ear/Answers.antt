@@ -1,4 +1,4 @@
-use Rattle.std.proofs.Common.{◌≡◌, ◌≤◌, ◌<◌, ◌+◌, ◌∙◌, ℕ, Bool, List, Some, length, refl, sym, ap, subst, arith}
+use Rattle.std.proofs.Common.{◌∙◌, Bool, List, length, sym, ap, arith}
 use Rattle.gadag_ears.proofs.EndsPassed.{end_within, neighbour_starts, no_mark}
 use Rattle.gadag_ears.proofs.turn.neighbour_ear.Goals as goal
 

@@ -1,4 +1,4 @@
-use Rattle.std.proofs.Common.{◌≡◌, ◌≤◌, ◌<◌, ◌+◌, ◌++◌, ◌∙◌, ℕ, Bool, List, [], ◌∷◌, Some, length, vec_capacity, vec_len, refl, sym, ap, subst, arith, length-append}
+use Rattle.std.proofs.Common.{ℕ, List, [], ◌∷◌, length, refl, ap, arith, length-append}
 use Rattle.gadag_ears.specs.declared.growing.Growing.{Growing}
 use Rattle.gadag_ears.proofs.EndsPassed.{next_turn, no_turn, room_here}
 use Rattle.gadag_ears.proofs.turn.take_turn.Goals as goal

@@ -1,4 +1,4 @@
-use Rattle.std.proofs.Common.{◌≡◌, ◌≤◌, ◌<◌, ◌+◌, ◌∙◌, ℕ, List, Some, length, refl, sym, ap, subst, arith}
+use Rattle.std.proofs.Common.{arith}
 use Rattle.gadag_ears.proofs.EndsPassed.{begins_at_root, room_here}
 use Rattle.gadag_ears.proofs.turns.take_turns.Goals as goal
 

@@ -1,4 +1,4 @@
-use Rattle.std.proofs.Common.{◌≡◌, ◌≤◌, ◌<◌, ◌+◌, ◌++◌, ◌∙◌, ℕ, List, [], ◌∷◌, length, vec_capacity, vec_len, refl, sym, ap, subst, arith, length-append}
+use Rattle.std.proofs.Common.{◌∙◌, ℕ, List, [], ◌∷◌, length, sym, ap, subst, arith, length-append}
 use Rattle.gadag_ears.proofs.EarWalk.{IsWalking, so_far_begins, so_far_on, walk_begins, walk_has_next, walk_next_within, walk_within, walks_nearer}
 use Rattle.gadag_ears.proofs.walk.walk.Goals as goal
 

@@ -1,4 +1,4 @@
-use Rattle.std.proofs.Common.{◌≡◌, ◌≤◌, ◌+◌, ◌++◌, ℕ, List, [], ◌∷◌, length, vec_capacity}
+use Rattle.std.proofs.Common.{◌≡◌, ◌++◌, ℕ, List, ◌∷◌, length, vec_capacity}
 use Rattle.gadag_ears.specs.Ear.{GoesOn}
 use Rattle.gadag_ears.specs.Growing.{AreListed, IsWay}
 use Rattle.gadag_ears.proofs.EarWalk.{IsWalking, rank}
