@@ -3,7 +3,8 @@ use Rattle.std.specs.Prelude.{◌≡◌, ℕ, List, Some}
 use Rattle.mrt_graph.specs.declared.gadag.Place.{Place}
 use Rattle.mrt_graph.specs.GadagWords.{block_at, head_at}
 
--- k is the block that two nodes have in common: it is the block of one of them, and the other one has it too or is its head
+-- k is the block that two nodes have in common: it is the block of one of them, and the other one has it too or is its
+-- head
 pub data IsCommonBlock (places : List Place) (u v k : ℕ) : Type 0 where
   OfBoth : block_at places u ≡ Some k → block_at places v ≡ Some k → IsCommonBlock places u v k
   FirstIsHead : block_at places v ≡ Some k → head_at places v ≡ Some u → IsCommonBlock places u v k

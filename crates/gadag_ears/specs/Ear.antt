@@ -11,7 +11,8 @@ use Rattle.gadag_ears.specs.declared.kind.EarKind.TheVariants.{Child, Neighbour}
 use Rattle.lowpoint_dfs.specs.FirstEnd.{IsFirstEnd}
 use Rattle.lowpoint_dfs.specs.Subtree.{parent_of}
 
--- an ear: its kind, the node where it starts, its first link, its new nodes in the ear's order, and the node where it stops
+-- an ear: its kind, the node where it starts, its first link, its new nodes in the ear's order (the first one and the
+-- others), and the node where it stops
 pub record Ear : Type 0 where
   pub kind : EarKind
   pub start : ℕ

@@ -23,7 +23,8 @@ abbrev pub AreListed : List Bool → List ℕ → Type 0
 AreListed listed nodes = (v : ℕ) → IsMarked listed v ↔ Contains nodes v
 
 -- the way of an ear over these new nodes
-pub record IsWay (g : Topology) (tree : List TreeNode) (kind : EarKind) (nodes : List ℕ) (first : ℕ) (new : List ℕ) (stop : ℕ) : Type 0 where
+pub record IsWay (g : Topology) (tree : List TreeNode) (kind : EarKind) (nodes : List ℕ) (first : ℕ)
+    (new : List ℕ) (stop : ℕ) : Type 0 where
   pub others : List ℕ
   pub are : new ≡ first ∷ others
   pub onward : GoesOn g tree kind nodes first others stop
@@ -35,7 +36,8 @@ pub record IsSearched (g : Topology) (root : ℕ) (tree : List TreeNode) : Type 
   pub search : IsSearchTree g root tree
 
 -- in the turn of a node, where the listed nodes have their marks, an ear of this kind begins with node `first`
-pub record IsLeaving (g : Topology) (tree : List TreeNode) (kind : EarKind) (listed : List Bool) (first : ℕ) : Type 0 where
+pub record IsLeaving (g : Topology) (tree : List TreeNode) (kind : EarKind) (listed : List Bool) (first : ℕ)
+    : Type 0 where
   pub root : ℕ
   pub searched : IsSearched g root tree
   pub one_mark_each : length listed ≡ length g.ids
@@ -65,7 +67,8 @@ pub record IsTurn (g : Topology) (root : ℕ) (tree : List TreeNode) (x : ℕ) (
   pub placed : ArePlaces root ears growing.places.items
 
 -- in the turn of x an ear of this kind begins with node `first`
-pub record StartsEar (g : Topology) (tree : List TreeNode) (kind : EarKind) (growing : Growing) (x first : ℕ) : Type 0 where
+pub record StartsEar (g : Topology) (tree : List TreeNode) (kind : EarKind) (growing : Growing) (x first : ℕ)
+    : Type 0 where
   pub root : ℕ
   pub turn : IsTurn g root tree x growing
   pub end : End
@@ -78,7 +81,8 @@ pub record IsPlaceOfEar (kind : EarKind) (x first stop : ℕ) (places : List Pla
   pub of_stop : ¬ ((kind ≡ Child) × (stop ≡ x)) → slice_get places stop ≡ Some place
 
 -- some nodes have got their mark and this place, and all others are as before
-pub record AreEntered (listed : List Bool) (places : List Place) (head block : ℕ) (some : List ℕ) (listed' : List Bool) (places' : List Place) : Type 0 where
+pub record AreEntered (listed : List Bool) (places : List Place) (head block : ℕ) (some : List ℕ) (listed' : List Bool)
+    (places' : List Place) : Type 0 where
   pub one_mark_each : length listed' ≡ length listed
   pub one_place_each : length places' ≡ length places
   pub marks : (v : ℕ) → IsMarked listed' v → IsMarked listed v ⊎ Contains some v

@@ -17,9 +17,9 @@ HasPlace places v head block = (head_at places v ≡ Some head) × (block_at pla
 abbrev pub IsPlacedAs : List Place → ℕ → ℕ → Type 0
 IsPlacedAs places v u = (head_at places v ≡ head_at places u) × (block_at places v ≡ block_at places u)
 
--- heads and blocks. The root is its own head and its own block. Where an ear begins a block, its start is the head of its
--- new nodes, and the block is named by the first of them; the new nodes of any other ear have the head and the block of
--- the node where the ear stops
+-- heads and blocks. The root is its own head and its own block. Where an ear begins a block, its start is the head of
+-- its new nodes, and the block is named by the first of them; the new nodes of any other ear have the head and the
+-- block of the node where the ear stops
 pub record ArePlaces (root : ℕ) (ears : List Ear) (places : List Place) : Type 0 where
   pub of_root : HasPlace places root root root
   pub of_block : (ear : Ear) (v : ℕ) → Contains ears ear → Contains (new_nodes ear) v → BeginsBlock ear

@@ -76,8 +76,8 @@ pub fn every_ear_stops()
         × IsNextEar g tree (over ++ x ∷ later) x ear }
 {}
 
-/// A law: heads and blocks by lowpoints. Where a node's lowpoint is at least its parent's number, the parent is its head
-/// and it names its block; else its head and its block are those of its parent.
+/// A law: heads and blocks by lowpoints. Where a node's lowpoint is at least its parent's number, the parent is its
+/// head and it names its block; else its head and its block are those of its parent.
 pub fn heads_by_lowpoints()
     ensures heads { (g : Topology) (root : ℕ) (tree : List TreeNode) (order : List ℕ) (ears : List Ear)
         (places : List Place) → IsTopology g → root < length g.ids → IsSearchTree g root tree

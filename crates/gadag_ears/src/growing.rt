@@ -30,8 +30,8 @@ use crate::kind::EarKind;
 use crate::walk::walk;
 use mrt_graph::{Graph, NodeNo, Place, Tree};
 
-/// The nodes whose turn is over, in their order; the nodes whose turn is to come, the next one last; of each node whether
-/// it is in the GADAG, and its place there; and room for the new nodes of an ear.
+/// The nodes whose turn is over, in their order; the nodes whose turn is to come, the next one last; of each node
+/// whether it is in the GADAG, and its place there; and room for the new nodes of an ear.
 #[derive(Drop)]
 pub struct Growing {
     pub order: Vec<NodeNo>,
@@ -74,7 +74,8 @@ fn place_of_ear(kind: EarKind, x: NodeNo, first: NodeNo, stop: NodeNo, places: &
 fn enter_all(growing: &mut Growing, head: NodeNo, block: NodeNo)
     requires within { (v : ℕ) → Contains growing.old.added.items v → v < length growing.old.listed.items }
     requires one_place_each { length growing.old.places.items ≡ length growing.old.listed.items }
-    requires room { length growing.old.waiting.items + length growing.old.added.items ≤ vec_capacity growing.old.waiting }
+    requires room { length growing.old.waiting.items + length growing.old.added.items
+        ≤ vec_capacity growing.old.waiting }
     ensures { IsEntered growing.old head block growing.old.added.items growing.new }
 {
     'entry: for k in (0..growing.added.len()).rev() {

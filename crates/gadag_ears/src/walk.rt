@@ -25,8 +25,8 @@ ghost use Rattle.gadag_ears.specs.Growing.{AreListed, IsLeaving, IsWay};
 use crate::kind::EarKind;
 use mrt_graph::{Graph, LinkNo, NodeNo, Tree};
 
-/// Goes on from the first node of an ear to the first node that is listed; it answers that node, and leaves the nodes on
-/// the way, the new ones, in `new`.
+/// Goes on from the first node of an ear to the first node that is listed; it answers that node, and leaves the
+/// nodes on the way, the new ones, in `new`.
 pub fn walk(
     g: &Graph,
     tree: &Tree,
@@ -37,7 +37,8 @@ pub fn walk(
 ) -> NodeNo
     requires leaving { IsLeaving g.now tree.now kind listed.now first }
     requires room { length g.now.ids ≤ vec_capacity new.old }
-    ensures way { (nodes : List ℕ) → AreListed listed.now nodes → IsWay g.now tree.now kind nodes first new.new.items result }
+    ensures way { (nodes : List ℕ) → AreListed listed.now nodes
+        → IsWay g.now tree.now kind nodes first new.new.items result }
     ensures room { vec_capacity new.new ≡ vec_capacity new.old }
 {
     new.clear();
