@@ -32,7 +32,7 @@ ghost use Rattle.gadag_ears.specs.Ear.{Ear, IsBegun, IsNextEar};
 ghost use Rattle.gadag_ears.specs.EarOrder.{AreEars, IsEarOrder};
 ghost use Rattle.gadag_ears.specs.HeadAndBlock.{ArePlaces, HasPlace, IsPlacedAs};
 
-/// A law: a graph with its search tree has one ear order, from one list of ears.
+/// A law: a graph with its search tree has at most one ear order, from one list of ears.
 pub fn one_ear_order()
     ensures { (g : Topology) (root : ℕ) (tree : List TreeNode) (order other : List ℕ)
         (ears others : List Ear) → AreEars g root tree order ears → AreEars g root tree other others

@@ -1,4 +1,6 @@
-//! The GADAG of an island: its ears in order, the head and the block of each node, the mark of each link.
+//! The GADAG of an island (RFC 7811, section 5.5): its ears in order, and the head and the block of each node.
+//!
+//! The laws on them are public. What computes them, `turns::take_turns`, becomes so with the marks of the links.
 #![tactic(auto)]
 
 mod ears_law;

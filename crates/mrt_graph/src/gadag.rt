@@ -12,7 +12,7 @@ pub enum Way {
     BToA,
 }
 
-/// The head and the block of a node (RFC 7811, section 5.7). A block is named by its first node.
+/// The head and the block of a node (RFC 7811, section 4.5). A block is named by its first node.
 #[derive(Clone, Copy, Debug, PartialEq, Eq)]
 pub struct Place {
     pub head: NodeNo,
