@@ -51,12 +51,12 @@ fn files_over_their_limits(rt: HostRuntime) {
     }
 }
 
-/// A router-LSA without links, and one with two, whose numbers are to be put in.
+/// A router-LSA without links, whose numbers are to be put in.
 const UNNAMED: &[u8] =
     b"\x00\x01\x02\x01\x00\x00\x00\x00\x00\x00\x00\x00\x80\x00\x00\x01\x00\x00\x00\x18\x00\x00\x00\x00";
 
-const UNNAMED_IN_RING: &[u8] =
-    b"\x00\x01\x02\x01\x00\x00\x00\x00\x00\x00\x00\x00\x80\x00\x00\x01\x00\x00\x00\x30\x00\x00\x00\x02\x00\x00\x00\x00\x00\x00\x00\x01\x01\x00\x00\x01\x00\x00\x00\x00\x00\x00\x00\x02\x01\x00\x00\x01";
+/// A link of metric 1, whose far router and link data are to be put in.
+const UNNAMED_LINK: &[u8] = b"\x00\x00\x00\x00\x00\x00\x00\x00\x01\x00\x00\x01";
 
 /// The certificate of the island of router 0.0.0.1 alone.
 const FIRST_CERTIFICATE: &[u8] =
@@ -102,40 +102,54 @@ fn seal(bytes: &mut Vec<u8>, count: u32) {
     }
 }
 
-/// The routers 1 to `count` without links.
-fn lone_routers(alloc: Global, count: u32) -> Result<Vec<u8>, NoMemory> {
-    let mut file = Vec::new(alloc);
-    for number in 0..count {
-        let mut record = Vec::from_slice(alloc, UNNAMED)?;
-        put(&mut record, 4, number.wrapping_add(1));
-        put(&mut record, 8, number.wrapping_add(1));
-        seal(&mut record, 22);
-        file.extend_from_slice(&record)?;
+/// Adds parallel links to a router, with this link data.
+fn add_links(record: &mut Vec<u8>, count: u32, to: u32, data: u32) -> Result<(), NoMemory> {
+    for _ in 0..count {
+        let at = record.len();
+        record.extend_from_slice(UNNAMED_LINK)?;
+        put(record, at, to);
+        put(record, at.wrapping_add(4), data);
     }
-    Ok(file)
+    Ok(())
 }
 
-/// The routers 1 to `count` in a ring.
-fn ring(alloc: Global, count: u32) -> Result<Vec<u8>, NoMemory> {
+/// A router with so many links to each of two neighbours.
+fn router(
+    alloc: Global,
+    number: u32,
+    neighbours: (u32, u32),
+    parallel: u32,
+) -> Result<Vec<u8>, NoMemory> {
+    let mut record = Vec::from_slice(alloc, UNNAMED)?;
+    put(&mut record, 4, number);
+    put(&mut record, 8, number);
+    add_links(&mut record, parallel, neighbours.0, 1)?;
+    add_links(&mut record, parallel, neighbours.1, 2)?;
+    let links = parallel.wrapping_mul(2);
+    let size = links.wrapping_mul(12).wrapping_add(24);
+    put(&mut record, 16, size);
+    put(&mut record, 20, links);
+    seal(&mut record, size.wrapping_sub(2));
+    Ok(record)
+}
+
+/// The routers 1 to `count` in a ring, with so many links between neighbours.
+fn ring(alloc: Global, count: u32, parallel: u32) -> Result<Vec<u8>, NoMemory> {
     let mut file = Vec::new(alloc);
     for number in 0..count {
         let next = number.wrapping_add(1) % count;
         let previous = number.wrapping_add(count).wrapping_sub(1) % count;
-        let mut record = Vec::from_slice(alloc, UNNAMED_IN_RING)?;
-        put(&mut record, 4, number.wrapping_add(1));
-        put(&mut record, 8, number.wrapping_add(1));
-        put(&mut record, 24, next.wrapping_add(1));
-        put(&mut record, 36, previous.wrapping_add(1));
-        seal(&mut record, 46);
+        let neighbours = (next.wrapping_add(1), previous.wrapping_add(1));
+        let record = router(alloc, number.wrapping_add(1), neighbours, parallel)?;
         file.extend_from_slice(&record)?;
     }
     Ok(file)
 }
 
-/// Routers, linked in a ring or not at all, and what comes of a certificate of the first one alone.
+/// Routers in a ring with so many links between neighbours, and what comes of a certificate of the first one alone.
 struct Large {
     routers: u32,
-    in_ring: bool,
+    parallel: u32,
     exit: Exit,
     out: &'static [u8],
     err: &'static [u8],
@@ -144,7 +158,7 @@ struct Large {
 const LARGE: &[Large] = &[
     Large {
         routers: 4097,
-        in_ring: false,
+        parallel: 0,
         exit: Exit::TooLarge {
             what: What::AreaNodes,
             size: 4097,
@@ -154,14 +168,14 @@ const LARGE: &[Large] = &[
     },
     Large {
         routers: 4096,
-        in_ring: false,
+        parallel: 0,
         exit: Exit::Done,
         out: b"accepted root 0.0.0.1 nodes 1 links 0\n",
         err: b"",
     },
     Large {
         routers: 2049,
-        in_ring: true,
+        parallel: 1,
         exit: Exit::TooLarge {
             what: What::IslandNodes,
             size: 2049,
@@ -171,7 +185,48 @@ const LARGE: &[Large] = &[
     },
     Large {
         routers: 2048,
-        in_ring: true,
+        parallel: 1,
+        exit: Exit::No {
+            rule: 1,
+            a: 0,
+            b: 2,
+        },
+        out: b"",
+        err: b"mrt: no: rule 1 at 0 2\n",
+    },
+    Large {
+        routers: 8,
+        parallel: 2049,
+        exit: Exit::TooLarge {
+            what: What::AreaArcs,
+            size: 32784,
+        },
+        out: b"",
+        err: b"mrt: too large: area-arcs 32784\n",
+    },
+    Large {
+        routers: 8,
+        parallel: 2048,
+        exit: Exit::TooLarge {
+            what: What::IslandLinks,
+            size: 16384,
+        },
+        out: b"",
+        err: b"mrt: too large: island-links 16384\n",
+    },
+    Large {
+        routers: 4,
+        parallel: 2049,
+        exit: Exit::TooLarge {
+            what: What::IslandLinks,
+            size: 8196,
+        },
+        out: b"",
+        err: b"mrt: too large: island-links 8196\n",
+    },
+    Large {
+        routers: 4,
+        parallel: 2048,
         exit: Exit::No {
             rule: 1,
             a: 0,
@@ -186,16 +241,8 @@ fn large_ones() -> &'static [Large] {
     LARGE
 }
 
-fn file_of(alloc: Global, large: &Large) -> Result<Vec<u8>, NoMemory> {
-    if large.in_ring {
-        ring(alloc, large.routers)
-    } else {
-        lone_routers(alloc, large.routers)
-    }
-}
-
 fn comes_out(alloc: Global, large: &Large) -> bool {
-    match file_of(alloc, large) {
+    match ring(alloc, large.routers, large.parallel) {
         Ok(file) => comes_to(
             alloc,
             CHECK,
@@ -211,6 +258,11 @@ fn comes_out(alloc: Global, large: &Large) -> bool {
 #[test]
 fn large_areas_and_islands(rt: HostRuntime) {
     for large in large_ones() {
-        assert!(rt; comes_out(rt.alloc(), large), "{}", large.routers);
+        assert!(rt;
+            comes_out(rt.alloc(), large),
+            "{} {}",
+            large.routers,
+            large.parallel
+        );
     }
 }
