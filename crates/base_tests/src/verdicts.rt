@@ -322,6 +322,168 @@ const UNORDERED: Island = Island {
     ],
 };
 
+/// A ring of routers 1, 2, 3, 5 and 4; the root is router 6, joined to 1 and 5. Router 4 is unordered with 2 and 3: for
+/// it, blue leads from 3 to 2 and then to 1, and red from 2 to 3 and then to 5.
+const CHAINS: Island = Island {
+    name: "unordered routers in a row",
+    routers: 6,
+    pairs: &[(0, 1), (0, 3), (0, 5), (1, 2), (2, 4), (3, 4), (4, 5)],
+    root: 5,
+    root_number: 6,
+    nodes: &[
+        (2, 5, 0),
+        (3, 5, 0),
+        (5, 5, 0),
+        (4, 5, 0),
+        (6, 5, 0),
+        (1, 5, 5),
+    ],
+    links: &[
+        (0, 1, 0, Role::Plain),
+        (0, 3, 0, Role::Plain),
+        (0, 5, 0, Role::Plain),
+        (1, 2, 0, Role::Plain),
+        (2, 4, 0, Role::Plain),
+        (3, 4, 0, Role::Plain),
+        (4, 5, 0, Role::Closing),
+    ],
+    rows: &[
+        (0, 2, Tag::Below),
+        (0, 2, Tag::Below),
+        (1, 2, Tag::Below),
+        (1, 2, Tag::Below),
+        (1, 2, Tag::Head),
+        (3, 0, Tag::Above),
+        (3, 0, Tag::Below),
+        (0, 3, Tag::Unordered),
+        (3, 0, Tag::Below),
+        (3, 0, Tag::Head),
+        (4, 3, Tag::Above),
+        (4, 3, Tag::Above),
+        (3, 4, Tag::Unordered),
+        (4, 3, Tag::Below),
+        (4, 3, Tag::Head),
+        (5, 1, Tag::Above),
+        (1, 5, Tag::Unordered),
+        (1, 5, Tag::Unordered),
+        (5, 1, Tag::Below),
+        (5, 1, Tag::Head),
+        (6, 5, Tag::Above),
+        (6, 4, Tag::Above),
+        (6, 4, Tag::Above),
+        (6, 5, Tag::Above),
+        (6, 5, Tag::Head),
+        (2, 6, Tag::Top),
+        (2, 6, Tag::Top),
+        (2, 6, Tag::Top),
+        (2, 6, Tag::Top),
+        (2, 6, Tag::Top),
+    ],
+    cases: &[
+        (Edit::Nothing, Edit::Nothing, None),
+        // blue that leads to a greater order, red to a smaller one
+        (
+            Edit::Row(1, 3, (3, 3, Tag::Unordered)),
+            Edit::Nothing,
+            Some((12, 1, 3)),
+        ),
+        (
+            Edit::Row(2, 3, (3, 3, Tag::Unordered)),
+            Edit::Nothing,
+            Some((12, 2, 3)),
+        ),
+        // blue that leads to a Carried row, red that does
+        (
+            Edit::Row(1, 3, (0, 3, Tag::Carried)),
+            Edit::Nothing,
+            Some((12, 2, 3)),
+        ),
+        (
+            Edit::Row(2, 3, (3, 4, Tag::Carried)),
+            Edit::Nothing,
+            Some((12, 1, 3)),
+        ),
+    ],
+};
+
+/// A triangle with two links of routers 1 and 2 and two of 2 and 3, one of these closing; the root is router 3.
+const PARALLEL: Island = Island {
+    name: "parallel links",
+    routers: 3,
+    pairs: &[(0, 1), (0, 1), (0, 2), (1, 2), (1, 2)],
+    root: 2,
+    root_number: 3,
+    nodes: &[(2, 2, 0), (3, 2, 0), (1, 2, 2)],
+    links: &[
+        (0, 1, 0, Role::Plain),
+        (0, 1, 0, Role::Plain),
+        (0, 2, 0, Role::Plain),
+        (1, 2, 0, Role::Closing),
+        (1, 2, 0, Role::Plain),
+    ],
+    rows: &[
+        (0, 2, Tag::Below),
+        (0, 2, Tag::Head),
+        (3, 0, Tag::Above),
+        (3, 4, Tag::Head),
+        (2, 3, Tag::Top),
+        (4, 3, Tag::Top),
+    ],
+    cases: &[
+        (Edit::Nothing, Edit::Nothing, None),
+        // the other one of two plain links
+        (Edit::Row(0, 1, (1, 2, Tag::Below)), Edit::Nothing, None),
+        // two closing links that are parallel
+        (
+            Edit::Link(4, (1, 2, 0, Role::Closing)),
+            Edit::Nothing,
+            Some((6, 0, 0)),
+        ),
+        // a plain link in place of the closing one that is parallel to it, and the other way around
+        (
+            Edit::Row(1, 2, (4, 4, Tag::Head)),
+            Edit::Nothing,
+            Some((8, 1, 2)),
+        ),
+        (
+            Edit::Row(1, 2, (3, 3, Tag::Head)),
+            Edit::Nothing,
+            Some((8, 1, 2)),
+        ),
+        (
+            Edit::Row(2, 0, (2, 4, Tag::Top)),
+            Edit::Nothing,
+            Some((9, 2, 0)),
+        ),
+    ],
+};
+
+/// Two routers and their two links.
+const DOUBLE: Island = Island {
+    name: "a pair with two links",
+    routers: 2,
+    pairs: &[(0, 1), (0, 1)],
+    root: 0,
+    root_number: 1,
+    nodes: &[(1, 0, 0), (2, 0, 1)],
+    links: &[(0, 1, 1, Role::Plain), (0, 1, 1, Role::Closing)],
+    rows: &[(0, 1, Tag::Top), (1, 0, Tag::Head)],
+    cases: &[
+        (Edit::Nothing, Edit::Nothing, None),
+        // both rows by one link
+        (
+            Edit::Row(0, 1, (0, 0, Tag::Top)),
+            Edit::Nothing,
+            Some((9, 0, 1)),
+        ),
+        (
+            Edit::Row(1, 0, (0, 0, Tag::Head)),
+            Edit::Nothing,
+            Some((8, 1, 0)),
+        ),
+    ],
+};
+
 /// Five routers whose one block has two closing links, in a certificate where each row is Sole.
 const TWO_CLOSING_LINKS: Island = Island {
     name: "two closing links",
@@ -433,6 +595,9 @@ const ISLANDS: &[Island] = &[
     TRIANGLE,
     LINE,
     UNORDERED,
+    CHAINS,
+    PARALLEL,
+    DOUBLE,
     TWO_CLOSING_LINKS,
     STRAY_MEMBER,
     ALONE,
