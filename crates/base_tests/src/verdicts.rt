@@ -1,4 +1,5 @@
-//! Verdicts found by hand. Routers 1, 2, 3 and so on are nodes 0, 1, 2.
+//! Verdicts found by hand, but those of the last three islands, which the reference program gave. Routers 1, 2, 3 and so
+//! on are nodes 0, 1, 2.
 
 use crate::judging::{Edit, Island, first_other};
 use mrt_graph::{Role, Tag};
