@@ -2,6 +2,9 @@ pub mod ChildEars
 pub mod CommonBlocks
 pub mod CutLists
 pub mod EarBrought
+pub mod EarLast
+pub mod EarLinks
+pub mod EarMarked
 pub mod EarWalk
 pub mod EarsExist
 pub mod Ended
@@ -9,6 +12,8 @@ pub mod EndsPassed
 pub mod Entering
 pub mod FromSearch
 pub mod HeadsByLowpoints
+pub mod MarkedAlong
+pub mod MarksGrown
 pub mod NeighbourEars
 pub mod NextEar
 pub mod Once

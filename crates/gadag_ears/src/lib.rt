@@ -6,6 +6,7 @@
 mod ears_law;
 mod growing;
 mod kind;
+mod marking;
 mod turn;
 mod turns;
 mod walk;
