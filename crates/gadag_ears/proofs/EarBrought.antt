@@ -1,8 +1,9 @@
 -- The GADAG with one more ear.
-use Rattle.std.proofs.Common.{◌≡◌, ◌⊎◌, ◌<◌, ◌≤◌, ◌+◌, ◌++◌, ◌∙◌, ℕ, Bool, List, ◌∷◌, Some, length, reverse, slice_get, inl, inr, refl, sym, ap, subst, arith, length-append}
+use Rattle.std.proofs.Common.{◌≡◌, ◌⊎◌, ◌<◌, ◌≤◌, ◌+◌, ◌++◌, ◌∙◌, ◌↔◌, ℕ, Bool, List, ◌∷◌, Some, length, reverse, slice_get, inl, inr, refl, sym, ap, subst, arith, length-append}
 use Rattle.std.specs.Option.{option_map}
-use Rattle.std.specs.Prelude.{Contains}
+use Rattle.std.specs.Prelude.{Contains, IsTrue}
 use Rattle.std.proofs.lemmas.List.{reverse-append, reverse-reverse, length-reverse}
+use Rattle.mrt_graph.specs.declared.gadag.Mark.{Mark}
 use Rattle.mrt_graph.specs.declared.gadag.Place.{Place}
 use Rattle.mrt_graph.specs.declared.link.End.{End}
 use Rattle.mrt_graph.specs.declared.tree.TreeNode.{TreeNode}
@@ -11,16 +12,21 @@ use Rattle.mrt_graph.proofs.FewNumbers.{few_numbers}
 use Rattle.mrt_graph.proofs.Members.{contains_cases, contains_from_has}
 use Rattle.gadag_ears.specs.declared.growing.Growing.{Growing}
 use Rattle.gadag_ears.specs.declared.kind.EarKind.{EarKind}
-use Rattle.gadag_ears.specs.Ear.{Ear, IsBegun, IsNextEar, new_nodes}
+use Rattle.gadag_ears.specs.Ear.{Ear, ear_of, IsBegun, IsNextEar, new_nodes}
 use Rattle.gadag_ears.specs.EarOrder.{Grown, IsEarOrder}
-use Rattle.gadag_ears.specs.Growing.{AreEntered, AreListed, IsLeaving, IsMarked, IsPlaceOfEar, IsTurn, IsWay, StartsEar}
+use Rattle.gadag_ears.specs.Growing.{AreEntered, AreListed, AreWaysAndRoles, IsLeaving, IsMarked, IsPlaceOfEar, IsTurn, IsWay, StartsEar}
 use Rattle.gadag_ears.specs.HeadAndBlock.{ArePlaces, BeginsBlock, HasPlace, IsPlacedAs}
+use Rattle.gadag_ears.specs.LinkMarks.{AreEarMarked}
+use Rattle.gadag_ears.specs.Marking.{IsMarkable}
+use Rattle.gadag_ears.specs.declared.kind.EarKind.TheVariants.{Child}
+use Rattle.gadag_ears.proofs.EarLinks.{IsUnderWay, apart, links_in, markable, under_way}
+use Rattle.gadag_ears.proofs.MarksGrown.{directed_grown, roles_grown}
 use Rattle.gadag_ears.proofs.CutLists.{in_turn, kept_in, put_cases, put_in}
 use Rattle.gadag_ears.proofs.Ended.{AreEarsIn, ears_in}
 use Rattle.gadag_ears.proofs.FromSearch.{facts_of}
 use Rattle.gadag_ears.proofs.NextEar.{IsBrought}
 use Rattle.gadag_ears.proofs.Once.{one_place}
-use Rattle.gadag_ears.proofs.TurnsKept.{AreKept, all_kept, brought_at, kept_next}
+use Rattle.gadag_ears.proofs.TurnsKept.{AreKept, all_kept, brought_at, kept_next, ready}
 
 -- the list in a turn
 abbrev pub listed_in : ℕ → Growing → List ℕ
@@ -32,9 +38,9 @@ turn_kept g root tree x growing turn =
     all_kept g root tree growing.order.items x (reverse growing.waiting.items) turn.ears (facts_of g root tree turn.searched) turn.ordered
 
 -- the walk may begin
-pub leaving_of : (g : Topology) (tree : List TreeNode) (kind : EarKind) (growing : Growing) (x first : ℕ) → StartsEar g tree kind growing x first
+pub leaving_of : (g : Topology) (tree : List TreeNode) (kind : EarKind) (growing : Growing) (x link first : ℕ) → StartsEar g tree kind growing x link first
     → IsLeaving g tree kind growing.listed.items first
-leaving_of g tree kind growing x first starts =
+leaving_of g tree kind growing x link first starts =
     let turn = starts.turn in
     let kept = turn_kept g starts.root tree x growing turn in
     record {
@@ -52,10 +58,7 @@ leaving_of g tree kind growing x first starts =
     }
 
 -- the ear that the walk has found
-abbrev pub ear_found : EarKind → ℕ → End → ℕ → List ℕ → ℕ → Ear
-ear_found kind x end first others stop = record { kind = kind; start = x; link = end.link; first = first; others = others; stop = stop }
-
-pub record IsFoundEar (g : Topology) (root : ℕ) (tree : List TreeNode) (x : ℕ) (growing : Growing) (kind : EarKind) (first stop : ℕ) (new : List ℕ) : Type 0 where
+pub record IsFoundEar (g : Topology) (root : ℕ) (tree : List TreeNode) (x : ℕ) (growing : Growing) (kind : EarKind) (link first stop : ℕ) (new : List ℕ) : Type 0 where
   pub ear : Ear
   pub next : IsNextEar g tree (growing.order.items ++ x ∷ reverse growing.waiting.items) x ear
   pub brings : IsBrought g tree (growing.order.items ++ x ∷ reverse growing.waiting.items) ear
@@ -64,25 +67,34 @@ pub record IsFoundEar (g : Topology) (root : ℕ) (tree : List TreeNode) (x : �
   pub is_first : ear.first ≡ first
   pub is_stop : ear.stop ≡ stop
   pub is_new : new_nodes ear ≡ new
+  pub others : List ℕ
+  pub are : new ≡ first ∷ others
+  pub is_ear : ear ≡ ear_of kind x link first others stop
+  pub way : IsUnderWay g root tree (growing.order.items ++ x ∷ reverse growing.waiting.items) x ear
 
-pub ear_of_way : (g : Topology) (root : ℕ) (tree : List TreeNode) (kind : EarKind) (growing : Growing) (x first stop : ℕ) (end : End) (new : List ℕ)
-    → IsTurn g root tree x growing → IsBegun g tree (growing.order.items ++ x ∷ reverse growing.waiting.items) x end kind → first ≡ end.to
-    → IsWay g tree kind (growing.order.items ++ x ∷ reverse growing.waiting.items) first new stop → IsFoundEar g root tree x growing kind first stop new
-ear_of_way g root tree kind growing x first stop end new turn begun to way =
+pub ear_of_way : (g : Topology) (root : ℕ) (tree : List TreeNode) (kind : EarKind) (growing : Growing) (x link first stop : ℕ) (end : End) (new : List ℕ)
+    → IsTurn g root tree x growing → IsBegun g tree (growing.order.items ++ x ∷ reverse growing.waiting.items) x end kind → link ≡ end.link → first ≡ end.to
+    → IsWay g tree kind (growing.order.items ++ x ∷ reverse growing.waiting.items) first new stop → IsFoundEar g root tree x growing kind link first stop new
+ear_of_way g root tree kind growing x link first stop end new turn begun over to way =
     let facts = facts_of g root tree turn.searched in
     let kept = turn_kept g root tree x growing turn in
-    let next : IsNextEar g tree (growing.order.items ++ x ∷ reverse growing.waiting.items) x (ear_found kind x end first way.others stop) =
-    record { end = end; begun = begun; from = refl; over = refl; to = to; onward = way.onward } in
+    let next : IsNextEar g tree (growing.order.items ++ x ∷ reverse growing.waiting.items) x (ear_of kind x link first way.others stop) =
+    record { end = end; begun = begun; from = refl; over = over; to = to; onward = way.onward } in
     record {
-      ear = ear_found kind x end first way.others stop;
+      ear = ear_of kind x link first way.others stop;
       next = next;
-      brings = brought_at g root tree growing.order.items x (reverse growing.waiting.items) (ear_found kind x end first way.others stop) facts kept next;
+      brings = brought_at g root tree growing.order.items x (reverse growing.waiting.items) (ear_of kind x link first way.others stop) facts kept next;
       kept = subst (λ (xs : List ℕ). AreKept g tree growing.order.items x (xs ++ reverse growing.waiting.items)) (sym way.are)
-          (kept_next g root tree growing.order.items x (reverse growing.waiting.items) (ear_found kind x end first way.others stop) facts kept next);
+          (kept_next g root tree growing.order.items x (reverse growing.waiting.items) (ear_of kind x link first way.others stop) facts kept next);
       is_kind = refl;
       is_first = refl;
       is_stop = refl;
       is_new = sym way.are;
+      others = way.others;
+      are = way.are;
+      is_ear = refl;
+      way = under_way g root tree (growing.order.items ++ x ∷ reverse growing.waiting.items) x (ear_of kind x link first way.others stop) facts
+          (ready g tree growing.order.items x (reverse growing.waiting.items) kept) next;
     }
 
 -- there is room for the new nodes
@@ -93,6 +105,27 @@ room_for_new g tree over x waiting new kept =
     few_numbers (length g.ids) (over ++ x ∷ (new ++ reverse waiting)) (λ v has. kept.within v (contains_from_has (over ++ x ∷ (new ++ reverse waiting)) v has))
     (λ v. one_place (over ++ x ∷ (new ++ reverse waiting)) v (kept.once v)) in
     omega (arith, few, length-append over (x ∷ (new ++ reverse waiting)), length-append new (reverse waiting), length-reverse waiting)
+
+-- the links of the ear that was found can be marked
+pub markable_ear : (g : Topology) (root : ℕ) (tree : List TreeNode) (x : ℕ) (growing : Growing) (kind : EarKind) (link first stop : ℕ) (new : List ℕ) (begins : Bool)
+    → IsFoundEar g root tree x growing kind link first stop new → IsTrue begins ↔ ((kind ≡ Child) × (stop ≡ x)) → IsMarkable g tree kind x link new begins
+markable_ear g root tree x growing kind link first stop new begins found block =
+    subst (λ (xs : List ℕ). IsMarkable g tree kind x link xs begins) (sym found.are)
+    (markable g root tree (growing.order.items ++ x ∷ reverse growing.waiting.items) x (ear_of kind x link first found.others stop) begins
+    (subst (λ (ear : Ear). IsUnderWay g root tree (growing.order.items ++ x ∷ reverse growing.waiting.items) x ear) found.is_ear found.way) block)
+
+-- the marks are right with the new ear
+pub marks_grown : (g : Topology) (root : ℕ) (tree : List TreeNode) (x : ℕ) (growing : Growing) (ears : List Ear) (ear : Ear) (marks marks' : List Mark)
+    → IsEarOrder g root tree growing.order.items x (reverse growing.waiting.items) ears → IsUnderWay g root tree (growing.order.items ++ x ∷ reverse growing.waiting.items) x ear
+    → AreWaysAndRoles g tree ears marks → AreEarMarked g tree ear marks marks' → AreWaysAndRoles g tree (ear ∷ ears) marks'
+marks_grown g root tree x growing ears ear marks marks' ordered way are set =
+    let none_twice = apart g root tree (growing.order.items ++ x ∷ reverse growing.waiting.items) x ear ears way
+    (links_in g root tree growing.order.items x (reverse growing.waiting.items) ears way.facts ordered) in
+    record {
+      one_each = set.one_each ∙ are.one_each;
+      directed = directed_grown g tree ears ear marks marks' are.directed set none_twice;
+      roles = roles_grown g tree ears ear marks marks' are.roles set none_twice;
+    }
 
 -- places of nodes that did not enter are as before
 has_as_before : (places places' : List Place) (v h b : ℕ) → slice_get places' v ≡ slice_get places v → HasPlace places v h b → HasPlace places' v h b
@@ -168,12 +201,13 @@ waiting_grown waiting waiting' new is =
     ap (λ (xs : List ℕ). reverse xs) is ∙ reverse-append waiting (reverse new) ∙ ap (λ (xs : List ℕ). xs ++ reverse waiting) (reverse-reverse new)
 
 -- the whole step
-pub turn_grown : (g : Topology) (root : ℕ) (tree : List TreeNode) (x : ℕ) (growing after : Growing) (kind : EarKind) (first stop head block : ℕ) (new : List ℕ)
-    → IsTurn g root tree x growing → IsFoundEar g root tree x growing kind first stop new
+pub turn_grown : (g : Topology) (root : ℕ) (tree : List TreeNode) (x : ℕ) (growing after : Growing) (kind : EarKind) (link first stop head block : ℕ) (new : List ℕ)
+    → IsTurn g root tree x growing → (found : IsFoundEar g root tree x growing kind link first stop new)
     → IsPlaceOfEar kind x first stop growing.places.items (record { head = head; block = block })
     → after.order ≡ growing.order → after.waiting.items ≡ growing.waiting.items ++ reverse new
-    → AreEntered growing.listed.items growing.places.items head block new after.listed.items after.places.items → IsTurn g root tree x after
-turn_grown g root tree x growing after kind first stop head block new turn found place order waiting entered =
+    → AreEntered growing.listed.items growing.places.items head block new after.listed.items after.places.items
+    → AreEarMarked g tree found.ear growing.marks.items after.marks.items → IsTurn g root tree x after
+turn_grown g root tree x growing after kind link first stop head block new turn found place order waiting entered marked =
     let facts = facts_of g root tree turn.searched in
     let over = growing.order.items in
     let later = reverse growing.waiting.items in
@@ -193,6 +227,7 @@ turn_grown g root tree x growing after kind first stop head block new turn found
           (subst (λ (xs : List ℕ). AreListed after.listed.items (growing.order.items ++ x ∷ xs)) (sym same_later)
           (listed_grown growing.order.items x (reverse growing.waiting.items) new growing.listed.items after.listed.items turn.listed entered.marks entered.kept entered.marked));
       one_place_each = entered.one_place_each ∙ turn.one_place_each;
+      marked = marks_grown g root tree x growing turn.ears found.ear growing.marks.items after.marks.items turn.ordered found.way turn.marked marked;
       placed = places_grown root (growing.order.items ++ x ∷ reverse growing.waiting.items) turn.ears found.ear growing.places.items after.places.items head block
           (ears_in g root tree growing.order.items x (reverse growing.waiting.items) turn.ears facts turn.ordered) turn.placed found.brings.stop_in found.brings.outside
           (λ v c. entered.placed v (in_new v c)) (λ v out. entered.others v (λ c. out (from_new v c)))

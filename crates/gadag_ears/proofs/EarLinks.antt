@@ -1,7 +1,7 @@
 -- The links of ears: no link is in two ears, and none is twice in one but the one link of a block.
-use Rattle.std.proofs.Common.{◌≡◌, ◌≢◌, ◌⊎◌, ◌<◌, ◌≤◌, ◌+◌, ◌++◌, ◌∙◌, ℕ, List, [], ◌∷◌, Option, Some, length, inl, inr, refl, sym, ap, subst, arith}
+use Rattle.std.proofs.Common.{◌≡◌, ◌≢◌, ◌⊎◌, ◌<◌, ◌≤◌, ◌+◌, ◌++◌, ◌∙◌, ◌↔◌, ℕ, Bool, List, [], ◌∷◌, Option, Some, length, inl, inr, refl, sym, ap, subst, arith}
 use Rattle.std.specs.Option.{option_and_then}
-use Rattle.std.specs.Prelude.{Contains}
+use Rattle.std.specs.Prelude.{Contains, IsTrue}
 use Rattle.std.proofs.lemmas.Bool.{cases_eq}
 use Rattle.std.proofs.lemmas.Option.{same_Some}
 use Rattle.mrt_graph.specs.declared.link.End.{End}
@@ -17,6 +17,7 @@ use Rattle.gadag_ears.specs.Ear.{Ear, GoesOn, IsNextEar, last_node, new_nodes, n
 use Rattle.gadag_ears.specs.EarOrder.{Begun, Grown, IsEarOrder, Turned}
 use Rattle.gadag_ears.specs.HeadAndBlock.{BeginsBlock}
 use Rattle.gadag_ears.specs.LinkMarks.{IsLastOfBlock, IsOfOneLink, IsOnEar, Onward, Out}
+use Rattle.gadag_ears.specs.Marking.{GoesOver, IsMarkable}
 use Rattle.gadag_ears.proofs.CutLists.{in_turn, kept_in, put_in, turned}
 use Rattle.gadag_ears.proofs.EarWalk.{GoesNearer, IsGoing, begins, goes_nearer, next_there, next_within, rank}
 use Rattle.gadag_ears.proofs.NextEar.{FromNew, FromStart, FromStop, Heads, IsBrought, IsHung, IsReady, brought, new_outside}
@@ -117,9 +118,15 @@ back_is_child g root tree ear facts none back (FromStop is other low) = absurd (
 back_is_child g root tree ear facts none back (FromStart is other low above) = absurd (other back)
 back_is_child g root tree ear facts none back (Heads same is kind stop high) = kind
 
+-- an ear whose only new node goes back over the ear's first link
+pub record IsBackAtOnce (tree : List TreeNode) (ear : Ear) (v : ℕ) : Type 0 where
+  pub is_first : v ≡ ear.first
+  pub alone : ear.others ≡ []
+  pub one : IsOfOneLink tree ear
+
 -- a new node goes on over the ear's first link in the ear of a block's one link alone
 pub first_again : (g : Topology) (root : ℕ) (tree : List TreeNode) (listed : List ℕ) (x : ℕ) (ear : Ear) (v : ℕ) → IsUnderWay g root tree listed x ear
-    → Contains (new_nodes ear) v → onward_link ear.kind tree v ≡ Some ear.link → IsOfOneLink tree ear
+    → Contains (new_nodes ear) v → onward_link ear.kind tree v ≡ Some ear.link → IsBackAtOnce tree ear v
 first_again g root tree listed x ear v way new over =
     let step = step_of g root tree listed x ear v ear.link way new over in
     let start_in : Contains listed ear.start = subst (λ (w : ℕ). Contains listed w) (sym way.next.from) way.in_list in
@@ -133,11 +140,43 @@ first_again g root tree listed x ear v way new over =
           subst (λ (w : ℕ). next_node g tree ear.kind w ≡ Some ear.start) at_first (step.next ∙ ap (λ (w : ℕ). Some w) to) in
           let both = stops_there g tree ear.kind listed ear.first ear.others ear.stop ear.start way.next.onward next start_in in
           record {
-            begins = (back_is_child g root tree ear way.facts both.0 both.1 (way.brings.hung ear.first (contains_first ear.first ear.others)), both.1);
-            last = subst (λ (us : List ℕ). onward_link ear.kind tree (last_node ear.first us) ≡ Some ear.link) (sym both.0)
-                (subst (λ (w : ℕ). onward_link ear.kind tree w ≡ Some ear.link) at_first over);
+            is_first = at_first;
+            alone = both.0;
+            one = record {
+              begins = (back_is_child g root tree ear way.facts both.0 both.1 (way.brings.hung ear.first (contains_first ear.first ear.others)), both.1);
+              last = subst (λ (us : List ℕ). onward_link ear.kind tree (last_node ear.first us) ≡ Some ear.link) (sym both.0)
+                  (subst (λ (w : ℕ). onward_link ear.kind tree w ≡ Some ear.link) at_first over);
+            };
           }
     ]
+
+goes_over : (g : Topology) (root : ℕ) (tree : List TreeNode) (listed : List ℕ) (x : ℕ) (ear : Ear) (v : ℕ) → IsUnderWay g root tree listed x ear
+    → Contains (new_nodes ear) v → GoesOver g tree ear.kind v
+goes_over g root tree listed x ear v way new =
+    let at = going_at g root tree listed x ear.first way.next.end.link ear.first 0 ear.kind ear.others ear.stop way.facts way.going way.next.onward v new in
+    let next = next_there g root tree listed x ear.first way.next.end.link v at.before ear.kind way.facts at.going in
+    let link = link_of_next g tree ear.kind v next.0 next.1 in
+    record {
+      within = omega (arith, (way.facts.leads_within link.0 v next.0 link.2).0, way.facts.one_each);
+      link = link.0;
+      over = link.1;
+      to = next.0;
+      onward = link.2;
+    }
+
+-- the links of the ear can be marked one by one
+pub markable : (g : Topology) (root : ℕ) (tree : List TreeNode) (listed : List ℕ) (x : ℕ) (ear : Ear) (begins : Bool) → IsUnderWay g root tree listed x ear
+    → IsTrue begins ↔ BeginsBlock ear → IsMarkable g tree ear.kind x ear.link (new_nodes ear) begins
+markable g root tree listed x ear begins way block = record {
+  some_node = omega arith;
+  to = ear.first;
+  touches = subst (λ (w : ℕ). leads g.links ear.link w ≡ Some ear.first) way.next.from way.brings.touches;
+  each = λ v new. goes_over g root tree listed x ear v way new;
+  differ = λ v w e v_new w_new v_over w_over. links_differ g root tree listed x ear v w e way v_new w_new v_over w_over;
+  once = λ v new over.
+      let back = first_again g root tree listed x ear v way new over in
+      (block.1 back.one.begins, ap (λ (us : List ℕ). ear.first ∷ us) back.alone ∙ ap (λ (w : ℕ). w ∷ []) (sym back.is_first));
+}
 
 -- where an ear goes on to
 next_in : (g : Topology) (tree : List TreeNode) (kind : EarKind) (listed : List ℕ) (v : ℕ) (us : List ℕ) (stop u w : ℕ) → GoesOn g tree kind listed v us stop

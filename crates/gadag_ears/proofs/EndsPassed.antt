@@ -5,7 +5,12 @@ use Rattle.std.specs.Prelude.{Contains, IfNone, IfSome, IsSome, IsTrue, ◌==◌
 use Rattle.std.proofs.lemmas.Bool.{cases_eq, cases_lt, eq-eqb, eqb-true}
 use Rattle.std.proofs.lemmas.List.{get_or-set_other, get_or-set_same, length-replicate, length-set, reverse-append}
 use Rattle.std.proofs.lemmas.Option.{same_Some, slice_get_within}
+use Rattle.mrt_graph.specs.declared.cert.Role.{Role}
+use Rattle.mrt_graph.specs.declared.cert.Role.TheVariants.{Plain}
+use Rattle.mrt_graph.specs.declared.gadag.Mark.{Mark}
 use Rattle.mrt_graph.specs.declared.gadag.Place.{Place}
+use Rattle.mrt_graph.specs.declared.gadag.Way.{Way}
+use Rattle.mrt_graph.specs.declared.gadag.Way.TheVariants.{Unset}
 use Rattle.mrt_graph.specs.declared.link.End.{End}
 use Rattle.mrt_graph.specs.declared.tree.TreeNode.{TreeNode}
 use Rattle.mrt_graph.specs.GraphInvariant.{IsEnd, IsTopology}
@@ -25,7 +30,7 @@ use Rattle.gadag_ears.specs.declared.growing.Growing.{Growing}
 use Rattle.gadag_ears.specs.declared.kind.EarKind.TheVariants.{Child, Neighbour}
 use Rattle.gadag_ears.specs.Ear.{LeadsToChild, ToChild, ToNeighbour}
 use Rattle.gadag_ears.specs.EarOrder.{Begun, IsEarOrder, Turned}
-use Rattle.gadag_ears.specs.Growing.{AreAllMarked, AreListed, HasSearch, HasTurn, IsAtEnd, IsBeginning, IsEnded, IsMarked, IsTurn, StartsEar}
+use Rattle.gadag_ears.specs.Growing.{AreAllMarked, AreListed, AreWaysAndRoles, HasSearch, HasTurn, IsAtEnd, IsBeginning, IsEnded, IsMarked, IsTurn, StartsEar}
 use Rattle.gadag_ears.specs.HeadAndBlock.{ArePlaces}
 use Rattle.gadag_ears.proofs.CutLists.{in_turn, turned}
 use Rattle.gadag_ears.proofs.EarBrought.{room_for_new, turn_kept}
@@ -47,7 +52,7 @@ outside_of g root tree x growing v turn none c = none ((turn.listed v).1 c)
 
 pub child_starts : (g : Topology) (tree : List TreeNode) (growing : Growing) (x : ℕ) (end : End) → HasTurn g tree x growing
     → IsAtEnd g (λ other. parent_of g tree other.to ≡ Some x → IsMarked growing.listed.items other.to) x end
-    → parent_of g tree end.to ≡ Some x → ¬ IsMarked growing.listed.items end.to → StartsEar g tree Child growing x end.to
+    → parent_of g tree end.to ≡ Some x → ¬ IsMarked growing.listed.items end.to → StartsEar g tree Child growing x end.link end.to
 child_starts g tree growing x end has at child none =
     let first : IsFirstEnd g (LeadsToChild g tree (growing.order.items ++ x ∷ reverse growing.waiting.items) x) x end = record {
       ends = at.ends;
@@ -57,11 +62,11 @@ child_starts g tree growing x end has at child none =
       asked = (outside_of g has.root tree x growing end.to has.turn none, child);
       none_before = λ k other early there asked. asked.0 ((has.turn.listed other.to).0 (at.passed k other early there asked.1));
     } in
-    record { root = has.root; turn = has.turn; end = end; begun = ToChild first; to = refl }
+    record { root = has.root; turn = has.turn; end = end; begun = ToChild first; over = refl; to = refl }
 
 pub neighbour_starts : (g : Topology) (tree : List TreeNode) (growing : Growing) (x : ℕ) (end : End) → HasTurn g tree x growing
     → ((v : ℕ) → parent_of g tree v ≡ Some x → IsMarked growing.listed.items v)
-    → IsAtEnd g (λ other. IsMarked growing.listed.items other.to) x end → ¬ IsMarked growing.listed.items end.to → StartsEar g tree Neighbour growing x end.to
+    → IsAtEnd g (λ other. IsMarked growing.listed.items other.to) x end → ¬ IsMarked growing.listed.items end.to → StartsEar g tree Neighbour growing x end.link end.to
 neighbour_starts g tree growing x end has children at none =
     let first : IsFirstEnd g (λ other. ¬ Contains (growing.order.items ++ x ∷ reverse growing.waiting.items) other.to) x end = record {
       ends = at.ends;
@@ -76,6 +81,7 @@ neighbour_starts g tree growing x end has children at none =
       turn = has.turn;
       end = end;
       begun = ToNeighbour (λ v parent. (has.turn.listed v).0 (children v parent)) first;
+      over = refl;
       to = refl;
     }
 
@@ -124,8 +130,8 @@ done_in g root tree x growing turn done =
 
 turn_on : (g : Topology) (root : ℕ) (tree : List TreeNode) (x y : ℕ) (growing after : Growing) → IsTurn g root tree x growing
     → AreAllMarked g x growing.listed.items → after.order.items ≡ growing.order.items ++ x ∷ [] → growing.waiting.items ≡ after.waiting.items ++ y ∷ []
-    → after.listed.items ≡ growing.listed.items → after.places.items ≡ growing.places.items → IsTurn g root tree y after
-turn_on g root tree x y growing after turn done order waiting listed places =
+    → after.listed.items ≡ growing.listed.items → after.places.items ≡ growing.places.items → after.marks.items ≡ growing.marks.items → IsTurn g root tree y after
+turn_on g root tree x y growing after turn done order waiting listed places marks =
     let later : reverse growing.waiting.items ≡ y ∷ reverse after.waiting.items =
     ap (λ (xs : List ℕ). reverse xs) waiting ∙ reverse-append after.waiting.items (y ∷ []) in
     let before : IsEarOrder g root tree growing.order.items x (y ∷ reverse after.waiting.items) turn.ears =
@@ -145,12 +151,13 @@ turn_on g root tree x y growing after turn done order waiting listed places =
           (subst (λ (xs : List ℕ). AreListed growing.listed.items xs) (sym whole) turn.listed);
       one_place_each = ap (λ (xs : List Place). length xs) places ∙ turn.one_place_each;
       placed = subst (λ (xs : List Place). ArePlaces root turn.ears xs) (sym places) turn.placed;
+      marked = subst (λ (xs : List Mark). AreWaysAndRoles g tree turn.ears xs) (sym marks) turn.marked;
     }
 
 turns_end : (g : Topology) (root : ℕ) (tree : List TreeNode) (x : ℕ) (growing after : Growing) → IsTurn g root tree x growing
     → AreAllMarked g x growing.listed.items → after.order.items ≡ growing.order.items ++ x ∷ [] → growing.waiting.items ≡ []
-    → after.places.items ≡ growing.places.items → IsEnded g root tree after
-turns_end g root tree x growing after turn done order waiting places =
+    → after.places.items ≡ growing.places.items → after.marks.items ≡ growing.marks.items → IsEnded g root tree after
+turns_end g root tree x growing after turn done order waiting places marks =
     let none : reverse growing.waiting.items ≡ [] = ap (λ (xs : List ℕ). reverse xs) waiting in
     let ordered : IsEarOrder g root tree growing.order.items x [] turn.ears =
     subst (λ (xs : List ℕ). IsEarOrder g root tree growing.order.items x xs turn.ears) none turn.ordered in
@@ -167,6 +174,7 @@ turns_end g root tree x growing after turn done order waiting places =
       };
       one_place_each = ap (λ (xs : List Place). length xs) places ∙ turn.one_place_each;
       placed = subst (λ (xs : List Place). ArePlaces root turn.ears xs) (sym places) turn.placed;
+      marked = subst (λ (xs : List Mark). AreWaysAndRoles g tree turn.ears xs) (sym marks) turn.marked;
     }
 
 empty_of : (xs : List ℕ) → ¬ (0 < length xs) → xs ≡ []
@@ -177,21 +185,21 @@ empty_of (x ∷ xs) none = absurd (none (omega arith))
 pub next_turn : (g : Topology) (tree : List TreeNode) (x : ℕ) (start growing after : Growing) (o : Option ℕ)
     → ((root : ℕ) → IsTurn g root tree x start → IsTurn g root tree x growing) → AreAllMarked g x growing.listed.items
     → after.order.items ≡ growing.order.items ++ x ∷ [] → growing.waiting.items ≡ after.waiting.items ++ option_to_list o
-    → after.listed.items ≡ growing.listed.items → after.places.items ≡ growing.places.items
+    → after.listed.items ≡ growing.listed.items → after.places.items ≡ growing.places.items → after.marks.items ≡ growing.marks.items
     → IfSome o (λ next. (root : ℕ) → IsTurn g root tree x start → IsTurn g root tree next after)
-next_turn g tree x start growing after None on done order waiting listed places = tt
-next_turn g tree x start growing after (Some y) on done order waiting listed places =
-    λ root turn. turn_on g root tree x y growing after (on root turn) done order waiting listed places
+next_turn g tree x start growing after None on done order waiting listed places marks = tt
+next_turn g tree x start growing after (Some y) on done order waiting listed places marks =
+    λ root turn. turn_on g root tree x y growing after (on root turn) done order waiting listed places marks
 
 -- and where it gives none all turns are over
 pub no_turn : (g : Topology) (tree : List TreeNode) (x : ℕ) (start growing after : Growing) (o : Option ℕ)
     → ((root : ℕ) → IsTurn g root tree x start → IsTurn g root tree x growing) → AreAllMarked g x growing.listed.items
     → after.order.items ≡ growing.order.items ++ x ∷ [] → (0 < length growing.waiting.items → IsSome o)
-    → after.places.items ≡ growing.places.items → IfNone o ((root : ℕ) → IsTurn g root tree x start → IsEnded g root tree after)
-no_turn g tree x start growing after (Some y) on done order some places = tt
-no_turn g tree x start growing after None on done order some places =
+    → after.places.items ≡ growing.places.items → after.marks.items ≡ growing.marks.items → IfNone o ((root : ℕ) → IsTurn g root tree x start → IsEnded g root tree after)
+no_turn g tree x start growing after (Some y) on done order some places marks = tt
+no_turn g tree x start growing after None on done order some places marks =
     λ root turn. turns_end g root tree x growing after (on root turn) done order
-    (empty_of growing.waiting.items (λ more. let is = some more in cc)) places
+    (empty_of growing.waiting.items (λ more. let is = some more in cc)) places marks
 
 -- there is room for the node whose turn is over
 pub room_here : (g : Topology) (root : ℕ) (tree : List TreeNode) (x : ℕ) (growing : Growing) → IsTurn g root tree x growing
@@ -200,10 +208,26 @@ room_here g root tree x growing turn =
     let few = room_for_new g tree growing.order.items x growing.waiting.items [] (turn_kept g root tree x growing turn) in omega (arith, few)
 
 -- the root alone
-place_of_root : (n root : ℕ) (place : Place) → root < n → slice_get (replicate n place) root ≡ Some place
+place_of_root : {X : Type 0} (n root : ℕ) (place : X) → root < n → slice_get (replicate n place) root ≡ Some place
 place_of_root zero root place within = absurd (omega (arith, within))
 place_of_root (suc n) zero place within = refl
 place_of_root (suc n) (suc root) place within = place_of_root n root place (omega (arith, within))
+
+-- without ears no link has a direction, and all links are plain
+none_marked : (g : Topology) (tree : List TreeNode) (mark : Mark) → mark.way ≡ Unset → mark.role ≡ Plain → AreWaysAndRoles g tree [] (replicate (length g.links) mark)
+none_marked g tree mark unset plain = record {
+  one_each = length-replicate (length g.links) mark;
+  directed = record {
+    out = λ ear none. absurd (contains_none ear none);
+    onward = λ ear v e none. absurd (contains_none ear none);
+    others = λ e within none. ap (λ o. option_map (λ mark. mark.way) o) (place_of_root (length g.links) e mark within) ∙ ap (λ (way : Way). Some way) unset;
+  };
+  roles = record {
+    sole = λ ear none. absurd (contains_none ear none);
+    closing = λ ear e none. absurd (contains_none ear none);
+    others = λ e within none. ap (λ o. option_map (λ mark. mark.role) o) (place_of_root (length g.links) e mark within) ∙ ap (λ (role : Role). Some role) plain;
+  };
+}
 
 pub begins_at_root : (g : Topology) (root : ℕ) (tree : List TreeNode) (growing : Growing) → IsBeginning g root growing → root < length g.ids
     → IsSearchTree g root tree → IsTurn g root tree root growing
@@ -227,6 +251,7 @@ begins_at_root g root tree growing beginning within search =
         of_block = λ ear v none. absurd (contains_none ear none);
         of_stop = λ ear v none. absurd (contains_none ear none);
       };
+      marked = subst (λ (xs : List Mark). AreWaysAndRoles g tree [] xs) (sym beginning.marks) (none_marked g tree (record { way = Unset; role = Plain; block = root }) refl refl);
     }
   where
     root_listed : (n root : ℕ) → root < n → AreListed (set (replicate n false) root true) (root ∷ [])

@@ -1,6 +1,9 @@
 -- Ears on their way.
 use Rattle.std.specs.Prelude.{◌≡◌, ◌<◌, ◌≤◌, ◌++◌, ◌↔◌, ◌⊎◌, ℕ, Bool, true, false, List, [], ◌∷◌, Some, Contains, length, replicate, reverse, slice_get, slice_set, slice_index_or, vec_capacity}
+use Rattle.mrt_graph.specs.declared.cert.Role.TheVariants.{Plain}
+use Rattle.mrt_graph.specs.declared.gadag.Mark.{Mark}
 use Rattle.mrt_graph.specs.declared.gadag.Place.{Place}
+use Rattle.mrt_graph.specs.declared.gadag.Way.TheVariants.{Unset}
 use Rattle.mrt_graph.specs.declared.link.End.{End}
 use Rattle.mrt_graph.specs.declared.tree.TreeNode.{TreeNode}
 use Rattle.mrt_graph.specs.GraphInvariant.{IsTopology}
@@ -13,6 +16,7 @@ use Rattle.gadag_ears.specs.declared.kind.EarKind.TheVariants.{Child}
 use Rattle.gadag_ears.specs.Ear.{Ear, GoesOn, IsBegun}
 use Rattle.gadag_ears.specs.EarOrder.{AreEars, IsEarOrder}
 use Rattle.gadag_ears.specs.HeadAndBlock.{ArePlaces}
+use Rattle.gadag_ears.specs.LinkMarks.{AreDirected, HaveRoles}
 
 -- node v has its mark
 abbrev pub IsMarked : List Bool → ℕ → Type 0
@@ -56,6 +60,12 @@ pub record HasRoom (count : ℕ) (growing : Growing) : Type 0 where
   pub waiting : count ≤ vec_capacity growing.waiting
   pub added : count ≤ vec_capacity growing.added
 
+-- the marks of the links of these ears, but for their blocks
+pub record AreWaysAndRoles (g : Topology) (tree : List TreeNode) (ears : List Ear) (marks : List Mark) : Type 0 where
+  pub one_each : length marks ≡ length g.links
+  pub directed : AreDirected g tree ears marks
+  pub roles : HaveRoles g tree ears marks
+
 -- in the turn of x
 pub record IsTurn (g : Topology) (root : ℕ) (tree : List TreeNode) (x : ℕ) (growing : Growing) : Type 0 where
   pub searched : IsSearched g root tree
@@ -65,14 +75,16 @@ pub record IsTurn (g : Topology) (root : ℕ) (tree : List TreeNode) (x : ℕ) (
   pub listed : AreListed growing.listed.items (growing.order.items ++ x ∷ reverse growing.waiting.items)
   pub one_place_each : length growing.places.items ≡ length g.ids
   pub placed : ArePlaces root ears growing.places.items
+  pub marked : AreWaysAndRoles g tree ears growing.marks.items
 
--- in the turn of x an ear of this kind begins with node `first`
-pub record StartsEar (g : Topology) (tree : List TreeNode) (kind : EarKind) (growing : Growing) (x first : ℕ)
+-- in the turn of x an ear of this kind begins over this link with node `first`
+pub record StartsEar (g : Topology) (tree : List TreeNode) (kind : EarKind) (growing : Growing) (x link first : ℕ)
     : Type 0 where
   pub root : ℕ
   pub turn : IsTurn g root tree x growing
   pub end : End
   pub begun : IsBegun g tree (growing.order.items ++ x ∷ reverse growing.waiting.items) x end kind
+  pub over : link ≡ end.link
   pub to : first ≡ end.to
 
 -- the place of the new nodes of an ear
@@ -95,6 +107,7 @@ pub record AreEntered (listed : List Bool) (places : List Place) (head block : �
 pub record IsEntered (before : Growing) (head block : ℕ) (some : List ℕ) (after : Growing) : Type 0 where
   pub order : after.order ≡ before.order
   pub added : after.added ≡ before.added
+  pub marks : after.marks ≡ before.marks
   pub waiting : after.waiting.items ≡ before.waiting.items ++ reverse some
   pub room : vec_capacity after.waiting ≡ vec_capacity before.waiting
   pub entered : AreEntered before.listed.items before.places.items head block some after.listed.items after.places.items
@@ -121,6 +134,7 @@ pub record IsEnded (g : Topology) (root : ℕ) (tree : List TreeNode) (growing :
   pub are_ears : AreEars g root tree growing.order.items ears
   pub one_place_each : length growing.places.items ≡ length g.ids
   pub placed : ArePlaces root ears growing.places.items
+  pub marked : AreWaysAndRoles g tree ears growing.marks.items
 
 -- all ends of x before this one have been passed
 pub record IsAtEnd (g : Topology) (IsPassed : End → Type 0) (x : ℕ) (end : End) : Type 0 where
@@ -137,4 +151,5 @@ pub record IsBeginning (g : Topology) (root : ℕ) (growing : Growing) : Type 0 
   pub waiting : growing.waiting.items ≡ []
   pub listed : growing.listed.items ≡ slice_set (replicate (length g.ids) false) root true
   pub places : growing.places.items ≡ replicate (length g.ids) (record { head = root; block = root })
+  pub marks : growing.marks.items ≡ replicate (length g.links) (record { way = Unset; role = Plain; block = root })
   pub room : HasRoom (length g.ids) growing

@@ -5,9 +5,11 @@ ghost use Rattle.std.specs.Prelude.{
   ◌<◌,
   ◌≤◌,
   ◌+◌,
+  ◌↔◌,
   ◌∷◌,
   ℕ,
   List,
+  IsTrue,
   IfSome,
   IfNone,
   Some,
@@ -25,25 +27,36 @@ ghost use Rattle.gadag_ears.specs.Growing.{
   IsTurn,
   StartsEar,
 };
+ghost use Rattle.gadag_ears.specs.declared.kind.EarKind.TheVariants.{Child};
 
 use crate::kind::EarKind;
+use crate::marking::mark_ear;
 use crate::walk::walk;
-use mrt_graph::{Graph, NodeNo, Place, Tree};
+use mrt_graph::{Graph, LinkNo, Mark, NodeNo, Place, Tree};
 
 /// The nodes whose turn is over, in their order; the nodes whose turn is to come, the next one last; of each node
-/// whether it is in the GADAG, and its place there; and room for the new nodes of an ear.
+/// whether it is in the GADAG, and its place there; of each link its mark; and room for the new nodes of an ear.
 #[derive(Drop)]
 pub struct Growing {
     pub order: Vec<NodeNo>,
     pub waiting: Vec<NodeNo>,
     pub listed: Vec<bool>,
     pub places: Vec<Place>,
+    pub marks: Vec<Mark>,
     pub added: Vec<NodeNo>,
 }
 
-/// Brings the ear of this kind that begins with this node, in the turn of x.
-pub fn grow(g: &Graph, tree: &Tree, kind: EarKind, growing: &mut Growing, x: NodeNo, first: NodeNo)
-    requires starts { StartsEar g.now tree.now kind growing.old x first }
+/// Brings the ear of this kind that begins over this link with this node, in the turn of x.
+pub fn grow(
+    g: &Graph,
+    tree: &Tree,
+    kind: EarKind,
+    growing: &mut Growing,
+    x: NodeNo,
+    link: LinkNo,
+    first: NodeNo,
+)
+    requires starts { StartsEar g.now tree.now kind growing.old x link first }
     requires room { HasRoom (length g.now.ids) growing.old }
     ensures turn { (root : ℕ) → IsTurn g.now root tree.now x growing.old → IsTurn g.now root tree.now x growing.new }
     ensures room { HasRoom (length g.now.ids) growing.new }
@@ -52,8 +65,20 @@ pub fn grow(g: &Graph, tree: &Tree, kind: EarKind, growing: &mut Growing, x: Nod
     ensures entered { IsMarked growing.new.listed.items first }
 {
     let stop = walk(g, tree, kind, &growing.listed, &mut growing.added, first);
+    let begins = begins_block(kind, x, stop);
+    mark_ear(g, tree, kind, &mut growing.marks, x, link, &growing.added, begins);
     let place = place_of_ear(kind, x, first, stop, &growing.places);
     enter_all(growing, place.head, place.block);
+}
+
+/// Whether an ear of x that stops here begins a block.
+fn begins_block(kind: EarKind, x: NodeNo, stop: NodeNo) -> bool
+    ensures { IsTrue result ↔ ((kind ≡ Child) × (stop ≡ x)) }
+{
+    match kind {
+        EarKind::Child => stop == x,
+        EarKind::Neighbour => false,
+    }
 }
 
 /// The place of an ear's new nodes.

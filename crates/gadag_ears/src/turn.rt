@@ -81,7 +81,7 @@ fn child_ear(g: &Graph, tree: &Tree, growing: &mut Growing, x: NodeNo, end: &End
         → IsMarked growing.new.listed.items end.now.to }
 {
     if is_new_child(g, tree, &growing.listed, x, end.to) {
-        grow(g, tree, EarKind::Child, growing, x, end.to);
+        grow(g, tree, EarKind::Child, growing, x, end.link, end.to);
     }
 }
 
@@ -118,7 +118,7 @@ fn neighbour_ear(g: &Graph, tree: &Tree, growing: &mut Growing, x: NodeNo, end: 
     ensures entered { IsMarked growing.new.listed.items end.now.to }
 {
     if !is_listed(&growing.listed, end.to) {
-        grow(g, tree, EarKind::Neighbour, growing, x, end.to);
+        grow(g, tree, EarKind::Neighbour, growing, x, end.link, end.to);
     }
 }
 

@@ -6,7 +6,7 @@ ghost use Rattle.gadag_ears.specs.Growing.{IsBeginning, IsEnded};
 
 use crate::growing::Growing;
 use crate::turn::take_turn;
-use mrt_graph::{Graph, NoMemory, NodeNo, Place, Tree};
+use mrt_graph::{Graph, Mark, NoMemory, NodeNo, Place, Role, Tree, Way};
 use std::alloc::Global;
 
 /// Takes the turns of all nodes, from the root on.
@@ -36,6 +36,12 @@ fn begin(alloc: Global, g: &Graph, root: NodeNo) -> Result<Growing, NoMemory>
         block: root,
     };
     let places = vec![in alloc; place; count]?;
+    let mark = Mark {
+        way: Way::Unset,
+        role: Role::Plain,
+        block: root,
+    };
+    let marks = vec![in alloc; mark; g.link_count() as usize]?;
     let order = Vec::with_capacity(alloc, count)?;
     let waiting = Vec::with_capacity(alloc, count)?;
     let added = Vec::with_capacity(alloc, count)?;
@@ -44,6 +50,7 @@ fn begin(alloc: Global, g: &Graph, root: NodeNo) -> Result<Growing, NoMemory>
         waiting,
         listed,
         places,
+        marks,
         added,
     })
 }

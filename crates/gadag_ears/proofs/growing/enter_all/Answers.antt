@@ -43,6 +43,7 @@ entry-preserved c =
     record {
       order = c.entry.invariant.order;
       added = c.entry.invariant.added;
+      marks = c.entry.invariant.marks;
       waiting = c.push_reserved.ensures.items
           ∙ ap (λ (v : ℕ). c.entry.growing.waiting.items ++ v ∷ []) (sym c.get.ensures.value)
           ∙ one_more_waits c.args.growing.now.waiting.items c.entry.growing.waiting.items (drop c.entry.k c.args.growing.now.added.items) c.get.result c.entry.invariant.waiting

@@ -21,11 +21,12 @@ returns-clause-onward c =
       waiting = c.pop.new.self;
       listed = growing.listed;
       places = growing.places;
+      marks = growing.marks;
       added = growing.added;
     } in
     next_turn c.args.g.now c.args.tree.now c.args.x c.args.growing.now growing after c.pop.result
     (λ root turn. c.neighbour_ears.ensures.turn root (c.child_ears.ensures.turn root turn)) c.neighbour_ears.ensures.done
-    c.push_reserved.ensures.items c.pop.ensures.items refl refl
+    c.push_reserved.ensures.items c.pop.ensures.items refl refl refl
 
 pub returns-clause-ended : goal.returns-clause-ended
 returns-clause-ended c =
@@ -35,11 +36,12 @@ returns-clause-ended c =
       waiting = c.pop.new.self;
       listed = growing.listed;
       places = growing.places;
+      marks = growing.marks;
       added = growing.added;
     } in
     no_turn c.args.g.now c.args.tree.now c.args.x c.args.growing.now growing after c.pop.result
     (λ root turn. c.neighbour_ears.ensures.turn root (c.child_ears.ensures.turn root turn)) c.neighbour_ears.ensures.done
-    c.push_reserved.ensures.items (λ more. c.pop.ensures.variant.1 (omega (arith, more))) refl
+    c.push_reserved.ensures.items (λ more. c.pop.ensures.variant.1 (omega (arith, more))) refl refl
 
 pub returns-clause-room : goal.returns-clause-room
 returns-clause-room c = record {
