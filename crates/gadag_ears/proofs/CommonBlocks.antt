@@ -61,7 +61,7 @@ common_below g root tree places e u v facts by_low one_each onward above =
       | inr head ↦ (block.0, FirstIsHead block.1 head)
     ]
 
-turned_round : (places : List Place) (u v k : ℕ) → IsCommonBlock places v u k → IsCommonBlock places u v k
+pub turned_round : (places : List Place) (u v k : ℕ) → IsCommonBlock places v u k → IsCommonBlock places u v k
 turned_round places u v k (OfBoth one two) = OfBoth two one
 turned_round places u v k (FirstIsHead block head) = SecondIsHead block head
 turned_round places u v k (SecondIsHead block head) = FirstIsHead block head

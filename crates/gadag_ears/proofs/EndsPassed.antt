@@ -164,6 +164,7 @@ turns_end g root tree x growing after turn done order waiting places marks =
     let whole : growing.order.items ++ x ∷ reverse growing.waiting.items ≡ after.order.items =
     ap (λ (xs : List ℕ). growing.order.items ++ x ∷ xs) none ∙ sym order in
     record {
+      searched = turn.searched;
       ears = turn.ears;
       are_ears = record {
         before = growing.order.items;

@@ -11,7 +11,9 @@ pub mod Ended
 pub mod EndsPassed
 pub mod Entering
 pub mod FromSearch
+pub mod GadagMade
 pub mod HeadsByLowpoints
+pub mod LinkBlocks
 pub mod MarkedAlong
 pub mod MarksGrown
 pub mod NeighbourEars

@@ -130,6 +130,7 @@ pub record AreAllMarked (g : Topology) (x : ℕ) (listed : List Bool) : Type 0 w
 
 -- all turns are over
 pub record IsEnded (g : Topology) (root : ℕ) (tree : List TreeNode) (growing : Growing) : Type 0 where
+  pub searched : IsSearched g root tree
   pub ears : List Ear
   pub are_ears : AreEars g root tree growing.order.items ears
   pub one_place_each : length growing.places.items ≡ length g.ids

@@ -1,3 +1,4 @@
+pub mod Blocks
 pub mod CommonBlock
 pub mod Ear
 pub mod EarOrder

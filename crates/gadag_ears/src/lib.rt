@@ -1,9 +1,10 @@
-//! The GADAG of an island (RFC 7811, section 5.5): its ears in order, and the head and the block of each node.
-//!
-//! The laws on them are public. What computes them, `turns::take_turns`, becomes so with the marks of the links.
+//! The GADAG of an island (RFC 7811, section 5.5): its ears in order, the head and the block of each node, and the
+//! direction, the role and the block of each link.
 #![tactic(auto)]
 
+mod blocks;
 mod ears_law;
+mod gadag;
 mod growing;
 mod kind;
 mod marking;
@@ -16,3 +17,4 @@ pub use ears_law::{
     links_lie_in_common_blocks, neighbours_are_in_after_a_turn, one_ear_order,
     the_root_is_alone_in_its_block,
 };
+pub use gadag::ears;
