@@ -1,3 +1,4 @@
+pub mod BlockLinks
 pub mod ChildEars
 pub mod CommonBlocks
 pub mod CutLists

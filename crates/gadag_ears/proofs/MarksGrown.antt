@@ -26,7 +26,7 @@ record IsOver (tree : List TreeNode) (kind : EarKind) (vs : List ℕ) (e : ℕ) 
   pub inside : Contains vs node
   pub over : onward_link kind tree node ≡ Some e
 
-is_link_or_not : (o : Option ℕ) (e : ℕ) → (o ≡ Some e) ⊎ (o ≡ Some e → ⊥)
+pub is_link_or_not : (o : Option ℕ) (e : ℕ) → (o ≡ Some e) ⊎ (o ≡ Some e → ⊥)
 is_link_or_not None e = inr (λ same. cc)
 is_link_or_not (Some d) e = elim (cases_eq d e) [
   | inl same ↦ inl (ap (λ (x : ℕ). Some x) same)

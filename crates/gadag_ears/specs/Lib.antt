@@ -7,3 +7,4 @@ pub mod Growing
 pub mod HeadAndBlock
 pub mod LinkMarks
 pub mod Marking
+pub mod MarkedLink
