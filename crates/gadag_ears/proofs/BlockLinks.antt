@@ -4,7 +4,6 @@ use Rattle.std.specs.Option.{option_map}
 use Rattle.std.specs.Prelude.{Contains}
 use Rattle.std.proofs.lemmas.Bool.{cases_eq}
 use Rattle.std.proofs.lemmas.Option.{same_Some, slice_get_within}
-use Rattle.mrt_graph.specs.declared.cert.Role.TheVariants.{Closing, Plain, Sole}
 use Rattle.mrt_graph.specs.declared.gadag.Mark.{Mark}
 use Rattle.mrt_graph.specs.declared.gadag.Place.{Place}
 use Rattle.mrt_graph.specs.declared.tree.TreeNode.{TreeNode}
@@ -12,23 +11,21 @@ use Rattle.mrt_graph.specs.GadagLists.{GadagLists}
 use Rattle.mrt_graph.specs.GadagWords.{block_at, head_at, link_block_at, role_at}
 use Rattle.mrt_graph.specs.Leads.{leads}
 use Rattle.mrt_graph.specs.Topology.{Topology}
-use Rattle.mrt_graph.specs.TreeWords.{number_of}
 use Rattle.mrt_graph.proofs.Members.{contains_cases, contains_first, contains_later, contains_none}
 use Rattle.lowpoint_dfs.specs.Subtree.{parent_of}
 use Rattle.gadag_ears.specs.declared.kind.EarKind.{EarKind}
 use Rattle.gadag_ears.specs.CommonBlock.{FirstIsHead, IsCommonBlock, OfBoth, SecondIsHead}
 use Rattle.gadag_ears.specs.Ear.{Ear, GoesOn, IsNextEar, last_node, new_nodes, next_node, onward_link}
-use Rattle.gadag_ears.specs.EarOrder.{AreEars, Begun, Grown, IsEarOrder, Turned}
+use Rattle.gadag_ears.specs.EarOrder.{Begun, Grown, IsEarOrder, Turned}
 use Rattle.gadag_ears.specs.Gadag.{IsGadag}
 use Rattle.gadag_ears.specs.HeadAndBlock.{ArePlaces, BeginsBlock}
-use Rattle.gadag_ears.specs.LinkMarks.{AreMarks, IsLastOfBlock, LiesInBlock}
+use Rattle.gadag_ears.specs.LinkMarks.{IsLastOfBlock, LiesInBlock}
 use Rattle.gadag_ears.specs.MarkedLink.{HasOneMarkedLink}
 use Rattle.gadag_ears.proofs.CommonBlocks.{leads_elsewhere, one_common_block, placed_by_low, root_alone}
 use Rattle.gadag_ears.proofs.CutLists.{put_cases, turned}
 use Rattle.gadag_ears.proofs.EarLast.{last_in}
 use Rattle.gadag_ears.proofs.EarLinks.{IsUnderWay, under_way}
-use Rattle.gadag_ears.proofs.Ended.{AreEarsIn, each_listed, ears_in}
-use Rattle.gadag_ears.proofs.FromSearch.{facts_of}
+use Rattle.gadag_ears.proofs.Ended.{each_listed, ears_in}
 use Rattle.gadag_ears.proofs.HeadsByLowpoints.{IsPlacedByLow, begins_or_not}
 use Rattle.gadag_ears.proofs.MarkedAlong.{link_there}
 use Rattle.gadag_ears.proofs.MarksGrown.{is_link_or_not}
@@ -222,6 +219,7 @@ none_in_root g root tree gadag facts it e u v to is =
   where
     headed : (w h : ℕ) → w ≡ root → head_at gadag.places w ≡ Some h → h ≡ root
     headed w h same head = same_Some h root (sym head ∙ ap (λ (x : ℕ). head_at gadag.places x) same ∙ it.places.of_root.0)
+
     go : u < length g.ids → v < length g.ids → u ≢ v → ((w : ℕ) → w < length g.ids → block_at gadag.places w ≡ Some root → w ≡ root)
         → IsCommonBlock gadag.places u v root → ⊥
     go u_in v_in differ alone (OfBoth one two) = differ (alone u u_in one ∙ sym (alone v v_in two))

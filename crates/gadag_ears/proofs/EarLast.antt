@@ -7,4 +7,3 @@ use Rattle.gadag_ears.specs.Ear.{last_node}
 pub last_in : (v : ℕ) (us : List ℕ) → Contains (v ∷ us) (last_node v us)
 last_in v [] = contains_first v []
 last_in v (u ∷ us) = contains_later v (last_node u us) (u ∷ us) (last_in u us)
-

@@ -1,10 +1,7 @@
 -- The links of ears: no link is in two ears, and none is twice in one but the one link of a block.
-use Rattle.std.proofs.Common.{◌≡◌, ◌≢◌, ◌⊎◌, ◌<◌, ◌≤◌, ◌+◌, ◌++◌, ◌∙◌, ◌↔◌, ℕ, Bool, List, [], ◌∷◌, Option, Some, length, inl, inr, refl, sym, ap, subst, arith}
-use Rattle.std.specs.Option.{option_and_then}
+use Rattle.std.proofs.Common.{◌≡◌, ◌⊎◌, ◌<◌, ◌+◌, ◌++◌, ◌∙◌, ◌↔◌, ℕ, Bool, List, [], ◌∷◌, Some, inl, inr, refl, sym, ap, subst, arith}
 use Rattle.std.specs.Prelude.{Contains, IsTrue}
-use Rattle.std.proofs.lemmas.Bool.{cases_eq}
 use Rattle.std.proofs.lemmas.Option.{same_Some}
-use Rattle.mrt_graph.specs.declared.link.End.{End}
 use Rattle.mrt_graph.specs.declared.tree.TreeNode.{TreeNode}
 use Rattle.mrt_graph.specs.Leads.{leads}
 use Rattle.mrt_graph.specs.Topology.{Topology}
@@ -12,17 +9,17 @@ use Rattle.mrt_graph.specs.TreeWords.{number_of}
 use Rattle.mrt_graph.proofs.Hops.{lead_back, same_ends}
 use Rattle.mrt_graph.proofs.Members.{contains_cases, contains_first, contains_later, contains_none}
 use Rattle.gadag_ears.specs.declared.kind.EarKind.{EarKind}
-use Rattle.gadag_ears.specs.declared.kind.EarKind.TheVariants.{Child, Neighbour}
+use Rattle.gadag_ears.specs.declared.kind.EarKind.TheVariants.{Child}
 use Rattle.gadag_ears.specs.Ear.{Ear, GoesOn, IsNextEar, last_node, new_nodes, next_node, onward_link}
 use Rattle.gadag_ears.specs.EarOrder.{Begun, Grown, IsEarOrder, Turned}
 use Rattle.gadag_ears.specs.HeadAndBlock.{BeginsBlock}
-use Rattle.gadag_ears.specs.LinkMarks.{IsLastOfBlock, IsOfOneLink, IsOnEar, Onward, Out}
+use Rattle.gadag_ears.specs.LinkMarks.{IsOfOneLink, IsOnEar, Onward, Out}
 use Rattle.gadag_ears.specs.Marking.{GoesOver, IsMarkable}
 use Rattle.gadag_ears.proofs.CutLists.{in_turn, kept_in, put_in, turned}
 use Rattle.gadag_ears.proofs.EarWalk.{GoesNearer, IsGoing, begins, goes_nearer, next_there, next_within, rank}
-use Rattle.gadag_ears.proofs.NextEar.{FromNew, FromStart, FromStop, Heads, IsBrought, IsHung, IsReady, brought, new_outside}
+use Rattle.gadag_ears.proofs.NextEar.{FromNew, FromStart, FromStop, Heads, IsBrought, IsHung, IsReady, brought}
 use Rattle.gadag_ears.proofs.SearchFacts.{AreFacts}
-use Rattle.gadag_ears.proofs.TurnsKept.{AreKept, all_kept, brought_at, link_of_next, ready}
+use Rattle.gadag_ears.proofs.TurnsKept.{all_kept, link_of_next, ready}
 
 -- each node on the way of an ear is one where it goes on
 record IsGoingAt (g : Topology) (tree : List TreeNode) (nodes : List ℕ) (x first link : ℕ) (kind : EarKind) (v : ℕ) : Type 0 where
@@ -40,7 +37,7 @@ going_at g root tree nodes x first link here k kind (u ∷ us) stop facts going 
   | inl same ↦ record { before = k; going = subst (λ (w : ℕ). IsGoing g tree nodes x first link w k kind) (sym same) going }
   | inr later ↦
       let on : GoesNearer g tree nodes x first link here k u kind =
-          goes_nearer g root tree nodes x first link here k u kind facts going goes.0 (next_within g root tree kind here u facts goes.0) goes.1 in
+      goes_nearer g root tree nodes x first link here k u kind facts going goes.0 (next_within g root tree kind here u facts goes.0) goes.1 in
       going_at g root tree nodes x first link u (k + 1) kind us stop facts on.going goes.2 v later
 ]
 

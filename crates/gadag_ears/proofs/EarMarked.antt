@@ -1,7 +1,7 @@
 -- The links of an ear get their marks one by one.
-use Rattle.std.proofs.Common.{◌≡◌, ◌≢◌, ◌⊎◌, ◌<◌, ◌≤◌, ◌+◌, ◌++◌, ◌∙◌, ◌↔◌, ℕ, zero, suc, Bool, true, false, List, [], ◌∷◌, Option, Some, length, set, slice_get, inl, inr, refl, sym, ap, subst, arith}
+use Rattle.std.proofs.Common.{◌≡◌, ◌≢◌, ◌<◌, ◌++◌, ◌∙◌, ℕ, Bool, List, [], ◌∷◌, Some, length, set, slice_get, inl, inr, sym, ap, subst, arith}
 use Rattle.std.specs.Option.{option_map}
-use Rattle.std.specs.Prelude.{Contains, IsTrue}
+use Rattle.std.specs.Prelude.{Contains}
 use Rattle.std.proofs.lemmas.Bool.{cases_eq}
 use Rattle.std.proofs.lemmas.List.{length-set}
 use Rattle.std.proofs.lemmas.List.Elements.{Contains-append_left, Contains-push, Contains-push_cases}
@@ -11,16 +11,15 @@ use Rattle.mrt_graph.specs.declared.cert.Role.TheVariants.{Plain, Sole, Closing}
 use Rattle.mrt_graph.specs.declared.gadag.Mark.{Mark}
 use Rattle.mrt_graph.specs.declared.link.Link.{Link}
 use Rattle.mrt_graph.specs.declared.tree.TreeNode.{TreeNode}
-use Rattle.mrt_graph.specs.GadagWords.{role_at, way_at}
+use Rattle.mrt_graph.specs.GadagWords.{role_at}
 use Rattle.mrt_graph.specs.Topology.{Topology}
 use Rattle.mrt_graph.proofs.ListPlaces.{set_elsewhere, set_there}
-use Rattle.mrt_graph.proofs.ListTests.{there}
-use Rattle.mrt_graph.proofs.Members.{contains_cases, contains_first, contains_none}
+use Rattle.mrt_graph.proofs.Members.{contains_none}
 use Rattle.gadag_ears.specs.declared.kind.EarKind.{EarKind}
-use Rattle.gadag_ears.specs.Ear.{Ear, ear_of, last_node, new_nodes, onward_link}
+use Rattle.gadag_ears.specs.Ear.{ear_of, last_node, onward_link}
 use Rattle.gadag_ears.specs.HeadAndBlock.{BeginsBlock}
-use Rattle.gadag_ears.specs.LinkMarks.{AreEarMarked, IsDirected, IsLastOfBlock, IsOfOneLink, IsOnEar, Onward, Out, way_along}
-use Rattle.gadag_ears.specs.Marking.{AreSetAlong, GoesOver, HasMark, IsMarkable, mark_along}
+use Rattle.gadag_ears.specs.LinkMarks.{AreEarMarked, IsDirected, IsLastOfBlock, IsOnEar, Onward, Out}
+use Rattle.gadag_ears.specs.Marking.{AreSetAlong, HasMark, IsMarkable, mark_along}
 use Rattle.gadag_ears.proofs.EarLast.{last_in}
 
 directed_by : (g : Topology) (marks : List Mark) (v e : ℕ) (role : Role) → HasMark g marks v e role → IsDirected g marks v e
@@ -76,8 +75,10 @@ set_more g tree kind x link new some v e marks marks' marks'' it begins can one_
   where
     here : HasMark g marks'' v e Plain
     here = mark_set g marks' marks'' v e it Plain (are.one_each ∙ one_each) within is_link is
+
     at_end : (xs : List ℕ) (y : ℕ) → Contains (xs ++ y ∷ []) y
     at_end xs y = Contains-push xs y
+
     before_end : (xs : List ℕ) (y u : ℕ) → Contains xs u → Contains (xs ++ y ∷ []) u
     before_end xs y u c = Contains-append_left xs (y ∷ []) u c
 
@@ -129,8 +130,10 @@ marked_closed g tree kind x link first others stop last marks marks' marks'' it 
   where
     still : (e : ℕ) → e ≢ last → slice_get marks'' e ≡ slice_get marks' e
     still e differs = mark_elsewhere marks' marks'' last e (mark_along (last_node first others) it Closing) is differs
+
     here : HasMark g marks'' (last_node first others) last Closing
     here = mark_set g marks' marks'' (last_node first others) last it Closing (are.one_each ∙ one_each) within is_link is
+
     plain : (v e : ℕ) → IsOnEar tree (ear_of kind x link first others stop) v e → e ≢ last → role_at marks'' e ≡ Some Plain
     plain v e Out differs = role_by g marks'' x link Plain (has_still g marks' marks'' x link Plain (still link differs) are.out)
     plain v e (Onward u d new u_over) differs = role_by g marks'' u d Plain (has_still g marks' marks'' u d Plain (still d differs) (are.along u d new u_over))
@@ -154,6 +157,7 @@ marked_sole g tree kind x link first others stop marks marks' it begins over alo
   where
     here : HasMark g marks' x link Sole
     here = mark_set g marks marks' x link it Sole one_each within is_link is
+
     all_last : (v e : ℕ) → IsOnEar tree (ear_of kind x link first others stop) v e → ¬ IsLastOfBlock tree (ear_of kind x link first others stop) e → ⊥
     all_last v e Out not_last = not_last (record { begins = begins; last = over })
     all_last v e (Onward u d new u_over) not_last =

@@ -1,5 +1,5 @@
 -- The GADAG, when all turns are over and each link has its block.
-use Rattle.std.proofs.Common.{◌≡◌, ◌∙◌, ℕ, List, Some, length, sym, ap, subst}
+use Rattle.std.proofs.Common.{◌≡◌, ◌∙◌, ℕ, List, Some, length, sym, subst}
 use Rattle.mrt_graph.specs.declared.gadag.Mark.{Mark}
 use Rattle.mrt_graph.specs.declared.gadag.Place.{Place}
 use Rattle.mrt_graph.specs.declared.tree.TreeNode.{TreeNode}
@@ -12,7 +12,7 @@ use Rattle.gadag_ears.specs.Blocks.{AreBlocksGiven}
 use Rattle.gadag_ears.specs.CommonBlock.{IsCommonBlock}
 use Rattle.gadag_ears.specs.Ear.{Ear}
 use Rattle.gadag_ears.specs.Gadag.{IsGadag}
-use Rattle.gadag_ears.specs.Growing.{AreWaysAndRoles, IsEnded}
+use Rattle.gadag_ears.specs.Growing.{IsEnded}
 use Rattle.gadag_ears.specs.LinkMarks.{AreDirected, AreMarks, HaveRoles}
 use Rattle.gadag_ears.proofs.CommonBlocks.{common_block, placed_by_low}
 use Rattle.gadag_ears.proofs.FromSearch.{facts_of}

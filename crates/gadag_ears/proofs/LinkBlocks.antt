@@ -1,15 +1,13 @@
 -- The blocks of the links, one after the other.
-use Rattle.std.proofs.Common.{◌≡◌, ◌≢◌, ◌<◌, ◌≤◌, ◌+◌, ◌∙◌, ℕ, Bool, true, List, Option, Some, get_or, length, set, slice_get, inl, inr, refl, sym, ap, subst, arith}
+use Rattle.std.proofs.Common.{◌≡◌, ◌≢◌, ◌<◌, ◌+◌, ◌∙◌, ℕ, List, Some, length, slice_get, inl, inr, refl, sym, ap, subst, arith}
 use Rattle.std.specs.Option.{option_and_then, option_map}
-use Rattle.std.proofs.lemmas.Bool.{cases_eq, cases_lt, eq-eqb}
+use Rattle.std.proofs.lemmas.Bool.{cases_eq, eq-eqb}
 use Rattle.std.proofs.lemmas.List.{length-set}
 use Rattle.std.proofs.lemmas.Option.{same_Some}
-use Rattle.mrt_graph.specs.declared.cert.Role.{Role}
 use Rattle.mrt_graph.specs.declared.gadag.Mark.{Mark}
 use Rattle.mrt_graph.specs.declared.gadag.Place.{Place}
-use Rattle.mrt_graph.specs.declared.gadag.Way.{Way}
 use Rattle.mrt_graph.specs.declared.link.Link.{Link}
-use Rattle.mrt_graph.specs.GadagWords.{block_at, head_at, link_block_at, role_at, way_at}
+use Rattle.mrt_graph.specs.GadagWords.{block_at, head_at, role_at, way_at}
 use Rattle.mrt_graph.specs.Leads.{far_node, leads}
 use Rattle.mrt_graph.specs.Topology.{Topology}
 use Rattle.mrt_graph.proofs.Hops.{far_ends}
@@ -82,7 +80,9 @@ block_more g places k marks marks' marks'' one_each within are given = record {
   where
     after : Mark
     after = record { way = given.mark.way; role = given.mark.role; block = given.block }
+
     still : (e : ℕ) → e ≢ k → slice_get marks'' e ≡ slice_get marks' e
     still e other = ap (λ (xs : List Mark). slice_get xs e) given.set ∙ set_elsewhere marks' k e after other
+
     here : slice_get marks'' k ≡ Some after
     here = ap (λ (xs : List Mark). slice_get xs k) given.set ∙ set_there marks' k after (omega (arith, within, one_each, are.one_each))

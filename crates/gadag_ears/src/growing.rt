@@ -66,7 +66,16 @@ pub fn grow(
 {
     let stop = walk(g, tree, kind, &growing.listed, &mut growing.added, first);
     let begins = begins_block(kind, x, stop);
-    mark_ear(g, tree, kind, &mut growing.marks, x, link, &growing.added, begins);
+    mark_ear(
+        g,
+        tree,
+        kind,
+        &mut growing.marks,
+        x,
+        link,
+        &growing.added,
+        begins,
+    );
     let place = place_of_ear(kind, x, first, stop, &growing.places);
     enter_all(growing, place.head, place.block);
 }

@@ -92,7 +92,11 @@ fn set_mark(g: &Graph, marks: &mut Vec<Mark>, v: NodeNo, e: LinkNo, role: Role)
     ensures { (link : Link) → slice_get g.now.links e ≡ Some link
         → marks.new.items ≡ slice_set marks.old.items e (mark_along v link role) }
 {
-    let way = if g.link(e).a == v { Way::AToB } else { Way::BToA };
+    let way = if g.link(e).a == v {
+        Way::AToB
+    } else {
+        Way::BToA
+    };
     marks[e.get() as usize] = Mark {
         way,
         role,

@@ -1,4 +1,4 @@
-use Rattle.std.proofs.Common.{◌<◌, ℕ, length, subst, arith}
+use Rattle.std.proofs.Common.{ℕ, subst, arith}
 use Rattle.gadag_ears.specs.Blocks.{IsBlockGiven}
 use Rattle.gadag_ears.proofs.LinkBlocks.{block_more}
 use Rattle.gadag_ears.proofs.blocks.give_blocks.Goals as goal

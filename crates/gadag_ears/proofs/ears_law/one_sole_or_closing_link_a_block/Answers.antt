@@ -1,4 +1,3 @@
-use Rattle.std.proofs.Common.{slice_get}
 use Rattle.mrt_graph.proofs.ListTests.{there}
 use Rattle.gadag_ears.proofs.BlockLinks.{none_in_root, one_marked_link}
 use Rattle.gadag_ears.proofs.FromSearch.{facts_of}
