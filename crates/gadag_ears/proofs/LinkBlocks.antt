@@ -3,40 +3,15 @@ use Rattle.std.proofs.Common.{◌≡◌, ◌≢◌, ◌<◌, ◌+◌, ◌∙◌,
 use Rattle.std.specs.Option.{option_and_then, option_map}
 use Rattle.std.proofs.lemmas.Bool.{cases_eq, eq-eqb}
 use Rattle.std.proofs.lemmas.List.{length-set}
-use Rattle.std.proofs.lemmas.Option.{same_Some}
 use Rattle.mrt_graph.specs.declared.gadag.Mark.{Mark}
 use Rattle.mrt_graph.specs.declared.gadag.Place.{Place}
 use Rattle.mrt_graph.specs.declared.link.Link.{Link}
-use Rattle.mrt_graph.specs.GadagWords.{block_at, head_at, role_at, way_at}
+use Rattle.mrt_graph.specs.GadagWords.{role_at, way_at}
 use Rattle.mrt_graph.specs.Leads.{far_node, leads}
 use Rattle.mrt_graph.specs.Topology.{Topology}
-use Rattle.mrt_graph.proofs.Hops.{far_ends}
 use Rattle.mrt_graph.proofs.ListPlaces.{set_elsewhere, set_there}
 use Rattle.gadag_ears.specs.Blocks.{AreBlocksGiven, IsBlockGiven}
-use Rattle.gadag_ears.specs.CommonBlock.{FirstIsHead, IsCommonBlock, OfBoth, SecondIsHead}
 use Rattle.gadag_ears.specs.LinkMarks.{LiesInBlock}
-use Rattle.gadag_ears.proofs.CommonBlocks.{turned_round}
-
-block_by : (places : List Place) (v : ℕ) (place : Place) → slice_get places v ≡ Some place → block_at places v ≡ Some place.block
-block_by places v place at = ap (λ o. option_map (λ place. place.block) o) at
-
-head_by : (places : List Place) (v : ℕ) (place : Place) → slice_get places v ≡ Some place → head_at places v ≡ Some place.head
-head_by places v place at = ap (λ o. option_map (λ place. place.head) o) at
-
-pub common_first : (places : List Place) (u v : ℕ) (at_v : Place) → slice_get places v ≡ Some at_v → at_v.head ≡ u → IsCommonBlock places u v at_v.block
-common_first places u v at_v v_is head = FirstIsHead (block_by places v at_v v_is) (head_by places v at_v v_is ∙ ap (λ (w : ℕ). Some w) head)
-
-pub common_both : (places : List Place) (u v : ℕ) (at_u at_v : Place) → slice_get places u ≡ Some at_u → slice_get places v ≡ Some at_v → at_u.block ≡ at_v.block
-    → IsCommonBlock places u v at_v.block
-common_both places u v at_u at_v u_is v_is same = OfBoth (block_by places u at_u u_is ∙ ap (λ (w : ℕ). Some w) same) (block_by places v at_v v_is)
-
-pub common_second : (places : List Place) (u v : ℕ) (at_u at_v : Place) → slice_get places u ≡ Some at_u → slice_get places v ≡ Some at_v → at_v.head ≢ u
-    → at_u.block ≢ at_v.block → (k : ℕ) → IsCommonBlock places u v k → IsCommonBlock places u v at_u.block
-common_second places u v at_u at_v u_is v_is no_head differ k (OfBoth one two) =
-    absurd (differ (same_Some at_u.block at_v.block (sym (block_by places u at_u u_is) ∙ one ∙ sym two ∙ block_by places v at_v v_is)))
-common_second places u v at_u at_v u_is v_is no_head differ k (FirstIsHead block head) =
-    absurd (no_head (same_Some at_v.head u (sym (head_by places v at_v v_is) ∙ head)))
-common_second places u v at_u at_v u_is v_is no_head differ k (SecondIsHead block head) = SecondIsHead (block_by places u at_u u_is) head
 
 -- a link leads from its one node to the other
 pub leads_over : (g : Topology) (e : ℕ) (link : Link) → slice_get g.links e ≡ Some link → leads g.links e link.a ≡ Some link.b
@@ -44,15 +19,6 @@ leads_over g e link is = ap (λ o. option_and_then (far_node link.a) o) is ∙ f
   where
     from_first : far_node link.a link ≡ Some link.b
     from_first = rw (eq-eqb link.a link.a refl) refl
-
--- a block that its two nodes have in common, in either order
-pub common_either : (g : Topology) (places : List Place) (e : ℕ) (link : Link) (k : ℕ) → slice_get g.links e ≡ Some link → IsCommonBlock places link.a link.b k
-    → (u v : ℕ) → leads g.links e u ≡ Some v → IsCommonBlock places u v k
-common_either g places e link k is common u v to = elim (far_ends link u v (ap (λ o. option_and_then (far_node u) o) (sym is) ∙ to)) [
-  | inl up ↦ subst (λ (w : ℕ). IsCommonBlock places w v k) up.0 (subst (λ (w : ℕ). IsCommonBlock places link.a w k) up.1 common)
-  | inr down ↦ turned_round places u v k
-      (subst (λ (w : ℕ). IsCommonBlock places w u k) down.1 (subst (λ (w : ℕ). IsCommonBlock places link.a w k) down.0 common))
-]
 
 -- one more link
 pub block_more : (g : Topology) (places : List Place) (k : ℕ) (marks marks' marks'' : List Mark) → length marks ≡ length g.links → k < length g.links
