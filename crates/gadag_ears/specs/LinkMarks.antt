@@ -39,7 +39,8 @@ IsDirected g marks v e = (link : Link) × (slice_get g.links e ≡ Some link) ×
 -- directions: the links of an ear are directed along it, but the one link of a block from the head to the member
 pub record AreDirected (g : Topology) (tree : List TreeNode) (ears : List Ear) (marks : List Mark) : Type 0 where
   pub out : (ear : Ear) → Contains ears ear → IsDirected g marks ear.start ear.link
-  pub onward : (ear : Ear) (v e : ℕ) → Contains ears ear → ¬ IsOfOneLink tree ear → IsOnEar tree ear v e → IsDirected g marks v e
+  pub onward : (ear : Ear) (v e : ℕ) → Contains ears ear → ¬ IsOfOneLink tree ear → IsOnEar tree ear v e
+      → IsDirected g marks v e
   pub others : (e : ℕ) → e < length g.links → ((ear : Ear) (v : ℕ) → Contains ears ear → ¬ IsOnEar tree ear v e)
       → way_at marks e ≡ Some Unset
 
@@ -47,7 +48,8 @@ pub record AreDirected (g : Topology) (tree : List TreeNode) (ears : List Ear) (
 -- plain
 pub record HaveRoles (g : Topology) (tree : List TreeNode) (ears : List Ear) (marks : List Mark) : Type 0 where
   pub sole : (ear : Ear) → Contains ears ear → IsOfOneLink tree ear → role_at marks ear.link ≡ Some Sole
-  pub closing : (ear : Ear) (e : ℕ) → Contains ears ear → IsLastOfBlock tree ear e → e ≢ ear.link → role_at marks e ≡ Some Closing
+  pub closing : (ear : Ear) (e : ℕ) → Contains ears ear → IsLastOfBlock tree ear e → e ≢ ear.link
+      → role_at marks e ≡ Some Closing
   pub others : (e : ℕ) → e < length g.links → ((ear : Ear) → Contains ears ear → ¬ IsLastOfBlock tree ear e)
       → role_at marks e ≡ Some Plain
 
@@ -58,7 +60,8 @@ pub record LiesInBlock (g : Topology) (places : List Place) (marks : List Mark) 
   pub common : (u v : ℕ) → leads g.links e u ≡ Some v → IsCommonBlock places u v block
 
 -- what is said of the links
-pub record AreMarks (g : Topology) (tree : List TreeNode) (ears : List Ear) (places : List Place) (marks : List Mark) : Type 0 where
+pub record AreMarks (g : Topology) (tree : List TreeNode) (ears : List Ear) (places : List Place)
+    (marks : List Mark) : Type 0 where
   pub one_each : length marks ≡ length g.links
   pub directed : AreDirected g tree ears marks
   pub roles : HaveRoles g tree ears marks
@@ -68,7 +71,8 @@ pub record AreMarks (g : Topology) (tree : List TreeNode) (ears : List Ear) (pla
 pub record AreEarMarked (g : Topology) (tree : List TreeNode) (ear : Ear) (marks marks' : List Mark) : Type 0 where
   pub one_each : length marks' ≡ length marks
   pub out : IsDirected g marks' ear.start ear.link
-  pub onward : (v e : ℕ) → ¬ IsOfOneLink tree ear → Contains (new_nodes ear) v → onward_link ear.kind tree v ≡ Some e → IsDirected g marks' v e
+  pub onward : (v e : ℕ) → ¬ IsOfOneLink tree ear → Contains (new_nodes ear) v
+      → onward_link ear.kind tree v ≡ Some e → IsDirected g marks' v e
   pub sole : IsOfOneLink tree ear → role_at marks' ear.link ≡ Some Sole
   pub closing : (e : ℕ) → IsLastOfBlock tree ear e → e ≢ ear.link → role_at marks' e ≡ Some Closing
   pub plain : (v e : ℕ) → IsOnEar tree ear v e → ¬ IsLastOfBlock tree ear e → role_at marks' e ≡ Some Plain

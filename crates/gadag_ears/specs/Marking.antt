@@ -24,21 +24,26 @@ pub record GoesOver (g : Topology) (tree : List TreeNode) (kind : EarKind) (v : 
   pub onward : leads g.links link v ≡ Some to
 
 -- the links of an ear can be marked one by one: each is on the ear once, but for the one link of a block
-pub record IsMarkable (g : Topology) (tree : List TreeNode) (kind : EarKind) (x link : ℕ) (new : List ℕ) (begins : Bool) : Type 0 where
+pub record IsMarkable (g : Topology) (tree : List TreeNode) (kind : EarKind) (x link : ℕ) (new : List ℕ)
+    (begins : Bool) : Type 0 where
   pub some_node : 0 < length new
   pub to : ℕ
   pub touches : leads g.links link x ≡ Some to
   pub each : (v : ℕ) → Contains new v → GoesOver g tree kind v
-  pub differ : (v w e : ℕ) → Contains new v → Contains new w → onward_link kind tree v ≡ Some e → onward_link kind tree w ≡ Some e → v ≡ w
+  pub differ : (v w e : ℕ) → Contains new v → Contains new w → onward_link kind tree v ≡ Some e
+      → onward_link kind tree w ≡ Some e → v ≡ w
   pub once : (v : ℕ) → Contains new v → onward_link kind tree v ≡ Some link → IsTrue begins × (new ≡ v ∷ [])
 
 -- link e has the mark of one that is directed away from v
 abbrev pub HasMark : Topology → List Mark → ℕ → ℕ → Role → Type 0
-HasMark g marks v e role = (link : Link) × (slice_get g.links e ≡ Some link) × (slice_get marks e ≡ Some (mark_along v link role))
+HasMark g marks v e role =
+    (link : Link) × (slice_get g.links e ≡ Some link) × (slice_get marks e ≡ Some (mark_along v link role))
 
 -- the first link, and those of some new nodes, have their marks
-pub record AreSetAlong (g : Topology) (tree : List TreeNode) (kind : EarKind) (x link : ℕ) (some : List ℕ) (marks marks' : List Mark) : Type 0 where
+pub record AreSetAlong (g : Topology) (tree : List TreeNode) (kind : EarKind) (x link : ℕ) (some : List ℕ)
+    (marks marks' : List Mark) : Type 0 where
   pub one_each : length marks' ≡ length marks
   pub out : HasMark g marks' x link Plain
   pub along : (v e : ℕ) → Contains some v → onward_link kind tree v ≡ Some e → HasMark g marks' v e Plain
-  pub others : (e : ℕ) → e ≢ link → ((v : ℕ) → Contains some v → onward_link kind tree v ≡ Some e → ⊥) → slice_get marks' e ≡ slice_get marks e
+  pub others : (e : ℕ) → e ≢ link → ((v : ℕ) → Contains some v → onward_link kind tree v ≡ Some e → ⊥)
+      → slice_get marks' e ≡ slice_get marks e
