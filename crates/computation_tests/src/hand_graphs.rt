@@ -126,3 +126,15 @@ pub fn link(a: u16, b: u16, metric_a: u16, metric_b: u16) -> LinkIn {
         data_b: 0,
     }
 }
+
+/// Both nodes of a link, and its metric at each of them.
+pub type LinkTold = (u16, u16, u16, u16);
+
+/// The links that these tell.
+pub fn links_of(alloc: Global, told: &[LinkTold]) -> Result<Vec<LinkIn>, NoMemory> {
+    let mut links = Vec::new(alloc);
+    for (a, b, metric_a, metric_b) in told {
+        links.push(link(*a, *b, *metric_a, *metric_b))?;
+    }
+    Ok(links)
+}

@@ -1,6 +1,8 @@
-//! Tests of the computation: search trees by hand.
+//! Tests of the computation: search trees and ears by hand.
 #![tactic(auto)]
 
+#[cfg(test)]
+mod hand_ears;
 #[cfg(test)]
 mod hand_graphs;
 #[cfg(test)]

@@ -2,7 +2,7 @@
 
 ghost use Rattle.std.specs.Prelude.{◌≡◌, ◌<◌, IfOk, length};
 
-use crate::hand_graphs::{graph, link};
+use crate::hand_graphs::{LinkTold, graph, link, links_of};
 use lowpoint_dfs::search;
 use mrt_graph::{Graph, GraphError, LinkIn, LinkNo, NoMemory, NodeNo, Tree, TreeNode};
 use std::alloc::Global;
@@ -11,9 +11,6 @@ use std::test::Fail;
 
 /// Number, parent link, lowpoint, lowpoint link.
 type Told = (u16, Option<u16>, u16, Option<u16>);
-
-/// Both nodes of a link, and its metric at each of them.
-type LinkTold = (u16, u16, u16, u16);
 
 /// A graph of so many nodes, the first of them routers, and its search tree from a root.
 struct Case {
@@ -161,14 +158,6 @@ fn node_of(told: &Told) -> TreeNode {
         low: told.2,
         low_link: told.3.map(LinkNo::new),
     }
-}
-
-fn links_of(alloc: Global, told: &[LinkTold]) -> Result<Vec<LinkIn>, NoMemory> {
-    let mut links = Vec::new(alloc);
-    for (a, b, metric_a, metric_b) in told {
-        links.push(link(*a, *b, *metric_a, *metric_b))?;
-    }
-    Ok(links)
 }
 
 /// The tree of a graph from a root, and how many nodes it has.

@@ -1,0 +1,299 @@
+//! Ears by hand: the ear order, the head and the block of each node, the direction, the role and the block of each link.
+
+ghost use Rattle.std.specs.Prelude.{◌≡◌, ◌<◌, IfOk, length};
+
+use crate::hand_graphs::{LinkTold, graph, links_of};
+use gadag_ears::ears;
+use lowpoint_dfs::search;
+use mrt_graph::{Gadag, Graph, GraphError, LinkNo, Mark, NoMemory, NodeNo, Place, Role, Way};
+use std::alloc::Global;
+use std::process::Abort;
+use std::test::Fail;
+
+/// Head and block.
+type PlaceTold = (u16, u16);
+
+/// Direction, role and block.
+type MarkTold = (Way, Role, u16);
+
+/// A graph of so many nodes, the first of them routers, and its GADAG from a root.
+struct Case {
+    name: &'static str,
+    count: u16,
+    routers: u16,
+    links: &'static [LinkTold],
+    root: u16,
+    order: &'static [u16],
+    places: &'static [PlaceTold],
+    marks: &'static [MarkTold],
+}
+
+const CASES: &[Case] = &[
+    Case {
+        name: "one node alone",
+        count: 1,
+        routers: 1,
+        links: &[],
+        root: 0,
+        order: &[0],
+        places: &[(0, 0)],
+        marks: &[],
+    },
+    Case {
+        name: "a triangle",
+        count: 3,
+        routers: 3,
+        links: &[(0, 1, 10, 10), (0, 2, 10, 10), (1, 2, 10, 10)],
+        root: 2,
+        order: &[2, 0, 1],
+        places: &[(2, 0), (2, 0), (2, 2)],
+        marks: &[
+            (Way::AToB, Role::Plain, 0),
+            (Way::BToA, Role::Plain, 0),
+            (Way::AToB, Role::Closing, 0),
+        ],
+    },
+    Case {
+        name: "three parallel links between two routers",
+        count: 2,
+        routers: 2,
+        links: &[(0, 1, 10, 10), (0, 1, 10, 10), (0, 1, 10, 10)],
+        root: 1,
+        order: &[1, 0],
+        places: &[(1, 0), (1, 1)],
+        marks: &[
+            (Way::BToA, Role::Plain, 0),
+            (Way::AToB, Role::Closing, 0),
+            (Way::Unset, Role::Plain, 0),
+        ],
+    },
+    Case {
+        name: "two triangles at router 3",
+        count: 5,
+        routers: 5,
+        links: &[
+            (0, 1, 10, 10),
+            (0, 2, 10, 10),
+            (1, 2, 10, 10),
+            (2, 3, 10, 10),
+            (2, 4, 10, 10),
+            (3, 4, 10, 10),
+        ],
+        root: 4,
+        order: &[4, 2, 0, 1, 3],
+        places: &[(2, 0), (2, 0), (4, 2), (4, 2), (4, 4)],
+        marks: &[
+            (Way::AToB, Role::Plain, 0),
+            (Way::BToA, Role::Plain, 0),
+            (Way::AToB, Role::Closing, 0),
+            (Way::AToB, Role::Plain, 2),
+            (Way::BToA, Role::Plain, 2),
+            (Way::AToB, Role::Closing, 2),
+        ],
+    },
+    Case {
+        name: "three links in a star, and one more from its last router: a tree",
+        count: 5,
+        routers: 5,
+        links: &[
+            (0, 1, 10, 10),
+            (0, 2, 10, 10),
+            (0, 3, 10, 10),
+            (3, 4, 10, 10),
+        ],
+        root: 0,
+        order: &[0, 3, 4, 2, 1],
+        places: &[(0, 0), (0, 1), (0, 2), (0, 3), (3, 4)],
+        marks: &[
+            (Way::AToB, Role::Sole, 1),
+            (Way::AToB, Role::Sole, 2),
+            (Way::AToB, Role::Sole, 3),
+            (Way::AToB, Role::Sole, 4),
+        ],
+    },
+    Case {
+        name: "a ring with a chord each way",
+        count: 5,
+        routers: 5,
+        links: &[
+            (0, 1, 10, 10),
+            (0, 3, 10, 10),
+            (0, 4, 10, 10),
+            (1, 2, 10, 10),
+            (1, 4, 10, 10),
+            (2, 4, 10, 10),
+            (3, 4, 10, 10),
+        ],
+        root: 4,
+        order: &[4, 3, 0, 1, 2],
+        places: &[(4, 0), (4, 0), (4, 0), (4, 0), (4, 4)],
+        marks: &[
+            (Way::AToB, Role::Plain, 0),
+            (Way::BToA, Role::Plain, 0),
+            (Way::BToA, Role::Plain, 0),
+            (Way::AToB, Role::Plain, 0),
+            (Way::Unset, Role::Plain, 0),
+            (Way::AToB, Role::Closing, 0),
+            (Way::BToA, Role::Plain, 0),
+        ],
+    },
+    Case {
+        name: "routers 2 to 4 with links to 1 and to 5",
+        count: 5,
+        routers: 5,
+        links: &[
+            (0, 1, 10, 10),
+            (0, 2, 10, 10),
+            (0, 3, 10, 10),
+            (1, 4, 10, 10),
+            (2, 4, 10, 10),
+            (3, 4, 10, 10),
+        ],
+        root: 4,
+        order: &[4, 3, 1, 0, 2],
+        places: &[(4, 1), (4, 1), (4, 1), (4, 1), (4, 4)],
+        marks: &[
+            (Way::BToA, Role::Plain, 1),
+            (Way::AToB, Role::Plain, 1),
+            (Way::BToA, Role::Plain, 1),
+            (Way::BToA, Role::Plain, 1),
+            (Way::AToB, Role::Closing, 1),
+            (Way::BToA, Role::Plain, 1),
+        ],
+    },
+    Case {
+        name: "an ear that stops above its start",
+        count: 5,
+        routers: 5,
+        links: &[
+            (0, 1, 10, 10),
+            (0, 2, 10, 10),
+            (0, 4, 10, 10),
+            (1, 2, 10, 10),
+            (1, 3, 10, 10),
+            (1, 4, 10, 10),
+            (2, 3, 10, 10),
+        ],
+        root: 4,
+        order: &[4, 0, 2, 3, 1],
+        places: &[(4, 0), (4, 0), (4, 0), (4, 0), (4, 4)],
+        marks: &[
+            (Way::AToB, Role::Plain, 0),
+            (Way::AToB, Role::Plain, 0),
+            (Way::BToA, Role::Plain, 0),
+            (Way::BToA, Role::Plain, 0),
+            (Way::BToA, Role::Plain, 0),
+            (Way::AToB, Role::Closing, 0),
+            (Way::AToB, Role::Plain, 0),
+        ],
+    },
+    Case {
+        name: "two blocks at one cut router",
+        count: 4,
+        routers: 4,
+        links: &[
+            (0, 1, 10, 10),
+            (0, 2, 10, 10),
+            (1, 2, 10, 10),
+            (2, 3, 10, 10),
+        ],
+        root: 2,
+        order: &[2, 3, 0, 1],
+        places: &[(2, 0), (2, 0), (2, 2), (2, 3)],
+        marks: &[
+            (Way::AToB, Role::Plain, 0),
+            (Way::BToA, Role::Plain, 0),
+            (Way::AToB, Role::Closing, 0),
+            (Way::AToB, Role::Sole, 3),
+        ],
+    },
+];
+
+fn cases() -> &'static [Case] {
+    CASES
+}
+
+/// The GADAG of a graph from a root, and how many nodes and links it has.
+fn gadag_of(rt: &impl Abort, alloc: Global, g: &Graph, root: u16) -> Result<Gadag, NoMemory>
+    ensures places { IfOk result (λ gadag. length gadag.places ≡ length g.now.ids) }
+    ensures marks { IfOk result (λ gadag. length gadag.marks ≡ length g.now.links) }
+{
+    assert!(rt; root < g.node_count());
+    let tree = search(alloc, g, NodeNo::new(root))?;
+    ears(alloc, g, NodeNo::new(root), &tree)
+}
+
+fn has_order(gadag: &Gadag, told: &[u16]) -> bool {
+    let order = gadag.ear_order();
+    if order.len() != told.len() {
+        return false;
+    }
+    for k in 0..told.len() {
+        if order[k].get() != told[k] {
+            return false;
+        }
+    }
+    true
+}
+
+fn place_of(told: &PlaceTold) -> Place {
+    Place {
+        head: NodeNo::new(told.0),
+        block: NodeNo::new(told.1),
+    }
+}
+
+fn has_places(gadag: &Gadag, count: u16, told: &[PlaceTold]) -> bool
+    requires { length gadag.now.places ≡ count }
+{
+    if told.len() != count as usize {
+        return false;
+    }
+    for n in 0..count {
+        if gadag.place(NodeNo::new(n)) != place_of(&told[n as usize]) {
+            return false;
+        }
+    }
+    true
+}
+
+fn mark_of(told: &MarkTold) -> Mark {
+    Mark {
+        way: told.0,
+        role: told.1,
+        block: NodeNo::new(told.2),
+    }
+}
+
+fn has_marks(gadag: &Gadag, count: u16, told: &[MarkTold]) -> bool
+    requires { length gadag.now.marks ≡ count }
+{
+    if told.len() != count as usize {
+        return false;
+    }
+    for e in 0..count {
+        if gadag.mark(LinkNo::new(e)) != mark_of(&told[e as usize]) {
+            return false;
+        }
+    }
+    true
+}
+
+fn is_so(rt: &impl Abort, alloc: Global, case: &Case) -> Result<bool, GraphError> {
+    let links = links_of(alloc, case.links)?;
+    let g = graph(rt, alloc, case.count, case.routers, links)?;
+    let gadag = gadag_of(rt, alloc, &g, case.root)?;
+    Ok(
+        has_order(&gadag, case.order)
+            && has_places(&gadag, g.node_count(), case.places)
+            && has_marks(&gadag, g.link_count(), case.marks),
+    )
+}
+
+#[test]
+fn ears_by_hand(rt: HostRuntime) -> Result<(), Fail> {
+    for case in cases() {
+        assert!(rt; is_so(&rt, rt.alloc(), case)?, "{}", case.name);
+    }
+    Ok(())
+}
