@@ -19,7 +19,7 @@ SHAPES = {
     "block": areas.circle,
     "line": lambda n: [(each, each + 1) for each in range(1, n)],
 }
-CRATES = ["lowpoint_dfs", "mrt_cmd", "mrt_island", "area_graph", "lsdb", "ospf_lsa", "mrt_graph"]
+CRATES = ["gadag_ears", "lowpoint_dfs", "mrt_cmd", "mrt_island", "area_graph", "lsdb", "ospf_lsa", "mrt_graph"]
 
 # It reads the database as `mrt_cmd` does.
 PROGRAM = """\
@@ -35,6 +35,7 @@ ghost use Rattle.mrt_cmd.specs.Database.{entering, enters};
 
 use anyhow::{Result, bail};
 use area_graph::build_area;
+use gadag_ears::ears;
 use lowpoint_dfs::search;
 use lsdb::{Lsdb, an_lsa_without_a_fault_may_be_installed, entries_are_those_of_the_list};
 use mrt_graph::{Graph, NoMemory, NodeNo};
@@ -101,17 +102,23 @@ fn island_of(rt: &HostRuntime, name: &str) -> Result<Island> {
     Ok(island)
 }
 
-fn time_search(rt: &HostRuntime, name: &str, g: &Graph, root: NodeNo) -> Result<()> {
+fn time_steps(rt: &HostRuntime, name: &str, g: &Graph, root: NodeNo) -> Result<()> {
     if root.get() >= g.node_count() {
         bail!("no root");
     }
     for _ in 0..15 {
         let start = Instant::now(rt)?;
-        let Ok(_tree) = search(rt.alloc(), g, root) else {
+        let Ok(tree) = search(rt.alloc(), g, root) else {
             bail!("no memory");
         };
         let taken = start.elapsed(rt)?.as_nanos();
         println!(rt; "{name} {} {} search {taken}", g.node_count(), g.link_count())?;
+        let start = Instant::now(rt)?;
+        let Ok(_gadag) = ears(rt.alloc(), g, root, &tree) else {
+            bail!("no memory");
+        };
+        let taken = start.elapsed(rt)?.as_nanos();
+        println!(rt; "{name} {} {} ears {taken}", g.node_count(), g.link_count())?;
     }
     Ok(())
 }
@@ -119,7 +126,7 @@ fn time_search(rt: &HostRuntime, name: &str, g: &Graph, root: NodeNo) -> Result<
 fn main(rt: HostRuntime) -> Result<()> {
     for name in [NAMES] {
         let island = island_of(&rt, name)?;
-        time_search(&rt, name, &island.graph, island.root)?;
+        time_steps(&rt, name, &island.graph, island.root)?;
     }
     Ok(())
 }
