@@ -22,7 +22,7 @@ use Rattle.mrt_graph.proofs.Hops.{lead_back}
 use Rattle.mrt_graph.proofs.ListTests.{all_at}
 use Rattle.mrt_graph.proofs.Members.{contains_cases, contains_first, contains_none}
 use Rattle.mrt_graph.proofs.Searching.{no_mark_at_first}
-use Rattle.lowpoint_dfs.specs.FirstEnd.{IsFirstEnd}
+use Rattle.mrt_graph.specs.FirstEnd.{IsFirstEnd}
 use Rattle.lowpoint_dfs.specs.SearchOrder.{IsDone}
 use Rattle.lowpoint_dfs.specs.SearchTree.{IsSearchTree}
 use Rattle.lowpoint_dfs.specs.Subtree.{parent_of}

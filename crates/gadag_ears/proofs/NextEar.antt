@@ -10,7 +10,7 @@ use Rattle.mrt_graph.specs.TreeWords.{number_of, low_of}
 use Rattle.mrt_graph.proofs.EndsAt.{end_leads}
 use Rattle.mrt_graph.proofs.Members.{contains_cases, contains_later, contains_none}
 use Rattle.mrt_graph.proofs.Tallies.{tally}
-use Rattle.lowpoint_dfs.specs.FirstEnd.{IsFirstEnd}
+use Rattle.mrt_graph.specs.FirstEnd.{IsFirstEnd}
 use Rattle.lowpoint_dfs.specs.Subtree.{IsInSubtree, Itself, parent_of}
 use Rattle.gadag_ears.specs.declared.kind.EarKind.{EarKind}
 use Rattle.gadag_ears.specs.declared.kind.EarKind.TheVariants.{Child, Neighbour}

@@ -8,7 +8,7 @@ use Rattle.mrt_graph.specs.Topology.{Topology}
 use Rattle.mrt_graph.specs.TreeWords.{low_link, parent_link}
 use Rattle.gadag_ears.specs.declared.kind.EarKind.{EarKind}
 use Rattle.gadag_ears.specs.declared.kind.EarKind.TheVariants.{Child, Neighbour}
-use Rattle.lowpoint_dfs.specs.FirstEnd.{IsFirstEnd}
+use Rattle.mrt_graph.specs.FirstEnd.{IsFirstEnd}
 use Rattle.lowpoint_dfs.specs.Subtree.{parent_of}
 
 -- an ear: its kind, the node where it starts, its first link, its new nodes in the ear's order (the first one and the

@@ -7,7 +7,7 @@ use Rattle.mrt_graph.specs.Topology.{Topology}
 use Rattle.mrt_graph.specs.TreeWords.{number_of, parent_link}
 use Rattle.mrt_graph.proofs.ListPlaces.{at_left, pushed_at}
 use Rattle.mrt_graph.proofs.ListTests.{all_at}
-use Rattle.lowpoint_dfs.specs.FirstEnd.{IsFirstEnd}
+use Rattle.mrt_graph.specs.FirstEnd.{IsFirstEnd}
 use Rattle.lowpoint_dfs.specs.SearchOrder.{IsFoundNext, IsSearchOrder, Begun, Found}
 
 -- the root stands first

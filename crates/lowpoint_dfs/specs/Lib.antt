@@ -1,5 +1,4 @@
 pub mod Finding
-pub mod FirstEnd
 pub mod Lowering
 pub mod Lowpoint
 pub mod SearchOrder

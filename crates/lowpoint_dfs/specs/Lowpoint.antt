@@ -5,7 +5,7 @@ use Rattle.mrt_graph.specs.declared.link.End.{End}
 use Rattle.mrt_graph.specs.declared.tree.TreeNode.{TreeNode}
 use Rattle.mrt_graph.specs.Topology.{Topology}
 use Rattle.mrt_graph.specs.TreeWords.{number_of, parent_link, low_of, low_link}
-use Rattle.lowpoint_dfs.specs.FirstEnd.{IsFirstEnd}
+use Rattle.mrt_graph.specs.FirstEnd.{IsFirstEnd}
 
 -- n is the least of some numbers
 pub record IsLeast (IsOneOf : ℕ → Type 0) (n : ℕ) : Type 0 where

@@ -1,12 +1,15 @@
 pub mod Accepted
+pub mod Alternate
 pub mod Apart
 pub mod BothThere
 pub mod CertWords
 pub mod Certificate
 pub mod ColorWalk
 pub mod Connected
+pub mod DirectedLists
 pub mod EndRows
 pub mod EndsOfLinks
+pub mod FirstEnd
 pub mod FirstFault
 pub mod GadagLists
 pub mod GadagWords
@@ -34,6 +37,7 @@ pub mod Separates
 pub mod Sound
 pub mod Spelling
 pub mod Tags
+pub mod Tails
 pub mod TextLines
 pub mod Topology
 pub mod TreeWords

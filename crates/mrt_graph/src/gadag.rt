@@ -78,4 +78,11 @@ impl Gadag {
     {
         self.marks[e.get() as usize]
     }
+
+    /// The ear order, the places and the marks.
+    pub fn into_lists(self) -> (Vec<NodeNo>, Vec<Place>, Vec<Mark>)
+        ensures { self ≡ gadag_of result.0.items result.1.items result.2.items }
+    {
+        (self.order, self.places, self.marks)
+    }
 }
