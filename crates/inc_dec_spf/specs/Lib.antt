@@ -1,0 +1,2 @@
+pub mod LeastPath
+pub mod Path
