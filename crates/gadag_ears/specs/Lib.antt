@@ -1,5 +1,6 @@
 pub mod Blocks
 pub mod CommonBlock
+pub mod Counted
 pub mod Ear
 pub mod EarOrder
 pub mod Gadag

@@ -3,7 +3,7 @@ use Rattle.std.specs.Prelude.{◌≡◌, ◌<◌, ◌≤◌, ◌⊎◌, ◌++◌
 use Rattle.mrt_graph.specs.declared.gadag.Mark.{Mark}
 use Rattle.mrt_graph.specs.declared.link.End.{End}
 use Rattle.mrt_graph.specs.Topology.{Topology}
-use Rattle.link_direction.specs.Counted.{IsCounted}
+use Rattle.gadag_ears.specs.Counted.{IsCounted}
 
 -- a node outside the list is ready where a counted link enters it, and all that enter it come from nodes of the list
 pub record IsReady (g : Topology) (marks : List Mark) (listed : List ℕ) (v : ℕ) : Type 0 where

@@ -1,5 +1,4 @@
 pub mod BlockOfTwo
-pub mod Counted
 pub mod Directed
 pub mod Directions
 pub mod GadagOrder
