@@ -16,10 +16,9 @@ use Rattle.gadag_ears.specs.Ear.{Ear, ear_of, IsBegun, IsNextEar, new_nodes}
 use Rattle.gadag_ears.specs.EarOrder.{Grown, IsEarOrder}
 use Rattle.gadag_ears.specs.Growing.{AreEntered, AreListed, AreWaysAndRoles, IsLeaving, IsMarked, IsPlaceOfEar, IsTurn, IsWay, StartsEar}
 use Rattle.gadag_ears.specs.HeadAndBlock.{ArePlaces, BeginsBlock, HasPlace, IsPlacedAs}
-use Rattle.gadag_ears.specs.LinkMarks.{AreEarMarked}
-use Rattle.gadag_ears.specs.Marking.{IsMarkable}
+use Rattle.gadag_ears.specs.Marking.{AreEarMarked, IsMarkable}
 use Rattle.gadag_ears.specs.declared.kind.EarKind.TheVariants.{Child}
-use Rattle.gadag_ears.proofs.EarLinks.{IsUnderWay, apart, links_in, markable, under_way}
+use Rattle.gadag_ears.proofs.EarLinks.{IsUnderWay, apart, link_touches, links_in, markable, under_way}
 use Rattle.gadag_ears.proofs.MarksGrown.{directed_grown, roles_grown}
 use Rattle.gadag_ears.proofs.CutLists.{in_turn, kept_in, put_cases, put_in}
 use Rattle.gadag_ears.proofs.Ended.{AreEarsIn, ears_in}
@@ -123,7 +122,8 @@ marks_grown g root tree x growing ears ear marks marks' ordered way are set =
     (links_in g root tree growing.order.items x (reverse growing.waiting.items) ears way.facts ordered) in
     record {
       one_each = set.one_each ∙ are.one_each;
-      directed = directed_grown g tree ears ear marks marks' are.directed set none_twice;
+      directed = directed_grown g tree ears ear marks marks' are.directed set none_twice
+          (λ v e on. link_touches g root tree (growing.order.items ++ x ∷ reverse growing.waiting.items) x ear v e way on);
       roles = roles_grown g tree ears ear marks marks' are.roles set none_twice;
     }
 

@@ -175,6 +175,12 @@ markable g root tree listed x ear begins way block = record {
       (block.1 back.one.begins, ap (λ (us : List ℕ). ear.first ∷ us) back.alone ∙ ap (λ (w : ℕ). w ∷ []) (sym back.is_first));
 }
 
+-- each link of an ear touches the node that the ear leaves over it
+pub link_touches : (g : Topology) (root : ℕ) (tree : List TreeNode) (listed : List ℕ) (x : ℕ) (ear : Ear) (v e : ℕ) → IsUnderWay g root tree listed x ear
+    → IsOnEar tree ear v e → (w : ℕ) × (leads g.links e v ≡ Some w)
+link_touches g root tree listed x ear v e way Out = (ear.first, way.brings.touches)
+link_touches g root tree listed x ear v e way (Onward u d new link) = let step = step_of g root tree listed x ear u d way new link in (step.to, step.onward)
+
 -- where an ear goes on to
 next_in : (g : Topology) (tree : List TreeNode) (kind : EarKind) (listed : List ℕ) (v : ℕ) (us : List ℕ) (stop u w : ℕ) → GoesOn g tree kind listed v us stop
     → Contains (v ∷ us) u → next_node g tree kind u ≡ Some w → Contains us w ⊎ (w ≡ stop)

@@ -18,11 +18,11 @@ use Rattle.mrt_graph.proofs.Members.{contains_none}
 use Rattle.gadag_ears.specs.declared.kind.EarKind.{EarKind}
 use Rattle.gadag_ears.specs.Ear.{ear_of, last_node, onward_link}
 use Rattle.gadag_ears.specs.HeadAndBlock.{BeginsBlock}
-use Rattle.gadag_ears.specs.LinkMarks.{AreEarMarked, IsDirected, IsLastOfBlock, IsOnEar, Onward, Out}
-use Rattle.gadag_ears.specs.Marking.{AreSetAlong, HasMark, IsMarkable, mark_along}
+use Rattle.gadag_ears.specs.LinkMarks.{IsLastOfBlock, IsOnEar, Onward, Out}
+use Rattle.gadag_ears.specs.Marking.{AreEarMarked, AreSetAlong, HasMark, IsMarkable, IsSetAway, mark_along}
 use Rattle.gadag_ears.proofs.EarLast.{last_in}
 
-directed_by : (g : Topology) (marks : List Mark) (v e : ℕ) (role : Role) → HasMark g marks v e role → IsDirected g marks v e
+directed_by : (g : Topology) (marks : List Mark) (v e : ℕ) (role : Role) → HasMark g marks v e role → IsSetAway g marks v e
 directed_by g marks v e role has = (has.0, has.1, ap (λ o. option_map (λ mark. mark.way) o) has.2)
 
 role_by : (g : Topology) (marks : List Mark) (v e : ℕ) (role : Role) → HasMark g marks v e role → role_at marks e ≡ Some role

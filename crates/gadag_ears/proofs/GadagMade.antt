@@ -16,13 +16,14 @@ use Rattle.gadag_ears.specs.Growing.{IsEnded}
 use Rattle.gadag_ears.specs.LinkMarks.{AreDirected, AreMarks, HaveRoles}
 use Rattle.gadag_ears.proofs.CommonBlocks.{common_block, placed_by_low}
 use Rattle.gadag_ears.proofs.FromSearch.{facts_of}
+use Rattle.gadag_ears.proofs.MarksGrown.{tail_stays}
 
 -- links with the same directions and roles
 ways_stay : (g : Topology) (tree : List TreeNode) (ears : List Ear) (marks marks' : List Mark) → ((e : ℕ) → way_at marks' e ≡ way_at marks e)
     → AreDirected g tree ears marks → AreDirected g tree ears marks'
 ways_stay g tree ears marks marks' same are = record {
-  out = λ ear c. let is = are.out ear c in (is.0, is.1, same ear.link ∙ is.2);
-  onward = λ ear v e c more on. let is = are.onward ear v e c more on in (is.0, is.1, same e ∙ is.2);
+  out = λ ear c. tail_stays g marks marks' ear.link (same ear.link) ∙ are.out ear c;
+  onward = λ ear v e c more on. tail_stays g marks marks' e (same e) ∙ are.onward ear v e c more on;
   others = λ e within none. same e ∙ are.others e within none;
 }
 

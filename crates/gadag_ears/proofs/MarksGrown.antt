@@ -1,19 +1,25 @@
 -- The marks are right with one more ear.
 use Rattle.std.proofs.Common.{◌≡◌, ◌≢◌, ◌⊎◌, ◌∙◌, ℕ, List, [], ◌∷◌, Option, Some, None, slice_get, inl, inr, refl, sym, ap, subst}
-use Rattle.std.specs.Option.{option_map}
+use Rattle.std.specs.Option.{option_and_then, option_map}
 use Rattle.std.specs.Prelude.{Contains}
 use Rattle.std.proofs.lemmas.Bool.{cases_eq}
+use Rattle.std.proofs.lemmas.Bool.Decides.{eqb_tells}
 use Rattle.std.proofs.lemmas.Option.{same_Some}
 use Rattle.mrt_graph.specs.declared.cert.Role.TheVariants.{Sole}
 use Rattle.mrt_graph.specs.declared.gadag.Mark.{Mark}
+use Rattle.mrt_graph.specs.declared.link.Link.{Link}
 use Rattle.mrt_graph.specs.declared.tree.TreeNode.{TreeNode}
 use Rattle.mrt_graph.specs.GadagWords.{role_at, way_at}
+use Rattle.mrt_graph.specs.Leads.{far_node, leads}
+use Rattle.mrt_graph.specs.Tails.{tail_at, tail_of}
 use Rattle.mrt_graph.specs.Topology.{Topology}
+use Rattle.mrt_graph.proofs.Hops.{far_ends}
 use Rattle.mrt_graph.proofs.Members.{contains_cases, contains_first, contains_later, contains_none}
 use Rattle.gadag_ears.specs.declared.kind.EarKind.{EarKind}
 use Rattle.gadag_ears.specs.Ear.{Ear, last_node, new_nodes, onward_link}
 use Rattle.gadag_ears.proofs.EarLast.{last_in}
-use Rattle.gadag_ears.specs.LinkMarks.{AreDirected, AreEarMarked, HaveRoles, IsDirected, IsLastOfBlock, IsOfOneLink, IsOnEar, Onward, Out}
+use Rattle.gadag_ears.specs.Marking.{AreEarMarked, IsSetAway, way_along}
+use Rattle.gadag_ears.specs.LinkMarks.{AreDirected, HaveRoles, IsLastOfBlock, IsOfOneLink, IsOnEar, Onward, Out}
 
 last_on : (tree : List TreeNode) (ear : Ear) (e : ℕ) → IsLastOfBlock tree ear e → IsOnEar tree ear (last_node ear.first ear.others) e
 last_on tree ear e last = Onward (last_node ear.first ear.others) e (last_in ear.first ear.others) last.last
@@ -71,27 +77,51 @@ IsApart tree ear ears = (d : Ear) (v w e : ℕ) → Contains ears d → IsOnEar 
 way_stays : (marks marks' : List Mark) (e : ℕ) → slice_get marks' e ≡ slice_get marks e → way_at marks' e ≡ way_at marks e
 way_stays marks marks' e same = ap (λ o. option_map (λ mark. mark.way) o) same
 
-directed_stays : (g : Topology) (marks marks' : List Mark) (v e : ℕ) → slice_get marks' e ≡ slice_get marks e → IsDirected g marks v e → IsDirected g marks' v e
-directed_stays g marks marks' v e same is = (is.0, is.1, way_stays marks marks' e same ∙ is.2)
+pub tail_stays : (g : Topology) (marks marks' : List Mark) (e : ℕ) → way_at marks' e ≡ way_at marks e → tail_at g.links marks' e ≡ tail_at g.links marks e
+tail_stays g marks marks' e same = ap (λ o. option_and_then (λ link. option_and_then (tail_of link) o) (slice_get g.links e)) same
+
+tail_still : (g : Topology) (marks marks' : List Mark) (e : ℕ) → slice_get marks' e ≡ slice_get marks e → tail_at g.links marks' e ≡ tail_at g.links marks e
+tail_still g marks marks' e same = tail_stays g marks marks' e (way_stays marks marks' e same)
+
+-- a link that was directed away from its node v has this node as its tail
+tail_along : (v w : ℕ) (link : Link) → far_node v link ≡ Some w → tail_of link (way_along v link) ≡ Some v
+tail_along v w link to = elim (eqb_tells link.a v) [
+  | inl at_a ↦ rw at_a.0 (ap (λ (u : ℕ). Some u) at_a.1)
+  | inr other ↦ elim (far_ends link v w to) [
+    | inl up ↦ absurd (other.1 up.0)
+    | inr down ↦ rw other.0 (ap (λ (u : ℕ). Some u) down.0)
+  ]
+]
+
+tail_set : (g : Topology) (marks : List Mark) (v w e : ℕ) → leads g.links e v ≡ Some w → IsSetAway g marks v e → tail_at g.links marks e ≡ Some v
+tail_set g marks v w e to is =
+    let far : far_node v is.0 ≡ Some w = sym (ap (λ o. option_and_then (far_node v) o) is.1) ∙ to in
+    ap (λ o. option_and_then (λ link. option_and_then (tail_of link) (way_at marks e)) o) is.1 ∙ ap (λ o. option_and_then (tail_of is.0) o) is.2
+    ∙ tail_along v w is.0 far
 
 role_stays : (marks marks' : List Mark) (e : ℕ) → slice_get marks' e ≡ slice_get marks e → role_at marks' e ≡ role_at marks e
 role_stays marks marks' e same = ap (λ o. option_map (λ mark. mark.role) o) same
 
-onward_directed : (g : Topology) (tree : List TreeNode) (ear : Ear) (marks marks' : List Mark) (v e : ℕ) → AreEarMarked g tree ear marks marks'
-    → ¬ IsOfOneLink tree ear → IsOnEar tree ear v e → IsDirected g marks' v e
-onward_directed g tree ear marks marks' v e set more Out = set.out
-onward_directed g tree ear marks marks' v e set more (Onward u f new over) = set.onward u f more new over
+onward_directed : (g : Topology) (tree : List TreeNode) (ear : Ear) (marks marks' : List Mark) (v w e : ℕ) → AreEarMarked g tree ear marks marks'
+    → ¬ IsOfOneLink tree ear → IsOnEar tree ear v e → leads g.links e v ≡ Some w → tail_at g.links marks' e ≡ Some v
+onward_directed g tree ear marks marks' v w e set more Out to = tail_set g marks' v w e to set.out
+onward_directed g tree ear marks marks' v w e set more (Onward u f new over) to = tail_set g marks' v w e to (set.onward u f more new over)
 
 pub directed_grown : (g : Topology) (tree : List TreeNode) (ears : List Ear) (ear : Ear) (marks marks' : List Mark) → AreDirected g tree ears marks
-    → AreEarMarked g tree ear marks marks' → IsApart tree ear ears → AreDirected g tree (ear ∷ ears) marks'
-directed_grown g tree ears ear marks marks' are set apart = record {
+    → AreEarMarked g tree ear marks marks' → IsApart tree ear ears → ((v e : ℕ) → IsOnEar tree ear v e → (w : ℕ) × (leads g.links e v ≡ Some w))
+    → AreDirected g tree (ear ∷ ears) marks'
+directed_grown g tree ears ear marks marks' are set apart touches = record {
   out = λ d c. elim (contains_cases ear d ears c) [
-    | inl same ↦ subst (λ (x : Ear). IsDirected g marks' x.start x.link) (sym same) set.out
-    | inr old ↦ directed_stays g marks marks' d.start d.link (set.others d.link (λ v on. apart d v d.start d.link old on Out)) (are.out d old)
+    | inl same ↦ subst (λ (x : Ear). tail_at g.links marks' x.link ≡ Some x.start) (sym same)
+        (let to = touches ear.start ear.link Out in tail_set g marks' ear.start to.0 ear.link to.1 set.out)
+    | inr old ↦ tail_still g marks marks' d.link (set.others d.link (λ v on. apart d v d.start d.link old on Out)) ∙ are.out d old
   ];
   onward = λ d v e c more on. elim (contains_cases ear d ears c) [
-    | inl same ↦ onward_directed g tree ear marks marks' v e set (subst (λ (x : Ear). ¬ IsOfOneLink tree x) same more) (subst (λ (x : Ear). IsOnEar tree x v e) same on)
-    | inr old ↦ directed_stays g marks marks' v e (set.others e (λ w new. apart d w v e old new on)) (are.onward d v e old more on)
+    | inl same ↦
+        let on' : IsOnEar tree ear v e = subst (λ (x : Ear). IsOnEar tree x v e) same on in
+        let to = touches v e on' in
+        onward_directed g tree ear marks marks' v to.0 e set (subst (λ (x : Ear). ¬ IsOfOneLink tree x) same more) on' to.1
+    | inr old ↦ tail_still g marks marks' e (set.others e (λ w new. apart d w v e old new on)) ∙ are.onward d v e old more on
   ];
   others = λ e within none.
       way_stays marks marks' e (set.others e (λ v on. none ear v (contains_first ear ears) on))

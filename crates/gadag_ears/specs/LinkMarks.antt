@@ -1,14 +1,13 @@
 -- Directions, roles and blocks of links, read off the ears.
-use Rattle.std.specs.Prelude.{◌≡◌, ◌≢◌, ◌<◌, ◌==◌, ℕ, List, Some, Contains, length, slice_get, if◌then◌else◌}
+use Rattle.std.specs.Prelude.{◌≡◌, ◌≢◌, ◌<◌, ℕ, List, Some, Contains, length}
 use Rattle.mrt_graph.specs.declared.cert.Role.TheVariants.{Plain, Sole, Closing}
 use Rattle.mrt_graph.specs.declared.gadag.Mark.{Mark}
 use Rattle.mrt_graph.specs.declared.gadag.Place.{Place}
-use Rattle.mrt_graph.specs.declared.gadag.Way.{Way}
-use Rattle.mrt_graph.specs.declared.gadag.Way.TheVariants.{AToB, BToA, Unset}
-use Rattle.mrt_graph.specs.declared.link.Link.{Link}
+use Rattle.mrt_graph.specs.declared.gadag.Way.TheVariants.{Unset}
 use Rattle.mrt_graph.specs.declared.tree.TreeNode.{TreeNode}
 use Rattle.mrt_graph.specs.GadagWords.{link_block_at, role_at, way_at}
 use Rattle.mrt_graph.specs.Leads.{leads}
+use Rattle.mrt_graph.specs.Tails.{tail_at}
 use Rattle.mrt_graph.specs.Topology.{Topology}
 use Rattle.gadag_ears.specs.CommonBlock.{IsCommonBlock}
 use Rattle.gadag_ears.specs.Ear.{Ear, last_node, new_nodes, onward_link}
@@ -28,19 +27,11 @@ pub record IsLastOfBlock (tree : List TreeNode) (ear : Ear) (e : ℕ) : Type 0 w
 abbrev pub IsOfOneLink : List TreeNode → Ear → Type 0
 IsOfOneLink tree ear = IsLastOfBlock tree ear ear.link
 
--- the direction of a link away from its node v
-abbrev pub way_along : ℕ → Link → Way
-way_along v link = if link.a == v then AToB else BToA
-
--- there is a link e, and it is directed away from its node v
-abbrev pub IsDirected : Topology → List Mark → ℕ → ℕ → Type 0
-IsDirected g marks v e = (link : Link) × (slice_get g.links e ≡ Some link) × (way_at marks e ≡ Some (way_along v link))
-
 -- directions: the links of an ear are directed along it, but the one link of a block from the head to the member
 pub record AreDirected (g : Topology) (tree : List TreeNode) (ears : List Ear) (marks : List Mark) : Type 0 where
-  pub out : (ear : Ear) → Contains ears ear → IsDirected g marks ear.start ear.link
+  pub out : (ear : Ear) → Contains ears ear → tail_at g.links marks ear.link ≡ Some ear.start
   pub onward : (ear : Ear) (v e : ℕ) → Contains ears ear → ¬ IsOfOneLink tree ear → IsOnEar tree ear v e
-      → IsDirected g marks v e
+      → tail_at g.links marks e ≡ Some v
   pub others : (e : ℕ) → e < length g.links → ((ear : Ear) (v : ℕ) → Contains ears ear → ¬ IsOnEar tree ear v e)
       → way_at marks e ≡ Some Unset
 
@@ -66,14 +57,3 @@ pub record AreMarks (g : Topology) (tree : List TreeNode) (ears : List Ear) (pla
   pub directed : AreDirected g tree ears marks
   pub roles : HaveRoles g tree ears marks
   pub blocks : (e : ℕ) → e < length g.links → LiesInBlock g places marks e
-
--- the marks of an ear's links are set, and all others are as before
-pub record AreEarMarked (g : Topology) (tree : List TreeNode) (ear : Ear) (marks marks' : List Mark) : Type 0 where
-  pub one_each : length marks' ≡ length marks
-  pub out : IsDirected g marks' ear.start ear.link
-  pub onward : (v e : ℕ) → ¬ IsOfOneLink tree ear → Contains (new_nodes ear) v
-      → onward_link ear.kind tree v ≡ Some e → IsDirected g marks' v e
-  pub sole : IsOfOneLink tree ear → role_at marks' ear.link ≡ Some Sole
-  pub closing : (e : ℕ) → IsLastOfBlock tree ear e → e ≢ ear.link → role_at marks' e ≡ Some Closing
-  pub plain : (v e : ℕ) → IsOnEar tree ear v e → ¬ IsLastOfBlock tree ear e → role_at marks' e ≡ Some Plain
-  pub others : (e : ℕ) → ((v : ℕ) → ¬ IsOnEar tree ear v e) → slice_get marks' e ≡ slice_get marks e

@@ -1,15 +1,26 @@
 -- The links of an ear on their way to their marks.
-use Rattle.std.specs.Prelude.{◌≡◌, ◌≢◌, ◌<◌, ℕ, Bool, IsTrue, List, [], ◌∷◌, Some, Contains, length, slice_get}
+use Rattle.std.specs.Prelude.{◌≡◌, ◌≢◌, ◌<◌, ◌==◌, ℕ, Bool, IsTrue, List, [], ◌∷◌, Some, Contains, length, slice_get, if◌then◌else◌}
 use Rattle.mrt_graph.specs.declared.cert.Role.{Role}
-use Rattle.mrt_graph.specs.declared.cert.Role.TheVariants.{Plain}
+use Rattle.mrt_graph.specs.declared.cert.Role.TheVariants.{Closing, Plain, Sole}
 use Rattle.mrt_graph.specs.declared.gadag.Mark.{Mark}
+use Rattle.mrt_graph.specs.declared.gadag.Way.{Way}
+use Rattle.mrt_graph.specs.declared.gadag.Way.TheVariants.{AToB, BToA}
 use Rattle.mrt_graph.specs.declared.link.Link.{Link}
 use Rattle.mrt_graph.specs.declared.tree.TreeNode.{TreeNode}
+use Rattle.mrt_graph.specs.GadagWords.{role_at, way_at}
 use Rattle.mrt_graph.specs.Leads.{leads}
 use Rattle.mrt_graph.specs.Topology.{Topology}
 use Rattle.gadag_ears.specs.declared.kind.EarKind.{EarKind}
-use Rattle.gadag_ears.specs.Ear.{onward_link}
-use Rattle.gadag_ears.specs.LinkMarks.{way_along}
+use Rattle.gadag_ears.specs.Ear.{Ear, new_nodes, onward_link}
+use Rattle.gadag_ears.specs.LinkMarks.{IsLastOfBlock, IsOfOneLink, IsOnEar}
+
+-- the direction of a link away from its node v
+abbrev pub way_along : ℕ → Link → Way
+way_along v link = if link.a == v then AToB else BToA
+
+-- there is a link e, and its direction is the one away from its node v
+abbrev pub IsSetAway : Topology → List Mark → ℕ → ℕ → Type 0
+IsSetAway g marks v e = (link : Link) × (slice_get g.links e ≡ Some link) × (way_at marks e ≡ Some (way_along v link))
 
 -- the mark of a link that is directed away from its node v; its block comes later
 abbrev pub mark_along : ℕ → Link → Role → Mark
@@ -47,3 +58,14 @@ pub record AreSetAlong (g : Topology) (tree : List TreeNode) (kind : EarKind) (x
   pub along : (v e : ℕ) → Contains some v → onward_link kind tree v ≡ Some e → HasMark g marks' v e Plain
   pub others : (e : ℕ) → e ≢ link → ((v : ℕ) → Contains some v → onward_link kind tree v ≡ Some e → ⊥)
       → slice_get marks' e ≡ slice_get marks e
+
+-- the marks of an ear's links are set, and all others are as before
+pub record AreEarMarked (g : Topology) (tree : List TreeNode) (ear : Ear) (marks marks' : List Mark) : Type 0 where
+  pub one_each : length marks' ≡ length marks
+  pub out : IsSetAway g marks' ear.start ear.link
+  pub onward : (v e : ℕ) → ¬ IsOfOneLink tree ear → Contains (new_nodes ear) v
+      → onward_link ear.kind tree v ≡ Some e → IsSetAway g marks' v e
+  pub sole : IsOfOneLink tree ear → role_at marks' ear.link ≡ Some Sole
+  pub closing : (e : ℕ) → IsLastOfBlock tree ear e → e ≢ ear.link → role_at marks' e ≡ Some Closing
+  pub plain : (v e : ℕ) → IsOnEar tree ear v e → ¬ IsLastOfBlock tree ear e → role_at marks' e ≡ Some Plain
+  pub others : (e : ℕ) → ((v : ℕ) → ¬ IsOnEar tree ear v e) → slice_get marks' e ≡ slice_get marks e

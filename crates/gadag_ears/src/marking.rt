@@ -20,8 +20,7 @@ ghost use Rattle.mrt_graph.specs.declared.link.Link.{Link};
 ghost use Rattle.mrt_graph.specs.Leads.{leads};
 ghost use Rattle.gadag_ears.specs.Ear.{ear_of, last_node, onward_link};
 ghost use Rattle.gadag_ears.specs.HeadAndBlock.{BeginsBlock};
-ghost use Rattle.gadag_ears.specs.LinkMarks.{AreEarMarked};
-ghost use Rattle.gadag_ears.specs.Marking.{AreSetAlong, IsMarkable, mark_along};
+ghost use Rattle.gadag_ears.specs.Marking.{AreEarMarked, AreSetAlong, IsMarkable, mark_along};
 
 use crate::kind::EarKind;
 use mrt_graph::{Graph, LinkNo, Mark, NodeNo, Role, Tree, Way};

@@ -8,8 +8,7 @@ use Rattle.gadag_ears.specs.declared.growing.Growing.{Growing}
 use Rattle.gadag_ears.specs.declared.kind.EarKind.{EarKind}
 use Rattle.gadag_ears.specs.Growing.{AreListed, IsLeaving, IsPlaceOfEar, IsTurn, IsWay, StartsEar}
 use Rattle.gadag_ears.specs.Ear.{Ear, ear_of}
-use Rattle.gadag_ears.specs.LinkMarks.{AreEarMarked}
-use Rattle.gadag_ears.specs.Marking.{IsMarkable}
+use Rattle.gadag_ears.specs.Marking.{AreEarMarked, IsMarkable}
 use Rattle.mrt_graph.specs.declared.gadag.Mark.{Mark}
 use Rattle.gadag_ears.proofs.CutLists.{put_in}
 use Rattle.gadag_ears.proofs.EarBrought.{IsFoundEar, ear_of_way, leaving_of, markable_ear, room_for_new, turn_grown, turn_kept}
