@@ -33,17 +33,17 @@ use Rattle.gadag_ears.proofs.SearchFacts.{AreFacts}
 use Rattle.gadag_ears.proofs.TurnsKept.{all_kept, link_of_next, ready}
 
 -- an ear, with the way that it takes
-record IsKnown (g : Topology) (root : ℕ) (tree : List TreeNode) (ear : Ear) : Type 0 where
+pub record IsKnown (g : Topology) (root : ℕ) (tree : List TreeNode) (ear : Ear) : Type 0 where
   pub listed : List ℕ
   pub x : ℕ
   pub way : IsUnderWay g root tree listed x ear
 
-way_of : (g : Topology) (root : ℕ) (tree : List TreeNode) (over : List ℕ) (x : ℕ) (later : List ℕ) (ears : List Ear) (ear : Ear) → AreFacts g root tree
+pub way_of : (g : Topology) (root : ℕ) (tree : List TreeNode) (over : List ℕ) (x : ℕ) (later : List ℕ) (ears : List Ear) (ear : Ear) → AreFacts g root tree
     → IsEarOrder g root tree over x later ears → IsNextEar g tree (over ++ x ∷ later) x ear → IsUnderWay g root tree (over ++ x ∷ later) x ear
 way_of g root tree over x later ears ear facts ordered next =
     under_way g root tree (over ++ x ∷ later) x ear facts (ready g tree over x later (all_kept g root tree over x later ears facts ordered)) next
 
-known : (g : Topology) (root : ℕ) (tree : List TreeNode) (over : List ℕ) (x : ℕ) (later : List ℕ) (ears : List Ear) → AreFacts g root tree
+pub known : (g : Topology) (root : ℕ) (tree : List TreeNode) (over : List ℕ) (x : ℕ) (later : List ℕ) (ears : List Ear) → AreFacts g root tree
     → IsEarOrder g root tree over x later ears → (ear : Ear) → Contains ears ear → IsKnown g root tree ear
 known g root tree over x later ears facts Begun ear c = absurd (contains_none ear c)
 known g root tree over x later ears facts (Grown over' x' later' ears' ear' before next) ear c = elim (contains_cases ear' ear ears' c) [
@@ -54,13 +54,13 @@ known g root tree over x later ears facts (Grown over' x' later' ears' ear' befo
 known g root tree over x later ears facts (Turned over' x' y later' ears' before done) ear c = known g root tree over' x' (y ∷ later') ears' facts before ear c
 
 -- an ear that begins the block of a node
-record IsBegunBy (ears : List Ear) (places : List Place) (v : ℕ) : Type 0 where
+pub record IsBegunBy (ears : List Ear) (places : List Place) (v : ℕ) : Type 0 where
   pub ear : Ear
   pub among : Contains ears ear
   pub begins : BeginsBlock ear
   pub block : block_at places v ≡ Some ear.first
 
-begun_by : (g : Topology) (root : ℕ) (tree : List TreeNode) (places : List Place) (all : List Ear) (over : List ℕ) (x : ℕ) (later : List ℕ) (ears : List Ear)
+pub begun_by : (g : Topology) (root : ℕ) (tree : List TreeNode) (places : List Place) (all : List Ear) (over : List ℕ) (x : ℕ) (later : List ℕ) (ears : List Ear)
     → AreFacts g root tree → ArePlaces root all places → ((v : ℕ) → v < length g.ids → block_at places v ≡ Some root → v ≡ root)
     → ((v : ℕ) → Contains (over ++ x ∷ later) v → v < length g.ids)
     → ((ear : Ear) → Contains ears ear → Contains all ear) → IsEarOrder g root tree over x later ears
@@ -91,7 +91,7 @@ begun_by g root tree places all over x later ears facts placed alone within sub 
     (subst (λ (xs : List ℕ). Contains xs v) (turned over' x' y later') c) other
 
 -- ears with the same first node are one
-one_first : (g : Topology) (root : ℕ) (tree : List TreeNode) (over : List ℕ) (x : ℕ) (later : List ℕ) (ears : List Ear) → AreFacts g root tree
+pub one_first : (g : Topology) (root : ℕ) (tree : List TreeNode) (over : List ℕ) (x : ℕ) (later : List ℕ) (ears : List Ear) → AreFacts g root tree
     → IsEarOrder g root tree over x later ears → (d e : Ear) → Contains ears d → Contains ears e → d.first ≡ e.first → d ≡ e
 one_first g root tree over x later ears facts Begun d e d_in e_in same = absurd (contains_none d d_in)
 one_first g root tree over x later ears facts (Grown over' x' later' ears' ear' before next) d e d_in e_in same =
@@ -114,18 +114,18 @@ one_first g root tree over x later ears facts (Turned over' x' y later' ears' be
     one_first g root tree over' x' (y ∷ later') ears' facts before d e d_in e_in same
 
 -- from its last new node an ear goes on to where it stops
-last_next : (g : Topology) (tree : List TreeNode) (kind : EarKind) (listed : List ℕ) (v : ℕ) (us : List ℕ) (stop : ℕ) → GoesOn g tree kind listed v us stop
+pub last_next : (g : Topology) (tree : List TreeNode) (kind : EarKind) (listed : List ℕ) (v : ℕ) (us : List ℕ) (stop : ℕ) → GoesOn g tree kind listed v us stop
     → next_node g tree kind (last_node v us) ≡ Some stop
 last_next g tree kind listed v [] stop goes = goes.0
 last_next g tree kind listed v (u ∷ us) stop goes = last_next g tree kind listed u us stop goes.2
 
 -- the last link of an ear that begins a block lies in that block
-record IsLastLink (g : Topology) (tree : List TreeNode) (marks : List Mark) (ear : Ear) : Type 0 where
+pub record IsLastLink (g : Topology) (tree : List TreeNode) (marks : List Mark) (ear : Ear) : Type 0 where
   pub link : ℕ
   pub last : IsLastOfBlock tree ear link
   pub block : link_block_at marks link ≡ Some ear.first
 
-last_link : (g : Topology) (root : ℕ) (tree : List TreeNode) (ears : List Ear) (ear : Ear) (places : List Place) (marks : List Mark) → AreFacts g root tree
+pub last_link : (g : Topology) (root : ℕ) (tree : List TreeNode) (ears : List Ear) (ear : Ear) (places : List Place) (marks : List Mark) → AreFacts g root tree
     → ((v p : ℕ) → v < length g.ids → parent_of g tree v ≡ Some p → IsPlacedByLow g tree places v p) → ArePlaces root ears places
     → ((e : ℕ) → e < length g.links → LiesInBlock g places marks e) → Contains ears ear → BeginsBlock ear → IsKnown g root tree ear → IsLastLink g tree marks ear
 last_link g root tree ears ear places marks facts by_low placed blocks among begins it =
@@ -141,12 +141,12 @@ last_link g root tree ears ear places marks facts by_low placed blocks among beg
     record { link = over.0; last = record { begins = begins; last = over.1 }; block = lies.is ∙ ap (λ (w : ℕ). Some w) same }
 
 -- whether a link is the last one of an ear that begins a block
-record IsOfSome (tree : List TreeNode) (ears : List Ear) (e : ℕ) : Type 0 where
+pub record IsOfSome (tree : List TreeNode) (ears : List Ear) (e : ℕ) : Type 0 where
   pub ear : Ear
   pub among : Contains ears ear
   pub last : IsLastOfBlock tree ear e
 
-last_or_not : (tree : List TreeNode) (ears : List Ear) (e : ℕ) → IsOfSome tree ears e ⊎ ((ear : Ear) → Contains ears ear → ¬ IsLastOfBlock tree ear e)
+pub last_or_not : (tree : List TreeNode) (ears : List Ear) (e : ℕ) → IsOfSome tree ears e ⊎ ((ear : Ear) → Contains ears ear → ¬ IsLastOfBlock tree ear e)
 last_or_not tree [] e = inr (λ ear none. absurd (contains_none ear none))
 last_or_not tree (d ∷ ds) e = elim (last_or_not tree ds e) [
   | inl it ↦ inl (record { ear = it.ear; among = contains_later d it.ear ds it.among; last = it.last })
@@ -166,7 +166,7 @@ last_or_not tree (d ∷ ds) e = elim (last_or_not tree ds e) [
 ]
 
 -- a link that has a block is there
-block_there : (marks : List Mark) (e k : ℕ) → link_block_at marks e ≡ Some k → e < length marks
+pub block_there : (marks : List Mark) (e k : ℕ) → link_block_at marks e ≡ Some k → e < length marks
 block_there marks e k is = go (slice_get marks e) refl is
   where
     go : (o : Option Mark) → slice_get marks e ≡ o → option_map (λ mark. mark.block) o ≡ Some k → e < length marks

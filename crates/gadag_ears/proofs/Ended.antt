@@ -47,12 +47,12 @@ ears_in g root tree over x later ears facts (Turned over' x' y later' ears' befo
     (ears_in g root tree over' x' (y ∷ later') ears' facts before)
 
 -- when all turns are over the neighbours of all listed nodes are in the list
-record AreAllDone (g : Topology) (root : ℕ) (tree : List TreeNode) (order : List ℕ) : Type 0 where
+pub record AreAllDone (g : Topology) (root : ℕ) (tree : List TreeNode) (order : List ℕ) : Type 0 where
   pub root_in : Contains order root
   pub once : (v : ℕ) → times v order ≤ 1
   pub neighbours : (u e v : ℕ) → Contains order u → leads g.links e u ≡ Some v → Contains order v
 
-all_done : (g : Topology) (root : ℕ) (tree : List TreeNode) (order : List ℕ) (ears : List Ear) → AreFacts g root tree → AreEars g root tree order ears
+pub all_done : (g : Topology) (root : ℕ) (tree : List TreeNode) (order : List ℕ) (ears : List Ear) → AreFacts g root tree → AreEars g root tree order ears
     → AreAllDone g root tree order
 all_done g root tree order ears facts are =
     subst (λ (xs : List ℕ). AreAllDone g root tree xs) (sym are.whole) (record {

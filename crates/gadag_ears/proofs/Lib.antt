@@ -2,6 +2,7 @@ pub mod BlockLinks
 pub mod ChildEars
 pub mod CommonBlocks
 pub mod CutLists
+pub mod DirectedLinks
 pub mod EarBrought
 pub mod EarLast
 pub mod EarLinks
@@ -11,6 +12,7 @@ pub mod EarsExist
 pub mod Ended
 pub mod EndsPassed
 pub mod Entering
+pub mod Forward
 pub mod FromSearch
 pub mod GadagMade
 pub mod HeadsByLowpoints

@@ -51,7 +51,7 @@ over_or_not tree kind (u ∷ us) e = elim (is_link_or_not (onward_link kind tree
 ]
 
 -- a link on an ear, or on none of its nodes
-record IsOn (tree : List TreeNode) (ear : Ear) (e : ℕ) : Type 0 where
+pub record IsOn (tree : List TreeNode) (ear : Ear) (e : ℕ) : Type 0 where
   pub node : ℕ
   pub on : IsOnEar tree ear node e
 
@@ -60,7 +60,7 @@ not_out_nor_onward : (tree : List TreeNode) (ear : Ear) (v e : ℕ) → (e ≡ e
 not_out_nor_onward tree ear v e other nowhere Out = other refl
 not_out_nor_onward tree ear v e other nowhere (Onward u f new over) = nowhere u new over
 
-on_or_not : (tree : List TreeNode) (ear : Ear) (e : ℕ) → IsOn tree ear e ⊎ ((v : ℕ) → ¬ IsOnEar tree ear v e)
+pub on_or_not : (tree : List TreeNode) (ear : Ear) (e : ℕ) → IsOn tree ear e ⊎ ((v : ℕ) → ¬ IsOnEar tree ear v e)
 on_or_not tree ear e = elim (cases_eq e ear.link) [
   | inl same ↦ inl (record { node = ear.start; on = subst (λ (d : ℕ). IsOnEar tree ear ear.start d) (sym same) Out })
   | inr other ↦ elim (over_or_not tree ear.kind (new_nodes ear) e) [

@@ -5,6 +5,7 @@
 mod blocks;
 mod ears_law;
 mod gadag;
+mod gadag_law;
 mod growing;
 mod kind;
 mod marking;
@@ -18,3 +19,4 @@ pub use ears_law::{
     one_sole_or_closing_link_a_block, the_root_is_alone_in_its_block,
 };
 pub use gadag::ears;
+pub use gadag_law::counted_links_lead_forward;

@@ -1,0 +1,18 @@
+//! What holds of the GADAG of each graph: its counted links and its blocks.
+
+ghost use Rattle.std.specs.Prelude.{◌≡◌, ◌<◌, ℕ, List, Some, length, slice_get};
+ghost use Rattle.mrt_graph.specs.declared.tree.TreeNode.{TreeNode};
+ghost use Rattle.mrt_graph.specs.GadagLists.{GadagLists};
+ghost use Rattle.mrt_graph.specs.GraphInvariant.{IsTopology};
+ghost use Rattle.mrt_graph.specs.Topology.{Topology};
+ghost use Rattle.lowpoint_dfs.specs.SearchTree.{IsSearchTree};
+ghost use Rattle.gadag_ears.specs.Counted.{IsCounted};
+ghost use Rattle.gadag_ears.specs.Gadag.{IsGadag};
+
+/// A law: a counted link leads forward in the ear order.
+pub fn counted_links_lead_forward()
+    ensures { (g : Topology) (root : ℕ) (tree : List TreeNode) (gadag : GadagLists)
+        → IsTopology g → root < length g.ids → IsSearchTree g root tree → IsGadag g root tree gadag
+        → (e u v k l : ℕ) → IsCounted g gadag.marks e u v → slice_get gadag.order k ≡ Some u
+        → slice_get gadag.order l ≡ Some v → k < l }
+{}
