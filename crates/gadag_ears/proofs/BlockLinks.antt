@@ -1,9 +1,10 @@
--- Of the links of a block, one is sole or closing.
+-- The ear that begins a block, and the links of the block.
 use Rattle.std.proofs.Common.{◌≡◌, ◌≢◌, ◌⊎◌, ◌<◌, ◌++◌, ◌∙◌, ℕ, List, [], ◌∷◌, Option, Some, None, length, slice_get, inl, inr, refl, sym, ap, subst, arith}
 use Rattle.std.specs.Option.{option_map}
 use Rattle.std.specs.Prelude.{Contains}
 use Rattle.std.proofs.lemmas.Bool.{cases_eq}
 use Rattle.std.proofs.lemmas.Option.{same_Some, slice_get_within}
+use Rattle.mrt_graph.specs.declared.cert.Role.TheVariants.{Plain}
 use Rattle.mrt_graph.specs.declared.gadag.Mark.{Mark}
 use Rattle.mrt_graph.specs.declared.gadag.Place.{Place}
 use Rattle.mrt_graph.specs.declared.tree.TreeNode.{TreeNode}
@@ -20,7 +21,6 @@ use Rattle.gadag_ears.specs.EarOrder.{Begun, Grown, IsEarOrder, Turned}
 use Rattle.gadag_ears.specs.Gadag.{IsGadag}
 use Rattle.gadag_ears.specs.HeadAndBlock.{ArePlaces, BeginsBlock}
 use Rattle.gadag_ears.specs.LinkMarks.{IsLastOfBlock, LiesInBlock}
-use Rattle.gadag_ears.specs.MarkedLink.{HasOneMarkedLink}
 use Rattle.gadag_ears.proofs.CommonBlocks.{leads_elsewhere, one_common_block, placed_by_low, root_alone}
 use Rattle.gadag_ears.proofs.CutLists.{put_cases, turned}
 use Rattle.gadag_ears.proofs.EarLast.{last_in}
@@ -173,35 +173,44 @@ block_there marks e k is = go (slice_get marks e) refl is
     go None found is = cc
     go (Some mark) found is = slice_get_within marks e mark found
 
-pub one_marked_link : (g : Topology) (root : ℕ) (tree : List TreeNode) (gadag : GadagLists) → AreFacts g root tree → IsGadag g root tree gadag
-    → (v k : ℕ) → v < length g.ids → v ≢ root → block_at gadag.places v ≡ Some k → HasOneMarkedLink gadag.marks k
-one_marked_link g root tree gadag facts it v k within other block =
+-- the ear that begins block k, with its last link; all other links of the block are plain
+pub record IsBegunBlock (g : Topology) (root : ℕ) (tree : List TreeNode) (ears : List Ear) (marks : List Mark) (k : ℕ) : Type 0 where
+  pub ear : Ear
+  pub among : Contains ears ear
+  pub begins : BeginsBlock ear
+  pub names : ear.first ≡ k
+  pub way : IsKnown g root tree ear
+  pub last : IsLastLink g tree marks ear
+  pub others : (e : ℕ) → link_block_at marks e ≡ Some k → (e ≡ last.link) ⊎ (role_at marks e ≡ Some Plain)
+
+pub begun_block : (g : Topology) (root : ℕ) (tree : List TreeNode) (gadag : GadagLists) → AreFacts g root tree → (it : IsGadag g root tree gadag)
+    → (v k : ℕ) → v < length g.ids → v ≢ root → block_at gadag.places v ≡ Some k → IsBegunBlock g root tree it.ears gadag.marks k
+begun_block g root tree gadag facts it v k within other block =
     let by_low = placed_by_low g root tree gadag.order it.ears gadag.places facts it.are_ears it.places in
     let alone : (w : ℕ) → w < length g.ids → block_at gadag.places w ≡ Some root → w ≡ root = λ w in_graph is. root_alone g root tree gadag.places w facts by_low in_graph is in
     let kept = all_kept g root tree it.are_ears.before it.are_ears.last [] it.ears facts it.are_ears.ordered in
     let here = begun_by g root tree gadag.places it.ears it.are_ears.before it.are_ears.last [] it.ears facts it.places alone kept.within (λ ear c. c)
     it.are_ears.ordered v (subst (λ (xs : List ℕ). Contains xs v) it.are_ears.whole (each_listed g root tree gadag.order it.ears facts it.are_ears v within)) other in
     let is_k : here.ear.first ≡ k = same_Some here.ear.first k (sym here.block ∙ block) in
-    let last = last_link g root tree it.ears here.ear gadag.places gadag.marks facts by_low it.places it.marks.blocks here.among here.begins
-    (known g root tree it.are_ears.before it.are_ears.last [] it.ears facts it.are_ears.ordered here.ear here.among) in
+    let way : (ear : Ear) → Contains it.ears ear → IsKnown g root tree ear = λ ear among.
+    known g root tree it.are_ears.before it.are_ears.last [] it.ears facts it.are_ears.ordered ear among in
+    let last = last_link g root tree it.ears here.ear gadag.places gadag.marks facts by_low it.places it.marks.blocks here.among here.begins (way here.ear here.among) in
     record {
-      link = last.link;
-      block = last.block ∙ ap (λ (w : ℕ). Some w) is_k;
-      marked = elim (cases_eq last.link here.ear.link) [
-        | inl same ↦ inl (ap (λ (e : ℕ). role_at gadag.marks e) same
-            ∙ it.marks.roles.sole here.ear here.among (subst (λ (e : ℕ). IsLastOfBlock tree here.ear e) same last.last))
-        | inr differs ↦ inr (it.marks.roles.closing here.ear last.link here.among last.last differs)
-      ];
-      no_other = λ d of not_plain. elim (last_or_not tree it.ears d) [
-        | inr none ↦ absurd (not_plain (it.marks.roles.others d (omega (arith, block_there gadag.marks d k of, it.marks.one_each)) none))
+      ear = here.ear;
+      among = here.among;
+      begins = here.begins;
+      names = is_k;
+      way = way here.ear here.among;
+      last = last;
+      others = λ d of. elim (last_or_not tree it.ears d) [
+        | inr none ↦ inr (it.marks.roles.others d (omega (arith, block_there gadag.marks d k of, it.marks.one_each)) none)
         | inl some ↦
-            let its = last_link g root tree it.ears some.ear gadag.places gadag.marks facts by_low it.places it.marks.blocks some.among some.last.begins
-            (known g root tree it.are_ears.before it.are_ears.last [] it.ears facts it.are_ears.ordered some.ear some.among) in
+            let its = last_link g root tree it.ears some.ear gadag.places gadag.marks facts by_low it.places it.marks.blocks some.among some.last.begins (way some.ear some.among) in
             let d_is : its.link ≡ d = same_Some its.link d (sym its.last.last ∙ some.last.last) in
             let first : some.ear.first ≡ k = same_Some some.ear.first k (sym its.block ∙ ap (λ (e : ℕ). link_block_at gadag.marks e) d_is ∙ of) in
             let same = one_first g root tree it.are_ears.before it.are_ears.last [] it.ears facts it.are_ears.ordered some.ear here.ear some.among here.among
             (first ∙ sym is_k) in
-            same_Some d last.link (sym (subst (λ (f : Ear). onward_link f.kind tree (last_node f.first f.others) ≡ Some d) same some.last.last) ∙ last.last.last)
+            inl (same_Some d last.link (sym (subst (λ (f : Ear). onward_link f.kind tree (last_node f.first f.others) ≡ Some d) same some.last.last) ∙ last.last.last))
       ];
     }
 

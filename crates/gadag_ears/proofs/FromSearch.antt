@@ -1,7 +1,7 @@
 -- The facts on the search tree, from the laws of the search.
-use Rattle.std.proofs.Common.{◌≡◌, ◌≢◌, ◌<◌, ◌≤◌, ◌∙◌, ℕ, List, Some, None, length, inl, inr, refl, sym, ap, arith}
-use Rattle.std.specs.Option.{option_and_then}
-use Rattle.std.proofs.lemmas.Bool.{cases_Bool}
+use Rattle.std.proofs.Common.{◌≡◌, ◌≢◌, ◌<◌, ◌≤◌, ◌∙◌, ◌==◌, ℕ, Bool, true, false, List, Some, None, length, inl, inr, refl, sym, ap, arith}
+use Rattle.std.specs.Option.{option_and_then, option_map_or}
+use Rattle.std.proofs.lemmas.Bool.{cases_Bool, eq-eqb}
 use Rattle.std.proofs.lemmas.Option.{same_Some}
 use Rattle.mrt_graph.specs.declared.link.End.{End}
 use Rattle.mrt_graph.specs.declared.tree.TreeNode.{TreeNode}
@@ -89,6 +89,16 @@ low_way_of g root tree v s (ByParent own link) = ToParent own link
 low_way_of g root tree v s (ByOffer end lower first link) =
     low_way_over g root tree v end s lower (end_leads g v first.place first.ends end s.kept first.list first.there) first.asked link
 
+-- where a lowpoint is below the node's number its link is not the parent link
+low_free_of : (g : Topology) (tree : List TreeNode) (v e : ℕ) → low_of tree v < number_of tree v → low_link tree v ≡ Some e → IsLowLink g tree v
+    → parent_link tree v ≢ Some e
+low_free_of g tree v e lower is (ByParent own link) over = omega (arith, lower, own)
+low_free_of g tree v e lower is (ByOffer end low first link) over =
+    let same : e ≡ end.link = same_Some e end.link (sym is ∙ link) in
+    let own : is_parent_link tree v end.link ≡ true = ap (λ o. option_map_or (λ parent. parent == end.link) o false) over ∙ eq-eqb e end.link same in
+    let none : None ≡ Some (low_of tree v) = rw own at first.asked in
+    none_some (low_of tree v) none
+
 low_from_one_of : (g : Topology) (root : ℕ) (tree : List TreeNode) → IsSearched g root tree → (v : ℕ) → v < length g.ids → 1 ≤ low_of tree v
 low_from_one_of g root tree s v within = elim (low_reached g root tree s.kept s.within s.search v within).one_of_them [
   | inl own ↦ omega (arith, own, (numbers_within g root tree s.kept s.within s.search v within).0)
@@ -121,4 +131,5 @@ facts_of g root tree s = record {
   root_first = (root_first g root tree s.search.order s.search.searched).number;
   low_from_one = λ v within. low_from_one_of g root tree s v within;
   low_way = λ v within. low_way_of g root tree v s (s.search.lowpoints v within).link;
+  low_free = λ v e within lower is. low_free_of g tree v e lower is (s.search.lowpoints v within).link;
 }

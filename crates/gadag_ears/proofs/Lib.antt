@@ -24,4 +24,5 @@ pub mod NextEar
 pub mod Once
 pub mod OneEarOrder
 pub mod SearchFacts
+pub mod SoleLinks
 pub mod TurnsKept

@@ -39,6 +39,7 @@ pub record AreFacts (g : Topology) (root : ℕ) (tree : List TreeNode) : Type 0 
   pub root_first : number_of tree root ≡ 1
   pub low_from_one : (v : ℕ) → v < length g.ids → 1 ≤ low_of tree v
   pub low_way : (v : ℕ) → v < length g.ids → IsLowWay g tree v
+  pub low_free : (v e : ℕ) → v < length g.ids → low_of tree v < number_of tree v → low_link tree v ≡ Some e → parent_link tree v ≢ Some e
 
 pub one_parent : (g : Topology) (tree : List TreeNode) (v p q : ℕ) → parent_of g tree v ≡ Some p → parent_of g tree v ≡ Some q → p ≡ q
 one_parent g tree v p q is so = same_Some p q (sym is ∙ so)

@@ -1,3 +1,4 @@
+pub mod BlockLinks
 pub mod Blocks
 pub mod CommonBlock
 pub mod Counted
@@ -8,4 +9,3 @@ pub mod Growing
 pub mod HeadAndBlock
 pub mod LinkMarks
 pub mod Marking
-pub mod MarkedLink

@@ -2,7 +2,6 @@
 
 ghost use Rattle.std.specs.Prelude.{
   ◌≡◌,
-  ◌≢◌,
   ◌<◌,
   ◌≤◌,
   ◌⊎◌,
@@ -19,8 +18,7 @@ ghost use Rattle.std.specs.Prelude.{
 ghost use Rattle.mrt_graph.specs.declared.gadag.Place.{Place};
 ghost use Rattle.mrt_graph.specs.declared.link.End.{End};
 ghost use Rattle.mrt_graph.specs.declared.tree.TreeNode.{TreeNode};
-ghost use Rattle.mrt_graph.specs.GadagLists.{GadagLists};
-ghost use Rattle.mrt_graph.specs.GadagWords.{block_at, link_block_at};
+ghost use Rattle.mrt_graph.specs.GadagWords.{block_at};
 ghost use Rattle.mrt_graph.specs.GraphInvariant.{IsTopology};
 ghost use Rattle.mrt_graph.specs.Leads.{leads};
 ghost use Rattle.mrt_graph.specs.Topology.{Topology};
@@ -31,9 +29,7 @@ ghost use Rattle.gadag_ears.specs.declared.kind.EarKind.{EarKind};
 ghost use Rattle.gadag_ears.specs.CommonBlock.{IsCommonBlock};
 ghost use Rattle.gadag_ears.specs.Ear.{Ear, IsBegun, IsNextEar};
 ghost use Rattle.gadag_ears.specs.EarOrder.{AreEars, IsEarOrder};
-ghost use Rattle.gadag_ears.specs.Gadag.{IsGadag};
 ghost use Rattle.gadag_ears.specs.HeadAndBlock.{ArePlaces, HasPlace, IsPlacedAs};
-ghost use Rattle.gadag_ears.specs.MarkedLink.{HasOneMarkedLink};
 
 /// A law: a graph with its search tree has at most one ear order, from one list of ears.
 pub fn one_ear_order()
@@ -114,16 +110,4 @@ pub fn the_root_is_alone_in_its_block()
         (places : List Place) → IsTopology g → root < length g.ids → IsSearchTree g root tree
         → AreEars g root tree order ears → ArePlaces root ears places
         → (v : ℕ) → v < length g.ids → block_at places v ≡ Some root → v ≡ root }
-{}
-
-/// A law: of the links of each block but the root's, one is sole or closing, and all others are plain; no link lies in
-/// the root's block.
-pub fn one_sole_or_closing_link_a_block()
-    ensures one { (g : Topology) (root : ℕ) (tree : List TreeNode) (gadag : GadagLists)
-        → IsTopology g → root < length g.ids → IsSearchTree g root tree → IsGadag g root tree gadag
-        → (v block : ℕ) → v < length g.ids → v ≢ root → block_at gadag.places v ≡ Some block
-        → HasOneMarkedLink gadag.marks block }
-    ensures none_of_root { (g : Topology) (root : ℕ) (tree : List TreeNode) (gadag : GadagLists)
-        → IsTopology g → root < length g.ids → IsSearchTree g root tree → IsGadag g root tree gadag
-        → (e : ℕ) → e < length g.links → link_block_at gadag.marks e ≢ Some root }
 {}

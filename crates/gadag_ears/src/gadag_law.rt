@@ -1,11 +1,13 @@
 //! What holds of the GADAG of each graph: its counted links and its blocks.
 
-ghost use Rattle.std.specs.Prelude.{◌≡◌, ◌<◌, ℕ, List, Some, length, slice_get};
+ghost use Rattle.std.specs.Prelude.{◌≡◌, ◌≢◌, ◌<◌, ◌⊎◌, ℕ, List, Some, length, slice_get};
 ghost use Rattle.mrt_graph.specs.declared.tree.TreeNode.{TreeNode};
 ghost use Rattle.mrt_graph.specs.GadagLists.{GadagLists};
+ghost use Rattle.mrt_graph.specs.GadagWords.{block_at, link_block_at};
 ghost use Rattle.mrt_graph.specs.GraphInvariant.{IsTopology};
 ghost use Rattle.mrt_graph.specs.Topology.{Topology};
 ghost use Rattle.lowpoint_dfs.specs.SearchTree.{IsSearchTree};
+ghost use Rattle.gadag_ears.specs.BlockLinks.{HasMoreLinks, HasOneLink};
 ghost use Rattle.gadag_ears.specs.Counted.{IsCounted};
 ghost use Rattle.gadag_ears.specs.Gadag.{IsGadag};
 
@@ -15,4 +17,16 @@ pub fn counted_links_lead_forward()
         → IsTopology g → root < length g.ids → IsSearchTree g root tree → IsGadag g root tree gadag
         → (e u v k l : ℕ) → IsCounted g gadag.marks e u v → slice_get gadag.order k ≡ Some u
         → slice_get gadag.order l ≡ Some v → k < l }
+{}
+
+/// A law: a block has one link, which is sole, or more, of which exactly one is closing and none sole. The block of a
+/// sole link has one node. The root's own block has no link.
+pub fn one_sole_or_closing_link_a_block()
+    ensures links { (g : Topology) (root : ℕ) (tree : List TreeNode) (gadag : GadagLists)
+        → IsTopology g → root < length g.ids → IsSearchTree g root tree → IsGadag g root tree gadag
+        → (v block : ℕ) → v < length g.ids → v ≢ root → block_at gadag.places v ≡ Some block
+        → HasOneLink gadag.places gadag.marks block ⊎ HasMoreLinks gadag.marks block }
+    ensures none_of_root { (g : Topology) (root : ℕ) (tree : List TreeNode) (gadag : GadagLists)
+        → IsTopology g → root < length g.ids → IsSearchTree g root tree → IsGadag g root tree gadag
+        → (e : ℕ) → e < length g.links → link_block_at gadag.marks e ≢ Some root }
 {}

@@ -16,7 +16,7 @@ mod walk;
 pub use ears_law::{
     each_node_is_in_the_ear_order_once, ears_stop_ahead, every_ear_stops, heads_by_lowpoints,
     links_lie_in_common_blocks, neighbours_are_in_after_a_turn, one_ear_order,
-    one_sole_or_closing_link_a_block, the_root_is_alone_in_its_block,
+    the_root_is_alone_in_its_block,
 };
 pub use gadag::ears;
-pub use gadag_law::counted_links_lead_forward;
+pub use gadag_law::{counted_links_lead_forward, one_sole_or_closing_link_a_block};
