@@ -78,7 +78,7 @@ common_block g root tree places e u v facts by_low one_each onward = elim (facts
 ]
 
 -- a node's head has a lower number, and its block is not the root's
-record IsHeaded (g : Topology) (root : ℕ) (tree : List TreeNode) (places : List Place) (v : ℕ) : Type 0 where
+pub record IsHeaded (g : Topology) (root : ℕ) (tree : List TreeNode) (places : List Place) (v : ℕ) : Type 0 where
   pub head : ℕ
   pub has : head_at places v ≡ Some head
   pub lower : number_of tree head < number_of tree v
@@ -86,7 +86,7 @@ record IsHeaded (g : Topology) (root : ℕ) (tree : List TreeNode) (places : Lis
   pub block_has : block_at places v ≡ Some block
   pub not_root : block ≢ root
 
-headed : (left : ℕ) (g : Topology) (root : ℕ) (tree : List TreeNode) (places : List Place) (v : ℕ) → AreFacts g root tree
+pub headed : (left : ℕ) (g : Topology) (root : ℕ) (tree : List TreeNode) (places : List Place) (v : ℕ) → AreFacts g root tree
     → ((v p : ℕ) → v < length g.ids → parent_of g tree v ≡ Some p → IsPlacedByLow g tree places v p)
     → v < length g.ids → v ≢ root → number_of tree v ≤ left → IsHeaded g root tree places v
 headed zero g root tree places v facts by_low within other few =

@@ -49,14 +49,14 @@ pub one_new : (g : Topology) (root : ℕ) (tree : List TreeNode) (ear : Ear) →
 one_new g root tree ear it one =
     (first_again g root tree it.listed it.x ear (last_node ear.first ear.others) it.way (last_in ear.first ear.others) one.last).alone
 
-only_first : (ear : Ear) (v : ℕ) → ear.others ≡ [] → Contains (new_nodes ear) v → v ≡ ear.first
+pub only_first : (ear : Ear) (v : ℕ) → ear.others ≡ [] → Contains (new_nodes ear) v → v ≡ ear.first
 only_first ear v none c = elim (contains_cases ear.first v ear.others c) [
   | inl same ↦ same
   | inr later ↦ absurd (contains_none v (subst (λ (xs : List ℕ). Contains xs v) none later))
 ]
 
 -- and all its links are that one
-one_link : (g : Topology) (root : ℕ) (tree : List TreeNode) (ear : Ear) (v e : ℕ) → IsKnown g root tree ear → IsOfOneLink tree ear → IsOnEar tree ear v e → e ≡ ear.link
+pub one_link : (g : Topology) (root : ℕ) (tree : List TreeNode) (ear : Ear) (v e : ℕ) → IsKnown g root tree ear → IsOfOneLink tree ear → IsOnEar tree ear v e → e ≡ ear.link
 one_link g root tree ear v e it one Out = refl
 one_link g root tree ear v e it one (Onward u d new over) =
     let none = one_new g root tree ear it one in

@@ -147,7 +147,7 @@ first_again g root tree listed x ear v way new over =
           }
     ]
 
-goes_over : (g : Topology) (root : ℕ) (tree : List TreeNode) (listed : List ℕ) (x : ℕ) (ear : Ear) (v : ℕ) → IsUnderWay g root tree listed x ear
+pub goes_over : (g : Topology) (root : ℕ) (tree : List TreeNode) (listed : List ℕ) (x : ℕ) (ear : Ear) (v : ℕ) → IsUnderWay g root tree listed x ear
     → Contains (new_nodes ear) v → GoesOver g tree ear.kind v
 goes_over g root tree listed x ear v way new =
     let at = going_at g root tree listed x ear.first way.next.end.link ear.first 0 ear.kind ear.others ear.stop way.facts way.going way.next.onward v new in

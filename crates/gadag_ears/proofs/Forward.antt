@@ -32,6 +32,13 @@ before_in : (xs ys : List ℕ) (u v : ℕ) → StandsBefore ys u v → StandsBef
 before_in [] ys u v before = before
 before_in (x ∷ xs) ys u v before = inr (before_in xs ys u v before)
 
+pub before_contains : (xs : List ℕ) (u v : ℕ) → StandsBefore xs u v → Contains xs v
+before_contains [] u v before = absurd before
+before_contains (x ∷ xs) u v before = elim before [
+  | inl here ↦ contains_later x v xs here.1
+  | inr later ↦ contains_later x v xs (before_contains xs u v later)
+]
+
 before_left : (xs ys : List ℕ) (u v : ℕ) → StandsBefore xs u v → StandsBefore (xs ++ ys) u v
 before_left [] ys u v before = absurd before
 before_left (x ∷ xs) ys u v before = elim before [
@@ -103,7 +110,7 @@ by_places xs u v k l u_once v_once before u_at v_at =
     let it = places_before xs u v before in omega (arith, it.less, u_once k it.k u_at it.u_at, v_once l it.l v_at it.v_at)
 
 -- an ear goes on to the next one of its new nodes, or to where it stops
-next_stands : (g : Topology) (tree : List TreeNode) (kind : EarKind) (listed : List ℕ) (v : ℕ) (us : List ℕ) (stop u w : ℕ) → GoesOn g tree kind listed v us stop
+pub next_stands : (g : Topology) (tree : List TreeNode) (kind : EarKind) (listed : List ℕ) (v : ℕ) (us : List ℕ) (stop u w : ℕ) → GoesOn g tree kind listed v us stop
     → Contains (v ∷ us) u → next_node g tree kind u ≡ Some w → StandsBefore (v ∷ us) u w ⊎ ((u ≡ last_node v us) × (w ≡ stop))
 next_stands g tree kind listed v [] stop u w goes inside is = elim (contains_cases v u [] inside) [
   | inl same ↦ inr (same, same_Some w stop (sym is ∙ ap (λ (y : ℕ). next_node g tree kind y) same ∙ goes.0))

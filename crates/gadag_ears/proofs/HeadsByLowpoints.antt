@@ -55,7 +55,7 @@ placed_as_above g root tree places over x later a v facts kept by_low to_come in
     (placed_as_above g root tree places over x later a p facts kept by_low to_come p_in rest (omega (arith, low, facts.by_child w p is)))
 
 -- the new nodes of one ear have one place
-new_alike : (root : ℕ) (ears : List Ear) (places : List Place) (ear : Ear) (u v : ℕ) → ArePlaces root ears places → Contains ears ear
+pub new_alike : (root : ℕ) (ears : List Ear) (places : List Place) (ear : Ear) (u v : ℕ) → ArePlaces root ears places → Contains ears ear
     → Contains (new_nodes ear) u → Contains (new_nodes ear) v → (BeginsBlock ear ⊎ (¬ BeginsBlock ear)) → IsPlacedAs places u v
 new_alike root ears places ear u v are there u_new v_new cases = elim cases [
   | inl begins ↦ has_placed places u v ear.start ear.first (are.of_block ear u there u_new begins) (are.of_block ear v there v_new begins)

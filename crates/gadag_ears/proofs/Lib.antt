@@ -19,9 +19,11 @@ pub mod HeadsByLowpoints
 pub mod LinkBlocks
 pub mod MarkedAlong
 pub mod MarksGrown
+pub mod MemberLinks
 pub mod NeighbourEars
 pub mod NextEar
 pub mod Once
+pub mod OneEar
 pub mod OneEarOrder
 pub mod SearchFacts
 pub mod SoleLinks

@@ -21,7 +21,7 @@ use Rattle.gadag_ears.proofs.EarLast.{last_in}
 use Rattle.gadag_ears.specs.Marking.{AreEarMarked, IsSetAway, way_along}
 use Rattle.gadag_ears.specs.LinkMarks.{AreDirected, HaveRoles, IsLastOfBlock, IsOfOneLink, IsOnEar, Onward, Out}
 
-last_on : (tree : List TreeNode) (ear : Ear) (e : ℕ) → IsLastOfBlock tree ear e → IsOnEar tree ear (last_node ear.first ear.others) e
+pub last_on : (tree : List TreeNode) (ear : Ear) (e : ℕ) → IsLastOfBlock tree ear e → IsOnEar tree ear (last_node ear.first ear.others) e
 last_on tree ear e last = Onward (last_node ear.first ear.others) e (last_in ear.first ear.others) last.last
 
 -- whether a link is on an ear

@@ -36,7 +36,7 @@ pub record IsClimbing (g : Topology) (tree : List TreeNode) (listed : List ℕ) 
   pub below : IsInSubtree g tree x d
   pub above : IsInSubtree g tree d first
 
-strictly : (g : Topology) (root : ℕ) (tree : List TreeNode) (u v : ℕ) → AreFacts g root tree → IsInSubtree g tree u v → v ≢ u
+pub strictly : (g : Topology) (root : ℕ) (tree : List TreeNode) (u v : ℕ) → AreFacts g root tree → IsInSubtree g tree u v → v ≢ u
     → number_of tree u < number_of tree v
 strictly g root tree u v facts below other = elim (hangs_below g tree u v below) [
   | inl same ↦ absurd (other (sym same))

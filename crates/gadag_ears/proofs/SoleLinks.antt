@@ -24,6 +24,7 @@ use Rattle.gadag_ears.specs.BlockLinks.{HasMoreLinks, HasOneLink}
 use Rattle.gadag_ears.specs.CommonBlock.{FirstIsHead, IsCommonBlock, OfBoth, SecondIsHead}
 use Rattle.gadag_ears.specs.Ear.{Ear, IsBegun, LeadsToChild, ToChild, ToNeighbour, last_node, new_nodes, onward_link}
 use Rattle.gadag_ears.specs.Gadag.{IsGadag}
+use Rattle.gadag_ears.specs.HeadAndBlock.{BeginsBlock}
 use Rattle.gadag_ears.specs.LinkMarks.{IsLastOfBlock, IsOfOneLink}
 use Rattle.gadag_ears.proofs.BlockLinks.{IsBegunBlock, IsKnown, begun_block, block_there}
 use Rattle.gadag_ears.proofs.CommonBlocks.{leads_elsewhere, one_common_block, placed_by_low}
@@ -187,24 +188,23 @@ one_link_block g root tree gadag facts it ear among way one in_block =
     }
 
 -- the first link of an ear that begins a block lies in the block
-first_in_block : (g : Topology) (root : ℕ) (tree : List TreeNode) (gadag : GadagLists) → AreFacts g root tree → (it : IsGadag g root tree gadag)
-    → (k : ℕ) → (begun : IsBegunBlock g root tree it.ears gadag.marks k) → link_block_at gadag.marks begun.ear.link ≡ Some begun.ear.first
-first_in_block g root tree gadag facts it k begun =
-    let ear = begun.ear in
-    let to = begun.way.way.brings.touches in
-    let lies = it.marks.blocks ear.link (link_there g begun.ear.link begun.ear.start begun.ear.first to).within in
-    let has = it.places.of_block ear ear.first begun.among (contains_first begun.ear.first begun.ear.others) begun.begins in
-    let both = facts.leads_within begun.ear.link begun.ear.start begun.ear.first to in
-    lies.is ∙ ap (λ (w : ℕ). Some w) (one_common_block g root tree gadag.places begun.ear.start begun.ear.first lies.block begun.ear.first facts
+pub first_in_block : (g : Topology) (root : ℕ) (tree : List TreeNode) (gadag : GadagLists) → AreFacts g root tree → (it : IsGadag g root tree gadag)
+    → (ear : Ear) → Contains it.ears ear → BeginsBlock ear → IsKnown g root tree ear → link_block_at gadag.marks ear.link ≡ Some ear.first
+first_in_block g root tree gadag facts it ear among begins way =
+    let to = way.way.brings.touches in
+    let lies = it.marks.blocks ear.link (link_there g ear.link ear.start ear.first to).within in
+    let has = it.places.of_block ear ear.first among (contains_first ear.first ear.others) begins in
+    let both = facts.leads_within ear.link ear.start ear.first to in
+    lies.is ∙ ap (λ (w : ℕ). Some w) (one_common_block g root tree gadag.places ear.start ear.first lies.block ear.first facts
     (placed_by_low g root tree gadag.order it.ears gadag.places facts it.are_ears it.places) it.places.of_root.0 both.0 both.1
-    (leads_elsewhere g begun.ear.link begun.ear.start begun.ear.first facts.kept to) (lies.common begun.ear.start begun.ear.first to) (FirstIsHead has.1 has.0))
+    (leads_elsewhere g ear.link ear.start ear.first facts.kept to) (lies.common ear.start ear.first to) (FirstIsHead has.1 has.0))
 
 -- the links of a block
 pub block_links : (g : Topology) (root : ℕ) (tree : List TreeNode) (gadag : GadagLists) → AreFacts g root tree → IsGadag g root tree gadag
     → (v k : ℕ) → v < length g.ids → v ≢ root → block_at gadag.places v ≡ Some k → HasOneLink gadag.places gadag.marks k ⊎ HasMoreLinks gadag.marks k
 block_links g root tree gadag facts it v k within other block =
     let begun = begun_block g root tree gadag facts it v k within other block in
-    let first = first_in_block g root tree gadag facts it k begun in
+    let first = first_in_block g root tree gadag facts it begun.ear begun.among begun.begins begun.way in
     elim (cases_eq begun.last.link begun.ear.link) [
       | inl same ↦ inl (subst (λ (n : ℕ). HasOneLink gadag.places gadag.marks n) begun.names
           (one_link_block g root tree gadag facts it begun.ear begun.among begun.way (subst (λ (e : ℕ). IsLastOfBlock tree begun.ear e) same begun.last.last) first))

@@ -9,3 +9,4 @@ pub mod Growing
 pub mod HeadAndBlock
 pub mod LinkMarks
 pub mod Marking
+pub mod Members

@@ -1,15 +1,17 @@
 //! What holds of the GADAG of each graph: its counted links and its blocks.
 
 ghost use Rattle.std.specs.Prelude.{◌≡◌, ◌≢◌, ◌<◌, ◌⊎◌, ℕ, List, Some, length, slice_get};
+ghost use Rattle.mrt_graph.specs.declared.cert.Role.TheVariants.{Closing};
 ghost use Rattle.mrt_graph.specs.declared.tree.TreeNode.{TreeNode};
 ghost use Rattle.mrt_graph.specs.GadagLists.{GadagLists};
-ghost use Rattle.mrt_graph.specs.GadagWords.{block_at, link_block_at};
+ghost use Rattle.mrt_graph.specs.GadagWords.{block_at, link_block_at, role_at};
 ghost use Rattle.mrt_graph.specs.GraphInvariant.{IsTopology};
 ghost use Rattle.mrt_graph.specs.Topology.{Topology};
 ghost use Rattle.lowpoint_dfs.specs.SearchTree.{IsSearchTree};
 ghost use Rattle.gadag_ears.specs.BlockLinks.{HasMoreLinks, HasOneLink};
 ghost use Rattle.gadag_ears.specs.Counted.{IsCounted};
 ghost use Rattle.gadag_ears.specs.Gadag.{IsGadag};
+ghost use Rattle.gadag_ears.specs.Members.{ClosesBlock, GoesOnFrom, HasLinkInto};
 
 /// A law: a counted link leads forward in the ear order.
 pub fn counted_links_lead_forward()
@@ -17,6 +19,28 @@ pub fn counted_links_lead_forward()
         → IsTopology g → root < length g.ids → IsSearchTree g root tree → IsGadag g root tree gadag
         → (e u v k l : ℕ) → IsCounted g gadag.marks e u v → slice_get gadag.order k ≡ Some u
         → slice_get gadag.order l ≡ Some v → k < l }
+{}
+
+/// A law: a counted link of its block enters each node but the root, and none enters the root.
+pub fn each_node_but_the_root_is_entered()
+    ensures others { (g : Topology) (root : ℕ) (tree : List TreeNode) (gadag : GadagLists)
+        → IsTopology g → root < length g.ids → IsSearchTree g root tree → IsGadag g root tree gadag
+        → (v : ℕ) → v < length g.ids → v ≢ root → HasLinkInto g gadag v }
+    ensures root { (g : Topology) (root : ℕ) (tree : List TreeNode) (gadag : GadagLists)
+        → IsTopology g → root < length g.ids → IsSearchTree g root tree → IsGadag g root tree gadag
+        → (e u : ℕ) → ¬ IsCounted g gadag.marks e u root }
+{}
+
+/// A law: from each node but the root its block goes on by a counted link to another node of the block, or by the
+/// closing link to the head, or it has this node and one link alone. And each closing link leads from a node of its
+/// block to that node's head.
+pub fn each_member_is_left_or_closes_its_block()
+    ensures members { (g : Topology) (root : ℕ) (tree : List TreeNode) (gadag : GadagLists)
+        → IsTopology g → root < length g.ids → IsSearchTree g root tree → IsGadag g root tree gadag
+        → (v : ℕ) → v < length g.ids → v ≢ root → GoesOnFrom g gadag v }
+    ensures closing { (g : Topology) (root : ℕ) (tree : List TreeNode) (gadag : GadagLists)
+        → IsTopology g → root < length g.ids → IsSearchTree g root tree → IsGadag g root tree gadag
+        → (e : ℕ) → role_at gadag.marks e ≡ Some Closing → (v : ℕ) × ClosesBlock g gadag e v }
 {}
 
 /// A law: a block has one link, which is sole, or more, of which exactly one is closing and none sole. The block of a

@@ -19,4 +19,7 @@ pub use ears_law::{
     the_root_is_alone_in_its_block,
 };
 pub use gadag::ears;
-pub use gadag_law::{counted_links_lead_forward, one_sole_or_closing_link_a_block};
+pub use gadag_law::{
+    counted_links_lead_forward, each_member_is_left_or_closes_its_block,
+    each_node_but_the_root_is_entered, one_sole_or_closing_link_a_block,
+};
