@@ -1,16 +1,19 @@
 -- The links that ears have directed.
 use Rattle.std.proofs.Common.{◌≡◌, ◌≢◌, ◌⊎◌, ◌<◌, ◌∙◌, ℕ, List, [], ◌∷◌, Option, Some, None, length, slice_get, inl, inr, refl, sym, ap, subst, arith}
-use Rattle.std.specs.Option.{option_and_then}
+use Rattle.std.specs.Option.{option_and_then, option_map}
 use Rattle.std.specs.Prelude.{Contains}
-use Rattle.std.proofs.lemmas.Option.{same_Some}
-use Rattle.mrt_graph.specs.declared.cert.Role.TheVariants.{Closing}
+use Rattle.std.proofs.lemmas.Bool.{cases_eq, eq-eqb}
+use Rattle.std.proofs.lemmas.Bool.Decides.{eqb_tells}
+use Rattle.std.proofs.lemmas.Option.{same_Some, slice_get_within}
+use Rattle.mrt_graph.specs.declared.cert.Role.TheVariants.{Closing, Plain}
 use Rattle.mrt_graph.specs.declared.gadag.Mark.{Mark}
-use Rattle.mrt_graph.specs.declared.gadag.Way.TheVariants.{Unset}
+use Rattle.mrt_graph.specs.declared.gadag.Way.{Way}
+use Rattle.mrt_graph.specs.declared.gadag.Way.TheVariants.{AToB, BToA, Unset}
 use Rattle.mrt_graph.specs.declared.link.Link.{Link}
 use Rattle.mrt_graph.specs.declared.tree.TreeNode.{TreeNode}
 use Rattle.mrt_graph.specs.GadagLists.{GadagLists}
 use Rattle.mrt_graph.specs.GadagWords.{role_at, way_at}
-use Rattle.mrt_graph.specs.Leads.{leads}
+use Rattle.mrt_graph.specs.Leads.{far_node, leads}
 use Rattle.mrt_graph.specs.Tails.{tail_at, tail_of}
 use Rattle.mrt_graph.specs.Topology.{Topology}
 use Rattle.mrt_graph.proofs.Members.{contains_cases, contains_first, contains_later, contains_none}
@@ -18,14 +21,14 @@ use Rattle.gadag_ears.specs.Counted.{IsCounted}
 use Rattle.gadag_ears.specs.Ear.{Ear, last_node, new_nodes, next_node, onward_link}
 use Rattle.gadag_ears.specs.Gadag.{IsGadag}
 use Rattle.gadag_ears.specs.LinkMarks.{IsLastOfBlock, IsOfOneLink, IsOnEar, Onward, Out}
-use Rattle.gadag_ears.proofs.BlockLinks.{IsKnown, known}
+use Rattle.gadag_ears.proofs.BlockLinks.{IsKnown, known, last_or_not}
 use Rattle.gadag_ears.proofs.EarLast.{last_in}
 use Rattle.gadag_ears.proofs.EarLinks.{IsUnderWay, first_again, link_touches}
 use Rattle.gadag_ears.proofs.Ended.{all_done}
 use Rattle.gadag_ears.proofs.Forward.{IsForward, StandsBefore, all_forward, by_places}
 use Rattle.gadag_ears.proofs.HeadsByLowpoints.{begins_or_not}
 use Rattle.gadag_ears.proofs.MarkedAlong.{link_there}
-use Rattle.gadag_ears.proofs.MarksGrown.{IsOn, is_link_or_not, on_or_not}
+use Rattle.gadag_ears.proofs.MarksGrown.{IsOn, is_link_or_not, last_on, on_or_not}
 use Rattle.gadag_ears.proofs.Once.{one_place}
 use Rattle.gadag_ears.proofs.SearchFacts.{AreFacts}
 
@@ -93,6 +96,24 @@ unset_tail g marks e u unset is = go (slice_get g.links e)
     go None none = cc
     go (Some link) none = cc
 
+-- a link that has a direction leads away from one of its nodes to the other
+pub tail_leads : (g : Topology) (marks : List Mark) (e u : ℕ) → tail_at g.links marks e ≡ Some u → (v : ℕ) × (leads g.links e u ≡ Some v)
+tail_leads g marks e u is = go (slice_get g.links e) (way_at marks e) is
+  where
+    of_link : (link : Link) (way : Way) → tail_of link way ≡ Some u → (v : ℕ) × (far_node u link ≡ Some v)
+    of_link link Unset none = cc
+    of_link link AToB at = (link.b, rw (eq-eqb link.a u (same_Some link.a u at)) refl)
+    of_link link BToA at = elim (eqb_tells link.a u) [
+      | inl up ↦ (link.b, rw up.0 refl)
+      | inr other ↦ (link.a, rw other.0 (rw (eq-eqb link.b u (same_Some link.b u at)) refl))
+    ]
+
+    go : (o : Option Link) (w : Option Way) → option_and_then (λ link. option_and_then (tail_of link) w) o ≡ Some u
+        → (v : ℕ) × (option_and_then (far_node u) o ≡ Some v)
+    go None w none = cc
+    go (Some link) None none = cc
+    go (Some link) (Some way) at = of_link link way at
+
 -- the tail of a directed link, on its ear
 pub record IsTailOn (tree : List TreeNode) (ears : List Ear) (u e : ℕ) : Type 0 where
   pub ear : Ear
@@ -152,3 +173,26 @@ pub counted_forward : (g : Topology) (root : ℕ) (tree : List TreeNode) (gadag 
 counted_forward g root tree gadag facts it e u v k l counted u_at v_at =
     let once = (all_done g root tree gadag.order it.ears facts it.are_ears).once in
     by_places gadag.order u v k l (one_place gadag.order u (once u)) (one_place gadag.order v (once v)) (counted_before g root tree gadag facts it e u v counted) u_at v_at
+
+-- a link without direction is plain
+way_there : (marks : List Mark) (e : ℕ) → way_at marks e ≡ Some Unset → e < length marks
+way_there marks e is = go (slice_get marks e) refl is
+  where
+    go : (o : Option Mark) → slice_get marks e ≡ o → option_map (λ mark. mark.way) o ≡ Some Unset → e < length marks
+    go None found is = cc
+    go (Some mark) found is = slice_get_within marks e mark found
+
+pub unset_plain : (g : Topology) (root : ℕ) (tree : List TreeNode) (gadag : GadagLists) → AreFacts g root tree → (it : IsGadag g root tree gadag) → (e : ℕ)
+    → way_at gadag.marks e ≡ Some Unset → role_at gadag.marks e ≡ Some Plain
+unset_plain g root tree gadag facts it e unset = elim (last_or_not tree it.ears e) [
+  | inr none ↦ it.marks.roles.others e (omega (arith, way_there gadag.marks e unset, it.marks.one_each)) none
+  | inl some ↦
+      absurd (elim (of_one_or_not tree some.ear) [
+        | inr more ↦ unset_tail g gadag.marks e (last_node some.ear.first some.ear.others) unset
+            (it.marks.directed.onward some.ear (last_node some.ear.first some.ear.others) e some.among more (last_on tree some.ear e some.last))
+        | inl one ↦
+            let same : some.ear.link ≡ e = same_Some some.ear.link e (sym one.last ∙ some.last.last) in
+            unset_tail g gadag.marks e some.ear.start unset
+            (ap (λ (d : ℕ). tail_at g.links gadag.marks d) (sym same) ∙ it.marks.directed.out some.ear some.among)
+      ])
+]

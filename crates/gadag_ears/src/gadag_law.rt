@@ -1,10 +1,11 @@
 //! What holds of the GADAG of each graph: its counted links and its blocks.
 
 ghost use Rattle.std.specs.Prelude.{◌≡◌, ◌≢◌, ◌<◌, ◌⊎◌, ℕ, List, Some, length, slice_get};
-ghost use Rattle.mrt_graph.specs.declared.cert.Role.TheVariants.{Closing};
+ghost use Rattle.mrt_graph.specs.declared.cert.Role.TheVariants.{Closing, Plain};
+ghost use Rattle.mrt_graph.specs.declared.gadag.Way.TheVariants.{Unset};
 ghost use Rattle.mrt_graph.specs.declared.tree.TreeNode.{TreeNode};
 ghost use Rattle.mrt_graph.specs.GadagLists.{GadagLists};
-ghost use Rattle.mrt_graph.specs.GadagWords.{block_at, link_block_at, role_at};
+ghost use Rattle.mrt_graph.specs.GadagWords.{block_at, link_block_at, role_at, way_at};
 ghost use Rattle.mrt_graph.specs.GraphInvariant.{IsTopology};
 ghost use Rattle.mrt_graph.specs.Topology.{Topology};
 ghost use Rattle.lowpoint_dfs.specs.SearchTree.{IsSearchTree};
@@ -19,6 +20,13 @@ pub fn counted_links_lead_forward()
         → IsTopology g → root < length g.ids → IsSearchTree g root tree → IsGadag g root tree gadag
         → (e u v k l : ℕ) → IsCounted g gadag.marks e u v → slice_get gadag.order k ≡ Some u
         → slice_get gadag.order l ≡ Some v → k < l }
+{}
+
+/// A law: a link to which no ear gave a direction is plain; so sole and closing links have a direction.
+pub fn links_without_a_direction_are_plain()
+    ensures { (g : Topology) (root : ℕ) (tree : List TreeNode) (gadag : GadagLists)
+        → IsTopology g → root < length g.ids → IsSearchTree g root tree → IsGadag g root tree gadag
+        → (e : ℕ) → way_at gadag.marks e ≡ Some Unset → role_at gadag.marks e ≡ Some Plain }
 {}
 
 /// A law: a counted link of its block enters each node but the root, and none enters the root.
