@@ -1,8 +1,8 @@
 -- The links that ears have directed.
-use Rattle.std.proofs.Common.{◌≡◌, ◌≢◌, ◌⊎◌, ◌<◌, ◌∙◌, ℕ, List, [], ◌∷◌, Option, Some, None, length, slice_get, inl, inr, refl, sym, ap, subst, arith}
+use Rattle.std.proofs.Common.{◌≡◌, ◌⊎◌, ◌<◌, ◌∙◌, ℕ, List, [], ◌∷◌, Option, Some, None, length, slice_get, inl, inr, refl, sym, ap, subst, arith}
 use Rattle.std.specs.Option.{option_and_then, option_map}
 use Rattle.std.specs.Prelude.{Contains}
-use Rattle.std.proofs.lemmas.Bool.{cases_eq, eq-eqb}
+use Rattle.std.proofs.lemmas.Bool.{eq-eqb}
 use Rattle.std.proofs.lemmas.Bool.Decides.{eqb_tells}
 use Rattle.std.proofs.lemmas.Option.{same_Some, slice_get_within}
 use Rattle.mrt_graph.specs.declared.cert.Role.TheVariants.{Closing, Plain}
@@ -18,17 +18,17 @@ use Rattle.mrt_graph.specs.Tails.{tail_at, tail_of}
 use Rattle.mrt_graph.specs.Topology.{Topology}
 use Rattle.mrt_graph.proofs.Members.{contains_cases, contains_first, contains_later, contains_none}
 use Rattle.gadag_ears.specs.Counted.{IsCounted}
-use Rattle.gadag_ears.specs.Ear.{Ear, last_node, new_nodes, next_node, onward_link}
+use Rattle.gadag_ears.specs.Ear.{Ear, last_node, new_nodes, onward_link}
 use Rattle.gadag_ears.specs.Gadag.{IsGadag}
 use Rattle.gadag_ears.specs.LinkMarks.{IsLastOfBlock, IsOfOneLink, IsOnEar, Onward, Out}
 use Rattle.gadag_ears.proofs.BlockLinks.{IsKnown, known, last_or_not}
 use Rattle.gadag_ears.proofs.EarLast.{last_in}
-use Rattle.gadag_ears.proofs.EarLinks.{IsUnderWay, first_again, link_touches}
+use Rattle.gadag_ears.proofs.EarLinks.{first_again}
 use Rattle.gadag_ears.proofs.Ended.{all_done}
 use Rattle.gadag_ears.proofs.Forward.{IsForward, StandsBefore, all_forward, by_places}
 use Rattle.gadag_ears.proofs.HeadsByLowpoints.{begins_or_not}
 use Rattle.gadag_ears.proofs.MarkedAlong.{link_there}
-use Rattle.gadag_ears.proofs.MarksGrown.{IsOn, is_link_or_not, last_on, on_or_not}
+use Rattle.gadag_ears.proofs.MarksGrown.{is_link_or_not, last_on, on_or_not}
 use Rattle.gadag_ears.proofs.Once.{one_place}
 use Rattle.gadag_ears.proofs.SearchFacts.{AreFacts}
 

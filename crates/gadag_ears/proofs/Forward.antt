@@ -1,5 +1,5 @@
 -- Which node stands before which in the list of ears.
-use Rattle.std.proofs.Common.{◌≡◌, ◌≢◌, ◌⊎◌, ◌<◌, ◌≤◌, ◌++◌, ◌∙◌, ℕ, zero, suc, List, [], ◌∷◌, Some, length, slice_get, inl, inr, refl, sym, ap, subst, arith}
+use Rattle.std.proofs.Common.{◌≡◌, ◌≢◌, ◌⊎◌, ◌<◌, ◌++◌, ◌∙◌, ℕ, suc, List, [], ◌∷◌, Some, slice_get, inl, inr, refl, sym, ap, subst, arith}
 use Rattle.std.specs.Prelude.{Contains}
 use Rattle.std.proofs.lemmas.List.Elements.{Contains-append_cases, Contains-append_left, Contains-append_right}
 use Rattle.std.proofs.lemmas.Option.{same_Some}
@@ -19,7 +19,6 @@ use Rattle.gadag_ears.proofs.CutLists.{turned}
 use Rattle.gadag_ears.proofs.EarLast.{last_in}
 use Rattle.gadag_ears.proofs.HeadsByLowpoints.{begins_or_not}
 use Rattle.gadag_ears.proofs.NextEar.{FromNew, FromStart, FromStop, Heads, IsBrought, IsHung}
-use Rattle.gadag_ears.proofs.Once.{one_place}
 use Rattle.gadag_ears.proofs.SearchFacts.{AreFacts, one_parent}
 use Rattle.gadag_ears.proofs.TurnsKept.{AreKept, all_kept, brought_at, ends_ahead}
 

@@ -1,5 +1,5 @@
 -- How links of its block come to a node and lead on from it.
-use Rattle.std.proofs.Common.{◌≡◌, ◌≢◌, ◌⊎◌, ◌<◌, ◌∙◌, ℕ, List, [], ◌∷◌, Option, Some, None, length, slice_get, inl, inr, refl, sym, ap, subst, arith}
+use Rattle.std.proofs.Common.{◌≡◌, ◌≢◌, ◌<◌, ◌∙◌, ℕ, List, [], ◌∷◌, Option, Some, None, length, slice_get, inl, inr, refl, sym, ap, subst, arith}
 use Rattle.std.specs.Option.{option_and_then, option_map}
 use Rattle.std.specs.Prelude.{Contains}
 use Rattle.std.proofs.lemmas.Bool.{cases_eq}
@@ -20,21 +20,21 @@ use Rattle.gadag_ears.specs.CommonBlock.{FirstIsHead, IsCommonBlock, OfBoth, Sec
 use Rattle.gadag_ears.specs.Counted.{IsCounted}
 use Rattle.gadag_ears.specs.Ear.{Ear, GoesOn, last_node, new_nodes, next_node, onward_link}
 use Rattle.gadag_ears.specs.Gadag.{IsGadag}
-use Rattle.gadag_ears.specs.HeadAndBlock.{BeginsBlock, HasPlace, IsPlacedAs}
+use Rattle.gadag_ears.specs.HeadAndBlock.{IsPlacedAs}
 use Rattle.gadag_ears.specs.LinkMarks.{IsLastOfBlock, IsOfOneLink, IsOnEar, Onward, Out}
 use Rattle.gadag_ears.specs.Members.{Alone, ClosesBlock, GoesOnFrom, HasLinkInto, IsInBlockOf, ToHead, ToMember}
 use Rattle.gadag_ears.proofs.BlockLinks.{IsKnown, last_link, last_next, last_or_not}
-use Rattle.gadag_ears.proofs.CommonBlocks.{IsHeaded, headed, leads_elsewhere, placed_by_low}
-use Rattle.gadag_ears.proofs.DirectedLinks.{counted_forward, ear_known, of_one_or_not, one_link, one_new, only_first}
+use Rattle.gadag_ears.proofs.CommonBlocks.{headed, leads_elsewhere, placed_by_low}
+use Rattle.gadag_ears.proofs.DirectedLinks.{counted_forward, ear_known, one_link, one_new, only_first}
 use Rattle.gadag_ears.proofs.EarLast.{last_in}
-use Rattle.gadag_ears.proofs.EarLinks.{IsUnderWay, goes_over, links_differ}
+use Rattle.gadag_ears.proofs.EarLinks.{goes_over, links_differ}
 use Rattle.gadag_ears.proofs.EarWalk.{Climbs, GoesDown, IsGoing}
 use Rattle.gadag_ears.proofs.Ended.{each_listed}
-use Rattle.gadag_ears.proofs.Forward.{StandsBefore, before_contains, next_stands, root_first}
+use Rattle.gadag_ears.proofs.Forward.{before_contains, next_stands, root_first}
 use Rattle.gadag_ears.proofs.HeadsByLowpoints.{begins_or_not, new_alike}
 use Rattle.gadag_ears.proofs.MarkedAlong.{link_there}
 use Rattle.gadag_ears.proofs.NeighbourEars.{strictly}
-use Rattle.gadag_ears.proofs.OneEar.{IsBroughtBy, ear_of_node, not_closing}
+use Rattle.gadag_ears.proofs.OneEar.{ear_of_node, not_closing}
 use Rattle.gadag_ears.proofs.SearchFacts.{AreFacts}
 use Rattle.gadag_ears.proofs.SoleLinks.{first_in_block, one_link_block}
 use Rattle.gadag_ears.proofs.TurnsKept.{link_of_next}

@@ -1,5 +1,5 @@
 -- A link is on one ear at most, and a node but the root is a new node of some ear.
-use Rattle.std.proofs.Common.{◌≡◌, ◌≢◌, ◌⊎◌, ◌<◌, ◌++◌, ◌∙◌, ℕ, List, [], ◌∷◌, Some, length, inl, inr, sym, ap, subst}
+use Rattle.std.proofs.Common.{◌≡◌, ◌≢◌, ◌<◌, ◌++◌, ◌∙◌, ℕ, List, [], ◌∷◌, Some, length, inl, inr, sym, ap, subst}
 use Rattle.std.specs.Prelude.{Contains}
 use Rattle.mrt_graph.specs.declared.cert.Role.TheVariants.{Closing, Plain, Sole}
 use Rattle.mrt_graph.specs.declared.tree.TreeNode.{TreeNode}

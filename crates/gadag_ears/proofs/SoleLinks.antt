@@ -4,14 +4,12 @@ use Rattle.std.specs.Option.{option_and_then, option_map}
 use Rattle.std.specs.Prelude.{Contains}
 use Rattle.std.proofs.lemmas.Bool.{cases_eq, cases_lt}
 use Rattle.std.proofs.lemmas.Option.{same_Some, slice_get_within}
-use Rattle.mrt_graph.specs.declared.cert.Role.TheVariants.{Closing, Plain, Sole}
-use Rattle.mrt_graph.specs.declared.gadag.Mark.{Mark}
 use Rattle.mrt_graph.specs.declared.gadag.Place.{Place}
 use Rattle.mrt_graph.specs.declared.link.End.{End}
 use Rattle.mrt_graph.specs.declared.tree.TreeNode.{TreeNode}
 use Rattle.mrt_graph.specs.FirstEnd.{IsFirstEnd}
 use Rattle.mrt_graph.specs.GadagLists.{GadagLists}
-use Rattle.mrt_graph.specs.GadagWords.{block_at, head_at, link_block_at, role_at}
+use Rattle.mrt_graph.specs.GadagWords.{block_at, head_at, link_block_at}
 use Rattle.mrt_graph.specs.Leads.{leads}
 use Rattle.mrt_graph.specs.Topology.{Topology}
 use Rattle.mrt_graph.specs.TreeWords.{low_link, low_of, number_of, parent_link}
@@ -22,11 +20,11 @@ use Rattle.gadag_ears.specs.declared.kind.EarKind.{EarKind}
 use Rattle.gadag_ears.specs.declared.kind.EarKind.TheVariants.{Child}
 use Rattle.gadag_ears.specs.BlockLinks.{HasMoreLinks, HasOneLink}
 use Rattle.gadag_ears.specs.CommonBlock.{FirstIsHead, IsCommonBlock, OfBoth, SecondIsHead}
-use Rattle.gadag_ears.specs.Ear.{Ear, IsBegun, LeadsToChild, ToChild, ToNeighbour, last_node, new_nodes, onward_link}
+use Rattle.gadag_ears.specs.Ear.{Ear, IsBegun, ToChild, ToNeighbour, last_node, onward_link}
 use Rattle.gadag_ears.specs.Gadag.{IsGadag}
 use Rattle.gadag_ears.specs.HeadAndBlock.{BeginsBlock}
 use Rattle.gadag_ears.specs.LinkMarks.{IsLastOfBlock, IsOfOneLink}
-use Rattle.gadag_ears.proofs.BlockLinks.{IsBegunBlock, IsKnown, begun_block, block_there}
+use Rattle.gadag_ears.proofs.BlockLinks.{IsKnown, begun_block, block_there}
 use Rattle.gadag_ears.proofs.CommonBlocks.{leads_elsewhere, one_common_block, placed_by_low}
 use Rattle.gadag_ears.proofs.DirectedLinks.{one_new}
 use Rattle.gadag_ears.proofs.HeadsByLowpoints.{IsPlacedByLow}
