@@ -209,7 +209,7 @@ room_here g root tree x growing turn =
     let few = room_for_new g tree growing.order.items x growing.waiting.items [] (turn_kept g root tree x growing turn) in omega (arith, few)
 
 -- the root alone
-place_of_root : {X : Type 0} (n root : ℕ) (place : X) → root < n → slice_get (replicate n place) root ≡ Some place
+pub place_of_root : {X : Type 0} (n root : ℕ) (place : X) → root < n → slice_get (replicate n place) root ≡ Some place
 place_of_root zero root place within = absurd (omega (arith, within))
 place_of_root (suc n) zero place within = refl
 place_of_root (suc n) (suc root) place within = place_of_root n root place (omega (arith, within))

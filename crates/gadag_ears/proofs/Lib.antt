@@ -14,6 +14,7 @@ pub mod EndsPassed
 pub mod Entering
 pub mod Forward
 pub mod FromSearch
+pub mod GadagExists
 pub mod GadagMade
 pub mod HeadsByLowpoints
 pub mod LinkBlocks
@@ -25,6 +26,8 @@ pub mod NextEar
 pub mod Once
 pub mod OneEar
 pub mod OneEarOrder
+pub mod OneGadag
+pub mod OrderExists
 pub mod SearchFacts
 pub mod SoleLinks
 pub mod TurnsKept

@@ -84,7 +84,7 @@ tail_still : (g : Topology) (marks marks' : List Mark) (e : ℕ) → slice_get m
 tail_still g marks marks' e same = tail_stays g marks marks' e (way_stays marks marks' e same)
 
 -- a link that was directed away from its node v has this node as its tail
-tail_along : (v w : ℕ) (link : Link) → far_node v link ≡ Some w → tail_of link (way_along v link) ≡ Some v
+pub tail_along : (v w : ℕ) (link : Link) → far_node v link ≡ Some w → tail_of link (way_along v link) ≡ Some v
 tail_along v w link to = elim (eqb_tells link.a v) [
   | inl at_a ↦ rw at_a.0 (ap (λ (u : ℕ). Some u) at_a.1)
   | inr other ↦ elim (far_ends link v w to) [

@@ -21,7 +21,7 @@ use Rattle.gadag_ears.proofs.MarksGrown.{last_on}
 use Rattle.gadag_ears.proofs.SearchFacts.{AreFacts}
 
 -- two ears with a link in common are one
-one_ear : (g : Topology) (root : ℕ) (tree : List TreeNode) (over : List ℕ) (x : ℕ) (later : List ℕ) (ears : List Ear) → AreFacts g root tree
+pub one_ear : (g : Topology) (root : ℕ) (tree : List TreeNode) (over : List ℕ) (x : ℕ) (later : List ℕ) (ears : List Ear) → AreFacts g root tree
     → IsEarOrder g root tree over x later ears → (d f : Ear) (v w e : ℕ) → Contains ears d → Contains ears f → IsOnEar tree d v e → IsOnEar tree f w e → d ≡ f
 one_ear g root tree over x later ears facts Begun d f v w e d_in f_in d_on f_on = absurd (contains_none d d_in)
 one_ear g root tree over x later ears facts (Grown over' x' later' ears' ear before next) d f v w e d_in f_in d_on f_on =

@@ -14,6 +14,16 @@ ghost use Rattle.gadag_ears.specs.Counted.{IsCounted};
 ghost use Rattle.gadag_ears.specs.Gadag.{IsGadag};
 ghost use Rattle.gadag_ears.specs.Members.{ClosesBlock, GoesOnFrom, HasLinkInto};
 
+/// A law: a graph with its search tree has exactly one GADAG.
+pub fn one_gadag()
+    ensures some { (g : Topology) (root : ℕ) (tree : List TreeNode)
+        → IsTopology g → root < length g.ids → IsSearchTree g root tree
+        → (gadag : GadagLists) × IsGadag g root tree gadag }
+    ensures one { (g : Topology) (root : ℕ) (tree : List TreeNode) (gadag other : GadagLists)
+        → IsTopology g → root < length g.ids → IsSearchTree g root tree → IsGadag g root tree gadag
+        → IsGadag g root tree other → gadag ≡ other }
+{}
+
 /// A law: a counted link leads forward in the ear order.
 pub fn counted_links_lead_forward()
     ensures { (g : Topology) (root : ℕ) (tree : List TreeNode) (gadag : GadagLists)
