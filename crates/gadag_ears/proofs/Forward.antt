@@ -116,8 +116,11 @@ next_stands g tree kind listed v [] stop u w goes inside is = elim (contains_cas
   | inr none ↦ absurd (contains_none u none)
 ]
 next_stands g tree kind listed v (y ∷ ys) stop u w goes inside is = elim (contains_cases v u (y ∷ ys) inside) [
-  | inl same ↦ inl (inl (same, subst (λ (z : ℕ). Contains (y ∷ ys) z)
-      (same_Some y w (sym goes.0 ∙ sym (ap (λ (z : ℕ). next_node g tree kind z) same) ∙ is)) (contains_first y ys)))
+  | inl same ↦ inl (inl (
+    same,
+    subst (λ (z : ℕ). Contains (y ∷ ys) z)
+        (same_Some y w (sym goes.0 ∙ sym (ap (λ (z : ℕ). next_node g tree kind z) same) ∙ is)) (contains_first y ys),
+  ))
   | inr later ↦ elim (next_stands g tree kind listed y ys stop u w goes.2 later is) [
     | inl before ↦ inl (inr before)
     | inr at_stop ↦ inr at_stop

@@ -175,62 +175,78 @@ tail_there g e u w to =
 
 some_way : (g : Topology) (root : ℕ) (tree : List TreeNode) (ears : List Ear) → AreSomeEars g root tree ears → (e : ℕ) → (way : Way) × IsWayOf g tree ears e way
 some_way g root tree ears are e = elim (on_some_or_none tree ears e) [
-  | inr none ↦ (Unset, record {
-    out = λ ear c same. absurd (none ear ear.start c (subst (λ (d : ℕ). IsOnEar tree ear ear.start d) (sym same) Out));
-    onward = λ ear v c more on. absurd (none ear v c on);
-    others = λ _. refl;
-  })
+  | inr none ↦ (
+    Unset,
+    record {
+      out = λ ear c same. absurd (none ear ear.start c (subst (λ (d : ℕ). IsOnEar tree ear ear.start d) (sym same) Out));
+      onward = λ ear v c more on. absurd (none ear v c on);
+      others = λ _. refl;
+    },
+  )
   | inl on ↦
       let way = are.known on.ear on.among in
       elim (of_one_or_not tree on.ear) [
         | inl lone ↦
             let link : e ≡ on.ear.link = one_link g root tree on.ear on.node e way lone on.on in
             let to : leads g.links e on.ear.start ≡ Some on.ear.first = ap (λ (d : ℕ). leads g.links d on.ear.start) link ∙ way.way.brings.touches in
-            let it = tail_there g e on.ear.start on.ear.first to in
-            (it.0, record {
-              out = λ ear c same.
-                  let alike = are.one on.ear ear on.node ear.start e on.among c on.on (subst (λ (d : ℕ). IsOnEar tree ear ear.start d) (sym same) Out) in
-                  subst (λ (d : Ear). IsTail g e it.0 d.start) alike it.1;
-              onward = λ ear v c more on_it. absurd (more (subst (λ (d : Ear). IsOfOneLink tree d) (are.one on.ear ear on.node v e on.among c on.on on_it) lone));
-              others = λ none. absurd (none on.ear on.node on.among on.on);
-            })
+            let it = tail_there g e on.ear.start on.ear.first to in (
+              it.0,
+              record {
+                out = λ ear c same.
+                    let alike = are.one on.ear ear on.node ear.start e on.among c on.on (subst (λ (d : ℕ). IsOnEar tree ear ear.start d) (sym same) Out) in
+                    subst (λ (d : Ear). IsTail g e it.0 d.start) alike it.1;
+                onward = λ ear v c more on_it. absurd (more (subst (λ (d : Ear). IsOfOneLink tree d) (are.one on.ear ear on.node v e on.among c on.on on_it) lone));
+                others = λ none. absurd (none on.ear on.node on.among on.on);
+              },
+            )
         | inr several ↦
             let to = link_touches g root tree way.listed way.x on.ear on.node e way.way on.on in
             let it = tail_there g e on.node to.0 to.1 in
             let same_node : (ear : Ear) (v : ℕ) → Contains ears ear → IsOnEar tree ear v e → on.node ≡ v = λ ear v c on_it.
             same_from g root tree on.ear on.node v e e way several on.on
-            (subst (λ (d : Ear). IsOnEar tree d v e) (sym (are.one on.ear ear on.node v e on.among c on.on on_it)) on_it) refl in
-            (it.0, record {
-              out = λ ear c same.
-                  subst (λ (w : ℕ). IsTail g e it.0 w) (same_node ear ear.start c (subst (λ (d : ℕ). IsOnEar tree ear ear.start d) (sym same) Out)) it.1;
-              onward = λ ear v c more on_it. subst (λ (w : ℕ). IsTail g e it.0 w) (same_node ear v c on_it) it.1;
-              others = λ none. absurd (none on.ear on.node on.among on.on);
-            })
+            (subst (λ (d : Ear). IsOnEar tree d v e) (sym (are.one on.ear ear on.node v e on.among c on.on on_it)) on_it) refl in (
+              it.0,
+              record {
+                out = λ ear c same.
+                    subst (λ (w : ℕ). IsTail g e it.0 w) (same_node ear ear.start c (subst (λ (d : ℕ). IsOnEar tree ear ear.start d) (sym same) Out)) it.1;
+                onward = λ ear v c more on_it. subst (λ (w : ℕ). IsTail g e it.0 w) (same_node ear v c on_it) it.1;
+                others = λ none. absurd (none on.ear on.node on.among on.on);
+              },
+            )
       ]
 ]
 
 some_role : (g : Topology) (root : ℕ) (tree : List TreeNode) (ears : List Ear) → AreSomeEars g root tree ears → (e : ℕ) → (role : Role) × IsRoleOf tree ears e role
 some_role g root tree ears are e = elim (last_or_not tree ears e) [
-  | inr none ↦ (Plain, record {
-    sole = λ ear c lone same. absurd (none ear c (subst (λ (l : ℕ). IsLastOfBlock tree ear l) (sym same) lone));
-    closing = λ ear c last differs. absurd (none ear c last);
-    others = λ _. refl;
-  })
+  | inr none ↦ (
+    Plain,
+    record {
+      sole = λ ear c lone same. absurd (none ear c (subst (λ (l : ℕ). IsLastOfBlock tree ear l) (sym same) lone));
+      closing = λ ear c last differs. absurd (none ear c last);
+      others = λ _. refl;
+    },
+  )
   | inl some ↦
       let same_ear : (ear : Ear) → Contains ears ear → IsLastOfBlock tree ear e → some.ear ≡ ear = λ ear c last.
       are.one some.ear ear (last_node some.ear.first some.ear.others) (last_node ear.first ear.others) e some.among c (last_on tree some.ear e some.last) (last_on tree ear e last) in
       elim (cases_eq e some.ear.link) [
-        | inl first ↦ (Sole, record {
-          sole = λ ear c lone same. refl;
-          closing = λ ear c last differs. absurd (differs (first ∙ ap (λ (d : Ear). d.link) (same_ear ear c last)));
-          others = λ none. absurd (none some.ear some.among some.last);
-        })
-        | inr differs ↦ (Closing, record {
-          sole = λ ear c lone same.
-              absurd (differs (same ∙ ap (λ (d : Ear). d.link) (sym (same_ear ear c (subst (λ (l : ℕ). IsLastOfBlock tree ear l) (sym same) lone)))));
-          closing = λ ear c last other. refl;
-          others = λ none. absurd (none some.ear some.among some.last);
-        })
+        | inl first ↦ (
+          Sole,
+          record {
+            sole = λ ear c lone same. refl;
+            closing = λ ear c last differs. absurd (differs (first ∙ ap (λ (d : Ear). d.link) (same_ear ear c last)));
+            others = λ none. absurd (none some.ear some.among some.last);
+          },
+        )
+        | inr differs ↦ (
+          Closing,
+          record {
+            sole = λ ear c lone same.
+                absurd (differs (same ∙ ap (λ (d : Ear). d.link) (sym (same_ear ear c (subst (λ (l : ℕ). IsLastOfBlock tree ear l) (sym same) lone)))));
+            closing = λ ear c last other. refl;
+            others = λ none. absurd (none some.ear some.among some.last);
+          },
+        )
       ]
 ]
 
@@ -240,14 +256,16 @@ some_block : (g : Topology) (root : ℕ) (tree : List TreeNode) (order : List �
 some_block g root tree order ears places facts are placed one_each e within =
     let link = there g.links e within in
     let it = common_block g root tree places e link.0.a link.0.b facts (placed_by_low g root tree order ears places facts are placed) one_each
-    (leads_over g e link.0 link.1) in
-    (it.0, (λ u v to.
-    let far : far_node u link.0 ≡ Some v = sym (ap (λ o. option_and_then (far_node u) o) link.1) ∙ to in
-    elim (far_ends link.0 u v far) [
-      | inl up ↦ subst (λ (w : ℕ). IsCommonBlock places w v it.0) up.0 (subst (λ (w : ℕ). IsCommonBlock places link.0.a w it.0) up.1 it.1)
-      | inr down ↦ turned_round places u v it.0
-          (subst (λ (w : ℕ). IsCommonBlock places w u it.0) down.1 (subst (λ (w : ℕ). IsCommonBlock places link.0.a w it.0) down.0 it.1))
-    ]))
+    (leads_over g e link.0 link.1) in (
+      it.0,
+      (λ u v to.
+          let far : far_node u link.0 ≡ Some v = sym (ap (λ o. option_and_then (far_node u) o) link.1) ∙ to in
+          elim (far_ends link.0 u v far) [
+            | inl up ↦ subst (λ (w : ℕ). IsCommonBlock places w v it.0) up.0 (subst (λ (w : ℕ). IsCommonBlock places link.0.a w it.0) up.1 it.1)
+            | inr down ↦ turned_round places u v it.0
+                (subst (λ (w : ℕ). IsCommonBlock places w u it.0) down.1 (subst (λ (w : ℕ). IsCommonBlock places link.0.a w it.0) down.0 it.1))
+          ]),
+    )
 
 some_mark : (g : Topology) (root : ℕ) (tree : List TreeNode) (order : List ℕ) (ears : List Ear) (places : List Place) → AreSomeEars g root tree ears
     → AreEars g root tree order ears → ArePlaces root ears places → length places ≡ length g.ids → (e : ℕ) → e < length g.links

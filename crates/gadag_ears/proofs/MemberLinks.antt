@@ -252,8 +252,8 @@ closing_link g root tree gadag facts it e closing = elim (last_or_not tree it.ea
   | inl some ↦ (
     last_node some.ear.first some.ear.others,
     closes g root tree gadag facts it some.ear e some.among (ear_known g root tree gadag facts it some.ear some.among) some.last (λ same.
-    sole_or_closing (sym (it.marks.roles.sole some.ear some.among (subst (λ (l : ℕ). IsLastOfBlock tree some.ear l) same some.last))
-    ∙ sym (ap (λ (l : ℕ). role_at gadag.marks l) same) ∙ closing)),
+        sole_or_closing (sym (it.marks.roles.sole some.ear some.among (subst (λ (l : ℕ). IsLastOfBlock tree some.ear l) same some.last))
+        ∙ sym (ap (λ (l : ℕ). role_at gadag.marks l) same) ∙ closing)),
   )
 ]
   where

@@ -11,7 +11,8 @@ use Rattle.gadag_ears.specs.Ear.{Ear, IsNextEar, new_nodes}
 pub data IsEarOrder (g : Topology) (root : ℕ) (tree : List TreeNode) : List ℕ → ℕ → List ℕ → List Ear → Type 0 where
   Begun : IsEarOrder g root tree [] root [] []
   Grown : (over : List ℕ) (x : ℕ) (later : List ℕ) (ears : List Ear) (ear : Ear)
-      → IsEarOrder g root tree over x later ears → IsNextEar g tree (over ++ x ∷ later) x ear → IsEarOrder g root tree over x (new_nodes ear ++ later) (ear ∷ ears)
+      → IsEarOrder g root tree over x later ears → IsNextEar g tree (over ++ x ∷ later) x ear
+      → IsEarOrder g root tree over x (new_nodes ear ++ later) (ear ∷ ears)
   Turned : (over : List ℕ) (x y : ℕ) (later : List ℕ) (ears : List Ear) → IsEarOrder g root tree over x (y ∷ later) ears
       → IsDone g (over ++ x ∷ y ∷ later) x → IsEarOrder g root tree (over ++ x ∷ []) y later ears
 

@@ -1,5 +1,6 @@
 -- Ears on their way.
-use Rattle.std.specs.Prelude.{◌≡◌, ◌<◌, ◌≤◌, ◌++◌, ◌↔◌, ◌⊎◌, ℕ, Bool, true, false, List, [], ◌∷◌, Some, Contains, length, replicate, reverse, slice_get, slice_set, slice_index_or, vec_capacity}
+use Rattle.std.specs.Prelude.{◌≡◌, ◌<◌, ◌≤◌, ◌++◌, ◌↔◌, ◌⊎◌, ℕ, Bool, true, false, List, [], ◌∷◌, Some, Contains}
+use Rattle.std.specs.Prelude.{length, replicate, reverse, slice_get, slice_set, slice_index_or, vec_capacity}
 use Rattle.mrt_graph.specs.declared.cert.Role.TheVariants.{Plain}
 use Rattle.mrt_graph.specs.declared.gadag.Mark.{Mark}
 use Rattle.mrt_graph.specs.declared.gadag.Place.{Place}

@@ -1,5 +1,6 @@
 -- The links of an ear on their way to their marks.
-use Rattle.std.specs.Prelude.{◌≡◌, ◌≢◌, ◌<◌, ◌==◌, ℕ, Bool, IsTrue, List, [], ◌∷◌, Some, Contains, length, slice_get, if◌then◌else◌}
+use Rattle.std.specs.Prelude.{◌≡◌, ◌≢◌, ◌<◌, ◌==◌, ℕ, Bool, IsTrue, List, [], ◌∷◌, Some, Contains, length, slice_get}
+use Rattle.std.specs.Prelude.{if◌then◌else◌}
 use Rattle.mrt_graph.specs.declared.cert.Role.{Role}
 use Rattle.mrt_graph.specs.declared.cert.Role.TheVariants.{Closing, Plain, Sole}
 use Rattle.mrt_graph.specs.declared.gadag.Mark.{Mark}

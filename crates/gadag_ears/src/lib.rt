@@ -21,6 +21,6 @@ pub use ears_law::{
 pub use gadag::ears;
 pub use gadag_law::{
     counted_links_lead_forward, each_member_is_left_or_closes_its_block,
-    each_node_but_the_root_is_entered, links_without_a_direction_are_plain,
-    one_gadag, one_sole_or_closing_link_a_block,
+    each_node_but_the_root_is_entered, links_without_a_direction_are_plain, one_gadag,
+    one_sole_or_closing_link_a_block,
 };
