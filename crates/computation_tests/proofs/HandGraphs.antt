@@ -1,8 +1,8 @@
 -- Parts of a graph of routers and then networks, numbered from 1 on, whose links have a router as their lower node.
-use Rattle.std.proofs.Common.{◌≡◌, ◌∙◌, ◌<◌, ◌≤◌, ◌+◌, ◌==◌, ℕ, suc, true, false, List, [], ◌∷◌, Some, length, map, get_or, slice_get, refl, sym, ap, subst, arith}
+use Rattle.std.proofs.Common.{◌≡◌, ◌∙◌, ◌<◌, ◌≤◌, ◌+◌, ℕ, suc, false, List, [], ◌∷◌, Some, length, map, get_or, slice_get, refl, sym, ap, subst, arith}
 use Rattle.std.specs.Prelude.{nat_lt, if◌then◌else◌}
 use Rattle.std.specs.declared.cmp.Ordering.TheVariants.{Less}
-use Rattle.std.specs.List.{All, AllByRecursion, list_any}
+use Rattle.std.specs.List.{All, AllByRecursion}
 use Rattle.std.specs.List.Sorted.{IsSorted, IsStrictlySortedBy}
 use Rattle.std.specs.Option.{option_map}
 use Rattle.std.specs.Ordering.{is_lt}
@@ -13,12 +13,12 @@ use Rattle.std.proofs.lemmas.Option.{slice_get-get_or}
 use Rattle.mrt_graph.specs.declared.link.LinkIn.{LinkIn}
 use Rattle.mrt_graph.specs.declared.node_id.Kind.TheVariants.{Network, Router}
 use Rattle.mrt_graph.specs.declared.node_id.NodeId.{NodeId}
+use Rattle.mrt_graph.specs.Connected.{IsConnected}
 use Rattle.mrt_graph.specs.EndRows.{IsWithin}
 use Rattle.mrt_graph.specs.EndsOfLinks.{pair_of}
 use Rattle.mrt_graph.specs.GraphInvariant.{IsLink, IsNetwork}
 use Rattle.mrt_graph.specs.NewGraph.{AreGraphParts, pair_cmp}
 use Rattle.mrt_graph.specs.NodeOrder.{node_id_cmp}
-use Rattle.mrt_graph.proofs.LowerNeighbours.{connected_by_lower, lower_by_test}
 
 -- the identifier of node k
 abbrev id_at : ℕ → ℕ → NodeId
@@ -93,8 +93,8 @@ pairs_ascend links ascend = λ k d low within.
 pub hand_parts : (count routers : ℕ) (ids : List NodeId) (links : List LinkIn) → 1 ≤ count → length ids ≡ count → ((k : ℕ) (d : NodeId) → k < count → get_or ids k d ≡ id_at routers k)
     → All (IsWithin count) links → All (λ link. link.a < routers) links
     → ((k : ℕ) (d : LinkIn) → k + 1 < length links → is_lt (pair_cmp (pair_of (get_or links (k + 1) d)) (pair_of (get_or links k d))) ≡ false)
-    → ((n : ℕ) → 1 ≤ n → n < count → list_any (λ link. link.b == n) links ≡ true) → AreGraphParts ids links
-hand_parts count routers ids links some numbered is within low ascend lower =
+    → IsConnected count (map pair_of links) → AreGraphParts ids links
+hand_parts count routers ids links some numbered is within low ascend connected =
     let all : AllByRecursion (IsWithin count) links = recursion_from_All (IsWithin count) links within in
     let all_low : AllByRecursion (λ link. link.a < routers) links = recursion_from_All (λ link. link.a < routers) links low in
     let are : AreIds routers 0 ids = record {
@@ -107,5 +107,5 @@ hand_parts count routers ids links some numbered is within low ascend lower =
       ids_ascend = ids_ascend routers 0 ids are;
       links_between = links_between routers ids links are (rw numbered all) all_low;
       links_ascend = pairs_ascend links ascend;
-      connected = rw numbered (connected_by_lower count (map pair_of links) (λ n from to. lower_by_test count n links all (lower n from to)));
+      connected = rw numbered connected;
     }

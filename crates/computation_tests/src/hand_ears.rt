@@ -207,6 +207,32 @@ const CASES: &[Case] = &[
             (Way::AToB, Role::Sole, 3),
         ],
     },
+    Case {
+        name: "a network as a cut node",
+        count: 6,
+        routers: 5,
+        links: &[
+            (0, 1, 10, 10),
+            (0, 5, 10, 0),
+            (1, 5, 10, 0),
+            (2, 3, 10, 10),
+            (2, 5, 10, 0),
+            (3, 5, 10, 0),
+            (4, 5, 10, 0),
+        ],
+        root: 4,
+        order: &[4, 5, 2, 3, 0, 1],
+        places: &[(5, 0), (5, 0), (5, 2), (5, 2), (4, 4), (4, 5)],
+        marks: &[
+            (Way::AToB, Role::Plain, 0),
+            (Way::BToA, Role::Plain, 0),
+            (Way::AToB, Role::Closing, 0),
+            (Way::AToB, Role::Plain, 2),
+            (Way::BToA, Role::Plain, 2),
+            (Way::AToB, Role::Closing, 2),
+            (Way::AToB, Role::Sole, 5),
+        ],
+    },
 ];
 
 fn cases() -> &'static [Case] {

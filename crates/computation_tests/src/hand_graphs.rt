@@ -4,24 +4,27 @@ ghost use Rattle.std.specs.Prelude.{
   ◌≡◌,
   ◌<◌,
   ◌≤◌,
+  ◌⊎◌,
   ◌+◌,
-  ◌==◌,
   ℕ,
   IfOk,
-  true,
+  map,
   false,
   length,
   nat_lt,
   slice_index_or,
   if◌then◌else◌,
 };
-ghost use Rattle.std.specs.List.{All, list_any};
+ghost use Rattle.std.specs.List.{All};
 ghost use Rattle.std.specs.Ordering.{is_lt};
 ghost use Rattle.mrt_graph.specs.declared.link.LinkIn.{LinkIn};
 ghost use Rattle.mrt_graph.specs.declared.node_id.NodeId.{NodeId};
+ghost use Rattle.mrt_graph.specs.Connected.{IsConnected};
 ghost use Rattle.mrt_graph.specs.EndRows.{IsWithin};
 ghost use Rattle.mrt_graph.specs.EndsOfLinks.{pair_of};
 ghost use Rattle.mrt_graph.specs.NewGraph.{pair_cmp};
+ghost use Rattle.mrt_graph.specs.Search.{IsMarked};
+ghost use Rattle.computation_tests.specs.Reached.{AreReached};
 
 use mrt_graph::{Graph, GraphError, Kind, LinkIn, NoMemory, NodeId, NodeNo};
 use std::alloc::Global;
@@ -84,18 +87,57 @@ fn assert_ascending(rt: &impl Abort, links: &[LinkIn])
     }
 }
 
-fn has_lower(links: &[LinkIn], n: u16) -> bool
-    ensures { result ≡ list_any (λ link. link.b == n) links.now }
+/// Marks both nodes of a link, where one of them has its mark.
+fn join(marks: &mut Vec<bool>, a: usize, b: usize)
+    requires a { a < length marks.old.items }
+    requires b { b < length marks.old.items }
+    ensures count { length marks.new.items ≡ length marks.old.items }
+    ensures marks { (v : ℕ) → IsMarked marks.new.items v → IsMarked marks.old.items v
+        ⊎ ((IsMarked marks.old.items a ⊎ IsMarked marks.old.items b) × ((v ≡ a) ⊎ (v ≡ b))) }
 {
-    links.iter().any(|link| link.b.get() == n)
+    if marks[a] || marks[b] {
+        marks[a] = true;
+        marks[b] = true;
+    }
 }
 
-/// Asserts that each node but the first has a neighbour below it, so that the links connect all nodes.
-fn assert_connected(rt: &impl Abort, count: u16, links: &[LinkIn])
-    ensures { (n : ℕ) → 1 ≤ n → n < count → list_any (λ link. link.b == n) links.now ≡ true }
+/// Joins the nodes of all links.
+fn join_all(marks: &mut Vec<bool>, links: &[LinkIn])
+    requires { All (IsWithin (length marks.old.items)) links.now }
+    ensures count { length marks.new.items ≡ length marks.old.items }
+    ensures reached { AreReached (map pair_of links.now) marks.old.items
+        → AreReached (map pair_of links.now) marks.new.items }
 {
-    for n in 1..count {
-        assert!(rt; has_lower(links, n));
+    for link in links {
+        join(marks, link.a.get() as usize, link.b.get() as usize);
+    }
+}
+
+/// Asserts that the links connect so many nodes.
+fn assert_connected(
+    rt: &impl Abort,
+    alloc: Global,
+    count: u16,
+    links: &[LinkIn],
+) -> Result<(), NoMemory>
+    requires some { 1 ≤ count }
+    requires within { All (IsWithin count) links.now }
+    ensures { IfOk result (λ _. IsConnected count (map pair_of links.now)) }
+{
+    let mut marks = vec![in alloc; false; count as usize]?;
+    marks[0] = true;
+    for _ in 0..count {
+        join_all(&mut marks, links);
+    }
+    assert_marked(rt, &marks);
+    Ok(())
+}
+
+fn assert_marked(rt: &impl Abort, marks: &[bool])
+    ensures { (v : ℕ) → v < length marks.now → IsMarked marks.now v }
+{
+    for v in 0..marks.len() {
+        assert!(rt; marks[v]);
     }
 }
 
@@ -110,7 +152,7 @@ pub fn graph(
     assert!(rt; count > 0);
     assert_within(rt, count, routers, &links);
     assert_ascending(rt, &links);
-    assert_connected(rt, count, &links);
+    assert_connected(rt, alloc, count, &links)?;
     let ids = identifiers(alloc, count, routers)?;
     Graph::new(alloc, ids, links)
 }

@@ -1,6 +1,10 @@
-use Rattle.std.proofs.Common.{◌≡◌, ◌<◌, ◌≤◌, ◌==◌, ℕ, true}
-use Rattle.std.specs.List.{list_any}
+use Rattle.std.proofs.Common.{◌≡◌, length, map}
+use Rattle.mrt_graph.specs.EndsOfLinks.{pair_of}
+use Rattle.computation_tests.specs.Reached.{AreReached}
 use Rattle.computation_tests.proofs.hand_graphs.assert_connected.Given as goal
 
-abbrev pub invariant-loop-n : goal.invariant-loop-n
-invariant-loop-n g l = (n : ℕ) → 1 ≤ n → n < l.n → list_any (λ link. link.b == n) l.links ≡ true
+abbrev pub invariant-loop : goal.invariant-loop
+invariant-loop g l = record {
+  count : length l.marks.items ≡ l.count;
+  reached : AreReached (map pair_of l.links) l.marks.items;
+}
