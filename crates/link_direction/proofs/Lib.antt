@@ -1,0 +1,10 @@
+pub mod Counts
+pub mod DirectedMade
+pub mod EndPassed
+pub mod EnteredBy
+pub mod FromEarsFacts
+pub mod NextInOrder
+pub mod PassedEnds
+pub mod QueueEnds
+pub mod TakenOff
+pub mod WaysGiven

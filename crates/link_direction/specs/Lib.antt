@@ -1,5 +1,8 @@
 pub mod BlockOfTwo
+pub mod Counting
 pub mod Directed
 pub mod Directions
+pub mod FromEars
 pub mod GadagOrder
 pub mod OrderedGadag
+pub mod Ways

@@ -1,6 +1,10 @@
 //! The order of a GADAG and the direction of every link (RFC 7811, section 5.6).
 #![tactic(auto)]
 
-mod order;
+mod counting;
+mod directed;
+mod numbering;
+mod ordering;
+mod ways;
 
-pub use order::counted_links_lead_forward;
+pub use directed::direct;

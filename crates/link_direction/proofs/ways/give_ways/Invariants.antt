@@ -1,0 +1,5 @@
+use Rattle.link_direction.specs.Ways.{AreWaysGiven}
+use Rattle.link_direction.proofs.ways.give_ways.Given as goal
+
+abbrev pub invariant-loop-e : goal.invariant-loop-e
+invariant-loop-e l = AreWaysGiven l.g l.numbers l.e l.initial.marks.items l.marks.items
