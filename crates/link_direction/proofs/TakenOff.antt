@@ -192,7 +192,7 @@ pub next_one : (g : Topology) (root : ℕ) (marks : List Mark) (place passed : �
 next_one g root marks place passed numbers order x end at one =
     is_next g root marks place passed numbers order x end at (is_last g root marks place passed numbers order x end at one)
 
-once_longer : (order : List ℕ) (v : ℕ) → StandOnce order → (Contains order v → ⊥) → StandOnce (order ++ v ∷ [])
+pub once_longer : (order : List ℕ) (v : ℕ) → StandOnce order → (Contains order v → ⊥) → StandOnce (order ++ v ∷ [])
 once_longer order v once outside j k w at_j at_k = elim (pushed_at order v w j at_j) [
   | inl j_before ↦ elim (pushed_at order v w k at_k) [
     | inl k_before ↦ once j k w j_before k_before

@@ -1,10 +1,11 @@
 -- What holds of the order and the directions of each GADAG.
 use Rattle.std.specs.Prelude.{◌≡◌, ◌≢◌, ◌<◌, ◌≤◌, ◌⊎◌, ℕ, Some, length}
 use Rattle.mrt_graph.specs.declared.cert.Role.TheVariants.{Closing, Sole}
+use Rattle.mrt_graph.specs.DirectedLists.{DirectedLists}
 use Rattle.mrt_graph.specs.Leads.{leads}
 use Rattle.mrt_graph.specs.Topology.{Topology}
 use Rattle.link_direction.specs.BlockOfTwo.{HaveInCommon}
-use Rattle.link_direction.specs.Directions.{Directions}
+use Rattle.link_direction.specs.Directions.{Directions, Says}
 
 -- a link leads from u to v, and lies in this block
 pub record IsLinkWithin (g : Topology) (w : Directions) (k e u v : ℕ) : Type 0 where
@@ -86,3 +87,9 @@ pub record IsOrderedGadag (g : Topology) (root : ℕ) (w : Directions) : Type 0 
   pub heads : AreHeads (length g.ids) root w
   pub links : AreLinks g w
   pub blocks : (m : ℕ) → m < length g.ids → m ≢ root → HasSoleLink g w m ⊎ HasClosingLink g w m
+
+-- the answer says what holds of a GADAG with its order
+pub record SaysOrdered (g : Topology) (root : ℕ) (d : DirectedLists) : Type 0 where
+  pub directions : Directions
+  pub says : Says g d directions
+  pub ordered : IsOrderedGadag g root directions

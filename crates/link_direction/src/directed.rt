@@ -3,6 +3,7 @@
 ghost use Rattle.std.specs.Prelude.{◌<◌, IfOk, length};
 ghost use Rattle.link_direction.specs.Directed.{IsDirected};
 ghost use Rattle.link_direction.specs.FromEars.{IsFromEars};
+ghost use Rattle.link_direction.specs.OrderedGadag.{SaysOrdered};
 
 use crate::numbering::numbers_of;
 use crate::ordering::order_of;
@@ -16,7 +17,8 @@ use std::alloc::Global;
 pub fn direct(alloc: Global, g: &Graph, root: NodeNo, gadag: Gadag) -> Result<Directed, NoMemory>
     requires root { root < length g.now.ids }
     requires gadag { IsFromEars g.now root gadag }
-    ensures { IfOk result (IsDirected g.now root gadag) }
+    ensures exact { IfOk result (IsDirected g.now root gadag) }
+    ensures ordered { IfOk result (SaysOrdered g.now root) }
 {
     let (_, places, mut marks) = gadag.into_lists();
     let order = order_of(alloc, g, root, &marks)?;

@@ -4,7 +4,9 @@
 mod counting;
 mod directed;
 mod numbering;
+mod order_law;
 mod ordering;
 mod ways;
 
 pub use directed::direct;
+pub use order_law::{directions_are_ordered, each_node_is_in_the_order_once, one_order};

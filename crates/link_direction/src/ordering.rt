@@ -21,6 +21,7 @@ ghost use Rattle.std.specs.Prelude.{
   vec_capacity,
 };
 ghost use Rattle.mrt_graph.specs.GadagLists.{GadagLists};
+ghost use Rattle.mrt_graph.specs.GraphInvariant.{IsTopology};
 ghost use Rattle.link_direction.specs.Counting.{IsEndOf, IsTurn, IsTurnOfEnd, IsUnderWay};
 ghost use Rattle.link_direction.specs.FromEars.{IsFromEars};
 ghost use Rattle.link_direction.specs.GadagOrder.{IsWholeOrder};
@@ -45,6 +46,7 @@ pub fn order_of(
     ensures few { IfOk result (λ order. length order.items ≤ length g.now.ids) }
     ensures within { IfOk result (λ order. (k v : ℕ) → slice_get order.items k ≡ Some v
         → v < length g.now.ids) }
+    ensures kept { IsTopology g.now }
 {
     let mut counts = entering(alloc, g, marks)?;
     let mut order = Vec::with_capacity(alloc, g.node_count() as usize)?;

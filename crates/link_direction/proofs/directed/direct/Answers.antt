@@ -4,6 +4,7 @@ use Rattle.mrt_graph.specs.GadagLists.{GadagLists}
 use Rattle.link_direction.specs.Directed.{AreNumbers}
 use Rattle.link_direction.specs.GadagOrder.{IsWholeOrder}
 use Rattle.link_direction.specs.Ways.{AreWaysGiven}
+use Rattle.link_direction.proofs.Laws.{says_ordered}
 use Rattle.link_direction.proofs.DirectedMade.{directed_made}
 use Rattle.link_direction.proofs.directed.direct.Goals as goal
 
@@ -19,8 +20,8 @@ order_of-requires-clause-from_ears c = (
   c.requires.gadag,
 )
 
-pub returns : goal.returns
-returns c =
+pub returns-clause-exact : goal.returns-clause-exact
+returns-clause-exact c =
     let parts = c.into_lists-places.ensures in
     let marks = c.into_lists-places.result.2.items in
     let one_each : length marks ≡ length c.args.g.now.links =
@@ -31,3 +32,7 @@ returns c =
     (subst (λ (xs : List ℕ). AreNumbers c.args.g.now xs c.in_ok-numbers.numbers.items) c.deref-2.ensures.value c.in_ok-numbers.ensures)
     (subst (λ (xs : List ℕ). AreWaysGiven c.args.g.now xs (length c.args.g.now.links) marks c.give_ways.new.marks.items) c.deref-3.ensures.value c.give_ways.ensures)
     c.new.ensures
+
+pub returns-clause-ordered : goal.returns-clause-ordered
+returns-clause-ordered c =
+    says_ordered c.args.g.now c.args.root c.args.gadag c.new.result c.in_ok-order.ensures.kept c.requires.root c.requires.gadag (returns-clause-exact c)
