@@ -1,4 +1,5 @@
 pub mod AllOrdered
+pub mod AnswerExists
 pub mod Answered
 pub mod BlockKinds
 pub mod Counts
@@ -12,6 +13,7 @@ pub mod Laws
 pub mod NextInOrder
 pub mod OneAnswer
 pub mod OneOrder
+pub mod OrderExists
 pub mod OrderSound
 pub mod PassedEnds
 pub mod QueueEnds

@@ -12,7 +12,7 @@ ghost use Rattle.link_direction.specs.Directed.{IsDirected};
 ghost use Rattle.link_direction.specs.GadagOrder.{IsWholeOrder};
 ghost use Rattle.link_direction.specs.OrderedGadag.{SaysOrdered};
 
-/// A law: a GADAG has at most one order, and at most one answer.
+/// A law: a GADAG has exactly one order, and exactly one answer.
 pub fn one_order()
     ensures order { (g : Topology) (root : ℕ) (gadag : GadagLists) (order other : List ℕ)
         → IsWholeOrder g root gadag.marks order → IsWholeOrder g root gadag.marks other
@@ -21,6 +21,9 @@ pub fn one_order()
         → IsTopology g → root < length g.ids → IsSearchTree g root tree → IsGadag g root tree gadag
         → (d other : DirectedLists) → IsDirected g root gadag d → IsDirected g root gadag other
         → d ≡ other }
+    ensures some { (g : Topology) (root : ℕ) (tree : List TreeNode) (gadag : GadagLists)
+        → IsTopology g → root < length g.ids → IsSearchTree g root tree → IsGadag g root tree gadag
+        → (d : DirectedLists) × IsDirected g root gadag d }
 {}
 
 /// A law: the order lists each node of the graph once.
