@@ -1,6 +1,8 @@
-//! Tests of the computation: search trees and ears by hand.
+//! Tests of the computation: search trees, ears and directions by hand.
 #![tactic(auto)]
 
+#[cfg(test)]
+mod hand_directions;
 #[cfg(test)]
 mod hand_ears;
 #[cfg(test)]

@@ -1,8 +1,7 @@
 -- A GADAG has an answer.
-use Rattle.std.proofs.Common.{◌≡◌, ◌<◌, ◌≤◌, ◌+◌, ◌⊎◌, ◌∙◌, ℕ, zero, suc, List, [], ◌∷◌, Option, Some, length, slice_get, inl, inr, refl, sym, ap, arith}
-use Rattle.std.specs.Prelude.{Contains}
+use Rattle.std.proofs.Common.{◌≡◌, ◌+◌, ◌∙◌, ℕ, zero, suc, List, [], ◌∷◌, Some, length, slice_get, inl, inr, refl, sym, ap, arith}
 use Rattle.std.specs.Option.{option_map}
-use Rattle.std.proofs.lemmas.Option.{same_Some, slice_get_past, slice_get_within}
+use Rattle.std.proofs.lemmas.Option.{same_Some, slice_get_past}
 use Rattle.mrt_graph.specs.declared.gadag.Mark.{Mark}
 use Rattle.mrt_graph.specs.declared.link.Link.{Link}
 use Rattle.mrt_graph.specs.DirectedLists.{DirectedLists}
@@ -11,7 +10,6 @@ use Rattle.mrt_graph.specs.Topology.{Topology}
 use Rattle.mrt_graph.proofs.ListPlaces.{contains_at, place_of}
 use Rattle.mrt_graph.proofs.Members.{listed_or_not}
 use Rattle.link_direction.specs.Directed.{AreNumbers, IsDirected}
-use Rattle.link_direction.specs.GadagOrder.{IsWholeOrder}
 use Rattle.link_direction.specs.Ways.{AreWaysGiven, mark_by}
 use Rattle.link_direction.proofs.EachInOrder.{whole_sound}
 use Rattle.link_direction.proofs.FromEarsFacts.{AreGadagFacts}
@@ -33,8 +31,7 @@ has_number order once v = elim (listed_or_not order v) [
 
 numbers_exist : (g : Topology) (root : ℕ) (marks : List Mark) (order : List ℕ) → IsSound g root marks order → (numbers : List ℕ) × AreNumbers g order numbers
 numbers_exist g root marks order sound =
-    let number : ℕ → ℕ = λ v. (has_number order sound.once v).number in
-    (
+    let number : ℕ → ℕ = λ v. (has_number order sound.once v).number in (
       table number (length g.ids),
       record {
         one_each = length-table number (length g.ids);
@@ -65,8 +62,7 @@ given_at numbers (l ∷ links) (mark ∷ marks) (suc e) link long at = given_at 
 ways_exist : (g : Topology) (numbers : List ℕ) (marks : List Mark) → length marks ≡ length g.links
     → (marks' : List Mark) × AreWaysGiven g numbers (length g.links) marks marks'
 ways_exist g numbers marks long =
-    let long' = length-given numbers g.links marks long in
-    (
+    let long' = length-given numbers g.links marks long in (
       given numbers g.links marks,
       record {
         one_each = long';
@@ -80,8 +76,7 @@ pub some_answer : (g : Topology) (root : ℕ) (gadag : GadagLists) → AreGadagF
 some_answer g root gadag facts =
     let order = order_exists g root gadag facts in
     let numbers = numbers_exist g root gadag.marks order.0 (whole_sound g root gadag order.0 facts order.1) in
-    let marks = ways_exist g numbers.0 gadag.marks facts.one_mark_each in
-    (
+    let marks = ways_exist g numbers.0 gadag.marks facts.one_mark_each in (
       record { orders = numbers.0; places = gadag.places; marks = marks.0 },
       record {
         order = order.0;
