@@ -15,7 +15,7 @@ use Rattle.link_direction.proofs.EachInOrder.{whole_sound}
 use Rattle.link_direction.proofs.FromEarsFacts.{AreGadagFacts}
 use Rattle.link_direction.proofs.OrderExists.{length-table, order_exists, table, table_at}
 use Rattle.link_direction.proofs.OrderSound.{IsSound}
-use Rattle.link_direction.proofs.PassedEnds.{StandOnce}
+use Rattle.link_direction.specs.Counting.{StandOnce}
 use Rattle.link_direction.proofs.WaysGiven.{ways_given}
 
 -- the place of a node in a list, from 1

@@ -1,5 +1,6 @@
 -- The end that is passed.
-use Rattle.std.proofs.Common.{◌≡◌, ◌≢◌, ◌<◌, ◌+◌, ◌-◌, ◌++◌, ℕ, List, [], ◌∷◌, Some, length, set, slice_get, slice_index_or, inl, inr, refl, sym, subst, arith, length-append}
+use Rattle.std.proofs.Common.{◌≡◌, ◌≢◌, ◌<◌, ◌+◌, ◌-◌, ◌++◌, ℕ, List, [], ◌∷◌, Some, length, set, slice_get, slice_index_or, inl, inr, sym, subst, arith, length-append}
+use Rattle.std.specs.Prelude.{Contains}
 use Rattle.std.proofs.lemmas.Bool.{cases_eq}
 use Rattle.mrt_graph.specs.declared.gadag.Mark.{Mark}
 use Rattle.mrt_graph.specs.declared.link.End.{End}
@@ -7,8 +8,8 @@ use Rattle.mrt_graph.specs.Topology.{Topology}
 use Rattle.mrt_graph.proofs.ListPlaces.{at_left}
 use Rattle.link_direction.specs.Counting.{IsEndOf, IsUnderWay, entered_by}
 use Rattle.link_direction.proofs.EnteredBy.{counted_from, enters_there}
-use Rattle.link_direction.proofs.NextInOrder.{IsAtEnd}
-use Rattle.link_direction.proofs.TakenOff.{end_kept, few_listed, passed_by, put_at_back, taken_off}
+use Rattle.link_direction.proofs.NextInOrder.{IsAtEnd, still_left}
+use Rattle.link_direction.proofs.TakenOff.{end_kept, few_listed, in_longer, once_longer, passed_by, put_at_back, taken_off}
 
 -- where a counted link enters the far node of the end, it leads away from the end's node
 pub at_end : (g : Topology) (root : ℕ) (marks : List Mark) (place passed : ℕ) (numbers order : List ℕ) (x : ℕ) (end : End)
@@ -23,10 +24,16 @@ at_end g root marks place passed numbers order x end state here end_here enters 
 
 -- there is room for one more node
 pub room_for : (g : Topology) (root : ℕ) (marks : List Mark) (place passed : ℕ) (numbers order : List ℕ) (x : ℕ) (end : End)
-    → IsAtEnd g root marks place passed numbers order x end → slice_index_or numbers end.to 0 ≡ 1 → length order < length g.ids
-room_for g root marks place passed numbers order x end at one =
-    let after = put_at_back g root marks place passed numbers (set numbers end.to (slice_index_or numbers end.to 0 - 1)) order x end at one refl in
-    omega (arith, few_listed (length g.ids) (order ++ end.to ∷ []) after.once after.within, length-append order (end.to ∷ []))
+    → IsAtEnd g root marks place passed numbers order x end → length order < length g.ids
+room_for g root marks place passed numbers order x end at =
+    let state = at.under_way in
+    let outside : Contains order end.to → ⊥ =
+    λ listed. state.none_left end.link end.to listed (still_left g root marks place passed numbers order x end at) in
+    let within : (v : ℕ) → Contains (order ++ end.to ∷ []) v → v < length g.ids = λ v c. elim (in_longer order end.to v c) [
+      | inl before ↦ state.within v before
+      | inr same ↦ subst (λ (w : ℕ). w < length g.ids) same (end_kept g x passed end state.kept at.end_here).to
+    ] in
+    omega (arith, few_listed (length g.ids) (order ++ end.to ∷ []) (once_longer order end.to state.once outside) within, length-append order (end.to ∷ []))
 
 -- the list is as before, or has one more
 pub grown : (order order' : List ℕ) (v count place x : ℕ) → (count ≡ 1 → order' ≡ order ++ v ∷ []) → (count ≢ 1 → order' ≡ order)

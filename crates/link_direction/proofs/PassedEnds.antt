@@ -10,11 +10,7 @@ use Rattle.mrt_graph.proofs.EndsAt.{IsEndOver, end_leads, leads_end, list_of_end
 use Rattle.mrt_graph.proofs.ListPlaces.{at_left, pushed_at}
 use Rattle.mrt_graph.proofs.ListTests.{one_passes}
 use Rattle.mrt_graph.proofs.Tallies.{count_is_tally, length_is_tally}
-use Rattle.link_direction.specs.Counting.{IsEndOf, IsPassed}
-
--- each number stands at one place
-abbrev pub StandOnce : List ℕ → Type 0
-StandOnce order = (j k v : ℕ) → slice_get order j ≡ Some v → slice_get order k ≡ Some v → j ≡ k
+use Rattle.link_direction.specs.Counting.{IsEndOf, IsPassed, StandOnce}
 
 -- two ends of a node on one link are one
 pub one_end : (g : Topology) (x j k : ℕ) (ends : List End) (end other : End) → IsTopology g → slice_get g.ends x ≡ Some ends

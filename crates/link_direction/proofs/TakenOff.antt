@@ -15,12 +15,12 @@ use Rattle.mrt_graph.proofs.ListPlaces.{contains_at, place_of, pushed_at}
 use Rattle.mrt_graph.proofs.ListTests.{all_at}
 use Rattle.mrt_graph.proofs.Members.{contains_first, contains_from_has}
 use Rattle.gadag_ears.specs.Counted.{IsCounted}
-use Rattle.link_direction.specs.Counting.{AreCounts, IsEndOf, IsPassed, IsUnderWay, count_to, enters}
+use Rattle.link_direction.specs.Counting.{AreCounts, IsEndOf, IsPassed, IsUnderWay, StandOnce, count_to, enters}
 use Rattle.link_direction.specs.GadagOrder.{IsNextInOrder, Next}
 use Rattle.link_direction.proofs.Counts.{all_fail, none_counted, one_more, same_count, some_counted}
 use Rattle.link_direction.proofs.EnteredBy.{link_within, one_far_node, one_tail}
 use Rattle.link_direction.proofs.NextInOrder.{IsAtEnd, IsLastInto, is_next, still_left}
-use Rattle.link_direction.proofs.PassedEnds.{StandOnce, passed_cases, passed_here, passed_in_longer, passed_in_shorter, passed_more}
+use Rattle.link_direction.proofs.PassedEnds.{passed_cases, passed_here, passed_in_longer, passed_in_shorter, passed_more}
 
 -- an end of a node leads where its link does, to a node of the graph
 pub end_kept : (g : Topology) (x passed : ℕ) (end : End) → IsTopology g → IsEndOf g x passed end → IsEnd (length g.ids) g.links x end

@@ -22,8 +22,8 @@ entered_with link Closing tail = None
 -- the node that link number e enters as a counted link; none where it is not counted, or there is no such link
 abbrev pub entered_by : Topology → List Mark → ℕ → Option ℕ
 entered_by g marks e =
-    option_and_then (λ link. option_and_then (λ mark. entered_with link mark.role (tail_of link mark.way)) (slice_get marks e))
-    (slice_get g.links e)
+    option_and_then (λ link. option_and_then (λ mark. entered_with link mark.role (tail_of link mark.way))
+    (slice_get marks e)) (slice_get g.links e)
 
 -- whether link e is left, and enters v
 abbrev pub enters : (ℕ → Option ℕ) → ℕ → ℕ → Bool
@@ -52,13 +52,17 @@ pub record IsPassed (g : Topology) (order : List ℕ) (place passed e u : ℕ) :
   pub over : end.link ≡ e
   pub before : (at < place) ⊎ ((at ≡ place) × (end_at < passed))
 
--- the turns of the nodes before this place are over, and of the node there so many ends are passed. Each counted link is
--- left or passed, and never both; a node is in the list where none is left that enters it
+-- each node stands at one place of the list
+abbrev pub StandOnce : List ℕ → Type 0
+StandOnce order = (j k v : ℕ) → slice_get order j ≡ Some v → slice_get order k ≡ Some v → j ≡ k
+
+-- the turns of the nodes before this place are over, and of the node there so many ends are passed. Each counted link
+-- is left or passed, and never both; a node is in the list where none is left that enters it
 pub record IsUnderWay (g : Topology) (root : ℕ) (marks : List Mark) (place passed : ℕ)
     (numbers order : List ℕ) : Type 0 where
   pub kept : IsTopology g
   pub ordered : IsGadagOrder g root marks order
-  pub once : (j k v : ℕ) → slice_get order j ≡ Some v → slice_get order k ≡ Some v → j ≡ k
+  pub once : StandOnce order
   pub within : (v : ℕ) → Contains order v → v < length g.ids
   pub left : ℕ → Option ℕ
   pub counts : AreCounts left (length g.links) (length g.ids) numbers

@@ -35,8 +35,8 @@ pub record HasSoleLink (g : Topology) (w : Directions) (m : ℕ) : Type 0 where
   pub sole : w.role link ≡ Sole
   pub no_other_node : (v : ℕ) → v < length g.ids → w.block v ≡ w.block m → v ≡ m
 
--- the block of m has more than one link: none is sole and one is closing, from the block's node of greatest order to its
--- head. Each of its nodes is entered from a lower order, and each but the greatest is left to a greater one
+-- the block of m has more than one link: none is sole and one is closing, from the block's node of greatest order to
+-- its head. Each of its nodes is entered from a lower order, and each but the greatest is left to a greater one
 pub record HasClosingLink (g : Topology) (w : Directions) (m : ℕ) : Type 0 where
   pub link : ℕ
   pub greatest : ℕ
@@ -72,8 +72,8 @@ pub record AreHeads (n root : ℕ) (w : Directions) : Type 0 where
   pub lower : (v : ℕ) → v < n → v ≢ root → w.order (w.head v) < w.order v
   pub one_head : (u v : ℕ) → u < n → v < n → w.block u ≡ w.block v → w.head u ≡ w.head v
 
--- links: each has a direction, lies in a block that its two nodes have in common, and leads to a greater order unless it
--- is closing
+-- links: each has a direction, lies in a block that its two nodes have in common, and leads to a greater order unless
+-- it is closing
 pub record AreLinks (g : Topology) (w : Directions) : Type 0 where
   pub directed : (e : ℕ) → e < length g.links → (v : ℕ) × (leads g.links e (w.tail e) ≡ Some v)
   pub common : (e u v : ℕ) → leads g.links e u ≡ Some v → (h : ℕ) × HaveInCommon w u v (w.lies_in e) h

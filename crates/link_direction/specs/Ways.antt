@@ -9,7 +9,8 @@ use Rattle.mrt_graph.specs.Topology.{Topology}
 
 -- the direction of a link: the one that it has, or else that from the node with the lower number
 abbrev pub way_by : List ℕ → Link → Way → Way
-way_by numbers link Unset = if nat_lt (slice_index_or numbers link.a 0) (slice_index_or numbers link.b 0) then AToB else BToA
+way_by numbers link Unset =
+    if nat_lt (slice_index_or numbers link.a 0) (slice_index_or numbers link.b 0) then AToB else BToA
 way_by numbers link AToB = AToB
 way_by numbers link BToA = BToA
 

@@ -22,7 +22,7 @@ ghost use Rattle.std.specs.Prelude.{
 };
 ghost use Rattle.mrt_graph.specs.GadagLists.{GadagLists};
 ghost use Rattle.mrt_graph.specs.GraphInvariant.{IsTopology};
-ghost use Rattle.link_direction.specs.Counting.{IsEndOf, IsTurn, IsTurnOfEnd, IsUnderWay};
+ghost use Rattle.link_direction.specs.Counting.{IsEndOf, IsTurn, IsTurnOfEnd, IsUnderWay, StandOnce};
 ghost use Rattle.link_direction.specs.FromEars.{IsFromEars};
 ghost use Rattle.link_direction.specs.GadagOrder.{IsWholeOrder};
 
@@ -39,10 +39,10 @@ pub fn order_of(
 ) -> Result<Vec<NodeNo>, NoMemory>
     requires root { root < length g.now.ids }
     requires marks { length marks.now ≡ length g.now.links }
-    requires from_ears { (gadag : GadagLists) × (gadag.marks ≡ marks.now) × IsFromEars g.now root gadag }
+    requires from_ears { (gadag : GadagLists) × (gadag.marks ≡ marks.now)
+        × IsFromEars g.now root gadag }
     ensures whole { IfOk result (λ order. IsWholeOrder g.now root marks.now order.items) }
-    ensures once { IfOk result (λ order. (j k v : ℕ) → slice_get order.items j ≡ Some v
-        → slice_get order.items k ≡ Some v → j ≡ k) }
+    ensures once { IfOk result (λ order. StandOnce order.items) }
     ensures few { IfOk result (λ order. length order.items ≤ length g.now.ids) }
     ensures within { IfOk result (λ order. (k v : ℕ) → slice_get order.items k ≡ Some v
         → v < length g.now.ids) }
@@ -105,10 +105,11 @@ fn pass_end(
 fn take_off(counts: &mut Vec<u16>, order: &mut Vec<NodeNo>, v: NodeNo)
     requires node { v < length counts.old.items }
     requires some { 0 < slice_index_or counts.old.items v 0 }
-    requires room { slice_index_or counts.old.items v 0 ≡ 1 → length order.old.items < vec_capacity order.old }
+    requires room { length order.old.items < vec_capacity order.old }
     ensures counts { counts.new.items
         ≡ slice_set counts.old.items v (slice_index_or counts.old.items v 0 - 1) }
-    ensures put { slice_index_or counts.old.items v 0 ≡ 1 → order.new.items ≡ order.old.items ++ v ∷ [] }
+    ensures put { slice_index_or counts.old.items v 0 ≡ 1
+        → order.new.items ≡ order.old.items ++ v ∷ [] }
     ensures kept { slice_index_or counts.old.items v 0 ≢ 1 → order.new.items ≡ order.old.items }
     ensures room { vec_capacity order.new ≡ vec_capacity order.old }
 {

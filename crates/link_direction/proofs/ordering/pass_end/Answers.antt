@@ -26,11 +26,11 @@ take_off-requires-clause-some c =
     turn.turn.under_way turn.turn.here turn.end_here (c.leads_on.ensures.0 c.if-leads_on.true))
 
 pub take_off-requires-clause-room : goal.take_off-requires-clause-room
-take_off-requires-clause-room c = λ one.
+take_off-requires-clause-room c =
     let turn = c.requires.turn in
     let few = room_for c.args.g.now turn.turn.root c.args.marks.now turn.turn.place turn.passed c.args.counts.now.items c.args.order.now.items c.args.x c.args.end.now
     (at_end c.args.g.now turn.turn.root c.args.marks.now turn.turn.place turn.passed c.args.counts.now.items c.args.order.now.items c.args.x c.args.end.now
-    turn.turn.under_way turn.turn.here turn.end_here (c.leads_on.ensures.0 c.if-leads_on.true)) one in
+    turn.turn.under_way turn.turn.here turn.end_here (c.leads_on.ensures.0 c.if-leads_on.true)) in
     omega (arith, few, c.requires.room)
 
 pub returns-then-leads_on-clause-on : goal.returns-then-leads_on-clause-on
