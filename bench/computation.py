@@ -19,7 +19,7 @@ SHAPES = {
     "block": areas.circle,
     "line": lambda n: [(each, each + 1) for each in range(1, n)],
 }
-CRATES = ["gadag_ears", "lowpoint_dfs", "mrt_cmd", "mrt_island", "area_graph", "lsdb", "ospf_lsa", "mrt_graph"]
+CRATES = ["link_direction", "gadag_ears", "lowpoint_dfs", "mrt_cmd", "mrt_island", "area_graph", "lsdb", "ospf_lsa", "mrt_graph"]
 
 # It reads the database as `mrt_cmd` does.
 PROGRAM = """\
@@ -36,6 +36,7 @@ ghost use Rattle.mrt_cmd.specs.Database.{entering, enters};
 use anyhow::{Result, bail};
 use area_graph::build_area;
 use gadag_ears::ears;
+use link_direction::direct;
 use lowpoint_dfs::search;
 use lsdb::{Lsdb, an_lsa_without_a_fault_may_be_installed, entries_are_those_of_the_list};
 use mrt_graph::{Graph, NoMemory, NodeNo};
@@ -114,11 +115,17 @@ fn time_steps(rt: &HostRuntime, name: &str, g: &Graph, root: NodeNo) -> Result<(
         let taken = start.elapsed(rt)?.as_nanos();
         println!(rt; "{name} {} {} search {taken}", g.node_count(), g.link_count())?;
         let start = Instant::now(rt)?;
-        let Ok(_gadag) = ears(rt.alloc(), g, root, &tree) else {
+        let Ok(gadag) = ears(rt.alloc(), g, root, &tree) else {
             bail!("no memory");
         };
         let taken = start.elapsed(rt)?.as_nanos();
         println!(rt; "{name} {} {} ears {taken}", g.node_count(), g.link_count())?;
+        let start = Instant::now(rt)?;
+        let Ok(_directed) = direct(rt.alloc(), g, root, gadag) else {
+            bail!("no memory");
+        };
+        let taken = start.elapsed(rt)?.as_nanos();
+        println!(rt; "{name} {} {} direct {taken}", g.node_count(), g.link_count())?;
     }
     Ok(())
 }

@@ -14,8 +14,8 @@ use Rattle.link_direction.proofs.EnteredBy.{one_tail}
 use Rattle.link_direction.proofs.PassedEnds.{not_passed_here, one_end, passed_before}
 
 -- it is the turn of this end of node x, and over it a counted link leads to node v
-pub record IsAtEnd (g : Topology) (root : ℕ) (marks : List Mark) (place passed : ℕ) (numbers order : List ℕ) (x : ℕ) (end : End) : Type 0 where
-  pub under_way : IsUnderWay g root marks place passed numbers order
+pub record IsAtEnd (g : Topology) (root : ℕ) (marks : List Mark) (place passed : ℕ) (counts order : List ℕ) (x : ℕ) (end : End) : Type 0 where
+  pub under_way : IsUnderWay g root marks place passed counts order
   pub here : slice_get order place ≡ Some x
   pub end_here : IsEndOf g x passed end
   pub counted : IsCounted g marks end.link x end.to
@@ -25,17 +25,17 @@ abbrev pub IsLastInto : Topology → List Mark → ℕ → ℕ → List ℕ → 
 IsLastInto g marks place passed order end = (e u : ℕ) → IsCounted g marks e u end.to → (e ≡ end.link) ⊎ IsPassed g order place passed e u
 
 -- the link over this end is still left
-pub still_left : (g : Topology) (root : ℕ) (marks : List Mark) (place passed : ℕ) (numbers order : List ℕ) (x : ℕ) (end : End)
-    → (at : IsAtEnd g root marks place passed numbers order x end) → at.under_way.left end.link ≡ Some end.to
-still_left g root marks place passed numbers order x end at = elim (at.under_way.or_passed end.link x end.to at.counted) [
+pub still_left : (g : Topology) (root : ℕ) (marks : List Mark) (place passed : ℕ) (counts order : List ℕ) (x : ℕ) (end : End)
+    → (at : IsAtEnd g root marks place passed counts order x end) → at.under_way.left end.link ≡ Some end.to
+still_left g root marks place passed counts order x end at = elim (at.under_way.or_passed end.link x end.to at.counted) [
   | inl left ↦ left
   | inr passed_it ↦ absurd (not_passed_here g order place passed x end at.under_way.kept at.under_way.once at.here at.end_here passed_it)
 ]
 
 -- a node that is ready has not had its last counted link passed
-ready_later : (g : Topology) (root : ℕ) (marks : List Mark) (place passed : ℕ) (numbers order : List ℕ) (v p q : ℕ)
-    → IsUnderWay g root marks place passed numbers order → IsReadyAt g marks order v p q → ((p < place) ⊎ ((p ≡ place) × (q < passed))) → ⊥
-ready_later g root marks place passed numbers order v p q state at before = at.ready.outside (state.all_listed at.ready.entered.0 at.ready.entered.1 v at.ready.entered.2 none)
+ready_later : (g : Topology) (root : ℕ) (marks : List Mark) (place passed : ℕ) (counts order : List ℕ) (v p q : ℕ)
+    → IsUnderWay g root marks place passed counts order → IsReadyAt g marks order v p q → ((p < place) ⊎ ((p ≡ place) × (q < passed))) → ⊥
+ready_later g root marks place passed counts order v p q state at before = at.ready.outside (state.all_listed at.ready.entered.0 at.ready.entered.1 v at.ready.entered.2 none)
   where
     none : (d : ℕ) → state.left d ≢ Some v
     none d left =
@@ -58,14 +58,14 @@ ready_later g root marks place passed numbers order v p q state at before = at.r
         ]))
 
 -- the far node is the next one
-pub is_next : (g : Topology) (root : ℕ) (marks : List Mark) (place passed : ℕ) (numbers order : List ℕ) (x : ℕ) (end : End)
-    → IsAtEnd g root marks place passed numbers order x end → IsLastInto g marks place passed order end → IsNextInOrder g marks order end.to
-is_next g root marks place passed numbers order x end at last = record {
+pub is_next : (g : Topology) (root : ℕ) (marks : List Mark) (place passed : ℕ) (counts order : List ℕ) (x : ℕ) (end : End)
+    → IsAtEnd g root marks place passed counts order x end → IsLastInto g marks place passed order end → IsNextInOrder g marks order end.to
+is_next g root marks place passed counts order x end at last = record {
   place = place;
   end_place = passed;
   ready = record {
     ready = record {
-      outside = λ listed. at.under_way.none_left end.link end.to listed (still_left g root marks place passed numbers order x end at);
+      outside = λ listed. at.under_way.none_left end.link end.to listed (still_left g root marks place passed counts order x end at);
       entered = (end.link, x, at.counted);
       from_list = λ e u counted. elim (last e u counted) [
         | inl same ↦ subst (λ (w : ℕ). Contains order w) (sym (from_x e u counted same)) (contains_at order place x at.here)
@@ -106,10 +106,10 @@ is_next g root marks place passed numbers order x end at last = record {
     | inl same ↦ elim (cases_order passed q) [
       | inl equal ↦ inr (same, omega (arith, equal))
       | inr (inl less) ↦ inr (same, omega (arith, less))
-      | inr (inr more) ↦ absurd (ready_later g root marks place passed numbers order other p q at.under_way ready (inr (sym same, more)))
+      | inr (inr more) ↦ absurd (ready_later g root marks place passed counts order other p q at.under_way ready (inr (sym same, more)))
     ]
     | inr (inl less) ↦ inl less
-    | inr (inr more) ↦ absurd (ready_later g root marks place passed numbers order other p q at.under_way ready (inl more))
+    | inr (inr more) ↦ absurd (ready_later g root marks place passed counts order other p q at.under_way ready (inl more))
   ];
 }
   where

@@ -26,7 +26,7 @@ begins g root marks counts kept within none_enters are = record {
     | inr none ↦ absurd (contains_none v none)
   ];
   left = entered_by g marks;
-  counts = are;
+  are_counts = are;
   counted = counted_into g marks;
   not_passed = λ e u v left counted it. elim it.before [ inl earlier ↦ omega (arith, earlier) | inr same ↦ omega (arith, same.1) ];
   or_passed = λ e u v counted. inl (enters_there g marks e u v counted);
@@ -38,16 +38,16 @@ begins g root marks counts kept within none_enters are = record {
 }
 
 -- when all its ends are passed the turn of a node is over
-pub turn_over : (g : Topology) (root : ℕ) (marks : List Mark) (place x : ℕ) (ends : List End) (numbers order : List ℕ)
-    → IsUnderWay g root marks place (length ends) numbers order → slice_get order place ≡ Some x → slice_get g.ends x ≡ Some ends
-    → IsUnderWay g root marks (place + 1) 0 numbers order
-turn_over g root marks place x ends numbers order state here list = record {
+pub turn_over : (g : Topology) (root : ℕ) (marks : List Mark) (place x : ℕ) (ends : List End) (counts order : List ℕ)
+    → IsUnderWay g root marks place (length ends) counts order → slice_get order place ≡ Some x → slice_get g.ends x ≡ Some ends
+    → IsUnderWay g root marks (place + 1) 0 counts order
+turn_over g root marks place x ends counts order state here list = record {
   kept = state.kept;
   ordered = state.ordered;
   once = state.once;
   within = state.within;
   left = state.left;
-  counts = state.counts;
+  are_counts = state.are_counts;
   counted = state.counted;
   not_passed = λ e u v left counted it. state.not_passed e u v left counted (turn_passed g order place x e u ends here list it);
   or_passed = λ e u v counted. elim (state.or_passed e u v counted) [
@@ -59,9 +59,9 @@ turn_over g root marks place x ends numbers order state here list = record {
 }
 
 -- when all turns are over no node is ready
-pub all_over : (g : Topology) (root : ℕ) (marks : List Mark) (place : ℕ) (numbers order : List ℕ) → IsUnderWay g root marks place 0 numbers order
+pub all_over : (g : Topology) (root : ℕ) (marks : List Mark) (place : ℕ) (counts order : List ℕ) → IsUnderWay g root marks place 0 counts order
     → length order ≤ place → IsWholeOrder g root marks order
-all_over g root marks place numbers order state all = record {
+all_over g root marks place counts order state all = record {
   ordered = state.ordered;
   ended = λ v ready. ready.outside (state.all_listed ready.entered.0 ready.entered.1 v ready.entered.2 (λ d left.
       let it = state.counted d v left in

@@ -90,16 +90,16 @@ counts_without left m n d v counts counts' are within is node set_there = record
     ]
 
 -- an end over which no counted link leads away is passed
-pub passed_by : (g : Topology) (root : ℕ) (marks : List Mark) (place passed : ℕ) (numbers order : List ℕ) (x : ℕ) (end : End)
-    → IsUnderWay g root marks place passed numbers order → slice_get order place ≡ Some x → IsEndOf g x passed end
-    → (IsCounted g marks end.link x end.to → ⊥) → IsUnderWay g root marks place (passed + 1) numbers order
-passed_by g root marks place passed numbers order x end state here end_here not_counted = record {
+pub passed_by : (g : Topology) (root : ℕ) (marks : List Mark) (place passed : ℕ) (counts order : List ℕ) (x : ℕ) (end : End)
+    → IsUnderWay g root marks place passed counts order → slice_get order place ≡ Some x → IsEndOf g x passed end
+    → (IsCounted g marks end.link x end.to → ⊥) → IsUnderWay g root marks place (passed + 1) counts order
+passed_by g root marks place passed counts order x end state here end_here not_counted = record {
   kept = state.kept;
   ordered = state.ordered;
   once = state.once;
   within = state.within;
   left = state.left;
-  counts = state.counts;
+  are_counts = state.are_counts;
   counted = state.counted;
   not_passed = λ e u v left counted one. elim (passed_cases g order place passed e u x end here end_here one) [
     | inl before ↦ state.not_passed e u v left counted before
@@ -120,9 +120,9 @@ record AreLinksLess (g : Topology) (root : ℕ) (marks : List Mark) (place passe
   not_passed : (e u v : ℕ) → left e ≡ Some v → IsCounted g marks e u v → IsPassed g order place passed e u → ⊥
   or_passed : (e u v : ℕ) → IsCounted g marks e u v → (left e ≡ Some v) ⊎ IsPassed g order place passed e u
 
-links_less : (g : Topology) (root : ℕ) (marks : List Mark) (place passed : ℕ) (numbers order : List ℕ) (x : ℕ) (end : End)
-    → (at : IsAtEnd g root marks place passed numbers order x end) → AreLinksLess g root marks place (passed + 1) order (without at.under_way.left end.link)
-links_less g root marks place passed numbers order x end at = record {
+links_less : (g : Topology) (root : ℕ) (marks : List Mark) (place passed : ℕ) (counts order : List ℕ) (x : ℕ) (end : End)
+    → (at : IsAtEnd g root marks place passed counts order x end) → AreLinksLess g root marks place (passed + 1) order (without at.under_way.left end.link)
+links_less g root marks place passed counts order x end at = record {
   counted = λ e v left. at.under_way.counted e v (still at.under_way.left end.link e v left).1;
   not_passed = λ e u v left counted one.
       let was = still at.under_way.left end.link e v left in
@@ -151,46 +151,46 @@ less_in_longer g root marks place passed order v left inside less = record {
 }
 
 -- the counts say whether a link into the far node is left
-pub some_left : (g : Topology) (root : ℕ) (marks : List Mark) (place passed : ℕ) (numbers order : List ℕ) (x : ℕ) (end : End)
-    → IsAtEnd g root marks place passed numbers order x end → 0 < slice_index_or numbers end.to 0
-some_left g root marks place passed numbers order x end at =
+pub some_left : (g : Topology) (root : ℕ) (marks : List Mark) (place passed : ℕ) (counts order : List ℕ) (x : ℕ) (end : End)
+    → IsAtEnd g root marks place passed counts order x end → 0 < slice_index_or counts end.to 0
+some_left g root marks place passed counts order x end at =
     let state = at.under_way in
     let is = end_kept g x passed end state.kept at.end_here in
     let counted : 1 ≤ count_to (enters state.left end.to) (length g.links) =
-    some_counted (enters state.left end.to) (length g.links) end.link is.link (enters_is state.left end.to end.link (still_left g root marks place passed numbers order x end at)) in
-    omega (arith, counted, state.counts.each end.to is.to)
+    some_counted (enters state.left end.to) (length g.links) end.link is.link (enters_is state.left end.to end.link (still_left g root marks place passed counts order x end at)) in
+    omega (arith, counted, state.are_counts.each end.to is.to)
 
-last_one : (g : Topology) (root : ℕ) (marks : List Mark) (place passed : ℕ) (numbers order : List ℕ) (x : ℕ) (end : End)
-    → (at : IsAtEnd g root marks place passed numbers order x end) → slice_index_or numbers end.to 0 ≡ 1 → (e : ℕ) → without at.under_way.left end.link e ≢ Some end.to
-last_one g root marks place passed numbers order x end at one e left =
+last_one : (g : Topology) (root : ℕ) (marks : List Mark) (place passed : ℕ) (counts order : List ℕ) (x : ℕ) (end : End)
+    → (at : IsAtEnd g root marks place passed counts order x end) → slice_index_or counts end.to 0 ≡ 1 → (e : ℕ) → without at.under_way.left end.link e ≢ Some end.to
+last_one g root marks place passed counts order x end at one e left =
     let state = at.under_way in
     let is = end_kept g x passed end state.kept at.end_here in
-    let now_left = still_left g root marks place passed numbers order x end at in
-    let less = counts_without state.left (length g.links) (length g.ids) end.link end.to numbers (set numbers end.to (slice_index_or numbers end.to 0 - 1)) state.counts is.link
+    let now_left = still_left g root marks place passed counts order x end at in
+    let less = counts_without state.left (length g.links) (length g.ids) end.link end.to counts (set counts end.to (slice_index_or counts end.to 0 - 1)) state.are_counts is.link
     now_left is.to refl in
-    let read : slice_index_or (set numbers end.to (slice_index_or numbers end.to 0 - 1)) end.to 0 ≡ slice_index_or numbers end.to 0 - 1 =
-    get_or-set_same numbers end.to (slice_index_or numbers end.to 0 - 1) 0 (omega (arith, is.to, state.counts.one_each)) in
+    let read : slice_index_or (set counts end.to (slice_index_or counts end.to 0 - 1)) end.to 0 ≡ slice_index_or counts end.to 0 - 1 =
+    get_or-set_same counts end.to (slice_index_or counts end.to 0 - 1) 0 (omega (arith, is.to, state.are_counts.one_each)) in
     let none : count_to (enters (without state.left end.link) end.to) (length g.links) ≡ 0 = omega (arith, one, read, less.each end.to is.to) in
     let it = state.counted e end.to (still state.left end.link e end.to left).1 in
     let fails = none_counted (enters (without state.left end.link) end.to) (length g.links) e none (link_within g e it.0 end.to it.1.to) in
     let passes = enters_is (without state.left end.link) end.to e left in
     let both : true ≡ false = sym passes ∙ fails in cc
 
-is_last : (g : Topology) (root : ℕ) (marks : List Mark) (place passed : ℕ) (numbers order : List ℕ) (x : ℕ) (end : End)
-    → (at : IsAtEnd g root marks place passed numbers order x end) → slice_index_or numbers end.to 0 ≡ 1 → IsLastInto g marks place passed order end
-is_last g root marks place passed numbers order x end at one e u counted = elim (cases_eq e end.link) [
+is_last : (g : Topology) (root : ℕ) (marks : List Mark) (place passed : ℕ) (counts order : List ℕ) (x : ℕ) (end : End)
+    → (at : IsAtEnd g root marks place passed counts order x end) → slice_index_or counts end.to 0 ≡ 1 → IsLastInto g marks place passed order end
+is_last g root marks place passed counts order x end at one e u counted = elim (cases_eq e end.link) [
   | inl same ↦ inl same
   | inr other ↦ elim (at.under_way.or_passed e u end.to counted) [
-    | inl left ↦ absurd (last_one g root marks place passed numbers order x end at one e (without_other at.under_way.left end.link e other ∙ left))
+    | inl left ↦ absurd (last_one g root marks place passed counts order x end at one e (without_other at.under_way.left end.link e other ∙ left))
     | inr one_passed ↦ inr one_passed
   ]
 ]
 
 -- the far node is next where its last counted link is passed
-pub next_one : (g : Topology) (root : ℕ) (marks : List Mark) (place passed : ℕ) (numbers order : List ℕ) (x : ℕ) (end : End)
-    → IsAtEnd g root marks place passed numbers order x end → slice_index_or numbers end.to 0 ≡ 1 → IsNextInOrder g marks order end.to
-next_one g root marks place passed numbers order x end at one =
-    is_next g root marks place passed numbers order x end at (is_last g root marks place passed numbers order x end at one)
+pub next_one : (g : Topology) (root : ℕ) (marks : List Mark) (place passed : ℕ) (counts order : List ℕ) (x : ℕ) (end : End)
+    → IsAtEnd g root marks place passed counts order x end → slice_index_or counts end.to 0 ≡ 1 → IsNextInOrder g marks order end.to
+next_one g root marks place passed counts order x end at one =
+    is_next g root marks place passed counts order x end at (is_last g root marks place passed counts order x end at one)
 
 pub once_longer : (order : List ℕ) (v : ℕ) → StandOnce order → (Contains order v → ⊥) → StandOnce (order ++ v ∷ [])
 once_longer order v once outside j k w at_j at_k = elim (pushed_at order v w j at_j) [
@@ -210,24 +210,24 @@ in_longer order v w c =
     elim (pushed_at order v w at.0 at.1) [ inl before ↦ inl (contains_at order at.0 w before) | inr last ↦ inr last.1 ]
 
 -- a counted link is taken off, and is the last one into its far node
-pub put_at_back : (g : Topology) (root : ℕ) (marks : List Mark) (place passed : ℕ) (numbers numbers' order : List ℕ) (x : ℕ) (end : End)
-    → IsAtEnd g root marks place passed numbers order x end → slice_index_or numbers end.to 0 ≡ 1
-    → numbers' ≡ set numbers end.to (slice_index_or numbers end.to 0 - 1) → IsUnderWay g root marks place (passed + 1) numbers' (order ++ end.to ∷ [])
-put_at_back g root marks place passed numbers numbers' order x end at one set_there =
+pub put_at_back : (g : Topology) (root : ℕ) (marks : List Mark) (place passed : ℕ) (counts counts' order : List ℕ) (x : ℕ) (end : End)
+    → IsAtEnd g root marks place passed counts order x end → slice_index_or counts end.to 0 ≡ 1
+    → counts' ≡ set counts end.to (slice_index_or counts end.to 0 - 1) → IsUnderWay g root marks place (passed + 1) counts' (order ++ end.to ∷ [])
+put_at_back g root marks place passed counts counts' order x end at one set_there =
     let state = at.under_way in
     let is = end_kept g x passed end state.kept at.end_here in
-    let now_left = still_left g root marks place passed numbers order x end at in
-    let next = next_one g root marks place passed numbers order x end at one in
-    let none = last_one g root marks place passed numbers order x end at one in
+    let now_left = still_left g root marks place passed counts order x end at in
+    let next = next_one g root marks place passed counts order x end at one in
+    let none = last_one g root marks place passed counts order x end at one in
     let less = less_in_longer g root marks place (passed + 1) order end.to (without state.left end.link) (slice_get_within order place x at.here)
-    (links_less g root marks place passed numbers order x end at) in
+    (links_less g root marks place passed counts order x end at) in
     record {
       kept = state.kept;
       ordered = Next order end.to state.ordered next;
       once = once_longer order end.to state.once next.ready.ready.outside;
       within = λ v c. elim (in_longer order end.to v c) [ inl before ↦ state.within v before | inr same ↦ subst (λ (w : ℕ). w < length g.ids) same is.to ];
       left = without state.left end.link;
-      counts = counts_without state.left (length g.links) (length g.ids) end.link end.to numbers numbers' state.counts is.link now_left is.to set_there;
+      are_counts = counts_without state.left (length g.links) (length g.ids) end.link end.to counts counts' state.are_counts is.link now_left is.to set_there;
       counted = less.counted;
       not_passed = less.not_passed;
       or_passed = less.or_passed;
@@ -252,22 +252,22 @@ put_at_back g root marks place passed numbers numbers' order x end at one set_th
         other (same_Some v end.to (sym left ∙ subst (λ (k : ℕ). at.under_way.left k ≡ Some end.to) (sym same) now_left))
 
 -- a counted link is taken off, and others into its far node are left
-pub taken_off : (g : Topology) (root : ℕ) (marks : List Mark) (place passed : ℕ) (numbers numbers' order : List ℕ) (x : ℕ) (end : End)
-    → IsAtEnd g root marks place passed numbers order x end → slice_index_or numbers end.to 0 ≢ 1
-    → numbers' ≡ set numbers end.to (slice_index_or numbers end.to 0 - 1) → IsUnderWay g root marks place (passed + 1) numbers' order
-taken_off g root marks place passed numbers numbers' order x end at more set_there =
+pub taken_off : (g : Topology) (root : ℕ) (marks : List Mark) (place passed : ℕ) (counts counts' order : List ℕ) (x : ℕ) (end : End)
+    → IsAtEnd g root marks place passed counts order x end → slice_index_or counts end.to 0 ≢ 1
+    → counts' ≡ set counts end.to (slice_index_or counts end.to 0 - 1) → IsUnderWay g root marks place (passed + 1) counts' order
+taken_off g root marks place passed counts counts' order x end at more set_there =
     let state = at.under_way in
     let is = end_kept g x passed end state.kept at.end_here in
-    let now_left = still_left g root marks place passed numbers order x end at in
-    let counts = counts_without state.left (length g.links) (length g.ids) end.link end.to numbers numbers' state.counts is.link now_left is.to set_there in
-    let less = links_less g root marks place passed numbers order x end at in
+    let now_left = still_left g root marks place passed counts order x end at in
+    let fewer = counts_without state.left (length g.links) (length g.ids) end.link end.to counts counts' state.are_counts is.link now_left is.to set_there in
+    let less = links_less g root marks place passed counts order x end at in
     record {
       kept = state.kept;
       ordered = state.ordered;
       once = state.once;
       within = state.within;
       left = without state.left end.link;
-      counts = counts;
+      are_counts = fewer;
       counted = less.counted;
       not_passed = less.not_passed;
       or_passed = less.or_passed;
@@ -277,10 +277,10 @@ taken_off g root marks place passed numbers numbers' order x end at more set_the
             let none : count_to (enters (without state.left end.link) end.to) (length g.links) ≡ 0 =
             all_fail (enters (without state.left end.link) end.to) (length g.links)
             (λ d. not_entered (without state.left end.link) end.to d (subst (λ (w : ℕ). without state.left end.link d ≢ Some w) same (none_now d))) in
-            let read : slice_index_or numbers' end.to 0 ≡ slice_index_or numbers end.to 0 - 1 =
+            let read : slice_index_or counts' end.to 0 ≡ slice_index_or counts end.to 0 - 1 =
             ap (λ (xs : List ℕ). slice_index_or xs end.to 0) set_there
-            ∙ get_or-set_same numbers end.to (slice_index_or numbers end.to 0 - 1) 0 (omega (arith, is.to, state.counts.one_each)) in
-            absurd (more (omega (arith, none, read, counts.each end.to is.to, some_left g root marks place passed numbers order x end at)))
+            ∙ get_or-set_same counts end.to (slice_index_or counts end.to 0 - 1) 0 (omega (arith, is.to, state.are_counts.one_each)) in
+            absurd (more (omega (arith, none, read, fewer.each end.to is.to, some_left g root marks place passed counts order x end at)))
         | inr other ↦ state.all_listed e u v counted (λ d left. none_now d (without_other state.left end.link d (not_this d v left now_left other) ∙ left))
       ];
     }

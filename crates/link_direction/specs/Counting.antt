@@ -59,13 +59,13 @@ StandOnce order = (j k v : ℕ) → slice_get order j ≡ Some v → slice_get o
 -- the turns of the nodes before this place are over, and of the node there so many ends are passed. Each counted link
 -- is left or passed, and never both; a node is in the list where none is left that enters it
 pub record IsUnderWay (g : Topology) (root : ℕ) (marks : List Mark) (place passed : ℕ)
-    (numbers order : List ℕ) : Type 0 where
+    (counts order : List ℕ) : Type 0 where
   pub kept : IsTopology g
   pub ordered : IsGadagOrder g root marks order
   pub once : StandOnce order
   pub within : (v : ℕ) → Contains order v → v < length g.ids
   pub left : ℕ → Option ℕ
-  pub counts : AreCounts left (length g.links) (length g.ids) numbers
+  pub are_counts : AreCounts left (length g.links) (length g.ids) counts
   pub counted : (e v : ℕ) → left e ≡ Some v → (u : ℕ) × IsCounted g marks e u v
   pub not_passed : (e u v : ℕ) → left e ≡ Some v → IsCounted g marks e u v → ¬ IsPassed g order place passed e u
   pub or_passed : (e u v : ℕ) → IsCounted g marks e u v → (left e ≡ Some v) ⊎ IsPassed g order place passed e u

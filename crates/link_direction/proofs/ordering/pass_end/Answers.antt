@@ -15,7 +15,7 @@ take_off-requires-clause-node c =
     omega (
       arith,
       (end_kept c.args.g.now c.args.x turn.passed c.args.end.now turn.turn.under_way.kept turn.end_here).to,
-      turn.turn.under_way.counts.one_each,
+      turn.turn.under_way.are_counts.one_each,
     )
 
 pub take_off-requires-clause-some : goal.take_off-requires-clause-some
