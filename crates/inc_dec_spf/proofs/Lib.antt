@@ -1,0 +1,9 @@
+pub mod ByTurn
+pub mod EndsOffered
+pub mod InBlocks
+pub mod Marks
+pub mod Offering
+pub mod Reached
+pub mod SameDirections
+pub mod Swept
+pub mod WaysInBlocks

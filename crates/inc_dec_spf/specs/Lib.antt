@@ -1,2 +1,5 @@
+pub mod HasDirections
+pub mod Known
 pub mod LeastPath
 pub mod Path
+pub mod Sweep

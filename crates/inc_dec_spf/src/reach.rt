@@ -17,29 +17,51 @@ pub struct Hop {
     pub link: LinkNo,
 }
 
+/// What is known of a node on the way: the least cost so far, and of the first end of the source that begins a path of
+/// this cost its place and its link.
+#[derive(Clone, Copy, Debug)]
+pub struct Known {
+    pub cost: u32,
+    pub place: u16,
+    pub link: LinkNo,
+}
+
 /// What a source has for each node, by number: none where no path leads there.
 #[derive(Drop)]
 pub struct Reach {
-    hops: Vec<Option<Hop>>,
+    known: Vec<Option<Known>>,
 }
 
 impl Model for Reach {
     ghost use Rattle.std.specs.Prelude.{List, Option};
     ghost use Rattle.inc_dec_spf.specs.declared.reach.Hop.{Hop};
+    ghost use Rattle.inc_dec_spf.specs.Known.{hops_of};
 
     ghost Value = { List (Option Hop) };
 
-    ghost view = { λ reach. reach.hops.items };
+    ghost view = { λ reach. hops_of reach.known.items };
 }
 
 impl Reach {
     ghost use Rattle.std.specs.Prelude.{◌≡◌, ◌<◌, Some, length, slice_get};
+    ghost use Rattle.inc_dec_spf.specs.Known.{hops_of};
+
+    /// What is known of each node at the end.
+    pub(crate) fn new(known: Vec<Option<Known>>) -> Reach
+        ensures { result ≡ hops_of known.items }
+    {
+        Reach { known }
+    }
 
     /// The hop of the least path to node t; None where there is none.
     pub fn hop(&self, t: NodeNo) -> Option<Hop>
         requires { t < length self.now }
         ensures { slice_get self.now t ≡ Some result }
     {
-        self.hops[t.get() as usize]
+        let known = self.known[t.get() as usize]?;
+        Some(Hop {
+            cost: known.cost,
+            link: known.link,
+        })
     }
 }
