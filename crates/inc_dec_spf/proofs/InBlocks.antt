@@ -138,21 +138,21 @@ pub data Onto (dir : Dir) (n : ℕ) (w : Directions) (k h x to : ℕ) : Type 0 w
   Later : w.block to ≡ k → turn_of dir n w x < turn_of dir n w to → Onto dir n w k h x to
   Home : to ≡ h → Onto dir n w k h x to
 
-is_closing : (r : Role) → (r ≡ Closing) ⊎ (r ≢ Closing)
+pub is_closing : (r : Role) → (r ≡ Closing) ⊎ (r ≢ Closing)
 is_closing Closing = inl refl
 is_closing Plain = inr (λ same. (cc))
 is_closing Sole = inr (λ same. (cc))
 
 -- the closing link of the block is the only one
-closing_is : (g : Topology) (root : ℕ) (w : Directions) (k h e : ℕ) (closed : IsClosed g root w k h) → e < length g.links → w.lies_in e ≡ k → w.role e ≡ Closing
+pub closing_is : (g : Topology) (root : ℕ) (w : Directions) (k h e : ℕ) (closed : IsClosed g root w k h) → e < length g.links → w.lies_in e ≡ k → w.role e ≡ Closing
     → e ≡ closed.closing.link
 closing_is g root w k h e closed within in_block closing = closed.closing.no_other e within (in_block ∙ sym closed.in_block) closing
 
 -- and leads from the greatest node to the head
-closing_tail : (g : Topology) (root : ℕ) (w : Directions) (k h e : ℕ) (closed : IsClosed g root w k h) → e ≡ closed.closing.link → w.tail e ≡ closed.closing.greatest
+pub closing_tail : (g : Topology) (root : ℕ) (w : Directions) (k h e : ℕ) (closed : IsClosed g root w k h) → e ≡ closed.closing.link → w.tail e ≡ closed.closing.greatest
 closing_tail g root w k h e closed same = ap w.tail same ∙ closed.closing.away
 
-closing_leads : (g : Topology) (root : ℕ) (w : Directions) (k h e : ℕ) (closed : IsClosed g root w k h) → e ≡ closed.closing.link
+pub closing_leads : (g : Topology) (root : ℕ) (w : Directions) (k h e : ℕ) (closed : IsClosed g root w k h) → e ≡ closed.closing.link
     → leads g.links e closed.closing.greatest ≡ Some h
 closing_leads g root w k h e closed same =
     subst (λ (i : ℕ). leads g.links i closed.closing.greatest ≡ Some h) (sym same)

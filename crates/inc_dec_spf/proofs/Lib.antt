@@ -1,8 +1,10 @@
 pub mod ByTurn
 pub mod EndsOffered
+pub mod HomePaths
 pub mod InBlocks
 pub mod Marks
 pub mod Offering
+pub mod OneHop
 pub mod Reached
 pub mod SameDirections
 pub mod Swept

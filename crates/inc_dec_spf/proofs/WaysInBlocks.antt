@@ -63,7 +63,7 @@ pub record HasPath (g : Topology) (root : ℕ) (w : Directions) (dir : Dir) (s v
   pub over : way.link ≡ end.link
 
 -- a path goes on by a step
-path_onward : (g : Topology) (w : Directions) (dir : Dir) (k h s x : ℕ) (end : End) (others : List End) (next : End) → Path g w dir k h s (end ∷ others) x → x ≢ h
+pub path_onward : (g : Topology) (w : Directions) (dir : Dir) (k h s x : ℕ) (end : End) (others : List End) (next : End) → Path g w dir k h s (end ∷ others) x → x ≢ h
     → IsStep g w dir k x next → Path g w dir k h s (end ∷ (others ++ next ∷ [])) next.to
 path_onward g w dir k h s x end [] next path not_head step =
     (path.0, (λ same. not_head (sym path.1 ∙ same)), (subst (λ (y : ℕ). IsStep g w dir k y next) (sym path.1) step, refl))

@@ -3,9 +3,13 @@
 
 mod least_paths;
 mod offers;
+mod path_law;
 mod reach;
 mod sweeping;
 mod turns;
 
 pub use least_paths::spf;
+pub use path_law::{
+    no_node_is_both_above_and_below, one_hop_for_each_node, paths_lead_to_the_head_and_back,
+};
 pub use reach::{Dir, Hop, Reach};

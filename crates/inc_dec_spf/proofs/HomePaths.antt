@@ -1,0 +1,304 @@
+-- In a block with a closing link, paths lead from each node to the head and from the head to each node, up and down.
+use Rattle.std.proofs.Common.{◌≡◌, ◌≢◌, ◌⊎◌, ◌<◌, ◌≤◌, ◌+◌, ◌++◌, ◌∙◌, ℕ, zero, suc, List, [], ◌∷◌, Some, length, inl, inr, refl, sym, ap, subst, arith}
+use Rattle.std.proofs.lemmas.Bool.{cases_eq}
+use Rattle.mrt_graph.specs.declared.cert.Role.TheVariants.{Closing}
+use Rattle.mrt_graph.specs.declared.link.End.{End}
+use Rattle.mrt_graph.specs.Leads.{leads}
+use Rattle.mrt_graph.specs.Topology.{Topology}
+use Rattle.mrt_graph.proofs.EndsAt.{leads_end, list_of_ends}
+use Rattle.mrt_graph.proofs.Hops.{lead_back, same_ends}
+use Rattle.link_direction.specs.Directions.{Directions}
+use Rattle.link_direction.specs.OrderedGadag.{HasClosingLink}
+use Rattle.inc_dec_spf.specs.declared.reach.Dir.{Dir}
+use Rattle.inc_dec_spf.specs.declared.reach.Dir.TheVariants.{Down, Up}
+use Rattle.inc_dec_spf.specs.Path.{IsStep, LeadsOn, Path}
+use Rattle.inc_dec_spf.proofs.InBlocks.{IsClosed, IsOrdered, closing_is, closing_leads, head_lower, leads_inside, member_not_head}
+use Rattle.inc_dec_spf.proofs.Marks.{leads_within, link_within}
+use Rattle.inc_dec_spf.proofs.WaysInBlocks.{path_onward}
+
+-- a link of block k, directed from u to v
+pub record IsDirectedLink (g : Topology) (w : Directions) (k e u v : ℕ) : Type 0 where
+  pub onward : leads g.links e u ≡ Some v
+  pub in_block : w.lies_in e ≡ k
+  pub away : w.tail e ≡ u
+
+-- a link of the block that is not closing is directed to the greater order
+directed_up : (g : Topology) (root : ℕ) (w : Directions) (k e u v : ℕ) → IsOrdered g root w → leads g.links e u ≡ Some v → w.lies_in e ≡ k → w.role e ≢ Closing
+    → w.order u < w.order v → IsDirectedLink g w k e u v
+directed_up g root w k e u v is onward in_block plain less =
+    let to = is.ordered.links.directed e (link_within g e u v is.kept onward) in
+    elim (same_ends g.links e u v (w.tail e) to.0 onward to.1) [
+      | inl at_u ↦ record { onward = onward; in_block = in_block; away = at_u }
+      | inr at_v ↦ absurd (omega (arith, less, is.ordered.links.forward e v u (lead_back g.links e u v onward) at_v plain))
+    ]
+
+-- the closing link touches the greatest node and the head alone
+closing_touches : (g : Topology) (root : ℕ) (w : Directions) (k h e u v : ℕ) (closed : IsClosed g root w k h) → IsOrdered g root w → leads g.links e u ≡ Some v → w.lies_in e ≡ k
+    → w.role e ≡ Closing → (u ≡ closed.closing.greatest) ⊎ (u ≡ h)
+closing_touches g root w k h e u v closed is onward in_block closing =
+    let same = closing_is g root w k h e closed (link_within g e u v is.kept onward) in_block closing in
+    same_ends g.links e closed.closing.greatest h u v (closing_leads g root w k h e closed same) onward
+
+-- from each node of the block a link leads up: to a node of greater order, or to the head
+pub record IsOut (g : Topology) (w : Directions) (k h m : ℕ) : Type 0 where
+  pub link : ℕ
+  pub to : ℕ
+  pub directed : IsDirectedLink g w k link m to
+  pub onto : (to ≡ h) ⊎ ((w.block to ≡ k) × (w.order m < w.order to))
+
+-- to each node of the block a link leads up: from a node of lower order, or from the head
+pub record IsInto (g : Topology) (w : Directions) (k h m : ℕ) : Type 0 where
+  pub link : ℕ
+  pub from : ℕ
+  pub directed : IsDirectedLink g w k link from m
+  pub origin : (from ≡ h) ⊎ ((w.block from ≡ k) × (w.order from < w.order m))
+
+-- from a node that is not the greatest, over a link that is not closing
+left_inside : (g : Topology) (root : ℕ) (w : Directions) (k h m : ℕ) (closed : IsClosed g root w k h) → IsOrdered g root w → m < length g.ids → w.block m ≡ k
+    → m ≢ closed.closing.greatest → (to : ℕ) × (link : ℕ) × (IsDirectedLink g w k link m to) × (w.block to ≡ k) × (w.order m < w.order to)
+left_inside g root w k h m closed is within inside other =
+    let it = closed.closing.left m within (inside ∙ sym closed.in_block) other in
+    let in_block : w.lies_in it.link ≡ k = it.over.in_block ∙ inside in
+    let not_head = member_not_head g root w k h m is closed within inside in
+    let plain : w.role it.link ≢ Closing = λ closing. elim (closing_touches g root w k h it.link m it.to closed is it.over.leads_on in_block closing) [
+      | inl top ↦ other top
+      | inr head ↦ not_head head
+    ] in
+    elim (leads_inside g root w k h it.link m it.to is closed it.over.leads_on in_block) [
+      | inl member ↦ (it.to, it.link, directed_up g root w k it.link m it.to is it.over.leads_on in_block plain it.greater, member, it.greater)
+      | inr head ↦ absurd (omega (arith, head_lower g root w k h m is closed within inside, it.greater, ap w.order head))
+    ]
+
+pub out_of : (g : Topology) (root : ℕ) (w : Directions) (k h m : ℕ) → IsOrdered g root w → IsClosed g root w k h → m < length g.ids → w.block m ≡ k → IsOut g w k h m
+out_of g root w k h m is closed within inside = elim (cases_eq m closed.closing.greatest) [
+  | inl top ↦ record {
+    link = closed.closing.link;
+    to = h;
+    directed = record {
+      onward = subst (λ (y : ℕ). leads g.links closed.closing.link y ≡ Some h) (sym top) (closing_leads g root w k h closed.closing.link closed refl);
+      in_block = closed.closing.over.in_block ∙ closed.in_block;
+      away = closed.closing.away ∙ sym top;
+    };
+    onto = inl refl;
+  }
+  | inr other ↦
+      let it = left_inside g root w k h m closed is within inside other in
+      record { link = it.1; to = it.0; directed = it.2; onto = inr (it.3, it.4) }
+]
+
+-- over a link that is not closing, from a node of lower order
+entered_by : (g : Topology) (root : ℕ) (w : Directions) (k h e u v : ℕ) → IsOrdered g root w → IsClosed g root w k h → leads g.links e u ≡ Some v → w.lies_in e ≡ k
+    → w.role e ≢ Closing → w.order u < w.order v → IsInto g w k h v
+entered_by g root w k h e u v is closed onward in_block plain less = record {
+  link = e;
+  from = u;
+  directed = directed_up g root w k e u v is onward in_block plain less;
+  origin = elim (leads_inside g root w k h e v u is closed (lead_back g.links e u v onward) in_block) [
+    | inl member ↦ inr (member, less)
+    | inr head ↦ inl head
+  ];
+}
+
+-- going up from any node of the block one comes to the greatest, over a link that is not closing
+top_entered : (g : Topology) (root : ℕ) (w : Directions) (k h : ℕ) (closed : IsClosed g root w k h) → IsOrdered g root w → (fuel m : ℕ) → m < length g.ids → w.block m ≡ k
+    → m ≢ closed.closing.greatest → length g.ids ≤ w.order m + fuel → IsInto g w k h closed.closing.greatest
+top_entered g root w k h closed is zero m within inside other far =
+    let it = left_inside g root w k h m closed is within inside other in
+    let to_within = (leads_within g it.1 m it.0 is.kept it.2.onward).1 in
+    absurd (omega (arith, far, it.4, is.ordered.orders.to_n it.0 to_within))
+top_entered g root w k h closed is (suc fuel) m within inside other far =
+    let it = left_inside g root w k h m closed is within inside other in
+    let to_within = (leads_within g it.1 m it.0 is.kept it.2.onward).1 in
+    elim (cases_eq it.0 closed.closing.greatest) [
+      | inl top ↦ subst (λ (y : ℕ). IsInto g w k h y) top (record { link = it.1; from = m; directed = it.2; origin = inr (inside, it.4) })
+      | inr still ↦ top_entered g root w k h closed is fuel it.0 to_within it.3 still (omega (arith, far, it.4))
+    ]
+
+-- the greatest node is entered by another link than the closing one
+pub top_into : (g : Topology) (root : ℕ) (w : Directions) (k h : ℕ) (closed : IsClosed g root w k h) → IsOrdered g root w → IsInto g w k h closed.closing.greatest
+top_into g root w k h closed is =
+    let e = closed.closing.another in
+    let u = w.tail e in
+    let to = is.ordered.links.directed e closed.closing.another_within in
+    let in_block : w.lies_in e ≡ k = closed.closing.another_in_block ∙ closed.in_block in
+    let plain : w.role e ≢ Closing = λ closing. closed.closing.another_link (closing_is g root w k h e closed closed.closing.another_within in_block closing) in
+    let less : w.order u < w.order to.0 = is.ordered.links.forward e u to.0 to.1 refl plain in
+    let within = leads_within g e u to.0 is.kept to.1 in
+    elim (leads_inside g root w k h e u to.0 is closed to.1 in_block) [
+      | inl member ↦ elim (cases_eq to.0 closed.closing.greatest) [
+        | inl top ↦ subst (λ (y : ℕ). IsInto g w k h y) top (entered_by g root w k h e u to.0 is closed to.1 in_block plain less)
+        | inr other ↦ top_entered g root w k h closed is (length g.ids) to.0 within.1 member other (omega arith)
+      ]
+      | inr head ↦ elim (leads_inside g root w k h e to.0 u is closed (lead_back g.links e u to.0 to.1) in_block) [
+        | inl member ↦ absurd (omega (arith, head_lower g root w k h u is closed within.0 member, less, ap w.order head))
+        | inr also ↦ absurd (omega (arith, less, ap w.order head, ap w.order also))
+      ]
+    ]
+
+pub into_of : (g : Topology) (root : ℕ) (w : Directions) (k h m : ℕ) → IsOrdered g root w → IsClosed g root w k h → m < length g.ids → w.block m ≡ k → IsInto g w k h m
+into_of g root w k h m is closed within inside = elim (cases_eq m closed.closing.greatest) [
+  | inl top ↦ subst (λ (y : ℕ). IsInto g w k h y) (sym top) (top_into g root w k h closed is)
+  | inr other ↦
+      let it = closed.closing.entered m within (inside ∙ sym closed.in_block) in
+      let in_block : w.lies_in it.link ≡ k = it.over.in_block ∙ inside in
+      let plain : w.role it.link ≢ Closing = λ closing.
+      elim (closing_touches g root w k h it.link m it.from closed is (lead_back g.links it.link it.from m it.over.leads_on) in_block closing) [
+        | inl top ↦ other top
+        | inr head ↦ member_not_head g root w k h m is closed within inside head
+      ] in
+      entered_by g root w k h it.link it.from m is closed it.over.leads_on in_block plain it.lower
+]
+
+-- a step over a directed link, each way
+pub record IsStepTo (g : Topology) (w : Directions) (dir : Dir) (k u v : ℕ) : Type 0 where
+  pub end : End
+  pub step : IsStep g w dir k u end
+  pub to : end.to ≡ v
+
+step_over : (g : Topology) (root : ℕ) (w : Directions) (dir : Dir) (k e u v : ℕ) → IsOrdered g root w → leads g.links e u ≡ Some v → w.lies_in e ≡ k
+    → ((end : End) → end.link ≡ e → end.to ≡ v → LeadsOn w dir u end) → IsStepTo g w dir k u v
+step_over g root w dir k e u v is onward in_block leads_on =
+    let list = list_of_ends g u is.kept (leads_within g e u v is.kept onward).0 in
+    let it = leads_end g u e v list.0 is.kept list.1 onward in
+    record {
+      end = it.end;
+      step = record {
+        ends = list.0;
+        list = list.1;
+        place = it.place;
+        there = it.at;
+        in_block = ap w.lies_in it.over ∙ in_block;
+        leads_on = leads_on it.end it.over it.to;
+      };
+      to = it.to;
+    }
+
+pub step_up : (g : Topology) (root : ℕ) (w : Directions) (k e u v : ℕ) → IsOrdered g root w → IsDirectedLink g w k e u v → IsStepTo g w Up k u v
+step_up g root w k e u v is it = step_over g root w Up k e u v is it.onward it.in_block (λ end over to. ap w.tail over ∙ it.away)
+
+pub step_down : (g : Topology) (root : ℕ) (w : Directions) (k e u v : ℕ) → IsOrdered g root w → IsDirectedLink g w k e u v → IsStepTo g w Down k v u
+step_down g root w k e u v is it =
+    step_over g root w Down k e v u is (lead_back g.links e u v it.onward) it.in_block (λ end over to. ap w.tail over ∙ it.away ∙ sym to)
+
+-- a path with its first end
+pub record HasWay (g : Topology) (w : Directions) (dir : Dir) (k h s t : ℕ) : Type 0 where
+  pub end : End
+  pub others : List End
+  pub is_path : Path g w dir k h s (end ∷ others) t
+
+one_step : (g : Topology) (w : Directions) (dir : Dir) (k h s t : ℕ) → IsStepTo g w dir k s t → HasWay g w dir k h s t
+one_step g w dir k h s t it = record { end = it.end; others = []; is_path = (it.step, it.to) }
+
+-- a step to a node that is not the head, then a path
+step_first : (g : Topology) (w : Directions) (dir : Dir) (k h s v t : ℕ) → IsStepTo g w dir k s v → v ≢ h → HasWay g w dir k h v t → HasWay g w dir k h s t
+step_first g w dir k h s v t it not_head way = record {
+  end = it.end;
+  others = way.end ∷ way.others;
+  is_path = (
+    it.step,
+    (λ same. not_head (sym it.to ∙ same)),
+    subst (λ (y : ℕ). Path g w dir k h y (way.end ∷ way.others) t) (sym it.to) way.is_path,
+  );
+}
+
+-- a path to a node that is not the head, then a step
+step_last : (g : Topology) (w : Directions) (dir : Dir) (k h s v t : ℕ) → HasWay g w dir k h s v → v ≢ h → IsStepTo g w dir k v t → HasWay g w dir k h s t
+step_last g w dir k h s v t way not_head it = record {
+  end = way.end;
+  others = way.others ++ it.end ∷ [];
+  is_path =
+      subst (λ (y : ℕ). Path g w dir k h s (way.end ∷ (way.others ++ it.end ∷ [])) y) it.to
+      (path_onward g w dir k h s v way.end way.others it.end way.is_path not_head it.step);
+}
+
+-- paths up to the head and down from it, over the link that leads up from m
+pub record HaveUpHome (g : Topology) (w : Directions) (k h m : ℕ) : Type 0 where
+  pub up : HasWay g w Up k h m h
+  pub down : HasWay g w Down k h h m
+
+over_out : (g : Topology) (root : ℕ) (w : Directions) (k h m : ℕ) → IsOrdered g root w → IsClosed g root w k h → (it : IsOut g w k h m)
+    → (w.block it.to ≡ k → w.order m < w.order it.to → it.to < length g.ids → HaveUpHome g w k h it.to) → HaveUpHome g w k h m
+over_out g root w k h m is closed it rest = elim it.onto [
+  | inl home ↦ record {
+    up = one_step g w Up k h m h (subst (λ (y : ℕ). IsStepTo g w Up k m y) home up);
+    down = one_step g w Down k h h m (subst (λ (y : ℕ). IsStepTo g w Down k y m) home down);
+  }
+  | inr on ↦
+      let to_within = (leads_within g it.link m it.to is.kept it.directed.onward).1 in
+      let not_head = member_not_head g root w k h it.to is closed to_within on.0 in
+      let ways = rest on.0 on.1 to_within in
+      record { up = step_first g w Up k h m it.to h up not_head ways.up; down = step_last g w Down k h h it.to m ways.down not_head down }
+]
+  where
+    up : IsStepTo g w Up k m it.to
+    up = step_up g root w k it.link m it.to is it.directed
+
+    down : IsStepTo g w Down k it.to m
+    down = step_down g root w k it.link m it.to is it.directed
+
+-- by greater and greater orders
+up_home : (g : Topology) (root : ℕ) (w : Directions) (k h : ℕ) → IsOrdered g root w → IsClosed g root w k h → (fuel m : ℕ) → m < length g.ids → w.block m ≡ k
+    → length g.ids ≤ w.order m + fuel → HaveUpHome g w k h m
+up_home g root w k h is closed zero m within inside far =
+    let it = out_of g root w k h m is closed within inside in
+    over_out g root w k h m is closed it (λ member less to_within. absurd (omega (arith, far, less, is.ordered.orders.to_n it.to to_within)))
+up_home g root w k h is closed (suc fuel) m within inside far =
+    let it = out_of g root w k h m is closed within inside in
+    over_out g root w k h m is closed it (λ member less to_within. up_home g root w k h is closed fuel it.to to_within member (omega (arith, far, less)))
+
+-- paths down to the head and up from it, over the link that leads up to m
+pub record HaveDownHome (g : Topology) (w : Directions) (k h m : ℕ) : Type 0 where
+  pub down : HasWay g w Down k h m h
+  pub up : HasWay g w Up k h h m
+
+over_into : (g : Topology) (root : ℕ) (w : Directions) (k h m : ℕ) → IsOrdered g root w → IsClosed g root w k h → (it : IsInto g w k h m)
+    → (w.block it.from ≡ k → w.order it.from < w.order m → it.from < length g.ids → HaveDownHome g w k h it.from) → HaveDownHome g w k h m
+over_into g root w k h m is closed it rest = elim it.origin [
+  | inl home ↦ record {
+    down = one_step g w Down k h m h (subst (λ (y : ℕ). IsStepTo g w Down k m y) home down);
+    up = one_step g w Up k h h m (subst (λ (y : ℕ). IsStepTo g w Up k y m) home up);
+  }
+  | inr on ↦
+      let from_within = (leads_within g it.link it.from m is.kept it.directed.onward).0 in
+      let not_head = member_not_head g root w k h it.from is closed from_within on.0 in
+      let ways = rest on.0 on.1 from_within in
+      record { down = step_first g w Down k h m it.from h down not_head ways.down; up = step_last g w Up k h h it.from m ways.up not_head up }
+]
+  where
+    up : IsStepTo g w Up k it.from m
+    up = step_up g root w k it.link it.from m is it.directed
+
+    down : IsStepTo g w Down k m it.from
+    down = step_down g root w k it.link it.from m is it.directed
+
+-- by lower and lower orders
+down_home : (g : Topology) (root : ℕ) (w : Directions) (k h : ℕ) → IsOrdered g root w → IsClosed g root w k h → (fuel m : ℕ) → m < length g.ids → w.block m ≡ k
+    → w.order m ≤ fuel → HaveDownHome g w k h m
+down_home g root w k h is closed zero m within inside far =
+    let it = into_of g root w k h m is closed within inside in
+    over_into g root w k h m is closed it (λ member less from_within. absurd (omega (arith, far, less)))
+down_home g root w k h is closed (suc fuel) m within inside far =
+    let it = into_of g root w k h m is closed within inside in
+    over_into g root w k h m is closed it (λ member less from_within. down_home g root w k h is closed fuel it.from from_within member (omega (arith, far, less)))
+
+-- of a node whose block has a closing link
+closed_at : (g : Topology) (root : ℕ) (w : Directions) (m : ℕ) → m < length g.ids → m ≢ root → HasClosingLink g w m → IsClosed g root w (w.block m) (w.head m)
+closed_at g root w m within other closing = record { m = m; within = within; not_root = other; in_block = refl; has_head = refl; closing = closing }
+
+pub to_head : (g : Topology) (root : ℕ) (w : Directions) (dir : Dir) (m : ℕ) → IsOrdered g root w → m < length g.ids → m ≢ root → HasClosingLink g w m
+    → (path : List End) × Path g w dir (w.block m) (w.head m) m path (w.head m)
+to_head g root w Up m is within other closing =
+    let way = (up_home g root w (w.block m) (w.head m) is (closed_at g root w m within other closing) (length g.ids) m within refl (omega arith)).up in
+    (way.end ∷ way.others, way.is_path)
+to_head g root w Down m is within other closing =
+    let way = (down_home g root w (w.block m) (w.head m) is (closed_at g root w m within other closing) (w.order m) m within refl (omega arith)).down in
+    (way.end ∷ way.others, way.is_path)
+
+pub from_head : (g : Topology) (root : ℕ) (w : Directions) (dir : Dir) (m : ℕ) → IsOrdered g root w → m < length g.ids → m ≢ root → HasClosingLink g w m
+    → (path : List End) × Path g w dir (w.block m) (w.head m) (w.head m) path m
+from_head g root w Up m is within other closing =
+    let way = (down_home g root w (w.block m) (w.head m) is (closed_at g root w m within other closing) (w.order m) m within refl (omega arith)).up in
+    (way.end ∷ way.others, way.is_path)
+from_head g root w Down m is within other closing =
+    let way = (up_home g root w (w.block m) (w.head m) is (closed_at g root w m within other closing) (length g.ids) m within refl (omega arith)).down in
+    (way.end ∷ way.others, way.is_path)

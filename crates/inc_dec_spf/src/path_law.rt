@@ -1,0 +1,40 @@
+//! What holds of the paths in the blocks of each GADAG.
+
+ghost use Rattle.std.specs.Prelude.{◌≡◌, ◌≢◌, ◌<◌, ℕ, List, Option, Some, length};
+ghost use Rattle.mrt_graph.specs.declared.link.End.{End};
+ghost use Rattle.mrt_graph.specs.GraphInvariant.{IsTopology};
+ghost use Rattle.mrt_graph.specs.Topology.{Topology};
+ghost use Rattle.link_direction.specs.Directions.{Directions};
+ghost use Rattle.link_direction.specs.OrderedGadag.{HasClosingLink, IsOrderedGadag};
+ghost use Rattle.inc_dec_spf.specs.declared.reach.Dir.{Dir};
+ghost use Rattle.inc_dec_spf.specs.declared.reach.Dir.TheVariants.{Down, Up};
+ghost use Rattle.inc_dec_spf.specs.declared.reach.Hop.{Hop};
+ghost use Rattle.inc_dec_spf.specs.LeastPath.{IsHop};
+ghost use Rattle.inc_dec_spf.specs.Path.{Path};
+
+/// A law: a node has for each other node one hop at most.
+pub fn one_hop_for_each_node()
+    ensures { (g : Topology) (root s t : ℕ) (w : Directions) (dir : Dir) (hop other : Option Hop)
+        → IsTopology g → IsOrderedGadag g root w → s < length g.ids → t < length g.ids
+        → IsHop g w dir s t hop → IsHop g w dir s t other → hop ≡ other }
+{}
+
+/// A law: from a node to another one of its block no path leads up where one leads down.
+pub fn no_node_is_both_above_and_below()
+    ensures { (g : Topology) (root s t : ℕ) (w : Directions) (up down : Hop)
+        → IsTopology g → IsOrderedGadag g root w → s < length g.ids → t < length g.ids
+        → w.block s ≡ w.block t → IsHop g w Up s t (Some up) → IsHop g w Down s t (Some down) → ⊥ }
+{}
+
+/// A law: in a block with a closing link, a path leads from each node to the head and one from the head to each node, up
+/// and down.
+pub fn paths_lead_to_the_head_and_back()
+    ensures to_head { (g : Topology) (root m : ℕ) (w : Directions) (dir : Dir)
+        → IsTopology g → IsOrderedGadag g root w → m < length g.ids → m ≢ root
+        → HasClosingLink g w m
+        → (path : List End) × Path g w dir (w.block m) (w.head m) m path (w.head m) }
+    ensures from_head { (g : Topology) (root m : ℕ) (w : Directions) (dir : Dir)
+        → IsTopology g → IsOrderedGadag g root w → m < length g.ids → m ≢ root
+        → HasClosingLink g w m
+        → (path : List End) × Path g w dir (w.block m) (w.head m) (w.head m) path m }
+{}
