@@ -13,7 +13,7 @@ use Rattle.link_direction.specs.Directions.{Directions}
 use Rattle.inc_dec_spf.specs.declared.reach.Dir.{Dir}
 use Rattle.inc_dec_spf.specs.declared.reach.Dir.TheVariants.{Down, Up}
 use Rattle.inc_dec_spf.specs.HasDirections.{AreDirections}
-use Rattle.inc_dec_spf.specs.Sweep.{AreTurns, turn_at, turn_of}
+use Rattle.inc_dec_spf.specs.Turns.{AreTurns, turn_at, turn_of}
 
 -- a list of so many numbers that differ, from 1 to its length, has each of them
 pub record AreAll (orders : List ℕ) : Type 0 where

@@ -14,7 +14,7 @@ use Rattle.inc_dec_spf.specs.declared.reach.Dir.{Dir}
 use Rattle.inc_dec_spf.specs.declared.reach.Known.{Known}
 use Rattle.inc_dec_spf.specs.Known.{AreOffered, IsOne}
 use Rattle.inc_dec_spf.specs.Path.{IsStep, LeadsOn}
-use Rattle.inc_dec_spf.specs.Sweep.{IsFirstOffer, IsFurtherOffer, goes_on}
+use Rattle.inc_dec_spf.specs.Offers.{IsFirstOffer, IsFurtherOffer, goes_on}
 use Rattle.inc_dec_spf.proofs.Marks.{IsMarkedEnd, marked_block, marked_role, test_leads_back, test_leads_on}
 use Rattle.inc_dec_spf.proofs.Offering.{IsBelow, all_below, none_more, one_below}
 

@@ -16,7 +16,7 @@ use Rattle.link_direction.specs.OrderedGadag.{HasClosingLink, IsOrderedGadag}
 use Rattle.inc_dec_spf.specs.declared.reach.Dir.{Dir}
 use Rattle.inc_dec_spf.specs.declared.reach.Dir.TheVariants.{Down, Up}
 use Rattle.inc_dec_spf.specs.Path.{IsStep, LeadsOn}
-use Rattle.inc_dec_spf.specs.Sweep.{turn_of}
+use Rattle.inc_dec_spf.specs.Turns.{turn_of}
 use Rattle.inc_dec_spf.proofs.Marks.{leads_elsewhere, leads_within, link_within}
 
 -- a graph and the directions of a GADAG of it

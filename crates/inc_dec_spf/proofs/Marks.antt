@@ -20,7 +20,7 @@ use Rattle.link_direction.specs.Directions.{Directions, Says}
 use Rattle.inc_dec_spf.specs.declared.reach.Dir.{Dir}
 use Rattle.inc_dec_spf.specs.declared.reach.Dir.TheVariants.{Down, Up}
 use Rattle.inc_dec_spf.specs.Path.{LeadsOn}
-use Rattle.inc_dec_spf.specs.Sweep.{goes_on}
+use Rattle.inc_dec_spf.specs.Offers.{goes_on}
 
 -- a link that leads from u to v
 pub record IsOver (g : Topology) (e u v : ℕ) : Type 0 where

@@ -12,7 +12,7 @@ use Rattle.inc_dec_spf.specs.declared.reach.Dir.TheVariants.{Down, Up}
 use Rattle.inc_dec_spf.specs.declared.reach.Hop.{Hop}
 use Rattle.inc_dec_spf.specs.LeastPath.{BeginsPath, IsHop, IsLeastPath, NotReached, Reached, ShareBlock}
 use Rattle.inc_dec_spf.specs.Path.{Path}
-use Rattle.inc_dec_spf.specs.Sweep.{turn_of}
+use Rattle.inc_dec_spf.specs.Turns.{turn_of}
 use Rattle.inc_dec_spf.proofs.InBlocks.{Home, IsClosed, IsOrdered, Later, Onto, member_not_head, step_from_member}
 use Rattle.inc_dec_spf.proofs.Reached.{are_in}
 use Rattle.inc_dec_spf.proofs.WaysInBlocks.{AreIn}

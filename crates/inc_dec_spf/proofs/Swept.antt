@@ -12,7 +12,9 @@ use Rattle.inc_dec_spf.specs.declared.reach.Dir.{Dir}
 use Rattle.inc_dec_spf.specs.declared.reach.Known.{Known}
 use Rattle.inc_dec_spf.specs.Known.{AreOffered, IsKnown}
 use Rattle.inc_dec_spf.specs.Path.{IsStep}
-use Rattle.inc_dec_spf.specs.Sweep.{AreTurns, First, Further, GoesOn, IsFirstOffer, IsFurtherOffer, IsSwept, IsTurnOffer, IsWay, turn_of}
+use Rattle.inc_dec_spf.specs.Offers.{GoesOn, IsFirstOffer, IsFurtherOffer, IsTurnOffer}
+use Rattle.inc_dec_spf.specs.Sweep.{First, Further, IsSwept, IsWay}
+use Rattle.inc_dec_spf.specs.Turns.{AreTurns, turn_of}
 use Rattle.inc_dec_spf.proofs.InBlocks.{IsOrdered, move_of}
 use Rattle.inc_dec_spf.proofs.Offering.{known_later, known_still, none_offered, offers_same}
 use Rattle.inc_dec_spf.proofs.WaysInBlocks.{later_or_end}

@@ -8,7 +8,9 @@ use Rattle.link_direction.specs.Directions.{Directions}
 use Rattle.inc_dec_spf.specs.declared.reach.Dir.{Dir}
 use Rattle.inc_dec_spf.specs.declared.reach.Known.{Known}
 use Rattle.inc_dec_spf.specs.Path.{IsStep, Path, cost_of}
-use Rattle.inc_dec_spf.specs.Sweep.{First, Further, GoesOn, IsFirstOffer, IsFurtherOffer, IsWay, turn_of}
+use Rattle.inc_dec_spf.specs.Offers.{GoesOn, IsFirstOffer, IsFurtherOffer}
+use Rattle.inc_dec_spf.specs.Sweep.{First, Further, IsWay}
+use Rattle.inc_dec_spf.specs.Turns.{turn_of}
 use Rattle.inc_dec_spf.proofs.InBlocks.{Home, IsClosed, IsOrdered, Later, Onto, closed_of_link, head_of_member, head_lower, leads_inside, member_not_head, move_of, step_from_head, step_from_member}
 
 -- s and v lie in block k, which has a closing link and whose head is h: each is one of its nodes, or the head

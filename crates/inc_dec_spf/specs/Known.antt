@@ -15,7 +15,8 @@ hops_of known = map (option_map hop_of) known
 -- of two ways to one node: a lower cost comes first; at equal costs, the earlier end of the source
 abbrev pub comes_first : Known → Option Known → Bool
 comes_first offer None = true
-comes_first offer (Some known) = nat_lt offer.cost known.cost || (offer.cost == known.cost && nat_lt offer.place known.place)
+comes_first offer (Some known) =
+    nat_lt offer.cost known.cost || (offer.cost == known.cost && nat_lt offer.place known.place)
 
 -- one way does not come after another
 abbrev pub IsNoLater : Known → Known → Type 0
@@ -30,7 +31,8 @@ pub record IsKnown (known : List (Option Known)) (v : ℕ) (way : Known) : Type 
 -- of each node that way is known which comes first, of the one known before and all that are offered
 pub record AreOffered (Offer : ℕ → Known → Type 0) (before after : List (Option Known)) : Type 0 where
   pub one_each : length after ≡ length before
-  pub from : (v : ℕ) (way : Known) → slice_get after v ≡ Some (Some way) → (slice_get before v ≡ Some (Some way)) ⊎ Offer v way
+  pub from : (v : ℕ) (way : Known) → slice_get after v ≡ Some (Some way)
+      → (slice_get before v ≡ Some (Some way)) ⊎ Offer v way
   pub kept : (v : ℕ) (way : Known) → slice_get before v ≡ Some (Some way) → IsKnown after v way
   pub taken : (v : ℕ) (way : Known) → Offer v way → IsKnown after v way
 

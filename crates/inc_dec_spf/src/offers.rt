@@ -6,7 +6,7 @@ ghost use Rattle.mrt_graph.specs.GraphInvariant.{IsTopology};
 ghost use Rattle.link_direction.specs.Directions.{Directions};
 ghost use Rattle.inc_dec_spf.specs.HasDirections.{AreDirections, HasDirections};
 ghost use Rattle.inc_dec_spf.specs.Known.{AreOffered, IsOne, comes_first};
-ghost use Rattle.inc_dec_spf.specs.Sweep.{IsFirstOffer, IsFurtherOffer, goes_on};
+ghost use Rattle.inc_dec_spf.specs.Offers.{IsFirstOffer, IsFurtherOffer, goes_on};
 
 use crate::reach::{Dir, Known};
 use mrt_graph::{Directed, Graph, NodeNo, Role, Way};

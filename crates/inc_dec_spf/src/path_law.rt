@@ -26,8 +26,8 @@ pub fn no_node_is_both_above_and_below()
         → w.block s ≡ w.block t → IsHop g w Up s t (Some up) → IsHop g w Down s t (Some down) → ⊥ }
 {}
 
-/// A law: in a block with a closing link, a path leads from each node to the head and one from the head to each node, up
-/// and down.
+/// A law: in a block with a closing link, a path leads from each node to the head, and one from the head to each node,
+/// up and down.
 pub fn paths_lead_to_the_head_and_back()
     ensures to_head { (g : Topology) (root m : ℕ) (w : Directions) (dir : Dir)
         → IsTopology g → IsOrderedGadag g root w → m < length g.ids → m ≢ root

@@ -19,7 +19,7 @@ pub struct Hop {
 
 /// What is known of a node on the way: the least cost so far, and of the first end of the source that begins a path of
 /// this cost its place and its link.
-#[derive(Clone, Copy, Debug)]
+#[derive(Clone, Copy)]
 pub struct Known {
     pub cost: u32,
     pub place: u16,

@@ -6,7 +6,9 @@ ghost use Rattle.mrt_graph.specs.GadagWords.{head_at};
 ghost use Rattle.link_direction.specs.Directions.{Directions};
 ghost use Rattle.inc_dec_spf.specs.HasDirections.{AreDirections, HasDirections};
 ghost use Rattle.inc_dec_spf.specs.Known.{AreOffered};
-ghost use Rattle.inc_dec_spf.specs.Sweep.{AreTurns, IsSwept, IsTurnOffer};
+ghost use Rattle.inc_dec_spf.specs.Offers.{IsTurnOffer};
+ghost use Rattle.inc_dec_spf.specs.Sweep.{IsSwept};
+ghost use Rattle.inc_dec_spf.specs.Turns.{AreTurns};
 
 use crate::offers::offer_further;
 use crate::reach::{Dir, Known};
