@@ -1,0 +1,7 @@
+pub mod CertSays
+pub mod LinesHold
+pub mod OtherLines
+pub mod OrderedGraphs
+pub mod RowTags
+pub mod Ways
+pub mod WaysBegun

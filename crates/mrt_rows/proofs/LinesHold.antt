@@ -1,0 +1,471 @@
+-- Rows as their lines say keep what the rules ask of their tags: where both links lead.
+use Rattle.std.proofs.Common.{◌≡◌, ◌≢◌, ◌⊎◌, ◌∙◌, ◌==◌, ◌&&◌, ◌||◌, ◌<◌, ℕ, Bool, true, false, List, [], ◌∷◌, Option, Some, None, length, refl, sym, ap, subst, inl, inr, arith}
+use Rattle.std.proofs.lemmas.Bool.{and_from, cases_eq, eq-eqb, or_left, or_right}
+use Rattle.mrt_graph.specs.declared.cert.CertFile.{CertFile}
+use Rattle.mrt_graph.specs.declared.cert.Role.{Role}
+use Rattle.mrt_graph.specs.declared.cert.Role.TheVariants as roles
+use Rattle.mrt_graph.specs.declared.cert.Row.{Row}
+use Rattle.mrt_graph.specs.declared.cert.Tag.{Tag}
+use Rattle.mrt_graph.specs.declared.cert.Tag.TheVariants as tags
+use Rattle.mrt_graph.specs.declared.link.End.{End}
+use Rattle.mrt_graph.specs.BothThere.{are_equal, is_less}
+use Rattle.mrt_graph.specs.Certificate.{Certificate, row_of}
+use Rattle.mrt_graph.specs.CertWords.{block_of, has_role, head_of, order_of, tagged}
+use Rattle.mrt_graph.specs.Leads.{leads}
+use Rattle.mrt_graph.specs.Roles.{is_closing, is_plain}
+use Rattle.mrt_graph.specs.RowRules.{closing_to_head, higher_beside, higher_tagged, lower_beside, lower_tagged, near_row, plain_to_head}
+use Rattle.mrt_graph.proofs.Hops.{lead_back}
+use Rattle.link_direction.specs.BlockOfTwo.{FromHead, HaveInCommon, Peers, ToHead}
+use Rattle.inc_dec_spf.specs.declared.reach.Dir.{Dir}
+use Rattle.inc_dec_spf.specs.declared.reach.Dir.TheVariants.{Down, Up}
+use Rattle.inc_dec_spf.specs.LeastPath.{HasMoreLinks}
+use Rattle.inc_dec_spf.specs.Path.{IsStep, Path}
+use Rattle.mrt_rows.specs.CertOf.{Tells}
+use Rattle.mrt_rows.specs.RowLines.{AboveLine, BeginsOver, BelowLine, HeadLine, TopLine, UnorderedLine}
+use Rattle.mrt_rows.specs.RowsOf.{HasRow}
+use Rattle.mrt_rows.proofs.CertSays.{block_is, closing_test, equal_test, head_is, less_test, order_is, plain_test, tagged_test}
+use Rattle.mrt_rows.proofs.OrderedGraphs.{OrderedGraph, Within, peers_not_head, step_leads, step_over, within}
+use Rattle.mrt_rows.proofs.RowTags.{PeerTag, above_here, below_here, not_above, not_below, one_way, peer_tag}
+use Rattle.mrt_rows.proofs.Ways.{Begun, GoesOn, Inside, Ring, Way, begun, down_falls, down_from, down_from_head, head_lower, inside_head, inside_itself, not_head, put_before, top_down, top_inside, up_from, up_from_head, up_rises}
+use Rattle.mrt_rows.proofs.WaysBegun.{Members, Sharing, WayOver, members, no_way, over_leads, peers, ring_of, share, way_over}
+
+-- both links of a row of s for t lead on, to where its tag asks
+pub record Passes (og : OrderedGraph) (file : CertFile) (tag : Tag) (s t : ℕ) (row : Row) : Type 0 where
+  pub blue_to : ℕ
+  pub red_to : ℕ
+  pub blue_leads : leads og.g.links row.blue s ≡ Some blue_to
+  pub red_leads : leads og.g.links row.red s ≡ Some red_to
+  pub holds : near_row tag file.cert s t row blue_to red_to ≡ true
+
+-- where t is the head of the common block, it is the head of s; and the other way round
+pub head_of_source : (og : OrderedGraph) (s t k h : ℕ) → s < length og.g.ids → t < length og.g.ids → s ≢ t
+    → HaveInCommon og.w s t k h → t ≡ h → (og.w.head s ≡ t) × (k ≡ og.w.block s)
+head_of_source og s t k h s_within t_within two (Peers a b c) at_head =
+    absurd (peers_not_head og s t s_within t_within two (a ∙ sym b) (c ∙ sym at_head))
+head_of_source og s t k h s_within t_within two (ToHead a b c) at_head = (b, sym a)
+head_of_source og s t k h s_within t_within two (FromHead a b c) at_head = absurd (two (c ∙ sym at_head))
+
+pub head_of_target : (og : OrderedGraph) (s t k h : ℕ) → s < length og.g.ids → t < length og.g.ids → s ≢ t
+    → HaveInCommon og.w s t k h → s ≡ h → (og.w.head t ≡ s) × (k ≡ og.w.block t)
+head_of_target og s t k h s_within t_within two (Peers a b c) at_head =
+    let one = og.ordered.heads.one_head s t s_within t_within (a ∙ sym b) in
+    absurd (peers_not_head og t s t_within s_within (λ same. two (sym same)) (b ∙ sym a) (sym one ∙ c ∙ sym at_head))
+head_of_target og s t k h s_within t_within two (ToHead a b c) at_head = absurd (two (at_head ∙ sym c))
+head_of_target og s t k h s_within t_within two (FromHead a b c) at_head = (b, sym a)
+
+-- a node with a head other than itself is not the root
+pub has_head : (og : OrderedGraph) (s t : ℕ) → s ≢ t → og.w.head s ≡ t → s ≢ og.root
+has_head og s t two head = λ at_root. two (at_root ∙ sym og.ordered.heads.root_head ∙ ap og.w.head (sym at_root) ∙ head)
+
+-- the head of a node of a block of more than one link shares that block with it
+pub with_head : (og : OrderedGraph) (m s : ℕ) → Ring og m → Inside og m s → Sharing og m s (og.w.head m)
+with_head og m s ring inside = record {
+  source = inside.within;
+  target = og.ordered.heads.head_within m ring.inside;
+  two = not_head og m ring s inside;
+  common = ToHead inside.block (inside_head og m ring s inside) refl;
+}
+
+module _ (og : OrderedGraph) (file : CertFile) (tells : Tells og.g og.root og.w file) where
+  abbrev n : ℕ
+  n = length og.g.ids
+
+  abbrev c : Certificate
+  c = file.cert
+
+  link_within : (e u v : ℕ) → leads og.g.links e u ≡ Some v → e < length og.g.links
+  link_within e u v onward = (within og.g e u v og.kept onward).link
+
+  module _ (m : ℕ) (ring : Ring og m) (t : ℕ) (target : Inside og m t) where
+    the_tag : (v : ℕ) → Inside og m v → v ≢ t → (it : HasRow og.g og.root og.w v (row_of c v) t) × PeerTag og m v t it.row.tag
+    the_tag v inside two =
+        let it = tells.rows v t inside.within target.within two in
+        (it, peer_tag og m ring v t inside target two it.row.tag (row_of c v) it.row it.line)
+
+    tagged_below : (v : ℕ) → Inside og m v → v ≢ t → Way og m Up v t → tagged c v t tags.Below ≡ true
+    tagged_below v inside two up =
+        let it = the_tag v inside two in
+        tagged_test og file tells v t tags.Below it.0 (below_here og m ring v t inside target two it.0.row.tag it.1 up)
+
+    tagged_above : (v : ℕ) → Inside og m v → v ≢ t → Way og m Down v t → tagged c v t tags.Above ≡ true
+    tagged_above v inside two down =
+        let it = the_tag v inside two in
+        tagged_test og file tells v t tags.Above it.0 (above_here og m ring v t inside target two it.0.row.tag it.1 down)
+
+    higher : (s v : ℕ) (tag : Tag) → Inside og m s → Inside og m v → og.w.order s < og.w.order v
+        → tagged c v t tag ≡ true → higher_tagged c s t tag v ≡ true
+    higher s v tag s_inside v_inside greater is =
+        and_from _ _ (less_test (order_of c s) (order_of c v) (og.w.order s) (og.w.order v)
+        (order_is og file tells s s_inside.within) (order_is og file tells v v_inside.within) greater) is
+
+    lower : (s v : ℕ) (tag : Tag) → Inside og m s → Inside og m v → og.w.order v < og.w.order s
+        → tagged c v t tag ≡ true → lower_tagged c s t tag v ≡ true
+    lower s v tag s_inside v_inside below is =
+        and_from _ _ (less_test (order_of c v) (order_of c s) (og.w.order v) (og.w.order s)
+        (order_is og file tells v v_inside.within) (order_is og file tells s s_inside.within) below) is
+
+    -- where a path goes, it is at t, or its way on is left
+    left_up : (end : End) (others : List End) → Inside og m end.to → GoesOn og m Up end others t
+        → ((end.to == t) || tagged c end.to t tags.Below) ≡ true
+    left_up end others inside (inl there) = or_left _ _ (eq-eqb end.to t there)
+    left_up end others inside (inr on) = elim (cases_eq end.to t) [
+      | inl there ↦ or_left _ _ (eq-eqb end.to t there)
+      | inr other ↦ or_right _ _ (tagged_below end.to inside other (record { path = others; is = on.1 }))
+    ]
+
+    left_down : (end : End) (others : List End) → Inside og m end.to → GoesOn og m Down end others t
+        → ((end.to == t) || tagged c end.to t tags.Above) ≡ true
+    left_down end others inside (inl there) = or_left _ _ (eq-eqb end.to t there)
+    left_down end others inside (inr on) = elim (cases_eq end.to t) [
+      | inl there ↦ or_left _ _ (eq-eqb end.to t there)
+      | inr other ↦ or_right _ _ (tagged_above end.to inside other (record { path = others; is = on.1 }))
+    ]
+
+    -- the blue link of a way up, and the red link of a way down, within the block
+    on_up : (s link : ℕ) (source : Inside og m s) (way : WayOver og m Up s t link)
+        → ((way.end.to == t) || higher_tagged c s t tags.Below way.end.to) ≡ true
+    on_up s link source way =
+        let first = begun og m Up s way.end way.others t way.is in
+        elim (up_from og m ring s way.end source first.step) [
+          | inl on ↦ elim (cases_eq way.end.to t) [
+            | inl there ↦ or_left _ _ (eq-eqb way.end.to t there)
+            | inr other ↦ elim first.goes [
+              | inl there ↦ absurd (other there)
+              | inr more ↦
+                  or_right _ _ (higher s way.end.to tags.Below source on.0 on.1
+                  (tagged_below way.end.to on.0 other (record { path = way.others; is = more.1 })))
+            ]
+          ]
+          | inr home ↦ elim first.goes [
+            | inl there ↦ absurd (not_head og m ring t target (sym there ∙ home.1))
+            | inr more ↦ absurd (more.0 home.1)
+          ]
+        ]
+
+    on_down : (s link : ℕ) (source : Inside og m s) (way : WayOver og m Down s t link)
+        → ((way.end.to == t) || lower_tagged c s t tags.Above way.end.to) ≡ true
+    on_down s link source way =
+        let first = begun og m Down s way.end way.others t way.is in
+        elim (down_from og m ring s way.end source first.step) [
+          | inl on ↦ elim (cases_eq way.end.to t) [
+            | inl there ↦ or_left _ _ (eq-eqb way.end.to t there)
+            | inr other ↦ elim first.goes [
+              | inl there ↦ absurd (other there)
+              | inr more ↦
+                  or_right _ _ (lower s way.end.to tags.Above source on.0 on.1
+                  (tagged_above way.end.to on.0 other (record { path = way.others; is = more.1 })))
+            ]
+          ]
+          | inr home ↦ elim first.goes [
+            | inl there ↦ absurd (not_head og m ring t target (sym there ∙ home.0))
+            | inr more ↦ absurd (more.0 home.0)
+          ]
+        ]
+
+    -- a step back from v to s, put before a way from s to t
+    back_up : (s e v : ℕ) → Inside og m s → leads og.g.links e s ≡ Some v → og.w.tail e ≡ v → og.w.lies_in e ≡ og.w.block m
+        → Way og m Up s t → Way og m Up v t
+    back_up s e v source onward tail block way =
+        let step = step_over og Up (og.w.block m) e v s (lead_back og.g.links e s v onward) block tail in
+        record {
+          path = step.end ∷ way.path;
+          is = put_before og m Up v step.end way.path t step.step
+              (λ home. not_head og m ring s source (sym step.to ∙ home))
+              (subst (λ (x : ℕ). Path og.g og.w Up (og.w.block m) (og.w.head m) x way.path t) (sym step.to) way.is);
+        }
+
+    back_down : (s e v : ℕ) → Inside og m s → leads og.g.links e s ≡ Some v → og.w.tail e ≡ s → og.w.lies_in e ≡ og.w.block m
+        → Way og m Down s t → Way og m Down v t
+    back_down s e v source onward tail block way =
+        let step = step_over og Down (og.w.block m) e v s (lead_back og.g.links e s v onward) block tail in
+        record {
+          path = step.end ∷ way.path;
+          is = put_before og m Down v step.end way.path t step.step
+              (λ home. not_head og m ring s source (sym step.to ∙ home))
+              (subst (λ (x : ℕ). Path og.g og.w Down (og.w.block m) (og.w.head m) x way.path t) (sym step.to) way.is);
+        }
+
+  -- a link that a way begins over, and its role
+  role_over : (m : ℕ) (dir : Dir) (s t link : ℕ) (way : WayOver og m dir s t link) (word : Role) → og.w.role way.end.link ≡ word
+      → og.w.role link ≡ word
+  role_over m dir s t link way word is = ap og.w.role way.over ∙ is
+
+  way_within : (m : ℕ) (dir : Dir) (s t link : ℕ) → WayOver og m dir s t link → link < length og.g.links
+  way_within m dir s t link way = link_within link s way.end.to (over_leads og m dir s t link way)
+
+  -- home over a plain link, or over a closing one
+  plain_home : (m : ℕ) (dir : Dir) (s t link v : ℕ) → s < n → WayOver og m dir s t link → og.w.role link ≡ roles.Plain
+      → v ≡ og.w.head s → plain_to_head c link s v ≡ true
+  plain_home m dir s t link v within way plain home =
+      and_from _ _ (plain_test og file tells link (way_within m dir s t link way) plain)
+      (equal_test (head_of c s) (Some v) (og.w.head s) v (head_is og file tells s within) refl (sym home))
+
+  closing_home : (m : ℕ) (dir : Dir) (s t link v : ℕ) → s < n → WayOver og m dir s t link
+      → og.w.role link ≡ roles.Closing → v ≡ og.w.head s → closing_to_head c link s v ≡ true
+  closing_home m dir s t link v within way closing home =
+      and_from _ _ (closing_test og file tells link (way_within m dir s t link way) closing)
+      (equal_test (head_of c s) (Some v) (og.w.head s) v (head_is og file tells s within) refl (sym home))
+
+  -- a node of the block of s, with a greater or a smaller order
+  beside_higher : (s v : ℕ) → s < n → Inside og s v → og.w.order s < og.w.order v → higher_beside c s v ≡ true
+  beside_higher s v within inside greater =
+      and_from _ _ (equal_test (block_of c v) (block_of c s) (og.w.block v) (og.w.block s)
+      (block_is og file tells v inside.within) (block_is og file tells s within) inside.block)
+      (less_test (order_of c s) (order_of c v) (og.w.order s) (og.w.order v)
+      (order_is og file tells s within) (order_is og file tells v inside.within) greater)
+
+  beside_lower : (s v : ℕ) → s < n → Inside og s v → og.w.order v < og.w.order s → lower_beside c s v ≡ true
+  beside_lower s v within inside below =
+      and_from _ _ (equal_test (block_of c v) (block_of c s) (og.w.block v) (og.w.block s)
+      (block_is og file tells v inside.within) (block_is og file tells s within) inside.block)
+      (less_test (order_of c v) (order_of c s) (og.w.order v) (og.w.order s)
+      (order_is og file tells v inside.within) (order_is og file tells s within) below)
+
+  module _ (s t : ℕ) (s_within : s < n) (t_within : t < n) (two : s ≢ t) (row : Row) where
+    pub head_passes : HeadLine og.g og.w s t row → Passes og file tags.Head s t row
+    head_passes line =
+        let head =
+        head_of_source og s t line.block line.head s_within t_within two line.share.common line.at_head in
+        let other = has_head og s t two head.0 in
+        let ring =
+        ring_of og s s_within other (subst (λ (k : ℕ). HasMoreLinks og.g og.w k) head.1 line.share.more) in
+        let sharing : Sharing og s s t =
+        record { source = s_within; target = t_within; two = two; common = ToHead refl head.0 (sym head.0) } in
+        let blue = way_over og s Up s t row.blue sharing line.blue in
+        let red = way_over og s Down s t row.red sharing line.red in
+        let blue_first = begun og s Up s blue.end blue.others t blue.is in
+        let red_first = begun og s Down s red.end red.others t red.is in
+        let blue_goes : (higher_beside c s blue.end.to || (has_role is_closing c row.blue && (blue.end.to == t))) ≡ true =
+        elim (up_from og s ring s blue.end (inside_itself og s ring) blue_first.step) [
+          | inl on ↦ or_left _ _ (beside_higher s blue.end.to s_within on.0 on.1)
+          | inr home ↦
+              or_right _ _ (and_from _ _ (closing_test og file tells row.blue (way_within s Up s t row.blue blue)
+              (role_over s Up s t row.blue blue roles.Closing home.2)) (eq-eqb blue.end.to t (home.1 ∙ head.0)))
+        ] in
+        let red_goes : (lower_beside c s red.end.to || (has_role is_plain c row.red && (red.end.to == t))) ≡ true =
+        elim (down_from og s ring s red.end (inside_itself og s ring) red_first.step) [
+          | inl on ↦ or_left _ _ (beside_lower s red.end.to s_within on.0 on.1)
+          | inr home ↦
+              or_right _ _ (and_from _ _ (plain_test og file tells row.red (way_within s Down s t row.red red)
+              (role_over s Down s t row.red red roles.Plain home.1)) (eq-eqb red.end.to t (home.0 ∙ head.0)))
+        ] in
+        record {
+          blue_to = blue.end.to;
+          red_to = red.end.to;
+          blue_leads = over_leads og s Up s t row.blue blue;
+          red_leads = over_leads og s Down s t row.red red;
+          holds = and_from _ _ (equal_test (head_of c s) (Some t) (og.w.head s) t (head_is og file tells s s_within) refl head.0)
+              (and_from _ _ blue_goes red_goes);
+        }
+
+    pub top_passes : TopLine og.g og.w s t row → Passes og file tags.Top s t row
+    top_passes line =
+        let head =
+        head_of_target og s t line.block line.head s_within t_within two line.share.common line.at_head in
+        let other = has_head og t s (λ same. two (sym same)) head.0 in
+        let ring =
+        ring_of og t t_within other (subst (λ (k : ℕ). HasMoreLinks og.g og.w k) head.1 line.share.more) in
+        let target = inside_itself og t ring in
+        let sharing : Sharing og t s t =
+        record { source = s_within; target = t_within; two = two; common = FromHead refl head.0 (sym head.0) } in
+        let blue = way_over og t Up s t row.blue sharing line.blue in
+        let red = way_over og t Down s t row.red sharing line.red in
+        let blue_first = begun og t Up s blue.end blue.others t blue.is in
+        let red_first = begun og t Down s red.end red.others t red.is in
+        let blue_on =
+        up_from_head og t ring blue.end
+        (subst (λ (x : ℕ). IsStep og.g og.w Up (og.w.block t) x blue.end) (sym head.0) blue_first.step) in
+        let red_on =
+        down_from_head og t ring red.end
+        (subst (λ (x : ℕ). IsStep og.g og.w Down (og.w.block t) x red.end) (sym head.0) red_first.step) in
+        let red_inside : Inside og t red.end.to =
+        subst (λ (x : ℕ). Inside og t x) (sym red_on.0) (top_inside og t ring) in
+        record {
+          blue_to = blue.end.to;
+          red_to = red.end.to;
+          blue_leads = over_leads og t Up s t row.blue blue;
+          red_leads = over_leads og t Down s t row.red red;
+          holds = and_from _ _ (equal_test (head_of c t) (Some s) (og.w.head t) s (head_is og file tells t t_within) refl head.0)
+              (and_from _ _
+              (and_from _ _ (plain_test og file tells row.blue (way_within t Up s t row.blue blue)
+              (role_over t Up s t row.blue blue roles.Plain blue_on.1))
+              (left_up t ring t target blue.end blue.others blue_on.0 blue_first.goes))
+              (and_from _ _ (closing_test og file tells row.red (way_within t Down s t row.red red)
+              (role_over t Down s t row.red red roles.Closing red_on.1))
+              (left_down t ring t target red.end red.others red_inside red_first.goes)));
+        }
+
+    same_blocks : (target : Inside og s t) → are_equal (block_of c s) (block_of c t) ≡ true
+    same_blocks target =
+        equal_test (block_of c s) (block_of c t) (og.w.block s) (og.w.block t) (block_is og file tells s s_within)
+        (block_is og file tells t t_within) (sym target.block)
+
+    -- down to the head, where a way leads up to t
+    down_home : (ring : Ring og s) (target : Inside og s t) → Way og s Up s t
+        → (red : WayOver og s Down s (og.w.head s) row.red)
+        → (lower_tagged c s t tags.Below red.end.to || plain_to_head c row.red s red.end.to) ≡ true
+    down_home ring target up red =
+        let source = inside_itself og s ring in
+        let first = begun og s Down s red.end red.others (og.w.head s) red.is in
+        let onward = step_leads og Down (og.w.block s) s red.end first.step in
+        elim (down_from og s ring s red.end source first.step) [
+          | inl on ↦
+              let rises = up_rises og s ring s up.path t source target up.is in
+              or_left _ _ (lower s ring t target s red.end.to tags.Below source on.0 on.1
+              (tagged_below s ring t target red.end.to on.0 (λ same. omega (arith, rises, on.1, ap og.w.order same))
+              (back_up s ring t target s red.end.link red.end.to source onward first.step.leads_on first.step.in_block up)))
+          | inr home ↦
+              or_right _ _ (plain_home s Down s (og.w.head s) row.red red.end.to s_within red
+              (role_over s Down s (og.w.head s) row.red red roles.Plain home.1) home.0)
+        ]
+
+    -- up to the head, where a way leads down to t
+    up_home : (ring : Ring og s) (target : Inside og s t) → Way og s Down s t
+        → (blue : WayOver og s Up s (og.w.head s) row.blue)
+        → (higher_tagged c s t tags.Above blue.end.to || closing_to_head c row.blue s blue.end.to) ≡ true
+    up_home ring target down blue =
+        let source = inside_itself og s ring in
+        let first = begun og s Up s blue.end blue.others (og.w.head s) blue.is in
+        let onward = step_leads og Up (og.w.block s) s blue.end first.step in
+        elim (up_from og s ring s blue.end source first.step) [
+          | inl on ↦
+              let falls = down_falls og s ring s down.path t source target down.is in
+              or_left _ _ (higher s ring t target s blue.end.to tags.Above source on.0 on.1
+              (tagged_above s ring t target blue.end.to on.0 (λ same. omega (arith, falls, on.1, ap og.w.order same))
+              (back_down s ring t target s blue.end.link blue.end.to source onward first.step.leads_on first.step.in_block
+              down)))
+          | inr home ↦
+              or_right _ _ (closing_home s Up s (og.w.head s) row.blue blue.end.to s_within blue
+              (role_over s Up s (og.w.head s) row.blue blue roles.Closing home.2) home.1)
+        ]
+
+    less_orders : (x y : ℕ) → x < n → y < n → og.w.order x < og.w.order y → is_less (order_of c x) (order_of c y) ≡ true
+    less_orders x y x_within y_within below =
+        less_test (order_of c x) (order_of c y) (og.w.order x) (og.w.order y) (order_is og file tells x x_within)
+        (order_is og file tells y y_within) below
+
+    pub below_passes : BelowLine og.g og.w s t row → Passes og file tags.Below s t row
+    below_passes line =
+        let it = members og s t line.block line.head s_within t_within line.members in
+        let source = inside_itself og s it.ring in
+        let blue = way_over og s Up s t row.blue (peers og s s t it.ring source it.target two) line.blue in
+        let red =
+        way_over og s Down s (og.w.head s) row.red (with_head og s s it.ring source)
+        (subst (λ (x : ℕ). BeginsOver og.g og.w Down s x row.red) it.head line.red) in
+        let up : Way og s Up s t = record { path = blue.end ∷ blue.others; is = blue.is } in
+        record {
+          blue_to = blue.end.to;
+          red_to = red.end.to;
+          blue_leads = over_leads og s Up s t row.blue blue;
+          red_leads = over_leads og s Down s (og.w.head s) row.red red;
+          holds = and_from _ _ (same_blocks it.target) (and_from _ _
+              (less_orders s t s_within t_within (up_rises og s it.ring s up.path t source it.target up.is)) (and_from _ _
+              (on_up s it.ring t it.target s row.blue source blue) (down_home it.ring it.target up red)));
+        }
+
+    pub above_passes : AboveLine og.g og.w s t row → Passes og file tags.Above s t row
+    above_passes line =
+        let it = members og s t line.block line.head s_within t_within line.members in
+        let source = inside_itself og s it.ring in
+        let red = way_over og s Down s t row.red (peers og s s t it.ring source it.target two) line.red in
+        let blue =
+        way_over og s Up s (og.w.head s) row.blue (with_head og s s it.ring source)
+        (subst (λ (x : ℕ). BeginsOver og.g og.w Up s x row.blue) it.head line.blue) in
+        let down : Way og s Down s t = record { path = red.end ∷ red.others; is = red.is } in
+        record {
+          blue_to = blue.end.to;
+          red_to = red.end.to;
+          blue_leads = over_leads og s Up s (og.w.head s) row.blue blue;
+          red_leads = over_leads og s Down s t row.red red;
+          holds = and_from _ _ (same_blocks it.target) (and_from _ _
+              (less_orders t s t_within s_within (down_falls og s it.ring s down.path t source it.target down.is))
+              (and_from _ _ (up_home it.ring it.target down blue) (on_down s it.ring t it.target s row.red source red)));
+        }
+
+    -- one step is a way
+    one_step : (dir : Dir) (end : End) → IsStep og.g og.w dir (og.w.block s) s end → end.to ≡ t → Way og s dir s t
+    one_step dir end step there = record { path = end ∷ []; is = (step, there) }
+
+    -- and so is a step and a way from where it leads
+    step_and_way : (ring : Ring og s) (dir : Dir) (end : End) → IsStep og.g og.w dir (og.w.block s) s end
+        → Inside og s end.to → Way og s dir end.to t → Way og s dir s t
+    step_and_way ring dir end step inside way = record {
+      path = end ∷ way.path;
+      is = put_before og s dir s end way.path t step (not_head og s ring end.to inside) way.is;
+    }
+
+    -- down to the head, where no way leads down to t
+    down_past : (ring : Ring og s) (target : Inside og s t) → (Way og s Down s t → ⊥)
+        → (blue : WayOver og s Down s (og.w.head s) row.blue)
+        → ((lower_tagged c s t tags.Unordered blue.end.to || lower_tagged c s t tags.Below blue.end.to)
+            || plain_to_head c row.blue s blue.end.to) ≡ true
+    down_past ring target never blue =
+        let source = inside_itself og s ring in
+        let first = begun og s Down s blue.end blue.others (og.w.head s) blue.is in
+        elim (down_from og s ring s blue.end source first.step) [
+          | inl on ↦
+              let other : blue.end.to ≢ t = λ there. never (one_step Down blue.end first.step there) in
+              let it = the_tag s ring t target blue.end.to on.0 other in
+              let is_lower : (lower_tagged c s t tags.Unordered blue.end.to || lower_tagged c s t tags.Below blue.end.to)
+              ≡ true =
+              elim (not_above og s ring blue.end.to t on.0 target other it.0.row.tag it.1
+              (λ way. never (step_and_way ring Down blue.end first.step on.0 way))) [
+                | inl is ↦
+                    or_left _ _ (lower s ring t target s blue.end.to tags.Unordered source on.0 on.1
+                    (tagged_test og file tells blue.end.to t tags.Unordered it.0 is))
+                | inr is ↦
+                    or_right _ _ (lower s ring t target s blue.end.to tags.Below source on.0 on.1
+                    (tagged_test og file tells blue.end.to t tags.Below it.0 is))
+              ] in
+              or_left _ _ is_lower
+          | inr home ↦
+              or_right _ _ (plain_home s Down s (og.w.head s) row.blue blue.end.to s_within blue
+              (role_over s Down s (og.w.head s) row.blue blue roles.Plain home.1) home.0)
+        ]
+
+    -- up to the head, where no way leads up or down to t: s is not the greatest node, from which one leads down to t
+    up_past : (ring : Ring og s) (target : Inside og s t) → (Way og s Up s t → ⊥) → (Way og s Down s t → ⊥)
+        → (red : WayOver og s Up s (og.w.head s) row.red)
+        → (higher_tagged c s t tags.Unordered red.end.to || higher_tagged c s t tags.Above red.end.to) ≡ true
+    up_past ring target never never_down red =
+        let source = inside_itself og s ring in
+        let first = begun og s Up s red.end red.others (og.w.head s) red.is in
+        elim (up_from og s ring s red.end source first.step) [
+          | inl on ↦
+              let other : red.end.to ≢ t = λ there. never (one_step Up red.end first.step there) in
+              let it = the_tag s ring t target red.end.to on.0 other in
+              elim (not_below og s ring red.end.to t on.0 target other it.0.row.tag it.1
+              (λ way. never (step_and_way ring Up red.end first.step on.0 way))) [
+                | inl is ↦
+                    or_left _ _ (higher s ring t target s red.end.to tags.Unordered source on.0 on.1
+                    (tagged_test og file tells red.end.to t tags.Unordered it.0 is))
+                | inr is ↦
+                    or_right _ _ (higher s ring t target s red.end.to tags.Above source on.0 on.1
+                    (tagged_test og file tells red.end.to t tags.Above it.0 is))
+              ]
+          | inr home ↦
+              let down = top_down og s ring t target (λ at_top. two (home.0 ∙ sym at_top)) in
+              absurd (never_down (subst (λ (x : ℕ). Way og s Down x t) (sym home.0) down))
+        ]
+
+    pub unordered_passes : UnorderedLine og.g og.w s t row → Passes og file tags.Unordered s t row
+    unordered_passes line =
+        let it = members og s t line.block line.head s_within t_within line.members in
+        let source = inside_itself og s it.ring in
+        let shares = share og s s t it.ring (peers og s s t it.ring source it.target two) in
+        let blue =
+        way_over og s Down s (og.w.head s) row.blue (with_head og s s it.ring source)
+        (subst (λ (x : ℕ). BeginsOver og.g og.w Down s x row.blue) it.head line.blue) in
+        let red =
+        way_over og s Up s (og.w.head s) row.red (with_head og s s it.ring source)
+        (subst (λ (x : ℕ). BeginsOver og.g og.w Up s x row.red) it.head line.red) in
+        let none_up = no_way og s Up s t shares line.none_up in
+        let none_down = no_way og s Down s t shares line.none_down in
+        record {
+          blue_to = blue.end.to;
+          red_to = red.end.to;
+          blue_leads = over_leads og s Down s (og.w.head s) row.blue blue;
+          red_leads = over_leads og s Up s (og.w.head s) row.red red;
+          holds = and_from _ _ (same_blocks it.target) (and_from _ _ (down_past it.ring it.target none_down blue)
+              (up_past it.ring it.target none_up none_down red));
+        }

@@ -1,0 +1,159 @@
+-- A graph with a GADAG in order: its links, its ends, and the blocks that nodes have in common.
+use Rattle.std.proofs.Common.{◌≡◌, ◌≢◌, ◌⊎◌, ◌∙◌, ◌<◌, ◌≤◌, ℕ, List, Option, Some, None, length, slice_get, refl, sym, ap, subst, inl, inr, arith}
+use Rattle.std.proofs.lemmas.Bool.{cases_eq}
+use Rattle.std.proofs.lemmas.Option.{slice_get_within, same_Some}
+use Rattle.std.specs.Option.{option_and_then}
+use Rattle.mrt_graph.specs.declared.link.End.{End}
+use Rattle.mrt_graph.specs.declared.link.Link.{Link}
+use Rattle.mrt_graph.specs.GraphInvariant.{IsEnd, IsLink, IsTopology}
+use Rattle.mrt_graph.specs.Leads.{far_node, leads}
+use Rattle.mrt_graph.specs.Topology.{Topology}
+use Rattle.mrt_graph.proofs.EndsAt.{end_leads, leads_end, list_of_ends}
+use Rattle.mrt_graph.proofs.Hops.{far_ends, lead_back, same_ends}
+use Rattle.mrt_graph.proofs.ListTests.{all_at}
+use Rattle.gadag_ears.proofs.CommonBlocks.{leads_elsewhere}
+use Rattle.link_direction.specs.BlockOfTwo.{FromHead, HaveInCommon, Peers, ToHead}
+use Rattle.link_direction.specs.Directions.{Directions}
+use Rattle.link_direction.specs.OrderedGadag.{IsOrderedGadag}
+use Rattle.inc_dec_spf.specs.declared.reach.Dir.{Dir}
+use Rattle.inc_dec_spf.specs.declared.reach.Dir.TheVariants.{Down, Up}
+use Rattle.inc_dec_spf.specs.Path.{IsStep, LeadsOn}
+
+-- a graph, its root, and what a GADAG with its order says
+pub record OrderedGraph : Type 0 where
+  pub g : Topology
+  pub root : ℕ
+  pub w : Directions
+  pub kept : IsTopology g
+  pub ordered : IsOrderedGadag g root w
+
+-- the numbers of a link and of its two nodes are in range, and the two differ
+pub record Within (g : Topology) (e u v : ℕ) : Type 0 where
+  pub link : e < length g.links
+  pub from : u < length g.ids
+  pub to : v < length g.ids
+  pub differ : u ≢ v
+
+pub within : (g : Topology) (e u v : ℕ) → IsTopology g → leads g.links e u ≡ Some v → Within g e u v
+within g e u v kept onward = go (slice_get g.links e) refl onward
+  where
+    go : (o : Option Link) → slice_get g.links e ≡ o → option_and_then (far_node u) o ≡ Some v → Within g e u v
+    go None is there = cc
+    go (Some link) is there =
+        let it : IsLink g.ids link = all_at (IsLink g.ids) g.links e link kept.links_kept is in
+        let e_within = slice_get_within g.links e link is in
+        elim (far_ends link u v there) [
+          | inl up ↦ record {
+            link = e_within;
+            from = omega (arith, up.0, up.1, it.ascending, it.upper);
+            to = omega (arith, up.1, it.upper);
+            differ = λ same. omega (arith, up.0, up.1, it.ascending, same);
+          }
+          | inr down ↦ record {
+            link = e_within;
+            from = omega (arith, down.0, it.upper);
+            to = omega (arith, down.0, down.1, it.ascending, it.upper);
+            differ = λ same. omega (arith, down.0, down.1, it.ascending, same);
+          }
+        ]
+
+-- where the link of a step leads
+pub step_leads : (og : OrderedGraph) (dir : Dir) (k s : ℕ) (end : End) → IsStep og.g og.w dir k s end
+    → leads og.g.links end.link s ≡ Some end.to
+step_leads og dir k s end step = end_leads og.g s step.place step.ends end og.kept step.list step.there
+
+-- a step over a link to a node
+pub record StepOver (og : OrderedGraph) (dir : Dir) (k s e v : ℕ) : Type 0 where
+  pub end : End
+  pub step : IsStep og.g og.w dir k s end
+  pub over : end.link ≡ e
+  pub to : end.to ≡ v
+
+-- the direction that a step takes over a link of this tail
+abbrev pub TailAt : OrderedGraph → Dir → ℕ → ℕ → ℕ → Type 0
+TailAt og Up e u v = og.w.tail e ≡ u
+TailAt og Down e u v = og.w.tail e ≡ v
+
+led_on : (og : OrderedGraph) (dir : Dir) (u : ℕ) (end : End) (e v : ℕ) → end.link ≡ e → end.to ≡ v → TailAt og dir e u v
+    → LeadsOn og.w dir u end
+led_on og Up u end e v over to tail = ap og.w.tail over ∙ tail
+led_on og Down u end e v over to tail = ap og.w.tail over ∙ tail ∙ sym to
+
+pub step_over : (og : OrderedGraph) (dir : Dir) (k e u v : ℕ) → leads og.g.links e u ≡ Some v → og.w.lies_in e ≡ k
+    → TailAt og dir e u v → StepOver og dir k u e v
+step_over og dir k e u v onward block tail =
+    let ends = list_of_ends og.g u og.kept (within og.g e u v og.kept onward).from in
+    let it = leads_end og.g u e v ends.0 og.kept ends.1 onward in
+    record {
+      end = it.end;
+      step = record {
+        ends = ends.0;
+        list = ends.1;
+        place = it.place;
+        there = it.at;
+        in_block = ap og.w.lies_in it.over ∙ block;
+        leads_on = led_on og dir u it.end e v it.over it.to tail;
+      };
+      over = it.over;
+      to = it.to;
+    }
+
+-- a link's tail is one of its nodes
+pub tail_is : (og : OrderedGraph) (e u v : ℕ) → leads og.g.links e u ≡ Some v → (og.w.tail e ≡ u) ⊎ (og.w.tail e ≡ v)
+tail_is og e u v onward =
+    let away = og.ordered.links.directed e (within og.g e u v og.kept onward).link in
+    same_ends og.g.links e u v (og.w.tail e) away.0 onward away.1
+
+module _ (og : OrderedGraph) where
+  abbrev n : ℕ
+  n = length og.g.ids
+
+  -- the root is no head of its own block's other node
+  pub not_root_of_peers : (u v : ℕ) → u < n → v < n → u ≢ v → og.w.block u ≡ og.w.block v → v ≢ og.root
+  not_root_of_peers u v u_within v_within differ same = λ at_root.
+      og.ordered.heads.alone u u_within (λ u_root. differ (u_root ∙ sym at_root))
+      (same ∙ ap og.w.block at_root ∙ og.ordered.heads.root_block)
+
+  -- of two nodes of one block none is the head of the other one
+  pub peers_not_head : (u v : ℕ) → u < n → v < n → u ≢ v → og.w.block u ≡ og.w.block v → og.w.head u ≢ v
+  peers_not_head u v u_within v_within differ same = λ head.
+      let other = not_root_of_peers u v u_within v_within differ same in
+      let one = og.ordered.heads.one_head u v u_within v_within same in
+      let lower = og.ordered.heads.lower v v_within other in
+      omega (arith, lower, ap og.w.order (sym one ∙ head))
+
+  -- two nodes are not heads of each other
+  pub one_is_head : (u v : ℕ) → u < n → v < n → u ≢ v → og.w.head u ≡ v → og.w.head v ≢ u
+  one_is_head u v u_within v_within differ head = λ back.
+      let u_other : u ≢ og.root = λ at_root.
+      differ (at_root ∙ sym og.ordered.heads.root_head ∙ ap og.w.head (sym at_root) ∙ head) in
+      let v_other : v ≢ og.root = λ at_root.
+      differ (sym back ∙ ap og.w.head at_root ∙ og.ordered.heads.root_head ∙ sym at_root) in
+      let u_lower = og.ordered.heads.lower u u_within u_other in
+      let v_lower = og.ordered.heads.lower v v_within v_other in
+      omega (arith, u_lower, v_lower, ap og.w.order head, ap og.w.order back)
+
+  -- two nodes have one block in common at most
+  pub one_common : (u v k h j i : ℕ) → u < n → v < n → u ≢ v → HaveInCommon og.w u v k h → HaveInCommon og.w u v j i
+      → (k ≡ j) × (h ≡ i)
+  one_common u v k h j i u_within v_within differ (Peers a b c) (Peers d e f) = (sym a ∙ d, sym c ∙ f)
+  one_common u v k h j i u_within v_within differ (Peers a b c) (ToHead d e f) =
+      absurd (peers_not_head u v u_within v_within differ (a ∙ sym b) e)
+  one_common u v k h j i u_within v_within differ (Peers a b c) (FromHead d e f) =
+      absurd (peers_not_head v u v_within u_within (λ same. differ (sym same)) (b ∙ sym a) e)
+  one_common u v k h j i u_within v_within differ (ToHead a b c) (Peers d e f) =
+      absurd (peers_not_head u v u_within v_within differ (d ∙ sym e) b)
+  one_common u v k h j i u_within v_within differ (ToHead a b c) (ToHead d e f) = (sym a ∙ d, sym c ∙ f)
+  one_common u v k h j i u_within v_within differ (ToHead a b c) (FromHead d e f) =
+      absurd (one_is_head u v u_within v_within differ b e)
+  one_common u v k h j i u_within v_within differ (FromHead a b c) (Peers d e f) =
+      absurd (peers_not_head v u v_within u_within (λ same. differ (sym same)) (e ∙ sym d) b)
+  one_common u v k h j i u_within v_within differ (FromHead a b c) (ToHead d e f) =
+      absurd (one_is_head u v u_within v_within differ e b)
+  one_common u v k h j i u_within v_within differ (FromHead a b c) (FromHead d e f) = (sym a ∙ d, sym c ∙ f)
+
+  pub common_back : (u v k h : ℕ) → u < n → v < n → HaveInCommon og.w u v k h → HaveInCommon og.w v u k h
+  common_back u v k h u_within v_within (Peers a b c) =
+      Peers b a (sym (og.ordered.heads.one_head u v u_within v_within (a ∙ sym b)) ∙ c)
+  common_back u v k h u_within v_within (ToHead a b c) = FromHead a b c
+  common_back u v k h u_within v_within (FromHead a b c) = ToHead a b c

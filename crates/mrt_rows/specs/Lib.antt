@@ -1,0 +1,3 @@
+pub mod CertOf
+pub mod RowLines
+pub mod RowsOf

@@ -1,0 +1,6 @@
+//! The rows of every node for every other node (RFC 7811, section 5.7), and certificates made of them.
+#![tactic(auto)]
+
+mod rows_law;
+
+pub use rows_law::tabled_certificates_are_accepted;
