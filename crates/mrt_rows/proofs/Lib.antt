@@ -1,7 +1,10 @@
+pub mod BlocksHold
 pub mod CertSays
+pub mod Counting
 pub mod LinesHold
-pub mod OtherLines
 pub mod OrderedGraphs
+pub mod OtherLines
 pub mod RowTags
+pub mod RulesHold
 pub mod Ways
 pub mod WaysBegun

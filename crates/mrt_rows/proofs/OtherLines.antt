@@ -123,6 +123,23 @@ module _ (og : OrderedGraph) (file : CertFile) (tells : Tells og.g og.root og.w 
   abbrev c : Certificate
   c = file.cert
 
+  module _ (s t : ℕ) (s_within : s < n) (t_within : t < n) (two : s ≢ t) where
+    -- the common block
+    pub common_test : (k h : ℕ) (o : Option ℕ) → HaveInCommon og.w s t k h → o ≡ Some k → is_common_block c s t o ≡ true
+    common_test k h o (Peers a b d) is =
+        or_left _ _ (and_from _ _
+        (equal_test (block_of c s) (block_of c t) (og.w.block s) (og.w.block t) (block_is og file tells s s_within)
+        (block_is og file tells t t_within) (a ∙ sym b))
+        (equal_test o (block_of c s) k (og.w.block s) is (block_is og file tells s s_within) (sym a)))
+    common_test k h o (ToHead a b d) is =
+        or_right _ _ (or_left _ _ (and_from _ _
+        (equal_test (head_of c s) (Some t) (og.w.head s) t (head_is og file tells s s_within) refl b)
+        (equal_test o (block_of c s) k (og.w.block s) is (block_is og file tells s s_within) (sym a))))
+    common_test k h o (FromHead a b d) is =
+        or_right _ _ (or_right _ _ (and_from _ _
+        (equal_test (head_of c t) (Some s) (og.w.head t) s (head_is og file tells t t_within) refl b)
+        (equal_test o (block_of c t) k (og.w.block t) is (block_is og file tells t t_within) (sym a))))
+
   module _ (s t : ℕ) (s_within : s < n) (t_within : t < n) (two : s ≢ t) (row : Row) where
     -- Sole
     lone_passes : (m : ℕ) → (it : HasSoleLink og.g og.w m) → row.blue ≡ it.link → row.red ≡ row.blue
@@ -189,25 +206,10 @@ module _ (og : OrderedGraph) (file : CertFile) (tells : Tells og.g og.root og.w 
               (rw (ne_eqb t og.root other) (head_is og file tells t t_within))
         ])
 
-    -- the common block
-    common_test : (k h : ℕ) (o : Option ℕ) → HaveInCommon og.w s t k h → o ≡ Some k → is_common_block c s t o ≡ true
-    common_test k h o (Peers a b d) is =
-        or_left _ _ (and_from _ _
-        (equal_test (block_of c s) (block_of c t) (og.w.block s) (og.w.block t) (block_is og file tells s s_within)
-        (block_is og file tells t t_within) (a ∙ sym b))
-        (equal_test o (block_of c s) k (og.w.block s) is (block_is og file tells s s_within) (sym a)))
-    common_test k h o (ToHead a b d) is =
-        or_right _ _ (or_left _ _ (and_from _ _
-        (equal_test (head_of c s) (Some t) (og.w.head s) t (head_is og file tells s s_within) refl b)
-        (equal_test o (block_of c s) k (og.w.block s) is (block_is og file tells s s_within) (sym a))))
-    common_test k h o (FromHead a b d) is =
-        or_right _ _ (or_right _ _ (and_from _ _
-        (equal_test (head_of c t) (Some s) (og.w.head t) s (head_is og file tells t t_within) refl b)
-        (equal_test o (block_of c t) k (og.w.block t) is (block_is og file tells t t_within) (sym a))))
-
+    -- the blocks of both links
     link_in : (link : ℕ) → InCommon og s t link → is_common_block c s t (link_block c link) ≡ true
     link_in link it =
-        common_test it.block it.head (link_block c link) it.common
+        common_test s t s_within t_within two it.block it.head (link_block c link) it.common
         (link_block_is og file tells link it.within ∙ ap (λ (x : ℕ). Some x) it.in_block)
 
     both_in : InCommon og s t row.blue → InCommon og s t row.red → lies_in_block c s t row ≡ true
