@@ -2,6 +2,8 @@ pub mod BlocksHold
 pub mod CertSays
 pub mod Counting
 pub mod LinesHold
+pub mod OneHop
+pub mod OneRow
 pub mod OrderedGraphs
 pub mod OtherLines
 pub mod RowTags
