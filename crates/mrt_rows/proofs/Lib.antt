@@ -1,11 +1,14 @@
+pub mod Agreeing
 pub mod BlocksHold
 pub mod CertSays
 pub mod Counting
 pub mod LinesHold
+pub mod OneCert
 pub mod OneHop
 pub mod OneRow
 pub mod OrderedGraphs
 pub mod OtherLines
+pub mod RowPlaces
 pub mod RowTags
 pub mod RulesHold
 pub mod Ways

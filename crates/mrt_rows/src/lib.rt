@@ -3,4 +3,4 @@
 
 mod rows_law;
 
-pub use rows_law::tabled_certificates_are_accepted;
+pub use rows_law::{one_row_for_each, one_tabled_certificate, tabled_certificates_are_accepted};

@@ -1,17 +1,37 @@
 //! What holds of certificates whose rows are those of the table.
 
-ghost use Rattle.std.specs.Prelude.{◌≡◌, ℕ};
+ghost use Rattle.std.specs.Prelude.{◌≡◌, ◌≢◌, ◌<◌, ℕ, Option, length};
 ghost use Rattle.mrt_graph.specs.declared.cert.CertFile.{CertFile};
+ghost use Rattle.mrt_graph.specs.declared.cert.Row.{Row};
 ghost use Rattle.mrt_graph.specs.Accepted.{Accepted};
+ghost use Rattle.mrt_graph.specs.DirectedLists.{DirectedLists};
 ghost use Rattle.mrt_graph.specs.GraphInvariant.{IsTopology};
 ghost use Rattle.mrt_graph.specs.Topology.{Topology};
-ghost use Rattle.link_direction.specs.Directions.{Directions};
+ghost use Rattle.link_direction.specs.Directions.{Directions, Says};
 ghost use Rattle.link_direction.specs.OrderedGadag.{IsOrderedGadag};
 ghost use Rattle.mrt_rows.specs.CertOf.{Tells};
+ghost use Rattle.mrt_rows.specs.RowsOf.{HasRow};
 
 /// A law: where a file says of a graph what a GADAG with its order says, and its rows are those of the table, the
 /// fourteen rules hold of it.
 pub fn tabled_certificates_are_accepted()
     ensures { (g : Topology) (root : ℕ) (w : Directions) (file : CertFile) → IsTopology g
         → IsOrderedGadag g root w → Tells g root w file → Accepted g root file }
+{}
+
+/// A law: there is one row of a node for another one by the table; that of a carried row too, which the table says by
+/// another row.
+pub fn one_row_for_each()
+    ensures { (g : Topology) (root : ℕ) (w : Directions) (s : ℕ) (rows others : ℕ → Option Row)
+        → IsTopology g → IsOrderedGadag g root w → s < length g.ids
+        → ((t : ℕ) → t < length g.ids → s ≢ t → HasRow g root w s rows t)
+        → ((t : ℕ) → t < length g.ids → s ≢ t → HasRow g root w s others t)
+        → (t : ℕ) → t < length g.ids → s ≢ t → rows t ≡ others t }
+{}
+
+/// A law: one file tells of a graph what a GADAG with its order says.
+pub fn one_tabled_certificate()
+    ensures { (g : Topology) (root : ℕ) (d : DirectedLists) (w v : Directions) (file other : CertFile)
+        → IsTopology g → IsOrderedGadag g root w → IsOrderedGadag g root v → Says g d w → Says g d v
+        → Tells g root w file → Tells g root v other → file ≡ other }
 {}

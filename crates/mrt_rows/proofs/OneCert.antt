@@ -1,0 +1,92 @@
+-- There is one file that tells of a graph.
+use Rattle.std.proofs.Common.{◌≡◌, ◌≢◌, ◌∙◌, ◌<◌, ◌*◌, ◌-◌, ℕ, List, Option, Some, None, length, get_or, slice_get, refl, sym, ap, subst, arith}
+use Rattle.std.proofs.lemmas.List.{same_lists}
+use Rattle.std.proofs.lemmas.Option.{get_or_from_slice_get, same_Some, slice_get-get_or}
+use Rattle.mrt_graph.specs.declared.cert.CertFile.{CertFile}
+use Rattle.mrt_graph.specs.declared.cert.CertLink.{CertLink}
+use Rattle.mrt_graph.specs.declared.cert.CertNode.{CertNode}
+use Rattle.mrt_graph.specs.declared.cert.Row.{Row}
+use Rattle.mrt_graph.specs.Certificate.{Certificate, row_of}
+use Rattle.mrt_graph.specs.GraphInvariant.{IsTopology}
+use Rattle.mrt_graph.specs.DirectedLists.{DirectedLists}
+use Rattle.mrt_graph.specs.RowPlace.{place_of_row}
+use Rattle.mrt_graph.specs.Topology.{Topology}
+use Rattle.mrt_graph.proofs.ListTests.{there}
+use Rattle.link_direction.specs.Directions.{Directions, Says}
+use Rattle.link_direction.specs.OrderedGadag.{IsOrderedGadag}
+use Rattle.mrt_rows.specs.CertOf.{Tells, link_words, node_words}
+use Rattle.mrt_rows.proofs.Agreeing.{agree_back, both_say, tells_too}
+use Rattle.mrt_rows.proofs.OneRow.{one_row}
+use Rattle.mrt_rows.proofs.OrderedGraphs.{OrderedGraph}
+use Rattle.mrt_rows.proofs.RowPlaces.{placed, row_at}
+
+file_same : (a b : CertFile) → a.root ≡ b.root → a.cert.nodes ≡ b.cert.nodes → a.cert.links ≡ b.cert.links
+    → a.cert.rows ≡ b.cert.rows → a ≡ b
+file_same a b root nodes links rows = λ i. record {
+  root = root i;
+  cert = record { nodes = nodes i; links = links i; rows = rows i };
+}
+
+-- lists with one element at each place
+same_at : {X : Type 0} (xs ys : List X) (k : ℕ) (d x : X) → slice_get xs k ≡ Some x → slice_get ys k ≡ Some x
+    → get_or xs k d ≡ get_or ys k d
+same_at xs ys k d x one other = get_or_from_slice_get xs k x d one ∙ sym (get_or_from_slice_get ys k x d other)
+
+same_there : {X : Type 0} (xs ys : List X) (k : ℕ) (d : X) → k < length xs → slice_get xs k ≡ slice_get ys k
+    → get_or xs k d ≡ get_or ys k d
+same_there xs ys k d within same =
+    let x = there xs k within in same_at xs ys k d x.0 x.1 (sym same ∙ x.1)
+
+module _ (og : OrderedGraph) (file other : CertFile) (tells : Tells og.g og.root og.w file)
+    (other_tells : Tells og.g og.root og.w other) where
+  abbrev n : ℕ
+  n = length og.g.ids
+
+  nodes_same : file.cert.nodes ≡ other.cert.nodes
+  nodes_same = same_lists file.cert.nodes other.cert.nodes (tells.one_node_each ∙ sym other_tells.one_node_each)
+      (λ a d within.
+      let id = there og.g.ids a (omega (arith, within, tells.one_node_each)) in
+      same_at file.cert.nodes other.cert.nodes a d (node_words og.w a id.0) (tells.nodes a id.0 id.1)
+      (other_tells.nodes a id.0 id.1))
+
+  links_same : file.cert.links ≡ other.cert.links
+  links_same = same_lists file.cert.links other.cert.links (tells.one_link_each ∙ sym other_tells.one_link_each)
+      (λ e d within.
+      let link = there og.g.links e (omega (arith, within, tells.one_link_each)) in
+      same_at file.cert.links other.cert.links e d (link_words og.w e link.0) (tells.links e link.0 link.1)
+      (other_tells.links e link.0 link.1))
+
+  row_same : (k : ℕ) → k < n * (n - 1) → slice_get file.cert.rows k ≡ slice_get other.cert.rows k
+  row_same k within =
+      let at = placed n k within in
+      let s = at.source in
+      let t = at.target in
+      let one =
+      one_row og s at.source_within (row_of file.cert s) (row_of other.cert s)
+      (λ u u_within two. tells.rows s u at.source_within u_within two)
+      (λ u u_within two. other_tells.rows s u at.source_within u_within two) t at.target_within at.two in
+      subst (λ (x : ℕ). slice_get file.cert.rows x ≡ slice_get other.cert.rows x) at.place
+      (sym (row_at file.cert n s t tells.one_node_each at.source_within at.target_within at.two) ∙ one
+      ∙ row_at other.cert n s t other_tells.one_node_each at.source_within at.target_within at.two)
+
+  rows_same : file.cert.rows ≡ other.cert.rows
+  rows_same = same_lists file.cert.rows other.cert.rows (tells.row_count ∙ sym other_tells.row_count)
+      (λ k d within.
+      same_there file.cert.rows other.cert.rows k d within
+      (row_same k (subst (λ (x : ℕ). k < x) tells.row_count within)))
+
+  root_same : file.root ≡ other.root
+  root_same =
+      let id = there og.g.ids og.root og.ordered.root_within in
+      tells.root_number id.0 id.1 ∙ sym (other_tells.root_number id.0 id.1)
+
+  one_file : file ≡ other
+  one_file = file_same file other root_same nodes_same links_same rows_same
+
+-- also by two accounts of one GADAG with its order
+pub one_cert : (g : Topology) (root : ℕ) (d : DirectedLists) (w v : Directions) (file other : CertFile) → IsTopology g
+    → IsOrderedGadag g root w → IsOrderedGadag g root v → Says g d w → Says g d v → Tells g root w file → Tells g root v other → file ≡ other
+one_cert g root d w v file other kept ordered ordered' says says' tells tells' =
+    let og : OrderedGraph = record { g = g; root = root; w = w; kept = kept; ordered = ordered } in
+    one_file og file other tells
+    (tells_too g kept v w (both_say g d v w says' says) root other ordered'.heads.head_within tells')

@@ -1,0 +1,6 @@
+use Rattle.mrt_rows.proofs.OneRow.{one_row}
+use Rattle.mrt_rows.proofs.rows_law.one_row_for_each.Goals as goal
+
+pub returns : goal.returns
+returns c = λ g root w s rows others kept ordered s_within has other_has.
+    one_row (record { g = g; root = root; w = w; kept = kept; ordered = ordered }) s s_within rows others has other_has
