@@ -2,6 +2,7 @@ pub mod Agreeing
 pub mod BlocksHold
 pub mod CertSays
 pub mod Counting
+pub mod HeadWays
 pub mod LinesHold
 pub mod OneCert
 pub mod OneHop

@@ -225,17 +225,17 @@ module _ (og : OrderedGraph) (m : ℕ) (ring : Ring og m) where
     | inr home ↦ absurd (path.1 home.0)
   ]
 
-  -- between two nodes of the block, the far node being this one's way on
-  record Onward (s : ℕ) : Type 0 where
-    link : ℕ
-    to : ℕ
-    leads_on : leads og.g.links link s ≡ Some to
-    tail : og.w.tail link ≡ s
-    block : og.w.lies_in link ≡ og.w.block m
-    inside : Inside og m to
-    greater : og.w.order s < og.w.order to
+  -- a link of the block that leads from s, along its direction, to a greater node of it
+  pub record Onward (s : ℕ) : Type 0 where
+    pub link : ℕ
+    pub to : ℕ
+    pub leads_on : leads og.g.links link s ≡ Some to
+    pub tail : og.w.tail link ≡ s
+    pub block : og.w.lies_in link ≡ og.w.block m
+    pub inside : Inside og m to
+    pub greater : og.w.order s < og.w.order to
 
-  onward_of : (t : ℕ) → Inside og m t → t ≢ top → Onward t
+  pub onward_of : (t : ℕ) → Inside og m t → t ≢ top → Onward t
   onward_of t inside other =
       let left = ring.closed.left t inside.within inside.block other in
       let block : og.w.lies_in left.link ≡ og.w.block m = left.over.in_block ∙ inside.block in
