@@ -4,6 +4,7 @@ pub mod CertSays
 pub mod Counting
 pub mod HeadWays
 pub mod LinesHold
+pub mod NearRows
 pub mod OneCert
 pub mod OneHop
 pub mod OneRow
@@ -12,5 +13,6 @@ pub mod OtherLines
 pub mod RowPlaces
 pub mod RowTags
 pub mod RulesHold
+pub mod Tables
 pub mod Ways
 pub mod WaysBegun

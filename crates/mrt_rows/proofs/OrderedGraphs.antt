@@ -5,6 +5,7 @@ use Rattle.std.proofs.lemmas.Option.{slice_get_within, same_Some}
 use Rattle.std.specs.Option.{option_and_then}
 use Rattle.mrt_graph.specs.declared.link.End.{End}
 use Rattle.mrt_graph.specs.declared.link.Link.{Link}
+use Rattle.mrt_graph.specs.DirectedLists.{DirectedLists}
 use Rattle.mrt_graph.specs.GraphInvariant.{IsEnd, IsLink, IsTopology}
 use Rattle.mrt_graph.specs.Leads.{far_node, leads}
 use Rattle.mrt_graph.specs.Topology.{Topology}
@@ -17,6 +18,7 @@ use Rattle.link_direction.specs.Directions.{Directions}
 use Rattle.link_direction.specs.OrderedGadag.{IsOrderedGadag}
 use Rattle.inc_dec_spf.specs.declared.reach.Dir.{Dir}
 use Rattle.inc_dec_spf.specs.declared.reach.Dir.TheVariants.{Down, Up}
+use Rattle.inc_dec_spf.specs.HasDirections.{AreDirections}
 use Rattle.inc_dec_spf.specs.Path.{IsStep, LeadsOn}
 
 -- a graph, its root, and what a GADAG with its order says
@@ -26,6 +28,9 @@ pub record OrderedGraph : Type 0 where
   pub w : Directions
   pub kept : IsTopology g
   pub ordered : IsOrderedGadag g root w
+
+abbrev pub graph_of : (g : Topology) (root : ℕ) (w : Directions) (d : DirectedLists) → IsTopology g → AreDirections g d root w → OrderedGraph
+graph_of g root w d kept are = record { g = g; root = root; w = w; kept = kept; ordered = are.ordered }
 
 -- the numbers of a link and of its two nodes are in range, and the two differ
 pub record Within (g : Topology) (e u v : ℕ) : Type 0 where

@@ -68,6 +68,38 @@ sole_leads og m inside it =
         (lead_back og.g.links it.link (og.w.tail it.link) v onward
         ∙ ap (λ (x : ℕ). Some x) (sym b ∙ ap og.w.head same))
 
+-- the one link of the common block of s and t: it leads from s to t, and is sole
+pub record OneLinkBetween (og : OrderedGraph) (s t link : ℕ) : Type 0 where
+  pub leads_on : leads og.g.links link s ≡ Some t
+  pub sole : og.w.role link ≡ roles.Sole
+
+-- from the one node of the block
+between_of : (og : OrderedGraph) (m s t link : ℕ) → (it : HasSoleLink og.g og.w m) → link ≡ it.link
+    → leads og.g.links it.link s ≡ Some t → OneLinkBetween og s t link
+between_of og m s t link it over onward = record {
+  leads_on = subst (λ (e : ℕ). leads og.g.links e s ≡ Some t) (sym over) onward;
+  sole = ap og.w.role over ∙ it.sole;
+}
+
+pub one_link_between : (og : OrderedGraph) (s t k h link : ℕ) → s < length og.g.ids → t < length og.g.ids → s ≢ t
+    → HaveInCommon og.w s t k h → HasOneLink og.g og.w k link → OneLinkBetween og s t link
+one_link_between og s t k h link s_within t_within two (Peers a b c) one =
+    let other = not_root_of_peers og t s t_within s_within (λ same. two (sym same)) (b ∙ sym a) in
+    let it = sole_of og s link s_within other (subst (λ (x : ℕ). HasOneLink og.g og.w x link) (sym a) one) in
+    absurd (two (sym (it.no_other_node t t_within (b ∙ sym a))))
+one_link_between og s t k h link s_within t_within two (ToHead a b c) one =
+    let it =
+    sole_of og s link s_within (has_head og s t two b)
+    (subst (λ (x : ℕ). HasOneLink og.g og.w x link) (sym a) one) in
+    between_of og s s t link it (it.no_other_link link one.within (one.in_block ∙ sym a))
+    (sole_leads og s s_within it ∙ ap (λ (x : ℕ). Some x) b)
+one_link_between og s t k h link s_within t_within two (FromHead a b c) one =
+    let it =
+    sole_of og t link t_within (has_head og t s (λ same. two (sym same)) b)
+    (subst (λ (x : ℕ). HasOneLink og.g og.w x link) (sym a) one) in
+    between_of og t s t link it (it.no_other_link link one.within (one.in_block ∙ sym a))
+    (lead_back og.g.links it.link t s (sole_leads og t t_within it ∙ ap (λ (x : ℕ). Some x) b))
+
 -- a link that lies in the common block of s and t
 pub record InCommon (og : OrderedGraph) (s t link : ℕ) : Type 0 where
   pub block : ℕ
@@ -142,40 +174,17 @@ module _ (og : OrderedGraph) (file : CertFile) (tells : Tells og.g og.root og.w 
 
   module _ (s t : ℕ) (s_within : s < n) (t_within : t < n) (two : s ≢ t) (row : Row) where
     -- Sole
-    lone_passes : (m : ℕ) → (it : HasSoleLink og.g og.w m) → row.blue ≡ it.link → row.red ≡ row.blue
-        → leads og.g.links it.link s ≡ Some t → Passes og file tags.Sole s t row
-    lone_passes m it over red onward = record {
-      blue_to = t;
-      red_to = t;
-      blue_leads = subst (λ (e : ℕ). leads og.g.links e s ≡ Some t) (sym over) onward;
-      red_leads = subst (λ (e : ℕ). leads og.g.links e s ≡ Some t) (sym (red ∙ over)) onward;
-      holds = and_from _ _ (eq-eqb row.blue row.red (sym red)) (and_from _ _
-          (sole_test og file tells row.blue (subst (λ (e : ℕ). e < length og.g.links) (sym over) it.within)
-          (ap og.w.role over ∙ it.sole)) (eq-eqb t t refl));
-    }
-
     pub sole_passes : SoleLine og.g og.w s t row → Passes og file tags.Sole s t row
-    sole_passes line = go line.block line.head line.common line.one_link
-      where
-        go : (k h : ℕ) → HaveInCommon og.w s t k h → HasOneLink og.g og.w k row.blue → Passes og file tags.Sole s t row
-        go k h (Peers a b c) one =
-            let other =
-            not_root_of_peers og t s t_within s_within (λ same. two (sym same)) (b ∙ sym a) in
-            let it =
-            sole_of og s row.blue s_within other (subst (λ (x : ℕ). HasOneLink og.g og.w x row.blue) (sym a) one) in
-            absurd (two (sym (it.no_other_node t t_within (b ∙ sym a))))
-        go k h (ToHead a b c) one =
-            let it =
-            sole_of og s row.blue s_within (has_head og s t two b)
-            (subst (λ (x : ℕ). HasOneLink og.g og.w x row.blue) (sym a) one) in
-            lone_passes s it (it.no_other_link row.blue one.within (one.in_block ∙ sym a)) line.red
-            (sole_leads og s s_within it ∙ ap (λ (x : ℕ). Some x) b)
-        go k h (FromHead a b c) one =
-            let it =
-            sole_of og t row.blue t_within (has_head og t s (λ same. two (sym same)) b)
-            (subst (λ (x : ℕ). HasOneLink og.g og.w x row.blue) (sym a) one) in
-            lone_passes t it (it.no_other_link row.blue one.within (one.in_block ∙ sym a)) line.red
-            (lead_back og.g.links it.link t s (sole_leads og t t_within it ∙ ap (λ (x : ℕ). Some x) b))
+    sole_passes line =
+        let it = one_link_between og s t line.block line.head row.blue s_within t_within two line.common line.one_link in
+        record {
+          blue_to = t;
+          red_to = t;
+          blue_leads = it.leads_on;
+          red_leads = subst (λ (e : ℕ). leads og.g.links e s ≡ Some t) (sym line.red) it.leads_on;
+          holds = and_from _ _ (eq-eqb row.blue row.red (sym line.red)) (and_from _ _
+              (sole_test og file tells row.blue line.one_link.within it.sole) (eq-eqb t t refl));
+        }
 
     -- Carried
     unrelated : ((k h : ℕ) → ¬ HaveInCommon og.w s t k h) → are_unrelated c s t ≡ true

@@ -3,8 +3,8 @@ use Rattle.std.specs.Prelude.{◌≡◌, ◌≢◌, ◌==◌, ◌<◌, ◌+◌, 
 use Rattle.mrt_graph.specs.declared.cert.Row.{Row}
 use Rattle.mrt_graph.specs.DirectedLists.{DirectedLists}
 use Rattle.mrt_graph.specs.Topology.{Topology}
-use Rattle.link_direction.specs.Directions.{Directions, Says}
-use Rattle.link_direction.specs.OrderedGadag.{IsOrderedGadag}
+use Rattle.link_direction.specs.Directions.{Directions}
+use Rattle.inc_dec_spf.specs.HasDirections.{AreDirections}
 use Rattle.mrt_rows.specs.RowLines.{LineOf}
 
 -- among these rows of s there is one for t, and it is as the line of its tag says
@@ -22,8 +22,7 @@ pub record AreRowsOf (g : Topology) (root : ℕ) (w : Directions) (s : ℕ) (row
   pub one_each : length rows + 1 ≡ length g.ids
   pub each : (t : ℕ) → t < length g.ids → s ≢ t → HasRow g root w s (rows_for s rows) t
 
--- d is a GADAG with its order for this graph and root
-pub record AreDirections (g : Topology) (root : ℕ) (d : DirectedLists) : Type 0 where
+-- d says the directions of a GADAG of the graph from this root
+pub record HasDirectionsFrom (g : Topology) (root : ℕ) (d : DirectedLists) : Type 0 where
   pub words : Directions
-  pub says : Says g d words
-  pub ordered : IsOrderedGadag g root words
+  pub are : AreDirections g d root words

@@ -1,6 +1,9 @@
 //! The rows of every node for every other node (RFC 7811, section 5.7), and certificates made of them.
 #![tactic(auto)]
 
+mod by_order;
+mod near;
 mod rows_law;
+mod table;
 
 pub use rows_law::{one_row_for_each, one_tabled_certificate, tabled_certificates_are_accepted};

@@ -1,0 +1,39 @@
+-- A source, its hops, and the rows that it has for nodes of its blocks.
+use Rattle.std.specs.Prelude.{◌≡◌, ◌≢◌, ◌<◌, ℕ, List, Option, Some, None, length}
+use Rattle.mrt_graph.specs.declared.cert.Row.{Row}
+use Rattle.mrt_graph.specs.declared.cert.Tag.TheVariants.{Carried}
+use Rattle.mrt_graph.specs.DirectedLists.{DirectedLists}
+use Rattle.mrt_graph.specs.GraphInvariant.{IsTopology}
+use Rattle.mrt_graph.specs.Topology.{Topology}
+use Rattle.link_direction.specs.BlockOfTwo.{HaveInCommon}
+use Rattle.link_direction.specs.Directions.{Directions}
+use Rattle.inc_dec_spf.specs.declared.reach.Dir.TheVariants.{Down, Up}
+use Rattle.inc_dec_spf.specs.declared.reach.Hop.{Hop}
+use Rattle.inc_dec_spf.specs.HasDirections.{AreDirections, HasDirections}
+use Rattle.inc_dec_spf.specs.LeastPath.{IsReach}
+use Rattle.mrt_rows.specs.RowLines.{HasOneLink, LineOf}
+
+-- s is a node of a graph with its directions, and there are hops up and down for each node
+pub record IsSource (g : Topology) (d : DirectedLists) (s : ℕ) (up down : List (Option Hop)) : Type 0 where
+  pub kept : IsTopology g
+  pub directed : HasDirections g d
+  pub within : s < length g.ids
+  pub one_up_each : length up ≡ length g.ids
+  pub one_down_each : length down ≡ length g.ids
+
+-- these are the directions from this root, and the hops of s by them
+pub record AreHops (g : Topology) (d : DirectedLists) (root : ℕ) (w : Directions) (s : ℕ)
+    (up down : List (Option Hop)) : Type 0 where
+  pub are : AreDirections g d root w
+  pub goes_up : IsReach g w Up s up
+  pub goes_down : IsReach g w Down s down
+
+-- the common block of s and t, if they have one, has more than one link
+abbrev pub NoneOfOneLink : Topology → Directions → ℕ → ℕ → Type 0
+NoneOfOneLink g w s t = (k h link : ℕ) → HaveInCommon w s t k h → ¬ HasOneLink g w k link
+
+-- the row of s for t, where they have a block in common
+pub data IsNear (g : Topology) (root : ℕ) (w : Directions) (s t : ℕ) : Option Row → Type 0 where
+  Near : (row : Row) → row.tag ≢ Carried → ((rows : ℕ → Option Row) → LineOf row.tag g root w s rows t row)
+      → IsNear g root w s t (Some row)
+  Far : ((k h : ℕ) → ¬ HaveInCommon w s t k h) → IsNear g root w s t None

@@ -1,0 +1,139 @@
+//! The rows of a source by destination.
+
+ghost use Rattle.std.specs.Prelude.{◌≡◌, ◌≢◌, ◌<◌, ◌↔◌, ℕ, IsTrue, None, length};
+ghost use Rattle.mrt_graph.specs.declared.cert.Role.TheVariants.{Sole};
+ghost use Rattle.link_direction.specs.Directions.{Directions};
+ghost use Rattle.inc_dec_spf.specs.HasDirections.{AreDirections, HasDirections};
+ghost use Rattle.mrt_rows.specs.Source.{AreHops, IsSource};
+ghost use Rattle.mrt_rows.specs.Table.{HasSoleRows, IsIn, IsReady, IsTable, StayIn, carried, in_table};
+ghost use Rattle.inc_dec_spf.specs.declared.reach.Dir.TheVariants.{Up};
+ghost use Rattle.inc_dec_spf.specs.Sweep.{AreTurns};
+ghost use Rattle.mrt_graph.specs.GraphInvariant.{IsTopology};
+
+use crate::near::near_row;
+use inc_dec_spf::Reach;
+use mrt_graph::{Directed, Graph, NodeNo, Role, Row, Tag};
+
+/// Fills an empty table with the rows of `s` for all other nodes.
+///
+/// A row may be carried from the row for its destination's head, which has a lower order; and the row for the root from
+/// that for the head of `s`, which is put first.
+pub fn fill(
+    g: &Graph,
+    root: NodeNo,
+    d: &Directed,
+    nodes: &[NodeNo],
+    s: NodeNo,
+    up: &Reach,
+    down: &Reach,
+    table: &mut Vec<Option<Row>>,
+)
+    requires source { IsSource g.now d.now s up.now down.now }
+    requires nodes { (from : ℕ) (w : Directions) → AreDirections g.now d.now from w
+        → AreTurns g.now w Up nodes.now }
+    requires one_each { length table.old.items ≡ length g.now.ids }
+    requires empty { (t : ℕ) → in_table table.old.items t ≡ None }
+    ensures one_each { length table.new.items ≡ length g.now.ids }
+    ensures table { (w : Directions) → AreHops g.now d.now root w s up.now down.now
+        → IsTable g.now root w s table.new.items }
+    ensures all { (w : Directions) → AreHops g.now d.now root w s up.now down.now
+        → (t : ℕ) → t < length g.now.ids → s ≢ t → IsIn table.new.items t }
+{
+    put_sole_rows(g, d, s, table);
+    put_row(g, root, d, s, d.place(s).head, up, down, table);
+    for t in nodes {
+        put_row(g, root, d, s, *t, up, down, table);
+    }
+}
+
+/// Puts the rows over the sole links of `s`.
+fn put_sole_rows(g: &Graph, d: &Directed, s: NodeNo, table: &mut Vec<Option<Row>>)
+    requires kept { IsTopology g.now }
+    requires directed { HasDirections g.now d.now }
+    requires source { s < length g.now.ids }
+    requires one_each { length table.old.items ≡ length g.now.ids }
+    requires empty { (t : ℕ) → in_table table.old.items t ≡ None }
+    ensures one_each { length table.new.items ≡ length g.now.ids }
+    ensures table { (root : ℕ) (w : Directions) → AreDirections g.now d.now root w
+        → IsTable g.now root w s table.new.items }
+    ensures soles { (root : ℕ) (w : Directions) → AreDirections g.now d.now root w
+        → HasSoleRows g.now w s table.new.items }
+{
+    for end in g.ends(s) {
+        if is_sole(d.mark(end.link).role) {
+            table[end.to.get() as usize] = Some(Row {
+                blue: end.link,
+                red: end.link,
+                tag: Tag::Sole,
+            });
+        }
+    }
+}
+
+fn is_sole(role: Role) -> bool
+    ensures { IsTrue result ↔ (role ≡ Sole) }
+{
+    matches!(role, Role::Sole)
+}
+
+/// Puts the row for `t`, unless it is there, or `t` is the source.
+fn put_row(
+    g: &Graph,
+    root: NodeNo,
+    d: &Directed,
+    s: NodeNo,
+    t: NodeNo,
+    up: &Reach,
+    down: &Reach,
+    table: &mut Vec<Option<Row>>,
+)
+    requires source { IsSource g.now d.now s up.now down.now }
+    requires target { t < length g.now.ids }
+    requires one_each { length table.old.items ≡ length g.now.ids }
+    ensures one_each { length table.new.items ≡ length g.now.ids }
+    ensures stay { StayIn table.old.items table.new.items }
+    ensures table { (w : Directions) → AreHops g.now d.now root w s up.now down.now
+        → HasSoleRows g.now w s table.old.items → IsTable g.now root w s table.old.items
+        → IsTable g.now root w s table.new.items }
+    ensures put { (w : Directions) → AreHops g.now d.now root w s up.now down.now
+        → HasSoleRows g.now w s table.old.items → IsReady root w s t table.old.items → s ≢ t
+        → IsIn table.new.items t }
+{
+    let place = t.get() as usize;
+    if t == s || table[place].is_some() {
+        return;
+    }
+    let near = near_row(g, d, s, t, up, down);
+    table[place] = match near {
+        Some(row) => Some(row),
+        None => carried_row(table, carrier(g, root, d, s, t)),
+    };
+}
+
+/// The node for which `s` has the links that it has for `t`, where they have no block in common.
+fn carrier(g: &Graph, root: NodeNo, d: &Directed, s: NodeNo, t: NodeNo) -> NodeNo
+    requires directed { HasDirections g.now d.now }
+    requires source { s < length g.now.ids }
+    requires target { t < length g.now.ids }
+    ensures other { (from : ℕ) (w : Directions) → AreDirections g.now d.now from w → t ≢ root
+        → result ≡ w.head t }
+    ensures at_root { (from : ℕ) (w : Directions) → AreDirections g.now d.now from w → t ≡ root
+        → result ≡ w.head s }
+    ensures within { result < length g.now.ids }
+{
+    let headed = if t == root { s } else { t };
+    d.place(headed).head
+}
+
+/// The row of the table for that node, as a carried one.
+fn carried_row(table: &[Option<Row>], from: NodeNo) -> Option<Row>
+    requires { from < length table.now }
+    ensures { result ≡ carried (in_table table.now from) }
+{
+    let row = table[from.get() as usize]?;
+    Some(Row {
+        blue: row.blue,
+        red: row.red,
+        tag: Tag::Carried,
+    })
+}
