@@ -13,6 +13,7 @@ pub mod OtherLines
 pub mod RowPlaces
 pub mod RowTags
 pub mod RulesHold
+pub mod SoleRows
 pub mod Tables
 pub mod Ways
 pub mod WaysBegun

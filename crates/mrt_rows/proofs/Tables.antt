@@ -1,8 +1,8 @@
 -- Tables of rows: one more row put in.
-use Rattle.std.proofs.Common.{◌≡◌, ◌≢◌, ◌⊎◌, ◌∙◌, ◌<◌, ◌≤◌, ℕ, List, Option, Some, None, length, set, slice_get, refl, sym, ap, subst, inl, inr, arith}
-use Rattle.std.proofs.lemmas.Bool.{cases_eq}
-use Rattle.std.proofs.lemmas.Option.{same_Some}
-use Rattle.std.specs.Option.{option_and_then}
+use Rattle.std.proofs.Common.{◌≡◌, ◌≢◌, ◌⊎◌, ◌∙◌, ◌<◌, ◌≤◌, ℕ, List, Option, Some, None, true, false, get_or, length, set, slice_get, refl, sym, ap, subst, inl, inr, arith}
+use Rattle.std.proofs.lemmas.Bool.{cases_eq, false≢true, true≢false}
+use Rattle.std.proofs.lemmas.Option.{same_Some, slice_get_read}
+use Rattle.std.specs.Option.{is_some, option_and_then}
 use Rattle.mrt_graph.specs.declared.cert.Row.{Row}
 use Rattle.mrt_graph.specs.declared.cert.Tag.{Tag}
 use Rattle.mrt_graph.specs.declared.cert.Tag.TheVariants as tags
@@ -12,7 +12,7 @@ use Rattle.link_direction.specs.BlockOfTwo.{HaveInCommon}
 use Rattle.link_direction.specs.Directions.{Directions}
 use Rattle.mrt_rows.specs.RowLines.{CarriedLine, HasLinksFor, HasOneLink, LineOf}
 use Rattle.mrt_rows.specs.Source.{Far, IsNear, Near, NoneOfOneLink}
-use Rattle.mrt_rows.specs.Table.{HasSoleRows, IsIn, IsReady, IsTable, StayIn, carried, in_table}
+use Rattle.mrt_rows.specs.Table.{HasSoleRows, IsIn, IsReady, IsRowFor, IsTable, StayIn, carried, in_table}
 
 pub in_set_same : (table : List (Option Row)) (i : ℕ) (o : Option Row) → i < length table → in_table (set table i o) i ≡ o
 in_set_same table i o within = ap (λ (x : Option (Option Row)). option_and_then (λ row. row) x) (set_there table i o within)
@@ -20,6 +20,32 @@ in_set_same table i o within = ap (λ (x : Option (Option Row)). option_and_then
 pub in_set_other : (table : List (Option Row)) (i t : ℕ) (o : Option Row) → t ≢ i → in_table (set table i o) t ≡ in_table table t
 in_set_other table i t o other =
     ap (λ (x : Option (Option Row)). option_and_then (λ row. row) x) (set_elsewhere table i t o other)
+
+-- what was read at a place, and is no row
+none_is : (o : Option Row) → is_some o ≡ false → o ≡ None
+none_is (Some row) fails = absurd (true≢false fails)
+none_is None fails = refl
+
+pub none_there : (table : List (Option Row)) (i t : ℕ) (o : Option Row) → i ≡ t → t < length table → o ≡ get_or table i o
+    → is_some o ≡ false → in_table table t ≡ None
+none_there table i t o same within read fails =
+    ap (λ (x : Option (Option Row)). option_and_then (λ row. row) x)
+    (slice_get_read table (length table) t o refl within (subst (λ (j : ℕ). o ≡ get_or table j o) same read))
+    ∙ none_is o fails
+
+some_is : (o : Option Row) → is_some o ≡ true → (row : Row) × (o ≡ Some row)
+some_is (Some row) passes = (row, refl)
+some_is None passes = absurd (false≢true passes)
+
+pub some_there : (table : List (Option Row)) (i t : ℕ) (o : Option Row) → i ≡ t → t < length table → o ≡ get_or table i o
+    → is_some o ≡ true → IsIn table t
+some_there table i t o same within read passes =
+    let row = some_is o passes in
+    record {
+      row = row.0;
+      is = ap (λ (x : Option (Option Row)). option_and_then (λ row. row) x)
+          (slice_get_read table (length table) t o refl within (subst (λ (j : ℕ). o ≡ get_or table j o) same read)) ∙ row.1;
+    }
 
 some_or_none : (a : Option Row) (row : Row) → a ≡ None → a ≡ Some row → ⊥
 some_or_none a row none some = absurd (cc (none, some))
@@ -51,24 +77,26 @@ line_kept tags.Carried g root w s rows after t row stay line = record {
   to_root = λ at_root. links_kept rows after (w.head s) row stay (line.to_root at_root);
 }
 
--- the near row, or else the carried one
-abbrev pub near_or : Option Row → Option Row → Option Row
-near_or (Some row) other = Some row
-near_or None other = other
-
 -- the node from which the row for t is carried
 pub record IsCarrier (root : ℕ) (w : Directions) (s t from : ℕ) : Type 0 where
   pub to_other : t ≢ root → from ≡ w.head t
   pub to_root : t ≡ root → from ≡ w.head s
 
-module _ (g : Topology) (root : ℕ) (w : Directions) (s t : ℕ) (table : List (Option Row)) (none : in_table table t ≡ None)
-    (from : ℕ) (carrier : IsCarrier root w s t from) (two : s ≢ t) (within : t < length table) where
-  -- the new row is as its line says
-  carried_line : (o : Option Row) (rows : ℕ → Option Row) (row : Row) → ((k h : ℕ) → ¬ HaveInCommon w s t k h)
+module _ (g : Topology) (root : ℕ) (w : Directions) (s t : ℕ) (table : List (Option Row)) where
+  -- a near row is the row
+  pub near_is : (row : Row) → IsNear g root w s t (Some row) → IsRowFor g root w s t table (Some row)
+  near_is row (Near row' not_carried line) = record {
+    line = λ rows other stay made. subst (λ (r : Row). LineOf r.tag g root w s rows t r) (same_Some row other made) (line rows);
+    there = λ ready. (row, refl);
+  }
+
+  -- and where there is none, the carried one
+  carried_line : (from : ℕ) (o : Option Row) (rows : ℕ → Option Row) (row : Row) → IsCarrier root w s t from
+      → ((k h : ℕ) → ¬ HaveInCommon w s t k h)
       → in_table table from ≡ o → ((u : ℕ) (other : Row) → in_table table u ≡ Some other → rows u ≡ Some other)
       → carried o ≡ Some row → LineOf row.tag g root w s rows t row
-  carried_line None rows row apart is stay made = absurd (cc)
-  carried_line (Some other) rows row apart is stay made =
+  carried_line from None rows row carrier apart is stay made = absurd (cc)
+  carried_line from (Some other) rows row carrier apart is stay made =
       let same : record { blue = other.blue; red = other.red; tag = tags.Carried } ≡ row = same_Some _ row made in
       subst (λ (r : Row). LineOf r.tag g root w s rows t r) same (record {
         apart = apart;
@@ -86,47 +114,43 @@ module _ (g : Topology) (root : ℕ) (w : Directions) (s t : ℕ) (table : List 
         };
       })
 
-  new_line : (near : Option Row) (rows : ℕ → Option Row) (row : Row) → IsNear g root w s t near
-      → ((u : ℕ) (other : Row) → in_table table u ≡ Some other → rows u ≡ Some other)
-      → near_or near (carried (in_table table from)) ≡ Some row → LineOf row.tag g root w s rows t row
-  new_line (Some other) rows row (Near other' not_carried line) stay made =
-      subst (λ (r : Row). LineOf r.tag g root w s rows t r) (same_Some other row made) (line rows)
-  new_line None rows row (Far apart) stay made = carried_line (in_table table from) rows row apart refl stay made
+  carried_from : (from : ℕ) → IsCarrier root w s t from → ((k h : ℕ) → ¬ HaveInCommon w s t k h) → IsReady root w s t table
+      → IsIn table from
+  carried_from from carrier apart ready = elim (cases_eq t root) [
+    | inl at_root ↦ subst (λ (x : ℕ). IsIn table x) (sym (carrier.to_root at_root)) (ready.to_root at_root apart)
+    | inr other ↦ subst (λ (x : ℕ). IsIn table x) (sym (carrier.to_other other)) (ready.to_other other apart)
+  ]
+
+  pub carried_is : (from : ℕ) → IsCarrier root w s t from → IsNear g root w s t None
+      → IsRowFor g root w s t table (carried (in_table table from))
+  carried_is from carrier (Far apart) = record {
+    line = λ rows row stay made. carried_line from (in_table table from) rows row carrier apart refl stay made;
+    there = λ ready.
+        let there = carried_from from carrier apart ready in
+        (record { blue = there.row.blue; red = there.row.red; tag = tags.Carried }, ap carried there.is);
+  }
 
   -- the table is one with the new row
-  pub put_kept : (near : Option Row) → IsNear g root w s t near → IsTable g root w s table
-      → IsTable g root w s (set table t (near_or near (carried (in_table table from))))
-  put_kept near is was =
-      let new = near_or near (carried (in_table table from)) in
-      record {
-        own = in_set_other table t s new two ∙ was.own;
-        lines = λ u row at. elim (cases_eq u t) [
-          | inl same ↦
-              let made : new ≡ Some row = sym (in_set_same table t new within) ∙ subst (λ (x : ℕ). in_table (set table t new) x ≡ Some row) same at in
-              subst (λ (x : ℕ). LineOf row.tag g root w s (in_table (set table t new)) x row) (sym same)
-              (new_line near (in_table (set table t new)) row is (stays_set table t new none) made)
-          | inr other ↦
-              line_kept row.tag g root w s (in_table table) (in_table (set table t new)) u row (stays_set table t new none)
-              (was.lines u row (sym (in_set_other table t u new other) ∙ at))
-        ];
-      }
+  module _ (none : in_table table t ≡ None) (two : s ≢ t) (within : t < length table) (found : Option Row)
+      (is : IsRowFor g root w s t table found) where
+    pub put_kept : IsTable g root w s table → IsTable g root w s (set table t found)
+    put_kept was = record {
+      own = in_set_other table t s found two ∙ was.own;
+      lines = λ u row at. elim (cases_eq u t) [
+        | inl same ↦
+            let made : found ≡ Some row =
+            sym (in_set_same table t found within) ∙ subst (λ (x : ℕ). in_table (set table t found) x ≡ Some row) same at in
+            subst (λ (x : ℕ). LineOf row.tag g root w s (in_table (set table t found)) x row) (sym same)
+            (is.line (in_table (set table t found)) row (stays_set table t found none) made)
+        | inr other ↦
+            line_kept row.tag g root w s (in_table table) (in_table (set table t found)) u row (stays_set table t found none)
+            (was.lines u row (sym (in_set_other table t u found other) ∙ at))
+      ];
+    }
 
-  -- and has it, where the row that it may be carried from is there
-  new_in : (near : Option Row) → IsNear g root w s t near → IsReady root w s t table
-      → (row : Row) × (near_or near (carried (in_table table from)) ≡ Some row)
-  new_in (Some row) (Near row' not_carried line) ready = (row, refl)
-  new_in None (Far apart) ready =
-      let there : IsIn table from = elim (cases_eq t root) [
-        | inl at_root ↦ subst (λ (x : ℕ). IsIn table x) (sym (carrier.to_root at_root)) (ready.to_root at_root apart)
-        | inr other ↦ subst (λ (x : ℕ). IsIn table x) (sym (carrier.to_other other)) (ready.to_other other apart)
-      ] in
-      (record { blue = there.row.blue; red = there.row.red; tag = tags.Carried }, ap carried there.is)
-
-  pub put_in : (near : Option Row) → IsNear g root w s t near → IsReady root w s t table
-      → IsIn (set table t (near_or near (carried (in_table table from)))) t
-  put_in near is ready =
-      let new = new_in near is ready in
-      record { row = new.0; is = in_set_same table t (near_or near (carried (in_table table from))) within ∙ new.1 }
+    -- and has it, where the row that it may be carried from is there
+    pub put_in : IsReady root w s t table → IsIn (set table t found) t
+    put_in ready = let new = is.there ready in record { row = new.0; is = in_set_same table t found within ∙ new.1 }
 
 -- a block with one link would have its row in the table
 pub none_of_one : (g : Topology) (w : Directions) (s t : ℕ) (table : List (Option Row)) → HasSoleRows g w s table

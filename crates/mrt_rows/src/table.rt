@@ -4,8 +4,8 @@ ghost use Rattle.std.specs.Prelude.{◌≡◌, ◌≢◌, ◌<◌, ◌↔◌, �
 ghost use Rattle.mrt_graph.specs.declared.cert.Role.TheVariants.{Sole};
 ghost use Rattle.link_direction.specs.Directions.{Directions};
 ghost use Rattle.inc_dec_spf.specs.HasDirections.{AreDirections, HasDirections};
-ghost use Rattle.mrt_rows.specs.Source.{AreHops, IsSource};
-ghost use Rattle.mrt_rows.specs.Table.{HasSoleRows, IsIn, IsReady, IsTable, StayIn, carried, in_table};
+ghost use Rattle.mrt_rows.specs.Source.{AreHops, IsSource, NoneOfOneLink};
+ghost use Rattle.mrt_rows.specs.Table.{HasSoleRows, IsIn, IsReady, IsRowFor, IsTable, StayIn, carried, in_table};
 ghost use Rattle.inc_dec_spf.specs.declared.reach.Dir.TheVariants.{Up};
 ghost use Rattle.inc_dec_spf.specs.Sweep.{AreTurns};
 ghost use Rattle.mrt_graph.specs.GraphInvariant.{IsTopology};
@@ -99,15 +99,38 @@ fn put_row(
         → HasSoleRows g.now w s table.old.items → IsReady root w s t table.old.items → s ≢ t
         → IsIn table.new.items t }
 {
-    let place = t.get() as usize;
-    if t == s || table[place].is_some() {
+    if t == s {
         return;
     }
-    let near = near_row(g, d, s, t, up, down);
-    table[place] = match near {
-        Some(row) => Some(row),
-        None => carried_row(table, carrier(g, root, d, s, t)),
-    };
+    let place = t.get() as usize;
+    if table[place].is_some() {
+        return;
+    }
+    let row = row_for(g, root, d, s, t, up, down, table);
+    table[place] = row;
+}
+
+/// The row for `t`, which may be carried from a row of the table.
+fn row_for(
+    g: &Graph,
+    root: NodeNo,
+    d: &Directed,
+    s: NodeNo,
+    t: NodeNo,
+    up: &Reach,
+    down: &Reach,
+    table: &[Option<Row>],
+) -> Option<Row>
+    requires source { IsSource g.now d.now s up.now down.now }
+    requires target { t < length g.now.ids }
+    requires one_each { length table.now ≡ length g.now.ids }
+    ensures { (w : Directions) → AreHops g.now d.now root w s up.now down.now → s ≢ t
+        → NoneOfOneLink g.now w s t → IsRowFor g.now root w s t table.now result }
+{
+    if let Some(row) = near_row(g, d, s, t, up, down) {
+        return Some(row);
+    }
+    carried_row(table, carrier(g, root, d, s, t))
 }
 
 /// The node for which `s` has the links that it has for `t`, where they have no block in common.
