@@ -2,6 +2,7 @@ pub mod Agreeing
 pub mod BlocksHold
 pub mod CertSays
 pub mod Counting
+pub mod Filling
 pub mod HeadWays
 pub mod LinesHold
 pub mod NearRows
@@ -14,6 +15,7 @@ pub mod RowPlaces
 pub mod RowTags
 pub mod RulesHold
 pub mod SoleRows
+pub mod TableRows
 pub mod Tables
 pub mod Ways
 pub mod WaysBegun

@@ -3,7 +3,9 @@
 
 mod by_order;
 mod near;
+mod of_source;
 mod rows_law;
 mod table;
 
+pub use of_source::rows_of;
 pub use rows_law::{one_row_for_each, one_tabled_certificate, tabled_certificates_are_accepted};
