@@ -1,17 +1,33 @@
 -- The rows of a table, by ascending destination.
-use Rattle.std.proofs.Common.{◌≡◌, ◌≢◌, ◌∙◌, ◌<◌, ◌≤◌, ◌+◌, ◌++◌, ◌-◌, ◌==◌, ℕ, zero, suc, List, [], ◌∷◌, Option, Some, None, drop, get_or, length, nat_lt, slice_get, if◌then◌else◌, refl, sym, ap, subst, inl, inr, arith, append_assoc, length-append}
+use Rattle.std.proofs.Common.{◌≡◌, ◌≢◌, ◌∙◌, ◌<◌, ◌≤◌, ◌+◌, ◌++◌, ◌-◌, ◌==◌, ℕ, zero, suc, List, [], ◌∷◌, Option, Some, None, drop, get_or, length, nat_lt, replicate, slice_get, if◌then◌else◌, refl, sym, ap, subst, inl, inr, arith, append-nil, append_assoc, length-append}
 use Rattle.std.proofs.lemmas.Bool.{cases_eq, cases_lt, le-ltb, lt-ltb, ne_eqb, eq-eqb}
+use Rattle.std.proofs.lemmas.Option.{slice_get_within}
 use Rattle.std.specs.Option.{option_and_then}
 use Rattle.mrt_graph.specs.declared.cert.Row.{Row}
-use Rattle.mrt_rows.specs.RowsOf.{rows_for}
-use Rattle.mrt_rows.specs.Table.{IsIn, in_table, rows_in}
+use Rattle.mrt_graph.specs.Topology.{Topology}
+use Rattle.link_direction.specs.Directions.{Directions}
+use Rattle.mrt_rows.specs.RowsOf.{AreRowsOf, rows_for}
+use Rattle.mrt_rows.specs.Table.{IsIn, IsTable, in_table, rows_in}
+use Rattle.mrt_rows.proofs.Tables.{line_kept}
 
 -- what is left of a table from a place on
+left_from : (table : List (Option Row)) (i : ℕ) (o : Option Row) → i < length table → o ≡ get_or table i o
+    → drop i table ≡ o ∷ drop (suc i) table
+left_from [] i o within is = absurd (omega (arith, within))
+left_from (x ∷ table) zero o within is = ap (λ (y : Option Row). y ∷ table) (sym is)
+left_from (x ∷ table) (suc i) o within is = left_from table i o (omega (arith, within)) is
+
 pub left_at : (table : List (Option Row)) (i : ℕ) (o : Option Row) → i < length table → o ≡ get_or table i o
     → drop i table ≡ o ∷ drop (i + 1) table
-left_at [] i o within is = absurd (omega (arith, within))
-left_at (x ∷ table) zero o within is = ap (λ (y : Option Row). y ∷ table) (sym is)
-left_at (x ∷ table) (suc i) o within is = left_at table i o (omega (arith, within)) is
+left_at table i o within is =
+    let next : suc i ≡ i + 1 = omega arith in
+    left_from table i o within is ∙ ap (λ (k : ℕ). o ∷ drop k table) next
+
+-- an empty table
+pub none_in : (n t : ℕ) → in_table (replicate n None) t ≡ None
+none_in zero t = refl
+none_in (suc n) zero = refl
+none_in (suc n) (suc t) = none_in n t
 
 -- a row more
 pub row_taken : (rows : List Row) (table : List (Option Row)) (i : ℕ) (row : Row) (all : List Row) → i < length table
@@ -25,6 +41,33 @@ pub none_taken : (rows : List Row) (table : List (Option Row)) (i : ℕ) (all : 
     → None ≡ get_or table i None → rows ++ rows_in (drop i table) ≡ all → rows ++ rows_in (drop (i + 1) table) ≡ all
 none_taken rows table i all within is so_far =
     ap (λ (xs : List (Option Row)). rows ++ rows_in xs) (sym (left_at table i None within is)) ∙ so_far
+
+-- there is room for the row
+pub room_for : (rows : List Row) (table : List (Option Row)) (i : ℕ) (row : Row) (before : List Row) → i < length table
+    → Some row ≡ get_or table i (Some row) → rows ++ rows_in (drop i table) ≡ before ++ rows_in table
+    → length rows < length before + length (rows_in table)
+room_for rows table i row before within is so_far =
+    let left : length (rows_in (drop i table)) ≡ length (rows_in (drop (i + 1) table)) + 1 =
+    ap (λ (xs : List (Option Row)). length (rows_in xs)) (left_at table i (Some row) within is) ∙ omega arith in
+    omega (
+      arith,
+      left,
+      length-append rows (rows_in (drop i table)),
+      length-append before (rows_in table),
+      ap (λ (xs : List Row). length xs) so_far,
+    )
+
+-- nothing is left
+none_left : (table : List (Option Row)) (i : ℕ) → length table ≤ i → drop i table ≡ []
+none_left [] zero all = refl
+none_left [] (suc i) all = refl
+none_left (x ∷ table) zero all = absurd (omega (arith, all))
+none_left (x ∷ table) (suc i) all = none_left table i (omega (arith, all))
+
+pub all_taken : (rows : List Row) (table : List (Option Row)) (i : ℕ) (all : List Row) → length table ≤ i
+    → rows ++ rows_in (drop i table) ≡ all → rows ≡ all
+all_taken rows table i all past so_far =
+    sym (append-nil rows) ∙ ap (λ (xs : List (Option Row)). rows ++ rows_in xs) (sym (none_left table i past)) ∙ so_far
 
 -- a table with a row at each place
 full_count : (table : List (Option Row)) → ((t : ℕ) → t < length table → IsIn table t) → length (rows_in table) ≡ length table
@@ -112,3 +155,30 @@ found_at s t table full within two = elim (cases_lt t s) [
       rw (ne_eqb t s (λ same. two (sym same)), le-ltb t s above)
       (later_at s t table full (omega (arith, above, two)) within)
 ]
+
+-- the rows of a whole table, as its lines say
+pub rows_of_table : (g : Topology) (root : ℕ) (w : Directions) (s : ℕ) (table : List (Option Row)) → IsTable g root w s table
+    → IsFull s table → length table ≡ length g.ids → AreRowsOf g root w s (rows_in table)
+rows_of_table g root w s table was full one_each = record {
+  one_each = one_less s table full ∙ one_each;
+  each = λ t t_within two.
+      let within : t < length table = omega (arith, t_within, one_each) in
+      let it = full.each t within two in
+      record {
+        row = it.row;
+        is = found_at s t table full within two ∙ it.is;
+        line = line_kept it.row.tag g root w s (in_table table) (rows_for s (rows_in table)) t it.row
+            (λ u other is. found_at s u table full (in_range u other is) (elsewhere u other is) ∙ is) (was.lines t it.row it.is);
+      };
+}
+  where
+    in_range : (u : ℕ) (other : Row) → in_table table u ≡ Some other → u < length table
+    in_range u other is = go (slice_get table u) refl is
+      where
+        go : (o : Option (Option Row)) → slice_get table u ≡ o → option_and_then (λ row. row) o ≡ Some other → u < length table
+        go None found is = cc
+        go (Some o) found is = slice_get_within table u o found
+
+    elsewhere : (u : ℕ) (other : Row) → in_table table u ≡ Some other → s ≢ u
+    elsewhere u other is = λ same.
+        let own : in_table table u ≡ None = subst (λ (x : ℕ). in_table table x ≡ None) same full.own in absurd (cc (own, is))

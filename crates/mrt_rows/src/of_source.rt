@@ -50,6 +50,7 @@ pub fn put_rows(
     table: &mut Vec<Option<Row>>,
     rows: &mut Vec<Row>,
 ) -> Result<(), NoMemory>
+    requires kept { IsTopology g.now }
     requires directed { HasDirectionsFrom g.now root d.now }
     requires nodes { (from : ℕ) (w : Directions) → AreDirections g.now d.now from w
         → AreTurns g.now w Up nodes.now }
