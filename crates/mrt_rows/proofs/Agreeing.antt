@@ -232,11 +232,17 @@ module _ (g : Topology) (kept : IsTopology g) (w v : Directions) (agree : Agree 
       → Tells g root v file
   tells_too root file heads tells = record {
     root_number = tells.root_number;
-    one_node_each = tells.one_node_each;
-    one_link_each = tells.one_link_each;
+    nodes = record {
+      one_each = tells.nodes.one_each;
+      each = λ a id is.
+          tells.nodes.each a id is ∙ ap (λ (x : CertNode). Some x) (node_same a id (slice_get_within g.ids a id is));
+    };
+    links = record {
+      one_each = tells.links.one_each;
+      each = λ e link is.
+          tells.links.each e link is ∙ ap (λ (x : CertLink). Some x) (link_same e link (slice_get_within g.links e link is));
+    };
     row_count = tells.row_count;
-    nodes = λ a id is. tells.nodes a id is ∙ ap (λ (x : CertNode). Some x) (node_same a id (slice_get_within g.ids a id is));
-    links = λ e link is. tells.links e link is ∙ ap (λ (x : CertLink). Some x) (link_same e link (slice_get_within g.links e link is));
     rows = λ s t s_within t_within two.
         let it = tells.rows s t s_within t_within two in
         record {

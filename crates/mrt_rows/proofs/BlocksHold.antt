@@ -42,20 +42,20 @@ module _ (og : OrderedGraph) (file : CertFile) (tells : Tells og.g og.root og.w 
   -- the graph
   pub same_graph : SameGraph og.g c
   same_graph = record {
-    counts = record { nodes = tells.one_node_each; links = tells.one_link_each };
+    counts = record { nodes = tells.nodes.one_each; links = tells.links.one_each };
     nodes = λ a below.
-        let id = there og.g.ids a (omega (arith, below, tells.one_node_each)) in
-        rw (id.1, tells.nodes a id.0 id.1)
+        let id = there og.g.ids a (omega (arith, below, tells.nodes.one_each)) in
+        rw (id.1, tells.nodes.each a id.0 id.1)
         (and_from _ _ (eq-eqb id.0.number id.0.number refl) (eq-eqb (rank_of id.0.kind) (rank_of id.0.kind) refl));
     links = λ e below.
-        let link = there og.g.links e (omega (arith, below, tells.one_link_each)) in
-        rw (link.1, tells.links e link.0 link.1)
+        let link = there og.g.links e (omega (arith, below, tells.links.one_each)) in
+        rw (link.1, tells.links.each e link.0 link.1)
         (and_from _ _ (eq-eqb link.0.a link.0.a refl) (eq-eqb link.0.b link.0.b refl));
   }
 
   -- orders
   node_within : (a : ℕ) → a < length c.nodes → a < n
-  node_within a below = omega (arith, below, tells.one_node_each)
+  node_within a below = omega (arith, below, tells.nodes.one_each)
 
   root_first : root_stands og.g og.root file ≡ true
   root_first =
@@ -133,9 +133,9 @@ module _ (og : OrderedGraph) (file : CertFile) (tells : Tells og.g og.root og.w 
 
   linked : (e : ℕ) (words : CertLink) → slice_get c.links e ≡ Some words → Linked e words
   linked e words is =
-      let e_within : e < length og.g.links = omega (arith, slice_get_within c.links e words is, tells.one_link_each) in
+      let e_within : e < length og.g.links = omega (arith, slice_get_within c.links e words is, tells.links.one_each) in
       let link = there og.g.links e e_within in
-      record { link = link.0; is = link.1; within = e_within; words_are = cc (is, tells.links e link.0 link.1) }
+      record { link = link.0; is = link.1; within = e_within; words_are = cc (is, tells.links.each e link.0 link.1) }
 
   record Named (a : ℕ) (words : CertNode) : Type 0 where
     within : a < n
@@ -144,9 +144,9 @@ module _ (og : OrderedGraph) (file : CertFile) (tells : Tells og.g og.root og.w 
 
   named : (a : ℕ) (words : CertNode) → slice_get c.nodes a ≡ Some words → Named a words
   named a words is =
-      let a_within : a < n = omega (arith, slice_get_within c.nodes a words is, tells.one_node_each) in
+      let a_within : a < n = omega (arith, slice_get_within c.nodes a words is, tells.nodes.one_each) in
       let id = there og.g.ids a a_within in
-      let same : words ≡ node_words og.w a id.0 = cc (is, tells.nodes a id.0 id.1) in
+      let same : words ≡ node_words og.w a id.0 = cc (is, tells.nodes.each a id.0 id.1) in
       record {
         within = a_within;
         block = ap (λ (x : CertNode). x.block) same;
@@ -156,7 +156,7 @@ module _ (og : OrderedGraph) (file : CertFile) (tells : Tells og.g og.root og.w 
   -- the words on a link, and on a node
   link_there : (e : ℕ) → e < length og.g.links → (link : Link) × (slice_get og.g.links e ≡ Some link) × (slice_get c.links e ≡ Some (link_words og.w e link))
   link_there e e_within =
-      let link = there og.g.links e e_within in (link.0, link.1, tells.links e link.0 link.1)
+      let link = there og.g.links e e_within in (link.0, link.1, tells.links.each e link.0 link.1)
 
   -- the two nodes of a link
   leads_from_a : (e : ℕ) (link : Link) → slice_get og.g.links e ≡ Some link → leads og.g.links e link.a ≡ Some link.b
@@ -165,7 +165,7 @@ module _ (og : OrderedGraph) (file : CertFile) (tells : Tells og.g og.root og.w 
   -- the blocks of links
   pub links_placed : Each (link_placed c) (length c.links)
   links_placed e below =
-      let link = link_there e (omega (arith, below, tells.one_link_each)) in
+      let link = link_there e (omega (arith, below, tells.links.one_each)) in
       let onward = leads_from_a e link.0 link.1 in
       let in_range = within og.g e link.0.a link.0.b og.kept onward in
       let common = og.ordered.links.common e link.0.a link.0.b onward in
@@ -187,7 +187,7 @@ module _ (og : OrderedGraph) (file : CertFile) (tells : Tells og.g og.root og.w 
   lone_holds a a_within it =
       let id = there og.g.ids a a_within in
       let one_member : length (members c (og.w.block a)) ≡ 1 =
-      one_of (λ node. node.block == og.w.block a) c.nodes a (node_words og.w a id.0) (tells.nodes a id.0 id.1)
+      one_of (λ node. node.block == og.w.block a) c.nodes a (node_words og.w a id.0) (tells.nodes.each a id.0 id.1)
       (eq-eqb (og.w.block a) (og.w.block a) refl)
       (λ b words is passes.
       let other = named b words is in
@@ -219,7 +219,7 @@ module _ (og : OrderedGraph) (file : CertFile) (tells : Tells og.g og.root og.w 
   is_greatest a a_within it =
       let top_within = (within og.g it.link it.greatest (og.w.head a) og.kept it.over.leads_on).from in
       let id = there og.g.ids it.greatest top_within in
-      rw (tells.nodes it.greatest id.0 id.1)
+      rw (tells.nodes.each it.greatest id.0 id.1)
       (and_from _ _ (eq-eqb (og.w.block it.greatest) (og.w.block a) it.greatest_in_block)
       (all_of (λ node. node.block == og.w.block a) (λ member. nat_le member.order (og.w.order it.greatest)) c.nodes
       (λ b words is passes.

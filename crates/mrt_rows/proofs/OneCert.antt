@@ -43,18 +43,18 @@ module _ (og : OrderedGraph) (file other : CertFile) (tells : Tells og.g og.root
   n = length og.g.ids
 
   nodes_same : file.cert.nodes ≡ other.cert.nodes
-  nodes_same = same_lists file.cert.nodes other.cert.nodes (tells.one_node_each ∙ sym other_tells.one_node_each)
+  nodes_same = same_lists file.cert.nodes other.cert.nodes (tells.nodes.one_each ∙ sym other_tells.nodes.one_each)
       (λ a d within.
-      let id = there og.g.ids a (omega (arith, within, tells.one_node_each)) in
-      same_at file.cert.nodes other.cert.nodes a d (node_words og.w a id.0) (tells.nodes a id.0 id.1)
-      (other_tells.nodes a id.0 id.1))
+      let id = there og.g.ids a (omega (arith, within, tells.nodes.one_each)) in
+      same_at file.cert.nodes other.cert.nodes a d (node_words og.w a id.0) (tells.nodes.each a id.0 id.1)
+      (other_tells.nodes.each a id.0 id.1))
 
   links_same : file.cert.links ≡ other.cert.links
-  links_same = same_lists file.cert.links other.cert.links (tells.one_link_each ∙ sym other_tells.one_link_each)
+  links_same = same_lists file.cert.links other.cert.links (tells.links.one_each ∙ sym other_tells.links.one_each)
       (λ e d within.
-      let link = there og.g.links e (omega (arith, within, tells.one_link_each)) in
-      same_at file.cert.links other.cert.links e d (link_words og.w e link.0) (tells.links e link.0 link.1)
-      (other_tells.links e link.0 link.1))
+      let link = there og.g.links e (omega (arith, within, tells.links.one_each)) in
+      same_at file.cert.links other.cert.links e d (link_words og.w e link.0) (tells.links.each e link.0 link.1)
+      (other_tells.links.each e link.0 link.1))
 
   row_same : (k : ℕ) → k < n * (n - 1) → slice_get file.cert.rows k ≡ slice_get other.cert.rows k
   row_same k within =
@@ -66,8 +66,8 @@ module _ (og : OrderedGraph) (file other : CertFile) (tells : Tells og.g og.root
       (λ u u_within two. tells.rows s u at.source_within u_within two)
       (λ u u_within two. other_tells.rows s u at.source_within u_within two) t at.target_within at.two in
       subst (λ (x : ℕ). slice_get file.cert.rows x ≡ slice_get other.cert.rows x) at.place
-      (sym (row_at file.cert n s t tells.one_node_each at.source_within at.target_within at.two) ∙ one
-      ∙ row_at other.cert n s t other_tells.one_node_each at.source_within at.target_within at.two)
+      (sym (row_at file.cert n s t tells.nodes.one_each at.source_within at.target_within at.two) ∙ one
+      ∙ row_at other.cert n s t other_tells.nodes.one_each at.source_within at.target_within at.two)
 
   rows_same : file.cert.rows ≡ other.cert.rows
   rows_same = same_lists file.cert.rows other.cert.rows (tells.row_count ∙ sym other_tells.row_count)

@@ -42,8 +42,8 @@ module _ (og : OrderedGraph) (file : CertFile) (tells : Tells og.g og.root og.w 
   by_row test holds s t s_below t_below = elim (cases_eq s t) [
     | inl same ↦ or_left _ _ (eq-eqb s t same)
     | inr two ↦
-        let s_within : s < n = omega (arith, s_below, tells.one_node_each) in
-        let t_within : t < n = omega (arith, t_below, tells.one_node_each) in
+        let s_within : s < n = omega (arith, s_below, tells.nodes.one_each) in
+        let t_within : t < n = omega (arith, t_below, tells.nodes.one_each) in
         let it = tells.rows s t s_within t_within two in
         or_right _ _ (ap (λ (o : Option Row). option_map_or (test s t) o false) it.is
         ∙ holds s t it.row s_within t_within two it.line)

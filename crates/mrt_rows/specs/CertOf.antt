@@ -24,18 +24,27 @@ node_words w a id = record { id = id; order = w.order a; head = w.head a; block 
 abbrev pub link_words : Directions → ℕ → Link → CertLink
 link_words w e link = record { a = link.a; b = link.b; block = w.lies_in e; role = w.role e }
 
+-- the words on all nodes, and on all links
+pub record AreNodeWords (g : Topology) (w : Directions) (nodes : List CertNode) : Type 0 where
+  pub one_each : length nodes ≡ length g.ids
+  pub each : (a : ℕ) (id : NodeId) → slice_get g.ids a ≡ Some id → slice_get nodes a ≡ Some (node_words w a id)
+
+pub record AreLinkWords (g : Topology) (w : Directions) (links : List CertLink) : Type 0 where
+  pub one_each : length links ≡ length g.links
+  pub each : (e : ℕ) (link : Link) → slice_get g.links e ≡ Some link → slice_get links e ≡ Some (link_words w e link)
+
 -- a file says this of the graph: its root is the number of the graph's root; it has the words on each node and on each
 -- link, and a row of each node for each other one, by the table
 pub record Tells (g : Topology) (root : ℕ) (w : Directions) (file : CertFile) : Type 0 where
   pub root_number : (id : NodeId) → slice_get g.ids root ≡ Some id → file.root ≡ id.number
-  pub one_node_each : length file.cert.nodes ≡ length g.ids
-  pub one_link_each : length file.cert.links ≡ length g.links
+  pub nodes : AreNodeWords g w file.cert.nodes
+  pub links : AreLinkWords g w file.cert.links
   pub row_count : length file.cert.rows ≡ length g.ids * (length g.ids - 1)
-  pub nodes : (a : ℕ) (id : NodeId) → slice_get g.ids a ≡ Some id
-      → slice_get file.cert.nodes a ≡ Some (node_words w a id)
-  pub links : (e : ℕ) (link : Link) → slice_get g.links e ≡ Some link
-      → slice_get file.cert.links e ≡ Some (link_words w e link)
   pub rows : (s t : ℕ) → s < length g.ids → t < length g.ids → s ≢ t → HasRow g root w s (row_of file.cert s) t
+
+-- a certificate, with the number of a root
+abbrev pub file_of : NodeId → Certificate → CertFile
+file_of id cert = record { root = id.number; cert = cert }
 
 -- the certificate of a graph and its root: by its search tree, the ears of this tree, and their order
 pub record IsCertOf (g : Topology) (root : ℕ) (file : CertFile) : Type 0 where

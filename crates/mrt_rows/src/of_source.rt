@@ -4,10 +4,11 @@ ghost use Rattle.std.specs.Prelude.{◌≡◌, ◌<◌, ◌≤◌, ◌+◌, ◌+
 ghost use Rattle.mrt_graph.specs.declared.cert.Row.{Row};
 ghost use Rattle.mrt_graph.specs.GraphInvariant.{IsTopology};
 ghost use Rattle.link_direction.specs.Directions.{Directions, Says};
+ghost use Rattle.link_direction.specs.OrderedGadag.{SaysOrdered};
 ghost use Rattle.inc_dec_spf.specs.declared.reach.Dir.TheVariants.{Up};
 ghost use Rattle.inc_dec_spf.specs.HasDirections.{AreDirections};
 ghost use Rattle.inc_dec_spf.specs.Sweep.{AreTurns};
-ghost use Rattle.mrt_rows.specs.RowsOf.{AreRowsOf, HasDirectionsFrom};
+ghost use Rattle.mrt_rows.specs.RowsOf.{AreRowsOf};
 ghost use Rattle.mrt_rows.specs.Table.{in_table, rows_in};
 
 use crate::by_order::nodes_by_order;
@@ -26,7 +27,7 @@ pub fn rows_of(
     d: &Directed,
     source: NodeNo,
 ) -> Result<Vec<Row>, NoMemory>
-    requires directed { HasDirectionsFrom g.now root d.now }
+    requires directed { SaysOrdered g.now root d.now }
     requires source { source < length g.now.ids }
     ensures { (w : Directions) → Says g.now d.now w
         → IfOk result (λ rows. AreRowsOf g.now root w source rows.items) }
@@ -51,7 +52,7 @@ pub fn put_rows(
     rows: &mut Vec<Row>,
 ) -> Result<(), NoMemory>
     requires kept { IsTopology g.now }
-    requires directed { HasDirectionsFrom g.now root d.now }
+    requires directed { SaysOrdered g.now root d.now }
     requires nodes { (from : ℕ) (w : Directions) → AreDirections g.now d.now from w
         → AreTurns g.now w Up nodes.now }
     requires source { source < length g.now.ids }

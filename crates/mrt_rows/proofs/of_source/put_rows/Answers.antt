@@ -9,11 +9,11 @@ use Rattle.mrt_rows.proofs.of_source.put_rows.Goals as goal
 
 pub fill-requires-clause-source : goal.fill-requires-clause-source
 fill-requires-clause-source c =
-    let says = c.requires.directed.are.says in
-    let w = c.requires.directed.words in
+    let says = c.requires.directed.says in
+    let w = c.requires.directed.directions in
     record {
       kept = c.requires.kept;
-      directed = record { root = c.args.root; directions = w; are = c.requires.directed.are };
+      directed = record { root = c.args.root; directions = w; are = (record { says = c.requires.directed.says; ordered = c.requires.directed.ordered }) };
       within = c.requires.source;
       one_up_each = (c.in_ok-up.ensures w says).one_each;
       one_down_each = (c.in_ok-down.ensures w says).one_each;
@@ -21,10 +21,10 @@ fill-requires-clause-source c =
 
 pub take_rows-requires : goal.take_rows-requires
 take_rows-requires c =
-    let w = c.requires.directed.words in
-    let says = c.requires.directed.are.says in
+    let w = c.requires.directed.directions in
+    let says = c.requires.directed.says in
     let hops : AreHops c.args.g.now c.args.d.now c.args.root w c.args.source c.in_ok-up.up c.in_ok-down.down = record {
-      are = c.requires.directed.are;
+      are = (record { says = c.requires.directed.says; ordered = c.requires.directed.ordered });
       goes_up = c.in_ok-up.ensures w says;
       goes_down = c.in_ok-down.ensures w says;
     } in
@@ -42,7 +42,7 @@ pub returns-clause-put : goal.returns-clause-put
 returns-clause-put c = (rows_in c.fill.new.table.items, c.take_rows.ensures.rows
     ∙ ap (λ (xs : List (Option Row)). c.args.rows.now.items ++ rows_in xs) c.deref.ensures.value, λ w says.
     let has : HasDirections c.args.g.now c.args.d.now =
-    record { root = c.args.root; directions = c.requires.directed.words; are = c.requires.directed.are } in
+    record { root = c.args.root; directions = c.requires.directed.directions; are = (record { says = c.requires.directed.says; ordered = c.requires.directed.ordered }) } in
     let hops : AreHops c.args.g.now c.args.d.now c.args.root w c.args.source c.in_ok-up.up c.in_ok-down.down = record {
       are = directions_are c.args.g.now c.args.d.now w c.requires.kept has says;
       goes_up = c.in_ok-up.ensures w says;
