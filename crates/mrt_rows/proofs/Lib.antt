@@ -1,5 +1,7 @@
 pub mod Agreeing
+pub mod AllRows
 pub mod BlocksHold
+pub mod CertMade
 pub mod CertSays
 pub mod Counting
 pub mod Filling
@@ -11,6 +13,7 @@ pub mod OneHop
 pub mod OneRow
 pub mod OrderedGraphs
 pub mod OtherLines
+pub mod PushedWords
 pub mod RowPlaces
 pub mod RowTags
 pub mod RulesHold

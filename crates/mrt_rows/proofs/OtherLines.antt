@@ -132,7 +132,7 @@ begins_in og dir s t link begins = go begins.hop begins.over begins.reached
         }
 
 -- the way of a member to the head lies in the block that it shares with another member
-home_in : (og : OrderedGraph) (dir : Dir) (s t k h link : ℕ) → s < length og.g.ids → t < length og.g.ids
+pub home_in : (og : OrderedGraph) (dir : Dir) (s t k h link : ℕ) → s < length og.g.ids → t < length og.g.ids
     → AreMembers og.g og.w s t k h → BeginsOver og.g og.w dir s h link → InCommon og s t link
 home_in og dir s t k h link s_within t_within are begins =
     let it = members og s t k h s_within t_within are in

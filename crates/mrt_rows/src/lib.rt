@@ -1,11 +1,15 @@
 //! The rows of every node for every other node (RFC 7811, section 5.7), and certificates made of them.
 #![tactic(auto)]
 
+mod all_rows;
 mod by_order;
+mod certificate;
 mod near;
 mod of_source;
 mod rows_law;
 mod table;
+mod words;
 
+pub use certificate::compute;
 pub use of_source::rows_of;
 pub use rows_law::{one_row_for_each, one_tabled_certificate, tabled_certificates_are_accepted};
