@@ -25,45 +25,26 @@ use Rattle.inc_dec_spf.specs.declared.reach.Dir.TheVariants.{Down, Up}
 use Rattle.inc_dec_spf.specs.declared.reach.Hop.{Hop}
 use Rattle.inc_dec_spf.specs.LeastPath.{BeginsPath, HasMoreLinks, IsHop, IsLeastPath, NotReached, Reached, ShareBlock}
 use Rattle.inc_dec_spf.specs.Path.{IsStep, LeadsOn, Path, cost_of}
+use Rattle.inc_dec_spf.proofs.SameDirections.{AreAlike}
 use Rattle.mrt_rows.specs.CertOf.{Tells, link_words, node_words}
 use Rattle.mrt_rows.specs.RowLines.{AboveLine, AreMembers, BeginsOver, BelowLine, CarriedLine, HasLinksFor, HasOneLink, HeadLine, LineOf, NoWay, SoleLine, TopLine, UnorderedLine}
 use Rattle.mrt_rows.specs.RowsOf.{HasRow}
 use Rattle.mrt_rows.proofs.OrderedGraphs.{Within, within}
 
--- they say the same of each node and each link
-pub record Agree (g : Topology) (w v : Directions) : Type 0 where
-  pub order : (a : ℕ) → a < length g.ids → w.order a ≡ v.order a
-  pub head : (a : ℕ) → a < length g.ids → w.head a ≡ v.head a
-  pub block : (a : ℕ) → a < length g.ids → w.block a ≡ v.block a
-  pub tail : (e : ℕ) → e < length g.links → w.tail e ≡ v.tail e
-  pub role : (e : ℕ) → e < length g.links → w.role e ≡ v.role e
-  pub lies_in : (e : ℕ) → e < length g.links → w.lies_in e ≡ v.lies_in e
-
-pub agree_back : (g : Topology) (w v : Directions) → Agree g w v → Agree g v w
-agree_back g w v agree = record {
-  order = λ a a_within. sym (agree.order a a_within);
-  head = λ a a_within. sym (agree.head a a_within);
-  block = λ a a_within. sym (agree.block a a_within);
-  tail = λ e e_within. sym (agree.tail e e_within);
-  role = λ e e_within. sym (agree.role e e_within);
-  lies_in = λ e e_within. sym (agree.lies_in e e_within);
+alike_back : (g : Topology) (w v : Directions) → AreAlike g w v → AreAlike g v w
+alike_back g w v alike = record {
+  orders = λ a a_within. sym (alike.orders a a_within);
+  heads = λ a a_within. sym (alike.heads a a_within);
+  blocks = λ a a_within. sym (alike.blocks a a_within);
+  tails = λ e e_within. sym (alike.tails e e_within);
+  roles = λ e e_within. sym (alike.roles e e_within);
+  link_blocks = λ e e_within. sym (alike.link_blocks e e_within);
 }
 
--- both being what one GADAG says
-pub both_say : (g : Topology) (d : DirectedLists) (w v : Directions) → Says g d w → Says g d v → Agree g w v
-both_say g d w v one other = record {
-  order = λ a a_within. same_Some (w.order a) (v.order a) (sym (one.orders a a_within) ∙ other.orders a a_within);
-  head = λ a a_within. same_Some (w.head a) (v.head a) (sym (one.heads a a_within) ∙ other.heads a a_within);
-  block = λ a a_within. same_Some (w.block a) (v.block a) (sym (one.blocks a a_within) ∙ other.blocks a a_within);
-  tail = λ e e_within. same_Some (w.tail e) (v.tail e) (sym (one.tails e e_within) ∙ other.tails e e_within);
-  role = λ e e_within. same_Some (w.role e) (v.role e) (sym (one.roles e e_within) ∙ other.roles e e_within);
-  lies_in = λ e e_within. same_Some (w.lies_in e) (v.lies_in e) (sym (one.link_blocks e e_within) ∙ other.link_blocks e e_within);
-}
-
-module _ (g : Topology) (kept : IsTopology g) (w v : Directions) (agree : Agree g w v) where
+module _ (g : Topology) (kept : IsTopology g) (w v : Directions) (alike : AreAlike g w v) where
   leads_too : (dir : Dir) (s : ℕ) (end : End) → end.link < length g.links → LeadsOn w dir s end → LeadsOn v dir s end
-  leads_too Up s end in_range on = sym (agree.tail end.link in_range) ∙ on
-  leads_too Down s end in_range on = sym (agree.tail end.link in_range) ∙ on
+  leads_too Up s end in_range on = sym (alike.tails end.link in_range) ∙ on
+  leads_too Down s end in_range on = sym (alike.tails end.link in_range) ∙ on
 
   step_range : (dir : Dir) (k s : ℕ) (end : End) → IsStep g w dir k s end → Within g end.link s end.to
   step_range dir k s end step = within g end.link s end.to kept (end_leads g s step.place step.ends end kept step.list step.there)
@@ -76,7 +57,7 @@ module _ (g : Topology) (kept : IsTopology g) (w v : Directions) (agree : Agree 
         list = step.list;
         place = step.place;
         there = step.there;
-        in_block = sym (agree.lies_in end.link in_range) ∙ step.in_block;
+        in_block = sym (alike.link_blocks end.link in_range) ∙ step.in_block;
         leads_on = leads_too dir s end in_range step.leads_on;
       }
 
@@ -88,11 +69,11 @@ module _ (g : Topology) (kept : IsTopology g) (w v : Directions) (agree : Agree 
 
   pub common_too : (s t k h : ℕ) → s < length g.ids → t < length g.ids → HaveInCommon w s t k h → HaveInCommon v s t k h
   common_too s t k h s_within t_within (Peers a b c) =
-      Peers (sym (agree.block s s_within) ∙ a) (sym (agree.block t t_within) ∙ b) (sym (agree.head s s_within) ∙ c)
+      Peers (sym (alike.blocks s s_within) ∙ a) (sym (alike.blocks t t_within) ∙ b) (sym (alike.heads s s_within) ∙ c)
   common_too s t k h s_within t_within (ToHead a b c) =
-      ToHead (sym (agree.block s s_within) ∙ a) (sym (agree.head s s_within) ∙ b) c
+      ToHead (sym (alike.blocks s s_within) ∙ a) (sym (alike.heads s s_within) ∙ b) c
   common_too s t k h s_within t_within (FromHead a b c) =
-      FromHead (sym (agree.block t t_within) ∙ a) (sym (agree.head t t_within) ∙ b) c
+      FromHead (sym (alike.blocks t t_within) ∙ a) (sym (alike.heads t t_within) ∙ b) c
 
   more_too : (k : ℕ) → HasMoreLinks g w k → HasMoreLinks g v k
   more_too k more = record {
@@ -100,8 +81,8 @@ module _ (g : Topology) (kept : IsTopology g) (w v : Directions) (agree : Agree 
     other = more.other;
     one_within = more.one_within;
     other_within = more.other_within;
-    one_in_block = sym (agree.lies_in more.one more.one_within) ∙ more.one_in_block;
-    other_in_block = sym (agree.lies_in more.other more.other_within) ∙ more.other_in_block;
+    one_in_block = sym (alike.link_blocks more.one more.one_within) ∙ more.one_in_block;
+    other_in_block = sym (alike.link_blocks more.other more.other_within) ∙ more.other_in_block;
     differ = more.differ;
   }
 
@@ -120,7 +101,7 @@ module _ (g : Topology) (kept : IsTopology g) (w v : Directions) (agree : Agree 
   }
 
 -- and of hops and lines
-module _ (g : Topology) (kept : IsTopology g) (w v : Directions) (agree : Agree g w v) where
+module _ (g : Topology) (kept : IsTopology g) (w v : Directions) (alike : AreAlike g w v) where
   least_too : (dir : Dir) (k h s t : ℕ) (hop : Hop) → IsLeastPath g w dir k h s t hop → IsLeastPath g v dir k h s t hop
   least_too dir k h s t hop least = record {
     end = least.end;
@@ -129,20 +110,20 @@ module _ (g : Topology) (kept : IsTopology g) (w v : Directions) (agree : Agree 
       list = least.first.list;
       place = least.first.place;
       there = least.first.there;
-      asked = begins_too g kept w v agree dir k h s t hop.cost least.end least.first.asked;
+      asked = begins_too g kept w v alike dir k h s t hop.cost least.end least.first.asked;
       none_before = λ j other below at begins. least.first.none_before j other below at
-          (begins_too g kept v w (agree_back g w v agree) dir k h s t hop.cost other begins);
+          (begins_too g kept v w (alike_back g w v alike) dir k h s t hop.cost other begins);
     };
     over = least.over;
-    least = λ path is. least.least path (path_too g kept v w (agree_back g w v agree) dir k h s path t is);
+    least = λ path is. least.least path (path_too g kept v w (alike_back g w v alike) dir k h s path t is);
   }
 
   module _ (s t : ℕ) (s_within : s < length g.ids) (t_within : t < length g.ids) where
     hop_too : (dir : Dir) (hop : Option Hop) → IsHop g w dir s t hop → IsHop g v dir s t hop
     hop_too dir (Some hop) (Reached k h hop' shares least) =
-        Reached k h hop (share_too g kept w v agree s t k h s_within t_within shares) (least_too dir k h s t hop least)
+        Reached k h hop (share_too g kept w v alike s t k h s_within t_within shares) (least_too dir k h s t hop least)
     hop_too dir None (NotReached none) =
-        let back = agree_back g w v agree in
+        let back = alike_back g w v alike in
         NotReached (λ k h path shares is. none k h path (share_too g kept v w back s t k h s_within t_within shares)
         (path_too g kept v w back dir k h s path t is))
 
@@ -153,15 +134,15 @@ module _ (g : Topology) (kept : IsTopology g) (w v : Directions) (agree : Agree 
     one_too : (k link : ℕ) → HasOneLink g w k link → HasOneLink g v k link
     one_too k link one = record {
       within = one.within;
-      in_block = sym (agree.lies_in link one.within) ∙ one.in_block;
-      no_other = λ e e_within is. one.no_other e e_within (agree.lies_in e e_within ∙ is);
+      in_block = sym (alike.link_blocks link one.within) ∙ one.in_block;
+      no_other = λ e e_within is. one.no_other e e_within (alike.link_blocks e e_within ∙ is);
     }
 
     members_too : (k h : ℕ) → AreMembers g w s t k h → AreMembers g v s t k h
     members_too k h are = record {
-      share = share_too g kept w v agree s t k h s_within t_within are.share;
-      source = sym (agree.block s s_within) ∙ are.source;
-      target = sym (agree.block t t_within) ∙ are.target;
+      share = share_too g kept w v alike s t k h s_within t_within are.share;
+      source = sym (alike.blocks s s_within) ∙ are.source;
+      target = sym (alike.blocks t t_within) ∙ are.target;
     }
 
     home_range : (k h : ℕ) → HaveInCommon w s t k h → h < length g.ids
@@ -177,14 +158,14 @@ module _ (g : Topology) (kept : IsTopology g) (w v : Directions) (agree : Agree 
     line_too tags.Sole root rows row line = record {
       block = line.block;
       head = line.head;
-      common = common_too g kept w v agree s t line.block line.head s_within t_within line.common;
+      common = common_too g kept w v alike s t line.block line.head s_within t_within line.common;
       one_link = one_too line.block row.blue line.one_link;
       red = line.red;
     }
     line_too tags.Head root rows row line = record {
       block = line.block;
       head = line.head;
-      share = share_too g kept w v agree s t line.block line.head s_within t_within line.share;
+      share = share_too g kept w v alike s t line.block line.head s_within t_within line.share;
       at_head = line.at_head;
       blue = over_too s t s_within t_within Up row.blue line.blue;
       red = over_too s t s_within t_within Down row.red line.red;
@@ -192,7 +173,7 @@ module _ (g : Topology) (kept : IsTopology g) (w v : Directions) (agree : Agree 
     line_too tags.Top root rows row line = record {
       block = line.block;
       head = line.head;
-      share = share_too g kept w v agree s t line.block line.head s_within t_within line.share;
+      share = share_too g kept w v alike s t line.block line.head s_within t_within line.share;
       at_head = line.at_head;
       blue = over_too s t s_within t_within Up row.blue line.blue;
       red = over_too s t s_within t_within Down row.red line.red;
@@ -222,9 +203,9 @@ module _ (g : Topology) (kept : IsTopology g) (w v : Directions) (agree : Agree 
       red = home_too Up line.block line.head row.red line.members line.red;
     }
     line_too tags.Carried root rows row line = record {
-      apart = λ k h common. line.apart k h (common_too g kept v w (agree_back g w v agree) s t k h s_within t_within common);
-      to_other = λ other. subst (λ (x : ℕ). HasLinksFor rows x row) (agree.head t t_within) (line.to_other other);
-      to_root = λ at_root. subst (λ (x : ℕ). HasLinksFor rows x row) (agree.head s s_within) (line.to_root at_root);
+      apart = λ k h common. line.apart k h (common_too g kept v w (alike_back g w v alike) s t k h s_within t_within common);
+      to_other = λ other. subst (λ (x : ℕ). HasLinksFor rows x row) (alike.heads t t_within) (line.to_other other);
+      to_root = λ at_root. subst (λ (x : ℕ). HasLinksFor rows x row) (alike.heads s s_within) (line.to_root at_root);
     }
 
   -- and of whole files
@@ -255,15 +236,15 @@ module _ (g : Topology) (kept : IsTopology g) (w v : Directions) (agree : Agree 
       node_same : (a : ℕ) (id : NodeId) → a < length g.ids → node_words w a id ≡ node_words v a id
       node_same a id a_within = λ i. record {
         id = id;
-        order = agree.order a a_within i;
-        head = agree.head a a_within i;
-        block = agree.block a a_within i;
+        order = alike.orders a a_within i;
+        head = alike.heads a a_within i;
+        block = alike.blocks a a_within i;
       }
 
       link_same : (e : ℕ) (link : Link) → e < length g.links → link_words w e link ≡ link_words v e link
       link_same e link e_within = λ i. record {
         a = link.a;
         b = link.b;
-        block = agree.lies_in e e_within i;
-        role = agree.role e e_within i;
+        block = alike.link_blocks e e_within i;
+        role = alike.roles e e_within i;
       }

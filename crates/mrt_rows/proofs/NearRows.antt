@@ -18,7 +18,7 @@ use Rattle.inc_dec_spf.specs.LeastPath.{IsHop, NotReached, Reached}
 use Rattle.mrt_rows.specs.HopRows.{member_row, row_by}
 use Rattle.mrt_rows.specs.RowLines.{AreMembers, BeginsOver, HasOneLink, LineOf, NoWay}
 use Rattle.mrt_rows.specs.Source.{Far, IsNear, Near, NoneOfOneLink}
-use Rattle.mrt_rows.proofs.HeadWays.{down_home, head_down, head_up, up_home}
+use Rattle.mrt_rows.proofs.HeadWays.{way_from_head, way_home}
 use Rattle.mrt_rows.proofs.LinesHold.{has_head, with_head}
 use Rattle.mrt_rows.proofs.OrderedGraphs.{OrderedGraph, not_root_of_peers}
 use Rattle.mrt_rows.proofs.Ways.{Inside, Ring, Way, inside_itself}
@@ -66,10 +66,10 @@ module _ (og : OrderedGraph) (s t : ℕ) (s_within : s < length og.g.ids) (t_wit
       record { source = s_within; target = t_within; two = two; common = ToHead refl head (sym head) } in
       let blue =
       found_by og s Up s t a ring sharing
-      (subst (λ (x : ℕ). Way og s Up s x) head (up_home og s ring s (inside_itself og s ring))) is_a in
+      (subst (λ (x : ℕ). Way og s Up s x) head (way_home og s Up ring)) is_a in
       let red =
       found_by og s Down s t b ring sharing
-      (subst (λ (x : ℕ). Way og s Down s x) head (down_home og s ring s (inside_itself og s ring))) is_b in
+      (subst (λ (x : ℕ). Way og s Down s x) head (way_home og s Down ring)) is_b in
       rw (blue.is, red.is) (Near (record { blue = blue.found.link; red = red.found.link; tag = tags.Head }) (λ same. cc)
       (λ rows. record {
         block = og.w.block s;
@@ -89,10 +89,10 @@ module _ (og : OrderedGraph) (s t : ℕ) (s_within : s < length og.g.ids) (t_wit
       record { source = s_within; target = t_within; two = two; common = FromHead refl head (sym head) } in
       let blue =
       found_by og t Up s t a ring sharing
-      (subst (λ (x : ℕ). Way og t Up x t) head (head_up og t ring t (inside_itself og t ring))) is_a in
+      (subst (λ (x : ℕ). Way og t Up x t) head (way_from_head og t Up ring)) is_a in
       let red =
       found_by og t Down s t b ring sharing
-      (subst (λ (x : ℕ). Way og t Down x t) head (head_down og t ring t (inside_itself og t ring))) is_b in
+      (subst (λ (x : ℕ). Way og t Down x t) head (way_from_head og t Down ring)) is_b in
       rw (blue.is, red.is) (Near (record { blue = blue.found.link; red = red.found.link; tag = tags.Top }) (λ same. cc)
       (λ rows. record {
         block = og.w.block t;
@@ -126,10 +126,10 @@ module _ (og : OrderedGraph) (s t : ℕ) (s_within : s < length og.g.ids) (t_wit
         found_by og s dir s (og.w.head s) hop member_ring (with_head og s s member_ring (inside_itself og s member_ring)) way is
 
     up_found : (hop : Option Hop) → IsHop og.g og.w Up s (og.w.head s) hop → Found og Up s (og.w.head s) hop
-    up_found hop is = home_found Up hop (up_home og s member_ring s (inside_itself og s member_ring)) is
+    up_found hop is = home_found Up hop (way_home og s Up member_ring) is
 
     down_found : (hop : Option Hop) → IsHop og.g og.w Down s (og.w.head s) hop → Found og Down s (og.w.head s) hop
-    down_found hop is = home_found Down hop (down_home og s member_ring s (inside_itself og s member_ring)) is
+    down_found hop is = home_found Down hop (way_home og s Down member_ring) is
 
     pub member_near : (a b up_home down_home : Option Hop) → IsHop og.g og.w Up s t a → IsHop og.g og.w Down s t b
         → IsHop og.g og.w Up s (og.w.head s) up_home → IsHop og.g og.w Down s (og.w.head s) down_home

@@ -14,8 +14,20 @@ use Rattle.mrt_graph.specs.Topology.{Topology}
 use Rattle.mrt_graph.proofs.ListTests.{there}
 use Rattle.link_direction.specs.Directions.{Directions, Says}
 use Rattle.link_direction.specs.OrderedGadag.{IsOrderedGadag}
-use Rattle.mrt_rows.specs.CertOf.{Tells, link_words, node_words}
-use Rattle.mrt_rows.proofs.Agreeing.{agree_back, both_say, tells_too}
+use Rattle.mrt_graph.specs.declared.tree.TreeNode.{TreeNode}
+use Rattle.mrt_graph.specs.GadagLists.{GadagLists}
+use Rattle.lowpoint_dfs.proofs.OneSearch.{one_search}
+use Rattle.gadag_ears.specs.Gadag.{IsGadag}
+use Rattle.gadag_ears.proofs.FromSearch.{facts_of}
+use Rattle.gadag_ears.proofs.OneGadag.{one_gadag}
+use Rattle.link_direction.specs.Directed.{IsDirected}
+use Rattle.link_direction.specs.FromEars.{IsFromEars}
+use Rattle.link_direction.proofs.FromEarsFacts.{gadag_facts}
+use Rattle.link_direction.proofs.Laws.{says_ordered}
+use Rattle.link_direction.proofs.OneAnswer.{one_answer}
+use Rattle.inc_dec_spf.proofs.SameDirections.{ordered_too, said_alike}
+use Rattle.mrt_rows.specs.CertOf.{IsCertOf, Tells, link_words, node_words}
+use Rattle.mrt_rows.proofs.Agreeing.{tells_too}
 use Rattle.mrt_rows.proofs.OneRow.{one_row}
 use Rattle.mrt_rows.proofs.OrderedGraphs.{OrderedGraph}
 use Rattle.mrt_rows.proofs.RowPlaces.{placed, row_at}
@@ -83,10 +95,30 @@ module _ (og : OrderedGraph) (file other : CertFile) (tells : Tells og.g og.root
   one_file : file ≡ other
   one_file = file_same file other root_same nodes_same links_same rows_same
 
--- also by two accounts of one GADAG with its order
+-- the files are one, by two accounts of one GADAG with its order
 pub one_cert : (g : Topology) (root : ℕ) (d : DirectedLists) (w v : Directions) (file other : CertFile) → IsTopology g
-    → IsOrderedGadag g root w → IsOrderedGadag g root v → Says g d w → Says g d v → Tells g root w file → Tells g root v other → file ≡ other
-one_cert g root d w v file other kept ordered ordered' says says' tells tells' =
+    → IsOrderedGadag g root w → Says g d w → Says g d v → Tells g root w file → Tells g root v other → file ≡ other
+one_cert g root d w v file other kept ordered says says' tells tells' =
     let og : OrderedGraph = record { g = g; root = root; w = w; kept = kept; ordered = ordered } in
-    one_file og file other tells
-    (tells_too g kept v w (both_say g d v w says' says) root other ordered'.heads.head_within tells')
+    let alike = said_alike g d v w says' says in
+    let heads = (ordered_too g root w v kept (said_alike g d w v says says') ordered).heads.head_within in
+    one_file og file other tells (tells_too g kept v w alike root other heads tells')
+
+-- a graph has one certificate from its root
+pub one_cert_of : (g : Topology) (root : ℕ) (file other : CertFile) → IsTopology g → root < length g.ids
+    → IsCertOf g root file → IsCertOf g root other → file ≡ other
+one_cert_of g root file other kept within is is' =
+    let search = one_search g root is.tree is'.tree kept within is.searched is'.searched in
+    let facts = facts_of g root is'.tree (record { kept = kept; within = within; search = is'.searched }) in
+    let by_ears = subst (λ (tree : List TreeNode). IsGadag g root tree is.gadag) search is.by_ears in
+    let gadag = one_gadag g root is'.tree is.gadag is'.gadag facts by_ears is'.by_ears in
+    let in_order = subst (λ (gadag : GadagLists). IsDirected g root gadag is.directed) gadag is.in_order in
+    let from : IsFromEars g root is'.gadag =
+    record { tree = is'.tree; search = is'.searched; is_gadag = is'.by_ears } in
+    let directed =
+    one_answer g root is'.gadag is.directed is'.directed (gadag_facts g root is'.gadag kept within from) in_order
+    is'.in_order in
+    let says = subst (λ (d : DirectedLists). Says g d is.words) directed is.says in
+    let laid = says_ordered g root is'.gadag is'.directed kept within from is'.in_order in
+    let ordered = ordered_too g root laid.directions is.words kept (said_alike g is'.directed laid.directions is.words laid.says says) laid.ordered in
+    one_cert g root is'.directed is.words is'.words file other kept ordered says is'.says is.tells is'.tells

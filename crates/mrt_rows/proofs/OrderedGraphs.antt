@@ -20,6 +20,7 @@ use Rattle.inc_dec_spf.specs.declared.reach.Dir.{Dir}
 use Rattle.inc_dec_spf.specs.declared.reach.Dir.TheVariants.{Down, Up}
 use Rattle.inc_dec_spf.specs.HasDirections.{AreDirections}
 use Rattle.inc_dec_spf.specs.Path.{IsStep, LeadsOn}
+use Rattle.inc_dec_spf.proofs.InBlocks.{IsOrdered}
 
 -- a graph, its root, and what a GADAG with its order says
 pub record OrderedGraph : Type 0 where
@@ -31,6 +32,10 @@ pub record OrderedGraph : Type 0 where
 
 abbrev pub graph_of : (g : Topology) (root : ℕ) (w : Directions) (d : DirectedLists) → IsTopology g → AreDirections g d root w → OrderedGraph
 graph_of g root w d kept are = record { g = g; root = root; w = w; kept = kept; ordered = are.ordered }
+
+-- as the lower crate has it
+pub is_ordered : (og : OrderedGraph) → IsOrdered og.g og.root og.w
+is_ordered og = record { kept = og.kept; ordered = og.ordered }
 
 -- the numbers of a link and of its two nodes are in range, and the two differ
 pub record Within (g : Topology) (e u v : ℕ) : Type 0 where

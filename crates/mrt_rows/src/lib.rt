@@ -12,4 +12,4 @@ mod words;
 
 pub use certificate::compute;
 pub use of_source::rows_of;
-pub use rows_law::{one_row_for_each, one_tabled_certificate, tabled_certificates_are_accepted};
+pub use rows_law::{one_certificate, one_row_for_each, tabled_certificates_are_accepted};

@@ -4,12 +4,11 @@ ghost use Rattle.std.specs.Prelude.{◌≡◌, ◌≢◌, ◌<◌, ℕ, Option, 
 ghost use Rattle.mrt_graph.specs.declared.cert.CertFile.{CertFile};
 ghost use Rattle.mrt_graph.specs.declared.cert.Row.{Row};
 ghost use Rattle.mrt_graph.specs.Accepted.{Accepted};
-ghost use Rattle.mrt_graph.specs.DirectedLists.{DirectedLists};
 ghost use Rattle.mrt_graph.specs.GraphInvariant.{IsTopology};
 ghost use Rattle.mrt_graph.specs.Topology.{Topology};
-ghost use Rattle.link_direction.specs.Directions.{Directions, Says};
+ghost use Rattle.link_direction.specs.Directions.{Directions};
 ghost use Rattle.link_direction.specs.OrderedGadag.{IsOrderedGadag};
-ghost use Rattle.mrt_rows.specs.CertOf.{Tells};
+ghost use Rattle.mrt_rows.specs.CertOf.{IsCertOf, Tells};
 ghost use Rattle.mrt_rows.specs.RowsOf.{HasRow};
 
 /// A law: where a file says of a graph what a GADAG with its order says, and its rows are those of the table, the
@@ -29,9 +28,8 @@ pub fn one_row_for_each()
         → (t : ℕ) → t < length g.ids → s ≢ t → rows t ≡ others t }
 {}
 
-/// A law: one file tells of a graph what a GADAG with its order says.
-pub fn one_tabled_certificate()
-    ensures { (g : Topology) (root : ℕ) (d : DirectedLists) (w v : Directions) (file other : CertFile)
-        → IsTopology g → IsOrderedGadag g root w → IsOrderedGadag g root v → Says g d w → Says g d v
-        → Tells g root w file → Tells g root v other → file ≡ other }
+/// A law: a graph has one certificate from its root.
+pub fn one_certificate()
+    ensures { (g : Topology) (root : ℕ) (file other : CertFile) → IsTopology g → root < length g.ids
+        → IsCertOf g root file → IsCertOf g root other → file ≡ other }
 {}
