@@ -1,10 +1,9 @@
 -- Two accounts of one GADAG agree on its nodes and links, and so do the rows by them.
-use Rattle.std.proofs.Common.{◌≡◌, ◌≢◌, ◌∙◌, ◌<◌, ℕ, List, [], ◌∷◌, Option, Some, None, length, slice_get, refl, sym, ap, subst, arith}
-use Rattle.std.proofs.lemmas.Option.{same_Some, slice_get_within}
+use Rattle.std.proofs.Common.{◌≡◌, ◌∙◌, ◌<◌, ℕ, List, [], ◌∷◌, Option, Some, None, length, sym, ap, subst}
+use Rattle.std.proofs.lemmas.Option.{slice_get_within}
 use Rattle.mrt_graph.specs.declared.cert.CertFile.{CertFile}
 use Rattle.mrt_graph.specs.declared.cert.CertLink.{CertLink}
 use Rattle.mrt_graph.specs.declared.cert.CertNode.{CertNode}
-use Rattle.mrt_graph.specs.declared.cert.Role.{Role}
 use Rattle.mrt_graph.specs.declared.cert.Row.{Row}
 use Rattle.mrt_graph.specs.declared.cert.Tag.{Tag}
 use Rattle.mrt_graph.specs.declared.cert.Tag.TheVariants as tags
@@ -12,23 +11,19 @@ use Rattle.mrt_graph.specs.declared.link.End.{End}
 use Rattle.mrt_graph.specs.declared.link.Link.{Link}
 use Rattle.mrt_graph.specs.declared.node_id.NodeId.{NodeId}
 use Rattle.mrt_graph.specs.Certificate.{row_of}
-use Rattle.mrt_graph.specs.DirectedLists.{DirectedLists}
-use Rattle.mrt_graph.specs.FirstEnd.{IsFirstEnd}
 use Rattle.mrt_graph.specs.GraphInvariant.{IsTopology}
 use Rattle.mrt_graph.specs.Topology.{Topology}
 use Rattle.mrt_graph.proofs.EndsAt.{end_leads}
-use Rattle.mrt_graph.proofs.Hops.{lead_back}
 use Rattle.link_direction.specs.BlockOfTwo.{FromHead, HaveInCommon, Peers, ToHead}
-use Rattle.link_direction.specs.Directions.{Directions, Says}
+use Rattle.link_direction.specs.Directions.{Directions}
 use Rattle.inc_dec_spf.specs.declared.reach.Dir.{Dir}
 use Rattle.inc_dec_spf.specs.declared.reach.Dir.TheVariants.{Down, Up}
 use Rattle.inc_dec_spf.specs.declared.reach.Hop.{Hop}
 use Rattle.inc_dec_spf.specs.LeastPath.{BeginsPath, HasMoreLinks, IsHop, IsLeastPath, NotReached, Reached, ShareBlock}
-use Rattle.inc_dec_spf.specs.Path.{IsStep, LeadsOn, Path, cost_of}
+use Rattle.inc_dec_spf.specs.Path.{IsStep, LeadsOn, Path}
 use Rattle.inc_dec_spf.proofs.SameDirections.{AreAlike}
 use Rattle.mrt_rows.specs.CertOf.{Tells, link_words, node_words}
-use Rattle.mrt_rows.specs.RowLines.{AboveLine, AreMembers, BeginsOver, BelowLine, CarriedLine, HasLinksFor, HasOneLink, HeadLine, LineOf, NoWay, SoleLine, TopLine, UnorderedLine}
-use Rattle.mrt_rows.specs.RowsOf.{HasRow}
+use Rattle.mrt_rows.specs.RowLines.{AreMembers, BeginsOver, HasLinksFor, HasOneLink, LineOf}
 use Rattle.mrt_rows.proofs.OrderedGraphs.{Within, within}
 
 alike_back : (g : Topology) (w v : Directions) → AreAlike g w v → AreAlike g v w

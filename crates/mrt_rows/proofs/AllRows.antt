@@ -1,7 +1,7 @@
 -- The rows of all nodes, source after source.
-use Rattle.std.proofs.Common.{◌≡◌, ◌≢◌, ◌⊎◌, ◌∙◌, ◌<◌, ◌≤◌, ◌+◌, ◌-◌, ◌*◌, ◌++◌, ◌==◌, ◌&&◌, ℕ, zero, suc, true, false, List, [], ◌∷◌, Option, Some, None, not, nat_lt, length, slice_get, if◌then◌else◌, refl, sym, ap, subst, inl, inr, arith, length-append}
+use Rattle.std.proofs.Common.{◌≡◌, ◌≢◌, ◌∙◌, ◌<◌, ◌≤◌, ◌+◌, ◌-◌, ◌*◌, ◌++◌, ◌==◌, ℕ, suc, true, List, [], ◌∷◌, Option, Some, None, not, nat_lt, length, slice_get, refl, sym, ap, subst, inl, inr, arith, length-append}
 use Rattle.std.proofs.Math.Nat.{mul-le-mul_left, mul_comm}
-use Rattle.std.proofs.lemmas.Bool.{and_from, and_parts, cases_Bool, cases_eq, cases_lt, eqb-false, eq-eqb, le-ltb, lt-ltb, ltb-true, ne_eqb, not-true}
+use Rattle.std.proofs.lemmas.Bool.{and_from, and_parts, cases_Bool, cases_eq, cases_lt, eqb-false, eq-eqb, lt-ltb, ltb-true, ne_eqb, not-true}
 use Rattle.std.proofs.lemmas.Option.{slice_get_within}
 use Rattle.mrt_graph.specs.declared.cert.Row.{Row}
 use Rattle.mrt_graph.specs.Certificate.{are_two}
@@ -10,7 +10,7 @@ use Rattle.mrt_graph.specs.Topology.{Topology}
 use Rattle.mrt_graph.proofs.ListPlaces.{at_left}
 use Rattle.link_direction.specs.Directions.{Directions}
 use Rattle.mrt_rows.specs.RowsOf.{AreRowsOf, HasRow, row_among, rows_for}
-use Rattle.mrt_rows.proofs.RowPlaces.{column, column_above, column_below}
+use Rattle.mrt_rows.proofs.RowPlaces.{column, column_above}
 use Rattle.mrt_rows.proofs.Tables.{line_kept}
 
 -- where there is a row, its two nodes are two

@@ -1,6 +1,6 @@
 -- The rules on the graph, on orders, on heads and on blocks hold of a file that tells of a graph.
-use Rattle.std.proofs.Common.{◌≡◌, ◌≢◌, ◌⊎◌, ◌∙◌, ◌==◌, ◌&&◌, ◌||◌, ◌<◌, ◌≤◌, ℕ, Bool, true, false, List, Option, Some, None, not, nat_le, length, slice_get, filter, if◌then◌else◌, refl, sym, ap, subst, inl, inr, arith}
-use Rattle.std.proofs.lemmas.Bool.{and_from, and_parts, cases_eq, cases_lt, eq-eqb, eqb-true, le-leb, lt-leb, ne_eqb, or_left, or_right}
+use Rattle.std.proofs.Common.{◌≡◌, ◌≢◌, ◌∙◌, ◌==◌, ◌&&◌, ◌<◌, ◌≤◌, ℕ, true, false, Option, Some, not, nat_le, length, slice_get, refl, sym, ap, subst, inl, inr, arith}
+use Rattle.std.proofs.lemmas.Bool.{and_from, and_parts, cases_eq, cases_lt, eq-eqb, eqb-true, le-leb, ne_eqb, or_left, or_right}
 use Rattle.std.proofs.lemmas.Option.{slice_get_within}
 use Rattle.std.specs.List.{list_all}
 use Rattle.std.specs.Option.{option_and_then, option_map_or}
@@ -10,21 +10,19 @@ use Rattle.mrt_graph.specs.declared.cert.CertNode.{CertNode}
 use Rattle.mrt_graph.specs.declared.cert.Role.{Role}
 use Rattle.mrt_graph.specs.declared.cert.Role.TheVariants as roles
 use Rattle.mrt_graph.specs.declared.link.Link.{Link}
-use Rattle.mrt_graph.specs.BothThere.{are_different, are_equal, both, is_less}
+use Rattle.mrt_graph.specs.BothThere.{both}
 use Rattle.mrt_graph.specs.Certificate.{Certificate}
 use Rattle.mrt_graph.specs.CertWords.{block_of, head_of, links_of, members, order_of}
-use Rattle.mrt_graph.specs.HeadsAndBlocks.{HeadHoldsAt, HeadsHold, closed_block, closed_unless_one_link, closings, is_greatest_of, joins_greatest, link_placed, lone_block, lone_if_one_link, one_head, placed}
+use Rattle.mrt_graph.specs.HeadsAndBlocks.{HeadsHold, closed_block, closed_unless_one_link, closings, is_greatest_of, joins_greatest, link_placed, lone_block, lone_if_one_link, one_head, placed}
 use Rattle.mrt_graph.specs.Leads.{leads}
 use Rattle.mrt_graph.specs.NodeOrder.{rank_of}
-use Rattle.mrt_graph.specs.Places.{Each, EachPair}
-use Rattle.mrt_graph.specs.Related.{is_common_block}
+use Rattle.mrt_graph.specs.Places.{Each}
 use Rattle.mrt_graph.specs.Roles.{is_closing, is_sole}
-use Rattle.mrt_graph.specs.RootAndOrders.{RootAndOrders, orders_differ, root_stands}
-use Rattle.mrt_graph.specs.SameGraph.{SameGraph, same_id, same_link, same_node}
+use Rattle.mrt_graph.specs.RootAndOrders.{RootAndOrders, root_stands}
+use Rattle.mrt_graph.specs.SameGraph.{SameGraph}
 use Rattle.mrt_graph.proofs.Hops.{far_ends}
 use Rattle.mrt_graph.proofs.ListTests.{there}
 use Rattle.mrt_graph.proofs.TestFacts.{role_closing}
-use Rattle.link_direction.specs.BlockOfTwo.{HaveInCommon}
 use Rattle.link_direction.specs.OrderedGadag.{HasClosingLink, HasSoleLink}
 use Rattle.mrt_rows.specs.CertOf.{Tells, link_words, node_words}
 use Rattle.mrt_rows.proofs.CertSays.{block_is, different_test, equal_test, head_is, less_test, order_is}

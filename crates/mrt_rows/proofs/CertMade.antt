@@ -1,9 +1,8 @@
 -- The certificate of the rows of all nodes and of the words on nodes and links.
-use Rattle.std.proofs.Common.{◌≡◌, ◌≢◌, ◌⊎◌, ◌∙◌, ◌<◌, ◌≤◌, ◌+◌, ◌-◌, ◌*◌, ℕ, zero, suc, List, [], ◌∷◌, Option, Some, None, length, slice_get, refl, sym, ap, subst, inl, inr, arith}
+use Rattle.std.proofs.Common.{◌≡◌, ◌≢◌, ◌⊎◌, ◌∙◌, ◌<◌, ◌≤◌, ◌-◌, ◌*◌, ℕ, zero, suc, List, [], ◌∷◌, Option, Some, length, slice_get, refl, sym, ap, subst, inl, inr, arith}
 use Rattle.std.proofs.lemmas.Bool.{cases_eq}
 use Rattle.std.proofs.lemmas.Option.{same_Some, slice_get_within}
 use Rattle.std.specs.List.{AllByRecursion}
-use Rattle.mrt_graph.specs.declared.cert.CertFile.{CertFile}
 use Rattle.mrt_graph.specs.declared.cert.CertLink.{CertLink}
 use Rattle.mrt_graph.specs.declared.cert.CertNode.{CertNode}
 use Rattle.mrt_graph.specs.declared.cert.Row.{Row}
@@ -11,10 +10,8 @@ use Rattle.mrt_graph.specs.declared.cert.Tag.{Tag}
 use Rattle.mrt_graph.specs.declared.cert.Tag.TheVariants as tags
 use Rattle.mrt_graph.specs.declared.link.Link.{Link}
 use Rattle.mrt_graph.specs.declared.node_id.NodeId.{NodeId}
-use Rattle.mrt_graph.specs.Certificate.{Certificate, IsCertificate, IsCertLink, IsCertNode, IsCertRow, certificate_of, row_of}
+use Rattle.mrt_graph.specs.Certificate.{IsCertificate, IsCertLink, IsCertNode, IsCertRow, certificate_of}
 use Rattle.mrt_graph.specs.GraphInvariant.{IsLink}
-use Rattle.mrt_graph.specs.RowPlace.{place_of_row}
-use Rattle.mrt_graph.specs.Leads.{leads}
 use Rattle.mrt_graph.proofs.ListTests.{all_at, there}
 use Rattle.link_direction.specs.BlockOfTwo.{FromHead, HaveInCommon, Peers, ToHead}
 use Rattle.inc_dec_spf.specs.declared.reach.Dir.TheVariants.{Down, Up}
@@ -23,7 +20,7 @@ use Rattle.mrt_rows.specs.RowLines.{CarriedLine, HasLinksFor, LineOf}
 use Rattle.mrt_rows.specs.RowsOf.{AreAllRows, HasRow, row_among}
 use Rattle.mrt_rows.proofs.AllRows.{row_is}
 use Rattle.mrt_rows.proofs.OrderedGraphs.{OrderedGraph, within}
-use Rattle.mrt_rows.proofs.OtherLines.{InCommon, begins_in, home_in}
+use Rattle.mrt_rows.proofs.OtherLines.{begins_in, home_in}
 use Rattle.mrt_rows.proofs.RowPlaces.{placed}
 
 -- what holds at each place holds of all

@@ -1,5 +1,5 @@
 -- What a file that tells of a graph says, test by test.
-use Rattle.std.proofs.Common.{◌≡◌, ◌≢◌, ◌⊎◌, ◌∙◌, ◌==◌, ◌<◌, ℕ, Bool, true, false, List, Option, Some, None, not, length, slice_get, refl, sym, ap, subst, inl, inr, arith}
+use Rattle.std.proofs.Common.{◌≡◌, ◌≢◌, ◌∙◌, ◌<◌, ℕ, Bool, true, false, Option, Some, not, length, refl, ap}
 use Rattle.std.proofs.lemmas.Bool.{eq-eqb, lt-ltb, ne_eqb}
 use Rattle.std.specs.Option.{option_map, option_map_or}
 use Rattle.mrt_graph.specs.declared.cert.CertFile.{CertFile}
@@ -16,7 +16,7 @@ use Rattle.mrt_graph.specs.Roles.{is_closing, is_plain, is_sole}
 use Rattle.mrt_graph.specs.Tags.{same_tag}
 use Rattle.mrt_graph.proofs.ListTests.{there}
 use Rattle.mrt_graph.proofs.TestFacts.{tag_itself}
-use Rattle.mrt_rows.specs.CertOf.{Tells, link_words, node_words}
+use Rattle.mrt_rows.specs.CertOf.{Tells}
 use Rattle.mrt_rows.specs.RowsOf.{HasRow}
 use Rattle.mrt_rows.proofs.OrderedGraphs.{OrderedGraph}
 

@@ -1,12 +1,12 @@
 -- A table on the way to the rows for all nodes, in the order of the nodes.
-use Rattle.std.proofs.Common.{◌≡◌, ◌≢◌, ◌⊎◌, ◌∙◌, ◌<◌, ◌≤◌, ◌+◌, ◌-◌, ℕ, List, Option, Some, None, length, slice_get, refl, sym, ap, subst, inl, inr, arith}
+use Rattle.std.proofs.Common.{◌≡◌, ◌≢◌, ◌∙◌, ◌<◌, ◌≤◌, ◌+◌, ◌-◌, ℕ, List, Option, Some, length, slice_get, refl, sym, ap, subst, inl, inr, arith}
 use Rattle.std.proofs.lemmas.Bool.{cases_eq}
 use Rattle.std.proofs.lemmas.Option.{same_Some, slice_get_within}
 use Rattle.mrt_graph.specs.declared.cert.Row.{Row}
-use Rattle.link_direction.specs.BlockOfTwo.{FromHead, HaveInCommon, ToHead}
+use Rattle.link_direction.specs.BlockOfTwo.{FromHead, ToHead}
 use Rattle.inc_dec_spf.specs.declared.reach.Dir.TheVariants.{Up}
 use Rattle.inc_dec_spf.specs.Sweep.{AreTurns}
-use Rattle.mrt_rows.specs.Table.{HasSoleRows, IsIn, IsReady, IsTable, StayIn, in_table}
+use Rattle.mrt_rows.specs.Table.{HasSoleRows, IsIn, IsReady, IsTable, StayIn}
 use Rattle.mrt_rows.proofs.OrderedGraphs.{OrderedGraph}
 
 pub stays_in : (table after : List (Option Row)) (t : ℕ) → StayIn table after → IsIn table t → IsIn after t

@@ -1,5 +1,5 @@
 -- Rows as their lines say keep what the rules ask of their tags: where both links lead.
-use Rattle.std.proofs.Common.{◌≡◌, ◌≢◌, ◌⊎◌, ◌∙◌, ◌==◌, ◌&&◌, ◌||◌, ◌<◌, ℕ, Bool, true, false, List, [], ◌∷◌, Option, Some, None, length, refl, sym, ap, subst, inl, inr, arith}
+use Rattle.std.proofs.Common.{◌≡◌, ◌≢◌, ◌∙◌, ◌==◌, ◌&&◌, ◌||◌, ◌<◌, ℕ, true, List, [], ◌∷◌, Some, length, refl, sym, ap, subst, inl, inr, arith}
 use Rattle.std.proofs.lemmas.Bool.{and_from, cases_eq, eq-eqb, or_left, or_right}
 use Rattle.mrt_graph.specs.declared.cert.CertFile.{CertFile}
 use Rattle.mrt_graph.specs.declared.cert.Role.{Role}
@@ -24,10 +24,10 @@ use Rattle.mrt_rows.specs.CertOf.{Tells}
 use Rattle.mrt_rows.specs.RowLines.{AboveLine, BeginsOver, BelowLine, HeadLine, TopLine, UnorderedLine}
 use Rattle.mrt_rows.specs.RowsOf.{HasRow}
 use Rattle.mrt_rows.proofs.CertSays.{block_is, closing_test, equal_test, head_is, less_test, order_is, plain_test, tagged_test}
-use Rattle.mrt_rows.proofs.OrderedGraphs.{OrderedGraph, Within, peers_not_head, step_leads, step_over, within}
-use Rattle.mrt_rows.proofs.RowTags.{PeerTag, above_here, below_here, not_above, not_below, one_way, peer_tag}
-use Rattle.mrt_rows.proofs.Ways.{Begun, GoesOn, Inside, Ring, Way, begun, down_falls, down_from, down_from_head, head_lower, inside_head, inside_itself, not_head, put_before, top_down, top_inside, up_from, up_from_head, up_rises}
-use Rattle.mrt_rows.proofs.WaysBegun.{Members, Sharing, WayOver, members, no_way, over_leads, peers, ring_of, share, way_over}
+use Rattle.mrt_rows.proofs.OrderedGraphs.{OrderedGraph, peers_not_head, step_leads, step_over, within}
+use Rattle.mrt_rows.proofs.RowTags.{PeerTag, above_here, below_here, not_above, not_below, peer_tag}
+use Rattle.mrt_rows.proofs.Ways.{GoesOn, Inside, Ring, Way, begun, down_falls, down_from, down_from_head, inside_head, inside_itself, not_head, put_before, top_down, top_inside, up_from, up_from_head, up_rises}
+use Rattle.mrt_rows.proofs.WaysBegun.{Sharing, WayOver, members, no_way, over_leads, peers, ring_of, share, way_over}
 
 -- both links of a row of s for t lead on, to where its tag asks
 pub record Passes (og : OrderedGraph) (file : CertFile) (tag : Tag) (s t : ℕ) (row : Row) : Type 0 where
@@ -398,7 +398,7 @@ module _ (og : OrderedGraph) (file : CertFile) (tells : Tells og.g og.root og.w 
     down_past : (ring : Ring og s) (target : Inside og s t) → (Way og s Down s t → ⊥)
         → (blue : WayOver og s Down s (og.w.head s) row.blue)
         → ((lower_tagged c s t tags.Unordered blue.end.to || lower_tagged c s t tags.Below blue.end.to)
-            || plain_to_head c row.blue s blue.end.to) ≡ true
+        || plain_to_head c row.blue s blue.end.to) ≡ true
     down_past ring target never blue =
         let source = inside_itself og s ring in
         let first = begun og s Down s blue.end blue.others (og.w.head s) blue.is in

@@ -1,23 +1,20 @@
 -- The row of a source for a node of one of its blocks, made of the hops of both.
-use Rattle.std.proofs.Common.{◌≡◌, ◌≢◌, ◌⊎◌, ◌∙◌, ◌<◌, ℕ, List, Option, Some, None, length, slice_get, refl, sym, ap, subst, inl, inr, arith}
+use Rattle.std.proofs.Common.{◌≡◌, ◌≢◌, ◌∙◌, ◌<◌, ℕ, Option, Some, None, length, slice_get, refl, sym, ap, subst, inl, inr}
 use Rattle.std.proofs.lemmas.Option.{same_Some}
 use Rattle.std.specs.Option.{option_map}
-use Rattle.mrt_graph.specs.declared.cert.Row.{Row}
-use Rattle.mrt_graph.specs.declared.cert.Tag.{Tag}
 use Rattle.mrt_graph.specs.declared.cert.Tag.TheVariants as tags
 use Rattle.mrt_graph.specs.declared.gadag.Place.{Place}
 use Rattle.mrt_graph.specs.DirectedLists.{DirectedLists}
 use Rattle.mrt_graph.specs.Topology.{Topology}
 use Rattle.link_direction.specs.BlockOfTwo.{FromHead, HaveInCommon, Peers, ToHead}
 use Rattle.link_direction.specs.Directions.{Directions, Says}
-use Rattle.link_direction.specs.OrderedGadag.{HasSoleLink}
 use Rattle.inc_dec_spf.specs.declared.reach.Dir.{Dir}
 use Rattle.inc_dec_spf.specs.declared.reach.Dir.TheVariants.{Down, Up}
 use Rattle.inc_dec_spf.specs.declared.reach.Hop.{Hop}
-use Rattle.inc_dec_spf.specs.LeastPath.{IsHop, NotReached, Reached}
+use Rattle.inc_dec_spf.specs.LeastPath.{IsHop}
 use Rattle.mrt_rows.specs.HopRows.{member_row, row_by}
-use Rattle.mrt_rows.specs.RowLines.{AreMembers, BeginsOver, HasOneLink, LineOf, NoWay}
-use Rattle.mrt_rows.specs.Source.{Far, IsNear, Near, NoneOfOneLink}
+use Rattle.mrt_rows.specs.RowLines.{AreMembers, BeginsOver, HasOneLink}
+use Rattle.mrt_rows.specs.Source.{IsNear, Near, NoneOfOneLink}
 use Rattle.mrt_rows.proofs.HeadWays.{way_from_head, way_home}
 use Rattle.mrt_rows.proofs.LinesHold.{has_head, with_head}
 use Rattle.mrt_rows.proofs.OrderedGraphs.{OrderedGraph, not_root_of_peers}

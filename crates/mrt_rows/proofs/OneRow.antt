@@ -1,5 +1,5 @@
 -- There is one row of a node for another one.
-use Rattle.std.proofs.Common.{◌≡◌, ◌≢◌, ◌⊎◌, ◌∙◌, ◌<◌, ◌≤◌, ◌+◌, ℕ, zero, suc, List, [], ◌∷◌, Option, Some, None, length, slice_get, refl, sym, ap, subst, inl, inr, arith}
+use Rattle.std.proofs.Common.{◌≡◌, ◌≢◌, ◌∙◌, ◌<◌, ◌≤◌, ℕ, zero, suc, Option, Some, length, refl, sym, ap, subst, inl, inr, arith}
 use Rattle.std.proofs.lemmas.Bool.{cases_eq}
 use Rattle.std.proofs.lemmas.Option.{same_Some}
 use Rattle.mrt_graph.specs.declared.cert.Row.{Row}
@@ -8,8 +8,8 @@ use Rattle.mrt_graph.specs.declared.cert.Tag.TheVariants as tags
 use Rattle.link_direction.specs.BlockOfTwo.{FromHead, HaveInCommon, Peers, ToHead}
 use Rattle.inc_dec_spf.specs.declared.reach.Dir.{Dir}
 use Rattle.inc_dec_spf.specs.declared.reach.Dir.TheVariants.{Down, Up}
-use Rattle.inc_dec_spf.specs.LeastPath.{HasMoreLinks, ShareBlock}
-use Rattle.mrt_rows.specs.RowLines.{AboveLine, AreMembers, BeginsOver, BelowLine, CarriedLine, HasLinksFor, HasOneLink, HeadLine, LineOf, NoWay, SoleLine, TopLine, UnorderedLine}
+use Rattle.inc_dec_spf.specs.LeastPath.{ShareBlock}
+use Rattle.mrt_rows.specs.RowLines.{AreMembers, BeginsOver, CarriedLine, HasLinksFor, HasOneLink, LineOf}
 use Rattle.mrt_rows.specs.RowsOf.{HasRow}
 use Rattle.mrt_rows.proofs.LinesHold.{head_of_source, head_of_target}
 use Rattle.mrt_rows.proofs.OneHop.{one_link, way_or_none}

@@ -1,18 +1,16 @@
 -- A graph with a GADAG in order: its links, its ends, and the blocks that nodes have in common.
-use Rattle.std.proofs.Common.{◌≡◌, ◌≢◌, ◌⊎◌, ◌∙◌, ◌<◌, ◌≤◌, ℕ, List, Option, Some, None, length, slice_get, refl, sym, ap, subst, inl, inr, arith}
-use Rattle.std.proofs.lemmas.Bool.{cases_eq}
-use Rattle.std.proofs.lemmas.Option.{slice_get_within, same_Some}
+use Rattle.std.proofs.Common.{◌≡◌, ◌≢◌, ◌⊎◌, ◌∙◌, ◌<◌, ℕ, Option, Some, None, length, slice_get, refl, sym, ap, inl, inr, arith}
+use Rattle.std.proofs.lemmas.Option.{slice_get_within}
 use Rattle.std.specs.Option.{option_and_then}
 use Rattle.mrt_graph.specs.declared.link.End.{End}
 use Rattle.mrt_graph.specs.declared.link.Link.{Link}
 use Rattle.mrt_graph.specs.DirectedLists.{DirectedLists}
-use Rattle.mrt_graph.specs.GraphInvariant.{IsEnd, IsLink, IsTopology}
+use Rattle.mrt_graph.specs.GraphInvariant.{IsLink, IsTopology}
 use Rattle.mrt_graph.specs.Leads.{far_node, leads}
 use Rattle.mrt_graph.specs.Topology.{Topology}
 use Rattle.mrt_graph.proofs.EndsAt.{end_leads, leads_end, list_of_ends}
-use Rattle.mrt_graph.proofs.Hops.{far_ends, lead_back, same_ends}
+use Rattle.mrt_graph.proofs.Hops.{far_ends, same_ends}
 use Rattle.mrt_graph.proofs.ListTests.{all_at}
-use Rattle.gadag_ears.proofs.CommonBlocks.{leads_elsewhere}
 use Rattle.link_direction.specs.BlockOfTwo.{FromHead, HaveInCommon, Peers, ToHead}
 use Rattle.link_direction.specs.Directions.{Directions}
 use Rattle.link_direction.specs.OrderedGadag.{IsOrderedGadag}

@@ -1,5 +1,5 @@
 -- Rows of blocks with one link, carried rows, and the blocks that the links of rows lie in.
-use Rattle.std.proofs.Common.{◌≡◌, ◌≢◌, ◌⊎◌, ◌∙◌, ◌==◌, ◌&&◌, ◌||◌, ◌<◌, ℕ, Bool, true, false, List, [], ◌∷◌, Option, Some, None, length, if◌then◌else◌, refl, sym, ap, subst, inl, inr, arith}
+use Rattle.std.proofs.Common.{◌≡◌, ◌≢◌, ◌∙◌, ◌<◌, ℕ, true, false, List, [], ◌∷◌, Option, Some, length, refl, sym, ap, subst, inl, inr}
 use Rattle.std.proofs.lemmas.Bool.{and_from, cases_eq, eq-eqb, ne_eqb, or_left, or_right}
 use Rattle.std.specs.Option.{option_and_then, option_map_or}
 use Rattle.mrt_graph.specs.declared.cert.CertFile.{CertFile}
@@ -8,27 +8,26 @@ use Rattle.mrt_graph.specs.declared.cert.Row.{Row}
 use Rattle.mrt_graph.specs.declared.cert.Tag.{Tag}
 use Rattle.mrt_graph.specs.declared.cert.Tag.TheVariants as tags
 use Rattle.mrt_graph.specs.declared.link.End.{End}
-use Rattle.mrt_graph.specs.BothThere.{are_different, are_equal}
 use Rattle.mrt_graph.specs.Certificate.{Certificate, row_of}
-use Rattle.mrt_graph.specs.CertWords.{block_of, has_role, head_of, link_block}
+use Rattle.mrt_graph.specs.CertWords.{block_of, head_of, link_block}
 use Rattle.mrt_graph.specs.Leads.{leads}
 use Rattle.mrt_graph.specs.Related.{are_unrelated, is_common_block}
 use Rattle.mrt_graph.specs.RowRules.{carried_row, carrier, lies_in_block, same_links}
 use Rattle.mrt_graph.proofs.Hops.{lead_back}
 use Rattle.link_direction.specs.BlockOfTwo.{FromHead, HaveInCommon, Peers, ToHead}
-use Rattle.link_direction.specs.OrderedGadag.{HasClosingLink, HasSoleLink}
+use Rattle.link_direction.specs.OrderedGadag.{HasSoleLink}
 use Rattle.inc_dec_spf.specs.declared.reach.Dir.{Dir}
 use Rattle.inc_dec_spf.specs.declared.reach.Dir.TheVariants.{Down, Up}
 use Rattle.inc_dec_spf.specs.declared.reach.Hop.{Hop}
-use Rattle.inc_dec_spf.specs.LeastPath.{BeginsPath, IsHop, IsLeastPath, Reached}
+use Rattle.inc_dec_spf.specs.LeastPath.{BeginsPath, IsHop, Reached}
 use Rattle.inc_dec_spf.specs.Path.{IsStep, Path}
 use Rattle.mrt_rows.specs.CertOf.{Tells}
-use Rattle.mrt_rows.specs.RowLines.{AboveLine, AreMembers, BeginsOver, BelowLine, CarriedLine, HasLinksFor, HasOneLink, HeadLine, LineOf, SoleLine, TopLine, UnorderedLine}
+use Rattle.mrt_rows.specs.RowLines.{AreMembers, BeginsOver, CarriedLine, HasLinksFor, HasOneLink, LineOf, SoleLine}
 use Rattle.mrt_rows.proofs.CertSays.{block_is, different_test, equal_test, head_is, link_block_is, sole_test}
 use Rattle.mrt_rows.proofs.LinesHold.{Passes, has_head, with_head}
 use Rattle.mrt_rows.proofs.OrderedGraphs.{OrderedGraph, not_root_of_peers, step_leads, within}
-use Rattle.mrt_rows.proofs.Ways.{Ring, begun, inside_itself}
-use Rattle.mrt_rows.proofs.WaysBegun.{Members, WayOver, members, over_leads, way_over}
+use Rattle.mrt_rows.proofs.Ways.{begun, inside_itself}
+use Rattle.mrt_rows.proofs.WaysBegun.{members, over_leads, way_over}
 
 -- a block with one link, which is sole
 pub sole_of : (og : OrderedGraph) (m link : ℕ) → m < length og.g.ids → m ≢ og.root

@@ -1,8 +1,7 @@
 -- Where rows stand in a certificate.
-use Rattle.std.proofs.Common.{◌≡◌, ◌≢◌, ◌⊎◌, ◌∙◌, ◌<◌, ◌≤◌, ◌+◌, ◌-◌, ◌*◌, ◌/◌, ◌%◌, ◌==◌, ◌&&◌, ℕ, zero, suc, true, false, List, Option, Some, None, not, nat_lt, length, slice_get, if◌then◌else◌, refl, sym, ap, subst, inl, inr, arith}
+use Rattle.std.proofs.Common.{◌≡◌, ◌≢◌, ◌∙◌, ◌<◌, ◌+◌, ◌-◌, ◌*◌, ◌/◌, ◌%◌, ℕ, zero, suc, true, not, nat_lt, length, slice_get, if◌then◌else◌, refl, ap, subst, inl, inr, arith}
 use Rattle.std.proofs.Math.Nat.{div-add-mod, mul-le-mul_left, mul_comm}
-use Rattle.std.proofs.lemmas.Bool.{and_from, cases_lt, eq-eqb, le-ltb, lt-ltb, ne_eqb}
-use Rattle.mrt_graph.specs.declared.cert.Row.{Row}
+use Rattle.std.proofs.lemmas.Bool.{and_from, cases_lt, le-ltb, lt-ltb, ne_eqb}
 use Rattle.mrt_graph.specs.Certificate.{Certificate, are_two, row_of}
 use Rattle.mrt_graph.specs.RowPlace.{place_of_row}
 

@@ -1,13 +1,12 @@
 -- The tag of a row of a node for another one of its block: by the paths between the two.
-use Rattle.std.proofs.Common.{◌≡◌, ◌≢◌, ◌⊎◌, ◌∙◌, ◌<◌, ℕ, List, [], ◌∷◌, Option, Some, None, length, refl, sym, ap, subst, inl, inr, arith}
+use Rattle.std.proofs.Common.{◌≡◌, ◌≢◌, ◌⊎◌, ◌∙◌, ℕ, ◌∷◌, Option, refl, sym, inl, inr, arith}
 use Rattle.mrt_graph.specs.declared.cert.Row.{Row}
 use Rattle.mrt_graph.specs.declared.cert.Tag.{Tag}
 use Rattle.mrt_graph.specs.declared.cert.Tag.TheVariants as tags
-use Rattle.link_direction.specs.OrderedGadag.{HasClosingLink}
 use Rattle.inc_dec_spf.specs.declared.reach.Dir.{Dir}
 use Rattle.inc_dec_spf.specs.declared.reach.Dir.TheVariants.{Down, Up}
 use Rattle.inc_dec_spf.specs.LeastPath.{ShareBlock}
-use Rattle.mrt_rows.specs.RowLines.{AboveLine, AreMembers, BelowLine, CarriedLine, HeadLine, LineOf, SoleLine, TopLine, UnorderedLine}
+use Rattle.mrt_rows.specs.RowLines.{LineOf, SoleLine}
 use Rattle.mrt_rows.proofs.OrderedGraphs.{OrderedGraph, one_common, within}
 use Rattle.mrt_rows.proofs.Ways.{Inside, Ring, Way, down_falls, not_head, up_rises}
 use Rattle.mrt_rows.proofs.WaysBegun.{Sharing, WayOver, no_way, peers, share, way_over}

@@ -1,5 +1,5 @@
 -- All fourteen rules hold of a file that tells of a graph.
-use Rattle.std.proofs.Common.{◌≡◌, ◌≢◌, ◌∙◌, ◌==◌, ◌||◌, ◌<◌, ℕ, Bool, true, false, Option, not, length, refl, sym, ap, subst, inl, inr, arith}
+use Rattle.std.proofs.Common.{◌≡◌, ◌≢◌, ◌∙◌, ◌==◌, ◌||◌, ◌<◌, ℕ, Bool, true, false, Option, not, length, sym, ap, subst, inl, inr, arith}
 use Rattle.std.proofs.lemmas.Bool.{cases_Bool, cases_eq, eq-eqb, or_left, or_right, false≢true}
 use Rattle.std.specs.Option.{option_map_or}
 use Rattle.mrt_graph.specs.declared.cert.CertFile.{CertFile}
@@ -21,7 +21,6 @@ use Rattle.link_direction.specs.Directions.{Directions}
 use Rattle.link_direction.specs.OrderedGadag.{IsOrderedGadag}
 use Rattle.mrt_rows.specs.CertOf.{Tells}
 use Rattle.mrt_rows.specs.RowLines.{LineOf}
-use Rattle.mrt_rows.specs.RowsOf.{HasRow}
 use Rattle.mrt_rows.proofs.BlocksHold.{closed_blocks, heads_hold, links_placed, lone_blocks, ordered, same_graph}
 use Rattle.mrt_rows.proofs.LinesHold.{Passes, above_passes, below_passes, head_passes, top_passes, unordered_passes}
 use Rattle.mrt_rows.proofs.OrderedGraphs.{OrderedGraph}

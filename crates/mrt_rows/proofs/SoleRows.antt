@@ -3,7 +3,6 @@ use Rattle.std.proofs.Common.{◌≡◌, ◌≢◌, ◌⊎◌, ◌∙◌, ◌<�
 use Rattle.std.proofs.lemmas.Bool.{cases_eq}
 use Rattle.std.proofs.lemmas.Option.{same_Some, slice_get_within}
 use Rattle.std.specs.Option.{option_map}
-use Rattle.mrt_graph.specs.declared.cert.Role.{Role}
 use Rattle.mrt_graph.specs.declared.cert.Role.TheVariants.{Sole}
 use Rattle.mrt_graph.specs.declared.cert.Row.{Row}
 use Rattle.mrt_graph.specs.declared.cert.Tag.{Tag}
@@ -13,15 +12,14 @@ use Rattle.mrt_graph.specs.declared.link.End.{End}
 use Rattle.mrt_graph.specs.DirectedLists.{DirectedLists}
 use Rattle.mrt_graph.specs.Leads.{leads}
 use Rattle.mrt_graph.specs.Topology.{Topology}
-use Rattle.mrt_graph.proofs.EndsAt.{end_leads, leads_end, list_of_ends}
+use Rattle.mrt_graph.proofs.EndsAt.{end_leads, leads_end}
 use Rattle.link_direction.specs.BlockOfTwo.{FromHead, HaveInCommon, Peers, ToHead}
 use Rattle.link_direction.specs.Directions.{Directions, Says}
-use Rattle.link_direction.specs.OrderedGadag.{HasSoleLink}
 use Rattle.mrt_rows.specs.RowLines.{HasOneLink, LineOf, SoleLine}
 use Rattle.mrt_rows.specs.Table.{HasSoleRows, IsIn, IsTable, in_table}
 use Rattle.mrt_rows.proofs.LinesHold.{has_head}
 use Rattle.mrt_rows.proofs.OrderedGraphs.{OrderedGraph, Within, not_root_of_peers, within}
-use Rattle.mrt_rows.proofs.OtherLines.{OneLinkBetween, one_link_between}
+use Rattle.mrt_rows.proofs.OtherLines.{one_link_between}
 use Rattle.mrt_rows.proofs.Tables.{in_set_other, in_set_same}
 
 -- the row over one link, as blue and as red

@@ -1,5 +1,5 @@
 -- Tables of rows: one more row put in.
-use Rattle.std.proofs.Common.{◌≡◌, ◌≢◌, ◌⊎◌, ◌∙◌, ◌<◌, ◌≤◌, ℕ, List, Option, Some, None, true, false, get_or, length, set, slice_get, refl, sym, ap, subst, inl, inr, arith}
+use Rattle.std.proofs.Common.{◌≡◌, ◌≢◌, ◌∙◌, ◌<◌, ℕ, List, Option, Some, None, true, false, get_or, length, set, refl, sym, ap, subst, inl, inr}
 use Rattle.std.proofs.lemmas.Bool.{cases_eq, false≢true, true≢false}
 use Rattle.std.proofs.lemmas.Option.{same_Some, slice_get_read}
 use Rattle.std.specs.Option.{is_some, option_and_then}
@@ -10,7 +10,7 @@ use Rattle.mrt_graph.specs.Topology.{Topology}
 use Rattle.mrt_graph.proofs.ListPlaces.{set_elsewhere, set_there}
 use Rattle.link_direction.specs.BlockOfTwo.{HaveInCommon}
 use Rattle.link_direction.specs.Directions.{Directions}
-use Rattle.mrt_rows.specs.RowLines.{CarriedLine, HasLinksFor, HasOneLink, LineOf}
+use Rattle.mrt_rows.specs.RowLines.{HasLinksFor, LineOf}
 use Rattle.mrt_rows.specs.Source.{Far, IsNear, Near, NoneOfOneLink}
 use Rattle.mrt_rows.specs.Table.{HasSoleRows, IsIn, IsReady, IsRowFor, IsTable, StayIn, carried, in_table}
 

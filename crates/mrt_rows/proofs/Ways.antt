@@ -1,17 +1,17 @@
 -- The links and the paths of a block of more than one link.
-use Rattle.std.proofs.Common.{◌≡◌, ◌≢◌, ◌⊎◌, ◌∙◌, ◌<◌, ◌≤◌, ◌+◌, ◌++◌, ℕ, zero, suc, List, [], ◌∷◌, Option, Some, None, length, slice_get, refl, sym, ap, subst, inl, inr, arith}
+use Rattle.std.proofs.Common.{◌≡◌, ◌≢◌, ◌⊎◌, ◌∙◌, ◌<◌, ◌≤◌, ◌+◌, ◌++◌, ℕ, zero, suc, List, [], ◌∷◌, Some, length, refl, sym, ap, subst, inl, inr, arith}
 use Rattle.std.proofs.lemmas.Bool.{cases_eq}
 use Rattle.mrt_graph.specs.declared.cert.Role.{Role}
 use Rattle.mrt_graph.specs.declared.cert.Role.TheVariants.{Closing, Plain, Sole}
 use Rattle.mrt_graph.specs.declared.link.End.{End}
 use Rattle.mrt_graph.specs.Leads.{leads}
-use Rattle.mrt_graph.proofs.Hops.{lead_back, same_ends}
+use Rattle.mrt_graph.proofs.Hops.{lead_back}
 use Rattle.link_direction.specs.BlockOfTwo.{FromHead, HaveInCommon, Peers, ToHead}
 use Rattle.link_direction.specs.OrderedGadag.{HasClosingLink}
 use Rattle.inc_dec_spf.specs.declared.reach.Dir.{Dir}
 use Rattle.inc_dec_spf.specs.declared.reach.Dir.TheVariants.{Down, Up}
 use Rattle.inc_dec_spf.specs.Path.{IsStep, Path}
-use Rattle.mrt_rows.proofs.OrderedGraphs.{OrderedGraph, TailAt, Within, step_leads, step_over, StepOver, tail_is, within}
+use Rattle.mrt_rows.proofs.OrderedGraphs.{OrderedGraph, Within, step_leads, step_over, tail_is, within}
 
 -- node m has a block of more than one link
 pub record Ring (og : OrderedGraph) (m : ℕ) : Type 0 where

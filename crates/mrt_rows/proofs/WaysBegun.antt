@@ -1,16 +1,15 @@
 -- What the links of rows begin: paths of a block of more than one link.
-use Rattle.std.proofs.Common.{◌≡◌, ◌≢◌, ◌⊎◌, ◌∙◌, ◌<◌, ℕ, List, [], ◌∷◌, Option, Some, None, length, refl, sym, ap, subst, inl, inr, arith}
+use Rattle.std.proofs.Common.{◌≡◌, ◌≢◌, ◌∙◌, ◌<◌, ℕ, List, ◌∷◌, Some, length, refl, sym, subst, inl, inr}
 use Rattle.mrt_graph.specs.declared.link.End.{End}
 use Rattle.mrt_graph.specs.Leads.{leads}
-use Rattle.link_direction.specs.BlockOfTwo.{FromHead, HaveInCommon, Peers, ToHead}
-use Rattle.link_direction.specs.OrderedGadag.{HasClosingLink, HasSoleLink}
+use Rattle.link_direction.specs.BlockOfTwo.{HaveInCommon, Peers}
 use Rattle.inc_dec_spf.specs.declared.reach.Dir.{Dir}
 use Rattle.inc_dec_spf.specs.declared.reach.Hop.{Hop}
 use Rattle.inc_dec_spf.specs.LeastPath.{BeginsPath, HasMoreLinks, IsHop, IsLeastPath, NotReached, Reached, ShareBlock}
-use Rattle.inc_dec_spf.specs.Path.{IsStep, Path}
+use Rattle.inc_dec_spf.specs.Path.{Path}
 use Rattle.mrt_rows.specs.RowLines.{AreMembers, BeginsOver, NoWay}
-use Rattle.mrt_rows.proofs.OrderedGraphs.{OrderedGraph, Within, not_root_of_peers, one_common, step_leads, within}
-use Rattle.mrt_rows.proofs.Ways.{Begun, GoesOn, Inside, Ring, Way, begun}
+use Rattle.mrt_rows.proofs.OrderedGraphs.{OrderedGraph, not_root_of_peers, one_common, step_leads, within}
+use Rattle.mrt_rows.proofs.Ways.{Inside, Ring, Way, begun}
 
 -- a path of m's block from s to t, whose first end is over this link
 pub record WayOver (og : OrderedGraph) (m : ℕ) (dir : Dir) (s t link : ℕ) : Type 0 where

@@ -22,7 +22,16 @@ pub fn all_rows(alloc: Global, g: &Graph, root: NodeNo, d: &Directed) -> Result<
     let mut table = vec![in alloc; None; size]?;
     let mut rows = Vec::with_capacity(alloc, size * (size - 1))?;
     for s in 0..count {
-        put_rows(alloc, g, root, d, &nodes, NodeNo::new(s), &mut table, &mut rows)?;
+        put_rows(
+            alloc,
+            g,
+            root,
+            d,
+            &nodes,
+            NodeNo::new(s),
+            &mut table,
+            &mut rows,
+        )?;
     }
     Ok(rows)
 }

@@ -31,7 +31,12 @@ pub fn near_row(
         return row_by(up.hop(t), down.hop(t), Tag::Top);
     }
     if here.block == there.block {
-        return member_row(up.hop(t), down.hop(t), up.hop(here.head), down.hop(here.head));
+        return member_row(
+            up.hop(t),
+            down.hop(t),
+            up.hop(here.head),
+            down.hop(here.head),
+        );
     }
     None
 }

@@ -1,4 +1,4 @@
-use Rattle.std.proofs.Common.{◌≡◌, ◌≤◌, ◌-◌, ◌*◌, ℕ, length, vec_capacity}
+use Rattle.std.proofs.Common.{◌≡◌, ◌≤◌, ◌-◌, ◌*◌, length, vec_capacity}
 use Rattle.link_direction.specs.Directions.{Directions, Says}
 use Rattle.mrt_rows.proofs.AllRows.{AreSoFar}
 use Rattle.mrt_rows.proofs.all_rows.all_rows.Given as goal

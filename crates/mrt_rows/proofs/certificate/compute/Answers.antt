@@ -1,5 +1,4 @@
-use Rattle.std.proofs.Common.{◌≡◌, Some, slice_get, sym, subst}
-use Rattle.mrt_graph.specs.Accepted.{Accepted}
+use Rattle.std.proofs.Common.{sym, subst}
 use Rattle.mrt_graph.specs.Certificate.{Certificate}
 use Rattle.mrt_rows.specs.CertOf.{Tells, file_of}
 use Rattle.mrt_rows.proofs.CertMade.{cert_kept, cert_tells}

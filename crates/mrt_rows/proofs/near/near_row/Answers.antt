@@ -1,14 +1,10 @@
-use Rattle.std.proofs.Common.{◌≡◌, ◌≢◌, ◌∙◌, ◌<◌, length, sym, ap, subst, rules}
+use Rattle.std.proofs.Common.{◌∙◌, sym, subst}
 use Rattle.std.proofs.lemmas.Bool.{eqb-false, eqb-true}
-use Rattle.mrt_graph.specs.GraphInvariant.{IsTopology}
-use Rattle.mrt_graph.specs.Topology.{Topology}
-use Rattle.mrt_graph.specs.DirectedLists.{DirectedLists}
 use Rattle.inc_dec_spf.specs.declared.reach.Dir.TheVariants.{Down, Up}
-use Rattle.inc_dec_spf.specs.HasDirections.{AreDirections}
 use Rattle.inc_dec_spf.specs.LeastPath.{IsHop}
-use Rattle.mrt_rows.specs.Source.{Far, IsNear}
+use Rattle.mrt_rows.specs.Source.{Far}
 use Rattle.mrt_rows.proofs.NearRows.{head_near, member_near, none_common, place_says, top_near}
-use Rattle.mrt_rows.proofs.OrderedGraphs.{OrderedGraph, graph_of}
+use Rattle.mrt_rows.proofs.OrderedGraphs.{graph_of}
 use Rattle.mrt_rows.proofs.near.near_row.Goals as goal
 
 pub returns-then-eq : goal.returns-then-eq

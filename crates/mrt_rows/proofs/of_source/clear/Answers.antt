@@ -1,4 +1,4 @@
-use Rattle.std.proofs.Common.{◌≡◌, ℕ, List, Option, None, rules, sym, subst, vec_len}
+use Rattle.std.proofs.Common.{◌≡◌, List, Option, None, rules, sym, subst, vec_len}
 use Rattle.mrt_graph.specs.declared.cert.Row.{Row}
 use Rattle.mrt_rows.specs.Table.{in_table}
 use Rattle.mrt_rows.proofs.TableRows.{none_in}

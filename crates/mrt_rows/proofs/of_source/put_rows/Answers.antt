@@ -1,4 +1,4 @@
-use Rattle.std.proofs.Common.{◌≡◌, ◌∙◌, ◌++◌, ℕ, List, Option, length, ap, arith}
+use Rattle.std.proofs.Common.{◌∙◌, ◌++◌, List, Option, length, ap, arith}
 use Rattle.mrt_graph.specs.declared.cert.Row.{Row}
 use Rattle.inc_dec_spf.specs.HasDirections.{HasDirections}
 use Rattle.inc_dec_spf.proofs.SameDirections.{directions_are}
@@ -39,19 +39,23 @@ take_rows-requires c =
     omega (arith, one, same, c.fill.ensures.one_each, c.requires.room)
 
 pub returns-clause-put : goal.returns-clause-put
-returns-clause-put c = (rows_in c.fill.new.table.items, c.take_rows.ensures.rows
-    ∙ ap (λ (xs : List (Option Row)). c.args.rows.now.items ++ rows_in xs) c.deref.ensures.value, λ w says.
-    let has : HasDirections c.args.g.now c.args.d.now =
-    record { root = c.args.root; directions = c.requires.directed.directions; are = (record { says = c.requires.directed.says; ordered = c.requires.directed.ordered }) } in
-    let hops : AreHops c.args.g.now c.args.d.now c.args.root w c.args.source c.in_ok-up.up c.in_ok-down.down = record {
-      are = directions_are c.args.g.now c.args.d.now w c.requires.kept has says;
-      goes_up = c.in_ok-up.ensures w says;
-      goes_down = c.in_ok-down.ensures w says;
-    } in
-    let table = c.fill.new.table.items in
-    let full : IsFull c.args.source table = record {
-      within = omega (arith, c.requires.source, c.fill.ensures.one_each);
-      own = (c.fill.ensures.table w hops).own;
-      each = λ t t_within two. c.fill.ensures.all w hops t (omega (arith, t_within, c.fill.ensures.one_each)) two;
-    } in
-    rows_of_table c.args.g.now c.args.root w c.args.source table (c.fill.ensures.table w hops) full c.fill.ensures.one_each)
+returns-clause-put c = (
+  rows_in c.fill.new.table.items,
+  c.take_rows.ensures.rows
+      ∙ ap (λ (xs : List (Option Row)). c.args.rows.now.items ++ rows_in xs) c.deref.ensures.value,
+  λ w says.
+      let has : HasDirections c.args.g.now c.args.d.now =
+      record { root = c.args.root; directions = c.requires.directed.directions; are = (record { says = c.requires.directed.says; ordered = c.requires.directed.ordered }) } in
+      let hops : AreHops c.args.g.now c.args.d.now c.args.root w c.args.source c.in_ok-up.up c.in_ok-down.down = record {
+        are = directions_are c.args.g.now c.args.d.now w c.requires.kept has says;
+        goes_up = c.in_ok-up.ensures w says;
+        goes_down = c.in_ok-down.ensures w says;
+      } in
+      let table = c.fill.new.table.items in
+      let full : IsFull c.args.source table = record {
+        within = omega (arith, c.requires.source, c.fill.ensures.one_each);
+        own = (c.fill.ensures.table w hops).own;
+        each = λ t t_within two. c.fill.ensures.all w hops t (omega (arith, t_within, c.fill.ensures.one_each)) two;
+      } in
+      rows_of_table c.args.g.now c.args.root w c.args.source table (c.fill.ensures.table w hops) full c.fill.ensures.one_each,
+)

@@ -1,7 +1,7 @@
-use Rattle.std.proofs.Common.{◌≡◌, ◌∙◌, ◌+◌, ◌++◌, List, Option, Some, None, [], ◌∷◌, drop, length, get_or, sym, ap, subst, arith}
+use Rattle.std.proofs.Common.{◌≡◌, ◌∙◌, ◌+◌, ◌++◌, List, Option, drop, get_or, ap, subst, arith}
 use Rattle.mrt_graph.specs.declared.cert.Row.{Row}
 use Rattle.mrt_rows.specs.Table.{rows_in}
-use Rattle.mrt_rows.proofs.TableRows.{all_taken, left_at, none_taken, room_for, row_taken}
+use Rattle.mrt_rows.proofs.TableRows.{all_taken, none_taken, room_for, row_taken}
 use Rattle.mrt_rows.proofs.of_source.take_rows.Goals as goal
 use Rattle.mrt_rows.proofs.of_source.take_rows.Goals.{in-Some, in_default}
 

@@ -1,4 +1,4 @@
-use Rattle.std.proofs.Common.{◌≡◌, ◌<◌, ℕ, length}
+use Rattle.std.proofs.Common.{◌≡◌, length}
 use Rattle.link_direction.specs.Directions.{Directions}
 use Rattle.mrt_rows.specs.Source.{AreHops, IsSource}
 use Rattle.mrt_rows.proofs.Filling.{IsFilling}

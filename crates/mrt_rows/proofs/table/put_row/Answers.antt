@@ -1,4 +1,4 @@
-use Rattle.std.proofs.Common.{◌∙◌, ◌≢◌, ℕ, List, Option, length, set, sym, subst, arith}
+use Rattle.std.proofs.Common.{◌∙◌, ◌≢◌, ℕ, List, Option, set, sym, subst, arith}
 use Rattle.std.proofs.lemmas.Bool.{eqb-false}
 use Rattle.mrt_graph.specs.declared.cert.Row.{Row}
 use Rattle.mrt_rows.specs.Table.{IsIn, IsRowFor, IsTable, StayIn}

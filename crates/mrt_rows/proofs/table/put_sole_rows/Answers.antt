@@ -1,11 +1,10 @@
-use Rattle.std.proofs.Common.{◌≡◌, ◌≢◌, ◌∙◌, ◌+◌, ℕ, List, Option, Some, length, set, slice_get, refl, sym, ap, subst, arith}
+use Rattle.std.proofs.Common.{◌≡◌, ◌≢◌, ◌∙◌, ◌+◌, ℕ, Some, length, set, slice_get, refl, sym, subst}
 use Rattle.std.proofs.lemmas.List.{length-set}
 use Rattle.std.proofs.lemmas.Option.{slice_get_read}
 use Rattle.mrt_graph.specs.declared.cert.Role.TheVariants.{Sole}
-use Rattle.mrt_graph.specs.declared.cert.Row.{Row}
 use Rattle.mrt_graph.specs.GraphInvariant.{IsEnd}
 use Rattle.mrt_graph.proofs.ListTests.{all_at}
-use Rattle.mrt_rows.proofs.OrderedGraphs.{OrderedGraph, graph_of}
+use Rattle.mrt_rows.proofs.OrderedGraphs.{graph_of}
 use Rattle.mrt_rows.proofs.SoleRows.{SolesPut, mark_says, sole_left, sole_put, sole_row, soles_all, soles_begun, soles_table}
 use Rattle.mrt_rows.proofs.table.put_sole_rows.Goals as goal
 use Rattle.mrt_rows.proofs.table.put_sole_rows.Goals.{then-is_sole, else-is_sole}
