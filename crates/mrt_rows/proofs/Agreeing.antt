@@ -42,7 +42,8 @@ module _ (g : Topology) (kept : IsTopology g) (w v : Directions) (alike : AreAli
   leads_too Down s end in_range on = sym (alike.tails end.link in_range) ∙ on
 
   step_range : (dir : Dir) (k s : ℕ) (end : End) → IsStep g w dir k s end → Within g end.link s end.to
-  step_range dir k s end step = within g end.link s end.to kept (end_leads g s step.place step.ends end kept step.list step.there)
+  step_range dir k s end step = within g end.link s end.to kept
+      (end_leads g s step.place step.ends end kept step.list step.there)
 
   step_too : (dir : Dir) (k s : ℕ) (end : End) → IsStep g w dir k s end → IsStep g v dir k s end
   step_too dir k s end step =
@@ -56,7 +57,8 @@ module _ (g : Topology) (kept : IsTopology g) (w v : Directions) (alike : AreAli
         leads_on = leads_too dir s end in_range step.leads_on;
       }
 
-  pub path_too : (dir : Dir) (k h s : ℕ) (path : List End) (t : ℕ) → Path g w dir k h s path t → Path g v dir k h s path t
+  pub path_too : (dir : Dir) (k h s : ℕ) (path : List End) (t : ℕ) → Path g w dir k h s path t
+      → Path g v dir k h s path t
   path_too dir k h s [] t path = absurd path
   path_too dir k h s (end ∷ []) t path = (step_too dir k s end path.0, path.1)
   path_too dir k h s (end ∷ next ∷ more) t path =
@@ -88,7 +90,8 @@ module _ (g : Topology) (kept : IsTopology g) (w v : Directions) (alike : AreAli
     more = more_too k shares.more;
   }
 
-  begins_too : (dir : Dir) (k h s t cost : ℕ) (end : End) → BeginsPath g w dir k h s t cost end → BeginsPath g v dir k h s t cost end
+  begins_too : (dir : Dir) (k h s t cost : ℕ) (end : End) → BeginsPath g w dir k h s t cost end
+      → BeginsPath g v dir k h s t cost end
   begins_too dir k h s t cost end begins = record {
     others = begins.others;
     is_path = path_too dir k h s (end ∷ begins.others) t begins.is_path;
@@ -123,9 +126,15 @@ module _ (g : Topology) (kept : IsTopology g) (w v : Directions) (alike : AreAli
         (path_too g kept v w back dir k h s path t is))
 
     over_too : (dir : Dir) (e : ℕ) → BeginsOver g w dir s t e → BeginsOver g v dir s t e
-    over_too dir e begins = record { hop = begins.hop; reached = hop_too dir (Some begins.hop) begins.reached; over = begins.over }
+    over_too dir e begins = record {
+      hop = begins.hop;
+      reached = hop_too dir
+          (Some begins.hop) begins.reached;
+      over = begins.over;
+    }
 
-  module _ (s t : ℕ) (s_within : s < length g.ids) (t_within : t < length g.ids) (head_within : w.head s < length g.ids) where
+  module _ (s t : ℕ) (s_within : s < length g.ids) (t_within : t < length g.ids)
+      (head_within : w.head s < length g.ids) where
     one_too : (k link : ℕ) → HasOneLink g w k link → HasOneLink g v k link
     one_too k link one = record {
       within = one.within;
@@ -198,13 +207,15 @@ module _ (g : Topology) (kept : IsTopology g) (w v : Directions) (alike : AreAli
       red = home_too Up line.block line.head row.red line.members line.red;
     }
     line_too tags.Carried root rows row line = record {
-      apart = λ k h common. line.apart k h (common_too g kept v w (alike_back g w v alike) s t k h s_within t_within common);
+      apart = λ k h common. line.apart k h (common_too g kept v w
+          (alike_back g w v alike) s t k h s_within t_within common);
       to_other = λ other. subst (λ (x : ℕ). HasLinksFor rows x row) (alike.heads t t_within) (line.to_other other);
       to_root = λ at_root. subst (λ (x : ℕ). HasLinksFor rows x row) (alike.heads s s_within) (line.to_root at_root);
     }
 
   -- and of whole files
-  pub tells_too : (root : ℕ) (file : CertFile) → ((a : ℕ) → a < length g.ids → w.head a < length g.ids) → Tells g root w file
+  pub tells_too : (root : ℕ) (file : CertFile) → ((a : ℕ) → a < length g.ids → w.head a < length g.ids)
+      → Tells g root w file
       → Tells g root v file
   tells_too root file heads tells = record {
     root_number = tells.root_number;
@@ -216,7 +227,8 @@ module _ (g : Topology) (kept : IsTopology g) (w v : Directions) (alike : AreAli
     links = record {
       one_each = tells.links.one_each;
       each = λ e link is.
-          tells.links.each e link is ∙ ap (λ (x : CertLink). Some x) (link_same e link (slice_get_within g.links e link is));
+          tells.links.each e link is ∙ ap (λ (x : CertLink). Some x) (link_same e link
+          (slice_get_within g.links e link is));
     };
     row_count = tells.row_count;
     rows = λ s t s_within t_within two.

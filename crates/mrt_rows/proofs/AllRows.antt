@@ -39,7 +39,8 @@ row_stays n rows more s t row s_within is =
     row_is n (rows ++ more) s t s_within there.0 there.1 ∙ at_left rows more (place_of_row n s t) row there.2
 
 has_stays : (g : Topology) (root : ℕ) (w : Directions) (rows more : List Row) (s t : ℕ) → s < length g.ids
-    → HasRow g root w s (row_among (length g.ids) rows s) t → HasRow g root w s (row_among (length g.ids) (rows ++ more) s) t
+    → HasRow g root w s (row_among (length g.ids) rows s) t
+    → HasRow g root w s (row_among (length g.ids) (rows ++ more) s) t
 has_stays g root w rows more s t s_within it = record {
   row = it.row;
   is = row_stays (length g.ids) rows more s t it.row s_within it.is;
@@ -55,7 +56,8 @@ after_rows (row ∷ rows) more k =
     subst (λ (i : ℕ). slice_get (row ∷ rows ++ more) i ≡ slice_get more k) (sym next) (after_rows rows more k)
 
 -- the rows of s, put after those of the nodes before it
-module _ (n s : ℕ) (rows more : List Row) (s_within : s < n) (before : length rows ≡ s * (n - 1)) (count : length more + 1 ≡ n) where
+module _ (n s : ℕ) (rows more : List Row) (s_within : s < n) (before : length rows ≡ s * (n - 1))
+    (count : length more + 1 ≡ n) where
   found_column : (t : ℕ) (row : Row) → rows_for s more t ≡ Some row
       → (t < n) × (s ≢ t) × (slice_get more (column s t) ≡ Some row)
   found_column t row is = elim (cases_eq t s) [

@@ -59,7 +59,8 @@ module _ (og : OrderedGraph) (file : CertFile) (tells : Tells og.g og.root og.w 
   root_first =
       let id = there og.g.ids og.root og.ordered.root_within in
       and_from _ _ (rw id.1 (eq-eqb id.0.number file.root (sym (tells.root_number id.0 id.1))))
-      (equal_test (order_of c og.root) (Some 1) (og.w.order og.root) 1 (order_is og file tells og.root og.ordered.root_within)
+      (equal_test (order_of c og.root) (Some 1) (og.w.order og.root) 1
+      (order_is og file tells og.root og.ordered.root_within)
       refl og.ordered.orders.first)
 
   pub ordered : RootAndOrders og.g og.root file
@@ -109,7 +110,8 @@ module _ (og : OrderedGraph) (file : CertFile) (tells : Tells og.g og.root og.w 
   heads_agree : (a b : ℕ) → a < n → b < n → one_head c a b ≡ true
   heads_agree a b a_within b_within = elim (cases_eq (og.w.block a) (og.w.block b)) [
     | inl same ↦
-        or_right _ _ (equal_test (head_of c a) (head_of c b) (og.w.head a) (og.w.head b) (head_is og file tells a a_within)
+        or_right _ _ (equal_test (head_of c a) (head_of c b) (og.w.head a) (og.w.head b)
+        (head_is og file tells a a_within)
         (head_is og file tells b b_within) (og.ordered.heads.one_head a b a_within b_within same))
     | inr differ ↦
         or_left _ _ (different_test (block_of c a) (block_of c b) (og.w.block a) (og.w.block b)
@@ -152,7 +154,8 @@ module _ (og : OrderedGraph) (file : CertFile) (tells : Tells og.g og.root og.w 
       }
 
   -- the words on a link, and on a node
-  link_there : (e : ℕ) → e < length og.g.links → (link : Link) × (slice_get og.g.links e ≡ Some link) × (slice_get c.links e ≡ Some (link_words og.w e link))
+  link_there : (e : ℕ) → e < length og.g.links → (link : Link) × (slice_get og.g.links e ≡ Some link) ×
+      (slice_get c.links e ≡ Some (link_words og.w e link))
   link_there e e_within =
       let link = there og.g.links e e_within in (link.0, link.1, tells.links.each e link.0 link.1)
 

@@ -43,9 +43,17 @@ module _ (og : OrderedGraph) where
         red = subst (λ (e : ℕ). e < length og.g.links) (sym line.red) line.one_link.within;
       })
   near_range tags.Head s t rows row s_within t_within line =
-      inl (record { blue = (begins_in og Up s t row.blue line.blue).within; red = (begins_in og Down s t row.red line.red).within })
+      inl (record {
+        blue = (begins_in og Up s t row.blue line.blue).within;
+        red =
+            (begins_in og Down s t row.red line.red).within;
+      })
   near_range tags.Top s t rows row s_within t_within line =
-      inl (record { blue = (begins_in og Up s t row.blue line.blue).within; red = (begins_in og Down s t row.red line.red).within })
+      inl (record {
+        blue = (begins_in og Up s t row.blue line.blue).within;
+        red =
+            (begins_in og Down s t row.red line.red).within;
+      })
   near_range tags.Below s t rows row s_within t_within line = inl (record {
     blue = (begins_in og Up s t row.blue line.blue).within;
     red = (home_in og Down s t line.block line.head row.red s_within t_within line.members line.red).within;
@@ -74,7 +82,8 @@ module _ (og : OrderedGraph) where
         }
 
     range_at : (t : ℕ) → t < n → s ≢ t
-        → (((k h : ℕ) → ¬ HaveInCommon og.w s t k h) → (t ≢ og.root → InRange (og.w.head t)) × (t ≡ og.root → InRange (og.w.head s)))
+        → (((k h : ℕ) → ¬ HaveInCommon og.w s t k h) → (t ≢ og.root → InRange (og.w.head t)) × (t ≡ og.root
+        → InRange (og.w.head s)))
         → InRange t
     range_at t t_within two far row is =
         let it = has t t_within two in
@@ -91,7 +100,8 @@ module _ (og : OrderedGraph) where
     head_range : s ≢ og.root → InRange (og.w.head s)
     head_range other =
         let lower = og.ordered.heads.lower s s_within other in
-        range_at (og.w.head s) (og.ordered.heads.head_within s s_within) (λ same. omega (arith, lower, ap og.w.order same))
+        range_at (og.w.head s) (og.ordered.heads.head_within s s_within) (λ same. omega
+        (arith, lower, ap og.w.order same))
         (λ apart. absurd (apart (og.w.block s) (og.w.head s) (ToHead refl refl refl)))
 
     range_by : (left t : ℕ) → t < n → s ≢ t → og.w.order t ≤ left → InRange t
@@ -109,7 +119,8 @@ module _ (og : OrderedGraph) where
     in_range t t_within two = range_by (og.w.order t) t t_within two (omega arith)
 
   -- the certificate
-  module _ (nodes : List CertNode) (links : List CertLink) (rows : List Row) (node_words_are : AreNodeWords og.g og.w nodes)
+  module _ (nodes : List CertNode) (links : List CertLink) (rows : List Row)
+      (node_words_are : AreNodeWords og.g og.w nodes)
       (link_words_are : AreLinkWords og.g og.w links) (rows_are : AreAllRows og.g og.root og.w rows) where
     node_kept : (a : ℕ) (node : CertNode) → slice_get nodes a ≡ Some node → IsCertNode (length nodes) node
     node_kept a node is =
@@ -142,7 +153,11 @@ module _ (og : OrderedGraph) where
 
     link_kept : (e : ℕ) (words : CertLink) → slice_get links e ≡ Some words → IsCertLink (length nodes) words
     link_kept e words is =
-        let e_within : e < length og.g.links = omega (arith, slice_get_within links e words is, link_words_are.one_each) in
+        let e_within : e < length og.g.links = omega (
+          arith,
+          slice_get_within links e words is,
+          link_words_are.one_each,
+        ) in
         let link = there og.g.links e e_within in
         let it : IsLink og.g.ids link.0 = all_at (IsLink og.g.ids) og.g.links e link.0 og.kept.links_kept link.1 in
         let same : link_words og.w e link.0 ≡ words =

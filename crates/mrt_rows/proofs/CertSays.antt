@@ -40,15 +40,18 @@ module _ (og : OrderedGraph) (file : CertFile) (tells : Tells og.g og.root og.w 
   -- the words on a node
   pub order_is : (a : ℕ) → a < n → order_of c a ≡ Some (og.w.order a)
   order_is a within =
-      let id = there og.g.ids a within in ap (λ (o : Option CertNode). option_map (λ node. node.order) o) (tells.nodes.each a id.0 id.1)
+      let id = there og.g.ids a within in ap (λ (o : Option CertNode). option_map (λ node. node.order) o)
+      (tells.nodes.each a id.0 id.1)
 
   pub head_is : (a : ℕ) → a < n → head_of c a ≡ Some (og.w.head a)
   head_is a within =
-      let id = there og.g.ids a within in ap (λ (o : Option CertNode). option_map (λ node. node.head) o) (tells.nodes.each a id.0 id.1)
+      let id = there og.g.ids a within in ap (λ (o : Option CertNode). option_map (λ node. node.head) o)
+      (tells.nodes.each a id.0 id.1)
 
   pub block_is : (a : ℕ) → a < n → block_of c a ≡ Some (og.w.block a)
   block_is a within =
-      let id = there og.g.ids a within in ap (λ (o : Option CertNode). option_map (λ node. node.block) o) (tells.nodes.each a id.0 id.1)
+      let id = there og.g.ids a within in ap (λ (o : Option CertNode). option_map (λ node. node.block) o)
+      (tells.nodes.each a id.0 id.1)
 
   -- the words on a link
   pub link_block_is : (e : ℕ) → e < length og.g.links → link_block c e ≡ Some (og.w.lies_in e)
@@ -61,7 +64,8 @@ module _ (og : OrderedGraph) (file : CertFile) (tells : Tells og.g og.root og.w 
   role_test test e word within is passes =
       let link = there og.g.links e within in
       let found : has_role test c e ≡ test (og.w.role e) =
-      ap (λ (o : Option CertLink). option_map_or (λ words. test words.role) o false) (tells.links.each e link.0 link.1) in
+      ap (λ (o : Option CertLink). option_map_or (λ words. test words.role) o false)
+      (tells.links.each e link.0 link.1) in
       found ∙ ap test is ∙ passes
 
   pub plain_test : (e : ℕ) → e < length og.g.links → og.w.role e ≡ roles.Plain → has_role is_plain c e ≡ true

@@ -13,7 +13,8 @@ pub stays_in : (table after : List (Option Row)) (t : ℕ) → StayIn table afte
 stays_in table after t stay it = record { row = it.row; is = stay t it.row it.is }
 
 module _ (og : OrderedGraph) (s : ℕ) (s_within : s < length og.g.ids) where
-  soles_stay : (table after : List (Option Row)) → StayIn table after → HasSoleRows og.g og.w s table → HasSoleRows og.g og.w s after
+  soles_stay : (table after : List (Option Row)) → StayIn table after → HasSoleRows og.g og.w s table
+      → HasSoleRows og.g og.w s after
   soles_stay table after stay soles t k h link t_within two common one =
       stays_in table after t stay (soles t k h link t_within two common one)
 

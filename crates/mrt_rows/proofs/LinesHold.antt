@@ -77,7 +77,8 @@ module _ (og : OrderedGraph) (file : CertFile) (tells : Tells og.g og.root og.w 
   link_within e u v onward = (within og.g e u v og.kept onward).link
 
   module _ (m : ℕ) (ring : Ring og m) (t : ℕ) (target : Inside og m t) where
-    the_tag : (v : ℕ) → Inside og m v → v ≢ t → (it : HasRow og.g og.root og.w v (row_of c v) t) × PeerTag og m v t it.row.tag
+    the_tag : (v : ℕ) → Inside og m v → v ≢ t → (it : HasRow og.g og.root og.w v
+        (row_of c v) t) × PeerTag og m v t it.row.tag
     the_tag v inside two =
         let it = tells.rows v t inside.within target.within two in
         (it, peer_tag og m ring v t inside target two it.row.tag (row_of c v) it.row it.line)
@@ -90,7 +91,8 @@ module _ (og : OrderedGraph) (file : CertFile) (tells : Tells og.g og.root og.w 
     tagged_above : (v : ℕ) → Inside og m v → v ≢ t → Way og m Down v t → tagged c v t tags.Above ≡ true
     tagged_above v inside two down =
         let it = the_tag v inside two in
-        tagged_test og file tells v t tags.Above it.0 (above_here og m ring v t inside target two it.0.row.tag it.1 down)
+        tagged_test og file tells v t tags.Above it.0 (above_here og m ring v t inside target two it.0.row.tag it.1
+        down)
 
     higher : (s v : ℕ) (tag : Tag) → Inside og m s → Inside og m v → og.w.order s < og.w.order v
         → tagged c v t tag ≡ true → higher_tagged c s t tag v ≡ true
@@ -163,7 +165,8 @@ module _ (og : OrderedGraph) (file : CertFile) (tells : Tells og.g og.root og.w 
         ]
 
     -- a step back from v to s, put before a way from s to t
-    back_up : (s e v : ℕ) → Inside og m s → leads og.g.links e s ≡ Some v → og.w.tail e ≡ v → og.w.lies_in e ≡ og.w.block m
+    back_up : (s e v : ℕ) → Inside og m s → leads og.g.links e s ≡ Some v → og.w.tail e ≡ v
+        → og.w.lies_in e ≡ og.w.block m
         → Way og m Up s t → Way og m Up v t
     back_up s e v source onward tail block way =
         let step = step_over og Up (og.w.block m) e v s (lead_back og.g.links e s v onward) block tail in
@@ -174,7 +177,8 @@ module _ (og : OrderedGraph) (file : CertFile) (tells : Tells og.g og.root og.w 
               (subst (λ (x : ℕ). Path og.g og.w Up (og.w.block m) (og.w.head m) x way.path t) (sym step.to) way.is);
         }
 
-    back_down : (s e v : ℕ) → Inside og m s → leads og.g.links e s ≡ Some v → og.w.tail e ≡ s → og.w.lies_in e ≡ og.w.block m
+    back_down : (s e v : ℕ) → Inside og m s → leads og.g.links e s ≡ Some v → og.w.tail e ≡ s
+        → og.w.lies_in e ≡ og.w.block m
         → Way og m Down s t → Way og m Down v t
     back_down s e v source onward tail block way =
         let step = step_over og Down (og.w.block m) e v s (lead_back og.g.links e s v onward) block tail in
@@ -186,7 +190,8 @@ module _ (og : OrderedGraph) (file : CertFile) (tells : Tells og.g og.root og.w 
         }
 
   -- a link that a way begins over, and its role
-  role_over : (m : ℕ) (dir : Dir) (s t link : ℕ) (way : WayOver og m dir s t link) (word : Role) → og.w.role way.end.link ≡ word
+  role_over : (m : ℕ) (dir : Dir) (s t link : ℕ) (way : WayOver og m dir s t link) (word : Role)
+      → og.w.role way.end.link ≡ word
       → og.w.role link ≡ word
   role_over m dir s t link way word is = ap og.w.role way.over ∙ is
 
@@ -235,7 +240,8 @@ module _ (og : OrderedGraph) (file : CertFile) (tells : Tells og.g og.root og.w 
         let red = way_over og s Down s t row.red sharing line.red in
         let blue_first = begun og s Up s blue.end blue.others t blue.is in
         let red_first = begun og s Down s red.end red.others t red.is in
-        let blue_goes : (higher_beside c s blue.end.to || (has_role is_closing c row.blue && (blue.end.to == t))) ≡ true =
+        let blue_goes : (higher_beside c s blue.end.to || (has_role is_closing c row.blue &&
+        (blue.end.to == t))) ≡ true =
         elim (up_from og s ring s blue.end (inside_itself og s ring) blue_first.step) [
           | inl on ↦ or_left _ _ (beside_higher s blue.end.to s_within on.0 on.1)
           | inr home ↦
@@ -254,7 +260,8 @@ module _ (og : OrderedGraph) (file : CertFile) (tells : Tells og.g og.root og.w 
           red_to = red.end.to;
           blue_leads = over_leads og s Up s t row.blue blue;
           red_leads = over_leads og s Down s t row.red red;
-          holds = and_from _ _ (equal_test (head_of c s) (Some t) (og.w.head s) t (head_is og file tells s s_within) refl head.0)
+          holds = and_from _ _ (equal_test (head_of c s) (Some t) (og.w.head s) t
+              (head_is og file tells s s_within) refl head.0)
               (and_from _ _ blue_goes red_goes);
         }
 
@@ -285,7 +292,8 @@ module _ (og : OrderedGraph) (file : CertFile) (tells : Tells og.g og.root og.w 
           red_to = red.end.to;
           blue_leads = over_leads og t Up s t row.blue blue;
           red_leads = over_leads og t Down s t row.red red;
-          holds = and_from _ _ (equal_test (head_of c t) (Some s) (og.w.head t) s (head_is og file tells t t_within) refl head.0)
+          holds = and_from _ _ (equal_test (head_of c t) (Some s) (og.w.head t) s
+              (head_is og file tells t t_within) refl head.0)
               (and_from _ _
               (and_from _ _ (plain_test og file tells row.blue (way_within t Up s t row.blue blue)
               (role_over t Up s t row.blue blue roles.Plain blue_on.1))
@@ -313,7 +321,8 @@ module _ (og : OrderedGraph) (file : CertFile) (tells : Tells og.g og.root og.w 
               let rises = up_rises og s ring s up.path t source target up.is in
               or_left _ _ (lower s ring t target s red.end.to tags.Below source on.0 on.1
               (tagged_below s ring t target red.end.to on.0 (λ same. omega (arith, rises, on.1, ap og.w.order same))
-              (back_up s ring t target s red.end.link red.end.to source onward first.step.leads_on first.step.in_block up)))
+              (back_up s ring t target s red.end.link red.end.to source onward first.step.leads_on
+              first.step.in_block up)))
           | inr home ↦
               or_right _ _ (plain_home s Down s (og.w.head s) row.red red.end.to s_within red
               (role_over s Down s (og.w.head s) row.red red roles.Plain home.1) home.0)
@@ -332,7 +341,8 @@ module _ (og : OrderedGraph) (file : CertFile) (tells : Tells og.g og.root og.w 
               let falls = down_falls og s ring s down.path t source target down.is in
               or_left _ _ (higher s ring t target s blue.end.to tags.Above source on.0 on.1
               (tagged_above s ring t target blue.end.to on.0 (λ same. omega (arith, falls, on.1, ap og.w.order same))
-              (back_down s ring t target s blue.end.link blue.end.to source onward first.step.leads_on first.step.in_block
+              (back_down s ring t target s blue.end.link blue.end.to source onward first.step.leads_on
+              first.step.in_block
               down)))
           | inr home ↦
               or_right _ _ (closing_home s Up s (og.w.head s) row.blue blue.end.to s_within blue
@@ -359,7 +369,8 @@ module _ (og : OrderedGraph) (file : CertFile) (tells : Tells og.g og.root og.w 
           blue_leads = over_leads og s Up s t row.blue blue;
           red_leads = over_leads og s Down s (og.w.head s) row.red red;
           holds = and_from _ _ (same_blocks it.target) (and_from _ _
-              (less_orders s t s_within t_within (up_rises og s it.ring s up.path t source it.target up.is)) (and_from _ _
+              (less_orders s t s_within t_within (up_rises og s it.ring s up.path t source it.target up.is))
+              (and_from _ _
               (on_up s it.ring t it.target s row.blue source blue) (down_home it.ring it.target up red)));
         }
 
@@ -379,7 +390,8 @@ module _ (og : OrderedGraph) (file : CertFile) (tells : Tells og.g og.root og.w 
           red_leads = over_leads og s Down s t row.red red;
           holds = and_from _ _ (same_blocks it.target) (and_from _ _
               (less_orders t s t_within s_within (down_falls og s it.ring s down.path t source it.target down.is))
-              (and_from _ _ (up_home it.ring it.target down blue) (on_down s it.ring t it.target s row.red source red)));
+              (and_from _ _ (up_home it.ring it.target down blue)
+              (on_down s it.ring t it.target s row.red source red)));
         }
 
     -- one step is a way
@@ -406,7 +418,8 @@ module _ (og : OrderedGraph) (file : CertFile) (tells : Tells og.g og.root og.w 
           | inl on ↦
               let other : blue.end.to ≢ t = λ there. never (one_step Down blue.end first.step there) in
               let it = the_tag s ring t target blue.end.to on.0 other in
-              let is_lower : (lower_tagged c s t tags.Unordered blue.end.to || lower_tagged c s t tags.Below blue.end.to)
+              let is_lower : (lower_tagged c s t tags.Unordered blue.end.to || lower_tagged c s t tags.Below
+              blue.end.to)
               ≡ true =
               elim (not_above og s ring blue.end.to t on.0 target other it.0.row.tag it.1
               (λ way. never (step_and_way ring Down blue.end first.step on.0 way))) [

@@ -22,7 +22,8 @@ use Rattle.mrt_rows.proofs.Ways.{Inside, Ring, Way, inside_itself}
 use Rattle.mrt_rows.proofs.WaysBegun.{Sharing, no_way, peers, share}
 
 -- what a list of places says of a node
-pub place_says : (g : Topology) (d : DirectedLists) (w : Directions) (v : ℕ) (place : Place) → Says g d w → v < length g.ids
+pub place_says : (g : Topology) (d : DirectedLists) (w : Directions) (v : ℕ) (place : Place) → Says g d w
+    → v < length g.ids
     → slice_get d.places v ≡ Some place → (place.head ≡ w.head v) × (place.block ≡ w.block v)
 place_says g d w v place says within is = (
   same_Some place.head (w.head v)
@@ -112,7 +113,8 @@ module _ (og : OrderedGraph) (s t : ℕ) (s_within : s < length og.g.ids) (t_wit
 
     are_members : AreMembers og.g og.w s t (og.w.block s) (og.w.head s)
     are_members = record {
-      share = share og s s t member_ring (peers og s s t member_ring (inside_itself og s member_ring) member_target two);
+      share = share og s s t member_ring (peers og s s t member_ring
+          (inside_itself og s member_ring) member_target two);
       source = refl;
       target = sym same;
     }
@@ -120,7 +122,8 @@ module _ (og : OrderedGraph) (s t : ℕ) (s_within : s < length og.g.ids) (t_wit
     home_found : (dir : Dir) (hop : Option Hop) → Way og s dir s (og.w.head s) → IsHop og.g og.w dir s (og.w.head s) hop
         → Found og dir s (og.w.head s) hop
     home_found dir hop way is =
-        found_by og s dir s (og.w.head s) hop member_ring (with_head og s s member_ring (inside_itself og s member_ring)) way is
+        found_by og s dir s (og.w.head s) hop member_ring (with_head og s s member_ring
+        (inside_itself og s member_ring)) way is
 
     up_found : (hop : Option Hop) → IsHop og.g og.w Up s (og.w.head s) hop → Found og Up s (og.w.head s) hop
     up_found hop is = home_found Up hop (way_home og s Up member_ring) is
@@ -155,7 +158,8 @@ module _ (og : OrderedGraph) (s t : ℕ) (s_within : s < length og.g.ids) (t_wit
     member_near None None up_home down_home is_a is_b is_up is_down =
         let blue = down_found down_home is_down in
         let red = up_found up_home is_up in
-        rw (blue.is, red.is) (Near (record { blue = blue.found.link; red = red.found.link; tag = tags.Unordered }) (λ same. cc)
+        rw (blue.is, red.is) (Near (record { blue = blue.found.link; red = red.found.link; tag = tags.Unordered })
+        (λ same. cc)
         (λ rows. record {
           block = og.w.block s;
           head = og.w.head s;

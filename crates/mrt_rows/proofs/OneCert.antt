@@ -116,5 +116,6 @@ one_cert_of g root file other kept within is is' =
     is'.in_order in
     let says = subst (λ (d : DirectedLists). Says g d is.words) directed is.says in
     let laid = says_ordered g root is'.gadag is'.directed kept within from is'.in_order in
-    let ordered = ordered_too g root laid.directions is.words kept (said_alike g is'.directed laid.directions is.words laid.says says) laid.ordered in
+    let ordered = ordered_too g root laid.directions is.words kept
+    (said_alike g is'.directed laid.directions is.words laid.says says) laid.ordered in
     one_cert g root is'.directed is.words is'.words file other kept ordered says is'.says is.tells is'.tells

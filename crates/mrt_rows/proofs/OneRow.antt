@@ -18,7 +18,8 @@ use Rattle.mrt_rows.proofs.OrderedGraphs.{OrderedGraph, one_common, peers_not_he
 pub row_same : (a b : Row) → a.blue ≡ b.blue → a.red ≡ b.red → a.tag ≡ b.tag → a ≡ b
 row_same a b blue red tag = λ i. record { blue = blue i; red = red i; tag = tag i }
 
-module _ (og : OrderedGraph) (s t : ℕ) (s_within : s < length og.g.ids) (t_within : t < length og.g.ids) (two : s ≢ t) where
+module _ (og : OrderedGraph) (s t : ℕ) (s_within : s < length og.g.ids) (t_within : t < length og.g.ids)
+    (two : s ≢ t) where
   -- no two lines are met at once
   one_or_more : (k h j i link : ℕ) → HaveInCommon og.w s t k h → HasOneLink og.g og.w k link
       → ShareBlock og.g og.w s t j i → ⊥
@@ -66,15 +67,18 @@ module _ (og : OrderedGraph) (s t : ℕ) (s_within : s < length og.g.ids) (t_wit
   module _ (rows others : ℕ → Option Row) (a b : Row) where
     near_lines : (T U : Tag) → a.tag ≡ T → b.tag ≡ U → LineOf T og.g og.root og.w s rows t a
         → LineOf U og.g og.root og.w s others t b
-        → (CarriedLine og.root og.w s rows t a → CarriedLine og.root og.w s others t b → (a.blue ≡ b.blue) × (a.red ≡ b.red))
+        → (CarriedLine og.root og.w s rows t a → CarriedLine og.root og.w s others t b
+        → (a.blue ≡ b.blue) × (a.red ≡ b.red))
         → a ≡ b
     near_lines tags.Sole tags.Sole is_a is_b x y far =
         let same = one_common og s t y.block y.head x.block x.head s_within t_within two y.common x.common in
         let blue =
         sym (x.one_link.no_other b.blue y.one_link.within (y.one_link.in_block ∙ same.0)) in
         row_same a b blue (x.red ∙ blue ∙ sym y.red) (is_a ∙ sym is_b)
-    near_lines tags.Sole tags.Head is_a is_b x y far = absurd (one_or_more x.block x.head y.block y.head a.blue x.common x.one_link y.share)
-    near_lines tags.Sole tags.Top is_a is_b x y far = absurd (one_or_more x.block x.head y.block y.head a.blue x.common x.one_link y.share)
+    near_lines tags.Sole tags.Head is_a is_b x y far = absurd
+        (one_or_more x.block x.head y.block y.head a.blue x.common x.one_link y.share)
+    near_lines tags.Sole tags.Top is_a is_b x y far = absurd
+        (one_or_more x.block x.head y.block y.head a.blue x.common x.one_link y.share)
     near_lines tags.Sole tags.Below is_a is_b x y far =
         absurd (one_or_more x.block x.head y.block y.head a.blue x.common x.one_link y.members.share)
     near_lines tags.Sole tags.Above is_a is_b x y far =
@@ -82,7 +86,8 @@ module _ (og : OrderedGraph) (s t : ℕ) (s_within : s < length og.g.ids) (t_wit
     near_lines tags.Sole tags.Unordered is_a is_b x y far =
         absurd (one_or_more x.block x.head y.block y.head a.blue x.common x.one_link y.members.share)
     near_lines tags.Sole tags.Carried is_a is_b x y far = absurd (y.apart x.block x.head x.common)
-    near_lines tags.Head tags.Sole is_a is_b x y far = absurd (one_or_more y.block y.head x.block x.head b.blue y.common y.one_link x.share)
+    near_lines tags.Head tags.Sole is_a is_b x y far = absurd
+        (one_or_more y.block y.head x.block x.head b.blue y.common y.one_link x.share)
     near_lines tags.Head tags.Head is_a is_b x y far =
         row_same a b (one_link og Up s t s_within t_within a.blue b.blue x.blue y.blue)
         (one_link og Down s t s_within t_within a.red b.red x.red y.red) (is_a ∙ sym is_b)
@@ -95,7 +100,8 @@ module _ (og : OrderedGraph) (s t : ℕ) (s_within : s < length og.g.ids) (t_wit
     near_lines tags.Head tags.Unordered is_a is_b x y far =
         absurd (head_or_member x.block x.head y.block y.head x.share x.at_head y.members)
     near_lines tags.Head tags.Carried is_a is_b x y far = absurd (y.apart x.block x.head x.share.common)
-    near_lines tags.Top tags.Sole is_a is_b x y far = absurd (one_or_more y.block y.head x.block x.head b.blue y.common y.one_link x.share)
+    near_lines tags.Top tags.Sole is_a is_b x y far = absurd
+        (one_or_more y.block y.head x.block x.head b.blue y.common y.one_link x.share)
     near_lines tags.Top tags.Head is_a is_b x y far =
         absurd (head_or_top y.block y.head x.block x.head y.share y.at_head x.share x.at_head)
     near_lines tags.Top tags.Top is_a is_b x y far =
@@ -117,8 +123,10 @@ module _ (og : OrderedGraph) (s t : ℕ) (s_within : s < length og.g.ids) (t_wit
     near_lines tags.Below tags.Below is_a is_b x y far =
         row_same a b (one_link og Up s t s_within t_within a.blue b.blue x.blue y.blue)
         (same_to_home Down x.block x.head y.block y.head a.red b.red x.members y.members x.red y.red) (is_a ∙ sym is_b)
-    near_lines tags.Below tags.Above is_a is_b x y far = absurd (way_or_none og Up s t s_within t_within a.blue x.blue y.none_up)
-    near_lines tags.Below tags.Unordered is_a is_b x y far = absurd (way_or_none og Up s t s_within t_within a.blue x.blue y.none_up)
+    near_lines tags.Below tags.Above is_a is_b x y far = absurd
+        (way_or_none og Up s t s_within t_within a.blue x.blue y.none_up)
+    near_lines tags.Below tags.Unordered is_a is_b x y far = absurd
+        (way_or_none og Up s t s_within t_within a.blue x.blue y.none_up)
     near_lines tags.Below tags.Carried is_a is_b x y far = absurd (y.apart x.block x.head x.members.share.common)
     near_lines tags.Above tags.Sole is_a is_b x y far =
         absurd (one_or_more y.block y.head x.block x.head b.blue y.common y.one_link x.members.share)
@@ -126,11 +134,13 @@ module _ (og : OrderedGraph) (s t : ℕ) (s_within : s < length og.g.ids) (t_wit
         absurd (head_or_member y.block y.head x.block x.head y.share y.at_head x.members)
     near_lines tags.Above tags.Top is_a is_b x y far =
         absurd (top_or_member y.block y.head x.block x.head y.share y.at_head x.members)
-    near_lines tags.Above tags.Below is_a is_b x y far = absurd (way_or_none og Up s t s_within t_within b.blue y.blue x.none_up)
+    near_lines tags.Above tags.Below is_a is_b x y far = absurd
+        (way_or_none og Up s t s_within t_within b.blue y.blue x.none_up)
     near_lines tags.Above tags.Above is_a is_b x y far =
         row_same a b (same_to_home Up x.block x.head y.block y.head a.blue b.blue x.members y.members x.blue y.blue)
         (one_link og Down s t s_within t_within a.red b.red x.red y.red) (is_a ∙ sym is_b)
-    near_lines tags.Above tags.Unordered is_a is_b x y far = absurd (way_or_none og Down s t s_within t_within a.red x.red y.none_down)
+    near_lines tags.Above tags.Unordered is_a is_b x y far = absurd
+        (way_or_none og Down s t s_within t_within a.red x.red y.none_down)
     near_lines tags.Above tags.Carried is_a is_b x y far = absurd (y.apart x.block x.head x.members.share.common)
     near_lines tags.Unordered tags.Sole is_a is_b x y far =
         absurd (one_or_more y.block y.head x.block x.head b.blue y.common y.one_link x.members.share)
@@ -138,8 +148,10 @@ module _ (og : OrderedGraph) (s t : ℕ) (s_within : s < length og.g.ids) (t_wit
         absurd (head_or_member y.block y.head x.block x.head y.share y.at_head x.members)
     near_lines tags.Unordered tags.Top is_a is_b x y far =
         absurd (top_or_member y.block y.head x.block x.head y.share y.at_head x.members)
-    near_lines tags.Unordered tags.Below is_a is_b x y far = absurd (way_or_none og Up s t s_within t_within b.blue y.blue x.none_up)
-    near_lines tags.Unordered tags.Above is_a is_b x y far = absurd (way_or_none og Down s t s_within t_within b.red y.red x.none_down)
+    near_lines tags.Unordered tags.Below is_a is_b x y far = absurd
+        (way_or_none og Up s t s_within t_within b.blue y.blue x.none_up)
+    near_lines tags.Unordered tags.Above is_a is_b x y far = absurd
+        (way_or_none og Down s t s_within t_within b.red y.red x.none_down)
     near_lines tags.Unordered tags.Unordered is_a is_b x y far =
         row_same a b (same_to_home Down x.block x.head y.block y.head a.blue b.blue x.members y.members x.blue y.blue)
         (same_to_home Up x.block x.head y.block y.head a.red b.red x.members y.members x.red y.red) (is_a ∙ sym is_b)
@@ -161,12 +173,14 @@ module _ (og : OrderedGraph) (s : ℕ) (s_within : s < length og.g.ids) (rows ot
   n = length og.g.ids
 
   same_at : (t : ℕ) → t < n → s ≢ t
-      → (((k h : ℕ) → ¬ HaveInCommon og.w s t k h) → (t ≢ og.root → rows (og.w.head t) ≡ others (og.w.head t)) × (t ≡ og.root → rows (og.w.head s) ≡ others (og.w.head s)))
+      → (((k h : ℕ) → ¬ HaveInCommon og.w s t k h) → (t ≢ og.root
+      → rows (og.w.head t) ≡ others (og.w.head t)) × (t ≡ og.root → rows (og.w.head s) ≡ others (og.w.head s)))
       → rows t ≡ others t
   same_at t t_within two far =
       let a = has t t_within two in
       let b = other_has t t_within two in
-      a.is ∙ ap (λ (x : Row). Some x) (near_lines og s t s_within t_within two rows others a.row b.row a.row.tag b.row.tag refl refl
+      a.is ∙ ap (λ (x : Row). Some x) (near_lines og s t s_within t_within two rows others a.row b.row a.row.tag
+      b.row.tag refl refl
       a.line b.line (λ x y. from a.row b.row x y (far x.apart))) ∙ sym b.is
     where
       linked : (u : ℕ) (a b : Row) → HasLinksFor rows u a → HasLinksFor others u b → rows u ≡ others u
@@ -178,7 +192,8 @@ module _ (og : OrderedGraph) (s : ℕ) (s_within : s < length og.g.ids) (rows ot
           )
 
       from : (a b : Row) → CarriedLine og.root og.w s rows t a → CarriedLine og.root og.w s others t b
-          → (t ≢ og.root → rows (og.w.head t) ≡ others (og.w.head t)) × (t ≡ og.root → rows (og.w.head s) ≡ others (og.w.head s))
+          → (t ≢ og.root → rows (og.w.head t) ≡ others (og.w.head t)) × (t ≡ og.root
+          → rows (og.w.head s) ≡ others (og.w.head s))
           → (a.blue ≡ b.blue) × (a.red ≡ b.red)
       from a b x y far = elim (cases_eq t og.root) [
         | inl at_root ↦ linked (og.w.head s) a b (x.to_root at_root) (y.to_root at_root) (far.1 at_root)

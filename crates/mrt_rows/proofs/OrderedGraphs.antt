@@ -28,7 +28,8 @@ pub record OrderedGraph : Type 0 where
   pub kept : IsTopology g
   pub ordered : IsOrderedGadag g root w
 
-abbrev pub graph_of : (g : Topology) (root : ℕ) (w : Directions) (d : DirectedLists) → IsTopology g → AreDirections g d root w → OrderedGraph
+abbrev pub graph_of : (g : Topology) (root : ℕ) (w : Directions) (d : DirectedLists) → IsTopology g
+    → AreDirections g d root w → OrderedGraph
 graph_of g root w d kept are = record { g = g; root = root; w = w; kept = kept; ordered = are.ordered }
 
 -- as the lower crate has it

@@ -112,7 +112,8 @@ first_step : (og : OrderedGraph) (dir : Dir) (k h s : ℕ) (end : End) (others :
 first_step og dir k h s end [] t path = path.0
 first_step og dir k h s end (next ∷ more) t path = path.0
 
-pub begins_in : (og : OrderedGraph) (dir : Dir) (s t link : ℕ) → BeginsOver og.g og.w dir s t link → InCommon og s t link
+pub begins_in : (og : OrderedGraph) (dir : Dir) (s t link : ℕ) → BeginsOver og.g og.w dir s t link
+    → InCommon og s t link
 begins_in og dir s t link begins = go begins.hop begins.over begins.reached
   where
     go : (hop : Hop) → link ≡ hop.link → IsHop og.g og.w dir s t (Some hop) → InCommon og s t link
@@ -175,7 +176,8 @@ module _ (og : OrderedGraph) (file : CertFile) (tells : Tells og.g og.root og.w 
     -- Sole
     pub sole_passes : SoleLine og.g og.w s t row → Passes og file tags.Sole s t row
     sole_passes line =
-        let it = one_link_between og s t line.block line.head row.blue s_within t_within two line.common line.one_link in
+        let it = one_link_between og s t line.block line.head row.blue s_within t_within two line.common
+        line.one_link in
         record {
           blue_to = t;
           red_to = t;

@@ -17,7 +17,8 @@ pub data PeerTag (og : OrderedGraph) (m s t : ℕ) (tag : Tag) : Type 0 where
   IsAbove : tag ≡ tags.Above → (Way og m Up s t → ⊥) → Way og m Down s t → PeerTag og m s t tag
   IsUnordered : tag ≡ tags.Unordered → (Way og m Up s t → ⊥) → (Way og m Down s t → ⊥) → PeerTag og m s t tag
 
-module _ (og : OrderedGraph) (m : ℕ) (ring : Ring og m) (s t : ℕ) (source : Inside og m s) (target : Inside og m t) (two : s ≢ t) where
+module _ (og : OrderedGraph) (m : ℕ) (ring : Ring og m) (s t : ℕ) (source : Inside og m s) (target : Inside og m t)
+    (two : s ≢ t) where
   sharing : Sharing og m s t
   sharing = peers og m s t ring source target two
 
@@ -53,7 +54,8 @@ module _ (og : OrderedGraph) (m : ℕ) (ring : Ring og m) (s t : ℕ) (source : 
       absurd (not_head og m ring t target (line.at_head ∙ same_head line.block line.head line.share))
   peer_tag tags.Top rows row line =
       absurd (not_head og m ring s source (line.at_head ∙ same_head line.block line.head line.share))
-  peer_tag tags.Below rows row line = IsBelow refl (way_of Up row.blue (way_over og m Up s t row.blue sharing line.blue))
+  peer_tag tags.Below rows row line = IsBelow refl (way_of Up row.blue
+      (way_over og m Up s t row.blue sharing line.blue))
   peer_tag tags.Above rows row line =
       IsAbove refl (no_way og m Up s t shared line.none_up)
       (way_of Down row.red (way_over og m Down s t row.red sharing line.red))

@@ -52,7 +52,8 @@ module _ (og : OrderedGraph) (file : CertFile) (tells : Tells og.g og.root og.w 
       → both (near_row tag c s t row) (leads og.g.links row.blue s) (leads og.g.links row.red s) ≡ true
   both_lead tag s t row it = rw (it.blue_leads, it.red_leads) it.holds
 
-  rule_of : (tag : Tag) (s t : ℕ) (row : Row) → s < n → t < n → s ≢ t → LineOf tag og.g og.root og.w s (row_of c s) t row
+  rule_of : (tag : Tag) (s t : ℕ) (row : Row) → s < n → t < n → s ≢ t
+      → LineOf tag og.g og.root og.w s (row_of c s) t row
       → row_rule tag og.g.links c og.root s t row ≡ true
   rule_of tags.Sole s t row s_within t_within two line =
       both_lead tags.Sole s t row (sole_passes og file tells s t s_within t_within two row line)

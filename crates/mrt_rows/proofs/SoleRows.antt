@@ -27,7 +27,8 @@ abbrev pub sole_row : ℕ → Row
 sole_row e = record { blue = e; red = e; tag = tags.Sole }
 
 -- what the list of marks says of a link's role
-pub mark_says : (g : Topology) (d : DirectedLists) (w : Directions) (e : ℕ) (mark : Mark) → Says g d w → e < length g.links
+pub mark_says : (g : Topology) (d : DirectedLists) (w : Directions) (e : ℕ) (mark : Mark) → Says g d w
+    → e < length g.links
     → slice_get d.marks e ≡ Some mark → mark.role ≡ w.role e
 mark_says g d w e mark says inside is =
     same_Some mark.role (w.role e)
@@ -51,7 +52,8 @@ module _ (og : OrderedGraph) (s : ℕ) (s_within : s < length og.g.ids) where
       → HasOneLink og.g og.w (og.w.lies_in e) e
   sole_one e v h range sole (Peers a b c) =
       one_of_block s e range.from
-      (not_root_of_peers og v s range.to range.from (λ same. range.differ (sym same)) (b ∙ sym a)) range.link sole (sym a)
+      (not_root_of_peers og v s range.to range.from (λ same. range.differ (sym same)) (b
+      ∙ sym a)) range.link sole (sym a)
   sole_one e v h range sole (ToHead a b c) =
       one_of_block s e range.from (has_head og s v range.differ b) range.link sole (sym a)
   sole_one e v h range sole (FromHead a b c) =
@@ -92,7 +94,8 @@ module _ (og : OrderedGraph) (s : ℕ) (s_within : s < length og.g.ids) where
       | inl same ↦
           let one : others ≡ ends = same_Some others ends (sym list' ∙ list) in
           let here : slice_get ends place ≡ Some other =
-          subst (λ (x : ℕ). slice_get ends x ≡ Some other) same (subst (λ (xs : List End). slice_get xs j ≡ Some other) one at) in
+          subst (λ (x : ℕ). slice_get ends x ≡ Some other) same (subst (λ
+          (xs : List End). slice_get xs j ≡ Some other) one at) in
           inl (same_Some other end (sym here ∙ there))
       | inr differ ↦ inr (omega (arith, below, differ))
     ]
@@ -120,9 +123,11 @@ module _ (og : OrderedGraph) (s : ℕ) (s_within : s < length og.g.ids) where
           lines = λ t row at. elim (cases_eq t end.to) [
             | inl same ↦
                 let is : sole_row end.link ≡ row =
-                same_Some (sole_row end.link) row (sym same_there ∙ subst (λ (x : ℕ). in_table (set table end.to new) x ≡ Some row) same at) in
+                same_Some (sole_row end.link) row (sym same_there ∙ subst (λ (x : ℕ). in_table
+                (set table end.to new) x ≡ Some row) same at) in
                 subst (λ (x : ℕ). (row.tag ≡ tags.Sole) × SoleLine og.g og.w s x row) (sym same)
-                (subst (λ (r : Row). (r.tag ≡ tags.Sole) × SoleLine og.g og.w s end.to r) is (refl, sole_line end.link end.to onward sole))
+                (subst (λ (r : Row). (r.tag ≡ tags.Sole) × SoleLine og.g og.w s end.to r) is
+                (refl, sole_line end.link end.to onward sole))
             | inr other ↦ so_far.lines t row (sym (in_set_other table end.to t new other) ∙ at)
           ];
           passed = λ others j other list' below at is_sole. elim (last_or_before others j other list' below at) [

@@ -70,12 +70,14 @@ all_taken rows table i all past so_far =
     sym (append-nil rows) ∙ ap (λ (xs : List (Option Row)). rows ++ rows_in xs) (sym (none_left table i past)) ∙ so_far
 
 -- a table with a row at each place
-full_count : (table : List (Option Row)) → ((t : ℕ) → t < length table → IsIn table t) → length (rows_in table) ≡ length table
+full_count : (table : List (Option Row)) → ((t : ℕ) → t < length table → IsIn table t)
+    → length (rows_in table) ≡ length table
 full_count [] each = refl
 full_count (None ∷ table) each = let it = each 0 (omega arith) in absurd (cc (it.is))
 full_count (Some row ∷ table) each =
     let rest =
-    full_count table (λ t within. let it = each (suc t) (omega (arith, within)) in record { row = it.row; is = it.is }) in
+    full_count table (λ t within. let it = each (suc t) (omega
+    (arith, within)) in record { row = it.row; is = it.is }) in
     omega (arith, rest)
 
 full_at : (table : List (Option Row)) (t : ℕ) → ((t : ℕ) → t < length table → IsIn table t) → t < length table
@@ -84,7 +86,8 @@ full_at [] t each within = absurd (omega (arith, within))
 full_at (None ∷ table) t each within = let it = each 0 (omega arith) in absurd (cc (it.is))
 full_at (Some row ∷ table) zero each within = refl
 full_at (Some row ∷ table) (suc t) each within =
-    full_at table t (λ u u_within. let it = each (suc u) (omega (arith, u_within)) in record { row = it.row; is = it.is })
+    full_at table t (λ u u_within. let it = each (suc u) (omega
+    (arith, u_within)) in record { row = it.row; is = it.is })
     (omega (arith, within))
 
 -- a table with a row at each place but that of s
@@ -103,7 +106,8 @@ full_later s o table full = record {
       record { row = it.row; is = it.is };
 }
 
-full_first : (o : Option Row) (table : List (Option Row)) → IsFull 0 (o ∷ table) → (t : ℕ) → t < length table → IsIn table t
+full_first : (o : Option Row) (table : List (Option Row)) → IsFull 0 (o ∷ table) → (t : ℕ) → t < length table
+    → IsIn table t
 full_first o table full t within =
     let it = full.each (suc t) (omega (arith, within)) (λ same. omega (arith, same)) in
     record { row = it.row; is = it.is }
@@ -117,7 +121,8 @@ one_less (suc s) (None ∷ table) full =
 one_less (suc s) (Some row ∷ table) full = omega (arith, one_less s table (full_later s (Some row) table full))
 
 -- a place before s, and one after it
-early_at : (s t : ℕ) (table : List (Option Row)) → IsFull s table → t < s → slice_get (rows_in table) t ≡ in_table table t
+early_at : (s t : ℕ) (table : List (Option Row)) → IsFull s table → t < s
+    → slice_get (rows_in table) t ≡ in_table table t
 early_at s t [] full below = absurd (omega (arith, full.within))
 early_at zero t (o ∷ table) full below = absurd (omega (arith, below))
 early_at (suc s) t (None ∷ table) full below =
@@ -157,7 +162,8 @@ found_at s t table full within two = elim (cases_lt t s) [
 ]
 
 -- the rows of a whole table, as its lines say
-pub rows_of_table : (g : Topology) (root : ℕ) (w : Directions) (s : ℕ) (table : List (Option Row)) → IsTable g root w s table
+pub rows_of_table : (g : Topology) (root : ℕ) (w : Directions) (s : ℕ) (table : List (Option Row))
+    → IsTable g root w s table
     → IsFull s table → length table ≡ length g.ids → AreRowsOf g root w s (rows_in table)
 rows_of_table g root w s table was full one_each = record {
   one_each = one_less s table full ∙ one_each;
@@ -168,17 +174,20 @@ rows_of_table g root w s table was full one_each = record {
         row = it.row;
         is = found_at s t table full within two ∙ it.is;
         line = line_kept it.row.tag g root w s (in_table table) (rows_for s (rows_in table)) t it.row
-            (λ u other is. found_at s u table full (in_range u other is) (elsewhere u other is) ∙ is) (was.lines t it.row it.is);
+            (λ u other is. found_at s u table full (in_range u other is) (elsewhere u other is)
+            ∙ is) (was.lines t it.row it.is);
       };
 }
   where
     in_range : (u : ℕ) (other : Row) → in_table table u ≡ Some other → u < length table
     in_range u other is = go (slice_get table u) refl is
       where
-        go : (o : Option (Option Row)) → slice_get table u ≡ o → option_and_then (λ row. row) o ≡ Some other → u < length table
+        go : (o : Option (Option Row)) → slice_get table u ≡ o → option_and_then (λ row. row) o ≡ Some other
+            → u < length table
         go None found is = cc
         go (Some o) found is = slice_get_within table u o found
 
     elsewhere : (u : ℕ) (other : Row) → in_table table u ≡ Some other → s ≢ u
     elsewhere u other is = λ same.
-        let own : in_table table u ≡ None = subst (λ (x : ℕ). in_table table x ≡ None) same full.own in absurd (cc (own, is))
+        let own : in_table table u ≡ None = subst (λ (x : ℕ). in_table table x ≡ None) same full.own in absurd (cc
+        (own, is))

@@ -14,10 +14,13 @@ use Rattle.mrt_rows.specs.RowLines.{HasLinksFor, LineOf}
 use Rattle.mrt_rows.specs.Source.{Far, IsNear, Near, NoneOfOneLink}
 use Rattle.mrt_rows.specs.Table.{HasSoleRows, IsIn, IsReady, IsRowFor, IsTable, StayIn, carried, in_table}
 
-pub in_set_same : (table : List (Option Row)) (i : ℕ) (o : Option Row) → i < length table → in_table (set table i o) i ≡ o
-in_set_same table i o within = ap (λ (x : Option (Option Row)). option_and_then (λ row. row) x) (set_there table i o within)
+pub in_set_same : (table : List (Option Row)) (i : ℕ) (o : Option Row) → i < length table
+    → in_table (set table i o) i ≡ o
+in_set_same table i o within = ap (λ (x : Option (Option Row)). option_and_then (λ row. row) x)
+    (set_there table i o within)
 
-pub in_set_other : (table : List (Option Row)) (i t : ℕ) (o : Option Row) → t ≢ i → in_table (set table i o) t ≡ in_table table t
+pub in_set_other : (table : List (Option Row)) (i t : ℕ) (o : Option Row) → t ≢ i
+    → in_table (set table i o) t ≡ in_table table t
 in_set_other table i t o other =
     ap (λ (x : Option (Option Row)). option_and_then (λ row. row) x) (set_elsewhere table i t o other)
 
@@ -26,7 +29,8 @@ none_is : (o : Option Row) → is_some o ≡ false → o ≡ None
 none_is (Some row) fails = absurd (true≢false fails)
 none_is None fails = refl
 
-pub none_there : (table : List (Option Row)) (i t : ℕ) (o : Option Row) → i ≡ t → t < length table → o ≡ get_or table i o
+pub none_there : (table : List (Option Row)) (i t : ℕ) (o : Option Row) → i ≡ t → t < length table
+    → o ≡ get_or table i o
     → is_some o ≡ false → in_table table t ≡ None
 none_there table i t o same within read fails =
     ap (λ (x : Option (Option Row)). option_and_then (λ row. row) x)
@@ -37,32 +41,38 @@ some_is : (o : Option Row) → is_some o ≡ true → (row : Row) × (o ≡ Some
 some_is (Some row) passes = (row, refl)
 some_is None passes = absurd (false≢true passes)
 
-pub some_there : (table : List (Option Row)) (i t : ℕ) (o : Option Row) → i ≡ t → t < length table → o ≡ get_or table i o
+pub some_there : (table : List (Option Row)) (i t : ℕ) (o : Option Row) → i ≡ t → t < length table
+    → o ≡ get_or table i o
     → is_some o ≡ true → IsIn table t
 some_there table i t o same within read passes =
     let row = some_is o passes in
     record {
       row = row.0;
       is = ap (λ (x : Option (Option Row)). option_and_then (λ row. row) x)
-          (slice_get_read table (length table) t o refl within (subst (λ (j : ℕ). o ≡ get_or table j o) same read)) ∙ row.1;
+          (slice_get_read table (length table) t o refl within (subst (λ (j : ℕ). o ≡ get_or table j o) same read))
+          ∙ row.1;
     }
 
 some_or_none : (a : Option Row) (row : Row) → a ≡ None → a ≡ Some row → ⊥
 some_or_none a row none some = absurd (cc (none, some))
 
 -- where t had no row, what is there stays
-pub stays_set : (table : List (Option Row)) (t : ℕ) (o : Option Row) → in_table table t ≡ None → StayIn table (set table t o)
+pub stays_set : (table : List (Option Row)) (t : ℕ) (o : Option Row) → in_table table t ≡ None
+    → StayIn table (set table t o)
 stays_set table t o none u row is =
-    in_set_other table t u o (λ same. some_or_none (in_table table u) row (subst (λ (x : ℕ). in_table table x ≡ None) (sym same) none) is)
+    in_set_other table t u o (λ same. some_or_none (in_table table u) row (subst (λ
+    (x : ℕ). in_table table x ≡ None) (sym same) none) is)
     ∙ is
 
 -- lines outlast further rows
 links_kept : (rows after : ℕ → Option Row) (u : ℕ) (row : Row)
-    → ((t : ℕ) (other : Row) → rows t ≡ Some other → after t ≡ Some other) → HasLinksFor rows u row → HasLinksFor after u row
+    → ((t : ℕ) (other : Row) → rows t ≡ Some other → after t ≡ Some other) → HasLinksFor rows u row
+    → HasLinksFor after u row
 links_kept rows after u row stay links =
     record { other = links.other; is = stay u links.other links.is; blue = links.blue; red = links.red }
 
-pub line_kept : (tag : Tag) (g : Topology) (root : ℕ) (w : Directions) (s : ℕ) (rows after : ℕ → Option Row) (t : ℕ) (row : Row)
+pub line_kept : (tag : Tag) (g : Topology) (root : ℕ) (w : Directions) (s : ℕ) (rows after : ℕ
+    → Option Row) (t : ℕ) (row : Row)
     → ((u : ℕ) (other : Row) → rows u ≡ Some other → after u ≡ Some other) → LineOf tag g root w s rows t row
     → LineOf tag g root w s after t row
 line_kept tags.Sole g root w s rows after t row stay line = line
@@ -86,7 +96,8 @@ module _ (g : Topology) (root : ℕ) (w : Directions) (s t : ℕ) (table : List 
   -- a near row is the row
   pub near_is : (row : Row) → IsNear g root w s t (Some row) → IsRowFor g root w s t table (Some row)
   near_is row (Near row' not_carried line) = record {
-    line = λ rows other stay made. subst (λ (r : Row). LineOf r.tag g root w s rows t r) (same_Some row other made) (line rows);
+    line = λ rows other stay made. subst (λ (r : Row). LineOf r.tag g root w s rows t r) (same_Some row other made)
+        (line rows);
     there = λ ready. (row, refl);
   }
 
@@ -114,7 +125,8 @@ module _ (g : Topology) (root : ℕ) (w : Directions) (s t : ℕ) (table : List 
         };
       })
 
-  carried_from : (from : ℕ) → IsCarrier root w s t from → ((k h : ℕ) → ¬ HaveInCommon w s t k h) → IsReady root w s t table
+  carried_from : (from : ℕ) → IsCarrier root w s t from → ((k h : ℕ) → ¬ HaveInCommon w s t k h)
+      → IsReady root w s t table
       → IsIn table from
   carried_from from carrier apart ready = elim (cases_eq t root) [
     | inl at_root ↦ subst (λ (x : ℕ). IsIn table x) (sym (carrier.to_root at_root)) (ready.to_root at_root apart)
@@ -139,11 +151,13 @@ module _ (g : Topology) (root : ℕ) (w : Directions) (s t : ℕ) (table : List 
       lines = λ u row at. elim (cases_eq u t) [
         | inl same ↦
             let made : found ≡ Some row =
-            sym (in_set_same table t found within) ∙ subst (λ (x : ℕ). in_table (set table t found) x ≡ Some row) same at in
+            sym (in_set_same table t found within) ∙ subst (λ (x : ℕ). in_table
+            (set table t found) x ≡ Some row) same at in
             subst (λ (x : ℕ). LineOf row.tag g root w s (in_table (set table t found)) x row) (sym same)
             (is.line (in_table (set table t found)) row (stays_set table t found none) made)
         | inr other ↦
-            line_kept row.tag g root w s (in_table table) (in_table (set table t found)) u row (stays_set table t found none)
+            line_kept row.tag g root w s (in_table table) (in_table (set table t found)) u row
+            (stays_set table t found none)
             (was.lines u row (sym (in_set_other table t u found other) ∙ at))
       ];
     }

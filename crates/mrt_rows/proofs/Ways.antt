@@ -137,7 +137,11 @@ module _ (og : OrderedGraph) (m : ℕ) (ring : Ring og m) where
 
       plainly : (i : ℕ) → og.w.role e ≡ Plain → HaveInCommon og.w u v (og.w.lies_in e) i → Directs og m top e u v
       plainly i plain (Peers a b c) =
-          Inner (record { within = in_range.from; block = a ∙ block }) (record { within = in_range.to; block = b ∙ block })
+          Inner (record { within = in_range.from; block = a ∙ block }) (record {
+            within = in_range.to;
+            block = b
+                ∙ block;
+          })
           plain (forward plain)
       plainly i plain (ToHead a b c) =
           let inside : Inside og m u = record { within = in_range.from; block = a ∙ block } in
@@ -149,13 +153,15 @@ module _ (og : OrderedGraph) (m : ℕ) (ring : Ring og m) where
 
   -- what the link of a step up, or of a step down, is
   pub step_up : (s : ℕ) (end : End) → IsStep og.g og.w Up (og.w.block m) s end → Directs og m top end.link s end.to
-  step_up s end step = directs end.link s end.to (step_leads og Up (og.w.block m) s end step) step.leads_on step.in_block
+  step_up s end step = directs end.link s end.to (step_leads og Up
+      (og.w.block m) s end step) step.leads_on step.in_block
 
   pub step_down : (s : ℕ) (end : End) → IsStep og.g og.w Down (og.w.block m) s end
       → Directs og m top end.link end.to s
   step_down s end step =
       directs end.link end.to s
-      (lead_back og.g.links end.link s end.to (step_leads og Down (og.w.block m) s end step)) step.leads_on step.in_block
+      (lead_back og.g.links end.link s end.to (step_leads og Down
+      (og.w.block m) s end step)) step.leads_on step.in_block
 
   -- a step up from a node of the block goes to a greater node of it, or home
   pub up_from : (s : ℕ) (end : End) → Inside og m s → IsStep og.g og.w Up (og.w.block m) s end
@@ -267,7 +273,8 @@ module _ (og : OrderedGraph) (m : ℕ) (ring : Ring og m) where
       second e v greater (Out a b plain) = omega (arith, greater, head_lower t inside, ap og.w.order a)
       second e v greater (Home a b closing) = not_head t inside b
 
-  down_on : (t : ℕ) → Onward t → ((x : ℕ) → Inside og m x → og.w.order t < og.w.order x → x ≢ top → Way og m Down top x) → Way og m Down top t
+  down_on : (t : ℕ) → Onward t → ((x : ℕ) → Inside og m x → og.w.order t < og.w.order x → x ≢ top
+      → Way og m Down top x) → Way og m Down top t
   down_on t on before =
       let back = lead_back og.g.links on.link t on.to on.leads_on in
       let step = step_over og Down (og.w.block m) on.link on.to t back on.block on.tail in
@@ -290,7 +297,8 @@ module _ (og : OrderedGraph) (m : ℕ) (ring : Ring og m) where
       let on = onward_of t inside other in
       absurd (omega (arith, on.greater, og.ordered.orders.to_n on.to on.inside.within, far))
   down_by (suc left) t inside other far =
-      down_on t (onward_of t inside other) (λ x x_inside greater x_other. down_by left x x_inside x_other (omega (arith, greater, far)))
+      down_on t (onward_of t inside other) (λ x x_inside greater x_other. down_by left x x_inside x_other (omega
+      (arith, greater, far)))
 
   -- a path down from the greatest node leads to each other node of the block
   pub top_down : (t : ℕ) → Inside og m t → t ≢ top → Way og m Down top t

@@ -43,7 +43,8 @@ module _ (og : OrderedGraph) where
     one = ring.closed.another;
     other = ring.closed.link;
     one_within = ring.closed.another_within;
-    other_within = (within og.g ring.closed.link ring.closed.greatest (og.w.head m) og.kept ring.closed.over.leads_on).link;
+    other_within = (within og.g ring.closed.link ring.closed.greatest
+        (og.w.head m) og.kept ring.closed.over.leads_on).link;
     one_in_block = ring.closed.another_in_block;
     other_in_block = ring.closed.over.in_block;
     differ = ring.closed.another_link;

@@ -38,7 +38,8 @@ pub record IsReady (root : ℕ) (w : Directions) (s t : ℕ) (table : List (Opti
 
 -- what is found for t among these rows: a row as its line says, in each table that has these rows; and there is one where
 -- the row that it may be carried from is there
-pub record IsRowFor (g : Topology) (root : ℕ) (w : Directions) (s t : ℕ) (table : List (Option Row)) (found : Option Row) : Type 0 where
+pub record IsRowFor (g : Topology) (root : ℕ) (w : Directions) (s t : ℕ) (table : List (Option Row))
+    (found : Option Row) : Type 0 where
   pub line : (rows : ℕ → Option Row) (row : Row)
       → ((u : ℕ) (other : Row) → in_table table u ≡ Some other → rows u ≡ Some other)
       → found ≡ Some row → LineOf row.tag g root w s rows t row

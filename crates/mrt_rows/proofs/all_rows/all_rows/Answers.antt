@@ -18,7 +18,8 @@ loop-s-preserved c =
       room = omega (arith, c.put_rows.ensures.room, c.loop-s.invariant.room);
       so_far = λ w says.
           subst (λ (xs : List Row). AreSoFar c.args.g.now c.args.root w (s + 1) xs) (sym put.1)
-          (one_source_more c.args.g.now c.args.root w s rows put.0 (omega (arith, c.loop-s-test.true, c.loop-s.invariant.count)) c.loop-s.invariant.many
+          (one_source_more c.args.g.now c.args.root w s rows put.0 (omega
+          (arith, c.loop-s-test.true, c.loop-s.invariant.count)) c.loop-s.invariant.many
           (c.loop-s.invariant.so_far w says)
           (subst (λ (x : ℕ). AreRowsOf c.args.g.now c.args.root w x put.0) c.new.ensures (put.2 w says)));
     }

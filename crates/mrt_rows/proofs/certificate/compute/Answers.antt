@@ -16,7 +16,8 @@ new-requires c =
       kept = c.all_nodes.ensures.kept;
       ordered = ordered.ordered;
     } in
-    cert_kept og c.in_ok-nodes.nodes.items c.in_ok-links.links.items c.in_ok-rows.rows.items (c.in_ok-nodes.ensures.words ordered.directions ordered.says)
+    cert_kept og c.in_ok-nodes.nodes.items c.in_ok-links.links.items c.in_ok-rows.rows.items
+    (c.in_ok-nodes.ensures.words ordered.directions ordered.says)
     (c.in_ok-links.ensures ordered.directions ordered.says) (c.in_ok-rows.ensures ordered.directions ordered.says)
 
 pub returns-clause-cert : goal.returns-clause-cert
@@ -30,8 +31,10 @@ returns-clause-cert c = λ id is.
       ordered = ordered.ordered;
     } in
     let tells =
-    cert_tells og c.in_ok-nodes.nodes.items c.in_ok-links.links.items c.in_ok-rows.rows.items (c.in_ok-nodes.ensures.words ordered.directions ordered.says)
-    (c.in_ok-links.ensures ordered.directions ordered.says) (c.in_ok-rows.ensures ordered.directions ordered.says) id is in
+    cert_tells og c.in_ok-nodes.nodes.items c.in_ok-links.links.items c.in_ok-rows.rows.items
+    (c.in_ok-nodes.ensures.words ordered.directions ordered.says)
+    (c.in_ok-links.ensures ordered.directions ordered.says)
+    (c.in_ok-rows.ensures ordered.directions ordered.says) id is in
     record {
       tree = c.in_ok-tree.tree;
       searched = c.in_ok-tree.ensures;
@@ -41,7 +44,8 @@ returns-clause-cert c = λ id is.
       in_order = c.in_ok-d.ensures.exact;
       words = ordered.directions;
       says = ordered.says;
-      tells = subst (λ (cert : Certificate). Tells c.args.g.now c.args.root ordered.directions (file_of id cert)) (sym c.new.ensures) tells;
+      tells = subst (λ (cert : Certificate). Tells c.args.g.now c.args.root ordered.directions (file_of id cert))
+          (sym c.new.ensures) tells;
     }
 
 pub returns-clause-accepted : goal.returns-clause-accepted
@@ -55,7 +59,11 @@ returns-clause-accepted c = λ id is.
       ordered = ordered.ordered;
     } in
     let tells =
-    cert_tells og c.in_ok-nodes.nodes.items c.in_ok-links.links.items c.in_ok-rows.rows.items (c.in_ok-nodes.ensures.words ordered.directions ordered.says)
-    (c.in_ok-links.ensures ordered.directions ordered.says) (c.in_ok-rows.ensures ordered.directions ordered.says) id is in
-    accepted c.args.g.now c.args.root ordered.directions (file_of id c.new.result) c.all_nodes.ensures.kept ordered.ordered
-    (subst (λ (cert : Certificate). Tells c.args.g.now c.args.root ordered.directions (file_of id cert)) (sym c.new.ensures) tells)
+    cert_tells og c.in_ok-nodes.nodes.items c.in_ok-links.links.items c.in_ok-rows.rows.items
+    (c.in_ok-nodes.ensures.words ordered.directions ordered.says)
+    (c.in_ok-links.ensures ordered.directions ordered.says)
+    (c.in_ok-rows.ensures ordered.directions ordered.says) id is in
+    accepted c.args.g.now c.args.root ordered.directions
+    (file_of id c.new.result) c.all_nodes.ensures.kept ordered.ordered
+    (subst (λ (cert : Certificate). Tells c.args.g.now c.args.root ordered.directions (file_of id cert))
+    (sym c.new.ensures) tells)

@@ -13,7 +13,12 @@ fill-requires-clause-source c =
     let w = c.requires.directed.directions in
     record {
       kept = c.requires.kept;
-      directed = record { root = c.args.root; directions = w; are = (record { says = c.requires.directed.says; ordered = c.requires.directed.ordered }) };
+      directed = record {
+        root = c.args.root;
+        directions = w;
+        are =
+            (record { says = c.requires.directed.says; ordered = c.requires.directed.ordered });
+      };
       within = c.requires.source;
       one_up_each = (c.in_ok-up.ensures w says).one_each;
       one_down_each = (c.in_ok-down.ensures w says).one_each;
@@ -45,8 +50,14 @@ returns-clause-put c = (
       ∙ ap (λ (xs : List (Option Row)). c.args.rows.now.items ++ rows_in xs) c.deref.ensures.value,
   λ w says.
       let has : HasDirections c.args.g.now c.args.d.now =
-      record { root = c.args.root; directions = c.requires.directed.directions; are = (record { says = c.requires.directed.says; ordered = c.requires.directed.ordered }) } in
-      let hops : AreHops c.args.g.now c.args.d.now c.args.root w c.args.source c.in_ok-up.up c.in_ok-down.down = record {
+      record {
+        root = c.args.root;
+        directions = c.requires.directed.directions;
+        are =
+            (record { says = c.requires.directed.says; ordered = c.requires.directed.ordered });
+      } in
+      let hops : AreHops c.args.g.now c.args.d.now c.args.root w c.args.source c.in_ok-up.up c.in_ok-down.down =
+      record {
         are = directions_are c.args.g.now c.args.d.now w c.requires.kept has says;
         goes_up = c.in_ok-up.ensures w says;
         goes_down = c.in_ok-down.ensures w says;
@@ -57,5 +68,6 @@ returns-clause-put c = (
         own = (c.fill.ensures.table w hops).own;
         each = λ t t_within two. c.fill.ensures.all w hops t (omega (arith, t_within, c.fill.ensures.one_each)) two;
       } in
-      rows_of_table c.args.g.now c.args.root w c.args.source table (c.fill.ensures.table w hops) full c.fill.ensures.one_each,
+      rows_of_table c.args.g.now c.args.root w c.args.source table
+      (c.fill.ensures.table w hops) full c.fill.ensures.one_each,
 )

@@ -7,24 +7,31 @@ use Rattle.mrt_rows.proofs.of_source.take_rows.Goals.{in-Some, in_default}
 
 pub push_reserved-requires : goal.push_reserved-requires
 push_reserved-requires c =
-    let read = subst (λ (o : Option Row). o ≡ get_or c.args.table.now c.loop-row.row-index o) c.in-Some.is c.row-item.is in
-    let room = room_for c.loop-row.rows.items c.args.table.now c.loop-row.row-index c.in-Some.row c.args.rows.now.items c.loop-row-test.true read c.loop-row.invariant.so_far in
+    let read = subst (λ (o : Option Row). o ≡ get_or c.args.table.now c.loop-row.row-index o) c.in-Some.is
+    c.row-item.is in
+    let room = room_for c.loop-row.rows.items c.args.table.now c.loop-row.row-index c.in-Some.row
+    c.args.rows.now.items c.loop-row-test.true read c.loop-row.invariant.so_far in
     omega (arith, room, c.requires, c.loop-row.invariant.room)
 
 pub loop-row-preserved : goal.loop-row-preserved
 loop-row-preserved c = elim c.match-row.branch [
   | in-Some t ↦
-      let read = subst (λ (o : Option Row). o ≡ get_or c.args.table.now c.loop-row.row-index o) t.in-Some.is c.row-item.is in
+      let read = subst (λ (o : Option Row). o ≡ get_or c.args.table.now c.loop-row.row-index o) t.in-Some.is
+      c.row-item.is in
       rw t.rows-is (record {
-        so_far = ap (λ (xs : List Row). xs ++ rows_in (drop (c.loop-row.row-index + 1) c.args.table.now)) t.push_reserved.ensures.items
-            ∙ row_taken c.loop-row.rows.items c.args.table.now c.loop-row.row-index t.in-Some.row (c.args.rows.now.items ++ rows_in c.args.table.now)
+        so_far = ap (λ (xs : List Row). xs ++ rows_in (drop
+            (c.loop-row.row-index + 1) c.args.table.now)) t.push_reserved.ensures.items
+            ∙ row_taken c.loop-row.rows.items c.args.table.now c.loop-row.row-index t.in-Some.row
+            (c.args.rows.now.items ++ rows_in c.args.table.now)
             c.loop-row-test.true read c.loop-row.invariant.so_far;
         room = t.push_reserved.ensures.capacity ∙ c.loop-row.invariant.room;
       })
   | in_default t ↦
-      let read = subst (λ (o : Option Row). o ≡ get_or c.args.table.now c.loop-row.row-index o) t.in_default.is c.row-item.is in
+      let read = subst (λ (o : Option Row). o ≡ get_or c.args.table.now c.loop-row.row-index o) t.in_default.is
+      c.row-item.is in
       rw t.rows-is (record {
-        so_far = none_taken c.loop-row.rows.items c.args.table.now c.loop-row.row-index (c.args.rows.now.items ++ rows_in c.args.table.now)
+        so_far = none_taken c.loop-row.rows.items c.args.table.now c.loop-row.row-index
+            (c.args.rows.now.items ++ rows_in c.args.table.now)
             c.loop-row-test.true read c.loop-row.invariant.so_far;
         room = c.loop-row.invariant.room;
       })
@@ -32,7 +39,8 @@ loop-row-preserved c = elim c.match-row.branch [
 
 pub returns : goal.returns
 returns c = record {
-  rows = all_taken c.loop-row.rows.items c.args.table.now c.loop-row.row-index (c.args.rows.now.items ++ rows_in c.args.table.now) c.loop-row-test.false
+  rows = all_taken c.loop-row.rows.items c.args.table.now c.loop-row.row-index
+      (c.args.rows.now.items ++ rows_in c.args.table.now) c.loop-row-test.false
       c.loop-row.invariant.so_far;
   room = c.loop-row.invariant.room;
 }

@@ -13,13 +13,15 @@ loop-t-init c = record {
       let table = c.put_sole_rows.new.table.items in
       let after = c.put_row.new.table.items in
       let soles = c.put_sole_rows.ensures.soles c.args.root w hops.are in
-      let head = (place_says c.args.g.now c.args.d.now w c.args.s c.place.result hops.are.says source.within c.place.ensures).0 in
+      let head = (place_says c.args.g.now c.args.d.now w c.args.s c.place.result hops.are.says source.within
+      c.place.ensures).0 in
       let put : Put og c.args.s source.within c.place.result.head table after = record {
         stay = c.put_row.ensures.stay;
         table_is = λ was. c.put_row.ensures.table w hops soles was;
         there = λ ready two. c.put_row.ensures.put w hops soles ready two;
       } in
-      filling_begun og c.args.s source.within c.args.nodes.now table after (c.put_sole_rows.ensures.table c.args.root w hops.are) soles
+      filling_begun og c.args.s source.within c.args.nodes.now table after
+      (c.put_sole_rows.ensures.table c.args.root w hops.are) soles
       (subst (λ (t : ℕ). Put og c.args.s source.within t table after) head put);
 }
 
@@ -32,12 +34,14 @@ loop-t-preserved c = record {
       let nodes = c.args.nodes.now in
       let at : slice_get nodes c.loop-t.t-index ≡ Some c.t-item.result =
       slice_get_read nodes (length nodes) c.loop-t.t-index c.t-item.result refl c.loop-t-test.true c.t-item.is in
-      let put : Put og c.args.s source.within c.t-item.result c.loop-t.table.items c.put_row-in-loop-t.new.table.items = record {
+      let put : Put og c.args.s source.within c.t-item.result c.loop-t.table.items
+      c.put_row-in-loop-t.new.table.items = record {
         stay = c.put_row-in-loop-t.ensures.stay;
         table_is = λ was. c.put_row-in-loop-t.ensures.table w hops so_far.soles was;
         there = λ ready two. c.put_row-in-loop-t.ensures.put w hops so_far.soles ready two;
       } in
-      filling_on og c.args.s source.within nodes (c.requires.nodes c.args.root w hops.are) c.loop-t.t-index c.t-item.result c.loop-t.table.items
+      filling_on og c.args.s source.within nodes (c.requires.nodes c.args.root w hops.are) c.loop-t.t-index
+      c.t-item.result c.loop-t.table.items
       c.put_row-in-loop-t.new.table.items at so_far put;
 }
 
@@ -46,6 +50,7 @@ returns-clause-table c = λ w hops. (c.loop-t.invariant.filling c.requires.sourc
 
 pub returns-clause-all : goal.returns-clause-all
 returns-clause-all c = λ w hops.
-    filled (graph_of c.args.g.now c.args.root w c.args.d.now c.requires.source.kept hops.are) c.args.s c.requires.source.within c.args.nodes.now
+    filled (graph_of c.args.g.now c.args.root w c.args.d.now c.requires.source.kept hops.are) c.args.s
+    c.requires.source.within c.args.nodes.now
     (c.requires.nodes c.args.root w hops.are) c.loop-t.t-index c.loop-t.table.items c.loop-t-test.false
     (c.loop-t.invariant.filling c.requires.source w hops)

@@ -10,5 +10,6 @@ invariant-loop-t l = record {
   one_each : length l.table.items ≡ length l.g.ids;
   filling : (source : IsSource l.g l.d l.fn.s l.up l.down) (w : Directions)
       → (hops : AreHops l.g l.d l.fn.root w l.fn.s l.up l.down)
-      → IsFilling (graph_of l.g l.fn.root w l.d source.kept hops.are) l.fn.s source.within l.nodes l.t-index l.table.items;
+      → IsFilling (graph_of l.g l.fn.root w l.d source.kept hops.are) l.fn.s source.within l.nodes l.t-index
+      l.table.items;
 }

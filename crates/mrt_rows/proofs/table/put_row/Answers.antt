@@ -7,14 +7,16 @@ use Rattle.mrt_rows.proofs.table.put_row.Goals as goal
 
 pub returns-then-is_some-clause-put : goal.returns-then-is_some-clause-put
 returns-then-is_some-clause-put c = λ w hops soles ready two.
-    some_there c.args.table.now.items c.get-place.result c.args.t c.index.result.now c.get-place.ensures.value (omega (arith, c.requires.one_each, c.requires.target))
+    some_there c.args.table.now.items c.get-place.result c.args.t c.index.result.now c.get-place.ensures.value
+    (omega (arith, c.requires.one_each, c.requires.target))
     c.index.ensures (sym c.is_some.ensures ∙ c.if-is_some.true)
 
 pub returns-clause-stay : goal.returns-clause-stay
 returns-clause-stay c =
     let table = c.args.table.now.items in
     let none =
-    none_there table c.get-place.result c.args.t c.index.result.now c.get-place.ensures.value (omega (arith, c.requires.one_each, c.requires.target)) c.index.ensures
+    none_there table c.get-place.result c.args.t c.index.result.now c.get-place.ensures.value (omega
+    (arith, c.requires.one_each, c.requires.target)) c.index.ensures
     (sym c.is_some.ensures ∙ c.if-is_some.false) in
     subst (λ (i : ℕ). StayIn table (set table i c.row_for-row.result)) (sym c.get-place.ensures.value)
     (stays_set table c.args.t c.row_for-row.result none)
@@ -24,26 +26,33 @@ returns-clause-table c = λ w hops soles was.
     let g = c.args.g.now in
     let table = c.args.table.now.items in
     let none =
-    none_there table c.get-place.result c.args.t c.index.result.now c.get-place.ensures.value (omega (arith, c.requires.one_each, c.requires.target)) c.index.ensures
+    none_there table c.get-place.result c.args.t c.index.result.now c.get-place.ensures.value (omega
+    (arith, c.requires.one_each, c.requires.target)) c.index.ensures
     (sym c.is_some.ensures ∙ c.if-is_some.false) in
     let two : c.args.s ≢ c.args.t = λ same. eqb-false c.args.t c.args.s (sym c.eq.ensures ∙ c.if-eq.false) (sym same) in
     let more = none_of_one g w c.args.s c.args.t table soles c.requires.target two none in
     let is : IsRowFor g c.args.root w c.args.s c.args.t table c.row_for-row.result =
-    subst (λ (xs : List (Option Row)). IsRowFor g c.args.root w c.args.s c.args.t xs c.row_for-row.result) c.deref.ensures.value
+    subst (λ (xs : List (Option Row)). IsRowFor g c.args.root w c.args.s c.args.t xs c.row_for-row.result)
+    c.deref.ensures.value
     (c.row_for-row.ensures w hops two more) in
-    subst (λ (i : ℕ). IsTable g c.args.root w c.args.s (set table i c.row_for-row.result)) (sym c.get-place.ensures.value)
-    (put_kept g c.args.root w c.args.s c.args.t table none two (omega (arith, c.requires.one_each, c.requires.target)) c.row_for-row.result is was)
+    subst (λ (i : ℕ). IsTable g c.args.root w c.args.s (set table i c.row_for-row.result))
+    (sym c.get-place.ensures.value)
+    (put_kept g c.args.root w c.args.s c.args.t table none two (omega
+    (arith, c.requires.one_each, c.requires.target)) c.row_for-row.result is was)
 
 pub returns-clause-put : goal.returns-clause-put
 returns-clause-put c = λ w hops soles ready two.
     let g = c.args.g.now in
     let table = c.args.table.now.items in
     let none =
-    none_there table c.get-place.result c.args.t c.index.result.now c.get-place.ensures.value (omega (arith, c.requires.one_each, c.requires.target)) c.index.ensures
+    none_there table c.get-place.result c.args.t c.index.result.now c.get-place.ensures.value (omega
+    (arith, c.requires.one_each, c.requires.target)) c.index.ensures
     (sym c.is_some.ensures ∙ c.if-is_some.false) in
     let more = none_of_one g w c.args.s c.args.t table soles c.requires.target two none in
     let is : IsRowFor g c.args.root w c.args.s c.args.t table c.row_for-row.result =
-    subst (λ (xs : List (Option Row)). IsRowFor g c.args.root w c.args.s c.args.t xs c.row_for-row.result) c.deref.ensures.value
+    subst (λ (xs : List (Option Row)). IsRowFor g c.args.root w c.args.s c.args.t xs c.row_for-row.result)
+    c.deref.ensures.value
     (c.row_for-row.ensures w hops two more) in
     subst (λ (i : ℕ). IsIn (set table i c.row_for-row.result) c.args.t) (sym c.get-place.ensures.value)
-    (put_in g c.args.root w c.args.s c.args.t table none two (omega (arith, c.requires.one_each, c.requires.target)) c.row_for-row.result is ready)
+    (put_in g c.args.root w c.args.s c.args.t table none two (omega
+    (arith, c.requires.one_each, c.requires.target)) c.row_for-row.result is ready)

@@ -17,4 +17,5 @@ returns c = λ w hops two more.
       to_other = λ other. c.carrier.ensures.other c.args.root w hops.are other;
       to_root = λ at_root. c.carrier.ensures.at_root c.args.root w hops.are at_root;
     })
-    (subst (λ (o : Option Row). IsNear c.args.g.now c.args.root w c.args.s c.args.t o) c.in_default.is (c.near_row.ensures c.args.root w hops two more)))
+    (subst (λ (o : Option Row). IsNear c.args.g.now c.args.root w c.args.s c.args.t o) c.in_default.is
+    (c.near_row.ensures c.args.root w hops two more)))

@@ -13,9 +13,11 @@ loop-n-preserved c = record {
   room = omega (arith, c.loop-n.invariant.room, c.push_reserved.ensures.capacity);
   so_far = λ w says a id below at.
       subst (λ (xs : List CertNode). slice_get xs a ≡ Some (node_words w a id)) (sym c.push_reserved.ensures.items)
-      (one_word_more (node_words w) c.args.g.now.ids c.loop-n.nodes.items c.loop-n.n c.node_words.result c.loop-n.invariant.many
+      (one_word_more (node_words w) c.args.g.now.ids c.loop-n.nodes.items c.loop-n.n c.node_words.result
+      c.loop-n.invariant.many
       (λ here there.
-      c.node_words.ensures w here says (subst (λ (n : ℕ). slice_get c.args.g.now.ids n ≡ Some here) (sym c.new.ensures) there)
+      c.node_words.ensures w here says (subst (λ (n : ℕ). slice_get c.args.g.now.ids n ≡ Some here)
+      (sym c.new.ensures) there)
       ∙ ap (λ (n : ℕ). node_words w n here) c.new.ensures)
       (c.loop-n.invariant.so_far w says) a id below at);
 }
