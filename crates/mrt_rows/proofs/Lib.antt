@@ -6,6 +6,8 @@ pub mod CertSays
 pub mod Counting
 pub mod Filling
 pub mod HeadWays
+pub mod HopsExist
+pub mod LeastExists
 pub mod LinesHold
 pub mod NearRows
 pub mod OneCert
