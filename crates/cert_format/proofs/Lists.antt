@@ -99,3 +99,10 @@ pub texts_more : {A : Type 0} (text : A → List ℕ) (xs : List A) (i : ℕ) (x
 texts_more text xs i x before now piece after lt is so_far here e =
     let front : take (i + 1) xs ≡ take i xs ++ x ∷ [] = rw is (take_more xs i x lt) in
     rw (e, so_far, here, front) (flat_map_more text before (take i xs) x)
+
+-- what holds of each of the first elements, and of the next one
+pub all_more : {A : Type 0} (Keeps : A → Type 0) (xs : List A) (i : ℕ) (x : A) → i < length xs → x ≡ get_or xs i x
+    → AllByRecursion Keeps (take i xs) → Keeps x → AllByRecursion Keeps (take (i + 1) xs)
+all_more Keeps xs i x lt is so_far here =
+    let front : take (i + 1) xs ≡ take i xs ++ x ∷ [] = rw is (take_more xs i x lt) in
+    subst (AllByRecursion Keeps) (sym front) (all_append Keeps (take i xs) (x ∷ []) so_far (here, tt))

@@ -1,7 +1,7 @@
 //! Certificate files written.
 
 ghost use Rattle.std.specs.Prelude.{◌≡◌, ◌≤◌, ◌+◌, ◌*◌, ◌++◌, length, IfOk, vec_len, vec_capacity};
-ghost use Rattle.std.specs.List.{flat_map};
+ghost use Rattle.std.specs.List.{AllByRecursion, flat_map};
 ghost use Rattle.cert_format.specs.CertText.{
   kind_number,
   role_number,
@@ -11,6 +11,7 @@ ghost use Rattle.cert_format.specs.CertText.{
   row_text,
   cert_text,
 };
+ghost use Rattle.cert_format.specs.Limits.{HasNumber, IsVersionOne};
 
 use mrt_graph::{CertFile, CertLink, CertNode, Kind, NoMemory, Role, Row, Tag};
 use std::alloc::Global;
@@ -25,7 +26,8 @@ use std::alloc::Global;
 pub fn write_cert(alloc: Global, f: &CertFile) -> Result<Vec<u8>, NoMemory>
     requires nodes { length f.now.cert.nodes ≤ 2048 }
     requires links { length f.now.cert.links ≤ 8192 }
-    ensures { IfOk result (λ v. v.items ≡ cert_text f.now) }
+    ensures text { IfOk result (λ v. v.items ≡ cert_text f.now) }
+    ensures within { IfOk result (λ _. IsVersionOne f.now) }
 {
     let cert = &f.cert;
     let nodes = cert.nodes();
@@ -57,6 +59,7 @@ fn header_bytes(nodes: u16, links: u16, root: u32) -> [u8; 14]
 fn put_nodes(out: &mut Vec<u8>, nodes: &[CertNode])
     requires { vec_len out.old + 11 * length nodes.now ≤ vec_capacity out.old }
     ensures text { out.new.items ≡ out.old.items ++ flat_map node_text nodes.now }
+    ensures numbers { AllByRecursion HasNumber nodes.now }
     ensures len { vec_len out.new ≡ vec_len out.old + 11 * length nodes.now }
     ensures capacity { vec_capacity out.old ≤ vec_capacity out.new }
 {
@@ -66,7 +69,8 @@ fn put_nodes(out: &mut Vec<u8>, nodes: &[CertNode])
 }
 
 fn node_bytes(node: &CertNode) -> [u8; 11]
-    ensures { result ≡ node_text node.now }
+    ensures text { result ≡ node_text node.now }
+    ensures number { HasNumber node.now }
 {
     let kind = match node.id.kind {
         Kind::Router => 1,
