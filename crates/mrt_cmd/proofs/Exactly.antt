@@ -5,9 +5,10 @@ use Rattle.std.specs.Option.{IsSomeAnd}
 use Rattle.mrt_io.specs.Holding.{Files}
 use Rattle.mrt_cmd.specs.declared.exit.Exit.{Exit}
 use Rattle.mrt_cmd.specs.declared.exit.Exit.TheVariants as exits
+use Rattle.mrt_cmd.specs.Answers.{FileBytes, IsRefusedOver}
 use Rattle.mrt_cmd.specs.Comes.{Comes, Gives, MissesAt, Refuses}
 use Rattle.mrt_cmd.specs.Files.{IsFirstMissing, files_of}
-use Rattle.mrt_cmd.specs.Form.{Form, Check, form_of}
+use Rattle.mrt_cmd.specs.Form.{Form, Task, Check, Certify, form_of}
 
 -- one exit comes of the words at most
 abbrev pub ComesOnce : Type 0
@@ -22,6 +23,11 @@ exactly (Some files) words result once (inl comes) told =
     inr (λ exit. (λ is. subst (Comes (Some files) words) is comes, λ other. once files words result exit comes other))
 exactly (Some files) words result once (inr memory) told = inl memory
 
+-- what is said of the bytes names no file
+never_missing : (task : Task) (bytes : FileBytes) (word : ℕ) → IsRefusedOver task bytes (exits.ReadFault word) → ⊥
+never_missing (Check certificate) bytes word said = said.2.2
+never_missing (Certify router) bytes word said = said.2
+
 -- a file that is not held is what comes of the words just where it is the first that is not
 missing_comes : (files : Files) (form : Option Form) (word : ℕ)
     → ((exits.ReadFault word ≡ exits.Usage) × IsNone form)
@@ -35,14 +41,14 @@ missing_comes files form word (inr (inl done)) =
     let other = done.0 in
     absurd cc
 missing_comes files None word (inr (inr refused)) = absurd refused
-missing_comes files (Some (Check database profile certificate)) word (inr (inr (inl missing))) = missing
-missing_comes files (Some (Check database profile certificate)) word (inr (inr (inr said))) = absurd said.4.2
+missing_comes files (Some form) word (inr (inr (inl missing))) = missing
+missing_comes files (Some form) word (inr (inr (inr said))) = absurd (never_missing form.task said.0 word said.2)
 
 comes_missing : (files : Files) (form : Option Form) (word : ℕ)
     → IsSomeAnd form (λ it. IsFirstMissing (Some files) (files_of it) word)
     → IsSomeAnd form (λ it. Refuses (Some files) it (exits.ReadFault word))
 comes_missing files None word missing = absurd missing
-comes_missing files (Some (Check database profile certificate)) word missing = inl missing
+comes_missing files (Some form) word missing = inl missing
 
 pub exactly_missing : (held : Option Files) (words : List (List ℕ)) (result : Exit) → ComesOnce
     → Comes held words result ⊎ (result ≡ exits.NoMemory) → IsSome held

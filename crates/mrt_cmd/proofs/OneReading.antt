@@ -51,7 +51,7 @@ use Rattle.ospf_lsa.specs.Outcome.{IsFirstFault}
 use Rattle.ospf_lsa.specs.declared.error.LsaKind.{LsaKind}
 use Rattle.ospf_lsa.specs.declared.lsa.Lsa.{Lsa as Advertisement}
 use Rattle.mrt_cmd.specs.Database.{HoldsLsas, IsBadDatabase, IsDatabase, entering, enters}
-use Rattle.mrt_cmd.specs.Input.{IsCertOf, IsProfile}
+use Rattle.mrt_cmd.specs.Input.{IsCertFile, IsProfile}
 use Rattle.mrt_cmd.specs.declared.exit.DbKind.{DbKind}
 use Rattle.mrt_cmd.specs.declared.exit.DbKind.TheVariants.{Lsa, Conflict}
 
@@ -182,12 +182,12 @@ pub record CertLaws : Type 0 where
   pub one : (f g : CertFile) → IsVersionOne f → IsVersionOne g → cert_text f ≡ cert_text g → f ≡ g
   pub faultless : (f : CertFile) → IsVersionOne f → first_fault (cert_text f) ≡ None
 
-pub no_bad_cert : CertLaws → (bytes : List ℕ) (file : CertFile) (fault : ℕ × CertKind) → IsCertOf bytes file
+pub no_bad_cert : CertLaws → (bytes : List ℕ) (file : CertFile) (fault : ℕ × CertKind) → IsCertFile bytes file
     → first_fault bytes ≡ Some fault → ⊥
 no_bad_cert laws bytes file fault one some =
     let none : first_fault bytes ≡ None = ap first_fault one.spelled ∙ laws.faultless file one.within in
     absurd cc
 
-pub one_cert : CertLaws → (bytes : List ℕ) (file other : CertFile) → IsCertOf bytes file → IsCertOf bytes other
+pub one_cert : CertLaws → (bytes : List ℕ) (file other : CertFile) → IsCertFile bytes file → IsCertFile bytes other
     → file ≡ other
 one_cert laws bytes file other one two = laws.one file other one.within two.within (sym one.spelled ∙ two.spelled)

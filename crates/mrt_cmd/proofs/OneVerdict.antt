@@ -37,7 +37,7 @@ use Rattle.mrt_island.specs.Policy.{Policy}
 use Rattle.mrt_cmd.specs.declared.exit.What.{What}
 use Rattle.mrt_cmd.specs.declared.exit.What.TheVariants as whats
 use Rattle.mrt_cmd.specs.Input.{IsMissing}
-use Rattle.mrt_cmd.specs.Verdict.{IsLargeArea, IsLargeIsland}
+use Rattle.mrt_cmd.specs.Islands.{IsLargeArea, IsLargeIsland}
 
 pub one_large_area : (area : AreaParts) (what other : What) (size count : ℕ) → IsLargeArea area what size
     → IsLargeArea area other count → (what ≡ other) × (size ≡ count)

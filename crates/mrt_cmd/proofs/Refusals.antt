@@ -18,13 +18,18 @@ use Rattle.std.proofs.Common.{
   subst,
   inl,
   inr,
+  arith,
 }
 use Rattle.std.specs.Prelude.{IfErr, Some, nat_lt, slice_get, if◌then◌else◌}
+use Rattle.std.specs.Option.{IsSomeAnd}
 use Rattle.std.specs.Result.{IsErrAnd}
 use Rattle.std.proofs.lemmas.Bool.{ltb-true, ltb-false}
 use Rattle.std.proofs.lemmas.Option.{slice_get_within}
 use Rattle.area_graph.specs.Parts.{AreaParts}
+use Rattle.mrt_graph.specs.GraphInvariant.{IsTopology}
+use Rattle.mrt_graph.specs.NewGraph.{IsTooLarge}
 use Rattle.mrt_graph.specs.Topology.{Topology}
+use Rattle.mrt_graph.specs.declared.cert.CertFile.{CertFile}
 use Rattle.mrt_graph.specs.declared.node_id.NodeId.{NodeId}
 use Rattle.mrt_island.specs.IslandOf.{IsIsland, IsOver}
 use Rattle.mrt_island.specs.Policy.{Policy}
@@ -32,19 +37,26 @@ use Rattle.mrt_cmd.specs.declared.exit.Exit.{Exit}
 use Rattle.mrt_cmd.specs.declared.exit.Exit.TheVariants as exits
 use Rattle.mrt_cmd.specs.declared.exit.What.TheVariants as whats
 use Rattle.mrt_io.specs.Holding.{Files}
-use Rattle.mrt_cmd.specs.Comes.{AreRead}
-use Rattle.mrt_cmd.specs.Form.{Form, Check}
-use Rattle.mrt_cmd.specs.Input.{Input, HasAreaWithin, HasIsland, IsInput, area, policy}
+use Rattle.mrt_cmd.specs.Answers.{FileBytes, IsRefusedOver}
+use Rattle.mrt_cmd.specs.Certified.{HasRouterAt}
+use Rattle.mrt_cmd.specs.Comes.{AreRead, Comes, Refuses}
+use Rattle.mrt_cmd.specs.Form.{Form, Task, Check, Certify, form_of}
+use Rattle.mrt_cmd.specs.Input.{Input, HasAreaWithin, HasIsland, IsCertFile, IsInput, area, policy}
 use Rattle.mrt_cmd.specs.Reading.{
+  AreUnread,
+  AreUnreadOrFault,
   HasNoArea,
+  HasNoCert,
   HasNoIsland,
+  HasNone,
+  IsAnswerOver,
+  IsCheckRefusal,
   IsRefusal,
   IsRefusalOrFault,
   IsRejected,
+  IsTaskRefusal,
   IsVerdictFor,
-  IsVerdictOver,
 }
-use Rattle.mrt_cmd.specs.Verdict.{IsRefusedOver}
 
 -- what an error tells, handed on
 pub handed_on : {T : Type 0} (result : Result T Exit) (exit : Exit) → IsErrAnd result (λ told. told ≡ exit)
@@ -63,28 +75,77 @@ large_island_told policy area router nodes links over = go (nat_lt 2048 nodes) r
     go true e = rw e (links, over, ltb-true 2048 nodes e)
     go false e = rw e (nodes, over, ltb-false 2048 nodes e)
 
-pub area_refused : (input : Input) (exit : Exit) → HasNoArea (area input) exit → IsVerdictFor input exit
-area_refused input (exits.TooLarge what size) said = inl (inl said)
-area_refused input exits.NoMemory said = inr refl
-area_refused input exit said = absurd said
+pub area_refused : (input : Input) (router : ℕ) (exit : Exit) → HasNoArea (area input) exit → HasNone input router exit
+area_refused input router (exits.TooLarge what size) said = inl (inl said)
+area_refused input router exits.NoMemory said = inr refl
+area_refused input router exit said = absurd said
 
-pub island_refused : (input : Input) → HasAreaWithin input → (exit : Exit)
-    → HasNoIsland (policy input) (area input) input.file.root exit → IsVerdictFor input exit
-island_refused input within (exits.TooLarge what size) said = inl (inr (within, said))
-island_refused input within (exits.NotThere number) said = inl (within, said.0, said.1)
-island_refused input within exits.NoMemory said = inr refl
-island_refused input within exit said = absurd said
+pub island_refused : (input : Input) (router : ℕ) → HasAreaWithin input → (exit : Exit)
+    → HasNoIsland (policy input) (area input) router exit → HasNone input router exit
+island_refused input router within (exits.TooLarge what size) said = inl (inr (within, said))
+island_refused input router within (exits.NotThere number) said = inl (within, said.0, said.1)
+island_refused input router within exits.NoMemory said = inr refl
+island_refused input router within exit said = absurd said
 
-rejected : (input : Input) (graph : Topology) (root : ℕ) → HasIsland input graph root → (exit : Exit)
-    → IsRejected graph root input.file exit → IsVerdictFor input exit
-rejected input graph root island (exits.No rule a b) said = inl (graph, root, island, said)
-rejected input graph root island exit said = absurd said
+pub islands_refused : {T : Type 0} (answer : Result T Exit) (input : Input) (router : ℕ) → HasAreaWithin input
+    → IfErr answer (HasNoIsland (policy input) (area input) router) → IfErr answer (HasNone input router)
+islands_refused (Ok t) input router within said = tt
+islands_refused (Err exit) input router within said = island_refused input router within exit said
 
-pub rejected_over : {T : Type 0} (result : Result T Exit) (input : Input) (graph : Topology) (root : ℕ)
-    → HasIsland input graph root
-    → IfErr result (IsRejected graph root input.file) → IfErr result (IsVerdictFor input)
-rejected_over (Ok t) input graph root island said = tt
-rejected_over (Err exit) input graph root island said = rejected input graph root island exit said
+-- where the root of a certificate has no island
+pub none_for : (input : Input) (file : CertFile) (exit : Exit) → HasNone input file.root exit
+    → IsVerdictFor input file exit
+none_for input file exit (inr memory) = inr memory
+none_for input file (exits.TooLarge what size) (inl said) = inl said
+none_for input file (exits.NotThere number) (inl said) = inl said
+none_for input file exit (inl said) = absurd said
+
+rejected : (input : Input) (file : CertFile) (graph : Topology) (root : ℕ) → HasIsland input file.root graph root
+    → (exit : Exit) → IsRejected graph root file exit → IsVerdictFor input file exit
+rejected input file graph root island (exits.No rule a b) said = inl (graph, root, island, said)
+rejected input file graph root island exit said = absurd said
+
+pub rejected_over : {T : Type 0} (result : Result T Exit) (input : Input) (file : CertFile) (graph : Topology)
+    (root : ℕ) → HasIsland input file.root graph root
+    → IfErr result (IsRejected graph root file) → IfErr result (IsVerdictFor input file)
+rejected_over (Ok t) input file graph root island said = tt
+rejected_over (Err exit) input file graph root island said = rejected input file graph root island exit said
+
+-- what is said of the certificate is said of its bytes
+verdict_of_bytes : (input : Input) (bytes : List ℕ) (file : CertFile) → IsCertFile bytes file → (exit : Exit)
+    → IsVerdictFor input file exit → IsCheckRefusal input bytes exit
+verdict_of_bytes input bytes file is exit (inr memory) = inr memory
+verdict_of_bytes input bytes file is (exits.TooLarge what size) (inl said) = inl (file, is, said)
+verdict_of_bytes input bytes file is (exits.NotThere number) (inl said) = inl (file, is, said)
+verdict_of_bytes input bytes file is (exits.No rule a b) (inl said) = inl (file, is, said)
+verdict_of_bytes input bytes file is exit (inl said) = absurd said
+
+pub verdicts_of_bytes : {T : Type 0} (answer : Result T Exit) (input : Input) (bytes : List ℕ) (file : CertFile)
+    → IsCertFile bytes file → IfErr answer (IsVerdictFor input file) → IfErr answer (IsCheckRefusal input bytes)
+verdicts_of_bytes (Ok t) input bytes file is said = tt
+verdicts_of_bytes (Err exit) input bytes file is said = verdict_of_bytes input bytes file is exit said
+
+-- a fault of the bytes of a certificate
+pub bad_bytes : (input : Input) (bytes : List ℕ) (exit : Exit) → HasNoCert bytes exit
+    → IsCheckRefusal input bytes exit
+bad_bytes input bytes (exits.BadCertificate at kind) said = inl said
+bad_bytes input bytes exits.NoMemory said = inr refl
+bad_bytes input bytes exit said = absurd said
+
+-- the root is a router
+pub router_at_root : (policy : Policy) (area : AreaParts) (router : ℕ) (graph : Topology) (root : ℕ)
+    (link_of : List (Option ℕ)) → IsIsland policy area router graph root link_of → HasRouterAt graph.ids root
+router_at_root policy area router graph root link_of island = record {
+  id = island.rooted.id;
+  there = subst (λ (ids : List NodeId). slice_get ids root ≡ Some island.rooted.id) (sym island.made.same_ids)
+      island.rooted.there;
+  router = island.rooted.router;
+}
+
+-- a graph is not too large
+pub few : (graph : Topology) → IsTopology graph → IsTooLarge (length graph.ids) (length graph.links) → ⊥
+few graph kept (inl nodes) = absurd (omega (arith, kept.few_nodes, nodes))
+few graph kept (inr links) = absurd (omega (arith, kept.few_links, links))
 
 -- the root is a node of the island
 pub root_within : (policy : Policy) (area : AreaParts) (router : ℕ) (graph : Topology) (root : ℕ)
@@ -94,41 +155,33 @@ root_within policy area router graph root link_of island =
     slice_get_within graph.ids root island.rooted.id (subst (λ (ids : List NodeId). slice_get ids root ≡ Some
     island.rooted.id) (sym island.made.same_ids) island.rooted.there)
 
--- what is said of the input is said of the bytes
-verdict_over : (database profile certificate : List ℕ) (input : Input) → IsInput database profile certificate input
-    → (exit : Exit) → IsVerdictFor input exit
-    → IsVerdictOver database profile certificate exit
-verdict_over database profile certificate input given exit (inr memory) = subst
-    (IsVerdictOver database profile certificate) (sym memory) (inr refl)
-verdict_over database profile certificate input given (exits.TooLarge what size) (inl said) = inl (input, given, said)
-verdict_over database profile certificate input given (exits.NotThere number) (inl said) = inl (input, given, said)
-verdict_over database profile certificate input given (exits.No rule a b) (inl said) = inl (input, given, said)
-verdict_over database profile certificate input given exit (inl said) = absurd said
+-- what is said by a task is said of the bytes
+task_over : (task : Task) (bytes : FileBytes) (input : Input) → IsInput bytes.database bytes.profile input
+    → (exit : Exit) → IsTaskRefusal task input bytes.last exit → IsAnswerOver task bytes exit
+task_over task bytes input given exit (inr memory) = subst (IsAnswerOver task bytes) (sym memory) (inr refl)
+task_over task bytes input given (exits.BadCertificate at kind) (inl said) = inl (input, given, said)
+task_over task bytes input given (exits.TooLarge what size) (inl said) = inl (input, given, said)
+task_over task bytes input given (exits.NotThere number) (inl said) = inl (input, given, said)
+task_over task bytes input given (exits.No rule a b) (inl said) = inl (input, given, said)
+task_over (Check certificate) bytes input given exit (inl said) = absurd said.2
+task_over (Certify router) bytes input given exit (inl said) = absurd said
 
-pub verdicts_over : {T : Type 0} (answer : Result T Exit) (database profile certificate : List ℕ) (input : Input)
-    → IsInput database profile certificate input
-    → IfErr answer (IsVerdictFor input) → IfErr answer (IsVerdictOver database profile certificate)
-verdicts_over (Ok t) database profile certificate input given said = tt
-verdicts_over (Err exit) database profile certificate input given said = verdict_over database profile certificate
-    input given exit said
+pub tasks_over : {T : Type 0} (answer : Result T Exit) (task : Task) (bytes : FileBytes) (input : Input)
+    → IsInput bytes.database bytes.profile input
+    → IfErr answer (IsTaskRefusal task input bytes.last) → IfErr answer (IsAnswerOver task bytes)
+tasks_over (Ok t) task bytes input given said = tt
+tasks_over (Err exit) task bytes input given said = task_over task bytes input given exit said
 
 -- what is said of the bytes that were read is a refusal of the form
-refusal_over : (held : Option Files) (database : List ℕ) (profile : Option (List ℕ))
-    (certificate area lines bytes : List ℕ) (exit : Exit)
-    → AreRead held database profile certificate area lines bytes
-    → IsRefusedOver area lines bytes exit ⊎ (exit ≡ exits.NoMemory)
-    → IsRefusal held (Check database profile certificate) exit
-refusal_over held database profile certificate area lines bytes exit read (inl refused) = inl
-    (inr (area, lines, bytes, read, refused))
-refusal_over held database profile certificate area lines bytes exit read (inr memory) = inr memory
+refusal_over : (held : Option Files) (form : Form) (bytes : FileBytes) (exit : Exit) → AreRead held form bytes
+    → IsRefusedOver form.task bytes exit ⊎ (exit ≡ exits.NoMemory) → IsRefusal held form exit
+refusal_over held form bytes exit read (inl refused) = inl (inr (bytes, read, refused))
+refusal_over held form bytes exit read (inr memory) = inr memory
 
-calm_refusal : (held : Option Files) (database : List ℕ) (profile : Option (List ℕ))
-    (certificate area lines bytes : List ℕ) (exit : Exit)
-    → AreRead held database profile certificate area lines bytes → IsVerdictOver area lines bytes exit
-    → IsRefusal held (Check database profile certificate) exit
-calm_refusal held database profile certificate area lines bytes (exits.ReadFault word) read said = absurd said
-calm_refusal held database profile certificate area lines bytes exit read said = refusal_over held database profile
-    certificate area lines bytes exit read said
+calm_refusal : (held : Option Files) (form : Form) (bytes : FileBytes) (exit : Exit) → AreRead held form bytes
+    → IsAnswerOver form.task bytes exit → IsRefusal held form exit
+calm_refusal held form bytes (exits.ReadFault word) read said = absurd said
+calm_refusal held form bytes exit read said = refusal_over held form bytes exit read said
 
 -- a refusal of a form that names no file is so also where the shelf may have failed
 or_fault : (held : Option Files) (form : Form) (before now : ℕ) (exit : Exit) → ((word : ℕ)
@@ -137,25 +190,36 @@ or_fault : (held : Option Files) (form : Form) (before now : ℕ) (exit : Exit) 
 or_fault held form before now (exits.ReadFault word) never said = absurd (never word refl)
 or_fault held form before now exit never said = said
 
-no_file : (area lines bytes : List ℕ) (exit : Exit) → IsVerdictOver area lines bytes exit → (word : ℕ)
-    → exit ≡ exits.ReadFault word → ⊥
-no_file area lines bytes exit said word is = subst (IsVerdictOver area lines bytes) is said
-
 -- of an answer
-pub calm_over : {T : Type 0} (answer : Result T Exit) (held : Option Files) (database : List ℕ)
-    (profile : Option (List ℕ)) (certificate area lines bytes : List ℕ)
-    → AreRead held database profile certificate area lines bytes → IfErr answer (IsVerdictOver area lines bytes)
-    → IfErr answer (IsRefusal held (Check database profile certificate))
-calm_over (Ok t) held database profile certificate area lines bytes read said = tt
-calm_over (Err exit) held database profile certificate area lines bytes read said =
-    calm_refusal held database profile certificate area lines bytes exit read said
+pub calm_over : {T : Type 0} (answer : Result T Exit) (held : Option Files) (form : Form) (bytes : FileBytes)
+    → AreRead held form bytes → IfErr answer (IsAnswerOver form.task bytes) → IfErr answer (IsRefusal held form)
+calm_over (Ok t) held form bytes read said = tt
+calm_over (Err exit) held form bytes read said = calm_refusal held form bytes exit read said
 
-pub refused_over : {T : Type 0} (answer : Result T Exit) (held : Option Files) (database : List ℕ)
-    (profile : Option (List ℕ)) (certificate area lines bytes : List ℕ)
-    (before now : ℕ) → AreRead held database profile certificate area lines bytes
-    → IfErr answer (IsVerdictOver area lines bytes)
-    → IfErr answer (IsRefusalOrFault held (Check database profile certificate) before now)
-refused_over (Ok t) held database profile certificate area lines bytes before now read said = tt
-refused_over (Err exit) held database profile certificate area lines bytes before now read said =
-    or_fault held (Check database profile certificate) before now exit (no_file area lines bytes exit said)
-    (calm_refusal held database profile certificate area lines bytes exit read said)
+pub refused_over : {T : Type 0} (answer : Result T Exit) (held : Option Files) (form : Form) (bytes : FileBytes)
+    (before now : ℕ) → AreRead held form bytes → IfErr answer (IsAnswerOver form.task bytes)
+    → IfErr answer (IsRefusalOrFault held form before now)
+refused_over (Ok t) held form bytes before now read said = tt
+refused_over (Err exit) held form bytes before now read said =
+    or_fault held form before now exit (λ word is. subst (IsAnswerOver form.task bytes) is said)
+    (calm_refusal held form bytes exit read said)
+
+-- files that were not read are a refusal of the form
+pub unread_refused : (held : Option Files) (form : Form) (exit : Exit) → AreUnread held form exit
+    → IsRefusal held form exit
+unread_refused held form exit (inl refused) = inl (inl refused)
+unread_refused held form exit (inr memory) = inr memory
+
+pub unread_or_fault : (held : Option Files) (form : Form) (before now : ℕ) (exit : Exit)
+    → AreUnreadOrFault held form before now exit → IsRefusalOrFault held form before now exit
+unread_or_fault held form before now (exits.ReadFault word) said = said
+unread_or_fault held form before now (exits.TooLarge what size) said = unread_refused held form (exits.TooLarge what size) said
+unread_or_fault held form before now exits.NoMemory said = inr refl
+unread_or_fault held form before now exit said = unread_refused held form exit said
+
+-- a refusal of the form of the words is what comes of them
+pub refusal_comes : (held : Option Files) (words : List (List ℕ)) (form : Form) (exit : Exit)
+    → Some form ≡ form_of words → IsRefusal held form exit → Comes held words exit ⊎ (exit ≡ exits.NoMemory)
+refusal_comes held words form exit is (inl refused) =
+    inl (inr (inr (subst (λ (it : Option Form). IsSomeAnd it (λ form. Refuses held form exit)) is refused)))
+refusal_comes held words form exit is (inr memory) = inr memory

@@ -35,20 +35,20 @@ use Rattle.mrt_io.specs.Holding.{Files}
 use Rattle.mrt_cmd.specs.declared.exit.Exit.{Exit}
 use Rattle.mrt_cmd.specs.declared.exit.Exit.TheVariants as exits
 use Rattle.mrt_cmd.specs.declared.exit.What.{What}
-use Rattle.mrt_cmd.specs.Comes.{AreRead, IsProfileRead}
+use Rattle.mrt_cmd.specs.Comes.{AreRead, IsLastRead, IsProfileRead}
 use Rattle.mrt_cmd.specs.Files.{
   NamedFile,
   IsReadAs,
   IsRefusedBy,
   MayFail,
-  certificate_file,
   database_file,
   profile_file,
+  task_file,
   files_of,
   refusal_of,
 }
-use Rattle.mrt_cmd.specs.Form.{Form, Check}
-use Rattle.mrt_cmd.specs.Reading.{IsRefusalOrFault, IsUnread, IsUnreadOrFault}
+use Rattle.mrt_cmd.specs.Form.{Form, Task}
+use Rattle.mrt_cmd.specs.Reading.{AreUnread, AreUnreadOrFault, IsUnread, IsUnreadOrFault}
 
 -- a count that rose later in the call rose in it
 rose_since : (before between now : ℕ) → before ≤ between → Rose between now → Rose before now
@@ -105,86 +105,132 @@ may_fail_after held (one ∷ earlier) file rest word read is = inr (
 )
 
 -- where a file is not read and those before it were, the form is refused so
-unread_after : (held : Option Files) (database : List ℕ) (profile : Option (List ℕ)) (certificate : List ℕ)
-    (earlier : List NamedFile) (file : NamedFile)
-    (rest : List NamedFile) (before between now : ℕ) (exit : Exit)
-    → earlier ++ file ∷ rest ≡ files_of (Check database profile certificate)
+unread_after : (held : Option Files) (form : Form) (earlier : List NamedFile) (file : NamedFile)
+    (rest : List NamedFile) (before between now : ℕ) (exit : Exit) → earlier ++ file ∷ rest ≡ files_of form
     → AreAllRead held earlier → before ≤ between → IsUnreadOrFault held file between now exit
-    → IsRefusalOrFault held (Check database profile certificate) before now exit
-unread_after held database profile certificate earlier file rest before between now (exits.ReadFault word) is read le
-    said = (
-      subst (λ (files : List NamedFile). MayFail held files word) is (may_fail_after held earlier file rest word read
-          said.0),
-      rose_since before between now le said.1,
-    )
-unread_after held database profile certificate earlier file rest before between now (exits.TooLarge what size) is read
-    le said =
+    → AreUnreadOrFault held form before now exit
+unread_after held form earlier file rest before between now (exits.ReadFault word) is read le said = (
+  subst (λ (files : List NamedFile). MayFail held files word) is (may_fail_after held earlier file rest word read
+      said.0),
+  rose_since before between now le said.1,
+)
+unread_after held form earlier file rest before between now (exits.TooLarge what size) is read le said =
     elim (stopped_after held earlier file rest (exits.TooLarge what size) read said) [
-      | inl refused ↦ inl (inl (subst (λ (files : List NamedFile). IsRefusedBy held files (exits.TooLarge what size))
-          is refused))
+      | inl refused ↦ inl (subst (λ (files : List NamedFile). IsRefusedBy held files (exits.TooLarge what size))
+          is refused)
       | inr memory ↦ inr memory
     ]
-unread_after held database profile certificate earlier file rest before between now exits.NoMemory is read le said =
-    inr refl
-unread_after held database profile certificate earlier file rest before between now exit is read le said = absurd said
+unread_after held form earlier file rest before between now exits.NoMemory is read le said = inr refl
+unread_after held form earlier file rest before between now exit is read le said = absurd said
+
+calm_after : (held : Option Files) (form : Form) (earlier : List NamedFile) (file : NamedFile)
+    (rest : List NamedFile) (exit : Exit) → earlier ++ file ∷ rest ≡ files_of form
+    → AreAllRead held earlier → IsUnread held file exit → AreUnread held form exit
+calm_after held form earlier file rest exit is read said =
+    elim (stopped_after held earlier file rest exit read said) [
+      | inl refused ↦ inl (subst (λ (files : List NamedFile). IsRefusedBy held files exit) is refused)
+      | inr memory ↦ inr memory
+    ]
+
+-- what was read of the database and of the profile
+abbrev AreBothRead : Option Files → Form → List ℕ → List ℕ → Type 0
+AreBothRead held form database profile =
+    IsReadAs held (database_file form.database) database × IsProfileRead held form.profile profile
+
+-- the files before that of the task
+abbrev first_files : Form → List NamedFile
+first_files form = database_file form.database ∷ option_to_list (option_map profile_file form.profile)
+
+first_read : (held : Option Files) (database : List ℕ) (profile : Option (List ℕ)) (task : Task) (area lines : List ℕ)
+    → AreBothRead held (record { database = database; profile = profile; task = task }) area lines
+    → AreAllRead held (first_files (record { database = database; profile = profile; task = task }))
+first_read held database None task area lines read = ((area, read.0), tt)
+first_read held database (Some name) task area lines read = ((area, read.0), ((lines, read.1), tt))
+
+task_last : (database : List ℕ) (profile : Option (List ℕ)) (task : Task) (file : NamedFile)
+    → task_file task ≡ Some file
+    → first_files (record { database = database; profile = profile; task = task }) ++ file ∷ []
+    ≡ files_of (record { database = database; profile = profile; task = task })
+task_last database None task file is = rw is refl
+task_last database (Some name) task file is = rw is refl
 
 -- the profile is not read, from a shelf that holds the same as when the database was read
-pub profile_unread : (held told : Option Files) (database : List ℕ) (profile : Option (List ℕ))
-    (certificate area : List ℕ) (before between now : ℕ)
-    (one : NamedFile) (exit : Exit) → one ≡ database_file database → told ≡ held → IsReadAs held one area
-    → before ≤ between
-    → IsSomeAnd profile (λ name. IsUnreadOrFault told (profile_file name) between now exit)
-    → IsRefusalOrFault held (Check database profile certificate) before now exit
-profile_unread held told database None certificate area before between now one exit is same read le said = absurd said
-profile_unread held told database (Some name) certificate area before between now one exit is same read le said =
-    unread_after held database (Some name) certificate (database_file database ∷ []) (profile_file name)
-    (certificate_file certificate ∷ []) before between now exit
-    refl ((area, subst (λ (file : NamedFile). IsReadAs held file area) is read), tt) le
-    (subst (λ (files : Option Files). IsUnreadOrFault files (profile_file name) between now exit) same said)
+module _ (held told : Option Files) (form : Form) (same : told ≡ held) (one : NamedFile) (area : List ℕ)
+    (is : one ≡ database_file form.database) (read : IsReadAs held one area) where
+  first : IsReadAs held (database_file form.database) area
+  first = subst (λ (file : NamedFile). IsReadAs held file area) is read
 
--- the certificate is not read
-pub certificate_unread : (held told later : Option Files) (database : List ℕ) (profile : Option (List ℕ))
-    (certificate area lines : List ℕ)
-    (before between after now : ℕ) (one three : NamedFile) (exit : Exit) → one ≡ database_file database
-    → three ≡ certificate_file certificate → told ≡ held
-    → later ≡ told → IsReadAs held one area → IsProfileRead told profile lines → before ≤ between → between ≤ after
-    → IsUnreadOrFault later three after now exit
-    → IsRefusalOrFault held (Check database profile certificate) before now exit
-certificate_unread held told later database profile certificate area lines before between after now one three exit is
-    is_too same same_too read read_too le le_too said =
-    go profile (subst (λ (files : Option Files). IsProfileRead files profile lines) same read_too)
-  where
-    first : IsReadAs held (database_file database) area
-    first = subst (λ (file : NamedFile). IsReadAs held file area) is read
+  profile_named : (name : List ℕ) → form.profile ≡ Some name
+      → (database_file form.database ∷ []) ++ profile_file name ∷ option_to_list (task_file form.task) ≡ files_of form
+  profile_named name named = rw named refl
 
-    unread : IsUnreadOrFault held (certificate_file certificate) after now exit
-    unread = subst (λ (files : Option Files). IsUnreadOrFault files (certificate_file certificate) after now exit)
-        (same_too ∙ same)
-        (subst (λ (file : NamedFile). IsUnreadOrFault later file after now exit) is_too said)
+  pub profile_unread : (before between now : ℕ) (exit : Exit) → before ≤ between
+      → IsSomeAnd form.profile (λ name. IsUnreadOrFault told (profile_file name) between now exit)
+      → AreUnreadOrFault held form before now exit
+  profile_unread before between now exit le said = go form.profile refl said
+    where
+      go : (profile : Option (List ℕ)) → form.profile ≡ profile
+          → IsSomeAnd profile (λ name. IsUnreadOrFault told (profile_file name) between now exit)
+          → AreUnreadOrFault held form before now exit
+      go None named unread = absurd unread
+      go (Some name) named unread =
+          unread_after held form (database_file form.database ∷ []) (profile_file name)
+          (option_to_list (task_file form.task)) before between now exit (profile_named name named)
+          ((area, first), tt) le
+          (subst (λ (files : Option Files). IsUnreadOrFault files (profile_file name) between now exit) same unread)
 
-    go : (profile : Option (List ℕ)) → IsProfileRead held profile lines
-        → IsRefusalOrFault held (Check database profile certificate) before now exit
-    go None second =
-        unread_after held database None certificate (database_file database ∷ []) (certificate_file certificate) []
-        before after now exit
-        refl ((area, first), tt) (omega (arith, le, le_too)) unread
-    go (Some name) second =
-        unread_after held database (Some name) certificate (database_file database ∷ profile_file name ∷ [])
-        (certificate_file certificate) [] before after now
-        exit refl ((area, first), ((lines, second), tt)) (omega (arith, le, le_too)) unread
+  pub profile_calm : (exit : Exit) → IsSomeAnd form.profile (λ name. IsUnread told (profile_file name) exit)
+      → AreUnread held form exit
+  profile_calm exit said = go form.profile refl said
+    where
+      go : (profile : Option (List ℕ)) → form.profile ≡ profile
+          → IsSomeAnd profile (λ name. IsUnread told (profile_file name) exit) → AreUnread held form exit
+      go None named unread = absurd unread
+      go (Some name) named unread =
+          calm_after held form (database_file form.database ∷ []) (profile_file name)
+          (option_to_list (task_file form.task)) exit (profile_named name named) ((area, first), tt)
+          (subst (λ (files : Option Files). IsUnread files (profile_file name) exit) same unread)
 
--- files that were read one after another, from a shelf that holds the same all along
-pub are_read : (held between later : Option Files) (database : List ℕ) (profile : Option (List ℕ))
-    (certificate area lines bytes : List ℕ) (one three : NamedFile)
-    → one ≡ database_file database → three ≡ certificate_file certificate → between ≡ held → later ≡ between
-    → IsReadAs held one area
-    → IsProfileRead between profile lines → IsReadAs later three bytes
-    → AreRead held database profile certificate area lines bytes
-are_read held between later database profile certificate area lines bytes one three is is_too same same_too area_read
-    lines_read bytes_read = record {
-      database_read = subst (λ (file : NamedFile). IsReadAs held file area) is area_read;
-      profile_read = subst (λ (told : Option Files). IsProfileRead told profile lines) same lines_read;
-      certificate_read = subst (λ (told : Option Files). IsReadAs told (certificate_file certificate) bytes)
-          (same_too ∙ same)
-          (subst (λ (file : NamedFile). IsReadAs later file bytes) is_too bytes_read);
+  -- the file of the task is not read, from a shelf that holds the same still
+  module _ (later : Option Files) (lines : List ℕ) (same_too : later ≡ told)
+      (read_too : IsProfileRead told form.profile lines) where
+    both : AreBothRead held form area lines
+    both = (first, subst (λ (files : Option Files). IsProfileRead files form.profile lines) same read_too)
+
+    pub task_unread : (before between now : ℕ) (exit : Exit) → before ≤ between
+        → IsSomeAnd (task_file form.task) (λ file. IsUnreadOrFault later file between now exit)
+        → AreUnreadOrFault held form before now exit
+    task_unread before between now exit le said = go (task_file form.task) refl said
+      where
+        go : (last : Option NamedFile) → task_file form.task ≡ last
+            → IsSomeAnd last (λ file. IsUnreadOrFault later file between now exit)
+            → AreUnreadOrFault held form before now exit
+        go None named unread = absurd unread
+        go (Some file) named unread =
+            unread_after held form (first_files form) file [] before between now exit
+            (task_last form.database form.profile form.task file named)
+            (first_read held form.database form.profile form.task area lines both) le
+            (subst (λ (files : Option Files). IsUnreadOrFault files file between now exit) (same_too ∙ same) unread)
+
+    pub task_calm : (exit : Exit) → IsSomeAnd (task_file form.task) (λ file. IsUnread later file exit)
+        → AreUnread held form exit
+    task_calm exit said = go (task_file form.task) refl said
+      where
+        go : (last : Option NamedFile) → task_file form.task ≡ last
+            → IsSomeAnd last (λ file. IsUnread later file exit) → AreUnread held form exit
+        go None named unread = absurd unread
+        go (Some file) named unread =
+            calm_after held form (first_files form) file [] exit
+            (task_last form.database form.profile form.task file named)
+            (first_read held form.database form.profile form.task area lines both)
+            (subst (λ (files : Option Files). IsUnread files file exit) (same_too ∙ same) unread)
+
+    -- all were read
+    pub are_read : (last : List ℕ) → IsLastRead later (task_file form.task) last
+        → AreRead held form (record { database = area; profile = lines; last = last })
+    are_read last read_last = record {
+      database_read = first;
+      profile_read = both.1;
+      last_read = subst (λ (files : Option Files). IsLastRead files (task_file form.task) last) (same_too ∙ same)
+          read_last;
     }

@@ -1,9 +1,16 @@
 -- What a form that was read asks for.
 use Rattle.std.specs.Option.{option_map}
 use Rattle.mrt_cmd.specs.declared.words.Form.{Form as ReadForm}
-use Rattle.mrt_cmd.specs.declared.words.Form.TheVariants.{Check as ReadCheck}
-use Rattle.mrt_cmd.specs.Form.{Form, Check}
+use Rattle.mrt_cmd.specs.declared.words.Task.{Task as ReadTask}
+use Rattle.mrt_cmd.specs.declared.words.Task.TheVariants.{Check as ReadCheck, Certify as ReadCertify}
+use Rattle.mrt_cmd.specs.Form.{Form, Task, Check, Certify}
 
--- the names that the form refers to
+-- the task with the name that it refers to
+abbrev pub task_asked : ReadTask → Task
+task_asked (ReadCheck certificate) = Check certificate.now
+task_asked (ReadCertify router) = Certify router
+
+-- the form with the names that it refers to
 abbrev pub asked : ReadForm → Form
-asked (ReadCheck database profile certificate) = Check database.now (option_map (λ name. name.now) profile) certificate.now
+asked form =
+    record { database = form.database.now; profile = option_map (λ name. name.now) form.profile; task = task_asked form.task }

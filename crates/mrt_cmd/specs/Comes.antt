@@ -4,32 +4,35 @@ use Rattle.std.specs.Option.{IsSomeAnd}
 use Rattle.mrt_io.specs.Holding.{Files}
 use Rattle.mrt_cmd.specs.declared.exit.Exit.{Exit}
 use Rattle.mrt_cmd.specs.declared.exit.Exit.TheVariants.{Done, Usage}
-use Rattle.mrt_cmd.specs.Files.{files_of, database_file, profile_file, certificate_file, IsFirstMissing, IsReadAs, IsRefusedBy, MayFail, AreThere}
-use Rattle.mrt_cmd.specs.Form.{Form, Check, form_of}
-use Rattle.mrt_cmd.specs.Verdict.{GivesOver, IsRefusedOver}
+use Rattle.mrt_cmd.specs.Answers.{FileBytes, GivesOver, IsRefusedOver}
+use Rattle.mrt_cmd.specs.Files.{NamedFile, files_of, database_file, profile_file, task_file, IsFirstMissing, IsReadAs, IsRefusedBy, MayFail, AreThere}
+use Rattle.mrt_cmd.specs.Form.{Form, form_of}
 
 -- these are the bytes of the profile; without a name they are none
 abbrev pub IsProfileRead : Option Files → Option (List ℕ) → List ℕ → Type 0
 IsProfileRead held None bytes = bytes ≡ []
 IsProfileRead held (Some name) bytes = IsReadAs held (profile_file name) bytes
 
--- these are the bytes of the files of a check
-pub record AreRead (held : Option Files) (database : List ℕ) (profile : Option (List ℕ)) (certificate area lines bytes : List ℕ)
-    : Type 0 where
-  pub database_read : IsReadAs held (database_file database) area
-  pub profile_read : IsProfileRead held profile lines
-  pub certificate_read : IsReadAs held (certificate_file certificate) bytes
+-- these are the bytes of the file that a task names; where it names none, they are none
+abbrev pub IsLastRead : Option Files → Option NamedFile → List ℕ → Type 0
+IsLastRead held None bytes = bytes ≡ []
+IsLastRead held (Some file) bytes = IsReadAs held file bytes
+
+-- these are the bytes of the files of a form
+pub record AreRead (held : Option Files) (form : Form) (bytes : FileBytes) : Type 0 where
+  pub database_read : IsReadAs held (database_file form.database) bytes.database
+  pub profile_read : IsProfileRead held form.profile bytes.profile
+  pub last_read : IsLastRead held (task_file form.task) bytes.last
 
 -- the text that a form gives
 abbrev pub Gives : Option Files → Form → List ℕ → Type 0
-Gives held (Check database profile certificate) text =
-    (area lines bytes : List ℕ) × AreRead held database profile certificate area lines bytes × GivesOver area lines bytes text
+Gives held form text = (bytes : FileBytes) × AreRead held form bytes × GivesOver form.task bytes text
 
 -- what comes of a form that gives no text: a file is not read; else what is said of the bytes
 abbrev pub Refuses : Option Files → Form → Exit → Type 0
-Refuses held (Check database profile certificate) exit =
-    IsRefusedBy held (files_of (Check database profile certificate)) exit
-    ⊎ ((area lines bytes : List ℕ) × AreRead held database profile certificate area lines bytes × IsRefusedOver area lines bytes exit)
+Refuses held form exit =
+    IsRefusedBy held (files_of form) exit
+    ⊎ ((bytes : FileBytes) × AreRead held form bytes × IsRefusedOver form.task bytes exit)
 
 -- the words give this text
 abbrev pub GivesText : Option Files → List (List ℕ) → List ℕ → Type 0

@@ -23,7 +23,7 @@ use Rattle.mrt_cmd.specs.declared.exit.Exit.{Exit}
 use Rattle.mrt_cmd.specs.declared.exit.Exit.TheVariants.{TooLarge, ReadFault}
 use Rattle.mrt_cmd.specs.declared.exit.What.{What}
 use Rattle.mrt_cmd.specs.declared.exit.What.TheVariants.{DatabaseFile, ProfileFile, CertificateFile}
-use Rattle.mrt_cmd.specs.Form.{Form, Check}
+use Rattle.mrt_cmd.specs.Form.{Form, Task, Check, Certify}
 
 -- a file that the words name: the place of its name among them, its name, what it is, and how many bytes it may have
 pub record NamedFile : Type 0 where
@@ -32,7 +32,7 @@ pub record NamedFile : Type 0 where
   pub what : What
   pub limit : ℕ
 
--- the three files of a check
+-- the files of a database, of a profile and of a certificate
 abbrev pub database_file : List ℕ → NamedFile
 database_file name = record { place = 1; name = name; what = DatabaseFile; limit = 8388608 }
 
@@ -42,10 +42,16 @@ profile_file name = record { place = 2; name = name; what = ProfileFile; limit =
 abbrev pub certificate_file : List ℕ → NamedFile
 certificate_file name = record { place = 3; name = name; what = CertificateFile; limit = 33554432 }
 
+-- the file that a task names, if it names one
+abbrev pub task_file : Task → Option NamedFile
+task_file (Check certificate) = Some (certificate_file certificate)
+task_file (Certify router) = None
+
 -- the files that a form names, in the order in which they are read
 abbrev pub files_of : Form → List NamedFile
-files_of (Check database profile certificate) =
-    database_file database ∷ option_to_list (option_map profile_file profile) ++ certificate_file certificate ∷ []
+files_of form =
+    database_file form.database
+    ∷ option_to_list (option_map profile_file form.profile) ++ option_to_list (task_file form.task)
 
 -- the file has these bytes, at most as many as it may have; where it is not told what is held, no claim on the name
 abbrev pub IsReadAs : Option Files → NamedFile → List ℕ → Type 0

@@ -1,4 +1,4 @@
--- What a check is given.
+-- What a form is given.
 use Rattle.std.specs.Prelude.{◌≡◌, ◌⊎◌, ℕ, false, List, Option, Contains, length}
 use Rattle.area_graph.specs.AreaOf.{area_of}
 use Rattle.area_graph.specs.AreaSize.{IsTooLarge}
@@ -23,21 +23,19 @@ pub record IsProfile (bytes : List ℕ) (settings : List Setting) : Type 0 where
   pub said : settings ≡ settings_of (text_lines bytes)
 
 -- the bytes are the certificate file
-pub record IsCertOf (bytes : List ℕ) (file : CertFile) : Type 0 where
+pub record IsCertFile (bytes : List ℕ) (file : CertFile) : Type 0 where
   pub within : IsVersionOne file
   pub spelled : bytes ≡ cert_text file
 
--- the newest LSAs, the settings of the profile, and the certificate file
+-- the newest LSAs, and the settings of the profile
 pub record Input : Type 0 where
   pub newest : List Lsa
   pub settings : List Setting
-  pub file : CertFile
 
--- what the bytes of the three files hold
-pub record IsInput (database profile certificate : List ℕ) (input : Input) : Type 0 where
+-- what the bytes of a database and of a profile hold
+pub record IsInput (database profile : List ℕ) (input : Input) : Type 0 where
   pub database_is : IsDatabase database input.newest
   pub profile_is : IsProfile profile input.settings
-  pub certificate_is : IsCertOf certificate input.file
 
 -- the area
 abbrev pub area : Input → AreaParts
@@ -55,9 +53,9 @@ HasAreaWithin input = IsTooLarge (length (area input).ids) (length (area input).
 abbrev pub IsMissing : Policy → AreaParts → ℕ → Type 0
 IsMissing policy area number = (Contains area.ids (router number) → ⊥) ⊎ (policy.supports number ≡ false)
 
--- this is the graph of the island of the certificate's root, and its GADAG root; area and island are within their limits
-pub record HasIsland (input : Input) (graph : Topology) (root : ℕ) : Type 0 where
+-- this is the graph of a router's island, and its GADAG root; area and island are within their limits
+pub record HasIsland (input : Input) (number : ℕ) (graph : Topology) (root : ℕ) : Type 0 where
   pub area_within : HasAreaWithin input
   pub link_of : List (Option ℕ)
-  pub island : IsIsland (policy input) (area input) input.file.root graph root link_of
+  pub island : IsIsland (policy input) (area input) number graph root link_of
   pub within : IsTooLargeGraph (length graph.ids) (length graph.links) → ⊥

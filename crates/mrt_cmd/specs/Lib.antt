@@ -1,11 +1,15 @@
+pub mod Answers
 pub mod Asked
+pub mod Certified
 pub mod Comes
+pub mod Database
 pub mod Exits
+pub mod Faults
 pub mod Files
 pub mod Form
-pub mod Database
-pub mod Faults
 pub mod Input
+pub mod Islands
 pub mod Reading
 pub mod Run
+pub mod TextBytes
 pub mod Verdict

@@ -1,13 +1,14 @@
--- What the steps of a check say of their refusals.
+-- What the steps of the top call say of their refusals.
 use Rattle.std.specs.Prelude.{◌≡◌, ◌⊎◌, ◌+◌, ℕ, List, Option, Some, None, IfSome}
 use Rattle.cert_format.specs.FirstFault.{first_fault}
 use Rattle.mrt_io.specs.Counts.{Rose}
 use Rattle.mrt_io.specs.Holding.{Files, IsTooLong}
 use Rattle.mrt_cmd.specs.declared.exit.Exit.{Exit}
 use Rattle.mrt_cmd.specs.declared.exit.Exit.TheVariants.{No, BadDatabase, BadProfile, BadCertificate, TooLarge, NotThere, ReadFault, NoMemory}
+use Rattle.mrt_cmd.specs.Answers.{FileBytes, IsRefusedOver, IsRefusedTask}
 use Rattle.mrt_cmd.specs.Comes.{Refuses}
-use Rattle.mrt_cmd.specs.Files.{NamedFile, MayFail, files_of}
-use Rattle.mrt_cmd.specs.Form.{Form}
+use Rattle.mrt_cmd.specs.Files.{NamedFile, IsRefusedBy, MayFail, files_of}
+use Rattle.mrt_cmd.specs.Form.{Form, Task}
 use Rattle.area_graph.specs.Parts.{AreaParts}
 use Rattle.mrt_graph.specs.FirstFault.{FirstFault}
 use Rattle.mrt_graph.specs.Topology.{Topology}
@@ -17,7 +18,8 @@ use Rattle.mrt_graph.specs.TextLines.{text_lines}
 use Rattle.mrt_island.specs.ProfileFaults.{IsFirstFault}
 use Rattle.mrt_cmd.specs.Database.{IsBadDatabase}
 use Rattle.mrt_cmd.specs.Input.{Input, IsMissing}
-use Rattle.mrt_cmd.specs.Verdict.{IsLargeArea, IsLargeIsland, IsRefusedFor, IsRefusedOver}
+use Rattle.mrt_cmd.specs.Islands.{HasNoIslandFor, IsLargeArea, IsLargeIsland}
+use Rattle.mrt_cmd.specs.Verdict.{IsNoVerdict, IsRefusedFor}
 
 -- the file is not held, or it is over its limit, or there was no memory
 abbrev pub IsUnread : Option Files → NamedFile → Exit → Type 0
@@ -30,6 +32,15 @@ IsUnread held file _ = ⊥
 abbrev pub IsUnreadOrFault : Option Files → NamedFile → ℕ → ℕ → Exit → Type 0
 IsUnreadOrFault held file before now (ReadFault word) = (word ≡ file.place) × Rose before now
 IsUnreadOrFault held file before now exit = IsUnread held file exit
+
+-- the files of a form were not all read, as they call for, or there was no memory
+abbrev pub AreUnread : Option Files → Form → Exit → Type 0
+AreUnread held form exit = IsRefusedBy held (files_of form) exit ⊎ (exit ≡ NoMemory)
+
+-- the same, but that a file was not read may be due to a fault of the shelf
+abbrev pub AreUnreadOrFault : Option Files → Form → ℕ → ℕ → Exit → Type 0
+AreUnreadOrFault held form before now (ReadFault word) = MayFail held (files_of form) word × Rose before now
+AreUnreadOrFault held form before now exit = AreUnread held form exit
 
 -- a form was refused as it calls for, or there was no memory
 abbrev pub IsRefusal : Option Files → Form → Exit → Type 0
@@ -76,11 +87,23 @@ abbrev pub IsRejected : Topology → ℕ → CertFile → Exit → Type 0
 IsRejected graph root file (No rule a b) = FirstFault graph root file rule a b
 IsRejected graph root file _ = ⊥
 
--- what is said of the input, or there was no memory
-abbrev pub IsVerdictFor : Input → Exit → Type 0
-IsVerdictFor input exit = IsRefusedFor input exit ⊎ (exit ≡ NoMemory)
+-- what is said of a router where it has no island, or there was no memory
+abbrev pub HasNone : Input → ℕ → Exit → Type 0
+HasNone input router exit = HasNoIslandFor input router exit ⊎ (exit ≡ NoMemory)
+
+-- what is said of a certificate, or there was no memory
+abbrev pub IsVerdictFor : Input → CertFile → Exit → Type 0
+IsVerdictFor input file exit = IsRefusedFor input file exit ⊎ (exit ≡ NoMemory)
+
+-- what is said by a task, or there was no memory
+abbrev pub IsTaskRefusal : Task → Input → List ℕ → Exit → Type 0
+IsTaskRefusal task input last exit = IsRefusedTask task input last exit ⊎ (exit ≡ NoMemory)
 
 -- what is said of the bytes of the files, or there was no memory; no file is named in it
-abbrev pub IsVerdictOver : List ℕ → List ℕ → List ℕ → Exit → Type 0
-IsVerdictOver area lines bytes (ReadFault word) = ⊥
-IsVerdictOver area lines bytes exit = IsRefusedOver area lines bytes exit ⊎ (exit ≡ NoMemory)
+abbrev pub IsAnswerOver : Task → FileBytes → Exit → Type 0
+IsAnswerOver task bytes (ReadFault word) = ⊥
+IsAnswerOver task bytes exit = IsRefusedOver task bytes exit ⊎ (exit ≡ NoMemory)
+
+-- what is said of the bytes of a certificate, or there was no memory
+abbrev pub IsCheckRefusal : Input → List ℕ → Exit → Type 0
+IsCheckRefusal input certificate exit = IsNoVerdict input certificate exit ⊎ (exit ≡ NoMemory)

@@ -7,7 +7,7 @@ ghost use Rattle.lsdb.specs.Installing.{IsBehind};
 ghost use Rattle.lsdb.specs.Installs.{all_installed};
 ghost use Rattle.ospf_lsa.specs.Lsas.{AreLsas, IsLsa};
 ghost use Rattle.mrt_cmd.specs.Database.{IsDatabase, entering, enters};
-ghost use Rattle.mrt_cmd.specs.Input.{IsCertOf, IsProfile};
+ghost use Rattle.mrt_cmd.specs.Input.{IsCertFile, IsProfile};
 ghost use Rattle.mrt_cmd.specs.Reading.{HasNoCert, HasNoDatabase, HasNoProfile};
 
 use crate::exit::Exit;
@@ -84,7 +84,7 @@ pub(crate) fn profile_of(alloc: Global, bytes: &[u8]) -> Result<Profile, Exit>
 
 /// The certificate file that the bytes are.
 pub(crate) fn cert_of(alloc: Global, bytes: &[u8]) -> Result<CertFile, Exit>
-    ensures file { IfOk result (λ file. IsCertOf bytes.now file) }
+    ensures file { IfOk result (λ file. IsCertFile bytes.now file) }
     ensures none { IfErr result (HasNoCert bytes.now) }
 {
     Ok(read_cert(alloc, bytes)?)

@@ -1,15 +1,19 @@
 //! The top call: words, a shelf and two sinks in, an exit out.
 #![tactic(auto)]
 
-mod check;
+mod answer;
+mod certificate;
 mod exit;
 mod fault;
+mod file_bytes;
 mod input;
+mod island;
 mod line;
 mod named_file;
 mod program;
 mod reading;
 mod run_law;
+mod text;
 mod verdict;
 mod words;
 

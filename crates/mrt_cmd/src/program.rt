@@ -13,12 +13,14 @@ ghost use Rattle.mrt_cmd.specs.Exits.{line_of};
 ghost use Rattle.mrt_cmd.specs.Files.{AreThere, files_of};
 ghost use Rattle.mrt_cmd.specs.Form.{form_of};
 ghost use Rattle.mrt_cmd.specs.Reading.{IsRefusal, IsRefusalOrFault};
+ghost use Rattle.mrt_cmd.specs.TextBytes.{bytes_of};
 ghost use Rattle.mrt_cmd.specs.Run.{GainedLine, IsHealthyForText, IsUndisturbed, IsCutShort, WritesNothing};
 
-use crate::check::check;
+use crate::answer::answer;
 use crate::exit::Exit;
-use crate::line::Line;
+use crate::file_bytes::read_files;
 use crate::run_law::one_exit_comes;
+use crate::text::Text;
 use crate::words::{Form, read_form};
 use mrt_io::{Shelf, Sink, Word, put_all};
 use std::alloc::Global;
@@ -29,7 +31,8 @@ use std::alloc::Global;
 /// Everything is read and all memory is taken before the first byte is written. A fault of `err` changes no exit. `NoMemory` may
 /// come at any place after `Usage`.
 ///
-/// It takes the time of reading the files, of an install for each LSA, of the area and the island, and of `check`.
+/// It takes the time of reading the files, of an install for each LSA, of the area and the island, and of what is asked: of
+/// checking a certificate, or of computing and writing one.
 pub fn run<F: Shelf, K: Sink, E: Sink>(
     alloc: Global,
     words: &[Word],
@@ -102,21 +105,16 @@ pub fn run<F: Shelf, K: Sink, E: Sink>(
 }
 
 /// The text that a form gives.
-fn text_of<F: Shelf>(alloc: Global, form: Form<'_>, shelf: &mut F) -> Result<Line, Exit>
-    ensures text { IfOk result (λ text. Gives (F.held shelf.old) (asked form.entry) text.items) }
+fn text_of<F: Shelf>(alloc: Global, form: Form<'_>, shelf: &mut F) -> Result<Text, Exit>
+    ensures text { IfOk result (λ text. Gives (F.held shelf.old) (asked form.entry) (bytes_of text)) }
     ensures refused { IfErr result (IsRefusalOrFault (F.held shelf.old) (asked form.entry) (F.faults shelf.old) (F.faults shelf.new)) }
     ensures calm { (Rose (F.faults shelf.old) (F.faults shelf.new) → ⊥) → IfErr result (IsRefusal (F.held shelf.old) (asked form.entry)) }
     ensures healthy { F.healthy shelf.old → IfErr result (IsRefusal (F.held shelf.old) (asked form.entry)) }
     ensures no_fault { F.healthy shelf.old → AreThere (F.held shelf.old) (files_of (asked form.entry))
         → F.faults shelf.new ≡ F.faults shelf.old }
 {
-    match form {
-        Form::Check {
-            database,
-            profile,
-            certificate,
-        } => check(alloc, shelf, database, profile, certificate),
-    }
+    let bytes = read_files(alloc, shelf, &form)?;
+    answer(alloc, form.task, &bytes)
 }
 
 /// Writes the answer's text, or else the line of the fault.

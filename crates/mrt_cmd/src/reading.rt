@@ -4,12 +4,14 @@ ghost use Rattle.std.specs.Prelude.{◌≡◌, ◌≤◌, ◌<◌, ◌-◌, ◌^
 ghost use Rattle.std.specs.Option.{IsSomeAnd, option_map};
 ghost use Rattle.mrt_io.specs.Counts.{Rose};
 ghost use Rattle.mrt_io.specs.Holding.{IsKnownThere};
-ghost use Rattle.mrt_cmd.specs.Comes.{IsProfileRead};
-ghost use Rattle.mrt_cmd.specs.Files.{IsReadAs, profile_file};
+ghost use Rattle.mrt_cmd.specs.Asked.{task_asked};
+ghost use Rattle.mrt_cmd.specs.Comes.{IsLastRead, IsProfileRead};
+ghost use Rattle.mrt_cmd.specs.Files.{IsReadAs, profile_file, task_file};
 ghost use Rattle.mrt_cmd.specs.Reading.{IsUnread, IsUnreadOrFault};
 
 use crate::exit::Exit;
 use crate::named_file::NamedFile;
+use crate::words::Task;
 use mrt_io::{Shelf, ShelfError, Word};
 use std::alloc::Global;
 
@@ -67,5 +69,31 @@ pub(crate) fn read_profile_file<F: Shelf>(
     match profile {
         None => Ok(Vec::new(alloc)),
         Some(name) => read_file(alloc, shelf, &NamedFile::profile(name)),
+    }
+}
+
+/// The bytes of the file that a task names; where it names none they are none, and nothing is read.
+pub(crate) fn read_task_file<F: Shelf>(
+    alloc: Global,
+    shelf: &mut F,
+    task: Task<'_>,
+) -> Result<Vec<u8>, Exit>
+    ensures read { IfOk result (λ bytes. IsLastRead (F.held shelf.old) (task_file (task_asked task.entry)) bytes.items) }
+    ensures refused { IfErr result (λ exit. IsSomeAnd (task_file (task_asked task.entry))
+        (λ file. IsUnreadOrFault (F.held shelf.old) file (F.faults shelf.old) (F.faults shelf.new) exit)) }
+    ensures calm { (Rose (F.faults shelf.old) (F.faults shelf.new) → ⊥)
+        → IfErr result (λ exit. IsSomeAnd (task_file (task_asked task.entry)) (λ file. IsUnread (F.held shelf.old) file exit)) }
+    ensures healthy { F.healthy shelf.old
+        → IfErr result (λ exit. IsSomeAnd (task_file (task_asked task.entry)) (λ file. IsUnread (F.held shelf.old) file exit)) }
+    ensures count { F.faults shelf.old ≤ F.faults shelf.new }
+    ensures no_fault { F.healthy shelf.old
+        → IfSome (task_file (task_asked task.entry)) (λ file. IsKnownThere (F.held shelf.old) file.name)
+        → F.faults shelf.new ≡ F.faults shelf.old }
+{
+    match task {
+        Task::Check { certificate } => {
+            read_file(alloc, shelf, &NamedFile::certificate(certificate))
+        }
+        Task::Certify { .. } => Ok(Vec::new(alloc)),
     }
 }

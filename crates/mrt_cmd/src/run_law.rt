@@ -13,6 +13,7 @@ use lsdb::{
 };
 use mrt_graph::accepted_or_one_first_fault;
 use mrt_island::{a_router_has_one_island, an_island_has_one_size};
+use mrt_rows::one_certificate;
 use ospf_lsa::bytes_are_lsas_or_have_a_fault;
 
 /// Laws: over a shelf that tells what it holds, one exit comes of the words at most, and one text.
@@ -31,4 +32,5 @@ pub fn one_exit_comes()
     a_router_has_one_island();
     an_island_has_one_size();
     accepted_or_one_first_fault();
+    one_certificate();
 }

@@ -5,7 +5,7 @@ use Rattle.std.proofs.lemmas.Option.{same_Some, slice_get_within}
 use Rattle.mrt_graph.specs.declared.cert.Row.{Row}
 use Rattle.link_direction.specs.BlockOfTwo.{FromHead, ToHead}
 use Rattle.inc_dec_spf.specs.declared.reach.Dir.TheVariants.{Up}
-use Rattle.inc_dec_spf.specs.Sweep.{AreTurns}
+use Rattle.inc_dec_spf.specs.Turns.{AreTurns}
 use Rattle.mrt_rows.specs.Table.{HasSoleRows, IsIn, IsReady, IsTable, StayIn}
 use Rattle.mrt_rows.proofs.OrderedGraphs.{OrderedGraph}
 

@@ -4,7 +4,7 @@ ghost use Rattle.std.specs.Prelude.{ℕ, IfOk};
 ghost use Rattle.link_direction.specs.Directions.{Directions};
 ghost use Rattle.inc_dec_spf.specs.declared.reach.Dir.TheVariants.{Up};
 ghost use Rattle.inc_dec_spf.specs.HasDirections.{AreDirections, HasDirections};
-ghost use Rattle.inc_dec_spf.specs.Sweep.{AreTurns};
+ghost use Rattle.inc_dec_spf.specs.Turns.{AreTurns};
 
 use mrt_graph::{Directed, Graph, NoMemory, NodeNo};
 use std::alloc::Global;

@@ -7,7 +7,7 @@ ghost use Rattle.link_direction.specs.Directions.{Directions, Says};
 ghost use Rattle.link_direction.specs.OrderedGadag.{SaysOrdered};
 ghost use Rattle.inc_dec_spf.specs.declared.reach.Dir.TheVariants.{Up};
 ghost use Rattle.inc_dec_spf.specs.HasDirections.{AreDirections};
-ghost use Rattle.inc_dec_spf.specs.Sweep.{AreTurns};
+ghost use Rattle.inc_dec_spf.specs.Turns.{AreTurns};
 ghost use Rattle.mrt_rows.specs.RowsOf.{AreRowsOf};
 ghost use Rattle.mrt_rows.specs.Table.{in_table, rows_in};
 

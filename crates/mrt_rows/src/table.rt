@@ -7,7 +7,7 @@ ghost use Rattle.inc_dec_spf.specs.HasDirections.{AreDirections, HasDirections};
 ghost use Rattle.mrt_rows.specs.Source.{AreHops, IsSource, NoneOfOneLink};
 ghost use Rattle.mrt_rows.specs.Table.{HasSoleRows, IsIn, IsReady, IsRowFor, IsTable, StayIn, carried, in_table};
 ghost use Rattle.inc_dec_spf.specs.declared.reach.Dir.TheVariants.{Up};
-ghost use Rattle.inc_dec_spf.specs.Sweep.{AreTurns};
+ghost use Rattle.inc_dec_spf.specs.Turns.{AreTurns};
 ghost use Rattle.mrt_graph.specs.GraphInvariant.{IsTopology};
 
 use crate::near::near_row;

@@ -1,23 +1,29 @@
 use Rattle.std.proofs.Common.{rules, ◌≡◌, ◌⊎◌, inl, inr}
 use Rattle.mrt_cmd.specs.declared.exit.Exit.TheVariants.{Done, NoMemory}
 use Rattle.mrt_cmd.specs.Comes.{Comes, GivesText}
+use Rattle.mrt_cmd.specs.TextBytes.{bytes_of}
+use Rattle.mrt_cmd.specs.Asked.{asked}
+use Rattle.mrt_cmd.specs.Reading.{IsRefusal}
 use Rattle.mrt_cmd.proofs.Exactly.{exactly, exactly_missing}
+use Rattle.mrt_cmd.proofs.Refusals.{refusal_comes}
 use Rattle.mrt_cmd.proofs.program.run.Goals as goal
 
 -- The text that was cut short is the one that the form gave.
 pub returns-in-Ok-clause-write_fault : goal.returns-in-Ok-clause-write_fault
 returns-in-Ok-clause-write_fault g c = λ taken is.
-    let given : GivesText (g.F.Shelf.held c.args.shelf.now) c.args.words.now c.in-Ok.text.items = search rules in
-    (c.in-Ok.text.items, given, rw c.as_slice.ensures.value at (c.put_text.ensures.write_fault taken is))
+    let given : GivesText (g.F.Shelf.held c.args.shelf.now) c.args.words.now
+    (bytes_of c.in-Ok.text) = search rules in
+    (bytes_of c.in-Ok.text, given, rw c.as_slice.ensures at (c.put_text.ensures.write_fault taken is))
 
 pub returns-in-Ok-clause-comes : goal.returns-in-Ok-clause-comes
 returns-in-Ok-clause-comes g c = λ shelf_spared out_spared.
-    let given : GivesText (g.F.Shelf.held c.args.shelf.now) c.args.words.now c.in-Ok.text.items = search rules in
+    let given : GivesText (g.F.Shelf.held c.args.shelf.now) c.args.words.now
+    (bytes_of c.in-Ok.text) = search rules in
     let done : c.put_text.result ≡ Done = elim out_spared [
       | inl calm ↦ c.put_text.ensures.calm calm
-      | inr healthy ↦ c.put_text.ensures.healthy (rw c.as_slice.ensures.value (healthy c.in-Ok.text.items given))
+      | inr healthy ↦ c.put_text.ensures.healthy (rw c.as_slice.ensures (healthy (bytes_of c.in-Ok.text) given))
     ] in
-    inl (inr (inl (done, c.in-Ok.text.items, given)))
+    inl (inr (inl (done, bytes_of c.in-Ok.text, given)))
 
 pub returns-in-Ok-clause-exactly : goal.returns-in-Ok-clause-exactly
 returns-in-Ok-clause-exactly g c = λ shelf_spared out_spared.
@@ -31,9 +37,17 @@ returns-in-Err-clause-healthy_read g c = λ healthy.
     exactly_missing (g.F.Shelf.held c.args.shelf.now) c.args.words.now c.put_line-in-Err.result
     c.one_exit_comes.ensures.exit comes
 
+pub returns-in-Err-clause-comes : goal.returns-in-Err-clause-comes
+returns-in-Err-clause-comes g c = λ shelf_spared out_spared.
+    let refusal : IsRefusal (g.F.Shelf.held c.args.shelf.now) (asked c.in-Some.form) c.in-Err.exit = elim shelf_spared [
+      | inl calm ↦ c.in-Err.ensures.calm calm
+      | inr healthy ↦ c.in-Err.ensures.healthy healthy
+    ] in
+    rw c.put_line-in-Err.ensures.same
+    (refusal_comes (g.F.Shelf.held c.args.shelf.now) c.args.words.now (asked c.in-Some.form) c.in-Err.exit
+    c.in-Some.ensures refusal)
+
 pub returns-in-Err-clause-exactly : goal.returns-in-Err-clause-exactly
 returns-in-Err-clause-exactly g c = λ shelf_spared out_spared.
-    let comes : Comes (g.F.Shelf.held c.args.shelf.now) c.args.words.now c.put_line-in-Err.result ⊎
-    (c.put_line-in-Err.result ≡ NoMemory) = search rules in
     exactly (g.F.Shelf.held c.args.shelf.now) c.args.words.now c.put_line-in-Err.result c.one_exit_comes.ensures.exit
-    comes
+    (returns-in-Err-clause-comes g c shelf_spared out_spared)

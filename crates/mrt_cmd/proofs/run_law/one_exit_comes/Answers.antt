@@ -3,8 +3,9 @@ use Rattle.mrt_cmd.proofs.OneExit.{Laws, one_exit, one_text}
 use Rattle.mrt_cmd.proofs.run_law.one_exit_comes.Goals as goal
 
 -- the laws of the layers below
-laws : goal.After-accepted_or_one_first_fault → Laws
+laws : goal.After-one_certificate → Laws
 laws c = record {
+  certificates = c.one_certificate.ensures;
   databases = record {
     never_both = c.bytes_are_lsas_or_have_a_fault.ensures.never_both;
     one_list = c.bytes_are_lsas_or_have_a_fault.ensures.one_list;

@@ -1,7 +1,7 @@
 use Rattle.std.proofs.Common.{Err, ap}
 use Rattle.mrt_island.specs.Policy.{policy_of}
 use Rattle.mrt_cmd.proofs.Refusals.{large_island_told}
-use Rattle.mrt_cmd.proofs.verdict.island_of.Goals as goal
+use Rattle.mrt_cmd.proofs.island.island_of.Goals as goal
 
 pub returns-in-Err-TooLarge-clause-refused : goal.returns-in-Err-TooLarge-clause-refused
 returns-in-Err-TooLarge-clause-refused c =

@@ -1,0 +1,44 @@
+-- What comes of a task over the bytes of its files.
+use Rattle.std.specs.Prelude.{ℕ, List}
+use Rattle.mrt_graph.specs.TextLines.{text_lines}
+use Rattle.mrt_island.specs.ProfileFaults.{IsFirstFault}
+use Rattle.ospf_lsa.specs.declared.lsa.Lsa.{Lsa}
+use Rattle.mrt_cmd.specs.declared.exit.Exit.{Exit}
+use Rattle.mrt_cmd.specs.declared.exit.Exit.TheVariants.{BadDatabase, BadProfile}
+use Rattle.mrt_cmd.specs.Certified.{IsCertified}
+use Rattle.mrt_cmd.specs.Database.{IsDatabase, IsBadDatabase}
+use Rattle.mrt_cmd.specs.Form.{Task, Check, Certify}
+use Rattle.mrt_cmd.specs.Input.{Input, IsInput}
+use Rattle.mrt_cmd.specs.Islands.{HasNoIslandFor}
+use Rattle.mrt_cmd.specs.Verdict.{GivesVerdict, IsNoVerdict}
+
+-- the bytes of the files: of the database, of the profile, and of the file that the task names, if it names one
+pub record FileBytes : Type 0 where
+  pub database : List ℕ
+  pub profile : List ℕ
+  pub last : List ℕ
+
+-- the text of a task
+abbrev pub GivesFor : Task → Input → List ℕ → List ℕ → Type 0
+GivesFor (Check certificate) input last text = GivesVerdict input last text
+GivesFor (Certify router) input last text = IsCertified input router text
+
+-- what comes of a task that gives no text
+abbrev pub IsRefusedTask : Task → Input → List ℕ → Exit → Type 0
+IsRefusedTask (Check certificate) input last exit = IsNoVerdict input last exit
+IsRefusedTask (Certify router) input last exit = HasNoIslandFor input router exit
+
+-- the text of a task over these bytes
+pub record GivesOver (task : Task) (bytes : FileBytes) (text : List ℕ) : Type 0 where
+  pub input : Input
+  pub given : IsInput bytes.database bytes.profile input
+  pub gives : GivesFor task input bytes.last text
+
+-- what comes of a task over these bytes, but for a text: what is wrong with the database; else the first faulty line of
+-- the profile; else what is said by the task
+abbrev pub IsRefusedOver : Task → FileBytes → Exit → Type 0
+IsRefusedOver task bytes (BadDatabase at kind) = IsBadDatabase bytes.database at kind
+IsRefusedOver task bytes (BadProfile line kind) =
+    ((newest : List Lsa) × IsDatabase bytes.database newest) × IsFirstFault (text_lines bytes.profile) line kind
+IsRefusedOver task bytes exit =
+    (input : Input) × IsInput bytes.database bytes.profile input × IsRefusedTask task input bytes.last exit

@@ -1,0 +1,47 @@
+//! `certify DB PROFILE ROUTER`: the certificate of a router's island.
+
+ghost use Rattle.std.specs.Prelude.{◌≡◌, None, IfOk, IfErr, map};
+ghost use Rattle.lsdb.specs.Conflicts.{least_conflict};
+ghost use Rattle.mrt_cmd.specs.Certified.{HasRouterAt, IsCertified, IsComputed};
+ghost use Rattle.mrt_cmd.specs.Input.{Input};
+ghost use Rattle.mrt_cmd.specs.Reading.{HasNone};
+
+use crate::exit::Exit;
+use crate::island::island_in;
+use cert_format::write_cert;
+use lsdb::Lsdb;
+use mrt_graph::{CertFile, Graph, NoMemory, NodeNo, accepted_implies_sound};
+use mrt_island::Profile;
+use mrt_rows::compute;
+use std::alloc::Global;
+
+/// The bytes of the certificate that is computed for the island of a router.
+pub(crate) fn certificate(
+    alloc: Global,
+    database: &Lsdb,
+    profile: &Profile,
+    router: u32,
+) -> Result<Vec<u8>, Exit>
+    requires { least_conflict database.now.entries ≡ None }
+    ensures certified { let input : Input = record { newest = map (λ entry. entry.lsa) database.now.entries; settings = profile.now } in
+        IfOk result (λ text. IsCertified input router text.items) }
+    ensures refused { let input : Input = record { newest = map (λ entry. entry.lsa) database.now.entries; settings = profile.now } in
+        IfErr result (HasNone input router) }
+{
+    let island = island_in(alloc, database, profile, router)?;
+    Ok(computed(alloc, &island.graph, island.root)?)
+}
+
+/// The bytes of the certificate that is computed for a graph and its root.
+fn computed(alloc: Global, graph: &Graph, root: NodeNo) -> Result<Vec<u8>, NoMemory>
+    requires { HasRouterAt graph.now.ids root }
+    ensures { IfOk result (λ text. IsComputed graph.now root text.items) }
+{
+    accepted_implies_sound();
+    let cert = compute(alloc, graph, root)?;
+    let file = CertFile {
+        root: graph.id(root).number,
+        cert,
+    };
+    write_cert(alloc, &file)
+}

@@ -1,0 +1,70 @@
+//! The island of a router in a database.
+
+ghost use Rattle.std.specs.Prelude.{◌≡◌, ◌<◌, None, IfOk, IfErr, length, map};
+ghost use Rattle.area_graph.specs.AreaOf.{area_of as area_of_newest};
+ghost use Rattle.area_graph.specs.AreaSize.{IsTooLarge};
+ghost use Rattle.lsdb.specs.Conflicts.{least_conflict};
+ghost use Rattle.mrt_island.specs.IslandOf.{IsIsland};
+ghost use Rattle.mrt_island.specs.Policy.{policy_of};
+ghost use Rattle.mrt_cmd.specs.Input.{Input, HasAreaWithin, area, policy};
+ghost use Rattle.mrt_cmd.specs.Reading.{HasNoArea, HasNoIsland, HasNone};
+
+use crate::exit::{Exit, What};
+use crate::fault::too_large;
+use area_graph::{Area, build_area};
+use lsdb::Lsdb;
+use mrt_island::{Island, IslandError, Profile, find_island};
+use std::alloc::Global;
+
+/// The most nodes that an island may have.
+const ISLAND_NODES: u32 = 2048;
+
+/// The island of a router under a profile.
+pub(crate) fn island_in(
+    alloc: Global,
+    database: &Lsdb,
+    profile: &Profile,
+    router: u32,
+) -> Result<Island, Exit>
+    requires { least_conflict database.now.entries ≡ None }
+    ensures area { let input : Input = record { newest = map (λ entry. entry.lsa) database.now.entries; settings = profile.now } in
+        IfOk result (λ _. HasAreaWithin input) }
+    ensures island { let input : Input = record { newest = map (λ entry. entry.lsa) database.now.entries; settings = profile.now } in
+        IfOk result (λ island. IsIsland (policy input) (area input) router island.graph island.root island.link_of) }
+    ensures refused { let input : Input = record { newest = map (λ entry. entry.lsa) database.now.entries; settings = profile.now } in
+        IfErr result (HasNone input router) }
+{
+    let area = area_of(alloc, database)?;
+    island_of(alloc, &area, profile, router)
+}
+
+/// The area of a database.
+fn area_of(alloc: Global, database: &Lsdb) -> Result<Area, Exit>
+    requires { least_conflict database.now.entries ≡ None }
+    ensures area { IfOk result (λ area. area ≡ area_of_newest (map (λ entry. entry.lsa) database.now.entries)) }
+    ensures within { let area = area_of_newest (map (λ entry. entry.lsa) database.now.entries) in
+        IfOk result (λ _. IsTooLarge (length area.ids) (length area.arcs) → ⊥) }
+    ensures refused { IfErr result (HasNoArea (area_of_newest (map (λ entry. entry.lsa) database.now.entries))) }
+{
+    Ok(build_area(alloc, database)?)
+}
+
+/// The island of a router.
+fn island_of(alloc: Global, area: &Area, profile: &Profile, router: u32) -> Result<Island, Exit>
+    ensures island { IfOk result (λ island. IsIsland (policy_of profile.now) area.now router island.graph island.root island.link_of) }
+    ensures refused { IfErr result (HasNoIsland (policy_of profile.now) area.now router) }
+{
+    match find_island(alloc, area, profile, router) {
+        Ok(island) => Ok(island),
+        Err(IslandError::NotThere) => Err(Exit::NotThere { number: router }),
+        Err(IslandError::Unsupported) => Err(Exit::NotThere { number: router }),
+        Err(IslandError::TooLarge { nodes, links }) => Err(too_large(
+            ISLAND_NODES,
+            What::IslandNodes,
+            nodes,
+            What::IslandLinks,
+            links,
+        )),
+        Err(IslandError::NoMemory) => Err(Exit::NoMemory),
+    }
+}
