@@ -2,4 +2,5 @@ pub mod Fields
 pub mod Files
 pub mod Lists
 pub mod Parts
+pub mod SpellingLength
 pub mod Unique

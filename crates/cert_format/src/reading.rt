@@ -1,6 +1,6 @@
 //! A whole certificate file.
 
-ghost use Rattle.std.specs.Prelude.{◌≡◌, ◌≤◌, ◌-◌, ◌*◌, ℕ, Some, IfOk};
+ghost use Rattle.std.specs.Prelude.{◌≡◌, ◌≤◌, ◌-◌, ◌*◌, ℕ, Some, IfOk, length};
 ghost use Rattle.mrt_graph.specs.declared.cert.CertFile.{CertFile};
 ghost use Rattle.cert_format.specs.declared.error.CertKind.{CertKind};
 ghost use Rattle.cert_format.specs.CertText.{cert_text};
@@ -94,8 +94,10 @@ fn row_count(nodes: u16) -> usize
     nodes * nodes.saturating_sub(1)
 }
 
-/// No two certificate files have one spelling, and no field of a spelling is at fault.
+/// No two certificate files have one spelling, no field of a spelling is at fault, and the longest spelling has
+/// 21,041,166 bytes.
 pub fn one_spelling()
     ensures one { (f g : CertFile) → IsVersionOne f → IsVersionOne g → cert_text f ≡ cert_text g → f ≡ g }
     ensures faultless { (f : CertFile) → IsVersionOne f → first_fault (cert_text f) ≡ None }
+    ensures longest { (f : CertFile) → IsVersionOne f → length (cert_text f) ≤ 21041166 }
 {}

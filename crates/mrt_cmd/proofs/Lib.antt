@@ -6,3 +6,4 @@ pub mod OneReading
 pub mod OneVerdict
 pub mod Refusals
 pub mod Unread
+pub mod WrittenPasses

@@ -142,7 +142,7 @@ all_stand laws at (lsa ∷ rest) are = go (enters lsa) refl (all_stand laws (at 
     go false e stand = rw e stand
 
 -- the newest LSAs of a database give an area
-is_area : AreaLaws → (bytes : List ℕ) (newest : List Lsa) → IsDatabase bytes newest
+pub is_area : AreaLaws → (bytes : List ℕ) (newest : List Lsa) → IsDatabase bytes newest
     → (IsTooLarge (length (area_of newest).ids) (length (area_of newest).arcs) → ⊥) → IsArea (area_of newest)
 is_area laws bytes newest database within =
     subst (λ (lsas : List Lsa). IsArea (area_of lsas)) (sym database.newest_ones)

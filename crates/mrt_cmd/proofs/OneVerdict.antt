@@ -55,7 +55,7 @@ no_large_area area whats.AreaNodes size within large = within (inl large.0)
 no_large_area area whats.AreaArcs size within large = within (inr large.1)
 no_large_area area what size within large = absurd large
 
-contained : (ids : List NodeId) (place : ℕ) (id : NodeId) → slice_get ids place ≡ Some id → Contains ids id
+pub contained : (ids : List NodeId) (place : ℕ) (id : NodeId) → slice_get ids place ≡ Some id → Contains ids id
 contained ids place id at = subst (Contains ids) (get_or_from_slice_get ids place id id at)
     (Contains-get_or ids place id (slice_get_within ids place id at))
 

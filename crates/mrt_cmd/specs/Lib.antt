@@ -7,6 +7,7 @@ pub mod Exits
 pub mod Faults
 pub mod Files
 pub mod Form
+pub mod Headline
 pub mod Input
 pub mod Islands
 pub mod Reading

@@ -1,7 +1,8 @@
 //! The top call.
 
-ghost use Rattle.std.specs.Prelude.{◌≡◌, ◌⊎◌, ◌↔◌, ℕ, List, IfErr, IfOk, IsNone, IsSome, length};
+ghost use Rattle.std.specs.Prelude.{◌≡◌, ◌⊎◌, ◌↔◌, ℕ, List, IfErr, IfOk, IsNone, IsSome, Some, length};
 ghost use Rattle.mrt_io.specs.Counts.{Rose};
+ghost use Rattle.mrt_io.specs.Holding.{Files};
 ghost use Rattle.mrt_io.specs.Writing.{Gained};
 ghost use Rattle.cert_format.specs.declared.error.CertKind.{CertKind};
 ghost use Rattle.mrt_island.specs.declared.profile_error.ProfileKind.{ProfileKind};
@@ -12,6 +13,7 @@ ghost use Rattle.mrt_cmd.specs.Comes.{Comes, FailsAt, Gives, GivesText, IsRefuse
 ghost use Rattle.mrt_cmd.specs.Exits.{line_of};
 ghost use Rattle.mrt_cmd.specs.Files.{AreThere, files_of};
 ghost use Rattle.mrt_cmd.specs.Form.{form_of};
+ghost use Rattle.mrt_cmd.specs.Headline.{ChecksWritten, IsPassed};
 ghost use Rattle.mrt_cmd.specs.Reading.{IsRefusal, IsRefusalOrFault};
 ghost use Rattle.mrt_cmd.specs.TextBytes.{bytes_of};
 ghost use Rattle.mrt_cmd.specs.Run.{GainedLine, IsHealthyForText, IsUndisturbed, IsCutShort, WritesNothing};
@@ -19,7 +21,7 @@ ghost use Rattle.mrt_cmd.specs.Run.{GainedLine, IsHealthyForText, IsUndisturbed,
 use crate::answer::answer;
 use crate::exit::Exit;
 use crate::file_bytes::read_files;
-use crate::run_law::one_exit_comes;
+use crate::run_law::{one_exit_comes, what_was_written_passes};
 use crate::text::Text;
 use crate::words::{Form, read_form};
 use mrt_io::{Shelf, Sink, Word, put_all};
@@ -89,12 +91,18 @@ pub fn run<F: Shelf, K: Sink, E: Sink>(
         → IsSome (F.held shelf.old)
         → (result ≡ Exit.NoMemory) ⊎ ((exit : Exit) → (result ≡ exit) ↔ Comes (F.held shelf.old) words.now exit) }
 
+    // A certificate that was written passes: where the words check what `certify` gave over the same database and profile, no exit
+    // says anything against it.
+    ensures written_passes { (files : Files) → F.held shelf.old ≡ Some files → ChecksWritten files words.now
+        → IsPassed result }
+
     // On `Done` nothing is put to `err`, else the exit's line, as far as `err` takes it.
     ensures silent { result ≡ Exit.Done → err.new ≡ err.old }
     ensures line { (result ≡ Exit.Done → ⊥) → GainedLine (E.healthy_for err.old) (E.faults err.old) (E.faults err.new)
         (E.written err.old) (E.written err.new) (line_of result) }
 {
     one_exit_comes();
+    what_was_written_passes();
     let Some(form) = read_form(words) else {
         return put_line(err, Exit::Usage);
     };

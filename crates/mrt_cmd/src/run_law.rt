@@ -1,9 +1,10 @@
-//! That the words and what the shelf holds have at most one exit.
+//! What holds of the words and of what the shelf holds.
 
 ghost use Rattle.std.specs.Prelude.{◌≡◌, ℕ, List, Some};
 ghost use Rattle.mrt_io.specs.Holding.{Files};
 ghost use Rattle.mrt_cmd.specs.declared.exit.Exit.{Exit};
 ghost use Rattle.mrt_cmd.specs.Comes.{Comes, GivesText};
+ghost use Rattle.mrt_cmd.specs.Headline.{ChecksWritten};
 
 use area_graph::the_newest_records_give_an_area;
 use cert_format::one_spelling;
@@ -12,7 +13,9 @@ use lsdb::{
     tells_the_first_conflict,
 };
 use mrt_graph::accepted_or_one_first_fault;
-use mrt_island::{a_router_has_one_island, an_island_has_one_size};
+use mrt_island::{
+    a_router_has_one_island, an_island_has_one_size, an_island_is_that_of_each_router_in_it,
+};
 use mrt_rows::one_certificate;
 use ospf_lsa::bytes_are_lsas_or_have_a_fault;
 
@@ -33,4 +36,16 @@ pub fn one_exit_comes()
     an_island_has_one_size();
     accepted_or_one_first_fault();
     one_certificate();
+}
+
+/// A law, the headline: a certificate that was written passes the check over the same database and profile, and the
+/// rows of each that passes are sound.
+pub fn what_was_written_passes()
+    ensures { (files : Files) (words : List (List ℕ)) → ChecksWritten files words
+        → (line : List ℕ) × GivesText (Some files) words line }
+{
+    an_lsa_without_a_fault_may_be_installed();
+    the_newest_records_give_an_area();
+    an_island_is_that_of_each_router_in_it();
+    one_spelling();
 }

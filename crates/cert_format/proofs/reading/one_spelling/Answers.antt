@@ -1,4 +1,5 @@
 use Rattle.cert_format.proofs.Files.{no_fault}
+use Rattle.cert_format.proofs.SpellingLength.{longest_spelling}
 use Rattle.cert_format.proofs.Unique.{one_file}
 use Rattle.cert_format.proofs.reading.one_spelling.Goals as goal
 
@@ -7,3 +8,6 @@ returns-clause-one c = one_file
 
 pub returns-clause-faultless : goal.returns-clause-faultless
 returns-clause-faultless c = no_fault
+
+pub returns-clause-longest : goal.returns-clause-longest
+returns-clause-longest c = longest_spelling

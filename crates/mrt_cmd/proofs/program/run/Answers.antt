@@ -1,11 +1,15 @@
-use Rattle.std.proofs.Common.{rules, ◌≡◌, ◌⊎◌, inl, inr}
+use Rattle.std.proofs.Common.{rules, ◌≡◌, ◌⊎◌, Option, Some, inl, inr, subst}
+use Rattle.std.specs.Prelude.{IsNone}
+use Rattle.mrt_io.specs.Holding.{Files}
 use Rattle.mrt_cmd.specs.declared.exit.Exit.TheVariants.{Done, NoMemory}
-use Rattle.mrt_cmd.specs.Comes.{Comes, GivesText}
+use Rattle.mrt_cmd.specs.Comes.{Comes, Gives, GivesText}
+use Rattle.mrt_cmd.specs.Form.{form_of}
 use Rattle.mrt_cmd.specs.TextBytes.{bytes_of}
 use Rattle.mrt_cmd.specs.Asked.{asked}
-use Rattle.mrt_cmd.specs.Reading.{IsRefusal}
+use Rattle.mrt_cmd.specs.Reading.{IsRefusal, IsRefusalOrFault}
 use Rattle.mrt_cmd.proofs.Exactly.{exactly, exactly_missing}
 use Rattle.mrt_cmd.proofs.Refusals.{refusal_comes}
+use Rattle.mrt_cmd.proofs.WrittenPasses.{no_form, passed_refused, passed_written}
 use Rattle.mrt_cmd.proofs.program.run.Goals as goal
 
 -- The text that was cut short is the one that the form gave.
@@ -51,3 +55,22 @@ pub returns-in-Err-clause-exactly : goal.returns-in-Err-clause-exactly
 returns-in-Err-clause-exactly g c = λ shelf_spared out_spared.
     exactly (g.F.Shelf.held c.args.shelf.now) c.args.words.now c.put_line-in-Err.result c.one_exit_comes.ensures.exit
     (returns-in-Err-clause-comes g c shelf_spared out_spared)
+
+-- A certificate that was written passes.
+pub returns-in_default-clause-written_passes : goal.returns-in_default-clause-written_passes
+returns-in_default-clause-written_passes g c = λ files told written.
+    let passes = c.what_was_written_passes.ensures files c.args.words.now written in
+    let none : IsNone (form_of c.args.words.now) = search rules in
+    absurd (no_form (form_of c.args.words.now) (λ it. Gives (Some files) it passes.0) none passes.1)
+
+pub returns-in-Ok-clause-written_passes : goal.returns-in-Ok-clause-written_passes
+returns-in-Ok-clause-written_passes g c = λ files told written. passed_written c.put_text.result c.put_text.ensures.kind
+
+pub returns-in-Err-clause-written_passes : goal.returns-in-Err-clause-written_passes
+returns-in-Err-clause-written_passes g c = λ files told written.
+    let passes = c.what_was_written_passes.ensures files c.args.words.now written in
+    rw c.put_line-in-Err.ensures.same
+    (passed_refused c.one_exit_comes.ensures.exit files c.args.words.now (asked c.in-Some.form) c.in-Some.ensures passes.0
+    passes.1 (g.F.Shelf.faults c.args.shelf.now) (g.F.Shelf.faults c.text_of.new.shelf) c.in-Err.exit
+    (subst (λ (held : Option Files). IsRefusalOrFault held (asked c.in-Some.form) (g.F.Shelf.faults c.args.shelf.now)
+    (g.F.Shelf.faults c.text_of.new.shelf) c.in-Err.exit) told c.in-Err.ensures.refused))
