@@ -142,6 +142,7 @@ closing_too g w v m kept alike inside has = record {
             leads_on = it.over.leads_on;
             in_block = sym (alike.link_blocks it.link (link_within g it.link it.from x kept it.over.leads_on)) ∙ it.over.in_block ∙ alike.blocks x within_x;
           };
+          away = sym (alike.tails it.link (link_within g it.link it.from x kept it.over.leads_on)) ∙ it.away;
           lower = omega (arith, it.lower, alike.orders it.from both.0, alike.orders x within_x);
         }
 
@@ -155,6 +156,7 @@ closing_too g w v m kept alike inside has = record {
             leads_on = it.over.leads_on;
             in_block = sym (alike.link_blocks it.link (link_within g it.link x it.to kept it.over.leads_on)) ∙ it.over.in_block ∙ alike.blocks x within_x;
           };
+          away = sym (alike.tails it.link (link_within g it.link x it.to kept it.over.leads_on)) ∙ it.away;
           greater = omega (arith, it.greater, alike.orders it.to both.1, alike.orders x within_x);
         }
 

@@ -65,7 +65,13 @@ leaves g root gadag d w k v a within of_block more (ToMember link to counted lin
     let rises = counted_rises g root gadag d w link v to a counted in
     let lies = lies_with g root gadag d w link v a e_within within link_in in
     Onward to to_within (sym (lies_with g root gadag d w link to a e_within to_within to_in) ∙ lies) rises
-    (record { to = to; link = link; over = record { leads_on = counted.to; in_block = lies }; greater = rises })
+    (record {
+      to = to;
+      link = link;
+      over = record { leads_on = counted.to; in_block = lies };
+      away = tail_said g root gadag d w link v a e_within counted.away;
+      greater = rises;
+    })
 leaves g root gadag d w k v a within of_block more (ToHead link closes) =
     let in_k : link_block_at gadag.marks link ≡ Some k =
     closes.in_block.of_link ∙ sym closes.in_block.of_node ∙ block_said g root gadag d w v a within ∙ ap (λ (n : ℕ). Some n) of_block in
@@ -140,6 +146,7 @@ closing_link g root gadag d w m a within other more =
               leads_on = into.counted.to;
               in_block = lies_with g root gadag d w into.link v a (link_within g into.link into.from v into.counted.to) v_in into.in_block;
             };
+            away = tail_said g root gadag d w into.link into.from a (link_within g into.link into.from v into.counted.to) into.counted.away;
             lower = counted_rises g root gadag d w into.link into.from v a into.counted;
           };
       left = λ v v_in is not_top.

@@ -12,18 +12,20 @@ pub record IsLinkWithin (g : Topology) (w : Directions) (k e u v : ℕ) : Type 0
   pub leads_on : leads g.links e u ≡ Some v
   pub in_block : w.lies_in e ≡ k
 
--- a link of v's block comes to v from a node of lower order
+-- a link of v's block is directed to v, from a node of lower order
 pub record IsEntered (g : Topology) (w : Directions) (v : ℕ) : Type 0 where
   pub from : ℕ
   pub link : ℕ
   pub over : IsLinkWithin g w (w.block v) link from v
+  pub away : w.tail link ≡ from
   pub lower : w.order from < w.order v
 
--- a link of v's block leads from v to a node of greater order
+-- a link of v's block is directed away from v, to a node of greater order
 pub record IsLeft (g : Topology) (w : Directions) (v : ℕ) : Type 0 where
   pub to : ℕ
   pub link : ℕ
   pub over : IsLinkWithin g w (w.block v) link v to
+  pub away : w.tail link ≡ v
   pub greater : w.order v < w.order to
 
 -- the block of m has one link, which is sole, and m alone is its node

@@ -38,7 +38,6 @@ use Rattle.mrt_cmd.specs.declared.exit.Exit.TheVariants as exits
 use Rattle.mrt_cmd.specs.declared.exit.What.TheVariants as whats
 use Rattle.mrt_io.specs.Holding.{Files}
 use Rattle.mrt_cmd.specs.Answers.{FileBytes, IsRefusedOver}
-use Rattle.mrt_cmd.specs.Certified.{HasRouterAt}
 use Rattle.mrt_cmd.specs.Comes.{AreRead, Comes, Refuses}
 use Rattle.mrt_cmd.specs.Form.{Form, Task, Check, Certify, form_of}
 use Rattle.mrt_cmd.specs.Input.{Input, HasAreaWithin, HasIsland, IsCertFile, IsInput, area, policy}
@@ -131,16 +130,6 @@ pub bad_bytes : (input : Input) (bytes : List ℕ) (exit : Exit) → HasNoCert b
 bad_bytes input bytes (exits.BadCertificate at kind) said = inl said
 bad_bytes input bytes exits.NoMemory said = inr refl
 bad_bytes input bytes exit said = absurd said
-
--- the root is a router
-pub router_at_root : (policy : Policy) (area : AreaParts) (router : ℕ) (graph : Topology) (root : ℕ)
-    (link_of : List (Option ℕ)) → IsIsland policy area router graph root link_of → HasRouterAt graph.ids root
-router_at_root policy area router graph root link_of island = record {
-  id = island.rooted.id;
-  there = subst (λ (ids : List NodeId). slice_get ids root ≡ Some island.rooted.id) (sym island.made.same_ids)
-      island.rooted.there;
-  router = island.rooted.router;
-}
 
 -- a graph is not too large
 pub few : (graph : Topology) → IsTopology graph → IsTooLarge (length graph.ids) (length graph.links) → ⊥

@@ -1,8 +1,6 @@
 -- The certificate of a router's island.
-use Rattle.std.specs.Prelude.{◌≡◌, ℕ, List, Some, length, slice_get}
+use Rattle.std.specs.Prelude.{ℕ, List, length}
 use Rattle.mrt_graph.specs.declared.cert.CertFile.{CertFile}
-use Rattle.mrt_graph.specs.declared.node_id.Kind.TheVariants.{Router}
-use Rattle.mrt_graph.specs.declared.node_id.NodeId.{NodeId}
 use Rattle.mrt_graph.specs.Accepted.{Accepted}
 use Rattle.mrt_graph.specs.Certificate.{row_of}
 use Rattle.mrt_graph.specs.GraphInvariant.{IsTopology}
@@ -26,9 +24,3 @@ pub record IsCertified (input : Input) (router : ℕ) (text : List ℕ) : Type 0
   pub root : ℕ
   pub island : HasIsland input router graph root
   pub certificate : IsComputed graph root text
-
--- this node is a router
-pub record HasRouterAt (ids : List NodeId) (node : ℕ) : Type 0 where
-  pub id : NodeId
-  pub there : slice_get ids node ≡ Some id
-  pub router : id.kind ≡ Router

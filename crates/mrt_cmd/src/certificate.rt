@@ -1,8 +1,8 @@
 //! `certify DB PROFILE ROUTER`: the certificate of a router's island.
 
-ghost use Rattle.std.specs.Prelude.{◌≡◌, None, IfOk, IfErr, map};
+ghost use Rattle.std.specs.Prelude.{◌≡◌, ◌<◌, None, IfOk, IfErr, length, map};
 ghost use Rattle.lsdb.specs.Conflicts.{least_conflict};
-ghost use Rattle.mrt_cmd.specs.Certified.{HasRouterAt, IsCertified, IsComputed};
+ghost use Rattle.mrt_cmd.specs.Certified.{IsCertified, IsComputed};
 ghost use Rattle.mrt_cmd.specs.Input.{Input};
 ghost use Rattle.mrt_cmd.specs.Reading.{HasNone};
 
@@ -34,7 +34,7 @@ pub(crate) fn certificate(
 
 /// The bytes of the certificate that is computed for a graph and its root.
 fn computed(alloc: Global, graph: &Graph, root: NodeNo) -> Result<Vec<u8>, NoMemory>
-    requires { HasRouterAt graph.now.ids root }
+    requires { root < length graph.now.ids }
     ensures { IfOk result (λ text. IsComputed graph.now root text.items) }
 {
     accepted_implies_sound();
