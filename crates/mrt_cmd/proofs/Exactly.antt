@@ -1,14 +1,15 @@
 -- Where one exit comes of the words, each exit comes exactly where it is that.
-use Rattle.std.proofs.Common.{◌≡◌, ◌⊎◌, ◌↔◌, ℕ, List, Option, Some, None, refl, subst, inl, inr}
+use Rattle.std.proofs.Common.{◌≡◌, ◌⊎◌, ◌↔◌, ℕ, List, Option, Some, None, refl, subst, sym, inl, inr}
 use Rattle.std.specs.Prelude.{IsNone, IsSome}
 use Rattle.std.specs.Option.{IsSomeAnd}
 use Rattle.mrt_io.specs.Holding.{Files}
 use Rattle.mrt_cmd.specs.declared.exit.Exit.{Exit}
 use Rattle.mrt_cmd.specs.declared.exit.Exit.TheVariants as exits
 use Rattle.mrt_cmd.specs.Answers.{FileBytes, IsRefusedOver}
-use Rattle.mrt_cmd.specs.Comes.{Comes, Gives, MissesAt, Refuses}
+use Rattle.mrt_cmd.specs.Comes.{Comes, Gives, GivesText, MissesAt, Refuses}
 use Rattle.mrt_cmd.specs.Files.{IsFirstMissing, files_of}
 use Rattle.mrt_cmd.specs.Form.{Form, Task, Check, Certify, form_of}
+use Rattle.mrt_cmd.specs.Run.{WritesNothing}
 
 -- one exit comes of the words at most
 abbrev pub ComesOnce : Type 0
@@ -61,3 +62,19 @@ exactly_missing (Some files) words result once (inl comes) told =
           (inr (comes_missing files (form_of words) word missing))),
     ))
 exactly_missing (Some files) words result once (inr memory) told = inl memory
+
+-- where the words give a text and something is written to a sink, no file is missing
+pub none_missing : (held : Option Files) (words : List (List ℕ)) (text : List ℕ) (result : Exit) → ComesOnce
+    → GivesText held words text → IsSome held → (WritesNothing result → ⊥)
+    → (result ≡ exits.NoMemory) ⊎ ((word : ℕ) → (result ≡ exits.ReadFault word) ↔ MissesAt held words word)
+none_missing None words text result once given told never = absurd cc
+none_missing (Some files) words text result once given told never =
+    inr (λ word. (
+      λ is. absurd (never (subst WritesNothing (sym is) tt)),
+      λ missing. absurd (not_done word (once files words exits.Done (exits.ReadFault word)
+          (inr (inl (refl, text, given)))
+          (inr (inr (comes_missing files (form_of words) word missing))))),
+    ))
+  where
+    not_done : (word : ℕ) → exits.Done ≡ exits.ReadFault word → ⊥
+    not_done word same = cc

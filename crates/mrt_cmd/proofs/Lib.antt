@@ -1,3 +1,4 @@
+pub mod Computed
 pub mod Databases
 pub mod Entering
 pub mod Exactly

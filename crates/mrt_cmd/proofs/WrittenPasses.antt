@@ -136,25 +136,27 @@ module _ (areas : AreaLaws) (each : EachRouterLaw) (longest : LongestLaw) where
   accepts : (bytes : FileBytes) (router : ℕ) (certificate text : List ℕ) → (over : GivesOver (Certify router) bytes text)
       → (line : List ℕ) × GivesOver (Check certificate) (record { database = bytes.database; profile = bytes.profile; last = text }) line
   accepts bytes router certificate text over =
-      let file : CertFile = over.gives.certificate.file in
-      (accepted_line file.root (length over.gives.graph.ids) (length over.gives.graph.links), record {
-        input = over.input;
-        given = over.given;
-        gives = record {
-          file = file;
-          is = over.gives.certificate.spelled;
-          accepted = record {
-            graph = over.gives.graph;
-            root = over.gives.root;
-            island = own_island bytes over.input over.given router text over.gives;
+      let file : CertFile = over.gives.certificate.file in (
+        accepted_line file.root (length over.gives.graph.ids) (length over.gives.graph.links),
+        record {
+          input = over.input;
+          given = over.given;
+          gives = record {
+            file = file;
+            is = over.gives.certificate.spelled;
             accepted = record {
-              accepted = over.gives.certificate.accepted;
-              sound = over.gives.certificate.sound;
-              line = refl;
+              graph = over.gives.graph;
+              root = over.gives.root;
+              island = own_island bytes over.input over.given router text over.gives;
+              accepted = record {
+                accepted = over.gives.certificate.accepted;
+                sound = over.gives.certificate.sound;
+                line = refl;
+              };
             };
           };
-        };
-      })
+        },
+      )
 
   same_profile_read : (files earlier : Files) (word bytes : List ℕ) → files word ≡ earlier word
       → IsProfileRead (Some earlier) (profile_name word) bytes → IsProfileRead (Some files) (profile_name word) bytes
@@ -190,9 +192,11 @@ module _ (areas : AreaLaws) (each : EachRouterLaw) (longest : LongestLaw) where
           last_read = (w.held, short);
         },
         accepted.1,
-      ) in
-      (accepted.0, check_given (Some files) words w.database w.profile w.certificate accepted.0 w.check
-      certify.both_named w.some_name given)
+      ) in (
+        accepted.0,
+        check_given (Some files) words w.database w.profile w.certificate accepted.0 w.check
+            certify.both_named w.some_name given,
+      )
 
 -- nothing holds of a form that there is not
 pub no_form : (form : Option Form) (P : Form → Type 0) → IsNone form → IsSomeAnd form P → ⊥

@@ -85,18 +85,24 @@ module _ (og : OrderedGraph) (dir : Dir) (s t : ℕ) (s_within : s < length og.g
       → Least og.g og.w dir (og.w.block m) (og.w.head m) s t → HasHop
   of_least m ring two common (Found hop least) =
       (Some hop, Reached (og.w.block m) (og.w.head m) hop (record { two = two; common = common; more = more_of og m ring }) least)
-  of_least m ring two common (NoPath none) = (None, NotReached (λ k h path shares is.
-    let same =
-    one_common og s t k h (og.w.block m) (og.w.head m) s_within t_within two shares.common common in
-    none path (subst (λ (x : ℕ). Path og.g og.w dir (og.w.block m) x s path t) same.1
-    (subst (λ (x : ℕ). Path og.g og.w dir x h s path t) same.0 is))))
+  of_least m ring two common (NoPath none) = (
+    None,
+    NotReached (λ k h path shares is.
+        let same =
+        one_common og s t k h (og.w.block m) (og.w.head m) s_within t_within two shares.common common in
+        none path (subst (λ (x : ℕ). Path og.g og.w dir (og.w.block m) x s path t) same.1
+        (subst (λ (x : ℕ). Path og.g og.w dir x h s path t) same.0 is))),
+  )
 
   -- a block with one link gives none
   of_sole : (k h link : ℕ) → s ≢ t → HaveInCommon og.w s t k h → HasOneLink og.g og.w k link → HasHop
-  of_sole k h link two common one = (None, NotReached (λ j i path shares is.
-    let same = one_common og s t j i k h s_within t_within two shares.common common in
-    shares.more.differ (one.no_other shares.more.one shares.more.one_within (shares.more.one_in_block ∙ same.0)
-    ∙ sym (one.no_other shares.more.other shares.more.other_within (shares.more.other_in_block ∙ same.0)))))
+  of_sole k h link two common one = (
+    None,
+    NotReached (λ j i path shares is.
+        let same = one_common og s t j i k h s_within t_within two shares.common common in
+        shares.more.differ (one.no_other shares.more.one shares.more.one_within (shares.more.one_in_block ∙ same.0)
+        ∙ sym (one.no_other shares.more.other shares.more.other_within (shares.more.other_in_block ∙ same.0)))),
+  )
 
   -- in the block of m
   of_block : (m : ℕ) → m < length og.g.ids → m ≢ og.root → s ≢ t → HaveInCommon og.w s t (og.w.block m) (og.w.head m)

@@ -3,6 +3,7 @@
 ghost use Rattle.std.specs.Prelude.{◌≡◌, ◌<◌, IfOk, Some, length, slice_get};
 ghost use Rattle.mrt_graph.specs.declared.node_id.NodeId.{NodeId};
 ghost use Rattle.mrt_graph.specs.Accepted.{Accepted};
+ghost use Rattle.mrt_graph.specs.GraphInvariant.{IsTopology};
 ghost use Rattle.mrt_rows.specs.CertOf.{IsCertOf, file_of};
 
 use crate::all_rows::all_rows;
@@ -23,6 +24,7 @@ pub fn compute(alloc: Global, g: &Graph, root: NodeNo) -> Result<Cert, NoMemory>
         → IsCertOf g.now root (file_of id cert)) }
     ensures accepted { IfOk result (λ cert. (id : NodeId) → slice_get g.now.ids root ≡ Some id
         → Accepted g.now root (file_of id cert)) }
+    ensures kept { IfOk result (λ _. IsTopology g.now) }
 {
     let tree = search(alloc, g, root)?;
     let gadag = ears(alloc, g, root, &tree)?;

@@ -7,7 +7,7 @@ use Rattle.mrt_cmd.specs.Form.{form_of}
 use Rattle.mrt_cmd.specs.TextBytes.{bytes_of}
 use Rattle.mrt_cmd.specs.Asked.{asked}
 use Rattle.mrt_cmd.specs.Reading.{IsRefusal, IsRefusalOrFault}
-use Rattle.mrt_cmd.proofs.Exactly.{exactly, exactly_missing}
+use Rattle.mrt_cmd.proofs.Exactly.{exactly, exactly_missing, none_missing}
 use Rattle.mrt_cmd.proofs.Refusals.{refusal_comes}
 use Rattle.mrt_cmd.proofs.WrittenPasses.{no_form, passed_refused, passed_written}
 use Rattle.mrt_cmd.proofs.program.run.Goals as goal
@@ -74,3 +74,10 @@ returns-in-Err-clause-written_passes g c = λ files told written.
     passes.1 (g.F.Shelf.faults c.args.shelf.now) (g.F.Shelf.faults c.text_of.new.shelf) c.in-Err.exit
     (subst (λ (held : Option Files). IsRefusalOrFault held (asked c.in-Some.form) (g.F.Shelf.faults c.args.shelf.now)
     (g.F.Shelf.faults c.text_of.new.shelf) c.in-Err.exit) told c.in-Err.ensures.refused))
+
+-- Where a text is put, no file was missing.
+pub returns-in-Ok-clause-healthy_read : goal.returns-in-Ok-clause-healthy_read
+returns-in-Ok-clause-healthy_read g c = λ healthy told.
+    let given : GivesText (g.F.Shelf.held c.args.shelf.now) c.args.words.now (bytes_of c.in-Ok.text) = search rules in
+    none_missing (g.F.Shelf.held c.args.shelf.now) c.args.words.now (bytes_of c.in-Ok.text) c.put_text.result
+    c.one_exit_comes.ensures.exit given told c.put_text.ensures.kind
