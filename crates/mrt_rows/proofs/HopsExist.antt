@@ -1,14 +1,13 @@
 -- Each node has a hop for each other one, or none leads there; and so it has a row.
-use Rattle.std.proofs.Common.{◌≡◌, ◌≢◌, ◌⊎◌, ◌∙◌, ◌<◌, ◌≤◌, ◌+◌, ℕ, zero, suc, List, [], ◌∷◌, Option, Some, None, length, slice_get, refl, sym, ap, subst, inl, inr, arith}
+use Rattle.std.proofs.Common.{◌≡◌, ◌≢◌, ◌∙◌, ◌<◌, ◌≤◌, ◌+◌, ℕ, zero, suc, List, Option, Some, None, length, refl, sym, ap, subst, inl, inr, arith}
 use Rattle.std.proofs.lemmas.Bool.{cases_eq}
 use Rattle.mrt_graph.specs.declared.link.End.{End}
 use Rattle.mrt_graph.proofs.EndsAt.{list_of_ends}
 use Rattle.link_direction.specs.BlockOfTwo.{FromHead, HaveInCommon, Peers, ToHead}
-use Rattle.link_direction.specs.OrderedGadag.{HasClosingLink, HasSoleLink}
 use Rattle.inc_dec_spf.specs.declared.reach.Dir.{Dir}
 use Rattle.inc_dec_spf.specs.declared.reach.Dir.TheVariants.{Down, Up}
 use Rattle.inc_dec_spf.specs.declared.reach.Hop.{Hop}
-use Rattle.inc_dec_spf.specs.LeastPath.{IsHop, NotReached, Reached, ShareBlock}
+use Rattle.inc_dec_spf.specs.LeastPath.{IsHop, NotReached, Reached}
 use Rattle.inc_dec_spf.specs.Path.{IsStep, Path}
 use Rattle.mrt_rows.specs.RowLines.{HasOneLink}
 use Rattle.mrt_rows.proofs.LeastExists.{Found, Least, NoPath, least_on}

@@ -18,6 +18,7 @@ pub mod OtherLines
 pub mod PushedWords
 pub mod RowPlaces
 pub mod RowTags
+pub mod RowsExist
 pub mod RulesHold
 pub mod SoleRows
 pub mod TableRows

@@ -65,7 +65,7 @@ module _ (og : OrderedGraph) (s t : ℕ) (s_within : s < length og.g.ids) (t_wit
 
   -- a near row is one, whatever the other rows are
   module _ (rows others : ℕ → Option Row) (a b : Row) where
-    near_lines : (T U : Tag) → a.tag ≡ T → b.tag ≡ U → LineOf T og.g og.root og.w s rows t a
+    pub near_lines : (T U : Tag) → a.tag ≡ T → b.tag ≡ U → LineOf T og.g og.root og.w s rows t a
         → LineOf U og.g og.root og.w s others t b
         → (CarriedLine og.root og.w s rows t a → CarriedLine og.root og.w s others t b
         → (a.blue ≡ b.blue) × (a.red ≡ b.red))
