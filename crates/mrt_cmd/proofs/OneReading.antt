@@ -1,31 +1,5 @@
 -- What the bytes of each file hold, they hold in one way, or they have one first fault, and never both.
-use Rattle.std.proofs.Common.{
-  ◌≡◌,
-  ◌∙◌,
-  ◌<◌,
-  ◌≤◌,
-  ◌⊎◌,
-  ◌-◌,
-  ◌+◌,
-  ℕ,
-  Bool,
-  true,
-  false,
-  List,
-  [],
-  ◌∷◌,
-  Option,
-  Some,
-  None,
-  length,
-  refl,
-  sym,
-  ap,
-  subst,
-  inl,
-  inr,
-  arith,
-}
+use Rattle.std.proofs.Common.{◌≡◌, ◌∙◌, ◌<◌, ◌≤◌, ◌⊎◌, ◌-◌, ◌+◌, ℕ, Bool, true, false, List, [], ◌∷◌, Option, Some, None, refl, sym, ap, subst, inl, inr, arith}
 use Rattle.std.specs.Option.{option_map_or}
 use Rattle.std.proofs.lemmas.Bool.{cases_lt}
 use Rattle.cert_format.specs.CertText.{cert_text}
@@ -42,7 +16,7 @@ use Rattle.lsdb.specs.Orders.{newest_in}
 use Rattle.lsdb.specs.declared.change.Conflict.{Conflict as Clash}
 use Rattle.mrt_graph.specs.declared.cert.CertFile.{CertFile}
 use Rattle.mrt_graph.specs.TextLines.{text_lines}
-use Rattle.mrt_island.specs.ProfileFaults.{AreFaultless, IsFirstFault as IsFirstLineFault, fault_at}
+use Rattle.mrt_island.specs.ProfileFaults.{IsFirstFault as IsFirstLineFault, fault_at}
 use Rattle.mrt_island.specs.declared.profile_error.ProfileKind.{ProfileKind}
 use Rattle.mrt_island.specs.declared.setting.Setting.{Setting}
 use Rattle.ospf_lsa.specs.LsaText.{lsa_length, lsas_text}

@@ -1,23 +1,5 @@
 -- What is said of the area, the island and the certificate is one.
-use Rattle.std.proofs.Common.{
-  ◌≡◌,
-  ◌∙◌,
-  ◌<◌,
-  ◌≤◌,
-  ◌⊎◌,
-  ℕ,
-  List,
-  Bool,
-  Option,
-  length,
-  refl,
-  sym,
-  ap,
-  subst,
-  inl,
-  inr,
-  arith,
-}
+use Rattle.std.proofs.Common.{◌≡◌, ◌∙◌, ◌<◌, ◌⊎◌, ℕ, List, Bool, Option, length, refl, sym, subst, inl, inr, arith}
 use Rattle.std.specs.Prelude.{Contains, Some, slice_get}
 use Rattle.mrt_graph.specs.declared.node_id.NodeId.{NodeId}
 use Rattle.std.proofs.lemmas.Option.{get_or_from_slice_get, slice_get_within}
@@ -25,14 +7,10 @@ use Rattle.std.proofs.lemmas.List.Elements.{Contains-get_or}
 use Rattle.area_graph.specs.AreaInvariant.{IsArea}
 use Rattle.area_graph.specs.Nodes.{router}
 use Rattle.area_graph.specs.Parts.{AreaParts}
-use Rattle.mrt_graph.specs.Accepted.{Accepted}
-use Rattle.mrt_graph.specs.FirstFault.{FirstFault}
 use Rattle.mrt_graph.specs.NewGraph.{IsTooLarge}
 use Rattle.mrt_graph.specs.Topology.{Topology}
-use Rattle.mrt_graph.specs.declared.cert.CertFile.{CertFile}
 use Rattle.mrt_island.specs.IslandOf.{IsIsland, IsOver}
 use Rattle.mrt_island.specs.Members.{IsInside}
-use Rattle.mrt_island.specs.Numbering.{flags_set, ids_of, links_of}
 use Rattle.mrt_island.specs.Policy.{Policy}
 use Rattle.mrt_cmd.specs.declared.exit.What.{What}
 use Rattle.mrt_cmd.specs.declared.exit.What.TheVariants as whats

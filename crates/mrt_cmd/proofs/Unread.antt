@@ -1,40 +1,12 @@
 -- What reading a file comes to, as a refusal of the whole form.
-use Rattle.std.proofs.Common.{
-  ◌≡◌,
-  ◌∙◌,
-  ◌≤◌,
-  ◌<◌,
-  ◌⊎◌,
-  ◌+◌,
-  ◌++◌,
-  ℕ,
-  List,
-  [],
-  ◌∷◌,
-  Option,
-  Some,
-  None,
-  Result,
-  Ok,
-  Err,
-  length,
-  refl,
-  sym,
-  subst,
-  inl,
-  inr,
-  arith,
-}
-use Rattle.std.specs.Prelude.{IfErr, nat_lt, if◌then◌else◌}
+use Rattle.std.proofs.Common.{◌≡◌, ◌∙◌, ◌≤◌, ◌<◌, ◌⊎◌, ◌+◌, ◌++◌, ℕ, List, [], ◌∷◌, Option, Some, None, length, refl, subst, inl, inr, arith}
 use Rattle.std.specs.List.{AllByRecursion}
-use Rattle.std.specs.Option.{IsSomeAnd, option_map, option_map_or, option_to_list}
-use Rattle.std.specs.Result.{IsErrAnd}
+use Rattle.std.specs.Option.{IsSomeAnd, option_map, option_to_list}
 use Rattle.std.proofs.lemmas.Bool.{le-ltb, lt-ltb}
 use Rattle.mrt_io.specs.Counts.{Rose}
 use Rattle.mrt_io.specs.Holding.{Files}
 use Rattle.mrt_cmd.specs.declared.exit.Exit.{Exit}
 use Rattle.mrt_cmd.specs.declared.exit.Exit.TheVariants as exits
-use Rattle.mrt_cmd.specs.declared.exit.What.{What}
 use Rattle.mrt_cmd.specs.Comes.{AreRead, IsLastRead, IsProfileRead}
 use Rattle.mrt_cmd.specs.Files.{
   NamedFile,

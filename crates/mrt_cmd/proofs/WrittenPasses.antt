@@ -1,30 +1,5 @@
 -- What `certify` wrote passes `check`.
-use Rattle.std.proofs.Common.{
-  ◌≡◌,
-  ◌∙◌,
-  ◌≤◌,
-  ◌<◌,
-  ◌⊎◌,
-  ◌==◌,
-  ◌∷◌,
-  [],
-  ℕ,
-  Bool,
-  true,
-  false,
-  List,
-  Option,
-  Some,
-  None,
-  length,
-  refl,
-  sym,
-  ap,
-  subst,
-  inl,
-  inr,
-  arith,
-}
+use Rattle.std.proofs.Common.{◌≡◌, ◌∙◌, ◌≤◌, ◌<◌, ◌==◌, ◌∷◌, [], ℕ, Bool, true, false, List, Option, Some, None, length, refl, sym, ap, subst, inl, inr, arith}
 use Rattle.std.specs.Prelude.{◌&&◌, Contains, IsNone, codes, nat_lt, slice_get, if◌then◌else◌}
 use Rattle.std.specs.Option.{IsSomeAnd, option_map, option_map_or}
 use Rattle.std.specs.Str.{bytes_eq}
@@ -47,15 +22,14 @@ use Rattle.mrt_cmd.specs.declared.exit.Exit.{Exit}
 use Rattle.mrt_cmd.specs.declared.exit.Exit.TheVariants as exits
 use Rattle.mrt_cmd.specs.Answers.{FileBytes, GivesOver}
 use Rattle.mrt_cmd.specs.Certified.{IsCertified}
-use Rattle.mrt_cmd.specs.Comes.{AreRead, Comes, Gives, GivesText, IsProfileRead, Refuses}
-use Rattle.mrt_cmd.specs.Files.{IsReadAs, profile_file}
+use Rattle.mrt_cmd.specs.Comes.{AreRead, Gives, GivesText, IsProfileRead, Refuses}
 use Rattle.mrt_graph.specs.Spelling.{address_in}
 use Rattle.mrt_cmd.specs.Form.{Form, Task, Check, Certify, form_of, profile_name}
 use Rattle.mrt_cmd.specs.Headline.{ChecksWritten, IsPassed}
 use Rattle.mrt_cmd.specs.Input.{Input, HasIsland, IsInput, area, policy}
-use Rattle.mrt_cmd.specs.Reading.{IsRefusal, IsRefusalOrFault}
+use Rattle.mrt_cmd.specs.Reading.{IsRefusalOrFault}
 use Rattle.mrt_cmd.specs.Run.{WritesNothing}
-use Rattle.mrt_cmd.specs.Verdict.{IsAcceptedFor, accepted_line}
+use Rattle.mrt_cmd.specs.Verdict.{accepted_line}
 use Rattle.mrt_cmd.proofs.Exactly.{ComesOnce}
 use Rattle.mrt_cmd.proofs.OneExit.{AreaLaws, is_area}
 use Rattle.mrt_cmd.proofs.OneVerdict.{contained}

@@ -1,5 +1,5 @@
 -- The exits that the faults of the readers and of the devices come to.
-use Rattle.std.specs.Prelude.{ℕ, Result, nat_lt, if◌then◌else◌}
+use Rattle.std.specs.Prelude.{ℕ, nat_lt, if◌then◌else◌}
 use Rattle.area_graph.specs.declared.area_error.AreaError.{AreaError}
 use Rattle.area_graph.specs.declared.area_error.AreaError.TheVariants as area_errors
 use Rattle.cert_format.specs.declared.error.CertError.{CertError}

@@ -1,6 +1,4 @@
-use Rattle.std.proofs.Common.{List, [], ◌∷◌, get_or, take, sym, subst, ◌∙◌, arith}
-use Rattle.std.specs.List.{AllByRecursion}
-use Rattle.mrt_graph.specs.declared.cert.CertNode.{CertNode}
+use Rattle.std.proofs.Common.{arith}
 use Rattle.cert_format.specs.CertText.{node_text}
 use Rattle.cert_format.specs.Limits.{HasNumber}
 use Rattle.cert_format.proofs.Lists.{all_more, texts_more}

@@ -1,8 +1,8 @@
 use Rattle.std.proofs.Common.{map}
 use Rattle.lsdb.specs.Entries.{Entry}
-use Rattle.mrt_cmd.specs.Input.{Input, HasIsland}
+use Rattle.mrt_cmd.specs.Input.{Input}
 use Rattle.mrt_cmd.specs.Reading.{IsVerdictFor}
-use Rattle.mrt_cmd.proofs.Refusals.{handed_on, none_for, rejected_over, root_within}
+use Rattle.mrt_cmd.proofs.Refusals.{handed_on, none_for, root_within}
 use Rattle.mrt_cmd.proofs.verdict.verdict.Goals as goal
 
 pub returns-in_err-island-clause-refused : goal.returns-in_err-island-clause-refused
