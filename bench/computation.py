@@ -2,7 +2,8 @@
 """Times the steps of the computation on islands of 1,024 and 2,048 routers, and prints how the time grows.
 
 The islands are a ring, a grid with 32 in a row, a block with four times as many links as nodes, and a line. A ratio below 2.4 for twice the
-nodes means that the time grows as the island does. It builds a small program beside the crates in a folder of its own; it fetches nothing.
+nodes means that the time grows as the island does; a certificate has a row for each two nodes, so that its time may be four times as much (at
+most 4.4). It compares the time of a certificate with that which `sha256sum` takes of as many bytes. It builds a small program beside the crates in a folder of its own; it fetches nothing.
 """
 import os
 import subprocess
@@ -11,6 +12,7 @@ import tempfile
 
 import areas
 import beside
+import timing
 
 SIZES = 1024, 2048
 SHAPES = {
@@ -19,7 +21,7 @@ SHAPES = {
     "block": areas.circle,
     "line": lambda n: [(each, each + 1) for each in range(1, n)],
 }
-CRATES = ["link_direction", "gadag_ears", "lowpoint_dfs", "mrt_cmd", "mrt_island", "area_graph", "lsdb", "ospf_lsa", "mrt_graph"]
+CRATES = ["mrt_rows", "link_direction", "gadag_ears", "lowpoint_dfs", "mrt_cmd", "mrt_island", "area_graph", "lsdb", "ospf_lsa", "mrt_graph"]
 
 # It reads the database as `mrt_cmd` does.
 PROGRAM = """\
@@ -41,6 +43,7 @@ use lowpoint_dfs::search;
 use lsdb::{Lsdb, an_lsa_without_a_fault_may_be_installed, entries_are_those_of_the_list};
 use mrt_graph::{Graph, NoMemory, NodeNo};
 use mrt_island::{Island, Profile, find_island};
+use mrt_rows::compute;
 use ospf_lsa::{Lsa, read_lsas};
 use std::alloc::Global;
 use std::fs;
@@ -130,10 +133,26 @@ fn time_steps(rt: &HostRuntime, name: &str, g: &Graph, root: NodeNo) -> Result<(
     Ok(())
 }
 
+fn time_compute(rt: &HostRuntime, name: &str, g: &Graph, root: NodeNo) -> Result<()> {
+    if root.get() >= g.node_count() {
+        bail!("no root");
+    }
+    for _ in 0..7 {
+        let start = Instant::now(rt)?;
+        let Ok(_cert) = compute(rt.alloc(), g, root) else {
+            bail!("no memory");
+        };
+        let taken = start.elapsed(rt)?.as_nanos();
+        println!(rt; "{name} {} {} compute {taken}", g.node_count(), g.link_count())?;
+    }
+    Ok(())
+}
+
 fn main(rt: HostRuntime) -> Result<()> {
     for name in [NAMES] {
         let island = island_of(&rt, name)?;
         time_steps(&rt, name, &island.graph, island.root)?;
+        time_compute(&rt, name, &island.graph, island.root)?;
     }
     Ok(())
 }
@@ -163,6 +182,14 @@ def times(program, folder):
     return best
 
 
+def summed(shape, size):
+    """The time that `sha256sum` takes of as many bytes as the certificate has, in milliseconds."""
+    with tempfile.NamedTemporaryFile() as file:
+        file.write(os.urandom(14 + 11 * size + 7 * len(SHAPES[shape](size)) + 5 * size * (size - 1)))
+        file.flush()
+        return timing.sha256sum(file.name)
+
+
 def main():
     files = {f"{shape}-{size}": areas.database(areas.numbered(pairs(size))) for shape, pairs in SHAPES.items() for size in SIZES}
     with tempfile.TemporaryDirectory() as folder:
@@ -172,9 +199,10 @@ def main():
     for shape in SHAPES:
         for step in sorted({step for _, _, step in best}):
             half, whole = (best[shape, size, step] for size in SIZES)
-            ratio = whole / half
+            ratio, most = whole / half, 4.4 if step == "compute" else 2.4
             print(f"{step} of a {shape}: {half / 1000:.0f} and {whole / 1000:.0f} µs for {SIZES[0]:,} and {SIZES[1]:,} nodes, ratio {ratio:.2f}"
-                  + ("" if ratio < 2.4 else ", which is TOO MUCH"))
+                  + ("" if ratio < most else ", which is TOO MUCH"))
+        print(f"compute of a {shape}: {best[shape, SIZES[1], 'compute'] / 1e6 / summed(shape, SIZES[1]):.2f} times sha256sum of the certificate")
 
 
 if __name__ == "__main__":
