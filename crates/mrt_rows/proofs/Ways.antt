@@ -24,8 +24,8 @@ pub record Inside (og : OrderedGraph) (m x : ℕ) : Type 0 where
   pub within : x < length og.g.ids
   pub block : og.w.block x ≡ og.w.block m
 
--- link e of m's block leads along its direction from u to v: between two nodes of the block, or from the head to one, or
--- home from the greatest one to the head
+-- link e of m's block leads along its direction from u to v: between two nodes of the block, or from the head to one,
+-- or home from the greatest one to the head
 pub data Directs (og : OrderedGraph) (m top e u v : ℕ) : Type 0 where
   Inner : Inside og m u → Inside og m v → og.w.role e ≡ Plain → og.w.order u < og.w.order v → Directs og m top e u v
   Out : u ≡ og.w.head m → Inside og m v → og.w.role e ≡ Plain → Directs og m top e u v

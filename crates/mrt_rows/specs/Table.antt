@@ -36,8 +36,8 @@ pub record IsReady (root : ℕ) (w : Directions) (s t : ℕ) (table : List (Opti
   pub to_other : t ≢ root → ((k h : ℕ) → ¬ HaveInCommon w s t k h) → IsIn table (w.head t)
   pub to_root : t ≡ root → ((k h : ℕ) → ¬ HaveInCommon w s t k h) → IsIn table (w.head s)
 
--- what is found for t among these rows: a row as its line says, in each table that has these rows; and there is one where
--- the row that it may be carried from is there
+-- what is found for t among these rows: a row as its line says, in each table that has these rows; and there is one
+-- where the row that it may be carried from is there
 pub record IsRowFor (g : Topology) (root : ℕ) (w : Directions) (s t : ℕ) (table : List (Option Row))
     (found : Option Row) : Type 0 where
   pub line : (rows : ℕ → Option Row) (row : Row)

@@ -58,8 +58,8 @@ fn node_words(g: &Graph, d: &Directed, n: NodeNo) -> CertNode
 fn link_words(g: &Graph, d: &Directed, e: LinkNo) -> CertLink
     requires directed { HasDirections g.now d.now }
     requires within { e < length g.now.links }
-    ensures { (w : Directions) (link : Link) → Says g.now d.now w → slice_get g.now.links e ≡ Some link
-        → result ≡ link_words w e link }
+    ensures { (w : Directions) (link : Link) → Says g.now d.now w
+        → slice_get g.now.links e ≡ Some link → result ≡ link_words w e link }
 {
     let link = g.link(e);
     let mark = d.mark(e);
