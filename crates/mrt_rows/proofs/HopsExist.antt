@@ -38,7 +38,8 @@ module _ (og : OrderedGraph) (m : ℕ) (ring : Ring og m) (t : ℕ) where
 
   -- from the nodes that come after x there is a least path, or none; so from x
   from_next : (dir : Dir) (x : ℕ) → x < n
-      → ((end : End) → IsStep og.g og.w dir k x end → end.to ≢ h → Inside og m end.to × Least og.g og.w dir k h end.to t)
+      → ((end : End) → IsStep og.g og.w dir k x end → end.to ≢ h
+      → Inside og m end.to × Least og.g og.w dir k h end.to t)
       → Least og.g og.w dir k h x t
   from_next dir x within next =
       let ends = list_of_ends og.g x og.kept within in
@@ -47,21 +48,24 @@ module _ (og : OrderedGraph) (m : ℕ) (ring : Ring og m) (t : ℕ) where
       (λ end step other. (next end step other).1)
 
   least_up : (left x : ℕ) → Inside og m x → n ≤ og.w.order x + left → Least og.g og.w Up k h x t
-  least_up zero x inside far = from_next Up x inside.within (λ end step other. elim (up_from og m ring x end inside step) [
-    | inl on ↦ absurd (omega (arith, on.1, og.ordered.orders.to_n end.to on.0.within, far))
-    | inr home ↦ absurd (other home.1)
-  ])
-  least_up (suc left) x inside far = from_next Up x inside.within (λ end step other. elim (up_from og m ring x end inside step) [
-    | inl on ↦ (on.0, least_up left end.to on.0 (omega (arith, on.1, far)))
-    | inr home ↦ absurd (other home.1)
-  ])
+  least_up zero x inside far = from_next Up x inside.within (λ end step other. elim
+      (up_from og m ring x end inside step) [
+        | inl on ↦ absurd (omega (arith, on.1, og.ordered.orders.to_n end.to on.0.within, far))
+        | inr home ↦ absurd (other home.1)
+      ])
+  least_up (suc left) x inside far = from_next Up x inside.within (λ end step other. elim
+      (up_from og m ring x end inside step) [
+        | inl on ↦ (on.0, least_up left end.to on.0 (omega (arith, on.1, far)))
+        | inr home ↦ absurd (other home.1)
+      ])
 
   least_down : (left x : ℕ) → Inside og m x → og.w.order x ≤ left → Least og.g og.w Down k h x t
   least_down zero x inside few = absurd (omega (arith, og.ordered.orders.from_one x inside.within, few))
-  least_down (suc left) x inside few = from_next Down x inside.within (λ end step other. elim (down_from og m ring x end inside step) [
-    | inl on ↦ (on.0, least_down left end.to on.0 (omega (arith, on.1, few)))
-    | inr home ↦ absurd (other home.0)
-  ])
+  least_down (suc left) x inside few = from_next Down x inside.within (λ end step other. elim
+      (down_from og m ring x end inside step) [
+        | inl on ↦ (on.0, least_down left end.to on.0 (omega (arith, on.1, few)))
+        | inr home ↦ absurd (other home.0)
+      ])
 
   pub least_inside : (dir : Dir) (x : ℕ) → Inside og m x → Least og.g og.w dir k h x t
   least_inside Up x inside = least_up n x inside (omega arith)
@@ -76,14 +80,18 @@ module _ (og : OrderedGraph) (m : ℕ) (ring : Ring og m) (t : ℕ) where
       (inside, least_inside Down end.to inside))
 
 -- the hop that a least path gives, and none where there is none
-module _ (og : OrderedGraph) (dir : Dir) (s t : ℕ) (s_within : s < length og.g.ids) (t_within : t < length og.g.ids) where
+module _ (og : OrderedGraph) (dir : Dir) (s t : ℕ) (s_within : s < length og.g.ids)
+    (t_within : t < length og.g.ids) where
   abbrev HasHop : Type 0
   HasHop = (hop : Option Hop) × IsHop og.g og.w dir s t hop
 
   of_least : (m : ℕ) → Ring og m → s ≢ t → HaveInCommon og.w s t (og.w.block m) (og.w.head m)
       → Least og.g og.w dir (og.w.block m) (og.w.head m) s t → HasHop
-  of_least m ring two common (Found hop least) =
-      (Some hop, Reached (og.w.block m) (og.w.head m) hop (record { two = two; common = common; more = more_of og m ring }) least)
+  of_least m ring two common (Found hop least) = (
+    Some hop,
+    Reached (og.w.block m) (og.w.head m) hop
+        (record { two = two; common = common; more = more_of og m ring }) least,
+  )
   of_least m ring two common (NoPath none) = (
     None,
     NotReached (λ k h path shares is.

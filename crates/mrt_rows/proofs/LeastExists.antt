@@ -62,7 +62,8 @@ module _ (g : Topology) (w : Directions) (dir : Dir) (k h x t : ℕ) (ends : Lis
       SoFar place cost best there begins
       (λ q e others below is path.
       at_last count end (λ f. (others : List End) → Path g w dir k h x (f ∷ others) t → cost ≤ cost_of (f ∷ others)) at
-      (λ others path. absurd (never others path)) (λ q f below is others path. least q f others below is path) q e below is
+      (λ others path. absurd (never others path)) (λ q f below is others path. least q f others below is path) q e
+      below is
       others path)
       first
   one_more count end at (Offers offered offer_begins offer_least) (SoFar place cost best there begins least first) =
@@ -71,8 +72,10 @@ module _ (g : Topology) (w : Directions) (dir : Dir) (k h x t : ℕ) (ends : Lis
             SoFar count offered end at offer_begins
             (λ q e others below is path.
             at_last count end
-            (λ f. (others : List End) → Path g w dir k h x (f ∷ others) t → offered ≤ cost_of (f ∷ others)) at offer_least
-            (λ q f below is others path. omega (arith, least q f others below is path, cheaper)) q e below is others path)
+            (λ f. (others : List End) → Path g w dir k h x (f ∷ others) t
+            → offered ≤ cost_of (f ∷ others)) at offer_least
+            (λ q f below is others path. omega (arith, least q f others below is path, cheaper)) q e below is others
+            path)
             (λ q e below is begins.
             omega (arith, least q e begins.others below is begins.is_path, begins.costs, cheaper))
         | inr dearer ↦
@@ -165,7 +168,8 @@ module _ (g : Topology) (w : Directions) (dir : Dir) (k h x t : ℕ) (ends : Lis
   ]
 
   -- the offer of an end: what its path costs where it leads to t, and what is added by going on from there
-  offer_by : (end : End) → IsStep g w dir k x end → (end.to ≢ h → end.to ≡ t → (others : List End) → ¬ Path g w dir k h end.to others t)
+  offer_by : (end : End) → IsStep g w dir k x end → (end.to ≢ h → end.to ≡ t → (others : List End)
+      → ¬ Path g w dir k h end.to others t)
       → (end.to ≢ h → Least g w dir k h end.to t) → Offer g w dir k h x t end
   offer_by end step once rest = elim (cases_eq end.to t) [
     | inl at ↦

@@ -79,7 +79,8 @@ module _ (og : OrderedGraph) (s : ℕ) (s_within : s < length og.g.ids) where
                   (Peers refl (sym same) refl)
                   (λ more. (
                     _,
-                    member_near og s t s_within t_within two more same up.0 down.0 up_home.0 down_home.0 up.1 down.1 up_home.1
+                    member_near og s t s_within t_within two more same up.0 down.0 up_home.0 down_home.0 up.1 down.1
+                        up_home.1
                         down_home.1,
                   ))
               | inr apart ↦ (None, Far (none_common og.w s t not_head not_top apart))
@@ -89,11 +90,14 @@ module _ (og : OrderedGraph) (s : ℕ) (s_within : s < length og.g.ids) where
 
   -- the row for t: a near one, or one carried again and again
   data RowIs : ℕ → Row → Type 0 where
-    OfBlock : {t : ℕ} {row : Row} → row.tag ≢ tags.Carried → ((rows : ℕ → Option Row) → LineOf row.tag og.g og.root og.w s rows t row)
+    OfBlock : {t : ℕ} {row : Row} → row.tag ≢ tags.Carried → ((rows : ℕ → Option Row)
+        → LineOf row.tag og.g og.root og.w s rows t row)
         → RowIs t row
-    FromOther : {t : ℕ} {row : Row} → ((k h : ℕ) → ¬ HaveInCommon og.w s t k h) → t ≢ og.root → row.tag ≡ tags.Carried → (other : Row)
+    FromOther : {t : ℕ} {row : Row} → ((k h : ℕ) → ¬ HaveInCommon og.w s t k h) → t ≢ og.root
+        → row.tag ≡ tags.Carried → (other : Row)
         → RowIs (og.w.head t) other → row.blue ≡ other.blue → row.red ≡ other.red → RowIs t row
-    ForRoot : {t : ℕ} {row : Row} → ((k h : ℕ) → ¬ HaveInCommon og.w s t k h) → t ≡ og.root → row.tag ≡ tags.Carried → (other : Row)
+    ForRoot : {t : ℕ} {row : Row} → ((k h : ℕ) → ¬ HaveInCommon og.w s t k h) → t ≡ og.root
+        → row.tag ≡ tags.Carried → (other : Row)
         → RowIs (og.w.head s) other → row.blue ≡ other.blue → row.red ≡ other.red → RowIs t row
 
   -- a near row is of a common block
@@ -128,19 +132,23 @@ module _ (og : OrderedGraph) (s : ℕ) (s_within : s < length og.g.ids) where
       absurd (near_common a.tag no_rows t a near (line no_rows) apart)
   one_is t a b t_within two (FromOther apart other carried from is blue red) (OfBlock near line) =
       absurd (near_common b.tag no_rows t b near (line no_rows) apart)
-  one_is t a b t_within two (FromOther apart other carried from is blue red) (FromOther apart' other' carried' from' is' blue' red') =
+  one_is t a b t_within two (FromOther apart other carried from is blue red)
+      (FromOther apart' other' carried' from' is' blue' red') =
       let same =
       one_is (og.w.head t) from from' (og.ordered.heads.head_within t t_within)
       (λ back. apart (og.w.block t) s (FromHead refl (sym back) refl)) is is' in
       same_row a b (blue ∙ ap (λ (r : Row). r.blue) same ∙ sym blue') (red ∙ ap (λ (r : Row). r.red) same ∙ sym red')
       (carried ∙ sym carried')
-  one_is t a b t_within two (FromOther apart other carried from is blue red) (ForRoot apart' at_root carried' from' is' blue' red') =
+  one_is t a b t_within two (FromOther apart other carried from is blue red)
+      (ForRoot apart' at_root carried' from' is' blue' red') =
       absurd (other at_root)
   one_is t a b t_within two (ForRoot apart at_root carried from is blue red) (OfBlock near line) =
       absurd (near_common b.tag no_rows t b near (line no_rows) apart)
-  one_is t a b t_within two (ForRoot apart at_root carried from is blue red) (FromOther apart' other carried' from' is' blue' red') =
+  one_is t a b t_within two (ForRoot apart at_root carried from is blue red)
+      (FromOther apart' other carried' from' is' blue' red') =
       absurd (other at_root)
-  one_is t a b t_within two (ForRoot apart at_root carried from is blue red) (ForRoot apart' at_root' carried' from' is' blue' red') =
+  one_is t a b t_within two (ForRoot apart at_root carried from is blue red)
+      (ForRoot apart' at_root' carried' from' is' blue' red') =
       let same =
       one_is (og.w.head s) from from' (og.ordered.heads.head_within s s_within)
       (home_apart (λ s_root. two (s_root ∙ sym at_root))) is is' in
@@ -152,16 +160,23 @@ module _ (og : OrderedGraph) (s : ℕ) (s_within : s < length og.g.ids) where
   HasIs t = (row : Row) × RowIs t row
 
   by_near : (t : ℕ) (near : Option Row) → t < n → s ≢ t → IsNear og.g og.root og.w s t near
-      → (((k h : ℕ) → ¬ HaveInCommon og.w s t k h) → (t ≢ og.root → HasIs (og.w.head t)) × (t ≡ og.root → HasIs (og.w.head s)))
+      → (((k h : ℕ) → ¬ HaveInCommon og.w s t k h) → (t ≢ og.root → HasIs (og.w.head t)) × (t ≡ og.root
+      → HasIs (og.w.head s)))
       → HasIs t
   by_near t (Some row) t_within two (Near row' near line) far = (row, OfBlock near line)
   by_near t None t_within two (Far apart) far = elim (cases_eq t og.root) [
     | inl at_root ↦
-        let other = (far apart).1 at_root in
-        (record { blue = other.0.blue; red = other.0.red; tag = tags.Carried }, ForRoot apart at_root refl other.0 other.1 refl refl)
+        let other = (far apart).1 at_root in (
+          record { blue = other.0.blue; red = other.0.red; tag = tags.Carried },
+          ForRoot apart at_root refl other.0
+              other.1 refl refl,
+        )
     | inr elsewhere ↦
-        let other = (far apart).0 elsewhere in
-        (record { blue = other.0.blue; red = other.0.red; tag = tags.Carried }, FromOther apart elsewhere refl other.0 other.1 refl refl)
+        let other = (far apart).0 elsewhere in (
+          record { blue = other.0.blue; red = other.0.red; tag = tags.Carried },
+          FromOther apart elsewhere refl
+              other.0 other.1 refl refl,
+        )
   ]
 
   home_is : s ≢ og.root → HasIs (og.w.head s)
@@ -188,12 +203,17 @@ module _ (og : OrderedGraph) (s : ℕ) (s_within : s < length og.g.ids) where
   rows_at t = elim (cases_lt t n) [
     | inl within ↦ elim (cases_eq s t) [
       | inl same ↦ (None, λ in_range two. absurd (two same))
-      | inr two ↦ let it = is_by (og.w.order t) t within two (omega arith) in (Some it.0, λ in_range other. (it.0, refl, it.1))
+      | inr two ↦ let it = is_by (og.w.order t) t within two (omega arith) in (
+        Some it.0,
+        λ in_range other.
+            (it.0, refl, it.1),
+      )
     ]
     | inr past ↦ (None, λ in_range two. absurd (omega (arith, in_range, past)))
   ]
 
-  line_by : (t : ℕ) (row : Row) → t < n → s ≢ t → RowIs t row → LineOf row.tag og.g og.root og.w s (λ u. (rows_at u).0) t row
+  line_by : (t : ℕ) (row : Row) → t < n → s ≢ t → RowIs t row
+      → LineOf row.tag og.g og.root og.w s (λ u. (rows_at u).0) t row
   line_by t row t_within two (OfBlock near line) = line (λ u. (rows_at u).0)
   line_by t row t_within two (FromOther apart other carried from is blue red) =
       let within = og.ordered.heads.head_within t t_within in

@@ -18,12 +18,13 @@ pub fn tabled_certificates_are_accepted()
         → IsOrderedGadag g root w → Tells g root w file → Accepted g root file }
 {}
 
-/// A law: by the table there is exactly one row of a node for another one; so it is of a carried row too, which the table
-/// says by another row.
+/// A law: by the table there is exactly one row of a node for another one; so it is of a carried row too, which the
+/// table says by another row.
 pub fn one_row_for_each()
     ensures some { (g : Topology) (root : ℕ) (w : Directions) (s : ℕ)
         → IsTopology g → IsOrderedGadag g root w → s < length g.ids
-        → (rows : ℕ → Option Row) × ((t : ℕ) → t < length g.ids → s ≢ t → HasRow g root w s rows t) }
+        → (rows : ℕ → Option Row)
+        × ((t : ℕ) → t < length g.ids → s ≢ t → HasRow g root w s rows t) }
     ensures one { (g : Topology) (root : ℕ) (w : Directions) (s : ℕ) (rows others : ℕ → Option Row)
         → IsTopology g → IsOrderedGadag g root w → s < length g.ids
         → ((t : ℕ) → t < length g.ids → s ≢ t → HasRow g root w s rows t)
