@@ -39,7 +39,7 @@ pub record IsFurtherOffer (g : Topology) (w : Directions) (dir : Dir) (x : ℕ) 
   pub place : way.place ≡ from.place
   pub link : way.link ≡ from.link
 
--- paths lead on from node x: it is not the source, and not the head of its block
+-- a path from source s that comes to node x goes on: x is not the source, and not the head of the source's block
 pub record GoesOn (w : Directions) (s x : ℕ) : Type 0 where
   pub not_source : x ≢ s
   pub not_head : x ≢ w.head s

@@ -14,8 +14,8 @@ use std::alloc::Global;
 
 /// The least paths from a node to every node with which it has a block of more than one link in common, up or down.
 ///
-/// But for closing links, directed links lead to greater orders, and no path goes on after a closing one; so one sweep
-/// over the nodes by their order serves all blocks of the source. It takes time in proportion to the nodes, and to the
+/// But for closing links, directed links lead to greater orders, and no path goes on from a head that it comes to; so one
+/// sweep over the nodes by their order serves all blocks of the source. It takes time in proportion to the nodes, and to the
 /// ends of those that are in the source's blocks.
 pub fn spf(
     alloc: Global,

@@ -3,7 +3,7 @@
 use mrt_graph::{LinkNo, NodeNo};
 use std::marker::Model;
 
-/// Along the directions of links, to greater orders, or against them.
+/// Along the directions of links, or against them.
 #[derive(Clone, Copy, Debug, PartialEq, Eq)]
 pub enum Dir {
     Up,

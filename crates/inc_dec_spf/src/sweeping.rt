@@ -14,7 +14,7 @@ use crate::offers::offer_further;
 use crate::reach::{Dir, Known};
 use mrt_graph::{Directed, Graph, NodeNo};
 
-/// Gives each node its turn. Whatever leads to a node has its turn before it.
+/// Gives each node its turn. What leads to a node from which paths go on has its turn before it.
 pub fn sweep(
     g: &Graph,
     d: &Directed,
@@ -39,7 +39,7 @@ pub fn sweep(
     }
 }
 
-/// Gives node x its turn. No path leads on from the source or the head of its block.
+/// Gives node x its turn. A path that comes back to the source, or comes to the head of the source's block, does not go on.
 fn take_turn(
     g: &Graph,
     d: &Directed,

@@ -1,9 +1,10 @@
 -- What `certify` wrote passes `check`.
-use Rattle.std.proofs.Common.{◌≡◌, ◌∙◌, ◌≤◌, ◌<◌, ◌==◌, ◌∷◌, [], ℕ, Bool, true, false, List, Option, Some, None, length, refl, sym, ap, subst, inl, inr, arith}
+use Rattle.std.proofs.Common.{◌≡◌, ◌∙◌, ◌≤◌, ◌<◌, ◌+◌, ◌==◌, ◌∷◌, [], ℕ, Bool, true, false, List, Option, Some, None, length, refl, sym, ap, subst, inl, inr, arith}
 use Rattle.std.specs.Prelude.{◌&&◌, Contains, IsNone, codes, nat_lt, slice_get, if◌then◌else◌}
 use Rattle.std.specs.Option.{IsSomeAnd, option_map, option_map_or}
 use Rattle.std.specs.Str.{bytes_eq}
 use Rattle.std.proofs.lemmas.Bool.{and_parts, eqb-true, lt-ltb}
+use Rattle.std.proofs.lemmas.Option.{same_Some}
 use Rattle.area_graph.specs.AreaInvariant.{IsArea}
 use Rattle.area_graph.specs.Nodes.{router as router_node}
 use Rattle.area_graph.specs.Parts.{AreaParts}
@@ -20,12 +21,13 @@ use Rattle.mrt_island.specs.IslandOf.{IsIsland}
 use Rattle.mrt_island.specs.Policy.{Policy}
 use Rattle.mrt_cmd.specs.declared.exit.Exit.{Exit}
 use Rattle.mrt_cmd.specs.declared.exit.Exit.TheVariants as exits
-use Rattle.mrt_cmd.specs.Answers.{FileBytes, GivesOver}
+use Rattle.mrt_cmd.specs.Answers.{FileBytes, GivesOver, IsRefusedOver}
 use Rattle.mrt_cmd.specs.Certified.{IsCertified}
 use Rattle.mrt_cmd.specs.Comes.{AreRead, Gives, GivesText, IsProfileRead, Refuses}
 use Rattle.mrt_graph.specs.Spelling.{address_in}
-use Rattle.mrt_cmd.specs.Form.{Form, Task, Check, Certify, form_of, profile_name}
-use Rattle.mrt_cmd.specs.Headline.{ChecksWritten, IsPassed}
+use Rattle.mrt_cmd.specs.Files.{NamedFile, SaysOneOf, files_of, refusal_of}
+use Rattle.mrt_cmd.specs.Form.{Form, Task, Check, Certify, IsCheck, form_of, profile_name}
+use Rattle.mrt_cmd.specs.Headline.{ChecksWritten, IsPassed, profile_held}
 use Rattle.mrt_cmd.specs.Input.{Input, HasIsland, IsInput, area, policy}
 use Rattle.mrt_cmd.specs.Reading.{IsRefusalOrFault}
 use Rattle.mrt_cmd.specs.Run.{WritesNothing}
@@ -48,30 +50,45 @@ LongestLaw = (f : CertFile) → IsVersionOne f → length (cert_text f) ≤ 2104
 abbrev form_with : List ℕ → List ℕ → Task → Form
 form_with database profile task = record { database = database; profile = profile_name profile; task = task }
 
--- words that certify name both files, and a router
-record IsCertifyForm (held : Option Files) (database profile text : List ℕ) (named : Bool) : Type 0 where
-  both_named : named ≡ true
+-- words that certify give the text of a router's certificate
+record IsCertifyForm (held : Option Files) (database profile text : List ℕ) : Type 0 where
   router : ℕ
   gives : Gives held (form_with database profile (Certify router)) text
 
 certify_form : (held : Option Files) (database profile text : List ℕ) (named : Bool) (address : Option ℕ)
     → IsSomeAnd (if named then option_map (λ task. form_with database profile task) (option_map (λ router. Certify router) address) else None)
-    (λ form. Gives held form text) → IsCertifyForm held database profile text named
-certify_form held database profile text true (Some router) given = record {
-  both_named = refl;
-  router = router;
-  gives = given;
-}
+    (λ form. Gives held form text) → IsCertifyForm held database profile text
+certify_form held database profile text true (Some router) given = record { router = router; gives = given }
 certify_form held database profile text true None given = absurd given
 certify_form held database profile text false address given = absurd given
 
 -- words that check name both files, and a certificate
 check_given : (held : Option Files) (words : List (List ℕ)) (database profile certificate line : List ℕ)
     → words ≡ codes "check" ∷ database ∷ profile ∷ certificate ∷ []
-    → (nat_lt 0 (length database) && nat_lt 0 (length profile)) ≡ true → 0 < length certificate
+    → (0 < length database) × ((0 < length profile) × (0 < length certificate))
     → Gives held (form_with database profile (Check certificate)) line → GivesText held words line
-check_given held words database profile certificate line is named some given =
-    rw (is, named, lt-ltb 0 (length certificate) some) given
+check_given held words database profile certificate line is named given =
+    rw (is, lt-ltb 0 (length database) named.0, lt-ltb 0 (length profile) named.1.0, lt-ltb 0 (length certificate) named.1.1)
+    given
+
+-- what a profile was read as is what its word stands for, and it is within the limit
+profile_was : (files : Files) (word bytes : List ℕ) → IsProfileRead (Some files) (profile_name word) bytes
+    → (profile_held files word ≡ Some bytes) × (length bytes ≤ 33554432)
+profile_was files word bytes read = go (profile_name word) read
+  where
+    go : (name : Option (List ℕ)) → IsProfileRead (Some files) name bytes
+        → (option_map_or files name (Some []) ≡ Some bytes) × (length bytes ≤ 33554432)
+    go None read = (ap (λ (b : List ℕ). Some b) (sym read), rw read (omega arith))
+    go (Some name) read = read
+
+profile_is : (files : Files) (word bytes : List ℕ) → profile_held files word ≡ Some bytes → length bytes ≤ 33554432
+    → IsProfileRead (Some files) (profile_name word) bytes
+profile_is files word bytes held short = go (profile_name word) held
+  where
+    go : (name : Option (List ℕ)) → option_map_or files name (Some []) ≡ Some bytes
+        → IsProfileRead (Some files) name bytes
+    go None held = sym (same_Some [] bytes held)
+    go (Some name) held = (held, short)
 
 -- the root of an accepted certificate is a router of the island
 module _ (areas : AreaLaws) (each : EachRouterLaw) (longest : LongestLaw) where
@@ -132,45 +149,36 @@ module _ (areas : AreaLaws) (each : EachRouterLaw) (longest : LongestLaw) where
         },
       )
 
-  same_profile_read : (files earlier : Files) (word bytes : List ℕ) → files word ≡ earlier word
-      → IsProfileRead (Some earlier) (profile_name word) bytes → IsProfileRead (Some files) (profile_name word) bytes
-  same_profile_read files earlier word bytes same read = go (bytes_eq word (codes "-")) read
-    where
-      go : (no_name : Bool) → IsProfileRead (Some earlier) (if no_name then None else Some word) bytes
-          → IsProfileRead (Some files) (if no_name then None else Some word) bytes
-      go true read = read
-      go false read = (same ∙ read.0, read.1)
-
   -- the words give a line
   pub written_passes : (files : Files) (words : List (List ℕ)) → ChecksWritten files words
       → (line : List ℕ) × GivesText (Some files) words line
   written_passes files words w =
-      let certify : IsCertifyForm (Some w.earlier) w.database w.profile w.text
-      (nat_lt 0 (length w.database) && nat_lt 0 (length w.profile)) =
-      certify_form (Some w.earlier) w.database w.profile w.text
-      (nat_lt 0 (length w.database) && nat_lt 0 (length w.profile)) (address_in w.router) w.written in
+      let certify : IsCertifyForm (Some w.written.files) w.written.database w.written.profile w.written.text =
+      certify_form (Some w.written.files) w.written.database w.written.profile w.written.text
+      (nat_lt 0 (length w.written.database) && nat_lt 0 (length w.written.profile)) (address_in w.written.router)
+      w.written.gave in
       let bytes : FileBytes = certify.gives.0 in
-      let read : AreRead (Some w.earlier) (form_with w.database w.profile (Certify certify.router)) bytes = certify.gives.1 in
-      let over : GivesOver (Certify certify.router) bytes w.text = certify.gives.2 in
-      let accepted = accepts bytes certify.router w.certificate w.text over in
-      let short : length w.text ≤ 33554432 =
+      let read : AreRead (Some w.written.files) (form_with w.written.database w.written.profile (Certify certify.router)) bytes =
+      certify.gives.1 in
+      let over : GivesOver (Certify certify.router) bytes w.written.text = certify.gives.2 in
+      let accepted = accepts bytes certify.router w.certificate w.written.text over in
+      let short : length w.written.text ≤ 33554432 =
       let at_most = longest over.gives.certificate.file over.gives.certificate.spelled.within in
-      let same : length w.text ≡ length (cert_text over.gives.certificate.file) =
+      let same : length w.written.text ≡ length (cert_text over.gives.certificate.file) =
       ap (λ (text : List ℕ). length text) over.gives.certificate.spelled.spelled in
       omega (arith, at_most, same) in
       let given : Gives (Some files) (form_with w.database w.profile (Check w.certificate)) accepted.0 = (
-        record { database = bytes.database; profile = bytes.profile; last = w.text },
+        record { database = bytes.database; profile = bytes.profile; last = w.written.text },
         record {
           database_read = (w.same_database ∙ read.database_read.0, read.database_read.1);
-          profile_read = same_profile_read files w.earlier w.profile bytes.profile w.same_profile read.profile_read;
+          profile_read =
+              let before = profile_was w.written.files w.written.profile bytes.profile read.profile_read in
+              profile_is files w.profile bytes.profile (w.same_profile ∙ before.0) before.1;
           last_read = (w.held, short);
         },
         accepted.1,
-      ) in (
-        accepted.0,
-        check_given (Some files) words w.database w.profile w.certificate accepted.0 w.check
-            certify.both_named w.some_name given,
-      )
+      ) in
+      (accepted.0, check_given (Some files) words w.database w.profile w.certificate accepted.0 w.check w.named given)
 
 -- nothing holds of a form that there is not
 pub no_form : (form : Option Form) (P : Form → Type 0) → IsNone form → IsSomeAnd form P → ⊥
@@ -201,3 +209,46 @@ module _ (once : ComesOnce) (files : Files) (words : List (List ℕ)) (form : Fo
   passed_refused before now exits.NoMemory said = tt
   passed_refused before now exit (inl refused) = let other = refused_done exit refused in absurd cc
   passed_refused before now exit (inr memory) = absurd cc
+
+-- no file's being unread says no
+none_says_no : (named : List NamedFile) (rule a b : ℕ) → SaysOneOf named (exits.No rule a b) → ⊥
+none_says_no [] rule a b said = said
+none_says_no (file ∷ rest) rule a b (inl said) = cc
+none_says_no (file ∷ rest) rule a b (inr (inl said)) = cc
+none_says_no (file ∷ rest) rule a b (inr (inr said)) = none_says_no rest rule a b said
+
+one_of_first : (file : NamedFile) (rest : List NamedFile) (exit : Exit) (after : Option Exit)
+    (content : Option (List ℕ)) → (after ≡ Some exit → SaysOneOf rest exit)
+    → option_map_or (λ bytes. if nat_lt file.limit (length bytes) then Some (exits.TooLarge file.what (file.limit + 1)) else after)
+    content (Some (exits.ReadFault file.place)) ≡ Some exit
+    → SaysOneOf (file ∷ rest) exit
+one_of_first file rest exit after None onward said = inl (sym (same_Some (exits.ReadFault file.place) exit said))
+one_of_first file rest exit after (Some bytes) onward said = go (nat_lt file.limit (length bytes)) said
+  where
+    go : (b : Bool) → (if b then Some (exits.TooLarge file.what (file.limit + 1)) else after) ≡ Some exit
+        → SaysOneOf (file ∷ rest) exit
+    go true said = inr (inl (sym (same_Some (exits.TooLarge file.what (file.limit + 1)) exit said)))
+    go false said = inr (inr (onward said))
+
+unread_says_one : (files : Files) (named : List NamedFile) (exit : Exit) → refusal_of files named ≡ Some exit
+    → SaysOneOf named exit
+unread_says_one files [] exit said = cc
+unread_says_one files (file ∷ rest) exit said =
+    one_of_first file rest exit (refusal_of files rest) (files file.name) (λ onward. unread_says_one files rest exit onward) said
+
+-- only a check says no
+pub only_check : (held : Option Files) (form : Form) (rule a b : ℕ) → Refuses held form (exits.No rule a b)
+    → IsCheck form.task
+only_check None form rule a b (inl refused) = absurd (none_says_no (files_of form) rule a b refused)
+only_check (Some files) form rule a b (inl refused) =
+    absurd (none_says_no (files_of form) rule a b (unread_says_one files (files_of form) (exits.No rule a b) refused))
+only_check held form rule a b (inr refused) = go form.task refused.2
+  where
+    go : (task : Task) → IsRefusedOver task refused.0 (exits.No rule a b) → IsCheck task
+    go (Check certificate) said = tt
+    go (Certify router) said = absurd said.2
+
+pub only_check_words : (held : Option Files) (form : Option Form) (rule a b : ℕ)
+    → IsSomeAnd form (λ it. Refuses held it (exits.No rule a b)) → IsSomeAnd form (λ it. IsCheck it.task)
+only_check_words held None rule a b refused = absurd refused
+only_check_words held (Some form) rule a b refused = only_check held form rule a b refused

@@ -9,6 +9,11 @@ pub data Task : Type 0 where
   Check : (certificate : List ℕ) → Task
   Certify : (router : ℕ) → Task
 
+-- the task is a check
+abbrev pub IsCheck : Task → Type 0
+IsCheck (Check certificate) = Unit {0}
+IsCheck (Certify router) = ⊥
+
 -- what the words ask for, under a profile; without one, under the empty profile
 pub record Form : Type 0 where
   pub database : List ℕ

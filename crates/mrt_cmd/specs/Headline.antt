@@ -1,25 +1,37 @@
 -- A certificate that was written is given to a check.
-use Rattle.std.specs.Prelude.{◌≡◌, ◌<◌, ℕ, List, [], ◌∷◌, Some, codes, length}
+use Rattle.std.specs.Prelude.{◌≡◌, ◌<◌, ℕ, List, [], ◌∷◌, Option, Some, codes, length}
+use Rattle.std.specs.Option.{option_map_or}
 use Rattle.mrt_io.specs.Holding.{Files}
 use Rattle.mrt_cmd.specs.declared.exit.Exit.{Exit}
 use Rattle.mrt_cmd.specs.declared.exit.Exit.TheVariants.{Done, NoMemory, ReadFault, WriteFault}
 use Rattle.mrt_cmd.specs.Comes.{GivesText}
+use Rattle.mrt_cmd.specs.Form.{profile_name}
 
--- these words check, over these files, a text that `certify` gave: for some router, and over files that had the same
--- database and the same profile
+-- what a word for a profile stands for: no bytes where it names none, else those that are held
+abbrev pub profile_held : Files → List ℕ → Option (List ℕ)
+profile_held files word = option_map_or files (profile_name word) (Some [])
+
+-- what some files held: the words that certified over them, and the text that came of it
+pub record Written : Type 0 where
+  pub files : Files
+  pub database : List ℕ
+  pub profile : List ℕ
+  pub router : List ℕ
+  pub text : List ℕ
+  pub gave : GivesText (Some files) (codes "certify" ∷ database ∷ profile ∷ router ∷ []) text
+
+-- these words check, over these files, a text that `certify` gave, for any router, over the same database and the same
+-- profile
 pub record ChecksWritten (files : Files) (words : List (List ℕ)) : Type 0 where
   pub database : List ℕ
   pub profile : List ℕ
   pub certificate : List ℕ
   pub check : words ≡ codes "check" ∷ database ∷ profile ∷ certificate ∷ []
-  pub some_name : 0 < length certificate
-  pub text : List ℕ
-  pub held : files certificate ≡ Some text
-  pub earlier : Files
-  pub router : List ℕ
-  pub written : GivesText (Some earlier) (codes "certify" ∷ database ∷ profile ∷ router ∷ []) text
-  pub same_database : files database ≡ earlier database
-  pub same_profile : files profile ≡ earlier profile
+  pub named : (0 < length database) × ((0 < length profile) × (0 < length certificate))
+  pub written : Written
+  pub same_database : files database ≡ written.files written.database
+  pub same_profile : profile_held files profile ≡ profile_held written.files written.profile
+  pub held : files certificate ≡ Some written.text
 
 -- the exit says nothing against the certificate: yes, or a fault of a device, or want of memory
 abbrev pub IsPassed : Exit → Type 0

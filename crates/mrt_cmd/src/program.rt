@@ -1,6 +1,7 @@
 //! The top call.
 
 ghost use Rattle.std.specs.Prelude.{◌≡◌, ◌⊎◌, ◌↔◌, ℕ, List, IfErr, IfOk, IsNone, IsSome, Some, length};
+ghost use Rattle.std.specs.Option.{IsSomeAnd};
 ghost use Rattle.mrt_io.specs.Counts.{Rose};
 ghost use Rattle.mrt_io.specs.Holding.{Files};
 ghost use Rattle.mrt_io.specs.Writing.{Gained};
@@ -12,7 +13,7 @@ ghost use Rattle.mrt_cmd.specs.Asked.{asked};
 ghost use Rattle.mrt_cmd.specs.Comes.{Comes, FailsAt, Gives, GivesText, IsRefused, MissesAt, NamesHeld};
 ghost use Rattle.mrt_cmd.specs.Exits.{line_of};
 ghost use Rattle.mrt_cmd.specs.Files.{AreThere, files_of};
-ghost use Rattle.mrt_cmd.specs.Form.{form_of};
+ghost use Rattle.mrt_cmd.specs.Form.{IsCheck, form_of};
 ghost use Rattle.mrt_cmd.specs.Headline.{ChecksWritten, IsPassed};
 ghost use Rattle.mrt_cmd.specs.Reading.{IsRefusal, IsRefusalOrFault};
 ghost use Rattle.mrt_cmd.specs.TextBytes.{bytes_of};
@@ -21,7 +22,7 @@ ghost use Rattle.mrt_cmd.specs.Run.{GainedLine, IsHealthyForText, IsUndisturbed,
 use crate::answer::answer;
 use crate::exit::Exit;
 use crate::file_bytes::read_files;
-use crate::run_law::{one_exit_comes, what_was_written_passes};
+use crate::run_law::{one_exit_comes, only_a_check_says_no, what_was_written_passes};
 use crate::text::Text;
 use crate::words::{Form, read_form};
 use mrt_io::{Shelf, Sink, Word, put_all};
@@ -68,6 +69,8 @@ pub fn run<F: Shelf, K: Sink, E: Sink>(
         → IsRefused (F.held shelf.old) words.now (Exit.NotThere number) }
     ensures no { (rule a b : ℕ) → result ≡ Exit.No rule a b
         → IsRefused (F.held shelf.old) words.now (Exit.No rule a b) }
+    ensures no_from_check_alone { (rule a b : ℕ) → result ≡ Exit.No rule a b
+        → IsSomeAnd (form_of words.now) (λ form. IsCheck form.task) }
 
     // On `Done` the output gained just the text; on `WriteFault` it was cut short in it, and it has no fault where it is healthy for
     // the text; else nothing was written to it.
@@ -102,6 +105,7 @@ pub fn run<F: Shelf, K: Sink, E: Sink>(
         (E.written err.old) (E.written err.new) (line_of result) }
 {
     one_exit_comes();
+    only_a_check_says_no();
     what_was_written_passes();
     let Some(form) = read_form(words) else {
         return put_line(err, Exit::Usage);

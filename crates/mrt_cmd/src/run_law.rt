@@ -1,9 +1,11 @@
 //! What holds of the words and of what the shelf holds.
 
-ghost use Rattle.std.specs.Prelude.{◌≡◌, ℕ, List, Some};
+ghost use Rattle.std.specs.Prelude.{◌≡◌, ℕ, List, Option, Some};
+ghost use Rattle.std.specs.Option.{IsSomeAnd};
 ghost use Rattle.mrt_io.specs.Holding.{Files};
 ghost use Rattle.mrt_cmd.specs.declared.exit.Exit.{Exit};
-ghost use Rattle.mrt_cmd.specs.Comes.{Comes, GivesText};
+ghost use Rattle.mrt_cmd.specs.Comes.{Comes, GivesText, IsRefused};
+ghost use Rattle.mrt_cmd.specs.Form.{IsCheck, form_of};
 ghost use Rattle.mrt_cmd.specs.Headline.{ChecksWritten};
 
 use area_graph::the_newest_records_give_an_area;
@@ -38,8 +40,7 @@ pub fn one_exit_comes()
     one_certificate();
 }
 
-/// A law, the headline: a certificate that was written passes the check over the same database and profile, and the
-/// rows of each that passes are sound.
+/// A law, the headline's first half: a certificate that was written passes the check over the same database and profile.
 pub fn what_was_written_passes()
     ensures { (files : Files) (words : List (List ℕ)) → ChecksWritten files words
         → (line : List ℕ) × GivesText (Some files) words line }
@@ -49,3 +50,10 @@ pub fn what_was_written_passes()
     an_island_is_that_of_each_router_in_it();
     one_spelling();
 }
+
+/// A law: only a check says no.
+pub fn only_a_check_says_no()
+    ensures { (held : Option Files) (words : List (List ℕ)) (rule a b : ℕ)
+        → IsRefused held words (Exit.No rule a b)
+        → IsSomeAnd (form_of words) (λ form. IsCheck form.task) }
+{}

@@ -1,6 +1,7 @@
 pub mod Agreeing
 pub mod AllRows
 pub mod BlocksHold
+pub mod CertAccepted
 pub mod CertMade
 pub mod CertSays
 pub mod Counting

@@ -24,6 +24,8 @@ pub fn compute(alloc: Global, g: &Graph, root: NodeNo) -> Result<Cert, NoMemory>
         → IsCertOf g.now root (file_of id cert)) }
     ensures accepted { IfOk result (λ cert. (id : NodeId) → slice_get g.now.ids root ≡ Some id
         → Accepted g.now root (file_of id cert)) }
+    ensures counts { IfOk result (λ cert. (length cert.nodes ≡ length g.now.ids)
+        × (length cert.links ≡ length g.now.links)) }
     ensures kept { IfOk result (λ _. IsTopology g.now) }
 {
     let tree = search(alloc, g, root)?;

@@ -12,4 +12,6 @@ mod words;
 
 pub use certificate::compute;
 pub use of_source::rows_of;
-pub use rows_law::{one_certificate, one_row_for_each, tabled_certificates_are_accepted};
+pub use rows_law::{
+    certificates_are_accepted, one_certificate, one_row_for_each, tabled_certificates_are_accepted,
+};

@@ -18,8 +18,8 @@ pub fn tabled_certificates_are_accepted()
         → IsOrderedGadag g root w → Tells g root w file → Accepted g root file }
 {}
 
-/// A law: by the table there is exactly one row of a node for another one; so it is of a carried row too, which the
-/// table says by another row.
+/// A law: by the table there is exactly one row of a node for another one. This holds of carried rows too, though the
+/// table tells them by other rows.
 pub fn one_row_for_each()
     ensures some { (g : Topology) (root : ℕ) (w : Directions) (s : ℕ)
         → IsTopology g → IsOrderedGadag g root w → s < length g.ids
@@ -32,7 +32,13 @@ pub fn one_row_for_each()
         → (t : ℕ) → t < length g.ids → s ≢ t → rows t ≡ others t }
 {}
 
-/// A law: a graph has one certificate from its root.
+/// A law: the certificate of a graph and its root is accepted.
+pub fn certificates_are_accepted()
+    ensures { (g : Topology) (root : ℕ) (file : CertFile) → IsTopology g → root < length g.ids
+        → IsCertOf g root file → Accepted g root file }
+{}
+
+/// A law: a graph has at most one certificate from its root.
 pub fn one_certificate()
     ensures { (g : Topology) (root : ℕ) (file other : CertFile) → IsTopology g → root < length g.ids
         → IsCertOf g root file → IsCertOf g root other → file ≡ other }

@@ -5,11 +5,11 @@ use Rattle.mrt_cmd.proofs.certificate.computed.Goals as goal
 
 pub write_cert-requires-clause-nodes : goal.write_cert-requires-clause-nodes
 write_cert-requires-clause-nodes c =
-    omega (arith, (c.in_ok-cert.ensures.cert c.id.result c.id.ensures).tells.nodes.one_each, c.in_ok-cert.ensures.kept.few_nodes)
+    omega (arith, c.in_ok-cert.ensures.counts.0, c.in_ok-cert.ensures.kept.few_nodes)
 
 pub write_cert-requires-clause-links : goal.write_cert-requires-clause-links
 write_cert-requires-clause-links c =
-    omega (arith, (c.in_ok-cert.ensures.cert c.id.result c.id.ensures).tells.links.one_each, c.in_ok-cert.ensures.kept.few_links)
+    omega (arith, c.in_ok-cert.ensures.counts.1, c.in_ok-cert.ensures.kept.few_links)
 
 pub returns : goal.returns
 returns c =

@@ -67,3 +67,9 @@ returns-clause-accepted c = λ id is.
     (file_of id c.new.result) c.all_nodes.ensures.kept ordered.ordered
     (subst (λ (cert : Certificate). Tells c.args.g.now c.args.root ordered.directions (file_of id cert))
     (sym c.new.ensures) tells)
+
+pub returns-clause-counts : goal.returns-clause-counts
+returns-clause-counts c =
+    let ordered = c.in_ok-d.ensures.ordered in
+    rw c.new.ensures
+    ((c.in_ok-nodes.ensures.words ordered.directions ordered.says).one_each, (c.in_ok-links.ensures ordered.directions ordered.says).one_each)
