@@ -1,4 +1,4 @@
-//! Tests of the computation: search trees, ears, directions and rows by hand.
+//! Tests of the computation: search trees, ears, directions, paths and rows by hand.
 #![tactic(auto)]
 
 #[cfg(test)]
@@ -7,6 +7,8 @@ mod hand_directions;
 mod hand_ears;
 #[cfg(test)]
 mod hand_graphs;
+#[cfg(test)]
+mod hand_paths;
 #[cfg(test)]
 mod hand_rows;
 #[cfg(test)]
