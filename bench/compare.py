@@ -3,8 +3,8 @@
 
 usage: compare.py PROGRAM [CASES [SEED]]
 
-PROGRAM is the built program. Each case on which the two differ is printed, and its files are left in a folder that is named. While the
-program does not know `certify`, its answer to that is counted and not compared.
+PROGRAM is the built program. Each certificate that it writes is given to its `check` too. Each case on which the two differ is printed, and
+its files are left in a folder that is named.
 """
 import os
 import subprocess
@@ -16,11 +16,11 @@ import certificate
 import certify
 import database
 import lowpoint
-from areas import random_area, router
+from areas import random_area, router, write
 from database import Refused
 from lsas import lsa, spelled
 
-USAGE = 2
+COMMANDS = "check", "certify", "check of what was written"
 
 
 # databases
@@ -109,30 +109,38 @@ def random_certificate(random, data, profile):
 
 # comparing
 
+def reference(function, data, profile, last):
+    """What the program is to answer: status, output, errors."""
+    try:
+        output = function(data, profile, last)
+    except Refused as refused:
+        return refused.status, b"", f"mrt: {refused.line}\n".encode()
+    return 0, output if isinstance(output, bytes) else output.encode() + b"\n", b""
+
+
 def wanted(data, profile, cert, source):
-    """What the program is to answer to each command: status, output, errors."""
-    answers = []
-    for function, last in ((certify.check, cert), (certify.certify, source)):
-        try:
-            output = function(data, profile, last)
-            answers.append((0, output if isinstance(output, bytes) else output.encode() + b"\n", b""))
-        except Refused as refused:
-            answers.append((refused.status, b"", f"mrt: {refused.line}\n".encode()))
-    return answers
+    """The same for each command. What is written has to be accepted."""
+    answers = [reference(certify.check, data, profile, cert), reference(certify.certify, data, profile, source)]
+    status, written, _ = answers[1]
+    return answers + ([(0, certify.check(data, profile, written).encode() + b"\n", b"")] if status == 0 else [])
 
 
 def answered(program, folder, data, profile, cert, source):
     """What it answers, from files in a folder."""
-    names = [os.path.join(folder, name) for name in ("area.lsas", "area.profile", "area.cert")]
-    for name, text in zip(names, (data, profile, cert)):
-        with open(name, "wb") as file:
-            file.write(text)
-    # A profile without lines may as well not be named.
-    names[1] = names[1] if profile else "-"
-    answers = []
-    for words in (["check", *names], ["certify", *names[:2], spelled(source)]):
+    def answer(*words):
         done = subprocess.run([program, *words], capture_output=True)
-        answers.append((done.returncode, done.stdout, done.stderr))
+        return done.returncode, done.stdout, done.stderr
+
+    database, lines, given, own = (os.path.join(folder, name) for name in ("area.lsas", "area.profile", "area.cert", "written.cert"))
+    for name, text in ((database, data), (lines, profile), (given, cert)):
+        write(name, text)
+    # A profile without lines may as well not be named.
+    lines = lines if profile else "-"
+    answers = [answer("check", database, lines, given), answer("certify", database, lines, spelled(source))]
+    status, written, _ = answers[1]
+    if status == 0:
+        write(own, written)
+        answers.append(answer("check", database, lines, own))
     return answers
 
 
@@ -147,9 +155,9 @@ def main():
     with tempfile.TemporaryDirectory() as folder:
         for number in range(cases):
             case = random_case(random)
-            for command, want, got in zip(("check", "certify"), wanted(*case), answered(program, folder, *case)):
+            for command, want, got in zip(COMMANDS, wanted(*case), answered(program, folder, *case)):
                 counts[command, got[0]] = counts.get((command, got[0]), 0) + 1
-                if got != want and (command, got[0]) != ("certify", USAGE):
+                if got != want:
                     differing += 1
                     kept = tempfile.mkdtemp()
                     answered(program, kept, *case)

@@ -27,6 +27,17 @@ def best(command, rounds=7, answer=None):
     return min(times)
 
 
+def writing(command, path, rounds=7):
+    """The least time of some runs that write a file, in milliseconds. Each has to succeed."""
+    times = []
+    for _ in range(rounds):
+        with open(path, "wb") as file:
+            start = time.perf_counter()
+            subprocess.run(command, stdout=file, check=True)
+            times.append((time.perf_counter() - start) * 1000)
+    return min(times)
+
+
 def sha256sum(path, rounds=7):
     """The least time of summing a file, in milliseconds."""
     return best(["sha256sum", path], rounds)
