@@ -1,4 +1,4 @@
-//! One certificate is accepted over the records of a database in every order.
+//! Over the records of a database in every order one certificate is written, and it is accepted.
 
 use crate::calling::{CHECK, comes_to, two};
 use crate::files::{BACK, FIRST, SECOND, THIRD, TRIANGLE_CERTIFICATE, WITHDRAWN};
@@ -34,6 +34,20 @@ fn is_accepted(alloc: Global, order: [usize; 5]) -> bool {
     }
 }
 
+fn is_written(alloc: Global, order: [usize; 5]) -> bool {
+    match in_order(alloc, order) {
+        Ok(bytes) => comes_to(
+            alloc,
+            &["certify", "db", "-", "1.1.1.1"],
+            two(&bytes, b""),
+            Exit::Done,
+            TRIANGLE_CERTIFICATE,
+            b"",
+        ),
+        Err(NoMemory) => false,
+    }
+}
+
 /// One of the 120 orders of five, by its number.
 fn order(number: usize) -> [usize; 5] {
     let mut order = [0, 1, 2, 3, 4];
@@ -47,8 +61,15 @@ fn order(number: usize) -> [usize; 5] {
 }
 
 #[test]
-fn records_in_every_order(rt: HostRuntime) {
+fn accepted_in_every_order(rt: HostRuntime) {
     for number in 0..120 {
         assert!(rt; is_accepted(rt.alloc(), order(number)), "order {number}");
+    }
+}
+
+#[test]
+fn written_in_every_order(rt: HostRuntime) {
+    for number in 0..120 {
+        assert!(rt; is_written(rt.alloc(), order(number)), "order {number}");
     }
 }

@@ -8,6 +8,8 @@ mod bad_databases;
 #[cfg(test)]
 mod calling;
 #[cfg(test)]
+mod certified;
+#[cfg(test)]
 mod every_order;
 #[cfg(test)]
 mod failing_devices;

@@ -134,7 +134,7 @@ fn router(
 }
 
 /// The routers 1 to `count` in a ring, with so many links between neighbours.
-fn ring(alloc: Global, count: u32, parallel: u32) -> Result<Vec<u8>, NoMemory> {
+pub fn ring(alloc: Global, count: u32, parallel: u32) -> Result<Vec<u8>, NoMemory> {
     let mut file = Vec::new(alloc);
     for number in 0..count {
         let next = number.wrapping_add(1) % count;
