@@ -7,6 +7,11 @@ def write(path, data):
         file.write(data)
 
 
+def read(path):
+    with open(path, "rb") as file:
+        return file.read()
+
+
 # worked shapes
 
 def router(number):

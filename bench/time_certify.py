@@ -2,11 +2,12 @@
 """Times `mrt certify` of a ring, a mesh, a line and a star of 1,024 and 2,048 routers, and sha256sum of the file that it wrote.
 
 It prints the ratio of both, wanted at most 0.8 for a ring and a mesh of 2,048; the peak memory, at most 3 times the file; and how the time grows,
-at most 4.4 for twice the routers, as the file does. Each written file has to pass `mrt check`. It builds the program where need be; it fetches
-nothing.
+at most 4.4 for twice the routers, as the file does. Each written file has to pass `mrt check`, and that of a ring to be its closed form. It
+builds the program where need be; it fetches nothing.
 """
 import os
 import subprocess
+import sys
 import tempfile
 
 import areas
@@ -36,6 +37,8 @@ def report(shape, size, folder):
     certify = [timing.PROGRAM, "certify", database, "-", "0.0.0.1"]
     mrt, sha, memory = timing.writing(certify, certificate, ROUNDS), timing.sha256sum(certificate, ROUNDS), timing.peak(certify)
     subprocess.run([timing.PROGRAM, "check", database, "-", certificate], stdout=subprocess.DEVNULL, check=True)
+    if shape == "ring" and areas.read(certificate) != ring.certificate(size):
+        sys.exit(f"{certificate} is not the certificate of a ring")
     length = os.path.getsize(certificate)
     print(f"{shape} {size}: certificate {length} bytes, mrt certify {mrt:.0f} ms, sha256sum {sha:.0f} ms, ratio {told(mrt / sha, 0.8)}; "
           f"peak memory {memory} bytes, {told(memory / length, 3)} times the certificate")

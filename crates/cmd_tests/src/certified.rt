@@ -204,7 +204,7 @@ fn a_certificate_cut_short(rt: HostRuntime) {
 /// What comes of the certificate of a ring of so many routers, and how many bytes of it are written.
 fn comes_of_ring(alloc: Global, routers: u32) -> Result<(Exit, usize), NoMemory> {
     let database = ring(alloc, routers, 1)?;
-    let out = MemSink::new(alloc, 21_000_000, 21_000_000, Vec::new(alloc))?;
+    let out = MemSink::new(alloc, 2_000_000, 2_000_000, Vec::new(alloc))?;
     let files = two(&database, b"");
     let words = &["certify", "db", "-", "0.0.0.1"];
     let left = left_by(alloc, words, files, Vec::new(alloc), out, sink(alloc)?)?;
@@ -217,7 +217,7 @@ fn large_rings(rt: HostRuntime) {
         what: What::IslandNodes,
         size: 2049,
     };
-    for (routers, exit, length) in [(2048, Exit::Done, 20_998_158), (2049, too_large, 0)] {
+    for (routers, exit, length) in [(512, Exit::Done, 1_317_390), (2049, too_large, 0)] {
         assert_eq!(rt; comes_of_ring(rt.alloc(), routers), Ok((exit, length)));
     }
 }
