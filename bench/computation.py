@@ -2,8 +2,9 @@
 """Times the steps of the computation on islands of 1,024 and 2,048 routers, and prints how the time grows.
 
 The islands are a ring, a grid with 32 in a row, a block with four times as many links as nodes, and a line. A ratio below 2.4 for twice the
-nodes means that the time grows as the island does; a certificate has a row for each two nodes, so that its time may be four times as much (at
-most 4.4). It compares the time of a certificate with that which `sha256sum` takes of as many bytes. It builds a small program beside the crates in a folder of its own; it fetches nothing.
+nodes means that the time grows as the island does. `spf`, up, and `rows_of` are timed for all sources, so that their times may be four times as
+much, at most 4.4, as that of `compute`. The times of `rows_of` and of `compute` are compared with that which `sha256sum` takes of as many bytes
+as the certificate has. It builds a small program beside the crates in a folder of its own; it fetches nothing.
 """
 import os
 import subprocess
@@ -15,13 +16,15 @@ import beside
 import timing
 
 SIZES = 1024, 2048
+# The steps that do something for each source.
+SQUARE = "spf", "rows_of", "compute"
 SHAPES = {
     "ring": lambda n: [(each, each % n + 1) for each in range(1, n + 1)],
     "mesh": lambda n: areas.grid(n, 32),
     "block": areas.circle,
     "line": lambda n: [(each, each + 1) for each in range(1, n)],
 }
-CRATES = ["mrt_rows", "link_direction", "gadag_ears", "lowpoint_dfs", "mrt_cmd", "mrt_island", "area_graph", "lsdb", "ospf_lsa", "mrt_graph"]
+CRATES = ["mrt_rows", "inc_dec_spf", "link_direction", "gadag_ears", "lowpoint_dfs", "mrt_cmd", "mrt_island", "area_graph", "lsdb", "ospf_lsa", "mrt_graph"]
 
 # It reads the database as `mrt_cmd` does.
 PROGRAM = """\
@@ -32,18 +35,21 @@ ghost use Rattle.lsdb.specs.Conflicts.{least_conflict};
 ghost use Rattle.lsdb.specs.Entries.{entries_in};
 ghost use Rattle.lsdb.specs.Installing.{IsBehind};
 ghost use Rattle.lsdb.specs.Installs.{all_installed};
+ghost use Rattle.inc_dec_spf.specs.HasDirections.{HasDirections};
+ghost use Rattle.link_direction.specs.OrderedGadag.{SaysOrdered};
 ghost use Rattle.ospf_lsa.specs.Lsas.{AreLsas, IsLsa};
 ghost use Rattle.mrt_cmd.specs.Database.{entering, enters};
 
 use anyhow::{Result, bail};
 use area_graph::build_area;
 use gadag_ears::ears;
+use inc_dec_spf::{Dir, spf};
 use link_direction::direct;
 use lowpoint_dfs::search;
 use lsdb::{Lsdb, an_lsa_without_a_fault_may_be_installed, entries_are_those_of_the_list};
-use mrt_graph::{Graph, NoMemory, NodeNo};
+use mrt_graph::{Directed, Graph, NoMemory, NodeNo};
 use mrt_island::{Island, Profile, find_island};
-use mrt_rows::compute;
+use mrt_rows::{compute, rows_of};
 use ospf_lsa::{Lsa, read_lsas};
 use std::alloc::Global;
 use std::fs;
@@ -133,6 +139,58 @@ fn time_steps(rt: &HostRuntime, name: &str, g: &Graph, root: NodeNo) -> Result<(
     Ok(())
 }
 
+fn directions_of(alloc: Global, g: &Graph, root: NodeNo) -> std::result::Result<Directed, NoMemory>
+    requires { root < length g.now.ids }
+    ensures ordered { IfOk result (SaysOrdered g.now root) }
+    ensures directed { IfOk result (HasDirections g.now) }
+{
+    let tree = search(alloc, g, root)?;
+    let gadag = ears(alloc, g, root, &tree)?;
+    direct(alloc, g, root, gadag)
+}
+
+fn time_paths(rt: &HostRuntime, name: &str, g: &Graph, d: &Directed) -> Result<()>
+    requires { HasDirections g.now d.now }
+{
+    let start = Instant::now(rt)?;
+    for source in 0..g.node_count() {
+        let Ok(_reach) = spf(rt.alloc(), g, d, NodeNo::new(source), Dir::Up) else {
+            bail!("no memory");
+        };
+    }
+    let taken = start.elapsed(rt)?.as_nanos();
+    println!(rt; "{name} {} {} spf {taken}", g.node_count(), g.link_count())?;
+    Ok(())
+}
+
+fn time_rows(rt: &HostRuntime, name: &str, g: &Graph, root: NodeNo, d: &Directed) -> Result<()>
+    requires { SaysOrdered g.now root d.now }
+{
+    let start = Instant::now(rt)?;
+    for source in 0..g.node_count() {
+        let Ok(_rows) = rows_of(rt.alloc(), g, root, d, NodeNo::new(source)) else {
+            bail!("no memory");
+        };
+    }
+    let taken = start.elapsed(rt)?.as_nanos();
+    println!(rt; "{name} {} {} rows_of {taken}", g.node_count(), g.link_count())?;
+    Ok(())
+}
+
+fn time_sources(rt: &HostRuntime, name: &str, g: &Graph, root: NodeNo) -> Result<()> {
+    if root.get() >= g.node_count() {
+        bail!("no root");
+    }
+    let Ok(d) = directions_of(rt.alloc(), g, root) else {
+        bail!("no memory");
+    };
+    for _ in 0..7 {
+        time_paths(rt, name, g, &d)?;
+        time_rows(rt, name, g, root, &d)?;
+    }
+    Ok(())
+}
+
 fn time_compute(rt: &HostRuntime, name: &str, g: &Graph, root: NodeNo) -> Result<()> {
     if root.get() >= g.node_count() {
         bail!("no root");
@@ -152,6 +210,7 @@ fn main(rt: HostRuntime) -> Result<()> {
     for name in [NAMES] {
         let island = island_of(&rt, name)?;
         time_steps(&rt, name, &island.graph, island.root)?;
+        time_sources(&rt, name, &island.graph, island.root)?;
         time_compute(&rt, name, &island.graph, island.root)?;
     }
     Ok(())
@@ -199,10 +258,12 @@ def main():
     for shape in SHAPES:
         for step in sorted({step for _, _, step in best}):
             half, whole = (best[shape, size, step] for size in SIZES)
-            ratio, most = whole / half, 4.4 if step == "compute" else 2.4
+            ratio, most = whole / half, 4.4 if step in SQUARE else 2.4
             print(f"{step} of a {shape}: {half / 1000:.0f} and {whole / 1000:.0f} µs for {SIZES[0]:,} and {SIZES[1]:,} nodes, ratio {ratio:.2f}"
                   + ("" if ratio < most else ", which is TOO MUCH"))
-        print(f"compute of a {shape}: {best[shape, SIZES[1], 'compute'] / 1e6 / summed(shape, SIZES[1]):.2f} times sha256sum of the certificate")
+        sha = summed(shape, SIZES[1])
+        for step in ("rows_of", "compute"):
+            print(f"{step} of a {shape}: {best[shape, SIZES[1], step] / 1e6 / sha:.2f} times sha256sum of the certificate")
 
 
 if __name__ == "__main__":

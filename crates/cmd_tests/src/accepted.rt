@@ -1,10 +1,10 @@
 //! Certificates that are accepted.
 
-use crate::calling::{CHECK, Case, comes_out};
+use crate::calling::{CHECK, Case, UNDER, comes_out};
 use crate::files::{
     CERTIFICATE, LAN, LAN_CERTIFICATE, LINE, LINE_CERTIFICATE, ONE_SIDED, RING, RING_CERTIFICATE,
-    ROUTER, SETTLED, STUB, THREE_LINKS, THREE_LINKS_CERTIFICATE, TRANSIT, TRIANGLE,
-    TRIANGLE_CERTIFICATE, UNAGED,
+    ROUTER, SAMPLE, SAMPLE_CERTIFICATE, SAMPLE_PROFILE, SETTLED, STUB, THREE_LINKS,
+    THREE_LINKS_CERTIFICATE, TRANSIT, TRIANGLE, TRIANGLE_CERTIFICATE, UNAGED,
 };
 use mrt_cmd::Exit;
 
@@ -77,6 +77,16 @@ const CASES: &[Case] = &[
         certificate: LAN_CERTIFICATE,
         exit: Exit::Done,
         out: b"accepted root 4.4.4.4 nodes 5 links 5\n",
+        err: b"",
+    },
+    Case {
+        name: "the sample",
+        words: UNDER,
+        database: SAMPLE,
+        profile: SAMPLE_PROFILE,
+        certificate: SAMPLE_CERTIFICATE,
+        exit: Exit::Done,
+        out: b"accepted root 10.255.1.1 nodes 7 links 8\n",
         err: b"",
     },
     Case {

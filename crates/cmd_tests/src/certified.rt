@@ -3,8 +3,9 @@
 use crate::calling::{Case, comes_out, front, left_by, sink, two};
 use crate::files::{
     CERTIFICATE, FIRST_TREE, FIVE, FIVE_COMPUTED, LAN, LAN_CERTIFICATE, LINE, LINE_CERTIFICATE,
-    RING, RING_COMPUTED, ROUTER, SECOND_TREE, STUB, THREE_LINKS, THREE_LINKS_CERTIFICATE, TRIANGLE,
-    TRIANGLE_CERTIFICATE, TRIANGLE_FROM_1, TWO_TREES,
+    RING, RING_COMPUTED, ROUTER, SAMPLE, SAMPLE_CERTIFICATE, SAMPLE_PROFILE, SECOND_TREE, STUB,
+    THREE_LINKS, THREE_LINKS_CERTIFICATE, TRIANGLE, TRIANGLE_CERTIFICATE, TRIANGLE_FROM_1,
+    TWO_TREES,
 };
 use crate::limits::ring;
 use mrt_cmd::{Exit, What};
@@ -115,6 +116,16 @@ const CASES: &[Case] = &[
         certificate: b"",
         exit: Exit::Done,
         out: LAN_CERTIFICATE,
+        err: b"",
+    },
+    Case {
+        name: "the sample",
+        words: &["certify", "db", "prof", "10.255.1.4"],
+        database: SAMPLE,
+        profile: SAMPLE_PROFILE,
+        certificate: b"",
+        exit: Exit::Done,
+        out: SAMPLE_CERTIFICATE,
         err: b"",
     },
     Case {
