@@ -1,0 +1,3 @@
+pub mod ColorsUse
+pub mod ColorSteps
+pub mod Repairs

@@ -1,0 +1,2 @@
+pub mod AcceptedRows
+pub mod Meets

@@ -1,0 +1,12 @@
+//! What a router does with a packet: the next hop of a shortest path (RFC 2328, section 16.1), and the color that
+//! repairs a failure.
+#![tactic(auto)]
+
+mod color_uses;
+mod repair;
+mod repair_law;
+
+pub use repair::alternate;
+pub use repair_law::{
+    a_color_given_goes_round, no_alternate_for_ends_and_what_separates, one_alternate_each,
+};

@@ -1,0 +1,46 @@
+//! What an alternate gives, where the certificate is accepted.
+
+ghost use Rattle.std.specs.Prelude.{◌≡◌, ◌≢◌, ◌<◌, ◌⊎◌, ◌↔◌, ℕ, List, Option, Some, None, length};
+ghost use Rattle.mrt_graph.specs.declared.cert.CertFile.{CertFile};
+ghost use Rattle.mrt_graph.specs.declared.cert.Color.{Color};
+ghost use Rattle.mrt_graph.specs.declared.link.Element.{Element};
+ghost use Rattle.mrt_graph.specs.declared.link.Link.{Link};
+ghost use Rattle.mrt_graph.specs.Accepted.{Accepted};
+ghost use Rattle.mrt_graph.specs.Alternate.{IsAlternate, UsesOn};
+ghost use Rattle.mrt_graph.specs.Certificate.{row_of};
+ghost use Rattle.mrt_graph.specs.ColorWalk.{color_walk};
+ghost use Rattle.mrt_graph.specs.Rows.{Rows};
+ghost use Rattle.mrt_graph.specs.Separates.{IsNeitherEnd, Separates};
+ghost use Rattle.mrt_graph.specs.Topology.{Topology};
+ghost use Rattle.mrt_graph.specs.Walk.{Walk};
+
+/// A law: there is no alternate exactly where the failed element is one of the two ends, or separates them.
+pub fn no_alternate_for_ends_and_what_separates()
+    ensures { (g : Topology) (root : ℕ) (file : CertFile) → Accepted g root file
+        → (s t : ℕ) → s < length g.ids → t < length g.ids → s ≢ t
+        → (x : Element) (answer : Option Color)
+        → IsAlternate g.links (length g.ids) (row_of file.cert) s t (Some x) answer
+        → (answer ≡ None) ↔ ((¬ IsNeitherEnd x s t) ⊎ Separates g.links x s t) }
+{}
+
+/// Laws: where an alternate is given for an element of the graph, the walk of this color leads to the destination, and
+/// does not use the element.
+pub fn a_color_given_goes_round()
+    ensures arrives { (g : Topology) (root : ℕ) (file : CertFile) → Accepted g root file
+        → (s t : ℕ) → s < length g.ids → t < length g.ids → s ≢ t
+        → (x : Element) (color : Color)
+        → IsAlternate g.links (length g.ids) (row_of file.cert) s t (Some x) (Some color)
+        → Walk g.links s (color_walk g.links (length g.ids) (row_of file.cert) color s t) t }
+    ensures avoids { (g : Topology) (root : ℕ) (file : CertFile) → Accepted g root file
+        → (s t : ℕ) → s < length g.ids → t < length g.ids → s ≢ t
+        → (x : Element) (color : Color)
+        → IsAlternate g.links (length g.ids) (row_of file.cert) s t (Some x) (Some color)
+        → ¬ UsesOn g.links (length g.ids) (row_of file.cert) s t x color }
+{}
+
+/// A law: for each failure there is one alternate.
+pub fn one_alternate_each()
+    ensures { (links : List Link) (n : ℕ) (rows : Rows) (s t : ℕ) (failed : Option Element)
+        (answer other : Option Color) → IsAlternate links n rows s t failed answer
+        → IsAlternate links n rows s t failed other → answer ≡ other }
+{}
