@@ -5,8 +5,11 @@
 mod color_uses;
 mod repair;
 mod repair_law;
+mod shortest;
+mod waiting;
 
 pub use repair::alternate;
 pub use repair_law::{
     a_color_given_goes_round, no_alternate_for_ends_and_what_separates, one_alternate_each,
 };
+pub use shortest::Primary;
