@@ -1,6 +1,9 @@
 pub mod AcceptedRows
 pub mod ArcWalk
 pub mod Distance
+pub mod Known
 pub mod Meets
+pub mod Offers
 pub mod Primaries
-pub mod Waiting
+pub mod Settling
+pub mod Tickets

@@ -2,12 +2,17 @@
 //! repairs a failure.
 #![tactic(auto)]
 
+mod arc_starts;
 mod color_uses;
+mod least_walks;
+mod offers;
 mod repair;
 mod repair_law;
+mod searching;
 mod shortest;
 mod waiting;
 
+pub use least_walks::primaries;
 pub use repair::alternate;
 pub use repair_law::{
     a_color_given_goes_round, no_alternate_for_ends_and_what_separates, one_alternate_each,
