@@ -1,5 +1,5 @@
 -- What is known of nodes on the way.
-use Rattle.std.specs.Prelude.{◌≡◌, ◌⊎◌, ℕ, Bool, true, false, List, Option, Some, None, length, slice_get}
+use Rattle.std.specs.Prelude.{◌≡◌, ◌≤◌, ◌+◌, ◌⊎◌, ℕ, Bool, true, false, List, Option, Some, None, length, slice_get}
 use Rattle.std.specs.Option.{option_cmp}
 use Rattle.std.specs.Ordering.{is_lt, nat_cmp, ordering_then}
 use Rattle.std.specs.declared.cmp.Ordering.{Ordering}
@@ -30,11 +30,15 @@ pub record IsKnown (known : List (Option Known)) (v : ℕ) (way : Known) : Type 
   pub there : slice_get known v ≡ Some (Some best)
   pub no_later : IsNoLater best way
 
+-- no way that is known of node v is as early as this one
+abbrev pub IsEarlier : List (Option Known) → ℕ → Known → Type 0
+IsEarlier known v way = (old : Known) → slice_get known v ≡ Some (Some old) → ¬ IsNoLater old way
+
 -- of each node that way is known which comes first, of the one known before and all that are offered
 pub record AreOffered (Offer : ℕ → Known → Type 0) (before after : List (Option Known)) : Type 0 where
   pub one_each : length after ≡ length before
   pub from : (v : ℕ) (way : Known) → slice_get after v ≡ Some (Some way)
-      → (slice_get before v ≡ Some (Some way)) ⊎ Offer v way
+      → (slice_get before v ≡ Some (Some way)) ⊎ (Offer v way × IsEarlier before v way)
   pub kept : (v : ℕ) (way : Known) → slice_get before v ≡ Some (Some way) → IsKnown after v way
   pub taken : (v : ℕ) (way : Known) → Offer v way → IsKnown after v way
 
@@ -55,3 +59,13 @@ pub record AreTicketed (before after : List (Option Known)) (heap heap' : List (
   pub given : (v : ℕ) (way : Known) → slice_get after v ≡ Some (Some way)
       → (slice_get before v ≡ Some (Some way)) ⊎ HasTicket heap' (ticket_of v way)
   pub only : (ticket : Ticket) → HasTicket heap' ticket → HasTicket heap ticket ⊎ IsStale after ticket
+
+-- the cost of a way; of none it is 0
+abbrev pub cost_so_far : Option Known → ℕ
+cost_so_far None = 0
+cost_so_far (Some way) = way.cost
+
+-- each way that is new costs at most one metric more than this
+abbrev pub AreNear : ℕ → List (Option Known) → List (Option Known) → Type 0
+AreNear cost before after = (v : ℕ) (way : Known) → slice_get after v ≡ Some (Some way)
+    → (slice_get before v ≡ Some (Some way)) ⊎ (way.cost ≤ cost + 65535)

@@ -32,6 +32,7 @@ pub record IsSearching (area : AreaParts) (s : ℕ) (known : List (Option Known)
       → IsOffer area x (Some from) v way → IsKnown known v way
   pub ordered : (x v : ℕ) (one other : Known) → IsMarked settled x → ¬ IsMarked settled v
       → slice_get known x ≡ Some (Some one) → slice_get known v ≡ Some (Some other) → IsNoLater one other
+  pub found : (x : ℕ) → IsMarked settled x → (way : Known) × (slice_get known x ≡ Some (Some way))
   pub waits : (v : ℕ) (way : Known) → ¬ IsMarked settled v → slice_get known v ≡ Some (Some way)
       → HasTicket heap (ticket_of v way)
   pub stale : (ticket : Ticket) → HasTicket heap ticket → IsStale known ticket

@@ -4,7 +4,7 @@ ghost use Rattle.std.specs.Prelude.{◌≡◌, ◌<◌, ◌^◌, ◌↔◌, IsTr
 ghost use Rattle.std.specs.BinaryHeap.{heap_items};
 ghost use Rattle.area_graph.specs.AreaInvariant.{IsArea};
 ghost use Rattle.area_graph.specs.Starts.{AreStarts};
-ghost use Rattle.primary_alt.specs.Known.{AreOffered, AreTicketed, IsOne, comes_first};
+ghost use Rattle.primary_alt.specs.Known.{AreNear, AreOffered, AreTicketed, IsOne, comes_first, cost_so_far};
 ghost use Rattle.primary_alt.specs.Offers.{IsOffer, is_network, onward, way_over};
 ghost use Rattle.primary_alt.specs.declared.shortest.Known.{Known};
 
@@ -28,6 +28,7 @@ pub fn offer_all(
     requires small { (way : Known) → from.now ≡ Some way → way.cost < 2 ^ 31 }
     requires one_each { length known.old.items ≡ length area.now.ids }
     ensures offered { OnOk result (AreOffered (IsOffer area.now x from.now) known.old.items known.new.items) }
+    ensures near { OnOk result (AreNear (cost_so_far from.now) known.old.items known.new.items) }
     ensures ticketed { OnOk result (AreTicketed known.old.items known.new.items
         (heap_items waiting.old.heap) (heap_items waiting.new.heap)) }
 {
