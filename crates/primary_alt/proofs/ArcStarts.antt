@@ -37,7 +37,7 @@ starts_on s arcs =
 
 none_below_zero : (arcs : List Arc) → tally (λ arc. nat_lt arc.tail 0) arcs ≡ 0
 none_below_zero [] = refl
-none_below_zero (arc ∷ arcs) = none_below_zero arcs
+none_below_zero (arc ∷ arcs) = let e = le-ltb arc.tail 0 (omega arith) in rw e (omega (arith, none_below_zero arcs))
 
 pub starts_at_zero : (arcs : List Arc) → below 0 arcs ≡ 0
 starts_at_zero arcs = count_is_tally (λ (arc : Arc). nat_lt arc.tail 0) arcs ∙ none_below_zero arcs

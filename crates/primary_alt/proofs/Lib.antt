@@ -1,8 +1,11 @@
 pub mod ArcStarts
+pub mod ArcWalks
 pub mod ArcsOffered
 pub mod ColorSteps
 pub mod ColorsUse
 pub mod Gaining
 pub mod Offering
 pub mod Repairs
+pub mod Settled
 pub mod TicketOrder
+pub mod Unknown

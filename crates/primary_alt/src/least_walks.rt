@@ -1,11 +1,12 @@
 //! Primaries.
 
-ghost use Rattle.std.specs.Prelude.{◌<◌, IfOk, length};
+ghost use Rattle.std.specs.Prelude.{◌≡◌, ◌<◌, IfOk, length, map};
+ghost use Rattle.std.specs.Option.{option_map};
 ghost use Rattle.mrt_graph.specs.GraphInvariant.{IsNetwork};
 ghost use Rattle.primary_alt.specs.Primaries.{ArePrimaries};
 
 use crate::searching::search;
-use crate::shortest::Primary;
+use crate::shortest::{Known, Primary};
 use area_graph::{Area, Spot};
 use mrt_graph::NoMemory;
 use std::alloc::Global;
@@ -22,10 +23,25 @@ pub fn primaries(alloc: Global, area: &Area, source: Spot) -> Result<Vec<Option<
     ensures { IfOk result (λ entries. ArePrimaries area.now source entries.items) }
 {
     let known = search(alloc, area, source)?;
-    let mut entries: Vec<Option<Primary>> = known
-        .iter()
-        .map(|way| way.map(|way| way.primary))
-        .collect(alloc)?;
+    let mut entries = primaries_of(alloc, &known)?;
     entries[source.get() as usize] = None;
     Ok(entries)
+}
+
+/// How the known ways begin.
+fn primaries_of(alloc: Global, known: &[Option<Known>]) -> Result<Vec<Option<Primary>>, NoMemory>
+    ensures { IfOk result (λ entries. entries.items ≡ map (option_map (λ way. way.primary)) known.now) }
+{
+    let entries = known.iter().map(|way| primary_of(way)).collect(alloc)?;
+    Ok(entries)
+}
+
+/// How a known way begins.
+fn primary_of(way: &Option<Known>) -> Option<Primary>
+    ensures { result ≡ option_map (λ way. way.primary) way.now }
+{
+    match way {
+        Some(way) => Some(way.primary),
+        None => None,
+    }
 }

@@ -13,12 +13,13 @@ returns-then-not-settled-get-clause-some c =
     taking_finds c.args.settled.now (heap_items c.args.waiting.now.heap) _ (heap_items c.take.new.self.heap) c.in-Some.ticket
     c.loop-ticket.invariant c.in-Some.ensures.taken c.in-Some.ensures.least
     (c.requires c.in-Some.ticket (c.loop-ticket.invariant.from c.in-Some.ticket c.in-Some.ensures.taken.there))
-    ?
+    (λ marked. true≢false (sym marked ∙ subst (λ (i : ℕ). get_or c.args.settled.now i false ≡ false) c.get.ensures.value c.if-not-settled-get.true))
 
 pub loop-ticket-preserved : goal.loop-ticket-preserved
 loop-ticket-preserved c =
     taking_goes_on c.args.settled.now (heap_items c.args.waiting.now.heap) _ (heap_items c.take.new.self.heap) c.in-Some.ticket
-    c.loop-ticket.invariant c.in-Some.ensures.taken ?
+    c.loop-ticket.invariant c.in-Some.ensures.taken
+    (subst (λ (i : ℕ). get_or c.args.settled.now i false ≡ true) c.get.ensures.value c.if-not-settled-get.false)
 
 pub returns-clause-none : goal.returns-clause-none
 returns-clause-none c = taking_ends c.args.settled.now (heap_items c.args.waiting.now.heap) _ c.loop-ticket.invariant c.in_default.ensures.none
