@@ -20,11 +20,11 @@ use Rattle.primary_alt.specs.Offers.{is_network, is_networks}
 -- one arc more
 pub arc_onward : (arcs : List Arc) (walk : List Arc) (s u : ℕ) (arc : Arc) → ArcWalk arcs s walk u → Contains arcs arc → arc.tail ≡ u → ArcWalk arcs s (walk ++ arc ∷ []) arc.to
 arc_onward arcs [] s u arc w there tail = (there, tail ∙ sym w, refl)
-arc_onward arcs (a ∷ as) s u arc w there tail = (w.0, w.1.0, arc_onward arcs as a.to u arc w.1.1 there tail)
+arc_onward arcs (a ∷ more) s u arc w there tail = (w.0, w.1, arc_onward arcs more a.to u arc w.2 there tail)
 
 pub cost_onward : (walk : List Arc) (arc : Arc) → cost_of (walk ++ arc ∷ []) ≡ cost_of walk + arc.metric
 cost_onward [] arc = omega arith
-cost_onward (a ∷ as) arc = omega (arith, cost_onward as arc)
+cost_onward (a ∷ more) arc = omega (arith, cost_onward more arc)
 
 -- a walk from an arc on, as one from the arc's tail
 pub walk_from_arc : (arcs : List Arc) (k : ℕ) (arc : Arc) (s t : ℕ) (walk : List Arc) → slice_get arcs k ≡ Some arc → arc.tail ≡ s → ArcWalk arcs arc.to walk t
@@ -74,7 +74,7 @@ walk_costs area (arc ∷ more) s t kept network other w = elim (cases_eq arc.to 
   | inl here ↦
       let is = all_has (IsArc area.ids area.bonds) area.arcs arc kept.arcs_kept (has_from_contains area.arcs arc w.0) in
       omega (arith, to_network_costs area arc kept is (subst (λ (v : ℕ). IsNetwork area.ids v) (sym here) network))
-  | inr further ↦ omega (arith, walk_costs area more arc.to t kept network further w.1.1)
+  | inr further ↦ omega (arith, walk_costs area more arc.to t kept network further w.2)
 ]
 
 -- the test for a network

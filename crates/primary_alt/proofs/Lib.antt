@@ -4,8 +4,11 @@ pub mod ArcsOffered
 pub mod ColorSteps
 pub mod ColorsUse
 pub mod Gaining
+pub mod LeastWays
 pub mod Offering
+pub mod PrimariesFound
 pub mod Repairs
 pub mod Settled
 pub mod TicketOrder
+pub mod TripWalks
 pub mod Unknown

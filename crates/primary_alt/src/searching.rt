@@ -25,7 +25,8 @@ use std::alloc::Global;
 /// It takes time in proportion to the arcs, times the logarithm of their number.
 pub fn search(alloc: Global, area: &Area, source: Spot) -> Result<Vec<Option<Known>>, NoMemory>
     requires { source < length area.now.ids }
-    ensures { IfOk result (λ known. IsSettled area.now source known.items) }
+    ensures kept { IsArea area.now }
+    ensures settled { IfOk result (λ known. IsSettled area.now source known.items) }
 {
     let count = area.count() as usize;
     let starts = arc_starts(alloc, area)?;
