@@ -7,6 +7,7 @@ pub mod Gaining
 pub mod LeastWays
 pub mod Offering
 pub mod PrimariesFound
+pub mod PrimariesLead
 pub mod Repairs
 pub mod Settled
 pub mod TicketOrder
