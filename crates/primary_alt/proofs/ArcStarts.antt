@@ -1,6 +1,6 @@
 -- Where the arcs of each node begin.
-use Rattle.std.proofs.Common.{◌≡◌, ◌<◌, ◌≤◌, ◌+◌, ◌∙◌, ◌==◌, ℕ, true, false, List, [], ◌∷◌, length, inl, inr, refl, sym, arith}
-use Rattle.std.specs.Prelude.{nat_lt, count_by}
+use Rattle.std.proofs.Common.{◌≡◌, ◌+◌, ◌∙◌, ◌==◌, ℕ, List, [], ◌∷◌, length, inl, inr, refl, arith}
+use Rattle.std.specs.Prelude.{nat_lt}
 use Rattle.std.specs.List.{filter}
 use Rattle.std.proofs.lemmas.Bool.{cases_eq, cases_lt, eq-eqb, le-ltb, lt-ltb, ne_eqb}
 use Rattle.area_graph.specs.declared.area_types.Arc.{Arc}
@@ -32,8 +32,13 @@ share s (arc ∷ arcs) = elim (cases_lt arc.tail s) [
 -- the arcs of node s stand between those of lower nodes and the others
 pub starts_on : (s : ℕ) (arcs : List Arc) → below (s + 1) arcs ≡ below s arcs + length (filter (λ arc. arc.tail == s) arcs)
 starts_on s arcs =
-    omega (arith, count_is_tally (λ (arc : Arc). nat_lt arc.tail (s + 1)) arcs, count_is_tally (λ (arc : Arc). nat_lt arc.tail s) arcs,
-    length_is_tally (λ (arc : Arc). arc.tail == s) arcs, share s arcs)
+    omega (
+      arith,
+      count_is_tally (λ (arc : Arc). nat_lt arc.tail (s + 1)) arcs,
+      count_is_tally (λ (arc : Arc). nat_lt arc.tail s) arcs,
+      length_is_tally (λ (arc : Arc). arc.tail == s) arcs,
+      share s arcs,
+    )
 
 none_below_zero : (arcs : List Arc) → tally (λ arc. nat_lt arc.tail 0) arcs ≡ 0
 none_below_zero [] = refl

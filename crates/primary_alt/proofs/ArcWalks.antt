@@ -1,5 +1,5 @@
 -- Walks along arcs, their costs, and distances.
-use Rattle.std.proofs.Common.{◌≡◌, ◌≢◌, ◌<◌, ◌≤◌, ◌+◌, ◌∙◌, ◌⊎◌, ◌++◌, ℕ, true, false, List, [], ◌∷◌, Option, Some, None, slice_get, inl, inr, refl, sym, ap, subst, arith}
+use Rattle.std.proofs.Common.{◌≡◌, ◌≢◌, ◌≤◌, ◌+◌, ◌∙◌, ◌++◌, ℕ, true, false, List, [], ◌∷◌, Option, Some, None, slice_get, inl, inr, refl, sym, ap, subst, arith}
 use Rattle.std.specs.Prelude.{Contains}
 use Rattle.std.specs.Option.{option_map, option_map_or}
 use Rattle.std.proofs.lemmas.Bool.{cases_eq}
@@ -84,6 +84,7 @@ network_by_test ids n = go (slice_get ids n)
     by_kind : (k : Kind) → is_networks k ≡ true → k ≡ Network
     by_kind Router is = cc
     by_kind Network is = refl
+
     go : (o : Option NodeId) → option_map_or (λ id. is_networks id.kind) o false ≡ true → option_map (λ id. id.kind) o ≡ Some Network
     go None is = cc
     go (Some id) is = ap (λ (k : Kind). Some k) (by_kind id.kind is)
@@ -94,6 +95,7 @@ no_network_by_test ids n = go (slice_get ids n)
     by_kind : (k : Kind) → is_networks k ≡ false → k ≡ Network → ⊥
     by_kind Router is same = cc
     by_kind Network is same = cc
+
     go : (o : Option NodeId) → option_map_or (λ id. is_networks id.kind) o false ≡ false → option_map (λ id. id.kind) o ≡ Some Network → ⊥
     go None is same = cc
     go (Some id) is same = by_kind id.kind is (same_Some id.kind Network same)

@@ -1,12 +1,12 @@
 -- Of an accepted certificate, each color leads on from each node to a node of the graph.
-use Rattle.std.proofs.Common.{◌≡◌, ◌≢◌, ◌<◌, ◌∙◌, ℕ, List, Option, Some, None, length, refl, sym, ap, subst}
+use Rattle.std.proofs.Common.{◌≡◌, ◌≢◌, ◌<◌, ℕ, List, Option, Some, None, length, ap, subst}
 use Rattle.std.specs.Prelude.{IfSome, IsSome}
-use Rattle.std.specs.Option.{option_and_then, option_map}
+use Rattle.std.specs.Option.{option_map}
 use Rattle.mrt_graph.specs.declared.cert.Color.{Color}
 use Rattle.mrt_graph.specs.declared.cert.Row.{Row}
 use Rattle.mrt_graph.specs.declared.link.Link.{Link}
 use Rattle.mrt_graph.specs.Certificate.{Certificate, row_of}
-use Rattle.mrt_graph.specs.Hop.{Hop, color_hop, hop_over}
+use Rattle.mrt_graph.specs.Hop.{Hop, color_hop}
 use Rattle.mrt_graph.specs.Leads.{leads}
 use Rattle.mrt_graph.specs.Rows.{Rows, link_of_color}
 use Rattle.mrt_graph.specs.Rules.{GraphRule}
@@ -36,6 +36,7 @@ hop_found links rows color s t row to is some found = rw is (go (leads links (li
   where
     made : Option ℕ → Option Hop
     made o = option_map (λ v. record { link = link_of_color color row; to = v }) o
+
     go : (o : Option ℕ) → IsSome (made o)
         → IfSome (made o) (λ hop. hop.to ≡ to)
         → made o ≡ Some (record { link = link_of_color color row; to = to })

@@ -1,16 +1,15 @@
 -- Tickets that a heap gains, and the first of its tickets.
-use Rattle.std.proofs.Common.{◌≡◌, ◌⊎◌, ◌<◌, ℕ, Bool, true, false, List, [], ◌∷◌, length, get_or, inl, inr, refl, sym, ◌∙◌, ap, subst, true≢false}
-use Rattle.std.specs.Prelude.{Contains, IsPermutation}
+use Rattle.std.proofs.Common.{◌≡◌, ◌<◌, Bool, false, List, ◌∷◌, length, get_or, inl, inr, refl, sym, ◌∙◌, ap, subst, true≢false}
+use Rattle.std.specs.Prelude.{IsPermutation}
 use Rattle.std.specs.BinaryHeap.{IsUpperBound, lt_by_cmp}
-use Rattle.std.specs.List.{AllByRecursion}
 use Rattle.std.specs.declared.cmp.Reverse.{Reverse}
 use Rattle.std.proofs.lemmas.Bool.{cases_Bool}
 use Rattle.std.proofs.lemmas.List.Elements.{All-contains, All-from_recursion}
 use Rattle.std.proofs.lemmas.List.Sorted.{Contains-permutation, IsPermutation-sym}
-use Rattle.mrt_graph.proofs.Members.{contains_cases, contains_first, contains_later, contains_none}
+use Rattle.mrt_graph.proofs.Members.{contains_cases, contains_first, contains_later}
 use Rattle.mrt_graph.specs.Search.{IsMarked}
 use Rattle.primary_alt.specs.declared.waiting.Ticket.{Ticket}
-use Rattle.primary_alt.specs.Tickets.{AreNoEarlier, Gains, HasTicket, IsNextOf, IsNoAfter, ticket_cmp}
+use Rattle.primary_alt.specs.Tickets.{AreNoEarlier, Gains, HasTicket, IsNextOf, ticket_cmp}
 use Rattle.primary_alt.proofs.TicketOrder.{least_ticket}
 
 pub gains_of : (ticket : Reverse Ticket) (before after : List (Reverse Ticket)) → IsPermutation (ticket ∷ before) after → Gains ticket.0 before after

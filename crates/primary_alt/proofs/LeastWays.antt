@@ -1,7 +1,6 @@
 -- Where the search has settled, no walk comes before the way that is known.
-use Rattle.std.proofs.Common.{◌≡◌, ◌≢◌, ◌<◌, ◌≤◌, ◌+◌, ◌∙◌, ◌⊎◌, ℕ, Bool, true, false, List, [], ◌∷◌, Option, Some, None, slice_get, inl, inr, refl, sym, ap, subst, arith, true≢false}
-use Rattle.std.specs.Prelude.{Contains}
-use Rattle.std.proofs.lemmas.Bool.{cases_Bool, cases_eq, cases_lt}
+use Rattle.std.proofs.Common.{◌≡◌, ◌<◌, ◌≤◌, ◌+◌, ◌∙◌, ℕ, Bool, true, false, List, [], ◌∷◌, Option, Some, None, slice_get, inl, inr, refl, sym, ap, subst, arith, true≢false}
+use Rattle.std.proofs.lemmas.Bool.{cases_Bool}
 use Rattle.std.proofs.lemmas.Option.{same_Some}
 use Rattle.area_graph.specs.declared.area_types.Arc.{Arc}
 use Rattle.area_graph.specs.AreaInvariant.{IsArea}
@@ -11,11 +10,10 @@ use Rattle.mrt_graph.proofs.ListPlaces.{place_of}
 use Rattle.primary_alt.specs.declared.shortest.Known.{Known}
 use Rattle.primary_alt.specs.ArcWalk.{ArcWalk, cost_of}
 use Rattle.primary_alt.specs.Known.{IsKnown, IsNoLater}
-use Rattle.primary_alt.specs.Offers.{First, Further, IsOffer, IsTrip, is_network, way_over}
+use Rattle.primary_alt.specs.Offers.{First, Further, IsTrip, is_network, way_over}
 use Rattle.primary_alt.specs.Settling.{IsSettled}
-use Rattle.primary_alt.specs.Tickets.{IsNoAfter, rank, ticket_of}
 use Rattle.primary_alt.proofs.ArcWalks.{arc_kept, arc_moves, network_by_test, to_network_costs}
-use Rattle.primary_alt.proofs.Offering.{known_later, no_later_on, no_later_self}
+use Rattle.primary_alt.proofs.Offering.{known_later}
 
 -- a way of this cost that begins with these arcs
 abbrev pub way_of : ℕ → ℕ → Option ℕ → Known
@@ -84,7 +82,7 @@ module _ (area : AreaParts) (s : ℕ) (known : List (Option Known)) (kept : IsAr
   onward k0 arc0 first_there second x cost k arc clear at there tail =
       let best = at.best in
       let offered = is.passed x arc.to best (way_over area.ids (Some best) k arc) at.there
-          (record { number = k; offer = record { arc = arc; there = there; tail = tail; to = refl; same = refl } }) in
+      (record { number = k; offer = record { arc = arc; there = there; tail = tail; to = refl; same = refl } }) in
       known_later known arc.to (way_over area.ids (Some best) k arc) (way_of (cost + arc.metric) k0 second) offered
       (arc_no_later area.ids best k arc cost k0 second best.at_network refl
       (λ same_cost same_first still.
@@ -133,9 +131,9 @@ module _ (area : AreaParts) (s : ℕ) (known : List (Option Known)) (kept : IsAr
       let at = first_known k0 arc0 there0 tail0 in
       let best = at.best in
       let offered = is.passed arc0.to arc1.to best (way_over area.ids (Some best) k1 arc1) at.there
-          (record { number = k1; offer = record { arc = arc1; there = there1; tail = tail1; to = refl; same = refl } }) in
+      (record { number = k1; offer = record { arc = arc1; there = there1; tail = tail1; to = refl; same = refl } }) in
       let next = known_later known arc1.to (way_over area.ids (Some best) k1 arc1) (way_of (arc0.metric + arc1.metric) k0 (Some k1)) offered
-          (second_no_later area.ids best k1 arc1 arc0.metric k0 best.at_network refl at.no_later) in
+      (second_no_later area.ids best k1 arc1 arc0.metric k0 best.at_network refl at.no_later) in
       let same : (arc0.metric + arc1.metric) + cost_of walk ≡ arc0.metric + (arc1.metric + cost_of walk) = omega arith in
       subst (λ (n : ℕ). IsKnown known t (way_of n k0 (Some k1))) same
       (along k0 arc0 there0 (Some k1) walk arc1.to t (arc0.metric + arc1.metric)

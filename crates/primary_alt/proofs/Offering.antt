@@ -1,5 +1,5 @@
 -- Offers of ways to nodes: the way that comes first is kept.
-use Rattle.std.proofs.Common.{◌≡◌, ◌≢◌, ◌<◌, ◌≤◌, ◌==◌, ◌+◌, ◌∙◌, ◌⊎◌, ℕ, true, false, List, Option, Some, None, length, set, slice_get, inl, inr, refl, sym, subst, arith}
+use Rattle.std.proofs.Common.{◌≡◌, ◌<◌, ◌+◌, ◌∙◌, ℕ, true, false, List, Option, Some, None, length, set, slice_get, inl, inr, refl, sym, subst, arith}
 use Rattle.std.specs.declared.cmp.Reverse.{Reverse}
 use Rattle.std.proofs.lemmas.Bool.{cases_eq, cases_lt}
 use Rattle.std.proofs.lemmas.List.{length-set}
@@ -7,8 +7,8 @@ use Rattle.std.proofs.lemmas.Option.{same_Some, slice_get_within}
 use Rattle.mrt_graph.proofs.ListPlaces.{set_elsewhere, set_there}
 use Rattle.primary_alt.specs.declared.shortest.Known.{Known}
 use Rattle.primary_alt.specs.declared.waiting.Ticket.{Ticket}
-use Rattle.primary_alt.specs.Known.{AreOffered, AreTicketed, IsEarlier, IsKnown, IsNoLater, IsOne, IsStale, comes_first}
-use Rattle.primary_alt.specs.Tickets.{Gains, HasTicket, IsNoAfter, ticket_of}
+use Rattle.primary_alt.specs.Known.{AreOffered, AreTicketed, IsKnown, IsNoLater, IsOne, IsStale, comes_first}
+use Rattle.primary_alt.specs.Tickets.{Gains, HasTicket, ticket_of}
 use Rattle.primary_alt.proofs.TicketOrder.{first_earlier, first_no_later, no_after_on, no_after_self, other_no_later}
 
 pub no_later_self : (a : Known) → IsNoLater a a
@@ -36,9 +36,12 @@ offer_taken known to way old at holds = record {
   from = λ v found is. elim (cases_eq v to) [
     | inl same ↦
         let is_way : found ≡ way = same_found found (same_Some (Some way) (Some found) (sym now ∙ subst (λ (x : ℕ). slice_get (set known to (Some way)) x ≡ Some (Some found)) same is)) in
-        inr (record { node = same; same = is_way }, λ best was late.
-        let had : old ≡ Some best = same_Some old (Some best) (sym at ∙ subst (λ (x : ℕ). slice_get known x ≡ Some (Some best)) same was) in
-        first_earlier way best (subst (λ (o : Option Known). comes_first way o ≡ true) had holds) (subst (λ (w : Known). IsNoLater best w) is_way late))
+        inr (
+          record { node = same; same = is_way },
+          λ best was late.
+              let had : old ≡ Some best = same_Some old (Some best) (sym at ∙ subst (λ (x : ℕ). slice_get known x ≡ Some (Some best)) same was) in
+              first_earlier way best (subst (λ (o : Option Known). comes_first way o ≡ true) had holds) (subst (λ (w : Known). IsNoLater best w) is_way late),
+        )
     | inr other ↦ inl (sym (set_elsewhere known to v (Some way) other) ∙ is)
   ];
   kept = λ v found is. elim (cases_eq v to) [

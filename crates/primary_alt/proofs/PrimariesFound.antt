@@ -1,5 +1,5 @@
 -- The ways that the search settles begin as primaries do.
-use Rattle.std.proofs.Common.{◌≡◌, ◌≢◌, ◌<◌, ◌≤◌, ◌+◌, ◌∙◌, ◌⊎◌, ℕ, Bool, true, false, List, [], ◌∷◌, Option, Some, None, length, map, set, slice_get, inl, inr, refl, sym, ap, subst, arith, true≢false}
+use Rattle.std.proofs.Common.{◌≡◌, ◌≢◌, ◌<◌, ◌≤◌, ◌+◌, ◌∙◌, ℕ, List, [], ◌∷◌, Option, Some, None, length, map, set, slice_get, inl, inr, refl, sym, ap, subst, arith}
 use Rattle.std.specs.Option.{option_map}
 use Rattle.std.proofs.lemmas.Bool.{cases_eq}
 use Rattle.std.proofs.lemmas.List.{length-map, length-set}
@@ -8,19 +8,18 @@ use Rattle.area_graph.specs.declared.area_types.Arc.{Arc}
 use Rattle.area_graph.specs.AreaInvariant.{IsArea}
 use Rattle.area_graph.specs.Parts.{AreaParts}
 use Rattle.mrt_graph.specs.GraphInvariant.{IsNetwork}
-use Rattle.mrt_graph.proofs.ListPlaces.{contains_at, place_of, set_elsewhere, set_there}
+use Rattle.mrt_graph.proofs.ListPlaces.{place_of, set_elsewhere, set_there}
 use Rattle.primary_alt.specs.declared.shortest.Known.{Known}
 use Rattle.primary_alt.specs.declared.shortest.Primary.{Primary}
 use Rattle.primary_alt.specs.ArcWalk.{ArcWalk, cost_of}
 use Rattle.primary_alt.specs.Distance.{IsDistance}
 use Rattle.primary_alt.specs.Known.{IsKnown, IsNoLater}
-use Rattle.primary_alt.specs.Offers.{is_network}
-use Rattle.primary_alt.specs.Primaries.{ArePrimaries, BeginsShortest, Direct, IsFirstArc, IsPrimary, Itself, LeadsOver, NoWalk, Over}
+use Rattle.primary_alt.specs.Primaries.{ArePrimaries, Direct, IsFirstArc, IsPrimary, Itself, NoWalk, Over}
 use Rattle.primary_alt.specs.Settling.{IsSettled}
-use Rattle.primary_alt.specs.Tickets.{IsNoAfter, rank, ticket_of}
+use Rattle.primary_alt.specs.Tickets.{rank}
 use Rattle.primary_alt.proofs.ArcWalks.{arc_kept, arc_moves, network_by_test, no_network_by_test, one_distance, walk_costs, walk_from_arc}
 use Rattle.primary_alt.proofs.LeastWays.{each_known, over_known, way_of}
-use Rattle.primary_alt.proofs.TripWalks.{Alone, IsAlone, IsOverOne, IsPlain, IsWalked, OverOne, Plain, Shape, walked}
+use Rattle.primary_alt.proofs.TripWalks.{Alone, IsOverOne, OverOne, Plain, Shape, walked}
 
 -- what is no later costs no more
 cost_upto : (one other : Known) → IsNoLater one other → one.cost ≤ other.cost
@@ -121,7 +120,7 @@ module _ (area : AreaParts) (s t : ℕ) (known : List (Option Known)) (kept : Is
             let same = one_distance area.arcs arc0.to t (arc1.metric + cost_of walk) (arc.metric + begins.rest) distance near in
             let least = over_known area s known kept is way.primary.first k arc0 arc there tail at_k from begins.far.walk t begins.far.leads in
             let upto = second_upto way (way_of (arc0.metric + (arc.metric + cost_of begins.far.walk)) way.primary.first (Some k)) (known_is way _ at least)
-                (omega (arith, cost, same, begins.far.costs)) refl in
+            (omega (arith, cost, same, begins.far.costs)) refl in
             let ranked : rank (Some number) ≤ rank (Some k) = subst (λ (o : Option ℕ). rank o ≤ rank (Some k)) second upto in
             omega (arith, ranked);
       }
@@ -202,7 +201,7 @@ all_primaries area s known entries kept is within same =
             subst (λ (e : Option Primary). IsPrimary area s t e) none (Itself here)
         | inr other ↦
             let old : slice_get (map begins known) t ≡ Some entry =
-                ap (λ (xs : List (Option Primary)). slice_get xs t) (sym same) ∙ sym (set_elsewhere entries s t None (λ e. other (sym e))) ∙ at in
+            ap (λ (xs : List (Option Primary)). slice_get xs t) (sym same) ∙ sym (set_elsewhere entries s t None (λ e. other (sym e))) ∙ at in
             let way = way_at known t entry (slice_get known t) refl (sym (slice_get-map begins known t) ∙ old) in
             subst (λ (e : Option Primary). IsPrimary area s t e) way.2 (of_known area s t known kept is other way.0 way.1)
       ];

@@ -10,7 +10,7 @@ use Rattle.mrt_graph.specs.GraphInvariant.{IsNetwork}
 use Rattle.primary_alt.specs.declared.shortest.Primary.{Primary}
 use Rattle.primary_alt.specs.ArcWalk.{ArcWalk}
 use Rattle.primary_alt.specs.Distance.{IsDistance}
-use Rattle.primary_alt.specs.Primaries.{BeginsShortest, Direct, IsFirstArc, IsPrimary, Itself, LeadsOver, NoWalk, Over}
+use Rattle.primary_alt.specs.Primaries.{Direct, IsFirstArc, IsPrimary, Itself, LeadsOver, NoWalk, Over}
 use Rattle.primary_alt.proofs.ArcWalks.{arc_kept, one_distance, to_network}
 
 -- there is one first arc
@@ -52,7 +52,7 @@ from_over area s t n k arc onward other apart first over second (Direct n' arc' 
     absurd (direct' (subst (λ (a : Arc). LeadsOver area t a) (same_arc area.arcs s t n n' arc arc' first first') over))
 from_over area s t n k arc onward other apart first over second (Over n' k' arc' onward' apart' first' over' second') =
     let second'' : IsFirstArc area.arcs arc.to t k' onward' =
-        subst (λ (a : Arc). IsFirstArc area.arcs a.to t k' onward') (sym (same_arc area.arcs s t n n' arc arc' first first')) second' in
+    subst (λ (a : Arc). IsFirstArc area.arcs a.to t k' onward') (sym (same_arc area.arcs s t n n' arc arc' first first')) second' in
     ap (λ (x : ℕ). made x (Some k) onward.to) (same_number area.arcs s t n n' arc arc' first first')
     ∙ ap (λ (x : ℕ). made n' (Some x) onward.to) (same_number area.arcs arc.to t k k' onward onward' second second'')
     ∙ ap (λ (a : Arc). made n' (Some k') a.to) (same_arc area.arcs arc.to t k k' onward onward' second second'')
@@ -112,7 +112,7 @@ falls : (area : AreaParts) (s t distance : ℕ) (primary : Primary) → IsArea a
     → (rest : ℕ) × IsDistance area.arcs primary.next t rest × (rest < distance)
 falls area s t distance primary kept router d (ByOne n arc first direct next) =
     let near : IsDistance area.arcs s t (arc.metric + first.shortest.rest) =
-        subst (λ (v : ℕ). IsDistance area.arcs v t (arc.metric + first.shortest.rest)) first.from first.shortest.near in
+    subst (λ (v : ℕ). IsDistance area.arcs v t (arc.metric + first.shortest.rest)) first.from first.shortest.near in
     let same = one_distance area.arcs s t distance (arc.metric + first.shortest.rest) d near in (
       first.shortest.rest,
       subst (λ (v : ℕ). IsDistance area.arcs v t first.shortest.rest) (sym next) first.shortest.far,
@@ -120,10 +120,10 @@ falls area s t distance primary kept router d (ByOne n arc first direct next) =
     )
 falls area s t distance primary kept router d (ByTwo n k arc onward first over second next) =
     let near : IsDistance area.arcs s t (arc.metric + first.shortest.rest) =
-        subst (λ (v : ℕ). IsDistance area.arcs v t (arc.metric + first.shortest.rest)) first.from first.shortest.near in
+    subst (λ (v : ℕ). IsDistance area.arcs v t (arc.metric + first.shortest.rest)) first.from first.shortest.near in
     let same = one_distance area.arcs s t distance (arc.metric + first.shortest.rest) d near in
     let near' : IsDistance area.arcs arc.to t (onward.metric + second.shortest.rest) =
-        subst (λ (v : ℕ). IsDistance area.arcs v t (onward.metric + second.shortest.rest)) second.from second.shortest.near in
+    subst (λ (v : ℕ). IsDistance area.arcs v t (onward.metric + second.shortest.rest)) second.from second.shortest.near in
     let same' = one_distance area.arcs arc.to t first.shortest.rest (onward.metric + second.shortest.rest) first.shortest.far near' in (
       second.shortest.rest,
       subst (λ (v : ℕ). IsDistance area.arcs v t second.shortest.rest) (sym next) second.shortest.far,

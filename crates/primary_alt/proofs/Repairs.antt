@@ -1,10 +1,10 @@
 -- What an alternate gives, where both color walks reach their destination and share only what separates.
-use Rattle.std.proofs.Common.{◌≡◌, ◌≢◌, ◌<◌, ◌↔◌, ◌⊎◌, ℕ, List, Option, Some, None, length, inl, inr, refl, subst}
+use Rattle.std.proofs.Common.{◌≡◌, ◌↔◌, ◌⊎◌, ℕ, List, Option, Some, None, inl, inr, refl}
 use Rattle.mrt_graph.specs.declared.cert.Color.{Color}
 use Rattle.mrt_graph.specs.declared.cert.Color.TheVariants.{Blue, Red}
 use Rattle.mrt_graph.specs.declared.link.Element.{Element}
 use Rattle.mrt_graph.specs.declared.link.Link.{Link}
-use Rattle.mrt_graph.specs.Alternate.{AtEnd, ByBlue, ByRed, IsAlternate, OnBoth, UsesOn}
+use Rattle.mrt_graph.specs.Alternate.{AtEnd, ByBlue, ByRed, IsAlternate, OnBoth}
 use Rattle.mrt_graph.specs.ColorWalk.{color_walk}
 use Rattle.mrt_graph.specs.Rows.{Rows}
 use Rattle.mrt_graph.specs.Separates.{IsNeitherEnd, Separates}

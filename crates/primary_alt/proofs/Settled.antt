@@ -1,23 +1,21 @@
 -- The search, from one node to the next: what it keeps.
-use Rattle.std.proofs.Common.{◌≡◌, ◌≢◌, ◌<◌, ◌≤◌, ◌+◌, ◌*◌, ◌∙◌, ◌⊎◌, ℕ, Bool, true, false, List, Option, Some, None, get_or, length, set, slice_get, cond, not, inl, inr, refl, sym, ap, subst, arith, true≢false}
+use Rattle.std.proofs.Common.{◌≡◌, ◌<◌, ◌≤◌, ◌+◌, ◌∙◌, ◌⊎◌, ℕ, Bool, true, false, List, Option, Some, None, get_or, length, set, slice_get, cond, not, inl, inr, refl, sym, ap, subst, arith, true≢false}
 use Rattle.std.specs.declared.cmp.Reverse.{Reverse}
-use Rattle.std.proofs.lemmas.Bool.{cases_Bool, cases_eq, cases_lt}
-use Rattle.std.proofs.lemmas.List.{length-set, get_or-set_same, get_or-set_other}
+use Rattle.std.proofs.lemmas.Bool.{cases_Bool, cases_lt}
+use Rattle.std.proofs.lemmas.List.{length-set, get_or-set_same}
 use Rattle.std.proofs.lemmas.List.Sums.{sum_by-set}
-use Rattle.std.proofs.lemmas.Option.{same_Some, slice_get_within}
-use Rattle.area_graph.specs.declared.area_types.Arc.{Arc}
+use Rattle.std.proofs.lemmas.Option.{same_Some}
 use Rattle.area_graph.specs.Parts.{AreaParts}
-use Rattle.mrt_graph.specs.declared.node_id.NodeId.{NodeId}
 use Rattle.mrt_graph.specs.Search.{IsMarked, unmarked}
 use Rattle.mrt_graph.proofs.Searching.{mark_kept, mark_set}
 use Rattle.primary_alt.specs.declared.shortest.Known.{Known}
 use Rattle.primary_alt.specs.declared.shortest.Primary.{Primary}
 use Rattle.primary_alt.specs.declared.waiting.Ticket.{Ticket}
-use Rattle.primary_alt.specs.Known.{AreNear, AreOffered, AreTicketed, IsKnown, IsNoLater, IsStale, cost_so_far}
-use Rattle.primary_alt.specs.Offers.{IsOffer, IsTrip, First, Further, is_network, onward, way_over}
+use Rattle.primary_alt.specs.Known.{AreNear, AreOffered, AreTicketed, IsKnown, IsNoLater}
+use Rattle.primary_alt.specs.Offers.{IsOffer, IsTrip, First, Further, onward}
 use Rattle.primary_alt.specs.Settling.{IsSearching, IsSettled}
 use Rattle.primary_alt.specs.Tickets.{HasTicket, IsNextOf, IsNoAfter, rank, ticket_of}
-use Rattle.primary_alt.proofs.Offering.{known_still, known_there, no_later_on, no_later_self, stale_still}
+use Rattle.primary_alt.proofs.Offering.{known_still, no_later_on, stale_still}
 use Rattle.primary_alt.proofs.TicketOrder.{no_after_on}
 
 -- a walk of one arc to a network has no second arc

@@ -1,5 +1,5 @@
 -- Of two tickets, and of two ways, one does not come after the other, as the tests tell.
-use Rattle.std.proofs.Common.{◌≡◌, ◌<◌, ◌≤◌, ◌+◌, ◌∙◌, ◌⊎◌, ℕ, true, false, Option, Some, None, inl, inr, refl, sym, arith}
+use Rattle.std.proofs.Common.{◌≡◌, ◌<◌, ◌≤◌, ◌∙◌, ◌⊎◌, ℕ, true, false, Option, Some, None, inl, inr, refl, sym, arith}
 use Rattle.std.specs.Cmp.{nat_cmp_is}
 use Rattle.std.specs.Option.{option_cmp}
 use Rattle.std.specs.Ordering.{is_lt, nat_cmp, ordering_then}
@@ -10,7 +10,7 @@ use Rattle.std.proofs.lemmas.Map.Keys.{ge_from_not_lt}
 use Rattle.mrt_graph.proofs.Ties.{first_not_lt, less_not_equal, nat_tie, second_not_lt, tie_of_equals}
 use Rattle.primary_alt.specs.declared.shortest.Known.{Known}
 use Rattle.primary_alt.specs.declared.waiting.Ticket.{Ticket}
-use Rattle.primary_alt.specs.Known.{IsNoLater, comes_first, way_cmp}
+use Rattle.primary_alt.specs.Known.{IsNoLater, comes_first}
 use Rattle.primary_alt.specs.Tickets.{IsNoAfter, rank, ticket_cmp, ticket_of}
 
 pub no_after_self : (x : Ticket) → IsNoAfter x x
@@ -21,13 +21,16 @@ no_after_on x y z xy yz = elim xy [
   | inl less ↦ elim yz [ inl less' ↦ inl (omega (arith, less, less')) | inr tie' ↦ inl (omega (arith, less, tie'.0)) ]
   | inr tie ↦ elim yz [
     | inl less' ↦ inl (omega (arith, tie.0, less'))
-    | inr tie' ↦ inr (tie.0 ∙ tie'.0, elim tie.1 [
-      | inl low ↦ elim tie'.1 [ inl low' ↦ inl (omega (arith, low, low')) | inr same' ↦ inl (omega (arith, low, same'.0)) ]
-      | inr same ↦ elim tie'.1 [
-        | inl low' ↦ inl (omega (arith, same.0, low'))
-        | inr same' ↦ inr (same.0 ∙ same'.0, omega (arith, same.1, same'.1))
-      ]
-    ])
+    | inr tie' ↦ inr (
+      tie.0 ∙ tie'.0,
+      elim tie.1 [
+        | inl low ↦ elim tie'.1 [ inl low' ↦ inl (omega (arith, low, low')) | inr same' ↦ inl (omega (arith, low, same'.0)) ]
+        | inr same ↦ elim tie'.1 [
+          | inl low' ↦ inl (omega (arith, same.0, low'))
+          | inr same' ↦ inr (same.0 ∙ same'.0, omega (arith, same.1, same'.1))
+        ]
+      ],
+    )
   ]
 ]
 
@@ -46,10 +49,13 @@ not_after x y o h third =
       | inl same ↦
           let rest = second_not_lt (nat_cmp y.cost x.cost) _ (tie_of_equals y.cost x.cost (sym same)) h in
           let first : x.first ≤ y.first = ge_from_not_lt y.first x.first (first_not_lt (nat_cmp y.first x.first) o rest) in
-          inr (same, elim (cases_eq x.first y.first) [
-            | inr other ↦ inl (omega (arith, first, other))
-            | inl same' ↦ inr (same', third (second_not_lt (nat_cmp y.first x.first) o (tie_of_equals y.first x.first (sym same')) rest))
-          ])
+          inr (
+            same,
+            elim (cases_eq x.first y.first) [
+              | inr other ↦ inl (omega (arith, first, other))
+              | inl same' ↦ inr (same', third (second_not_lt (nat_cmp y.first x.first) o (tie_of_equals y.first x.first (sym same')) rest))
+            ],
+          )
     ]
 
 -- less by a test
@@ -88,10 +94,13 @@ before : (x y : Ticket) (o : Ordering) → is_lt (ordering_then (nat_cmp x.cost 
     → (is_lt o ≡ true → rank x.second < rank y.second) → IsBefore x y
 before x y o h third = elim (less_parts (nat_cmp x.cost y.cost) (ordering_then (nat_cmp x.first y.first) o) h) [
   | inl less ↦ inl (lower x.cost y.cost (nat_cmp x.cost y.cost) refl less)
-  | inr tie ↦ inr (nat_tie x.cost y.cost tie.0, elim (less_parts (nat_cmp x.first y.first) o tie.1) [
-    | inl less ↦ inl (lower x.first y.first (nat_cmp x.first y.first) refl less)
-    | inr tie' ↦ inr (nat_tie x.first y.first tie'.0, third tie'.1)
-  ])
+  | inr tie ↦ inr (
+    nat_tie x.cost y.cost tie.0,
+    elim (less_parts (nat_cmp x.first y.first) o tie.1) [
+      | inl less ↦ inl (lower x.first y.first (nat_cmp x.first y.first) refl less)
+      | inr tie' ↦ inr (nat_tie x.first y.first tie'.0, third tie'.1)
+    ],
+  )
 ]
 
 before_no_after : (x y : Ticket) → IsBefore x y → IsNoAfter x y

@@ -1,12 +1,12 @@
 -- The walk of a way that is known, by its first arc, and by its second one at a network.
-use Rattle.std.proofs.Common.{◌≡◌, ◌≢◌, ◌<◌, ◌≤◌, ◌+◌, ◌∙◌, ◌++◌, ℕ, Bool, true, false, List, [], ◌∷◌, Option, Some, None, slice_get, refl, sym, ap, subst, arith}
+use Rattle.std.proofs.Common.{◌≡◌, ◌+◌, ◌∙◌, ◌++◌, ℕ, Bool, true, false, List, [], ◌∷◌, Some, None, slice_get, refl, sym, ap, subst, arith}
 use Rattle.area_graph.specs.declared.area_types.Arc.{Arc}
 use Rattle.area_graph.specs.Parts.{AreaParts}
 use Rattle.mrt_graph.proofs.ListPlaces.{contains_at}
 use Rattle.primary_alt.specs.declared.shortest.Known.{Known}
 use Rattle.primary_alt.specs.declared.shortest.Primary.{Primary}
 use Rattle.primary_alt.specs.ArcWalk.{ArcWalk, cost_of}
-use Rattle.primary_alt.specs.Offers.{First, Further, IsOffer, IsTrip, is_network, onward, way_over}
+use Rattle.primary_alt.specs.Offers.{First, Further, IsTrip, is_network, onward, way_over}
 use Rattle.primary_alt.proofs.ArcWalks.{arc_onward, cost_onward}
 
 -- one arc alone

@@ -43,7 +43,12 @@ pub fn offer_all(
 }
 
 /// Offers a way to a node: it is kept where it comes first, and the node gets a ticket.
-fn offer(way: &Known, to: Spot, known: &mut Vec<Option<Known>>, waiting: &mut Waiting) -> Result<(), NoMemory>
+fn offer(
+    way: &Known,
+    to: Spot,
+    known: &mut Vec<Option<Known>>,
+    waiting: &mut Waiting,
+) -> Result<(), NoMemory>
     requires { to < length known.old.items }
     ensures offered { OnOk result (AreOffered (IsOne to way.now) known.old.items known.new.items) }
     ensures ticketed { OnOk result (AreTicketed known.old.items known.new.items

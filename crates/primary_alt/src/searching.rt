@@ -33,7 +33,14 @@ pub fn search(alloc: Global, area: &Area, source: Spot) -> Result<Vec<Option<Kno
     let mut settled = vec![in alloc; false; count]?;
     let mut known = nothing_known(alloc, &settled)?;
     let mut waiting = Waiting::new(alloc, starts[count])?;
-    settle(area, &starts, source, &mut known, &mut settled, &mut waiting)?;
+    settle(
+        area,
+        &starts,
+        source,
+        &mut known,
+        &mut settled,
+        &mut waiting,
+    )?;
     Ok(known)
 }
 

@@ -23,9 +23,9 @@ pub loop-s-preserved : goal.loop-s-preserved
 loop-s-preserved c =
     let arcs = c.args.area.now.arcs in
     let row : c.arcs.result.now ≡ filter (λ (arc : Arc). arc.tail == c.loop-s.s) arcs =
-        c.arcs.ensures.value ∙ ap (λ (n : ℕ). filter (λ (arc : Arc). arc.tail == n) arcs) c.new.ensures in
+    c.arcs.ensures.value ∙ ap (λ (n : ℕ). filter (λ (arc : Arc). arc.tail == n) arcs) c.new.ensures in
     let next : c.loop-s.at + length c.arcs.result.now ≡ below (c.loop-s.s + 1) arcs =
-        omega (arith, c.loop-s.invariant.at, ap (λ (xs : List Arc). length xs) row, starts_on c.loop-s.s arcs) in
+    omega (arith, c.loop-s.invariant.at, ap (λ (xs : List Arc). length xs) row, starts_on c.loop-s.s arcs) in
     record {
       count = c.loop-s.invariant.count;
       filled = c.push_reserved-in-loop-s.ensures.items

@@ -1,4 +1,4 @@
-use Rattle.std.proofs.Common.{◌<◌, ◌∙◌, ℕ, List, sym, subst, ap}
+use Rattle.std.proofs.Common.{◌<◌, ℕ, sym, subst}
 use Rattle.mrt_graph.specs.Certificate.{row_of}
 use Rattle.primary_alt.proofs.ColorSteps.{counts, hop_found, hop_there, hop_within}
 use Rattle.primary_alt.proofs.color_uses.onward.Goals as goal

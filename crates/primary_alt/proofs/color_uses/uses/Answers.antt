@@ -1,6 +1,5 @@
-use Rattle.std.proofs.Common.{◌≡◌, ◌∙◌, arith, refl, sym, length, true≢false}
+use Rattle.std.proofs.Common.{◌∙◌, arith, refl, sym, length, true≢false}
 use Rattle.mrt_graph.specs.Certificate.{row_of}
-use Rattle.mrt_graph.specs.ColorWalk.{color_walk}
 use Rattle.mrt_graph.specs.Hop.{color_hop}
 use Rattle.mrt_graph.proofs.Bridge.{color_leads}
 use Rattle.primary_alt.proofs.ColorsUse.{agree, differ, way_begins, way_ends, way_goes_on, way_meets, way_stops}
@@ -10,7 +9,7 @@ pub loop-left-init : goal.loop-left-init
 loop-left-init c = (
   c.requires.source,
   rw (c.node_count-left.ensures.count) (way_begins c.args.g.now.links (color_hop c.args.g.now.links (row_of c.args.c.now) c.args.color c.args.t) c.args.t c.args.x.now c.args.s
-  (length c.args.g.now.ids) c.requires.between),
+      (length c.args.g.now.ids) c.requires.between),
 )
 
 pub returns-then-is_over : goal.returns-then-is_over
@@ -25,8 +24,8 @@ pub loop-left-preserved : goal.loop-left-preserved
 loop-left-preserved c = (
   c.onward-step.ensures.within,
   way_goes_on c.args.g.now.links _ (color_leads c.args.g.now.links (row_of c.args.c.now) c.args.color c.args.t) c.args.t c.args.x.now _ c.args.s
-  c.loop-left.left c.loop-left.at _ _ (omega (arith, c.loop-left-test.true)) (differ _ _ (sym c.ne.ensures ∙ c.if-ne.true)) c.onward-step.ensures.hop
-  (λ over. absurd (true≢false (sym (c.is_over.ensures.1 over) ∙ c.if-is_over.false))) c.loop-left.invariant.1,
+      c.loop-left.left c.loop-left.at _ _ (omega (arith, c.loop-left-test.true)) (differ _ _ (sym c.ne.ensures ∙ c.if-ne.true)) c.onward-step.ensures.hop
+      (λ over. absurd (true≢false (sym (c.is_over.ensures.1 over) ∙ c.if-is_over.false))) c.loop-left.invariant.1,
 )
 
 pub returns-else-ne : goal.returns-else-ne

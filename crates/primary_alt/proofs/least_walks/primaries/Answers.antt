@@ -1,7 +1,6 @@
-use Rattle.std.proofs.Common.{◌∙◌, List, Option, map, ap, subst}
+use Rattle.std.proofs.Common.{◌∙◌, List, Option, map, ap}
 use Rattle.std.specs.Option.{option_map}
 use Rattle.primary_alt.specs.declared.shortest.Known.{Known}
-use Rattle.primary_alt.specs.declared.shortest.Primary.{Primary}
 use Rattle.primary_alt.proofs.PrimariesFound.{all_primaries}
 use Rattle.primary_alt.proofs.least_walks.primaries.Goals as goal
 

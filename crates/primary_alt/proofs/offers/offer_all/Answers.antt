@@ -1,4 +1,4 @@
-use Rattle.std.proofs.Common.{◌≡◌, ◌≤◌, ◌<◌, ◌+◌, ◌∙◌, ℕ, List, Option, Some, get_or, length, slice_get, sym, ap, subst, arith}
+use Rattle.std.proofs.Common.{◌≡◌, ◌<◌, ◌+◌, ◌∙◌, ℕ, Some, get_or, length, slice_get, sym, ap, subst, arith}
 use Rattle.std.specs.BinaryHeap.{heap_items}
 use Rattle.area_graph.specs.Starts.{below}
 use Rattle.primary_alt.specs.declared.shortest.Known.{Known}
@@ -11,7 +11,7 @@ use Rattle.primary_alt.proofs.offers.offer_all.Goals as goal
 pub loop-number-init : goal.loop-number-init
 loop-number-init c =
     let low : get_or c.args.starts.now c.get-place.result 0 ≡ below c.args.x c.args.area.now.arcs =
-        start_is (length c.args.area.now.ids) c.args.area.now.arcs c.args.starts.now c.get-place.result c.args.x c.requires.starts c.get-place.ensures.value (omega (arith, c.requires.node)) in
+    start_is (length c.args.area.now.ids) c.args.area.now.arcs c.args.starts.now c.get-place.result c.args.x c.requires.starts c.get-place.ensures.value (omega (arith, c.requires.node)) in
     record {
       begun = omega (arith, low);
       one_each = c.requires.one_each;
@@ -38,11 +38,11 @@ loop-number-preserved c =
     let inv = c.loop-number.invariant in
     let there : slice_get area.arcs number ≡ Some arc = subst (λ (n : ℕ). slice_get area.arcs n ≡ Some arc) c.new-number.ensures c.arc-arc.ensures.value in
     let way : c.next_way-way.result ≡ way_over area.ids from number arc =
-        c.next_way-way.ensures ∙ ap (λ (n : ℕ). way_over area.ids from n arc) c.new-number.ensures in
+    c.next_way-way.ensures ∙ ap (λ (n : ℕ). way_over area.ids from n arc) c.new-number.ensures in
     let high : get_or c.args.starts.now (c.get-place.result + 1) 0 ≡ below (c.args.x + 1) area.arcs =
-        start_is (length area.ids) area.arcs c.args.starts.now (c.get-place.result + 1) (c.args.x + 1) c.requires.starts (ap (λ (n : ℕ). n + 1) c.get-place.ensures.value) (omega (arith, c.requires.node)) in
+    start_is (length area.ids) area.arcs c.args.starts.now (c.get-place.result + 1) (c.args.x + 1) c.requires.starts (ap (λ (n : ℕ). n + 1) c.get-place.ensures.value) (omega (arith, c.requires.node)) in
     let offered : AreOffered (IsOne arc.to (way_over area.ids from number arc)) c.loop-number.known.items c.offer.new.known.items =
-        subst (λ (w : Known). AreOffered (IsOne arc.to w) c.loop-number.known.items c.offer.new.known.items) way c.in_ok-offer.ensures.offered in
+    subst (λ (w : Known). AreOffered (IsOne arc.to w) c.loop-number.known.items c.offer.new.known.items) way c.in_ok-offer.ensures.offered in
     record {
       begun = omega (arith, inv.begun);
       one_each = offered.one_each ∙ inv.one_each;
@@ -58,6 +58,6 @@ pub returns-clause-offered : goal.returns-clause-offered
 returns-clause-offered c =
     let area = c.args.area.now in
     let high : get_or c.args.starts.now (c.get-place.result + 1) 0 ≡ below (c.args.x + 1) area.arcs =
-        start_is (length area.ids) area.arcs c.args.starts.now (c.get-place.result + 1) (c.args.x + 1) c.requires.starts (ap (λ (n : ℕ). n + 1) c.get-place.ensures.value) (omega (arith, c.requires.node)) in
+    start_is (length area.ids) area.arcs c.args.starts.now (c.get-place.result + 1) (c.args.x + 1) c.requires.starts (ap (λ (n : ℕ). n + 1) c.get-place.ensures.value) (omega (arith, c.requires.node)) in
     arcs_end area c.args.x c.args.from.now c.loop-number.number c.args.known.now.items c.loop-number.known.items c.requires.kept
     (omega (arith, c.loop-number-test.false, high)) c.loop-number.invariant.offered

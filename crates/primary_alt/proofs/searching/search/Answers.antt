@@ -1,4 +1,3 @@
-use Rattle.std.proofs.Common.{◌∙◌, length}
 use Rattle.primary_alt.proofs.Unknown.{none_known}
 use Rattle.primary_alt.proofs.searching.search.Goals as goal
 

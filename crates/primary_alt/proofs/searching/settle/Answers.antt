@@ -1,13 +1,11 @@
-use Rattle.std.proofs.Common.{◌≡◌, ◌<◌, ◌∙◌, ℕ, Bool, List, Option, Some, length, true, refl, sym, ap, subst, arith}
+use Rattle.std.proofs.Common.{◌<◌, Bool, List, Some, length, sym, subst, arith}
 use Rattle.std.specs.BinaryHeap.{heap_items}
-use Rattle.std.specs.Prelude.{set, slice_get}
 use Rattle.std.proofs.lemmas.List.Sums.{count_by-le-length}
 use Rattle.std.proofs.lemmas.Option.{slice_get_within}
-use Rattle.mrt_graph.specs.Search.{IsMarked, unmarked}
+use Rattle.mrt_graph.specs.Search.{IsMarked}
 use Rattle.primary_alt.specs.Settling.{IsSearching}
-use Rattle.primary_alt.specs.Tickets.{HasTicket, IsNextOf}
-use Rattle.primary_alt.specs.declared.waiting.Ticket.{Ticket}
-use Rattle.primary_alt.proofs.Settled.{search_begins, search_ends, turn_fewer, turn_known, turn_taken}
+use Rattle.primary_alt.specs.Tickets.{IsNextOf}
+use Rattle.primary_alt.proofs.Settled.{search_begins, search_ends, turn_known, turn_taken}
 use Rattle.primary_alt.proofs.searching.settle.Goals as goal
 
 pub loop-node-init : goal.loop-node-init
@@ -24,7 +22,7 @@ next_node-requires c = λ ticket has. let stale = c.loop-node.invariant.stale ti
 pub loop-node-preserved : goal.loop-node-preserved
 loop-node-preserved c =
     let next : IsNextOf c.loop-node.settled.items (heap_items c.loop-node.waiting.heap) (heap_items c.next_node.new.waiting.heap) c.in-Some.node =
-        subst (λ (marks : List Bool). IsNextOf marks (heap_items c.loop-node.waiting.heap) (heap_items c.next_node.new.waiting.heap) c.in-Some.node) c.deref.ensures.value c.in-Some.ensures.some in
+    subst (λ (marks : List Bool). IsNextOf marks (heap_items c.loop-node.waiting.heap) (heap_items c.next_node.new.waiting.heap) c.in-Some.node) c.deref.ensures.value c.in-Some.ensures.some in
     let from = turn_known c.args.area.now c.args.source c.loop-node.known.items c.loop-node.settled.items _ _ c.in-Some.node c.loop-node.invariant next in
     subst (λ (marks : List Bool). IsSearching c.args.area.now c.args.source c.take_turn.new.known.items marks (heap_items c.take_turn.new.waiting.heap)) (sym c.in_ok-take_turn.ensures.marked)
     (turn_taken c.args.area.now c.args.source c.loop-node.known.items c.take_turn.new.known.items c.loop-node.settled.items _ _ (heap_items c.take_turn.new.waiting.heap) c.in-Some.node from.0

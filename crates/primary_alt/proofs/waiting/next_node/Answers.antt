@@ -1,4 +1,4 @@
-use Rattle.std.proofs.Common.{◌≡◌, ◌∙◌, ◌<◌, ℕ, Bool, true, false, get_or, length, sym, subst, arith, true≢false}
+use Rattle.std.proofs.Common.{◌≡◌, ◌∙◌, ℕ, true, false, get_or, sym, subst, true≢false}
 use Rattle.std.specs.BinaryHeap.{heap_items}
 use Rattle.primary_alt.proofs.Gaining.{taking_ends, taking_finds, taking_goes_on}
 use Rattle.primary_alt.proofs.waiting.next_node.Goals as goal
