@@ -30,7 +30,8 @@ pub fn primaries(alloc: Global, area: &Area, source: Spot) -> Result<Vec<Option<
 
 /// How the known ways begin.
 fn primaries_of(alloc: Global, known: &[Option<Known>]) -> Result<Vec<Option<Primary>>, NoMemory>
-    ensures { IfOk result (λ entries. entries.items ≡ map (option_map (λ way. way.primary)) known.now) }
+    ensures { IfOk result (λ entries.
+        entries.items ≡ map (option_map (λ way. way.primary)) known.now) }
 {
     let entries = known.iter().map(|way| primary_of(way)).collect(alloc)?;
     Ok(entries)

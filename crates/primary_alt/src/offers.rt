@@ -27,7 +27,8 @@ pub fn offer_all(
     requires node { x < length area.now.ids }
     requires small { (way : Known) → from.now ≡ Some way → way.cost < 2 ^ 31 }
     requires one_each { length known.old.items ≡ length area.now.ids }
-    ensures offered { OnOk result (AreOffered (IsOffer area.now x from.now) known.old.items known.new.items) }
+    ensures offered { OnOk result (AreOffered (IsOffer area.now x from.now)
+        known.old.items known.new.items) }
     ensures near { OnOk result (AreNear (cost_so_far from.now) known.old.items known.new.items) }
     ensures ticketed { OnOk result (AreTicketed known.old.items known.new.items
         (heap_items waiting.old.heap) (heap_items waiting.new.heap)) }

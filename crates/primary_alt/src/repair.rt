@@ -38,7 +38,8 @@ fn color_round(g: &Graph, c: &Cert, source: NodeNo, to: NodeNo, x: &Element) -> 
     requires accepted { IsAcceptedFor g.now c.now }
     requires source { source < length g.now.ids }
     requires target { to < length g.now.ids }
-    ensures { IsAlternate g.now.links (length g.now.ids) (row_of c.now) source to (Some x.now) result }
+    ensures { IsAlternate g.now.links (length g.now.ids) (row_of c.now) source to
+        (Some x.now) result }
 {
     if !is_between(x, source, to) {
         return None;

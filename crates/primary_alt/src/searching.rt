@@ -1,7 +1,22 @@
 //! The search for shortest paths (Dijkstra's).
 
 ghost use Rattle.std.specs.BinaryHeap.{heap_items};
-ghost use Rattle.std.specs.Prelude.{◌≡◌, ◌<◌, ◌^◌, ℕ, true, IfOk, OnOk, Option, Some, None, length, map, set, slice_get};
+ghost use Rattle.std.specs.Prelude.{
+  ◌≡◌,
+  ◌<◌,
+  ◌^◌,
+  ℕ,
+  true,
+  IfOk,
+  OnOk,
+  Option,
+  Some,
+  None,
+  length,
+  map,
+  set,
+  slice_get,
+};
 ghost use Rattle.area_graph.specs.AreaInvariant.{IsArea};
 ghost use Rattle.area_graph.specs.Starts.{AreStarts};
 ghost use Rattle.mrt_graph.specs.Search.{IsMarked};
@@ -95,7 +110,8 @@ fn take_turn(
     requires small { (way : Known) → slice_get known.old.items node ≡ Some (Some way)
         → way.cost < 2 ^ 31 }
     ensures marked { OnOk result (settled.new.items ≡ set settled.old.items node true) }
-    ensures offered { OnOk result ((from : Option Known) → slice_get known.old.items node ≡ Some from
+    ensures offered { OnOk result ((from : Option Known)
+        → slice_get known.old.items node ≡ Some from
         → AreOffered (IsOffer area.now node from) known.old.items known.new.items) }
     ensures near { OnOk result ((from : Option Known) → slice_get known.old.items node ≡ Some from
         → AreNear (cost_so_far from) known.old.items known.new.items) }

@@ -39,7 +39,8 @@ impl Waiting {
 
     /// No tickets, with room for that many.
     pub fn new(alloc: Global, room: usize) -> Result<Waiting, NoMemory>
-        ensures { IfOk result (λ waiting. (ticket : Ticket) → ¬ HasTicket (heap_items waiting.heap) ticket) }
+        ensures { IfOk result (λ waiting. (ticket : Ticket)
+            → ¬ HasTicket (heap_items waiting.heap) ticket) }
     {
         let heap = BinaryHeap::with_capacity(alloc, room)?;
         Ok(Waiting { heap })
@@ -47,7 +48,8 @@ impl Waiting {
 
     /// Gives a node a ticket for this way.
     pub fn add(&mut self, node: Spot, way: &Known) -> Result<(), NoMemory>
-        ensures { OnOk result (Gains (ticket_of node way.now) (heap_items self.old.heap) (heap_items self.new.heap)) }
+        ensures { OnOk result (Gains (ticket_of node way.now)
+            (heap_items self.old.heap) (heap_items self.new.heap)) }
     {
         let ticket = Ticket {
             cost: way.cost,
@@ -61,10 +63,12 @@ impl Waiting {
 
     /// Takes a ticket before which no other comes.
     pub fn take(&mut self) -> Option<Ticket>
-        ensures taken { IfSome result (λ ticket. Gains ticket (heap_items self.new.heap) (heap_items self.old.heap)) }
+        ensures taken { IfSome result (λ ticket. Gains ticket
+            (heap_items self.new.heap) (heap_items self.old.heap)) }
         ensures least { IfSome result (λ ticket. AreNoEarlier ticket (heap_items self.new.heap)) }
         ensures fewer { OnSome result (heap_len self.new.heap < heap_len self.old.heap) }
-        ensures none { IfNone result ((ticket : Ticket) → ¬ HasTicket (heap_items self.old.heap) ticket) }
+        ensures none { IfNone result ((ticket : Ticket)
+            → ¬ HasTicket (heap_items self.old.heap) ticket) }
     {
         let Reverse(ticket) = self.heap.pop()?;
         Some(ticket)
@@ -73,9 +77,12 @@ impl Waiting {
 
 /// The node of the first ticket whose node has no mark; that ticket and those before it are taken.
 pub fn next_node(waiting: &mut Waiting, settled: &[bool]) -> Option<Spot>
-    requires { (ticket : Ticket) → HasTicket (heap_items waiting.old.heap) ticket → ticket.node < length settled.now }
-    ensures some { IfSome result (λ node. IsNextOf settled.now (heap_items waiting.old.heap) (heap_items waiting.new.heap) node) }
-    ensures none { IfNone result ((ticket : Ticket) → HasTicket (heap_items waiting.old.heap) ticket → IsMarked settled.now ticket.node) }
+    requires { (ticket : Ticket) → HasTicket (heap_items waiting.old.heap) ticket
+        → ticket.node < length settled.now }
+    ensures some { IfSome result (λ node. IsNextOf settled.now
+        (heap_items waiting.old.heap) (heap_items waiting.new.heap) node) }
+    ensures none { IfNone result ((ticket : Ticket)
+        → HasTicket (heap_items waiting.old.heap) ticket → IsMarked settled.now ticket.node) }
 {
     while let Some(ticket) = waiting.take() {
         if !settled[ticket.node.get() as usize] {
