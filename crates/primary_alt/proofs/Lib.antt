@@ -4,6 +4,7 @@ pub mod ArcsOffered
 pub mod ColorSteps
 pub mod ColorsUse
 pub mod Gaining
+pub mod HopsArrive
 pub mod LeastWays
 pub mod Offering
 pub mod PrimariesFound

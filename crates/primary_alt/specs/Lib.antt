@@ -5,5 +5,6 @@ pub mod Known
 pub mod Meets
 pub mod Offers
 pub mod Primaries
+pub mod PrimaryHops
 pub mod Settling
 pub mod Tickets

@@ -14,7 +14,10 @@ mod shortest;
 mod waiting;
 
 pub use least_walks::primaries;
-pub use primary_law::{a_primary_where_a_walk_leads, one_primary_each, primaries_lead_nearer};
+pub use primary_law::{
+    a_primary_where_a_walk_leads, one_primary_each, primaries_lead_nearer,
+    primaries_reach_their_destinations,
+};
 pub use repair::alternate;
 pub use repair_law::{
     a_color_given_goes_round, no_alternate_for_ends_and_what_separates, one_alternate_each,

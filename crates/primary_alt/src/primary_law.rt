@@ -1,6 +1,6 @@
 //! What holds of the primaries of each area.
 
-ghost use Rattle.std.specs.Prelude.{◌≡◌, ◌≢◌, ◌<◌, ◌⊎◌, ℕ, List, Option, Some, IsSome};
+ghost use Rattle.std.specs.Prelude.{◌≡◌, ◌≢◌, ◌<◌, ◌⊎◌, ℕ, List, Option, Some, IsSome, length};
 ghost use Rattle.area_graph.specs.declared.area_types.Arc.{Arc};
 ghost use Rattle.area_graph.specs.AreaInvariant.{IsArea};
 ghost use Rattle.area_graph.specs.Parts.{AreaParts};
@@ -9,6 +9,7 @@ ghost use Rattle.primary_alt.specs.declared.shortest.Primary.{Primary};
 ghost use Rattle.primary_alt.specs.ArcWalk.{ArcWalk};
 ghost use Rattle.primary_alt.specs.Distance.{IsDistance};
 ghost use Rattle.primary_alt.specs.Primaries.{IsPrimary};
+ghost use Rattle.primary_alt.specs.PrimaryHops.{HopsReach};
 
 /// A law: a node has one entry for each node.
 pub fn one_primary_each()
@@ -23,7 +24,6 @@ pub fn a_primary_where_a_walk_leads()
 {}
 
 /// Laws: the primary of a router leads to the destination or to another router, and the distance from there is smaller.
-/// So primaries, taken hop by hop, reach the destination.
 pub fn primaries_lead_nearer()
     ensures router { (area : AreaParts) → IsArea area → (s t : ℕ) (primary : Primary)
         → IsPrimary area s t (Some primary)
@@ -32,4 +32,13 @@ pub fn primaries_lead_nearer()
         → ¬ IsNetwork area.ids s → IsPrimary area s t (Some primary)
         → IsDistance area.arcs s t distance
         → (rest : ℕ) × IsDistance area.arcs primary.next t rest × (rest < distance) }
+{}
+
+/// A law: where each router has its primary for a node, the hops from each router from which a walk leads there reach
+/// it.
+pub fn primaries_reach_their_destinations()
+    ensures { (area : AreaParts) → IsArea area → (t : ℕ) (entries : ℕ → Option Primary)
+        → ((s : ℕ) → s < length area.ids → ¬ IsNetwork area.ids s → IsPrimary area s t (entries s))
+        → (s : ℕ) → s < length area.ids → ¬ IsNetwork area.ids s
+        → (walk : List Arc) → ArcWalk area.arcs s walk t → HopsReach entries t s }
 {}
