@@ -1,4 +1,5 @@
 pub mod ByTurn
+pub mod EndCosts
 pub mod EndsOffered
 pub mod HomePaths
 pub mod InBlocks
@@ -6,6 +7,8 @@ pub mod Marks
 pub mod Offering
 pub mod OneHop
 pub mod Reached
+pub mod SideBySide
 pub mod SameDirections
 pub mod Swept
 pub mod WaysInBlocks
+pub mod WaysOn

@@ -3,5 +3,8 @@ pub mod Known
 pub mod LeastPath
 pub mod Offers
 pub mod Path
+pub mod Rest
+pub mod Side
 pub mod Sweep
 pub mod Turns
+pub mod Ways

@@ -5,8 +5,10 @@ mod least_paths;
 mod offers;
 mod path_law;
 mod reach;
+mod side;
 mod sweeping;
 mod turns;
+mod ways;
 
 pub use least_paths::spf;
 pub use path_law::{

@@ -94,7 +94,7 @@ fn is_first(way: &Known, known: &Option<Known>) -> bool
 }
 
 /// Whether a link with this direction leads on from its node x to its other node.
-fn leads_on(dir: Dir, way: Way, x: NodeNo, to: NodeNo) -> bool
+pub fn leads_on(dir: Dir, way: Way, x: NodeNo, to: NodeNo) -> bool
     ensures { result ≡ goes_on dir way x to }
 {
     match (dir, way) {

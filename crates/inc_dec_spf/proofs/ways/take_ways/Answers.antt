@@ -1,0 +1,75 @@
+use Rattle.std.proofs.Common.{◌≡◌, ◌∙◌, ◌+◌, ℕ, List, length, inl, inr, refl, sym, ap, subst, arith}
+use Rattle.std.proofs.lemmas.Option.{same_Some, slice_get_read}
+use Rattle.mrt_graph.specs.declared.link.End.{End}
+use Rattle.inc_dec_spf.specs.Side.{AreTaken}
+use Rattle.inc_dec_spf.specs.Ways.{AreLeast, IsLeftAt}
+use Rattle.inc_dec_spf.proofs.EndCosts.{all_passed, all_taken_over, step_ready}
+use Rattle.inc_dec_spf.proofs.EndsOffered.{block_of_node}
+use Rattle.inc_dec_spf.proofs.Marks.{IsMarkedEnd, marked_block}
+use Rattle.inc_dec_spf.proofs.SideBySide.{most_kept}
+use Rattle.inc_dec_spf.proofs.WaysOn.{no_way_on, way_on}
+use Rattle.inc_dec_spf.proofs.ways.take_ways.Goals as goal
+use Rattle.inc_dec_spf.proofs.ways.take_ways.Goals.{then-is_wanted+then-leads_on, else-is_wanted, else-is_wanted-via-then-is_wanted+else-leads_on, else-is_wanted-via-else-is_wanted}
+
+pub loop-end-preserved : goal.loop-end-preserved
+loop-end-preserved c =
+    let g = c.args.g.now in
+    let d = c.args.d.now in
+    let place = c.loop-end.end-index in
+    let ends = c.ends-end-items.result.now in
+    let end = c.end-item.result in
+    let mark = c.mark-mark.result in
+    let block = c.place.result.block in
+    let marked : IsMarkedEnd g d c.args.x place ends end mark = record {
+      list = c.ends-end-items.ensures.value;
+      there = slice_get_read ends (length ends) place end refl c.loop-end-test.true c.end-item.is;
+      marked = c.mark-mark.ensures;
+    } in
+    elim c.if-is_wanted.branch [
+      | then-is_wanted+then-leads_on t ↦ rw (t.costs-is, t.links-is) (record {
+        one_each = (t.take_end.ensures.taken c.requires.directed.directions c.requires.directed.are.says).one_cost_each ∙ c.loop-end.invariant.one_each;
+        one_link_each = (t.take_end.ensures.taken c.requires.directed.directions c.requires.directed.are.says).one_link_each
+            ∙ c.loop-end.invariant.one_link_each;
+        most = most_kept _ end.metric end.link c.loop-end.costs c.loop-end.links t.take_end.new.costs t.take_end.new.links
+            (c.loop-end.invariant.one_link_each ∙ sym c.loop-end.invariant.one_each)
+            (t.take_end.ensures.taken c.requires.directed.directions c.requires.directed.are.says) c.loop-end.invariant.most;
+        least = λ root bound w are low_bound ready.
+            let on =
+            way_on g d root w c.args.dir c.args.own c.args.x place block ends end mark (record { kept = c.requires.kept; ordered = are.ordered }) are.says
+            marked (block_of_node g d w c.args.x c.place.result are.says c.requires.node c.place.ensures) (c.is_wanted.ensures.wanted t.if-is_wanted.true)
+            (c.is_wanted.ensures.kept_to t.if-is_wanted.true) (sym t.leads_on.ensures ∙ t.if-leads_on.true) in
+            let width = length c.args.costs.now in
+            let inside = marked_block g d w c.args.x place ends end mark c.requires.kept are.says marked in
+            all_taken_over g w c.args.dir c.args.own width c.args.all.now c.args.first bound c.args.x place ends end c.loop-end.costs c.loop-end.links
+            t.take_end.new.costs t.take_end.new.links low_bound t.take_end.ensures.small c.loop-end.invariant.one_each c.loop-end.invariant.one_link_each on
+            (step_ready g w c.args.dir c.args.own width c.args.all.now c.args.first bound c.args.x place ends end ready on)
+            (subst (λ (b : ℕ). AreTaken (IsLeftAt w width c.args.all.now b c.args.first end.to) end.metric end.link c.loop-end.costs c.loop-end.links
+            t.take_end.new.costs t.take_end.new.links) inside
+            (subst (λ (n : ℕ). AreTaken (IsLeftAt w n c.args.all.now mark.block c.args.first end.to) end.metric end.link c.loop-end.costs
+            c.loop-end.links t.take_end.new.costs t.take_end.new.links) c.loop-end.invariant.one_each (t.take_end.ensures.taken w are.says)))
+            (c.loop-end.invariant.least root bound w are low_bound ready);
+      })
+      | else-is_wanted t ↦ rw (t.costs-is, t.links-is) (record {
+        one_each = c.loop-end.invariant.one_each;
+        one_link_each = c.loop-end.invariant.one_link_each;
+        most = c.loop-end.invariant.most;
+        least = λ root bound w are low_bound ready.
+            all_passed g w c.args.dir c.args.own c.args.first bound c.args.x place ends c.loop-end.costs c.loop-end.links
+            (no_way_on g d root w c.args.dir c.args.own c.args.x place block ends end mark (record { kept = c.requires.kept; ordered = are.ordered }) are.says
+            marked (block_of_node g d w c.args.x c.place.result are.says c.requires.node c.place.ensures)
+            (elim t.else-is_wanted.branch [
+              | else-is_wanted-via-then-is_wanted+else-leads_on t' ↦ inr (sym t'.leads_on.ensures ∙ t'.if-leads_on.false)
+              | else-is_wanted-via-else-is_wanted t' ↦
+                  inl (λ not_sole kept. let wanted = c.is_wanted.ensures.all not_sole kept in let no = t'.if-is_wanted.false in (cc))
+            ]))
+            (c.loop-end.invariant.least root bound w are low_bound ready);
+      })
+    ]
+
+pub returns-clause-least : goal.returns-clause-least
+returns-clause-least c = λ root bound w ends are low_bound ready list.
+    let same : c.ends-end-items.result.now ≡ ends = same_Some c.ends-end-items.result.now ends (sym c.ends-end-items.ensures.value ∙ list) in
+    let all : c.loop-end.end-index ≡ length c.ends-end-items.result.now = omega (arith, c.loop-end-test.false, c.loop-end.auto.end-index-end) in
+    subst (λ (es : List End). AreLeast c.args.g.now w c.args.dir c.args.own c.args.first bound c.args.x es (length es) c.loop-end.costs c.loop-end.links) same
+    (subst (λ (n : ℕ). AreLeast c.args.g.now w c.args.dir c.args.own c.args.first bound c.args.x c.ends-end-items.result.now n c.loop-end.costs c.loop-end.links)
+    all (c.loop-end.invariant.least root bound w are low_bound ready))
