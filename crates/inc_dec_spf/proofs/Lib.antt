@@ -6,9 +6,11 @@ pub mod InBlocks
 pub mod Marks
 pub mod Offering
 pub mod OneHop
+pub mod OwnCosts
 pub mod Reached
 pub mod SideBySide
 pub mod SameDirections
 pub mod Swept
+pub mod WaysArePaths
 pub mod WaysInBlocks
 pub mod WaysOn

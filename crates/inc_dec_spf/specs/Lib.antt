@@ -1,3 +1,4 @@
+pub mod Against
 pub mod HasDirections
 pub mod Known
 pub mod LeastPath

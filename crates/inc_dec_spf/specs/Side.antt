@@ -1,6 +1,7 @@
 -- Least costs side by side: one for each of some nodes.
-use Rattle.std.specs.Prelude.{◌≡◌, ◌==◌, ◌<◌, ◌≤◌, ◌+◌, ℕ, List, Some, length, nat_lt, slice_get, if◌then◌else◌}
+use Rattle.std.specs.Prelude.{◌≡◌, ◌==◌, ◌<◌, ◌≤◌, ◌+◌, ℕ, List, Option, Some, None, length, nat_lt, slice_get, if◌then◌else◌}
 use Rattle.mrt_graph.specs.declared.link.End.{End}
+use Rattle.inc_dec_spf.specs.declared.reach.Hop.{Hop}
 use Rattle.inc_dec_spf.specs.Rest.{far}
 
 -- the lower cost of the two, the old one where they are equal
@@ -38,3 +39,7 @@ pub record IsLeastWay (Begins : ℕ → ℕ → Type 0) (ends : List End) (count
   pub most : cost ≤ far
   pub reached : cost < far → IsFirstWay Begins ends count cost link
   pub least : (place other : ℕ) → place < count → Begins place other → (cost ≤ other) × (cost < far)
+
+-- the hop of a least cost and its link; none where it is far
+abbrev pub hop_by : ℕ → ℕ → Option Hop
+hop_by cost link = if nat_lt cost far then Some (record { cost = cost; link = link }) else None

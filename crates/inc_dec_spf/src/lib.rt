@@ -3,6 +3,7 @@
 
 mod least_paths;
 mod offers;
+mod own_costs;
 mod path_law;
 mod reach;
 mod side;

@@ -1,0 +1,210 @@
+-- The ways over the ends of a node are the paths from it.
+use Rattle.std.proofs.Common.{◌≡◌, ◌≢◌, ◌⊎◌, ◌∙◌, ◌<◌, ◌≤◌, ◌+◌, ◌-◌, ◌*◌, ◌^◌, ℕ, Bool, true, false, List, [], ◌∷◌, Option, Some, None, nat_lt, length, slice_get, inl, inr, refl, sym, ap, subst, arith}
+use Rattle.std.proofs.lemmas.Bool.{cases_Bool, cases_eq, lt-ltb, ltb-false, ltb-true}
+use Rattle.std.proofs.lemmas.Option.{same_Some, slice_get_within}
+use Rattle.mrt_graph.specs.declared.link.End.{End}
+use Rattle.mrt_graph.specs.FirstEnd.{IsFirstEnd}
+use Rattle.mrt_graph.specs.Topology.{Topology}
+use Rattle.mrt_graph.proofs.Hops.{lead_back}
+use Rattle.link_direction.specs.Directions.{Directions}
+use Rattle.inc_dec_spf.specs.declared.reach.Dir.{Dir}
+use Rattle.inc_dec_spf.specs.declared.reach.Hop.{Hop}
+use Rattle.inc_dec_spf.specs.LeastPath.{BeginsPath, HasMoreLinks, IsHop, IsLeastPath, NotReached, Reached, ShareBlock}
+use Rattle.inc_dec_spf.specs.Path.{IsStep, Path, cost_of}
+use Rattle.inc_dec_spf.specs.Rest.{IsRestCost, Rest, far}
+use Rattle.inc_dec_spf.specs.Side.{IsLeastWay, hop_by}
+use Rattle.inc_dec_spf.specs.Ways.{AtHead, BeginsAt, HasHeadBy, Inside}
+use Rattle.inc_dec_spf.proofs.InBlocks.{IsClosed, IsMove, IsOrdered, head_of_member, leads_inside, member_not_head, move_of}
+use Rattle.inc_dec_spf.proofs.Reached.{are_in, closed_of_more, first_step, share_it}
+use Rattle.inc_dec_spf.proofs.WaysInBlocks.{AreIn}
+
+-- a path is its first end, and what is left
+pub path_of_rest : (g : Topology) (w : Directions) (dir : Dir) (k h x t : ℕ) (end : End) (others : List End) → IsStep g w dir k x end
+    → Rest g w dir k h end.to others t → Path g w dir k h x (end ∷ others) t
+path_of_rest g w dir k h x t end [] step rest = (step, rest)
+path_of_rest g w dir k h x t end (next ∷ more) step rest = (step, rest.0, rest.1)
+
+pub rest_of_path : (g : Topology) (w : Directions) (dir : Dir) (k h x t : ℕ) (end : End) (others : List End) → Path g w dir k h x (end ∷ others) t
+    → Rest g w dir k h end.to others t
+rest_of_path g w dir k h x t end [] path = path.1
+rest_of_path g w dir k h x t end (next ∷ more) path = (path.1, path.2)
+
+module _ (g : Topology) (root : ℕ) (w : Directions) (is : IsOrdered g root w) where
+  -- a path leads to a node of the block, or to its head
+  pub path_leads_inside : (dir : Dir) (k h x t : ℕ) (end : End) (others : List End) → IsClosed g root w k h → Path g w dir k h x (end ∷ others) t
+      → ((w.block t ≡ k) ⊎ (t ≡ h)) × (t < length g.ids)
+  path_leads_inside dir k h x t end [] closed path =
+      let move = move_of g w dir k x end is.kept path.0 in (
+        subst (λ (y : ℕ). (w.block y ≡ k) ⊎ (y ≡ h)) path.1 (leads_inside g root w k h end.link x end.to is closed move.onward move.in_block),
+        subst (λ (y : ℕ). y < length g.ids) path.1 move.to_within,
+      )
+  path_leads_inside dir k h x t end (next ∷ more) closed path = path_leads_inside dir k h end.to t next more closed path.2
+
+  path_ends_within : (dir : Dir) (k h x t : ℕ) (path : List End) → Path g w dir k h x path t → t < length g.ids
+  path_ends_within dir k h x t [] path = absurd path
+  path_ends_within dir k h x t (end ∷ []) path =
+      subst (λ (y : ℕ). y < length g.ids) path.1 (move_of g w dir k x end is.kept path.0).to_within
+  path_ends_within dir k h x t (end ∷ next ∷ more) path = path_ends_within dir k h end.to t (next ∷ more) path.2
+
+  -- the node that a path begins at lies in the block too
+  begins_inside : (dir : Dir) (k h x : ℕ) (end : End) → IsClosed g root w k h → IsStep g w dir k x end
+      → ((w.block x ≡ k) ⊎ (x ≡ h)) × (x < length g.ids)
+  begins_inside dir k h x end closed step =
+      let move = move_of g w dir k x end is.kept step in (
+        leads_inside g root w k h end.link end.to x is closed (lead_back g.links end.link x end.to move.onward) move.in_block,
+        move.from_within,
+      )
+
+  -- the head of the block, by the node that an end leads to
+  pub head_by : (dir : Dir) (k h x : ℕ) (end : End) → IsClosed g root w k h → IsStep g w dir k x end → HasHeadBy w k h end.to
+  head_by dir k h x end closed step =
+      let move = move_of g w dir k x end is.kept step in
+      elim (leads_inside g root w k h end.link x end.to is closed move.onward move.in_block) [
+        | inl inside ↦ Inside inside (head_of_member g root w k h end.to is closed move.to_within inside)
+        | inr home ↦ AtHead (λ inside. member_not_head g root w k h end.to is closed move.to_within inside home) home
+      ]
+
+  same_head : (k h top y : ℕ) → HasHeadBy w k h y → HasHeadBy w k top y → h ≡ top
+  same_head k h top y (Inside a b) (Inside c d) = sym b ∙ d
+  same_head k h top y (Inside a b) (AtHead c d) = absurd (c a)
+  same_head k h top y (AtHead a b) (Inside c d) = absurd (a c)
+  same_head k h top y (AtHead a b) (AtHead c d) = sym b ∙ d
+
+  -- the step that a way begins with
+  pub step_by : (dir : Dir) (own : Bool) (x t place cost : ℕ) (begins : BeginsAt g w dir own x t place cost) → IsStep g w dir begins.k x begins.end
+  step_by dir own x t place cost begins = record {
+    ends = begins.ends;
+    list = begins.list;
+    place = place;
+    there = begins.there;
+    in_block = begins.in_block;
+    leads_on = begins.leads_on;
+  }
+
+  -- a way is a path
+  pub way_is_path : (dir : Dir) (own : Bool) (x t place cost h : ℕ) (begins : BeginsAt g w dir own x t place cost) → IsClosed g root w begins.k h
+      → Path g w dir begins.k h x (begins.end ∷ begins.others) t
+  way_is_path dir own x t place cost h begins closed =
+      let step = step_by dir own x t place cost begins in
+      let same = same_head begins.k begins.h h begins.end.to begins.head (head_by dir begins.k h x begins.end closed step) in
+      path_of_rest g w dir begins.k h x t begins.end begins.others step
+      (subst (λ (top : ℕ). Rest g w dir begins.k top begins.end.to begins.others t) same begins.rest)
+
+  -- a path is a way
+  pub path_is_way : (dir : Dir) (own : Bool) (k h x t place : ℕ) (ends : List End) (end : End) (others : List End) → IsClosed g root w k h
+      → HasMoreLinks g w k → (own ≡ true → k ≡ w.block x) → slice_get g.ends x ≡ Some ends → slice_get ends place ≡ Some end
+      → Path g w dir k h x (end ∷ others) t → BeginsAt g w dir own x t place (cost_of (end ∷ others))
+  path_is_way dir own k h x t place ends end others closed more kept_to list there path =
+      let step = first_step g w dir k h x t end others path in
+      record {
+        ends = ends;
+        list = list;
+        end = end;
+        there = there;
+        k = k;
+        h = h;
+        in_block = step.in_block;
+        leads_on = step.leads_on;
+        more = more;
+        kept_to = kept_to;
+        head = head_by dir k h x end closed step;
+        others = others;
+        rest = rest_of_path g w dir k h x t end others path;
+        costs = refl;
+      }
+
+  -- the least way within the own block has the least cost of what is left
+  pub own_rest : (dir : Dir) (x t cost link : ℕ) (ends : List End) → x < length g.ids → slice_get g.ends x ≡ Some ends → x ≢ t
+      → HasMoreLinks g w (w.block x) → IsLeastWay (BeginsAt g w dir true x t) ends (length ends) cost link
+      → IsRestCost g w dir (w.block x) (w.head x) x t cost
+  own_rest dir x t cost link ends within list two more least =
+      let found = closed_of_more g root w (w.block x) is more in
+      let head = head_of_member g root w (w.block x) found.0 x is found.1 within refl in
+      let closed : IsClosed g root w (w.block x) (w.head x) = subst (λ (y : ℕ). IsClosed g root w (w.block x) y) (sym head) found.1 in
+      record {
+        reached = λ below.
+            let it = least.reached below in
+            let k_is : it.begins.k ≡ w.block x = it.begins.kept_to refl in
+            let path =
+            way_is_path dir true x t it.place cost (w.head x) it.begins
+            (subst (λ (k : ℕ). IsClosed g root w k (w.head x)) (sym k_is) closed) in (
+              it.begins.end ∷ it.begins.others,
+              (
+                member_not_head g root w (w.block x) (w.head x) x is closed within refl,
+                subst (λ (k : ℕ). Path g w dir k (w.head x) x (it.begins.end ∷ it.begins.others) t) k_is path,
+              ),
+              it.begins.costs,
+            );
+        least = at_most closed;
+      }
+    where
+      at_most : IsClosed g root w (w.block x) (w.head x) → (rest : List End) → Rest g w dir (w.block x) (w.head x) x rest t
+          → (cost ≤ cost_of rest) × (cost < far)
+      at_most closed [] rest = absurd (two rest)
+      at_most closed (end ∷ others) rest =
+          let step = first_step g w dir (w.block x) (w.head x) x t end others rest.1 in
+          let same = same_Some step.ends ends (sym step.list ∙ list) in
+          let there : slice_get ends step.place ≡ Some end = subst (λ (es : List End). slice_get es step.place ≡ Some end) same step.there in
+          least.least step.place (cost_of (end ∷ others)) (slice_get_within ends step.place end there)
+          (path_is_way dir true (w.block x) (w.head x) x t step.place ends end others closed more (λ kept. refl) list there rest.1)
+
+  -- the least way over all ends is the hop
+  pub least_hop : (dir : Dir) (s t cost link : ℕ) (ends : List End) → s < length g.ids → slice_get g.ends s ≡ Some ends → s ≢ t
+      → IsLeastWay (BeginsAt g w dir false s t) ends (length ends) cost link → IsHop g w dir s t (hop_by cost link)
+  least_hop dir s t cost link ends within list two least = elim (cases_Bool (nat_lt cost far)) [
+    | inl is_less ↦ rw is_less (reached (ltb-true cost far is_less))
+    | inr is_not ↦ rw is_not (NotReached (λ k h path share is_path. none k h path share is_path (ltb-false cost far is_not)))
+  ]
+    where
+      begun : (k h place : ℕ) (end : End) (others : List End) → IsClosed g root w k h → HasMoreLinks g w k → slice_get ends place ≡ Some end
+          → Path g w dir k h s (end ∷ others) t → BeginsAt g w dir false s t place (cost_of (end ∷ others))
+      begun k h place end others closed more there path =
+          path_is_way dir false k h s t place ends end others closed more (λ kept. (cc)) list there path
+
+      at_most : (k h : ℕ) (path : List End) → IsClosed g root w k h → HasMoreLinks g w k → Path g w dir k h s path t
+          → (cost ≤ cost_of path) × (cost < far)
+      at_most k h [] closed more path = absurd path
+      at_most k h (end ∷ others) closed more path =
+          let step = first_step g w dir k h s t end others path in
+          let same = same_Some step.ends ends (sym step.list ∙ list) in
+          let there : slice_get ends step.place ≡ Some end = subst (λ (es : List End). slice_get es step.place ≡ Some end) same step.there in
+          least.least step.place (cost_of (end ∷ others)) (slice_get_within ends step.place end there)
+          (begun k h step.place end others closed more there path)
+
+      none : (k h : ℕ) (path : List End) → ShareBlock g w s t k h → Path g w dir k h s path t → far ≤ cost → ⊥
+      none k h path share is_path not_less =
+          let are = are_in g root w s k h t is within (path_ends_within dir k h s t path is_path) share in
+          omega (arith, not_less, (at_most k h path are.closed share.more is_path).1)
+
+      reached : cost < far → IsHop g w dir s t (Some (record { cost = cost; link = link }))
+      reached below =
+          let it = least.reached below in
+          let found = closed_of_more g root w it.begins.k is it.begins.more in
+          let k = it.begins.k in
+          let h = found.0 in
+          let path = way_is_path dir false s t it.place cost h it.begins found.1 in
+          let same_list = same_Some it.begins.ends ends (sym it.begins.list ∙ list) in
+          let same : it.begins.end ≡ it.end =
+          same_Some it.begins.end it.end
+          (sym (subst (λ (es : List End). slice_get es it.place ≡ Some it.begins.end) same_list it.begins.there) ∙ it.there) in
+          let target = path_leads_inside dir k h s t it.begins.end it.begins.others found.1 path in
+          let source = begins_inside dir k h s it.begins.end found.1 (step_by dir false s t it.place cost it.begins) in
+          let are : AreIn g root w s k h t =
+          record { closed = found.1; source = source.0; source_within = within; target = target.0; target_within = target.1 } in
+          Reached k h (record { cost = cost; link = link }) (share_it g root w s k h t is are two) (record {
+            end = it.end;
+            first = record {
+              ends = ends;
+              list = list;
+              place = it.place;
+              there = it.there;
+              asked = subst (λ (e : End). BeginsPath g w dir k h s t cost e) same
+                  (record { others = it.begins.others; is_path = path; costs = it.begins.costs });
+              none_before = λ place other early at begins_path.
+                  it.none_before place early
+                  (subst (λ (c : ℕ). BeginsAt g w dir false s t place c) begins_path.costs
+                  (begun k h place other begins_path.others found.1 it.begins.more at begins_path.is_path));
+            };
+            over = it.over;
+            least = λ other_path is_path. (at_most k h other_path found.1 it.begins.more is_path).0;
+          })
