@@ -7,5 +7,6 @@ pub mod Path
 pub mod Rest
 pub mod Side
 pub mod Sweep
+pub mod Tile
 pub mod Turns
 pub mod Ways

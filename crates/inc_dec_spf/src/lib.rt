@@ -8,6 +8,7 @@ mod path_law;
 mod reach;
 mod side;
 mod sweeping;
+mod tile;
 mod turns;
 mod ways;
 
@@ -16,3 +17,5 @@ pub use path_law::{
     no_node_is_both_above_and_below, one_hop_for_each_node, paths_lead_to_the_head_and_back,
 };
 pub use reach::{Dir, Hop, Reach};
+pub use tile::Tile;
+pub use turns::nodes_by_turn;
