@@ -20,6 +20,7 @@ pub mod PushedWords
 pub mod RowPlaces
 pub mod RowTags
 pub mod RowsExist
+pub mod RowsPut
 pub mod RulesHold
 pub mod SoleRows
 pub mod TableRows

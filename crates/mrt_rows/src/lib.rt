@@ -8,6 +8,7 @@ mod near;
 mod of_source;
 mod rows_law;
 mod table;
+mod tiles;
 mod words;
 
 pub use certificate::compute;
