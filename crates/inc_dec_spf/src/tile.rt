@@ -73,7 +73,7 @@ impl Tile {
         requires node { s < length g.now.ids }
         requires tile { IsTile g.now width self.old }
         ensures tile { IsTile g.now width self.new }
-        ensures same { self.new.all ≡ self.old.all }
+        ensures same { self.new.all.items ≡ self.old.all.items }
         ensures hops { (root : ℕ) (w : Directions) → AreDirections g.now d.now root w
             → IsAimed g.now w dir first width self.old → HasHops g.now w dir s first self.new }
     {

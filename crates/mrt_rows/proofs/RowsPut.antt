@@ -18,7 +18,8 @@ use Rattle.inc_dec_spf.specs.declared.reach.Hop.{Hop}
 use Rattle.inc_dec_spf.specs.declared.tile.Tile.{Tile}
 use Rattle.inc_dec_spf.specs.LeastPath.{IsHop}
 use Rattle.inc_dec_spf.specs.Side.{hop_by}
-use Rattle.inc_dec_spf.specs.Tile.{HasHops, IsTile}
+use Rattle.inc_dec_spf.specs.Tile.{HasHops, IsAimed, IsTile}
+use Rattle.inc_dec_spf.specs.Ways.{IsReadyFrom}
 use Rattle.mrt_rows.specs.Put.{ArePut, IsPut, PutFar, PutNear, row_or_mark}
 use Rattle.mrt_rows.specs.RowsOf.{row_among}
 use Rattle.mrt_rows.specs.Source.{Far, IsNear, Near, NoneOfOneLink}
@@ -161,3 +162,52 @@ hop_there g w dir s first width j to tile hop is within place two hops made =
     subst (λ (h : Option Hop). IsHop g w dir s to h) (sym (made cost link at at_link))
     (subst (λ (x : ℕ). IsHop g w dir s x (hop_by cost link)) (sym place)
     (hops.each j cost link at at_link (λ same. two (same ∙ sym place))))
+
+-- a tile stays aimed as long as it has the same costs
+pub aimed_still : (g : Topology) (w : Directions) (dir : Dir) (first width : ℕ) (before after : Tile) → after.all.items ≡ before.all.items
+    → IsAimed g w dir first width before → IsAimed g w dir first width after
+aimed_still g w dir first width before after same aimed = record {
+  each = λ y within.
+      subst (λ (xs : List ℕ). IsReadyFrom g w dir first width (65536 * length g.ids) xs y) (sym same) (aimed.each y within);
+}
+
+-- the rows of one node more
+pub one_node_put : (g : Topology) (root : ℕ) (w : Directions) (s first : ℕ) (rows after : List Row)
+    → ((u v : ℕ) → (u ≢ s) ⊎ ((v < first) ⊎ (first + 64 ≤ v)) → row_among (length g.ids) after u v ≡ row_among (length g.ids) rows u v)
+    → ArePut g root w (λ u t. (u ≡ s) × (first ≤ t) × (t < first + 64)) after
+    → ArePut g root w (λ u t. (u < s) × (first ≤ t) × (t < first + 64)) rows
+    → ArePut g root w (λ u t. (u < s + 1) × (first ≤ t) × (t < first + 64)) after
+one_node_put g root w s first rows after kept put so_far = record {
+  each = λ u v other u_within v_within two done more at. elim (cases_eq u s) [
+    | inl same ↦ put.each u v other u_within v_within two (same, done.1, done.2) more at
+    | inr apart ↦
+        so_far.each u v other u_within v_within two (omega (arith, done.0, apart), done.1, done.2) more
+        (sym (kept u v (inl apart)) ∙ at)
+  ];
+}
+
+pub no_node_put : (g : Topology) (root : ℕ) (w : Directions) (first : ℕ) (rows : List Row)
+    → ArePut g root w (λ u t. (u < 0) × (first ≤ t) × (t < first + 64)) rows
+no_node_put g root w first rows = record { each = λ u v other u_within v_within two done. absurd (omega (arith, done.0)) }
+
+pub all_nodes_put : (g : Topology) (root : ℕ) (w : Directions) (count first : ℕ) (rows : List Row) → length g.ids ≤ count
+    → ArePut g root w (λ u t. (u < count) × (first ≤ t) × (t < first + 64)) rows
+    → ArePut g root w (λ u t. (first ≤ t) × (t < first + 64)) rows
+all_nodes_put g root w count first rows all put = record {
+  each = λ u v other u_within v_within two done. put.each u v other u_within v_within two (omega (arith, u_within, all), done.0, done.1);
+}
+
+-- the rows of one tile more
+pub one_tile_put : (g : Topology) (root : ℕ) (w : Directions) (first : ℕ) (rows after : List Row)
+    → ((u v : ℕ) → (v < first) ⊎ (first + 64 ≤ v) → row_among (length g.ids) after u v ≡ row_among (length g.ids) rows u v)
+    → ArePut g root w (λ u t. (first ≤ t) × (t < first + 64)) after → ArePut g root w (λ u t. t < first) rows
+    → ArePut g root w (λ u t. t < first + 64) after
+one_tile_put g root w first rows after kept put so_far = record {
+  each = λ u v other u_within v_within two done more at. elim (cases_lt v first) [
+    | inl below ↦ so_far.each u v other u_within v_within two below more (sym (kept u v (inl below)) ∙ at)
+    | inr above ↦ put.each u v other u_within v_within two (above, done) more at
+  ];
+}
+
+pub no_tile_put : (g : Topology) (root : ℕ) (w : Directions) (rows : List Row) → ArePut g root w (λ u t. t < 0) rows
+no_tile_put g root w rows = record { each = λ u v other u_within v_within two done. absurd (omega (arith, done)) }

@@ -1,5 +1,5 @@
 -- The rows of all nodes, as they come about.
-use Rattle.std.specs.Prelude.{◌≡◌, ◌≢◌, ◌<◌, ℕ, List, Option, Some, None, length}
+use Rattle.std.specs.Prelude.{◌≡◌, ◌≢◌, ◌<◌, ℕ, List, Option, Some, None, length, slice_get}
 use Rattle.mrt_graph.specs.declared.cert.Row.{Row}
 use Rattle.mrt_graph.specs.declared.cert.Tag.TheVariants.{Carried}
 use Rattle.mrt_graph.specs.Topology.{Topology}
@@ -32,3 +32,12 @@ pub record ArePut (g : Topology) (root : ℕ) (w : Directions) (Done : ℕ → �
 abbrev pub row_or_mark : Option Row → Row
 row_or_mark (Some row) = row
 row_or_mark None = record { blue = 0; red = 0; tag = Carried }
+
+-- the hops of all nodes to the heads of their blocks
+pub record AreHomes (g : Topology) (root : ℕ) (w : Directions) (homes : List Home) : Type 0 where
+  pub each : (v : ℕ) (home : Home) → slice_get homes v ≡ Some home → IsHome g root w v home
+
+-- all nodes but the root lie in one block, and it has more than one link
+pub record IsOneBlock (g : Topology) (root : ℕ) (w : Directions) : Type 0 where
+  pub two_links : 1 < length g.links
+  pub same : (u v : ℕ) → u < length g.ids → v < length g.ids → u ≢ root → v ≢ root → w.block u ≡ w.block v
