@@ -4,7 +4,9 @@
 mod all_rows;
 mod by_order;
 mod certificate;
+mod homes;
 mod near;
+mod one_block;
 mod of_source;
 mod rows_law;
 mod table;
