@@ -11,6 +11,7 @@ pub mod HopsExist
 pub mod LeastExists
 pub mod LinesHold
 pub mod NearRows
+pub mod OneBlock
 pub mod OneCert
 pub mod OneHop
 pub mod OneRow

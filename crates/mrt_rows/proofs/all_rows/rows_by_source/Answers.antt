@@ -2,7 +2,7 @@ use Rattle.std.proofs.Common.{◌≡◌, ◌∙◌, ◌+◌, ◌-◌, ◌*◌, �
 use Rattle.mrt_graph.specs.declared.cert.Row.{Row}
 use Rattle.mrt_rows.specs.RowsOf.{AreRowsOf}
 use Rattle.mrt_rows.proofs.AllRows.{AreSoFar, count_more, one_source_more}
-use Rattle.mrt_rows.proofs.all_rows.all_rows.Goals as goal
+use Rattle.mrt_rows.proofs.all_rows.rows_by_source.Goals as goal
 
 pub loop-s-preserved : goal.loop-s-preserved
 loop-s-preserved c =

@@ -1,7 +1,7 @@
 use Rattle.std.proofs.Common.{◌≡◌, ◌≤◌, ◌-◌, ◌*◌, length, vec_capacity}
 use Rattle.link_direction.specs.Directions.{Directions, Says}
 use Rattle.mrt_rows.proofs.AllRows.{AreSoFar}
-use Rattle.mrt_rows.proofs.all_rows.all_rows.Given as goal
+use Rattle.mrt_rows.proofs.all_rows.rows_by_source.Given as goal
 
 abbrev pub invariant-loop-s : goal.invariant-loop-s
 invariant-loop-s l = record {
