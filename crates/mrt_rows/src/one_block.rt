@@ -10,9 +10,9 @@ use mrt_graph::{Directed, Graph, NodeNo};
 
 /// Whether all nodes but the root lie in one block, and it has more than one link.
 pub fn is_one_block(g: &Graph, d: &Directed, root: NodeNo) -> bool
-    requires kept { IsTopology g.now }
-    requires directed { HasDirections g.now d.now }
-    ensures { IsTrue result → (w : Directions) → AreDirections g.now d.now root w
+    requires { HasDirections g.now d.now }
+    ensures kept { IsTopology g.now }
+    ensures one { IsTrue result → (w : Directions) → AreDirections g.now d.now root w
         → IsOneBlock g.now root w }
 {
     let count = g.node_count();
