@@ -1,5 +1,5 @@
 -- The cost of the ways that begin with one end (the first end, then what is left), and the least over the ends.
-use Rattle.std.proofs.Common.{◌≡◌, ◌≢◌, ◌∙◌, ◌==◌, ◌<◌, ◌≤◌, ◌+◌, ◌*◌, ◌^◌, ℕ, Bool, true, false, List, [], ◌∷◌, Some, nat_lt, length, slice_get, if◌then◌else◌, inl, inr, refl, sym, ap, subst, arith}
+use Rattle.std.proofs.Common.{◌≡◌, ◌≢◌, ◌∙◌, ◌<◌, ◌≤◌, ◌+◌, ◌^◌, ℕ, Bool, true, List, [], ◌∷◌, Some, nat_lt, length, slice_get, inl, inr, refl, sym, ap, subst, arith}
 use Rattle.std.proofs.lemmas.Bool.{cases_Bool, cases_eq, eq-eqb, ltb-false, ltb-true, ne_eqb}
 use Rattle.std.proofs.lemmas.Option.{same_Some, slice_get-get_or, slice_get_within}
 use Rattle.std.proofs.Common.{get_or}
@@ -8,9 +8,9 @@ use Rattle.mrt_graph.specs.Topology.{Topology}
 use Rattle.link_direction.specs.Directions.{Directions}
 use Rattle.inc_dec_spf.specs.declared.reach.Dir.{Dir}
 use Rattle.inc_dec_spf.specs.LeastPath.{HasMoreLinks}
-use Rattle.inc_dec_spf.specs.Path.{IsStep, LeadsOn, Path, cost_of}
+use Rattle.inc_dec_spf.specs.Path.{LeadsOn, cost_of}
 use Rattle.inc_dec_spf.specs.Rest.{IsRestCost, Rest, far}
-use Rattle.inc_dec_spf.specs.Side.{AreTaken, IsFirstWay, IsLeastWay, cost_at, lesser, link_of_lesser}
+use Rattle.inc_dec_spf.specs.Side.{AreTaken, IsLeastWay, cost_at, lesser, link_of_lesser}
 use Rattle.inc_dec_spf.specs.Ways.{AreLeast, AreReady, AtHead, BeginsAt, HasHeadBy, Home, Inside, IsLeftAt, IsReadyFrom, Onward}
 
 -- what is known of the ways that begin with one end, when `left` is left after it

@@ -1,14 +1,13 @@
 -- The costs of the nodes from their own blocks, turn by turn.
-use Rattle.std.proofs.Common.{◌≡◌, ◌≢◌, ◌⊎◌, ◌∙◌, ◌<◌, ◌≤◌, ◌+◌, ◌-◌, ◌*◌, ◌^◌, ℕ, Bool, true, List, [], Some, get_or, length, slice_get, inl, inr, refl, sym, ap, subst, arith}
+use Rattle.std.proofs.Common.{◌≡◌, ◌≢◌, ◌⊎◌, ◌∙◌, ◌<◌, ◌≤◌, ◌+◌, ◌-◌, ◌*◌, ℕ, Bool, true, List, [], Some, get_or, length, slice_get, inl, inr, refl, sym, subst, arith}
 use Rattle.std.proofs.lemmas.Bool.{cases_eq, cases_lt}
-use Rattle.std.proofs.lemmas.Option.{same_Some, slice_get-get_or, slice_get_within}
+use Rattle.std.proofs.lemmas.Option.{same_Some, slice_get-get_or}
 use Rattle.mrt_graph.specs.declared.link.End.{End}
 use Rattle.mrt_graph.specs.Topology.{Topology}
 use Rattle.link_direction.specs.Directions.{Directions}
 use Rattle.inc_dec_spf.specs.declared.reach.Dir.{Dir}
 use Rattle.inc_dec_spf.specs.declared.reach.Dir.TheVariants.{Down, Up}
 use Rattle.inc_dec_spf.specs.Against.{against}
-use Rattle.inc_dec_spf.specs.LeastPath.{HasMoreLinks}
 use Rattle.inc_dec_spf.specs.Path.{IsStep}
 use Rattle.inc_dec_spf.specs.Rest.{IsRestCost, far}
 use Rattle.inc_dec_spf.specs.Turns.{AreTurns, turn_at, turn_of}
@@ -118,8 +117,12 @@ module _ (g : Topology) (root : ℕ) (w : Directions) (dir : Dir) (is : IsOrdere
       → IsReadyFrom g w dir first width (65536 * length g.ids) all y
   all_turned count y all same turned within =
       subst (λ (c : ℕ). IsReadyFrom g w dir first width (65536 * c) all y) same
-      (turned.each y within (omega (arith, same, turn_within (against dir) (length g.ids) (w.order y) (is.ordered.orders.from_one y within)
-      (is.ordered.orders.to_n y within))))
+      (turned.each y within (omega (
+        arith,
+        same,
+        turn_within (against dir) (length g.ids) (w.order y) (is.ordered.orders.from_one y within)
+            (is.ordered.orders.to_n y within),
+      )))
 
 -- all costs stay at most far
 pub arrived_most : (first x : ℕ) (costs arrived : List ℕ) → ((j cost : ℕ) → slice_get costs j ≡ Some cost → cost ≤ far)

@@ -35,14 +35,7 @@ impl Tile {
     }
 
     /// Aims it at the nodes from `first` on. The turns are those of the other direction.
-    pub fn aim(
-        &mut self,
-        g: &Graph,
-        d: &Directed,
-        dir: Dir,
-        turns: &[NodeNo],
-        first: NodeNo,
-    )
+    pub fn aim(&mut self, g: &Graph, d: &Directed, dir: Dir, turns: &[NodeNo], first: NodeNo)
         ghost width: { ℕ }
         requires kept { IsTopology g.now }
         requires directed { HasDirections g.now d.now }

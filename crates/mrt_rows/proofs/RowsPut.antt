@@ -44,8 +44,16 @@ columns_differ s t v t_two v_two differ same = elim (cases_lt t s) [
     | inl v_below ↦
         omega (arith, same, column_below s v v_below, column_above s t (omega (arith, t_above, t_two)), v_below, t_above, t_two)
     | inr v_above ↦
-        differ (omega (arith, same, column_above s t (omega (arith, t_above, t_two)), column_above s v (omega (arith, v_above, v_two)), t_above, v_above,
-        t_two, v_two))
+        differ (omega (
+          arith,
+          same,
+          column_above s t (omega (arith, t_above, t_two)),
+          column_above s v (omega (arith, v_above, v_two)),
+          t_above,
+          v_above,
+          t_two,
+          v_two,
+        ))
   ]
 ]
 

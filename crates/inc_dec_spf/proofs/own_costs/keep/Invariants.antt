@@ -1,4 +1,4 @@
-use Rattle.std.proofs.Common.{◌≡◌, ◌⊎◌, ◌<◌, ◌≤◌, ◌+◌, ℕ, Some, length, slice_get}
+use Rattle.std.proofs.Common.{◌≡◌, ◌⊎◌, ◌<◌, ◌≤◌, ◌+◌, ℕ, length, slice_get}
 use Rattle.inc_dec_spf.proofs.own_costs.keep.Given as goal
 
 abbrev pub invariant-loop-j : goal.invariant-loop-j

@@ -1,4 +1,4 @@
-use Rattle.std.proofs.Common.{◌≡◌, ◌*◌, ◌≤◌, ℕ, false, length, arith}
+use Rattle.std.proofs.Common.{◌*◌, false, length, arith}
 use Rattle.mrt_graph.proofs.EndsAt.{list_of_ends}
 use Rattle.inc_dec_spf.specs.Ways.{AreReady}
 use Rattle.inc_dec_spf.proofs.InBlocks.{IsOrdered, move_of}

@@ -1,4 +1,4 @@
-use Rattle.std.proofs.Common.{◌≡◌, ◌≢◌, ◌-◌, ◌+◌, ◌<◌, length, get_or, slice_get, refl, sym, ap, subst, arith}
+use Rattle.std.proofs.Common.{◌-◌, ◌<◌, length, get_or, refl, arith}
 use Rattle.std.proofs.lemmas.Option.{slice_get_read, slice_get-get_or, slice_get_within}
 use Rattle.inc_dec_spf.proofs.SideBySide.{none_reached, one_reached}
 use Rattle.inc_dec_spf.proofs.side.take_last.Goals as goal
@@ -18,5 +18,8 @@ returns-then-j-costs-clause-taken c =
 pub returns-else-j-costs-clause-taken : goal.returns-else-j-costs-clause-taken
 returns-else-j-costs-clause-taken c =
     none_reached c.args.to c.args.first c.args.metric c.args.link c.args.costs.now c.args.links.now
-    (λ j cost at. (c.requires.most j cost at, λ same.
-    omega (arith, same, slice_get_within c.args.costs.now j cost at, c.get-3.ensures.value, c.get-4.ensures.value, c.if-j-costs.false)))
+    (λ j cost at. (
+      c.requires.most j cost at,
+      λ same.
+          omega (arith, same, slice_get_within c.args.costs.now j cost at, c.get-3.ensures.value, c.get-4.ensures.value, c.if-j-costs.false),
+    ))

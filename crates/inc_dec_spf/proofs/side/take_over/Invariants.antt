@@ -1,4 +1,4 @@
-use Rattle.std.proofs.Common.{◌≡◌, ℕ, Some, slice_get}
+use Rattle.std.proofs.Common.{◌≡◌, Some, slice_get}
 use Rattle.inc_dec_spf.proofs.SideBySide.{AreTakenTo}
 use Rattle.inc_dec_spf.proofs.side.take_over.Given as goal
 

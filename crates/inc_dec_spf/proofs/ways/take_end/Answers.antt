@@ -1,6 +1,6 @@
-use Rattle.std.proofs.Common.{◌≡◌, ◌∙◌, ◌<◌, ◌≤◌, ◌+◌, ◌*◌, ℕ, Some, length, slice_get, sym, ap, subst, arith}
-use Rattle.std.proofs.lemmas.Bool.{eqb-false, eqb-true}
-use Rattle.inc_dec_spf.specs.Ways.{Home, Onward}
+use Rattle.std.proofs.Common.{◌≡◌, ◌∙◌, ◌≤◌, ◌+◌, ◌*◌, ℕ, Some, length, slice_get, sym, subst, arith}
+use Rattle.std.proofs.lemmas.Bool.{eqb-true}
+use Rattle.inc_dec_spf.specs.Ways.{Onward}
 use Rattle.inc_dec_spf.proofs.EndsOffered.{block_of_node}
 use Rattle.inc_dec_spf.proofs.SideBySide.{range_most, row_within, taken_by}
 use Rattle.inc_dec_spf.proofs.ways.take_end.Goals as goal

@@ -1,4 +1,4 @@
-use Rattle.std.proofs.Common.{◌≡◌, ◌∙◌, ◌+◌, ℕ, List, length, inl, inr, refl, sym, ap, subst, arith}
+use Rattle.std.proofs.Common.{◌≡◌, ◌∙◌, ℕ, List, length, inl, inr, refl, sym, subst, arith}
 use Rattle.std.proofs.lemmas.Option.{same_Some, slice_get_read}
 use Rattle.mrt_graph.specs.declared.link.End.{End}
 use Rattle.inc_dec_spf.specs.Side.{AreTaken}
