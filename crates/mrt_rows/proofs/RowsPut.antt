@@ -1,11 +1,9 @@
 -- Rows put at their places, one after another.
-use Rattle.std.proofs.Common.{◌≡◌, ◌≢◌, ◌⊎◌, ◌∙◌, ◌<◌, ◌≤◌, ◌+◌, ◌-◌, ◌*◌, ◌==◌, ℕ, true, false, List, Option, Some, None, not, nat_lt, length, set, slice_get, refl, sym, ap, subst, inl, inr, arith}
+use Rattle.std.proofs.Common.{◌≡◌, ◌≢◌, ◌⊎◌, ◌∙◌, ◌<◌, ◌≤◌, ◌+◌, ◌-◌, ◌*◌, ◌==◌, ℕ, List, Option, Some, None, nat_lt, length, set, slice_get, refl, sym, subst, inl, inr, arith}
 use Rattle.std.proofs.Math.Nat.{mul-le-mul_left, mul_comm}
 use Rattle.std.proofs.lemmas.Bool.{and_parts, cases_Bool, cases_eq, cases_lt, eqb-false, ltb-true, not-true}
-use Rattle.std.proofs.lemmas.List.{length-set}
 use Rattle.std.proofs.lemmas.Option.{same_Some}
 use Rattle.mrt_graph.specs.declared.cert.Row.{Row}
-use Rattle.mrt_graph.specs.declared.cert.Tag.TheVariants.{Carried}
 use Rattle.mrt_graph.specs.Certificate.{are_two}
 use Rattle.mrt_graph.specs.RowPlace.{place_of_row}
 use Rattle.mrt_graph.specs.Topology.{Topology}

@@ -1,4 +1,3 @@
-use Rattle.std.proofs.Common.{ℕ}
 use Rattle.inc_dec_spf.proofs.SameDirections.{directions_are}
 use Rattle.mrt_rows.proofs.all_rows.all_rows.Goals as goal
 

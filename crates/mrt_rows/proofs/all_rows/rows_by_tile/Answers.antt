@@ -1,4 +1,4 @@
-use Rattle.std.proofs.Common.{◌≡◌, ◌∙◌, ◌-◌, ◌*◌, ℕ, List, length, rules, sym, ap, subst}
+use Rattle.std.proofs.Common.{◌≡◌, ◌∙◌, ◌-◌, ◌*◌, List, length, rules, sym, subst}
 use Rattle.inc_dec_spf.proofs.InBlocks.{IsOrdered}
 use Rattle.inc_dec_spf.proofs.SameDirections.{directions_are}
 use Rattle.mrt_rows.specs.declared.near.Home.{Home}

@@ -1,10 +1,9 @@
-use Rattle.std.proofs.Common.{◌≡◌, ◌≢◌, ◌∙◌, ◌<◌, ◌+◌, ℕ, List, Option, Some, length, set, slice_get, refl, sym, ap, subst, inl, inr, arith}
+use Rattle.std.proofs.Common.{◌≡◌, ◌≢◌, ◌∙◌, ◌<◌, ◌+◌, ℕ, Some, length, set, slice_get, sym, ap, subst, inl, inr, arith}
 use Rattle.std.proofs.lemmas.List.{length-set}
 use Rattle.std.proofs.lemmas.Bool.{cases_eq}
 use Rattle.std.proofs.lemmas.Option.{same_Some, slice_get_within}
 use Rattle.mrt_graph.proofs.ListPlaces.{set_elsewhere, set_there}
 use Rattle.inc_dec_spf.specs.declared.reach.Dir.TheVariants.{Down, Up}
-use Rattle.inc_dec_spf.specs.declared.reach.Hop.{Hop}
 use Rattle.inc_dec_spf.specs.LeastPath.{IsHop}
 use Rattle.inc_dec_spf.specs.Tile.{HasHops}
 use Rattle.mrt_rows.specs.declared.near.Home.{Home}

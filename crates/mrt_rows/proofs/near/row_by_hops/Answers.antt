@@ -1,7 +1,5 @@
-use Rattle.std.proofs.Common.{◌∙◌, sym, subst}
+use Rattle.std.proofs.Common.{◌∙◌, sym}
 use Rattle.std.proofs.lemmas.Bool.{eqb-false, eqb-true}
-use Rattle.inc_dec_spf.specs.declared.reach.Dir.TheVariants.{Down, Up}
-use Rattle.inc_dec_spf.specs.LeastPath.{IsHop}
 use Rattle.mrt_rows.specs.Source.{Far}
 use Rattle.mrt_rows.proofs.NearRows.{head_near, member_near, none_common, place_says, top_near}
 use Rattle.mrt_rows.proofs.OrderedGraphs.{graph_of, not_root_of_peers}

@@ -1,9 +1,5 @@
-use Rattle.std.proofs.Common.{◌≡◌, ◌≢◌, ◌⊎◌, ◌∙◌, ◌<◌, ◌≤◌, ◌+◌, ◌-◌, ◌*◌, ℕ, Option, get_or, length, inl, inr, refl, sym, ap, subst, arith}
-use Rattle.std.proofs.lemmas.Option.{slice_get-get_or}
-use Rattle.link_direction.specs.Directions.{Directions}
+use Rattle.std.proofs.Common.{◌≡◌, ◌≢◌, ◌⊎◌, ◌∙◌, ◌<◌, ◌≤◌, ◌+◌, ℕ, length, inl, inr, refl, sym, ap, subst, arith}
 use Rattle.inc_dec_spf.specs.declared.reach.Dir.TheVariants.{Down, Up}
-use Rattle.inc_dec_spf.specs.declared.reach.Hop.{Hop}
-use Rattle.inc_dec_spf.specs.LeastPath.{IsHop}
 use Rattle.mrt_rows.specs.Put.{ArePut, IsPut}
 use Rattle.mrt_rows.proofs.RowsPut.{Before, hop_there, near_put, none_before, none_put, one_put, put_elsewhere}
 use Rattle.std.proofs.Common.{List, set}

@@ -1,8 +1,8 @@
-use Rattle.std.proofs.Common.{◌≡◌, ◌⊎◌, ◌∙◌, ◌<◌, ◌≤◌, ◌+◌, ◌*◌, ◌/◌, ◌%◌, ℕ, List, length, refl, sym, subst, arith}
+use Rattle.std.proofs.Common.{◌∙◌, ◌*◌, ℕ, length, subst, arith}
 use Rattle.std.proofs.Math.Nat.{div-add-mod}
 use Rattle.inc_dec_spf.specs.declared.reach.Dir.TheVariants.{Down, Up}
 use Rattle.inc_dec_spf.specs.Tile.{IsAimed}
-use Rattle.mrt_rows.proofs.RowsPut.{no_tile_put, one_tile_put}
+use Rattle.mrt_rows.proofs.RowsPut.{one_tile_put}
 use Rattle.mrt_rows.proofs.tiles.put_tiles.Goals as goal
 
 pub loop-tile-preserved : goal.loop-tile-preserved
