@@ -1,0 +1,53 @@
+-- Parts that are put at the end of a text, one after another.
+use Rattle.std.proofs.Common.{◌≡◌, ◌++◌, ◌∙◌, ℕ, List, [], Option, Some, None, refl, sym, ap, append_assoc}
+use Rattle.std.proofs.lemmas.List.{append-nil}
+use Rattle.primary_alt.specs.declared.shortest.Primary.{Primary}
+use Rattle.mrt_report.specs.Adds.{Adds}
+use Rattle.mrt_report.specs.Letters.{AreArcLetters, AreLetters, AreSecondLetters}
+use Rattle.mrt_report.specs.TableParts.{TableParts}
+
+-- a part and another one after it
+pub joined : (before part other middle after : List ℕ) → middle ≡ before ++ part → after ≡ middle ++ other → after ≡ before ++ (part ++ other)
+joined before part other middle after first then = then ∙ ap (λ (xs : List ℕ). xs ++ other) first ∙ append_assoc before part other
+
+second_letters : (parts : TableParts) (to : ℕ) (found : Option ℕ) (second : ℕ) (text : List ℕ) → found ≡ Some second → AreArcLetters parts to second text → AreSecondLetters parts to found text
+second_letters parts to found second text is are = rw is are
+
+-- the letters of both arcs
+pub letters_of_two : (parts : TableParts) (to : ℕ) (primary : Primary) (second : ℕ) (before middle after : List ℕ) → primary.second ≡ Some second
+    → Adds (AreArcLetters parts to primary.first) before middle → Adds (AreArcLetters parts to second) middle after
+    → Adds (AreLetters parts to primary) before after
+letters_of_two parts to primary second before middle after is one other = record {
+  part = one.part ++ other.part;
+  is = record {
+    first = one.part;
+    first_are = one.is;
+    second = other.part;
+    second_are = second_letters parts to primary.second second other.part is other.is;
+    spelled = refl;
+  };
+  added = other.added ∙ ap (λ (xs : List ℕ). xs ++ other.part) one.added ∙ append_assoc before one.part other.part;
+}
+
+-- the letters of one arc
+pub letters_of_one : (parts : TableParts) (to : ℕ) (primary : Primary) (before after : List ℕ) → primary.second ≡ None
+    → Adds (AreArcLetters parts to primary.first) before after → Adds (AreLetters parts to primary) before after
+letters_of_one parts to primary before after is one = record {
+  part = one.part;
+  is = record {
+    first = one.part;
+    first_are = one.is;
+    second = [];
+    second_are = rw is refl;
+    spelled = sym (append-nil one.part);
+  };
+  added = one.added;
+}
+
+-- the parts of the first line, one after another
+pub head_joined : (before m1 m2 m3 m4 m5 m6 m7 m8 m9 p1 p2 p3 p4 p5 p6 p7 p8 p9 : List ℕ)
+    → m1 ≡ before ++ p1 → m2 ≡ m1 ++ p2 → m3 ≡ m2 ++ p3 → m4 ≡ m3 ++ p4 → m5 ≡ m4 ++ p5 → m6 ≡ m5 ++ p6 → m7 ≡ m6 ++ p7 → m8 ≡ m7 ++ p8 → m9 ≡ m8 ++ p9
+    → m9 ≡ before ++ (p1 ++ p2 ++ p3 ++ p4 ++ p5 ++ p6 ++ p7 ++ p8 ++ p9)
+head_joined before m1 m2 m3 m4 m5 m6 m7 m8 m9 p1 p2 p3 p4 p5 p6 p7 p8 p9 e1 e2 e3 e4 e5 e6 e7 e8 e9 =
+    joined before _ p9 m8 m9 (joined before _ p8 m7 m8 (joined before _ p7 m6 m7 (joined before _ p6 m5 m6 (joined before _ p5 m4 m5
+    (joined before _ p4 m3 m4 (joined before _ p3 m2 m3 (joined before p1 p2 m1 m2 e1 e2) e3) e4) e5) e6) e7) e8) e9

@@ -1,0 +1,122 @@
+-- What a line stands on: ends on the links of a row, and primaries.
+use Rattle.std.proofs.Common.{◌≡◌, ◌≢◌, ◌<◌, ◌==◌, ◌∙◌, ℕ, zero, suc, List, [], ◌∷◌, Option, Some, None, length, slice_get, get_or, inl, inr, refl, sym, ap, subst, arith}
+use Rattle.std.specs.Prelude.{IfSome, IsSome}
+use Rattle.std.specs.List.{find}
+use Rattle.std.specs.Option.{option_map}
+use Rattle.std.proofs.lemmas.Bool.{cases_eq, eq-eqb, ne_eqb}
+use Rattle.std.proofs.lemmas.Option.{get_or_from_slice_get, same_Some, slice_get_within}
+use Rattle.mrt_graph.proofs.ListTests.{there}
+use Rattle.mrt_report.specs.Lines.{IsPrimaryFor}
+use Rattle.area_graph.specs.declared.area_types.Arc.{Arc}
+use Rattle.area_graph.specs.Parts.{AreaParts}
+use Rattle.mrt_graph.specs.declared.cert.Color.{Color}
+use Rattle.mrt_graph.specs.declared.cert.Row.{Row}
+use Rattle.mrt_graph.specs.declared.link.End.{End}
+use Rattle.mrt_graph.specs.Certificate.{Certificate, row_of}
+use Rattle.mrt_graph.specs.GraphInvariant.{IsTopology}
+use Rattle.mrt_graph.specs.Hop.{Hop}
+use Rattle.mrt_graph.specs.Leads.{leads}
+use Rattle.mrt_graph.specs.Rows.{link_of_color}
+use Rattle.mrt_graph.specs.Topology.{Topology}
+use Rattle.mrt_graph.specs.declared.node_id.NodeId.{NodeId}
+use Rattle.mrt_graph.proofs.NodeIds.{one_place}
+use Rattle.mrt_graph.proofs.EndsAt.{IsEndOver, leads_end}
+use Rattle.primary_alt.specs.ArcWalk.{ArcWalk}
+use Rattle.primary_alt.specs.AcceptedRows.{IsAcceptedFor}
+use Rattle.primary_alt.specs.Primaries.{Direct, IsPrimary, Over}
+use Rattle.primary_alt.specs.declared.shortest.Primary.{Primary}
+use Rattle.primary_alt.proofs.ColorSteps.{hop_there}
+use Rattle.primary_alt.proofs.PrimariesLead.{entry_there}
+use Rattle.mrt_report.specs.TableParts.{AreTableParts, IsSpotOf, TableParts}
+use Rattle.mrt_report.proofs.IslandWalks.{walk_there}
+
+-- the link of each color in a row touches the node
+pub row_touches : (g : Topology) (c : Certificate) → IsAcceptedFor g c → (color : Color) (s t : ℕ) (row : Row) → s < length g.ids → t < length g.ids → s ≢ t
+    → row_of c s t ≡ Some row → IsSome (leads g.links (link_of_color color row) s)
+row_touches g c accepted color s t row from to other is =
+    go (leads g.links (link_of_color color row) s) (rw is at (hop_there g c accepted color s t from to other))
+  where
+    made : ℕ → Hop
+    made v = record { link = link_of_color color row; to = v }
+
+    go : (o : Option ℕ) → IsSome (option_map made o) → IsSome o
+    go None some = cc
+    go (Some v) some = refl
+
+is_some : {X : Type 0} (o : Option X) → IsSome o → (x : X) × (o ≡ Some x)
+is_some None some = cc
+is_some (Some x) some = (x, refl)
+
+-- an end is found on a link that touches the node
+pub end_found : (g : Topology) (s e : ℕ) (ends : List End) → IsTopology g → slice_get g.ends s ≡ Some ends → IsSome (leads g.links e s)
+    → IsSome (find (λ end. end.link == e) ends)
+end_found g s e ends kept list touches =
+    let far : (v : ℕ) × (leads g.links e s ≡ Some v) = is_some (leads g.links e s) touches in
+    let over : IsEndOver ends e far.0 = leads_end g s e far.0 ends kept list far.1 in
+    finds ends over.place over.end over.at over.over
+  where
+    finds : (xs : List End) (k : ℕ) (x : End) → slice_get xs k ≡ Some x → x.link ≡ e → IsSome (find (λ end. end.link == e) xs)
+    finds [] k x at over = absurd cc
+    finds (y ∷ ys) zero x at over = rw (eq-eqb y.link e (ap (λ (end : End). end.link) (same_Some y x at) ∙ over)) refl
+    finds (y ∷ ys) (suc k) x at over = elim (cases_eq y.link e) [
+      | inl same ↦ rw (eq-eqb y.link e same) refl
+      | inr differs ↦ rw (ne_eqb y.link e differs) (finds ys k x at over)
+    ]
+
+-- an entry for another node of the island is a primary
+pub primary_there : (parts : TableParts) → AreTableParts parts → (to spot : ℕ) (entry : Option Primary) → to < length parts.island.ids → parts.source ≢ to
+    → IsSpotOf parts.area parts.island spot to → slice_get parts.primaries spot ≡ Some entry → IsSome entry
+primary_there parts kept to spot entry within other at is =
+    let own = kept.primaries in
+    let walk = kept.island_kept.connected parts.source to kept.within within in
+    let apart : own.spot ≢ spot = λ same. other (one_place parts.island.ids parts.source to at.id kept.island_kept.ids_ascend
+    (subst (λ (x : NodeId). slice_get parts.island.ids parts.source ≡ Some x)
+    (same_Some own.node.id at.id (sym own.node.in_area ∙ ap (slice_get parts.area.ids) same ∙ at.in_area)) own.node.in_island) at.in_island) in
+    let arcs : (arcs : List Arc) × ArcWalk parts.area.arcs own.spot arcs spot = walk_there parts.area parts.island parts.link_of kept.area_kept kept.island_kept kept.fits walk.0 parts.source to own.spot spot walk.1 own.node at in
+    entry_there parts.area own.spot spot entry arcs.0 (own.entries.each spot entry is) apart arcs.1
+
+-- what stands at a node's place among the primaries
+pub entry_of : (parts : TableParts) → AreTableParts parts → (spot : ℕ) (id : NodeId) (d : Option Primary) → slice_get parts.area.ids spot ≡ Some id
+    → slice_get parts.primaries spot ≡ Some (get_or parts.primaries spot d)
+entry_of parts kept spot id d at =
+    let entry : (x : Option Primary) × (slice_get parts.primaries spot ≡ Some x) =
+    there parts.primaries spot (omega (arith, slice_get_within parts.area.ids spot id at, kept.primaries.entries.one_each)) in
+    entry.1 ∙ ap (λ (x : Option Primary). Some x) (sym (get_or_from_slice_get parts.primaries spot entry.0 d entry.1))
+
+-- there is a primary at the place of another node of the island
+pub some_entry : (parts : TableParts) → AreTableParts parts → (to spot : ℕ) (id : NodeId) (d : Option Primary) → to < length parts.island.ids → parts.source ≢ to
+    → slice_get parts.area.ids spot ≡ Some id → slice_get parts.island.ids to ≡ Some id → IsSome (get_or parts.primaries spot d)
+some_entry parts kept to spot id d within other in_area in_island =
+    primary_there parts kept to spot (get_or parts.primaries spot d) within other (record { id = id; in_area = in_area; in_island = in_island })
+    (entry_of parts kept spot id d in_area)
+
+-- and it is the primary for this node
+pub entry_is : (parts : TableParts) → AreTableParts parts → (to spot : ℕ) (id : NodeId) (d : Option Primary) (primary : Primary)
+    → slice_get parts.area.ids spot ≡ Some id → slice_get parts.island.ids to ≡ Some id → get_or parts.primaries spot d ≡ Some primary
+    → IsPrimaryFor parts to primary
+entry_is parts kept to spot id d primary in_area in_island is = record {
+  spot = spot;
+  node = record { id = id; in_area = in_area; in_island = in_island };
+  entry = entry_of parts kept spot id d in_area ∙ ap (λ (x : Option Primary). Some x) is;
+}
+
+-- the arcs of a primary are arcs of the area
+first_of : (area : AreaParts) (s t : ℕ) (primary : Primary) → IsPrimary area s t (Some primary) → primary.first < length area.arcs
+first_of area s t primary (Direct number arc other first direct) = slice_get_within area.arcs number arc first.there
+first_of area s t primary (Over number second arc onward other first over then) = slice_get_within area.arcs number arc first.there
+
+second_of : (area : AreaParts) (s t : ℕ) (primary : Primary) → IsPrimary area s t (Some primary) → IfSome primary.second (λ second. second < length area.arcs)
+second_of area s t primary (Direct number arc other first direct) = tt
+second_of area s t primary (Over number second arc onward other first over then) = slice_get_within area.arcs second onward then.there
+
+pub first_within : (parts : TableParts) → AreTableParts parts → (to : ℕ) (primary : Primary) → IsPrimaryFor parts to primary → primary.first < length parts.area.arcs
+first_within parts kept to primary is = first_of parts.area kept.primaries.spot is.spot primary (kept.primaries.entries.each is.spot (Some primary) is.entry)
+
+pub second_within : (parts : TableParts) → AreTableParts parts → (to : ℕ) (primary : Primary) → IsPrimaryFor parts to primary
+    → IfSome primary.second (λ second. second < length parts.area.arcs)
+second_within parts kept to primary is = second_of parts.area kept.primaries.spot is.spot primary (kept.primaries.entries.each is.spot (Some primary) is.entry)
+
+-- what is taken as it is
+pub as_it_is : {X : Type 0} (o : Option X) → option_map (λ x. x) o ≡ o
+as_it_is None = refl
+as_it_is (Some x) = refl

@@ -1,0 +1,9 @@
+pub mod Adding
+pub mod AddingLines
+pub mod ForLine
+pub mod IslandWalks
+pub mod Marking
+pub mod OneLine
+pub mod OneTable
+pub mod Roots
+pub mod RowLinks

@@ -1,0 +1,23 @@
+use Rattle.std.proofs.Common.{refl}
+use Rattle.mrt_report.proofs.Adding.{joined}
+use Rattle.mrt_report.proofs.line.push_line.Goals as goal
+
+pub returns : goal.returns
+returns c =
+    let colors = c.in_ok-push_colors.ensures in
+    let primary = c.in_ok-push_primary.ensures in
+    record {
+      part = _;
+      is = record {
+        id = c.id.result;
+        id_is = c.id.ensures;
+        colors = colors.part;
+        colors_are = colors.is;
+        primary = primary.part;
+        primary_is = primary.is;
+        spelled = refl;
+      };
+      added =
+          joined _ _ _ _ _ (joined _ _ _ _ _ (joined _ _ _ _ _ (joined _ _ _ _ _ (joined _ _ _ _ _
+          c.in_ok-push_node.ensures c.in_ok-push.ensures) colors.added) c.in_ok-push-2.ensures) primary.added) c.in_ok-push-3.ensures;
+    }

@@ -1,0 +1,17 @@
+use Rattle.std.proofs.Common.{◌<◌, length}
+use Rattle.mrt_graph.specs.Certificate.{row_of}
+use Rattle.mrt_graph.specs.ColorWalk.{color_walk}
+use Rattle.mrt_graph.specs.Hop.{color_hop}
+use Rattle.mrt_report.specs.Marks.{AreMarksFor}
+use Rattle.mrt_report.proofs.Marking.{IsMarking}
+use Rattle.mrt_report.proofs.marks.mark_walk.Given as goal
+
+abbrev pub invariant-loop-left : goal.invariant-loop-left
+invariant-loop-left l =
+    (l.at < length l.g.ids)
+    × AreMarksFor l.g l.marks
+    × IsMarking l.g.links (color_hop l.g.links (row_of l.c) l.color l.t) l.t (color_walk l.g.links (length l.g.ids) (row_of l.c) l.color l.fn.s l.t) l.fn.s l.left l.at
+    l.marks.links.items l.marks.nodes.items
+
+abbrev pub decreases-loop-left : goal.decreases-loop-left
+decreases-loop-left l = l.left

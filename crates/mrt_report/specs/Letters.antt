@@ -1,0 +1,54 @@
+-- Which color repairs the failure of each element of a primary.
+use Rattle.std.specs.Prelude.{◌≡◌, ◌++◌, ℕ, List, [], Option, Some, None, Contains, length, slice_get, slice_index_or}
+use Rattle.std.specs.Option.{option_map}
+use Rattle.area_graph.specs.declared.area_types.Arc.{Arc}
+use Rattle.mrt_graph.specs.declared.cert.Color.{Color}
+use Rattle.mrt_graph.specs.declared.link.Element.{Element}
+use Rattle.mrt_graph.specs.declared.link.Element.TheVariants as elements
+use Rattle.mrt_graph.specs.declared.node_id.NodeId.{NodeId}
+use Rattle.mrt_graph.specs.Alternate.{IsAlternate}
+use Rattle.mrt_graph.specs.Certificate.{row_of}
+use Rattle.primary_alt.specs.declared.shortest.Primary.{Primary}
+use Rattle.mrt_report.specs.TableParts.{TableParts}
+use Rattle.mrt_report.specs.TableWords.{letter_text}
+
+-- the island link that a bond is; none where the bond is outside the island
+abbrev pub link_element : List (Option ℕ) → ℕ → Option Element
+link_element link_of bond = option_map (λ e. elements.Link e) (slice_index_or link_of bond None)
+
+-- the island node that has this identifier; none where the node is outside the island
+pub data IsNodeElement (ids : List NodeId) (id : NodeId) : Option Element → Type 0 where
+  Inside : (n : ℕ) → slice_get ids n ≡ Some id → IsNodeElement ids id (Some (elements.Node n))
+  Outside : ¬ Contains ids id → IsNodeElement ids id None
+
+-- the router's alternate for a node of the island, where the element has failed
+abbrev pub IsRepair : TableParts → ℕ → Option Element → Option Color → Type 0
+IsRepair parts to failed answer =
+    IsAlternate parts.island.links (length parts.island.ids) (row_of parts.cert) parts.source to failed answer
+
+-- of an arc: a letter for its bond, and one for the node that it leads to
+pub record AreArcLetters (parts : TableParts) (to number : ℕ) (text : List ℕ) : Type 0 where
+  pub arc : Arc
+  pub there : slice_get parts.area.arcs number ≡ Some arc
+  pub bond_repair : Option Color
+  pub bond_repair_is : IsRepair parts to (link_element parts.link_of arc.bond) bond_repair
+  pub far : NodeId
+  pub far_is : slice_get parts.area.ids arc.to ≡ Some far
+  pub node : Option Element
+  pub node_is : IsNodeElement parts.island.ids far node
+  pub node_repair : Option Color
+  pub node_repair_is : IsRepair parts to node node_repair
+  pub spelled : text ≡ letter_text bond_repair ++ letter_text node_repair
+
+-- of an arc that may not be there
+abbrev pub AreSecondLetters : TableParts → ℕ → Option ℕ → List ℕ → Type 0
+AreSecondLetters parts to None text = text ≡ []
+AreSecondLetters parts to (Some number) text = AreArcLetters parts to number text
+
+-- of a primary: the letters of its first arc and, where there is one, of its second arc
+pub record AreLetters (parts : TableParts) (to : ℕ) (primary : Primary) (text : List ℕ) : Type 0 where
+  pub first : List ℕ
+  pub first_are : AreArcLetters parts to primary.first first
+  pub second : List ℕ
+  pub second_are : AreSecondLetters parts to primary.second second
+  pub spelled : text ≡ first ++ second

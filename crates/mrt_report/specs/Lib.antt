@@ -1,0 +1,10 @@
+pub mod Adds
+pub mod AddsLines
+pub mod Letters
+pub mod Lines
+pub mod Marks
+pub mod TableParts
+pub mod TableText
+pub mod TableWords
+pub mod Uses
+pub mod Viewed

@@ -1,0 +1,55 @@
+-- What a router's table is made from.
+use Rattle.std.specs.Prelude.{◌≡◌, ◌<◌, ℕ, List, Option, Some, length, slice_get}
+use Rattle.area_graph.specs.AreaInvariant.{IsArea}
+use Rattle.area_graph.specs.Fits.{Fits}
+use Rattle.area_graph.specs.Parts.{AreaParts}
+use Rattle.mrt_graph.specs.declared.node_id.NodeId.{NodeId}
+use Rattle.mrt_graph.specs.Certificate.{Certificate}
+use Rattle.mrt_graph.specs.GraphInvariant.{IsTopology}
+use Rattle.mrt_graph.specs.Topology.{Topology}
+use Rattle.primary_alt.specs.AcceptedRows.{IsAcceptedFor}
+use Rattle.primary_alt.specs.Primaries.{ArePrimaries}
+use Rattle.primary_alt.specs.declared.shortest.Primary.{Primary}
+
+-- the area; the island, with the island link that each bond of the area is, if it is one; the island's certificate; the
+-- router, by its number in the island; and its primaries for all nodes of the area
+pub record TableParts : Type 0 where
+  pub area : AreaParts
+  pub island : Topology
+  pub link_of : List (Option ℕ)
+  pub cert : Certificate
+  pub source : ℕ
+  pub primaries : List (Option Primary)
+
+-- these parts
+abbrev pub table_parts : AreaParts → Topology → List (Option ℕ) → Certificate → ℕ → List (Option Primary) → TableParts
+table_parts area island link_of cert source primaries = record {
+  area = area;
+  island = island;
+  link_of = link_of;
+  cert = cert;
+  source = source;
+  primaries = primaries;
+}
+
+-- the two numbers are of one node: of the area, and of the island
+pub record IsSpotOf (area : AreaParts) (island : Topology) (spot n : ℕ) : Type 0 where
+  pub id : NodeId
+  pub in_area : slice_get area.ids spot ≡ Some id
+  pub in_island : slice_get island.ids n ≡ Some id
+
+-- the primaries of an island node
+pub record AreItsPrimaries (area : AreaParts) (island : Topology) (source : ℕ) (primaries : List (Option Primary))
+    : Type 0 where
+  pub spot : ℕ
+  pub node : IsSpotOf area island spot source
+  pub entries : ArePrimaries area spot primaries
+
+-- the parts belong together
+pub record AreTableParts (parts : TableParts) : Type 0 where
+  pub area_kept : IsArea parts.area
+  pub island_kept : IsTopology parts.island
+  pub fits : Fits parts.area parts.island parts.link_of
+  pub accepted : IsAcceptedFor parts.island parts.cert
+  pub within : parts.source < length parts.island.ids
+  pub primaries : AreItsPrimaries parts.area parts.island parts.source parts.primaries

@@ -1,0 +1,139 @@
+//! A table's line on one destination.
+
+ghost use Rattle.std.specs.Prelude.{◌≡◌, ◌≢◌, ◌<◌, ◌==◌, IfOk, IfSome, IsSome, length};
+ghost use Rattle.std.specs.List.{find};
+ghost use Rattle.std.specs.Option.{option_map};
+ghost use Rattle.mrt_graph.specs.GraphInvariant.{IsTopology};
+ghost use Rattle.mrt_graph.specs.Leads.{leads};
+ghost use Rattle.mrt_report.specs.Adds.{Adds};
+ghost use Rattle.mrt_report.specs.Lines.{
+  AreColorWords,
+  ArePrimaryWords,
+  IsArcHop,
+  IsEndOn,
+  IsLine,
+  IsLinkHop,
+  IsPrimaryFor,
+};
+ghost use Rattle.mrt_report.specs.TableParts.{AreTableParts};
+ghost use Rattle.mrt_report.specs.Uses.{AreUses};
+ghost use Rattle.mrt_report.specs.Viewed.{viewed};
+
+use crate::letters::{Walks, push_letters};
+use crate::parts::Parts;
+use crate::words::{push, push_hop, push_node, tag_word};
+use area_graph::ArcNo;
+use mrt_graph::{End, Graph, LinkNo, NoMemory, NodeNo};
+use primary_alt::Primary;
+
+/// Puts the line on a destination at the end of a text.
+pub fn push_line(
+    text: &mut Vec<u8>,
+    parts: &Parts,
+    walks: &Walks,
+    to: NodeNo,
+) -> Result<(), NoMemory>
+    requires kept { AreTableParts (viewed parts.now) }
+    requires walks { AreUses (viewed parts.now) to walks.now }
+    requires target { to < length parts.now.island.now.ids }
+    requires different { parts.now.source ≢ to }
+    ensures { IfOk result (λ _. Adds (IsLine (viewed parts.now) to) text.old.items text.new.items) }
+{
+    push_node(text, parts.island.id(to))?;
+    push(text, b" ")?;
+    push_colors(text, parts, to)?;
+    push(text, b" primary ")?;
+    push_primary(text, parts, walks, to)?;
+    push(text, b"\n")?;
+    Ok(())
+}
+
+/// Puts the hops of both colors at the end of a text.
+fn push_colors(text: &mut Vec<u8>, parts: &Parts, to: NodeNo) -> Result<(), NoMemory>
+    requires kept { AreTableParts (viewed parts.now) }
+    requires target { to < length parts.now.island.now.ids }
+    requires different { parts.now.source ≢ to }
+    ensures { IfOk result (λ _. Adds (AreColorWords (viewed parts.now) to) text.old.items text.new.items) }
+{
+    let row = parts.cert.row(parts.source, to);
+    push(text, tag_word(row.tag))?;
+    push(text, b" blue ")?;
+    push_link_hop(text, parts, row.blue)?;
+    push(text, b" red ")?;
+    push_link_hop(text, parts, row.red)?;
+    Ok(())
+}
+
+/// Puts the hop over a link of the island at the end of a text.
+fn push_link_hop(text: &mut Vec<u8>, parts: &Parts, link: LinkNo) -> Result<(), NoMemory>
+    requires kept { AreTableParts (viewed parts.now) }
+    requires touches { IsSome (leads parts.now.island.now.links link parts.now.source) }
+    ensures { IfOk result (λ _. Adds (IsLinkHop (viewed parts.now) link) text.old.items text.new.items) }
+{
+    let end = end_on(parts.island, parts.source, link);
+    push_hop(text, parts.island.id(end.to), end.link_data)?;
+    Ok(())
+}
+
+/// The end of a node on a link that touches it.
+fn end_on(g: &Graph, s: NodeNo, link: LinkNo) -> End
+    requires kept { IsTopology g.now }
+    requires within { s < length g.now.ids }
+    requires touches { IsSome (leads g.now.links link s) }
+    ensures is { IsEndOn g.now s link result }
+    ensures to { result.to < length g.now.ids }
+{
+    first_on(g.ends(s), link).unwrap()
+}
+
+/// The first of these ends on a link.
+fn first_on(ends: &[End], link: LinkNo) -> Option<End>
+    ensures { result ≡ option_map (λ end. end) (find (λ end. end.link == link) ends.now) }
+{
+    let end = ends.iter().find(|end| end.link == link)?;
+    Some(*end)
+}
+
+/// Puts the primary's hop, and what repairs the failure of each of its elements, at the end of a text.
+fn push_primary(
+    text: &mut Vec<u8>,
+    parts: &Parts,
+    walks: &Walks,
+    to: NodeNo,
+) -> Result<(), NoMemory>
+    requires kept { AreTableParts (viewed parts.now) }
+    requires walks { AreUses (viewed parts.now) to walks.now }
+    requires target { to < length parts.now.island.now.ids }
+    requires different { parts.now.source ≢ to }
+    ensures { IfOk result (λ _. Adds (ArePrimaryWords (viewed parts.now) to) text.old.items text.new.items) }
+{
+    let primary = primary_for(parts, to);
+    push_arc_hop(text, parts, primary.first)?;
+    push(text, b" repair ")?;
+    push_letters(text, parts, walks, to, primary)?;
+    Ok(())
+}
+
+/// The primary for another node of the island. There is one, since the island connects them.
+fn primary_for(parts: &Parts, to: NodeNo) -> Primary
+    requires kept { AreTableParts (viewed parts.now) }
+    requires target { to < length parts.now.island.now.ids }
+    requires different { parts.now.source ≢ to }
+    ensures is { IsPrimaryFor (viewed parts.now) to result }
+    ensures first { result.first < length parts.now.area.now.arcs }
+    ensures second { IfSome result.second (λ second. second < length parts.now.area.now.arcs) }
+{
+    let spot = parts.area.find(parts.island.id(to)).unwrap();
+    parts.primaries[spot.get() as usize].unwrap()
+}
+
+/// Puts the hop over an arc at the end of a text.
+fn push_arc_hop(text: &mut Vec<u8>, parts: &Parts, number: ArcNo) -> Result<(), NoMemory>
+    requires kept { AreTableParts (viewed parts.now) }
+    requires within { number < length parts.now.area.now.arcs }
+    ensures { IfOk result (λ _. Adds (IsArcHop (viewed parts.now) number) text.old.items text.new.items) }
+{
+    let arc = parts.area.arc(number);
+    push_hop(text, parts.area.id(arc.to), arc.link_data)?;
+    Ok(())
+}
