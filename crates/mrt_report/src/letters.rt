@@ -78,7 +78,8 @@ pub fn push_letters(
     requires walks { AreUses (viewed parts.now) to walks.now }
     requires first { primary.first < length parts.now.area.now.arcs }
     requires second { IfSome primary.second (λ second. second < length parts.now.area.now.arcs) }
-    ensures { IfOk result (λ _. Adds (AreLetters (viewed parts.now) to primary) text.old.items text.new.items) }
+    ensures { IfOk result (λ _.
+        Adds (AreLetters (viewed parts.now) to primary) text.old.items text.new.items) }
 {
     push_arc_letters(text, parts, walks, to, primary.first)?;
     if let Some(second) = primary.second {
@@ -98,7 +99,8 @@ fn push_arc_letters(
     requires kept { AreTableParts (viewed parts.now) }
     requires walks { AreUses (viewed parts.now) to walks.now }
     requires within { number < length parts.now.area.now.arcs }
-    ensures { IfOk result (λ _. Adds (AreArcLetters (viewed parts.now) to number) text.old.items text.new.items) }
+    ensures { IfOk result (λ _.
+        Adds (AreArcLetters (viewed parts.now) to number) text.old.items text.new.items) }
 {
     let arc = parts.area.arc(number);
     let link = element_of_bond(parts.link_of, arc.bond);

@@ -53,7 +53,8 @@ fn push_colors(text: &mut Vec<u8>, parts: &Parts, to: NodeNo) -> Result<(), NoMe
     requires kept { AreTableParts (viewed parts.now) }
     requires target { to < length parts.now.island.now.ids }
     requires different { parts.now.source ≢ to }
-    ensures { IfOk result (λ _. Adds (AreColorWords (viewed parts.now) to) text.old.items text.new.items) }
+    ensures { IfOk result (λ _.
+        Adds (AreColorWords (viewed parts.now) to) text.old.items text.new.items) }
 {
     let row = parts.cert.row(parts.source, to);
     push(text, tag_word(row.tag))?;
@@ -68,7 +69,8 @@ fn push_colors(text: &mut Vec<u8>, parts: &Parts, to: NodeNo) -> Result<(), NoMe
 fn push_link_hop(text: &mut Vec<u8>, parts: &Parts, link: LinkNo) -> Result<(), NoMemory>
     requires kept { AreTableParts (viewed parts.now) }
     requires touches { IsSome (leads parts.now.island.now.links link parts.now.source) }
-    ensures { IfOk result (λ _. Adds (IsLinkHop (viewed parts.now) link) text.old.items text.new.items) }
+    ensures { IfOk result (λ _.
+        Adds (IsLinkHop (viewed parts.now) link) text.old.items text.new.items) }
 {
     let end = end_on(parts.island, parts.source, link);
     push_hop(text, parts.island.id(end.to), end.link_data)?;
@@ -105,7 +107,8 @@ fn push_primary(
     requires walks { AreUses (viewed parts.now) to walks.now }
     requires target { to < length parts.now.island.now.ids }
     requires different { parts.now.source ≢ to }
-    ensures { IfOk result (λ _. Adds (ArePrimaryWords (viewed parts.now) to) text.old.items text.new.items) }
+    ensures { IfOk result (λ _.
+        Adds (ArePrimaryWords (viewed parts.now) to) text.old.items text.new.items) }
 {
     let primary = primary_for(parts, to);
     push_arc_hop(text, parts, primary.first)?;
@@ -131,7 +134,8 @@ fn primary_for(parts: &Parts, to: NodeNo) -> Primary
 fn push_arc_hop(text: &mut Vec<u8>, parts: &Parts, number: ArcNo) -> Result<(), NoMemory>
     requires kept { AreTableParts (viewed parts.now) }
     requires within { number < length parts.now.area.now.arcs }
-    ensures { IfOk result (λ _. Adds (IsArcHop (viewed parts.now) number) text.old.items text.new.items) }
+    ensures { IfOk result (λ _.
+        Adds (IsArcHop (viewed parts.now) number) text.old.items text.new.items) }
 {
     let arc = parts.area.arc(number);
     push_hop(text, parts.area.id(arc.to), arc.link_data)?;

@@ -49,7 +49,8 @@ pub fn table_text(
     requires router { ¬ IsNetwork island.now.ids source }
     requires primaries { AreItsPrimaries area.now island.now source prim.now }
     ensures { IfOk result (λ text.
-        IsTableText (table_parts area.now island.now link_of.now c.now source prim.now) root text.items) }
+        IsTableText (table_parts area.now island.now link_of.now c.now source prim.now)
+        root text.items) }
 {
     // what each area and each graph keeps is told by reading it
     let _nodes = area.count();
@@ -73,7 +74,8 @@ pub fn table_text(
 fn push_head(text: &mut Vec<u8>, parts: &Parts, root: NodeNo) -> Result<(), NoMemory>
     requires source { parts.now.source < length parts.now.island.now.ids }
     requires root { root < length parts.now.island.now.ids }
-    ensures { IfOk result (λ _. Adds (IsHead (viewed parts.now) root) text.old.items text.new.items) }
+    ensures { IfOk result (λ _.
+        Adds (IsHead (viewed parts.now) root) text.old.items text.new.items) }
 {
     push(text, b"router ")?;
     push_node(text, parts.island.id(parts.source))?;
@@ -93,7 +95,8 @@ fn push_lines(text: &mut Vec<u8>, parts: &Parts, walks: &mut Walks) -> Result<()
     requires blue { AreMarksFor parts.now.island.now walks.old.blue }
     requires red { AreMarksFor parts.now.island.now walks.old.red }
     ensures { IfOk result (λ _.
-        AddsLines (viewed parts.now) (length parts.now.island.now.ids) text.old.items text.new.items) }
+        AddsLines (viewed parts.now) (length parts.now.island.now.ids)
+        text.old.items text.new.items) }
 {
     for place in 0..parts.island.node_count() {
         let to = NodeNo::new(place);
