@@ -20,7 +20,7 @@ use Rattle.mrt_graph.specs.Topology.{Topology}
 use Rattle.mrt_graph.proofs.ListPlaces.{contains_at}
 use Rattle.mrt_graph.proofs.NodeIds.{one_place}
 use Rattle.primary_alt.specs.declared.shortest.Primary.{Primary}
-use Rattle.mrt_report.specs.Letters.{AreArcLetters, AreLetters, AreSecondLetters, Inside, IsNodeElement, IsRepair, Outside, link_element}
+use Rattle.mrt_report.specs.Letters.{AreArcLetters, AreLetters, AreSecondLetters, Inside, IsLinkElement, IsNodeElement, IsRepair, Outside}
 use Rattle.mrt_report.specs.Lines.{AreColorWords, ArePrimaryWords, IsArcHop, IsEndOn, IsLine, IsLinkHop, IsPrimaryFor}
 use Rattle.mrt_report.specs.TableParts.{TableParts}
 use Rattle.mrt_report.specs.TableWords.{hop_text, letter_text, tag_text}
@@ -43,12 +43,12 @@ one_arc_letters alternate parts kept to number one other a b =
     let arc : a.arc ≡ b.arc = same_Some a.arc b.arc (sym a.there ∙ b.there) in
     let far : a.far ≡ b.far = same_Some a.far b.far (sym a.far_is ∙ ap (λ (x : Arc). slice_get parts.area.ids x.to) arc ∙ b.far_is) in
     let node : a.node ≡ b.node = one_node parts.island kept b.far a.node b.node (subst (λ (id : NodeId). IsNodeElement parts.island.ids id a.node) far a.node_is) b.node_is in
-    let bond_repair : a.bond_repair ≡ b.bond_repair =
-    alternate _ _ _ _ _ _ a.bond_repair b.bond_repair
-    (subst (λ (x : Arc). IsRepair parts to (link_element parts.link_of x.bond) a.bond_repair) arc a.bond_repair_is) b.bond_repair_is in
+    let link : a.link ≡ b.link = same_Some a.link b.link (sym (subst (λ (x : Arc). IsLinkElement parts.link_of x.bond a.link) arc a.link_is) ∙ b.link_is) in
+    let link_repair : a.link_repair ≡ b.link_repair =
+    alternate _ _ _ _ _ _ a.link_repair b.link_repair (subst (λ (x : Option Element). IsRepair parts to x a.link_repair) link a.link_repair_is) b.link_repair_is in
     let node_repair : a.node_repair ≡ b.node_repair =
     alternate _ _ _ _ _ _ a.node_repair b.node_repair (subst (λ (x : Option Element). IsRepair parts to x a.node_repair) node a.node_repair_is) b.node_repair_is in
-    a.spelled ∙ (λ i. letter_text (bond_repair i) ++ letter_text (node_repair i)) ∙ sym b.spelled
+    a.spelled ∙ (λ i. letter_text (link_repair i) ++ letter_text (node_repair i)) ∙ sym b.spelled
 
 one_second_letters : OneAlternate → (parts : TableParts) → IsTopology parts.island → (to : ℕ) (number : Option ℕ) (one other : List ℕ)
     → AreSecondLetters parts to number one → AreSecondLetters parts to number other → one ≡ other

@@ -1,5 +1,5 @@
 -- Which color repairs the failure of each element of a primary.
-use Rattle.std.specs.Prelude.{◌≡◌, ◌++◌, ℕ, List, [], Option, Some, None, Contains, length, slice_get, slice_index_or}
+use Rattle.std.specs.Prelude.{◌≡◌, ◌++◌, ℕ, List, [], Option, Some, None, Contains, length, slice_get}
 use Rattle.std.specs.Option.{option_map}
 use Rattle.area_graph.specs.declared.area_types.Arc.{Arc}
 use Rattle.mrt_graph.specs.declared.cert.Color.{Color}
@@ -12,9 +12,9 @@ use Rattle.primary_alt.specs.declared.shortest.Primary.{Primary}
 use Rattle.mrt_report.specs.TableParts.{TableParts}
 use Rattle.mrt_report.specs.TableWords.{letter_text}
 
--- the island link that a bond is; none where the bond is outside the island
-abbrev pub link_element : List (Option ℕ) → ℕ → Option Element
-link_element link_of bond = option_map (λ e. elements.Link e) (slice_index_or link_of bond None)
+-- the island link that a bond of the area is; none where its entry names no link
+abbrev pub IsLinkElement : List (Option ℕ) → ℕ → Option Element → Type 0
+IsLinkElement link_of bond element = option_map (option_map (λ e. elements.Link e)) (slice_get link_of bond) ≡ Some element
 
 -- the island node that has this identifier; none where the node is outside the island
 pub data IsNodeElement (ids : List NodeId) (id : NodeId) : Option Element → Type 0 where
@@ -30,15 +30,17 @@ IsRepair parts to failed answer =
 pub record AreArcLetters (parts : TableParts) (to number : ℕ) (text : List ℕ) : Type 0 where
   pub arc : Arc
   pub there : slice_get parts.area.arcs number ≡ Some arc
-  pub bond_repair : Option Color
-  pub bond_repair_is : IsRepair parts to (link_element parts.link_of arc.bond) bond_repair
+  pub link : Option Element
+  pub link_is : IsLinkElement parts.link_of arc.bond link
+  pub link_repair : Option Color
+  pub link_repair_is : IsRepair parts to link link_repair
   pub far : NodeId
   pub far_is : slice_get parts.area.ids arc.to ≡ Some far
   pub node : Option Element
   pub node_is : IsNodeElement parts.island.ids far node
   pub node_repair : Option Color
   pub node_repair_is : IsRepair parts to node node_repair
-  pub spelled : text ≡ letter_text bond_repair ++ letter_text node_repair
+  pub spelled : text ≡ letter_text link_repair ++ letter_text node_repair
 
 -- of an arc that may not be there
 abbrev pub AreSecondLetters : TableParts → ℕ → Option ℕ → List ℕ → Type 0

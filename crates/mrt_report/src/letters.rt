@@ -7,9 +7,9 @@ ghost use Rattle.mrt_report.specs.Adds.{Adds};
 ghost use Rattle.mrt_report.specs.Letters.{
   AreArcLetters,
   AreLetters,
+  IsLinkElement,
   IsNodeElement,
   IsRepair,
-  link_element,
 };
 ghost use Rattle.mrt_report.specs.Marks.{AreMarksFor};
 ghost use Rattle.mrt_report.specs.TableParts.{AreTableParts};
@@ -113,7 +113,7 @@ fn push_arc_letters(
 /// The link of the island that a bond is, if it is one.
 fn element_of_bond(link_of: &[Option<LinkNo>], bond: BondNo) -> Option<Element>
     requires { bond < length link_of.now }
-    ensures { result ≡ link_element link_of.now bond }
+    ensures { IsLinkElement link_of.now bond result }
 {
     match link_of[bond.get() as usize] {
         Some(link) => Some(Element::Link(link)),
