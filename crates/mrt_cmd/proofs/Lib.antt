@@ -4,7 +4,9 @@ pub mod Entering
 pub mod Exactly
 pub mod OneExit
 pub mod OneReading
+pub mod OneTable
 pub mod OneVerdict
 pub mod Refusals
+pub mod Tables
 pub mod Unread
 pub mod WrittenPasses

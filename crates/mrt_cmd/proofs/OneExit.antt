@@ -1,5 +1,5 @@
 -- Of the words and of what a shelf holds there comes one exit.
-use Rattle.std.proofs.Common.{◌≡◌, ◌∙◌, ◌<◌, ◌⊎◌, ◌+◌, ◌++◌, ◌==◌, ℕ, Bool, true, false, List, [], ◌∷◌, Option, Some, None, length, refl, sym, ap, subst, inl, inr}
+use Rattle.std.proofs.Common.{◌≡◌, ◌∙◌, ◌⊎◌, ◌+◌, ◌++◌, ◌==◌, ℕ, Bool, true, false, List, [], ◌∷◌, Option, Some, None, length, refl, sym, ap, subst, inl, inr}
 use Rattle.std.specs.Prelude.{IsNone}
 use Rattle.std.specs.List.{AllByRecursion}
 use Rattle.std.specs.Option.{IsSomeAnd, option_map, option_to_list}
@@ -9,7 +9,6 @@ use Rattle.area_graph.specs.AreaOf.{area_of}
 use Rattle.area_graph.specs.AreaSize.{IsTooLarge}
 use Rattle.mrt_graph.specs.Accepted.{Accepted}
 use Rattle.mrt_graph.specs.FirstFault.{FirstFault}
-use Rattle.mrt_graph.specs.GraphInvariant.{IsTopology}
 use Rattle.mrt_graph.specs.TextLines.{text_lines}
 use Rattle.mrt_graph.specs.Topology.{Topology}
 use Rattle.mrt_graph.specs.declared.cert.CertFile.{CertFile}
@@ -20,7 +19,6 @@ use Rattle.cert_format.specs.declared.error.CertKind.{CertKind}
 use Rattle.mrt_io.specs.Holding.{Files}
 use Rattle.lsdb.specs.Installing.{IsKept}
 use Rattle.lsdb.specs.Orders.{newest_in}
-use Rattle.mrt_rows.specs.CertOf.{IsCertOf}
 use Rattle.ospf_lsa.specs.LsaText.{lsa_length}
 use Rattle.ospf_lsa.specs.Lsas.{AreLsas, IsLsa}
 use Rattle.ospf_lsa.specs.declared.lsa.Lsa.{Lsa}
@@ -41,9 +39,10 @@ use Rattle.mrt_cmd.specs.Files.{
   files_of,
   refusal_of,
 }
-use Rattle.mrt_cmd.specs.Form.{Form, Task, Check, Certify}
+use Rattle.mrt_cmd.specs.Form.{Form, Task, Check, Certify, Table}
 use Rattle.mrt_cmd.specs.Input.{Input, HasIsland, IsCertFile, IsInput, area, policy}
 use Rattle.mrt_cmd.specs.Islands.{HasNoIslandFor}
+use Rattle.mrt_cmd.specs.Tabled.{IsTableOf, IsTabled}
 use Rattle.mrt_cmd.specs.Verdict.{GivesVerdict, IsAcceptedFor, IsNoVerdict, IsRefusedFor, accepted_line}
 use Rattle.mrt_cmd.proofs.Refusals.{root_within}
 use Rattle.mrt_cmd.proofs.OneReading.{
@@ -59,6 +58,7 @@ use Rattle.mrt_cmd.proofs.OneReading.{
   one_database,
   one_profile,
 }
+use Rattle.mrt_cmd.proofs.OneTable.{CertificateLaw, TableLaws, one_table}
 use Rattle.mrt_cmd.proofs.OneVerdict.{
   IslandLaws,
   inside_is_there,
@@ -84,14 +84,10 @@ pub record AreaLaws : Type 0 where
       → (IsTooLarge (length (area_of (newest_in lsas)).ids) (length (area_of (newest_in lsas)).arcs) → ⊥)
       → IsArea (area_of (newest_in lsas))
 
--- the law of the layer below on the certificate that is computed
-abbrev pub CertificateLaw : Type 0
-CertificateLaw = (g : Topology) (root : ℕ) (file other : CertFile) → IsTopology g → root < length g.ids
-    → IsCertOf g root file → IsCertOf g root other → file ≡ other
-
 -- all of them
 pub record Laws : Type 0 where
   pub certificates : CertificateLaw
+  pub tables : TableLaws
   pub databases : DatabaseLaws
   pub certs : CertLaws
   pub areas : AreaLaws
@@ -216,6 +212,24 @@ module _ (laws : Laws) where
           computed.computed two.certificate.computed in
           computed.spelled.spelled ∙ ap cert_text file ∙ sym two.certificate.spelled.spelled
 
+      -- ---- of its table
+
+      no_refusal_tabled : (text : List ℕ) (exit : Exit) → IsTabled input router text
+          → HasNoIslandFor input router exit → ⊥
+      no_refusal_tabled text exit taken refused = no_island_none taken.graph taken.root exit taken.island refused
+
+      one_tabled : (text other : List ℕ) → IsTabled input router text → IsTabled input router other → text ≡ other
+      one_tabled text other one two =
+          let area_kept = kept one.island.area_within in
+          let same = laws.islands.one_island (policy input) (area input) router one.graph two.graph one.root two.root
+          one.island.link_of two.island.link_of area_kept one.island.island two.island.island in
+          let table = subst (λ (links : List (Option ℕ)). IsTableOf (area input) two.graph two.root links router text) same.2
+          (subst (λ (n : ℕ). IsTableOf (area input) two.graph n one.island.link_of router text) same.1
+          (subst (λ (g : Topology). IsTableOf (area input) g one.root one.island.link_of router text) same.0 one.table)) in
+          one_table laws.certificates laws.tables (area input) area_kept two.graph two.root two.island.link_of
+          (root_within (policy input) (area input) router two.graph two.root two.island.link_of two.island.island) router
+          text other table two.table
+
     -- ---- of a certificate
 
     module _ (file : CertFile) where
@@ -300,16 +314,19 @@ module _ (laws : Laws) where
           → IsRefusedTask task input last other → exit ≡ other
       one_task (Check certificate) exit other one two = one_verdict last exit other one two
       one_task (Certify router) exit other one two = one_none router exit other one two
+      one_task (Table router) exit other one two = one_none router exit other one two
 
       no_task : (task : Task) (text : List ℕ) (exit : Exit) → GivesFor task input last text
           → IsRefusedTask task input last exit → ⊥
       no_task (Check certificate) text exit taken refused = no_verdict_given last text exit taken refused
       no_task (Certify router) text exit taken refused = no_refusal_certified router text exit taken refused
+      no_task (Table router) text exit taken refused = no_refusal_tabled router text exit taken refused
 
       one_task_text : (task : Task) (text other : List ℕ) → GivesFor task input last text
           → GivesFor task input last other → text ≡ other
       one_task_text (Check certificate) text other one two = one_verdict_text last text other one two
       one_task_text (Certify router) text other one two = one_certified router text other one two
+      one_task_text (Table router) text other one two = one_tabled router text other one two
 
   -- ---- over the bytes of the files
 

@@ -39,7 +39,7 @@ use Rattle.mrt_cmd.specs.declared.exit.What.TheVariants as whats
 use Rattle.mrt_io.specs.Holding.{Files}
 use Rattle.mrt_cmd.specs.Answers.{FileBytes, IsRefusedOver}
 use Rattle.mrt_cmd.specs.Comes.{AreRead, Comes, Refuses}
-use Rattle.mrt_cmd.specs.Form.{Form, Task, Check, Certify, form_of}
+use Rattle.mrt_cmd.specs.Form.{Form, Task, Check, Certify, Table, form_of}
 use Rattle.mrt_cmd.specs.Input.{Input, HasAreaWithin, HasIsland, IsCertFile, IsInput, area, policy}
 use Rattle.mrt_cmd.specs.Reading.{
   AreUnread,
@@ -154,6 +154,7 @@ task_over task bytes input given (exits.NotThere number) (inl said) = inl (input
 task_over task bytes input given (exits.No rule a b) (inl said) = inl (input, given, said)
 task_over (Check certificate) bytes input given exit (inl said) = absurd said.2
 task_over (Certify router) bytes input given exit (inl said) = absurd said
+task_over (Table router) bytes input given exit (inl said) = absurd said
 
 pub tasks_over : {T : Type 0} (answer : Result T Exit) (task : Task) (bytes : FileBytes) (input : Input)
     → IsInput bytes.database bytes.profile input

@@ -2,7 +2,6 @@
 use Rattle.std.proofs.Common.{◌≡◌, ◌∙◌, ◌≤◌, ◌<◌, ◌+◌, ◌==◌, ◌∷◌, [], ℕ, Bool, true, false, List, Option, Some, None, length, refl, sym, ap, subst, inl, inr, arith}
 use Rattle.std.specs.Prelude.{◌&&◌, Contains, IsNone, codes, nat_lt, slice_get, if◌then◌else◌}
 use Rattle.std.specs.Option.{IsSomeAnd, option_map, option_map_or}
-use Rattle.std.specs.Str.{bytes_eq}
 use Rattle.std.proofs.lemmas.Bool.{and_parts, eqb-true, lt-ltb}
 use Rattle.std.proofs.lemmas.Option.{same_Some}
 use Rattle.area_graph.specs.AreaInvariant.{IsArea}
@@ -26,7 +25,7 @@ use Rattle.mrt_cmd.specs.Certified.{IsCertified}
 use Rattle.mrt_cmd.specs.Comes.{AreRead, Gives, GivesText, IsProfileRead, Refuses}
 use Rattle.mrt_graph.specs.Spelling.{address_in}
 use Rattle.mrt_cmd.specs.Files.{NamedFile, SaysOneOf, files_of, refusal_of}
-use Rattle.mrt_cmd.specs.Form.{Form, Task, Check, Certify, IsCheck, form_of, profile_name}
+use Rattle.mrt_cmd.specs.Form.{Form, Task, Check, Certify, Table, IsCheck, form_of, profile_name}
 use Rattle.mrt_cmd.specs.Headline.{ChecksWritten, IsPassed, profile_held}
 use Rattle.mrt_cmd.specs.Input.{Input, HasIsland, IsInput, area, policy}
 use Rattle.mrt_cmd.specs.Reading.{IsRefusalOrFault}
@@ -247,6 +246,7 @@ only_check held form rule a b (inr refused) = go form.task refused.2
     go : (task : Task) → IsRefusedOver task refused.0 (exits.No rule a b) → IsCheck task
     go (Check certificate) said = tt
     go (Certify router) said = absurd said.2
+    go (Table router) said = absurd said.2
 
 pub only_check_words : (held : Option Files) (form : Option Form) (rule a b : ℕ)
     → IsSomeAnd form (λ it. Refuses held it (exits.No rule a b)) → IsSomeAnd form (λ it. IsCheck it.task)

@@ -23,7 +23,7 @@ use Rattle.mrt_cmd.specs.declared.exit.Exit.{Exit}
 use Rattle.mrt_cmd.specs.declared.exit.Exit.TheVariants.{TooLarge, ReadFault}
 use Rattle.mrt_cmd.specs.declared.exit.What.{What}
 use Rattle.mrt_cmd.specs.declared.exit.What.TheVariants.{DatabaseFile, ProfileFile, CertificateFile}
-use Rattle.mrt_cmd.specs.Form.{Form, Task, Check, Certify}
+use Rattle.mrt_cmd.specs.Form.{Form, Task, Check, Certify, Table}
 
 -- a file that the words name: the place of its name among them, its name, what it is, and how many bytes it may have
 pub record NamedFile : Type 0 where
@@ -46,6 +46,7 @@ certificate_file name = record { place = 3; name = name; what = CertificateFile;
 abbrev pub task_file : Task → Option NamedFile
 task_file (Check certificate) = Some (certificate_file certificate)
 task_file (Certify router) = None
+task_file (Table router) = None
 
 -- the files that a form names, in the order in which they are read
 abbrev pub files_of : Form → List NamedFile

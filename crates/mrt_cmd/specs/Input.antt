@@ -1,11 +1,12 @@
 -- What a form is given.
-use Rattle.std.specs.Prelude.{◌≡◌, ◌⊎◌, ℕ, false, List, Option, Contains, length}
+use Rattle.std.specs.Prelude.{◌≡◌, ◌⊎◌, ℕ, false, List, Option, Contains, length, map}
 use Rattle.area_graph.specs.AreaOf.{area_of}
 use Rattle.area_graph.specs.AreaSize.{IsTooLarge}
 use Rattle.area_graph.specs.Nodes.{router}
 use Rattle.area_graph.specs.Parts.{AreaParts}
 use Rattle.cert_format.specs.CertText.{cert_text}
 use Rattle.cert_format.specs.Limits.{IsVersionOne}
+use Rattle.lsdb.specs.Entries.{Entry}
 use Rattle.mrt_graph.specs.NewGraph.{IsTooLarge as IsTooLargeGraph}
 use Rattle.mrt_graph.specs.Topology.{Topology}
 use Rattle.mrt_graph.specs.declared.cert.CertFile.{CertFile}
@@ -36,6 +37,10 @@ pub record Input : Type 0 where
 pub record IsInput (database profile : List ℕ) (input : Input) : Type 0 where
   pub database_is : IsDatabase database input.newest
   pub profile_is : IsProfile profile input.settings
+
+-- what a database with these entries, and a profile with these settings, hold
+abbrev pub input_of : List Entry → List Setting → Input
+input_of entries settings = record { newest = map (λ entry. entry.lsa) entries; settings = settings }
 
 -- the area
 abbrev pub area : Input → AreaParts

@@ -12,5 +12,6 @@ pub mod Input
 pub mod Islands
 pub mod Reading
 pub mod Run
+pub mod Tabled
 pub mod TextBytes
 pub mod Verdict

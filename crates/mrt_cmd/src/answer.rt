@@ -1,10 +1,10 @@
 //! What comes of a task over the bytes of its files.
 
-ghost use Rattle.std.specs.Prelude.{◌≡◌, ◌≤◌, None, IfOk, IfErr, length, map};
+ghost use Rattle.std.specs.Prelude.{◌≡◌, ◌≤◌, None, IfOk, IfErr, length};
 ghost use Rattle.lsdb.specs.Conflicts.{least_conflict};
 ghost use Rattle.mrt_cmd.specs.Answers.{GivesFor, GivesOver};
 ghost use Rattle.mrt_cmd.specs.Asked.{task_asked};
-ghost use Rattle.mrt_cmd.specs.Input.{Input};
+ghost use Rattle.mrt_cmd.specs.Input.{input_of};
 ghost use Rattle.mrt_cmd.specs.Reading.{IsAnswerOver, IsCheckRefusal, IsTaskRefusal};
 ghost use Rattle.mrt_cmd.specs.TextBytes.{bytes_of};
 ghost use Rattle.mrt_cmd.specs.Verdict.{GivesVerdict};
@@ -14,6 +14,7 @@ use crate::exit::Exit;
 use crate::file_bytes::FileBytes;
 use crate::input::{cert_of, database_of, profile_of};
 use crate::line::Line;
+use crate::table::table;
 use crate::text::Text;
 use crate::verdict::verdict;
 use crate::words::Task;
@@ -42,24 +43,22 @@ fn answer_for(
     last: &[u8],
 ) -> Result<Text, Exit>
     requires settled { least_conflict database.now.entries ≡ None }
-    ensures text { let input : Input = record { newest = map (λ entry. entry.lsa) database.now.entries; settings = profile.now } in
-        IfOk result (λ text. GivesFor (task_asked task.entry) input last.now (bytes_of text)) }
-    ensures refused { let input : Input = record { newest = map (λ entry. entry.lsa) database.now.entries; settings = profile.now } in
-        IfErr result (IsTaskRefusal (task_asked task.entry) input last.now) }
+    ensures text { IfOk result (λ text.
+        GivesFor (task_asked task.entry) (input_of database.now.entries profile.now) last.now (bytes_of text)) }
+    ensures refused { IfErr result (IsTaskRefusal (task_asked task.entry) (input_of database.now.entries profile.now) last.now) }
 {
     match task {
         Task::Check { .. } => Ok(Text::Line(check(alloc, database, profile, last)?)),
         Task::Certify { router } => Ok(Text::Bytes(certificate(alloc, database, profile, router)?)),
+        Task::Table { router } => Ok(Text::Bytes(table(alloc, database, profile, router)?)),
     }
 }
 
 /// The accepted line, where the bytes are a certificate that is accepted for the island of its root.
 fn check(alloc: Global, database: &Lsdb, profile: &Profile, bytes: &[u8]) -> Result<Line, Exit>
     requires settled { least_conflict database.now.entries ≡ None }
-    ensures text { let input : Input = record { newest = map (λ entry. entry.lsa) database.now.entries; settings = profile.now } in
-        IfOk result (λ line. GivesVerdict input bytes.now line.items) }
-    ensures refused { let input : Input = record { newest = map (λ entry. entry.lsa) database.now.entries; settings = profile.now } in
-        IfErr result (IsCheckRefusal input bytes.now) }
+    ensures text { IfOk result (λ line. GivesVerdict (input_of database.now.entries profile.now) bytes.now line.items) }
+    ensures refused { IfErr result (IsCheckRefusal (input_of database.now.entries profile.now) bytes.now) }
 {
     let file = cert_of(alloc, bytes)?;
     verdict(alloc, database, profile, &file)

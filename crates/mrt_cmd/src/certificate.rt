@@ -1,9 +1,9 @@
 //! `certify DB PROFILE ROUTER`: the certificate of a router's island.
 
-ghost use Rattle.std.specs.Prelude.{◌≡◌, ◌<◌, None, IfOk, IfErr, length, map};
+ghost use Rattle.std.specs.Prelude.{◌≡◌, ◌<◌, None, IfOk, IfErr, length};
 ghost use Rattle.lsdb.specs.Conflicts.{least_conflict};
 ghost use Rattle.mrt_cmd.specs.Certified.{IsCertified, IsComputed};
-ghost use Rattle.mrt_cmd.specs.Input.{Input};
+ghost use Rattle.mrt_cmd.specs.Input.{input_of};
 ghost use Rattle.mrt_cmd.specs.Reading.{HasNone};
 
 use crate::exit::Exit;
@@ -23,10 +23,8 @@ pub(crate) fn certificate(
     router: u32,
 ) -> Result<Vec<u8>, Exit>
     requires { least_conflict database.now.entries ≡ None }
-    ensures certified { let input : Input = record { newest = map (λ entry. entry.lsa) database.now.entries; settings = profile.now } in
-        IfOk result (λ text. IsCertified input router text.items) }
-    ensures refused { let input : Input = record { newest = map (λ entry. entry.lsa) database.now.entries; settings = profile.now } in
-        IfErr result (HasNone input router) }
+    ensures certified { IfOk result (λ text. IsCertified (input_of database.now.entries profile.now) router text.items) }
+    ensures refused { IfErr result (HasNone (input_of database.now.entries profile.now) router) }
 {
     let island = island_in(alloc, database, profile, router)?;
     Ok(computed(alloc, &island.graph, island.root)?)

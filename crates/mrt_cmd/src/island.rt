@@ -3,10 +3,11 @@
 ghost use Rattle.std.specs.Prelude.{◌≡◌, ◌<◌, None, IfOk, IfErr, length, map};
 ghost use Rattle.area_graph.specs.AreaOf.{area_of as area_of_newest};
 ghost use Rattle.area_graph.specs.AreaSize.{IsTooLarge};
+ghost use Rattle.area_graph.specs.Fits.{Fits};
 ghost use Rattle.lsdb.specs.Conflicts.{least_conflict};
 ghost use Rattle.mrt_island.specs.IslandOf.{IsIsland};
 ghost use Rattle.mrt_island.specs.Policy.{policy_of};
-ghost use Rattle.mrt_cmd.specs.Input.{Input, HasAreaWithin, area, policy};
+ghost use Rattle.mrt_cmd.specs.Input.{HasAreaWithin, area, input_of, policy};
 ghost use Rattle.mrt_cmd.specs.Reading.{HasNoArea, HasNoIsland, HasNone};
 
 use crate::exit::{Exit, What};
@@ -27,19 +28,17 @@ pub(crate) fn island_in(
     router: u32,
 ) -> Result<Island, Exit>
     requires { least_conflict database.now.entries ≡ None }
-    ensures area { let input : Input = record { newest = map (λ entry. entry.lsa) database.now.entries; settings = profile.now } in
-        IfOk result (λ _. HasAreaWithin input) }
-    ensures island { let input : Input = record { newest = map (λ entry. entry.lsa) database.now.entries; settings = profile.now } in
+    ensures area { IfOk result (λ _. HasAreaWithin (input_of database.now.entries profile.now)) }
+    ensures island { let input = input_of database.now.entries profile.now in
         IfOk result (λ island. IsIsland (policy input) (area input) router island.graph island.root island.link_of) }
-    ensures refused { let input : Input = record { newest = map (λ entry. entry.lsa) database.now.entries; settings = profile.now } in
-        IfErr result (HasNone input router) }
+    ensures refused { IfErr result (HasNone (input_of database.now.entries profile.now) router) }
 {
     let area = area_of(alloc, database)?;
     island_of(alloc, &area, profile, router)
 }
 
 /// The area of a database.
-fn area_of(alloc: Global, database: &Lsdb) -> Result<Area, Exit>
+pub(crate) fn area_of(alloc: Global, database: &Lsdb) -> Result<Area, Exit>
     requires { least_conflict database.now.entries ≡ None }
     ensures area { IfOk result (λ area. area ≡ area_of_newest (map (λ entry. entry.lsa) database.now.entries)) }
     ensures within { let area = area_of_newest (map (λ entry. entry.lsa) database.now.entries) in
@@ -50,8 +49,14 @@ fn area_of(alloc: Global, database: &Lsdb) -> Result<Area, Exit>
 }
 
 /// The island of a router.
-fn island_of(alloc: Global, area: &Area, profile: &Profile, router: u32) -> Result<Island, Exit>
+pub(crate) fn island_of(
+    alloc: Global,
+    area: &Area,
+    profile: &Profile,
+    router: u32,
+) -> Result<Island, Exit>
     ensures island { IfOk result (λ island. IsIsland (policy_of profile.now) area.now router island.graph island.root island.link_of) }
+    ensures fits { IfOk result (λ island. Fits area.now island.graph island.link_of) }
     ensures refused { IfErr result (HasNoIsland (policy_of profile.now) area.now router) }
 {
     match find_island(alloc, area, profile, router) {

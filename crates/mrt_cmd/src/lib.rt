@@ -13,6 +13,7 @@ mod named_file;
 mod program;
 mod reading;
 mod run_law;
+mod table;
 mod text;
 mod verdict;
 mod words;

@@ -18,8 +18,10 @@ use mrt_graph::accepted_or_one_first_fault;
 use mrt_island::{
     a_router_has_one_island, an_island_has_one_size, an_island_is_that_of_each_router_in_it,
 };
+use mrt_report::one_table_each;
 use mrt_rows::one_certificate;
 use ospf_lsa::bytes_are_lsas_or_have_a_fault;
+use primary_alt::one_primary_each;
 
 /// Laws: over a shelf that tells what it holds, one exit comes of the words at most, and one text.
 pub fn one_exit_comes()
@@ -38,6 +40,8 @@ pub fn one_exit_comes()
     an_island_has_one_size();
     accepted_or_one_first_fault();
     one_certificate();
+    one_table_each();
+    one_primary_each();
 }
 
 /// A law, the headline's first half: a certificate that was written passes the check over the same database and profile.

@@ -1,9 +1,9 @@
 //! The verdict on a certificate file.
 
-ghost use Rattle.std.specs.Prelude.{◌≡◌, ◌<◌, None, IfOk, IfErr, length, map};
+ghost use Rattle.std.specs.Prelude.{◌≡◌, ◌<◌, None, IfOk, IfErr, length};
 ghost use Rattle.lsdb.specs.Conflicts.{least_conflict};
 ghost use Rattle.mrt_graph.specs.NewGraph.{IsTooLarge as IsTooLargeGraph};
-ghost use Rattle.mrt_cmd.specs.Input.{Input};
+ghost use Rattle.mrt_cmd.specs.Input.{input_of};
 ghost use Rattle.mrt_cmd.specs.Reading.{IsRejected, IsVerdictFor};
 ghost use Rattle.mrt_cmd.specs.Verdict.{IsAccepted, IsAcceptedFor, accepted_line as line_of_accepted};
 
@@ -24,10 +24,8 @@ pub(crate) fn verdict(
     file: &CertFile,
 ) -> Result<Line, Exit>
     requires { least_conflict database.now.entries ≡ None }
-    ensures accepted { let input : Input = record { newest = map (λ entry. entry.lsa) database.now.entries; settings = profile.now } in
-        IfOk result (λ text. IsAcceptedFor input file.now text.items) }
-    ensures refused { let input : Input = record { newest = map (λ entry. entry.lsa) database.now.entries; settings = profile.now } in
-        IfErr result (IsVerdictFor input file.now) }
+    ensures accepted { IfOk result (λ text. IsAcceptedFor (input_of database.now.entries profile.now) file.now text.items) }
+    ensures refused { IfErr result (IsVerdictFor (input_of database.now.entries profile.now) file.now) }
 {
     let island = island_in(alloc, database, profile, file.root)?;
     judge(&island.graph, island.root, file)

@@ -23,6 +23,8 @@ pub(crate) enum Task<'a> {
     Check { certificate: &'a Word },
     /// The certificate of a router's island.
     Certify { router: u32 },
+    /// The table of a router.
+    Table { router: u32 },
 }
 
 /// The form of the words, if they have one.
@@ -52,6 +54,9 @@ fn read_task<'a>(command: &Word, last: &'a Word) -> Option<Task<'a>>
     }
     if command.bytes() == b"certify".as_slice() {
         return read_address(last.bytes()).map(|router| Task::Certify { router });
+    }
+    if command.bytes() == b"table".as_slice() {
+        return read_address(last.bytes()).map(|router| Task::Table { router });
     }
     None
 }

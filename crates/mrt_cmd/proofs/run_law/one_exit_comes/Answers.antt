@@ -3,9 +3,10 @@ use Rattle.mrt_cmd.proofs.OneExit.{Laws, one_exit, one_text}
 use Rattle.mrt_cmd.proofs.run_law.one_exit_comes.Goals as goal
 
 -- the laws of the layers below
-laws : goal.After-one_certificate → Laws
+laws : goal.After-one_primary_each → Laws
 laws c = record {
   certificates = c.one_certificate.ensures;
+  tables = record { table = c.one_table_each.ensures; primary = c.one_primary_each.ensures };
   databases = record {
     never_both = c.bytes_are_lsas_or_have_a_fault.ensures.never_both;
     one_list = c.bytes_are_lsas_or_have_a_fault.ensures.one_list;
