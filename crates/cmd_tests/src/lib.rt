@@ -24,4 +24,6 @@ mod refused;
 #[cfg(test)]
 mod spoilt_files;
 #[cfg(test)]
+mod tabled;
+#[cfg(test)]
 mod words;

@@ -4,7 +4,7 @@ use crate::calling::{Case, comes_out};
 use crate::files::{CERTIFICATE, ROUTER};
 use mrt_cmd::Exit;
 
-const USAGE: &[u8] =
+pub const USAGE: &[u8] =
     b"mrt: usage: check DB PROFILE CERT, certify DB PROFILE ROUTER, table DB PROFILE ROUTER, trace DB PROFILE FROM TO blue/red/repair [FAIL], fabric DB PROFILE SCRIPT, survey NUMBER NODES\n";
 
 const CASES: &[Case] = &[
