@@ -1,8 +1,10 @@
 #!/usr/bin/env python3
-"""A plain reference program: writes the certificate of a router's island, and says what `mrt check` is to say of a certificate.
+"""A plain reference program: writes the certificate of a router's island, prints a router's table, and says what `mrt check` is to say of a
+certificate.
 
 usage: certify.py certify DATABASE PROFILE ROUTER CERTIFICATE
        certify.py check DATABASE PROFILE CERTIFICATE
+       certify.py table DATABASE PROFILE ROUTER
        certify.py rows DATABASE PROFILE ROUTER
 
 PROFILE is the name of a file, or - for the empty profile. `rows` prints the rows of a router and the order of the GADAG. A refusal is
@@ -14,10 +16,10 @@ import certificate
 import database
 import island as islands
 import lowpoint
+import table as tables
 from database import Id, Refused, text_of
 from lsas import address, spelled
 
-TAGS = ["sole", "head", "top", "below", "above", "unordered", "carried"]
 LIMITS = {"database-file": 8388608, "profile-file": 33554432, "certificate-file": 33554432}
 
 
@@ -38,13 +40,18 @@ def area_of(data):
     return database.area_of(database.newest(database.read_lsas(data)))
 
 
-def island_of(data, profile, router):
-    """The island of a router in the area of a database; what is over its limits is refused."""
+def parts_of(data, profile, router):
+    """The area of a database, and the island of a router in it; what is over its limits is refused."""
     area, read_profile = area_of(data), islands.read_profile(profile)
     database.check_size(area)
     found = islands.island_of(area, read_profile, router)
     islands.check_size(found)
-    return found
+    return area, found
+
+
+def island_of(data, profile, router):
+    """The island of a router in the area of a database."""
+    return parts_of(data, profile, router)[1]
 
 
 def certify(data, profile, router):
@@ -65,21 +72,21 @@ def check(data, profile, cert):
     return f"accepted root {spelled(file.root)} nodes {len(found.ids)} links {len(found.links)}"
 
 
-def end_text(found, node, link):
-    """The far node of a link, and the link data at this end."""
-    ends = found.links[link]
-    far, data = (ends.b, ends.data_a) if ends.a == node else (ends.a, ends.data_b)
-    return f"{text_of(found.ids[far])}/{spelled(data)}"
+def table(data, profile, router):
+    """The table of a router."""
+    area, found = parts_of(data, profile, router)
+    return "\n".join(tables.text(area, found, lowpoint.compute(found), router))
 
 
 def rows(data, profile, router):
     """The rows of a router and the order of the GADAG, as lines."""
     found = island_of(data, profile, router)
     cert, source = lowpoint.compute(found), found.ids.index(Id(router, database.ROUTER))
-    lines = [f"router {spelled(router)} root {text_of(found.ids[found.root])} nodes {len(found.ids)} links {len(found.links)}"]
+    lines = [tables.head(found, source)]
     for node, row in zip(found.ids, cert.rows[source]):
         if row:
-            lines.append(f"{text_of(node)} {TAGS[row.tag]} blue {end_text(found, source, row.blue)} red {end_text(found, source, row.red)}")
+            lines.append(f"{text_of(node)} {tables.TAGS[row.tag]} blue {tables.hop_over_link(found, source, row.blue)} "
+                         f"red {tables.hop_over_link(found, source, row.red)}")
     order = sorted(range(len(found.ids)), key=lambda node: cert.order[node])
     return lines + ["order " + " ".join(text_of(found.ids[node]) for node in order)]
 
@@ -91,12 +98,14 @@ def run(command, words):
             file.write(bytes_of)
     elif command == "check":
         print(check(*read_parts(*words[:2]), read(words[2], "certificate-file")))
+    elif command == "table":
+        print(table(*read_parts(*words[:2]), address(words[2])))
     else:
         print("\n".join(rows(*read_parts(*words[:2]), address(words[2]))))
 
 
 def main():
-    counts = {"certify": 4, "check": 3, "rows": 3}
+    counts = {"certify": 4, "check": 3, "table": 3, "rows": 3}
     if len(sys.argv) < 2 or counts.get(sys.argv[1]) != len(sys.argv) - 2:
         sys.exit(__doc__)
     try:

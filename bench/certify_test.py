@@ -24,6 +24,10 @@ LAN = worked([(1, 2)], (address("10.0.0.4"), [1, 2, 3, 4]))
 LAN_IN_RING = worked([(2, 4), (3, 4), (1, 4)], (address("10.0.0.3"), [1, 2, 3]), {(1, 4): 100})
 PARALLEL = b"".join(router_lsa(router(one), [(router(3 - one), data, POINT_TO_POINT, 10) for data in (1, 2, 3)]) for one in (1, 2))
 CUT = worked([(1, 2), (2, 9), (3, 9), (4, 9)])
+ONE_SIDED = router_lsa(router(1), [(router(2), 2, POINT_TO_POINT, 10)]) + router_lsa(router(2), [])
+# A second link from 1 to 3 is cheaper; each of its ends has link data of its own.
+SQUARE = b"".join(router_lsa(router(one), [(router(other), data, POINT_TO_POINT, metric) for other, data, metric in links]) for one, links in [
+    (1, [(2, 2, 10), (3, 3, 10), (3, 9, 5)]), (2, [(1, 1, 10), (4, 4, 10)]), (3, [(1, 1, 10), (1, 8, 5), (4, 4, 10)]), (4, [(2, 2, 10), (3, 3, 10)])])
 
 # Written by hand: the certificates of one router, of the triangle and of the line.
 ALONE_CERT = "4d525443 00010001000001010101 01010101010001 00000000".replace(" ", "")
@@ -39,51 +43,62 @@ LINE_CERT = """4d52544300010004000304040404
 
 CERTS = [("one router", ALONE, ALONE_CERT), ("a stub link", WITH_STUB, ALONE_CERT), ("a triangle", TRIANGLE, TRIANGLE_CERT), ("a line", LINE, LINE_CERT)]
 
-# The rows of a router, and the order of the GADAG.
-ROWS = [
-    ("a triangle", TRIANGLE, 2, """
+# The order of the GADAG.
+ORDERS = [
+    ("a triangle", TRIANGLE, 2, "order 3.3.3.3 1.1.1.1 2.2.2.2"),
+    ("parallel links", PARALLEL, 1, "order 2.2.2.2 1.1.1.1"),
+    ("two triangles", TWO_TRIANGLES, 1, "order 5.5.5.5 3.3.3.3 1.1.1.1 4.4.4.4 2.2.2.2"),
+    ("a root that cuts", CUT, 1, "order 9.9.9.9 2.2.2.2 3.3.3.3 4.4.4.4 1.1.1.1"),
+    ("an unordered pair", UNORDERED, 1, "order 5.5.5.5 1.1.1.1 3.3.3.3 4.4.4.4 2.2.2.2"),
+    ("a LAN in a ring", LAN_IN_RING, 2, "order 4.4.4.4 2.2.2.2 3.3.3.3 net:10.0.0.3 1.1.1.1"),
+]
+
+# Tables, or the last lines of them.
+TABLES = [
+    ("a triangle", TRIANGLE, b"", 2, """
 router 2.2.2.2 root 3.3.3.3 nodes 3 links 3
-1.1.1.1 above blue 3.3.3.3/0.0.0.3 red 1.1.1.1/0.0.0.1
-3.3.3.3 head blue 3.3.3.3/0.0.0.3 red 1.1.1.1/0.0.0.1
-order 3.3.3.3 1.1.1.1 2.2.2.2"""),
-    ("parallel links", PARALLEL, 1, """
+1.1.1.1 above blue 3.3.3.3/0.0.0.3 red 1.1.1.1/0.0.0.1 primary 1.1.1.1/0.0.0.1 repair b-
+3.3.3.3 head blue 3.3.3.3/0.0.0.3 red 1.1.1.1/0.0.0.1 primary 3.3.3.3/0.0.0.3 repair r-"""),
+    ("a line", LINE, b"", 1, """
+router 1.1.1.1 root 4.4.4.4 nodes 4 links 3
+2.2.2.2 sole blue 2.2.2.2/0.0.0.2 red 2.2.2.2/0.0.0.2 primary 2.2.2.2/0.0.0.2 repair --
+3.3.3.3 carried blue 2.2.2.2/0.0.0.2 red 2.2.2.2/0.0.0.2 primary 2.2.2.2/0.0.0.2 repair --
+4.4.4.4 carried blue 2.2.2.2/0.0.0.2 red 2.2.2.2/0.0.0.2 primary 2.2.2.2/0.0.0.2 repair --"""),
+    ("parallel links", PARALLEL, b"", 1, """
 router 1.1.1.1 root 2.2.2.2 nodes 2 links 3
-2.2.2.2 head blue 2.2.2.2/0.0.0.2 red 2.2.2.2/0.0.0.1
-order 2.2.2.2 1.1.1.1"""),
-    ("two triangles", TWO_TRIANGLES, 1, """
+2.2.2.2 head blue 2.2.2.2/0.0.0.2 red 2.2.2.2/0.0.0.1 primary 2.2.2.2/0.0.0.1 repair b-"""),
+    ("two triangles", TWO_TRIANGLES, b"", 1, """
 router 1.1.1.1 root 5.5.5.5 nodes 5 links 6
-2.2.2.2 below blue 2.2.2.2/0.0.0.2 red 3.3.3.3/0.0.0.3
-3.3.3.3 head blue 2.2.2.2/0.0.0.2 red 3.3.3.3/0.0.0.3
-4.4.4.4 carried blue 2.2.2.2/0.0.0.2 red 3.3.3.3/0.0.0.3
-5.5.5.5 carried blue 2.2.2.2/0.0.0.2 red 3.3.3.3/0.0.0.3
-order 5.5.5.5 3.3.3.3 1.1.1.1 4.4.4.4 2.2.2.2"""),
-    ("a root that cuts", CUT, 1, """
-router 1.1.1.1 root 9.9.9.9 nodes 5 links 4
-2.2.2.2 sole blue 2.2.2.2/0.0.0.2 red 2.2.2.2/0.0.0.2
-3.3.3.3 carried blue 2.2.2.2/0.0.0.2 red 2.2.2.2/0.0.0.2
-4.4.4.4 carried blue 2.2.2.2/0.0.0.2 red 2.2.2.2/0.0.0.2
-9.9.9.9 carried blue 2.2.2.2/0.0.0.2 red 2.2.2.2/0.0.0.2
-order 9.9.9.9 2.2.2.2 3.3.3.3 4.4.4.4 1.1.1.1"""),
-    ("an unordered pair", UNORDERED, 1, """
-router 1.1.1.1 root 5.5.5.5 nodes 5 links 6
-2.2.2.2 below blue 4.4.4.4/0.0.0.4 red 5.5.5.5/0.0.0.5
-3.3.3.3 unordered blue 5.5.5.5/0.0.0.5 red 4.4.4.4/0.0.0.4
-4.4.4.4 below blue 4.4.4.4/0.0.0.4 red 5.5.5.5/0.0.0.5
-5.5.5.5 head blue 4.4.4.4/0.0.0.4 red 5.5.5.5/0.0.0.5
-order 5.5.5.5 1.1.1.1 3.3.3.3 4.4.4.4 2.2.2.2"""),
-    ("a LAN", LAN, 1, """
+2.2.2.2 below blue 2.2.2.2/0.0.0.2 red 3.3.3.3/0.0.0.3 primary 2.2.2.2/0.0.0.2 repair r-
+3.3.3.3 head blue 2.2.2.2/0.0.0.2 red 3.3.3.3/0.0.0.3 primary 3.3.3.3/0.0.0.3 repair b-
+4.4.4.4 carried blue 2.2.2.2/0.0.0.2 red 3.3.3.3/0.0.0.3 primary 3.3.3.3/0.0.0.3 repair b-
+5.5.5.5 carried blue 2.2.2.2/0.0.0.2 red 3.3.3.3/0.0.0.3 primary 3.3.3.3/0.0.0.3 repair b-"""),
+    ("an unordered pair", UNORDERED, b"", 1, """
+3.3.3.3 unordered blue 5.5.5.5/0.0.0.5 red 4.4.4.4/0.0.0.4 primary 4.4.4.4/0.0.0.4 repair bb
+4.4.4.4 below blue 4.4.4.4/0.0.0.4 red 5.5.5.5/0.0.0.5 primary 4.4.4.4/0.0.0.4 repair r-
+5.5.5.5 head blue 4.4.4.4/0.0.0.4 red 5.5.5.5/0.0.0.5 primary 5.5.5.5/0.0.0.5 repair b-"""),
+    ("a LAN", LAN, b"", 1, """
 router 1.1.1.1 root 4.4.4.4 nodes 5 links 5
-2.2.2.2 below blue 2.2.2.2/0.0.0.2 red net:10.0.0.4/10.0.0.1
-3.3.3.3 carried blue 2.2.2.2/0.0.0.2 red net:10.0.0.4/10.0.0.1
-4.4.4.4 carried blue 2.2.2.2/0.0.0.2 red net:10.0.0.4/10.0.0.1
-net:10.0.0.4 head blue 2.2.2.2/0.0.0.2 red net:10.0.0.4/10.0.0.1"""),
-    ("a LAN in a ring", LAN_IN_RING, 2, """
+2.2.2.2 below blue 2.2.2.2/0.0.0.2 red net:10.0.0.4/10.0.0.1 primary 2.2.2.2/0.0.0.2 repair r-
+3.3.3.3 carried blue 2.2.2.2/0.0.0.2 red net:10.0.0.4/10.0.0.1 primary net:10.0.0.4/10.0.0.1 repair b---
+4.4.4.4 carried blue 2.2.2.2/0.0.0.2 red net:10.0.0.4/10.0.0.1 primary net:10.0.0.4/10.0.0.1 repair b---
+net:10.0.0.4 head blue 2.2.2.2/0.0.0.2 red net:10.0.0.4/10.0.0.1 primary net:10.0.0.4/10.0.0.1 repair b-"""),
+    ("a LAN in a ring", LAN_IN_RING, b"", 2, """
 router 2.2.2.2 root 4.4.4.4 nodes 5 links 6
-1.1.1.1 below blue net:10.0.0.3/10.0.0.2 red 4.4.4.4/0.0.0.4
-3.3.3.3 unordered blue 4.4.4.4/0.0.0.4 red net:10.0.0.3/10.0.0.2
-4.4.4.4 head blue net:10.0.0.3/10.0.0.2 red 4.4.4.4/0.0.0.4
-net:10.0.0.3 below blue net:10.0.0.3/10.0.0.2 red 4.4.4.4/0.0.0.4
-order 4.4.4.4 2.2.2.2 3.3.3.3 net:10.0.0.3 1.1.1.1"""),
+1.1.1.1 below blue net:10.0.0.3/10.0.0.2 red 4.4.4.4/0.0.0.4 primary net:10.0.0.3/10.0.0.2 repair rrr-
+3.3.3.3 unordered blue 4.4.4.4/0.0.0.4 red net:10.0.0.3/10.0.0.2 primary net:10.0.0.3/10.0.0.2 repair bbb-
+4.4.4.4 head blue net:10.0.0.3/10.0.0.2 red 4.4.4.4/0.0.0.4 primary 4.4.4.4/0.0.0.4 repair b-
+net:10.0.0.3 below blue net:10.0.0.3/10.0.0.2 red 4.4.4.4/0.0.0.4 primary net:10.0.0.3/10.0.0.2 repair r-"""),
+    ("a one-way link", ONE_SIDED, b"", 1, "router 1.1.1.1 root 1.1.1.1 nodes 1 links 0"),
+    ("another root", TRIANGLE, b"priority 1.1.1.1 10", 1, """
+router 1.1.1.1 root 1.1.1.1 nodes 3 links 3
+2.2.2.2 top blue 2.2.2.2/0.0.0.2 red 3.3.3.3/0.0.0.3 primary 2.2.2.2/0.0.0.2 repair r-
+3.3.3.3 top blue 2.2.2.2/0.0.0.2 red 3.3.3.3/0.0.0.3 primary 3.3.3.3/0.0.0.3 repair b-"""),
+    ("a router that is out", LINE, b"no-mrt 2.2.2.2", 2, "not there: 2.2.2.2"),
+    ("its neighbour", LINE, b"no-mrt 2.2.2.2", 1, "router 1.1.1.1 root 1.1.1.1 nodes 1 links 0"),
+    ("a primary outside the island", SQUARE, b"ineligible 1.1.1.1 0.0.0.9", 1, """
+4.4.4.4 head blue 3.3.3.3/0.0.0.3 red 2.2.2.2/0.0.0.2 primary 3.3.3.3/0.0.0.9 repair br"""),
+    ("no such router", TRIANGLE, b"", 9, "not there: 9.9.9.9"),
 ]
 
 
@@ -204,9 +219,11 @@ def expect(what, got, wanted):
 def main():
     for what, data, text in CERTS:
         expect(what, certify.certify(data, b"", router(1)).hex(), bytes.fromhex(text).hex())
-    for what, data, source, text in ROWS:
-        lines = certify.rows(data, b"", router(source))
-        expect(what, lines[:len(text.strip().split("\n"))], text.strip().split("\n"))
+    for what, data, source, text in ORDERS:
+        expect(what, certify.rows(data, b"", router(source))[-1], text)
+    for what, data, profile, source, text in TABLES:
+        lines = answer(certify.table, data, profile, router(source)).split("\n")
+        expect(what, lines[-len(text.strip().split("\n")):], text.strip().split("\n"))
     for number, (data, profile, cert, line) in enumerate(checks()):
         expect(f"check {number}", answer(certify.check, data, profile, cert), line)
     expect("survey 0 4", survey(0, 4), (4, 5, 1, 0, 12, 0, 23, 27))
@@ -218,7 +235,7 @@ def main():
         expect(f"area {number}", answer(certify.check, data, b"", cert).split(" ")[0], "accepted")
         file = certificate.read(cert)
         expect(f"sound {number}", is_sound(len(file.ids), file.pairs, file.cert.rows), True)
-    print(f"{len(CERTS)} certificates, {len(ROWS)} tables, {len(checks())} checks and {areas} random areas as expected")
+    print(f"{len(CERTS)} certificates, {len(ORDERS)} orders, {len(TABLES)} tables, {len(checks())} checks and {areas} random areas as expected")
 
 
 if __name__ == "__main__":

@@ -1,5 +1,5 @@
 #!/usr/bin/env python3
-"""Compares `mrt check` and `mrt certify` with the reference program on random areas, profiles and certificates, whole and damaged.
+"""Compares `mrt check`, `mrt certify` and `mrt table` with the reference program on random areas, profiles and certificates, whole and damaged.
 
 usage: compare.py PROGRAM [CASES [SEED]]
 
@@ -20,7 +20,7 @@ from areas import random_area, router, write
 from database import Refused
 from lsas import lsa, spelled
 
-COMMANDS = "check", "certify", "check of what was written"
+COMMANDS = "check", "certify", "table", "check of what was written"
 
 
 # databases
@@ -120,7 +120,7 @@ def reference(function, data, profile, last):
 
 def wanted(data, profile, cert, source):
     """The same for each command. What is written has to be accepted."""
-    answers = [reference(certify.check, data, profile, cert), reference(certify.certify, data, profile, source)]
+    answers = [reference(certify.check, data, profile, cert), reference(certify.certify, data, profile, source), reference(certify.table, data, profile, source)]
     status, written, _ = answers[1]
     return answers + ([(0, certify.check(data, profile, written).encode() + b"\n", b"")] if status == 0 else [])
 
@@ -136,7 +136,7 @@ def answered(program, folder, data, profile, cert, source):
         write(name, text)
     # A profile without lines may as well not be named.
     lines = lines if profile else "-"
-    answers = [answer("check", database, lines, given), answer("certify", database, lines, spelled(source))]
+    answers = [answer("check", database, lines, given), answer("certify", database, lines, spelled(source)), answer("table", database, lines, spelled(source))]
     status, written, _ = answers[1]
     if status == 0:
         write(own, written)
