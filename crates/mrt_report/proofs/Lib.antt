@@ -1,6 +1,7 @@
 pub mod Adding
 pub mod AddingLines
 pub mod ForLine
+pub mod Gathering
 pub mod IslandWalks
 pub mod Marking
 pub mod OneLine

@@ -3,6 +3,7 @@ pub mod AddsLines
 pub mod Letters
 pub mod Lines
 pub mod Marks
+pub mod RowsFor
 pub mod TableParts
 pub mod TableText
 pub mod TableWords

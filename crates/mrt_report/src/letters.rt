@@ -11,59 +11,52 @@ ghost use Rattle.mrt_report.specs.Letters.{
   IsNodeElement,
   IsRepair,
 };
-ghost use Rattle.mrt_report.specs.Marks.{AreMarksFor};
 ghost use Rattle.mrt_report.specs.TableParts.{AreTableParts};
-ghost use Rattle.mrt_report.specs.Uses.{AreUses};
+ghost use Rattle.mrt_report.specs.Uses.{AreUses, HasRoom};
 ghost use Rattle.mrt_report.specs.Viewed.{viewed};
 
 use crate::marks::{Marks, has_mark, mark_walk, marks_for};
 use crate::parts::Parts;
+use crate::rows_for::gather;
 use crate::words::{letter, push};
 use area_graph::{ArcNo, BondNo};
-use mrt_graph::{Color, Element, Graph, LinkNo, NoMemory, NodeId, NodeNo};
+use mrt_graph::{Color, Element, Graph, LinkNo, NoMemory, NodeId, NodeNo, Row, Tag};
 use primary_alt::Primary;
 use std::alloc::Global;
 
-/// What the two color walks of one router to one node use.
+/// What the two color walks of one router to one node use, and room for the rows that they follow.
 #[derive(Drop)]
 pub struct Walks {
     pub blue: Marks,
     pub red: Marks,
+    pub rows: Vec<Row>,
 }
 
 /// Room for what the walks in a graph use.
 pub fn walks_for(alloc: Global, g: &Graph) -> Result<Walks, NoMemory>
-    ensures { IfOk result (λ walks. AreMarksFor g.now walks.blue × AreMarksFor g.now walks.red) }
+    ensures { IfOk result (HasRoom g.now) }
 {
     let blue = marks_for(alloc, g)?;
     let red = marks_for(alloc, g)?;
-    Ok(Walks { blue, red })
+    let no_row = Row {
+        blue: LinkNo::new(0),
+        red: LinkNo::new(0),
+        tag: Tag::Sole,
+    };
+    let rows = vec![in alloc; no_row; g.node_count() as usize]?;
+    Ok(Walks { blue, red, rows })
 }
 
 /// Marks what the two color walks to `to` use.
 pub fn mark_walks(walks: &mut Walks, parts: &Parts, to: NodeNo)
     requires kept { AreTableParts (viewed parts.now) }
-    requires blue { AreMarksFor parts.now.island.now walks.old.blue }
-    requires red { AreMarksFor parts.now.island.now walks.old.red }
+    requires room { HasRoom parts.now.island.now walks.old }
     requires target { to < length parts.now.island.now.ids }
     ensures { AreUses (viewed parts.now) to walks.new }
 {
-    mark_walk(
-        &mut walks.blue,
-        parts.island,
-        parts.cert,
-        parts.source,
-        to,
-        Color::Blue,
-    );
-    mark_walk(
-        &mut walks.red,
-        parts.island,
-        parts.cert,
-        parts.source,
-        to,
-        Color::Red,
-    );
+    gather(&mut walks.rows, parts.cert, to);
+    mark_walk(&mut walks.blue, parts, &walks.rows, to, Color::Blue);
+    mark_walk(&mut walks.red, parts, &walks.rows, to, Color::Red);
 }
 
 /// Puts the letters of a primary for `to` at the end of a text.

@@ -6,6 +6,7 @@ mod line;
 mod marks;
 mod onward;
 mod parts;
+mod rows_for;
 mod table;
 mod table_law;
 mod words;

@@ -3,11 +3,15 @@
 ghost use Rattle.std.specs.Prelude.{◌≡◌, ◌<◌, ◌↔◌, IfOk, IsTrue, length};
 ghost use Rattle.mrt_graph.specs.declared.link.Element.{Element};
 ghost use Rattle.mrt_graph.specs.Certificate.{row_of};
-ghost use Rattle.primary_alt.specs.AcceptedRows.{IsAcceptedFor, IsElementOf};
+ghost use Rattle.primary_alt.specs.AcceptedRows.{IsElementOf};
 ghost use Rattle.mrt_report.specs.Marks.{AreMarked, AreMarksFor, HasMark};
+ghost use Rattle.mrt_report.specs.RowsFor.{AreRowsFor};
+ghost use Rattle.mrt_report.specs.TableParts.{AreTableParts};
+ghost use Rattle.mrt_report.specs.Viewed.{viewed};
 
 use crate::onward::onward;
-use mrt_graph::{Cert, Color, Element, Graph, NoMemory, NodeNo};
+use crate::parts::Parts;
+use mrt_graph::{Color, Element, Graph, NoMemory, NodeNo, Row};
 use std::alloc::Global;
 
 /// A mark for each link and each node of a graph.
@@ -26,22 +30,23 @@ pub fn marks_for(alloc: Global, g: &Graph) -> Result<Marks, NoMemory>
     Ok(Marks { links, nodes })
 }
 
-/// Marks just what the color walk from `s` to `t` uses.
+/// Marks just what the color walk from the router to `t` uses, by the rows of all nodes for `t`.
 ///
 /// It follows the walk once, so that each question after it is a look at one mark.
-pub fn mark_walk(marks: &mut Marks, g: &Graph, c: &Cert, s: NodeNo, t: NodeNo, color: Color)
-    requires room { AreMarksFor g.now marks.old }
-    requires accepted { IsAcceptedFor g.now c.now }
-    requires source { s < length g.now.ids }
-    requires target { t < length g.now.ids }
-    ensures room { AreMarksFor g.now marks.new }
-    ensures marked { AreMarked g.now.links (length g.now.ids) (row_of c.now) s t color marks.new }
+pub fn mark_walk(marks: &mut Marks, parts: &Parts, rows: &[Row], t: NodeNo, color: Color)
+    requires kept { AreTableParts (viewed parts.now) }
+    requires room { AreMarksFor parts.now.island.now marks.old }
+    requires rows { AreRowsFor parts.now.cert.now t rows.now }
+    requires target { t < length parts.now.island.now.ids }
+    ensures room { AreMarksFor parts.now.island.now marks.new }
+    ensures marked { AreMarked parts.now.island.now.links (length parts.now.island.now.ids)
+        (row_of parts.now.cert.now) parts.now.source t color marks.new }
 {
     clear(marks);
-    let mut at = s;
-    let mut left = g.node_count();
+    let mut at = parts.source;
+    let mut left = parts.island.node_count();
     while left > 0 && at != t {
-        let step = onward(g, c, at, t, color);
+        let step = onward(parts, rows, at, t, color);
         marks.links[step.link.get() as usize] = true;
         marks.nodes[step.to.get() as usize] = true;
         at = step.to;

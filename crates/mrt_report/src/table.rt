@@ -7,9 +7,9 @@ ghost use Rattle.mrt_graph.specs.GraphInvariant.{IsNetwork};
 ghost use Rattle.primary_alt.specs.AcceptedRows.{IsAcceptedFor};
 ghost use Rattle.mrt_report.specs.Adds.{Adds};
 ghost use Rattle.mrt_report.specs.AddsLines.{AddsLines};
-ghost use Rattle.mrt_report.specs.Marks.{AreMarksFor};
 ghost use Rattle.mrt_report.specs.TableParts.{AreItsPrimaries, AreTableParts, table_parts};
 ghost use Rattle.mrt_report.specs.TableText.{IsHead, IsTableText};
+ghost use Rattle.mrt_report.specs.Uses.{HasRoom};
 ghost use Rattle.mrt_report.specs.Viewed.{viewed};
 
 use crate::letters::{Walks, mark_walks, walks_for};
@@ -92,8 +92,7 @@ fn push_head(text: &mut Vec<u8>, parts: &Parts, root: NodeNo) -> Result<(), NoMe
 /// Puts a line on each other node at the end of a text.
 fn push_lines(text: &mut Vec<u8>, parts: &Parts, walks: &mut Walks) -> Result<(), NoMemory>
     requires kept { AreTableParts (viewed parts.now) }
-    requires blue { AreMarksFor parts.now.island.now walks.old.blue }
-    requires red { AreMarksFor parts.now.island.now walks.old.red }
+    requires room { HasRoom parts.now.island.now walks.old }
     ensures { IfOk result (λ _.
         AddsLines (viewed parts.now) (length parts.now.island.now.ids)
         text.old.items text.new.items) }

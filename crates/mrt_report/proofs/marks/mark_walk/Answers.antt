@@ -15,7 +15,7 @@ loop-left-preserved c =
         nodes = length-set c.loop-left.marks.nodes.items c.get-in-loop-left.result true ∙ room.nodes;
       },
       rw (c.get.ensures.value, c.get-in-loop-left.ensures.value)
-          (marking_goes_on c.args.g.now.links _ (color_leads c.args.g.now.links (row_of c.args.c.now) c.args.color c.args.t) c.args.t _ c.args.s
+          (marking_goes_on c.args.parts.now.island.now.links _ (color_leads c.args.parts.now.island.now.links (row_of c.args.parts.now.cert.now) c.args.color c.args.t) c.args.t _ c.args.parts.now.source
           c.loop-left.left c.loop-left.at _ _ c.loop-left.marks.links.items c.loop-left.marks.nodes.items
           (omega (arith, c.loop-left-test.true)) (differ _ _ (sym c.ne.ensures ∙ c.if-ne.true)) c.onward-step.ensures.hop
           (omega (arith, c.onward-step.ensures.link, room.links)) (omega (arith, c.onward-step.ensures.within, room.nodes))
@@ -24,5 +24,5 @@ loop-left-preserved c =
 
 pub returns-else-ne-clause-marked : goal.returns-else-ne-clause-marked
 returns-else-ne-clause-marked c =
-    marking_ends c.args.g.now.links _ c.args.t _ c.args.s c.loop-left.left c.loop-left.at _ _
+    marking_ends c.args.parts.now.island.now.links _ c.args.t _ c.args.parts.now.source c.loop-left.left c.loop-left.at _ _
     (agree _ _ (sym c.ne.ensures ∙ c.if-ne.false)) c.loop-left.invariant.2

@@ -1,35 +1,56 @@
-use Rattle.std.proofs.Common.{◌<◌, ℕ, sym, subst}
+use Rattle.std.proofs.Common.{◌<◌, ℕ, subst, arith}
 use Rattle.mrt_graph.specs.Certificate.{row_of}
-use Rattle.primary_alt.proofs.ColorSteps.{counts, hop_found, hop_there, hop_within}
-use Rattle.mrt_report.proofs.RowLinks.{link_within}
+use Rattle.primary_alt.proofs.ColorSteps.{counts, hop_within}
+use Rattle.mrt_report.proofs.ForLine.{row_touches}
+use Rattle.mrt_report.proofs.RowLinks.{hop_by_row, link_within, row_read}
 use Rattle.mrt_report.proofs.onward.onward.Goals as goal
 
-pub row-requires-clause-source : goal.row-requires-clause-source
-row-requires-clause-source c = subst (λ (n : ℕ). c.args.at < n) (sym (counts c.args.g.now c.args.c.now c.requires.accepted).nodes) c.requires.at
+pub bounds-rows-get : goal.bounds-rows-get
+bounds-rows-get c =
+    omega (
+      arith,
+      c.get.ensures.value,
+      c.requires.at,
+      c.requires.rows.one_each,
+      (counts c.args.parts.now.island.now c.args.parts.now.cert.now c.requires.kept.accepted).nodes,
+    )
 
-pub row-requires-clause-target : goal.row-requires-clause-target
-row-requires-clause-target c = subst (λ (n : ℕ). c.args.t < n) (sym (counts c.args.g.now c.args.c.now c.requires.accepted).nodes) c.requires.target
+pub far_end-requires-clause-within : goal.far_end-requires-clause-within
+far_end-requires-clause-within c =
+    let row = row_read c.args.parts.now.island.now c.args.parts.now.cert.now c.requires.kept.accepted c.args.t c.args.rows.now
+    c.requires.rows c.args.at c.get.result c.index-rows-get.result c.get.ensures.value c.requires.at c.requires.different
+    c.index-rows-get.is in
+    subst (λ (n : ℕ). c.link_on-link.result < n)
+    (counts c.args.parts.now.island.now c.args.parts.now.cert.now c.requires.kept.accepted).links
+    (rw c.link_on-link.ensures (link_within _ c.args.color c.index-rows-get.result row.kept))
 
-pub next-requires-clause-nodes : goal.next-requires-clause-nodes
-next-requires-clause-nodes c = (counts c.args.g.now c.args.c.now c.requires.accepted).nodes
-
-pub next-requires-clause-links : goal.next-requires-clause-links
-next-requires-clause-links c = (counts c.args.g.now c.args.c.now c.requires.accepted).links
-
-pub next-requires-clause-touches : goal.next-requires-clause-touches
-next-requires-clause-touches c = hop_there c.args.g.now c.args.c.now c.requires.accepted c.args.color c.args.at c.args.t c.requires.at c.requires.target c.requires.different
+pub far_end-requires-clause-touches : goal.far_end-requires-clause-touches
+far_end-requires-clause-touches c =
+    let row = row_read c.args.parts.now.island.now c.args.parts.now.cert.now c.requires.kept.accepted c.args.t c.args.rows.now
+    c.requires.rows c.args.at c.get.result c.index-rows-get.result c.get.ensures.value c.requires.at c.requires.different
+    c.index-rows-get.is in
+    rw c.link_on-link.ensures
+    (row_touches c.args.parts.now.island.now c.args.parts.now.cert.now c.requires.kept.accepted c.args.color c.args.at c.args.t
+    c.index-rows-get.result c.requires.at c.requires.target c.requires.different row.is)
 
 pub returns-clause-hop : goal.returns-clause-hop
 returns-clause-hop c =
-    rw (c.link_on.ensures)
-    (hop_found c.args.g.now.links (row_of c.args.c.now) c.args.color c.args.at c.args.t _ _ c.row.ensures.value
-    (hop_there c.args.g.now c.args.c.now c.requires.accepted c.args.color c.args.at c.args.t c.requires.at c.requires.target c.requires.different)
-    c.next.ensures)
+    let row = row_read c.args.parts.now.island.now c.args.parts.now.cert.now c.requires.kept.accepted c.args.t c.args.rows.now
+    c.requires.rows c.args.at c.get.result c.index-rows-get.result c.get.ensures.value c.requires.at c.requires.different
+    c.index-rows-get.is in
+    hop_by_row c.args.parts.now.island.now.links (row_of c.args.parts.now.cert.now) c.args.color c.args.at c.args.t
+    c.index-rows-get.result c.link_on-link.result c.far_end.result row.is c.link_on-link.ensures c.far_end.ensures
 
 pub returns-clause-link : goal.returns-clause-link
 returns-clause-link c =
-    subst (λ (n : ℕ). c.link_on.result < n) (counts c.args.g.now c.args.c.now c.requires.accepted).links
-    (rw (c.link_on.ensures) (link_within _ c.args.color c.row.result c.row.ensures.within))
+    let row = row_read c.args.parts.now.island.now c.args.parts.now.cert.now c.requires.kept.accepted c.args.t c.args.rows.now
+    c.requires.rows c.args.at c.get.result c.index-rows-get.result c.get.ensures.value c.requires.at c.requires.different
+    c.index-rows-get.is in
+    subst (λ (n : ℕ). c.link_on-link.result < n)
+    (counts c.args.parts.now.island.now c.args.parts.now.cert.now c.requires.kept.accepted).links
+    (rw c.link_on-link.ensures (link_within _ c.args.color c.index-rows-get.result row.kept))
 
 pub returns-clause-within : goal.returns-clause-within
-returns-clause-within c = hop_within c.args.g.now c.args.c.now c.requires.accepted c.args.color c.args.at c.args.t _ _ (returns-clause-hop c)
+returns-clause-within c =
+    hop_within c.args.parts.now.island.now c.args.parts.now.cert.now c.requires.kept.accepted c.args.color c.args.at c.args.t
+    _ _ (returns-clause-hop c)

@@ -15,15 +15,13 @@ loop-place-preserved c = elim c.if-ne.branch [
         (subst (λ (n : ℕ). n ≢ c.args.parts.now.source) c.new-to.ensures (differ _ _ (sym c.ne.ensures ∙ w.if-ne.true)))
         c.loop-place.invariant.lines
         (subst (λ (n : ℕ). Adds (IsLine (viewed c.args.parts.now) n) c.loop-place.text.items w.push_line.new.text.items) c.new-to.ensures w.in_ok-push_line.ensures));
-    blue = rw w.walks-is w.mark_walks.ensures.blue_room;
-    red = rw w.walks-is w.mark_walks.ensures.red_room;
+    room = rw w.walks-is w.mark_walks.ensures.room;
   }
   | else-ne w ↦ record {
     lines = rw w.text-is
         (line_passed (viewed c.args.parts.now) c.loop-place.place _ _
         (subst (λ (n : ℕ). n ≡ c.args.parts.now.source) c.new-to.ensures (agree _ _ (sym c.ne.ensures ∙ w.if-ne.false)))
         c.loop-place.invariant.lines);
-    blue = rw w.walks-is c.loop-place.invariant.blue;
-    red = rw w.walks-is c.loop-place.invariant.red;
+    room = rw w.walks-is c.loop-place.invariant.room;
   }
 ]
