@@ -12,6 +12,7 @@ pub mod Input
 pub mod Islands
 pub mod Reading
 pub mod Run
+pub mod SameFile
 pub mod Tabled
 pub mod TextBytes
 pub mod Verdict

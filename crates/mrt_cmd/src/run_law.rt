@@ -1,12 +1,17 @@
 //! What holds of the words and of what the shelf holds.
 
-ghost use Rattle.std.specs.Prelude.{◌≡◌, ℕ, List, Option, Some};
+ghost use Rattle.std.specs.Prelude.{◌≡◌, ℕ, List, Option, Some, Contains};
 ghost use Rattle.std.specs.Option.{IsSomeAnd};
+ghost use Rattle.area_graph.specs.Nodes.{router as router_node};
 ghost use Rattle.mrt_io.specs.Holding.{Files};
 ghost use Rattle.mrt_cmd.specs.declared.exit.Exit.{Exit};
+ghost use Rattle.mrt_cmd.specs.Certified.{IsCertified};
 ghost use Rattle.mrt_cmd.specs.Comes.{Comes, GivesText, IsRefused};
 ghost use Rattle.mrt_cmd.specs.Form.{IsCheck, form_of};
 ghost use Rattle.mrt_cmd.specs.Headline.{ChecksWritten};
+ghost use Rattle.mrt_cmd.specs.Input.{Input, IsInput};
+ghost use Rattle.mrt_cmd.specs.SameFile.{IsSameFile};
+ghost use Rattle.mrt_cmd.specs.Tabled.{IsTabled};
 
 use area_graph::the_newest_records_give_an_area;
 use cert_format::one_spelling;
@@ -53,6 +58,27 @@ pub fn what_was_written_passes()
     the_newest_records_give_an_area();
     an_island_is_that_of_each_router_in_it();
     one_spelling();
+}
+
+/// Laws: the tables of the routers of an island are of one graph, one root and one certificate; and this is the one that
+/// `certify` gives for each of them.
+pub fn tables_are_of_one_certificate()
+    ensures tables { (database profile : List ℕ) (input : Input) → IsInput database profile input
+        → (router other : ℕ) (text second : List ℕ)
+        → (one : IsTabled input router text) → (two : IsTabled input other second)
+        → Contains one.graph.ids (router_node other)
+        → IsSameFile one.graph one.root one.table.file two.graph two.root two.table.file }
+    ensures certificate { (database profile : List ℕ) (input : Input) → IsInput database profile input
+        → (router other : ℕ) (text second : List ℕ)
+        → (one : IsTabled input router text) → (two : IsCertified input other second)
+        → Contains one.graph.ids (router_node other)
+        → IsSameFile one.graph one.root one.table.file two.graph two.root two.certificate.file }
+{
+    an_lsa_without_a_fault_may_be_installed();
+    the_newest_records_give_an_area();
+    a_router_has_one_island();
+    an_island_is_that_of_each_router_in_it();
+    one_certificate();
 }
 
 /// A law: only a check says no.
