@@ -10,8 +10,8 @@ use Rattle.mrt_report.specs.TableParts.{TableParts}
 pub joined : (before part other middle after : List ℕ) → middle ≡ before ++ part → after ≡ middle ++ other → after ≡ before ++ (part ++ other)
 joined before part other middle after first then = then ∙ ap (λ (xs : List ℕ). xs ++ other) first ∙ append_assoc before part other
 
-second_letters : (parts : TableParts) (to : ℕ) (found : Option ℕ) (second : ℕ) (text : List ℕ) → found ≡ Some second → AreArcLetters parts to second text → AreSecondLetters parts to found text
-second_letters parts to found second text is are = rw is are
+letters_of_second : (parts : TableParts) (to : ℕ) (found : Option ℕ) (second : ℕ) (text : List ℕ) → found ≡ Some second → AreArcLetters parts to second text → AreSecondLetters parts to found text
+letters_of_second parts to found second text is are = rw is are
 
 -- the letters of both arcs
 pub letters_of_two : (parts : TableParts) (to : ℕ) (primary : Primary) (second : ℕ) (before middle after : List ℕ) → primary.second ≡ Some second
@@ -20,10 +20,10 @@ pub letters_of_two : (parts : TableParts) (to : ℕ) (primary : Primary) (second
 letters_of_two parts to primary second before middle after is one other = record {
   part = one.part ++ other.part;
   is = record {
-    first = one.part;
-    first_are = one.is;
-    second = other.part;
-    second_are = second_letters parts to primary.second second other.part is other.is;
+    first_letters = one.part;
+    first_letters_are = one.is;
+    second_letters = other.part;
+    second_letters_are = letters_of_second parts to primary.second second other.part is other.is;
     spelled = refl;
   };
   added = other.added ∙ ap (λ (xs : List ℕ). xs ++ other.part) one.added ∙ append_assoc before one.part other.part;
@@ -35,10 +35,10 @@ pub letters_of_one : (parts : TableParts) (to : ℕ) (primary : Primary) (before
 letters_of_one parts to primary before after is one = record {
   part = one.part;
   is = record {
-    first = one.part;
-    first_are = one.is;
-    second = [];
-    second_are = rw is refl;
+    first_letters = one.part;
+    first_letters_are = one.is;
+    second_letters = [];
+    second_letters_are = rw is refl;
     spelled = sym (append-nil one.part);
   };
   added = one.added;

@@ -58,8 +58,8 @@ one_second_letters alternate parts kept to (Some number) one other a b = one_arc
 one_letters : OneAlternate → (parts : TableParts) → IsTopology parts.island → (to : ℕ) (primary : Primary) (one other : List ℕ)
     → AreLetters parts to primary one → AreLetters parts to primary other → one ≡ other
 one_letters alternate parts kept to primary one other a b =
-    let first : a.first ≡ b.first = one_arc_letters alternate parts kept to primary.first a.first b.first a.first_are b.first_are in
-    let second : a.second ≡ b.second = one_second_letters alternate parts kept to primary.second a.second b.second a.second_are b.second_are in
+    let first : a.first_letters ≡ b.first_letters = one_arc_letters alternate parts kept to primary.first a.first_letters b.first_letters a.first_letters_are b.first_letters_are in
+    let second : a.second_letters ≡ b.second_letters = one_second_letters alternate parts kept to primary.second a.second_letters b.second_letters a.second_letters_are b.second_letters_are in
     a.spelled ∙ (λ i. first i ++ second i) ∙ sym b.spelled
 
 one_end : (g : Topology) (s link : ℕ) (one other : End) → IsEndOn g s link one → IsEndOn g s link other → one ≡ other
@@ -82,8 +82,8 @@ one_arc_hop parts number one other a b =
 one_color_words : (parts : TableParts) (to : ℕ) (one other : List ℕ) → AreColorWords parts to one → AreColorWords parts to other → one ≡ other
 one_color_words parts to one other a b =
     let row : a.row ≡ b.row = same_Some a.row b.row (sym a.row_is ∙ b.row_is) in
-    let blue : a.blue ≡ b.blue = one_link_hop parts b.row.blue a.blue b.blue (subst (λ (x : Row). IsLinkHop parts x.blue a.blue) row a.blue_is) b.blue_is in
-    let red : a.red ≡ b.red = one_link_hop parts b.row.red a.red b.red (subst (λ (x : Row). IsLinkHop parts x.red a.red) row a.red_is) b.red_is in
+    let blue : a.blue_hop ≡ b.blue_hop = one_link_hop parts b.row.blue a.blue_hop b.blue_hop (subst (λ (x : Row). IsLinkHop parts x.blue a.blue_hop) row a.blue_hop_is) b.blue_hop_is in
+    let red : a.red_hop ≡ b.red_hop = one_link_hop parts b.row.red a.red_hop b.red_hop (subst (λ (x : Row). IsLinkHop parts x.red a.red_hop) row a.red_hop_is) b.red_hop_is in
     a.spelled ∙ (λ i. tag_text ((row i).tag) ++ codes " blue " ++ blue i ++ codes " red " ++ red i) ∙ sym b.spelled
 
 one_primary : (parts : TableParts) → IsArea parts.area → (to : ℕ) (one other : Primary) → IsPrimaryFor parts to one → IsPrimaryFor parts to other → one ≡ other
@@ -107,6 +107,6 @@ pub one_line : OneAlternate → (parts : TableParts) → IsArea parts.area → I
     → IsLine parts to one → IsLine parts to other → one ≡ other
 one_line alternate parts area_kept kept to one other a b =
     let id : a.id ≡ b.id = same_Some a.id b.id (sym a.id_is ∙ b.id_is) in
-    let colors : a.colors ≡ b.colors = one_color_words parts to a.colors b.colors a.colors_are b.colors_are in
-    let primary : a.primary ≡ b.primary = one_primary_words alternate parts area_kept kept to a.primary b.primary a.primary_is b.primary_is in
+    let colors : a.color_words ≡ b.color_words = one_color_words parts to a.color_words b.color_words a.color_words_are b.color_words_are in
+    let primary : a.primary_words ≡ b.primary_words = one_primary_words alternate parts area_kept kept to a.primary_words b.primary_words a.primary_words_are b.primary_words_are in
     a.spelled ∙ (λ i. node_text (id i) ++ codes " " ++ colors i ++ codes " primary " ++ primary i ++ codes "\n") ∙ sym b.spelled

@@ -49,8 +49,8 @@ AreSecondLetters parts to (Some number) text = AreArcLetters parts to number tex
 
 -- of a primary: the letters of its first arc and, where there is one, of its second arc
 pub record AreLetters (parts : TableParts) (to : ℕ) (primary : Primary) (text : List ℕ) : Type 0 where
-  pub first : List ℕ
-  pub first_are : AreArcLetters parts to primary.first first
-  pub second : List ℕ
-  pub second_are : AreSecondLetters parts to primary.second second
-  pub spelled : text ≡ first ++ second
+  pub first_letters : List ℕ
+  pub first_letters_are : AreArcLetters parts to primary.first first_letters
+  pub second_letters : List ℕ
+  pub second_letters_are : AreSecondLetters parts to primary.second second_letters
+  pub spelled : text ≡ first_letters ++ second_letters

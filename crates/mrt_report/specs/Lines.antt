@@ -45,11 +45,11 @@ pub record IsPrimaryFor (parts : TableParts) (to : ℕ) (primary : Primary) : Ty
 pub record AreColorWords (parts : TableParts) (to : ℕ) (text : List ℕ) : Type 0 where
   pub row : Row
   pub row_is : row_of parts.cert parts.source to ≡ Some row
-  pub blue : List ℕ
-  pub blue_is : IsLinkHop parts row.blue blue
-  pub red : List ℕ
-  pub red_is : IsLinkHop parts row.red red
-  pub spelled : text ≡ tag_text row.tag ++ codes " blue " ++ blue ++ codes " red " ++ red
+  pub blue_hop : List ℕ
+  pub blue_hop_is : IsLinkHop parts row.blue blue_hop
+  pub red_hop : List ℕ
+  pub red_hop_is : IsLinkHop parts row.red red_hop
+  pub spelled : text ≡ tag_text row.tag ++ codes " blue " ++ blue_hop ++ codes " red " ++ red_hop
 
 -- the hop of the primary, and what repairs the failure of each of its elements
 pub record ArePrimaryWords (parts : TableParts) (to : ℕ) (text : List ℕ) : Type 0 where
@@ -65,8 +65,8 @@ pub record ArePrimaryWords (parts : TableParts) (to : ℕ) (text : List ℕ) : T
 pub record IsLine (parts : TableParts) (to : ℕ) (text : List ℕ) : Type 0 where
   pub id : NodeId
   pub id_is : slice_get parts.island.ids to ≡ Some id
-  pub colors : List ℕ
-  pub colors_are : AreColorWords parts to colors
-  pub primary : List ℕ
-  pub primary_is : ArePrimaryWords parts to primary
-  pub spelled : text ≡ node_text id ++ codes " " ++ colors ++ codes " primary " ++ primary ++ codes "\n"
+  pub color_words : List ℕ
+  pub color_words_are : AreColorWords parts to color_words
+  pub primary_words : List ℕ
+  pub primary_words_are : ArePrimaryWords parts to primary_words
+  pub spelled : text ≡ node_text id ++ codes " " ++ color_words ++ codes " primary " ++ primary_words ++ codes "\n"

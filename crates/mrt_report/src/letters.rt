@@ -26,14 +26,14 @@ use std::alloc::Global;
 
 /// What the two color walks of one router to one node use, and room for the rows that they follow.
 #[derive(Drop)]
-pub struct Walks {
+pub struct WalkMarks {
     pub blue: Marks,
     pub red: Marks,
     pub rows: Vec<Row>,
 }
 
 /// Room for what the walks in a graph use.
-pub fn walks_for(alloc: Global, g: &Graph) -> Result<Walks, NoMemory>
+pub fn walks_for(alloc: Global, g: &Graph) -> Result<WalkMarks, NoMemory>
     ensures { IfOk result (HasRoom g.now) }
 {
     let blue = marks_for(alloc, g)?;
@@ -44,11 +44,11 @@ pub fn walks_for(alloc: Global, g: &Graph) -> Result<Walks, NoMemory>
         tag: Tag::Sole,
     };
     let rows = vec![in alloc; no_row; g.node_count() as usize]?;
-    Ok(Walks { blue, red, rows })
+    Ok(WalkMarks { blue, red, rows })
 }
 
 /// Marks what the two color walks to `to` use.
-pub fn mark_walks(walks: &mut Walks, parts: &Parts, to: NodeNo)
+pub fn mark_walks(walks: &mut WalkMarks, parts: &Parts, to: NodeNo)
     requires kept { AreTableParts (viewed parts.now) }
     requires room { HasRoom parts.now.island.now walks.old }
     requires target { to < length parts.now.island.now.ids }
@@ -63,7 +63,7 @@ pub fn mark_walks(walks: &mut Walks, parts: &Parts, to: NodeNo)
 pub fn push_letters(
     text: &mut Vec<u8>,
     parts: &Parts,
-    walks: &Walks,
+    walks: &WalkMarks,
     to: NodeNo,
     primary: Primary,
 ) -> Result<(), NoMemory>
@@ -85,7 +85,7 @@ pub fn push_letters(
 fn push_arc_letters(
     text: &mut Vec<u8>,
     parts: &Parts,
-    walks: &Walks,
+    walks: &WalkMarks,
     to: NodeNo,
     number: ArcNo,
 ) -> Result<(), NoMemory>
@@ -126,7 +126,7 @@ fn element_of_node(island: &Graph, id: NodeId) -> Option<Element>
 }
 
 /// The alternate for `to` where an element has failed.
-fn repair(parts: &Parts, walks: &Walks, to: NodeNo, failed: Option<Element>) -> Option<Color>
+fn repair(parts: &Parts, walks: &WalkMarks, to: NodeNo, failed: Option<Element>) -> Option<Color>
     requires walks { AreUses (viewed parts.now) to walks.now }
     requires within { IfSome failed (λ x. IsElementOf parts.now.island.now x) }
     ensures { IsRepair (viewed parts.now) to failed result }
@@ -138,7 +138,7 @@ fn repair(parts: &Parts, walks: &Walks, to: NodeNo, failed: Option<Element>) -> 
 }
 
 /// The color whose walk to `to` does not use an element.
-fn color_round(parts: &Parts, walks: &Walks, to: NodeNo, x: &Element) -> Option<Color>
+fn color_round(parts: &Parts, walks: &WalkMarks, to: NodeNo, x: &Element) -> Option<Color>
     requires walks { AreUses (viewed parts.now) to walks.now }
     requires within { IsElementOf parts.now.island.now x.now }
     ensures { IsRepair (viewed parts.now) to (Some x.now) result }

@@ -19,7 +19,7 @@ ghost use Rattle.mrt_report.specs.TableParts.{AreTableParts};
 ghost use Rattle.mrt_report.specs.Uses.{AreUses};
 ghost use Rattle.mrt_report.specs.Viewed.{viewed};
 
-use crate::letters::{Walks, push_letters};
+use crate::letters::{WalkMarks, push_letters};
 use crate::parts::Parts;
 use crate::words::{push, push_hop, push_node, tag_word};
 use area_graph::ArcNo;
@@ -30,7 +30,7 @@ use primary_alt::Primary;
 pub fn push_line(
     text: &mut Vec<u8>,
     parts: &Parts,
-    walks: &Walks,
+    walks: &WalkMarks,
     to: NodeNo,
 ) -> Result<(), NoMemory>
     requires kept { AreTableParts (viewed parts.now) }
@@ -100,7 +100,7 @@ fn first_on(ends: &[End], link: LinkNo) -> Option<End>
 fn push_primary(
     text: &mut Vec<u8>,
     parts: &Parts,
-    walks: &Walks,
+    walks: &WalkMarks,
     to: NodeNo,
 ) -> Result<(), NoMemory>
     requires kept { AreTableParts (viewed parts.now) }

@@ -12,7 +12,7 @@ ghost use Rattle.mrt_report.specs.TableText.{IsHead, IsTableText};
 ghost use Rattle.mrt_report.specs.Uses.{HasRoom};
 ghost use Rattle.mrt_report.specs.Viewed.{viewed};
 
-use crate::letters::{Walks, mark_walks, walks_for};
+use crate::letters::{WalkMarks, mark_walks, walks_for};
 use crate::line::push_line;
 use crate::parts::Parts;
 use crate::words::{push, push_count, push_node};
@@ -90,7 +90,7 @@ fn push_head(text: &mut Vec<u8>, parts: &Parts, root: NodeNo) -> Result<(), NoMe
 }
 
 /// Puts a line on each other node at the end of a text.
-fn push_lines(text: &mut Vec<u8>, parts: &Parts, walks: &mut Walks) -> Result<(), NoMemory>
+fn push_lines(text: &mut Vec<u8>, parts: &Parts, walks: &mut WalkMarks) -> Result<(), NoMemory>
     requires kept { AreTableParts (viewed parts.now) }
     requires room { HasRoom parts.now.island.now walks.old }
     ensures { IfOk result (λ _.

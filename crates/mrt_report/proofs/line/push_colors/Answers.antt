@@ -32,10 +32,10 @@ returns c =
       is = record {
         row = c.row-row.result;
         row_is = c.row-row.ensures.value;
-        blue = blue.part;
-        blue_is = blue.is;
-        red = red.part;
-        red_is = red.is;
+        blue_hop = blue.part;
+        blue_hop_is = blue.is;
+        red_hop = red.part;
+        red_hop_is = red.is;
         spelled = refl;
       };
       added =

@@ -11,10 +11,10 @@ returns c =
       is = record {
         id = c.id.result;
         id_is = c.id.ensures;
-        colors = colors.part;
-        colors_are = colors.is;
-        primary = primary.part;
-        primary_is = primary.is;
+        color_words = colors.part;
+        color_words_are = colors.is;
+        primary_words = primary.part;
+        primary_words_are = primary.is;
         spelled = refl;
       };
       added =
