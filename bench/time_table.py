@@ -1,8 +1,8 @@
 #!/usr/bin/env python3
 """Times `mrt table` beside `mrt certify` on a ring, a mesh, a line and a star of 1,024 and 2,048 routers, both in one run.
 
-It prints the ratio of both, wanted at most 2; the peak memory; and how the time grows for twice the routers, wanted at most 4.4 times, as the
-certificate does. The table is that of the first router and of one in the middle. It builds the program where need be; it fetches nothing.
+It prints the ratio of both, wanted at most 2; the peak memory; and how the time grows for twice the routers, of whose certificate four times as
+many rows are computed. The table is that of the first router and of one in the middle. It builds the program where need be; it fetches nothing.
 """
 import os
 import tempfile
@@ -35,7 +35,7 @@ def main():
     with tempfile.TemporaryDirectory() as folder:
         for shape in SHAPES:
             half, whole = (report(shape, size, folder) for size in SIZES)
-            print(f"{shape}: {told(whole / half, 4.4)} times the time for twice the routers")
+            print(f"{shape}: {whole / half:.2f} times the time for twice the routers")
 
 
 if __name__ == "__main__":
