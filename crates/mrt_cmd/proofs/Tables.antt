@@ -21,7 +21,7 @@ use Rattle.mrt_report.specs.TableParts.{table_parts}
 use Rattle.mrt_report.specs.TableText.{IsTableText}
 use Rattle.primary_alt.specs.declared.shortest.Primary.{Primary}
 use Rattle.primary_alt.specs.Primaries.{ArePrimaries}
-use Rattle.mrt_cmd.specs.Tabled.{IsCertificate, IsTableOf}
+use Rattle.mrt_cmd.specs.Tabled.{IsComputedFile, IsTableOf}
 
 -- a router is in its own island
 pub in_own_island : (policy : Policy) (area : AreaParts) (number : ℕ) (graph : Topology) (root : ℕ)
@@ -46,7 +46,7 @@ root_order graph root file accepted =
 
 -- what was written of it is the table
 pub table_written : {T E : Type 0} (bytes : T → List ℕ) (answer : Result T E) (area : AreaParts) (graph : Topology)
-    (root : ℕ) (link_of : List (Option ℕ)) (number : ℕ) (file : CertFile) → IsCertificate graph root file
+    (root : ℕ) (link_of : List (Option ℕ)) (number : ℕ) (file : CertFile) → IsComputedFile graph root file
     → (source : ℕ) → slice_get graph.ids source ≡ Some (router number) → (spot : ℕ)
     → slice_get area.ids spot ≡ Some (router number) → (primaries : List (Option Primary)) → ArePrimaries area spot primaries
     → IfOk answer (λ text. IsTableText (table_parts area graph link_of file.cert source primaries) root (bytes text))

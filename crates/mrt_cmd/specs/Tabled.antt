@@ -15,8 +15,8 @@ use Rattle.primary_alt.specs.declared.shortest.Primary.{Primary}
 use Rattle.primary_alt.specs.Primaries.{ArePrimaries}
 use Rattle.mrt_cmd.specs.Input.{Input, HasIsland, area}
 
--- the certificate that is computed for a graph and its root: it is accepted, so that its rows are sound
-pub record IsCertificate (graph : Topology) (root : ℕ) (file : CertFile) : Type 0 where
+-- the file is the certificate that is computed for a graph and its root: it is accepted, so that its rows are sound
+pub record IsComputedFile (graph : Topology) (root : ℕ) (file : CertFile) : Type 0 where
   pub kept : IsTopology graph
   pub computed : IsCertOf graph root file
   pub accepted : Accepted graph root file
@@ -24,9 +24,10 @@ pub record IsCertificate (graph : Topology) (root : ℕ) (file : CertFile) : Typ
 
 -- the text is the table of a router of an island: its number in the island, its number in the area and its primaries for
 -- all nodes of the area, and the text that these and the certificate of the island give
-pub record IsTableOf (area : AreaParts) (graph : Topology) (root : ℕ) (link_of : List (Option ℕ)) (number : ℕ) (text : List ℕ) : Type 0 where
+pub record IsTableOf (area : AreaParts) (graph : Topology) (root : ℕ) (link_of : List (Option ℕ)) (number : ℕ) (text : List ℕ)
+    : Type 0 where
   pub file : CertFile
-  pub certificate : IsCertificate graph root file
+  pub certificate : IsComputedFile graph root file
   pub source : ℕ
   pub in_island : slice_get graph.ids source ≡ Some (router number)
   pub spot : ℕ

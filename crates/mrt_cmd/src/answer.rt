@@ -45,7 +45,8 @@ fn answer_for(
     requires settled { least_conflict database.now.entries ≡ None }
     ensures text { IfOk result (λ text.
         GivesFor (task_asked task.entry) (input_of database.now.entries profile.now) last.now (bytes_of text)) }
-    ensures refused { IfErr result (IsTaskRefusal (task_asked task.entry) (input_of database.now.entries profile.now) last.now) }
+    ensures refused { IfErr result
+        (IsTaskRefusal (task_asked task.entry) (input_of database.now.entries profile.now) last.now) }
 {
     match task {
         Task::Check { .. } => Ok(Text::Line(check(alloc, database, profile, last)?)),
@@ -57,8 +58,10 @@ fn answer_for(
 /// The accepted line, where the bytes are a certificate that is accepted for the island of its root.
 fn check(alloc: Global, database: &Lsdb, profile: &Profile, bytes: &[u8]) -> Result<Line, Exit>
     requires settled { least_conflict database.now.entries ≡ None }
-    ensures text { IfOk result (λ line. GivesVerdict (input_of database.now.entries profile.now) bytes.now line.items) }
-    ensures refused { IfErr result (IsCheckRefusal (input_of database.now.entries profile.now) bytes.now) }
+    ensures text { IfOk result (λ line.
+        GivesVerdict (input_of database.now.entries profile.now) bytes.now line.items) }
+    ensures refused { IfErr result
+        (IsCheckRefusal (input_of database.now.entries profile.now) bytes.now) }
 {
     let file = cert_of(alloc, bytes)?;
     verdict(alloc, database, profile, &file)

@@ -23,7 +23,8 @@ pub(crate) fn certificate(
     router: u32,
 ) -> Result<Vec<u8>, Exit>
     requires { least_conflict database.now.entries ≡ None }
-    ensures certified { IfOk result (λ text. IsCertified (input_of database.now.entries profile.now) router text.items) }
+    ensures certified { IfOk result (λ text.
+        IsCertified (input_of database.now.entries profile.now) router text.items) }
     ensures refused { IfErr result (HasNone (input_of database.now.entries profile.now) router) }
 {
     let island = island_in(alloc, database, profile, router)?;

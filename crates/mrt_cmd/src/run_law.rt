@@ -60,8 +60,8 @@ pub fn what_was_written_passes()
     one_spelling();
 }
 
-/// Laws: the tables of the routers of an island are of one graph, one root and one certificate; and this is the one that
-/// `certify` gives for each of them.
+/// Laws: the tables of the routers of an island are of one graph, one root and one certificate; and this is the one
+/// that `certify` gives for each of them.
 pub fn tables_are_of_one_certificate()
     ensures tables { (database profile : List ℕ) (input : Input) → IsInput database profile input
         → (router other : ℕ) (text second : List ℕ)

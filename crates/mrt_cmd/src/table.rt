@@ -19,8 +19,8 @@ use mrt_rows::compute;
 use primary_alt::primaries;
 use std::alloc::Global;
 
-/// The table of a router: of each other node of its island the two colors' next hops, the primary, and which color repairs
-/// it.
+/// The table of a router: of each other node of its island the two colors' next hops, the primary, and which color
+/// repairs it.
 pub(crate) fn table(
     alloc: Global,
     database: &Lsdb,
@@ -28,7 +28,8 @@ pub(crate) fn table(
     router: u32,
 ) -> Result<Vec<u8>, Exit>
     requires { least_conflict database.now.entries ≡ None }
-    ensures tabled { IfOk result (λ text. IsTabled (input_of database.now.entries profile.now) router text.items) }
+    ensures tabled { IfOk result (λ text.
+        IsTabled (input_of database.now.entries profile.now) router text.items) }
     ensures refused { IfErr result (HasNone (input_of database.now.entries profile.now) router) }
 {
     let area = area_of(alloc, database)?;

@@ -24,8 +24,10 @@ pub(crate) fn verdict(
     file: &CertFile,
 ) -> Result<Line, Exit>
     requires { least_conflict database.now.entries ≡ None }
-    ensures accepted { IfOk result (λ text. IsAcceptedFor (input_of database.now.entries profile.now) file.now text.items) }
-    ensures refused { IfErr result (IsVerdictFor (input_of database.now.entries profile.now) file.now) }
+    ensures accepted { IfOk result (λ text.
+        IsAcceptedFor (input_of database.now.entries profile.now) file.now text.items) }
+    ensures refused { IfErr result
+        (IsVerdictFor (input_of database.now.entries profile.now) file.now) }
 {
     let island = island_in(alloc, database, profile, file.root)?;
     judge(&island.graph, island.root, file)

@@ -3,7 +3,7 @@ use Rattle.std.proofs.lemmas.Option.{slice_get_within}
 use Rattle.area_graph.specs.Nodes.{router as router_node}
 use Rattle.mrt_graph.proofs.ListTests.{there}
 use Rattle.mrt_rows.specs.CertOf.{file_of}
-use Rattle.mrt_cmd.specs.Tabled.{IsCertificate}
+use Rattle.mrt_cmd.specs.Tabled.{IsComputedFile}
 use Rattle.mrt_cmd.proofs.Tables.{root_order, table_written}
 use Rattle.mrt_cmd.proofs.table.table_of.Goals as goal
 
@@ -27,7 +27,7 @@ returns c =
     let root = there c.args.graph.now.ids c.args.root c.requires.root in
     let file = file_of root.0 c.in_ok-cert.cert in
     let accepted = c.in_ok-cert.ensures.accepted root.0 root.1 in
-    let certificate : IsCertificate c.args.graph.now c.args.root file = record {
+    let certificate : IsComputedFile c.args.graph.now c.args.root file = record {
       kept = c.in_ok-cert.ensures.kept;
       computed = c.in_ok-cert.ensures.cert root.0 root.1;
       accepted = accepted;
