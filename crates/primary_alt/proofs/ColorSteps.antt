@@ -3,9 +3,10 @@ use Rattle.std.proofs.Common.{◌≡◌, ◌≢◌, ◌<◌, ℕ, List, Option, 
 use Rattle.std.specs.Prelude.{IfSome, IsSome}
 use Rattle.std.specs.Option.{option_map}
 use Rattle.mrt_graph.specs.declared.cert.Color.{Color}
+use Rattle.mrt_graph.specs.declared.cert.Color.TheVariants.{Blue, Red}
 use Rattle.mrt_graph.specs.declared.cert.Row.{Row}
 use Rattle.mrt_graph.specs.declared.link.Link.{Link}
-use Rattle.mrt_graph.specs.Certificate.{Certificate, row_of}
+use Rattle.mrt_graph.specs.Certificate.{Certificate, IsCertRow, row_of}
 use Rattle.mrt_graph.specs.Hop.{Hop, color_hop}
 use Rattle.mrt_graph.specs.Leads.{leads}
 use Rattle.mrt_graph.specs.Rows.{Rows, link_of_color}
@@ -49,3 +50,8 @@ pub hop_within : (g : Topology) (c : Certificate) → IsAcceptedFor g c → (col
 hop_within g c a color s t e to is =
     subst (λ (n : ℕ). to < n) (counts g c a).nodes
     ((blocks g a.root _ a.accepted).to_within e s to (color_leads g.links (row_of c) color t s _ is))
+
+-- the link of a color in a row is one of the links
+pub link_within : (m : ℕ) (color : Color) (row : Row) → IsCertRow m row → link_of_color color row < m
+link_within m Blue row is = is.blue
+link_within m Red row is = is.red

@@ -1,22 +1,14 @@
 //! What a color uses on its way.
 
-ghost use Rattle.std.specs.Prelude.{◌≡◌, ◌≢◌, ◌<◌, ◌↔◌, IsTrue, Some, length};
+ghost use Rattle.std.specs.Prelude.{◌<◌, ◌↔◌, IsTrue, length};
 ghost use Rattle.mrt_graph.specs.Alternate.{UsesOn};
 ghost use Rattle.mrt_graph.specs.Certificate.{row_of};
-ghost use Rattle.mrt_graph.specs.Hop.{color_hop};
-ghost use Rattle.mrt_graph.specs.Rows.{link_of_color};
 ghost use Rattle.mrt_graph.specs.Separates.{IsNeitherEnd};
 ghost use Rattle.primary_alt.specs.AcceptedRows.{IsAcceptedFor};
 ghost use Rattle.primary_alt.specs.Meets.{IsOver};
 
-use mrt_graph::{Cert, Color, Element, Graph, LinkNo, NodeNo, Row};
-
-/// A link, and the node that it leads to.
-#[derive(Clone, Copy)]
-pub struct Step {
-    pub link: LinkNo,
-    pub to: NodeNo,
-}
+use crate::color_hops::{ColorHop, hop_on};
+use mrt_graph::{Cert, Color, Element, Graph, NodeNo};
 
 /// Whether the color walk from `s` to `t` uses `x`, which is neither `s` nor `t`.
 ///
@@ -31,48 +23,22 @@ pub fn uses(g: &Graph, c: &Cert, s: NodeNo, t: NodeNo, x: &Element, color: Color
     let mut at = s;
     let mut left = g.node_count();
     while left > 0 && at != t {
-        let step = onward(g, c, at, t, color);
-        if is_over(&step, x) {
+        let hop = hop_on(g, c, at, t, color);
+        if is_over(&hop, x) {
             return true;
         }
-        at = step.to;
+        at = hop.to;
         left -= 1;
     }
     false
 }
 
-/// Where a packet for `t` goes from `at` on a color.
-fn onward(g: &Graph, c: &Cert, at: NodeNo, t: NodeNo, color: Color) -> Step
-    requires accepted { IsAcceptedFor g.now c.now }
-    requires at { at < length g.now.ids }
-    requires target { t < length g.now.ids }
-    requires different { at ≢ t }
-    ensures hop { color_hop g.now.links (row_of c.now) color t at
-        ≡ Some (record { link = result.link; to = result.to }) }
-    ensures within { result.to < length g.now.ids }
-{
-    Step {
-        link: link_on(color, &c.row(at, t)),
-        to: g.next(c, at, t, color),
-    }
-}
-
-/// The link of a color in a row.
-fn link_on(color: Color, row: &Row) -> LinkNo
-    ensures { result ≡ link_of_color color row.now }
-{
-    match color {
-        Color::Blue => row.blue,
-        Color::Red => row.red,
-    }
-}
-
 /// Whether the element is this link or the node that it leads to.
-fn is_over(step: &Step, x: &Element) -> bool
-    ensures { IsTrue result ↔ IsOver step.now.link step.now.to x.now }
+fn is_over(hop: &ColorHop, x: &Element) -> bool
+    ensures { IsTrue result ↔ IsOver hop.now.link hop.now.to x.now }
 {
     match x {
-        Element::Link(link) => *link == step.link,
-        Element::Node(node) => *node == step.to,
+        Element::Link(link) => *link == hop.link,
+        Element::Node(node) => *node == hop.to,
     }
 }

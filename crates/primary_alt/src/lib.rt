@@ -3,6 +3,7 @@
 #![tactic(auto)]
 
 mod arc_starts;
+mod color_hops;
 mod color_uses;
 mod least_walks;
 mod offers;
@@ -13,6 +14,7 @@ mod searching;
 mod shortest;
 mod waiting;
 
+pub use color_hops::{ColorHop, hop_on};
 pub use least_walks::primaries;
 pub use primary_law::{
     a_primary_where_a_walk_leads, one_primary_each, primaries_lead_nearer,

@@ -15,16 +15,16 @@ loop-left-init c = (
 pub returns-then-is_over : goal.returns-then-is_over
 returns-then-is_over c = (
   λ is. way_meets c.args.g.now.links _ (color_leads c.args.g.now.links (row_of c.args.c.now) c.args.color c.args.t) c.args.t c.args.x.now _ c.args.s
-      c.loop-left.left c.loop-left.at _ _ (omega (arith, c.loop-left-test.true)) (differ _ _ (sym c.ne.ensures ∙ c.if-ne.true)) c.onward-step.ensures.hop
+      c.loop-left.left c.loop-left.at _ _ (omega (arith, c.loop-left-test.true)) (differ _ _ (sym c.ne.ensures ∙ c.if-ne.true)) c.hop_on-hop.ensures.hop
       (c.is_over.ensures.0 c.if-is_over.true) c.loop-left.invariant.1,
   λ uses. refl,
 )
 
 pub loop-left-preserved : goal.loop-left-preserved
 loop-left-preserved c = (
-  c.onward-step.ensures.within,
+  c.hop_on-hop.ensures.to,
   way_goes_on c.args.g.now.links _ (color_leads c.args.g.now.links (row_of c.args.c.now) c.args.color c.args.t) c.args.t c.args.x.now _ c.args.s
-      c.loop-left.left c.loop-left.at _ _ (omega (arith, c.loop-left-test.true)) (differ _ _ (sym c.ne.ensures ∙ c.if-ne.true)) c.onward-step.ensures.hop
+      c.loop-left.left c.loop-left.at _ _ (omega (arith, c.loop-left-test.true)) (differ _ _ (sym c.ne.ensures ∙ c.if-ne.true)) c.hop_on-hop.ensures.hop
       (λ over. absurd (true≢false (sym (c.is_over.ensures.1 over) ∙ c.if-is_over.false))) c.loop-left.invariant.1,
 )
 

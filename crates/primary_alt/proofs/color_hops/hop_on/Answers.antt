@@ -1,7 +1,7 @@
 use Rattle.std.proofs.Common.{◌<◌, ℕ, sym, subst}
 use Rattle.mrt_graph.specs.Certificate.{row_of}
-use Rattle.primary_alt.proofs.ColorSteps.{counts, hop_found, hop_there, hop_within}
-use Rattle.primary_alt.proofs.color_uses.onward.Goals as goal
+use Rattle.primary_alt.proofs.ColorSteps.{counts, hop_found, hop_there, hop_within, link_within}
+use Rattle.primary_alt.proofs.color_hops.hop_on.Goals as goal
 
 pub row-requires-clause-source : goal.row-requires-clause-source
 row-requires-clause-source c = subst (λ (n : ℕ). c.args.at < n) (sym (counts c.args.g.now c.args.c.now c.requires.accepted).nodes) c.requires.at
@@ -25,5 +25,10 @@ returns-clause-hop c =
     (hop_there c.args.g.now c.args.c.now c.requires.accepted c.args.color c.args.at c.args.t c.requires.at c.requires.target c.requires.different)
     c.next.ensures)
 
-pub returns-clause-within : goal.returns-clause-within
-returns-clause-within c = hop_within c.args.g.now c.args.c.now c.requires.accepted c.args.color c.args.at c.args.t _ _ (returns-clause-hop c)
+pub returns-clause-to : goal.returns-clause-to
+returns-clause-to c = hop_within c.args.g.now c.args.c.now c.requires.accepted c.args.color c.args.at c.args.t _ _ (returns-clause-hop c)
+
+pub returns-clause-link : goal.returns-clause-link
+returns-clause-link c =
+    subst (λ (n : ℕ). c.link_on.result < n) (counts c.args.g.now c.args.c.now c.requires.accepted).links
+    (rw (c.link_on.ensures) (link_within _ c.args.color c.row.result c.row.ensures.within))
