@@ -6,10 +6,12 @@ pub mod ColorsUse
 pub mod Gaining
 pub mod HopsArrive
 pub mod LeastWays
+pub mod NearerHops
 pub mod Offering
 pub mod PrimariesFound
 pub mod PrimariesLead
 pub mod Repairs
+pub mod RouterFacts
 pub mod Settled
 pub mod TicketOrder
 pub mod TripWalks

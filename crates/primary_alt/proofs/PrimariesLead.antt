@@ -1,5 +1,5 @@
 -- Where primaries lead.
-use Rattle.std.proofs.Common.{◌≡◌, ◌≢◌, ◌<◌, ◌≤◌, ◌+◌, ◌∙◌, ◌⊎◌, ℕ, List, Option, Some, None, slice_get, inl, inr, refl, sym, ap, subst, arith}
+use Rattle.std.proofs.Common.{◌≡◌, ◌≢◌, ◌<◌, ◌≤◌, ◌+◌, ◌∙◌, ◌⊎◌, ◌↔◌, ℕ, List, Option, Some, None, slice_get, inl, inr, refl, sym, ap, subst, arith}
 use Rattle.std.specs.Prelude.{IsSome}
 use Rattle.std.proofs.lemmas.Bool.{cases_eq}
 use Rattle.std.proofs.lemmas.Option.{same_Some}
@@ -70,12 +70,29 @@ one_entry area s t entry other (NoWalk none) is = from_none area s t other (inr 
 one_entry area s t entry other (Direct n arc apart first direct) is = from_direct area s t n arc other apart first direct is
 one_entry area s t entry other (Over n k arc onward apart first over second) is = from_over area s t n k arc onward other apart first over second is
 
+-- where there is one a walk leads
+first_walk : (arcs : List Arc) (s t n : ℕ) (arc : Arc) → IsFirstArc arcs s t n arc → (walk : List Arc) × ArcWalk arcs s walk t
+first_walk arcs s t n arc first =
+    (first.shortest.near.walk, subst (λ (v : ℕ). ArcWalk arcs v first.shortest.near.walk t) first.from first.shortest.near.leads)
+
+walk_there : (area : AreaParts) (s t : ℕ) (entry : Option Primary) → IsPrimary area s t entry → IsSome entry
+    → (s ≢ t) × ((walk : List Arc) × ArcWalk area.arcs s walk t)
+walk_there area s t entry (Itself same) some = cc
+walk_there area s t entry (NoWalk none) some = cc
+walk_there area s t entry (Direct n arc apart first direct) some = (apart, first_walk area.arcs s t n arc first)
+walk_there area s t entry (Over n k arc onward apart first over second) some = (apart, first_walk area.arcs s t n arc first)
+
 -- where a walk leads there is one
 pub entry_there : (area : AreaParts) (s t : ℕ) (entry : Option Primary) (walk : List Arc) → IsPrimary area s t entry → s ≢ t → ArcWalk area.arcs s walk t → IsSome entry
 entry_there area s t entry walk (Itself same) apart w = absurd (apart same)
 entry_there area s t entry walk (NoWalk none) apart w = absurd (none walk w)
 entry_there area s t entry walk (Direct n arc apart' first direct) apart w = refl
 entry_there area s t entry walk (Over n k arc onward apart' first over second) apart w = refl
+
+-- exactly there
+pub entry_exactly : (area : AreaParts) (s t : ℕ) (entry : Option Primary) → IsPrimary area s t entry
+    → IsSome entry ↔ ((s ≢ t) × ((walk : List Arc) × ArcWalk area.arcs s walk t))
+entry_exactly area s t entry is = (walk_there area s t entry is, λ there. entry_there area s t entry there.1.0 is there.0 there.1.1)
 
 -- it leads to t or to a router
 data Whole (area : AreaParts) (s t : ℕ) (primary : Primary) : Type 0 where

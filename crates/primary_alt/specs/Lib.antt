@@ -6,5 +6,6 @@ pub mod Meets
 pub mod Offers
 pub mod Primaries
 pub mod PrimaryHops
+pub mod Routers
 pub mod Settling
 pub mod Tickets

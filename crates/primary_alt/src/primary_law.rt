@@ -1,15 +1,15 @@
 //! What holds of the primaries of each area.
 
-ghost use Rattle.std.specs.Prelude.{◌≡◌, ◌≢◌, ◌<◌, ◌⊎◌, ℕ, List, Option, Some, IsSome, length};
+ghost use Rattle.std.specs.Prelude.{◌≡◌, ◌≢◌, ◌<◌, ◌⊎◌, ◌↔◌, ℕ, List, Option, Some, IsSome};
 ghost use Rattle.area_graph.specs.declared.area_types.Arc.{Arc};
 ghost use Rattle.area_graph.specs.AreaInvariant.{IsArea};
 ghost use Rattle.area_graph.specs.Parts.{AreaParts};
-ghost use Rattle.mrt_graph.specs.GraphInvariant.{IsNetwork};
 ghost use Rattle.primary_alt.specs.declared.shortest.Primary.{Primary};
 ghost use Rattle.primary_alt.specs.ArcWalk.{ArcWalk};
 ghost use Rattle.primary_alt.specs.Distance.{IsDistance};
 ghost use Rattle.primary_alt.specs.Primaries.{IsPrimary};
 ghost use Rattle.primary_alt.specs.PrimaryHops.{HopsReach};
+ghost use Rattle.primary_alt.specs.Routers.{IsRouter};
 
 /// A law: a node has one entry for each node.
 pub fn one_primary_each()
@@ -17,19 +17,19 @@ pub fn one_primary_each()
         → IsPrimary area s t entry → IsPrimary area s t other → entry ≡ other }
 {}
 
-/// A law: where a walk leads to another node, there is a primary for it.
+/// A law: there is a primary exactly where a walk leads to another node.
 pub fn a_primary_where_a_walk_leads()
-    ensures { (area : AreaParts) (s t : ℕ) (entry : Option Primary) (walk : List Arc)
-        → IsPrimary area s t entry → s ≢ t → ArcWalk area.arcs s walk t → IsSome entry }
+    ensures { (area : AreaParts) (s t : ℕ) (entry : Option Primary) → IsPrimary area s t entry
+        → IsSome entry ↔ ((s ≢ t) × ((walk : List Arc) × ArcWalk area.arcs s walk t)) }
 {}
 
 /// Laws: the primary of a router leads to the destination or to another router, and the distance from there is smaller.
 pub fn primaries_lead_nearer()
     ensures router { (area : AreaParts) → IsArea area → (s t : ℕ) (primary : Primary)
         → IsPrimary area s t (Some primary)
-        → (primary.next ≡ t) ⊎ (¬ IsNetwork area.ids primary.next) }
+        → (primary.next ≡ t) ⊎ IsRouter area.ids primary.next }
     ensures nearer { (area : AreaParts) → IsArea area → (s t distance : ℕ) (primary : Primary)
-        → ¬ IsNetwork area.ids s → IsPrimary area s t (Some primary)
+        → IsRouter area.ids s → IsPrimary area s t (Some primary)
         → IsDistance area.arcs s t distance
         → (rest : ℕ) × IsDistance area.arcs primary.next t rest × (rest < distance) }
 {}
@@ -38,7 +38,7 @@ pub fn primaries_lead_nearer()
 /// it.
 pub fn primaries_reach_their_destinations()
     ensures { (area : AreaParts) → IsArea area → (t : ℕ) (entries : ℕ → Option Primary)
-        → ((s : ℕ) → s < length area.ids → ¬ IsNetwork area.ids s → IsPrimary area s t (entries s))
-        → (s : ℕ) → s < length area.ids → ¬ IsNetwork area.ids s
+        → ((s : ℕ) → IsRouter area.ids s → IsPrimary area s t (entries s))
+        → (s : ℕ) → IsRouter area.ids s
         → (walk : List Arc) → ArcWalk area.arcs s walk t → HopsReach entries t s }
 {}
