@@ -1,6 +1,9 @@
 pub mod AcceptedRows
 pub mod ArcWalk
+pub mod ArcsInto
+pub mod BackwardSearch
 pub mod Distance
+pub mod Distances
 pub mod Known
 pub mod Meets
 pub mod Offers

@@ -3,6 +3,8 @@
 #![tactic(auto)]
 
 mod arc_starts;
+mod arcs_into;
+mod backward;
 mod color_hops;
 mod color_uses;
 mod least_walks;

@@ -1,0 +1,146 @@
+//! The search for distances to one node, backwards along the arcs (Dijkstra's).
+
+ghost use Rattle.std.specs.BinaryHeap.{heap_items, heap_len};
+ghost use Rattle.std.specs.Prelude.{◌≡◌, ◌<◌, ◌≤◌, ◌+◌, ◌*◌, ◌∷◌, ◌↔◌, ℕ, IsTrue, OnOk, length};
+ghost use Rattle.primary_alt.specs.ArcsInto.{AreFromBelow, AreStartsInto};
+ghost use Rattle.primary_alt.specs.BackwardSearch.{AreSmall, IsOffered, IsRelaxed, IsSearching, left, reached, room_of};
+ghost use Rattle.primary_alt.specs.Distances.{AreDistances, HasDistance};
+
+use crate::arcs_into::ArcsInto;
+use area_graph::{Arc, Spot};
+use mrt_graph::NoMemory;
+use std::cmp::Reverse;
+use std::collections::BinaryHeap;
+
+/// A distance that is offered to a node. Offers are ordered by distance.
+#[derive(Clone, Copy, PartialEq, Eq, PartialOrd, Ord)]
+pub struct Offer {
+    pub distance: u32,
+    pub node: Spot,
+}
+
+/// Finds the distances of all nodes to `t`. What the list and the heap hold before is forgotten, so that they serve one
+/// search after another.
+pub fn distances_to(
+    into: &ArcsInto,
+    t: Spot,
+    known: &mut Vec<Option<u32>>,
+    waiting: &mut BinaryHeap<Reverse<Offer>>,
+) -> Result<(), NoMemory>
+    requires starts { AreStartsInto into.now.arcs.items into.now.starts.items }
+    requires tails { AreFromBelow (length known.old.items) into.now.arcs.items }
+    requires rows { length into.now.starts.items ≡ length known.old.items + 1 }
+    requires few { length known.old.items ≤ 4096 }
+    requires node { t < length known.old.items }
+    ensures one_each { OnOk result (length known.new.items ≡ length known.old.items) }
+    ensures distances { OnOk result (AreDistances into.now.arcs.items t known.new.items) }
+{
+    forget(known);
+    waiting.clear();
+    offer_to(t, 0, known, waiting)?;
+    while let Some(Reverse(nearest)) = waiting.pop() {
+        settle(into, nearest, known, waiting)?;
+    }
+    Ok(())
+}
+
+/// Forgets all distances.
+fn forget(known: &mut Vec<Option<u32>>)
+    ensures one_each { length known.new.items ≡ length known.old.items }
+    ensures none { (v distance : ℕ) → ¬ HasDistance known.new.items v distance }
+{
+    for v in 0..known.len() {
+        known[v] = None;
+    }
+}
+
+/// Takes the offer that comes first: where it still stands, the node's distance is passed on.
+fn settle(
+    into: &ArcsInto,
+    nearest: Offer,
+    known: &mut Vec<Option<u32>>,
+    waiting: &mut BinaryHeap<Reverse<Offer>>,
+) -> Result<(), NoMemory>
+    requires starts { AreStartsInto into.now.arcs.items into.now.starts.items }
+    requires tails { AreFromBelow (length known.old.items) into.now.arcs.items }
+    requires rows { length into.now.starts.items ≡ length known.old.items + 1 }
+    requires few { length known.old.items ≤ 4096 }
+    requires small { AreSmall known.old.items }
+    requires node { nearest.node < length known.old.items }
+    ensures one_each { OnOk result (length known.new.items ≡ length known.old.items) }
+    ensures small { OnOk result (AreSmall known.new.items) }
+    ensures searching { OnOk result ((t : ℕ)
+        → IsSearching into.now.arcs.items t known.old.items (record { 0 = nearest } ∷ heap_items waiting.old)
+        → IsSearching into.now.arcs.items t known.new.items (heap_items waiting.new)) }
+    ensures fewer { OnOk result (left known.new.items (heap_len waiting.new)
+        ≤ left known.old.items (heap_len waiting.old)) }
+{
+    if stands(&nearest, known) {
+        relax(into.row(nearest.node), nearest.distance, known, waiting)?;
+    }
+    Ok(())
+}
+
+/// Whether a node has the distance that was offered.
+fn stands(offer: &Offer, known: &[Option<u32>]) -> bool
+    requires { offer.now.node < length known.now }
+    ensures { IsTrue result ↔ HasDistance known.now offer.now.node offer.now.distance }
+{
+    match known[offer.node.get() as usize] {
+        Some(distance) => distance == offer.distance,
+        None => false,
+    }
+}
+
+/// Offers the tail of each arc to a node the arc's metric and the node's distance.
+fn relax(
+    row: &[Arc],
+    distance: u32,
+    known: &mut Vec<Option<u32>>,
+    waiting: &mut BinaryHeap<Reverse<Offer>>,
+) -> Result<(), NoMemory>
+    requires tails { AreFromBelow (length known.old.items) row.now }
+    requires few { length known.old.items ≤ 4096 }
+    requires small { AreSmall known.old.items }
+    requires near { distance + 65535 ≤ 65535 * reached known.old.items }
+    ensures relaxed { OnOk result (IsRelaxed row.now (length row.now) distance
+        known.old.items known.new.items (heap_items waiting.old) (heap_items waiting.new)) }
+    ensures fewer { OnOk result (left known.new.items (heap_len waiting.new)
+        ≤ left known.old.items (heap_len waiting.old)) }
+{
+    for arc in row {
+        offer_to(arc.tail, distance + arc.metric as u32, known, waiting)?;
+    }
+    Ok(())
+}
+
+/// Offers a node a distance: it is kept where it is smaller than the known one, and waits to be passed on.
+fn offer_to(
+    node: Spot,
+    distance: u32,
+    known: &mut Vec<Option<u32>>,
+    waiting: &mut BinaryHeap<Reverse<Offer>>,
+) -> Result<(), NoMemory>
+    requires node { node < length known.old.items }
+    ensures offered { OnOk result (IsOffered node distance
+        known.old.items known.new.items (heap_items waiting.old) (heap_items waiting.new)) }
+    ensures fewer { OnOk result (left known.new.items (heap_len waiting.new)
+        ≤ left known.old.items (heap_len waiting.old)) }
+{
+    let at = node.get() as usize;
+    if is_nearer(distance, &known[at]) {
+        waiting.push(Reverse(Offer { distance, node }))?;
+        known[at] = Some(distance);
+    }
+    Ok(())
+}
+
+/// Whether a distance is smaller than the known one.
+fn is_nearer(distance: u32, known: &Option<u32>) -> bool
+    ensures { IsTrue result ↔ (distance < room_of known.now) }
+{
+    match known {
+        Some(known) => distance < *known,
+        None => true,
+    }
+}
