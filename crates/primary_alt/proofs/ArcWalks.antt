@@ -2,7 +2,7 @@
 use Rattle.std.proofs.Common.{◌≡◌, ◌≢◌, ◌≤◌, ◌+◌, ◌∙◌, ◌++◌, ℕ, true, false, List, [], ◌∷◌, Option, Some, None, slice_get, inl, inr, refl, sym, ap, subst, arith}
 use Rattle.std.specs.Prelude.{Contains}
 use Rattle.std.specs.Option.{option_map, option_map_or}
-use Rattle.std.proofs.lemmas.Bool.{cases_eq}
+use Rattle.std.proofs.lemmas.Bool.{cases_Bool, cases_eq}
 use Rattle.std.proofs.lemmas.Option.{same_Some}
 use Rattle.area_graph.specs.declared.area_types.Arc.{Arc}
 use Rattle.area_graph.specs.AreaInvariant.{IsArc, IsArea, IsBond}
@@ -42,7 +42,7 @@ one_distance arcs s t d d' one other =
 pub arc_kept : (area : AreaParts) (k : ℕ) (arc : Arc) → IsArea area → slice_get area.arcs k ≡ Some arc → IsArc area.ids area.bonds arc
 arc_kept area k arc kept there = all_has (IsArc area.ids area.bonds) area.arcs arc kept.arcs_kept (has_at area.arcs k arc there)
 
-arc_bond : (area : AreaParts) (arc : Arc) → IsArea area → (is : IsArc area.ids area.bonds arc) → IsBond area.ids is.bond
+pub arc_bond : (area : AreaParts) (arc : Arc) → IsArea area → (is : IsArc area.ids area.bonds arc) → IsBond area.ids is.bond
 arc_bond area arc kept is = all_has (IsBond area.ids) area.bonds is.bond kept.bonds_kept (has_at area.bonds arc.bond is.bond is.there)
 
 -- an arc leads to another node
@@ -99,3 +99,9 @@ no_network_by_test ids n = go (slice_get ids n)
     go : (o : Option NodeId) → option_map_or (λ id. is_networks id.kind) o false ≡ false → option_map (λ id. id.kind) o ≡ Some Network → ⊥
     go None is same = cc
     go (Some id) is same = by_kind id.kind is (same_Some id.kind Network same)
+
+pub test_of_network : (ids : List NodeId) (n : ℕ) → IsNetwork ids n → is_network ids n ≡ true
+test_of_network ids n is = elim (cases_Bool (is_network ids n)) [
+  | inl holds ↦ holds
+  | inr fails ↦ absurd (no_network_by_test ids n fails is)
+]

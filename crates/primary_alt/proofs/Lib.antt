@@ -1,9 +1,12 @@
 pub mod ArcStarts
 pub mod ArcWalks
 pub mod ArcsOffered
+pub mod AreaArcs
 pub mod BackwardSteps
 pub mod ColorSteps
 pub mod ColorsUse
+pub mod FirstRows
+pub mod FirstsByDistances
 pub mod Gaining
 pub mod HopsArrive
 pub mod LeastWays

@@ -1,11 +1,14 @@
 pub mod AcceptedRows
 pub mod ArcWalk
 pub mod ArcsInto
+pub mod Attaining
 pub mod BackwardSearch
 pub mod Distance
 pub mod Distances
+pub mod FirstArcs
 pub mod Known
 pub mod Meets
+pub mod NoArc
 pub mod Offers
 pub mod Primaries
 pub mod PrimaryHops

@@ -119,7 +119,8 @@ fn beginning(from: &Known, number: ArcNo, to: Spot) -> Primary
     from.primary
 }
 
-fn is_network(area: &Area, spot: Spot) -> bool
+/// Whether a node is a network.
+pub fn is_network(area: &Area, spot: Spot) -> bool
     requires { spot < length area.now.ids }
     ensures { result ≡ is_network area.now.ids spot }
 {
