@@ -9,6 +9,7 @@ pub mod FirstRows
 pub mod FirstsByDistances
 pub mod Gaining
 pub mod HopsArrive
+pub mod IslandNumbers
 pub mod LeastWays
 pub mod NearerHops
 pub mod OfferMade
@@ -20,6 +21,8 @@ pub mod RouterFacts
 pub mod RowRelaxed
 pub mod RowsInto
 pub mod Settled
+pub mod TableGives
+pub mod TableRows
 pub mod TicketOrder
 pub mod TripWalks
 pub mod Unknown

@@ -17,7 +17,15 @@ router_within ids n is = go (slice_get ids n) refl is
     go None at is = absurd cc
     go (Some id) at is = slice_get_within ids n id at
 
--- and no network
+-- so is a network
+pub network_within : (ids : List NodeId) (n : ℕ) → IsNetwork ids n → n < length ids
+network_within ids n is = go (slice_get ids n) refl is
+  where
+    go : (o : Option NodeId) → slice_get ids n ≡ o → option_map (λ id. id.kind) o ≡ Some Network → n < length ids
+    go None at is = absurd cc
+    go (Some id) at is = slice_get_within ids n id at
+
+-- a router is no network
 pub router_alone : (ids : List NodeId) (n : ℕ) → IsRouter ids n → ¬ IsNetwork ids n
 router_alone ids n is network =
     let clash : Router ≡ Network = same_Some Router Network (sym is ∙ network) in cc

@@ -12,6 +12,8 @@ pub mod NoArc
 pub mod Offers
 pub mod Primaries
 pub mod PrimaryHops
+pub mod RouteLists
 pub mod Routers
+pub mod RoutesMade
 pub mod Settling
 pub mod Tickets

@@ -9,12 +9,14 @@ mod color_hops;
 mod color_uses;
 mod first_arc;
 mod first_arcs;
+mod in_island;
 mod least_walks;
 mod of_area;
 mod offers;
 mod primary_law;
 mod repair;
 mod repair_law;
+mod routes;
 mod searching;
 mod shortest;
 mod waiting;
@@ -29,4 +31,5 @@ pub use repair::alternate;
 pub use repair_law::{
     a_color_given_goes_round, no_alternate_for_ends_and_what_separates, one_alternate_each,
 };
+pub use routes::Routes;
 pub use shortest::Primary;
