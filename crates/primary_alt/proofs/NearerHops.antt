@@ -1,5 +1,5 @@
 -- The primary of a router leads to the destination or to a router nearer to it.
-use Rattle.std.proofs.Common.{◌≡◌, ◌<◌, ◌⊎◌, ℕ, Option, Some, length, inl, inr, refl}
+use Rattle.std.proofs.Common.{◌≡◌, ◌<◌, ◌⊎◌, ℕ, Some, inl, inr, refl}
 use Rattle.area_graph.specs.AreaInvariant.{IsArea}
 use Rattle.area_graph.specs.Parts.{AreaParts}
 use Rattle.primary_alt.specs.declared.shortest.Primary.{Primary}

@@ -17,6 +17,7 @@ mod primary_law;
 mod repair;
 mod repair_law;
 mod routes;
+mod routes_law;
 mod searching;
 mod shortest;
 mod waiting;
@@ -32,4 +33,5 @@ pub use repair_law::{
     a_color_given_goes_round, no_alternate_for_ends_and_what_separates, one_alternate_each,
 };
 pub use routes::Routes;
+pub use routes_law::{routes_lead_nearer, routes_reach_their_destinations};
 pub use shortest::Primary;

@@ -1,0 +1,33 @@
+//! What holds of routes, whatever the area and the graph that they are made with.
+
+ghost use Rattle.std.specs.Prelude.{◌≡◌, ◌<◌, ◌⊎◌, ℕ, List, Some, length};
+ghost use Rattle.area_graph.specs.declared.area_types.Arc.{Arc};
+ghost use Rattle.area_graph.specs.AreaInvariant.{IsArea};
+ghost use Rattle.area_graph.specs.Parts.{AreaParts};
+ghost use Rattle.mrt_graph.specs.Topology.{Topology};
+ghost use Rattle.primary_alt.specs.declared.shortest.Primary.{Primary};
+ghost use Rattle.primary_alt.specs.ArcWalk.{ArcWalk};
+ghost use Rattle.primary_alt.specs.Distance.{IsDistance};
+ghost use Rattle.primary_alt.specs.PrimaryHops.{HopsReach};
+ghost use Rattle.primary_alt.specs.RouteLists.{RouteLists, primary_at};
+ghost use Rattle.primary_alt.specs.Routers.{IsRouter};
+ghost use Rattle.primary_alt.specs.RoutesMade.{AreMadeWith};
+
+/// Laws: the primary of a router leads to the destination or to another router, and the distance from there is smaller.
+pub fn routes_lead_nearer()
+    ensures router { (area : AreaParts) (graph : Topology) (routes : RouteLists) → IsArea area
+        → AreMadeWith area graph routes → (s t : ℕ) (primary : Primary) → IsRouter area.ids s → t < length area.ids
+        → primary_at routes s t ≡ Some primary
+        → (primary.next ≡ t) ⊎ IsRouter area.ids primary.next }
+    ensures nearer { (area : AreaParts) (graph : Topology) (routes : RouteLists) → IsArea area
+        → AreMadeWith area graph routes → (s t distance : ℕ) (primary : Primary) → IsRouter area.ids s
+        → t < length area.ids → primary_at routes s t ≡ Some primary → IsDistance area.arcs s t distance
+        → (rest : ℕ) × IsDistance area.arcs primary.next t rest × (rest < distance) }
+{}
+
+/// A law: from each router from which a walk leads to a node, the primaries hop by hop reach it.
+pub fn routes_reach_their_destinations()
+    ensures { (area : AreaParts) (graph : Topology) (routes : RouteLists) → IsArea area
+        → AreMadeWith area graph routes → (s t : ℕ) → IsRouter area.ids s → t < length area.ids
+        → (walk : List Arc) → ArcWalk area.arcs s walk t → HopsReach (λ x. primary_at routes x t) t s }
+{}
