@@ -1,0 +1,42 @@
+-- What the steps of packets read.
+use Rattle.std.specs.Prelude.{ℕ, List, Option, length, slice_get}
+use Rattle.std.specs.Option.{option_and_then, option_map}
+use Rattle.area_graph.specs.AreaInvariant.{IsArea}
+use Rattle.area_graph.specs.Fits.{Fits}
+use Rattle.area_graph.specs.Nodes.{number_of}
+use Rattle.area_graph.specs.Parts.{AreaParts}
+use Rattle.fabric.specs.declared.event.Failure.{Failure}
+use Rattle.fabric.specs.declared.event.Failure.TheVariants as failures
+use Rattle.mrt_graph.specs.Certificate.{Certificate}
+use Rattle.mrt_graph.specs.GraphInvariant.{IsTopology}
+use Rattle.mrt_graph.specs.Topology.{Topology}
+use Rattle.mrt_graph.specs.declared.link.Element.{Element}
+use Rattle.mrt_graph.specs.declared.link.Element.TheVariants as elements
+use Rattle.primary_alt.specs.AcceptedRows.{IsAcceptedFor}
+
+-- the area; the island; the island's certificate; and the island link that each bond of the area is, if it is one
+pub record FabricParts : Type 0 where
+  pub area : AreaParts
+  pub island : Topology
+  pub cert : Certificate
+  pub link_of : List (Option ℕ)
+
+-- the island fits the area by the list of links, and the certificate is accepted for the island
+pub record AreFabricParts (parts : FabricParts) : Type 0 where
+  pub area_kept : IsArea parts.area
+  pub island_kept : IsTopology parts.island
+  pub fits : Fits parts.area parts.island parts.link_of
+  pub accepted : IsAcceptedFor parts.island parts.cert
+
+-- the island node that a node of the area is: the one with its identifier; none where it is outside the island
+abbrev pub node_at : FabricParts → ℕ → Option ℕ
+node_at parts s = option_and_then (number_of parts.island.ids) (slice_get parts.area.ids s)
+
+-- the island link that a bond is; none where it is outside the island
+abbrev pub link_at : FabricParts → ℕ → Option ℕ
+link_at parts b = option_and_then (λ entry. entry) (slice_get parts.link_of b)
+
+-- the element of the island that a failed element of the area is; none where it is outside the island
+abbrev pub element_at : FabricParts → Failure → Option Element
+element_at parts (failures.Node s) = option_map (λ n. elements.Node n) (node_at parts s)
+element_at parts (failures.Bond b) = option_map (λ e. elements.Link e) (link_at parts b)

@@ -1,0 +1,10 @@
+pub mod Answers
+pub mod Causes
+pub mod Course
+pub mod FabricParts
+pub mod FabricState
+pub mod FabricStep
+pub mod Handling
+pub mod OwnEvents
+pub mod PacketHop
+pub mod Runs

@@ -1,0 +1,11 @@
+//! Packets, step by step through a failure: a machine whose every event is one packet that enters, one router that
+//! handles one packet once, or one failure (after RFC 7812, sections 6 and 11).
+#![tactic(auto)]
+
+mod event;
+mod numbers;
+mod packet;
+
+pub use event::{Event, Failure, Outcome, Refused};
+pub use numbers::PacketNo;
+pub use packet::{Entry, Loss, Mode, Packet, State};
