@@ -1,5 +1,5 @@
 -- What the steps of packets read.
-use Rattle.std.specs.Prelude.{ℕ, List, Option, length, slice_get}
+use Rattle.std.specs.Prelude.{ℕ, List, Option, slice_get}
 use Rattle.std.specs.Option.{option_and_then, option_map}
 use Rattle.area_graph.specs.AreaInvariant.{IsArea}
 use Rattle.area_graph.specs.Fits.{Fits}

@@ -5,6 +5,7 @@ pub mod FabricParts
 pub mod FabricState
 pub mod FabricStep
 pub mod Handling
+pub mod KeptState
 pub mod OwnEvents
 pub mod PacketHop
 pub mod Runs

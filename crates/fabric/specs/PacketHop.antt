@@ -1,5 +1,5 @@
 -- The hops of packets.
-use Rattle.std.specs.Prelude.{◌≡◌, ◌≢◌, ◌++◌, ℕ, List, [], ◌∷◌, Option, Some, None, Contains, length, slice_get}
+use Rattle.std.specs.Prelude.{◌≡◌, ◌≢◌, ◌++◌, ℕ, List, [], ◌∷◌, Option, Some, None, Contains, slice_get}
 use Rattle.std.specs.Option.{option_and_then}
 use Rattle.area_graph.specs.Parts.{AreaParts}
 use Rattle.area_graph.specs.declared.area_types.Arc.{Arc}

@@ -5,7 +5,11 @@
 mod event;
 mod numbers;
 mod packet;
+mod packet_law;
 
 pub use event::{Event, Failure, Outcome, Refused};
 pub use numbers::PacketNo;
 pub use packet::{Entry, Loss, Mode, Packet, State};
+pub use packet_law::{
+    a_switched_packet_is_never_lost, no_place_twice, one_change_of_mode, packets_end,
+};

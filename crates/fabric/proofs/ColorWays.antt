@@ -1,0 +1,97 @@
+-- Color walks, hop by hop.
+use Rattle.std.proofs.Common.{◌≡◌, ◌≢◌, ◌<◌, ◌≤◌, ℕ, zero, suc, List, [], ◌∷◌, Option, Some, length, inl, inr, refl, sym, ap, subst, arith}
+use Rattle.std.proofs.lemmas.Bool.{eq-eqb, ne_eqb}
+use Rattle.std.proofs.lemmas.List.{length-map}
+use Rattle.fabric.specs.FabricParts.{AreFabricParts, FabricParts}
+use Rattle.mrt_graph.specs.declared.cert.CertFile.{CertFile}
+use Rattle.mrt_graph.specs.declared.cert.Color.{Color}
+use Rattle.mrt_graph.specs.declared.cert.Color.TheVariants.{Blue, Red}
+use Rattle.mrt_graph.specs.declared.link.Element.{Element}
+use Rattle.mrt_graph.specs.declared.link.Element.TheVariants as elements
+use Rattle.mrt_graph.specs.declared.link.Link.{Link}
+use Rattle.mrt_graph.specs.Alternate.{UsesOn}
+use Rattle.mrt_graph.specs.Certificate.{row_of}
+use Rattle.mrt_graph.specs.ColorWalk.{links_followed}
+use Rattle.mrt_graph.specs.Hop.{Hop, color_hop}
+use Rattle.mrt_graph.specs.Leads.{leads}
+use Rattle.mrt_graph.specs.Rules.{GraphRule}
+use Rattle.mrt_graph.specs.Uses.{Uses, nodes_met}
+use Rattle.mrt_graph.proofs.AcceptedBlocks.{blocks}
+use Rattle.mrt_graph.proofs.Arrival.{at_most}
+use Rattle.mrt_graph.proofs.Bridge.{color_leads}
+use Rattle.mrt_graph.proofs.Claims.{Good, Way}
+use Rattle.mrt_graph.proofs.Hops.{follows_trail}
+use Rattle.mrt_graph.proofs.Members.{Has, contains_from_has}
+use Rattle.mrt_graph.proofs.NearPairs.{near_claim}
+use Rattle.mrt_graph.proofs.RowsHold.{rows_hold}
+use Rattle.mrt_graph.proofs.Trails.{Differ, Follows, On, Trail, links_on, nodes_on}
+use Rattle.mrt_graph.proofs.Whole.{good_everywhere}
+use Rattle.mrt_graph.proofs.WordsOf.{words_of}
+
+-- the next hop on a color, for island node d
+abbrev pub next_on : FabricParts → Color → ℕ → ℕ → Option Hop
+next_on parts color d n = color_hop parts.island.links (row_of parts.cert) color d n
+
+-- the fold over at most n hops is the way, if it is no longer
+followed : (next : ℕ → Option Hop) (t n s : ℕ) (hops : List Hop) → Follows next t s hops → length hops ≤ n → links_followed next t n s ≡ links_on hops
+followed next t zero s [] f short = refl
+followed next t zero s (hop ∷ hops) f short = absurd (omega (arith, short))
+followed next t (suc n) s [] f short = rw (eq-eqb s t f) refl
+followed next t (suc n) s (hop ∷ hops) f short =
+    rw (ne_eqb s t f.0, f.1.0) (ap (λ (es : List ℕ). hop.link ∷ es) (followed next t n hop.to hops f.1.1 (omega (arith, short))))
+
+met_of : (links : List Link) (s t : ℕ) (hops : List Hop) → Trail links s hops t → nodes_met links s (links_on hops) ≡ nodes_on s hops
+met_of links s t [] trail = refl
+met_of links s t (hop ∷ hops) trail = rw trail.0 (ap (λ (xs : List ℕ). s ∷ xs) (met_of links hop.to t hops trail.1))
+
+uses : (links : List Link) (s t : ℕ) (hops : List Hop) (x : Element) → Trail links s hops t → On s hops x → Uses links s (links_on hops) x
+uses links s t hops (elements.Link e) trail on = contains_from_has (links_on hops) e on
+uses links s t hops (elements.Node x) trail on =
+    contains_from_has (nodes_met links s (links_on hops)) x (subst (λ (xs : List ℕ). Has xs x) (sym (met_of links s t hops trail)) on)
+
+module _ (parts : FabricParts) (are : AreFabricParts parts) where
+  -- from each node to each other one a color has its way
+  pub way : (color : Color) (n d : ℕ) → n < length parts.island.ids → d < length parts.island.ids → n ≢ d → Way (next_on parts color d) d n
+  way color n d from to other =
+      let file : CertFile = record { root = are.accepted.number; cert = parts.cert } in
+      let b = blocks parts.island are.accepted.root file are.accepted.accepted in
+      let rows = rows_hold parts.island are.accepted.root file are.accepted.accepted b.root_within in
+      let counts : length parts.cert.nodes ≡ length parts.island.ids = (are.accepted.accepted GraphRule).counts.nodes in
+      let w = words_of parts.island.links are.accepted.root parts.cert in
+      go color (good_everywhere w b rows (near_claim w b rows) n d (omega (arith, from, counts)) (omega (arith, to, counts)) other)
+    where
+      go : (color : Color) → Good (words_of parts.island.links are.accepted.root parts.cert) n d → Way (next_on parts color d) d n
+      go Blue good = good.blue
+      go Red good = good.red
+
+  -- where a hop leads to is a node
+  leads_within : (e u v : ℕ) → leads parts.island.links e u ≡ Some v → v < length parts.island.ids
+  leads_within e u v on =
+      subst (λ (n : ℕ). v < n) (are.accepted.accepted GraphRule).counts.nodes
+      ((blocks parts.island are.accepted.root (record { root = are.accepted.number; cert = parts.cert }) are.accepted.accepted).to_within e u v on)
+
+  pub trail : (color : Color) (d n : ℕ) (hops : List Hop) → Follows (next_on parts color d) d n hops → Trail parts.island.links n hops d
+  trail color d n hops follows = follows_trail parts.island.links (next_on parts color d) (color_leads parts.island.links (row_of parts.cert) color d) d n hops follows
+
+  met_within : (d n : ℕ) (hops : List Hop) → n < length parts.island.ids → Trail parts.island.links n hops d → (x : ℕ) → Has (nodes_on n hops) x → x < length parts.island.ids
+  met_within d n [] within trail x has = elim has [ inl same ↦ subst (λ (y : ℕ). y < length parts.island.ids) same within | inr none ↦ absurd none ]
+  met_within d n (hop ∷ hops) within trail x has = elim has [
+    | inl same ↦ subst (λ (y : ℕ). y < length parts.island.ids) same within
+    | inr later ↦ met_within d hop.to hops (leads_within hop.link n hop.to trail.0) trail.1 x later
+  ]
+
+  -- a way has fewer hops than there are nodes
+  pub way_short : (color : Color) (d n : ℕ) (hops : List Hop) → n < length parts.island.ids → Follows (next_on parts color d) d n hops → Differ (nodes_on n hops)
+      → length hops < length parts.island.ids
+  way_short color d n hops within follows differ =
+      let most : length (nodes_on n hops) ≤ length parts.island.ids = at_most (length parts.island.ids) (nodes_on n hops) differ (met_within d n hops within (trail color d n hops follows)) in
+      omega (arith, most, simp length-map at most)
+
+  -- the color walk uses what is on the way
+  pub on_walk : (color : Color) (d n : ℕ) (hops : List Hop) → n < length parts.island.ids → Follows (next_on parts color d) d n hops → Differ (nodes_on n hops)
+      → (x : Element) → On n hops x → UsesOn parts.island.links (length parts.island.ids) (row_of parts.cert) n d x color
+  on_walk color d n hops within follows differ x on =
+      let short = way_short color d n hops within follows differ in
+      let same : links_followed (next_on parts color d) d (length parts.island.ids) n ≡ links_on hops =
+      followed (next_on parts color d) d (length parts.island.ids) n hops follows (omega (arith, short)) in
+      subst (λ (es : List ℕ). Uses parts.island.links n es x) (sym same) (uses parts.island.links n d hops x (trail color d n hops follows) on)

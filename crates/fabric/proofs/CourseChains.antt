@@ -1,0 +1,90 @@
+-- The course of a packet in a run is a chain of steps.
+use Rattle.std.proofs.Common.{◌≡◌, ◌⊎◌, ◌∙◌, ℕ, List, [], ◌∷◌, Some, None, slice_get, inl, inr, refl, sym, subst, arith}
+use Rattle.std.specs.Prelude.{AllPairs}
+use Rattle.fabric.specs.Course.{KeepsMode, course, is_on_color, is_primary, visits}
+use Rattle.fabric.specs.FabricParts.{AreFabricParts, FabricParts}
+use Rattle.fabric.specs.FabricState.{Answer, FabricState, entering, packet_after, start, state_after}
+use Rattle.fabric.specs.KeptState.{IsKeptPacket}
+use Rattle.fabric.specs.Runs.{IsRun}
+use Rattle.fabric.specs.declared.event.Event.{Event}
+use Rattle.fabric.specs.declared.packet.Packet.{Packet}
+use Rattle.fabric.proofs.Effects.{AfterEnd, Apart, Effect, FailsNow, Handled, Made, effect}
+use Rattle.fabric.proofs.LifeSteps.{life_begins}
+use Rattle.fabric.proofs.PacketChains.{Chain, next_of}
+use Rattle.fabric.proofs.PacketVisits.{all_different, color_differ, modes_kept, primary_differ}
+use Rattle.fabric.proofs.SmallIslands.{island_small}
+use Rattle.mrt_graph.specs.Reaches.{AreDifferent}
+
+-- a course that begins with a packet that is kept
+record Begun (parts : FabricParts) (packets : List Packet) : Type 0 where
+  q : Packet
+  rest : List Packet
+  kept : IsKeptPacket parts q
+  chain : Chain parts q rest
+  same : packets ≡ q ∷ rest
+
+module _ (parts : FabricParts) (are : AreFabricParts parts) (p : ℕ) where
+  next_run : (old new : FabricState) (event : Event) (events : List Event) (answer : Answer) (answers : List Answer) → IsRun parts old (event ∷ events) (answer ∷ answers) new
+      → IsRun parts (state_after old event answer) events answers new
+  next_run old new event events answer answers run = subst (λ (s : FabricState). IsRun parts s events answers new) run.1.after run.2
+
+  course_chain : (events : List Event) (answers : List Answer) (old new : FabricState) (q : Packet) → IsRun parts old events answers new → slice_get old.packets p ≡ Some q
+      → Chain parts q (course p old events answers)
+  course_chain [] [] old new q run there = tt
+  course_chain [] (answer ∷ answers) old new q run there = absurd run
+  course_chain (event ∷ events) [] old new q run there = absurd run
+  course_chain (event ∷ events) (answer ∷ answers) old new q run there =
+      go (effect parts p old event answer run.1.answers) (λ r now. course_chain events answers (state_after old event answer) new r (next_run old new event events answer answers run) now)
+    where
+      go : Effect parts p old (state_after old event answer) event answer
+          → ((r : Packet) → slice_get (state_after old event answer).packets p ≡ Some r → Chain parts r (course p (state_after old event answer) events answers))
+          → Chain parts q (course p old (event ∷ events) (answer ∷ answers))
+      go (Apart same failure to) on = rw (to.makes_is, to.handles_is) (on q (same ∙ there))
+      go (FailsNow failed same none kept element to) on = rw (to.makes_is, to.handles_is) (on q (same ∙ there))
+      go (AfterEnd q' before ended same failure to) on = rw (to.makes_is, to.handles_is) (on q (same ∙ there))
+      go (Made at t entry none now failure may to) on = cc
+      go (Handled q' outcome before going handled now failure to) on =
+          let same : q' ≡ q = let e : Some q' ≡ Some q = sym before ∙ there in cc in
+          subst (λ (x : Packet). Chain parts x (course p old (event ∷ events) (answer ∷ answers))) same
+          (rw (to.makes_is, to.handles_is, now) (going, next_of parts old.failure q' outcome handled, on (packet_after outcome q') now))
+
+  course_from : (events : List Event) (answers : List Answer) (old new : FabricState) → IsRun parts old events answers new → slice_get old.packets p ≡ None
+      → (course p old events answers ≡ []) ⊎ Begun parts (course p old events answers)
+  course_from [] [] old new run none = inl refl
+  course_from [] (answer ∷ answers) old new run none = absurd run
+  course_from (event ∷ events) [] old new run none = absurd run
+  course_from (event ∷ events) (answer ∷ answers) old new run none =
+      go (effect parts p old event answer run.1.answers) (λ now. course_from events answers (state_after old event answer) new (next_run old new event events answer answers run) now)
+    where
+      go : Effect parts p old (state_after old event answer) event answer
+          → (slice_get (state_after old event answer).packets p ≡ None
+          → (course p (state_after old event answer) events answers ≡ []) ⊎ Begun parts (course p (state_after old event answer) events answers))
+          → (course p old (event ∷ events) (answer ∷ answers) ≡ []) ⊎ Begun parts (course p old (event ∷ events) (answer ∷ answers))
+      go (Apart same failure to) on = rw (to.makes_is, to.handles_is) (on (same ∙ none))
+      go (FailsNow failed same nothing kept element to) on = rw (to.makes_is, to.handles_is) (on (same ∙ none))
+      go (AfterEnd q before ended same failure to) on = rw (to.makes_is, to.handles_is) (on (same ∙ none))
+      go (Handled q outcome before going handled now failure to) on = cc
+      go (Made at t entry nothing now failure may to) on = inr (record {
+        q = entering at t entry;
+        rest = course p (state_after old event answer) events answers;
+        kept = (life_begins parts are (island_small parts are) None at t entry may).kept;
+        chain = course_chain events answers (state_after old event answer) new (entering at t entry) (next_run old new event events answer answers run) now;
+        same = rw (to.makes_is, now) refl;
+      })
+
+module _ (parts : FabricParts) (are : AreFabricParts parts) (room : ℕ) (events : List Event) (answers : List Answer) (end : FabricState) (run : IsRun parts (start room) events answers end) (p : ℕ) where
+  -- the whole course
+  pub no_place_twice : AreDifferent (visits is_primary (course p (start room) events answers)) × AreDifferent (visits is_on_color (course p (start room) events answers))
+  no_place_twice = elim (course_from parts are p events answers (start room) end run refl) [
+    | inl none ↦ rw none (all_different [] tt, all_different [] tt)
+    | inr begun ↦ rw begun.same (
+      all_different (visits is_primary (begun.q ∷ begun.rest)) (primary_differ parts are begun.q begun.rest begun.chain begun.kept),
+      all_different (visits is_on_color (begun.q ∷ begun.rest)) (color_differ parts are begun.q begun.rest begun.chain begun.kept),
+    )
+  ]
+
+  pub one_change : AllPairs (λ (earlier later : Packet). KeepsMode earlier.mode later.mode) (course p (start room) events answers)
+  one_change = elim (course_from parts are p events answers (start room) end run refl) [
+    | inl none ↦ rw none (λ i j d lt within. absurd (omega (arith, within)))
+    | inr begun ↦ rw begun.same (modes_kept parts begun.q begun.rest begun.chain)
+  ]

@@ -1,0 +1,138 @@
+-- What an event does to one packet and to the failure.
+use Rattle.std.proofs.Common.{◌≡◌, ◌≢◌, ◌++◌, ◌∙◌, ℕ, zero, suc, Bool, true, false, List, [], ◌∷◌, Option, Some, None, Ok, Err, length, slice_get, set, inl, inr, refl, sym, ap, subst, arith}
+use Rattle.std.specs.Prelude.{nat_lt, slice_set, if◌then◌else◌}
+use Rattle.std.specs.Option.{option_map_or}
+use Rattle.std.proofs.lemmas.Bool.{cases_eq, eq-eqb, ne_eqb}
+use Rattle.std.proofs.lemmas.Option.{slice_get_past, slice_get_within}
+use Rattle.fabric.specs.Answers.{Answered, HasEnded, IsAnswer, IsStepAnswer, NoPacket, fail_answer, is_element, may_enter}
+use Rattle.fabric.specs.Course.{handles, makes}
+use Rattle.fabric.specs.FabricParts.{FabricParts}
+use Rattle.fabric.specs.FabricState.{Answer, FabricState, entering, packet_after, packets_after, state_after}
+use Rattle.fabric.specs.Handling.{IsHandled}
+use Rattle.fabric.specs.OwnEvents.{Enters, Fails, OwnEvent, Steps, own_event, step_answer}
+use Rattle.fabric.specs.declared.event.Event.{Event}
+use Rattle.fabric.specs.declared.event.Event.TheVariants.{Fail, Inject, Step}
+use Rattle.fabric.specs.declared.event.Failure.{Failure}
+use Rattle.fabric.specs.declared.event.Outcome.{Outcome}
+use Rattle.fabric.specs.declared.event.Outcome.TheVariants as outcomes
+use Rattle.fabric.specs.declared.event.Refused.TheVariants as refusals
+use Rattle.fabric.specs.declared.packet.Entry.{Entry}
+use Rattle.fabric.specs.declared.packet.Packet.{Packet}
+use Rattle.fabric.specs.declared.packet.State.TheVariants.{Going}
+use Rattle.mrt_graph.proofs.ListPlaces.{at_last, set_elsewhere, set_there}
+
+-- what an event and its answer are to packet p
+pub record AreTo (p : ℕ) (event : Event) (answer : Answer) (own : List OwnEvent) (answers : List Answer) (made handled : Bool) : Type 0 where
+  pub own_is : own_event p event answer ≡ own
+  pub answers_is : step_answer p event answer ≡ answers
+  pub makes_is : makes p event answer ≡ made
+  pub handles_is : handles p event answer ≡ handled
+
+-- packet p and the failure before and after an event
+pub data Effect (parts : FabricParts) (p : ℕ) (old new : FabricState) (event : Event) (answer : Answer) : Type 0 where
+  Apart : slice_get new.packets p ≡ slice_get old.packets p → new.failure ≡ old.failure
+      → AreTo p event answer [] [] false false → Effect parts p old new event answer
+  Made : (at to : ℕ) (entry : Entry) → slice_get old.packets p ≡ None → slice_get new.packets p ≡ Some (entering at to entry)
+      → new.failure ≡ old.failure → may_enter parts at to entry ≡ true
+      → AreTo p event answer (Enters at to entry ∷ []) [] true false → Effect parts p old new event answer
+  FailsNow : (failed : Failure) → slice_get new.packets p ≡ slice_get old.packets p → old.failure ≡ None
+      → new.failure ≡ Some failed → is_element parts failed ≡ true
+      → AreTo p event answer (Fails failed ∷ []) [] false false → Effect parts p old new event answer
+  Handled : (q : Packet) (outcome : Outcome) → slice_get old.packets p ≡ Some q → q.state ≡ Going
+      → IsHandled parts old.failure q outcome → slice_get new.packets p ≡ Some (packet_after outcome q)
+      → new.failure ≡ old.failure
+      → AreTo p event answer (Steps ∷ []) (Ok outcome ∷ []) false true → Effect parts p old new event answer
+  AfterEnd : (q : Packet) → slice_get old.packets p ≡ Some q → q.state ≢ Going
+      → slice_get new.packets p ≡ slice_get old.packets p → new.failure ≡ old.failure
+      → AreTo p event answer (Steps ∷ []) (Err refusals.Ended ∷ []) false false → Effect parts p old new event answer
+
+-- one more packet, at another place
+pushed_apart : {X : Type 0} (xs : List X) (y : X) (k : ℕ) → k ≢ length xs → slice_get (xs ++ y ∷ []) k ≡ slice_get xs k
+pushed_apart [] y zero other = absurd (other refl)
+pushed_apart [] y (suc k) other = refl
+pushed_apart (x ∷ xs) y zero other = refl
+pushed_apart (x ∷ xs) y (suc k) other = pushed_apart xs y k (λ same. other (omega (arith, same)))
+
+module _ (parts : FabricParts) (p : ℕ) (old : FabricState) where
+  -- of a packet that enters
+  entered : (at to : ℕ) (entry : Entry) (b c : Bool) (answer : Answer) → may_enter parts at to entry ≡ b
+      → nat_lt (length old.packets) old.room ≡ c
+      → answer ≡ (if b then (if c then Ok (outcomes.Entered (length old.packets)) else Err refusals.Full) else Err refusals.NoSuchPlace)
+      → Effect parts p old (state_after old (Inject at to entry) answer) (Inject at to entry) answer
+  entered at to entry false c answer may room is = rw is (Apart refl refl (record { own_is = refl; answers_is = refl; makes_is = refl; handles_is = refl }))
+  entered at to entry true false answer may room is = rw is (Apart refl refl (record { own_is = refl; answers_is = refl; makes_is = refl; handles_is = refl }))
+  entered at to entry true true answer may room is = rw is (elim (cases_eq (length old.packets) p) [
+    | inl same ↦
+        let none : slice_get old.packets p ≡ None = slice_get_past old.packets p (omega (arith, same)) in
+        let there : slice_get (old.packets ++ entering at to entry ∷ []) p ≡ Some (entering at to entry) =
+        subst (λ (k : ℕ). slice_get (old.packets ++ entering at to entry ∷ []) k ≡ Some (entering at to entry)) same (at_last old.packets (entering at to entry)) in
+        Made at to entry none there refl may (record {
+          own_is = rw (eq-eqb (length old.packets) p same) refl;
+          answers_is = refl;
+          makes_is = eq-eqb (length old.packets) p same;
+          handles_is = refl;
+        })
+    | inr other ↦
+        Apart (pushed_apart old.packets (entering at to entry) p (λ same. other (sym same))) refl (record {
+          own_is = rw (ne_eqb (length old.packets) p other) refl;
+          answers_is = refl;
+          makes_is = ne_eqb (length old.packets) p other;
+          handles_is = refl;
+        })
+  ])
+
+  -- of a failure
+  failed_now : (failed : Failure) (failure : Option Failure) (b : Bool) (answer : Answer) → old.failure ≡ failure → is_element parts failed ≡ b
+      → answer ≡ fail_answer parts failure failed → Effect parts p old (state_after old (Fail failed) answer) (Fail failed) answer
+  failed_now failed None true answer kept there is = rw (is, there) (FailsNow failed refl kept refl there (record { own_is = refl; answers_is = refl; makes_is = refl; handles_is = refl }))
+  failed_now failed None false answer kept there is = rw (is, there) (Apart refl refl (record { own_is = refl; answers_is = refl; makes_is = refl; handles_is = refl }))
+  failed_now failed (Some x) true answer kept there is = rw (is, there) (Apart refl refl (record { own_is = refl; answers_is = refl; makes_is = refl; handles_is = refl }))
+  failed_now failed (Some x) false answer kept there is = rw (is, there) (Apart refl refl (record { own_is = refl; answers_is = refl; makes_is = refl; handles_is = refl }))
+
+  -- of a step
+  stepped : (number : ℕ) (there : Option Packet) (answer : Answer) → slice_get old.packets number ≡ there → IsStepAnswer parts old.failure there answer
+      → Effect parts p old (state_after old (Step number) answer) (Step number) answer
+  stepped number there answer is NoPacket = Apart refl refl (record { own_is = refl; answers_is = refl; makes_is = refl; handles_is = refl })
+  stepped number there answer is (HasEnded q ended) = elim (cases_eq number p) [
+    | inl same ↦ AfterEnd q (subst (λ (k : ℕ). slice_get old.packets k ≡ Some q) same is) ended refl refl (record {
+      own_is = rw (eq-eqb number p same) refl;
+      answers_is = rw (eq-eqb number p same) refl;
+      makes_is = refl;
+      handles_is = refl;
+    })
+    | inr other ↦ Apart refl refl (record {
+      own_is = rw (ne_eqb number p other) refl;
+      answers_is = rw (ne_eqb number p other) refl;
+      makes_is = refl;
+      handles_is = refl;
+    })
+  ]
+  stepped number there answer is (Answered q outcome going handled) =
+      let after : packets_after old.packets number outcome ≡ set old.packets number (packet_after outcome q) =
+      ap (λ (o : Option Packet). option_map_or (λ (packet : Packet). slice_set old.packets number (packet_after outcome packet)) o old.packets) is in
+      elim (cases_eq number p) [
+        | inl same ↦
+            let here : slice_get old.packets p ≡ Some q = subst (λ (k : ℕ). slice_get old.packets k ≡ Some q) same is in
+            let now : slice_get (packets_after old.packets number outcome) p ≡ Some (packet_after outcome q) =
+            ap (λ (xs : List Packet). slice_get xs p) (after ∙ ap (λ (k : ℕ). set old.packets k (packet_after outcome q)) same)
+            ∙ set_there old.packets p (packet_after outcome q) (slice_get_within old.packets p q here) in
+            Handled q outcome here going handled now refl (record {
+              own_is = rw (eq-eqb number p same) refl;
+              answers_is = rw (eq-eqb number p same) refl;
+              makes_is = refl;
+              handles_is = eq-eqb number p same;
+            })
+        | inr other ↦
+            Apart (ap (λ (xs : List Packet). slice_get xs p) after ∙ set_elsewhere old.packets number p (packet_after outcome q) (λ same. other (sym same))) refl (record {
+              own_is = rw (ne_eqb number p other) refl;
+              answers_is = rw (ne_eqb number p other) refl;
+              makes_is = refl;
+              handles_is = ne_eqb number p other;
+            })
+      ]
+
+  pub effect : (event : Event) (answer : Answer) → IsAnswer parts old event answer → Effect parts p old (state_after old event answer) event answer
+  effect (Inject at to entry) answer is =
+      entered at to entry (may_enter parts at to entry) (nat_lt (length old.packets) old.room) answer refl refl is
+  effect (Step number) answer is = stepped number (slice_get old.packets number) answer refl is
+  effect (Fail failed) answer is = failed_now failed old.failure (is_element parts failed) answer refl refl is

@@ -1,0 +1,82 @@
+-- Nodes, links and elements of the area and of the island that belong together.
+use Rattle.std.proofs.Common.{◌≡◌, ◌<◌, ◌≤◌, ◌∙◌, ℕ, List, Option, Some, None, length, slice_get, get_or, refl, sym, ap, arith}
+use Rattle.std.specs.List.{position}
+use Rattle.std.specs.Option.{option_and_then, option_map}
+use Rattle.std.proofs.lemmas.Bool.{eq-eqb}
+use Rattle.std.proofs.lemmas.List.Quantifiers.{position-Some}
+use Rattle.std.proofs.lemmas.Option.{same_Some, slice_get_within, slice_get-get_or}
+use Rattle.area_graph.specs.Fits.{names}
+use Rattle.area_graph.specs.Nodes.{number_of}
+use Rattle.area_graph.proofs.SameIds.{one_node}
+use Rattle.mrt_graph.specs.GraphInvariant.{IsNetwork}
+use Rattle.mrt_graph.specs.SameGraph.{same_id}
+use Rattle.mrt_graph.specs.declared.node_id.NodeId.{NodeId}
+use Rattle.mrt_graph.proofs.NodeIds.{one_place}
+use Rattle.mrt_graph.proofs.Tallies.{count_is_tally, position_of_one, tally}
+use Rattle.fabric.specs.FabricParts.{AreFabricParts, FabricParts, link_at, node_at}
+
+-- a node of the area and the island node that it is have one identifier
+pub record IsOne (parts : FabricParts) (s n : ℕ) : Type 0 where
+  pub id : NodeId
+  pub in_area : slice_get parts.area.ids s ≡ Some id
+  pub in_island : slice_get parts.island.ids n ≡ Some id
+
+placed : (ids : List NodeId) (id : NodeId) (n : ℕ) → number_of ids id ≡ Some n → slice_get ids n ≡ Some id
+placed ids id n is =
+    let found = position-Some (same_id id) ids n id is in
+    slice_get-get_or ids n id found.0 ∙ ap (λ x. Some x) (sym (one_node id (get_or ids n id) found.1))
+
+pub is_one : (parts : FabricParts) (s n : ℕ) → node_at parts s ≡ Some n → IsOne parts s n
+is_one parts s n is = go (slice_get parts.area.ids s) refl is
+  where
+    go : (o : Option NodeId) → slice_get parts.area.ids s ≡ o → option_and_then (number_of parts.island.ids) o ≡ Some n → IsOne parts s n
+    go None there is = cc
+    go (Some id) there is = record { id = id; in_area = there; in_island = placed parts.island.ids id n is }
+
+module _ (parts : FabricParts) (are : AreFabricParts parts) where
+  -- an island node is one node of the area
+  pub one_spot : (s s' n : ℕ) → node_at parts s ≡ Some n → node_at parts s' ≡ Some n → s ≡ s'
+  one_spot s s' n is is' =
+      let one = is_one parts s n is in
+      let other = is_one parts s' n is' in
+      let same : other.id ≡ one.id = same_Some _ _ (sym other.in_island ∙ one.in_island) in
+      one_place parts.area.ids s s' one.id are.area_kept.ids_ascend one.in_area (other.in_area ∙ ap (λ x. Some x) same)
+
+  pub spot_within : (s n : ℕ) → node_at parts s ≡ Some n → s < length parts.area.ids
+  spot_within s n is = let one = is_one parts s n is in slice_get_within parts.area.ids s one.id one.in_area
+
+  pub node_within : (s n : ℕ) → node_at parts s ≡ Some n → n < length parts.island.ids
+  node_within s n is = let one = is_one parts s n is in slice_get_within parts.island.ids n one.id one.in_island
+
+  pub network_inside : (s n : ℕ) → node_at parts s ≡ Some n → IsNetwork parts.area.ids s → IsNetwork parts.island.ids n
+  network_inside s n is network =
+      let one = is_one parts s n is in
+      ap (λ (o : Option NodeId). option_map (λ id. id.kind) o) (one.in_island ∙ sym one.in_area) ∙ network
+
+  pub network_outside : (s n : ℕ) → node_at parts s ≡ Some n → IsNetwork parts.island.ids n → IsNetwork parts.area.ids s
+  network_outside s n is network =
+      let one = is_one parts s n is in
+      ap (λ (o : Option NodeId). option_map (λ id. id.kind) o) (one.in_area ∙ sym one.in_island) ∙ network
+
+  link_there : (b e : ℕ) → link_at parts b ≡ Some e → slice_get parts.link_of b ≡ Some (Some e)
+  link_there b e is = go (slice_get parts.link_of b) refl is
+    where
+      go : (o : Option (Option ℕ)) → slice_get parts.link_of b ≡ o → option_and_then (λ entry. entry) o ≡ Some e → slice_get parts.link_of b ≡ Some (Some e)
+      go None there is = cc
+      go (Some x) there is = there ∙ ap (λ y. Some y) is
+
+  pub bond_within : (b e : ℕ) → link_at parts b ≡ Some e → b < length parts.area.bonds
+  bond_within b e is =
+      let within = slice_get_within parts.link_of b (Some e) (link_there b e is) in omega (arith, within, are.fits.an_entry_each)
+
+  pub link_within : (b e : ℕ) → link_at parts b ≡ Some e → e < length parts.island.links
+  link_within b e is = are.fits.links_alone b e (link_there b e is)
+
+  -- an island link is one bond
+  pub one_bond : (b b' e : ℕ) → link_at parts b ≡ Some e → link_at parts b' ≡ Some e → b ≡ b'
+  one_bond b b' e is is' =
+      let count = are.fits.one_bond_each e (link_within b e is) in
+      let few : tally (names e) parts.link_of ≤ 1 = omega (arith, count, count_is_tally (names e) parts.link_of) in
+      let at : (k : ℕ) → link_at parts k ≡ Some e → position (names e) parts.link_of ≡ Some k =
+      λ k link. position_of_one (names e) parts.link_of k (Some e) few (link_there k e link) (eq-eqb e e refl) in
+      same_Some b b' (sym (at b is) ∙ at b' is')

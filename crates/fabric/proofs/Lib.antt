@@ -1,0 +1,12 @@
+pub mod ColorHops
+pub mod ColorWays
+pub mod Effects
+pub mod Islands
+pub mod Life
+pub mod LifeSteps
+pub mod Nearer
+pub mod CourseChains
+pub mod PacketChains
+pub mod PacketVisits
+pub mod RunLives
+pub mod SmallIslands

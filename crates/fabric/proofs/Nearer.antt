@@ -1,0 +1,108 @@
+-- A packet's primary hop leads nearer to its destination, and does not go over its place.
+use Rattle.std.proofs.Common.{◌≡◌, ◌≢◌, ◌⊎◌, ◌<◌, ◌+◌, ◌∙◌, ◌++◌, ℕ, [], ◌∷◌, Option, Some, None, length, slice_get, inl, inr, refl, sym, subst, arith}
+use Rattle.std.specs.Prelude.{Contains}
+use Rattle.std.proofs.lemmas.Option.{same_Some}
+use Rattle.area_graph.specs.AreaInvariant.{IsArea}
+use Rattle.area_graph.specs.Parts.{AreaParts}
+use Rattle.area_graph.specs.declared.area_types.Arc.{Arc}
+use Rattle.fabric.specs.FabricParts.{AreFabricParts, FabricParts}
+use Rattle.fabric.specs.PacketHop.{IsPrimaryHop, PacketHop, over_arc, primary_hop}
+use Rattle.fabric.specs.declared.event.Failure.TheVariants as failures
+use Rattle.mrt_graph.specs.GraphInvariant.{IsNetwork}
+use Rattle.mrt_graph.proofs.Members.{contains_cases, contains_none}
+use Rattle.primary_alt.specs.Distance.{IsDistance}
+use Rattle.primary_alt.specs.Primaries.{Direct, IsPrimary, Itself, NoWalk, Over}
+use Rattle.primary_alt.specs.declared.shortest.Primary.{Primary}
+use Rattle.primary_alt.proofs.ArcWalks.{arc_kept, arc_moves, one_distance}
+use Rattle.primary_alt.proofs.ArcsOffered.{far_within}
+use Rattle.primary_alt.proofs.PrimariesLead.{nearer, router_or_end}
+
+-- what a primary is made of: its distance, the nodes of its elements
+record IsSet (area : AreaParts) (s t : ℕ) (primary : Primary) : Type 0 where
+  distance : ℕ
+  is : IsDistance area.arcs s t distance
+  within : primary.next < length area.ids
+  nodes : (v : ℕ) → Contains (primary_hop area primary).elements (failures.Node v) → (v ≢ s) ⊎ (v ≡ primary.next)
+
+is_set : (area : AreaParts) (s t : ℕ) (primary : Primary) (entry : Option Primary) → IsArea area → entry ≡ Some primary → IsPrimary area s t entry → IsSet area s t primary
+is_set area s t primary entry kept is (Itself same) = cc
+is_set area s t primary entry kept is (NoWalk none) = cc
+is_set area s t primary entry kept is (Direct n arc apart first direct) =
+    let same : record { first = n; second = None; next = arc.to } ≡ primary = same_Some _ primary is in
+    subst (λ (p : Primary). IsSet area s t p) same (record {
+      distance = arc.metric + first.shortest.rest;
+      is = subst (λ (v : ℕ). IsDistance area.arcs v t (arc.metric + first.shortest.rest)) first.from first.shortest.near;
+      within = far_within area arc kept (arc_kept area n arc kept first.there);
+      nodes = λ v among. go v (slice_get area.arcs n) first.there among;
+    })
+  where
+    go : (v : ℕ) (o : Option Arc) → o ≡ Some arc → Contains (over_arc o ++ []) (failures.Node v) → (v ≢ s) ⊎ (v ≡ arc.to)
+    go v None there among = cc
+    go v (Some a) there among = elim (contains_cases (failures.Bond a.bond) (failures.Node v) (failures.Node a.to ∷ []) among) [
+      | inl same ↦ cc
+      | inr later ↦ elim (contains_cases (failures.Node a.to) (failures.Node v) [] later) [
+        | inl same ↦ let here : a ≡ arc = same_Some a arc there in inr (cc)
+        | inr none ↦ absurd (contains_none _ none)
+      ]
+    ]
+is_set area s t primary entry kept is (Over n k arc onward apart first over second) =
+    let same : record { first = n; second = Some k; next = onward.to } ≡ primary = same_Some _ primary is in
+    subst (λ (p : Primary). IsSet area s t p) same (record {
+      distance = arc.metric + first.shortest.rest;
+      is = subst (λ (v : ℕ). IsDistance area.arcs v t (arc.metric + first.shortest.rest)) first.from first.shortest.near;
+      within = far_within area onward kept (arc_kept area k onward kept second.there);
+      nodes = λ v among. go v (slice_get area.arcs n) (slice_get area.arcs k) first.there second.there among;
+    })
+  where
+    moves : arc.to ≢ s
+    moves = λ loop. arc_moves area arc kept (arc_kept area n arc kept first.there) (loop ∙ sym first.from)
+
+    go : (v : ℕ) (o o' : Option Arc) → o ≡ Some arc → o' ≡ Some onward → Contains (over_arc o ++ over_arc o') (failures.Node v) → (v ≢ s) ⊎ (v ≡ onward.to)
+    go v None o' there there' among = cc
+    go v (Some a) None there there' among = cc
+    go v (Some a) (Some a') there there' among =
+        let here : a ≡ arc = same_Some a arc there in
+        let here' : a' ≡ onward = same_Some a' onward there' in
+        elim (contains_cases (failures.Bond a.bond) (failures.Node v) (failures.Node a.to ∷ failures.Bond a'.bond ∷ failures.Node a'.to ∷ []) among) [
+          | inl same ↦ cc
+          | inr later ↦ elim (contains_cases (failures.Node a.to) (failures.Node v) (failures.Bond a'.bond ∷ failures.Node a'.to ∷ []) later) [
+            | inl same ↦ let v_is : v ≡ arc.to = cc in inl (λ loop. moves (sym v_is ∙ loop))
+            | inr third ↦ elim (contains_cases (failures.Bond a'.bond) (failures.Node v) (failures.Node a'.to ∷ []) third) [
+              | inl same ↦ cc
+              | inr fourth ↦ elim (contains_cases (failures.Node a'.to) (failures.Node v) [] fourth) [
+                | inl same ↦ inr (cc)
+                | inr none ↦ absurd (contains_none _ none)
+              ]
+            ]
+          ]
+        ]
+
+-- where a primary hop leads
+pub record Nearer (parts : FabricParts) (x t : ℕ) (hop : PacketHop) : Type 0 where
+  pub distance : ℕ
+  pub is : IsDistance parts.area.arcs x t distance
+  pub rest : ℕ
+  pub rest_is : IsDistance parts.area.arcs hop.next t rest
+  pub falls : rest < distance
+  pub within : hop.next < length parts.area.ids
+  pub ends : (hop.next ≡ t) ⊎ (¬ IsNetwork parts.area.ids hop.next)
+  pub moves : hop.next ≢ x
+  pub not_over : ¬ Contains hop.elements (failures.Node x)
+
+pub nearer_hop : (parts : FabricParts) → AreFabricParts parts → (x t : ℕ) (hop : PacketHop) → ¬ IsNetwork parts.area.ids x → IsPrimaryHop parts x t hop → Nearer parts x t hop
+nearer_hop parts are x t hop router is =
+    let set = is_set parts.area x t is.primary (Some is.primary) are.area_kept refl is.is in
+    let rest = nearer parts.area are.area_kept x t set.distance is.primary router is.is set.is in
+    let moves : is.primary.next ≢ x =
+    λ loop. let same = one_distance parts.area.arcs x t set.distance rest.0 set.is (subst (λ (v : ℕ). IsDistance parts.area.arcs v t rest.0) loop rest.1) in omega (arith, rest.2, same) in
+    subst (λ (h : PacketHop). Nearer parts x t h) (sym is.same) (record {
+      distance = set.distance;
+      is = set.is;
+      rest = rest.0;
+      rest_is = rest.1;
+      falls = rest.2;
+      within = set.within;
+      ends = router_or_end parts.area x t is.primary are.area_kept is.is;
+      moves = moves;
+      not_over = λ among. elim (set.nodes x among) [ inl other ↦ other refl | inr here ↦ moves (sym here) ];
+    })
