@@ -6,6 +6,10 @@ pub mod Life
 pub mod LifeSteps
 pub mod Nearer
 pub mod CourseChains
+pub mod LossesCaused
+pub mod OneHop
+pub mod OneOutcome
+pub mod OwnRuns
 pub mod PacketChains
 pub mod PacketVisits
 pub mod RunLives

@@ -1,5 +1,5 @@
 -- A packet's primary hop leads nearer to its destination, and does not go over its place.
-use Rattle.std.proofs.Common.{◌≡◌, ◌≢◌, ◌⊎◌, ◌<◌, ◌+◌, ◌∙◌, ◌++◌, ℕ, [], ◌∷◌, Option, Some, None, length, slice_get, inl, inr, refl, sym, subst, arith}
+use Rattle.std.proofs.Common.{List, ◌≡◌, ◌≢◌, ◌⊎◌, ◌<◌, ◌+◌, ◌∙◌, ◌++◌, ℕ, [], ◌∷◌, Option, Some, None, length, slice_get, inl, inr, refl, sym, subst, arith}
 use Rattle.std.specs.Prelude.{Contains}
 use Rattle.std.proofs.lemmas.Option.{same_Some}
 use Rattle.area_graph.specs.AreaInvariant.{IsArea}
@@ -10,6 +10,7 @@ use Rattle.fabric.specs.PacketHop.{IsPrimaryHop, PacketHop, over_arc, primary_ho
 use Rattle.fabric.specs.declared.event.Failure.TheVariants as failures
 use Rattle.mrt_graph.specs.GraphInvariant.{IsNetwork}
 use Rattle.mrt_graph.proofs.Members.{contains_cases, contains_none}
+use Rattle.primary_alt.specs.ArcWalk.{ArcWalk}
 use Rattle.primary_alt.specs.Distance.{IsDistance}
 use Rattle.primary_alt.specs.Primaries.{Direct, IsPrimary, Itself, NoWalk, Over}
 use Rattle.primary_alt.specs.declared.shortest.Primary.{Primary}
@@ -106,3 +107,7 @@ nearer_hop parts are x t hop router is =
       moves = moves;
       not_over = λ among. elim (set.nodes x among) [ inl other ↦ other refl | inr here ↦ moves (sym here) ];
     })
+
+-- where there is a primary hop, a walk leads
+pub hop_walks : (parts : FabricParts) → AreFabricParts parts → (x t : ℕ) (hop : PacketHop) → IsPrimaryHop parts x t hop → (walk : List Arc) × ArcWalk parts.area.arcs x walk t
+hop_walks parts are x t hop is = let set = is_set parts.area x t is.primary (Some is.primary) are.area_kept refl is.is in (set.is.walk, set.is.leads)
