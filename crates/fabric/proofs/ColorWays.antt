@@ -65,7 +65,7 @@ module _ (parts : FabricParts) (are : AreFabricParts parts) where
       go Red good = good.red
 
   -- where a hop leads to is a node
-  leads_within : (e u v : ℕ) → leads parts.island.links e u ≡ Some v → v < length parts.island.ids
+  pub leads_within : (e u v : ℕ) → leads parts.island.links e u ≡ Some v → v < length parts.island.ids
   leads_within e u v on =
       subst (λ (n : ℕ). v < n) (are.accepted.accepted GraphRule).counts.nodes
       ((blocks parts.island are.accepted.root (record { root = are.accepted.number; cert = parts.cert }) are.accepted.accepted).to_within e u v on)

@@ -1,18 +1,23 @@
 -- Nodes, links and elements of the area and of the island that belong together.
-use Rattle.std.proofs.Common.{◌≡◌, ◌<◌, ◌≤◌, ◌∙◌, ℕ, List, Option, Some, None, length, slice_get, get_or, refl, sym, ap, arith}
+use Rattle.std.proofs.Common.{Contains, true, ◌≡◌, ◌<◌, ◌≤◌, ◌∙◌, ℕ, List, Option, Some, None, length, slice_get, get_or, refl, sym, ap, arith}
 use Rattle.std.specs.List.{position}
 use Rattle.std.specs.Option.{option_and_then, option_map}
-use Rattle.std.proofs.lemmas.Bool.{eq-eqb}
+use Rattle.std.proofs.lemmas.Bool.{eq-eqb, eqb-true}
 use Rattle.std.proofs.lemmas.List.Quantifiers.{position-Some}
-use Rattle.std.proofs.lemmas.Option.{same_Some, slice_get_within, slice_get-get_or}
+use Rattle.std.proofs.lemmas.Option.{get_or_from_slice_get, same_Some, slice_get_within, slice_get-get_or}
 use Rattle.area_graph.specs.Fits.{names}
 use Rattle.area_graph.specs.Nodes.{number_of}
-use Rattle.area_graph.proofs.SameIds.{one_node}
+use Rattle.area_graph.proofs.Placing.{first_place}
+use Rattle.area_graph.proofs.SameIds.{not_one_node, one_node, same_itself}
+use Rattle.std.specs.List.Sorted.{IsStrictlySortedBy}
+use Rattle.mrt_graph.specs.NodeOrder.{node_id_cmp}
+use Rattle.mrt_graph.proofs.ListPlaces.{contains_at, place_of}
+use Rattle.mrt_graph.proofs.ListTests.{there}
 use Rattle.mrt_graph.specs.GraphInvariant.{IsNetwork}
 use Rattle.mrt_graph.specs.SameGraph.{same_id}
 use Rattle.mrt_graph.specs.declared.node_id.NodeId.{NodeId}
 use Rattle.mrt_graph.proofs.NodeIds.{one_place}
-use Rattle.mrt_graph.proofs.Tallies.{count_is_tally, position_of_one, tally}
+use Rattle.mrt_graph.proofs.Tallies.{count_is_tally, counted_at, position_of_one, tally}
 use Rattle.fabric.specs.FabricParts.{AreFabricParts, FabricParts, link_at, node_at}
 
 -- a node of the area and the island node that it is have one identifier
@@ -80,3 +85,43 @@ module _ (parts : FabricParts) (are : AreFabricParts parts) where
       let at : (k : ℕ) → link_at parts k ≡ Some e → position (names e) parts.link_of ≡ Some k =
       λ k link. position_of_one (names e) parts.link_of k (Some e) few (link_there k e link) (eq-eqb e e refl) in
       same_Some b b' (sym (at b is) ∙ at b' is')
+
+-- the number of an identifier that stands there
+number_there : (ids : List NodeId) (id : NodeId) (n : ℕ) → IsStrictlySortedBy node_id_cmp ids → slice_get ids n ≡ Some id → number_of ids id ≡ Some n
+number_there ids id n ascend there =
+    let within = slice_get_within ids n id there in
+    first_place (same_id id) ids n id within (rw (get_or_from_slice_get ids n id id there) (same_itself id))
+    (λ k less. not_one_node id (get_or ids k id) (λ same.
+    let here : k ≡ n = one_place ids k n id ascend (slice_get-get_or ids k id (omega (arith, less, within)) ∙ ap (λ x. Some x) (sym same)) there in
+    omega (arith, here, less)))
+
+module _ (parts : FabricParts) (are : AreFabricParts parts) where
+  -- a node of the area that has the identifier of an island node is this island node
+  pub node_of_id : (s n : ℕ) (id : NodeId) → slice_get parts.area.ids s ≡ Some id → slice_get parts.island.ids n ≡ Some id → node_at parts s ≡ Some n
+  node_of_id s n id there here = rw there (number_there parts.island.ids id n are.island_kept.ids_ascend here)
+
+  -- a node whose identifier no island node has is outside
+  pub node_outside : (s : ℕ) (id : NodeId) → slice_get parts.area.ids s ≡ Some id → ¬ Contains parts.island.ids id → node_at parts s ≡ None
+  node_outside s id there none = go (node_at parts s) refl
+    where
+      go : (o : Option ℕ) → node_at parts s ≡ o → o ≡ None
+      go None is = refl
+      go (Some n) is =
+          let one = is_one parts s n is in
+          absurd (none (contains_at parts.island.ids n id (one.in_island ∙ sym one.in_area ∙ there)))
+
+  -- each island node is a node of the area, and each island link a bond
+  pub spot_there : (n : ℕ) → n < length parts.island.ids → (s : ℕ) × (node_at parts s ≡ Some n)
+  spot_there n within =
+      let id = there parts.island.ids n within in
+      let spot = place_of parts.area.ids id.0 (are.fits.nodes id.0 (contains_at parts.island.ids n id.0 id.1)) in
+      (spot.0, node_of_id spot.0 n id.0 spot.1 id.1)
+
+  pub bond_there : (e : ℕ) → e < length parts.island.links → (b : ℕ) × (link_at parts b ≡ Some e)
+  bond_there e within =
+      let found = counted_at (names e) parts.link_of (let one = are.fits.one_bond_each e within in omega (arith, one)) in
+      go found.place found.item found.there found.passes
+    where
+      go : (b : ℕ) (item : Option ℕ) → slice_get parts.link_of b ≡ Some item → names e item ≡ true → (b : ℕ) × (link_at parts b ≡ Some e)
+      go b None there passes = cc
+      go b (Some k) there passes = (b, rw there (ap (λ x. Some x) (eqb-true k e passes)))

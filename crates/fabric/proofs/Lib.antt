@@ -14,3 +14,6 @@ pub mod PacketChains
 pub mod PacketVisits
 pub mod RunLives
 pub mod SmallIslands
+pub mod SomeAnswer
+pub mod SomeHop
+pub mod Staying

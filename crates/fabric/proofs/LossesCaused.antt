@@ -1,13 +1,12 @@
 -- Each loss of a packet comes exactly where its cause stands.
-use Rattle.std.proofs.Common.{◌≡◌, ◌≢◌, ◌⊎◌, ◌↔◌, ◌≤◌, ◌∙◌, ℕ, List, [], ◌∷◌, Option, Some, None, length, slice_get, inl, inr, refl, sym, ap, subst}
+use Rattle.std.proofs.Common.{◌≡◌, ◌≢◌, ◌⊎◌, ◌≤◌, ◌∙◌, ℕ, List, Option, Some, None, length, slice_get, inl, refl, sym, ap, subst}
 use Rattle.std.specs.Option.{option_map}
 use Rattle.std.proofs.lemmas.Option.{same_Some}
-use Rattle.fabric.specs.Causes.{IsCutFromFailed, IsElement, IsInside, IsOnWalk, IsSeparated, LossCauses}
+use Rattle.fabric.specs.Causes.{IsCutFromFailed, IsOnWalk, IsSeparated, LossCauses}
 use Rattle.fabric.specs.FabricParts.{AreFabricParts, FabricParts, element_at, link_at, node_at}
 use Rattle.fabric.specs.FabricState.{Answer, FabricState, start}
-use Rattle.fabric.specs.Handling.{Arrives, AtDestination, AtFailed, HasHop, IsCutOff, IsHandled, IsRepairedBy, IsUnreachable, Moves, OnColor, OutsideIsland, Repaired, Unreachable, Unrepaired}
-use Rattle.fabric.specs.KeptState.{IsKeptPacket}
-use Rattle.fabric.specs.PacketHop.{IsCut, IsHop, PacketHop}
+use Rattle.fabric.specs.Handling.{Arrives, AtDestination, AtFailed, IsCutOff, IsHandled, IsRepairedBy, IsUnreachable, Moves, OnColor, OutsideIsland, Repaired, Unreachable, Unrepaired}
+use Rattle.fabric.specs.PacketHop.{IsCut}
 use Rattle.fabric.specs.Runs.{IsRun}
 use Rattle.fabric.specs.Course.{steps_of}
 use Rattle.fabric.specs.declared.event.Event.{Event}
@@ -30,12 +29,11 @@ use Rattle.fabric.proofs.PacketChains.{left_now}
 use Rattle.fabric.proofs.RunLives.{IsAt, Living, Unmade, run_lives}
 use Rattle.fabric.proofs.SmallIslands.{island_small}
 use Rattle.mrt_graph.proofs.AcceptedSound.{accepted_sound}
-use Rattle.mrt_graph.specs.Alternate.{AtEnd, ByBlue, ByRed, IsAlternate, OnBoth, Outside, UsesOn}
+use Rattle.mrt_graph.specs.Alternate.{AtEnd, ByBlue, ByRed, IsAlternate, OnBoth, Outside}
 use Rattle.mrt_graph.specs.Certificate.{row_of}
-use Rattle.mrt_graph.specs.Separates.{IsNeitherEnd, Separates}
+use Rattle.mrt_graph.specs.Separates.{IsNeitherEnd}
 use Rattle.mrt_graph.specs.Sound.{SoundFor}
 use Rattle.mrt_graph.specs.declared.cert.Color.{Color}
-use Rattle.mrt_graph.specs.declared.cert.Color.TheVariants.{Blue, Red}
 use Rattle.mrt_graph.specs.declared.link.Element.{Element}
 use Rattle.mrt_graph.specs.declared.link.Element.TheVariants as elements
 

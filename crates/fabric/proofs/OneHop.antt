@@ -1,9 +1,8 @@
 -- A packet has one hop, and one alternate.
-use Rattle.std.proofs.Common.{◌≡◌, ◌≢◌, ◌∙◌, ℕ, List, [], ◌∷◌, Option, Some, None, inl, inr, refl, sym, ap, subst}
+use Rattle.std.proofs.Common.{◌≡◌, ◌∙◌, ℕ, List, [], ◌∷◌, Option, Some, refl, sym, ap, subst}
 use Rattle.std.proofs.lemmas.Option.{same_Some}
-use Rattle.fabric.specs.FabricParts.{AreFabricParts, FabricParts, link_at, node_at}
-use Rattle.fabric.specs.PacketHop.{IsColorHop, IsHop, IsOver, IsPrimaryHop, OverNetwork, PacketHop, Straight, primary_hop}
-use Rattle.fabric.specs.declared.event.Failure.{Failure}
+use Rattle.fabric.specs.FabricParts.{AreFabricParts, FabricParts, node_at}
+use Rattle.fabric.specs.PacketHop.{IsColorHop, IsHop, IsOver, OverNetwork, PacketHop, Straight, primary_hop}
 use Rattle.fabric.specs.declared.event.Failure.TheVariants.{Bond, Node}
 use Rattle.fabric.specs.declared.packet.Mode.{Mode}
 use Rattle.fabric.specs.declared.packet.Mode.TheVariants as modes

@@ -1,10 +1,10 @@
 -- A step of a packet has one outcome, and an event has one answer.
-use Rattle.std.proofs.Common.{◌≡◌, ◌≢◌, ◌⊎◌, ◌∙◌, ℕ, List, Option, Some, None, Ok, Err, length, slice_get, inl, inr, refl, sym, ap, subst}
-use Rattle.std.proofs.lemmas.Bool.{cases_eq}
+use Rattle.std.proofs.Common.{◌≡◌, ◌≢◌, ◌⊎◌, ◌∙◌, ℕ, List, [], ◌∷◌, Option, Some, None, Ok, length, slice_get, inl, inr, refl, sym, ap, subst}
 use Rattle.std.proofs.lemmas.Option.{same_Some}
 use Rattle.fabric.specs.Answers.{Answered, HasEnded, IsAnswer, IsStepAnswer, NoPacket}
 use Rattle.fabric.specs.FabricParts.{AreFabricParts, FabricParts, element_at, node_at}
-use Rattle.fabric.specs.FabricState.{Answer, FabricState}
+use Rattle.fabric.specs.FabricState.{Answer, FabricState, state_after}
+use Rattle.fabric.specs.Runs.{IsRun}
 use Rattle.fabric.specs.Handling.{Arrives, AtDestination, AtFailed, HasHop, IsCutOff, IsHandled, IsRepairedBy, IsUnreachable, Moves, OnColor, OutsideIsland, Repaired, Unreachable, Unrepaired}
 use Rattle.fabric.specs.PacketHop.{IsCut, IsHop, PacketHop}
 use Rattle.fabric.specs.declared.event.Event.{Event}
@@ -151,3 +151,16 @@ module _ (parts : FabricParts) (are : AreFabricParts parts) where
   one_answer state (Inject at to entry) answer other is is' = is ∙ sym is'
   one_answer state (Step p) answer other is is' = one_step_answer state.failure (slice_get state.packets p) (slice_get state.packets p) answer other refl is is'
   one_answer state (Fail failed) answer other is is' = is ∙ sym is'
+
+  pub one_run : (state : FabricState) (events : List Event) (answers others : List Answer) (end other : FabricState) → IsRun parts state events answers end
+      → IsRun parts state events others other → (answers ≡ others) × (end ≡ other)
+  one_run state [] [] [] end other run run' = (refl, run ∙ sym run')
+  one_run state [] [] (b ∷ others) end other run run' = absurd run'
+  one_run state [] (a ∷ answers) others end other run run' = absurd run
+  one_run state (event ∷ events) [] others end other run run' = absurd run
+  one_run state (event ∷ events) (a ∷ answers) [] end other run run' = absurd run'
+  one_run state (event ∷ events) (a ∷ answers) (b ∷ others) end other run run' =
+      let same : a ≡ b = one_answer state event a b run.1.answers run'.1.answers in
+      let next : run.0 ≡ run'.0 = run.1.after ∙ ap (λ (x : Answer). state_after state event x) same ∙ sym run'.1.after in
+      let rest = one_run run'.0 events answers others end other (subst (λ (s : FabricState). IsRun parts s events answers end) next run.2) run'.2 in
+      (ap (λ (x : Answer). x ∷ answers) same ∙ ap (λ (xs : List Answer). b ∷ xs) rest.0, rest.1)

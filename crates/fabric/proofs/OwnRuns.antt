@@ -1,5 +1,5 @@
 -- What concerns a packet decides the answers to its steps.
-use Rattle.std.proofs.Common.{◌≡◌, ◌∙◌, ◌++◌, ℕ, List, [], ◌∷◌, Option, Some, None, Ok, Err, slice_get, inl, inr, refl, sym, ap, subst}
+use Rattle.std.proofs.Common.{◌≡◌, ◌∙◌, ℕ, List, [], ◌∷◌, Option, Some, None, Ok, Err, slice_get, refl, sym, ap, subst}
 use Rattle.std.proofs.lemmas.Option.{same_Some}
 use Rattle.fabric.specs.Answers.{Answered, HasEnded, IsStepAnswer}
 use Rattle.fabric.specs.FabricParts.{AreFabricParts, FabricParts}
@@ -76,15 +76,29 @@ module _ (parts : FabricParts) (are : AreFabricParts parts) where
             rw (to.own_is, to.answers_is) (
               q,
               there,
-              (Ok outcome, (step_answers p events answers, refl, Answered q outcome going handled,
-              same_start old.failure _ (Some (packet_after outcome q)) _ (own_events p events answers) (step_answers p events answers) failure now rest)),
+              (
+                Ok outcome,
+                (
+                  step_answers p events answers,
+                  refl,
+                  Answered q outcome going handled,
+                  same_start old.failure _ (Some (packet_after outcome q)) _ (own_events p events answers) (step_answers p events answers) failure now rest,
+                ),
+              ),
             )
         go (AfterEnd q there ended same failure to) rest =
             rw (to.own_is, to.answers_is) (
               q,
               there,
-              (_, (step_answers p events answers, refl, HasEnded q ended,
-              same_start old.failure _ (Some q) _ (own_events p events answers) (step_answers p events answers) failure (same ∙ there) rest)),
+              (
+                _,
+                (
+                  step_answers p events answers,
+                  refl,
+                  HasEnded q ended,
+                  same_start old.failure _ (Some q) _ (own_events p events answers) (step_answers p events answers) failure (same ∙ there) rest,
+                ),
+              ),
             )
 
 pub same_answers : (parts : FabricParts) → AreFabricParts parts → (room : ℕ) (events : List Event) (answers : List Answer) (end : FabricState) → IsRun parts (start room) events answers end

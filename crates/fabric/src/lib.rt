@@ -3,13 +3,19 @@
 #![tactic(auto)]
 
 mod event;
+mod loss_law;
 mod numbers;
+mod order_law;
 mod packet;
 mod packet_law;
+mod step_law;
 
 pub use event::{Event, Failure, Outcome, Refused};
+pub use loss_law::losses_have_their_causes;
 pub use numbers::PacketNo;
+pub use order_law::own_events_decide_the_answers;
 pub use packet::{Entry, Loss, Mode, Packet, State};
 pub use packet_law::{
     a_switched_packet_is_never_lost, no_place_twice, one_change_of_mode, packets_end,
 };
+pub use step_law::{one_answer_each, other_things_stay};

@@ -1,0 +1,51 @@
+//! What holds of each step. The laws hold of the definitions alone; the functions do nothing.
+
+ghost use Rattle.std.specs.Prelude.{◌≡◌, ◌≢◌, ◌<◌, ℕ, Err, List, Option, Some, length, slice_get};
+ghost use Rattle.fabric.specs.Answers.{IsAnswer};
+ghost use Rattle.fabric.specs.FabricParts.{AreFabricParts, FabricParts};
+ghost use Rattle.fabric.specs.FabricState.{Answer, FabricState, start};
+ghost use Rattle.fabric.specs.FabricStep.{FabricStep};
+ghost use Rattle.fabric.specs.Runs.{IsRun};
+ghost use Rattle.fabric.specs.declared.event.Event.{Event};
+ghost use Rattle.fabric.specs.declared.event.Event.TheVariants as events;
+ghost use Rattle.fabric.specs.declared.event.Failure.{Failure};
+ghost use Rattle.fabric.specs.declared.event.Refused.{Refused};
+ghost use Rattle.fabric.specs.declared.packet.Entry.{Entry};
+ghost use Rattle.fabric.specs.declared.packet.Packet.{Packet};
+ghost use Rattle.mrt_graph.specs.GraphInvariant.{IsNetwork};
+ghost use Rattle.primary_alt.specs.Primaries.{IsPrimary};
+ghost use Rattle.primary_alt.specs.declared.shortest.Primary.{Primary};
+
+/// Laws: in each state that a run from the start leads to, each event has an answer, and only one; so a run has one list
+/// of answers, and leads to one state.
+pub fn one_answer_each()
+    ensures some { (parts : FabricParts) → AreFabricParts parts → (entries : ℕ → ℕ → Option Primary)
+        → ((s t : ℕ) → s < length parts.area.ids → ¬ IsNetwork parts.area.ids s → t < length parts.area.ids
+        → IsPrimary parts.area s t (entries s t))
+        → (room : ℕ) (events : List Event) (answers : List Answer) (end : FabricState)
+        → IsRun parts (start room) events answers end
+        → (event : Event) → (answer : Answer) × IsAnswer parts end event answer }
+    ensures only_one { (parts : FabricParts) → AreFabricParts parts → (state : FabricState) (event : Event)
+        (answer other : Answer) → IsAnswer parts state event answer → IsAnswer parts state event other
+        → answer ≡ other }
+    ensures one_run { (parts : FabricParts) → AreFabricParts parts → (state : FabricState) (events : List Event)
+        (answers others : List Answer) (end other : FabricState)
+        → IsRun parts state events answers end → IsRun parts state events others other
+        → (answers ≡ others) × (end ≡ other) }
+{}
+
+/// Laws: a refused event changes nothing; a step of a packet leaves all other packets and the failure as they were; a
+/// packet that enters leaves all others and the failure; a failure leaves all packets.
+pub fn other_things_stay()
+    ensures refused { (parts : FabricParts) (old new : FabricState) (event : Event) (refused : Refused)
+        → FabricStep parts old event (Err refused) new → new ≡ old }
+    ensures steps { (parts : FabricParts) (old new : FabricState) (p : ℕ) (answer : Answer)
+        → FabricStep parts old (events.Step p) answer new
+        → (new.failure ≡ old.failure) × ((q : ℕ) → q ≢ p → slice_get new.packets q ≡ slice_get old.packets q) }
+    ensures injects { (parts : FabricParts) (old new : FabricState) (at to : ℕ) (entry : Entry) (answer : Answer)
+        → FabricStep parts old (events.Inject at to entry) answer new
+        → (new.failure ≡ old.failure) × ((q : ℕ) (packet : Packet) → slice_get old.packets q ≡ Some packet
+        → slice_get new.packets q ≡ Some packet) }
+    ensures fails { (parts : FabricParts) (old new : FabricState) (failed : Failure) (answer : Answer)
+        → FabricStep parts old (events.Fail failed) answer new → new.packets ≡ old.packets }
+{}
