@@ -6,14 +6,17 @@ pub mod Life
 pub mod LifeSteps
 pub mod Nearer
 pub mod CourseChains
+pub mod Crossings
 pub mod LossesCaused
 pub mod OneHop
 pub mod OneOutcome
 pub mod OwnRuns
 pub mod PacketChains
 pub mod PacketVisits
+pub mod Routed
 pub mod RunLives
 pub mod SmallIslands
 pub mod SomeAnswer
 pub mod SomeHop
 pub mod Staying
+pub mod Uncut

@@ -24,17 +24,18 @@ use Rattle.fabric.proofs.RunLives.{IsAt, Living, Unmade, run_lives}
 use Rattle.fabric.proofs.SomeHop.{cut_or_not, kept_or_not, some_alternate, some_color_hop}
 use Rattle.mrt_graph.specs.Alternate.{IsAlternate}
 use Rattle.mrt_graph.specs.Certificate.{row_of}
-use Rattle.mrt_graph.specs.GraphInvariant.{IsNetwork}
 use Rattle.mrt_graph.specs.declared.cert.Color.{Color}
 use Rattle.primary_alt.specs.Primaries.{Direct, IsPrimary, Itself, NoWalk, Over}
+use Rattle.primary_alt.specs.Routers.{IsRouter}
+use Rattle.primary_alt.proofs.RouterFacts.{router_from}
 use Rattle.primary_alt.specs.declared.shortest.Primary.{Primary}
 
 module _ (parts : FabricParts) (are : AreFabricParts parts) (entries : ℕ → ℕ → Option Primary)
-    (primaries : (s t : ℕ) → s < length parts.area.ids → ¬ IsNetwork parts.area.ids s → t < length parts.area.ids → IsPrimary parts.area s t (entries s t))
+    (primaries : (s t : ℕ) → IsRouter parts.area.ids s → t < length parts.area.ids → IsPrimary parts.area s t (entries s t))
     (failure : Option Failure) (q : Packet) (kept : IsKeptPacket parts q) (going : q.state ≡ states.Going) where
   -- a hop, or no walk
   hop_or_none : (mode : Mode) → q.mode ≡ mode → ((hop : PacketHop) × IsHop parts mode q.place q.to hop) ⊎ ((mode ≡ modes.Primary) × IsUnreachable parts.area q.place q.to)
-  hop_or_none modes.Primary is = go (entries q.place q.to) (primaries q.place q.to kept.place (kept.router going) kept.to)
+  hop_or_none modes.Primary is = go (entries q.place q.to) (primaries q.place q.to (router_from parts.area.ids q.place kept.place (kept.router going)) kept.to)
     where
       go : (entry : Option Primary) → IsPrimary parts.area q.place q.to entry
           → ((hop : PacketHop) × IsHop parts modes.Primary q.place q.to hop) ⊎ ((◌≡◌ {A = Mode} modes.Primary modes.Primary) × IsUnreachable parts.area q.place q.to)
@@ -102,7 +103,7 @@ going_or_not (states.Lost loss) = inr (λ same. cc)
 
 -- after each run from the start
 pub some_answer : (parts : FabricParts) → AreFabricParts parts → (entries : ℕ → ℕ → Option Primary)
-    → ((s t : ℕ) → s < length parts.area.ids → ¬ IsNetwork parts.area.ids s → t < length parts.area.ids → IsPrimary parts.area s t (entries s t))
+    → ((s t : ℕ) → IsRouter parts.area.ids s → t < length parts.area.ids → IsPrimary parts.area s t (entries s t))
     → (room : ℕ) (events : List Event) (answers : List Answer) (end : FabricState) → IsRun parts (start room) events answers end
     → (event : Event) → (answer : Answer) × IsAnswer parts end event answer
 some_answer parts are entries primaries room events answers end run (Inject at to entry) = (inject_answer parts end at to entry, refl)

@@ -1,5 +1,5 @@
 -- What each fabric keeps.
-use Rattle.std.specs.Prelude.{◌≡◌, ◌≢◌, ◌<◌, ◌≤◌, ◌^◌, ℕ, true, Some, IsSome, length, slice_get}
+use Rattle.std.specs.Prelude.{◌≡◌, ◌≢◌, ◌<◌, ◌≤◌, ℕ, true, Some, IsSome, length, slice_get}
 use Rattle.fabric.specs.Answers.{is_element}
 use Rattle.fabric.specs.FabricParts.{FabricParts, node_at}
 use Rattle.fabric.specs.FabricState.{FabricState}
@@ -24,4 +24,3 @@ pub record IsKeptState (parts : FabricParts) (state : FabricState) : Type 0 wher
   pub packets : (p : ℕ) (packet : Packet) → slice_get state.packets p ≡ Some packet → IsKeptPacket parts packet
   pub failure : (failed : Failure) → state.failure ≡ Some failed → is_element parts failed ≡ true
   pub few : length state.packets ≤ state.room
-  pub room : state.room < 2 ^ 16

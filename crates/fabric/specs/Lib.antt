@@ -9,3 +9,4 @@ pub mod KeptState
 pub mod OwnEvents
 pub mod PacketHop
 pub mod Runs
+pub mod Viewed

@@ -2,12 +2,18 @@
 //! handles one packet once, or one failure (after RFC 7812, sections 6 and 11).
 #![tactic(auto)]
 
+mod entering;
 mod event;
+mod handling;
+mod hops;
+mod island;
 mod loss_law;
+mod next_hop;
 mod numbers;
 mod order_law;
 mod packet;
 mod packet_law;
+mod parts;
 mod step_law;
 
 pub use event::{Event, Failure, Outcome, Refused};

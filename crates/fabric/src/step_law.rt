@@ -12,15 +12,15 @@ ghost use Rattle.fabric.specs.declared.event.Failure.{Failure};
 ghost use Rattle.fabric.specs.declared.event.Refused.{Refused};
 ghost use Rattle.fabric.specs.declared.packet.Entry.{Entry};
 ghost use Rattle.fabric.specs.declared.packet.Packet.{Packet};
-ghost use Rattle.mrt_graph.specs.GraphInvariant.{IsNetwork};
 ghost use Rattle.primary_alt.specs.Primaries.{IsPrimary};
+ghost use Rattle.primary_alt.specs.Routers.{IsRouter};
 ghost use Rattle.primary_alt.specs.declared.shortest.Primary.{Primary};
 
 /// Laws: in each state that a run from the start leads to, each event has an answer, and only one; so a run has one list
 /// of answers, and leads to one state.
 pub fn one_answer_each()
     ensures some { (parts : FabricParts) → AreFabricParts parts → (entries : ℕ → ℕ → Option Primary)
-        → ((s t : ℕ) → s < length parts.area.ids → ¬ IsNetwork parts.area.ids s → t < length parts.area.ids
+        → ((s t : ℕ) → IsRouter parts.area.ids s → t < length parts.area.ids
         → IsPrimary parts.area s t (entries s t))
         → (room : ℕ) (events : List Event) (answers : List Answer) (end : FabricState)
         → IsRun parts (start room) events answers end

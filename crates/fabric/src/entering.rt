@@ -1,0 +1,87 @@
+//! Where packets may enter.
+
+ghost use Rattle.std.specs.Prelude.{◌≡◌, ◌<◌, length};
+ghost use Rattle.fabric.specs.Answers.{are_inside, is_element, is_open, may_enter};
+ghost use Rattle.fabric.specs.FabricParts.{AreFabricParts};
+ghost use Rattle.fabric.specs.FabricState.{entering, mode_of};
+ghost use Rattle.fabric.specs.Viewed.{AreRouted, viewed};
+
+use crate::event::Failure;
+use crate::island::{is_at_network, node_of};
+use crate::packet::{Entry, Mode, Packet, State};
+use crate::parts::Parts;
+use area_graph::Spot;
+use mrt_graph::Color;
+
+/// Whether a packet may enter at a node for another one.
+pub fn may_enter(parts: &Parts, at: Spot, to: Spot, entry: Entry) -> bool
+    requires kept { AreFabricParts (viewed parts.now) }
+    requires routed { AreRouted parts.now }
+    ensures { result ≡ may_enter (viewed parts.now) at to entry }
+{
+    let count = parts.area.count();
+    at.get() < count
+        && to.get() < count
+        && !is_at_network(parts.area, at)
+        && !(at == to)
+        && is_open(parts, at, to, entry)
+}
+
+/// Whether an entry is open from one node to another.
+fn is_open(parts: &Parts, at: Spot, to: Spot, entry: Entry) -> bool
+    requires kept { AreFabricParts (viewed parts.now) }
+    requires routed { AreRouted parts.now }
+    requires at { at < length parts.now.area.now.ids }
+    requires to { to < length parts.now.area.now.ids }
+    ensures { result ≡ is_open (viewed parts.now) at to entry }
+{
+    match entry {
+        Entry::Blue => are_inside(parts, at, to),
+        Entry::Red => are_inside(parts, at, to),
+        Entry::Repair => true,
+    }
+}
+
+/// Whether both nodes are of the island.
+fn are_inside(parts: &Parts, at: Spot, to: Spot) -> bool
+    requires kept { AreFabricParts (viewed parts.now) }
+    requires routed { AreRouted parts.now }
+    requires at { at < length parts.now.area.now.ids }
+    requires to { to < length parts.now.area.now.ids }
+    ensures { result ≡ are_inside (viewed parts.now) at to }
+{
+    node_of(parts, at).is_some() && node_of(parts, to).is_some()
+}
+
+/// A packet that enters.
+pub fn entering(at: Spot, to: Spot, entry: Entry) -> Packet
+    ensures { result ≡ entering at to entry }
+{
+    Packet {
+        place: at,
+        to,
+        mode: mode_of(entry),
+        state: State::Going,
+    }
+}
+
+/// The mode in which a packet enters.
+fn mode_of(entry: Entry) -> Mode
+    ensures { result ≡ mode_of entry }
+{
+    match entry {
+        Entry::Blue => Mode::Entered(Color::Blue),
+        Entry::Red => Mode::Entered(Color::Red),
+        Entry::Repair => Mode::Primary,
+    }
+}
+
+/// Whether the area has an element.
+pub fn is_element(parts: &Parts, failed: &Failure) -> bool
+    ensures { result ≡ is_element (viewed parts.now) failed.now }
+{
+    match failed {
+        Failure::Node(s) => s.get() < parts.area.count(),
+        Failure::Bond(b) => (b.get() as usize) < parts.area.bonds().len(),
+    }
+}

@@ -1,0 +1,126 @@
+//! Where a packet goes next.
+
+ghost use Rattle.std.specs.Prelude.{◌≡◌, ◌≢◌, ◌<◌, ◌↔◌, ◌++◌, IsTrue, IfNone, IfSome, IsSome, Some, length, slice_get};
+ghost use Rattle.fabric.specs.FabricParts.{AreFabricParts, link_at, node_at};
+ghost use Rattle.fabric.specs.Handling.{IsUnreachable};
+ghost use Rattle.fabric.specs.KeptState.{IsKeptPacket};
+ghost use Rattle.fabric.specs.PacketHop.{IsColorHop, IsHop, IsOver, IsPrimaryHop, over_arc};
+ghost use Rattle.fabric.specs.Viewed.{AreRouted, crossed, hop_seen, viewed};
+ghost use Rattle.fabric.specs.declared.packet.Mode.TheVariants as modes;
+ghost use Rattle.fabric.specs.declared.packet.State.TheVariants as states;
+ghost use Rattle.mrt_graph.specs.GraphInvariant.{IsNetwork};
+
+use crate::island::{crossing_of, is_at_network, node_of};
+use crate::next_hop::{Crossing, NextHop};
+use crate::packet::{Mode, Packet};
+use crate::parts::Parts;
+use area_graph::{ArcNo, Area, Spot};
+use mrt_graph::{Color, NodeNo};
+use primary_alt::hop_on;
+
+/// The next hop of a packet that is going, if there is one.
+pub fn next_hop(parts: &Parts, packet: &Packet) -> Option<NextHop>
+    requires kept { AreFabricParts (viewed parts.now) }
+    requires routed { AreRouted parts.now }
+    requires packet { IsKeptPacket (viewed parts.now) packet.now }
+    requires going { packet.now.state ≡ states.Going }
+    ensures some { IfSome result (λ hop.
+        IsHop (viewed parts.now) packet.now.mode packet.now.place packet.now.to (hop_seen hop)) }
+    ensures no_route { IfNone result (packet.now.mode ≡ modes.Primary) }
+    ensures none { IfNone result (IsUnreachable parts.now.area.now packet.now.place packet.now.to) }
+{
+    match packet.mode {
+        Mode::Primary => primary_hop(parts, packet.place, packet.to),
+        Mode::Entered(color) => Some(color_hop(parts, color, packet.place, packet.to)),
+        Mode::Switched(color) => Some(color_hop(parts, color, packet.place, packet.to)),
+    }
+}
+
+/// The hop by the primary of a router.
+fn primary_hop(parts: &Parts, x: Spot, t: Spot) -> Option<NextHop>
+    requires kept { AreFabricParts (viewed parts.now) }
+    requires routed { AreRouted parts.now }
+    requires place { x < length parts.now.area.now.ids }
+    requires router { ¬ IsNetwork parts.now.area.now.ids x }
+    requires to { t < length parts.now.area.now.ids }
+    requires different { x ≢ t }
+    ensures some { IfSome result (λ hop. IsPrimaryHop (viewed parts.now) x t (hop_seen hop)) }
+    ensures none { IfNone result (IsUnreachable parts.now.area.now x t) }
+{
+    let primary = parts.routes.primary(x, t)?;
+    let first = crossing_over(parts.area, primary.first);
+    let second = match primary.second {
+        Some(arc) => Some(crossing_over(parts.area, arc)),
+        None => None,
+    };
+    Some(NextHop {
+        first,
+        second,
+        next: primary.next,
+    })
+}
+
+/// The bond of an arc, and the node that the arc leads to.
+fn crossing_over(area: &Area, number: ArcNo) -> Crossing
+    requires { number < length area.now.arcs }
+    ensures { over_arc (slice_get area.now.arcs number) ≡ crossed result }
+{
+    let arc = area.arc(number);
+    Crossing {
+        bond: arc.bond,
+        node: arc.to,
+    }
+}
+
+/// The hop on a color.
+fn color_hop(parts: &Parts, color: Color, x: Spot, t: Spot) -> NextHop
+    requires kept { AreFabricParts (viewed parts.now) }
+    requires routed { AreRouted parts.now }
+    requires place { x < length parts.now.area.now.ids }
+    requires to { t < length parts.now.area.now.ids }
+    requires place_inside { IsSome (node_at (viewed parts.now) x) }
+    requires to_inside { IsSome (node_at (viewed parts.now) t) }
+    requires different { x ≢ t }
+    ensures { IsColorHop (viewed parts.now) color x t (hop_seen result) }
+{
+    let n = node_of(parts, x).unwrap();
+    let d = node_of(parts, t).unwrap();
+    let hop = hop_on(parts.island, parts.cert, n, d, color);
+    let first = crossing_of(parts, &hop);
+    if !is_on_the_way(parts.area, first.node, t) {
+        return over_one(first);
+    }
+    let onward = hop_on(parts.island, parts.cert, hop.to, d, color);
+    over_two(first, crossing_of(parts, &onward))
+}
+
+/// Whether a node is a network other than the destination.
+fn is_on_the_way(area: &Area, v: Spot, t: Spot) -> bool
+    requires { v < length area.now.ids }
+    ensures { IsTrue result ↔ (IsNetwork area.now.ids v × (v ≢ t)) }
+{
+    v != t && is_at_network(area, v)
+}
+
+/// A hop over one bond.
+fn over_one(first: Crossing) -> NextHop
+    ensures { hop_seen result ≡ record { elements = crossed first; next = first.node } }
+{
+    NextHop {
+        first,
+        second: None,
+        next: first.node,
+    }
+}
+
+/// A hop over two bonds.
+fn over_two(first: Crossing, second: Crossing) -> NextHop
+    ensures { hop_seen result ≡ record { elements = crossed first ++ crossed second; next = second.node } }
+{
+    let next = second.node;
+    NextHop {
+        first,
+        second: Some(second),
+        next,
+    }
+}

@@ -1,0 +1,79 @@
+//! What the area's nodes and bonds are in the island.
+
+ghost use Rattle.std.specs.Prelude.{◌≡◌, ◌<◌, IfSome, Some, length};
+ghost use Rattle.area_graph.specs.AreaInvariant.{IsArea};
+ghost use Rattle.fabric.specs.Answers.{is_element};
+ghost use Rattle.fabric.specs.FabricParts.{AreFabricParts, element_at, link_at, node_at};
+ghost use Rattle.fabric.specs.Viewed.{AreRouted, viewed};
+ghost use Rattle.primary_alt.specs.AcceptedRows.{IsElementOf};
+ghost use Rattle.primary_alt.specs.Offers.{is_network};
+ghost use Rattle.std.specs.Prelude.{true};
+
+use crate::event::Failure;
+use crate::next_hop::Crossing;
+use crate::parts::Parts;
+use area_graph::{Area, BondNo, Spot};
+use mrt_graph::{Element, Kind, LinkNo, NodeNo};
+use primary_alt::ColorHop;
+
+/// The island node that a node of the area is, if it is one.
+pub fn node_of(parts: &Parts, s: Spot) -> Option<NodeNo>
+    requires kept { AreFabricParts (viewed parts.now) }
+    requires routed { AreRouted parts.now }
+    requires within { s < length parts.now.area.now.ids }
+    ensures { result ≡ node_at (viewed parts.now) s }
+{
+    parts.routes.node(s)
+}
+
+/// The island link that a bond is, if it is one.
+fn link_of(parts: &Parts, b: BondNo) -> Option<LinkNo>
+    requires kept { AreFabricParts (viewed parts.now) }
+    requires within { b < length parts.now.area.now.bonds }
+    ensures { result ≡ link_at (viewed parts.now) b }
+{
+    parts.routes.link(b)
+}
+
+/// The element of the island that a failed element of the area is, if it is one.
+pub fn element_of(parts: &Parts, failed: &Failure) -> Option<Element>
+    requires kept { AreFabricParts (viewed parts.now) }
+    requires routed { AreRouted parts.now }
+    requires within { is_element (viewed parts.now) failed.now ≡ true }
+    ensures is { result ≡ element_at (viewed parts.now) failed.now }
+    ensures within { IfSome result (λ x. IsElementOf parts.now.island.now x) }
+{
+    match failed {
+        Failure::Node(s) => match node_of(parts, *s) {
+            Some(node) => Some(Element::Node(node)),
+            None => None,
+        },
+        Failure::Bond(b) => match link_of(parts, *b) {
+            Some(link) => Some(Element::Link(link)),
+            None => None,
+        },
+    }
+}
+
+/// The bond that the link of a hop on a color is, and the node of the area that it leads to.
+pub fn crossing_of(parts: &Parts, hop: &ColorHop) -> Crossing
+    requires kept { AreFabricParts (viewed parts.now) }
+    requires routed { AreRouted parts.now }
+    requires link { hop.now.link < length parts.now.island.now.links }
+    requires to { hop.now.to < length parts.now.island.now.ids }
+    ensures link { link_at (viewed parts.now) result.bond ≡ Some hop.now.link }
+    ensures node { node_at (viewed parts.now) result.node ≡ Some hop.now.to }
+{
+    Crossing {
+        bond: parts.routes.bond(hop.link),
+        node: parts.routes.spot(hop.to),
+    }
+}
+
+/// Whether a node is a network.
+pub fn is_at_network(area: &Area, s: Spot) -> bool
+    requires { s < length area.now.ids }
+    ensures { result ≡ is_network area.now.ids s }
+{
+    area.id(s).kind == Kind::Network
+}
