@@ -2,6 +2,7 @@ pub mod ColorHops
 pub mod ColorWays
 pub mod Effects
 pub mod Islands
+pub mod KeptStates
 pub mod Life
 pub mod LifeSteps
 pub mod Nearer

@@ -4,6 +4,7 @@
 
 mod entering;
 mod event;
+mod fabric;
 mod handling;
 mod hops;
 mod island;
@@ -17,6 +18,7 @@ mod parts;
 mod step_law;
 
 pub use event::{Event, Failure, Outcome, Refused};
+pub use fabric::Fabric;
 pub use loss_law::losses_have_their_causes;
 pub use numbers::PacketNo;
 pub use order_law::own_events_decide_the_answers;

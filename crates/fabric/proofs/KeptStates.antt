@@ -1,0 +1,81 @@
+-- What a fabric keeps, event by event.
+use Rattle.std.proofs.Common.{◌≡◌, ◌≢◌, ◌<◌, ◌≤◌, ◌++◌, ◌∙◌, ℕ, true, List, [], ◌∷◌, Option, Some, None, Ok, Err, length, set, slice_get, inl, inr, refl, sym, ap, subst, arith}
+use Rattle.std.specs.Prelude.{slice_set}
+use Rattle.std.specs.Option.{option_map_or}
+use Rattle.std.proofs.lemmas.Bool.{cases_eq}
+use Rattle.std.proofs.lemmas.List.{length-append, length-set}
+use Rattle.std.proofs.lemmas.Option.{same_Some, slice_get_past, slice_get_within}
+use Rattle.fabric.specs.Answers.{Answered, HasEnded, IsStepAnswer, NoPacket, may_enter}
+use Rattle.fabric.specs.FabricParts.{AreFabricParts, FabricParts}
+use Rattle.fabric.specs.FabricState.{FabricState, entering, packet_after, state_after}
+use Rattle.fabric.specs.FabricStep.{FabricStep}
+use Rattle.fabric.specs.Handling.{IsHandled}
+use Rattle.fabric.specs.KeptState.{IsKeptPacket, IsKeptState}
+use Rattle.fabric.specs.declared.event.Event.TheVariants.{Step}
+use Rattle.fabric.specs.declared.event.Failure.{Failure}
+use Rattle.fabric.specs.declared.event.Outcome.{Outcome}
+use Rattle.fabric.specs.declared.event.Refused.TheVariants as refusals
+use Rattle.fabric.specs.declared.packet.Entry.{Entry}
+use Rattle.fabric.specs.declared.packet.Packet.{Packet}
+use Rattle.fabric.specs.declared.packet.State.TheVariants as states
+use Rattle.fabric.proofs.LifeSteps.{life_begins}
+use Rattle.fabric.proofs.PacketChains.{kept_next, next_of}
+use Rattle.fabric.proofs.SmallIslands.{island_small}
+use Rattle.mrt_graph.proofs.ListPlaces.{pushed_at, set_elsewhere, set_there}
+
+-- packets, a failure and room
+abbrev pub state_of : List Packet → Option Failure → ℕ → FabricState
+state_of packets failure room = record { packets = packets; failure = failure; room = room }
+
+module _ (parts : FabricParts) (are : AreFabricParts parts) (packets : List Packet) (failure : Option Failure) (room : ℕ) (kept : IsKeptState parts (state_of packets failure room)) where
+  pub kept_entered : (at to : ℕ) (entry : Entry) → may_enter parts at to entry ≡ true → length packets < room → IsKeptState parts (state_of (packets ++ entering at to entry ∷ []) failure room)
+  kept_entered at to entry may less = record {
+    packets = λ p packet there. elim (pushed_at packets (entering at to entry) packet p there) [
+      | inl before ↦ kept.packets p packet before
+      | inr last ↦ subst (λ (q : Packet). IsKeptPacket parts q) last.1 (life_begins parts are (island_small parts are) failure at to entry may).kept
+    ];
+    failure = kept.failure;
+    few = omega (arith, less, length-append packets (entering at to entry ∷ []));
+  }
+
+  pub kept_handled : (p : ℕ) (q : Packet) (outcome : Outcome) → slice_get packets p ≡ Some q → q.state ≡ states.Going → IsHandled parts failure q outcome
+      → IsKeptState parts (state_of (slice_set packets p (packet_after outcome q)) failure room)
+  kept_handled p q outcome there going handled = record {
+    packets = λ k packet at. elim (cases_eq k p) [
+      | inl here ↦
+          let now : slice_get (set packets p (packet_after outcome q)) p ≡ Some packet = subst (λ (j : ℕ). slice_get (set packets p (packet_after outcome q)) j ≡ Some packet) here at in
+          let same : packet_after outcome q ≡ packet = same_Some _ _ (sym (set_there packets p (packet_after outcome q) (slice_get_within packets p q there)) ∙ now) in
+          subst (λ (x : Packet). IsKeptPacket parts x) same (kept_next parts are q (packet_after outcome q) (kept.packets p q there) going (next_of parts failure q outcome handled))
+      | inr other ↦ kept.packets k packet (sym (set_elsewhere packets p k (packet_after outcome q) other) ∙ at)
+    ];
+    failure = kept.failure;
+    few = let few = kept.few in omega (arith, few, length-set packets p (packet_after outcome q));
+  }
+
+  -- the steps of a packet
+  pub step_unmade : (p : ℕ) → length packets ≤ p → FabricStep parts (state_of packets failure room) (Step p) (Err refusals.NoSuchPacket) (state_of packets failure room)
+  step_unmade p past = record { answers = go (slice_get packets p) (slice_get_past packets p past); after = refl }
+    where
+      go : (o : Option Packet) → o ≡ None → IsStepAnswer parts failure o (Err refusals.NoSuchPacket)
+      go None none = NoPacket
+      go (Some q) none = cc
+
+  pub step_ended : (p : ℕ) (q : Packet) → slice_get packets p ≡ Some q → q.state ≢ states.Going
+      → FabricStep parts (state_of packets failure room) (Step p) (Err refusals.Ended) (state_of packets failure room)
+  step_ended p q there ended = record { answers = go (slice_get packets p) there; after = refl }
+    where
+      go : (o : Option Packet) → o ≡ Some q → IsStepAnswer parts failure o (Err refusals.Ended)
+      go None none = cc
+      go (Some r) same = HasEnded r (λ going. ended (ap (λ (x : Packet). x.state) (sym (same_Some r q same)) ∙ going))
+
+  pub step_handled : (p : ℕ) (q : Packet) (outcome : Outcome) → slice_get packets p ≡ Some q → q.state ≡ states.Going → IsHandled parts failure q outcome
+      → FabricStep parts (state_of packets failure room) (Step p) (Ok outcome) (state_of (slice_set packets p (packet_after outcome q)) failure room)
+  step_handled p q outcome there going handled = record { answers = go (slice_get packets p) there; after = after }
+    where
+      go : (o : Option Packet) → o ≡ Some q → IsStepAnswer parts failure o (Ok outcome)
+      go None none = cc
+      go (Some r) same = subst (λ (x : Packet). IsStepAnswer parts failure (Some x) (Ok outcome)) (sym (same_Some r q same)) (Answered q outcome going handled)
+
+      after : state_of (slice_set packets p (packet_after outcome q)) failure room ≡ state_after (state_of packets failure room) (Step p) (Ok outcome)
+      after = ap (λ (xs : List Packet). state_of xs failure room)
+          (sym (ap (λ (o : Option Packet). option_map_or (λ (packet : Packet). slice_set packets p (packet_after outcome packet)) o packets) there))

@@ -1,0 +1,47 @@
+use Rattle.std.proofs.Common.{◌≡◌, ◌∙◌, ℕ, Some, slice_get, refl, subst, arith}
+use Rattle.std.proofs.lemmas.Option.{slice_get_read}
+use Rattle.fabric.specs.Viewed.{viewed}
+use Rattle.fabric.proofs.KeptStates.{kept_handled, step_ended, step_handled, step_unmade}
+use Rattle.fabric.proofs.fabric.Fabric.step.Goals as goal
+
+pub returns-then-place-len-clause-step : goal.returns-then-place-len-clause-step
+returns-then-place-len-clause-step c =
+    let at = c.get-place.ensures.value in
+    let count = c.len.ensures in
+    let whole = c.self.inside.packets.ok.0 in
+    let past = c.if-place-len.true in
+    rw (← c.self.view_is) (step_unmade (viewed c.self.inside.parts) c.self.invariant.0 c.self.inside.packets.items c.self.inside.failure c.self.inside.room c.self.invariant.2 c.args.p (omega (arith, at, count, whole, past)))
+
+pub returns-in_default : goal.returns-in_default
+returns-in_default c =
+    let at = c.get-place.ensures.value in
+    let there : slice_get c.self.inside.packets.items c.get-place.result ≡ Some c.index.result.now =
+    slice_get_read c.self.inside.packets.items c.len.result c.get-place.result c.index.result.now (c.len.ensures ∙ c.self.inside.packets.ok.0) c.if-place-len.false c.index.ensures in
+    record {
+      step = rw (← c.self.view_is) (step_ended (viewed c.self.inside.parts) c.self.invariant.0 c.self.inside.packets.items c.self.inside.failure c.self.inside.room c.self.invariant.2 c.args.p c.index.result.now
+          (subst (λ (k : ℕ). slice_get c.self.inside.packets.items k ≡ Some c.index.result.now) at there) c.in_default.not-Going);
+      parts = refl;
+    }
+
+pub handled-outcome-requires-clause-packet : goal.handled-outcome-requires-clause-packet
+handled-outcome-requires-clause-packet c =
+    c.self.invariant.2.packets c.get-place.result c.index.result.now
+    (slice_get_read c.self.inside.packets.items c.len.result c.get-place.result c.index.result.now (c.len.ensures ∙ c.self.inside.packets.ok.0) c.if-place-len.false c.index.ensures)
+
+pub invariant_of-self : goal.invariant_of-self
+invariant_of-self c =
+    let there : slice_get c.self.inside.packets.items c.get-place.result ≡ Some c.index.result.now =
+    slice_get_read c.self.inside.packets.items c.len.result c.get-place.result c.index.result.now (c.len.ensures ∙ c.self.inside.packets.ok.0) c.if-place-len.false c.index.ensures in (
+      c.self.invariant.0,
+      c.self.invariant.1,
+      rw c.packet_after.ensures (kept_handled (viewed c.self.inside.parts) c.self.invariant.0 c.self.inside.packets.items c.self.inside.failure c.self.inside.room c.self.invariant.2
+          c.get-place.result c.index.result.now c.handled-outcome.result there c.in-Going.is c.handled-outcome.ensures),
+      c.self.invariant.3,
+    )
+
+pub returns-clause-step : goal.returns-clause-step
+returns-clause-step c =
+    let there : slice_get c.self.inside.packets.items c.get-place.result ≡ Some c.index.result.now =
+    slice_get_read c.self.inside.packets.items c.len.result c.get-place.result c.index.result.now (c.len.ensures ∙ c.self.inside.packets.ok.0) c.if-place-len.false c.index.ensures in
+    rw (← c.self.view_is, ← c.get-place.ensures.value, c.packet_after.ensures) (step_handled (viewed c.self.inside.parts) c.self.invariant.0 c.self.inside.packets.items c.self.inside.failure c.self.inside.room c.self.invariant.2
+    c.get-place.result c.index.result.now c.handled-outcome.result there c.in-Going.is c.handled-outcome.ensures)
