@@ -6,6 +6,7 @@ pub mod FabricState
 pub mod FabricStep
 pub mod Handling
 pub mod KeptState
+pub mod OutcomeText
 pub mod OwnEvents
 pub mod PacketHop
 pub mod Runs
