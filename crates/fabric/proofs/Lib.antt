@@ -16,8 +16,10 @@ pub mod PacketChains
 pub mod PacketVisits
 pub mod Routed
 pub mod RunLives
+pub mod RunsOn
 pub mod SmallIslands
 pub mod SomeAnswer
 pub mod SomeHop
 pub mod Staying
+pub mod Tellable
 pub mod Uncut

@@ -44,6 +44,7 @@ impl<'a> Fabric<'a> {
     ghost use Rattle.std.specs.Prelude.{◌≡◌, ◌≤◌, IfOk, slice_get};
     ghost use Rattle.fabric.specs.FabricState.{start};
     ghost use Rattle.fabric.specs.FabricStep.{FabricStep};
+    ghost use Rattle.fabric.specs.OutcomeText.{IsTellable};
     ghost use Rattle.fabric.specs.declared.event.Event.TheVariants as events;
     ghost use Rattle.primary_alt.specs.AcceptedRows.{IsAcceptedFor};
     ghost use Rattle.primary_alt.specs.RoutesMade.{AreMadeWith};
@@ -88,6 +89,7 @@ impl<'a> Fabric<'a> {
     pub fn apply(&mut self, e: Event) -> Result<Outcome, Refused>
         ensures step { FabricStep self.old.parts self.old.state e result self.new.state }
         ensures parts { self.new.parts ≡ self.old.parts }
+        ensures told { IsTellable self.old.parts.area.ids result }
     {
         match e {
             Event::Inject { at, to, entry } => self.inject(at, to, entry),
@@ -107,6 +109,7 @@ impl<'a> Fabric<'a> {
     fn inject(&mut self, at: Spot, to: Spot, entry: Entry) -> Result<Outcome, Refused>
         ensures step { FabricStep self.old.parts self.old.state (events.Inject at to entry) result self.new.state }
         ensures parts { self.new.parts ≡ self.old.parts }
+        ensures told { IsTellable self.old.parts.area.ids result }
     {
         if !may_enter(&self.parts, at, to, entry) {
             return Err(Refused::NoSuchPlace);
@@ -123,6 +126,7 @@ impl<'a> Fabric<'a> {
     fn step(&mut self, p: PacketNo) -> Result<Outcome, Refused>
         ensures step { FabricStep self.old.parts self.old.state (events.Step p) result self.new.state }
         ensures parts { self.new.parts ≡ self.old.parts }
+        ensures told { IsTellable self.old.parts.area.ids result }
     {
         let place = p.get() as usize;
         if place >= self.packets.len() {
@@ -141,6 +145,7 @@ impl<'a> Fabric<'a> {
     fn fail(&mut self, failed: Failure) -> Result<Outcome, Refused>
         ensures step { FabricStep self.old.parts self.old.state (events.Fail failed) result self.new.state }
         ensures parts { self.new.parts ≡ self.old.parts }
+        ensures told { IsTellable self.old.parts.area.ids result }
     {
         if !is_element(&self.parts, &failed) {
             return Err(Refused::NoSuchPlace);

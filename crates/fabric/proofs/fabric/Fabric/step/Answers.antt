@@ -1,7 +1,9 @@
-use Rattle.std.proofs.Common.{◌≡◌, ◌∙◌, ℕ, Some, slice_get, refl, subst, arith}
+use Rattle.std.proofs.Common.{Ok, ◌≡◌, ◌∙◌, ℕ, Some, slice_get, refl, subst, arith}
 use Rattle.std.proofs.lemmas.Option.{slice_get_read}
-use Rattle.fabric.specs.Viewed.{viewed}
+use Rattle.fabric.specs.OutcomeText.{IsTellable}
+use Rattle.fabric.specs.Viewed.{FabricSeen, viewed}
 use Rattle.fabric.proofs.KeptStates.{kept_handled, step_ended, step_handled, step_unmade}
+use Rattle.fabric.proofs.Tellable.{outcome_tellable}
 use Rattle.fabric.proofs.fabric.Fabric.step.Goals as goal
 
 pub returns-then-place-len-clause-step : goal.returns-then-place-len-clause-step
@@ -21,6 +23,7 @@ returns-in_default c =
       step = rw (← c.self.view_is) (step_ended (viewed c.self.inside.parts) c.self.invariant.0 c.self.inside.packets.items c.self.inside.failure c.self.inside.room c.self.invariant.2 c.args.p c.index.result.now
           (subst (λ (k : ℕ). slice_get c.self.inside.packets.items k ≡ Some c.index.result.now) at there) c.in_default.not-Going);
       parts = refl;
+      told = tt;
     }
 
 pub handled-outcome-requires-clause-packet : goal.handled-outcome-requires-clause-packet
@@ -45,3 +48,10 @@ returns-clause-step c =
     slice_get_read c.self.inside.packets.items c.len.result c.get-place.result c.index.result.now (c.len.ensures ∙ c.self.inside.packets.ok.0) c.if-place-len.false c.index.ensures in
     rw (← c.self.view_is, ← c.get-place.ensures.value, c.packet_after.ensures) (step_handled (viewed c.self.inside.parts) c.self.invariant.0 c.self.inside.packets.items c.self.inside.failure c.self.inside.room c.self.invariant.2
     c.get-place.result c.index.result.now c.handled-outcome.result there c.in-Going.is c.handled-outcome.ensures)
+
+pub returns-clause-told : goal.returns-clause-told
+returns-clause-told c =
+    let there : slice_get c.self.inside.packets.items c.get-place.result ≡ Some c.index.result.now =
+    slice_get_read c.self.inside.packets.items c.len.result c.get-place.result c.index.result.now (c.len.ensures ∙ c.self.inside.packets.ok.0) c.if-place-len.false c.index.ensures in
+    subst (λ (seen : FabricSeen). IsTellable seen.parts.area.ids (Ok c.handled-outcome.result)) c.self.view_is (outcome_tellable (viewed c.self.inside.parts) c.self.invariant.0 c.self.inside.failure c.index.result.now
+    (c.self.invariant.2.packets c.get-place.result c.index.result.now there) c.in-Going.is c.handled-outcome.result c.handled-outcome.ensures)
