@@ -7,7 +7,7 @@ use Rattle.std.proofs.lemmas.List.{length-append, length-set}
 use Rattle.std.proofs.lemmas.Option.{same_Some, slice_get_past, slice_get_within}
 use Rattle.fabric.specs.Answers.{Answered, HasEnded, IsStepAnswer, NoPacket, may_enter}
 use Rattle.fabric.specs.FabricParts.{AreFabricParts, FabricParts}
-use Rattle.fabric.specs.FabricState.{FabricState, entering, packet_after, state_after}
+use Rattle.fabric.specs.FabricState.{entering, packet_after, state_after, state_of}
 use Rattle.fabric.specs.FabricStep.{FabricStep}
 use Rattle.fabric.specs.Handling.{IsHandled}
 use Rattle.fabric.specs.KeptState.{IsKeptPacket, IsKeptState}
@@ -22,10 +22,6 @@ use Rattle.fabric.proofs.LifeSteps.{life_begins}
 use Rattle.fabric.proofs.PacketChains.{kept_next, next_of}
 use Rattle.fabric.proofs.SmallIslands.{island_small}
 use Rattle.mrt_graph.proofs.ListPlaces.{pushed_at, set_elsewhere, set_there}
-
--- packets, a failure and room
-abbrev pub state_of : List Packet → Option Failure → ℕ → FabricState
-state_of packets failure room = record { packets = packets; failure = failure; room = room }
 
 module _ (parts : FabricParts) (are : AreFabricParts parts) (packets : List Packet) (failure : Option Failure) (room : ℕ) (kept : IsKeptState parts (state_of packets failure room)) where
   pub kept_entered : (at to : ℕ) (entry : Entry) → may_enter parts at to entry ≡ true → length packets < room → IsKeptState parts (state_of (packets ++ entering at to entry ∷ []) failure room)

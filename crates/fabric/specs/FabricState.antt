@@ -21,13 +21,17 @@ pub record FabricState : Type 0 where
   pub failure : Option Failure
   pub room : ℕ
 
+-- a state of these packets, this failure and this room
+abbrev pub state_of : List Packet → Option Failure → ℕ → FabricState
+state_of packets failure room = record { packets = packets; failure = failure; room = room }
+
 -- the answer to an event
 abbrev pub Answer : Type 0
 Answer = Result Outcome Refused
 
 -- at the start: no packet, and no failure
 abbrev pub start : ℕ → FabricState
-start room = record { packets = []; failure = None; room = room }
+start room = state_of [] None room
 
 -- the mode in which a packet enters
 abbrev pub mode_of : Entry → Mode

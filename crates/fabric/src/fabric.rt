@@ -30,14 +30,20 @@ pub struct Fabric<'a> {
 impl<'a> Model for Fabric<'a> {
     ghost use Rattle.std.specs.Prelude.{◌≤◌, vec_capacity};
     ghost use Rattle.fabric.specs.FabricParts.{AreFabricParts};
+    ghost use Rattle.fabric.specs.FabricState.{state_of};
     ghost use Rattle.fabric.specs.KeptState.{IsKeptState};
     ghost use Rattle.fabric.specs.Viewed.{AreRouted, FabricSeen, viewed};
 
     ghost Value = { FabricSeen };
 
-    ghost view = { λ f. record { parts = viewed f.parts; state = record { packets = f.packets.items; failure = f.failure; room = f.room } } };
+    ghost view = { λ f. record {
+      parts = viewed f.parts;
+      state = state_of f.packets.items f.failure f.room;
+    } };
 
-    ghost invariant = { λ f. AreFabricParts (viewed f.parts) × AreRouted f.parts × IsKeptState (viewed f.parts) (record { packets = f.packets.items; failure = f.failure; room = f.room }) × (f.room ≤ vec_capacity f.packets) };
+    ghost invariant = { λ f. AreFabricParts (viewed f.parts) × AreRouted f.parts
+        × IsKeptState (viewed f.parts) (state_of f.packets.items f.failure f.room)
+        × (f.room ≤ vec_capacity f.packets) };
 }
 
 impl<'a> Fabric<'a> {
@@ -62,7 +68,12 @@ impl<'a> Fabric<'a> {
         requires routed { AreMadeWith area.now g.now routes.now }
         requires room { 1 ≤ room }
         ensures { IfOk result (λ fabric. fabric ≡ record {
-          parts = record { area = area.now; island = g.now; cert = c.now; link_of = routes.now.links };
+          parts = record {
+            area = area.now;
+            island = g.now;
+            cert = c.now;
+            link_of = routes.now.links;
+          };
           state = start room;
         }) }
     {
@@ -107,7 +118,8 @@ impl<'a> Fabric<'a> {
 
     /// A packet enters, if it may and there is room.
     fn inject(&mut self, at: Spot, to: Spot, entry: Entry) -> Result<Outcome, Refused>
-        ensures step { FabricStep self.old.parts self.old.state (events.Inject at to entry) result self.new.state }
+        ensures step { FabricStep self.old.parts self.old.state (events.Inject at to entry)
+            result self.new.state }
         ensures parts { self.new.parts ≡ self.old.parts }
         ensures told { IsTellable self.old.parts.area.ids result }
     {
@@ -124,7 +136,8 @@ impl<'a> Fabric<'a> {
 
     /// The router where a packet is handles it once, if it is going.
     fn step(&mut self, p: PacketNo) -> Result<Outcome, Refused>
-        ensures step { FabricStep self.old.parts self.old.state (events.Step p) result self.new.state }
+        ensures step { FabricStep self.old.parts self.old.state (events.Step p)
+            result self.new.state }
         ensures parts { self.new.parts ≡ self.old.parts }
         ensures told { IsTellable self.old.parts.area.ids result }
     {
@@ -143,7 +156,8 @@ impl<'a> Fabric<'a> {
 
     /// An element fails, if none has.
     fn fail(&mut self, failed: Failure) -> Result<Outcome, Refused>
-        ensures step { FabricStep self.old.parts self.old.state (events.Fail failed) result self.new.state }
+        ensures step { FabricStep self.old.parts self.old.state (events.Fail failed)
+            result self.new.state }
         ensures parts { self.new.parts ≡ self.old.parts }
         ensures told { IsTellable self.old.parts.area.ids result }
     {

@@ -30,7 +30,8 @@ pub fn handled(parts: &Parts, failure: Option<Failure>, packet: &Packet) -> Outc
     requires routed { AreRouted parts.now }
     requires packet { IsKeptPacket (viewed parts.now) packet.now }
     requires going { packet.now.state ≡ states.Going }
-    requires failure { (failed : Failure) → failure ≡ Some failed → is_element (viewed parts.now) failed ≡ true }
+    requires failure { (failed : Failure) → failure ≡ Some failed
+        → is_element (viewed parts.now) failed ≡ true }
     ensures { IsHandled (viewed parts.now) failure packet.now result }
 {
     if has_failed(&failure, packet) {

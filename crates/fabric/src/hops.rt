@@ -115,7 +115,8 @@ fn over_one(first: Crossing) -> NextHop
 
 /// A hop over two bonds.
 fn over_two(first: Crossing, second: Crossing) -> NextHop
-    ensures { hop_seen result ≡ record { elements = crossed first ++ crossed second; next = second.node } }
+    ensures { hop_seen result
+        ≡ record { elements = crossed first ++ crossed second; next = second.node } }
 {
     let next = second.node;
     NextHop {

@@ -1,5 +1,5 @@
 //! Packets, step by step through a failure: a machine whose every event is one packet that enters, one router that
-//! handles one packet once, or one failure (after RFC 7812, sections 6 and 11).
+//! handles one packet once, or one failure (after RFC 7812, section 5).
 #![tactic(auto)]
 
 mod entering;

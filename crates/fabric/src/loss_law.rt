@@ -16,7 +16,8 @@ ghost use Rattle.fabric.specs.declared.packet.State.TheVariants as states;
 pub fn losses_have_their_causes()
     ensures { (parts : FabricParts) → AreFabricParts parts → (room : ℕ) (events : List Event)
         (answers : List Answer) (end : FabricState) → IsRun parts (start room) events answers end
-        → (p : ℕ) (packet : Packet) → slice_get end.packets p ≡ Some packet → packet.state ≡ states.Going
+        → (p : ℕ) (packet : Packet) → slice_get end.packets p ≡ Some packet
+        → packet.state ≡ states.Going
         → (outcome : Outcome) → IsHandled parts end.failure packet outcome
         → LossCauses parts end.failure packet outcome }
 {}

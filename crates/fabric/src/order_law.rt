@@ -14,7 +14,8 @@ pub fn own_events_decide_the_answers()
     ensures { (parts : FabricParts) → AreFabricParts parts
         → (room : ℕ) (events : List Event) (answers : List Answer) (end : FabricState)
         → IsRun parts (start room) events answers end
-        → (other_room : ℕ) (others : List Event) (other_answers : List Answer) (other_end : FabricState)
+        → (other_room : ℕ) (others : List Event) (other_answers : List Answer)
+        (other_end : FabricState)
         → IsRun parts (start other_room) others other_answers other_end
         → (p q : ℕ) → own_events p events answers ≡ own_events q others other_answers
         → step_answers p events answers ≡ step_answers q others other_answers }

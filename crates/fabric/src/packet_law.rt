@@ -34,18 +34,21 @@ ghost use Rattle.mrt_graph.specs.declared.cert.Color.{Color};
 
 /// Laws: a packet visits no place twice in primary mode, and none twice on a color.
 pub fn no_place_twice()
-    ensures in_primary_mode { (parts : FabricParts) → AreFabricParts parts → (room : ℕ) (events : List Event)
-        (answers : List Answer) (end : FabricState) → IsRun parts (start room) events answers end
+    ensures in_primary_mode { (parts : FabricParts) → AreFabricParts parts
+        → (room : ℕ) (events : List Event) (answers : List Answer) (end : FabricState)
+        → IsRun parts (start room) events answers end
         → (p : ℕ) → AreDifferent (visits is_primary (course p (start room) events answers)) }
-    ensures on_a_color { (parts : FabricParts) → AreFabricParts parts → (room : ℕ) (events : List Event)
-        (answers : List Answer) (end : FabricState) → IsRun parts (start room) events answers end
+    ensures on_a_color { (parts : FabricParts) → AreFabricParts parts
+        → (room : ℕ) (events : List Event) (answers : List Answer) (end : FabricState)
+        → IsRun parts (start room) events answers end
         → (p : ℕ) → AreDifferent (visits is_on_color (course p (start room) events answers)) }
 {}
 
 /// A law: a packet keeps its mode, but for one change at most, from primary mode to a color, which it keeps then.
 pub fn one_change_of_mode()
     ensures { (parts : FabricParts) → AreFabricParts parts → (room : ℕ) (events : List Event)
-        (answers : List Answer) (end : FabricState) → IsRun parts (start room) events answers end
+        (answers : List Answer) (end : FabricState)
+        → IsRun parts (start room) events answers end
         → (p : ℕ) → AllPairs (λ (earlier later : Packet). KeepsMode earlier.mode later.mode)
         (course p (start room) events answers) }
 {}
@@ -53,7 +56,8 @@ pub fn one_change_of_mode()
 /// A law: a packet that was switched to a color is never lost.
 pub fn a_switched_packet_is_never_lost()
     ensures { (parts : FabricParts) → AreFabricParts parts → (room : ℕ) (events : List Event)
-        (answers : List Answer) (end : FabricState) → IsRun parts (start room) events answers end
+        (answers : List Answer) (end : FabricState)
+        → IsRun parts (start room) events answers end
         → (p : ℕ) (packet : Packet) → slice_get end.packets p ≡ Some packet
         → (color : Color) → packet.mode ≡ modes.Switched color
         → (loss : Loss) → packet.state ≡ states.Lost loss → ⊥ }
@@ -62,11 +66,14 @@ pub fn a_switched_packet_is_never_lost()
 /// Laws: a packet has at most twice as many answered steps as its area has other nodes; after so many it is delivered or
 /// lost.
 pub fn packets_end()
-    ensures few_steps { (parts : FabricParts) → AreFabricParts parts → (room : ℕ) (events : List Event)
-        (answers : List Answer) (end : FabricState) → IsRun parts (start room) events answers end
+    ensures few_steps { (parts : FabricParts) → AreFabricParts parts
+        → (room : ℕ) (events : List Event) (answers : List Answer) (end : FabricState)
+        → IsRun parts (start room) events answers end
         → (p : ℕ) → steps_of p events answers ≤ 2 * (length parts.area.ids - 1) }
-    ensures going { (parts : FabricParts) → AreFabricParts parts → (room : ℕ) (events : List Event)
-        (answers : List Answer) (end : FabricState) → IsRun parts (start room) events answers end
-        → (p : ℕ) (packet : Packet) → slice_get end.packets p ≡ Some packet → packet.state ≡ states.Going
+    ensures going { (parts : FabricParts) → AreFabricParts parts
+        → (room : ℕ) (events : List Event) (answers : List Answer) (end : FabricState)
+        → IsRun parts (start room) events answers end
+        → (p : ℕ) (packet : Packet) → slice_get end.packets p ≡ Some packet
+        → packet.state ≡ states.Going
         → steps_of p events answers < 2 * (length parts.area.ids - 1) }
 {}

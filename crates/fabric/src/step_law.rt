@@ -25,11 +25,12 @@ pub fn one_answer_each()
         → (room : ℕ) (events : List Event) (answers : List Answer) (end : FabricState)
         → IsRun parts (start room) events answers end
         → (event : Event) → (answer : Answer) × IsAnswer parts end event answer }
-    ensures only_one { (parts : FabricParts) → AreFabricParts parts → (state : FabricState) (event : Event)
-        (answer other : Answer) → IsAnswer parts state event answer → IsAnswer parts state event other
-        → answer ≡ other }
-    ensures one_run { (parts : FabricParts) → AreFabricParts parts → (state : FabricState) (events : List Event)
-        (answers others : List Answer) (end other : FabricState)
+    ensures only_one { (parts : FabricParts) → AreFabricParts parts
+        → (state : FabricState) (event : Event) (answer other : Answer)
+        → IsAnswer parts state event answer → IsAnswer parts state event other → answer ≡ other }
+    ensures one_run { (parts : FabricParts) → AreFabricParts parts
+        → (state : FabricState) (events : List Event) (answers others : List Answer)
+        (end other : FabricState)
         → IsRun parts state events answers end → IsRun parts state events others other
         → (answers ≡ others) × (end ≡ other) }
 {}
@@ -37,15 +38,20 @@ pub fn one_answer_each()
 /// Laws: a refused event changes nothing; a step of a packet leaves all other packets and the failure as they were; a
 /// packet that enters leaves all others and the failure; a failure leaves all packets.
 pub fn other_things_stay()
-    ensures refused { (parts : FabricParts) (old new : FabricState) (event : Event) (refused : Refused)
+    ensures refused { (parts : FabricParts) (old new : FabricState) (event : Event)
+        (refused : Refused)
         → FabricStep parts old event (Err refused) new → new ≡ old }
     ensures steps { (parts : FabricParts) (old new : FabricState) (p : ℕ) (answer : Answer)
         → FabricStep parts old (events.Step p) answer new
-        → (new.failure ≡ old.failure) × ((q : ℕ) → q ≢ p → slice_get new.packets q ≡ slice_get old.packets q) }
-    ensures injects { (parts : FabricParts) (old new : FabricState) (at to : ℕ) (entry : Entry) (answer : Answer)
+        → (new.failure ≡ old.failure)
+        × ((q : ℕ) → q ≢ p → slice_get new.packets q ≡ slice_get old.packets q) }
+    ensures injects { (parts : FabricParts) (old new : FabricState) (at to : ℕ)
+        (entry : Entry) (answer : Answer)
         → FabricStep parts old (events.Inject at to entry) answer new
-        → (new.failure ≡ old.failure) × ((q : ℕ) (packet : Packet) → slice_get old.packets q ≡ Some packet
+        → (new.failure ≡ old.failure)
+        × ((q : ℕ) (packet : Packet) → slice_get old.packets q ≡ Some packet
         → slice_get new.packets q ≡ Some packet) }
-    ensures fails { (parts : FabricParts) (old new : FabricState) (failed : Failure) (answer : Answer)
+    ensures fails { (parts : FabricParts) (old new : FabricState) (failed : Failure)
+        (answer : Answer)
         → FabricStep parts old (events.Fail failed) answer new → new.packets ≡ old.packets }
 {}
