@@ -7,6 +7,7 @@ use Rattle.mrt_graph.specs.declared.link.End.{End}
 use Rattle.mrt_graph.specs.Topology.{Topology}
 use Rattle.link_direction.specs.Directions.{Directions}
 use Rattle.inc_dec_spf.specs.declared.reach.Dir.{Dir}
+use Rattle.inc_dec_spf.specs.FirstLink.{no_link}
 use Rattle.inc_dec_spf.specs.LeastPath.{HasMoreLinks}
 use Rattle.inc_dec_spf.specs.Path.{LeadsOn, cost_of}
 use Rattle.inc_dec_spf.specs.Rest.{IsRestCost, Rest, far}
@@ -37,6 +38,7 @@ way_taken Begins ends count cost link left bound end low_bound fits at over so_f
           none_before = λ place early begins. omega (arith, less, (so_far.least place (left + end.metric) early begins).0);
           over = refl;
         };
+        unreached = λ above. absurd (omega (arith, above, less, so_far.most));
         least = λ place other early begins. elim (cases_eq place count) [
           | inl same ↦
               let it = over.least other (subst (λ (p : ℕ). Begins p other) same begins) in (it.0, omega (arith, less, so_far.most))
@@ -59,6 +61,7 @@ way_taken Begins ends count cost link left bound end low_bound fits at over so_f
               none_before = it.none_before;
               over = it.over;
             };
+        unreached = so_far.unreached;
         least = λ place other early begins. elim (cases_eq place count) [
           | inl same ↦
               let it = over.least other (subst (λ (p : ℕ). Begins p other) same begins) in
@@ -84,16 +87,18 @@ way_passed Begins ends count cost link none so_far = record {
         none_before = it.none_before;
         over = it.over;
       };
+  unreached = so_far.unreached;
   least = λ place other early begins. elim (cases_eq place count) [
     | inl same ↦ absurd (none other (subst (λ (p : ℕ). Begins p other) same begins))
     | inr apart ↦ so_far.least place other (omega (arith, early, apart)) begins
   ];
 }
 
-pub no_way_yet : (Begins : ℕ → ℕ → Type 0) (ends : List End) (link : ℕ) → IsLeastWay Begins ends 0 far link
-no_way_yet Begins ends link = record {
+pub no_way_yet : (Begins : ℕ → ℕ → Type 0) (ends : List End) (link : ℕ) → link ≡ no_link → IsLeastWay Begins ends 0 far link
+no_way_yet Begins ends link none = record {
   most = omega arith;
   reached = λ below. absurd (omega (arith, below));
+  unreached = λ above. none;
   least = λ place other early. absurd (omega (arith, early));
 }
 
@@ -247,11 +252,12 @@ all_passed g w dir own first bound x count ends costs links none so_far = record
 }
 
 pub none_least : (g : Topology) (w : Directions) (dir : Dir) (own : Bool) (first bound x : ℕ) (ends : List End) (costs links : List ℕ)
-    → ((j cost : ℕ) → slice_get costs j ≡ Some cost → cost ≡ far) → AreLeast g w dir own first bound x ends 0 costs links
-none_least g w dir own first bound x ends costs links all_far = record {
+    → ((j cost : ℕ) → slice_get costs j ≡ Some cost → cost ≡ far) → ((j link : ℕ) → slice_get links j ≡ Some link → link ≡ no_link)
+    → AreLeast g w dir own first bound x ends 0 costs links
+none_least g w dir own first bound x ends costs links all_far no_links = record {
   each = λ j cost link at at_link.
       subst (λ (c : ℕ). IsLeastWay (BeginsAt g w dir own x (first + j)) ends 0 c link) (sym (all_far j cost at))
-      (no_way_yet (BeginsAt g w dir own x (first + j)) ends link);
+      (no_way_yet (BeginsAt g w dir own x (first + j)) ends link (no_links j link at_link));
   small = λ j cost at below. absurd (omega (arith, below, all_far j cost at));
 }
 

@@ -1,6 +1,7 @@
 pub mod ByTurn
 pub mod EndCosts
 pub mod EndsOffered
+pub mod FirstLinks
 pub mod HomePaths
 pub mod InBlocks
 pub mod Marks

@@ -1,5 +1,5 @@
 -- The ways over the ends of a node are the paths from it.
-use Rattle.std.proofs.Common.{◌≡◌, ◌≢◌, ◌⊎◌, ◌∙◌, ◌<◌, ◌≤◌, ℕ, Bool, true, false, List, [], ◌∷◌, Some, nat_lt, length, slice_get, inl, inr, refl, sym, subst, arith}
+use Rattle.std.proofs.Common.{◌≡◌, ◌≢◌, ◌⊎◌, ◌∙◌, ◌<◌, ◌≤◌, ℕ, Bool, true, List, [], ◌∷◌, Some, nat_lt, length, slice_get, inl, inr, refl, sym, subst, arith}
 use Rattle.std.proofs.lemmas.Bool.{cases_Bool, ltb-false, ltb-true}
 use Rattle.std.proofs.lemmas.Option.{same_Some, slice_get_within}
 use Rattle.mrt_graph.specs.declared.link.End.{End}
@@ -146,33 +146,33 @@ module _ (g : Topology) (root : ℕ) (w : Directions) (is : IsOrdered g root w) 
           least.least step.place (cost_of (end ∷ others)) (slice_get_within ends step.place end there)
           (path_is_way dir true (w.block x) (w.head x) x t step.place ends end others closed more (λ kept. refl) list there rest.1)
 
-  -- the least way over all ends is the hop
-  pub least_hop : (dir : Dir) (s t cost link : ℕ) (ends : List End) → s < length g.ids → slice_get g.ends s ≡ Some ends → s ≢ t
-      → IsLeastWay (BeginsAt g w dir false s t) ends (length ends) cost link → IsHop g w dir s t (hop_by cost link)
-  least_hop dir s t cost link ends within list two least = elim (cases_Bool (nat_lt cost far)) [
+  -- the least way over all ends is the hop; so is the least one within the own block, where there is no other common one
+  pub least_hop : (dir : Dir) (own : Bool) (s t cost link : ℕ) (ends : List End) → s < length g.ids → slice_get g.ends s ≡ Some ends → s ≢ t
+      → ((k h : ℕ) → ShareBlock g w s t k h → own ≡ true → k ≡ w.block s) → IsLeastWay (BeginsAt g w dir own s t) ends (length ends) cost link → IsHop g w dir s t (hop_by cost link)
+  least_hop dir own s t cost link ends within list two kept_to least = elim (cases_Bool (nat_lt cost far)) [
     | inl is_less ↦ rw is_less (reached (ltb-true cost far is_less))
     | inr is_not ↦ rw is_not (NotReached (λ k h path share is_path. none k h path share is_path (ltb-false cost far is_not)))
   ]
     where
-      begun : (k h place : ℕ) (end : End) (others : List End) → IsClosed g root w k h → HasMoreLinks g w k → slice_get ends place ≡ Some end
-          → Path g w dir k h s (end ∷ others) t → BeginsAt g w dir false s t place (cost_of (end ∷ others))
-      begun k h place end others closed more there path =
-          path_is_way dir false k h s t place ends end others closed more (λ kept. (cc)) list there path
+      begun : (k h place : ℕ) (end : End) (others : List End) → IsClosed g root w k h → ShareBlock g w s t k h → slice_get ends place ≡ Some end
+          → Path g w dir k h s (end ∷ others) t → BeginsAt g w dir own s t place (cost_of (end ∷ others))
+      begun k h place end others closed share there path =
+          path_is_way dir own k h s t place ends end others closed share.more (kept_to k h share) list there path
 
-      at_most : (k h : ℕ) (path : List End) → IsClosed g root w k h → HasMoreLinks g w k → Path g w dir k h s path t
+      at_most : (k h : ℕ) (path : List End) → IsClosed g root w k h → ShareBlock g w s t k h → Path g w dir k h s path t
           → (cost ≤ cost_of path) × (cost < far)
-      at_most k h [] closed more path = absurd path
-      at_most k h (end ∷ others) closed more path =
+      at_most k h [] closed share path = absurd path
+      at_most k h (end ∷ others) closed share path =
           let step = first_step g w dir k h s t end others path in
           let same = same_Some step.ends ends (sym step.list ∙ list) in
           let there : slice_get ends step.place ≡ Some end = subst (λ (es : List End). slice_get es step.place ≡ Some end) same step.there in
           least.least step.place (cost_of (end ∷ others)) (slice_get_within ends step.place end there)
-          (begun k h step.place end others closed more there path)
+          (begun k h step.place end others closed share there path)
 
       none : (k h : ℕ) (path : List End) → ShareBlock g w s t k h → Path g w dir k h s path t → far ≤ cost → ⊥
       none k h path share is_path not_less =
           let are = are_in g root w s k h t is within (path_ends_within dir k h s t path is_path) share in
-          omega (arith, not_less, (at_most k h path are.closed share.more is_path).1)
+          omega (arith, not_less, (at_most k h path are.closed share is_path).1)
 
       reached : cost < far → IsHop g w dir s t (Some (record { cost = cost; link = link }))
       reached below =
@@ -180,16 +180,17 @@ module _ (g : Topology) (root : ℕ) (w : Directions) (is : IsOrdered g root w) 
           let found = closed_of_more g root w it.begins.k is it.begins.more in
           let k = it.begins.k in
           let h = found.0 in
-          let path = way_is_path dir false s t it.place cost h it.begins found.1 in
+          let path = way_is_path dir own s t it.place cost h it.begins found.1 in
           let same_list = same_Some it.begins.ends ends (sym it.begins.list ∙ list) in
           let same : it.begins.end ≡ it.end =
           same_Some it.begins.end it.end
           (sym (subst (λ (es : List End). slice_get es it.place ≡ Some it.begins.end) same_list it.begins.there) ∙ it.there) in
           let target = path_leads_inside dir k h s t it.begins.end it.begins.others found.1 path in
-          let source = begins_inside dir k h s it.begins.end found.1 (step_by dir false s t it.place cost it.begins) in
+          let source = begins_inside dir k h s it.begins.end found.1 (step_by dir own s t it.place cost it.begins) in
           let are : AreIn g root w s k h t =
           record { closed = found.1; source = source.0; source_within = within; target = target.0; target_within = target.1 } in
-          Reached k h (record { cost = cost; link = link }) (share_it g root w s k h t is are two) (record {
+          let share = share_it g root w s k h t is are two in
+          Reached k h (record { cost = cost; link = link }) share (record {
             end = it.end;
             first = record {
               ends = ends;
@@ -200,9 +201,9 @@ module _ (g : Topology) (root : ℕ) (w : Directions) (is : IsOrdered g root w) 
                   (record { others = it.begins.others; is_path = path; costs = it.begins.costs });
               none_before = λ place other early at begins_path.
                   it.none_before place early
-                  (subst (λ (c : ℕ). BeginsAt g w dir false s t place c) begins_path.costs
-                  (begun k h place other begins_path.others found.1 it.begins.more at begins_path.is_path));
+                  (subst (λ (c : ℕ). BeginsAt g w dir own s t place c) begins_path.costs
+                  (begun k h place other begins_path.others found.1 share at begins_path.is_path));
             };
             over = it.over;
-            least = λ other_path is_path. (at_most k h other_path found.1 it.begins.more is_path).0;
+            least = λ other_path is_path. (at_most k h other_path found.1 share is_path).0;
           })

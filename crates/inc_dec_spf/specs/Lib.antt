@@ -1,4 +1,5 @@
 pub mod Against
+pub mod FirstLink
 pub mod HasDirections
 pub mod Known
 pub mod LeastPath

@@ -1,7 +1,6 @@
 -- What is left of a path after its first end, and its least cost.
 use Rattle.std.specs.Prelude.{◌≡◌, ◌≢◌, ◌<◌, ◌≤◌, ◌+◌, ℕ, List, [], ◌∷◌, Some, slice_get}
 use Rattle.inc_dec_spf.specs.declared.reach.Dir.{Dir}
-use Rattle.inc_dec_spf.specs.LeastPath.{HasMoreLinks}
 use Rattle.inc_dec_spf.specs.Path.{Path, cost_of}
 use Rattle.link_direction.specs.Directions.{Directions}
 use Rattle.mrt_graph.specs.declared.link.End.{End}
@@ -20,8 +19,3 @@ Rest g w dir k h y (end ∷ ends) t = (y ≢ h) × Path g w dir k h y (end ∷ e
 pub record IsRestCost (g : Topology) (w : Directions) (dir : Dir) (k h y t cost : ℕ) : Type 0 where
   pub reached : cost < far → (rest : List End) × Rest g w dir k h y rest t × (cost_of rest ≡ cost)
   pub least : (rest : List End) → Rest g w dir k h y rest t → (cost ≤ cost_of rest) × (cost < far)
-
--- the costs from y, in its own block, to the nodes from number `first` on
-pub record AreOwnCosts (g : Topology) (w : Directions) (dir : Dir) (first y : ℕ) (costs : List ℕ) : Type 0 where
-  pub each : (j cost : ℕ) → HasMoreLinks g w (w.block y) → slice_get costs j ≡ Some cost
-      → IsRestCost g w dir (w.block y) (w.head y) y (first + j) cost

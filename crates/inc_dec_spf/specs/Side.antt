@@ -2,6 +2,7 @@
 use Rattle.std.specs.Prelude.{◌≡◌, ◌==◌, ◌<◌, ◌≤◌, ◌+◌, ℕ, List, Option, Some, None, length, nat_lt, slice_get, if◌then◌else◌}
 use Rattle.mrt_graph.specs.declared.link.End.{End}
 use Rattle.inc_dec_spf.specs.declared.reach.Hop.{Hop}
+use Rattle.inc_dec_spf.specs.FirstLink.{no_link}
 use Rattle.inc_dec_spf.specs.Rest.{far}
 
 -- the lower cost of the two, the old one where they are equal
@@ -34,10 +35,12 @@ pub record IsFirstWay (Begins : ℕ → ℕ → Type 0) (ends : List End) (count
   pub none_before : (other : ℕ) → other < place → ¬ Begins other cost
   pub over : link ≡ end.link
 
--- the least cost of the ways that begin with one of the first ends, and the link of the first that begins one of it
+-- the least cost of the ways that begin with one of the first ends, and the link of the first that begins one of it; far
+-- and no link where no way does
 pub record IsLeastWay (Begins : ℕ → ℕ → Type 0) (ends : List End) (count cost link : ℕ) : Type 0 where
   pub most : cost ≤ far
   pub reached : cost < far → IsFirstWay Begins ends count cost link
+  pub unreached : far ≤ cost → link ≡ no_link
   pub least : (place other : ℕ) → place < count → Begins place other → (cost ≤ other) × (cost < far)
 
 -- the hop of a least cost and its link; none where it is far

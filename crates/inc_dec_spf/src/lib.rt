@@ -17,5 +17,6 @@ pub use path_law::{
     no_node_is_both_above_and_below, one_hop_for_each_node, paths_lead_to_the_head_and_back,
 };
 pub use reach::{Dir, Hop, Reach};
+pub use side::NO_LINK;
 pub use tile::Tile;
 pub use turns::nodes_by_turn;

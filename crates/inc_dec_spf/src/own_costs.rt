@@ -1,31 +1,32 @@
-//! The least costs within the blocks of all nodes, to some nodes side by side.
+//! The least ways within the blocks of all nodes, to some nodes side by side.
 
 ghost use Rattle.std.specs.Prelude.{◌≡◌, ◌≢◌, ◌<◌, ◌≤◌, ◌+◌, ◌*◌, ◌⊎◌, ℕ, List, Some, length, slice_get};
 ghost use Rattle.mrt_graph.specs.GraphInvariant.{IsTopology};
 ghost use Rattle.link_direction.specs.Directions.{Directions};
 ghost use Rattle.inc_dec_spf.specs.Against.{against};
+ghost use Rattle.inc_dec_spf.specs.FirstLink.{HasLinksAt, LiesInOneBlock, no_link};
 ghost use Rattle.inc_dec_spf.specs.HasDirections.{AreDirections, HasDirections};
 ghost use Rattle.inc_dec_spf.specs.Rest.{far};
-ghost use Rattle.inc_dec_spf.specs.Side.{hop_by};
 ghost use Rattle.inc_dec_spf.specs.Turns.{AreTurns};
-ghost use Rattle.inc_dec_spf.specs.LeastPath.{IsHop};
 ghost use Rattle.inc_dec_spf.specs.Ways.{IsReadyFrom};
 
 use crate::reach::Dir;
-use crate::side::FAR;
+use crate::side::{FAR, NO_LINK};
 use crate::ways::take_ways;
 use mrt_graph::{Directed, Graph, LinkNo, NodeNo};
 
-/// Takes the least costs of each node, in its own block, to the nodes side by side, which begin with `first`.
+/// Takes the least costs of each node, in its own block, to the nodes side by side, which begin with `first`, and the
+/// links by which it begins the ways of these costs.
 ///
 /// The turns are those of the other direction, so whatever a node leads to has its turn before it.
-pub fn take_own_costs(
+fn take_own_ways(
     g: &Graph,
     d: &Directed,
     dir: Dir,
     turns: &[NodeNo],
     first: NodeNo,
-    all: &mut Vec<u32>,
+    all_costs: &mut [u32],
+    all_links: &mut [LinkNo],
     costs: &mut [u32],
     links: &mut [LinkNo],
 )
@@ -34,31 +35,38 @@ pub fn take_own_costs(
     requires turns { (root : ℕ) (w : Directions) → AreDirections g.now d.now root w
         → AreTurns g.now w (against dir) turns.now }
     requires one_link_each { length links.old ≡ length costs.old }
-    requires rows { length all.old.items ≡ length g.now.ids * length costs.old }
-    requires most { (i cost : ℕ) → slice_get all.old.items i ≡ Some cost → cost ≤ far }
+    requires all_costs { length all_costs.old ≡ length g.now.ids * length costs.old }
+    requires all_links { length all_links.old ≡ length g.now.ids * length costs.old }
+    requires most { (i cost : ℕ) → slice_get all_costs.old i ≡ Some cost → cost ≤ far }
     ensures one_each { length costs.new ≡ length costs.old }
     ensures one_link_each { length links.new ≡ length links.old }
-    ensures rows { length all.new.items ≡ length all.old.items }
-    ensures most { (i cost : ℕ) → slice_get all.new.items i ≡ Some cost → cost ≤ far }
+    ensures all_costs { length all_costs.new ≡ length all_costs.old }
+    ensures all_links { length all_links.new ≡ length all_links.old }
+    ensures most { (i cost : ℕ) → slice_get all_costs.new i ≡ Some cost → cost ≤ far }
     ensures ready { (root y : ℕ) (w : Directions) → AreDirections g.now d.now root w → y < length g.now.ids
-        → IsReadyFrom g.now w dir first (length costs.old) (65536 * length g.now.ids) all.new.items y }
+        → IsReadyFrom g.now w dir first (length costs.old) (65536 * length g.now.ids) all_costs.new y }
+    ensures links { (root y : ℕ) (w : Directions) → AreDirections g.now d.now root w → y < length g.now.ids
+        → LiesInOneBlock g.now w y → HasLinksAt g.now w dir first (length costs.old) all_links.new y }
 {
     for x in turns {
-        forget(costs);
-        take_ways(g, d, *x, dir, true, first, all, costs, links);
+        forget(costs, links);
+        take_ways(g, d, *x, dir, true, first, all_costs, costs, links);
         arrive(*x, first, costs);
-        keep(x.get() as usize * costs.len(), costs, all);
+        let at = x.get() as usize * costs.len();
+        keep(at, costs, all_costs);
+        keep(at, links, all_links);
     }
 }
 
-/// Takes the hops of s to the nodes side by side: their costs and their links.
-pub fn take_hops(
+/// Takes the links by which s begins the least ways to the nodes side by side, in all its blocks.
+fn take_all_ways(
     g: &Graph,
     d: &Directed,
     s: NodeNo,
     dir: Dir,
     first: NodeNo,
-    all: &[u32],
+    all_costs: &[u32],
+    all_links: &mut [LinkNo],
     costs: &mut [u32],
     links: &mut [LinkNo],
 )
@@ -66,28 +74,71 @@ pub fn take_hops(
     requires directed { HasDirections g.now d.now }
     requires node { s < length g.now.ids }
     requires one_link_each { length links.old ≡ length costs.old }
-    requires rows { length all.now ≡ length g.now.ids * length costs.old }
-    requires most { (i cost : ℕ) → slice_get all.now i ≡ Some cost → cost ≤ far }
+    requires all_costs { length all_costs.now ≡ length g.now.ids * length costs.old }
+    requires all_links { length all_links.old ≡ length g.now.ids * length costs.old }
+    requires most { (i cost : ℕ) → slice_get all_costs.now i ≡ Some cost → cost ≤ far }
     ensures one_each { length costs.new ≡ length costs.old }
     ensures one_link_each { length links.new ≡ length links.old }
-    ensures hops { (root j cost link : ℕ) (w : Directions) → AreDirections g.now d.now root w
+    ensures all_links { length all_links.new ≡ length all_links.old }
+    ensures links { (root : ℕ) (w : Directions) → AreDirections g.now d.now root w
         → ((y : ℕ) → y < length g.now.ids
-        → IsReadyFrom g.now w dir first (length costs.old) (65536 * length g.now.ids) all.now y)
-        → slice_get costs.new j ≡ Some cost → slice_get links.new j ≡ Some link → s ≢ first + j
-        → IsHop g.now w dir s (first + j) (hop_by cost link) }
+        → IsReadyFrom g.now w dir first (length costs.old) (65536 * length g.now.ids) all_costs.now y)
+        → HasLinksAt g.now w dir first (length costs.old) all_links.new s }
+    ensures kept { (y : ℕ) (w : Directions) → y ≢ s
+        → HasLinksAt g.now w dir first (length costs.old) all_links.old y
+        → HasLinksAt g.now w dir first (length costs.old) all_links.new y }
 {
-    forget(costs);
-    take_ways(g, d, s, dir, false, first, all, costs, links);
+    forget(costs, links);
+    take_ways(g, d, s, dir, false, first, all_costs, costs, links);
+    keep(s.get() as usize * links.len(), links, all_links);
+}
+
+/// Takes the links by which all nodes begin the least ways to the nodes side by side, in a graph whose nodes but `head`
+/// lie in one block each.
+pub fn take_links(
+    g: &Graph,
+    d: &Directed,
+    dir: Dir,
+    turns: &[NodeNo],
+    head: NodeNo,
+    first: NodeNo,
+    all_costs: &mut [u32],
+    all_links: &mut [LinkNo],
+    costs: &mut [u32],
+    links: &mut [LinkNo],
+)
+    requires kept { IsTopology g.now }
+    requires directed { HasDirections g.now d.now }
+    requires turns { (root : ℕ) (w : Directions) → AreDirections g.now d.now root w
+        → AreTurns g.now w (against dir) turns.now }
+    requires head { head < length g.now.ids }
+    requires one_link_each { length links.old ≡ length costs.old }
+    requires all_costs { length all_costs.old ≡ length g.now.ids * length costs.old }
+    requires all_links { length all_links.old ≡ length g.now.ids * length costs.old }
+    requires most { (i cost : ℕ) → slice_get all_costs.old i ≡ Some cost → cost ≤ far }
+    ensures one_each { length costs.new ≡ length costs.old }
+    ensures one_link_each { length links.new ≡ length links.old }
+    ensures all_costs { length all_costs.new ≡ length all_costs.old }
+    ensures all_links { length all_links.new ≡ length all_links.old }
+    ensures most { (i cost : ℕ) → slice_get all_costs.new i ≡ Some cost → cost ≤ far }
+    ensures links { (root : ℕ) (w : Directions) → AreDirections g.now d.now root w
+        → ((v : ℕ) → v < length g.now.ids → v ≢ head → LiesInOneBlock g.now w v)
+        → (s : ℕ) → s < length g.now.ids → HasLinksAt g.now w dir first (length costs.old) all_links.new s }
+{
+    take_own_ways(g, d, dir, turns, first, all_costs, all_links, costs, links);
+    take_all_ways(g, d, head, dir, first, all_costs, all_links, costs, links);
 }
 
 /// No way is known.
-fn forget(costs: &mut [u32])
+fn forget(costs: &mut [u32], links: &mut [LinkNo])
+    requires { length links.old ≡ length costs.old }
     ensures one_each { length costs.new ≡ length costs.old }
+    ensures one_link_each { length links.new ≡ length links.old }
     ensures none { (j cost : ℕ) → slice_get costs.new j ≡ Some cost → cost ≡ far }
+    ensures no_links { (j link : ℕ) → slice_get links.new j ≡ Some link → link ≡ no_link }
 {
-    for j in 0..costs.len() {
-        costs[j] = FAR;
-    }
+    costs.fill(FAR);
+    links.fill(LinkNo::new(NO_LINK));
 }
 
 /// At node x itself, where it is one of those side by side, nothing is left.
@@ -105,15 +156,15 @@ fn arrive(x: NodeNo, first: NodeNo, costs: &mut [u32])
     }
 }
 
-/// Keeps the costs of a node among those of all nodes, from place `at` on.
-fn keep(at: usize, costs: &[u32], all: &mut Vec<u32>)
-    requires { at + length costs.now ≤ length all.old.items }
-    ensures one_each { length all.new.items ≡ length all.old.items }
-    ensures there { (j : ℕ) → j < length costs.now → slice_get all.new.items (at + j) ≡ slice_get costs.now j }
-    ensures elsewhere { (i : ℕ) → (i < at) ⊎ (at + length costs.now ≤ i)
-        → slice_get all.new.items i ≡ slice_get all.old.items i }
+/// Keeps what a node has among what all nodes have, from place `at` on.
+fn keep<T: Copy>(at: usize, own: &[T], all: &mut [T])
+    requires { at + length own.now ≤ length all.old }
+    ensures one_each { length all.new ≡ length all.old }
+    ensures there { (j : ℕ) → j < length own.now → slice_get all.new (at + j) ≡ slice_get own.now j }
+    ensures elsewhere { (i : ℕ) → (i < at) ⊎ (at + length own.now ≤ i)
+        → slice_get all.new i ≡ slice_get all.old i }
 {
-    for j in 0..costs.len() {
-        all[at + j] = costs[j];
+    for j in 0..own.len() {
+        all[at + j] = own[j];
     }
 }

@@ -9,6 +9,9 @@ use mrt_graph::{LinkNo, NodeNo};
 /// More than the cost of any path.
 pub const FAR: u32 = 2147483648;
 
+/// Stands for no link: no graph has so many.
+pub const NO_LINK: u16 = 65535;
+
 /// Takes the ways over an end to the nodes side by side, where they are less: `left` has the costs after the end.
 pub fn take_over(left: &[u32], metric: u16, link: LinkNo, costs: &mut [u32], links: &mut [LinkNo])
     requires one_left_each { length left.now ≡ length costs.old }

@@ -5,6 +5,7 @@ ghost use Rattle.mrt_graph.specs.declared.cert.Role.TheVariants.{Sole};
 ghost use Rattle.mrt_graph.specs.declared.link.End.{End};
 ghost use Rattle.mrt_graph.specs.GraphInvariant.{IsTopology};
 ghost use Rattle.link_direction.specs.Directions.{Directions, Says};
+ghost use Rattle.inc_dec_spf.specs.FirstLink.{no_link};
 ghost use Rattle.inc_dec_spf.specs.HasDirections.{AreDirections, HasDirections};
 ghost use Rattle.inc_dec_spf.specs.Rest.{far};
 ghost use Rattle.inc_dec_spf.specs.Side.{AreTaken};
@@ -34,6 +35,7 @@ pub fn take_ways(
     requires rows { length all.now ≡ length g.now.ids * length costs.old }
     requires most { (i cost : ℕ) → slice_get all.now i ≡ Some cost → cost ≤ far }
     requires none { (j cost : ℕ) → slice_get costs.old j ≡ Some cost → cost ≡ far }
+    requires no_links { (j link : ℕ) → slice_get links.old j ≡ Some link → link ≡ no_link }
     ensures one_each { length costs.new ≡ length costs.old }
     ensures one_link_each { length links.new ≡ length links.old }
     ensures most { (j cost : ℕ) → slice_get costs.new j ≡ Some cost → cost ≤ far }

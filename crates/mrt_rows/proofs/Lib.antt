@@ -10,6 +10,7 @@ pub mod HeadWays
 pub mod HopsExist
 pub mod LeastExists
 pub mod LinesHold
+pub mod MemberRows
 pub mod NearRows
 pub mod OneBlock
 pub mod OneCert
@@ -26,5 +27,6 @@ pub mod RulesHold
 pub mod SoleRows
 pub mod TableRows
 pub mod Tables
+pub mod TileLinks
 pub mod Ways
 pub mod WaysBegun

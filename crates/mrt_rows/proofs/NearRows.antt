@@ -47,7 +47,7 @@ found_by og m dir s v None ring sharing way is = absurd (no_way og m dir s v (sh
 module _ (og : OrderedGraph) (s t : ℕ) (s_within : s < length og.g.ids) (t_within : t < length og.g.ids) (two : s ≢ t)
     (more : NoneOfOneLink og.g og.w s t) where
   -- the block of m, which the two have in common
-  ring_by : (m h : ℕ) → m < length og.g.ids → m ≢ og.root → HaveInCommon og.w s t (og.w.block m) h → Ring og m
+  pub ring_by : (m h : ℕ) → m < length og.g.ids → m ≢ og.root → HaveInCommon og.w s t (og.w.block m) h → Ring og m
   ring_by m h inside other common = elim (og.ordered.blocks m inside other) [
     | inl sole ↦
         let one : HasOneLink og.g og.w (og.w.block m) sole.link =
@@ -103,15 +103,15 @@ module _ (og : OrderedGraph) (s t : ℕ) (s_within : s < length og.g.ids) (t_wit
 
   -- another member
   module _ (same : og.w.block s ≡ og.w.block t) where
-    member_ring : Ring og s
+    pub member_ring : Ring og s
     member_ring =
         ring_by s (og.w.head s) s_within
         (not_root_of_peers og t s t_within s_within (λ back. two (sym back)) (sym same)) (Peers refl (sym same) refl)
 
-    member_target : Inside og s t
+    pub member_target : Inside og s t
     member_target = record { within = t_within; block = sym same }
 
-    are_members : AreMembers og.g og.w s t (og.w.block s) (og.w.head s)
+    pub are_members : AreMembers og.g og.w s t (og.w.block s) (og.w.head s)
     are_members = record {
       share = share og s s t member_ring (peers og s s t member_ring
           (inside_itself og s member_ring) member_target two);

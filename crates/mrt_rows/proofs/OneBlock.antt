@@ -9,9 +9,10 @@ use Rattle.mrt_graph.specs.RowPlace.{place_of_row}
 use Rattle.mrt_graph.specs.Topology.{Topology}
 use Rattle.link_direction.specs.BlockOfTwo.{FromHead, HaveInCommon, Peers, ToHead}
 use Rattle.link_direction.specs.Directions.{Directions}
+use Rattle.inc_dec_spf.specs.FirstLink.{LiesInOneBlock}
 use Rattle.inc_dec_spf.proofs.InBlocks.{IsOrdered, inside_of_link}
-use Rattle.mrt_rows.specs.Put.{ArePut, IsOneBlock, IsPut, PutFar, PutNear}
-use Rattle.mrt_rows.specs.RowsOf.{AreAllRows, HasRow, row_among}
+use Rattle.mrt_rows.specs.Put.{ArePut, IsOneBlock}
+use Rattle.mrt_rows.specs.RowsOf.{AreAllRows, row_among}
 use Rattle.mrt_rows.specs.Source.{NoneOfOneLink}
 use Rattle.mrt_rows.proofs.AllRows.{row_is}
 use Rattle.mrt_rows.proofs.RowsPut.{place_within}
@@ -61,6 +62,21 @@ module _ (g : Topology) (root : ℕ) (w : Directions) (is : IsOrdered g root w) 
         apart (sym other)
   ]
 
+  -- a node but the root has this block alone in common with others
+  pub in_one_block : (v : ℕ) → v < length g.ids → v ≢ root → LiesInOneBlock g w v
+  in_one_block v within other = record { only = λ t k h t_within share. go t k h t_within share.common }
+    where
+      root_heads : (t : ℕ) → t < length g.ids → w.head t ≡ root
+      root_heads t t_within = elim (cases_eq t root) [
+        | inl same ↦ ap w.head same ∙ is.ordered.heads.root_head
+        | inr apart ↦ root_is_head t t_within apart
+      ]
+
+      go : (t k h : ℕ) → t < length g.ids → HaveInCommon w v t k h → k ≡ w.block v
+      go t k h t_within (Peers a b c) = sym a
+      go t k h t_within (ToHead a b c) = sym a
+      go t k h t_within (FromHead a b c) = absurd (other (sym b ∙ root_heads t t_within))
+
   -- the rows that are put are all rows
   pub rows_put : (rows : List Row) → length rows ≡ length g.ids * (length g.ids - 1)
       → ArePut g root w (λ u t. t < length g.ids) rows → AreAllRows g root w rows
@@ -73,12 +89,5 @@ module _ (g : Topology) (root : ℕ) (w : Directions) (is : IsOrdered g root w) 
         let at : row_among (length g.ids) rows s t ≡ Some row =
         row_is (length g.ids) rows s t s_within t_within two
         ∙ slice_get-get_or rows place filler (omega (arith, count, place_within (length g.ids) s t s_within t_within two)) in
-        go s t s_within t_within two row at (put.each s t row s_within t_within two t_within (none_of_one_link s t) at);
+        record { row = row; is = at; line = (put.each s t row s_within t_within two t_within at).line (row_among (length g.ids) rows s) };
   }
-    where
-      go : (s t : ℕ) → s < length g.ids → t < length g.ids → s ≢ t → (row : Row) → row_among (length g.ids) rows s t ≡ Some row
-          → IsPut g root w s t row → HasRow g root w s (row_among (length g.ids) rows s) t
-      go s t s_within t_within two row at (PutNear not_carried line) =
-          record { row = row; is = at; line = line (row_among (length g.ids) rows s) }
-      go s t s_within t_within two row at (PutFar carried apart) =
-          let common = in_common s t s_within t_within two in absurd (apart common.0 common.1 common.2)

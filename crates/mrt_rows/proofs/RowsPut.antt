@@ -1,26 +1,15 @@
 -- Rows put at their places, one after another.
-use Rattle.std.proofs.Common.{◌≡◌, ◌≢◌, ◌⊎◌, ◌∙◌, ◌<◌, ◌≤◌, ◌+◌, ◌-◌, ◌*◌, ◌==◌, ℕ, List, Option, Some, None, nat_lt, length, set, slice_get, refl, sym, subst, inl, inr, arith}
+use Rattle.std.proofs.Common.{◌≡◌, ◌≢◌, ◌⊎◌, ◌∙◌, ◌<◌, ◌≤◌, ◌+◌, ◌-◌, ◌*◌, ◌==◌, ℕ, List, Some, if◌then◌else◌, nat_lt, length, set, slice_get, refl, sym, subst, inl, inr, arith}
 use Rattle.std.proofs.Math.Nat.{mul-le-mul_left, mul_comm}
-use Rattle.std.proofs.lemmas.Bool.{and_parts, cases_Bool, cases_eq, cases_lt, eqb-false, ltb-true, not-true}
-use Rattle.std.proofs.lemmas.Option.{same_Some}
+use Rattle.std.proofs.lemmas.Bool.{and_parts, cases_Bool, cases_eq, cases_lt, eqb-false, le-ltb, lt-ltb, ltb-true, not-true}
 use Rattle.mrt_graph.specs.declared.cert.Row.{Row}
 use Rattle.mrt_graph.specs.Certificate.{are_two}
 use Rattle.mrt_graph.specs.RowPlace.{place_of_row}
 use Rattle.mrt_graph.specs.Topology.{Topology}
 use Rattle.mrt_graph.proofs.ListPlaces.{set_elsewhere, set_there}
-use Rattle.std.proofs.Common.{get_or}
-use Rattle.std.proofs.lemmas.Option.{slice_get-get_or}
 use Rattle.link_direction.specs.Directions.{Directions}
-use Rattle.inc_dec_spf.specs.declared.reach.Dir.{Dir}
-use Rattle.inc_dec_spf.specs.declared.reach.Hop.{Hop}
-use Rattle.inc_dec_spf.specs.declared.tile.Tile.{Tile}
-use Rattle.inc_dec_spf.specs.LeastPath.{IsHop}
-use Rattle.inc_dec_spf.specs.Side.{hop_by}
-use Rattle.inc_dec_spf.specs.Tile.{HasHops, IsAimed, IsTile}
-use Rattle.inc_dec_spf.specs.Ways.{IsReadyFrom}
-use Rattle.mrt_rows.specs.Put.{ArePut, IsPut, PutFar, PutNear, row_or_mark}
+use Rattle.mrt_rows.specs.Put.{ArePut}
 use Rattle.mrt_rows.specs.RowsOf.{row_among}
-use Rattle.mrt_rows.specs.Source.{Far, IsNear, Near, NoneOfOneLink}
 use Rattle.mrt_rows.proofs.AllRows.{row_is}
 use Rattle.mrt_rows.proofs.RowPlaces.{column, column_above, column_below}
 
@@ -110,72 +99,28 @@ module _ (n s t : ℕ) (row : Row) (rows : List Row) (s_within : s < n) (t_withi
     | inr not_two ↦ rw not_two refl
   ]
 
--- a near row, or the mark
-pub near_put : (g : Topology) (root : ℕ) (w : Directions) (s t : ℕ) (row : Option Row) → IsNear g root w s t row → IsPut g root w s t (row_or_mark row)
-near_put g root w s t (Some row) (Near row' not_carried line) = PutNear not_carried line
-near_put g root w s t None (Far apart) = PutFar refl apart
-
--- the rows of s for the first j nodes from `first` on
-abbrev pub Before : ℕ → ℕ → ℕ → ℕ → ℕ → Type 0
-Before s first j u t = (u ≡ s) × (first ≤ t) × (t < first + j)
-
--- one more is put
-pub one_put : (g : Topology) (root : ℕ) (w : Directions) (s t first j : ℕ) (row : Row) (rows : List Row) → s < length g.ids → t < length g.ids → s ≢ t
-    → length rows ≡ length g.ids * (length g.ids - 1) → t ≡ first + j → (NoneOfOneLink g w s t → IsPut g root w s t row)
-    → ArePut g root w (Before s first j) rows
-    → ArePut g root w (Before s first (j + 1)) (set rows (place_of_row (length g.ids) s t) row)
-one_put g root w s t first j row rows s_within t_within two room place is so_far = record {
-  each = λ u v other u_within v_within uv_two done more at. elim (cases_eq v t) [
-    | inl same ↦
-        let row_same : row ≡ other =
-        same_Some row other (sym (put_there (length g.ids) s t row rows s_within t_within two room)
-        ∙ subst (λ (x : ℕ). row_among (length g.ids) (set rows (place_of_row (length g.ids) s t) row) s x ≡ Some other) same
-        (subst (λ (x : ℕ). row_among (length g.ids) (set rows (place_of_row (length g.ids) s t) row) x v ≡ Some other) done.0 at)) in
-        subst (λ (x : ℕ). IsPut g root w x v other) (sym done.0)
-        (subst (λ (x : ℕ). IsPut g root w s x other) (sym same)
-        (subst (λ (r : Row). IsPut g root w s t r) row_same
-        (is (subst (λ (x : ℕ). NoneOfOneLink g w s x) same (subst (λ (x : ℕ). NoneOfOneLink g w x v) done.0 more)))))
-    | inr apart ↦
-        so_far.each u v other u_within v_within uv_two (done.0, done.1, omega (arith, done.2, apart, place)) more
-        (sym (put_elsewhere (length g.ids) s t row rows s_within t_within two u v (inr apart)) ∙ at)
-  ];
-}
-
--- nothing is put where t is no other node
-pub none_put : (g : Topology) (root : ℕ) (w : Directions) (s t first j : ℕ) (rows : List Row) → t ≡ first + j → (t < length g.ids → t ≡ s)
-    → ArePut g root w (Before s first j) rows → ArePut g root w (Before s first (j + 1)) rows
-none_put g root w s t first j rows place none so_far = record {
-  each = λ u v other u_within v_within uv_two done more at. elim (cases_eq v t) [
-    | inl same ↦ absurd (uv_two (done.0 ∙ sym (none (subst (λ (x : ℕ). x < length g.ids) same v_within)) ∙ sym same))
-    | inr apart ↦ so_far.each u v other u_within v_within uv_two (done.0, done.1, omega (arith, done.2, apart, place)) more at
-  ];
-}
-
--- before the first node
-pub none_before : (g : Topology) (root : ℕ) (w : Directions) (s first : ℕ) (rows : List Row) → ArePut g root w (Before s first 0) rows
-none_before g root w s first rows = record { each = λ u v other u_within v_within two done. absurd (omega (arith, done.1, done.2)) }
-
--- the hop to a node, by that at its place
-pub hop_there : (g : Topology) (w : Directions) (dir : Dir) (s first width j to : ℕ) (tile : Tile) (hop : Option Hop) → IsTile g width tile → j < width
-    → to ≡ first + j → s ≢ to → HasHops g w dir s first tile
-    → ((cost link : ℕ) → slice_get tile.costs.items j ≡ Some cost → slice_get tile.links.items j ≡ Some link → hop ≡ hop_by cost link)
-    → IsHop g w dir s to hop
-hop_there g w dir s first width j to tile hop is within place two hops made =
-    let cost = get_or tile.costs.items j 0 in
-    let link = get_or tile.links.items j 0 in
-    let at : slice_get tile.costs.items j ≡ Some cost = slice_get-get_or tile.costs.items j 0 (omega (arith, within, is.costs)) in
-    let at_link : slice_get tile.links.items j ≡ Some link = slice_get-get_or tile.links.items j 0 (omega (arith, within, is.links)) in
-    subst (λ (h : Option Hop). IsHop g w dir s to h) (sym (made cost link at at_link))
-    (subst (λ (x : ℕ). IsHop g w dir s x (hop_by cost link)) (sym place)
-    (hops.each j cost link at at_link (λ same. two (same ∙ sym place))))
-
--- a tile stays aimed as long as it has the same costs
-pub aimed_still : (g : Topology) (w : Directions) (dir : Dir) (first width : ℕ) (before after : Tile) → after.all.items ≡ before.all.items
-    → IsAimed g w dir first width before → IsAimed g w dir first width after
-aimed_still g w dir first width before after same aimed = record {
-  each = λ y within.
-      subst (λ (xs : List ℕ). IsReadyFrom g w dir first width (65536 * length g.ids) xs y) (sym same) (aimed.each y within);
-}
+-- where the row for a node of a run stands, to which s does not belong
+pub run_place : (count s first from to j skipped : ℕ) → skipped ≡ (if nat_lt s (first + from) then 1 else 0)
+    → (s < first + from) ⊎ (first + to ≤ s) → from ≤ j → j < to
+    → (s * (count - 1) + first + j - skipped ≡ place_of_row count s (first + j)) × (s ≢ first + j) × (skipped ≤ s * (count - 1) + first + j)
+run_place count s first from to j skipped is apart low high = elim apart [
+  | inl above ↦
+      let one : skipped ≡ 1 = rw (lt-ltb s (first + from) above) at is in
+      let later : s < first + j = omega (arith, above, low) in
+      let place = column_above s (first + j) later in (
+        omega (arith, one, place, later),
+        (λ same. omega (arith, later, same)),
+        omega (arith, one, later),
+      )
+  | inr below ↦
+      let none : skipped ≡ 0 = rw (le-ltb s (first + from) (omega (arith, below, low, high))) at is in
+      let earlier : first + j < s = omega (arith, below, high) in
+      let place = column_below s (first + j) earlier in (
+        omega (arith, none, place),
+        (λ same. omega (arith, earlier, same)),
+        omega (arith, none),
+      )
+]
 
 -- the rows of one node more
 pub one_node_put : (g : Topology) (root : ℕ) (w : Directions) (s first : ℕ) (rows after : List Row)
@@ -184,10 +129,10 @@ pub one_node_put : (g : Topology) (root : ℕ) (w : Directions) (s first : ℕ) 
     → ArePut g root w (λ u t. (u < s) × (first ≤ t) × (t < first + 64)) rows
     → ArePut g root w (λ u t. (u < s + 1) × (first ≤ t) × (t < first + 64)) after
 one_node_put g root w s first rows after kept put so_far = record {
-  each = λ u v other u_within v_within two done more at. elim (cases_eq u s) [
-    | inl same ↦ put.each u v other u_within v_within two (same, done.1, done.2) more at
+  each = λ u v other u_within v_within two done at. elim (cases_eq u s) [
+    | inl same ↦ put.each u v other u_within v_within two (same, done.1, done.2) at
     | inr apart ↦
-        so_far.each u v other u_within v_within two (omega (arith, done.0, apart), done.1, done.2) more
+        so_far.each u v other u_within v_within two (omega (arith, done.0, apart), done.1, done.2)
         (sym (kept u v (inl apart)) ∙ at)
   ];
 }
@@ -209,9 +154,9 @@ pub one_tile_put : (g : Topology) (root : ℕ) (w : Directions) (first : ℕ) (r
     → ArePut g root w (λ u t. (first ≤ t) × (t < first + 64)) after → ArePut g root w (λ u t. t < first) rows
     → ArePut g root w (λ u t. t < first + 64) after
 one_tile_put g root w first rows after kept put so_far = record {
-  each = λ u v other u_within v_within two done more at. elim (cases_lt v first) [
-    | inl below ↦ so_far.each u v other u_within v_within two below more (sym (kept u v (inl below)) ∙ at)
-    | inr above ↦ put.each u v other u_within v_within two (above, done) more at
+  each = λ u v other u_within v_within two done at. elim (cases_lt v first) [
+    | inl below ↦ so_far.each u v other u_within v_within two below (sym (kept u v (inl below)) ∙ at)
+    | inr above ↦ put.each u v other u_within v_within two (above, done) at
   ];
 }
 

@@ -9,12 +9,12 @@ ghost use Rattle.mrt_rows.specs.RowsOf.{AreAllRows};
 
 use crate::by_order::nodes_by_order;
 use crate::homes::take_homes;
-use crate::near::{Home, row_or_mark};
+use crate::members::Home;
 use crate::of_source::put_rows;
 use crate::one_block::is_one_block;
 use crate::tiles::{WIDTH, put_tiles};
 use inc_dec_spf::{Dir, Tile, nodes_by_turn};
-use mrt_graph::{Directed, Graph, NoMemory, NodeNo, Row};
+use mrt_graph::{Directed, Graph, LinkNo, NoMemory, NodeNo, Row, Tag};
 use std::alloc::Global;
 
 /// The rows of all nodes, by ascending source, then by ascending destination: tile after tile where the graph is one
@@ -43,11 +43,11 @@ fn rows_by_tile(alloc: Global, g: &Graph, root: NodeNo, d: &Directed) -> Result<
     let against_order = nodes_by_turn(alloc, g, d, Dir::Down)?;
     let mut up = Tile::new(alloc, g, WIDTH)?;
     let mut down = Tile::new(alloc, g, WIDTH)?;
-    let nowhere = Home {
-        up: None,
-        down: None,
-    };
-    let mut homes = vec![in alloc; nowhere; size]?;
+    let link = LinkNo::new(0);
+    let mut homes = vec![in alloc; Home {
+        up: link,
+        down: link
+    }; size]?;
     take_homes(
         g,
         d,
@@ -58,10 +58,16 @@ fn rows_by_tile(alloc: Global, g: &Graph, root: NodeNo, d: &Directed) -> Result<
         &mut down,
         &mut homes,
     );
-    let mut rows = vec![in alloc; row_or_mark(None); size * (size - 1)]?;
+    let none_yet = Row {
+        blue: link,
+        red: link,
+        tag: Tag::Carried,
+    };
+    let mut rows = vec![in alloc; none_yet; size * (size - 1)]?;
     put_tiles(
         g,
         d,
+        root,
         &by_order,
         &against_order,
         &homes,

@@ -5,11 +5,13 @@ mod all_rows;
 mod by_order;
 mod certificate;
 mod homes;
+mod members;
 mod near;
 mod of_source;
 mod one_block;
 mod rows_law;
 mod table;
+mod tile_rows;
 mod tiles;
 mod words;
 

@@ -3,15 +3,10 @@
 ghost use Rattle.std.specs.Prelude.{◌≡◌, ◌≢◌, ◌<◌, ℕ, length};
 ghost use Rattle.link_direction.specs.Directions.{Directions};
 ghost use Rattle.mrt_rows.specs.HopRows.{member_row, row_by};
-ghost use Rattle.mrt_graph.specs.GraphInvariant.{IsTopology};
-ghost use Rattle.inc_dec_spf.specs.declared.reach.Dir.TheVariants.{Down, Up};
-ghost use Rattle.inc_dec_spf.specs.HasDirections.{AreDirections, HasDirections};
-ghost use Rattle.inc_dec_spf.specs.LeastPath.{IsHop};
-ghost use Rattle.mrt_rows.specs.Put.{IsHome, row_or_mark};
 ghost use Rattle.mrt_rows.specs.Source.{AreHops, IsNear, IsSource, NoneOfOneLink};
 
 use inc_dec_spf::{Hop, Reach};
-use mrt_graph::{Directed, Graph, LinkNo, NodeNo, Row, Tag};
+use mrt_graph::{Directed, Graph, NodeNo, Row, Tag};
 
 /// The row of `s` for `t`, by the hops of `s` up and down. `None` where the two have no block in common.
 pub fn near_row(
@@ -69,57 +64,4 @@ fn row_by(blue: Option<Hop>, red: Option<Hop>, tag: Tag) -> Option<Row>
     let blue = blue?.link;
     let red = red?.link;
     Some(Row { blue, red, tag })
-}
-
-/// The hops of a node to the head of its block.
-#[derive(Clone, Copy)]
-pub struct Home {
-    pub up: Option<Hop>,
-    pub down: Option<Hop>,
-}
-
-/// The row of `s` for `t`, by its hops to `t` and to the head of its block. `None` where the two have no block in common.
-pub fn row_by_hops(
-    g: &Graph,
-    d: &Directed,
-    s: NodeNo,
-    t: NodeNo,
-    up: Option<Hop>,
-    down: Option<Hop>,
-    home: &Home,
-) -> Option<Row>
-    requires kept { IsTopology g.now }
-    requires directed { HasDirections g.now d.now }
-    requires source { s < length g.now.ids }
-    requires target { t < length g.now.ids }
-    ensures { (root : ℕ) (w : Directions) → AreDirections g.now d.now root w → IsHop g.now w Up s t up
-        → IsHop g.now w Down s t down → IsHome g.now root w s home.now → s ≢ t → NoneOfOneLink g.now w s t
-        → IsNear g.now root w s t result }
-{
-    let here = d.place(s);
-    let there = d.place(t);
-    if here.head == t {
-        return row_by(up, down, Tag::Head);
-    }
-    if there.head == s {
-        return row_by(up, down, Tag::Top);
-    }
-    if here.block == there.block {
-        return member_row(up, down, home.up, home.down);
-    }
-    None
-}
-
-/// The row, or one that marks the place of a carried row.
-pub fn row_or_mark(row: Option<Row>) -> Row
-    ensures { result ≡ row_or_mark row }
-{
-    match row {
-        Some(row) => row,
-        None => Row {
-            blue: LinkNo::new(0),
-            red: LinkNo::new(0),
-            tag: Tag::Carried,
-        },
-    }
 }

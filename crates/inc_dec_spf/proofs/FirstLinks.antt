@@ -1,0 +1,96 @@
+-- The link of a least way is the first link of the least path.
+use Rattle.std.proofs.Common.{◌≡◌, ◌≢◌, ◌⊎◌, ◌∙◌, ◌<◌, ◌≤◌, ◌+◌, ◌*◌, ℕ, Bool, true, List, Some, nat_lt, get_or, length, slice_get, inl, inr, refl, sym, ap, subst, arith}
+use Rattle.std.proofs.lemmas.Bool.{cases_Bool, cases_eq, cases_lt, ltb-false, ltb-true}
+use Rattle.std.proofs.lemmas.Option.{same_Some, slice_get-get_or}
+use Rattle.mrt_graph.specs.declared.link.End.{End}
+use Rattle.mrt_graph.specs.Topology.{Topology}
+use Rattle.mrt_graph.proofs.EndsAt.{end_leads}
+use Rattle.link_direction.specs.Directions.{Directions}
+use Rattle.inc_dec_spf.specs.declared.reach.Dir.{Dir}
+use Rattle.inc_dec_spf.specs.Against.{against}
+use Rattle.inc_dec_spf.specs.FirstLink.{Begins, BeginsNone, HasLinksAt, IsFirstLink, LiesInOneBlock}
+use Rattle.inc_dec_spf.specs.LeastPath.{IsHop, ShareBlock}
+use Rattle.inc_dec_spf.specs.Rest.{far}
+use Rattle.inc_dec_spf.specs.Side.{IsLeastWay, hop_by}
+use Rattle.inc_dec_spf.specs.Turns.{AreTurns, turn_of}
+use Rattle.inc_dec_spf.specs.Ways.{AreLeast, BeginsAt}
+use Rattle.inc_dec_spf.proofs.InBlocks.{IsOrdered}
+use Rattle.inc_dec_spf.proofs.Marks.{link_within}
+use Rattle.inc_dec_spf.proofs.SideBySide.{row_within}
+use Rattle.inc_dec_spf.proofs.WaysArePaths.{least_hop}
+
+module _ (g : Topology) (root : ℕ) (w : Directions) (is : IsOrdered g root w) where
+  pub first_link : (dir : Dir) (own : Bool) (s t cost link : ℕ) (ends : List End) → s < length g.ids → slice_get g.ends s ≡ Some ends → s ≢ t
+      → ((k h : ℕ) → ShareBlock g w s t k h → own ≡ true → k ≡ w.block s) → IsLeastWay (BeginsAt g w dir own s t) ends (length ends) cost link
+      → IsFirstLink g w dir s t link
+  first_link dir own s t cost link ends within list two kept_to least = elim (cases_Bool (nat_lt cost far)) [
+    | inl is_less ↦
+        let it = least.reached (ltb-true cost far is_less) in
+        let few = link_within g it.end.link s it.end.to is.kept (end_leads g s it.place ends it.end is.kept list it.there) in
+        Begins (record { cost = cost; link = link }) (rw is_less at hop) refl (λ same. omega (arith, few, same, it.over, is.kept.few_links))
+    | inr is_not ↦ BeginsNone (rw is_not at hop) (least.unreached (ltb-false cost far is_not))
+  ]
+    where
+      hop : IsHop g w dir s t (hop_by cost link)
+      hop = least_hop g root w is dir own s t cost link ends within list two kept_to least
+
+  -- the links of a node, kept from its place on
+  pub links_kept : (dir : Dir) (own : Bool) (s first width bound : ℕ) (ends : List End) (costs links all : List ℕ) → s < length g.ids
+      → slice_get g.ends s ≡ Some ends → length costs ≡ width → length links ≡ width
+      → ((t k h : ℕ) → t < length g.ids → ShareBlock g w s t k h → own ≡ true → k ≡ w.block s)
+      → AreLeast g w dir own first bound s ends (length ends) costs links
+      → ((j : ℕ) → j < length links → slice_get all (s * width + j) ≡ slice_get links j) → HasLinksAt g w dir first width all s
+  links_kept dir own s first width bound ends costs links all within list one_cost_each one_link_each kept_to least there = record {
+    each = λ j link below inside at two.
+        first_link dir own s (first + j) (get_or costs j 0) link ends within list two (λ k h. kept_to (first + j) k h inside)
+        (least.each j (get_or costs j 0) link (slice_get-get_or costs j 0 (omega (arith, below, one_cost_each)))
+        (sym (there j (omega (arith, below, one_link_each))) ∙ at));
+  }
+
+-- the places of one node lie apart from those of another
+pub places_apart : (y x width j : ℕ) → y ≢ x → j < width → (y * width + j < x * width) ⊎ (x * width + width ≤ y * width + j)
+places_apart y x width j other within = elim (cases_lt y x) [
+  | inl below ↦ inl (omega (arith, row_within y x width (x * width) refl below, within))
+  | inr above ↦ inr (omega (arith, row_within x y width (y * width) refl (omega (arith, above, other))))
+]
+
+-- the links of the other nodes stay
+pub links_stay : (g : Topology) (w : Directions) (dir : Dir) (first width y x many : ℕ) (all after : List ℕ) → y ≢ x → many ≡ width
+    → ((i : ℕ) → (i < x * width) ⊎ (x * width + many ≤ i) → slice_get after i ≡ slice_get all i) → HasLinksAt g w dir first width all y
+    → HasLinksAt g w dir first width after y
+links_stay g w dir first width y x many all after other same elsewhere has = record {
+  each = λ j link below inside at two.
+      has.each j link below inside
+      (sym (elsewhere (y * width + j) (subst (λ (n : ℕ). (y * width + j < x * width) ⊎ (x * width + n ≤ y * width + j)) (sym same)
+      (places_apart y x width j other below))) ∙ at) two;
+}
+
+-- the links of the nodes that had their turns are there
+pub record AreLinked (g : Topology) (w : Directions) (dir : Dir) (first width i : ℕ) (all : List ℕ) : Type 0 where
+  pub each : (y : ℕ) → y < length g.ids → turn_of (against dir) (length g.ids) w y < i → LiesInOneBlock g w y → HasLinksAt g w dir first width all y
+
+pub none_linked : (g : Topology) (w : Directions) (dir : Dir) (first width : ℕ) (all : List ℕ) → AreLinked g w dir first width 0 all
+none_linked g w dir first width all = record { each = λ y within below. absurd (omega (arith, below)) }
+
+-- those of the node at turn i too
+pub one_linked : (g : Topology) (root : ℕ) (w : Directions) (dir : Dir) → IsOrdered g root w → (turns : List ℕ) → AreTurns g w (against dir) turns
+    → (first width i x : ℕ) → slice_get turns i ≡ Some x → (bound : ℕ) (ends : List End) (costs links all after : List ℕ) → slice_get g.ends x ≡ Some ends
+    → length costs ≡ width → length links ≡ width → AreLeast g w dir true first bound x ends (length ends) costs links
+    → ((j : ℕ) → j < length links → slice_get after (x * width + j) ≡ slice_get links j)
+    → ((p : ℕ) → (p < x * width) ⊎ (x * width + length links ≤ p) → slice_get after p ≡ slice_get all p) → AreLinked g w dir first width i all
+    → AreLinked g w dir first width (i + 1) after
+one_linked g root w dir is turns are first width i x at bound ends costs links all after list one_cost_each one_link_each least there elsewhere linked = record {
+  each = λ y within early one. elim (cases_eq y x) [
+    | inl same ↦
+        subst (λ (v : ℕ). HasLinksAt g w dir first width after v) (sym same)
+        (links_kept g root w is dir true x first width bound ends costs links after (are.within i x at) list one_cost_each one_link_each
+        (λ t k h inside share own. subst (λ (v : ℕ). k ≡ w.block v) same (one.only t k h inside (subst (λ (v : ℕ). ShareBlock g w v t k h) (sym same) share))) least there)
+    | inr other ↦
+        links_stay g w dir first width y x (length links) all after other one_link_each elsewhere
+        (linked.each y within (omega (arith, early, not_now y within other)) one)
+  ];
+}
+  where
+    not_now : (y : ℕ) → y < length g.ids → y ≢ x → turn_of (against dir) (length g.ids) w y ≢ i
+    not_now y within other same =
+        other (same_Some y x (sym (are.of_each y within) ∙ subst (λ (t : ℕ). slice_get turns t ≡ Some x) (sym same) at))

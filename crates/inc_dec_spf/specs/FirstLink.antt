@@ -1,0 +1,26 @@
+-- The links by which nodes begin least paths, to some nodes side by side.
+use Rattle.std.specs.Prelude.{◌≡◌, ◌≢◌, ◌<◌, ◌+◌, ◌*◌, ℕ, List, Some, None, length, slice_get}
+use Rattle.link_direction.specs.Directions.{Directions}
+use Rattle.mrt_graph.specs.Topology.{Topology}
+use Rattle.inc_dec_spf.specs.declared.reach.Dir.{Dir}
+use Rattle.inc_dec_spf.specs.declared.reach.Hop.{Hop}
+use Rattle.inc_dec_spf.specs.LeastPath.{IsHop, ShareBlock}
+
+-- a number that stands for no link: no graph has so many
+abbrev pub no_link : ℕ
+no_link = 65535
+
+-- the link of the first end of the least path from s to t in their block; no_link where no path of it leads there, or
+-- they have no such block
+pub data IsFirstLink (g : Topology) (w : Directions) (dir : Dir) (s t link : ℕ) : Type 0 where
+  Begins : (hop : Hop) → IsHop g w dir s t (Some hop) → link ≡ hop.link → link ≢ no_link → IsFirstLink g w dir s t link
+  BeginsNone : IsHop g w dir s t None → link ≡ no_link → IsFirstLink g w dir s t link
+
+-- node v has no block of more than one link in common with other nodes but the one that it lies in
+pub record LiesInOneBlock (g : Topology) (w : Directions) (v : ℕ) : Type 0 where
+  pub only : (t k h : ℕ) → t < length g.ids → ShareBlock g w v t k h → k ≡ w.block v
+
+-- the links of node s are there, for so many nodes from number `first` on
+pub record HasLinksAt (g : Topology) (w : Directions) (dir : Dir) (first width : ℕ) (links : List ℕ) (s : ℕ) : Type 0 where
+  pub each : (j link : ℕ) → j < width → first + j < length g.ids → slice_get links (s * width + j) ≡ Some link → s ≢ first + j
+      → IsFirstLink g w dir s (first + j) link
