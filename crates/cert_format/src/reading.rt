@@ -94,7 +94,7 @@ fn row_count(nodes: u16) -> usize
     nodes * nodes.saturating_sub(1)
 }
 
-/// No two certificate files have one spelling, no field of a spelling is at fault, and the longest spelling has
+/// No two certificate files have one spelling, no field of a spelling is at fault, and no spelling has more than
 /// 21,041,166 bytes.
 pub fn one_spelling()
     ensures one { (f g : CertFile) → IsVersionOne f → IsVersionOne g → cert_text f ≡ cert_text g → f ≡ g }

@@ -110,6 +110,7 @@ fn link_bytes(link: &CertLink) -> [u8; 7]
     [a, a_low, b, b_low, block, block_low, role]
 }
 
+#[inline(never)]
 fn put_rows(out: &mut Vec<u8>, rows: &[Row])
     requires { vec_len out.old + 5 * length rows.now ≤ vec_capacity out.old }
     ensures text { out.new.items ≡ out.old.items ++ flat_map row_text rows.now }
