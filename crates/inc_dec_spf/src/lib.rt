@@ -13,6 +13,7 @@ mod turns;
 mod ways;
 
 pub use least_paths::spf;
+pub use offers::is_sole;
 pub use path_law::{
     no_node_is_both_above_and_below, one_hop_for_each_node, paths_lead_to_the_head_and_back,
 };

@@ -104,7 +104,8 @@ pub fn leads_on(dir: Dir, way: Way, x: NodeNo, to: NodeNo) -> bool
     }
 }
 
-fn is_sole(role: Role) -> bool
+/// Whether a link of this role is the one link of its block.
+pub fn is_sole(role: Role) -> bool
     ensures { IsTrue result ↔ (role ≡ Sole) }
 {
     matches!(role, Role::Sole)

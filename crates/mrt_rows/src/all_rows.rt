@@ -7,7 +7,6 @@ ghost use Rattle.link_direction.specs.OrderedGadag.{SaysOrdered};
 ghost use Rattle.mrt_rows.specs.Put.{IsOneBlock};
 ghost use Rattle.mrt_rows.specs.RowsOf.{AreAllRows};
 
-use crate::by_order::nodes_by_order;
 use crate::homes::take_homes;
 use crate::members::Home;
 use crate::of_source::put_rows;
@@ -91,7 +90,7 @@ fn rows_by_source(
 {
     let count = g.node_count();
     let size = count as usize;
-    let nodes = nodes_by_order(alloc, g, d)?;
+    let nodes = nodes_by_turn(alloc, g, d, Dir::Up)?;
     let mut table = vec![in alloc; None; size]?;
     let mut rows = Vec::with_capacity(alloc, size * (size - 1))?;
     for s in 0..count {

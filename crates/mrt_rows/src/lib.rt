@@ -2,7 +2,6 @@
 #![tactic(auto)]
 
 mod all_rows;
-mod by_order;
 mod certificate;
 mod homes;
 mod members;

@@ -11,9 +11,8 @@ ghost use Rattle.inc_dec_spf.specs.Turns.{AreTurns};
 ghost use Rattle.mrt_rows.specs.RowsOf.{AreRowsOf};
 ghost use Rattle.mrt_rows.specs.Table.{in_table, rows_in};
 
-use crate::by_order::nodes_by_order;
 use crate::table::fill;
-use inc_dec_spf::{Dir, spf};
+use inc_dec_spf::{Dir, nodes_by_turn, spf};
 use mrt_graph::{Directed, Graph, NoMemory, NodeNo, Row};
 use std::alloc::Global;
 
@@ -33,7 +32,7 @@ pub fn rows_of(
         → IfOk result (λ rows. AreRowsOf g.now root w source rows.items) }
 {
     let count = g.node_count() as usize;
-    let nodes = nodes_by_order(alloc, g, d)?;
+    let nodes = nodes_by_turn(alloc, g, d, Dir::Up)?;
     let mut table = vec![in alloc; None; count]?;
     let mut rows = Vec::with_capacity(alloc, count - 1)?;
     put_rows(alloc, g, root, d, &nodes, source, &mut table, &mut rows)?;

@@ -1,7 +1,6 @@
 //! The rows of a source by destination.
 
-ghost use Rattle.std.specs.Prelude.{◌≡◌, ◌≢◌, ◌<◌, ◌↔◌, ℕ, IsTrue, None, length};
-ghost use Rattle.mrt_graph.specs.declared.cert.Role.TheVariants.{Sole};
+ghost use Rattle.std.specs.Prelude.{◌≡◌, ◌≢◌, ◌<◌, ℕ, None, length};
 ghost use Rattle.link_direction.specs.Directions.{Directions};
 ghost use Rattle.inc_dec_spf.specs.HasDirections.{AreDirections, HasDirections};
 ghost use Rattle.mrt_rows.specs.Source.{AreHops, IsSource, NoneOfOneLink};
@@ -11,8 +10,8 @@ ghost use Rattle.inc_dec_spf.specs.Turns.{AreTurns};
 ghost use Rattle.mrt_graph.specs.GraphInvariant.{IsTopology};
 
 use crate::near::near_row;
-use inc_dec_spf::Reach;
-use mrt_graph::{Directed, Graph, NodeNo, Role, Row, Tag};
+use inc_dec_spf::{Reach, is_sole};
+use mrt_graph::{Directed, Graph, NodeNo, Row, Tag};
 
 /// Fills an empty table with the rows of `s` for all other nodes.
 ///
@@ -68,12 +67,6 @@ fn put_sole_rows(g: &Graph, d: &Directed, s: NodeNo, table: &mut Vec<Option<Row>
             });
         }
     }
-}
-
-fn is_sole(role: Role) -> bool
-    ensures { IsTrue result ↔ (role ≡ Sole) }
-{
-    matches!(role, Role::Sole)
 }
 
 /// Puts the row for `t`, unless it is there, or `t` is the source.
