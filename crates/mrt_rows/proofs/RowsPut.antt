@@ -1,5 +1,5 @@
 -- Rows put at their places, one after another.
-use Rattle.std.proofs.Common.{◌≡◌, ◌≢◌, ◌⊎◌, ◌∙◌, ◌<◌, ◌≤◌, ◌+◌, ◌-◌, ◌*◌, ◌==◌, ℕ, List, Some, if◌then◌else◌, nat_lt, length, set, slice_get, refl, sym, subst, inl, inr, arith}
+use Rattle.std.proofs.Common.{◌≡◌, ◌≢◌, ◌⊎◌, ◌∙◌, ◌<◌, ◌≤◌, ◌+◌, ◌-◌, ◌*◌, ◌==◌, ℕ, List, Some, if◌then◌else◌, nat_lt, length, set, refl, sym, subst, inl, inr, arith}
 use Rattle.std.proofs.Math.Nat.{mul-le-mul_left, mul_comm}
 use Rattle.std.proofs.lemmas.Bool.{and_parts, cases_Bool, cases_eq, cases_lt, eqb-false, le-ltb, lt-ltb, ltb-true, not-true}
 use Rattle.mrt_graph.specs.declared.cert.Row.{Row}

@@ -1,4 +1,4 @@
-use Rattle.std.proofs.Common.{◌≡◌, ◌∙◌, ◌<◌, ◌*◌, ℕ, length, sym, subst, inl, inr}
+use Rattle.std.proofs.Common.{◌<◌, ◌*◌, ℕ, length, sym, subst, inl, inr}
 use Rattle.std.proofs.lemmas.Bool.{cases_eq}
 use Rattle.inc_dec_spf.specs.FirstLink.{HasLinksAt}
 use Rattle.inc_dec_spf.specs.Ways.{IsReadyFrom}

@@ -1,9 +1,8 @@
-use Rattle.std.proofs.Common.{rules, ◌≡◌, ◌⊎◌, ◌∙◌, ◌<◌, ◌≤◌, ◌+◌, ◌*◌, ℕ, true, List, length, slice_get, refl, sym, ap, subst, arith}
+use Rattle.std.proofs.Common.{rules, ◌≡◌, ◌⊎◌, ◌∙◌, ◌<◌, ◌≤◌, ◌+◌, ◌*◌, ℕ, true, length, slice_get, refl, sym, ap, subst, arith}
 use Rattle.std.proofs.lemmas.Option.{slice_get_read}
 use Rattle.mrt_graph.proofs.EndsAt.{list_of_ends}
 use Rattle.inc_dec_spf.specs.Turns.{AreTurns}
 use Rattle.inc_dec_spf.specs.Against.{against}
-use Rattle.inc_dec_spf.specs.Ways.{AreReady}
 use Rattle.inc_dec_spf.proofs.ByTurn.{turn_within}
 use Rattle.inc_dec_spf.proofs.FirstLinks.{one_linked}
 use Rattle.inc_dec_spf.proofs.InBlocks.{IsOrdered}

@@ -1,4 +1,4 @@
-use Rattle.std.proofs.Common.{◌≡◌, ◌≢◌, ◌∙◌, sym}
+use Rattle.std.proofs.Common.{◌∙◌, sym}
 use Rattle.mrt_rows.proofs.MemberRows.{member_above, member_below, member_unordered}
 use Rattle.mrt_rows.proofs.members.member_row.Goals as goal
 

@@ -1,9 +1,9 @@
-use Rattle.std.proofs.Common.{◌≡◌, ◌≢◌, ◌⊎◌, ◌∙◌, ◌<◌, ◌≤◌, ◌+◌, ℕ, length, inl, inr, refl, sym, subst, arith}
+use Rattle.std.proofs.Common.{◌≡◌, ◌≢◌, ◌⊎◌, ◌∙◌, ◌<◌, ◌≤◌, ◌+◌, ℕ, length, inr, refl, sym, subst, arith}
 use Rattle.std.proofs.lemmas.Option.{slice_get_read}
 use Rattle.inc_dec_spf.specs.declared.reach.Dir.TheVariants.{Down, Up}
-use Rattle.mrt_rows.specs.Put.{ArePut, IsHome}
+use Rattle.mrt_rows.specs.Put.{IsHome}
 use Rattle.mrt_rows.specs.RowsOf.{row_among}
-use Rattle.mrt_rows.proofs.RowsPut.{all_nodes_put, one_node_put}
+use Rattle.mrt_rows.proofs.RowsPut.{one_node_put}
 use Rattle.mrt_rows.proofs.TileLinks.{has_links}
 use Rattle.mrt_rows.proofs.tiles.put_tile.Goals as goal
 
