@@ -29,18 +29,6 @@ module _ (g : Topology) (root : ℕ) (w : Directions) (is : IsOrdered g root w) 
         absurd (omega (arith, is.ordered.heads.lower (w.head v) head_within apart, ap w.order head))
   ]
 
-  -- two nodes have it in common
-  pub in_common : (s t : ℕ) → s < length g.ids → t < length g.ids → s ≢ t → (k : ℕ) × (h : ℕ) × HaveInCommon w s t k h
-  in_common s t s_within t_within two = elim (cases_eq s root) [
-    | inl s_root ↦
-        let other : t ≢ root = λ same. two (s_root ∙ sym same) in
-        (w.block t, s, FromHead refl (root_is_head t t_within other ∙ sym s_root) refl)
-    | inr s_other ↦ elim (cases_eq t root) [
-      | inl t_root ↦ (w.block s, t, ToHead refl (root_is_head s s_within s_other ∙ sym t_root) refl)
-      | inr t_other ↦ (w.block s, w.head s, Peers refl (one.same t s t_within s_within t_other s_other) refl)
-    ]
-  ]
-
   -- all links lie in it
   links_within : (e f : ℕ) → e < length g.links → f < length g.links → w.lies_in e ≡ w.lies_in f
   links_within e f e_within f_within =

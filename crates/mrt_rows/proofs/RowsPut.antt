@@ -137,17 +137,6 @@ one_node_put g root w s first rows after kept put so_far = record {
   ];
 }
 
-pub no_node_put : (g : Topology) (root : ℕ) (w : Directions) (first : ℕ) (rows : List Row)
-    → ArePut g root w (λ u t. (u < 0) × (first ≤ t) × (t < first + 64)) rows
-no_node_put g root w first rows = record { each = λ u v other u_within v_within two done. absurd (omega (arith, done.0)) }
-
-pub all_nodes_put : (g : Topology) (root : ℕ) (w : Directions) (count first : ℕ) (rows : List Row) → length g.ids ≤ count
-    → ArePut g root w (λ u t. (u < count) × (first ≤ t) × (t < first + 64)) rows
-    → ArePut g root w (λ u t. (first ≤ t) × (t < first + 64)) rows
-all_nodes_put g root w count first rows all put = record {
-  each = λ u v other u_within v_within two done. put.each u v other u_within v_within two (omega (arith, u_within, all), done.0, done.1);
-}
-
 -- the rows of one tile more
 pub one_tile_put : (g : Topology) (root : ℕ) (w : Directions) (first : ℕ) (rows after : List Row)
     → ((u v : ℕ) → (v < first) ⊎ (first + 64 ≤ v) → row_among (length g.ids) after u v ≡ row_among (length g.ids) rows u v)
@@ -159,6 +148,3 @@ one_tile_put g root w first rows after kept put so_far = record {
     | inr above ↦ put.each u v other u_within v_within two (above, done) at
   ];
 }
-
-pub no_tile_put : (g : Topology) (root : ℕ) (w : Directions) (rows : List Row) → ArePut g root w (λ u t. t < 0) rows
-no_tile_put g root w rows = record { each = λ u v other u_within v_within two done. absurd (omega (arith, done)) }
