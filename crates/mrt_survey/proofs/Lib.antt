@@ -1,0 +1,4 @@
+pub mod BothColors
+pub mod Rounds
+pub mod SeparatingHeads
+pub mod WalkTrails

@@ -1,0 +1,2 @@
+pub mod BlockHeads
+pub mod Separating
