@@ -1,8 +1,13 @@
 pub mod BothColors
+pub mod DrawnLinks
+pub mod EndsMade
 pub mod HeadsMarked
 pub mod HeadsTwoSeen
 pub mod LinePuts
+pub mod LsasMade
+pub mod MadeBounds
 pub mod Marked
 pub mod Rounds
 pub mod SeparatingHeads
+pub mod TextSize
 pub mod WalkTrails

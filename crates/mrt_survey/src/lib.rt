@@ -2,11 +2,17 @@
 #![tactic(auto)]
 
 mod counts;
+mod database;
+mod draws;
+mod made_link;
+mod made_links;
+mod made_lsas;
 mod marks;
 mod separating_law;
 mod survey;
 mod tally;
 mod words;
 
+pub use database::generate;
 pub use separating_law::separating_nodes_head_blocks;
 pub use survey::survey_text;
