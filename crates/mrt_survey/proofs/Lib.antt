@@ -4,8 +4,11 @@ pub mod EndsMade
 pub mod HeadsMarked
 pub mod HeadsTwoSeen
 pub mod LinePuts
+pub mod LsasInstalled
 pub mod LsasMade
+pub mod MadeArea
 pub mod MadeBounds
+pub mod MadeIsland
 pub mod Marked
 pub mod Rounds
 pub mod SeparatingHeads

@@ -14,22 +14,19 @@ use Rattle.mrt_survey.proofs.LsasMade.{made_text}
 use Rattle.mrt_survey.proofs.MadeBounds.{count_made}
 
 -- the sum of what is told of so many numbers
-total : (ℕ → ℕ) → ℕ → ℕ → ℕ
+abbrev pub total : (ℕ → ℕ) → ℕ → ℕ → ℕ
 total f a zero = 0
 total f a (suc n) = f a + total f (a + 1) n
 
 total_least : (f g : ℕ → ℕ) → ((v : ℕ) → f v ≤ g v) → (a n : ℕ) → total f a n ≤ total g a n
-unfolding total
 total_least f g each a zero = omega arith
 total_least f g each a (suc n) = let here = each a in let rest = total_least f g each (a + 1) n in omega (arith, here, rest)
 
 total_sum : (f g : ℕ → ℕ) (a n : ℕ) → total (λ v. f v + g v) a n ≡ total f a n + total g a n
-unfolding total
 total_sum f g a zero = refl
 total_sum f g a (suc n) = let rest = total_sum f g (a + 1) n in omega (arith, rest)
 
 total_none : (f : ℕ → ℕ) (a n : ℕ) → ((v : ℕ) → a ≤ v → f v ≡ 0) → total f a n ≡ 0
-unfolding total
 total_none f a zero each = refl
 total_none f a (suc n) each = let here = each a (omega arith) in let rest = total_none f (a + 1) n (λ v least. each v (omega (arith, least))) in omega (arith, here, rest)
 
@@ -38,7 +35,6 @@ abbrev is_number : ℕ → ℕ → ℕ
 is_number x v = one_if (x == v)
 
 total_one : (x a n : ℕ) → total (is_number x) a n ≤ 1
-unfolding total
 total_one x a zero = omega arith
 total_one x a (suc n) = elim (eqb_tells x a) [
   | inl here ↦
@@ -55,7 +51,7 @@ total_one x a (suc n) = elim (eqb_tells x a) [
     passed v other = rw (ne_eqb x v other) refl
 
 -- how many ends a router has of the links from this number on
-abbrev ends_from : ℕ → List MadeLink → ℕ → ℕ
+abbrev pub ends_from : ℕ → List MadeLink → ℕ → ℕ
 ends_from k links v = length (filter_map (end_at v) (enumerate_from k links))
 
 is_here : (x v : ℕ) → (x == v) ≡ true → is_number x v ≡ 1
@@ -83,7 +79,7 @@ one_more_end k link links v = elim (eqb_tells link.first v) [
     at_none : (link.first == v) ≡ false → (link.second == v) ≡ false → ends_from k (link ∷ links) v ≡ ends_from (k + 1) links v
     at_none not_first not_second = rw (not_first, not_second) refl
 
-all_ends : (links : List MadeLink) (k a n : ℕ) → total (ends_from k links) a n ≤ 2 * length links
+pub all_ends : (links : List MadeLink) (k a n : ℕ) → total (ends_from k links) a n ≤ 2 * length links
 all_ends [] k a n = let none = total_none (ends_from k []) a n (λ v least. refl) in omega (arith, none)
 all_ends (link ∷ links) k a n =
     let more = total_least (ends_from k (link ∷ links)) (λ v. (is_number link.first v + is_number link.second v) + ends_from (k + 1) links v) (one_more_end k link links) a n in
@@ -95,7 +91,6 @@ all_ends (link ∷ links) k a n =
     omega (arith, more, split, both, first, second, rest)
 
 text_total : (links : List MadeLink) (a n : ℕ) → length (lsas_text (map (lsa_of links) (range_with_len a n))) ≡ 24 * n + 12 * total (ends_from 1 links) a n
-unfolding total
 text_total links a zero = refl
 text_total links a (suc n) =
     let whole : length (lsa_text (lsa_of links a) ++ lsas_text (map (lsa_of links) (range_with_len (a + 1) n)))

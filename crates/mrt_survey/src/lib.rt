@@ -4,6 +4,7 @@
 mod counts;
 mod database;
 mod draws;
+mod made_law;
 mod made_link;
 mod made_links;
 mod made_lsas;
@@ -14,5 +15,9 @@ mod tally;
 mod words;
 
 pub use database::generate;
+pub use made_law::{
+    made_areas_are_within_the_limits, made_islands_are_within_the_limits,
+    made_lsas_may_be_installed,
+};
 pub use separating_law::separating_nodes_head_blocks;
 pub use survey::survey_text;

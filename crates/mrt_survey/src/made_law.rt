@@ -1,0 +1,50 @@
+//! What a network that is made comes to: in a database, as an area, and as an island.
+
+ghost use Rattle.std.specs.Prelude.{◌≡◌, ◌≤◌, ◌*◌, ℕ, [], None, Contains, length, map};
+ghost use Rattle.std.specs.List.{AllByRecursion, range_with_len};
+ghost use Rattle.area_graph.specs.AreaOf.{area_of};
+ghost use Rattle.area_graph.specs.AreaSize.{IsTooLarge};
+ghost use Rattle.area_graph.specs.Nodes.{router as router_node};
+ghost use Rattle.ospf_lsa.specs.Lsas.{AreLsas};
+ghost use Rattle.lsdb.specs.Conflicts.{least_conflict};
+ghost use Rattle.lsdb.specs.Installing.{IsKept};
+ghost use Rattle.lsdb.specs.Installs.{AreBehind, all_installed};
+ghost use Rattle.mrt_island.specs.IslandOf.{IsOver};
+ghost use Rattle.mrt_island.specs.Policy.{Policy};
+ghost use Rattle.mrt_survey.specs.MadeLinks.{made_links};
+ghost use Rattle.mrt_survey.specs.MadeLsas.{made_lsas};
+
+/// Laws: the LSAs of a network that is made, of 4 to 2,048 routers, are without a fault; they may be installed one after
+/// another; the database then has no conflict, and they are its newest instances.
+pub fn made_lsas_may_be_installed()
+    ensures faultless { (number nodes : ℕ) → 4 ≤ nodes → nodes ≤ 2048
+        → AreLsas 0 (made_lsas number nodes) }
+    ensures kept { (number nodes : ℕ) → 4 ≤ nodes → nodes ≤ 2048
+        → AllByRecursion IsKept (made_lsas number nodes) }
+    ensures places { (number nodes : ℕ) → AreBehind None (made_lsas number nodes) }
+    ensures settled { (number nodes : ℕ)
+        → least_conflict (all_installed [] (made_lsas number nodes)) ≡ None }
+    ensures newest { (number nodes : ℕ)
+        → map (λ entry. entry.lsa) (all_installed [] (made_lsas number nodes))
+        ≡ made_lsas number nodes }
+{}
+
+/// Laws: the area of such a network has its routers as nodes, and at most two arcs a link; it is within the limits.
+pub fn made_areas_are_within_the_limits()
+    ensures nodes { (number nodes : ℕ)
+        → (area_of (made_lsas number nodes)).ids ≡ map router_node (range_with_len 1 nodes) }
+    ensures arcs { (number nodes : ℕ)
+        → length (area_of (made_lsas number nodes)).arcs ≤ 2 * length (made_links number nodes) }
+    ensures within { (number nodes : ℕ) → nodes ≤ 2048
+        → IsTooLarge (length (area_of (made_lsas number nodes)).ids)
+        (length (area_of (made_lsas number nodes)).arcs) → ⊥ }
+{}
+
+/// Laws: each router of such a network is in its area, and its island is within the limits, whatever a profile says.
+pub fn made_islands_are_within_the_limits()
+    ensures there { (number nodes router : ℕ) → 1 ≤ router → router ≤ nodes
+        → Contains (area_of (made_lsas number nodes)).ids (router_node router) }
+    ensures within { (number nodes : ℕ) → nodes ≤ 2048
+        → (policy : Policy) (router inside links : ℕ)
+        → IsOver policy (area_of (made_lsas number nodes)) router inside links → ⊥ }
+{}
