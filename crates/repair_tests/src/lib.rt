@@ -1,0 +1,9 @@
+//! Tests of primaries, of routes, and of repairs.
+#![tactic(auto)]
+
+#[cfg(test)]
+mod databases;
+#[cfg(test)]
+mod next_hops;
+#[cfg(test)]
+mod small_area;
