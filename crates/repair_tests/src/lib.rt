@@ -2,6 +2,8 @@
 #![tactic(auto)]
 
 #[cfg(test)]
+mod alternates;
+#[cfg(test)]
 mod databases;
 #[cfg(test)]
 mod next_hops;
