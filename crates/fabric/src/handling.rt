@@ -37,6 +37,20 @@ pub fn handled(parts: &Parts, failure: Option<Failure>, packet: &Packet) -> Outc
     if has_failed(&failure, packet) {
         return Outcome::Lost(Loss::Inside);
     }
+    sent(parts, failure, packet)
+}
+
+/// What happens to a packet whose place has not failed.
+fn sent(parts: &Parts, failure: Option<Failure>, packet: &Packet) -> Outcome
+    requires kept { AreFabricParts (viewed parts.now) }
+    requires routed { AreRouted parts.now }
+    requires packet { IsKeptPacket (viewed parts.now) packet.now }
+    requires going { packet.now.state ≡ states.Going }
+    requires failure { (failed : Failure) → failure ≡ Some failed
+        → is_element (viewed parts.now) failed ≡ true }
+    requires stands { failure ≢ Some (failures.Node packet.now.place) }
+    ensures { IsHandled (viewed parts.now) failure packet.now result }
+{
     let Some(hop) = next_hop(parts, packet) else {
         return Outcome::Lost(Loss::NoRoute);
     };
