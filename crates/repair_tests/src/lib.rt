@@ -1,4 +1,4 @@
-//! Tests of primaries, of routes, and of repairs.
+//! Tests of primaries, of routes, of repairs, and of packets through a failure.
 #![tactic(auto)]
 
 #[cfg(test)]
@@ -6,6 +6,10 @@ mod alternates;
 #[cfg(test)]
 mod databases;
 #[cfg(test)]
+mod networks;
+#[cfg(test)]
 mod next_hops;
+#[cfg(test)]
+mod packets;
 #[cfg(test)]
 mod small_area;
