@@ -8,7 +8,9 @@ pub mod LsasInstalled
 pub mod LsasMade
 pub mod MadeArea
 pub mod MadeBounds
+pub mod MadeConnected
 pub mod MadeIsland
+pub mod MadePairs
 pub mod Marked
 pub mod Rounds
 pub mod SeparatingHeads

@@ -10,7 +10,7 @@ use Rattle.mrt_survey.specs.declared.made_link.MadeLink.{MadeLink}
 use Rattle.mrt_survey.specs.MadeLinks.{chord_count, chord_link, drawn_from, made_link, made_links, ring_count, ring_link, spur_count, spur_link}
 
 -- a remainder of a number below twice the divisor
-mod_small : (n m : ℕ) → n < m → n % m ≡ n
+pub mod_small : (n m : ℕ) → n < m → n % m ≡ n
 mod_small n m below = let e : n ≡ 0 * m + n = omega arith in ap (λ (k : ℕ). k % m) e ∙ mod-mul-add 0 m n below
 
 mod_past : (n m : ℕ) → m ≤ n → n < 2 * m → n % m ≡ n - m

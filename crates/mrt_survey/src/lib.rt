@@ -17,7 +17,7 @@ mod words;
 pub use database::generate;
 pub use made_law::{
     made_areas_are_within_the_limits, made_islands_are_within_the_limits,
-    made_lsas_may_be_installed,
+    made_islands_hold_all_routers, made_lsas_may_be_installed,
 };
 pub use separating_law::separating_nodes_head_blocks;
 pub use survey::survey_text;

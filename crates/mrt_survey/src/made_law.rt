@@ -1,16 +1,17 @@
 //! What a network that is made comes to: in a database, as an area, and as an island.
 
-ghost use Rattle.std.specs.Prelude.{◌≡◌, ◌≤◌, ◌*◌, ℕ, [], None, Contains, length, map};
+ghost use Rattle.std.specs.Prelude.{◌≡◌, ◌≤◌, ◌*◌, ℕ, List, [], Option, None, Contains, length, map};
 ghost use Rattle.std.specs.List.{AllByRecursion, range_with_len};
 ghost use Rattle.area_graph.specs.AreaOf.{area_of};
 ghost use Rattle.area_graph.specs.AreaSize.{IsTooLarge};
 ghost use Rattle.area_graph.specs.Nodes.{router as router_node};
 ghost use Rattle.ospf_lsa.specs.Lsas.{AreLsas};
+ghost use Rattle.mrt_graph.specs.Topology.{Topology};
 ghost use Rattle.lsdb.specs.Conflicts.{least_conflict};
 ghost use Rattle.lsdb.specs.Installing.{IsKept};
 ghost use Rattle.lsdb.specs.Installs.{AreBehind, all_installed};
-ghost use Rattle.mrt_island.specs.IslandOf.{IsOver};
-ghost use Rattle.mrt_island.specs.Policy.{Policy};
+ghost use Rattle.mrt_island.specs.IslandOf.{IsIsland, IsOver};
+ghost use Rattle.mrt_island.specs.Policy.{Policy, policy_of};
 ghost use Rattle.mrt_survey.specs.MadeLinks.{made_links};
 ghost use Rattle.mrt_survey.specs.MadeLsas.{made_lsas};
 
@@ -47,4 +48,12 @@ pub fn made_islands_are_within_the_limits()
     ensures within { (number nodes : ℕ) → nodes ≤ 2048
         → (policy : Policy) (router inside links : ℕ)
         → IsOver policy (area_of (made_lsas number nodes)) router inside links → ⊥ }
+{}
+
+/// A law: under a profile that says nothing the island of a router of such a network holds all its routers.
+pub fn made_islands_hold_all_routers()
+    ensures { (number nodes : ℕ) → 4 ≤ nodes
+        → (router : ℕ) (g : Topology) (root : ℕ) (link_of : List (Option ℕ))
+        → IsIsland (policy_of []) (area_of (made_lsas number nodes)) router g root link_of
+        → g.ids ≡ map router_node (range_with_len 1 nodes) }
 {}
