@@ -12,6 +12,7 @@ pub mod MadeConnected
 pub mod MadeIsland
 pub mod MadePairs
 pub mod Marked
+pub mod OneSurvey
 pub mod Rounds
 pub mod SeparatingHeads
 pub mod TextSize

@@ -11,6 +11,7 @@ mod made_lsas;
 mod marks;
 mod separating_law;
 mod survey;
+mod survey_law;
 mod tally;
 mod words;
 
@@ -21,3 +22,4 @@ pub use made_law::{
 };
 pub use separating_law::separating_nodes_head_blocks;
 pub use survey::survey_text;
+pub use survey_law::one_survey_each;
