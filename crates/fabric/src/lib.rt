@@ -20,7 +20,7 @@ mod step_law;
 
 pub use event::{Event, Failure, Outcome, Refused};
 pub use fabric::Fabric;
-pub use lines::outcome_line;
+pub use lines::{outcome_line, push_answer_line};
 pub use loss_law::losses_have_their_causes;
 pub use numbers::PacketNo;
 pub use order_law::own_events_decide_the_answers;

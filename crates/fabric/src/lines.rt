@@ -30,9 +30,22 @@ pub fn outcome_line(
     ensures { IfOk result (λ line. answer_line area.now.ids answer ≡ Some line.items) }
 {
     let mut line = Vec::new(alloc);
-    push_answer(&mut line, area, answer)?;
-    push(&mut line, b"\n")?;
+    push_answer_line(&mut line, area, answer)?;
     Ok(line)
+}
+
+/// Puts the line that tells an answer at the end of a text. An area node in the answer is in range.
+pub fn push_answer_line(
+    text: &mut Vec<u8>,
+    area: &Area,
+    answer: Result<Outcome, Refused>,
+) -> Result<(), NoMemory>
+    requires { IsTellable area.now.ids answer }
+    ensures { IfOk result (λ _. option_map (λ line. text.old.items ++ line)
+        (answer_line area.now.ids answer) ≡ Some text.new.items) }
+{
+    push_answer(text, area, answer)?;
+    push(text, b"\n")
 }
 
 /// Puts an answer at the end of a text.
