@@ -1,0 +1,9 @@
+pub mod FewBonds
+pub mod LeastRoom
+pub mod LinesTaken
+pub mod NamesRead
+pub mod OneText
+pub mod Placed
+pub mod RunsOn
+pub mod StepsTold
+pub mod TraceTold

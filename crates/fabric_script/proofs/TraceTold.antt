@@ -1,0 +1,73 @@
+-- A trace, told event by event.
+use Rattle.std.proofs.Common.{◌≡◌, ◌∙◌, ◌++◌, ℕ, List, [], ◌∷◌, Option, Some, None, refl, subst, sym}
+use Rattle.area_graph.specs.Parts.{AreaParts}
+use Rattle.fabric.specs.declared.event.Event.{Event}
+use Rattle.fabric.specs.Course.{steps_of}
+use Rattle.fabric.specs.FabricParts.{FabricParts}
+use Rattle.fabric.specs.FabricState.{Answer, FabricState, start}
+use Rattle.fabric.specs.Runs.{IsRun}
+use Rattle.fabric_script.specs.declared.event.FailureName.{FailureName}
+use Rattle.fabric_script.specs.declared.event.ScriptEvent.TheVariants.{Inject}
+use Rattle.fabric_script.specs.declared.trace.Trace.{Trace}
+use Rattle.fabric_script.specs.NamedEvents.{event_of}
+use Rattle.fabric_script.specs.RunTexts.{IsTraceText}
+use Rattle.fabric_script.specs.Told.{IsSteppedOn, IsTold}
+use Rattle.fabric_script.specs.Trace.{beginning, failures_of}
+use Rattle.fabric_script.specs.Unstepped.{IsUnstepped}
+use Rattle.fabric_script.proofs.RunsOn.{lines_on, told_on, whole_text}
+
+-- the failure and the packet that enters, told one after the other
+pub begun : (parts made kept : FabricParts) (s0 s1 s2 : FabricState) (trace : Trace) (event : Event) (t0 t1 t2 : List ℕ)
+    → made ≡ parts → kept ≡ made → s0 ≡ start 1 → t0 ≡ [] → IsTold made s0 (failures_of parts.area trace.failed) s1 t0 t1
+    → event ≡ event_of parts.area (Inject trace.from trace.to trace.entry) → IsTold kept s1 (event ∷ []) s2 t1 t2
+    → IsTold parts (start 1) (beginning parts.area trace) s2 [] t2
+begun parts made kept s0 s1 s2 trace event t0 t1 t2 made_is kept_is state_is text_is first event_is second =
+    told_on parts (start 1) s1 s2 (failures_of parts.area trace.failed)
+    (event_of parts.area (Inject trace.from trace.to trace.entry) ∷ []) [] t1 t2
+    (subst (λ (p : FabricParts). IsTold p (start 1) (failures_of parts.area trace.failed) s1 [] t1) made_is
+    (subst (λ (s : FabricState). IsTold made s (failures_of parts.area trace.failed) s1 [] t1) state_is
+    (subst (λ (t : List ℕ). IsTold made s0 (failures_of parts.area trace.failed) s1 t t1) text_is first)))
+    (subst (λ (p : FabricParts). IsTold p s1 (event_of parts.area (Inject trace.from trace.to trace.entry) ∷ []) s2 t1 t2)
+    (kept_is ∙ made_is) (subst (λ (e : Event). IsTold kept s1 (e ∷ []) s2 t1 t2) event_is second))
+
+-- no step is among them
+none_stepped : (area : AreaParts) (failed : Option FailureName) (trace : Trace) (parts : FabricParts) (old new : FabricState)
+    (answers : List Answer)
+    → IsRun parts old (failures_of area failed ++ event_of area (Inject trace.from trace.to trace.entry) ∷ []) answers new
+    → steps_of 0 (failures_of area failed ++ event_of area (Inject trace.from trace.to trace.entry) ∷ []) answers ≡ 0
+none_stepped area None trace parts old new [] run = absurd run
+none_stepped area None trace parts old new (answer ∷ []) run = refl
+none_stepped area None trace parts old new (answer ∷ other ∷ more) run = absurd run.2
+none_stepped area (Some failed) trace parts old new [] run = absurd run
+none_stepped area (Some failed) trace parts old new (answer ∷ []) run = absurd run.2
+none_stepped area (Some failed) trace parts old new (answer ∷ other ∷ []) run = refl
+none_stepped area (Some failed) trace parts old new (answer ∷ other ∷ last ∷ more) run = absurd run.2.2
+
+pub unstepped : (parts last : FabricParts) (state : FabricState) (trace : Trace) (text : List ℕ) → last ≡ parts
+    → IsTold parts (start 1) (beginning parts.area trace) state [] text → IsUnstepped last state
+unstepped parts last state trace text last_is told =
+    subst (λ (p : FabricParts). IsUnstepped p state) (sym last_is) (record {
+      events = beginning parts.area trace;
+      answers = told.answers;
+      run = told.run;
+      none = none_stepped parts.area trace.failed trace parts (start 1) state told.answers told.run;
+    })
+
+pub trace_told : (parts last : FabricParts) (state : FabricState) (trace : Trace) (between text : List ℕ) → last ≡ parts
+    → IsTold parts (start 1) (beginning parts.area trace) state [] between → IsSteppedOn last state between text
+    → IsTraceText parts trace text
+trace_told parts last state trace between text last_is told stepped =
+    let here : IsSteppedOn parts state between text = subst (λ (p : FabricParts). IsSteppedOn p state between text) last_is stepped in
+    record {
+      answers = told.answers ++ here.answers;
+      traced = record {
+        first = told.answers;
+        begun = state;
+        begins = told.run;
+        others = here.answers;
+        steps = here.steps;
+        all = refl;
+      };
+      spelled = whole_text parts (told.answers ++ here.answers) text
+          (lines_on parts told.answers here.answers [] between text told.lines here.lines);
+    }

@@ -1,0 +1,10 @@
+use Rattle.std.proofs.Common.{length}
+use Rattle.mrt_graph.specs.TextLines.{text_lines}
+use Rattle.fabric_script.proofs.LinesTaken.{AreTaken}
+use Rattle.fabric_script.proofs.reading.read_lines.Given as goal
+
+abbrev pub invariant-loop-line : goal.invariant-loop-line
+invariant-loop-line l = AreTaken (text_lines l.bytes) l.number (text_lines l.rest) l.start l.events.items
+
+abbrev pub decreases-loop-line : goal.decreases-loop-line
+decreases-loop-line l = length (text_lines l.rest)

@@ -1,0 +1,13 @@
+use Rattle.mrt_graph.specs.TextLines.{text_lines}
+use Rattle.fabric_script.proofs.LeastRoom.{read_has_room}
+use Rattle.fabric_script.proofs.LinesTaken.{first_fault_is_told, script_is_read}
+use Rattle.fabric_script.proofs.reading.read_script.Goals as goal
+
+pub returns-clause-only : goal.returns-clause-only
+returns-clause-only c = script_is_read (text_lines c.args.bytes.now) c.read_lines.result c.read_lines.ensures
+
+pub returns-clause-faulty : goal.returns-clause-faulty
+returns-clause-faulty c = first_fault_is_told (text_lines c.args.bytes.now) c.read_lines.result c.read_lines.ensures
+
+pub returns-clause-room : goal.returns-clause-room
+returns-clause-room c = read_has_room (text_lines c.args.bytes.now) c.read_lines.result c.read_lines.ensures

@@ -1,0 +1,15 @@
+use Rattle.std.proofs.Common.{◌-◌}
+use Rattle.fabric_script.proofs.LinesTaken.{either, faultless, one_fault, one_script}
+use Rattle.fabric_script.proofs.script_law.lines_are_a_script_or_have_a_fault.Goals as goal
+
+pub returns-clause-either : goal.returns-clause-either
+returns-clause-either c = either
+
+pub returns-clause-never_both : goal.returns-clause-never_both
+returns-clause-never_both c = λ lines script number is first. faultless lines script (number - 1) is first.wrong
+
+pub returns-clause-one_script : goal.returns-clause-one_script
+returns-clause-one_script c = one_script
+
+pub returns-clause-one_fault : goal.returns-clause-one_fault
+returns-clause-one_fault c = one_fault

@@ -1,0 +1,9 @@
+pub mod NamedEvents
+pub mod Names
+pub mod RunTexts
+pub mod ScriptLines
+pub mod ScriptFaults
+pub mod Taking
+pub mod Told
+pub mod Unstepped
+pub mod Trace

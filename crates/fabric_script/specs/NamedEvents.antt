@@ -1,0 +1,34 @@
+-- What the names in events stand for in an area.
+use Rattle.std.specs.Prelude.{ℕ, length}
+use Rattle.std.specs.Option.{unwrap_or}
+use Rattle.area_graph.specs.Named.{bond_named}
+use Rattle.area_graph.specs.Nodes.{number_of, router}
+use Rattle.area_graph.specs.Parts.{AreaParts}
+use Rattle.fabric.specs.declared.event.Event.{Event}
+use Rattle.fabric.specs.declared.event.Event.TheVariants as events
+use Rattle.fabric.specs.declared.event.Failure.{Failure}
+use Rattle.fabric.specs.declared.event.Failure.TheVariants as failures
+use Rattle.fabric_script.specs.declared.event.FailureName.{FailureName}
+use Rattle.fabric_script.specs.declared.event.FailureName.TheVariants.{Link, Node}
+use Rattle.fabric_script.specs.declared.event.ScriptEvent.{ScriptEvent}
+use Rattle.fabric_script.specs.declared.event.ScriptEvent.TheVariants.{Fail, Inject, Step}
+use Rattle.mrt_graph.specs.declared.node_id.NodeId.{NodeId}
+
+-- the node that has this identifier; where the area has none, the count of its nodes, which is the number of none
+abbrev pub spot_of : AreaParts → NodeId → ℕ
+spot_of area id = unwrap_or (number_of area.ids id) (length area.ids)
+
+-- the bond that a router and link data name; where the area has none, the count of its bonds
+abbrev pub bond_of : AreaParts → ℕ → ℕ → ℕ
+bond_of area number link_data = unwrap_or (bond_named area number link_data) (length area.bonds)
+
+-- the element of this name
+abbrev pub failure_of : AreaParts → FailureName → Failure
+failure_of area (Node id) = failures.Node (spot_of area id)
+failure_of area (Link number link_data) = failures.Bond (bond_of area number link_data)
+
+-- the event that names give
+abbrev pub event_of : AreaParts → ScriptEvent → Event
+event_of area (Inject number to entry) = events.Inject (spot_of area (router number)) (spot_of area to) entry
+event_of area (Step packet) = events.Step packet
+event_of area (Fail failed) = events.Fail (failure_of area failed)

@@ -1,0 +1,14 @@
+-- States in which packet 0 has had no step yet.
+use Rattle.std.specs.Prelude.{◌≡◌, List}
+use Rattle.fabric.specs.declared.event.Event.{Event}
+use Rattle.fabric.specs.Course.{steps_of}
+use Rattle.fabric.specs.FabricParts.{FabricParts}
+use Rattle.fabric.specs.FabricState.{Answer, FabricState, start}
+use Rattle.fabric.specs.Runs.{IsRun}
+
+-- a run leads to the state, from a start with room for one packet, in which packet 0 has no answered step
+pub record IsUnstepped (parts : FabricParts) (state : FabricState) : Type 0 where
+  pub events : List Event
+  pub answers : List Answer
+  pub run : IsRun parts (start 1) events answers state
+  pub none : steps_of 0 events answers ≡ 0

@@ -1,0 +1,39 @@
+//! A packet's steps until it ends.
+
+ghost use Rattle.std.specs.Prelude.{◌≡◌, ◌≢◌, ◌↔◌, IfOk, IsTrue};
+ghost use Rattle.fabric.specs.FabricParts.{AreFabricParts};
+ghost use Rattle.fabric_script.specs.Told.{IsSteppedOn};
+ghost use Rattle.fabric_script.specs.Trace.{HasEnded};
+ghost use Rattle.fabric_script.specs.Unstepped.{IsUnstepped};
+
+use crate::telling::tell;
+use area_graph::Area;
+use fabric::{Event, Fabric, PacketNo, State, packets_end};
+use mrt_graph::NoMemory;
+
+/// The steps of packet 0 until it has ended, and the lines of their answers. It has had none before.
+pub fn tell_steps(fabric: &mut Fabric<'_>, area: &Area, text: &mut Vec<u8>) -> Result<(), NoMemory>
+    requires area { fabric.old.parts.area ≡ area.now }
+    requires kept { AreFabricParts fabric.old.parts }
+    requires unstepped { IsUnstepped fabric.old.parts fabric.old.state }
+    ensures stepped { IfOk result (λ _. IsSteppedOn fabric.old.parts fabric.old.state text.old.items text.new.items) }
+{
+    packets_end();
+    for _ in 0..2 * area.count() as u32 {
+        if has_ended(fabric) {
+            return Ok(());
+        }
+        tell(fabric, area, Event::Step(PacketNo::new(0)), text)?;
+    }
+    Ok(())
+}
+
+/// Whether packet 0 has ended, or was not made.
+fn has_ended(fabric: &Fabric<'_>) -> bool
+    ensures { IsTrue result ↔ HasEnded fabric.now.state }
+{
+    match fabric.packet(PacketNo::new(0)) {
+        Some(packet) => packet.state != State::Going,
+        None => true,
+    }
+}
