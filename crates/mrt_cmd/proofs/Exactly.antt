@@ -8,7 +8,7 @@ use Rattle.mrt_cmd.specs.declared.exit.Exit.TheVariants as exits
 use Rattle.mrt_cmd.specs.Answers.{FileBytes, IsRefusedOver}
 use Rattle.mrt_cmd.specs.Comes.{Comes, Gives, GivesText, MissesAt, Refuses}
 use Rattle.mrt_cmd.specs.Files.{IsFirstMissing, files_of}
-use Rattle.mrt_cmd.specs.Form.{Form, Task, Check, Certify, Table, form_of}
+use Rattle.mrt_cmd.specs.Form.{Form, Task, Check, Certify, Table, Trace, Fabric, form_of}
 use Rattle.mrt_cmd.specs.Run.{WritesNothing}
 
 -- one exit comes of the words at most
@@ -29,6 +29,8 @@ never_missing : (task : Task) (bytes : FileBytes) (word : ℕ) → IsRefusedOver
 never_missing (Check certificate) bytes word said = said.2.2
 never_missing (Certify router) bytes word said = said.2
 never_missing (Table router) bytes word said = said.2
+never_missing (Trace trace) bytes word said = said.2
+never_missing (Fabric script) bytes word said = said.2.2
 
 -- a file that is not held is what comes of the words just where it is the first that is not
 missing_comes : (files : Files) (form : Option Form) (word : ℕ)

@@ -2,6 +2,7 @@ pub mod Computed
 pub mod Databases
 pub mod Entering
 pub mod Exactly
+pub mod NeverSaid
 pub mod OneCertificate
 pub mod OneExit
 pub mod OneReading

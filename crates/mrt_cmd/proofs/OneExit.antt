@@ -16,12 +16,18 @@ use Rattle.mrt_island.specs.declared.profile_error.ProfileKind.{ProfileKind}
 use Rattle.cert_format.specs.CertText.{cert_text}
 use Rattle.cert_format.specs.FirstFault.{first_fault}
 use Rattle.cert_format.specs.declared.error.CertKind.{CertKind}
+use Rattle.fabric.specs.FabricParts.{AreFabricParts, FabricParts}
+use Rattle.fabric_script.specs.declared.script.Script.{Script}
+use Rattle.fabric_script.specs.declared.trace.Trace.{Trace as PacketTrace}
+use Rattle.fabric_script.specs.RunTexts.{IsScriptText, IsTraceText}
+use Rattle.fabric_script.specs.ScriptFaults.{IsFirstFault as IsFirstFaultOfScript, IsScript}
 use Rattle.mrt_io.specs.Holding.{Files}
 use Rattle.lsdb.specs.Installing.{IsKept}
 use Rattle.lsdb.specs.Orders.{newest_in}
 use Rattle.ospf_lsa.specs.LsaText.{lsa_length}
 use Rattle.ospf_lsa.specs.Lsas.{AreLsas, IsLsa}
 use Rattle.ospf_lsa.specs.declared.lsa.Lsa.{Lsa}
+use Rattle.mrt_rows.specs.CertOf.{IsCertOf}
 use Rattle.mrt_cmd.specs.declared.exit.DbKind.{DbKind}
 use Rattle.mrt_cmd.specs.declared.exit.Exit.{Exit}
 use Rattle.mrt_cmd.specs.declared.exit.Exit.TheVariants as exits
@@ -39,9 +45,10 @@ use Rattle.mrt_cmd.specs.Files.{
   files_of,
   refusal_of,
 }
-use Rattle.mrt_cmd.specs.Form.{Form, Task, Check, Certify, Table}
+use Rattle.mrt_cmd.specs.Form.{Form, Task, Check, Certify, Table, Trace, Fabric}
 use Rattle.mrt_cmd.specs.Input.{Input, HasIsland, IsCertFile, IsInput, area, policy}
 use Rattle.mrt_cmd.specs.Islands.{HasNoIslandFor}
+use Rattle.mrt_cmd.specs.Packets.{ArePartsFor, GivesRun, IsNoRun, IsScriptGiven, IsTraceGiven}
 use Rattle.mrt_cmd.specs.Tabled.{IsTableOf, IsTabled}
 use Rattle.mrt_cmd.specs.Verdict.{GivesVerdict, IsAcceptedFor, IsNoVerdict, IsRefusedFor, accepted_line}
 use Rattle.mrt_cmd.proofs.Refusals.{root_within}
@@ -84,8 +91,22 @@ pub record AreaLaws : Type 0 where
       → (IsTooLarge (length (area_of (newest_in lsas)).ids) (length (area_of (newest_in lsas)).arcs) → ⊥)
       → IsArea (area_of (newest_in lsas))
 
+-- the laws of the layers below on scripts and on the texts of runs
+pub record PacketLaws : Type 0 where
+  pub never_both : (lines : List (List ℕ)) (script : Script) (number : ℕ) → IsScript lines script
+      → IsFirstFaultOfScript lines number → ⊥
+  pub one_script : (lines : List (List ℕ)) (script other : Script) → IsScript lines script → IsScript lines other
+      → script ≡ other
+  pub one_fault : (lines : List (List ℕ)) (number other : ℕ) → IsFirstFaultOfScript lines number
+      → IsFirstFaultOfScript lines other → number ≡ other
+  pub script_text : (parts : FabricParts) → AreFabricParts parts → (script : Script) (text other : List ℕ)
+      → IsScriptText parts script text → IsScriptText parts script other → text ≡ other
+  pub trace_text : (parts : FabricParts) → AreFabricParts parts → (trace : PacketTrace) (text other : List ℕ)
+      → IsTraceText parts trace text → IsTraceText parts trace other → text ≡ other
+
 -- all of them
 pub record Laws : Type 0 where
+  pub packets : PacketLaws
   pub certificates : CertificateLaw
   pub tables : TableLaws
   pub databases : DatabaseLaws
@@ -230,6 +251,85 @@ module _ (laws : Laws) where
           (root_within (policy input) (area input) router two.graph two.root two.island.link_of two.island.island) router
           text other table two.table
 
+      -- ---- of what the steps of packets read there
+
+      no_refusal_parts : (parts : FabricParts) (exit : Exit) → ArePartsFor input router parts
+          → HasNoIslandFor input router exit → ⊥
+      no_refusal_parts parts exit are refused = no_island_none parts.island are.root exit are.has refused
+
+      parts_kept : (parts : FabricParts) → ArePartsFor input router parts → AreFabricParts parts
+      parts_kept parts are = record {
+        area_kept = subst IsArea (sym are.area_is) (kept are.has.area_within);
+        island_kept = are.certificate.kept;
+        fits = are.fits;
+        accepted = record { root = are.root; number = are.root_number; accepted = are.certificate.accepted };
+      }
+
+      one_parts : (parts other : FabricParts) → ArePartsFor input router parts → ArePartsFor input router other
+          → parts ≡ other
+      one_parts parts other one two =
+          let same = laws.islands.one_island (policy input) (area input) router parts.island other.island one.root two.root
+          one.has.link_of two.has.link_of (kept one.has.area_within) one.has.island two.has.island in
+          let file : CertFile = record { root = one.root_number; cert = parts.cert } in
+          let second : CertFile = record { root = two.root_number; cert = other.cert } in
+          let computed : IsCertOf other.island two.root file =
+          subst (λ (n : ℕ). IsCertOf other.island n file) same.1
+          (subst (λ (g : Topology). IsCertOf g one.root file) same.0 one.certificate.computed) in
+          let files : file ≡ second = laws.certificates other.island two.root file second two.certificate.kept
+          (root_within (policy input) (area input) router other.island two.root two.has.link_of two.has.island) computed
+          two.certificate.computed in
+          let areas : parts.area ≡ other.area = one.area_is ∙ sym two.area_is in
+          let links : parts.link_of ≡ other.link_of = one.links_are ∙ same.2 ∙ sym two.links_are in
+          λ i. record { area = areas i; island = same.0 i; cert = (files i).cert; link_of = links i }
+
+    -- ---- of a trace, and of the bytes of a script
+
+    one_trace : (trace : PacketTrace) (text other : List ℕ) → IsTraceGiven input trace text
+        → IsTraceGiven input trace other → text ≡ other
+    one_trace trace text other one two =
+        laws.packets.trace_text two.0 (parts_kept trace.from two.0 two.1) trace text other
+        (subst (λ (parts : FabricParts). IsTraceText parts trace text) (one_parts trace.from one.0 two.0 one.1 two.1) one.2)
+        two.2
+
+    one_given : (script : Script) (text other : List ℕ) → IsScriptGiven input script text
+        → IsScriptGiven input script other → text ≡ other
+    one_given script text other one two =
+        laws.packets.script_text two.0 (parts_kept script.router two.0 two.1) script text other
+        (subst (λ (parts : FabricParts). IsScriptText parts script text) (one_parts script.router one.0 two.0 one.1 two.1)
+        one.2) two.2
+
+    module _ (bytes : List ℕ) where
+      bad_line_first : (line : ℕ) (other : Exit) → IsNoRun input bytes (exits.BadScript line) → IsNoRun input bytes other
+          → exits.BadScript line ≡ other
+      bad_line_first line (exits.BadScript number) one two =
+          ap exits.BadScript (laws.packets.one_fault (text_lines bytes) line number one two)
+      bad_line_first line other one two = absurd (laws.packets.never_both (text_lines bytes) two.0 line two.1 one)
+
+      said_of_script : (exit other : Exit) (script : Script) → IsScript (text_lines bytes) script
+          → HasNoIslandFor input script.router exit → IsNoRun input bytes other → exit ≡ other
+      said_of_script exit (exits.BadScript line) script is one two =
+          absurd (laws.packets.never_both (text_lines bytes) script line is two)
+      said_of_script exit other script is one two =
+          one_none two.0.router exit other (subst (λ (s : Script). HasNoIslandFor input s.router exit)
+          (laws.packets.one_script (text_lines bytes) script two.0 is two.1) one) two.2
+
+      one_no_run : (exit other : Exit) → IsNoRun input bytes exit → IsNoRun input bytes other → exit ≡ other
+      one_no_run (exits.BadScript line) other one two = bad_line_first line other one two
+      one_no_run exit other one two = said_of_script exit other one.0 one.1 one.2 two
+
+      no_run_given : (text : List ℕ) (exit : Exit) → GivesRun input bytes text → IsNoRun input bytes exit → ⊥
+      no_run_given text (exits.BadScript line) taken refused =
+          laws.packets.never_both (text_lines bytes) taken.0 line taken.1 refused
+      no_run_given text exit taken refused =
+          no_refusal_parts taken.0.router taken.2.0 exit taken.2.1
+          (subst (λ (s : Script). HasNoIslandFor input s.router exit)
+          (laws.packets.one_script (text_lines bytes) refused.0 taken.0 refused.1 taken.1) refused.2)
+
+      one_run_text : (text other : List ℕ) → GivesRun input bytes text → GivesRun input bytes other → text ≡ other
+      one_run_text text other one two =
+          one_given two.0 text other (subst (λ (s : Script). IsScriptGiven input s text)
+          (laws.packets.one_script (text_lines bytes) one.0 two.0 one.1 two.1) one.2) two.2
+
     -- ---- of a certificate
 
     module _ (file : CertFile) where
@@ -315,18 +415,25 @@ module _ (laws : Laws) where
       one_task (Check certificate) exit other one two = one_verdict last exit other one two
       one_task (Certify router) exit other one two = one_none router exit other one two
       one_task (Table router) exit other one two = one_none router exit other one two
+      one_task (Trace trace) exit other one two = one_none trace.from exit other one two
+      one_task (Fabric script) exit other one two = one_no_run last exit other one two
 
       no_task : (task : Task) (text : List ℕ) (exit : Exit) → GivesFor task input last text
           → IsRefusedTask task input last exit → ⊥
       no_task (Check certificate) text exit taken refused = no_verdict_given last text exit taken refused
       no_task (Certify router) text exit taken refused = no_refusal_certified router text exit taken refused
       no_task (Table router) text exit taken refused = no_refusal_tabled router text exit taken refused
+      no_task (Trace trace) text exit taken refused =
+          no_refusal_parts trace.from taken.0 exit taken.1 refused
+      no_task (Fabric script) text exit taken refused = no_run_given last text exit taken refused
 
       one_task_text : (task : Task) (text other : List ℕ) → GivesFor task input last text
           → GivesFor task input last other → text ≡ other
       one_task_text (Check certificate) text other one two = one_verdict_text last text other one two
       one_task_text (Certify router) text other one two = one_certified router text other one two
       one_task_text (Table router) text other one two = one_tabled router text other one two
+      one_task_text (Trace trace) text other one two = one_trace trace text other one two
+      one_task_text (Fabric script) text other one two = one_run_text last text other one two
 
   -- ---- over the bytes of the files
 

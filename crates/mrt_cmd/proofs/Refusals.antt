@@ -2,6 +2,7 @@
 use Rattle.std.proofs.Common.{
   ◌≡◌,
   ◌<◌,
+  ◌≤◌,
   ◌⊎◌,
   ℕ,
   Bool,
@@ -28,7 +29,10 @@ use Rattle.std.proofs.lemmas.Option.{slice_get_within}
 use Rattle.area_graph.specs.Parts.{AreaParts}
 use Rattle.mrt_graph.specs.GraphInvariant.{IsTopology}
 use Rattle.mrt_graph.specs.NewGraph.{IsTooLarge}
+use Rattle.mrt_graph.specs.TextLines.{text_lines}
 use Rattle.mrt_graph.specs.Topology.{Topology}
+use Rattle.fabric_script.specs.declared.script.Script.{Script}
+use Rattle.fabric_script.specs.ScriptFaults.{IsScript}
 use Rattle.mrt_graph.specs.declared.cert.CertFile.{CertFile}
 use Rattle.mrt_graph.specs.declared.node_id.NodeId.{NodeId}
 use Rattle.mrt_island.specs.IslandOf.{IsIsland, IsOver}
@@ -38,8 +42,9 @@ use Rattle.mrt_cmd.specs.declared.exit.Exit.TheVariants as exits
 use Rattle.mrt_cmd.specs.declared.exit.What.TheVariants as whats
 use Rattle.mrt_io.specs.Holding.{Files}
 use Rattle.mrt_cmd.specs.Answers.{FileBytes, IsRefusedOver}
-use Rattle.mrt_cmd.specs.Comes.{AreRead, Comes, Refuses}
-use Rattle.mrt_cmd.specs.Form.{Form, Task, Check, Certify, Table, form_of}
+use Rattle.mrt_cmd.specs.Comes.{AreRead, Comes, IsLastRead, Refuses}
+use Rattle.mrt_cmd.specs.Files.{task_file}
+use Rattle.mrt_cmd.specs.Form.{Form, Task, Check, Certify, Table, Trace, Fabric, form_of}
 use Rattle.mrt_cmd.specs.Input.{Input, HasAreaWithin, HasIsland, IsCertFile, IsInput, area, policy}
 use Rattle.mrt_cmd.specs.Reading.{
   AreUnread,
@@ -48,11 +53,13 @@ use Rattle.mrt_cmd.specs.Reading.{
   HasNoCert,
   HasNoIsland,
   HasNone,
+  HasNoScript,
   IsAnswerOver,
   IsCheckRefusal,
   IsRefusal,
   IsRefusalOrFault,
   IsRejected,
+  IsRunRefusal,
   IsTaskRefusal,
   IsVerdictFor,
 }
@@ -131,6 +138,26 @@ bad_bytes input bytes (exits.BadCertificate at kind) said = inl said
 bad_bytes input bytes exits.NoMemory said = inr refl
 bad_bytes input bytes exit said = absurd said
 
+-- what is said of a script's router is said of the script's bytes
+run_of_bytes : (input : Input) (bytes : List ℕ) (script : Script) → IsScript (text_lines bytes) script → (exit : Exit)
+    → HasNone input script.router exit → IsRunRefusal input bytes exit
+run_of_bytes input bytes script is exit (inr memory) = inr memory
+run_of_bytes input bytes script is (exits.TooLarge what size) (inl said) = inl (script, is, said)
+run_of_bytes input bytes script is (exits.NotThere number) (inl said) = inl (script, is, said)
+run_of_bytes input bytes script is exit (inl said) = absurd said
+
+pub runs_of_bytes : {T : Type 0} (answer : Result T Exit) (input : Input) (bytes : List ℕ) (script : Script)
+    → IsScript (text_lines bytes) script → IfErr answer (HasNone input script.router)
+    → IfErr answer (IsRunRefusal input bytes)
+runs_of_bytes (Ok t) input bytes script is said = tt
+runs_of_bytes (Err exit) input bytes script is said = run_of_bytes input bytes script is exit said
+
+-- a line of a script's bytes that is not as it should be
+pub bad_lines : (input : Input) (bytes : List ℕ) (exit : Exit) → HasNoScript bytes exit → IsRunRefusal input bytes exit
+bad_lines input bytes (exits.BadScript line) said = inl said
+bad_lines input bytes exits.NoMemory said = inr refl
+bad_lines input bytes exit said = absurd said
+
 -- a graph is not too large
 pub few : (graph : Topology) → IsTopology graph → IsTooLarge (length graph.ids) (length graph.links) → ⊥
 few graph kept (inl nodes) = absurd (omega (arith, kept.few_nodes, nodes))
@@ -149,12 +176,15 @@ task_over : (task : Task) (bytes : FileBytes) (input : Input) → IsInput bytes.
     → (exit : Exit) → IsTaskRefusal task input bytes.last exit → IsAnswerOver task bytes exit
 task_over task bytes input given exit (inr memory) = subst (IsAnswerOver task bytes) (sym memory) (inr refl)
 task_over task bytes input given (exits.BadCertificate at kind) (inl said) = inl (input, given, said)
+task_over task bytes input given (exits.BadScript line) (inl said) = inl (input, given, said)
 task_over task bytes input given (exits.TooLarge what size) (inl said) = inl (input, given, said)
 task_over task bytes input given (exits.NotThere number) (inl said) = inl (input, given, said)
 task_over task bytes input given (exits.No rule a b) (inl said) = inl (input, given, said)
 task_over (Check certificate) bytes input given exit (inl said) = absurd said.2
 task_over (Certify router) bytes input given exit (inl said) = absurd said
 task_over (Table router) bytes input given exit (inl said) = absurd said
+task_over (Trace trace) bytes input given exit (inl said) = absurd said
+task_over (Fabric script) bytes input given exit (inl said) = absurd said.2
 
 pub tasks_over : {T : Type 0} (answer : Result T Exit) (task : Task) (bytes : FileBytes) (input : Input)
     → IsInput bytes.database bytes.profile input
@@ -213,3 +243,12 @@ pub refusal_comes : (held : Option Files) (words : List (List ℕ)) (form : Form
 refusal_comes held words form exit is (inl refused) =
     inl (inr (inr (subst (λ (it : Option Form). IsSomeAnd it (λ form. Refuses held form exit)) is refused)))
 refusal_comes held words form exit is (inr memory) = inr memory
+
+-- the bytes of the file that a task names are within its limit
+pub last_within : (held : Option Files) (task : Task) (bytes : List ℕ) → IsLastRead held (task_file task) bytes
+    → length bytes ≤ 33554432
+last_within held (Check certificate) bytes read = read.1
+last_within held (Certify router) bytes read = rw read omega arith
+last_within held (Table router) bytes read = rw read omega arith
+last_within held (Trace trace) bytes read = rw read omega arith
+last_within held (Fabric script) bytes read = read.1

@@ -25,7 +25,7 @@ use Rattle.mrt_cmd.specs.Certified.{IsCertified}
 use Rattle.mrt_cmd.specs.Comes.{AreRead, Gives, GivesText, IsProfileRead, Refuses}
 use Rattle.mrt_graph.specs.Spelling.{address_in}
 use Rattle.mrt_cmd.specs.Files.{NamedFile, SaysOneOf, files_of, refusal_of}
-use Rattle.mrt_cmd.specs.Form.{Form, Task, Check, Certify, Table, IsCheck, form_of, profile_name}
+use Rattle.mrt_cmd.specs.Form.{Form, Task, Check, Certify, Table, Trace, Fabric, IsCheck, form_of, profile_name}
 use Rattle.mrt_cmd.specs.Headline.{ChecksWritten, IsPassed, profile_held}
 use Rattle.mrt_cmd.specs.Input.{Input, HasIsland, IsInput, area, policy}
 use Rattle.mrt_cmd.specs.Reading.{IsRefusalOrFault}
@@ -229,7 +229,7 @@ one_of_first file rest exit after (Some bytes) onward said = go (nat_lt file.lim
     go true said = inr (inl (sym (same_Some (exits.TooLarge file.what (file.limit + 1)) exit said)))
     go false said = inr (inr (onward said))
 
-unread_says_one : (files : Files) (named : List NamedFile) (exit : Exit) → refusal_of files named ≡ Some exit
+pub unread_says_one : (files : Files) (named : List NamedFile) (exit : Exit) → refusal_of files named ≡ Some exit
     → SaysOneOf named exit
 unread_says_one files [] exit said = cc
 unread_says_one files (file ∷ rest) exit said =
@@ -247,6 +247,8 @@ only_check held form rule a b (inr refused) = go form.task refused.2
     go (Check certificate) said = tt
     go (Certify router) said = absurd said.2
     go (Table router) said = absurd said.2
+    go (Trace trace) said = absurd said.2
+    go (Fabric script) said = absurd said.2.2
 
 pub only_check_words : (held : Option Files) (form : Option Form) (rule a b : ℕ)
     → IsSomeAnd form (λ it. Refuses held it (exits.No rule a b)) → IsSomeAnd form (λ it. IsCheck it.task)

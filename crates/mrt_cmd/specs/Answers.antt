@@ -7,9 +7,10 @@ use Rattle.mrt_cmd.specs.declared.exit.Exit.{Exit}
 use Rattle.mrt_cmd.specs.declared.exit.Exit.TheVariants.{BadDatabase, BadProfile}
 use Rattle.mrt_cmd.specs.Certified.{IsCertified}
 use Rattle.mrt_cmd.specs.Database.{IsDatabase, IsBadDatabase}
-use Rattle.mrt_cmd.specs.Form.{Task, Check, Certify, Table}
+use Rattle.mrt_cmd.specs.Form.{Task, Check, Certify, Table, Trace, Fabric}
 use Rattle.mrt_cmd.specs.Input.{Input, IsInput}
 use Rattle.mrt_cmd.specs.Islands.{HasNoIslandFor}
+use Rattle.mrt_cmd.specs.Packets.{GivesRun, IsNoRun, IsTraceGiven}
 use Rattle.mrt_cmd.specs.Tabled.{IsTabled}
 use Rattle.mrt_cmd.specs.Verdict.{GivesVerdict, IsNoVerdict}
 
@@ -24,12 +25,16 @@ abbrev pub GivesFor : Task → Input → List ℕ → List ℕ → Type 0
 GivesFor (Check certificate) input last text = GivesVerdict input last text
 GivesFor (Certify router) input last text = IsCertified input router text
 GivesFor (Table router) input last text = IsTabled input router text
+GivesFor (Trace trace) input last text = IsTraceGiven input trace text
+GivesFor (Fabric script) input last text = GivesRun input last text
 
 -- what comes of a task that gives no text
 abbrev pub IsRefusedTask : Task → Input → List ℕ → Exit → Type 0
 IsRefusedTask (Check certificate) input last exit = IsNoVerdict input last exit
 IsRefusedTask (Certify router) input last exit = HasNoIslandFor input router exit
 IsRefusedTask (Table router) input last exit = HasNoIslandFor input router exit
+IsRefusedTask (Trace trace) input last exit = HasNoIslandFor input trace.from exit
+IsRefusedTask (Fabric script) input last exit = IsNoRun input last exit
 
 -- the text of a task over these bytes
 pub record GivesOver (task : Task) (bytes : FileBytes) (text : List ℕ) : Type 0 where

@@ -2,14 +2,16 @@
 use Rattle.std.specs.Option.{option_map}
 use Rattle.mrt_cmd.specs.declared.words.Form.{Form as ReadForm}
 use Rattle.mrt_cmd.specs.declared.words.Task.{Task as ReadTask}
-use Rattle.mrt_cmd.specs.declared.words.Task.TheVariants.{Check as ReadCheck, Certify as ReadCertify, Table as ReadTable}
-use Rattle.mrt_cmd.specs.Form.{Form, Task, Check, Certify, Table}
+use Rattle.mrt_cmd.specs.declared.words.Task.TheVariants.{Check as ReadCheck, Certify as ReadCertify, Table as ReadTable, Trace as ReadTrace, Fabric as ReadFabric}
+use Rattle.mrt_cmd.specs.Form.{Form, Task, Check, Certify, Table, Trace, Fabric}
 
 -- the task with the name that it refers to
 abbrev pub task_asked : ReadTask → Task
 task_asked (ReadCheck certificate) = Check certificate.now
 task_asked (ReadCertify router) = Certify router
 task_asked (ReadTable router) = Table router
+task_asked (ReadTrace trace) = Trace trace
+task_asked (ReadFabric script) = Fabric script.now
 
 -- the form with the names that it refers to
 abbrev pub asked : ReadForm → Form

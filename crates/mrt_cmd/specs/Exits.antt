@@ -22,12 +22,14 @@ use Rattle.mrt_cmd.specs.declared.exit.Exit.TheVariants.{
   ReadFault,
   WriteFault,
   NoMemory,
+  BadScript,
 }
 use Rattle.mrt_cmd.specs.declared.exit.What.{What}
 use Rattle.mrt_cmd.specs.declared.exit.What.TheVariants.{
   DatabaseFile,
   ProfileFile,
   CertificateFile,
+  ScriptFile,
   AreaNodes,
   AreaArcs,
   IslandNodes,
@@ -47,6 +49,7 @@ status_of (NotThere number) = 7
 status_of (ReadFault word) = 8
 status_of (WriteFault taken) = 9
 status_of NoMemory = 10
+status_of (BadScript line) = 11
 
 -- what is wrong with a record of a database, in words
 abbrev pub record_words : LsaKind → List ℕ
@@ -79,6 +82,7 @@ abbrev pub what_words : What → List ℕ
 what_words DatabaseFile = codes "database-file"
 what_words ProfileFile = codes "profile-file"
 what_words CertificateFile = codes "certificate-file"
+what_words ScriptFile = codes "script-file"
 what_words AreaNodes = codes "area-nodes"
 what_words AreaArcs = codes "area-arcs"
 what_words IslandNodes = codes "island-nodes"
@@ -111,3 +115,4 @@ line_of (NotThere number) = codes "mrt: not there: " ++ address_text number ++ c
 line_of (ReadFault word) = codes "mrt: read fault: word " ++ decimal word ++ codes "\n"
 line_of (WriteFault taken) = codes "mrt: write fault after " ++ decimal taken ++ codes "\n"
 line_of NoMemory = codes "mrt: no memory\n"
+line_of (BadScript line) = codes "mrt: bad script on line " ++ decimal line ++ codes "\n"

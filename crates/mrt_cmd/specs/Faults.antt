@@ -4,6 +4,8 @@ use Rattle.area_graph.specs.declared.area_error.AreaError.{AreaError}
 use Rattle.area_graph.specs.declared.area_error.AreaError.TheVariants as area_errors
 use Rattle.cert_format.specs.declared.error.CertError.{CertError}
 use Rattle.cert_format.specs.declared.error.CertError.TheVariants as cert_errors
+use Rattle.fabric_script.specs.declared.script_error.ScriptError.{ScriptError}
+use Rattle.fabric_script.specs.declared.script_error.ScriptError.TheVariants as script_errors
 use Rattle.lsdb.specs.declared.change.Conflict.{Conflict}
 use Rattle.mrt_io.specs.declared.device.PutError.{PutError}
 use Rattle.mrt_io.specs.declared.device.PutError.TheVariants.{Failed}
@@ -13,7 +15,7 @@ use Rattle.ospf_lsa.specs.declared.error.LsaError.{LsaError}
 use Rattle.ospf_lsa.specs.declared.error.LsaError.TheVariants as lsa_errors
 use Rattle.mrt_cmd.specs.declared.exit.DbKind.TheVariants as database_kinds
 use Rattle.mrt_cmd.specs.declared.exit.Exit.{Exit}
-use Rattle.mrt_cmd.specs.declared.exit.Exit.TheVariants.{BadDatabase, BadProfile, BadCertificate, TooLarge, WriteFault, NoMemory}
+use Rattle.mrt_cmd.specs.declared.exit.Exit.TheVariants.{BadDatabase, BadProfile, BadCertificate, BadScript, TooLarge, WriteFault, NoMemory}
 use Rattle.mrt_cmd.specs.declared.exit.What.{What}
 use Rattle.mrt_cmd.specs.declared.exit.What.TheVariants as whats
 
@@ -35,6 +37,11 @@ profile_exit profile_errors.NoMemory = NoMemory
 abbrev pub certificate_exit : CertError → Exit
 certificate_exit (cert_errors.Fault at kind) = BadCertificate at kind
 certificate_exit cert_errors.NoMemory = NoMemory
+
+-- a line of a script is not as it should be
+abbrev pub script_exit : ScriptError → Exit
+script_exit (script_errors.Fault line) = BadScript line
+script_exit script_errors.NoMemory = NoMemory
 
 -- one count is too large, or another where the first is at most this many
 abbrev pub too_large : ℕ → What → ℕ → What → ℕ → Exit

@@ -22,8 +22,8 @@ use Rattle.mrt_io.specs.Holding.{Files, IsFileOf, IsKnownThere}
 use Rattle.mrt_cmd.specs.declared.exit.Exit.{Exit}
 use Rattle.mrt_cmd.specs.declared.exit.Exit.TheVariants.{TooLarge, ReadFault}
 use Rattle.mrt_cmd.specs.declared.exit.What.{What}
-use Rattle.mrt_cmd.specs.declared.exit.What.TheVariants.{DatabaseFile, ProfileFile, CertificateFile}
-use Rattle.mrt_cmd.specs.Form.{Form, Task, Check, Certify, Table}
+use Rattle.mrt_cmd.specs.declared.exit.What.TheVariants.{DatabaseFile, ProfileFile, CertificateFile, ScriptFile}
+use Rattle.mrt_cmd.specs.Form.{Form, Task, Check, Certify, Table, Trace, Fabric}
 
 -- a file that the words name: the place of its name among them, its name, what it is, and how many bytes it may have
 pub record NamedFile : Type 0 where
@@ -32,7 +32,7 @@ pub record NamedFile : Type 0 where
   pub what : What
   pub limit : ℕ
 
--- the files of a database, of a profile and of a certificate
+-- the files of a database, of a profile, of a certificate and of a script
 abbrev pub database_file : List ℕ → NamedFile
 database_file name = record { place = 1; name = name; what = DatabaseFile; limit = 8388608 }
 
@@ -42,11 +42,16 @@ profile_file name = record { place = 2; name = name; what = ProfileFile; limit =
 abbrev pub certificate_file : List ℕ → NamedFile
 certificate_file name = record { place = 3; name = name; what = CertificateFile; limit = 33554432 }
 
+abbrev pub script_file : List ℕ → NamedFile
+script_file name = record { place = 3; name = name; what = ScriptFile; limit = 33554432 }
+
 -- the file that a task names, if it names one
 abbrev pub task_file : Task → Option NamedFile
 task_file (Check certificate) = Some (certificate_file certificate)
 task_file (Certify router) = None
 task_file (Table router) = None
+task_file (Trace trace) = None
+task_file (Fabric script) = Some (script_file script)
 
 -- the files that a form names, in the order in which they are read
 abbrev pub files_of : Form → List NamedFile

@@ -10,6 +10,7 @@ pub mod Form
 pub mod Headline
 pub mod Input
 pub mod Islands
+pub mod Packets
 pub mod Reading
 pub mod Run
 pub mod SameFile

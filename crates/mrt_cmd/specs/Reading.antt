@@ -1,10 +1,11 @@
 -- What the steps of the top call say of their refusals.
 use Rattle.std.specs.Prelude.{◌≡◌, ◌⊎◌, ◌+◌, ℕ, List, Option, Some, None, IfSome}
 use Rattle.cert_format.specs.FirstFault.{first_fault}
+use Rattle.fabric_script.specs.ScriptFaults.{IsFirstFault as IsFirstFaultOfScript}
 use Rattle.mrt_io.specs.Counts.{Rose}
 use Rattle.mrt_io.specs.Holding.{Files, IsTooLong}
 use Rattle.mrt_cmd.specs.declared.exit.Exit.{Exit}
-use Rattle.mrt_cmd.specs.declared.exit.Exit.TheVariants.{No, BadDatabase, BadProfile, BadCertificate, TooLarge, NotThere, ReadFault, NoMemory}
+use Rattle.mrt_cmd.specs.declared.exit.Exit.TheVariants.{No, BadDatabase, BadProfile, BadCertificate, BadScript, TooLarge, NotThere, ReadFault, NoMemory}
 use Rattle.mrt_cmd.specs.Answers.{FileBytes, IsRefusedOver, IsRefusedTask}
 use Rattle.mrt_cmd.specs.Comes.{Refuses}
 use Rattle.mrt_cmd.specs.Files.{NamedFile, IsRefusedBy, MayFail, files_of}
@@ -19,6 +20,7 @@ use Rattle.mrt_island.specs.ProfileFaults.{IsFirstFault}
 use Rattle.mrt_cmd.specs.Database.{IsBadDatabase}
 use Rattle.mrt_cmd.specs.Input.{Input, IsMissing}
 use Rattle.mrt_cmd.specs.Islands.{HasNoIslandFor, IsLargeArea, IsLargeIsland}
+use Rattle.mrt_cmd.specs.Packets.{IsNoRun}
 use Rattle.mrt_cmd.specs.Verdict.{IsNoVerdict, IsRefusedFor}
 
 -- the file is not held, or it is over its limit, or there was no memory
@@ -69,6 +71,12 @@ HasNoCert bytes (BadCertificate at kind) = first_fault bytes ≡ Some (at, kind)
 HasNoCert bytes NoMemory = Unit {0}
 HasNoCert bytes _ = ⊥
 
+-- the first line of a script's bytes that is not as it should be, or there was no memory
+abbrev pub HasNoScript : List ℕ → Exit → Type 0
+HasNoScript bytes (BadScript line) = IsFirstFaultOfScript (text_lines bytes) line
+HasNoScript bytes NoMemory = Unit {0}
+HasNoScript bytes _ = ⊥
+
 -- the area is too large, or there was no memory
 abbrev pub HasNoArea : AreaParts → Exit → Type 0
 HasNoArea area (TooLarge what size) = IsLargeArea area what size
@@ -107,3 +115,7 @@ IsAnswerOver task bytes exit = IsRefusedOver task bytes exit ⊎ (exit ≡ NoMem
 -- what is said of the bytes of a certificate, or there was no memory
 abbrev pub IsCheckRefusal : Input → List ℕ → Exit → Type 0
 IsCheckRefusal input certificate exit = IsNoVerdict input certificate exit ⊎ (exit ≡ NoMemory)
+
+-- what is said of the bytes of a script, or there was no memory
+abbrev pub IsRunRefusal : Input → List ℕ → Exit → Type 0
+IsRunRefusal input script exit = IsNoRun input script exit ⊎ (exit ≡ NoMemory)

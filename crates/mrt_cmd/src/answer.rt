@@ -14,6 +14,7 @@ use crate::exit::Exit;
 use crate::file_bytes::FileBytes;
 use crate::input::{cert_of, database_of, profile_of};
 use crate::line::Line;
+use crate::packets::{run_of_bytes, trace};
 use crate::table::table;
 use crate::text::Text;
 use crate::verdict::verdict;
@@ -26,6 +27,7 @@ use std::alloc::Global;
 pub(crate) fn answer(alloc: Global, task: Task<'_>, bytes: &FileBytes) -> Result<Text, Exit>
     requires database { length bytes.now.database ≤ 8388608 }
     requires profile { length bytes.now.profile ≤ 33554432 }
+    requires last { length bytes.now.last ≤ 33554432 }
     ensures text { IfOk result (λ text. GivesOver (task_asked task.entry) bytes.now (bytes_of text)) }
     ensures refused { IfErr result (IsAnswerOver (task_asked task.entry) bytes.now) }
 {
@@ -43,6 +45,7 @@ fn answer_for(
     last: &[u8],
 ) -> Result<Text, Exit>
     requires settled { least_conflict database.now.entries ≡ None }
+    requires limit { length last.now ≤ 33554432 }
     ensures text { IfOk result (λ text.
         GivesFor (task_asked task.entry) (input_of database.now.entries profile.now) last.now (bytes_of text)) }
     ensures refused { IfErr result
@@ -52,6 +55,8 @@ fn answer_for(
         Task::Check { .. } => Ok(Text::Line(check(alloc, database, profile, last)?)),
         Task::Certify { router } => Ok(Text::Bytes(certificate(alloc, database, profile, router)?)),
         Task::Table { router } => Ok(Text::Bytes(table(alloc, database, profile, router)?)),
+        Task::Trace { trace: asked } => Ok(Text::Bytes(trace(alloc, database, profile, &asked)?)),
+        Task::Fabric { .. } => Ok(Text::Bytes(run_of_bytes(alloc, database, profile, last)?)),
     }
 }
 

@@ -21,6 +21,7 @@ pub enum What {
     DatabaseFile,
     ProfileFile,
     CertificateFile,
+    ScriptFile,
     AreaNodes,
     AreaArcs,
     IslandNodes,
@@ -61,6 +62,8 @@ pub enum Exit {
     /// The output failed after so many bytes of the text.
     WriteFault { taken: u64 },
     NoMemory,
+    /// The first line of the script that is not as it should be.
+    BadScript { line: u32 },
 }
 
 /// The line of `Usage`: the forms that there are and are to be.
@@ -84,6 +87,7 @@ impl Exit {
             Exit::ReadFault { .. } => 8,
             Exit::WriteFault { .. } => 9,
             Exit::NoMemory => 10,
+            Exit::BadScript { .. } => 11,
         }
     }
 
@@ -124,6 +128,9 @@ impl Exit {
             ),
             Exit::WriteFault { taken } => numbered(b"mrt: write fault ", b"after", b" ", *taken),
             Exit::NoMemory => line_of(b"mrt: no memory\n"),
+            Exit::BadScript { line } => {
+                numbered(b"mrt: bad script ", b"on line", b" ", u64::from(*line))
+            }
         }
     }
 }
@@ -230,6 +237,7 @@ fn words_of_what(what: What) -> &'static [u8]
         What::DatabaseFile => b"database-file",
         What::ProfileFile => b"profile-file",
         What::CertificateFile => b"certificate-file",
+        What::ScriptFile => b"script-file",
         What::AreaNodes => b"area-nodes",
         What::AreaArcs => b"area-arcs",
         What::IslandNodes => b"island-nodes",

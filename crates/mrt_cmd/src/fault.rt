@@ -2,11 +2,12 @@
 
 ghost use Rattle.std.specs.Prelude.{◌≡◌};
 ghost use Rattle.mrt_cmd.specs.declared.exit.Exit.TheVariants.{NoMemory as no_memory};
-ghost use Rattle.mrt_cmd.specs.Faults.{area_exit, certificate_exit, conflict_exit, profile_exit, put_exit, record_exit, too_large};
+ghost use Rattle.mrt_cmd.specs.Faults.{area_exit, certificate_exit, conflict_exit, profile_exit, put_exit, record_exit, script_exit, too_large};
 
 use crate::exit::{DbKind, Exit, What};
 use area_graph::AreaError;
 use cert_format::CertError;
+use fabric_script::ScriptError;
 use lsdb::Conflict;
 use mrt_graph::NoMemory;
 use mrt_io::PutError;
@@ -78,6 +79,17 @@ impl From<CertError> for Exit {
         match error {
             CertError::Fault { at, kind } => Exit::BadCertificate { at, kind },
             CertError::NoMemory => Exit::NoMemory,
+        }
+    }
+}
+
+impl From<ScriptError> for Exit {
+    ghost from_gives = { λ error exit. exit ≡ script_exit error };
+
+    fn from(error: ScriptError) -> Exit {
+        match error {
+            ScriptError::Fault { line } => Exit::BadScript { line },
+            ScriptError::NoMemory => Exit::NoMemory,
         }
     }
 }

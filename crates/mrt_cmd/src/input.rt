@@ -5,13 +5,16 @@ ghost use Rattle.lsdb.specs.Conflicts.{least_conflict};
 ghost use Rattle.lsdb.specs.Entries.{entries_in};
 ghost use Rattle.lsdb.specs.Installing.{IsBehind};
 ghost use Rattle.lsdb.specs.Installs.{all_installed};
+ghost use Rattle.fabric_script.specs.ScriptFaults.{IsScript};
+ghost use Rattle.mrt_graph.specs.TextLines.{text_lines};
 ghost use Rattle.ospf_lsa.specs.Lsas.{AreLsas, IsLsa};
 ghost use Rattle.mrt_cmd.specs.Database.{IsDatabase, entering, enters};
 ghost use Rattle.mrt_cmd.specs.Input.{IsCertFile, IsProfile};
-ghost use Rattle.mrt_cmd.specs.Reading.{HasNoCert, HasNoDatabase, HasNoProfile};
+ghost use Rattle.mrt_cmd.specs.Reading.{HasNoCert, HasNoDatabase, HasNoProfile, HasNoScript};
 
 use crate::exit::Exit;
 use cert_format::read_cert;
+use fabric_script::{Script, read_script};
 use lsdb::{
     Lsdb, an_lsa_without_a_fault_may_be_installed, entries_are_those_of_the_list,
     refuses_exactly_where_not_settled, tells_the_first_conflict,
@@ -88,4 +91,14 @@ pub(crate) fn cert_of(alloc: Global, bytes: &[u8]) -> Result<CertFile, Exit>
     ensures none { IfErr result (HasNoCert bytes.now) }
 {
     Ok(read_cert(alloc, bytes)?)
+}
+
+/// The script that the bytes are.
+pub(crate) fn script_of(alloc: Global, bytes: &[u8]) -> Result<Script, Exit>
+    requires { length bytes.now ≤ 33554432 }
+    ensures script { IfOk result (λ script. IsScript (text_lines bytes.now) script) }
+    ensures room { IfOk result (λ script. 1 ≤ script.room) }
+    ensures none { IfErr result (HasNoScript bytes.now) }
+{
+    Ok(read_script(alloc, bytes)?)
 }

@@ -10,6 +10,7 @@ mod input;
 mod island;
 mod line;
 mod named_file;
+mod packets;
 mod program;
 mod reading;
 mod run_law;

@@ -1,7 +1,7 @@
 //! The files that the words name.
 
 ghost use Rattle.std.specs.Prelude.{◌≡◌};
-ghost use Rattle.mrt_cmd.specs.Files.{certificate_file, database_file, profile_file};
+ghost use Rattle.mrt_cmd.specs.Files.{certificate_file, database_file, profile_file, script_file};
 
 use crate::exit::What;
 use mrt_io::Word;
@@ -15,6 +15,9 @@ const PROFILE_LIMIT: u32 = 33_554_432;
 
 /// How many bytes a certificate file may have.
 const CERTIFICATE_LIMIT: u32 = 33_554_432;
+
+/// How many bytes a script file may have.
+const SCRIPT_LIMIT: u32 = 33_554_432;
 
 /// A file that the words name: the place of its name among them, its name, what it is, and how many bytes it may have.
 #[derive(Drop)]
@@ -64,6 +67,17 @@ impl<'a> NamedFile<'a> {
             name,
             what: What::CertificateFile,
             limit: CERTIFICATE_LIMIT,
+        }
+    }
+
+    pub(crate) fn script(name: &'a Word) -> NamedFile<'a>
+        ensures { result ≡ script_file name.now }
+    {
+        NamedFile {
+            place: 3,
+            name,
+            what: What::ScriptFile,
+            limit: SCRIPT_LIMIT,
         }
     }
 }

@@ -67,6 +67,8 @@ pub fn run<F: Shelf, K: Sink, E: Sink>(
         → IsRefused (F.held shelf.old) words.now (Exit.BadCertificate at kind) }
     ensures not_there { (number : ℕ) → result ≡ Exit.NotThere number
         → IsRefused (F.held shelf.old) words.now (Exit.NotThere number) }
+    ensures bad_script { (line : ℕ) → result ≡ Exit.BadScript line
+        → IsRefused (F.held shelf.old) words.now (Exit.BadScript line) }
     ensures no { (rule a b : ℕ) → result ≡ Exit.No rule a b
         → IsRefused (F.held shelf.old) words.now (Exit.No rule a b) }
     ensures no_from_check_alone { (rule a b : ℕ) → result ≡ Exit.No rule a b

@@ -94,6 +94,7 @@ pub(crate) fn read_task_file<F: Shelf>(
         Task::Check { certificate } => {
             read_file(alloc, shelf, &NamedFile::certificate(certificate))
         }
-        Task::Certify { .. } | Task::Table { .. } => Ok(Vec::new(alloc)),
+        Task::Fabric { script } => read_file(alloc, shelf, &NamedFile::script(script)),
+        Task::Certify { .. } | Task::Table { .. } | Task::Trace { .. } => Ok(Vec::new(alloc)),
     }
 }

@@ -15,6 +15,7 @@ ghost use Rattle.mrt_cmd.specs.Tabled.{IsTabled};
 
 use area_graph::the_newest_records_give_an_area;
 use cert_format::one_spelling;
+use fabric_script::{lines_are_a_script_or_have_a_fault, one_text_each};
 use lsdb::{
     an_lsa_without_a_fault_may_be_installed, refuses_exactly_where_not_settled,
     tells_the_first_conflict,
@@ -47,6 +48,8 @@ pub fn one_exit_comes()
     one_certificate();
     one_table_each();
     one_primary_each();
+    lines_are_a_script_or_have_a_fault();
+    one_text_each();
 }
 
 /// A law, the headline's first half: a certificate that was written passes the check over the same database and profile.

@@ -1,10 +1,11 @@
 //! The forms of the words.
 
-ghost use Rattle.std.specs.Prelude.{◌≡◌, codes};
+ghost use Rattle.std.specs.Prelude.{◌≡◌, ◌∷◌, []};
 ghost use Rattle.std.specs.Option.{option_map};
-ghost use Rattle.mrt_cmd.specs.Form.{form_of, profile_name, task_of};
+ghost use Rattle.mrt_cmd.specs.Form.{file_name, form_of, profile_name, task_in, task_of, trace_of};
 ghost use Rattle.mrt_cmd.specs.Asked.{asked, task_asked};
 
+use fabric_script::{FailureName, Trace, read_entry, read_failure, read_node};
 use mrt_graph::read_address;
 use mrt_io::Word;
 
@@ -25,6 +26,10 @@ pub(crate) enum Task<'a> {
     Certify { router: u32 },
     /// The table of a router.
     Table { router: u32 },
+    /// The trace of a packet.
+    Trace { trace: Trace },
+    /// The answers to the events of a script.
+    Fabric { script: &'a Word },
 }
 
 /// The form of the words, if they have one.
@@ -32,9 +37,9 @@ pub(crate) fn read_form(words: &[Word]) -> Option<Form<'_>>
     ensures { option_map asked result ≡ form_of words.now }
 {
     match words {
-        [command, database, profile, last]
+        [command, database, profile, words @ ..]
             if !database.bytes().is_empty() && !profile.bytes().is_empty() => {
-            let task = read_task(command, last)?;
+            let task = read_words(command, words)?;
             Some(Form {
                 database,
                 profile: read_profile_name(profile),
@@ -45,12 +50,24 @@ pub(crate) fn read_form(words: &[Word]) -> Option<Form<'_>>
     }
 }
 
+/// The task of a command and the words after the names of a database and of a profile, if they have one.
+fn read_words<'a>(command: &Word, words: &'a [Word]) -> Option<Task<'a>>
+    ensures { option_map task_asked result ≡ task_in command.now words.now }
+{
+    match words {
+        [last] => read_task(command, last),
+        [from, to, entry] => read_trace(command, from, to, entry),
+        [from, to, entry, failed] => read_failing_trace(command, from, to, entry, failed),
+        _ => None,
+    }
+}
+
 /// The task of a command and its last word, if they have one.
 fn read_task<'a>(command: &Word, last: &'a Word) -> Option<Task<'a>>
     ensures { option_map task_asked result ≡ task_of command.now last.now }
 {
     if command.bytes() == b"check".as_slice() {
-        return read_certificate_name(last);
+        return file_name(last).map(|certificate| Task::Check { certificate });
     }
     if command.bytes() == b"certify".as_slice() {
         return read_address(last.bytes()).map(|router| Task::Certify { router });
@@ -58,18 +75,70 @@ fn read_task<'a>(command: &Word, last: &'a Word) -> Option<Task<'a>>
     if command.bytes() == b"table".as_slice() {
         return read_address(last.bytes()).map(|router| Task::Table { router });
     }
+    if command.bytes() == b"fabric".as_slice() {
+        return file_name(last).map(|script| Task::Fabric { script });
+    }
     None
 }
 
-/// A check of the certificate with this name, which is not empty.
-fn read_certificate_name(certificate: &Word) -> Option<Task<'_>>
-    ensures { option_map task_asked result ≡ task_of (codes "check") certificate.now }
+/// A file's name, which is not empty.
+fn file_name(word: &Word) -> Option<&Word>
+    ensures { option_map (λ name. name.now) result ≡ file_name word.now }
 {
-    if certificate.bytes().is_empty() {
+    if word.bytes().is_empty() {
         None
     } else {
-        Some(Task::Check { certificate })
+        Some(word)
     }
+}
+
+/// A trace without a failure.
+fn read_trace<'a>(command: &Word, from: &Word, to: &Word, entry: &Word) -> Option<Task<'a>>
+    ensures { option_map task_asked result ≡ task_in command.now (from.now ∷ to.now ∷ entry.now ∷ []) }
+{
+    if command.bytes() != b"trace".as_slice() {
+        return None;
+    }
+    trace_of(from, to, entry, None)
+}
+
+/// A trace through a failure.
+fn read_failing_trace<'a>(
+    command: &Word,
+    from: &Word,
+    to: &Word,
+    entry: &Word,
+    failed: &Word,
+) -> Option<Task<'a>>
+    ensures { option_map task_asked result
+        ≡ task_in command.now (from.now ∷ to.now ∷ entry.now ∷ failed.now ∷ []) }
+{
+    if command.bytes() != b"trace".as_slice() {
+        return None;
+    }
+    let failed = read_failure(failed.bytes())?;
+    trace_of(from, to, entry, Some(failed))
+}
+
+/// The trace from a router to a node.
+fn trace_of<'a>(
+    from: &Word,
+    to: &Word,
+    entry: &Word,
+    failed: Option<FailureName>,
+) -> Option<Task<'a>>
+    ensures { option_map task_asked result ≡ trace_of from.now to.now entry.now failed }
+{
+    let from = read_address(from.bytes())?;
+    let to = read_node(to.bytes())?;
+    let entry = read_entry(entry.bytes())?;
+    let trace = Trace {
+        from,
+        to,
+        entry,
+        failed,
+    };
+    Some(Task::Trace { trace })
 }
 
 /// The name of a profile; `-` names none.

@@ -1,15 +1,20 @@
-use Rattle.std.proofs.Common.{rules, ◌≡◌, ◌⊎◌, Option, Some, inl, inr, subst}
+use Rattle.std.proofs.Common.{rules, ◌≡◌, ◌∙◌, ◌⊎◌, Option, Some, ap, inl, inr, subst, sym}
+use Rattle.std.specs.Option.{is_some}
+use Rattle.std.proofs.lemmas.Bool.{true≢false}
 use Rattle.std.specs.Prelude.{IsNone}
 use Rattle.mrt_io.specs.Holding.{Files}
-use Rattle.mrt_cmd.specs.declared.exit.Exit.TheVariants.{Done, NoMemory}
+use Rattle.mrt_cmd.specs.declared.exit.Exit.{Exit}
+use Rattle.mrt_cmd.specs.declared.exit.Exit.TheVariants.{Done, NoMemory, Usage, WriteFault}
 use Rattle.mrt_cmd.specs.Comes.{Comes, Gives, GivesText}
 use Rattle.mrt_cmd.specs.Form.{form_of}
 use Rattle.mrt_cmd.specs.TextBytes.{bytes_of}
 use Rattle.mrt_cmd.specs.Asked.{asked}
 use Rattle.mrt_cmd.specs.Reading.{IsRefusal, IsRefusalOrFault}
 use Rattle.mrt_cmd.proofs.Exactly.{exactly, exactly_missing, none_missing}
+use Rattle.mrt_cmd.proofs.NeverSaid.{IsUnsaid, OfDone, OfOutput, OfUsage, no_is_refused, not_of_form}
 use Rattle.mrt_cmd.proofs.Refusals.{refusal_comes}
 use Rattle.mrt_cmd.proofs.WrittenPasses.{no_form, passed_refused, passed_written}
+use Rattle.mrt_cmd.proofs.program.run.Given.{Over}
 use Rattle.mrt_cmd.proofs.program.run.Goals as goal
 
 -- The text that was cut short is the one that the form gave.
@@ -81,3 +86,33 @@ returns-in-Ok-clause-healthy_read g c = λ healthy told.
     let given : GivesText (g.F.Shelf.held c.args.shelf.now) c.args.words.now (bytes_of c.in-Ok.text) = search rules in
     none_missing (g.F.Shelf.held c.args.shelf.now) c.args.words.now (bytes_of c.in-Ok.text) c.put_text.result
     c.one_exit_comes.ensures.exit given told c.put_text.ensures.kind
+
+-- A refusal of the form is neither yes nor the usage, and no fault of the output.
+never : (g : Over) (c : goal.After-put_line-in-Err g) (exit : Exit) → IsUnsaid exit → c.put_line-in-Err.result ≡ exit → ⊥
+never g c exit unsaid is =
+    not_of_form (g.F.Shelf.held c.args.shelf.now) (asked c.in-Some.form) (g.F.Shelf.faults c.args.shelf.now)
+    (g.F.Shelf.faults c.text_of.new.shelf) exit unsaid
+    (subst (IsRefusalOrFault (g.F.Shelf.held c.args.shelf.now) (asked c.in-Some.form) (g.F.Shelf.faults c.args.shelf.now)
+    (g.F.Shelf.faults c.text_of.new.shelf)) (sym c.put_line-in-Err.ensures.same ∙ is) c.in-Err.ensures.refused)
+
+pub returns-in-Err-clause-usage : goal.returns-in-Err-clause-usage
+returns-in-Err-clause-usage g c = (λ is. absurd (never g c Usage OfUsage is), λ none. absurd (true≢false (ap is_some c.in-Some.ensures ∙ none)))
+
+pub returns-in-Err-clause-usage_reads_nothing : goal.returns-in-Err-clause-usage_reads_nothing
+returns-in-Err-clause-usage_reads_nothing g c = λ is. absurd (never g c Usage OfUsage is)
+
+pub returns-in-Err-clause-no_from_check_alone : goal.returns-in-Err-clause-no_from_check_alone
+returns-in-Err-clause-no_from_check_alone g c = λ rule a b is.
+    c.only_a_check_says_no.ensures (g.F.Shelf.held c.args.shelf.now) c.args.words.now rule a b
+    (no_is_refused (g.F.Shelf.held c.args.shelf.now) c.args.words.now (asked c.in-Some.form)
+    (g.F.Shelf.faults c.args.shelf.now) (g.F.Shelf.faults c.text_of.new.shelf) rule a b c.in-Err.exit c.in-Some.ensures
+    (sym c.put_line-in-Err.ensures.same ∙ is) c.in-Err.ensures.refused)
+
+pub returns-in-Err-clause-done : goal.returns-in-Err-clause-done
+returns-in-Err-clause-done g c = λ is. absurd (never g c Done OfDone is)
+
+pub returns-in-Err-clause-write_fault : goal.returns-in-Err-clause-write_fault
+returns-in-Err-clause-write_fault g c = λ taken is. absurd (never g c (WriteFault taken) OfOutput is)
+
+pub returns-in-Err-clause-silent : goal.returns-in-Err-clause-silent
+returns-in-Err-clause-silent g c = λ is. absurd (never g c Done OfDone is)

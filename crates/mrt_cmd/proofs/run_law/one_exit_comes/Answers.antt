@@ -3,8 +3,15 @@ use Rattle.mrt_cmd.proofs.OneExit.{Laws, one_exit, one_text}
 use Rattle.mrt_cmd.proofs.run_law.one_exit_comes.Goals as goal
 
 -- the laws of the layers below
-laws : goal.After-one_primary_each → Laws
+laws : goal.After-one_text_each → Laws
 laws c = record {
+  packets = record {
+    never_both = c.lines_are_a_script_or_have_a_fault.ensures.never_both;
+    one_script = c.lines_are_a_script_or_have_a_fault.ensures.one_script;
+    one_fault = c.lines_are_a_script_or_have_a_fault.ensures.one_fault;
+    script_text = c.one_text_each.ensures.script;
+    trace_text = c.one_text_each.ensures.trace;
+  };
   certificates = c.one_certificate.ensures;
   tables = record { table = c.one_table_each.ensures; primary = c.one_primary_each.ensures };
   databases = record {

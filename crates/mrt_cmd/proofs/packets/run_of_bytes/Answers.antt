@@ -1,0 +1,16 @@
+use Rattle.mrt_cmd.specs.Input.{Input, input_of}
+use Rattle.mrt_cmd.specs.Reading.{IsRunRefusal}
+use Rattle.mrt_cmd.proofs.Refusals.{bad_lines, handed_on, runs_of_bytes}
+use Rattle.mrt_cmd.proofs.packets.run_of_bytes.Goals as goal
+
+pub returns-in_err-script-clause-refused : goal.returns-in_err-script-clause-refused
+returns-in_err-script-clause-refused c =
+    let input : Input = input_of c.args.database.now.entries c.args.profile.now in
+    handed_on c.from_residual.result c.in_err-script.field-0.0 c.from_residual.ensures.1
+    (IsRunRefusal input c.args.bytes.now) (bad_lines input c.args.bytes.now c.in_err-script.field-0.0 c.in_err-script.ensures.none)
+
+pub returns-clause-refused : goal.returns-clause-refused
+returns-clause-refused c =
+    let input : Input = input_of c.args.database.now.entries c.args.profile.now in
+    runs_of_bytes c.run_of.result input c.args.bytes.now c.in_ok-script.script c.in_ok-script.ensures.script
+    c.run_of.ensures.refused
