@@ -4,6 +4,8 @@
 #[cfg(test)]
 mod accepted;
 #[cfg(test)]
+mod answered;
+#[cfg(test)]
 mod bad_databases;
 #[cfg(test)]
 mod calling;
@@ -14,6 +16,8 @@ mod every_order;
 #[cfg(test)]
 mod failing_devices;
 #[cfg(test)]
+mod failures;
+#[cfg(test)]
 mod files;
 #[cfg(test)]
 mod limits;
@@ -22,8 +26,12 @@ mod profiles;
 #[cfg(test)]
 mod refused;
 #[cfg(test)]
+mod scripted;
+#[cfg(test)]
 mod spoilt_files;
 #[cfg(test)]
 mod tabled;
+#[cfg(test)]
+mod traced;
 #[cfg(test)]
 mod words;

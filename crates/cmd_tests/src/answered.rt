@@ -1,0 +1,27 @@
+//! Answers to events on packets.
+
+use crate::calling::{Files, comes_to};
+use mrt_cmd::Exit;
+use std::alloc::Global;
+
+/// Words, the files that they name, and the answers that are to be written; `cert` is the name of the script.
+pub struct Answered {
+    pub name: &'static str,
+    pub words: &'static [&'static str],
+    pub database: &'static [u8],
+    pub profile: &'static [u8],
+    pub script: &'static [u8],
+    pub answers: &'static [u8],
+}
+
+pub const FABRIC: &[&str] = &["fabric", "db", "-", "cert"];
+
+/// Whether the words over these files give these answers.
+pub fn is_answered(alloc: Global, case: &Answered) -> bool {
+    let files = Files {
+        database: case.database,
+        profile: case.profile,
+        certificate: case.script,
+    };
+    comes_to(alloc, case.words, files, Exit::Done, case.answers, b"")
+}

@@ -1,0 +1,118 @@
+//! Scripts of events on packets.
+
+use crate::answered::{Answered, FABRIC, is_answered};
+use crate::calling::{Case, comes_out};
+use crate::files::TRIANGLE;
+use mrt_cmd::Exit;
+
+const SCRIPTS: &[Answered] = &[
+    Answered {
+        name: "two packets, and a failure between their steps",
+        words: FABRIC,
+        database: TRIANGLE,
+        profile: b"",
+        script: b"\
+island 1.1.1.1 2\n\
+inject 2.2.2.2 1.1.1.1 repair\n\
+inject 1.1.1.1 3.3.3.3 blue\n\
+step 1\n\
+fail link:2.2.2.2/0.0.0.1\n\
+step 0\n\
+step 0\n\
+fail 3.3.3.3\n\
+step 0\n\
+step 1\n\
+step 1\n\
+inject 1.1.1.1 2.2.2.2 red\n\
+step 9\n",
+        answers: b"\
+entered 0\n\
+entered 1\n\
+moved 2.2.2.2\n\
+failed\n\
+switched blue\n\
+moved 3.3.3.3\n\
+refused second-failure\n\
+delivered 1.1.1.1\n\
+delivered 3.3.3.3\n\
+refused ended\n\
+refused full\n\
+refused no-such-packet\n",
+    },
+    Answered {
+        name: "no events",
+        words: FABRIC,
+        database: TRIANGLE,
+        profile: b"",
+        script: b"\
+island 1.1.1.1 1\n",
+        answers: b"",
+    },
+];
+
+const REFUSED: &[Case] = &[
+    Case {
+        name: "no first line",
+        words: FABRIC,
+        database: TRIANGLE,
+        profile: b"",
+        certificate: b"# a remark\n",
+        exit: Exit::BadScript { line: 2 },
+        out: b"",
+        err: b"mrt: bad script on line 2\n",
+    },
+    Case {
+        name: "a word too many",
+        words: FABRIC,
+        database: TRIANGLE,
+        profile: b"",
+        certificate: b"island 1.1.1.1 1\nstep 0 0\n",
+        exit: Exit::BadScript { line: 2 },
+        out: b"",
+        err: b"mrt: bad script on line 2\n",
+    },
+    Case {
+        name: "a router that is not there",
+        words: FABRIC,
+        database: TRIANGLE,
+        profile: b"",
+        certificate: b"island 9.9.9.9 1\n",
+        exit: Exit::NotThere {
+            number: 0x0909_0909,
+        },
+        out: b"",
+        err: b"mrt: not there: 9.9.9.9\n",
+    },
+    Case {
+        name: "no script",
+        words: &["fabric", "db", "-", "x"],
+        database: TRIANGLE,
+        profile: b"",
+        certificate: b"",
+        exit: Exit::ReadFault { word: 3 },
+        out: b"",
+        err: b"mrt: read fault: word 3\n",
+    },
+];
+
+fn scripts() -> &'static [Answered] {
+    SCRIPTS
+}
+
+fn refused() -> &'static [Case] {
+    REFUSED
+}
+
+#[test]
+fn answers_to_scripts(rt: HostRuntime) {
+    for case in scripts() {
+        assert!(rt; is_answered(rt.alloc(), case), "{}", case.name);
+    }
+}
+
+#[test]
+fn refused_scripts(rt: HostRuntime) {
+    for case in refused() {
+        assert!(rt; comes_out(rt.alloc(), case), "{}", case.name);
+    }
+}

@@ -1,0 +1,247 @@
+//! Traces of packets.
+
+use crate::answered::{Answered, is_answered};
+use crate::calling::{Case, comes_out};
+use crate::files::{LAN_IN_RING, LINE, TRIANGLE};
+use crate::words::USAGE;
+use mrt_cmd::Exit;
+
+const TRACES: &[Answered] = &[
+    Answered {
+        name: "blue around a triangle",
+        words: &["trace", "db", "-", "3.3.3.3", "2.2.2.2", "blue"],
+        database: TRIANGLE,
+        profile: b"",
+        script: b"",
+        answers: b"\
+entered 0\n\
+moved 1.1.1.1\n\
+delivered 2.2.2.2\n",
+    },
+    Answered {
+        name: "red, one hop",
+        words: &["trace", "db", "-", "3.3.3.3", "2.2.2.2", "red"],
+        database: TRIANGLE,
+        profile: b"",
+        script: b"",
+        answers: b"\
+entered 0\n\
+delivered 2.2.2.2\n",
+    },
+    Answered {
+        name: "no color past a node that cuts",
+        words: &[
+            "trace", "db", "-", "1.1.1.1", "4.4.4.4", "repair", "2.2.2.2",
+        ],
+        database: LINE,
+        profile: b"",
+        script: b"",
+        answers: b"\
+failed\n\
+entered 0\n\
+lost no-alternate\n",
+    },
+    Answered {
+        name: "the destination has failed",
+        words: &[
+            "trace", "db", "-", "1.1.1.1", "4.4.4.4", "repair", "4.4.4.4",
+        ],
+        database: LINE,
+        profile: b"",
+        script: b"",
+        answers: b"\
+failed\n\
+entered 0\n\
+moved 2.2.2.2\n\
+moved 3.3.3.3\n\
+lost is-destination\n",
+    },
+    Answered {
+        name: "a color is cut",
+        words: &["trace", "db", "-", "1.1.1.1", "4.4.4.4", "blue", "3.3.3.3"],
+        database: LINE,
+        profile: b"",
+        script: b"",
+        answers: b"\
+failed\n\
+entered 0\n\
+moved 2.2.2.2\n\
+lost color-cut\n",
+    },
+    Answered {
+        name: "a failure outside the island",
+        words: &[
+            "trace",
+            "db",
+            "prof",
+            "1.1.1.1",
+            "4.4.4.4",
+            "repair",
+            "link:3.3.3.3/0.0.0.4",
+        ],
+        database: LINE,
+        profile: b"no-mrt 3.3.3.3\n",
+        script: b"",
+        answers: b"\
+failed\n\
+entered 0\n\
+moved 2.2.2.2\n\
+moved 3.3.3.3\n\
+lost outside\n",
+    },
+    Answered {
+        name: "past the first link",
+        words: &[
+            "trace",
+            "db",
+            "-",
+            "1.1.1.1",
+            "4.4.4.4",
+            "repair",
+            "link:1.1.1.1/10.0.0.1",
+        ],
+        database: LAN_IN_RING,
+        profile: b"",
+        script: b"",
+        answers: b"\
+failed\n\
+entered 0\n\
+switched blue\n\
+delivered 4.4.4.4\n",
+    },
+    Answered {
+        name: "past the LAN",
+        words: &[
+            "trace",
+            "db",
+            "-",
+            "1.1.1.1",
+            "4.4.4.4",
+            "repair",
+            "net:10.0.0.3",
+        ],
+        database: LAN_IN_RING,
+        profile: b"",
+        script: b"",
+        answers: b"\
+failed\n\
+entered 0\n\
+switched blue\n\
+delivered 4.4.4.4\n",
+    },
+    Answered {
+        name: "past a router's link to the LAN",
+        words: &[
+            "trace",
+            "db",
+            "-",
+            "1.1.1.1",
+            "4.4.4.4",
+            "repair",
+            "link:2.2.2.2/10.0.0.2",
+        ],
+        database: LAN_IN_RING,
+        profile: b"",
+        script: b"",
+        answers: b"\
+failed\n\
+entered 0\n\
+switched blue\n\
+delivered 4.4.4.4\n",
+    },
+    Answered {
+        name: "past the second router",
+        words: &[
+            "trace", "db", "-", "1.1.1.1", "4.4.4.4", "repair", "2.2.2.2",
+        ],
+        database: LAN_IN_RING,
+        profile: b"",
+        script: b"",
+        answers: b"\
+failed\n\
+entered 0\n\
+switched blue\n\
+delivered 4.4.4.4\n",
+    },
+    Answered {
+        name: "a failure that the area does not have",
+        words: &["trace", "db", "-", "3.3.3.3", "2.2.2.2", "blue", "9.9.9.9"],
+        database: TRIANGLE,
+        profile: b"",
+        script: b"",
+        answers: b"\
+refused no-such-place\n\
+entered 0\n\
+moved 1.1.1.1\n\
+delivered 2.2.2.2\n",
+    },
+];
+
+const REFUSED: &[Case] = &[
+    Case {
+        name: "a router that is not there",
+        words: &["trace", "db", "-", "9.9.9.9", "2.2.2.2", "blue"],
+        database: TRIANGLE,
+        profile: b"",
+        certificate: b"",
+        exit: Exit::NotThere {
+            number: 0x0909_0909,
+        },
+        out: b"",
+        err: b"mrt: not there: 9.9.9.9\n",
+    },
+    Case {
+        name: "a color that is none",
+        words: &["trace", "db", "-", "1.1.1.1", "2.2.2.2", "green"],
+        database: TRIANGLE,
+        profile: b"",
+        certificate: b"",
+        exit: Exit::Usage,
+        out: b"",
+        err: USAGE,
+    },
+    Case {
+        name: "a failure that is no name",
+        words: &["trace", "db", "-", "1.1.1.1", "2.2.2.2", "blue", "3.3.3"],
+        database: TRIANGLE,
+        profile: b"",
+        certificate: b"",
+        exit: Exit::Usage,
+        out: b"",
+        err: USAGE,
+    },
+    Case {
+        name: "one word too many",
+        words: &[
+            "trace", "db", "-", "1.1.1.1", "2.2.2.2", "blue", "3.3.3.3", "x",
+        ],
+        database: TRIANGLE,
+        profile: b"",
+        certificate: b"",
+        exit: Exit::Usage,
+        out: b"",
+        err: USAGE,
+    },
+];
+
+fn traces() -> &'static [Answered] {
+    TRACES
+}
+
+fn refused() -> &'static [Case] {
+    REFUSED
+}
+
+#[test]
+fn traces_of_packets(rt: HostRuntime) {
+    for case in traces() {
+        assert!(rt; is_answered(rt.alloc(), case), "{}", case.name);
+    }
+}
+
+#[test]
+fn refused_traces(rt: HostRuntime) {
+    for case in refused() {
+        assert!(rt; comes_out(rt.alloc(), case), "{}", case.name);
+    }
+}
