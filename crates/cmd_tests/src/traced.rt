@@ -2,7 +2,7 @@
 
 use crate::answered::{Answered, is_answered};
 use crate::calling::{Case, comes_out};
-use crate::files::{LAN_IN_RING, LINE, TRIANGLE};
+use crate::files::{CUT, LAN_IN_RING, LINE, ONE_SIDED, TRIANGLE};
 use crate::words::USAGE;
 use mrt_cmd::Exit;
 
@@ -174,6 +174,37 @@ refused no-such-place\n\
 entered 0\n\
 moved 1.1.1.1\n\
 delivered 2.2.2.2\n",
+    },
+    Answered {
+        name: "past a node that cuts",
+        words: &["trace", "db", "-", "1.1.1.1", "3.3.3.3", "blue"],
+        database: CUT,
+        profile: b"",
+        script: b"",
+        answers: b"\
+entered 0\n\
+moved 2.2.2.2\n\
+moved 9.9.9.9\n\
+delivered 3.3.3.3\n",
+    },
+    Answered {
+        name: "no walk",
+        words: &["trace", "db", "-", "1.1.1.1", "2.2.2.2", "repair"],
+        database: ONE_SIDED,
+        profile: b"",
+        script: b"",
+        answers: b"\
+entered 0\n\
+lost no-route\n",
+    },
+    Answered {
+        name: "a color outside the island",
+        words: &["trace", "db", "-", "1.1.1.1", "2.2.2.2", "blue"],
+        database: ONE_SIDED,
+        profile: b"",
+        script: b"",
+        answers: b"\
+refused no-such-place\n",
     },
 ];
 

@@ -19,8 +19,8 @@ use std::alloc::Global;
 
 /// The lines of the answers to the events of a script, one for each. There is room for at least one packet.
 ///
-/// It takes the time of the look-ups of names and of the steps of packets: each a few entries of tables, and where a
-/// packet is switched to a color both colors' walks as well.
+/// It takes the time of the look-ups of names and of the steps of packets: each a few entries of tables, and where the
+/// primary of a packet has failed both colors' walks as well.
 ///
 /// # Errors
 ///

@@ -140,6 +140,16 @@ is_area laws bytes newest database within =
     (subst (λ (lsas : List Lsa). IsTooLarge (length (area_of lsas).ids) (length (area_of lsas).arcs)
     → ⊥) database.newest_ones within))
 
+-- what the steps of packets read in a router's island fits together
+pub parts_fit : (input : Input) → ((IsTooLarge (length (area input).ids) (length (area input).arcs) → ⊥)
+    → IsArea (area input)) → (router : ℕ) (parts : FabricParts) → ArePartsFor input router parts → AreFabricParts parts
+parts_fit input kept router parts are = record {
+  area_kept = subst IsArea (sym are.area_is) (kept are.has.area_within);
+  island_kept = are.certificate.kept;
+  fits = are.fits;
+  accepted = record { root = are.root; number = are.root_number; accepted = are.certificate.accepted };
+}
+
 too_large_is : (what other : What) (size count : ℕ) → (what ≡ other) × (size ≡ count)
     → exits.TooLarge what size ≡ exits.TooLarge other count
 too_large_is what other size count same = λ i. exits.TooLarge (same.0 i) (same.1 i)
@@ -257,14 +267,6 @@ module _ (laws : Laws) where
           → HasNoIslandFor input router exit → ⊥
       no_refusal_parts parts exit are refused = no_island_none parts.island are.root exit are.has refused
 
-      parts_kept : (parts : FabricParts) → ArePartsFor input router parts → AreFabricParts parts
-      parts_kept parts are = record {
-        area_kept = subst IsArea (sym are.area_is) (kept are.has.area_within);
-        island_kept = are.certificate.kept;
-        fits = are.fits;
-        accepted = record { root = are.root; number = are.root_number; accepted = are.certificate.accepted };
-      }
-
       one_parts : (parts other : FabricParts) → ArePartsFor input router parts → ArePartsFor input router other
           → parts ≡ other
       one_parts parts other one two =
@@ -287,14 +289,14 @@ module _ (laws : Laws) where
     one_trace : (trace : PacketTrace) (text other : List ℕ) → IsTraceGiven input trace text
         → IsTraceGiven input trace other → text ≡ other
     one_trace trace text other one two =
-        laws.packets.trace_text two.0 (parts_kept trace.from two.0 two.1) trace text other
+        laws.packets.trace_text two.0 (parts_fit input kept trace.from two.0 two.1) trace text other
         (subst (λ (parts : FabricParts). IsTraceText parts trace text) (one_parts trace.from one.0 two.0 one.1 two.1) one.2)
         two.2
 
     one_given : (script : Script) (text other : List ℕ) → IsScriptGiven input script text
         → IsScriptGiven input script other → text ≡ other
     one_given script text other one two =
-        laws.packets.script_text two.0 (parts_kept script.router two.0 two.1) script text other
+        laws.packets.script_text two.0 (parts_fit input kept script.router two.0 two.1) script text other
         (subst (λ (parts : FabricParts). IsScriptText parts script text) (one_parts script.router one.0 two.0 one.1 two.1)
         one.2) two.2
 

@@ -23,5 +23,6 @@ pub use exit::{DbKind, Exit, What};
 pub use line::Line;
 pub use program::run;
 pub use run_law::{
-    one_exit_comes, only_a_check_says_no, tables_are_of_one_certificate, what_was_written_passes,
+    one_exit_comes, only_a_check_says_no, tables_are_of_one_certificate,
+    what_steps_read_fits_together, what_was_written_passes,
 };

@@ -35,7 +35,8 @@ use std::alloc::Global;
 /// come at any place after `Usage`.
 ///
 /// It takes the time of reading the files, of an install for each LSA, of the area and the island, and of what is asked: of
-/// checking a certificate, of computing and writing one, or of computing one and a router's primaries and writing its table.
+/// checking a certificate, of computing and writing one, of computing one and a router's primaries and writing its table, or of
+/// computing one and all routers' primaries and following packets.
 pub fn run<F: Shelf, K: Sink, E: Sink>(
     alloc: Global,
     words: &[Word],

@@ -3,6 +3,7 @@
 ghost use Rattle.std.specs.Prelude.{◌≡◌, ℕ, List, Option, Some, Contains};
 ghost use Rattle.std.specs.Option.{IsSomeAnd};
 ghost use Rattle.area_graph.specs.Nodes.{router as router_node};
+ghost use Rattle.fabric.specs.FabricParts.{AreFabricParts, FabricParts};
 ghost use Rattle.mrt_io.specs.Holding.{Files};
 ghost use Rattle.mrt_cmd.specs.declared.exit.Exit.{Exit};
 ghost use Rattle.mrt_cmd.specs.Certified.{IsCertified};
@@ -10,6 +11,7 @@ ghost use Rattle.mrt_cmd.specs.Comes.{Comes, GivesText, IsRefused};
 ghost use Rattle.mrt_cmd.specs.Form.{IsCheck, form_of};
 ghost use Rattle.mrt_cmd.specs.Headline.{ChecksWritten};
 ghost use Rattle.mrt_cmd.specs.Input.{Input, IsInput};
+ghost use Rattle.mrt_cmd.specs.Packets.{ArePartsFor};
 ghost use Rattle.mrt_cmd.specs.SameFile.{IsSameFile};
 ghost use Rattle.mrt_cmd.specs.Tabled.{IsTabled};
 
@@ -82,6 +84,15 @@ pub fn tables_are_of_one_certificate()
     a_router_has_one_island();
     an_island_is_that_of_each_router_in_it();
     one_certificate();
+}
+
+/// A law: what the steps of packets read fits together, so that the laws of `fabric` hold of each run over it.
+pub fn what_steps_read_fits_together()
+    ensures { (database profile : List ℕ) (input : Input) → IsInput database profile input
+        → (router : ℕ) (parts : FabricParts) → ArePartsFor input router parts → AreFabricParts parts }
+{
+    an_lsa_without_a_fault_may_be_installed();
+    the_newest_records_give_an_area();
 }
 
 /// A law: only a check says no.
