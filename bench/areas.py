@@ -64,6 +64,16 @@ def random_area(random):
     return b"".join(router_lsa(router(number), links) for number, links in found.items()) + b"".join(lans)
 
 
+def random_ring(random):
+    """A ring of three to seven routers with chords and any metrics, and now and then a LAN on some of them."""
+    count = random.randint(3, 7)
+    links = [(each, each % count + 1) for each in range(1, count + 1)]
+    links += [tuple(random.sample(range(1, count + 1), 2)) for _ in range(random.randrange(4))]
+    attached = random.sample(range(1, count + 1), random.randint(2, count))
+    lan = (address("10.0.0.0") + attached[0], attached) if random.random() < 0.4 else None
+    return worked(links, lan, {link: random.randint(1, 4) for link in links})
+
+
 # areas of routers 1 to n, of point-to-point links alone
 
 def numbered(pairs, metric=lambda: 1):

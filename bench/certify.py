@@ -1,26 +1,30 @@
 #!/usr/bin/env python3
-"""A plain reference program: writes the certificate of a router's island, prints a router's table, and says what `mrt check` is to say of a
-certificate.
+"""A plain reference program: writes the certificate of a router's island, prints a router's table, steps packets through a failure, and says
+what `mrt check` is to say of a certificate.
 
 usage: certify.py certify DATABASE PROFILE ROUTER CERTIFICATE
        certify.py check DATABASE PROFILE CERTIFICATE
        certify.py table DATABASE PROFILE ROUTER
+       certify.py trace DATABASE PROFILE FROM TO ENTRY [FAILED]
+       certify.py fabric DATABASE PROFILE SCRIPT
        certify.py rows DATABASE PROFILE ROUTER
 
 PROFILE is the name of a file, or - for the empty profile. `rows` prints the rows of a router and the order of the GADAG. A refusal is
 printed as `mrt` prints it, and its status is the same. It is slow: an island of 2,048 nodes takes a minute or two.
 """
+import os
 import sys
 
 import certificate
 import database
+import fabric as fabrics
 import island as islands
 import lowpoint
 import table as tables
 from database import Id, Refused, text_of
 from lsas import address, spelled
 
-LIMITS = {"database-file": 8388608, "profile-file": 33554432, "certificate-file": 33554432}
+LIMITS = {"database-file": 8388608, "profile-file": 33554432, "certificate-file": 33554432, "script-file": 33554432}
 
 
 def read(name, what):
@@ -78,6 +82,26 @@ def table(data, profile, router):
     return "\n".join(tables.text(area, found, lowpoint.compute(found), router))
 
 
+def fabric_parts(data, profile, router):
+    """What the steps of packets read, for the island of a router."""
+    area, found = parts_of(data, profile, router)
+    return fabrics.Parts(area, found, lowpoint.compute(found))
+
+
+def trace(data, profile, words):
+    """The bytes of a packet's trace, which words ask for."""
+    router, to, entry, failed = fabrics.read_trace(words)
+    return fabrics.trace_text(fabric_parts(data, profile, router), router, to, entry, failed).encode()
+
+
+def fabric(data, profile, script):
+    """The bytes of the answers to a script. A fault of the database or of the profile comes first, then one of the script."""
+    area_of(data)
+    islands.read_profile(profile)
+    (router, room), events = fabrics.read_script(script)
+    return fabrics.script_text(fabric_parts(data, profile, router), room, events).encode()
+
+
 def rows(data, profile, router):
     """The rows of a router and the order of the GADAG, as lines."""
     found = island_of(data, profile, router)
@@ -100,13 +124,17 @@ def run(command, words):
         print(check(*read_parts(*words[:2]), read(words[2], "certificate-file")))
     elif command == "table":
         print(table(*read_parts(*words[:2]), address(words[2])))
+    elif command == "trace":
+        sys.stdout.buffer.write(trace(*read_parts(*words[:2]), [os.fsencode(word) for word in words[2:]]))
+    elif command == "fabric":
+        sys.stdout.buffer.write(fabric(*read_parts(*words[:2]), read(words[2], "script-file")))
     else:
         print("\n".join(rows(*read_parts(*words[:2]), address(words[2]))))
 
 
 def main():
-    counts = {"certify": 4, "check": 3, "table": 3, "rows": 3}
-    if len(sys.argv) < 2 or counts.get(sys.argv[1]) != len(sys.argv) - 2:
+    counts = {"certify": [4], "check": [3], "table": [3], "trace": [5, 6], "fabric": [3], "rows": [3]}
+    if len(sys.argv) < 2 or len(sys.argv) - 2 not in counts.get(sys.argv[1], []):
         sys.exit(__doc__)
     try:
         run(sys.argv[1], sys.argv[2:])

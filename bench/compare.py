@@ -1,5 +1,6 @@
 #!/usr/bin/env python3
-"""Compares `mrt check`, `mrt certify` and `mrt table` with the reference program on random areas, profiles and certificates, whole and damaged.
+"""Compares `mrt check`, `certify`, `table`, `trace` and `fabric` with the reference program on random areas, profiles, certificates, traces and
+scripts, whole and damaged.
 
 usage: compare.py PROGRAM [CASES [SEED]]
 
@@ -10,17 +11,25 @@ import os
 import subprocess
 import sys
 import tempfile
+from collections import namedtuple
 from random import Random
 
 import certificate
 import certify
 import database
 import lowpoint
-from areas import random_area, router, write
-from database import Refused
-from lsas import lsa, spelled
+from areas import random_area, random_ring, router, write
+from database import ROUTER, Refused, text_of
+from lsas import address, lsa, spelled
 
-COMMANDS = "check", "certify", "table", "check of what was written"
+COMMANDS = "check", "certify", "table", "trace", "fabric", "check of what was written"
+WRONG_NAMES = ("", "net:", "1.1.1", "1.1.1.256", "1.1.1.01", "net:1.1.1.1.1", "link:1.1.1.1", "link:1.1.1.1/", "link:/0.0.0.1",
+               "link:net:1.1.1.1/0.0.0.1")
+WRONG_LINES = ("step", "step -1", "step 00", "step 65536", "step 0 0", "Step 0", "fail", "fail 1.1.1.1 2.2.2.2", "inject 1.1.1.1 2.2.2.2", "stop",
+               "inject net:10.0.0.1 2.2.2.2 blue", "inject 1.1.1.1 2.2.2.2 green", "island 1.1.1.1 1", "island 1.1.1.1 0", "island 1.1.1.1 65536")
+
+# Certificate and script are the bytes of files; a router is that of `certify` and `table`; a trace is its words.
+Case = namedtuple("Case", "data profile cert router trace script")
 
 
 # databases
@@ -51,7 +60,7 @@ def damaged(random, data):
 
 
 def random_database(random):
-    whole = records_of(random_area(random))
+    whole = records_of(random.choice([random_area, random_ring])(random))
     records = whole + [again(random, random.choice(whole)) for _ in range(random.choice([0, 0, 1, 3]))]
     if random.random() < 0.2:
         records.append(lsa(random.choice([3, 5, 10]), 1, router(1), bytes(random.randrange(20))))
@@ -107,46 +116,150 @@ def random_certificate(random, data, profile):
     return text
 
 
+# names
+
+def named_area(data):
+    """The area whose names a case uses; one of no nodes where the database is refused."""
+    try:
+        return certify.area_of(data)
+    except Refused:
+        return database.Area([], [], [])
+
+
+def random_router(random, area):
+    """A router's address; now and then there is no such router."""
+    there = [node for node in area.ids if node.kind == ROUTER]
+    return text_of(random.choice(there)) if there and random.random() < 0.95 else spelled(router(random.randint(1, 8)))
+
+
+def random_node(random, area):
+    """A name of a node; now and then there is no such node, or it is no name."""
+    if random.random() < 0.02:
+        return random.choice(WRONG_NAMES)
+    if area.ids and random.random() < 0.95:
+        return text_of(random.choice(area.ids))
+    return random.choice(["", "net:"]) + spelled(random.choice([router(random.randint(1, 8)), address("10.0.0.1")]))
+
+
+def random_arcs(random, area):
+    """Arcs, each of which begins where the one before ends, the first one at a router; none where no router has an arc."""
+    arcs = [arc for arc in area.arcs if area.ids[arc.tail].kind == ROUTER]
+    way = [random.choice(arcs)] if arcs else []
+    for _ in range(random.randrange(4) if way else 0):
+        way.append(random.choice([arc for arc in area.arcs if arc.tail == way[-1].to]))
+    return way
+
+
+def random_ends(random, area):
+    """A router and a node, by name; mostly some arcs lead from one to the other."""
+    way = random_arcs(random, area)
+    if way and random.random() < 0.8:
+        return text_of(area.ids[way[0].tail]), text_of(area.ids[way[-1].to])
+    return random_router(random, area), random_node(random, area)
+
+
+def random_failure(random, area, beside):
+    """A name of what fails: a link or a neighbour of the router of this name, or any node; now and then there is none of this name."""
+    arcs = [arc for arc in area.arcs if text_of(area.ids[arc.tail]) == beside]
+    if not arcs or random.random() < 0.3:
+        return random_node(random, area)
+    arc = random.choice(arcs)
+    data = arc.data + (random.random() < 0.05)
+    return random.choice([text_of(area.ids[arc.to]), f"link:{beside}/{spelled(data)}"])
+
+
+def random_entry(random):
+    return random.choice(["blue", "red", "repair", "repair", "repair"])
+
+
+# packets
+
+def random_trace(random, area):
+    """The words of a trace; now and then they are too few, or one of them is wrong."""
+    start, to = random_ends(random, area)
+    words = [start, to, random_entry(random)] + ([random_failure(random, area, start)] if random.random() < 0.8 else [])
+    if random.random() < 0.02:
+        words[random.randrange(len(words))] = random.choice(WRONG_NAMES)
+    return [word.encode() for word in (words[:random.randint(1, 2)] if random.random() < 0.01 else words)]
+
+
+def random_event(random, area, start, packets):
+    """A line of a script, after so many packets, of which about half are refused. A packet enters at this router, or elsewhere."""
+    chance = random.random()
+    if chance < 0.2 or not packets:
+        other, to = random_ends(random, area)
+        return f"inject {random.choice([start, other])} {to} {random_entry(random)}"
+    if chance < 0.26:
+        return f"fail {random_failure(random, area, start)}"
+    if chance < 0.3:
+        return random.choice(["# a comment", "", " \t", f"\tstep  {packets // 2}\t", "step 0\r"])
+    return f"step {max(0, packets // 2 - random.randint(-1, 2))}"
+
+
+def damaged_lines(random, lines):
+    """Lines without the first one, or with a wrong one in a place of its own or of another one; or at most two that say nothing."""
+    at = random.randrange(len(lines))
+    wrong = lines[:at] + [random.choice(WRONG_LINES)] + lines[at + random.randrange(2):]
+    return random.choice([lines[1:], wrong, wrong, ["", "# a comment"][:random.randrange(3)]])
+
+
+def random_script(random, area):
+    start, packets = random_router(random, area), 0
+    lines = [f"island {start} {random.choice([1, 3, 8, 40, 65535])}"]
+    lines += [f"fail {random_failure(random, area, start)}"] if random.random() < 0.3 else []
+    for _ in range(random.randint(1, 40)):
+        lines.append(random_event(random, area, start, packets))
+        packets += lines[-1].startswith("inject")
+    lines = damaged_lines(random, lines) if random.random() < 0.1 else lines
+    text = "".join(line + "\n" for line in lines).encode()
+    return damaged(random, text) if random.random() < 0.1 else text
+
+
 # comparing
 
-def reference(function, data, profile, last):
+def reference(function, case, last):
     """What the program is to answer: status, output, errors."""
     try:
-        output = function(data, profile, last)
+        output = function(case.data, case.profile, last)
     except Refused as refused:
         return refused.status, b"", f"mrt: {refused.line}\n".encode()
     return 0, output if isinstance(output, bytes) else output.encode() + b"\n", b""
 
 
-def wanted(data, profile, cert, source):
+def wanted(case):
     """The same for each command. What is written has to be accepted."""
-    answers = [reference(certify.check, data, profile, cert), reference(certify.certify, data, profile, source), reference(certify.table, data, profile, source)]
+    tasks = ((certify.check, case.cert), (certify.certify, case.router), (certify.table, case.router), (certify.trace, case.trace),
+             (certify.fabric, case.script))
+    answers = [reference(function, case, last) for function, last in tasks]
     status, written, _ = answers[1]
-    return answers + ([(0, certify.check(data, profile, written).encode() + b"\n", b"")] if status == 0 else [])
+    return answers + ([reference(certify.check, case, written)] if status == 0 else [])
 
 
-def answered(program, folder, data, profile, cert, source):
+def answered(program, folder, case):
     """What it answers, from files in a folder."""
-    def answer(*words):
-        done = subprocess.run([program, *words], capture_output=True)
+    def answer(command, *words):
+        # A profile without lines may as well not be named.
+        done = subprocess.run([program, command, database, lines if case.profile else "-", *words], capture_output=True)
         return done.returncode, done.stdout, done.stderr
 
-    database, lines, given, own = (os.path.join(folder, name) for name in ("area.lsas", "area.profile", "area.cert", "written.cert"))
-    for name, text in ((database, data), (lines, profile), (given, cert)):
+    names = "area.lsas", "area.profile", "area.cert", "packets.script", "written.cert"
+    database, lines, given, script, own = (os.path.join(folder, name) for name in names)
+    for name, text in ((database, case.data), (lines, case.profile), (given, case.cert), (script, case.script)):
         write(name, text)
-    # A profile without lines may as well not be named.
-    lines = lines if profile else "-"
-    answers = [answer("check", database, lines, given), answer("certify", database, lines, spelled(source)), answer("table", database, lines, spelled(source))]
+    answers = [answer("check", given), answer("certify", spelled(case.router)), answer("table", spelled(case.router)), answer("trace", *case.trace),
+               answer("fabric", script)]
     status, written, _ = answers[1]
     if status == 0:
         write(own, written)
-        answers.append(answer("check", database, lines, own))
+        answers.append(answer("check", own))
     return answers
 
 
 def random_case(random):
     data, profile = random_database(random), random_profile(random)
-    return data, profile, random_certificate(random, data, profile), router(random.randint(1, 7))
+    area = named_area(data)
+    cert, source = random_certificate(random, data, profile), router(random.randint(1, 7))
+    return Case(data, profile, cert, source, random_trace(random, area), random_script(random, area))
 
 
 def main():
@@ -155,12 +268,12 @@ def main():
     with tempfile.TemporaryDirectory() as folder:
         for number in range(cases):
             case = random_case(random)
-            for command, want, got in zip(COMMANDS, wanted(*case), answered(program, folder, *case)):
+            for command, want, got in zip(COMMANDS, wanted(case), answered(program, folder, case)):
                 counts[command, got[0]] = counts.get((command, got[0]), 0) + 1
                 if got != want:
                     differing += 1
                     kept = tempfile.mkdtemp()
-                    answered(program, kept, *case)
+                    answered(program, kept, case)
                     print(f"case {number}, {command}: {got}, not {want}; its files are in {kept}")
     print(f"{cases} cases, {differing} differ; by status: " + ", ".join(f"{command} {status}: {counts[command, status]}" for command, status in sorted(counts)))
     sys.exit(1 if differing else 0)

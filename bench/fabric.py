@@ -13,6 +13,9 @@ Packet = namedtuple("Packet", "place to mode color state")
 Parts = namedtuple("Parts", "area island cert")
 
 COLORS = "blue", "red"
+ENTRIES = "blue", "red", "repair"
+USAGE = ("usage: check DB PROFILE CERT, certify DB PROFILE ROUTER, table DB PROFILE ROUTER, trace DB PROFILE FROM TO blue/red/repair [FAIL], "
+         "fabric DB PROFILE SCRIPT, survey NUMBER NODES")
 
 
 # hops
@@ -159,6 +162,17 @@ def failure_name(word):
     return None if node is None else ("node", node)
 
 
+# the words of a trace
+
+def read_trace(words):
+    """Where a packet enters, where it is to go, how it enters, and what has failed, if anything has; other words are refused."""
+    if len(words) in (3, 4) and words[2].decode() in ENTRIES:
+        router, to, failed = address_of(words[0]), node_name(words[1]), failure_name(words[3]) if len(words) == 4 else ()
+        if None not in (router, to, failed):
+            return router, to, words[2].decode(), failed
+    raise Refused(2, USAGE)
+
+
 # scripts
 
 def number_within(word, least, most):
@@ -177,7 +191,7 @@ def start_of(words):
 def event_of(words):
     """The event of a later line, if it is one."""
     event = None
-    if len(words) == 4 and words[0] == b"inject" and words[3] in (b"blue", b"red", b"repair"):
+    if len(words) == 4 and words[0] == b"inject" and words[3] in map(str.encode, ENTRIES):
         event = "inject", address_of(words[1]), node_name(words[2]), words[3].decode()
     elif len(words) == 2 and words[0] == b"step":
         event = "step", number_within(words[1], 0, 65535)
