@@ -7,3 +7,4 @@ pub mod Placed
 pub mod RunsOn
 pub mod StepsTold
 pub mod TraceTold
+pub mod TraceRun
