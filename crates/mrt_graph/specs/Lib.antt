@@ -5,6 +5,7 @@ pub mod BothThere
 pub mod CertWords
 pub mod Certificate
 pub mod ColorWalk
+pub mod Column
 pub mod Connected
 pub mod DirectedLists
 pub mod EndRows

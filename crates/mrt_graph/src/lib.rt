@@ -4,6 +4,7 @@
 
 mod cert;
 mod cert_law;
+mod column;
 mod directed;
 mod gadag;
 mod graph;
@@ -23,6 +24,7 @@ mod tree;
 
 pub use cert::{Cert, CertFile, CertLink, CertNode, Color, Role, Row, Tag};
 pub use cert_law::{accepted_implies_sound, accepted_or_one_first_fault, accepted_rows_lead_on};
+pub use column::Column;
 pub use directed::Directed;
 pub use gadag::{Gadag, Mark, Place, Way};
 pub use graph::Graph;

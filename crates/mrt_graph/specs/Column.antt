@@ -1,0 +1,27 @@
+-- What a column holds: the rows of all nodes for one destination.
+use Rattle.std.specs.Prelude.{◌≡◌, ◌≢◌, ◌<◌, ℕ, List, Option, Some, None, length, slice_get}
+use Rattle.std.specs.Option.{option_and_then}
+use Rattle.mrt_graph.specs.declared.cert.Row.{Row}
+use Rattle.mrt_graph.specs.declared.link.Link.{Link}
+use Rattle.mrt_graph.specs.Rows.{Rows}
+use Rattle.mrt_graph.specs.Sound.{SoundFor}
+
+-- no row stands at t, and at no other place
+pub record IsColumnFor (column : List (Option Row)) (t : ℕ) : Type 0 where
+  pub none_there : slice_get column t ≡ Some None
+  pub there_alone : (s : ℕ) → slice_get column s ≡ Some None → s ≡ t
+
+-- what each column keeps: at exactly one place no row stands, which is the destination's
+abbrev pub IsColumn : List (Option Row) → Type 0
+IsColumn column = (t : ℕ) × IsColumnFor column t
+
+-- the rows of a column, each for the column's destination
+abbrev pub rows_of_column : List (Option Row) → Rows
+rows_of_column column s t = option_and_then (λ row. row) (slice_get column s)
+
+-- a column of n rows for t, on these links, is sound: from each other node both color walks reach t, and they share only
+-- what separates it from t
+pub record ColumnSound (links : List Link) (n : ℕ) (column : List (Option Row)) (t : ℕ) : Type 0 where
+  pub a_place_each : length column ≡ n
+  pub destination : IsColumnFor column t
+  pub sound : (s : ℕ) → s < n → s ≢ t → SoundFor links n (rows_of_column column) s t
