@@ -1,11 +1,11 @@
 -- A list of different numbers below n has at most n members.
-use Rattle.std.proofs.Common.{◌≡◌, ◌<◌, ◌≤◌, ◌+◌, ◌==◌, ◌∙◌, ℕ, zero, suc, Bool, true, false, not, List, [], ◌∷◌, Some, length, filter, slice_get, inl, inr, refl, sym, subst, arith}
+use Rattle.std.proofs.Common.{◌≡◌, ◌<◌, ◌≤◌, ◌+◌, ◌==◌, ℕ, zero, suc, true, false, not, List, [], ◌∷◌, Some, length, filter, slice_get, inl, inr, refl, sym, subst, arith}
 use Rattle.std.specs.Prelude.{Contains}
-use Rattle.std.proofs.lemmas.Bool.{cases_Bool, ne_eqb, eqb-true}
+use Rattle.std.proofs.lemmas.Bool.{cases_Bool, ne_eqb}
 use Rattle.std.proofs.lemmas.Bool.Decides.{eqb_tells}
 use Rattle.mrt_graph.proofs.ListPlaces.{place_of}
 use Rattle.mrt_graph.proofs.Members.{Has, contains_cases, contains_from_has, contains_none, has_filter, listed_or_not}
-use Rattle.mrt_graph.proofs.Tallies.{length_is_tally, one_if, tally, tally_filtered, tally_none}
+use Rattle.mrt_graph.proofs.Tallies.{length_is_tally, tally, tally_filtered, tally_none}
 
 -- where no two places have v
 abbrev pub IsAtOnePlace : List ℕ → ℕ → Type 0

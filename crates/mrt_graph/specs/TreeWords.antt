@@ -1,5 +1,5 @@
 -- What a search tree says of a node. A node that is not there has number 0, which is no node's number.
-use Rattle.std.specs.Prelude.{ℕ, List, Option, None, slice_get}
+use Rattle.std.specs.Prelude.{ℕ, List, Option, slice_get}
 use Rattle.std.specs.Option.{option_and_then, option_map_or}
 use Rattle.mrt_graph.specs.declared.tree.TreeNode.{TreeNode}
 
