@@ -1,15 +1,18 @@
 -- Each loss of a packet comes exactly where its cause stands.
-use Rattle.std.proofs.Common.{◌≡◌, ◌≢◌, ◌⊎◌, ◌≤◌, ◌∙◌, ℕ, List, Option, Some, None, length, slice_get, inl, refl, sym, ap, subst}
+use Rattle.std.proofs.Common.{◌≡◌, ◌≢◌, ◌⊎◌, ◌≤◌, ◌∙◌, ℕ, List, Option, Some, None, Ok, length, slice_get, inl, refl, sym, ap, subst}
 use Rattle.std.specs.Option.{option_map}
 use Rattle.std.proofs.lemmas.Option.{same_Some}
+use Rattle.fabric.specs.Answers.{Answered, HasEnded as EndedBefore, IsStepAnswer, NoPacket}
 use Rattle.fabric.specs.Causes.{IsCutFromFailed, IsOnWalk, IsSeparated, LossCauses}
 use Rattle.fabric.specs.FabricParts.{AreFabricParts, FabricParts, element_at, link_at, node_at}
 use Rattle.fabric.specs.FabricState.{Answer, FabricState, start}
+use Rattle.fabric.specs.FabricStep.{FabricStep}
 use Rattle.fabric.specs.Handling.{Arrives, AtDestination, AtFailed, IsCutOff, IsHandled, IsRepairedBy, IsUnreachable, Moves, OnColor, OutsideIsland, Repaired, Unreachable, Unrepaired}
 use Rattle.fabric.specs.PacketHop.{IsCut}
 use Rattle.fabric.specs.Runs.{IsRun}
 use Rattle.fabric.specs.Course.{steps_of}
 use Rattle.fabric.specs.declared.event.Event.{Event}
+use Rattle.fabric.specs.declared.event.Event.TheVariants.{Step}
 use Rattle.fabric.specs.declared.event.Failure.{Failure}
 use Rattle.fabric.specs.declared.event.Failure.TheVariants as failures
 use Rattle.fabric.specs.declared.event.Outcome.{Outcome}
@@ -215,14 +218,29 @@ module _ (parts : FabricParts) (are : AreFabricParts parts) (failure : Option Fa
       one : (other : Outcome) → IsHandled parts failure q other → outcome ≡ other
       one other is = one_outcome parts are failure q outcome other handled is
 
+-- a step that is answered handles a packet that is going
+handled_by : (parts : FabricParts) (failure : Option Failure) (there : Option Packet) (packet : Packet) (answer : Answer) (outcome : Outcome) → there ≡ Some packet
+    → answer ≡ Ok outcome → IsStepAnswer parts failure there answer → (packet.state ≡ states.Going) × IsHandled parts failure packet outcome
+handled_by parts failure there packet answer outcome is same NoPacket = cc
+handled_by parts failure there packet answer outcome is same (EndedBefore q ended) = cc
+handled_by parts failure there packet answer outcome is same (Answered q other going handled) =
+    let here : q ≡ packet = same_Some q packet is in
+    let one : other ≡ outcome = cc in (
+      ap (λ (x : Packet). x.state) (sym here) ∙ going,
+      subst (λ (x : Packet). IsHandled parts failure x outcome) here (subst (λ (o : Outcome). IsHandled parts failure q o) one handled),
+    )
+
 -- in each run from the start
 pub run_caused : (parts : FabricParts) → AreFabricParts parts → (room : ℕ) (events : List Event) (answers : List Answer) (end : FabricState) → IsRun parts (start room) events answers end
-    → (p : ℕ) (packet : Packet) → slice_get end.packets p ≡ Some packet → packet.state ≡ states.Going
-    → (outcome : Outcome) → IsHandled parts end.failure packet outcome → LossCauses parts end.failure packet outcome
-run_caused parts are room events answers end run p packet there going outcome handled = go (run_lives parts are room events answers end run p)
+    → (p : ℕ) (packet : Packet) → slice_get end.packets p ≡ Some packet → (outcome : Outcome) (new : FabricState) → FabricStep parts end (Step p) (Ok outcome) new
+    → LossCauses parts end.failure packet outcome
+run_caused parts are room events answers end run p packet there outcome new step = go (run_lives parts are room events answers end run p)
   where
+    by : (packet.state ≡ states.Going) × IsHandled parts end.failure packet outcome
+    by = handled_by parts end.failure (slice_get end.packets p) packet (Ok outcome) outcome there refl step.answers
+
     go : IsAt parts p end (steps_of p events answers) → LossCauses parts end.failure packet outcome
     go (Unmade none count) = cc
     go (Living q is lives) =
         let same : q ≡ packet = same_Some _ _ (sym is ∙ there) in
-        caused parts are end.failure packet (steps_of p events answers) (subst (λ (x : Packet). Lives parts end.failure x (steps_of p events answers)) same lives) going outcome handled
+        caused parts are end.failure packet (steps_of p events answers) (subst (λ (x : Packet). Lives parts end.failure x (steps_of p events answers)) same lives) by.0 outcome by.1
