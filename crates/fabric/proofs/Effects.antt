@@ -1,10 +1,10 @@
 -- What an event does to one packet and to the failure.
 use Rattle.std.proofs.Common.{◌≡◌, ◌≢◌, ◌++◌, ◌∙◌, ℕ, zero, suc, Bool, true, false, List, [], ◌∷◌, Option, Some, None, Ok, Err, length, slice_get, set, inl, inr, refl, sym, ap, subst, arith}
-use Rattle.std.specs.Prelude.{nat_lt, slice_set, if◌then◌else◌}
+use Rattle.std.specs.Prelude.{slice_set}
 use Rattle.std.specs.Option.{option_map_or}
 use Rattle.std.proofs.lemmas.Bool.{cases_eq, eq-eqb, ne_eqb}
 use Rattle.std.proofs.lemmas.Option.{slice_get_past, slice_get_within}
-use Rattle.fabric.specs.Answers.{Answered, HasEnded, IsAnswer, IsStepAnswer, NoPacket, fail_answer, is_element, may_enter}
+use Rattle.fabric.specs.Answers.{Answered, FailedBefore, GetsNumber, HasElement, HasEnded, IsAnswer, IsFailAnswer, IsInjectAnswer, IsKept, IsStepAnswer, MayEnter, MayNotEnter, NoPacket, NoRoom, NotThere}
 use Rattle.fabric.specs.Course.{handles, makes}
 use Rattle.fabric.specs.FabricParts.{FabricParts}
 use Rattle.fabric.specs.FabricState.{Answer, FabricState, entering, packet_after, packets_after, state_after}
@@ -14,7 +14,6 @@ use Rattle.fabric.specs.declared.event.Event.{Event}
 use Rattle.fabric.specs.declared.event.Event.TheVariants.{Fail, Inject, Step}
 use Rattle.fabric.specs.declared.event.Failure.{Failure}
 use Rattle.fabric.specs.declared.event.Outcome.{Outcome}
-use Rattle.fabric.specs.declared.event.Outcome.TheVariants as outcomes
 use Rattle.fabric.specs.declared.event.Refused.TheVariants as refusals
 use Rattle.fabric.specs.declared.packet.Entry.{Entry}
 use Rattle.fabric.specs.declared.packet.Packet.{Packet}
@@ -33,10 +32,10 @@ pub data Effect (parts : FabricParts) (p : ℕ) (old new : FabricState) (event :
   Apart : slice_get new.packets p ≡ slice_get old.packets p → new.failure ≡ old.failure
       → AreTo p event answer [] [] false false → Effect parts p old new event answer
   Made : (at to : ℕ) (entry : Entry) → slice_get old.packets p ≡ None → slice_get new.packets p ≡ Some (entering at to entry)
-      → new.failure ≡ old.failure → may_enter parts at to entry ≡ true
+      → new.failure ≡ old.failure → MayEnter parts at to entry
       → AreTo p event answer (Enters at to entry ∷ []) [] true false → Effect parts p old new event answer
   FailsNow : (failed : Failure) → slice_get new.packets p ≡ slice_get old.packets p → old.failure ≡ None
-      → new.failure ≡ Some failed → is_element parts failed ≡ true
+      → new.failure ≡ Some failed → HasElement parts failed
       → AreTo p event answer (Fails failed ∷ []) [] false false → Effect parts p old new event answer
   Handled : (q : Packet) (outcome : Outcome) → slice_get old.packets p ≡ Some q → q.state ≡ Going
       → IsHandled parts old.failure q outcome → slice_get new.packets p ≡ Some (packet_after outcome q)
@@ -55,13 +54,11 @@ pushed_apart (x ∷ xs) y (suc k) other = pushed_apart xs y k (λ same. other (o
 
 module _ (parts : FabricParts) (p : ℕ) (old : FabricState) where
   -- of a packet that enters
-  entered : (at to : ℕ) (entry : Entry) (b c : Bool) (answer : Answer) → may_enter parts at to entry ≡ b
-      → nat_lt (length old.packets) old.room ≡ c
-      → answer ≡ (if b then (if c then Ok (outcomes.Entered (length old.packets)) else Err refusals.Full) else Err refusals.NoSuchPlace)
+  entered : (at to : ℕ) (entry : Entry) (answer : Answer) → IsInjectAnswer parts old at to entry answer
       → Effect parts p old (state_after old (Inject at to entry) answer) (Inject at to entry) answer
-  entered at to entry false c answer may room is = rw is (Apart refl refl (record { own_is = refl; answers_is = refl; makes_is = refl; handles_is = refl }))
-  entered at to entry true false answer may room is = rw is (Apart refl refl (record { own_is = refl; answers_is = refl; makes_is = refl; handles_is = refl }))
-  entered at to entry true true answer may room is = rw is (elim (cases_eq (length old.packets) p) [
+  entered at to entry answer (MayNotEnter not) = Apart refl refl (record { own_is = refl; answers_is = refl; makes_is = refl; handles_is = refl })
+  entered at to entry answer (NoRoom may full) = Apart refl refl (record { own_is = refl; answers_is = refl; makes_is = refl; handles_is = refl })
+  entered at to entry answer (GetsNumber may room) = elim (cases_eq (length old.packets) p) [
     | inl same ↦
         let none : slice_get old.packets p ≡ None = slice_get_past old.packets p (omega (arith, same)) in
         let there : slice_get (old.packets ++ entering at to entry ∷ []) p ≡ Some (entering at to entry) =
@@ -79,15 +76,15 @@ module _ (parts : FabricParts) (p : ℕ) (old : FabricState) where
           makes_is = ne_eqb (length old.packets) p other;
           handles_is = refl;
         })
-  ])
+  ]
 
   -- of a failure
-  failed_now : (failed : Failure) (failure : Option Failure) (b : Bool) (answer : Answer) → old.failure ≡ failure → is_element parts failed ≡ b
-      → answer ≡ fail_answer parts failure failed → Effect parts p old (state_after old (Fail failed) answer) (Fail failed) answer
-  failed_now failed None true answer kept there is = rw (is, there) (FailsNow failed refl kept refl there (record { own_is = refl; answers_is = refl; makes_is = refl; handles_is = refl }))
-  failed_now failed None false answer kept there is = rw (is, there) (Apart refl refl (record { own_is = refl; answers_is = refl; makes_is = refl; handles_is = refl }))
-  failed_now failed (Some x) true answer kept there is = rw (is, there) (Apart refl refl (record { own_is = refl; answers_is = refl; makes_is = refl; handles_is = refl }))
-  failed_now failed (Some x) false answer kept there is = rw (is, there) (Apart refl refl (record { own_is = refl; answers_is = refl; makes_is = refl; handles_is = refl }))
+  failed_now : (failed : Failure) (answer : Answer) → IsFailAnswer parts old.failure failed answer
+      → Effect parts p old (state_after old (Fail failed) answer) (Fail failed) answer
+  failed_now failed answer (NotThere not) = Apart refl refl (record { own_is = refl; answers_is = refl; makes_is = refl; handles_is = refl })
+  failed_now failed answer (FailedBefore has some) = Apart refl refl (record { own_is = refl; answers_is = refl; makes_is = refl; handles_is = refl })
+  failed_now failed answer (IsKept has none) =
+      FailsNow failed refl none refl has (record { own_is = refl; answers_is = refl; makes_is = refl; handles_is = refl })
 
   -- of a step
   stepped : (number : ℕ) (there : Option Packet) (answer : Answer) → slice_get old.packets number ≡ there → IsStepAnswer parts old.failure there answer
@@ -132,7 +129,6 @@ module _ (parts : FabricParts) (p : ℕ) (old : FabricState) where
       ]
 
   pub effect : (event : Event) (answer : Answer) → IsAnswer parts old event answer → Effect parts p old (state_after old event answer) event answer
-  effect (Inject at to entry) answer is =
-      entered at to entry (may_enter parts at to entry) (nat_lt (length old.packets) old.room) answer refl refl is
+  effect (Inject at to entry) answer is = entered at to entry answer is
   effect (Step number) answer is = stepped number (slice_get old.packets number) answer refl is
-  effect (Fail failed) answer is = failed_now failed old.failure (is_element parts failed) answer refl refl is
+  effect (Fail failed) answer is = failed_now failed answer is

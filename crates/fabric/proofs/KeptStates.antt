@@ -1,19 +1,20 @@
 -- What a fabric keeps, event by event.
-use Rattle.std.proofs.Common.{◌≡◌, ◌≢◌, ◌<◌, ◌≤◌, ◌++◌, ◌∙◌, ℕ, true, List, [], ◌∷◌, Option, Some, None, Ok, Err, length, set, slice_get, inl, inr, refl, sym, ap, subst, arith}
+use Rattle.std.proofs.Common.{◌≡◌, ◌≢◌, ◌<◌, ◌≤◌, ◌++◌, ◌∙◌, ℕ, List, [], ◌∷◌, Option, Some, None, Ok, Err, length, set, slice_get, inl, inr, refl, sym, ap, subst, arith}
 use Rattle.std.specs.Prelude.{slice_set}
 use Rattle.std.specs.Option.{option_map_or}
 use Rattle.std.proofs.lemmas.Bool.{cases_eq}
 use Rattle.std.proofs.lemmas.List.{length-append, length-set}
 use Rattle.std.proofs.lemmas.Option.{same_Some, slice_get_past, slice_get_within}
-use Rattle.fabric.specs.Answers.{Answered, HasEnded, IsStepAnswer, NoPacket, may_enter}
+use Rattle.fabric.specs.Answers.{Answered, GetsNumber, HasEnded, IsStepAnswer, MayEnter, NoPacket}
 use Rattle.fabric.specs.FabricParts.{AreFabricParts, FabricParts}
 use Rattle.fabric.specs.FabricState.{entering, packet_after, state_after, state_of}
 use Rattle.fabric.specs.FabricStep.{FabricStep}
 use Rattle.fabric.specs.Handling.{IsHandled}
 use Rattle.fabric.specs.KeptState.{IsKeptPacket, IsKeptState}
-use Rattle.fabric.specs.declared.event.Event.TheVariants.{Step}
+use Rattle.fabric.specs.declared.event.Event.TheVariants.{Inject, Step}
 use Rattle.fabric.specs.declared.event.Failure.{Failure}
 use Rattle.fabric.specs.declared.event.Outcome.{Outcome}
+use Rattle.fabric.specs.declared.event.Outcome.TheVariants as outcomes
 use Rattle.fabric.specs.declared.event.Refused.TheVariants as refusals
 use Rattle.fabric.specs.declared.packet.Entry.{Entry}
 use Rattle.fabric.specs.declared.packet.Packet.{Packet}
@@ -24,7 +25,7 @@ use Rattle.fabric.proofs.SmallIslands.{island_small}
 use Rattle.mrt_graph.proofs.ListPlaces.{pushed_at, set_elsewhere, set_there}
 
 module _ (parts : FabricParts) (are : AreFabricParts parts) (packets : List Packet) (failure : Option Failure) (room : ℕ) (kept : IsKeptState parts (state_of packets failure room)) where
-  pub kept_entered : (at to : ℕ) (entry : Entry) → may_enter parts at to entry ≡ true → length packets < room → IsKeptState parts (state_of (packets ++ entering at to entry ∷ []) failure room)
+  pub kept_entered : (at to : ℕ) (entry : Entry) → MayEnter parts at to entry → length packets < room → IsKeptState parts (state_of (packets ++ entering at to entry ∷ []) failure room)
   kept_entered at to entry may less = record {
     packets = λ p packet there. elim (pushed_at packets (entering at to entry) packet p there) [
       | inl before ↦ kept.packets p packet before
@@ -47,6 +48,13 @@ module _ (parts : FabricParts) (are : AreFabricParts parts) (packets : List Pack
     failure = kept.failure;
     few = let few = kept.few in omega (arith, few, length-set packets p (packet_after outcome q));
   }
+
+  -- a packet that enters
+  pub step_entered : (at to number : ℕ) (entry : Entry) (items : List Packet) → MayEnter parts at to entry → length packets < room → number ≡ length packets
+      → items ≡ packets ++ entering at to entry ∷ []
+      → FabricStep parts (state_of packets failure room) (Inject at to entry) (Ok (outcomes.Entered number)) (state_of items failure room)
+  step_entered at to number entry items may less number_is items_is =
+      rw (number_is, items_is) (record { answers = GetsNumber may less; after = refl })
 
   -- the steps of a packet
   pub step_unmade : (p : ℕ) → length packets ≤ p → FabricStep parts (state_of packets failure room) (Step p) (Err refusals.NoSuchPacket) (state_of packets failure room)

@@ -1,6 +1,7 @@
 pub mod ColorHops
 pub mod ColorWays
 pub mod Effects
+pub mod EnterOrNot
 pub mod Islands
 pub mod KeptStates
 pub mod Life
@@ -16,7 +17,6 @@ pub mod PacketChains
 pub mod PacketVisits
 pub mod Routed
 pub mod RunLives
-pub mod RunsOn
 pub mod SmallIslands
 pub mod SomeAnswer
 pub mod SomeHop

@@ -1,10 +1,8 @@
 -- A packet's life goes on, step by step, from where it enters.
-use Rattle.std.proofs.Common.{◌≡◌, ◌≢◌, ◌⊎◌, ◌<◌, ◌≤◌, ◌+◌, ◌==◌, ◌∙◌, ℕ, true, List, [], ◌∷◌, Option, Some, length, inl, inr, refl, sym, ap, subst, arith}
+use Rattle.std.proofs.Common.{◌≡◌, ◌≢◌, ◌⊎◌, ◌<◌, ◌≤◌, ◌+◌, ◌∙◌, ℕ, List, [], ◌∷◌, Option, Some, length, inl, inr, refl, sym, ap, subst, arith}
 use Rattle.std.specs.Prelude.{IsSome}
-use Rattle.std.specs.Option.{is_some}
-use Rattle.std.proofs.lemmas.Bool.{and_parts, eqb-false, ltb-true, not-true}
 use Rattle.std.proofs.lemmas.Option.{same_Some}
-use Rattle.fabric.specs.Answers.{are_inside, is_open, may_enter}
+use Rattle.fabric.specs.Answers.{AreInside, IsOpen, MayEnter}
 use Rattle.fabric.specs.FabricParts.{AreFabricParts, FabricParts, element_at, node_at}
 use Rattle.fabric.specs.FabricState.{entering, mode_of, packet_after}
 use Rattle.fabric.specs.Handling.{Arrives, AtDestination, AtFailed, IsHandled, IsRepairedBy, Moves, OnColor, OutsideIsland, Repaired, Unreachable, Unrepaired}
@@ -32,8 +30,8 @@ use Rattle.mrt_graph.specs.Certificate.{row_of}
 use Rattle.mrt_graph.specs.GraphInvariant.{IsNetwork}
 use Rattle.mrt_graph.proofs.Members.{Has}
 use Rattle.mrt_graph.proofs.Trails.{Differ}
-use Rattle.primary_alt.proofs.ArcWalks.{no_network_by_test, one_distance}
-use Rattle.primary_alt.specs.Offers.{is_network}
+use Rattle.primary_alt.proofs.ArcWalks.{one_distance}
+use Rattle.primary_alt.proofs.RouterFacts.{router_alone, router_within}
 
 pub some_inside : (parts : FabricParts) (v m : ℕ) → node_at parts v ≡ Some m → IsSome (node_at parts v)
 some_inside parts v m at = rw at refl
@@ -224,30 +222,22 @@ module _ (parts : FabricParts) (are : AreFabricParts parts) (small : length part
   life_after failure q steps lives going outcome (Repaired color off primary by) = switched_life failure q steps color lives going primary by
 
   -- where it enters
-  entering_kept : (at to : ℕ) (entry : Entry) → may_enter parts at to entry ≡ true → IsKeptPacket parts (entering at to entry)
-  entering_kept at to entry may =
-      let open_is = and_parts _ _ may in
-      let apart_is = and_parts _ _ open_is.0 in
-      let router_is = and_parts _ _ apart_is.0 in
-      let within = and_parts _ _ router_is.0 in
-      record {
-        place = ltb-true at (length parts.area.ids) within.0;
-        to = ltb-true to (length parts.area.ids) within.1;
-        place_inside = λ color. (inside entry color open_is.1).0;
-        to_inside = λ color. (inside entry color open_is.1).1;
-        router = λ going. no_network_by_test parts.area.ids at (not-true (is_network parts.area.ids at) router_is.1);
-        apart = λ going. eqb-false at to (not-true (at == to) apart_is.1);
-      }
+  entering_kept : (at to : ℕ) (entry : Entry) → MayEnter parts at to entry → IsKeptPacket parts (entering at to entry)
+  entering_kept at to entry may = record {
+    place = router_within parts.area.ids at may.router;
+    to = may.destination;
+    place_inside = λ color. (inside entry color may.is_open).place;
+    to_inside = λ color. (inside entry color may.is_open).destination;
+    router = λ going. router_alone parts.area.ids at may.router;
+    apart = λ going. may.apart;
+  }
     where
-      both_inside : are_inside parts at to ≡ true → IsSome (node_at parts at) × IsSome (node_at parts to)
-      both_inside is = and_parts (is_some (node_at parts at)) (is_some (node_at parts to)) is
+      inside : (entry : Entry) → mode_of entry ≢ modes.Primary → IsOpen parts at to entry → AreInside parts at to
+      inside entries.Blue color are = are
+      inside entries.Red color are = are
+      inside entries.Repair color anywhere = absurd (color refl)
 
-      inside : (entry : Entry) → mode_of entry ≢ modes.Primary → is_open parts at to entry ≡ true → IsSome (node_at parts at) × IsSome (node_at parts to)
-      inside entries.Blue color is = both_inside is
-      inside entries.Red color is = both_inside is
-      inside entries.Repair color is = absurd (color refl)
-
-  pub life_begins : (failure : Option Failure) (at to : ℕ) (entry : Entry) → may_enter parts at to entry ≡ true → Lives parts failure (entering at to entry) 0
+  pub life_begins : (failure : Option Failure) (at to : ℕ) (entry : Entry) → MayEnter parts at to entry → Lives parts failure (entering at to entry) 0
   life_begins failure at to entry may = record { kept = kept; life = go entry refl }
     where
       kept : IsKeptPacket parts (entering at to entry)

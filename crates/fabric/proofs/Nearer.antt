@@ -1,12 +1,13 @@
 -- A packet's primary hop leads nearer to its destination, and does not go over its place.
-use Rattle.std.proofs.Common.{List, ◌≡◌, ◌≢◌, ◌⊎◌, ◌<◌, ◌+◌, ◌∙◌, ◌++◌, ℕ, [], ◌∷◌, Option, Some, None, length, slice_get, inl, inr, refl, sym, subst, arith}
+use Rattle.std.proofs.Common.{List, ◌≡◌, ◌≢◌, ◌⊎◌, ◌<◌, ◌+◌, ◌∙◌, ℕ, [], ◌∷◌, Option, Some, None, length, inl, inr, refl, sym, subst, arith}
 use Rattle.std.specs.Prelude.{Contains}
 use Rattle.std.proofs.lemmas.Option.{same_Some}
 use Rattle.area_graph.specs.AreaInvariant.{IsArea}
 use Rattle.area_graph.specs.Parts.{AreaParts}
 use Rattle.area_graph.specs.declared.area_types.Arc.{Arc}
 use Rattle.fabric.specs.FabricParts.{AreFabricParts, FabricParts}
-use Rattle.fabric.specs.PacketHop.{IsPrimaryHop, PacketHop, over_arc, primary_hop}
+use Rattle.fabric.specs.PacketHop.{AreOver, IsPrimaryHop, One, PacketHop, Two}
+use Rattle.fabric.specs.declared.event.Failure.{Failure}
 use Rattle.fabric.specs.declared.event.Failure.TheVariants as failures
 use Rattle.mrt_graph.specs.GraphInvariant.{IsNetwork}
 use Rattle.mrt_graph.proofs.Members.{contains_cases, contains_none}
@@ -23,7 +24,8 @@ record IsSet (area : AreaParts) (s t : ℕ) (primary : Primary) : Type 0 where
   distance : ℕ
   is : IsDistance area.arcs s t distance
   within : primary.next < length area.ids
-  nodes : (v : ℕ) → Contains (primary_hop area primary).elements (failures.Node v) → (v ≢ s) ⊎ (v ≡ primary.next)
+  nodes : (elements : List Failure) → AreOver area primary.first primary.second elements
+      → (v : ℕ) → Contains elements (failures.Node v) → (v ≢ s) ⊎ (v ≡ primary.next)
 
 is_set : (area : AreaParts) (s t : ℕ) (primary : Primary) (entry : Option Primary) → IsArea area → entry ≡ Some primary → IsPrimary area s t entry → IsSet area s t primary
 is_set area s t primary entry kept is (Itself same) = cc
@@ -34,15 +36,14 @@ is_set area s t primary entry kept is (Direct n arc apart first direct) =
       distance = arc.metric + first.shortest.rest;
       is = subst (λ (v : ℕ). IsDistance area.arcs v t (arc.metric + first.shortest.rest)) first.from first.shortest.near;
       within = far_within area arc kept (arc_kept area n arc kept first.there);
-      nodes = λ v among. go v (slice_get area.arcs n) first.there among;
+      nodes = go;
     })
   where
-    go : (v : ℕ) (o : Option Arc) → o ≡ Some arc → Contains (over_arc o ++ []) (failures.Node v) → (v ≢ s) ⊎ (v ≡ arc.to)
-    go v None there among = cc
-    go v (Some a) there among = elim (contains_cases (failures.Bond a.bond) (failures.Node v) (failures.Node a.to ∷ []) among) [
+    go : (elements : List Failure) → AreOver area n None elements → (v : ℕ) → Contains elements (failures.Node v) → (v ≢ s) ⊎ (v ≡ arc.to)
+    go elements (One a there) v among = elim (contains_cases (failures.Bond a.bond) (failures.Node v) (failures.Node a.to ∷ []) among) [
       | inl same ↦ cc
       | inr later ↦ elim (contains_cases (failures.Node a.to) (failures.Node v) [] later) [
-        | inl same ↦ let here : a ≡ arc = same_Some a arc there in inr (cc)
+        | inl same ↦ let here : a ≡ arc = same_Some a arc (sym there ∙ first.there) in inr (cc)
         | inr none ↦ absurd (contains_none _ none)
       ]
     ]
@@ -52,18 +53,16 @@ is_set area s t primary entry kept is (Over n k arc onward apart first over seco
       distance = arc.metric + first.shortest.rest;
       is = subst (λ (v : ℕ). IsDistance area.arcs v t (arc.metric + first.shortest.rest)) first.from first.shortest.near;
       within = far_within area onward kept (arc_kept area k onward kept second.there);
-      nodes = λ v among. go v (slice_get area.arcs n) (slice_get area.arcs k) first.there second.there among;
+      nodes = go;
     })
   where
     moves : arc.to ≢ s
     moves = λ loop. arc_moves area arc kept (arc_kept area n arc kept first.there) (loop ∙ sym first.from)
 
-    go : (v : ℕ) (o o' : Option Arc) → o ≡ Some arc → o' ≡ Some onward → Contains (over_arc o ++ over_arc o') (failures.Node v) → (v ≢ s) ⊎ (v ≡ onward.to)
-    go v None o' there there' among = cc
-    go v (Some a) None there there' among = cc
-    go v (Some a) (Some a') there there' among =
-        let here : a ≡ arc = same_Some a arc there in
-        let here' : a' ≡ onward = same_Some a' onward there' in
+    go : (elements : List Failure) → AreOver area n (Some k) elements → (v : ℕ) → Contains elements (failures.Node v) → (v ≢ s) ⊎ (v ≡ onward.to)
+    go elements (Two _ a a' there there') v among =
+        let here : a ≡ arc = same_Some a arc (sym there ∙ first.there) in
+        let here' : a' ≡ onward = same_Some a' onward (sym there' ∙ second.there) in
         elim (contains_cases (failures.Bond a.bond) (failures.Node v) (failures.Node a.to ∷ failures.Bond a'.bond ∷ failures.Node a'.to ∷ []) among) [
           | inl same ↦ cc
           | inr later ↦ elim (contains_cases (failures.Node a.to) (failures.Node v) (failures.Bond a'.bond ∷ failures.Node a'.to ∷ []) later) [
@@ -94,19 +93,20 @@ pub nearer_hop : (parts : FabricParts) → AreFabricParts parts → (x t : ℕ) 
 nearer_hop parts are x t hop router is =
     let set = is_set parts.area x t is.primary (Some is.primary) are.area_kept refl is.is in
     let rest = nearer parts.area are.area_kept x t set.distance is.primary router is.is set.is in
-    let moves : is.primary.next ≢ x =
-    λ loop. let same = one_distance parts.area.arcs x t set.distance rest.0 set.is (subst (λ (v : ℕ). IsDistance parts.area.arcs v t rest.0) loop rest.1) in omega (arith, rest.2, same) in
-    subst (λ (h : PacketHop). Nearer parts x t h) (sym is.same) (record {
+    let moves : hop.next ≢ x =
+    λ loop. let same = one_distance parts.area.arcs x t set.distance rest.0 set.is (subst (λ (v : ℕ). IsDistance parts.area.arcs v t rest.0) (sym is.next ∙ loop) rest.1) in omega (arith, rest.2, same) in
+    record {
       distance = set.distance;
       is = set.is;
       rest = rest.0;
-      rest_is = rest.1;
+      rest_is = subst (λ (v : ℕ). IsDistance parts.area.arcs v t rest.0) (sym is.next) rest.1;
       falls = rest.2;
-      within = set.within;
-      ends = router_or_end parts.area x t is.primary are.area_kept is.is;
+      within = subst (λ (v : ℕ). v < length parts.area.ids) (sym is.next) set.within;
+      ends = subst (λ (v : ℕ). (v ≡ t) ⊎ (¬ IsNetwork parts.area.ids v)) (sym is.next)
+          (router_or_end parts.area x t is.primary are.area_kept is.is);
       moves = moves;
-      not_over = λ among. elim (set.nodes x among) [ inl other ↦ other refl | inr here ↦ moves (sym here) ];
-    })
+      not_over = λ among. elim (set.nodes hop.elements is.elements x among) [ inl other ↦ other refl | inr here ↦ moves (is.next ∙ sym here) ];
+    }
 
 -- where there is a primary hop, a walk leads
 pub hop_walks : (parts : FabricParts) → AreFabricParts parts → (x t : ℕ) (hop : PacketHop) → IsPrimaryHop parts x t hop → (walk : List Arc) × ArcWalk parts.area.arcs x walk t

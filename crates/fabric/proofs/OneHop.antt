@@ -1,8 +1,11 @@
 -- A packet has one hop, and one alternate.
-use Rattle.std.proofs.Common.{◌≡◌, ◌∙◌, ℕ, List, [], ◌∷◌, Option, Some, refl, sym, ap, subst}
+use Rattle.std.proofs.Common.{◌≡◌, ◌∙◌, ℕ, List, [], ◌∷◌, ◌++◌, Option, Some, None, refl, sym, ap, subst}
 use Rattle.std.proofs.lemmas.Option.{same_Some}
 use Rattle.fabric.specs.FabricParts.{AreFabricParts, FabricParts, node_at}
-use Rattle.fabric.specs.PacketHop.{IsColorHop, IsHop, IsOver, OverNetwork, PacketHop, Straight, primary_hop}
+use Rattle.area_graph.specs.Parts.{AreaParts}
+use Rattle.area_graph.specs.declared.area_types.Arc.{Arc}
+use Rattle.fabric.specs.PacketHop.{AreOver, IsColorHop, IsHop, IsOver, One, OverNetwork, PacketHop, Straight, Two, over_arc}
+use Rattle.fabric.specs.declared.event.Failure.{Failure}
 use Rattle.fabric.specs.declared.event.Failure.TheVariants.{Bond, Node}
 use Rattle.fabric.specs.declared.packet.Mode.{Mode}
 use Rattle.fabric.specs.declared.packet.Mode.TheVariants as modes
@@ -51,10 +54,25 @@ module _ (parts : FabricParts) (are : AreFabricParts parts) (color : Color) wher
       ap (λ (y : ℕ). two_over y v bond next) same.0 ∙ ap (λ (y : ℕ). two_over b' y bond next) same.1
       ∙ ap (λ (y : ℕ). two_over b' v' y next) same'.0 ∙ ap (λ (y : ℕ). two_over b' v' bond' y) same'.1
 
+one_list : (area : AreaParts) (first : ℕ) (second : Option ℕ) (elements others : List Failure) → AreOver area first second elements → AreOver area first second others
+    → elements ≡ others
+one_list area first None elements others (One arc there) (One arc' there') = ap over_arc (same_Some arc arc' (sym there ∙ there'))
+one_list area first (Some second) elements others (Two _ arc onward there next) (Two _ arc' onward' there' next') =
+    ap (λ (a : Arc). over_arc a ++ over_arc onward) (same_Some arc arc' (sym there ∙ there'))
+    ∙ ap (λ (a : Arc). over_arc arc' ++ over_arc a) (same_Some onward onward' (sym next ∙ next'))
+
+same_primary_hop : (area : AreaParts) (hop other : PacketHop) (primary primary' : Primary) → primary ≡ primary' → AreOver area primary.first primary.second hop.elements
+    → AreOver area primary'.first primary'.second other.elements → hop.next ≡ primary.next → other.next ≡ primary'.next → hop ≡ other
+same_primary_hop area hop other primary primary' same over over' next next' =
+    let elements : hop.elements ≡ other.elements = one_list area primary'.first primary'.second hop.elements other.elements
+    (subst (λ (p : Primary). AreOver area p.first p.second hop.elements) same over) over' in
+    let nexts : hop.next ≡ other.next = next ∙ ap (λ (p : Primary). p.next) same ∙ sym next' in
+    λ i. record { elements = elements i; next = nexts i }
+
 pub one_hop : (parts : FabricParts) → AreFabricParts parts → (mode : Mode) (x t : ℕ) (hop other : PacketHop) → IsHop parts mode x t hop → IsHop parts mode x t other → hop ≡ other
 one_hop parts are modes.Primary x t hop other is is' =
     let same : is.primary ≡ is'.primary = same_Some _ _ (one_entry parts.area x t (Some is.primary) (Some is'.primary) is.is is'.is) in
-    is.same ∙ ap (λ (p : Primary). primary_hop parts.area p) same ∙ sym is'.same
+    same_primary_hop parts.area hop other is.primary is'.primary same is.elements is'.elements is.next is'.next
 one_hop parts are (modes.Entered color) x t hop other is is' = one_color_hop parts are color x t hop other is is'
 one_hop parts are (modes.Switched color) x t hop other is is' = one_color_hop parts are color x t hop other is is'
 

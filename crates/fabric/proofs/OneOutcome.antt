@@ -1,7 +1,7 @@
 -- A step of a packet has one outcome, and an event has one answer.
-use Rattle.std.proofs.Common.{◌≡◌, ◌≢◌, ◌⊎◌, ◌∙◌, ℕ, List, [], ◌∷◌, Option, Some, None, Ok, length, slice_get, inl, inr, refl, sym, ap, subst}
+use Rattle.std.proofs.Common.{◌≡◌, ◌≢◌, ◌⊎◌, ◌∙◌, ℕ, List, [], ◌∷◌, Option, Some, None, Ok, length, slice_get, inl, inr, refl, sym, ap, subst, arith}
 use Rattle.std.proofs.lemmas.Option.{same_Some}
-use Rattle.fabric.specs.Answers.{Answered, HasEnded, IsAnswer, IsStepAnswer, NoPacket}
+use Rattle.fabric.specs.Answers.{Answered, FailedBefore, GetsNumber, HasEnded, IsAnswer, IsFailAnswer, IsInjectAnswer, IsKept, IsStepAnswer, MayNotEnter, NoPacket, NoRoom, NotThere}
 use Rattle.fabric.specs.FabricParts.{AreFabricParts, FabricParts, element_at, node_at}
 use Rattle.fabric.specs.FabricState.{Answer, FabricState, state_after}
 use Rattle.fabric.specs.Runs.{IsRun}
@@ -13,6 +13,7 @@ use Rattle.fabric.specs.declared.event.Failure.{Failure}
 use Rattle.fabric.specs.declared.event.Failure.TheVariants.{Node}
 use Rattle.fabric.specs.declared.event.Outcome.{Outcome}
 use Rattle.fabric.specs.declared.event.Outcome.TheVariants as outcomes
+use Rattle.fabric.specs.declared.packet.Entry.{Entry}
 use Rattle.fabric.specs.declared.packet.Loss.TheVariants as losses
 use Rattle.fabric.specs.declared.packet.Mode.{Mode}
 use Rattle.fabric.specs.declared.packet.Mode.TheVariants.{Primary}
@@ -130,6 +131,30 @@ module _ (parts : FabricParts) (are : AreFabricParts parts) (failure : Option Fa
   pub one_outcome : (outcome other : Outcome) → IsHandled parts failure q outcome → IsHandled parts failure q other → outcome ≡ other
   one_outcome outcome other is is' = one_case outcome other (case_of outcome is) (case_of other is')
 
+one_inject_answer : (parts : FabricParts) (state : FabricState) (at to : ℕ) (entry : Entry) (answer other : Answer)
+    → IsInjectAnswer parts state at to entry answer → IsInjectAnswer parts state at to entry other → answer ≡ other
+one_inject_answer parts state at to entry answer other (MayNotEnter not) (MayNotEnter not') = refl
+one_inject_answer parts state at to entry answer other (MayNotEnter not) (NoRoom may full) = absurd (not may)
+one_inject_answer parts state at to entry answer other (MayNotEnter not) (GetsNumber may room) = absurd (not may)
+one_inject_answer parts state at to entry answer other (NoRoom may full) (MayNotEnter not) = absurd (not may)
+one_inject_answer parts state at to entry answer other (NoRoom may full) (NoRoom may' full') = refl
+one_inject_answer parts state at to entry answer other (NoRoom may full) (GetsNumber may' room) = absurd (omega (arith, full, room))
+one_inject_answer parts state at to entry answer other (GetsNumber may room) (MayNotEnter not) = absurd (not may)
+one_inject_answer parts state at to entry answer other (GetsNumber may room) (NoRoom may' full) = absurd (omega (arith, full, room))
+one_inject_answer parts state at to entry answer other (GetsNumber may room) (GetsNumber may' room') = refl
+
+one_fail_answer : (parts : FabricParts) (failure : Option Failure) (failed : Failure) (answer other : Answer)
+    → IsFailAnswer parts failure failed answer → IsFailAnswer parts failure failed other → answer ≡ other
+one_fail_answer parts failure failed answer other (NotThere not) (NotThere not') = refl
+one_fail_answer parts failure failed answer other (NotThere not) (FailedBefore has some) = absurd (not has)
+one_fail_answer parts failure failed answer other (NotThere not) (IsKept has none) = absurd (not has)
+one_fail_answer parts failure failed answer other (FailedBefore has some) (NotThere not) = absurd (not has)
+one_fail_answer parts failure failed answer other (FailedBefore has some) (FailedBefore has' some') = refl
+one_fail_answer parts failure failed answer other (FailedBefore has some) (IsKept has' none) = absurd (some none)
+one_fail_answer parts failure failed answer other (IsKept has none) (NotThere not) = absurd (not has)
+one_fail_answer parts failure failed answer other (IsKept has none) (FailedBefore has' some) = absurd (some none)
+one_fail_answer parts failure failed answer other (IsKept has none) (IsKept has' none') = refl
+
 module _ (parts : FabricParts) (are : AreFabricParts parts) where
   pub one_step_answer : (failure : Option Failure) (there there' : Option Packet) (answer other : Answer) → there ≡ there' → IsStepAnswer parts failure there answer
       → IsStepAnswer parts failure there' other → answer ≡ other
@@ -148,9 +173,9 @@ module _ (parts : FabricParts) (are : AreFabricParts parts) where
       (one_outcome parts are failure q' outcome outcome' (subst (λ (x : Packet). IsHandled parts failure x outcome) (same_Some q q' same) handled) handled')
 
   pub one_answer : (state : FabricState) (event : Event) (answer other : Answer) → IsAnswer parts state event answer → IsAnswer parts state event other → answer ≡ other
-  one_answer state (Inject at to entry) answer other is is' = is ∙ sym is'
+  one_answer state (Inject at to entry) answer other is is' = one_inject_answer parts state at to entry answer other is is'
   one_answer state (Step p) answer other is is' = one_step_answer state.failure (slice_get state.packets p) (slice_get state.packets p) answer other refl is is'
-  one_answer state (Fail failed) answer other is is' = is ∙ sym is'
+  one_answer state (Fail failed) answer other is is' = one_fail_answer parts state.failure failed answer other is is'
 
   pub one_run : (state : FabricState) (events : List Event) (answers others : List Answer) (end other : FabricState) → IsRun parts state events answers end
       → IsRun parts state events others other → (answers ≡ others) × (end ≡ other)

@@ -1,9 +1,11 @@
 -- What routes answer.
-use Rattle.std.proofs.Common.{◌≡◌, ◌≢◌, ◌<◌, ℕ, Option, Some, None, length, slice_get, sym, subst}
+use Rattle.std.proofs.Common.{◌≡◌, ◌≢◌, ◌<◌, ◌++◌, ℕ, List, Option, Some, None, length, slice_get, sym, subst}
 use Rattle.std.proofs.lemmas.Option.{same_Some, slice_get_within}
 use Rattle.area_graph.specs.Parts.{AreaParts}
 use Rattle.fabric.specs.FabricParts.{AreFabricParts, FabricParts, node_at}
 use Rattle.fabric.specs.Handling.{IsUnreachable}
+use Rattle.fabric.specs.PacketHop.{AreOver, One, Two}
+use Rattle.fabric.specs.declared.event.Failure.{Failure}
 use Rattle.fabric.proofs.Islands.{node_of_id, node_outside}
 use Rattle.mrt_graph.specs.declared.node_id.NodeId.{NodeId}
 use Rattle.mrt_graph.proofs.ListTests.{there}
@@ -48,3 +50,8 @@ no_primary area x t entry apart is (Itself same) = absurd (apart same)
 no_primary area x t entry apart is (NoWalk none) = none
 no_primary area x t entry apart is (Direct n arc apart' first direct) = cc
 no_primary area x t entry apart is (Over n k arc onward apart' first over second) = cc
+
+-- over one arc and then over another one
+pub over_both : (area : AreaParts) (first second : ℕ) (elements others : List Failure) → AreOver area first None elements → AreOver area second None others
+    → AreOver area first (Some second) (elements ++ others)
+over_both area first second elements others (One arc there) (One onward next) = Two second arc onward there next

@@ -1,13 +1,13 @@
 -- Each event has an answer.
 use Rattle.std.proofs.Common.{◌≡◌, ◌≢◌, ◌⊎◌, ◌<◌, ◌∙◌, ℕ, List, Option, Some, None, length, slice_get, inl, inr, refl, sym}
-use Rattle.std.proofs.lemmas.Bool.{cases_eq}
-use Rattle.fabric.specs.Answers.{Answered, HasEnded, IsAnswer, IsStepAnswer, NoPacket, fail_answer, inject_answer}
+use Rattle.std.proofs.lemmas.Bool.{cases_eq, cases_lt}
+use Rattle.fabric.specs.Answers.{Answered, FailedBefore, GetsNumber, HasElement, HasEnded, IsAnswer, IsFailAnswer, IsInjectAnswer, IsKept, IsStepAnswer, MayNotEnter, NoPacket, NoRoom, NotThere}
 use Rattle.fabric.specs.Course.{steps_of}
 use Rattle.fabric.specs.FabricParts.{AreFabricParts, FabricParts, element_at, node_at}
 use Rattle.fabric.specs.FabricState.{Answer, FabricState, start}
 use Rattle.fabric.specs.Handling.{Arrives, AtDestination, AtFailed, HasHop, IsCutOff, IsHandled, IsRepairedBy, IsUnreachable, Moves, OnColor, OutsideIsland, Repaired, Unreachable, Unrepaired}
 use Rattle.fabric.specs.KeptState.{IsKeptPacket}
-use Rattle.fabric.specs.PacketHop.{IsCut, IsHop, PacketHop}
+use Rattle.fabric.specs.PacketHop.{IsCut, IsHop, One, PacketHop, Two}
 use Rattle.fabric.specs.Runs.{IsRun}
 use Rattle.fabric.specs.declared.event.Event.{Event}
 use Rattle.fabric.specs.declared.event.Event.TheVariants.{Fail, Inject, Step}
@@ -19,6 +19,8 @@ use Rattle.fabric.specs.declared.packet.Mode.TheVariants as modes
 use Rattle.fabric.specs.declared.packet.Packet.{Packet}
 use Rattle.fabric.specs.declared.packet.State.{State}
 use Rattle.fabric.specs.declared.packet.State.TheVariants as states
+use Rattle.fabric.specs.declared.packet.Entry.{Entry}
+use Rattle.fabric.proofs.EnterOrNot.{element_or_not, may_or_not}
 use Rattle.fabric.proofs.PacketChains.{left_now}
 use Rattle.fabric.proofs.RunLives.{IsAt, Living, Unmade, run_lives}
 use Rattle.fabric.proofs.SomeHop.{cut_or_not, kept_or_not, some_alternate, some_color_hop}
@@ -41,8 +43,8 @@ module _ (parts : FabricParts) (are : AreFabricParts parts) (entries : ℕ → �
           → ((hop : PacketHop) × IsHop parts modes.Primary q.place q.to hop) ⊎ ((◌≡◌ {A = Mode} modes.Primary modes.Primary) × IsUnreachable parts.area q.place q.to)
       go entry (Itself same) = absurd (kept.apart going same)
       go entry (NoWalk none) = inr (refl, none)
-      go entry (Direct n arc apart first direct) = inl (_, record { primary = _; is = Direct n arc apart first direct; same = refl })
-      go entry (Over n k arc onward apart first over second) = inl (_, record { primary = _; is = Over n k arc onward apart first over second; same = refl })
+      go entry (Direct n arc apart first direct) = inl (_, record { primary = _; is = Direct n arc apart first direct; elements = One arc first.there; next = refl })
+      go entry (Over n k arc onward apart first over second) = inl (_, record { primary = _; is = Over n k arc onward apart first over second; elements = Two k arc onward first.there second.there; next = refl })
   hop_or_none (modes.Entered color) is =
       let left = left_now parts are color q kept going (λ primary. let e = sym is ∙ primary in cc) in
       inl (some_color_hop parts are color q.place q.to left.n left.d left.hops left.at left.to (kept.apart going) left.follows)
@@ -101,13 +103,34 @@ going_or_not states.Going = inl refl
 going_or_not states.Delivered = inr (λ same. cc)
 going_or_not (states.Lost loss) = inr (λ same. cc)
 
+some_inject : (parts : FabricParts) (state : FabricState) (at to : ℕ) (entry : Entry)
+    → (answer : Answer) × IsInjectAnswer parts state at to entry answer
+some_inject parts state at to entry = elim (may_or_not parts at to entry) [
+  | inr not ↦ (_, MayNotEnter not)
+  | inl may ↦ elim (cases_lt (length state.packets) state.room) [
+    | inl room ↦ (_, GetsNumber may room)
+    | inr full ↦ (_, NoRoom may full)
+  ]
+]
+
+some_fail : (parts : FabricParts) (failure : Option Failure) (failed : Failure)
+    → (answer : Answer) × IsFailAnswer parts failure failed answer
+some_fail parts failure failed = elim (element_or_not parts failed) [
+  | inr not ↦ (_, NotThere not)
+  | inl has ↦ go failure refl has
+]
+  where
+    go : (kept : Option Failure) → failure ≡ kept → HasElement parts failed → (answer : Answer) × IsFailAnswer parts failure failed answer
+    go None is has = (_, IsKept has is)
+    go (Some other) is has = (_, FailedBefore has (λ none. let e = sym is ∙ none in cc))
+
 -- after each run from the start
 pub some_answer : (parts : FabricParts) → AreFabricParts parts → (entries : ℕ → ℕ → Option Primary)
     → ((s t : ℕ) → IsRouter parts.area.ids s → t < length parts.area.ids → IsPrimary parts.area s t (entries s t))
     → (room : ℕ) (events : List Event) (answers : List Answer) (end : FabricState) → IsRun parts (start room) events answers end
     → (event : Event) → (answer : Answer) × IsAnswer parts end event answer
-some_answer parts are entries primaries room events answers end run (Inject at to entry) = (inject_answer parts end at to entry, refl)
-some_answer parts are entries primaries room events answers end run (Fail failed) = (fail_answer parts end.failure failed, refl)
+some_answer parts are entries primaries room events answers end run (Inject at to entry) = some_inject parts end at to entry
+some_answer parts are entries primaries room events answers end run (Fail failed) = some_fail parts end.failure failed
 some_answer parts are entries primaries room events answers end run (Step p) = go (run_lives parts are room events answers end run p)
   where
     answer_of : (q : Packet) → IsKeptPacket parts q → (answer : Answer) × IsStepAnswer parts end.failure (Some q) answer

@@ -1,6 +1,5 @@
 -- The answers to events.
-use Rattle.std.specs.Prelude.{◌≡◌, ◌≢◌, ◌==◌, ◌&&◌, ℕ, Bool, true, not, nat_lt, Option, Some, None, Ok, Err, length, slice_get, if◌then◌else◌}
-use Rattle.std.specs.Option.{is_some}
+use Rattle.std.specs.Prelude.{◌≡◌, ◌≢◌, ◌<◌, ◌≤◌, ⊤, ℕ, Option, Some, None, Ok, Err, IsSome, length, slice_get}
 use Rattle.fabric.specs.FabricParts.{FabricParts, node_at}
 use Rattle.fabric.specs.FabricState.{Answer, FabricState}
 use Rattle.fabric.specs.Handling.{IsHandled}
@@ -15,41 +14,46 @@ use Rattle.fabric.specs.declared.packet.Entry.{Entry}
 use Rattle.fabric.specs.declared.packet.Entry.TheVariants.{Blue, Red, Repair}
 use Rattle.fabric.specs.declared.packet.Packet.{Packet}
 use Rattle.fabric.specs.declared.packet.State.TheVariants.{Going}
-use Rattle.primary_alt.specs.Offers.{is_network}
+use Rattle.primary_alt.specs.Routers.{IsRouter}
 
--- whether both nodes are of the island
-abbrev pub are_inside : FabricParts → ℕ → ℕ → Bool
-are_inside parts at to = is_some (node_at parts at) && is_some (node_at parts to)
+-- both nodes are of the island
+pub record AreInside (parts : FabricParts) (at to : ℕ) : Type 0 where
+  pub place : IsSome (node_at parts at)
+  pub destination : IsSome (node_at parts to)
 
--- whether an entry is open from one node to another: a color is where both are of the island
-abbrev pub is_open : FabricParts → ℕ → ℕ → Entry → Bool
-is_open parts at to Blue = are_inside parts at to
-is_open parts at to Red = are_inside parts at to
-is_open parts at to Repair = true
+-- an entry is open from one node to another: a color where both are of the island, primary mode everywhere
+abbrev pub IsOpen : FabricParts → ℕ → ℕ → Entry → Type 0
+IsOpen parts at to Blue = AreInside parts at to
+IsOpen parts at to Red = AreInside parts at to
+IsOpen parts at to Repair = ⊤
 
--- whether a packet may enter: both nodes are of the area, it enters at a router, which is not its destination, and the
+-- a packet may enter: it enters at a router of the area; its destination is a node of the area, and another one; and the
 -- entry is open
-abbrev pub may_enter : FabricParts → ℕ → ℕ → Entry → Bool
-may_enter parts at to entry =
-    nat_lt at (length parts.area.ids) && nat_lt to (length parts.area.ids) && not (is_network parts.area.ids at)
-    && not (at == to) && is_open parts at to entry
+pub record MayEnter (parts : FabricParts) (at to : ℕ) (entry : Entry) : Type 0 where
+  pub router : IsRouter parts.area.ids at
+  pub destination : to < length parts.area.ids
+  pub apart : at ≢ to
+  pub is_open : IsOpen parts at to entry
 
--- the answer to a packet that enters: it gets the next number, if there is room
-abbrev pub inject_answer : FabricParts → FabricState → ℕ → ℕ → Entry → Answer
-inject_answer parts state at to entry =
-    if may_enter parts at to entry
-    then (if nat_lt (length state.packets) state.room then Ok (outcomes.Entered (length state.packets)) else Err Full)
-    else Err NoSuchPlace
+-- the answer to a packet that enters, the first of these that applies: it may not enter; there is no room; it gets the
+-- next number
+pub data IsInjectAnswer (parts : FabricParts) (state : FabricState) (at to : ℕ) (entry : Entry) : Answer → Type 0 where
+  MayNotEnter : ¬ MayEnter parts at to entry → IsInjectAnswer parts state at to entry (Err NoSuchPlace)
+  NoRoom : MayEnter parts at to entry → state.room ≤ length state.packets → IsInjectAnswer parts state at to entry (Err Full)
+  GetsNumber : MayEnter parts at to entry → length state.packets < state.room
+      → IsInjectAnswer parts state at to entry (Ok (outcomes.Entered (length state.packets)))
 
--- whether the area has an element
-abbrev pub is_element : FabricParts → Failure → Bool
-is_element parts (Node s) = nat_lt s (length parts.area.ids)
-is_element parts (Bond b) = nat_lt b (length parts.area.bonds)
+-- the area has an element
+abbrev pub HasElement : FabricParts → Failure → Type 0
+HasElement parts (Node s) = s < length parts.area.ids
+HasElement parts (Bond b) = b < length parts.area.bonds
 
--- the answer to a failure: it is kept, if none is
-abbrev pub fail_answer : FabricParts → Option Failure → Failure → Answer
-fail_answer parts None failed = if is_element parts failed then Ok outcomes.Failed else Err NoSuchPlace
-fail_answer parts (Some kept) failed = if is_element parts failed then Err SecondFailure else Err NoSuchPlace
+-- the answer to a failure, the first of these that applies: the area has no such element; a failure is kept already; it
+-- is kept from now on
+pub data IsFailAnswer (parts : FabricParts) (failure : Option Failure) (failed : Failure) : Answer → Type 0 where
+  NotThere : ¬ HasElement parts failed → IsFailAnswer parts failure failed (Err NoSuchPlace)
+  FailedBefore : HasElement parts failed → failure ≢ None → IsFailAnswer parts failure failed (Err SecondFailure)
+  IsKept : HasElement parts failed → failure ≡ None → IsFailAnswer parts failure failed (Ok outcomes.Failed)
 
 -- the answer to a step of a packet, if there is one
 pub data IsStepAnswer (parts : FabricParts) (failure : Option Failure) : Option Packet → Answer → Type 0 where
@@ -60,6 +64,6 @@ pub data IsStepAnswer (parts : FabricParts) (failure : Option Failure) : Option 
 
 -- the answer to an event
 abbrev pub IsAnswer : FabricParts → FabricState → Event → Answer → Type 0
-IsAnswer parts state (Inject at to entry) answer = answer ≡ inject_answer parts state at to entry
+IsAnswer parts state (Inject at to entry) answer = IsInjectAnswer parts state at to entry answer
 IsAnswer parts state (Step p) answer = IsStepAnswer parts state.failure (slice_get state.packets p) answer
-IsAnswer parts state (Fail failed) answer = answer ≡ fail_answer parts state.failure failed
+IsAnswer parts state (Fail failed) answer = IsFailAnswer parts state.failure failed answer

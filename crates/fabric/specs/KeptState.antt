@@ -1,6 +1,6 @@
 -- What each fabric keeps.
-use Rattle.std.specs.Prelude.{◌≡◌, ◌≢◌, ◌<◌, ◌≤◌, ℕ, true, Some, IsSome, length, slice_get}
-use Rattle.fabric.specs.Answers.{is_element}
+use Rattle.std.specs.Prelude.{◌≡◌, ◌≢◌, ◌<◌, ◌≤◌, ℕ, Some, IsSome, length, slice_get}
+use Rattle.fabric.specs.Answers.{HasElement}
 use Rattle.fabric.specs.FabricParts.{FabricParts, node_at}
 use Rattle.fabric.specs.FabricState.{FabricState}
 use Rattle.fabric.specs.declared.event.Failure.{Failure}
@@ -22,5 +22,5 @@ pub record IsKeptPacket (parts : FabricParts) (packet : Packet) : Type 0 where
 -- of a state: its packets and its failure are of these parts, and there is room for the packets
 pub record IsKeptState (parts : FabricParts) (state : FabricState) : Type 0 where
   pub packets : (p : ℕ) (packet : Packet) → slice_get state.packets p ≡ Some packet → IsKeptPacket parts packet
-  pub failure : (failed : Failure) → state.failure ≡ Some failed → is_element parts failed ≡ true
+  pub failure : (failed : Failure) → state.failure ≡ Some failed → HasElement parts failed
   pub few : length state.packets ≤ state.room

@@ -1,6 +1,5 @@
 -- The hops of packets.
 use Rattle.std.specs.Prelude.{◌≡◌, ◌≢◌, ◌++◌, ℕ, List, [], ◌∷◌, Option, Some, None, Contains, slice_get}
-use Rattle.std.specs.Option.{option_and_then}
 use Rattle.area_graph.specs.Parts.{AreaParts}
 use Rattle.area_graph.specs.declared.area_types.Arc.{Arc}
 use Rattle.fabric.specs.FabricParts.{FabricParts, link_at, node_at}
@@ -25,23 +24,22 @@ abbrev pub IsCut : Option Failure → PacketHop → Type 0
 IsCut None hop = ⊥
 IsCut (Some failed) hop = Contains hop.elements failed
 
--- over an arc, if it is there: its bond, and the node that it leads to
-abbrev pub over_arc : Option Arc → List Failure
-over_arc None = []
-over_arc (Some arc) = Bond arc.bond ∷ Node arc.to ∷ []
+-- over an arc: its bond, and the node that it leads to
+abbrev pub over_arc : Arc → List Failure
+over_arc arc = Bond arc.bond ∷ Node arc.to ∷ []
 
--- by a primary: over its first arc, and over its second one if it has one
-abbrev pub primary_hop : AreaParts → Primary → PacketHop
-primary_hop area primary = record {
-  elements = over_arc (slice_get area.arcs primary.first) ++ over_arc (option_and_then (slice_get area.arcs) primary.second);
-  next = primary.next;
-}
+-- over the arc with the first number, and over that with the second one, if there is a second one
+pub data AreOver (area : AreaParts) (first : ℕ) : Option ℕ → List Failure → Type 0 where
+  One : (arc : Arc) → slice_get area.arcs first ≡ Some arc → AreOver area first None (over_arc arc)
+  Two : (second : ℕ) (arc onward : Arc) → slice_get area.arcs first ≡ Some arc → slice_get area.arcs second ≡ Some onward
+      → AreOver area first (Some second) (over_arc arc ++ over_arc onward)
 
--- in primary mode: by the primary of x for t
+-- in primary mode: over the arcs of the primary of x for t
 pub record IsPrimaryHop (parts : FabricParts) (x t : ℕ) (hop : PacketHop) : Type 0 where
   pub primary : Primary
   pub is : IsPrimary parts.area x t (Some primary)
-  pub same : hop ≡ primary_hop parts.area primary
+  pub elements : AreOver parts.area primary.first primary.second hop.elements
+  pub next : hop.next ≡ primary.next
 
 -- the hop on a color of island node n for island node d is over the link that bond b is, to the node that v is
 pub record IsOver (parts : FabricParts) (color : Color) (n d b v : ℕ) : Type 0 where

@@ -1,7 +1,7 @@
 //! Where packets may enter.
 
-ghost use Rattle.std.specs.Prelude.{◌≡◌, ◌<◌, length};
-ghost use Rattle.fabric.specs.Answers.{are_inside, is_element, is_open, may_enter};
+ghost use Rattle.std.specs.Prelude.{◌≡◌, ◌<◌, ◌↔◌, IsTrue, length};
+ghost use Rattle.fabric.specs.Answers.{AreInside, HasElement, IsOpen, MayEnter};
 ghost use Rattle.fabric.specs.FabricParts.{AreFabricParts};
 ghost use Rattle.fabric.specs.FabricState.{entering, mode_of};
 ghost use Rattle.fabric.specs.Viewed.{AreRouted, viewed};
@@ -17,7 +17,7 @@ use mrt_graph::Color;
 pub fn may_enter(parts: &Parts, at: Spot, to: Spot, entry: Entry) -> bool
     requires kept { AreFabricParts (viewed parts.now) }
     requires routed { AreRouted parts.now }
-    ensures { result ≡ may_enter (viewed parts.now) at to entry }
+    ensures { IsTrue result ↔ MayEnter (viewed parts.now) at to entry }
 {
     let count = parts.area.count();
     at.get() < count
@@ -33,7 +33,7 @@ fn is_open(parts: &Parts, at: Spot, to: Spot, entry: Entry) -> bool
     requires routed { AreRouted parts.now }
     requires at { at < length parts.now.area.now.ids }
     requires to { to < length parts.now.area.now.ids }
-    ensures { result ≡ is_open (viewed parts.now) at to entry }
+    ensures { IsTrue result ↔ IsOpen (viewed parts.now) at to entry }
 {
     match entry {
         Entry::Blue => are_inside(parts, at, to),
@@ -48,7 +48,7 @@ fn are_inside(parts: &Parts, at: Spot, to: Spot) -> bool
     requires routed { AreRouted parts.now }
     requires at { at < length parts.now.area.now.ids }
     requires to { to < length parts.now.area.now.ids }
-    ensures { result ≡ are_inside (viewed parts.now) at to }
+    ensures { IsTrue result ↔ AreInside (viewed parts.now) at to }
 {
     node_of(parts, at).is_some() && node_of(parts, to).is_some()
 }
@@ -77,8 +77,8 @@ fn mode_of(entry: Entry) -> Mode
 }
 
 /// Whether the area has an element.
-pub fn is_element(parts: &Parts, failed: &Failure) -> bool
-    ensures { result ≡ is_element (viewed parts.now) failed.now }
+pub fn has_element(parts: &Parts, failed: &Failure) -> bool
+    ensures { IsTrue result ↔ HasElement (viewed parts.now) failed.now }
 {
     match failed {
         Failure::Node(s) => s.get() < parts.area.count(),

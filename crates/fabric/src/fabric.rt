@@ -6,7 +6,7 @@ ghost use Rattle.fabric.specs.declared.event.Event.TheVariants as events;
 ghost use Rattle.primary_alt.specs.AcceptedRows.{IsAcceptedFor};
 ghost use Rattle.primary_alt.specs.RoutesMade.{AreMadeWith};
 
-use crate::entering::{entering, is_element, may_enter};
+use crate::entering::{entering, has_element, may_enter};
 use crate::event::{Event, Failure, Outcome, Refused};
 use crate::handling::handled;
 use crate::numbers::PacketNo;
@@ -161,7 +161,7 @@ impl<'a> Fabric<'a> {
         ensures parts { self.new.parts ≡ self.old.parts }
         ensures told { IsTellable self.old.parts.area.ids result }
     {
-        if !is_element(&self.parts, &failed) {
+        if !has_element(&self.parts, &failed) {
             return Err(Refused::NoSuchPlace);
         }
         if let Some(_) = self.failure {

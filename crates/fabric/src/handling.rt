@@ -1,7 +1,7 @@
 //! What happens to a packet where it is handled once.
 
-ghost use Rattle.std.specs.Prelude.{◌≡◌, ◌≢◌, ◌↔◌, ◌==◌, if◌then◌else◌, IsTrue, Some, true};
-ghost use Rattle.fabric.specs.Answers.{is_element};
+ghost use Rattle.std.specs.Prelude.{◌≡◌, ◌≢◌, ◌↔◌, ◌==◌, if◌then◌else◌, IsTrue, Some};
+ghost use Rattle.fabric.specs.Answers.{HasElement};
 ghost use Rattle.fabric.specs.FabricParts.{AreFabricParts};
 ghost use Rattle.fabric.specs.Handling.{HasHop, IsCutOff, IsHandled};
 ghost use Rattle.fabric.specs.KeptState.{IsKeptPacket};
@@ -31,7 +31,7 @@ pub fn handled(parts: &Parts, failure: Option<Failure>, packet: &Packet) -> Outc
     requires packet { IsKeptPacket (viewed parts.now) packet.now }
     requires going { packet.now.state ≡ states.Going }
     requires failure { (failed : Failure) → failure ≡ Some failed
-        → is_element (viewed parts.now) failed ≡ true }
+        → HasElement (viewed parts.now) failed }
     ensures { IsHandled (viewed parts.now) failure packet.now result }
 {
     if has_failed(&failure, packet) {
@@ -47,7 +47,7 @@ fn sent(parts: &Parts, failure: Option<Failure>, packet: &Packet) -> Outcome
     requires packet { IsKeptPacket (viewed parts.now) packet.now }
     requires going { packet.now.state ≡ states.Going }
     requires failure { (failed : Failure) → failure ≡ Some failed
-        → is_element (viewed parts.now) failed ≡ true }
+        → HasElement (viewed parts.now) failed }
     requires stands { failure ≢ Some (failures.Node packet.now.place) }
     ensures { IsHandled (viewed parts.now) failure packet.now result }
 {
@@ -94,7 +94,7 @@ fn cut_off(parts: &Parts, failed: &Failure, packet: &Packet, hop: &NextHop) -> O
     requires routed { AreRouted parts.now }
     requires packet { IsKeptPacket (viewed parts.now) packet.now }
     requires going { packet.now.state ≡ states.Going }
-    requires failure { is_element (viewed parts.now) failed.now ≡ true }
+    requires failure { HasElement (viewed parts.now) failed.now }
     requires hop { HasHop (viewed parts.now) (Some failed.now) packet.now (hop_seen hop.now) }
     requires cut { IsCut (Some failed.now) (hop_seen hop.now) }
     ensures { IsHandled (viewed parts.now) (Some failed.now) packet.now result }
@@ -115,7 +115,7 @@ fn repaired(parts: &Parts, failed: &Failure, packet: &Packet) -> Outcome
     requires routed { AreRouted parts.now }
     requires packet { IsKeptPacket (viewed parts.now) packet.now }
     requires going { packet.now.state ≡ states.Going }
-    requires failure { is_element (viewed parts.now) failed.now ≡ true }
+    requires failure { HasElement (viewed parts.now) failed.now }
     requires cut { IsCutOff (viewed parts.now) (Some failed.now) packet.now }
     requires mode { packet.now.mode ≡ modes.Primary }
     ensures { IsHandled (viewed parts.now) (Some failed.now) packet.now result }

@@ -1,10 +1,10 @@
 //! Where a packet goes next.
 
-ghost use Rattle.std.specs.Prelude.{◌≡◌, ◌≢◌, ◌<◌, ◌↔◌, ◌++◌, IsTrue, IfNone, IfSome, IsSome, Some, length, slice_get};
+ghost use Rattle.std.specs.Prelude.{◌≡◌, ◌≢◌, ◌<◌, ◌↔◌, ◌++◌, IsTrue, IfNone, IfSome, IsSome, None, Some, length, slice_get};
 ghost use Rattle.fabric.specs.FabricParts.{AreFabricParts, link_at, node_at};
 ghost use Rattle.fabric.specs.Handling.{IsUnreachable};
 ghost use Rattle.fabric.specs.KeptState.{IsKeptPacket};
-ghost use Rattle.fabric.specs.PacketHop.{IsColorHop, IsHop, IsOver, IsPrimaryHop, over_arc};
+ghost use Rattle.fabric.specs.PacketHop.{AreOver, IsColorHop, IsHop, IsOver, IsPrimaryHop};
 ghost use Rattle.fabric.specs.Viewed.{AreRouted, crossed, hop_seen, viewed};
 ghost use Rattle.fabric.specs.declared.packet.Mode.TheVariants as modes;
 ghost use Rattle.fabric.specs.declared.packet.State.TheVariants as states;
@@ -63,7 +63,7 @@ fn primary_hop(parts: &Parts, x: Spot, t: Spot) -> Option<NextHop>
 /// The bond of an arc, and the node that the arc leads to.
 fn crossing_over(area: &Area, number: ArcNo) -> Crossing
     requires { number < length area.now.arcs }
-    ensures { over_arc (slice_get area.now.arcs number) ≡ crossed result }
+    ensures { AreOver area.now number None (crossed result) }
 {
     let arc = area.arc(number);
     Crossing {

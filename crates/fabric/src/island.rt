@@ -2,12 +2,11 @@
 
 ghost use Rattle.std.specs.Prelude.{◌≡◌, ◌<◌, IfSome, Some, length};
 ghost use Rattle.area_graph.specs.AreaInvariant.{IsArea};
-ghost use Rattle.fabric.specs.Answers.{is_element};
+ghost use Rattle.fabric.specs.Answers.{HasElement};
 ghost use Rattle.fabric.specs.FabricParts.{AreFabricParts, element_at, link_at, node_at};
 ghost use Rattle.fabric.specs.Viewed.{AreRouted, viewed};
 ghost use Rattle.primary_alt.specs.AcceptedRows.{IsElementOf};
 ghost use Rattle.primary_alt.specs.Offers.{is_network};
-ghost use Rattle.std.specs.Prelude.{true};
 
 use crate::event::Failure;
 use crate::next_hop::Crossing;
@@ -39,7 +38,7 @@ fn link_of(parts: &Parts, b: BondNo) -> Option<LinkNo>
 pub fn element_of(parts: &Parts, failed: &Failure) -> Option<Element>
     requires kept { AreFabricParts (viewed parts.now) }
     requires routed { AreRouted parts.now }
-    requires within { is_element (viewed parts.now) failed.now ≡ true }
+    requires within { HasElement (viewed parts.now) failed.now }
     ensures is { result ≡ element_at (viewed parts.now) failed.now }
     ensures within { IfSome result (λ x. IsElementOf parts.now.island.now x) }
 {

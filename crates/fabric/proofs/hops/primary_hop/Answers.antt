@@ -1,9 +1,7 @@
-use Rattle.std.proofs.Common.{◌≡◌, ◌∙◌, ◌++◌, ℕ, List, Option, sym, ap, subst, slice_get}
-use Rattle.std.specs.Option.{option_and_then}
-use Rattle.fabric.specs.PacketHop.{PacketHop, over_arc}
-use Rattle.fabric.specs.Viewed.{crossed_after}
-use Rattle.fabric.specs.declared.event.Failure.{Failure}
-use Rattle.fabric.proofs.Routed.{arcs_there}
+use Rattle.std.proofs.Common.{◌∙◌, ◌++◌, Option, sym, refl, subst}
+use Rattle.fabric.specs.PacketHop.{AreOver}
+use Rattle.fabric.specs.Viewed.{crossed, crossed_after}
+use Rattle.fabric.proofs.Routed.{arcs_there, over_both}
 use Rattle.fabric.proofs.hops.primary_hop.Goals as goal
 use Rattle.fabric.proofs.hops.primary_hop.Goals.{in-Some, in-None}
 use Rattle.primary_alt.specs.Primaries.{IsPrimary}
@@ -21,14 +19,14 @@ returns-clause-some c =
     record {
       primary = c.in_ok-primary.primary;
       is = subst (λ (o : Option Primary). IsPrimary c.args.parts.now.area.now c.args.x c.args.t o) (sym c.primary.ensures ∙ c.in_ok-primary.was) is;
-      same = ap (λ (xs : List Failure). hop_of xs) (ap (λ (xs : List Failure). xs ++ crossed_after c.match-primary.second) (sym c.crossing_over-first.ensures) ∙ ap (λ (xs : List Failure). over_arc (slice_get c.args.parts.now.area.now.arcs c.in_ok-primary.primary.first) ++ xs) second);
+      elements = elements;
+      next = refl;
     }
   where
-    hop_of : List Failure → PacketHop
-    hop_of xs = record { elements = xs; next = c.in_ok-primary.primary.next }
-
-    second : crossed_after c.match-primary.second ≡ over_arc (option_and_then (slice_get c.args.parts.now.area.now.arcs) c.in_ok-primary.primary.second)
-    second = elim c.match-primary.branch [
-      | in-Some w ↦ ap crossed_after w.second-is ∙ sym w.crossing_over.ensures ∙ ap (λ (o : Option ℕ). over_arc (option_and_then (slice_get c.args.parts.now.area.now.arcs) o)) (sym w.in-Some.is)
-      | in-None w ↦ ap crossed_after w.second-is ∙ ap (λ (o : Option ℕ). over_arc (option_and_then (slice_get c.args.parts.now.area.now.arcs) o)) (sym w.in-None.is)
+    elements : AreOver c.args.parts.now.area.now c.in_ok-primary.primary.first c.in_ok-primary.primary.second
+        (crossed c.crossing_over-first.result ++ crossed_after c.match-primary.second)
+    elements = elim c.match-primary.branch [
+      | in-Some w ↦
+          rw (w.in-Some.is, w.second-is) (over_both c.args.parts.now.area.now c.in_ok-primary.primary.first w.in-Some.arc _ _ c.crossing_over-first.ensures w.crossing_over.ensures)
+      | in-None w ↦ rw (w.in-None.is, w.second-is) c.crossing_over-first.ensures
     ]

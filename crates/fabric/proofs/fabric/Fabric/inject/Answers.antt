@@ -1,7 +1,25 @@
-use Rattle.std.proofs.Common.{◌≡◌, ◌<◌, ◌∙◌, ◌++◌, [], ◌∷◌, length, sym, arith}
+use Rattle.std.proofs.Common.{◌≡◌, ◌<◌, ◌∙◌, ◌++◌, [], ◌∷◌, length, refl, sym, arith, true≢false}
+use Rattle.fabric.specs.Answers.{MayNotEnter, NoRoom}
 use Rattle.fabric.specs.Viewed.{viewed}
-use Rattle.fabric.proofs.KeptStates.{kept_entered}
+use Rattle.fabric.proofs.KeptStates.{kept_entered, step_entered}
 use Rattle.fabric.proofs.fabric.Fabric.inject.Goals as goal
+
+pub returns-then-not-may_enter-clause-step : goal.returns-then-not-may_enter-clause-step
+returns-then-not-may_enter-clause-step c =
+    rw (← c.self.view_is) (record {
+      answers = MayNotEnter (λ may. true≢false (sym (c.may_enter.ensures.1 may) ∙ c.if-not-may_enter.true));
+      after = refl;
+    })
+
+pub returns-then-number-self-clause-step : goal.returns-then-number-self-clause-step
+returns-then-number-self-clause-step c =
+    let full = c.if-number-self.true in
+    let count = c.len-number.ensures in
+    let whole = c.self.inside.packets.ok.0 in
+    rw (← c.self.view_is) (record {
+      answers = NoRoom (c.may_enter.ensures.0 c.if-not-may_enter.false) (omega (arith, full, count, whole));
+      after = refl;
+    })
 
 pub invariant_of-self : goal.invariant_of-self
 invariant_of-self c =
@@ -15,6 +33,16 @@ invariant_of-self c =
       c.self.invariant.0,
       c.self.invariant.1,
       rw (items, c.entering.ensures) (kept_entered (viewed c.self.inside.parts) c.self.invariant.0 c.self.inside.packets.items c.self.inside.failure c.self.inside.room c.self.invariant.2
-          c.args.at c.args.to c.args.entry (sym c.may_enter.ensures ∙ c.if-not-may_enter.false) small),
+          c.args.at c.args.to c.args.entry (c.may_enter.ensures.0 c.if-not-may_enter.false) small),
       omega (arith, cap, kept),
     )
+
+pub returns-clause-step : goal.returns-clause-step
+returns-clause-step c =
+    let less = c.if-number-self.false in
+    let count = c.len-number.ensures in
+    let whole = c.self.inside.packets.ok.0 in
+    let items : c.push.new.self.items ≡ c.self.inside.packets.items ++ c.entering.result ∷ [] = rw c.unwrap.ensures at c.push.ensures.items in
+    let small : length c.self.inside.packets.items < c.self.inside.room = omega (arith, less, count, whole) in
+    rw (← c.self.view_is) (step_entered (viewed c.self.inside.parts) c.self.invariant.0 c.self.inside.packets.items c.self.inside.failure c.self.inside.room c.self.invariant.2
+    c.args.at c.args.to _ c.args.entry c.push.new.self.items (c.may_enter.ensures.0 c.if-not-may_enter.false) small (c.new.ensures ∙ count ∙ whole) (rw c.entering.ensures at items))
