@@ -7,4 +7,3 @@ pub mod Placed
 pub mod RunsOn
 pub mod StepsTold
 pub mod TraceTold
-pub mod TraceRun

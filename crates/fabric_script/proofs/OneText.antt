@@ -1,23 +1,20 @@
 -- There is one text of a run.
-use Rattle.std.proofs.Common.{◌≡◌, ◌∙◌, ◌++◌, ℕ, List, ◌∷◌, Some, ap, map, refl, subst, sym}
+use Rattle.std.proofs.Common.{◌≡◌, ◌∙◌, ◌<◌, ℕ, List, Some, ap, map, subst, sym, arith, inl, inr}
+use Rattle.std.proofs.lemmas.Bool.{cases_lt}
 use Rattle.std.proofs.lemmas.Option.{same_Some}
 use Rattle.fabric.specs.declared.event.Event.{Event}
-use Rattle.fabric.specs.declared.event.Event.TheVariants as events
-use Rattle.fabric.specs.Answers.{IsAnswer}
 use Rattle.fabric.specs.FabricParts.{AreFabricParts, FabricParts}
-use Rattle.fabric.specs.FabricState.{Answer, FabricState, start, state_after}
+use Rattle.fabric.specs.FabricState.{Answer, FabricState, start}
 use Rattle.fabric.specs.OutcomeText.{run_text}
 use Rattle.fabric.specs.Runs.{IsRun}
 use Rattle.fabric_script.specs.declared.script.Script.{Script}
 use Rattle.fabric_script.specs.declared.trace.Trace.{Trace}
 use Rattle.fabric_script.specs.NamedEvents.{event_of}
 use Rattle.fabric_script.specs.RunTexts.{IsScriptText, IsTraceText}
-use Rattle.fabric_script.specs.Trace.{AreSteps, Ended, IsTraced, OneMore, beginning}
+use Rattle.fabric_script.specs.Trace.{AreUntilEnd, HasEnded, IsTraced, beginning, then_steps}
 
--- the laws of the layer below
+-- the law of the layer below
 pub record RunLaws : Type 0 where
-  pub only_one : (parts : FabricParts) → AreFabricParts parts → (state : FabricState) (event : Event)
-      (answer other : Answer) → IsAnswer parts state event answer → IsAnswer parts state event other → answer ≡ other
   pub one_run : (parts : FabricParts) → AreFabricParts parts → (state : FabricState) (events : List Event)
       (answers others : List Answer) (end other : FabricState) → IsRun parts state events answers end
       → IsRun parts state events others other → (answers ≡ others) × (end ≡ other)
@@ -35,29 +32,31 @@ module _ (laws : RunLaws) (parts : FabricParts) (kept : AreFabricParts parts) wh
       two.answers one.end two.end one.run two.run in
       one_spelling parts one.answers two.answers text other same.0 one.spelled two.spelled
 
-  one_list : (state : FabricState) (answers others : List Answer) → AreSteps parts state answers
-      → AreSteps parts state others → answers ≡ others
-  one_list state answers others (Ended ended) (Ended ended') = refl
-  one_list state answers others (Ended ended) (OneMore next packet answer more there going step steps) =
-      absurd (ended packet there going)
-  one_list state answers others (OneMore next packet answer more there going step steps) (Ended ended) =
-      absurd (ended packet there going)
-  one_list state answers others (OneMore next packet answer more there going step steps)
-      (OneMore next' packet' answer' more' there' going' step' steps') =
-      let first : answer ≡ answer' = laws.only_one parts kept state (events.Step 0) answer answer' step.answers step'.answers in
-      let same : next ≡ next' = step.after ∙ ap (state_after state (events.Step 0)) first ∙ sym step'.after in
-      let rest : more ≡ more' =
-      one_list next' more more' (subst (λ (s : FabricState). AreSteps parts s more) same steps) steps' in
-      λ i. first i ∷ rest i
+  -- the same steps give the same answers, and of two counts neither is the lower one
+  no_fewer : (old : FabricState) (events : List Event) (answers others : List Answer) (one : AreUntilEnd parts old events answers)
+      (two : AreUntilEnd parts old events others) → one.count < two.count → ⊥
+  no_fewer old events answers others one two less =
+      let at = two.not_before one.count less in
+      let same = laws.one_run parts kept old (then_steps events one.count) at.answers answers at.state one.end at.run one.run in
+      at.going (subst HasEnded (sym same.1) one.ended)
+
+  one_count : (old : FabricState) (events : List Event) (answers others : List Answer) (one : AreUntilEnd parts old events answers)
+      (two : AreUntilEnd parts old events others) → one.count ≡ two.count
+  one_count old events answers others one two = elim (cases_lt one.count two.count) [
+    | inl less ↦ absurd (no_fewer old events answers others one two less)
+    | inr most ↦ elim (cases_lt two.count one.count) [
+      | inl less ↦ absurd (no_fewer old events others answers two one less)
+      | inr least ↦ omega (arith, most, least)
+    ]
+  ]
 
   one_trace : (trace : Trace) (answers others : List Answer) → IsTraced parts trace answers → IsTraced parts trace others
       → answers ≡ others
   one_trace trace answers others one two =
-      let same = laws.one_run parts kept (start 1) (beginning parts.area trace) one.first two.first one.begun two.begun
-      one.begins two.begins in
-      let rest : one.others ≡ two.others = one_list two.begun one.others two.others
-      (subst (λ (s : FabricState). AreSteps parts s one.others) same.1 one.steps) two.steps in
-      one.all ∙ (λ i. same.0 i ++ rest i) ∙ sym two.all
+      let events = beginning parts.area trace in
+      let same = one_count (start 1) events answers others one two in
+      (laws.one_run parts kept (start 1) (then_steps events two.count) answers others one.end two.end
+      (subst (λ (n : ℕ). IsRun parts (start 1) (then_steps events n) answers one.end) same one.run) two.run).0
 
   pub one_trace_text : (trace : Trace) (text other : List ℕ) → IsTraceText parts trace text
       → IsTraceText parts trace other → text ≡ other

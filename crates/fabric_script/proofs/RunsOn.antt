@@ -1,5 +1,5 @@
 -- Runs that go on.
-use Rattle.std.proofs.Common.{◌≡◌, ◌∙◌, ◌++◌, ◌+◌, ◌<◌, ◌≤◌, ℕ, true, List, [], ◌∷◌, Option, Some, None, ap, get_or, length, map, refl, take, slice_get, subst, sym, inl, inr}
+use Rattle.std.proofs.Common.{◌≡◌, ◌∙◌, ◌++◌, ◌+◌, ◌<◌, ◌≤◌, ℕ, true, List, [], ◌∷◌, Option, Some, None, ap, get_or, length, map, refl, take, subst, sym, inl, inr}
 use Rattle.std.specs.Prelude.{IfOk, Result, Ok, Err}
 use Rattle.std.specs.Option.{option_and_then, option_map}
 use Rattle.std.proofs.lemmas.Bool.{cases_Bool}
@@ -9,16 +9,13 @@ use Rattle.area_graph.specs.Parts.{AreaParts}
 use Rattle.fabric.specs.declared.event.Event.{Event}
 use Rattle.fabric.specs.declared.event.Event.TheVariants.{Step}
 use Rattle.fabric.specs.declared.event.Outcome.{Outcome}
-use Rattle.fabric.specs.declared.packet.Packet.{Packet}
-use Rattle.fabric.specs.declared.packet.State.TheVariants.{Going}
 use Rattle.fabric.specs.Course.{handles, steps_of}
 use Rattle.fabric.specs.FabricParts.{FabricParts}
-use Rattle.fabric.specs.FabricState.{Answer, FabricState}
+use Rattle.fabric.specs.FabricState.{Answer, FabricState, start}
 use Rattle.fabric.specs.FabricStep.{FabricStep}
 use Rattle.fabric.specs.OutcomeText.{answer_line, run_text}
 use Rattle.fabric.specs.Runs.{IsRun}
 use Rattle.fabric_script.specs.Told.{HasLines, IsTold}
-use Rattle.fabric_script.specs.Trace.{AreSteps, Ended, HasEnded, OneMore}
 use Rattle.mrt_graph.specs.declared.node_id.NodeId.{NodeId}
 
 -- one run after another
@@ -132,6 +129,15 @@ pub all_told : {X : Type 0} (parts : FabricParts) (old new : FabricState) (f : X
 all_told parts old new f xs i before after past told =
     subst (λ (front : List _). IsTold parts old (map f front) new before after) (take_all i xs past) told
 
+-- told from the start, of a fabric that was made so
+pub from_start : (parts made : FabricParts) (room : ℕ) (state end : FabricState) (events : List Event) (before after : List ℕ)
+    → made ≡ parts → state ≡ start room → before ≡ [] → IsTold made state events end before after
+    → IsTold parts (start room) events end [] after
+from_start parts made room state end events before after made_is state_is text_is told =
+    subst (λ (p : FabricParts). IsTold p (start room) events end [] after) made_is
+    (subst (λ (s : FabricState). IsTold made s events end [] after) state_is
+    (subst (λ (t : List ℕ). IsTold made state events end t after) text_is told))
+
 -- of a text that was empty
 only_lines : (lines : Option (List ℕ)) (text : List ℕ) → option_map (λ l. [] ++ l) lines ≡ Some text → lines ≡ Some text
 only_lines None text is = is
@@ -158,24 +164,3 @@ pub one_step_more : (outcome : Outcome) (events : List Event) (answers : List An
     (old end : FabricState) → IsRun parts old events answers end
     → steps_of 0 (events ++ Step 0 ∷ []) (answers ++ Ok outcome ∷ []) ≡ steps_of 0 events answers + 1
 one_step_more outcome events answers parts old end run = more_steps 0 outcome events answers parts old end run refl
-
--- packet 0 was going, and had these steps
-pub data WentOn (parts : FabricParts) : FabricState → List Answer → FabricState → Type 0 where
-  Stays : {state : FabricState} → WentOn parts state [] state
-  Goes : {state end : FabricState} (next : FabricState) (packet : Packet) (answer : Answer) (answers : List Answer)
-      → slice_get state.packets 0 ≡ Some packet → packet.state ≡ Going → FabricStep parts state (Step 0) answer next
-      → WentOn parts next answers end → WentOn parts state (answer ∷ answers) end
-
-pub go_on : (parts : FabricParts) (old mid new : FabricState) (answers : List Answer) (packet : Packet) (answer : Answer)
-    → WentOn parts old answers mid → slice_get mid.packets 0 ≡ Some packet → packet.state ≡ Going
-    → FabricStep parts mid (Step 0) answer new → WentOn parts old (answers ++ answer ∷ []) new
-go_on parts old mid new answers packet answer Stays there going step = Goes new packet answer [] there going step Stays
-go_on parts old mid new answers packet answer (Goes next first own more there going step rest) there' going' step' =
-    Goes next first own (more ++ answer ∷ []) there going step
-    (go_on parts next mid new more packet answer rest there' going' step')
-
-pub ended_here : (parts : FabricParts) (old end : FabricState) (answers : List Answer) → WentOn parts old answers end
-    → HasEnded end → AreSteps parts old answers
-ended_here parts old end answers Stays ended = Ended ended
-ended_here parts old end answers (Goes next packet answer more there going step rest) ended =
-    OneMore next packet answer more there going step (ended_here parts next end more rest ended)

@@ -1,7 +1,8 @@
 -- Packet 0 has its steps until it has ended.
-use Rattle.std.proofs.Common.{◌≡◌, ◌∙◌, ◌++◌, ◌+◌, ◌<◌, ◌≤◌, ◌-◌, ◌*◌, ℕ, List, [], ◌∷◌, Option, Some, None, ap, arith, length, refl, slice_get, subst, sym}
+use Rattle.std.proofs.Common.{◌≡◌, ◌∙◌, ◌++◌, ◌+◌, ◌<◌, ◌≤◌, ◌-◌, ◌*◌, ℕ, List, [], ◌∷◌, Option, Some, None, ap, arith, length, refl, replicate, slice_get, subst, sym, inl, inr}
 use Rattle.std.specs.Prelude.{Ok}
-use Rattle.std.proofs.lemmas.List.{append-nil}
+use Rattle.std.proofs.lemmas.Bool.{cases_lt}
+use Rattle.std.proofs.lemmas.List.{append-nil, replicate_more}
 use Rattle.std.proofs.lemmas.Option.{none-some, same_Some}
 use Rattle.fabric.specs.declared.event.Event.{Event}
 use Rattle.fabric.specs.declared.event.Event.TheVariants.{Step}
@@ -13,17 +14,17 @@ use Rattle.fabric.specs.Answers.{Answered, HasEnded as HasEndedBefore, IsStepAns
 use Rattle.fabric.specs.Course.{steps_of}
 use Rattle.fabric.specs.FabricParts.{AreFabricParts, FabricParts}
 use Rattle.fabric.specs.FabricState.{Answer, FabricState, start}
-use Rattle.fabric.specs.FabricStep.{FabricStep}
 use Rattle.fabric.specs.Runs.{IsRun}
 use Rattle.fabric_script.specs.Told.{HasLines, IsSteppedOn, IsTold}
-use Rattle.fabric_script.specs.Trace.{HasEnded}
+use Rattle.fabric_script.specs.Trace.{HasEnded, IsGoingAfter}
 use Rattle.fabric_script.specs.Unstepped.{IsUnstepped}
-use Rattle.fabric_script.proofs.RunsOn.{Stays, WentOn, ended_here, go_on, lines_on, one_step_more, run_on}
+use Rattle.fabric_script.proofs.RunsOn.{lines_on, one_step_more, run_on}
 
 -- so many steps since the old state, with their lines
 pub record HasStepped (parts : FabricParts) (old new : FabricState) (count : ℕ) (before after : List ℕ) : Type 0 where
   pub own : List Answer
-  pub went : WentOn parts old own new
+  pub own_run : IsRun parts old (replicate count (Step 0)) own new
+  pub not_before : (fewer : ℕ) → fewer < count → IsGoingAfter parts old (replicate fewer (Step 0))
   pub lines : HasLines parts own before after
   pub events : List Event
   pub answers : List Answer
@@ -34,7 +35,8 @@ pub no_steps : (parts : FabricParts) (state : FabricState) (text : List ℕ) →
     → HasStepped parts state state 0 text text
 no_steps parts state text unstepped = record {
   own = [];
-  went = Stays;
+  own_run = refl;
+  not_before = λ fewer less. absurd (omega (arith, less));
   lines = ap (λ (t : List ℕ). Some t) (append-nil text);
   events = unstepped.events;
   answers = unstepped.answers;
@@ -92,10 +94,21 @@ step_taken parts old mid new count before between after so_far goes [] run lines
 step_taken parts old mid new count before between after so_far goes (answer ∷ []) run lines =
     let step = run.1 in
     let own = answered parts mid (slice_get mid.packets 0) answer goes.packet goes.there goes.going step.answers in
-    let here : FabricStep parts mid (Step 0) answer new = subst (λ (s : FabricState). FabricStep parts mid (Step 0) answer s) (sym run.2) step in
     record {
       own = so_far.own ++ answer ∷ [];
-      went = go_on parts old mid new so_far.own goes.packet answer so_far.went goes.there goes.going here;
+      own_run = subst (λ (events : List Event). IsRun parts old events (so_far.own ++ answer ∷ []) new) (replicate_more count (Step 0))
+          (run_on parts old mid new (replicate count (Step 0)) (Step 0 ∷ []) so_far.own (answer ∷ []) so_far.own_run run);
+      not_before = λ fewer less. elim (cases_lt fewer count) [
+        | inl before ↦ so_far.not_before fewer before
+        | inr here ↦
+            let same : count ≡ fewer = omega (arith, less, here) in
+            subst (λ (n : ℕ). IsGoingAfter parts old (replicate n (Step 0))) same (record {
+              answers = so_far.own;
+              state = mid;
+              run = so_far.own_run;
+              going = λ ended. ended goes.packet goes.there goes.going;
+            })
+      ];
       lines = lines_on parts so_far.own (answer ∷ []) before between after so_far.lines lines;
       events = so_far.events ++ Step 0 ∷ [];
       answers = so_far.answers ++ answer ∷ [];
@@ -117,7 +130,7 @@ pub stepped : (parts : FabricParts) (old new : FabricState) (count : ℕ) (befor
     → HasStepped parts old new count before after → HasEnded new → IsSteppedOn parts old before after
 stepped parts old new count before after so_far ended = record {
   answers = so_far.own;
-  steps = ended_here parts old new so_far.own so_far.went ended;
+  steps = record { count = count; end = new; run = so_far.own_run; ended = ended; not_before = so_far.not_before };
   lines = so_far.lines;
 }
 

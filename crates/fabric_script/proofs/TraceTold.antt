@@ -1,7 +1,9 @@
 -- A trace, told event by event.
-use Rattle.std.proofs.Common.{◌≡◌, ◌∙◌, ◌++◌, ℕ, List, [], ◌∷◌, Option, Some, None, refl, subst, sym}
+use Rattle.std.proofs.Common.{◌≡◌, ◌++◌, ℕ, List, [], ◌∷◌, Option, Some, None, refl, replicate, subst, sym}
+use Rattle.std.specs.Prelude.{IfOk, Result, Ok, Err}
 use Rattle.area_graph.specs.Parts.{AreaParts}
 use Rattle.fabric.specs.declared.event.Event.{Event}
+use Rattle.fabric.specs.declared.event.Event.TheVariants.{Step}
 use Rattle.fabric.specs.Course.{steps_of}
 use Rattle.fabric.specs.FabricParts.{FabricParts}
 use Rattle.fabric.specs.FabricState.{Answer, FabricState, start}
@@ -14,21 +16,18 @@ use Rattle.fabric_script.specs.RunTexts.{IsTraceText}
 use Rattle.fabric_script.specs.Told.{IsSteppedOn, IsTold}
 use Rattle.fabric_script.specs.Trace.{beginning, failures_of}
 use Rattle.fabric_script.specs.Unstepped.{IsUnstepped}
-use Rattle.fabric_script.proofs.RunsOn.{lines_on, told_on, whole_text}
+use Rattle.fabric_script.proofs.RunsOn.{lines_on, run_on, told_on, whole_text}
 
 -- the failure and the packet that enters, told one after the other
-pub begun : (parts made kept : FabricParts) (s0 s1 s2 : FabricState) (trace : Trace) (event : Event) (t0 t1 t2 : List ℕ)
-    → made ≡ parts → kept ≡ made → s0 ≡ start 1 → t0 ≡ [] → IsTold made s0 (failures_of parts.area trace.failed) s1 t0 t1
-    → event ≡ event_of parts.area (Inject trace.from trace.to trace.entry) → IsTold kept s1 (event ∷ []) s2 t1 t2
-    → IsTold parts (start 1) (beginning parts.area trace) s2 [] t2
-begun parts made kept s0 s1 s2 trace event t0 t1 t2 made_is kept_is state_is text_is first event_is second =
-    told_on parts (start 1) s1 s2 (failures_of parts.area trace.failed)
-    (event_of parts.area (Inject trace.from trace.to trace.entry) ∷ []) [] t1 t2
-    (subst (λ (p : FabricParts). IsTold p (start 1) (failures_of parts.area trace.failed) s1 [] t1) made_is
-    (subst (λ (s : FabricState). IsTold made s (failures_of parts.area trace.failed) s1 [] t1) state_is
-    (subst (λ (t : List ℕ). IsTold made s0 (failures_of parts.area trace.failed) s1 t t1) text_is first)))
-    (subst (λ (p : FabricParts). IsTold p s1 (event_of parts.area (Inject trace.from trace.to trace.entry) ∷ []) s2 t1 t2)
-    (kept_is ∙ made_is) (subst (λ (e : Event). IsTold kept s1 (e ∷ []) s2 t1 t2) event_is second))
+pub begun : {T E : Type 0} (result : Result T E) (area : AreaParts) (parts kept : FabricParts) (s0 s1 s2 : FabricState)
+    (trace : Trace) (event : Event) (t0 t1 t2 : List ℕ) → kept ≡ parts → IsTold parts s0 (failures_of area trace.failed) s1 t0 t1
+    → event ≡ event_of area (Inject trace.from trace.to trace.entry)
+    → IfOk result (λ _. IsTold kept s1 (event ∷ []) s2 t1 t2) → IfOk result (λ _. IsTold parts s0 (beginning area trace) s2 t0 t2)
+begun (Ok done) area parts kept s0 s1 s2 trace event t0 t1 t2 kept_is first event_is second =
+    told_on parts s0 s1 s2 (failures_of area trace.failed) (event_of area (Inject trace.from trace.to trace.entry) ∷ []) t0 t1
+    t2 first (subst (λ (p : FabricParts). IsTold p s1 (event_of area (Inject trace.from trace.to trace.entry) ∷ []) s2 t1 t2)
+    kept_is (subst (λ (e : Event). IsTold kept s1 (e ∷ []) s2 t1 t2) event_is second))
+begun (Err error) area parts kept s0 s1 s2 trace event t0 t1 t2 kept_is first event_is second = tt
 
 -- no step is among them
 none_stepped : (area : AreaParts) (failed : Option FailureName) (trace : Trace) (parts : FabricParts) (old new : FabricState)
@@ -61,12 +60,19 @@ trace_told parts last state trace between text last_is told stepped =
     record {
       answers = told.answers ++ here.answers;
       traced = record {
-        first = told.answers;
-        begun = state;
-        begins = told.run;
-        others = here.answers;
-        steps = here.steps;
-        all = refl;
+        count = here.steps.count;
+        end = here.steps.end;
+        run = run_on parts (start 1) state here.steps.end (beginning parts.area trace) (replicate here.steps.count (Step 0))
+            told.answers here.answers told.run here.steps.run;
+        ended = here.steps.ended;
+        not_before = λ fewer less.
+            let it = here.steps.not_before fewer less in record {
+              answers = told.answers ++ it.answers;
+              state = it.state;
+              run = run_on parts (start 1) state it.state (beginning parts.area trace) (replicate fewer (Step 0)) told.answers
+                  it.answers told.run it.run;
+              going = it.going;
+            };
       };
       spelled = whole_text parts (told.answers ++ here.answers) text
           (lines_on parts told.answers here.answers [] between text told.lines here.lines);

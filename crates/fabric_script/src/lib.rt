@@ -19,7 +19,7 @@ pub use event::{FailureName, ScriptEvent};
 pub use line::read_entry;
 pub use names::{read_failure, read_node};
 pub use reading::read_script;
-pub use run_law::{a_trace_is_a_run, one_text_each};
+pub use run_law::one_text_each;
 pub use runs::{script_text, trace_text};
 pub use script::Script;
 pub use script_error::ScriptError;

@@ -5,11 +5,9 @@ ghost use Rattle.primary_alt.specs.AcceptedRows.{IsAcceptedFor};
 ghost use Rattle.primary_alt.specs.RoutesMade.{AreMadeWith};
 ghost use Rattle.fabric_script.specs.RunTexts.{IsScriptText, IsTraceText};
 
-use crate::event::ScriptEvent;
-use crate::of_area::event_of;
 use crate::script::Script;
 use crate::stepping::tell_steps;
-use crate::telling::{tell, tell_failure};
+use crate::telling::{tell_all, tell_beginning};
 use crate::trace::Trace;
 use area_graph::Area;
 use fabric::Fabric;
@@ -41,9 +39,7 @@ pub fn script_text(
 {
     let mut fabric = Fabric::new(alloc, area, g, c, routes, script.room)?;
     let mut text = Vec::new(alloc);
-    for event in script.events.as_slice() {
-        tell(&mut fabric, area, event_of(area, event), &mut text)?;
-    }
+    tell_all(&mut fabric, area, script.events.as_slice(), &mut text)?;
     Ok(text)
 }
 
@@ -69,24 +65,7 @@ pub fn trace_text(
 {
     let mut fabric = Fabric::new(alloc, area, g, c, routes, 1)?;
     let mut text = Vec::new(alloc);
-    tell_failure(&mut fabric, area, &trace.failed, &mut text)?;
-    tell(
-        &mut fabric,
-        area,
-        event_of(area, &entering(trace)),
-        &mut text,
-    )?;
+    tell_beginning(&mut fabric, area, trace, &mut text)?;
     tell_steps(&mut fabric, area, &mut text)?;
     Ok(text)
-}
-
-/// The packet of a trace enters.
-fn entering(trace: &Trace) -> ScriptEvent
-    ensures { result ≡ ScriptEvent.Inject trace.now.from trace.now.to trace.now.entry }
-{
-    ScriptEvent::Inject {
-        router: trace.from,
-        to: trace.to,
-        entry: trace.entry,
-    }
 }

@@ -1,16 +1,79 @@
 //! Events, and the lines of their answers.
 
-ghost use Rattle.std.specs.Prelude.{◌≡◌, ◌<◌, ◌*◌, ◌-◌, ◌∷◌, [], ℕ, IfOk, length};
-ghost use Rattle.fabric.specs.FabricParts.{AreFabricParts};
+ghost use Rattle.std.specs.Prelude.{◌≡◌, ◌∷◌, [], IfOk, map};
 ghost use Rattle.fabric_script.specs.NamedEvents.{event_of};
 ghost use Rattle.fabric_script.specs.Told.{IsTold};
-ghost use Rattle.fabric_script.specs.Trace.{failures_of};
+ghost use Rattle.fabric_script.specs.Trace.{beginning, failures_of};
 
-use crate::event::FailureName;
-use crate::of_area::failure_of;
+use crate::event::{FailureName, ScriptEvent};
+use crate::of_area::{event_of, failure_of};
+use crate::trace::Trace;
 use area_graph::Area;
 use fabric::{Event, Fabric, push_answer_line};
 use mrt_graph::NoMemory;
+
+/// Events by their names, and the lines of their answers.
+pub fn tell_all(
+    fabric: &mut Fabric<'_>,
+    area: &Area,
+    events: &[ScriptEvent],
+    text: &mut Vec<u8>,
+) -> Result<(), NoMemory>
+    requires { fabric.old.parts.area ≡ area.now }
+    ensures { IfOk result (λ _. IsTold fabric.old.parts fabric.old.state
+        (map (event_of area.now) events.now) fabric.new.state text.old.items text.new.items) }
+{
+    for event in events {
+        tell(fabric, area, event_of(area, event), text)?;
+    }
+    Ok(())
+}
+
+/// What stands before the steps of a trace, and the lines of the answers: the failure, if there is one, and the packet
+/// that enters.
+pub fn tell_beginning(
+    fabric: &mut Fabric<'_>,
+    area: &Area,
+    trace: &Trace,
+    text: &mut Vec<u8>,
+) -> Result<(), NoMemory>
+    requires { fabric.old.parts.area ≡ area.now }
+    ensures told { IfOk result (λ _. IsTold fabric.old.parts fabric.old.state
+        (beginning area.now trace.now) fabric.new.state text.old.items text.new.items) }
+    ensures parts { fabric.new.parts ≡ fabric.old.parts }
+{
+    tell_failure(fabric, area, &trace.failed, text)?;
+    tell(fabric, area, event_of(area, &entering(trace)), text)
+}
+
+/// The failure, if there is one, and the line of its answer.
+fn tell_failure(
+    fabric: &mut Fabric<'_>,
+    area: &Area,
+    failed: &Option<FailureName>,
+    text: &mut Vec<u8>,
+) -> Result<(), NoMemory>
+    requires { fabric.old.parts.area ≡ area.now }
+    ensures told { IfOk result (λ _. IsTold fabric.old.parts fabric.old.state
+        (failures_of area.now failed.now) fabric.new.state text.old.items text.new.items) }
+    ensures parts { fabric.new.parts ≡ fabric.old.parts }
+{
+    match failed {
+        None => Ok(()),
+        Some(failed) => tell(fabric, area, Event::Fail(failure_of(area, failed)), text),
+    }
+}
+
+/// The packet of a trace enters.
+fn entering(trace: &Trace) -> ScriptEvent
+    ensures { result ≡ ScriptEvent.Inject trace.now.from trace.now.to trace.now.entry }
+{
+    ScriptEvent::Inject {
+        router: trace.from,
+        to: trace.to,
+        entry: trace.entry,
+    }
+}
 
 /// One event, and the line of its answer.
 pub fn tell(
@@ -20,28 +83,10 @@ pub fn tell(
     text: &mut Vec<u8>,
 ) -> Result<(), NoMemory>
     requires { fabric.old.parts.area ≡ area.now }
-    ensures told { IfOk result (λ _. IsTold fabric.old.parts fabric.old.state (event ∷ []) fabric.new.state
-        text.old.items text.new.items) }
+    ensures told { IfOk result (λ _. IsTold fabric.old.parts fabric.old.state (event ∷ [])
+        fabric.new.state text.old.items text.new.items) }
     ensures parts { fabric.new.parts ≡ fabric.old.parts }
 {
     let answer = fabric.apply(event);
     push_answer_line(text, area, answer)
-}
-
-/// The failure, if there is one, and the line of its answer.
-pub fn tell_failure(
-    fabric: &mut Fabric<'_>,
-    area: &Area,
-    failed: &Option<FailureName>,
-    text: &mut Vec<u8>,
-) -> Result<(), NoMemory>
-    requires { fabric.old.parts.area ≡ area.now }
-    ensures told { IfOk result (λ _. IsTold fabric.old.parts fabric.old.state (failures_of area.now failed.now)
-        fabric.new.state text.old.items text.new.items) }
-    ensures parts { fabric.new.parts ≡ fabric.old.parts }
-{
-    match failed {
-        None => Ok(()),
-        Some(failed) => tell(fabric, area, Event::Fail(failure_of(area, failed)), text),
-    }
 }

@@ -1,9 +1,9 @@
 use Rattle.fabric_script.proofs.OneText.{RunLaws, one_script_text, one_trace_text}
 use Rattle.fabric_script.proofs.run_law.one_text_each.Goals as goal
 
--- the laws of the layer below
+-- the law of the layer below
 laws : goal.After-one_answer_each → RunLaws
-laws c = record { only_one = c.one_answer_each.ensures.only_one; one_run = c.one_answer_each.ensures.one_run }
+laws c = record { one_run = c.one_answer_each.ensures.one_run }
 
 pub returns-clause-script : goal.returns-clause-script
 returns-clause-script c = one_script_text (laws c)

@@ -1,24 +1,9 @@
-use Rattle.std.proofs.Common.{◌∙◌, []}
+use Rattle.std.proofs.Common.{ap, map}
 use Rattle.fabric.specs.FabricParts.{FabricParts}
-use Rattle.fabric.specs.FabricState.{start}
+use Rattle.fabric.specs.Viewed.{FabricSeen}
 use Rattle.fabric_script.specs.NamedEvents.{event_of}
-use Rattle.fabric_script.proofs.RunsOn.{all_told, one_more_told, whole_text}
+use Rattle.fabric_script.proofs.RunsOn.{from_start, whole_text}
 use Rattle.fabric_script.proofs.runs.script_text.Goals as goal
-
-pub loop-event-preserved : goal.loop-event-preserved
-loop-event-preserved c =
-    let parts : FabricParts = record {
-      area = c.args.area.now;
-      island = c.args.g.now;
-      cert = c.args.c.now;
-      link_of = c.args.routes.now.links;
-    } in record {
-      parts = c.tell.ensures.parts ∙ c.loop-event.invariant.parts;
-      told = one_more_told parts c.loop-event.fabric.parts (start c.args.script.now.room) c.loop-event.fabric.state
-          c.tell.new.fabric.state (event_of c.args.area.now) c.as_slice-event-items.result.now _ c.loop-event.event-index
-          c.event_of.result [] c.loop-event.text.items c.tell.new.text.items c.loop-event.invariant.parts
-          c.loop-event-test.true c.event_of.ensures c.loop-event.invariant.told c.in_ok-tell.ensures.told;
-    }
 
 pub returns : goal.returns
 returns c =
@@ -28,12 +13,13 @@ returns c =
       cert = c.args.c.now;
       link_of = c.args.routes.now.links;
     } in
-    let told = all_told parts (start c.args.script.now.room) c.loop-event.fabric.state (event_of c.args.area.now)
-    c.as_slice-event-items.result.now c.loop-event.event-index [] c.loop-event.text.items c.loop-event-test.false
-    c.loop-event.invariant.told in
-    rw (← c.as_slice-event-items.ensures) (record {
+    let told = from_start parts c.in_ok-fabric.fabric.parts c.args.script.now.room c.in_ok-fabric.fabric.state
+    c.tell_all.new.fabric.state (map (event_of c.args.area.now) c.as_slice.result.now) c.new-text.result.items
+    c.tell_all.new.text.items (ap (λ (f : FabricSeen). f.parts) c.in_ok-fabric.ensures)
+    (ap (λ (f : FabricSeen). f.state) c.in_ok-fabric.ensures) c.new-text.ensures.items c.in_ok-tell_all.ensures in
+    rw (← c.as_slice.ensures) (record {
       answers = told.answers;
-      end = c.loop-event.fabric.state;
+      end = c.tell_all.new.fabric.state;
       run = told.run;
-      spelled = whole_text parts told.answers c.loop-event.text.items told.lines;
+      spelled = whole_text parts told.answers c.tell_all.new.text.items told.lines;
     })

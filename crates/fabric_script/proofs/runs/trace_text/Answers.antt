@@ -1,7 +1,9 @@
 use Rattle.std.proofs.Common.{◌∙◌, ap}
 use Rattle.fabric.specs.FabricParts.{FabricParts}
 use Rattle.fabric.specs.Viewed.{FabricSeen}
-use Rattle.fabric_script.proofs.TraceTold.{begun, trace_told, unstepped}
+use Rattle.fabric_script.specs.Trace.{beginning}
+use Rattle.fabric_script.proofs.RunsOn.{from_start}
+use Rattle.fabric_script.proofs.TraceTold.{trace_told, unstepped}
 use Rattle.fabric_script.proofs.runs.trace_text.Goals as goal
 
 pub tell_steps-requires-clause-unstepped : goal.tell_steps-requires-clause-unstepped
@@ -13,13 +15,11 @@ tell_steps-requires-clause-unstepped c =
       link_of = c.args.routes.now.links;
     } in
     let made = ap (λ (f : FabricSeen). f.parts) c.in_ok-fabric.ensures in
-    unstepped parts c.tell.new.fabric.parts c.tell.new.fabric.state c.args.trace.now c.tell.new.text.items
-    (c.tell.ensures.parts ∙ c.tell_failure.ensures.parts ∙ made)
-    (begun parts c.in_ok-fabric.fabric.parts c.tell_failure.new.fabric.parts c.in_ok-fabric.fabric.state
-    c.tell_failure.new.fabric.state c.tell.new.fabric.state c.args.trace.now c.event_of.result c.new-text.result.items
-    c.tell_failure.new.text.items c.tell.new.text.items made c.tell_failure.ensures.parts
-    (ap (λ (f : FabricSeen). f.state) c.in_ok-fabric.ensures) c.new-text.ensures.items c.in_ok-tell_failure.ensures.told
-    (rw c.entering.ensures at c.event_of.ensures) c.in_ok-tell.ensures.told)
+    unstepped parts c.tell_beginning.new.fabric.parts c.tell_beginning.new.fabric.state c.args.trace.now
+    c.tell_beginning.new.text.items (c.tell_beginning.ensures.parts ∙ made)
+    (from_start parts c.in_ok-fabric.fabric.parts 1 c.in_ok-fabric.fabric.state c.tell_beginning.new.fabric.state
+    (beginning c.args.area.now c.args.trace.now) c.new-text.result.items c.tell_beginning.new.text.items made
+    (ap (λ (f : FabricSeen). f.state) c.in_ok-fabric.ensures) c.new-text.ensures.items c.in_ok-tell_beginning.ensures.told)
 
 pub returns : goal.returns
 returns c =
@@ -30,10 +30,9 @@ returns c =
       link_of = c.args.routes.now.links;
     } in
     let made = ap (λ (f : FabricSeen). f.parts) c.in_ok-fabric.ensures in
-    trace_told parts c.tell.new.fabric.parts c.tell.new.fabric.state c.args.trace.now c.tell.new.text.items
-    c.tell_steps.new.text.items (c.tell.ensures.parts ∙ c.tell_failure.ensures.parts ∙ made)
-    (begun parts c.in_ok-fabric.fabric.parts c.tell_failure.new.fabric.parts c.in_ok-fabric.fabric.state
-    c.tell_failure.new.fabric.state c.tell.new.fabric.state c.args.trace.now c.event_of.result c.new-text.result.items
-    c.tell_failure.new.text.items c.tell.new.text.items made c.tell_failure.ensures.parts
-    (ap (λ (f : FabricSeen). f.state) c.in_ok-fabric.ensures) c.new-text.ensures.items c.in_ok-tell_failure.ensures.told
-    (rw c.entering.ensures at c.event_of.ensures) c.in_ok-tell.ensures.told) c.in_ok-tell_steps.ensures.stepped
+    trace_told parts c.tell_beginning.new.fabric.parts c.tell_beginning.new.fabric.state c.args.trace.now
+    c.tell_beginning.new.text.items c.tell_steps.new.text.items (c.tell_beginning.ensures.parts ∙ made)
+    (from_start parts c.in_ok-fabric.fabric.parts 1 c.in_ok-fabric.fabric.state c.tell_beginning.new.fabric.state
+    (beginning c.args.area.now c.args.trace.now) c.new-text.result.items c.tell_beginning.new.text.items made
+    (ap (λ (f : FabricSeen). f.state) c.in_ok-fabric.ensures) c.new-text.ensures.items c.in_ok-tell_beginning.ensures.told)
+    c.in_ok-tell_steps.ensures.stepped
