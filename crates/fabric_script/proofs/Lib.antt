@@ -2,8 +2,11 @@ pub mod FewBonds
 pub mod LeastRoom
 pub mod LinesTaken
 pub mod NamesRead
+pub mod NamesSpelled
+pub mod NotThere
 pub mod OneText
 pub mod Placed
+pub mod SpellingsTold
 pub mod RunsOn
 pub mod StepsTold
 pub mod TraceTold

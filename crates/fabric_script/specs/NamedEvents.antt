@@ -1,8 +1,9 @@
 -- What the names in events stand for in an area.
-use Rattle.std.specs.Prelude.{ℕ, length}
+use Rattle.std.specs.Prelude.{⊤, ℕ, Contains, length}
 use Rattle.std.specs.Option.{unwrap_or}
-use Rattle.area_graph.specs.Named.{bond_named}
+use Rattle.area_graph.specs.Named.{IsNamed, bond_named}
 use Rattle.area_graph.specs.Nodes.{number_of, router}
+use Rattle.area_graph.specs.declared.area_types.Arc.{Arc}
 use Rattle.area_graph.specs.Parts.{AreaParts}
 use Rattle.fabric.specs.declared.event.Event.{Event}
 use Rattle.fabric.specs.declared.event.Event.TheVariants as events
@@ -32,3 +33,14 @@ abbrev pub event_of : AreaParts → ScriptEvent → Event
 event_of area (Inject number to entry) = events.Inject (spot_of area (router number)) (spot_of area to) entry
 event_of area (Step packet) = events.Step packet
 event_of area (Fail failed) = events.Fail (failure_of area failed)
+
+-- the area has what is named as failed: the node, or an arc that leaves that router with that link data
+abbrev pub HasNamed : AreaParts → FailureName → Type 0
+HasNamed area (Node id) = Contains area.ids id
+HasNamed area (Link number link_data) = (arc : Arc) × IsNamed area number link_data arc
+
+-- the area has all that an event names: the router where a packet enters, and its destination; what fails
+abbrev pub AreThere : AreaParts → ScriptEvent → Type 0
+AreThere area (Inject number to entry) = Contains area.ids (router number) × Contains area.ids to
+AreThere area (Step packet) = ⊤
+AreThere area (Fail failed) = HasNamed area failed

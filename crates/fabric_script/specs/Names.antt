@@ -1,5 +1,5 @@
 -- Names of nodes and of links, as words give them.
-use Rattle.std.specs.Prelude.{◌==◌, ◌++◌, ◌+◌, ℕ, List, Option, codes, drop, position, take, if◌then◌else◌}
+use Rattle.std.specs.Prelude.{◌==◌, ◌<◌, ◌++◌, ◌+◌, ◌^◌, ℕ, List, Option, codes, drop, position, take, if◌then◌else◌}
 use Rattle.std.specs.Option.{option_and_then, option_map}
 use Rattle.std.specs.Str.{bytes_eq}
 use Rattle.mrt_graph.specs.declared.node_id.Kind.{Kind}
@@ -32,3 +32,8 @@ failure_in text =
 abbrev pub failure_text : FailureName → List ℕ
 failure_text (Node id) = node_text id
 failure_text (Link router link_data) = codes "link:" ++ address_text router ++ codes "/" ++ address_text link_data
+
+-- the numbers of a name have 32 bits
+abbrev pub HasNumbers : FailureName → Type 0
+HasNumbers (Node id) = id.number < 2 ^ 32
+HasNumbers (Link router link_data) = (router < 2 ^ 32) × (link_data < 2 ^ 32)

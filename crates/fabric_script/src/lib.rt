@@ -3,6 +3,7 @@
 
 mod event;
 mod line;
+mod name_law;
 mod names;
 mod of_area;
 mod reading;
@@ -17,6 +18,7 @@ mod trace;
 
 pub use event::{FailureName, ScriptEvent};
 pub use line::read_entry;
+pub use name_law::{a_name_is_its_spelling, what_is_not_there_is_refused};
 pub use names::{read_failure, read_node};
 pub use reading::read_script;
 pub use run_law::one_text_each;

@@ -3,7 +3,16 @@
 ghost use Rattle.std.specs.Prelude.{◌≡◌, ◌<◌, ◌^◌, ◌==◌, ◌++◌, ℕ, IfSome, Some, codes, position};
 ghost use Rattle.mrt_graph.specs.Spelling.{address_text, node_text};
 ghost use Rattle.mrt_graph.specs.declared.node_id.NodeId.{NodeId};
-ghost use Rattle.fabric_script.specs.Names.{failure_in, failure_text, link_in, node_in, node_of};
+ghost use Rattle.fabric_script.specs.declared.event.FailureName.{FailureName};
+ghost use Rattle.fabric_script.specs.declared.event.FailureName.TheVariants as names;
+ghost use Rattle.fabric_script.specs.Names.{
+  HasNumbers,
+  failure_in,
+  failure_text,
+  link_in,
+  node_in,
+  node_of,
+};
 
 use crate::event::FailureName;
 use mrt_graph::{Kind, NodeId, read_address};
@@ -44,7 +53,18 @@ fn node_of(kind: Kind, address: &[u8]) -> Option<NodeId>
 pub fn read_failure(text: &[u8]) -> Option<FailureName>
     // What is read is spelled so.
     ensures found { IfSome result (λ failed. text.now ≡ failure_text failed) }
-    // What names one is read.
+    // What is spelled so is read.
+    ensures only { (failed : FailureName) → HasNumbers failed → text.now ≡ failure_text failed
+        → result ≡ Some failed }
+    // Both in one word.
+    ensures value { result ≡ failure_in text.now }
+{
+    failure(text)
+}
+
+/// The same, without the clause that follows from the others.
+fn failure(text: &[u8]) -> Option<FailureName>
+    ensures found { IfSome result (λ failed. text.now ≡ failure_text failed) }
     ensures value { result ≡ failure_in text.now }
 {
     match text.strip_prefix(b"link:".as_slice()) {
@@ -55,6 +75,17 @@ pub fn read_failure(text: &[u8]) -> Option<FailureName>
 
 /// The link that a router's address and link data name, with a slash between them.
 fn read_link(text: &[u8]) -> Option<FailureName>
+    ensures found { IfSome result (λ failed. codes "link:" ++ text.now ≡ failure_text failed) }
+    ensures only { (router link_data : ℕ) → router < 2 ^ 32 → link_data < 2 ^ 32
+        → codes "link:" ++ text.now ≡ failure_text (names.Link router link_data)
+        → result ≡ Some (names.Link router link_data) }
+    ensures value { result ≡ link_in text.now }
+{
+    link(text)
+}
+
+/// The same, without the clause that follows from the others.
+fn link(text: &[u8]) -> Option<FailureName>
     ensures found { IfSome result (λ failed. codes "link:" ++ text.now ≡ failure_text failed) }
     ensures value { result ≡ link_in text.now }
 {
