@@ -4,7 +4,7 @@ use Rattle.mrt_graph.specs.declared.cert.Color.{Color}
 use Rattle.mrt_graph.specs.declared.cert.Color.TheVariants.{Blue, Red}
 use Rattle.mrt_graph.specs.declared.link.Element.{Element}
 use Rattle.mrt_graph.specs.declared.link.Link.{Link}
-use Rattle.mrt_graph.specs.Alternate.{AtEnd, ByBlue, ByRed, IsAlternate, OnBoth}
+use Rattle.mrt_graph.specs.Alternate.{AtEnd, ByBlue, ByRed, IsAlternate, OnBoth, UsesOn}
 use Rattle.mrt_graph.specs.ColorWalk.{color_walk}
 use Rattle.mrt_graph.specs.Rows.{Rows}
 use Rattle.mrt_graph.specs.Separates.{IsNeitherEnd, Separates}
@@ -36,3 +36,9 @@ pub color_arrives : (links : List Link) (n : ℕ) (rows : Rows) (s t : ℕ) → 
     → Walk links s (color_walk links n rows color s t) t
 color_arrives links n rows s t sound Blue = sound.blue.ends_at_t
 color_arrives links n rows s t sound Red = sound.red.ends_at_t
+
+-- a color that is given does not use the element
+pub not_used : (links : List Link) (n : ℕ) (rows : Rows) (s t : ℕ) (x : Element) (color : Color) → IsAlternate links n rows s t (Some x) (Some color)
+    → ¬ UsesOn links n rows s t x color
+not_used links n rows s t x color (ByBlue y between not_blue) = not_blue
+not_used links n rows s t x color (ByRed y between blue not_red) = not_red

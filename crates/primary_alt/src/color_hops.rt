@@ -1,11 +1,12 @@
 //! Where a packet on a color goes.
 
-ghost use Rattle.std.specs.Prelude.{◌≡◌, ◌≢◌, ◌<◌, Some, length};
+ghost use Rattle.std.specs.Prelude.{◌≡◌, ◌≢◌, ◌<◌, IsSome, Some, length};
 ghost use Rattle.mrt_graph.specs.Certificate.{row_of};
-ghost use Rattle.mrt_graph.specs.Hop.{color_hop};
+ghost use Rattle.mrt_graph.specs.Hop.{color_hop, hop_over};
 ghost use Rattle.mrt_graph.specs.Rows.{link_of_color};
 ghost use Rattle.primary_alt.specs.AcceptedRows.{IsAcceptedFor};
 
+use crate::rows::RowsOf;
 use mrt_graph::{Cert, Color, Graph, LinkNo, NodeNo, Row};
 
 /// One hop on a color: a link, and the node that it leads to.
@@ -29,9 +30,32 @@ pub fn hop_on(g: &Graph, c: &Cert, at: NodeNo, t: NodeNo, color: Color) -> Color
     ensures link { result.link < length g.now.links }
     ensures to { result.to < length g.now.ids }
 {
+    next_hop(g, c, at, t, color)
+}
+
+/// Where a packet for `t` goes from `at` on a color, by these rows.
+pub fn next_hop<R: RowsOf>(g: &Graph, rows: &R, at: NodeNo, t: NodeNo, color: Color) -> ColorHop
+    requires { IsSome (color_hop g.now.links (R.rows rows.now) color t at) }
+    ensures hop { color_hop g.now.links (R.rows rows.now) color t at
+        ≡ Some (record { link = result.link; to = result.to }) }
+    ensures link { result.link < length g.now.links }
+    ensures to { result.to < length g.now.ids }
+{
+    hop_over(g, at, link_on(color, &rows.row_for(at, t)))
+}
+
+/// The hop from a node over a link that touches it.
+fn hop_over(g: &Graph, at: NodeNo, link: LinkNo) -> ColorHop
+    requires { IsSome (hop_over g.now.links at link) }
+    ensures hop { hop_over g.now.links at link
+        ≡ Some (record { link = result.link; to = result.to }) }
+    ensures link { result.link < length g.now.links }
+    ensures to { result.to < length g.now.ids }
+{
+    let nodes = g.link(link);
     ColorHop {
-        link: link_on(color, &c.row(at, t)),
-        to: g.next(c, at, t, color),
+        link,
+        to: if nodes.a == at { nodes.b } else { nodes.a },
     }
 }
 

@@ -18,6 +18,7 @@ mod repair;
 mod repair_law;
 mod routes;
 mod routes_law;
+mod rows;
 mod searching;
 mod shortest;
 mod waiting;
@@ -28,9 +29,10 @@ pub use primary_law::{
     a_primary_where_a_walk_leads, one_primary_each, primaries_lead_nearer,
     primaries_reach_their_destinations,
 };
-pub use repair::alternate;
+pub use repair::{alternate, alternate_on};
 pub use repair_law::{
-    a_color_given_goes_round, no_alternate_for_ends_and_what_separates, one_alternate_each,
+    a_color_given_goes_round, a_sound_column_goes_round, no_alternate_for_ends_and_what_separates,
+    one_alternate_each,
 };
 pub use routes::Routes;
 pub use routes_law::{routes_lead_nearer, routes_reach_their_destinations};

@@ -1,13 +1,16 @@
 //! The color that repairs a failure.
 
-ghost use Rattle.std.specs.Prelude.{◌≢◌, ◌<◌, ◌↔◌, IfSome, IsTrue, Some, length};
+ghost use Rattle.std.specs.Prelude.{◌≢◌, ◌<◌, ◌↔◌, ℕ, IfSome, IsTrue, Some, length};
 ghost use Rattle.mrt_graph.specs.Alternate.{IsAlternate};
 ghost use Rattle.mrt_graph.specs.Certificate.{row_of};
+ghost use Rattle.mrt_graph.specs.Column.{ColumnSound, rows_of_column};
 ghost use Rattle.mrt_graph.specs.Separates.{IsNeitherEnd};
+ghost use Rattle.mrt_graph.specs.Sound.{SoundFor};
 ghost use Rattle.primary_alt.specs.AcceptedRows.{IsAcceptedFor, IsElementOf};
 
 use crate::color_uses::uses;
-use mrt_graph::{Cert, Color, Element, Graph, NodeNo};
+use crate::rows::RowsOf;
+use mrt_graph::{Cert, Color, Column, Element, Graph, NodeNo};
 
 /// The color on which `source` sends a packet for `to` after a failure; None where no color goes round it. A failure
 /// outside the graph is None as `failed`.
@@ -33,21 +36,51 @@ pub fn alternate(
     }
 }
 
-/// The color on which `source` sends a packet for `to` round an element; None where there is none.
-fn color_round(g: &Graph, c: &Cert, source: NodeNo, to: NodeNo, x: &Element) -> Option<Color>
-    requires accepted { IsAcceptedFor g.now c.now }
+/// The same by the rows of all nodes for `to`, where these are sound.
+///
+/// It follows both color walks, so it takes time in proportion to the nodes at worst, and no memory.
+pub fn alternate_on(
+    g: &Graph,
+    c: &Column,
+    source: NodeNo,
+    to: NodeNo,
+    failed: Option<Element>,
+) -> Option<Color>
+    requires sound { ColumnSound g.now.links (length g.now.ids) c.now to }
     requires source { source < length g.now.ids }
     requires target { to < length g.now.ids }
-    ensures { IsAlternate g.now.links (length g.now.ids) (row_of c.now) source to
+    requires different { source ≢ to }
+    requires element { IfSome failed (λ x. IsElementOf g.now x) }
+    ensures { IsAlternate g.now.links (length g.now.ids) (rows_of_column c.now) source to
+        failed result }
+{
+    match failed {
+        None => Some(Color::Blue),
+        Some(x) => color_round(g, c, source, to, &x),
+    }
+}
+
+/// The color on which `source` sends a packet for `to` round an element, by these rows; None where there is none.
+fn color_round<R: RowsOf>(
+    g: &Graph,
+    rows: &R,
+    source: NodeNo,
+    to: NodeNo,
+    x: &Element,
+) -> Option<Color>
+    requires sound { (at : ℕ) → at < length g.now.ids → at ≢ to
+        → SoundFor g.now.links (length g.now.ids) (R.rows rows.now) at to }
+    requires source { source < length g.now.ids }
+    ensures { IsAlternate g.now.links (length g.now.ids) (R.rows rows.now) source to
         (Some x.now) result }
 {
     if !is_between(x, source, to) {
         return None;
     }
-    if !uses(g, c, source, to, x, Color::Blue) {
+    if !uses(g, rows, source, to, x, Color::Blue) {
         return Some(Color::Blue);
     }
-    if !uses(g, c, source, to, x, Color::Red) {
+    if !uses(g, rows, source, to, x, Color::Red) {
         return Some(Color::Red);
     }
     None

@@ -3,11 +3,13 @@
 ghost use Rattle.std.specs.Prelude.{◌≡◌, ◌≢◌, ◌<◌, ◌⊎◌, ◌↔◌, ℕ, List, Option, Some, None, length};
 ghost use Rattle.mrt_graph.specs.declared.cert.CertFile.{CertFile};
 ghost use Rattle.mrt_graph.specs.declared.cert.Color.{Color};
+ghost use Rattle.mrt_graph.specs.declared.cert.Row.{Row};
 ghost use Rattle.mrt_graph.specs.declared.link.Element.{Element};
 ghost use Rattle.mrt_graph.specs.declared.link.Link.{Link};
 ghost use Rattle.mrt_graph.specs.Accepted.{Accepted};
 ghost use Rattle.mrt_graph.specs.Alternate.{IsAlternate, UsesOn};
 ghost use Rattle.mrt_graph.specs.Certificate.{row_of};
+ghost use Rattle.mrt_graph.specs.Column.{ColumnSound, rows_of_column};
 ghost use Rattle.mrt_graph.specs.ColorWalk.{color_walk};
 ghost use Rattle.mrt_graph.specs.Rows.{Rows};
 ghost use Rattle.mrt_graph.specs.Separates.{IsNeitherEnd, Separates};
@@ -43,4 +45,24 @@ pub fn one_alternate_each()
     ensures { (links : List Link) (n : ℕ) (rows : Rows) (s t : ℕ) (failed : Option Element)
         (answer other : Option Color) → IsAlternate links n rows s t failed answer
         → IsAlternate links n rows s t failed other → answer ≡ other }
+{}
+
+/// Laws: by a sound column too there is no alternate exactly where the failed element is one of the two ends, or
+/// separates them; and where one is given, the walk of this color leads to the destination, and does not use the element.
+pub fn a_sound_column_goes_round()
+    ensures none { (links : List Link) (n : ℕ) (column : List (Option Row)) (t : ℕ)
+        → ColumnSound links n column t → (s : ℕ) → s < n → s ≢ t
+        → (x : Element) (answer : Option Color)
+        → IsAlternate links n (rows_of_column column) s t (Some x) answer
+        → (answer ≡ None) ↔ ((¬ IsNeitherEnd x s t) ⊎ Separates links x s t) }
+    ensures arrives { (links : List Link) (n : ℕ) (column : List (Option Row)) (t : ℕ)
+        → ColumnSound links n column t → (s : ℕ) → s < n → s ≢ t
+        → (failed : Option Element) (color : Color)
+        → IsAlternate links n (rows_of_column column) s t failed (Some color)
+        → Walk links s (color_walk links n (rows_of_column column) color s t) t }
+    ensures avoids { (links : List Link) (n : ℕ) (column : List (Option Row)) (t : ℕ)
+        → ColumnSound links n column t → (s : ℕ) → s < n → s ≢ t
+        → (x : Element) (color : Color)
+        → IsAlternate links n (rows_of_column column) s t (Some x) (Some color)
+        → ¬ UsesOn links n (rows_of_column column) s t x color }
 {}
