@@ -82,7 +82,7 @@ passed_still : (arcs : List Arc) (known after : List (Option ℕ)) (v d : ℕ) �
 passed_still arcs known after v d lower passed = λ arc there to. lower arc.tail (arc.metric + d) (passed arc there to)
 
 -- an arc before a walk
-reached_by : (arcs : List Arc) (t : ℕ) (arc : Arc) (distance v d : ℕ) → Contains arcs arc → v ≡ arc.tail → d ≡ arc.metric + distance
+pub reached_by : (arcs : List Arc) (t : ℕ) (arc : Arc) (distance v d : ℕ) → Contains arcs arc → v ≡ arc.tail → d ≡ arc.metric + distance
     → IsReached arcs t arc.to distance → IsReached arcs t v d
 reached_by arcs t arc distance v d there tail sum reached = record {
   walk = arc ∷ reached.walk;

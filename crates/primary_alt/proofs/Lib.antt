@@ -5,6 +5,7 @@ pub mod AreaArcs
 pub mod BackwardSteps
 pub mod ColorSteps
 pub mod ColorsUse
+pub mod DistancesExist
 pub mod FirstRows
 pub mod FirstsByDistances
 pub mod Gaining
@@ -14,10 +15,12 @@ pub mod LeastWays
 pub mod NearerHops
 pub mod OfferMade
 pub mod Offering
+pub mod PrimariesExist
 pub mod PrimariesFound
 pub mod PrimariesLead
 pub mod Repairs
 pub mod RouterFacts
+pub mod RoutesGiven
 pub mod RowRelaxed
 pub mod RowsInto
 pub mod Settled

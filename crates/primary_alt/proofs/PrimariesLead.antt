@@ -14,7 +14,7 @@ use Rattle.primary_alt.specs.Primaries.{Direct, IsFirstArc, IsPrimary, Itself, L
 use Rattle.primary_alt.proofs.ArcWalks.{arc_kept, one_distance, to_network}
 
 -- there is one first arc
-same_number : (arcs : List Arc) (s t n n' : ℕ) (arc arc' : Arc) → IsFirstArc arcs s t n arc → IsFirstArc arcs s t n' arc' → n ≡ n'
+pub same_number : (arcs : List Arc) (s t n n' : ℕ) (arc arc' : Arc) → IsFirstArc arcs s t n arc → IsFirstArc arcs s t n' arc' → n ≡ n'
 same_number arcs s t n n' arc arc' one other =
     let up : n ≤ n' = one.first n' arc' other.there other.from other.shortest in
     let down : n' ≤ n = other.first n arc one.there one.from one.shortest in
@@ -119,6 +119,18 @@ leads_to_router area s t primary kept (ByTwo n k arc onward first over second ne
 
 pub router_or_end : (area : AreaParts) (s t : ℕ) (primary : Primary) → IsArea area → IsPrimary area s t (Some primary) → (primary.next ≡ t) ⊎ (¬ IsNetwork area.ids primary.next)
 router_or_end area s t primary kept is = leads_to_router area s t primary kept (whole area s t primary (Some primary) refl is)
+
+-- there is a distance
+pub primary_distance : (area : AreaParts) (s t : ℕ) (primary : Primary) → IsPrimary area s t (Some primary) → (distance : ℕ) × IsDistance area.arcs s t distance
+primary_distance area s t primary is = go (whole area s t primary (Some primary) refl is)
+  where
+    by_first : (n : ℕ) (arc : Arc) → IsFirstArc area.arcs s t n arc → (distance : ℕ) × IsDistance area.arcs s t distance
+    by_first n arc first =
+        (arc.metric + first.shortest.rest, subst (λ (v : ℕ). IsDistance area.arcs v t (arc.metric + first.shortest.rest)) first.from first.shortest.near)
+
+    go : Whole area s t primary → (distance : ℕ) × IsDistance area.arcs s t distance
+    go (ByOne n arc first direct next) = by_first n arc first
+    go (ByTwo n k arc onward first over second next) = by_first n arc first
 
 -- an arc of a router costs something
 router_costs : (area : AreaParts) (s t n : ℕ) (arc : Arc) → IsArea area → ¬ IsNetwork area.ids s → IsFirstArc area.arcs s t n arc → 1 ≤ arc.metric

@@ -26,8 +26,8 @@ mod waiting;
 pub use color_hops::{ColorHop, hop_on};
 pub use least_walks::primaries;
 pub use primary_law::{
-    a_primary_where_a_walk_leads, one_primary_each, primaries_lead_nearer,
-    primaries_reach_their_destinations,
+    a_primary_where_a_walk_leads, each_router_has_its_primaries, one_primary_each,
+    primaries_lead_nearer, primaries_reach_their_destinations,
 };
 pub use repair::{alternate, alternate_on};
 pub use repair_law::{

@@ -1,6 +1,6 @@
 //! What holds of the primaries of each area.
 
-ghost use Rattle.std.specs.Prelude.{◌≡◌, ◌≢◌, ◌<◌, ◌⊎◌, ◌↔◌, ℕ, List, Option, Some, IsSome};
+ghost use Rattle.std.specs.Prelude.{◌≡◌, ◌≢◌, ◌<◌, ◌⊎◌, ◌↔◌, ℕ, List, Option, Some, IsSome, length};
 ghost use Rattle.area_graph.specs.declared.area_types.Arc.{Arc};
 ghost use Rattle.area_graph.specs.AreaInvariant.{IsArea};
 ghost use Rattle.area_graph.specs.Parts.{AreaParts};
@@ -15,6 +15,13 @@ ghost use Rattle.primary_alt.specs.Routers.{IsRouter};
 pub fn one_primary_each()
     ensures { (area : AreaParts) (s t : ℕ) (entry other : Option Primary)
         → IsPrimary area s t entry → IsPrimary area s t other → entry ≡ other }
+{}
+
+/// A law: in each area each router has an entry for each node, its primary or that there is none.
+pub fn each_router_has_its_primaries()
+    ensures { (area : AreaParts) → IsArea area → (entries : ℕ → ℕ → Option Primary)
+        × ((s t : ℕ) → IsRouter area.ids s → t < length area.ids
+        → IsPrimary area s t (entries s t)) }
 {}
 
 /// A law: there is a primary exactly where a walk leads to another node.

@@ -13,16 +13,17 @@ ghost use Rattle.primary_alt.specs.RouteLists.{RouteLists, primary_at};
 ghost use Rattle.primary_alt.specs.Routers.{IsRouter};
 ghost use Rattle.primary_alt.specs.RoutesMade.{AreMadeWith};
 
-/// Laws: the primary of a router leads to the destination or to another router, and the distance from there is smaller.
+/// Laws: a primary that routes give leads to the destination or to a router, and the distance from there is smaller.
 pub fn routes_lead_nearer()
     ensures router { (area : AreaParts) (graph : Topology) (routes : RouteLists) → IsArea area
-        → AreMadeWith area graph routes → (s t : ℕ) (primary : Primary) → IsRouter area.ids s → t < length area.ids
+        → AreMadeWith area graph routes → (s t : ℕ) (primary : Primary)
         → primary_at routes s t ≡ Some primary
         → (primary.next ≡ t) ⊎ IsRouter area.ids primary.next }
     ensures nearer { (area : AreaParts) (graph : Topology) (routes : RouteLists) → IsArea area
-        → AreMadeWith area graph routes → (s t distance : ℕ) (primary : Primary) → IsRouter area.ids s
-        → t < length area.ids → primary_at routes s t ≡ Some primary → IsDistance area.arcs s t distance
-        → (rest : ℕ) × IsDistance area.arcs primary.next t rest × (rest < distance) }
+        → AreMadeWith area graph routes → (s t : ℕ) (primary : Primary)
+        → primary_at routes s t ≡ Some primary
+        → (distance : ℕ) × (rest : ℕ) × IsDistance area.arcs s t distance
+        × IsDistance area.arcs primary.next t rest × (rest < distance) }
 {}
 
 /// A law: from each router from which a walk leads to a node, the primaries hop by hop reach it.
