@@ -3,10 +3,10 @@ pub mod ArcWalk
 pub mod ArcsInto
 pub mod Attaining
 pub mod BackwardSearch
+pub mod Beginnings
 pub mod Distance
 pub mod Distances
 pub mod FirstArcs
-pub mod Known
 pub mod Meets
 pub mod NoArc
 pub mod Offers
@@ -15,5 +15,4 @@ pub mod PrimaryHops
 pub mod RouteLists
 pub mod Routers
 pub mod RoutesMade
-pub mod Settling
-pub mod Tickets
+pub mod Turned

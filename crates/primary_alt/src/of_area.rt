@@ -1,13 +1,12 @@
 //! What routes keep of an area.
 
-ghost use Rattle.std.specs.Prelude.{◌≡◌, IfOk, length, map};
+ghost use Rattle.std.specs.Prelude.{◌≡◌, ◌<◌, IfOk, length, map};
 ghost use Rattle.std.specs.List.{range_with_len};
 ghost use Rattle.area_graph.specs.AreaInvariant.{IsArea};
 ghost use Rattle.primary_alt.specs.Offers.{is_network};
 
-use crate::offers::is_network;
 use area_graph::{Arc, Area, Spot};
-use mrt_graph::NoMemory;
+use mrt_graph::{Kind, NoMemory};
 use std::alloc::Global;
 
 /// The arcs of an area, in their order.
@@ -42,4 +41,15 @@ pub fn networks(alloc: Global, area: &Area) -> Result<Vec<bool>, NoMemory>
         networks.push_reserved(is_network(area, Spot::new(s)));
     }
     Ok(networks)
+}
+
+/// Whether a node is a network.
+pub fn is_network(area: &Area, spot: Spot) -> bool
+    requires { spot < length area.now.ids }
+    ensures { result ≡ is_network area.now.ids spot }
+{
+    match area.id(spot).kind {
+        Kind::Router => false,
+        Kind::Network => true,
+    }
 }

@@ -1,4 +1,4 @@
-//! The next hop of a shortest path, and what is known of nodes on the way.
+//! The next hop of a shortest path.
 
 use area_graph::{ArcNo, Spot};
 
@@ -9,13 +9,4 @@ pub struct Primary {
     pub first: ArcNo,
     pub second: Option<ArcNo>,
     pub next: Spot,
-}
-
-/// What is known of a node on the way: the least cost so far, and how the walk of this cost begins.
-#[derive(Clone, Copy)]
-pub struct Known {
-    pub cost: u32,
-    pub primary: Primary,
-    /// Whether the walk is one arc, which leads to a network: the next arc is the second one.
-    pub at_network: bool,
 }
