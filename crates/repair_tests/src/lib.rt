@@ -4,6 +4,8 @@
 #[cfg(test)]
 mod alternates;
 #[cfg(test)]
+mod columns;
+#[cfg(test)]
 mod databases;
 #[cfg(test)]
 mod networks;
