@@ -1,7 +1,8 @@
 -- A node has one hop for each other one, and between two nodes of a block paths lead one way.
-use Rattle.std.proofs.Common.{◌≡◌, ◌≢◌, ◌⊎◌, ◌<◌, ◌≤◌, ◌∙◌, ℕ, List, [], ◌∷◌, Option, Some, length, slice_get, inl, inr, refl, sym, ap, subst, arith}
+use Rattle.std.proofs.Common.{◌≡◌, ◌≢◌, ◌⊎◌, ◌<◌, ◌≤◌, ◌∙◌, ℕ, List, [], ◌∷◌, Option, Some, get_or, length, slice_get, inl, inr, refl, sym, ap, subst, arith}
 use Rattle.std.proofs.lemmas.Bool.{cases_eq, cases_order}
-use Rattle.std.proofs.lemmas.Option.{same_Some}
+use Rattle.std.proofs.lemmas.List.{same_lists}
+use Rattle.std.proofs.lemmas.Option.{same_Some, slice_get-get_or}
 use Rattle.mrt_graph.specs.declared.link.End.{End}
 use Rattle.mrt_graph.specs.FirstEnd.{IsFirstEnd}
 use Rattle.mrt_graph.specs.Topology.{Topology}
@@ -10,7 +11,7 @@ use Rattle.link_direction.specs.Directions.{Directions}
 use Rattle.inc_dec_spf.specs.declared.reach.Dir.{Dir}
 use Rattle.inc_dec_spf.specs.declared.reach.Dir.TheVariants.{Down, Up}
 use Rattle.inc_dec_spf.specs.declared.reach.Hop.{Hop}
-use Rattle.inc_dec_spf.specs.LeastPath.{BeginsPath, IsHop, IsLeastPath, NotReached, Reached, ShareBlock}
+use Rattle.inc_dec_spf.specs.LeastPath.{BeginsPath, IsHop, IsLeastPath, IsReachTo, NotReached, Reached, ShareBlock}
 use Rattle.inc_dec_spf.specs.Path.{Path}
 use Rattle.inc_dec_spf.specs.Turns.{turn_of}
 use Rattle.inc_dec_spf.proofs.InBlocks.{Home, IsClosed, IsOrdered, Later, Onto, member_not_head, step_from_member}
@@ -160,3 +161,14 @@ not_both g root w s t up down is s_within t_within peers a b is_up is_down (Reac
     let falls : turn_of Down (length g.ids) w s < turn_of Down (length g.ids) w t =
     path_later g root w Down k' h' s t least'.end least'.first.asked.others is other.0.closed other.1 other.2 least'.first.asked.is_path in
     omega (arith, rises, falls)
+
+-- what all nodes have for one target is one list
+pub one_reach_to : (g : Topology) (root : ℕ) (w : Directions) (dir : Dir) (t : ℕ) (hops others : List (Option Hop)) → IsOrdered g root w → t < length g.ids
+    → IsReachTo g w dir t hops → IsReachTo g w dir t others → hops ≡ others
+one_reach_to g root w dir t hops others is t_within one two =
+    same_lists hops others (one.one_each ∙ sym two.one_each)
+    (λ s d below.
+    let at = slice_get-get_or hops s d below in
+    let other_at = slice_get-get_or others s d (omega (arith, below, one.one_each, two.one_each)) in
+    one_hop g root w dir s t (get_or hops s d) (get_or others s d) is (omega (arith, below, one.one_each)) t_within (one.each s (get_or hops s d) at)
+    (two.each s (get_or others s d) other_at))

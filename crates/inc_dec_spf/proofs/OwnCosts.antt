@@ -26,7 +26,7 @@ pub none_turned : (g : Topology) (w : Directions) (dir : Dir) (first width : ℕ
 none_turned g w dir first width all = record { each = λ y within below. absurd (omega (arith, below)) }
 
 -- what has a later turn in one direction has an earlier one in the other
-earlier : (dir : Dir) (n a b : ℕ) → 1 ≤ a → a ≤ n → 1 ≤ b → b ≤ n → turn_at dir n a < turn_at dir n b
+pub earlier : (dir : Dir) (n a b : ℕ) → 1 ≤ a → a ≤ n → 1 ≤ b → b ≤ n → turn_at dir n a < turn_at dir n b
     → turn_at (against dir) n b < turn_at (against dir) n a
 earlier Up n a b low_a high_a low_b high_b less = omega (arith, low_a, high_a, low_b, high_b, less)
 earlier Down n a b low_a high_a low_b high_b less = omega (arith, low_a, high_a, low_b, high_b, less)

@@ -50,3 +50,8 @@ pub data IsHop (g : Topology) (w : Directions) (dir : Dir) (s t : ℕ) : Option 
 pub record IsReach (g : Topology) (w : Directions) (dir : Dir) (s : ℕ) (hops : List (Option Hop)) : Type 0 where
   pub one_each : length hops ≡ length g.ids
   pub each : (t : ℕ) (hop : Option Hop) → slice_get hops t ≡ Some hop → IsHop g w dir s t hop
+
+-- what all nodes have for target t, each as a source
+pub record IsReachTo (g : Topology) (w : Directions) (dir : Dir) (t : ℕ) (hops : List (Option Hop)) : Type 0 where
+  pub one_each : length hops ≡ length g.ids
+  pub each : (s : ℕ) (hop : Option Hop) → slice_get hops s ≡ Some hop → IsHop g w dir s t hop

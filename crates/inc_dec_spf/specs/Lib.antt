@@ -1,9 +1,11 @@
 pub mod Against
+pub mod Aims
 pub mod FirstLink
 pub mod HasDirections
 pub mod Known
 pub mod LeastPath
 pub mod Offers
+pub mod OneWay
 pub mod Path
 pub mod Rest
 pub mod Side

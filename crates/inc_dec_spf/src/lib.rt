@@ -1,23 +1,28 @@
 //! The increasing and decreasing shortest paths in the blocks of a GADAG (RFC 7811, section 5.7).
 #![tactic(auto)]
 
+mod aims;
 mod least_paths;
 mod offers;
+mod one_way;
 mod own_costs;
 mod path_law;
 mod reach;
 mod side;
 mod sweeping;
 mod tile;
+mod to_target;
 mod turns;
 mod ways;
 
 pub use least_paths::spf;
 pub use offers::is_sole;
 pub use path_law::{
-    no_node_is_both_above_and_below, one_hop_for_each_node, paths_lead_to_the_head_and_back,
+    no_node_is_both_above_and_below, one_hop_for_each_node, one_reach_to_each_node,
+    paths_lead_to_the_head_and_back,
 };
 pub use reach::{Dir, Hop, Reach};
 pub use side::NO_LINK;
 pub use tile::Tile;
+pub use to_target::spf_to;
 pub use turns::nodes_by_turn;

@@ -9,7 +9,7 @@ ghost use Rattle.link_direction.specs.OrderedGadag.{HasClosingLink, IsOrderedGad
 ghost use Rattle.inc_dec_spf.specs.declared.reach.Dir.{Dir};
 ghost use Rattle.inc_dec_spf.specs.declared.reach.Dir.TheVariants.{Down, Up};
 ghost use Rattle.inc_dec_spf.specs.declared.reach.Hop.{Hop};
-ghost use Rattle.inc_dec_spf.specs.LeastPath.{IsHop};
+ghost use Rattle.inc_dec_spf.specs.LeastPath.{IsHop, IsReachTo};
 ghost use Rattle.inc_dec_spf.specs.Path.{Path};
 
 /// A law: a node has for each other node one hop at most.
@@ -17,6 +17,13 @@ pub fn one_hop_for_each_node()
     ensures { (g : Topology) (root s t : ℕ) (w : Directions) (dir : Dir) (hop other : Option Hop)
         → IsTopology g → IsOrderedGadag g root w → s < length g.ids → t < length g.ids
         → IsHop g w dir s t hop → IsHop g w dir s t other → hop ≡ other }
+{}
+
+/// A law: of what all nodes have for a target there is one list at most.
+pub fn one_reach_to_each_node()
+    ensures { (g : Topology) (root t : ℕ) (w : Directions) (dir : Dir) (hops others : List (Option Hop))
+        → IsTopology g → IsOrderedGadag g root w → t < length g.ids
+        → IsReachTo g w dir t hops → IsReachTo g w dir t others → hops ≡ others }
 {}
 
 /// A law: from a node to another one of its block no path leads up where one leads down.

@@ -10,6 +10,21 @@ pub enum Dir {
     Down,
 }
 
+impl Dir {
+    ghost use Rattle.std.specs.Prelude.{◌≡◌};
+    ghost use Rattle.inc_dec_spf.specs.Against.{against};
+
+    /// The other direction.
+    pub(crate) fn against(self) -> Dir
+        ensures { result ≡ against self }
+    {
+        match self {
+            Dir::Up => Dir::Down,
+            Dir::Down => Dir::Up,
+        }
+    }
+}
+
 /// The cost of a least path, and the link of its first end.
 #[derive(Clone, Copy, Debug, PartialEq, Eq)]
 pub struct Hop {

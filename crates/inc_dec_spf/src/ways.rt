@@ -55,7 +55,7 @@ pub fn take_ways(
 
 /// Whether ways over a link of this role and block are wanted: it is not sole and, where they are kept to block `kept`,
 /// lies in it.
-fn is_wanted(role: Role, block: NodeNo, kept: NodeNo, own: bool) -> bool
+pub fn is_wanted(role: Role, block: NodeNo, kept: NodeNo, own: bool) -> bool
     ensures wanted { IsTrue result → role ≢ Sole }
     ensures kept_to { IsTrue result → own ≡ true → block ≡ kept }
     ensures all { role ≢ Sole → (own ≡ true → block ≡ kept) → IsTrue result }
