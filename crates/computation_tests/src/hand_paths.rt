@@ -14,22 +14,22 @@ use std::process::Abort;
 use std::test::Fail;
 
 /// The cost of a path and the link of its first end.
-type HopTold = (u32, u16);
+pub type HopTold = (u32, u16);
 
 /// Where no path leads.
-const NO: HopTold = (u32::MAX, 0);
+pub const NO: HopTold = (u32::MAX, 0);
 
 /// A source and a direction, with what the source has for each node.
-type RowTold = (u16, Dir, &'static [HopTold]);
+pub type RowTold = (u16, Dir, &'static [HopTold]);
 
 /// A graph of so many nodes, the first of them routers, and paths over its GADAG from a root.
-struct Case {
-    name: &'static str,
-    count: u16,
-    routers: u16,
-    links: &'static [LinkTold],
-    root: u16,
-    rows: &'static [RowTold],
+pub struct Case {
+    pub name: &'static str,
+    pub count: u16,
+    pub routers: u16,
+    pub links: &'static [LinkTold],
+    pub root: u16,
+    pub rows: &'static [RowTold],
 }
 
 const CASES: &[Case] = &[
@@ -269,12 +269,17 @@ const CASES: &[Case] = &[
     },
 ];
 
-fn cases() -> &'static [Case] {
+pub fn cases() -> &'static [Case] {
     CASES
 }
 
 /// The directions of a graph from a root.
-fn directed_of(rt: &impl Abort, alloc: Global, g: &Graph, root: u16) -> Result<Directed, NoMemory>
+pub fn directed_of(
+    rt: &impl Abort,
+    alloc: Global,
+    g: &Graph,
+    root: u16,
+) -> Result<Directed, NoMemory>
     ensures { IfOk result (HasDirections g.now) }
 {
     assert!(rt; root < g.node_count());
@@ -294,7 +299,7 @@ fn hop_of(told: &HopTold) -> Option<Hop> {
     })
 }
 
-fn has_hops(reach: &Reach, count: u16, told: &[HopTold]) -> bool
+pub fn has_hops(reach: &Reach, count: u16, told: &[HopTold]) -> bool
     requires { length reach.now ≡ count }
 {
     if told.len() != count as usize {
@@ -309,7 +314,7 @@ fn has_hops(reach: &Reach, count: u16, told: &[HopTold]) -> bool
 }
 
 /// What a source has for each node.
-fn reach_of(
+pub fn reach_of(
     rt: &impl Abort,
     alloc: Global,
     g: &Graph,

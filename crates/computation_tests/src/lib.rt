@@ -14,4 +14,6 @@ mod hand_paths;
 #[cfg(test)]
 mod hand_rows;
 #[cfg(test)]
+mod paths_to_nodes;
+#[cfg(test)]
 mod search_trees;
