@@ -2,9 +2,9 @@
 """Times the steps of the computation on islands of 1,024 and 2,048 routers, and prints how the time grows.
 
 The islands are a ring, a grid with 32 in a row, a block with four times as many links as nodes, and a line. A ratio below 2.4 for twice the
-nodes means that the time grows as the island does. `spf`, up, and `rows_of` are timed for all sources, so that their times may be four times as
-much, at most 4.4, as that of `compute`. The times of `rows_of` and of `compute` are compared with that which `sha256sum` takes of as many bytes
-as the certificate has. It builds a small program beside the crates in a folder of its own; it fetches nothing.
+nodes means that the time grows as the island does. `spf`, up, and `rows_of` are timed for all sources, and `spf_to`, up, for all targets, so that
+their times may be four times as much, at most 4.4, as that of `compute`. The times of `rows_of` and of `compute` are compared with that which
+`sha256sum` takes of as many bytes as the certificate has. It builds a small program beside the crates in a folder of its own; it fetches nothing.
 """
 import os
 import subprocess
@@ -17,7 +17,7 @@ import timing
 
 SIZES = 1024, 2048
 # The steps that do something for each source.
-SQUARE = "spf", "rows_of", "compute"
+SQUARE = "spf", "spf_to", "rows_of", "compute"
 SHAPES = {
     "ring": lambda n: [(each, each % n + 1) for each in range(1, n + 1)],
     "mesh": lambda n: areas.grid(n, 32),
@@ -43,7 +43,7 @@ ghost use Rattle.mrt_cmd.specs.Database.{entering, enters};
 use anyhow::{Result, bail};
 use area_graph::build_area;
 use gadag_ears::ears;
-use inc_dec_spf::{Dir, spf};
+use inc_dec_spf::{Dir, spf, spf_to};
 use link_direction::direct;
 use lowpoint_dfs::search;
 use lsdb::{Lsdb, an_lsa_without_a_fault_may_be_installed, entries_are_those_of_the_list};
@@ -163,6 +163,20 @@ fn time_paths(rt: &HostRuntime, name: &str, g: &Graph, d: &Directed) -> Result<(
     Ok(())
 }
 
+fn time_paths_back(rt: &HostRuntime, name: &str, g: &Graph, d: &Directed) -> Result<()>
+    requires { HasDirections g.now d.now }
+{
+    let start = Instant::now(rt)?;
+    for target in 0..g.node_count() {
+        let Ok(_reach) = spf_to(rt.alloc(), g, d, NodeNo::new(target), Dir::Up) else {
+            bail!("no memory");
+        };
+    }
+    let taken = start.elapsed(rt)?.as_nanos();
+    println!(rt; "{name} {} {} spf_to {taken}", g.node_count(), g.link_count())?;
+    Ok(())
+}
+
 fn time_rows(rt: &HostRuntime, name: &str, g: &Graph, root: NodeNo, d: &Directed) -> Result<()>
     requires { SaysOrdered g.now root d.now }
 {
@@ -186,6 +200,7 @@ fn time_sources(rt: &HostRuntime, name: &str, g: &Graph, root: NodeNo) -> Result
     };
     for _ in 0..7 {
         time_paths(rt, name, g, &d)?;
+        time_paths_back(rt, name, g, &d)?;
         time_rows(rt, name, g, root, &d)?;
     }
     Ok(())
