@@ -1,4 +1,3 @@
-pub mod Computed
 pub mod Databases
 pub mod Entering
 pub mod Exactly

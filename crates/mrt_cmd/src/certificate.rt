@@ -1,8 +1,8 @@
 //! `certify DB PROFILE ROUTER`: the certificate of a router's island.
 
-ghost use Rattle.std.specs.Prelude.{◌≡◌, ◌<◌, None, IfOk, IfErr, length};
+ghost use Rattle.std.specs.Prelude.{◌≡◌, None, IfOk, IfErr};
 ghost use Rattle.lsdb.specs.Conflicts.{least_conflict};
-ghost use Rattle.mrt_cmd.specs.Certified.{IsCertified, IsComputed};
+ghost use Rattle.mrt_cmd.specs.Certified.{IsCertified};
 ghost use Rattle.mrt_cmd.specs.Input.{input_of};
 ghost use Rattle.mrt_cmd.specs.Reading.{HasNone};
 
@@ -10,7 +10,7 @@ use crate::exit::Exit;
 use crate::island::island_in;
 use cert_format::write_cert;
 use lsdb::Lsdb;
-use mrt_graph::{CertFile, Graph, NoMemory, NodeNo, accepted_implies_sound};
+use mrt_graph::{CertFile, accepted_implies_sound};
 use mrt_island::Profile;
 use mrt_rows::compute;
 use std::alloc::Global;
@@ -27,20 +27,13 @@ pub(crate) fn certificate(
         IsCertified (input_of database.now.entries profile.now) router text.items) }
     ensures refused { IfErr result (HasNone (input_of database.now.entries profile.now) router) }
 {
-    let island = island_in(alloc, database, profile, router)?;
-    Ok(computed(alloc, &island.graph, island.root)?)
-}
-
-/// The bytes of the certificate that is computed for a graph and its root.
-fn computed(alloc: Global, graph: &Graph, root: NodeNo) -> Result<Vec<u8>, NoMemory>
-    requires { root < length graph.now.ids }
-    ensures { IfOk result (λ text. IsComputed graph.now root text.items) }
-{
     accepted_implies_sound();
-    let cert = compute(alloc, graph, root)?;
+    let island = island_in(alloc, database, profile, router)?;
+    let cert = compute(alloc, &island.graph, island.root)?;
     let file = CertFile {
-        root: graph.id(root).number,
+        root: island.graph.id(island.root).number,
         cert,
     };
-    write_cert(alloc, &file)
+    let text = write_cert(alloc, &file)?;
+    Ok(text)
 }
