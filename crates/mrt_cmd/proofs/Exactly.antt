@@ -8,7 +8,7 @@ use Rattle.mrt_cmd.specs.declared.exit.Exit.TheVariants as exits
 use Rattle.mrt_cmd.specs.Answers.{FileBytes, IsRefusedOver}
 use Rattle.mrt_cmd.specs.Comes.{Comes, Gives, GivesText, MissesAt, Refuses}
 use Rattle.mrt_cmd.specs.Files.{IsFirstMissing, files_of}
-use Rattle.mrt_cmd.specs.Form.{Form, Task, Check, Certify, Table, Trace, Fabric, form_of}
+use Rattle.mrt_cmd.specs.Form.{Form, OfFiles, Survey, Task, Check, Certify, Table, Trace, Fabric, form_of}
 use Rattle.mrt_cmd.specs.Run.{WritesNothing}
 
 -- one exit comes of the words at most
@@ -45,14 +45,16 @@ missing_comes files form word (inr (inl done)) =
     let other = done.0 in
     absurd cc
 missing_comes files None word (inr (inr refused)) = absurd refused
-missing_comes files (Some form) word (inr (inr (inl missing))) = missing
-missing_comes files (Some form) word (inr (inr (inr said))) = absurd (never_missing form.task said.0 word said.2)
+missing_comes files (Some (OfFiles form)) word (inr (inr (inl missing))) = missing
+missing_comes files (Some (OfFiles form)) word (inr (inr (inr said))) = absurd (never_missing form.task said.0 word said.2)
+missing_comes files (Some (Survey number nodes)) word (inr (inr refused)) = absurd refused
 
 comes_missing : (files : Files) (form : Option Form) (word : ℕ)
     → IsSomeAnd form (λ it. IsFirstMissing (Some files) (files_of it) word)
     → IsSomeAnd form (λ it. Refuses (Some files) it (exits.ReadFault word))
 comes_missing files None word missing = absurd missing
-comes_missing files (Some form) word missing = inl missing
+comes_missing files (Some (OfFiles form)) word missing = inl missing
+comes_missing files (Some (Survey number nodes)) word missing = absurd cc
 
 pub exactly_missing : (held : Option Files) (words : List (List ℕ)) (result : Exit) → ComesOnce
     → Comes held words result ⊎ (result ≡ exits.NoMemory) → IsSome held

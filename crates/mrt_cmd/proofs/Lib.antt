@@ -1,13 +1,16 @@
 pub mod Databases
 pub mod Entering
 pub mod Exactly
+pub mod MadeNetworks
 pub mod NeverSaid
 pub mod OneCertificate
 pub mod OneExit
 pub mod OneReading
+pub mod OneSurvey
 pub mod OneTable
 pub mod OneVerdict
 pub mod Refusals
+pub mod SurveyExits
 pub mod Tables
 pub mod Unread
 pub mod WrittenPasses

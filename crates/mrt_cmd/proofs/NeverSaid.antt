@@ -7,8 +7,8 @@ use Rattle.mrt_cmd.specs.declared.exit.Exit.TheVariants as exits
 use Rattle.mrt_cmd.specs.declared.exit.What.{What}
 use Rattle.mrt_cmd.specs.Answers.{FileBytes, IsRefusedOver, IsRefusedTask}
 use Rattle.mrt_cmd.specs.Comes.{IsRefused, Refuses}
-use Rattle.mrt_cmd.specs.Files.{NamedFile, IsRefusedBy, SaysOneOf, files_of}
-use Rattle.mrt_cmd.specs.Form.{Form, Task, Check, Certify, Table, Trace, Fabric, form_of}
+use Rattle.mrt_cmd.specs.Files.{NamedFile, IsRefusedBy, SaysOneOf, files_in}
+use Rattle.mrt_cmd.specs.Form.{Form, OfFiles, Survey, Task, Check, Certify, Table, Trace, Fabric, form_of}
 use Rattle.mrt_cmd.specs.Input.{Input}
 use Rattle.mrt_cmd.specs.Islands.{HasNoIslandFor}
 use Rattle.mrt_cmd.specs.Packets.{IsNoRun}
@@ -77,8 +77,9 @@ not_of_bytes task bytes exit OfUsage said = not_of_task task said.0 bytes.last e
 not_of_bytes task bytes exit OfOutput said = not_of_task task said.0 bytes.last _ OfOutput said.2
 
 not_of_refusal : (held : Option Files) (form : Form) (exit : Exit) → IsUnsaid exit → IsRefusal held form exit → ⊥
-not_of_refusal held form exit unsaid (inl (inl said)) = not_of_reading held (files_of form) exit unsaid said
-not_of_refusal held form exit unsaid (inl (inr said)) = not_of_bytes form.task said.0 exit unsaid said.2
+not_of_refusal held (OfFiles form) exit unsaid (inl (inl said)) = not_of_reading held (files_in form) exit unsaid said
+not_of_refusal held (OfFiles form) exit unsaid (inl (inr said)) = not_of_bytes form.task said.0 exit unsaid said.2
+not_of_refusal held (Survey number nodes) exit unsaid (inl said) = said
 not_of_refusal held form exit unsaid (inr memory) = not_memory exit unsaid memory
 
 pub not_of_form : (held : Option Files) (form : Form) (before now : ℕ) (exit : Exit) → IsUnsaid exit

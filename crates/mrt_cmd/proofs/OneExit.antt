@@ -24,10 +24,11 @@ use Rattle.fabric_script.specs.ScriptFaults.{IsFirstFault as IsFirstFaultOfScrip
 use Rattle.mrt_io.specs.Holding.{Files}
 use Rattle.lsdb.specs.Installing.{IsKept}
 use Rattle.lsdb.specs.Orders.{newest_in}
-use Rattle.ospf_lsa.specs.LsaText.{lsa_length}
+use Rattle.ospf_lsa.specs.LsaText.{lsa_length, lsas_text}
 use Rattle.ospf_lsa.specs.Lsas.{AreLsas, IsLsa}
 use Rattle.ospf_lsa.specs.declared.lsa.Lsa.{Lsa}
 use Rattle.mrt_rows.specs.CertOf.{IsCertOf}
+use Rattle.mrt_survey.specs.MadeLsas.{made_lsas}
 use Rattle.mrt_cmd.specs.declared.exit.DbKind.{DbKind}
 use Rattle.mrt_cmd.specs.declared.exit.Exit.{Exit}
 use Rattle.mrt_cmd.specs.declared.exit.Exit.TheVariants as exits
@@ -42,13 +43,14 @@ use Rattle.mrt_cmd.specs.Files.{
   database_file,
   profile_file,
   task_file,
-  files_of,
+  files_in,
   refusal_of,
 }
-use Rattle.mrt_cmd.specs.Form.{Form, Task, Check, Certify, Table, Trace, Fabric}
+use Rattle.mrt_cmd.specs.Form.{FileForm, Form, OfFiles, Survey, IsNetworkSize, Task, Check, Certify, Table, Trace, Fabric}
 use Rattle.mrt_cmd.specs.Input.{Input, HasIsland, IsCertFile, IsInput, area, policy}
 use Rattle.mrt_cmd.specs.Islands.{HasNoIslandFor}
 use Rattle.mrt_cmd.specs.Packets.{ArePartsFor, GivesRun, IsNoRun, IsScriptGiven, IsTraceGiven}
+use Rattle.mrt_cmd.specs.Surveyed.{made_input}
 use Rattle.mrt_cmd.specs.Tabled.{IsTableOf, IsTabled}
 use Rattle.mrt_cmd.specs.Verdict.{GivesVerdict, IsAcceptedFor, IsNoVerdict, IsRefusedFor, accepted_line}
 use Rattle.mrt_cmd.proofs.Refusals.{root_within}
@@ -65,6 +67,7 @@ use Rattle.mrt_cmd.proofs.OneReading.{
   one_database,
   one_profile,
 }
+use Rattle.mrt_cmd.proofs.OneSurvey.{SurveyTextLaw, one_surveyed}
 use Rattle.mrt_cmd.proofs.OneTable.{CertificateLaw, TableLaws, one_table}
 use Rattle.mrt_cmd.proofs.OneVerdict.{
   IslandLaws,
@@ -104,9 +107,16 @@ pub record PacketLaws : Type 0 where
   pub trace_text : (parts : FabricParts) → AreFabricParts parts → (trace : PacketTrace) (text other : List ℕ)
       → IsTraceText parts trace text → IsTraceText parts trace other → text ≡ other
 
+-- the laws on networks that are made from a number, and on the texts of their surveys
+pub record SurveyLaws : Type 0 where
+  pub input : (number nodes : ℕ) → IsNetworkSize nodes
+      → IsInput (lsas_text (made_lsas number nodes)) [] (made_input number nodes)
+  pub text : SurveyTextLaw
+
 -- all of them
 pub record Laws : Type 0 where
   pub packets : PacketLaws
+  pub surveys : SurveyLaws
   pub certificates : CertificateLaw
   pub tables : TableLaws
   pub databases : DatabaseLaws
@@ -523,7 +533,7 @@ module _ (laws : Laws) where
     last_once None bytes others one two = one ∙ sym two
     last_once (Some file) bytes others one two = read_once file bytes others one two
 
-    files_once : (form : Form) (bytes others : FileBytes) → AreRead (Some files) form bytes
+    files_once : (form : FileForm) (bytes others : FileBytes) → AreRead (Some files) form bytes
         → AreRead (Some files) form others → bytes ≡ others
     files_once form bytes others one two =
         let database = read_once (database_file form.database) bytes.database others.database one.database_read
@@ -549,18 +559,18 @@ module _ (laws : Laws) where
     rest_through (Some name) last lines bytes read read_too =
         read_through (profile_file name) (option_to_list last) lines read ∙ last_through last bytes read_too
 
-    all_read : (form : Form) (bytes : FileBytes) → AreRead (Some files) form bytes
-        → refusal_of files (files_of form) ≡ None
+    all_read : (form : FileForm) (bytes : FileBytes) → AreRead (Some files) form bytes
+        → refusal_of files (files_in form) ≡ None
     all_read form bytes read =
         read_through (database_file form.database)
         (option_to_list (option_map profile_file form.profile) ++ option_to_list (task_file form.task)) bytes.database
         read.database_read
         ∙ rest_through form.profile (task_file form.task) bytes.profile bytes.last read.profile_read read.last_read
 
-    module _ (form : Form) where
-      one_refusal : (exit other : Exit) → Refuses (Some files) form exit → Refuses (Some files) form other
-          → exit ≡ other
-      one_refusal exit other (inl one) (inl two) = held_once exit other (refusal_of files (files_of form)) one two
+    module _ (form : FileForm) where
+      one_refusal : (exit other : Exit) → Refuses (Some files) (OfFiles form) exit
+          → Refuses (Some files) (OfFiles form) other → exit ≡ other
+      one_refusal exit other (inl one) (inl two) = held_once exit other (refusal_of files (files_in form)) one two
       one_refusal exit other (inl one) (inr two) =
           let none = all_read form two.0 two.1 in
           absurd cc
@@ -572,7 +582,8 @@ module _ (laws : Laws) where
           (subst (λ (b : FileBytes). IsRefusedOver form.task b exit) (files_once form one.0 two.0 one.1 two.1) one.2)
           two.2
 
-      no_refusal : (text : List ℕ) (exit : Exit) → Gives (Some files) form text → Refuses (Some files) form exit → ⊥
+      no_refusal : (text : List ℕ) (exit : Exit) → Gives (Some files) (OfFiles form) text
+          → Refuses (Some files) (OfFiles form) exit → ⊥
       no_refusal text exit one (inl two) =
           let none = all_read form one.0 one.1 in
           absurd cc
@@ -580,10 +591,32 @@ module _ (laws : Laws) where
           no_refusal_over form.task two.0 text exit
           (subst (λ (b : FileBytes). GivesOver form.task b text) (files_once form one.0 two.0 one.1 two.1) one.2) two.2
 
-      one_answer : (text other : List ℕ) → Gives (Some files) form text → Gives (Some files) form other → text ≡ other
+      one_answer : (text other : List ℕ) → Gives (Some files) (OfFiles form) text
+          → Gives (Some files) (OfFiles form) other → text ≡ other
       one_answer text other one two =
           one_text_over form.task two.0 text other
           (subst (λ (b : FileBytes). GivesOver form.task b text) (files_once form one.0 two.0 one.1 two.1) one.2) two.2
+
+    -- ---- of a form
+
+    one_refused : (form : Form) (exit other : Exit) → Refuses (Some files) form exit
+        → Refuses (Some files) form other → exit ≡ other
+    one_refused (OfFiles form) exit other one two = one_refusal form exit other one two
+    one_refused (Survey number nodes) exit other one two = absurd one
+
+    no_refused : (form : Form) (text : List ℕ) (exit : Exit) → Gives (Some files) form text
+        → Refuses (Some files) form exit → ⊥
+    no_refused (OfFiles form) text exit one two = no_refusal form text exit one two
+    no_refused (Survey number nodes) text exit one two = two
+
+    one_given_text : (form : Form) (text other : List ℕ) → Gives (Some files) form text
+        → Gives (Some files) form other → text ≡ other
+    one_given_text (OfFiles form) text other one two = one_answer form text other one two
+    one_given_text (Survey number nodes) text other one two =
+        let given = laws.surveys.input number nodes one.size in
+        one_surveyed laws.islands laws.certificates laws.surveys.text number nodes
+        (is_area laws.areas (lsas_text (made_lsas number nodes)) (made_lsas number nodes) given.database_is)
+        text other one two
 
     -- ---- of the words
 
@@ -607,12 +640,12 @@ module _ (laws : Laws) where
         let none = two.1 in
         absurd cc
     one_exit (Some form) exit other (inr (inl one)) (inr (inl two)) = one.0 ∙ sym two.0
-    one_exit (Some form) exit other (inr (inl one)) (inr (inr two)) = absurd (no_refusal form one.1 other one.2 two)
-    one_exit (Some form) exit other (inr (inr one)) (inr (inl two)) = absurd (no_refusal form two.1 exit two.2 one)
-    one_exit (Some form) exit other (inr (inr one)) (inr (inr two)) = one_refusal form exit other one two
+    one_exit (Some form) exit other (inr (inl one)) (inr (inr two)) = absurd (no_refused form one.1 other one.2 two)
+    one_exit (Some form) exit other (inr (inr one)) (inr (inl two)) = absurd (no_refused form two.1 exit two.2 one)
+    one_exit (Some form) exit other (inr (inr one)) (inr (inr two)) = one_refused form exit other one two
 
     pub one_text : (form : Option Form) (text other : List ℕ) → IsSomeAnd form (λ it. Gives (Some files) it text)
         → IsSomeAnd form (λ it. Gives (Some files) it other)
         → text ≡ other
     one_text None text other one two = absurd one
-    one_text (Some form) text other one two = one_answer form text other one two
+    one_text (Some form) text other one two = one_given_text form text other one two

@@ -44,7 +44,7 @@ use Rattle.mrt_io.specs.Holding.{Files}
 use Rattle.mrt_cmd.specs.Answers.{FileBytes, IsRefusedOver}
 use Rattle.mrt_cmd.specs.Comes.{AreRead, Comes, IsLastRead, Refuses}
 use Rattle.mrt_cmd.specs.Files.{task_file}
-use Rattle.mrt_cmd.specs.Form.{Form, Task, Check, Certify, Table, Trace, Fabric, form_of}
+use Rattle.mrt_cmd.specs.Form.{FileForm, Form, OfFiles, Task, Check, Certify, Table, Trace, Fabric, form_of}
 use Rattle.mrt_cmd.specs.Input.{Input, HasAreaWithin, HasIsland, IsCertFile, IsInput, area, policy}
 use Rattle.mrt_cmd.specs.Reading.{
   AreUnread,
@@ -193,13 +193,13 @@ tasks_over (Ok t) task bytes input given said = tt
 tasks_over (Err exit) task bytes input given said = task_over task bytes input given exit said
 
 -- what is said of the bytes that were read is a refusal of the form
-refusal_over : (held : Option Files) (form : Form) (bytes : FileBytes) (exit : Exit) → AreRead held form bytes
-    → IsRefusedOver form.task bytes exit ⊎ (exit ≡ exits.NoMemory) → IsRefusal held form exit
+refusal_over : (held : Option Files) (form : FileForm) (bytes : FileBytes) (exit : Exit) → AreRead held form bytes
+    → IsRefusedOver form.task bytes exit ⊎ (exit ≡ exits.NoMemory) → IsRefusal held (OfFiles form) exit
 refusal_over held form bytes exit read (inl refused) = inl (inr (bytes, read, refused))
 refusal_over held form bytes exit read (inr memory) = inr memory
 
-calm_refusal : (held : Option Files) (form : Form) (bytes : FileBytes) (exit : Exit) → AreRead held form bytes
-    → IsAnswerOver form.task bytes exit → IsRefusal held form exit
+calm_refusal : (held : Option Files) (form : FileForm) (bytes : FileBytes) (exit : Exit) → AreRead held form bytes
+    → IsAnswerOver form.task bytes exit → IsRefusal held (OfFiles form) exit
 calm_refusal held form bytes (exits.ReadFault word) read said = absurd said
 calm_refusal held form bytes exit read said = refusal_over held form bytes exit read said
 
@@ -211,27 +211,28 @@ or_fault held form before now (exits.ReadFault word) never said = absurd (never 
 or_fault held form before now exit never said = said
 
 -- of an answer
-pub calm_over : {T : Type 0} (answer : Result T Exit) (held : Option Files) (form : Form) (bytes : FileBytes)
-    → AreRead held form bytes → IfErr answer (IsAnswerOver form.task bytes) → IfErr answer (IsRefusal held form)
+pub calm_over : {T : Type 0} (answer : Result T Exit) (held : Option Files) (form : FileForm) (bytes : FileBytes)
+    → AreRead held form bytes → IfErr answer (IsAnswerOver form.task bytes)
+    → IfErr answer (IsRefusal held (OfFiles form))
 calm_over (Ok t) held form bytes read said = tt
 calm_over (Err exit) held form bytes read said = calm_refusal held form bytes exit read said
 
-pub refused_over : {T : Type 0} (answer : Result T Exit) (held : Option Files) (form : Form) (bytes : FileBytes)
+pub refused_over : {T : Type 0} (answer : Result T Exit) (held : Option Files) (form : FileForm) (bytes : FileBytes)
     (before now : ℕ) → AreRead held form bytes → IfErr answer (IsAnswerOver form.task bytes)
-    → IfErr answer (IsRefusalOrFault held form before now)
+    → IfErr answer (IsRefusalOrFault held (OfFiles form) before now)
 refused_over (Ok t) held form bytes before now read said = tt
 refused_over (Err exit) held form bytes before now read said =
-    or_fault held form before now exit (λ word is. subst (IsAnswerOver form.task bytes) is said)
+    or_fault held (OfFiles form) before now exit (λ word is. subst (IsAnswerOver form.task bytes) is said)
     (calm_refusal held form bytes exit read said)
 
 -- files that were not read are a refusal of the form
-pub unread_refused : (held : Option Files) (form : Form) (exit : Exit) → AreUnread held form exit
-    → IsRefusal held form exit
+pub unread_refused : (held : Option Files) (form : FileForm) (exit : Exit) → AreUnread held form exit
+    → IsRefusal held (OfFiles form) exit
 unread_refused held form exit (inl refused) = inl (inl refused)
 unread_refused held form exit (inr memory) = inr memory
 
-pub unread_or_fault : (held : Option Files) (form : Form) (before now : ℕ) (exit : Exit)
-    → AreUnreadOrFault held form before now exit → IsRefusalOrFault held form before now exit
+pub unread_or_fault : (held : Option Files) (form : FileForm) (before now : ℕ) (exit : Exit)
+    → AreUnreadOrFault held form before now exit → IsRefusalOrFault held (OfFiles form) before now exit
 unread_or_fault held form before now (exits.ReadFault word) said = said
 unread_or_fault held form before now (exits.TooLarge what size) said = unread_refused held form (exits.TooLarge what size) said
 unread_or_fault held form before now exits.NoMemory said = inr refl

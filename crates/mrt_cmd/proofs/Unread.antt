@@ -1,4 +1,4 @@
--- What reading a file comes to, as a refusal of the whole form.
+-- What reading a file comes to, as a refusal of the whole form over files.
 use Rattle.std.proofs.Common.{◌≡◌, ◌∙◌, ◌≤◌, ◌<◌, ◌⊎◌, ◌+◌, ◌++◌, ℕ, List, [], ◌∷◌, Option, Some, None, length, refl, subst, inl, inr, arith}
 use Rattle.std.specs.List.{AllByRecursion}
 use Rattle.std.specs.Option.{IsSomeAnd, option_map, option_to_list}
@@ -16,10 +16,10 @@ use Rattle.mrt_cmd.specs.Files.{
   database_file,
   profile_file,
   task_file,
-  files_of,
+  files_in,
   refusal_of,
 }
-use Rattle.mrt_cmd.specs.Form.{Form, Task}
+use Rattle.mrt_cmd.specs.Form.{FileForm, Task}
 use Rattle.mrt_cmd.specs.Reading.{AreUnread, AreUnreadOrFault, IsUnread, IsUnreadOrFault}
 
 -- a count that rose later in the call rose in it
@@ -77,8 +77,8 @@ may_fail_after held (one ∷ earlier) file rest word read is = inr (
 )
 
 -- where a file is not read and those before it were, the form is refused so
-unread_after : (held : Option Files) (form : Form) (earlier : List NamedFile) (file : NamedFile)
-    (rest : List NamedFile) (before between now : ℕ) (exit : Exit) → earlier ++ file ∷ rest ≡ files_of form
+unread_after : (held : Option Files) (form : FileForm) (earlier : List NamedFile) (file : NamedFile)
+    (rest : List NamedFile) (before between now : ℕ) (exit : Exit) → earlier ++ file ∷ rest ≡ files_in form
     → AreAllRead held earlier → before ≤ between → IsUnreadOrFault held file between now exit
     → AreUnreadOrFault held form before now exit
 unread_after held form earlier file rest before between now (exits.ReadFault word) is read le said = (
@@ -95,8 +95,8 @@ unread_after held form earlier file rest before between now (exits.TooLarge what
 unread_after held form earlier file rest before between now exits.NoMemory is read le said = inr refl
 unread_after held form earlier file rest before between now exit is read le said = absurd said
 
-calm_after : (held : Option Files) (form : Form) (earlier : List NamedFile) (file : NamedFile)
-    (rest : List NamedFile) (exit : Exit) → earlier ++ file ∷ rest ≡ files_of form
+calm_after : (held : Option Files) (form : FileForm) (earlier : List NamedFile) (file : NamedFile)
+    (rest : List NamedFile) (exit : Exit) → earlier ++ file ∷ rest ≡ files_in form
     → AreAllRead held earlier → IsUnread held file exit → AreUnread held form exit
 calm_after held form earlier file rest exit is read said =
     elim (stopped_after held earlier file rest exit read said) [
@@ -105,12 +105,12 @@ calm_after held form earlier file rest exit is read said =
     ]
 
 -- what was read of the database and of the profile
-abbrev AreBothRead : Option Files → Form → List ℕ → List ℕ → Type 0
+abbrev AreBothRead : Option Files → FileForm → List ℕ → List ℕ → Type 0
 AreBothRead held form database profile =
     IsReadAs held (database_file form.database) database × IsProfileRead held form.profile profile
 
 -- the files before that of the task
-abbrev first_files : Form → List NamedFile
+abbrev first_files : FileForm → List NamedFile
 first_files form = database_file form.database ∷ option_to_list (option_map profile_file form.profile)
 
 first_read : (held : Option Files) (database : List ℕ) (profile : Option (List ℕ)) (task : Task) (area lines : List ℕ)
@@ -122,18 +122,18 @@ first_read held database (Some name) task area lines read = ((area, read.0), ((l
 task_last : (database : List ℕ) (profile : Option (List ℕ)) (task : Task) (file : NamedFile)
     → task_file task ≡ Some file
     → first_files (record { database = database; profile = profile; task = task }) ++ file ∷ []
-    ≡ files_of (record { database = database; profile = profile; task = task })
+    ≡ files_in (record { database = database; profile = profile; task = task })
 task_last database None task file is = rw is refl
 task_last database (Some name) task file is = rw is refl
 
 -- the profile is not read, from a shelf that holds the same as when the database was read
-module _ (held told : Option Files) (form : Form) (same : told ≡ held) (one : NamedFile) (area : List ℕ)
+module _ (held told : Option Files) (form : FileForm) (same : told ≡ held) (one : NamedFile) (area : List ℕ)
     (is : one ≡ database_file form.database) (read : IsReadAs held one area) where
   first : IsReadAs held (database_file form.database) area
   first = subst (λ (file : NamedFile). IsReadAs held file area) is read
 
   profile_named : (name : List ℕ) → form.profile ≡ Some name
-      → (database_file form.database ∷ []) ++ profile_file name ∷ option_to_list (task_file form.task) ≡ files_of form
+      → (database_file form.database ∷ []) ++ profile_file name ∷ option_to_list (task_file form.task) ≡ files_in form
   profile_named name named = rw named refl
 
   pub profile_unread : (before between now : ℕ) (exit : Exit) → before ≤ between

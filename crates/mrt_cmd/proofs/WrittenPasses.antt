@@ -1,7 +1,7 @@
 -- What `certify` wrote passes `check`.
 use Rattle.std.proofs.Common.{◌≡◌, ◌∙◌, ◌≤◌, ◌<◌, ◌+◌, ◌==◌, ◌∷◌, [], ℕ, Bool, true, false, List, Option, Some, None, length, refl, sym, ap, subst, inl, inr, arith}
 use Rattle.std.specs.Prelude.{◌&&◌, Contains, IsNone, codes, nat_lt, slice_get, if◌then◌else◌}
-use Rattle.std.specs.Option.{IsSomeAnd, option_map, option_map_or}
+use Rattle.std.specs.Option.{IsSomeAnd, option_map, option_map_or, option_or}
 use Rattle.std.proofs.lemmas.Bool.{and_parts, eqb-true, lt-ltb}
 use Rattle.std.proofs.lemmas.Option.{same_Some}
 use Rattle.area_graph.specs.AreaInvariant.{IsArea}
@@ -24,8 +24,8 @@ use Rattle.mrt_cmd.specs.Answers.{FileBytes, GivesOver, IsRefusedOver}
 use Rattle.mrt_cmd.specs.Certified.{IsCertified}
 use Rattle.mrt_cmd.specs.Comes.{AreRead, Gives, GivesText, IsProfileRead, Refuses}
 use Rattle.mrt_graph.specs.Spelling.{address_in}
-use Rattle.mrt_cmd.specs.Files.{NamedFile, SaysOneOf, files_of, refusal_of}
-use Rattle.mrt_cmd.specs.Form.{Form, Task, Check, Certify, Table, Trace, Fabric, IsCheck, form_of, profile_name}
+use Rattle.mrt_cmd.specs.Files.{NamedFile, SaysOneOf, files_in, refusal_of}
+use Rattle.mrt_cmd.specs.Form.{FileForm, Form, OfFiles, Survey, Task, Check, Certify, Table, Trace, Fabric, IsCheck, IsCheckTask, form_of, profile_name}
 use Rattle.mrt_cmd.specs.Headline.{ChecksWritten, IsPassed, profile_held}
 use Rattle.mrt_cmd.specs.Input.{Input, HasIsland, IsInput, area, policy}
 use Rattle.mrt_cmd.specs.Reading.{IsRefusalOrFault}
@@ -45,17 +45,17 @@ EachRouterLaw = (policy : Policy) (area : AreaParts) (router other : ℕ) (g : T
 abbrev pub LongestLaw : Type 0
 LongestLaw = (f : CertFile) → IsVersionOne f → length (cert_text f) ≤ 21041166
 
--- a form of these words
-abbrev form_with : List ℕ → List ℕ → Task → Form
+-- a form over files of these words
+abbrev form_with : List ℕ → List ℕ → Task → FileForm
 form_with database profile task = record { database = database; profile = profile_name profile; task = task }
 
 -- words that certify give the text of a router's certificate
 record IsCertifyForm (held : Option Files) (database profile text : List ℕ) : Type 0 where
   router : ℕ
-  gives : Gives held (form_with database profile (Certify router)) text
+  gives : Gives held (OfFiles (form_with database profile (Certify router))) text
 
 certify_form : (held : Option Files) (database profile text : List ℕ) (named : Bool) (address : Option ℕ)
-    → IsSomeAnd (if named then option_map (λ task. form_with database profile task) (option_map (λ router. Certify router) address) else None)
+    → IsSomeAnd (option_or (option_map (λ form. OfFiles form) (if named then option_map (λ task. form_with database profile task) (option_map (λ router. Certify router) address) else None)) None)
     (λ form. Gives held form text) → IsCertifyForm held database profile text
 certify_form held database profile text true (Some router) given = record { router = router; gives = given }
 certify_form held database profile text true None given = absurd given
@@ -65,7 +65,7 @@ certify_form held database profile text false address given = absurd given
 check_given : (held : Option Files) (words : List (List ℕ)) (database profile certificate line : List ℕ)
     → words ≡ codes "check" ∷ database ∷ profile ∷ certificate ∷ []
     → (0 < length database) × ((0 < length profile) × (0 < length certificate))
-    → Gives held (form_with database profile (Check certificate)) line → GivesText held words line
+    → Gives held (OfFiles (form_with database profile (Check certificate))) line → GivesText held words line
 check_given held words database profile certificate line is named given =
     rw (is, lt-ltb 0 (length database) named.0, lt-ltb 0 (length profile) named.1.0, lt-ltb 0 (length certificate) named.1.1)
     given
@@ -166,7 +166,7 @@ module _ (areas : AreaLaws) (each : EachRouterLaw) (longest : LongestLaw) where
       let same : length w.written.text ≡ length (cert_text over.gives.certificate.file) =
       ap (λ (text : List ℕ). length text) over.gives.certificate.spelled.spelled in
       omega (arith, at_most, same) in
-      let given : Gives (Some files) (form_with w.database w.profile (Check w.certificate)) accepted.0 = (
+      let given : Gives (Some files) (OfFiles (form_with w.database w.profile (Check w.certificate))) accepted.0 = (
         record { database = bytes.database; profile = bytes.profile; last = w.written.text },
         record {
           database_read = (w.same_database ∙ read.database_read.0, read.database_read.1);
@@ -236,14 +236,14 @@ unread_says_one files (file ∷ rest) exit said =
     one_of_first file rest exit (refusal_of files rest) (files file.name) (λ onward. unread_says_one files rest exit onward) said
 
 -- only a check says no
-pub only_check : (held : Option Files) (form : Form) (rule a b : ℕ) → Refuses held form (exits.No rule a b)
-    → IsCheck form.task
-only_check None form rule a b (inl refused) = absurd (none_says_no (files_of form) rule a b refused)
+only_check : (held : Option Files) (form : FileForm) (rule a b : ℕ) → Refuses held (OfFiles form) (exits.No rule a b)
+    → IsCheckTask form.task
+only_check None form rule a b (inl refused) = absurd (none_says_no (files_in form) rule a b refused)
 only_check (Some files) form rule a b (inl refused) =
-    absurd (none_says_no (files_of form) rule a b (unread_says_one files (files_of form) (exits.No rule a b) refused))
+    absurd (none_says_no (files_in form) rule a b (unread_says_one files (files_in form) (exits.No rule a b) refused))
 only_check held form rule a b (inr refused) = go form.task refused.2
   where
-    go : (task : Task) → IsRefusedOver task refused.0 (exits.No rule a b) → IsCheck task
+    go : (task : Task) → IsRefusedOver task refused.0 (exits.No rule a b) → IsCheckTask task
     go (Check certificate) said = tt
     go (Certify router) said = absurd said.2
     go (Table router) said = absurd said.2
@@ -251,6 +251,7 @@ only_check held form rule a b (inr refused) = go form.task refused.2
     go (Fabric script) said = absurd said.2.2
 
 pub only_check_words : (held : Option Files) (form : Option Form) (rule a b : ℕ)
-    → IsSomeAnd form (λ it. Refuses held it (exits.No rule a b)) → IsSomeAnd form (λ it. IsCheck it.task)
+    → IsSomeAnd form (λ it. Refuses held it (exits.No rule a b)) → IsSomeAnd form IsCheck
 only_check_words held None rule a b refused = absurd refused
-only_check_words held (Some form) rule a b refused = only_check held form rule a b refused
+only_check_words held (Some (OfFiles form)) rule a b refused = only_check held form rule a b refused
+only_check_words held (Some (Survey number nodes)) rule a b refused = absurd refused

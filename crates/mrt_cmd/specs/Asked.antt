@@ -1,9 +1,11 @@
 -- What a form that was read asks for.
 use Rattle.std.specs.Option.{option_map}
+use Rattle.mrt_cmd.specs.declared.words.FileForm.{FileForm as ReadFileForm}
 use Rattle.mrt_cmd.specs.declared.words.Form.{Form as ReadForm}
+use Rattle.mrt_cmd.specs.declared.words.Form.TheVariants.{OfFiles as ReadOfFiles, Survey as ReadSurvey}
 use Rattle.mrt_cmd.specs.declared.words.Task.{Task as ReadTask}
 use Rattle.mrt_cmd.specs.declared.words.Task.TheVariants.{Check as ReadCheck, Certify as ReadCertify, Table as ReadTable, Trace as ReadTrace, Fabric as ReadFabric}
-use Rattle.mrt_cmd.specs.Form.{Form, Task, Check, Certify, Table, Trace, Fabric}
+use Rattle.mrt_cmd.specs.Form.{FileForm, Form, OfFiles, Survey, Task, Check, Certify, Table, Trace, Fabric}
 
 -- the task with the name that it refers to
 abbrev pub task_asked : ReadTask → Task
@@ -13,7 +15,12 @@ task_asked (ReadTable router) = Table router
 task_asked (ReadTrace trace) = Trace trace
 task_asked (ReadFabric script) = Fabric script.now
 
+-- the form over files with the names that it refers to
+abbrev pub files_asked : ReadFileForm → FileForm
+files_asked form =
+    record { database = form.database.now; profile = option_map (λ name. name.now) form.profile; task = task_asked form.task }
+
 -- the form with the names that it refers to
 abbrev pub asked : ReadForm → Form
-asked form =
-    record { database = form.database.now; profile = option_map (λ name. name.now) form.profile; task = task_asked form.task }
+asked (ReadOfFiles form) = OfFiles (files_asked form)
+asked (ReadSurvey number nodes) = Survey number nodes

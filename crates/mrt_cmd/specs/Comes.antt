@@ -5,8 +5,9 @@ use Rattle.mrt_io.specs.Holding.{Files}
 use Rattle.mrt_cmd.specs.declared.exit.Exit.{Exit}
 use Rattle.mrt_cmd.specs.declared.exit.Exit.TheVariants.{Done, Usage}
 use Rattle.mrt_cmd.specs.Answers.{FileBytes, GivesOver, IsRefusedOver}
-use Rattle.mrt_cmd.specs.Files.{NamedFile, files_of, database_file, profile_file, task_file, IsFirstMissing, IsReadAs, IsRefusedBy, MayFail, AreThere}
-use Rattle.mrt_cmd.specs.Form.{Form, form_of}
+use Rattle.mrt_cmd.specs.Files.{NamedFile, files_in, files_of, database_file, profile_file, task_file, IsFirstMissing, IsReadAs, IsRefusedBy, MayFail, AreThere}
+use Rattle.mrt_cmd.specs.Form.{FileForm, Form, OfFiles, Survey, form_of}
+use Rattle.mrt_cmd.specs.Surveyed.{IsSurveyed}
 
 -- these are the bytes of the profile; without a name they are none
 abbrev pub IsProfileRead : Option Files → Option (List ℕ) → List ℕ → Type 0
@@ -18,21 +19,23 @@ abbrev pub IsLastRead : Option Files → Option NamedFile → List ℕ → Type 
 IsLastRead held None bytes = bytes ≡ []
 IsLastRead held (Some file) bytes = IsReadAs held file bytes
 
--- these are the bytes of the files of a form
-pub record AreRead (held : Option Files) (form : Form) (bytes : FileBytes) : Type 0 where
+-- these are the bytes of the files of a form over files
+pub record AreRead (held : Option Files) (form : FileForm) (bytes : FileBytes) : Type 0 where
   pub database_read : IsReadAs held (database_file form.database) bytes.database
   pub profile_read : IsProfileRead held form.profile bytes.profile
   pub last_read : IsLastRead held (task_file form.task) bytes.last
 
 -- the text that a form gives
 abbrev pub Gives : Option Files → Form → List ℕ → Type 0
-Gives held form text = (bytes : FileBytes) × AreRead held form bytes × GivesOver form.task bytes text
+Gives held (OfFiles form) text = (bytes : FileBytes) × AreRead held form bytes × GivesOver form.task bytes text
+Gives held (Survey number nodes) text = IsSurveyed number nodes text
 
--- what comes of a form that gives no text: a file is not read; else what is said of the bytes
+-- what comes of a form that gives no text: a file is not read; else what is said of the bytes; a survey gives one always
 abbrev pub Refuses : Option Files → Form → Exit → Type 0
-Refuses held form exit =
-    IsRefusedBy held (files_of form) exit
+Refuses held (OfFiles form) exit =
+    IsRefusedBy held (files_in form) exit
     ⊎ ((bytes : FileBytes) × AreRead held form bytes × IsRefusedOver form.task bytes exit)
+Refuses held (Survey number nodes) exit = ⊥
 
 -- the words give this text
 abbrev pub GivesText : Option Files → List (List ℕ) → List ℕ → Type 0

@@ -88,7 +88,7 @@ what_words AreaArcs = codes "area-arcs"
 what_words IslandNodes = codes "island-nodes"
 what_words IslandLinks = codes "island-links"
 
--- the line of Usage: the forms that there are and are to be
+-- the line of Usage: the forms that there are
 unfoldable pub usage_line : List ℕ
 usage_line = codes "mrt: usage: check DB PROFILE CERT, certify DB PROFILE ROUTER, table DB PROFILE ROUTER, trace DB PROFILE FROM TO blue/red/repair [FAIL], fabric DB PROFILE SCRIPT, survey NUMBER NODES\n"
 

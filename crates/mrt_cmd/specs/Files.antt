@@ -23,7 +23,7 @@ use Rattle.mrt_cmd.specs.declared.exit.Exit.{Exit}
 use Rattle.mrt_cmd.specs.declared.exit.Exit.TheVariants.{TooLarge, ReadFault}
 use Rattle.mrt_cmd.specs.declared.exit.What.{What}
 use Rattle.mrt_cmd.specs.declared.exit.What.TheVariants.{DatabaseFile, ProfileFile, CertificateFile, ScriptFile}
-use Rattle.mrt_cmd.specs.Form.{Form, Task, Check, Certify, Table, Trace, Fabric}
+use Rattle.mrt_cmd.specs.Form.{FileForm, Form, OfFiles, Survey, Task, Check, Certify, Table, Trace, Fabric}
 
 -- a file that the words name: the place of its name among them, its name, what it is, and how many bytes it may have
 pub record NamedFile : Type 0 where
@@ -53,11 +53,16 @@ task_file (Table router) = None
 task_file (Trace trace) = None
 task_file (Fabric script) = Some (script_file script)
 
--- the files that a form names, in the order in which they are read
-abbrev pub files_of : Form → List NamedFile
-files_of form =
+-- the files that a form over files names, in the order in which they are read
+abbrev pub files_in : FileForm → List NamedFile
+files_in form =
     database_file form.database
     ∷ option_to_list (option_map profile_file form.profile) ++ option_to_list (task_file form.task)
+
+-- the files that a form names; a survey names none
+abbrev pub files_of : Form → List NamedFile
+files_of (OfFiles form) = files_in form
+files_of (Survey number nodes) = []
 
 -- the file has these bytes, at most as many as it may have; where it is not told what is held, no claim on the name
 abbrev pub IsReadAs : Option Files → NamedFile → List ℕ → Type 0

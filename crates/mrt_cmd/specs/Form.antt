@@ -1,12 +1,12 @@
 -- The forms of the words.
-use Rattle.std.specs.Prelude.{◌&&◌, ℕ, List, [], ◌∷◌, Option, Some, None, codes, length, nat_lt, if◌then◌else◌}
-use Rattle.std.specs.Option.{option_and_then, option_map}
+use Rattle.std.specs.Prelude.{◌&&◌, ◌≤◌, ℕ, List, [], ◌∷◌, Option, Some, None, codes, length, nat_le, nat_lt, if◌then◌else◌}
+use Rattle.std.specs.Option.{option_and_then, option_map, option_or}
 use Rattle.std.specs.Str.{bytes_eq}
 use Rattle.fabric_script.specs.declared.event.FailureName.{FailureName}
 use Rattle.fabric_script.specs.declared.trace.Trace.{Trace as PacketTrace}
 use Rattle.fabric_script.specs.Names.{failure_in, node_in}
 use Rattle.fabric_script.specs.ScriptLines.{entry_in}
-use Rattle.mrt_graph.specs.Spelling.{address_in}
+use Rattle.mrt_graph.specs.Spelling.{address_in, number_in}
 
 -- what is asked of a database: to check a certificate, to give that of a router's island, to give a router's table, to
 -- trace a packet, or to run a script of events
@@ -17,19 +17,44 @@ pub data Task : Type 0 where
   Trace : (trace : PacketTrace) → Task
   Fabric : (script : List ℕ) → Task
 
--- the task is a check
-abbrev pub IsCheck : Task → Type 0
-IsCheck (Check certificate) = Unit {0}
-IsCheck (Certify router) = ⊥
-IsCheck (Table router) = ⊥
-IsCheck (Trace trace) = ⊥
-IsCheck (Fabric script) = ⊥
-
--- what the words ask for, under a profile; without one, under the empty profile
-pub record Form : Type 0 where
+-- a form over files: what is asked of a database under a profile; without one, under the empty profile
+pub record FileForm : Type 0 where
   pub database : List ℕ
   pub profile : Option (List ℕ)
   pub task : Task
+
+-- what the words ask for: something of the files that they name, or the survey of a network that is made from a number and
+-- has so many routers
+pub data Form : Type 0 where
+  OfFiles : (form : FileForm) → Form
+  Survey : (number nodes : ℕ) → Form
+
+-- the task is a check
+abbrev pub IsCheckTask : Task → Type 0
+IsCheckTask (Check certificate) = Unit {0}
+IsCheckTask (Certify router) = ⊥
+IsCheckTask (Table router) = ⊥
+IsCheckTask (Trace trace) = ⊥
+IsCheckTask (Fabric script) = ⊥
+
+-- the form is a check
+abbrev pub IsCheck : Form → Type 0
+IsCheck (OfFiles form) = IsCheckTask form.task
+IsCheck (Survey number nodes) = ⊥
+
+-- the form is a survey
+abbrev pub IsSurvey : Form → Type 0
+IsSurvey (OfFiles form) = ⊥
+IsSurvey (Survey number nodes) = Unit {0}
+
+-- a network of so many routers can be made
+abbrev pub IsNetworkSize : ℕ → Type 0
+IsNetworkSize nodes = (4 ≤ nodes) × (nodes ≤ 2048)
+
+-- a survey is of a network that can be made
+abbrev pub IsWithin : Form → Type 0
+IsWithin (OfFiles form) = Unit {0}
+IsWithin (Survey number nodes) = IsNetworkSize nodes
 
 -- the name of a profile; `-` names none
 abbrev pub profile_name : List ℕ → Option (List ℕ)
@@ -65,9 +90,26 @@ task_in command _ = None
 
 -- `check DB PROFILE CERT`, `certify DB PROFILE ROUTER`, `table DB PROFILE ROUTER`, `trace DB PROFILE FROM TO blue`, or `red`
 -- or `repair`, then nothing or `FAIL`, or `fabric DB PROFILE SCRIPT`; no name is empty
-abbrev pub form_of : List (List ℕ) → Option Form
-form_of (command ∷ database ∷ profile ∷ words) =
+abbrev pub file_form_of : List (List ℕ) → Option FileForm
+file_form_of (command ∷ database ∷ profile ∷ words) =
     if nat_lt 0 (length database) && nat_lt 0 (length profile)
     then option_map (λ task. record { database = database; profile = profile_name profile; task = task }) (task_in command words)
     else None
-form_of _ = None
+file_form_of _ = None
+
+-- how many routers a network is to have, from 4 to 2,048
+abbrev pub nodes_in : List ℕ → Option ℕ
+nodes_in word =
+    option_and_then (λ nodes. if nat_le 4 nodes && nat_le nodes 2048 then Some nodes else None) (number_in word)
+
+-- `survey NUMBER NODES`
+abbrev pub survey_of : List (List ℕ) → Option Form
+survey_of (command ∷ number ∷ nodes ∷ []) =
+    if bytes_eq command (codes "survey")
+    then option_and_then (λ seed. option_map (λ count. Survey seed count) (nodes_in nodes)) (number_in number)
+    else None
+survey_of _ = None
+
+-- a form over files, or a survey
+abbrev pub form_of : List (List ℕ) → Option Form
+form_of words = option_or (option_map (λ form. OfFiles form) (file_form_of words)) (survey_of words)

@@ -14,6 +14,7 @@ pub mod Packets
 pub mod Reading
 pub mod Run
 pub mod SameFile
+pub mod Surveyed
 pub mod Tabled
 pub mod TextBytes
 pub mod Verdict

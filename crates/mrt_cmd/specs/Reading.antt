@@ -8,8 +8,8 @@ use Rattle.mrt_cmd.specs.declared.exit.Exit.{Exit}
 use Rattle.mrt_cmd.specs.declared.exit.Exit.TheVariants.{No, BadDatabase, BadProfile, BadCertificate, BadScript, TooLarge, NotThere, ReadFault, NoMemory}
 use Rattle.mrt_cmd.specs.Answers.{FileBytes, IsRefusedOver, IsRefusedTask}
 use Rattle.mrt_cmd.specs.Comes.{Refuses}
-use Rattle.mrt_cmd.specs.Files.{NamedFile, IsRefusedBy, MayFail, files_of}
-use Rattle.mrt_cmd.specs.Form.{Form, Task}
+use Rattle.mrt_cmd.specs.Files.{NamedFile, IsRefusedBy, MayFail, files_in, files_of}
+use Rattle.mrt_cmd.specs.Form.{FileForm, Form, Task}
 use Rattle.area_graph.specs.Parts.{AreaParts}
 use Rattle.mrt_graph.specs.FirstFault.{FirstFault}
 use Rattle.mrt_graph.specs.Topology.{Topology}
@@ -35,13 +35,13 @@ abbrev pub IsUnreadOrFault : Option Files → NamedFile → ℕ → ℕ → Exit
 IsUnreadOrFault held file before now (ReadFault word) = (word ≡ file.place) × Rose before now
 IsUnreadOrFault held file before now exit = IsUnread held file exit
 
--- the files of a form were not all read, as they call for, or there was no memory
-abbrev pub AreUnread : Option Files → Form → Exit → Type 0
-AreUnread held form exit = IsRefusedBy held (files_of form) exit ⊎ (exit ≡ NoMemory)
+-- the files of a form over files were not all read, as they call for, or there was no memory
+abbrev pub AreUnread : Option Files → FileForm → Exit → Type 0
+AreUnread held form exit = IsRefusedBy held (files_in form) exit ⊎ (exit ≡ NoMemory)
 
 -- the same, but that a file was not read may be due to a fault of the shelf
-abbrev pub AreUnreadOrFault : Option Files → Form → ℕ → ℕ → Exit → Type 0
-AreUnreadOrFault held form before now (ReadFault word) = MayFail held (files_of form) word × Rose before now
+abbrev pub AreUnreadOrFault : Option Files → FileForm → ℕ → ℕ → Exit → Type 0
+AreUnreadOrFault held form before now (ReadFault word) = MayFail held (files_in form) word × Rose before now
 AreUnreadOrFault held form before now exit = AreUnread held form exit
 
 -- a form was refused as it calls for, or there was no memory

@@ -5,7 +5,7 @@ use Rattle.mrt_io.specs.Holding.{Files}
 use Rattle.mrt_io.specs.Writing.{Gained}
 use Rattle.mrt_cmd.specs.Comes.{GivesText}
 use Rattle.mrt_cmd.specs.declared.exit.Exit.{Exit}
-use Rattle.mrt_cmd.specs.declared.exit.Exit.TheVariants.{Done, WriteFault}
+use Rattle.mrt_cmd.specs.declared.exit.Exit.TheVariants.{Done, NoMemory, WriteFault}
 
 -- no fault of a device decides: its count of faults did not rise in the call, or the device was healthy for it
 abbrev pub IsUndisturbed : Type 0 → ℕ → ℕ → Type 0
@@ -34,3 +34,10 @@ abbrev pub WritesNothing : Exit → Type 0
 WritesNothing Done = ⊥
 WritesNothing (WriteFault taken) = ⊥
 WritesNothing _ = Unit {0}
+
+-- the exit is one of those of a survey
+abbrev pub IsExitOfSurvey : Exit → Type 0
+IsExitOfSurvey Done = Unit {0}
+IsExitOfSurvey (WriteFault taken) = Unit {0}
+IsExitOfSurvey NoMemory = Unit {0}
+IsExitOfSurvey _ = ⊥

@@ -66,7 +66,7 @@ pub enum Exit {
     BadScript { line: u32 },
 }
 
-/// The line of `Usage`: the forms that there are and are to be.
+/// The line of `Usage`: the forms that there are.
 const USAGE: &[u8] =
     b"mrt: usage: check DB PROFILE CERT, certify DB PROFILE ROUTER, table DB PROFILE ROUTER, trace DB PROFILE FROM TO blue/red/repair [FAIL], fabric DB PROFILE SCRIPT, survey NUMBER NODES\n";
 

@@ -1,16 +1,16 @@
-//! The bytes of the files that a form names.
+//! The bytes of the files that a form over files names.
 
 ghost use Rattle.std.specs.Prelude.{◌≡◌, ◌≤◌, IfOk, IfErr, length};
 ghost use Rattle.mrt_io.specs.Counts.{Rose};
-ghost use Rattle.mrt_cmd.specs.Asked.{asked};
+ghost use Rattle.mrt_cmd.specs.Asked.{files_asked};
 ghost use Rattle.mrt_cmd.specs.Comes.{AreRead};
-ghost use Rattle.mrt_cmd.specs.Files.{AreThere, files_of};
+ghost use Rattle.mrt_cmd.specs.Files.{AreThere, files_in};
 ghost use Rattle.mrt_cmd.specs.Reading.{AreUnread, AreUnreadOrFault};
 
 use crate::exit::Exit;
 use crate::named_file::NamedFile;
 use crate::reading::{read_file, read_profile_file, read_task_file};
-use crate::words::Form;
+use crate::words::FileForm;
 use mrt_io::Shelf;
 use std::alloc::Global;
 use std::marker::Model;
@@ -53,20 +53,20 @@ impl FileBytes {
     }
 }
 
-/// Reads the files that a form names, in the order of the words.
+/// Reads the files that a form over files names, in the order of the words.
 pub(crate) fn read_files<F: Shelf>(
     alloc: Global,
     shelf: &mut F,
-    form: &Form<'_>,
+    form: &FileForm<'_>,
 ) -> Result<FileBytes, Exit>
-    ensures read { IfOk result (AreRead (F.held shelf.old) (asked form.now)) }
-    ensures refused { IfErr result (AreUnreadOrFault (F.held shelf.old) (asked form.now) (F.faults shelf.old) (F.faults shelf.new)) }
+    ensures read { IfOk result (AreRead (F.held shelf.old) (files_asked form.now)) }
+    ensures refused { IfErr result (AreUnreadOrFault (F.held shelf.old) (files_asked form.now) (F.faults shelf.old) (F.faults shelf.new)) }
 
     // Where no count rose, and over a healthy shelf, a refusal is due to the files that are held.
     ensures calm { (Rose (F.faults shelf.old) (F.faults shelf.new) → ⊥)
-        → IfErr result (AreUnread (F.held shelf.old) (asked form.now)) }
-    ensures healthy { F.healthy shelf.old → IfErr result (AreUnread (F.held shelf.old) (asked form.now)) }
-    ensures no_fault { F.healthy shelf.old → AreThere (F.held shelf.old) (files_of (asked form.now))
+        → IfErr result (AreUnread (F.held shelf.old) (files_asked form.now)) }
+    ensures healthy { F.healthy shelf.old → IfErr result (AreUnread (F.held shelf.old) (files_asked form.now)) }
+    ensures no_fault { F.healthy shelf.old → AreThere (F.held shelf.old) (files_in (files_asked form.now))
         → F.faults shelf.new ≡ F.faults shelf.old }
 {
     let database = read_file(alloc, shelf, &NamedFile::database(form.database))?;

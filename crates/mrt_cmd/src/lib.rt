@@ -14,6 +14,8 @@ mod packets;
 mod program;
 mod reading;
 mod run_law;
+mod survey;
+mod survey_law;
 mod table;
 mod text;
 mod verdict;
@@ -26,3 +28,4 @@ pub use run_law::{
     one_exit_comes, only_a_check_says_no, tables_are_of_one_certificate,
     what_steps_read_fits_together, what_was_written_passes,
 };
+pub use survey_law::made_networks_are_taken;

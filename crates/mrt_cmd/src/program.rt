@@ -9,22 +9,23 @@ ghost use Rattle.cert_format.specs.declared.error.CertKind.{CertKind};
 ghost use Rattle.mrt_island.specs.declared.profile_error.ProfileKind.{ProfileKind};
 ghost use Rattle.mrt_cmd.specs.declared.exit.DbKind.{DbKind};
 ghost use Rattle.mrt_cmd.specs.declared.exit.What.{What};
-ghost use Rattle.mrt_cmd.specs.Asked.{asked};
+ghost use Rattle.mrt_cmd.specs.Asked.{asked, files_asked};
 ghost use Rattle.mrt_cmd.specs.Comes.{Comes, FailsAt, Gives, GivesText, IsRefused, MissesAt, NamesHeld};
 ghost use Rattle.mrt_cmd.specs.Exits.{line_of};
 ghost use Rattle.mrt_cmd.specs.Files.{AreThere, files_of};
-ghost use Rattle.mrt_cmd.specs.Form.{IsCheck, form_of};
+ghost use Rattle.mrt_cmd.specs.Form.{IsCheck, IsSurvey, IsWithin, OfFiles, form_of};
 ghost use Rattle.mrt_cmd.specs.Headline.{ChecksWritten, IsPassed};
 ghost use Rattle.mrt_cmd.specs.Reading.{IsRefusal, IsRefusalOrFault};
 ghost use Rattle.mrt_cmd.specs.TextBytes.{bytes_of};
-ghost use Rattle.mrt_cmd.specs.Run.{GainedLine, IsHealthyForText, IsUndisturbed, IsCutShort, WritesNothing};
+ghost use Rattle.mrt_cmd.specs.Run.{GainedLine, IsExitOfSurvey, IsHealthyForText, IsUndisturbed, IsCutShort, WritesNothing};
 
 use crate::answer::answer;
 use crate::exit::Exit;
 use crate::file_bytes::read_files;
 use crate::run_law::{one_exit_comes, only_a_check_says_no, what_was_written_passes};
+use crate::survey::survey;
 use crate::text::Text;
-use crate::words::{Form, read_form};
+use crate::words::{FileForm, Form, read_form};
 use mrt_io::{Shelf, Sink, Word, put_all};
 use std::alloc::Global;
 
@@ -36,7 +37,8 @@ use std::alloc::Global;
 ///
 /// It takes the time of reading the files, of an install for each LSA, of the area and the island, and of what is asked: of
 /// checking a certificate, of computing and writing one, of computing one and a router's primaries and writing its table, or of
-/// computing one and all routers' primaries and following packets.
+/// computing one and all routers' primaries and following packets. A survey takes the time of making the network, and of
+/// computing the certificate of its island.
 pub fn run<F: Shelf, K: Sink, E: Sink>(
     alloc: Global,
     words: &[Word],
@@ -73,7 +75,7 @@ pub fn run<F: Shelf, K: Sink, E: Sink>(
     ensures no { (rule a b : ℕ) → result ≡ Exit.No rule a b
         → IsRefused (F.held shelf.old) words.now (Exit.No rule a b) }
     ensures no_from_check_alone { (rule a b : ℕ) → result ≡ Exit.No rule a b
-        → IsSomeAnd (form_of words.now) (λ form. IsCheck form.task) }
+        → IsSomeAnd (form_of words.now) IsCheck }
 
     // On `Done` the output gained just the text; on `WriteFault` it was cut short in it, and it has no fault where it is healthy for
     // the text; else nothing was written to it.
@@ -102,6 +104,10 @@ pub fn run<F: Shelf, K: Sink, E: Sink>(
     ensures written_passes { (files : Files) → F.held shelf.old ≡ Some files → ChecksWritten files words.now
         → IsPassed result }
 
+    // A survey is never refused, and it reads nothing.
+    ensures survey { IsSomeAnd (form_of words.now) IsSurvey → IsExitOfSurvey result }
+    ensures survey_reads_nothing { IsSomeAnd (form_of words.now) IsSurvey → shelf.new ≡ shelf.old }
+
     // On `Done` nothing is put to `err`, else the exit's line, as far as `err` takes it.
     ensures silent { result ≡ Exit.Done → err.new ≡ err.old }
     ensures line { (result ≡ Exit.Done → ⊥) → GainedLine (E.healthy_for err.old) (E.faults err.old) (E.faults err.new)
@@ -121,11 +127,32 @@ pub fn run<F: Shelf, K: Sink, E: Sink>(
 
 /// The text that a form gives.
 fn text_of<F: Shelf>(alloc: Global, form: Form<'_>, shelf: &mut F) -> Result<Text, Exit>
+    requires { IsWithin (asked form) }
     ensures text { IfOk result (λ text. Gives (F.held shelf.old) (asked form.entry) (bytes_of text)) }
     ensures refused { IfErr result (IsRefusalOrFault (F.held shelf.old) (asked form.entry) (F.faults shelf.old) (F.faults shelf.new)) }
     ensures calm { (Rose (F.faults shelf.old) (F.faults shelf.new) → ⊥) → IfErr result (IsRefusal (F.held shelf.old) (asked form.entry)) }
     ensures healthy { F.healthy shelf.old → IfErr result (IsRefusal (F.held shelf.old) (asked form.entry)) }
     ensures no_fault { F.healthy shelf.old → AreThere (F.held shelf.old) (files_of (asked form.entry))
+        → F.faults shelf.new ≡ F.faults shelf.old }
+    ensures survey { IsSurvey (asked form.entry) → IfErr result (λ exit. exit ≡ Exit.NoMemory) }
+    ensures survey_reads_nothing { IsSurvey (asked form.entry) → shelf.new ≡ shelf.old }
+{
+    match form {
+        Form::OfFiles(form) => text_of_files(alloc, form, shelf),
+        Form::Survey { number, nodes } => Ok(Text::Bytes(survey(alloc, number, nodes)?)),
+    }
+}
+
+/// The text that a form over files gives.
+fn text_of_files<F: Shelf>(alloc: Global, form: FileForm<'_>, shelf: &mut F) -> Result<Text, Exit>
+    ensures text { IfOk result (λ text. Gives (F.held shelf.old) (OfFiles (files_asked form.entry)) (bytes_of text)) }
+    ensures refused { IfErr result
+        (IsRefusalOrFault (F.held shelf.old) (OfFiles (files_asked form.entry)) (F.faults shelf.old) (F.faults shelf.new)) }
+    ensures calm { (Rose (F.faults shelf.old) (F.faults shelf.new) → ⊥)
+        → IfErr result (IsRefusal (F.held shelf.old) (OfFiles (files_asked form.entry))) }
+    ensures healthy { F.healthy shelf.old
+        → IfErr result (IsRefusal (F.held shelf.old) (OfFiles (files_asked form.entry))) }
+    ensures no_fault { F.healthy shelf.old → AreThere (F.held shelf.old) (files_of (OfFiles (files_asked form.entry)))
         → F.faults shelf.new ≡ F.faults shelf.old }
 {
     let bytes = read_files(alloc, shelf, &form)?;

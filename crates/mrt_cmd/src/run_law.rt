@@ -15,6 +15,7 @@ ghost use Rattle.mrt_cmd.specs.Packets.{ArePartsFor};
 ghost use Rattle.mrt_cmd.specs.SameFile.{IsSameFile};
 ghost use Rattle.mrt_cmd.specs.Tabled.{IsTabled};
 
+use crate::survey_law::made_networks_are_taken;
 use area_graph::the_newest_records_give_an_area;
 use cert_format::one_spelling;
 use fabric_script::{lines_are_a_script_or_have_a_fault, one_text_each};
@@ -28,6 +29,7 @@ use mrt_island::{
 };
 use mrt_report::one_table_each;
 use mrt_rows::one_certificate;
+use mrt_survey::one_survey_each;
 use ospf_lsa::bytes_are_lsas_or_have_a_fault;
 use primary_alt::one_primary_each;
 
@@ -52,6 +54,8 @@ pub fn one_exit_comes()
     one_primary_each();
     lines_are_a_script_or_have_a_fault();
     one_text_each();
+    one_survey_each();
+    made_networks_are_taken();
 }
 
 /// A law, the headline's first half: a certificate that was written passes the check over the same database and profile.
@@ -99,5 +103,5 @@ pub fn what_steps_read_fits_together()
 pub fn only_a_check_says_no()
     ensures { (held : Option Files) (words : List (List ℕ)) (rule a b : ℕ)
         → IsRefused held words (Exit.No rule a b)
-        → IsSomeAnd (form_of words) (λ form. IsCheck form.task) }
+        → IsSomeAnd (form_of words) IsCheck }
 {}

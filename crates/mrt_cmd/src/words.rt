@@ -1,17 +1,44 @@
 //! The forms of the words.
 
-ghost use Rattle.std.specs.Prelude.{◌≡◌, ◌∷◌, []};
+ghost use Rattle.std.specs.Prelude.{◌≡◌, ◌∷◌, [], IfSome};
 ghost use Rattle.std.specs.Option.{option_map};
-ghost use Rattle.mrt_cmd.specs.Form.{file_name, form_of, profile_name, task_in, task_of, trace_of};
-ghost use Rattle.mrt_cmd.specs.Asked.{asked, task_asked};
+ghost use Rattle.mrt_cmd.specs.Form.{
+  IsNetworkSize,
+  IsWithin,
+  file_form_of,
+  file_name,
+  form_of,
+  nodes_in,
+  profile_name,
+  survey_of,
+  task_in,
+  task_of,
+  trace_of,
+};
+ghost use Rattle.mrt_cmd.specs.Asked.{asked, files_asked, task_asked};
 
 use fabric_script::{FailureName, Trace, read_entry, read_failure, read_node};
-use mrt_graph::read_address;
+use mrt_graph::{read_address, read_number};
 use mrt_io::Word;
 
-/// What the words ask for, under a profile; without one, under the empty profile.
+/// The least routers that a network is made of.
+const LEAST_NODES: u32 = 4;
+
+/// The most routers that a network is made of.
+const MOST_NODES: u32 = 2048;
+
+/// What the words ask for.
 #[derive(Clone, Copy)]
-pub(crate) struct Form<'a> {
+pub(crate) enum Form<'a> {
+    /// Something of the files that they name.
+    OfFiles(FileForm<'a>),
+    /// The survey of a network that is made from a number and has so many routers.
+    Survey { number: u32, nodes: u16 },
+}
+
+/// What is asked of a database, under a profile; without one, under the empty profile.
+#[derive(Clone, Copy)]
+pub(crate) struct FileForm<'a> {
     pub(crate) database: &'a Word,
     pub(crate) profile: Option<&'a Word>,
     pub(crate) task: Task<'a>,
@@ -34,13 +61,51 @@ pub(crate) enum Task<'a> {
 
 /// The form of the words, if they have one.
 pub(crate) fn read_form(words: &[Word]) -> Option<Form<'_>>
-    ensures { option_map asked result ≡ form_of words.now }
+    ensures form { option_map asked result ≡ form_of words.now }
+    ensures within { IfSome result (λ form. IsWithin (asked form)) }
+{
+    match read_file_form(words) {
+        Some(form) => Some(Form::OfFiles(form)),
+        None => read_survey(words),
+    }
+}
+
+/// The survey that the words ask for, if they do.
+fn read_survey(words: &[Word]) -> Option<Form<'_>>
+    ensures form { option_map asked result ≡ survey_of words.now }
+    ensures within { IfSome result (λ form. IsWithin (asked form)) }
+{
+    match words {
+        [command, number, nodes] if command.bytes() == b"survey".as_slice() => {
+            let number = read_number(number.bytes())?;
+            let nodes = read_nodes(nodes)?;
+            Some(Form::Survey { number, nodes })
+        }
+        _ => None,
+    }
+}
+
+/// How many routers a network is to have.
+fn read_nodes(word: &Word) -> Option<u16>
+    ensures nodes { result ≡ nodes_in word.now }
+    ensures within { IfSome result IsNetworkSize }
+{
+    let nodes = read_number(word.bytes())?;
+    if nodes < LEAST_NODES || nodes > MOST_NODES {
+        return None;
+    }
+    Some(nodes as u16)
+}
+
+/// The form over files of the words, if they have one.
+fn read_file_form(words: &[Word]) -> Option<FileForm<'_>>
+    ensures { option_map files_asked result ≡ file_form_of words.now }
 {
     match words {
         [command, database, profile, words @ ..]
             if !database.bytes().is_empty() && !profile.bytes().is_empty() => {
             let task = read_words(command, words)?;
-            Some(Form {
+            Some(FileForm {
                 database,
                 profile: read_profile_name(profile),
                 task,

@@ -6,13 +6,14 @@ use Rattle.mrt_io.specs.Holding.{Files}
 use Rattle.mrt_cmd.specs.declared.exit.Exit.{Exit}
 use Rattle.mrt_cmd.specs.declared.exit.Exit.TheVariants.{Done, NoMemory, Usage, WriteFault}
 use Rattle.mrt_cmd.specs.Comes.{Comes, Gives, GivesText}
-use Rattle.mrt_cmd.specs.Form.{form_of}
+use Rattle.mrt_cmd.specs.Form.{IsSurvey, form_of}
 use Rattle.mrt_cmd.specs.TextBytes.{bytes_of}
 use Rattle.mrt_cmd.specs.Asked.{asked}
 use Rattle.mrt_cmd.specs.Reading.{IsRefusal, IsRefusalOrFault}
 use Rattle.mrt_cmd.proofs.Exactly.{exactly, exactly_missing, none_missing}
 use Rattle.mrt_cmd.proofs.NeverSaid.{IsUnsaid, OfDone, OfOutput, OfUsage, no_is_refused, not_of_form}
 use Rattle.mrt_cmd.proofs.Refusals.{refusal_comes}
+use Rattle.mrt_cmd.proofs.SurveyExits.{form_surveys, memory_of_survey, written_of_survey}
 use Rattle.mrt_cmd.proofs.WrittenPasses.{no_form, passed_refused, passed_written}
 use Rattle.mrt_cmd.proofs.program.run.Given.{Over}
 use Rattle.mrt_cmd.proofs.program.run.Goals as goal
@@ -54,7 +55,7 @@ returns-in-Err-clause-comes g c = λ shelf_spared out_spared.
     ] in
     rw c.put_line-in-Err.ensures.same
     (refusal_comes (g.F.Shelf.held c.args.shelf.now) c.args.words.now (asked c.in-Some.form) c.in-Err.exit
-    c.in-Some.ensures refusal)
+    c.in-Some.ensures.form refusal)
 
 pub returns-in-Err-clause-exactly : goal.returns-in-Err-clause-exactly
 returns-in-Err-clause-exactly g c = λ shelf_spared out_spared.
@@ -75,7 +76,7 @@ pub returns-in-Err-clause-written_passes : goal.returns-in-Err-clause-written_pa
 returns-in-Err-clause-written_passes g c = λ files told written.
     let passes = c.what_was_written_passes.ensures files c.args.words.now written in
     rw c.put_line-in-Err.ensures.same
-    (passed_refused c.one_exit_comes.ensures.exit files c.args.words.now (asked c.in-Some.form) c.in-Some.ensures passes.0
+    (passed_refused c.one_exit_comes.ensures.exit files c.args.words.now (asked c.in-Some.form) c.in-Some.ensures.form passes.0
     passes.1 (g.F.Shelf.faults c.args.shelf.now) (g.F.Shelf.faults c.text_of.new.shelf) c.in-Err.exit
     (subst (λ (held : Option Files). IsRefusalOrFault held (asked c.in-Some.form) (g.F.Shelf.faults c.args.shelf.now)
     (g.F.Shelf.faults c.text_of.new.shelf) c.in-Err.exit) told c.in-Err.ensures.refused))
@@ -96,7 +97,7 @@ never g c exit unsaid is =
     (g.F.Shelf.faults c.text_of.new.shelf)) (sym c.put_line-in-Err.ensures.same ∙ is) c.in-Err.ensures.refused)
 
 pub returns-in-Err-clause-usage : goal.returns-in-Err-clause-usage
-returns-in-Err-clause-usage g c = (λ is. absurd (never g c Usage OfUsage is), λ none. absurd (true≢false (ap is_some c.in-Some.ensures ∙ none)))
+returns-in-Err-clause-usage g c = (λ is. absurd (never g c Usage OfUsage is), λ none. absurd (true≢false (ap is_some c.in-Some.ensures.form ∙ none)))
 
 pub returns-in-Err-clause-usage_reads_nothing : goal.returns-in-Err-clause-usage_reads_nothing
 returns-in-Err-clause-usage_reads_nothing g c = λ is. absurd (never g c Usage OfUsage is)
@@ -105,7 +106,7 @@ pub returns-in-Err-clause-no_from_check_alone : goal.returns-in-Err-clause-no_fr
 returns-in-Err-clause-no_from_check_alone g c = λ rule a b is.
     c.only_a_check_says_no.ensures (g.F.Shelf.held c.args.shelf.now) c.args.words.now rule a b
     (no_is_refused (g.F.Shelf.held c.args.shelf.now) c.args.words.now (asked c.in-Some.form)
-    (g.F.Shelf.faults c.args.shelf.now) (g.F.Shelf.faults c.text_of.new.shelf) rule a b c.in-Err.exit c.in-Some.ensures
+    (g.F.Shelf.faults c.args.shelf.now) (g.F.Shelf.faults c.text_of.new.shelf) rule a b c.in-Err.exit c.in-Some.ensures.form
     (sym c.put_line-in-Err.ensures.same ∙ is) c.in-Err.ensures.refused)
 
 pub returns-in-Err-clause-done : goal.returns-in-Err-clause-done
@@ -116,3 +117,28 @@ returns-in-Err-clause-write_fault g c = λ taken is. absurd (never g c (WriteFau
 
 pub returns-in-Err-clause-silent : goal.returns-in-Err-clause-silent
 returns-in-Err-clause-silent g c = λ is. absurd (never g c Done OfDone is)
+
+-- A survey is never refused, and it reads nothing.
+pub returns-in_default-clause-survey : goal.returns-in_default-clause-survey
+returns-in_default-clause-survey g c = λ surveys.
+    let none : IsNone (form_of c.args.words.now) = search rules in
+    absurd (no_form (form_of c.args.words.now) IsSurvey none surveys)
+
+pub returns-in-Ok-clause-survey : goal.returns-in-Ok-clause-survey
+returns-in-Ok-clause-survey g c = λ surveys. written_of_survey c.put_text.result c.put_text.ensures.kind
+
+pub returns-in-Ok-clause-survey_reads_nothing : goal.returns-in-Ok-clause-survey_reads_nothing
+returns-in-Ok-clause-survey_reads_nothing g c = λ surveys.
+    c.text_of.ensures.survey_reads_nothing
+    (form_surveys (form_of c.args.words.now) (asked c.in-Some.form) c.in-Some.ensures.form surveys)
+
+pub returns-in-Err-clause-survey : goal.returns-in-Err-clause-survey
+returns-in-Err-clause-survey g c = λ surveys.
+    memory_of_survey c.put_line-in-Err.result
+    (c.put_line-in-Err.ensures.same ∙ c.in-Err.ensures.survey
+    (form_surveys (form_of c.args.words.now) (asked c.in-Some.form) c.in-Some.ensures.form surveys))
+
+pub returns-in-Err-clause-survey_reads_nothing : goal.returns-in-Err-clause-survey_reads_nothing
+returns-in-Err-clause-survey_reads_nothing g c = λ surveys.
+    c.text_of.ensures.survey_reads_nothing
+    (form_surveys (form_of c.args.words.now) (asked c.in-Some.form) c.in-Some.ensures.form surveys)

@@ -3,8 +3,9 @@ use Rattle.mrt_cmd.proofs.OneExit.{Laws, one_exit, one_text}
 use Rattle.mrt_cmd.proofs.run_law.one_exit_comes.Goals as goal
 
 -- the laws of the layers below
-laws : goal.After-one_text_each → Laws
+laws : goal.After-made_networks_are_taken → Laws
 laws c = record {
+  surveys = record { input = c.made_networks_are_taken.ensures.input; text = c.one_survey_each.ensures };
   packets = record {
     never_both = c.lines_are_a_script_or_have_a_fault.ensures.never_both;
     one_script = c.lines_are_a_script_or_have_a_fault.ensures.one_script;

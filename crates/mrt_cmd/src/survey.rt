@@ -1,0 +1,55 @@
+//! `survey NUMBER NODES`: a network that is made from a number, and what it comes to.
+
+ghost use Rattle.std.specs.Prelude.{◌≡◌, ◌<◌, None, IfOk, IfErr, length, map};
+ghost use Rattle.lsdb.specs.Conflicts.{least_conflict};
+ghost use Rattle.mrt_survey.specs.MadeLsas.{made_lsas};
+ghost use Rattle.mrt_cmd.specs.Form.{IsNetworkSize};
+ghost use Rattle.mrt_cmd.specs.Surveyed.{IsSummedUp, IsSurveyed};
+
+use crate::exit::Exit;
+use crate::input::database_of;
+use crate::island::island_in;
+use crate::survey_law::made_networks_are_taken;
+use lsdb::Lsdb;
+use mrt_graph::{Graph, NoMemory, NodeNo, accepted_implies_sound};
+use mrt_island::Profile;
+use mrt_rows::compute;
+use mrt_survey::{generate, survey_text};
+use std::alloc::Global;
+
+/// The survey of the network of so many routers that is made from a number, under a profile that says nothing. There is no
+/// fault that it could have.
+pub(crate) fn survey(alloc: Global, number: u32, nodes: u16) -> Result<Vec<u8>, Exit>
+    requires { IsNetworkSize nodes }
+    ensures surveyed { IfOk result (λ text. IsSurveyed number nodes text.items) }
+    ensures none { IfErr result (λ exit. exit ≡ Exit.NoMemory) }
+{
+    made_networks_are_taken();
+    let database = made_database(alloc, number, nodes)?;
+    let profile = Profile::empty(alloc);
+    let island = island_in(alloc, &database, &profile, 1)?;
+    let text = summed_up(alloc, number, &island.graph, island.root)?;
+    Ok(text)
+}
+
+/// The database of the network.
+fn made_database(alloc: Global, number: u32, nodes: u16) -> Result<Lsdb, Exit>
+    requires { IsNetworkSize nodes }
+    ensures newest { IfOk result (λ database. map (λ entry. entry.lsa) database.entries ≡ made_lsas number nodes) }
+    ensures settled { IfOk result (λ database. least_conflict database.entries ≡ None) }
+    ensures none { IfErr result (λ exit. exit ≡ Exit.NoMemory) }
+{
+    made_networks_are_taken();
+    let bytes = generate(alloc, number, nodes)?;
+    database_of(alloc, bytes.as_slice())
+}
+
+/// The survey of a graph and of the certificate that is computed for it and its root.
+fn summed_up(alloc: Global, number: u32, graph: &Graph, root: NodeNo) -> Result<Vec<u8>, NoMemory>
+    requires { root < length graph.now.ids }
+    ensures { IfOk result (λ text. IsSummedUp number graph.now root text.items) }
+{
+    accepted_implies_sound();
+    let cert = compute(alloc, graph, root)?;
+    survey_text(alloc, number, graph, root, &cert)
+}
