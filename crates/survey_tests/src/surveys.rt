@@ -36,10 +36,10 @@ fn cases() -> &'static [Case] {
     CASES
 }
 
-/// The island of router 1 in the area of bytes.
-fn island_of(alloc: Global, bytes: &[u8]) -> Option<Island> {
+/// The island of a router in the area of bytes.
+fn island_of(alloc: Global, bytes: &[u8], router: u32) -> Option<Island> {
     let area = area_of(alloc, bytes)?;
-    find_island(alloc, &area, &Profile::empty(alloc), 1).ok()
+    find_island(alloc, &area, &Profile::empty(alloc), router).ok()
 }
 
 /// Whether this is the survey.
@@ -65,10 +65,21 @@ fn is_so(alloc: Global, case: &Case) -> Result<bool, NoMemory> {
         return Ok(false);
     }
     let bytes = generate(alloc, case.number, case.nodes)?;
-    let Some(island) = island_of(alloc, &bytes) else {
+    sums_up(alloc, case.number, &bytes, 1, case.survey)
+}
+
+/// Whether this is the survey of the island of a router in the area of bytes.
+fn sums_up(
+    alloc: Global,
+    number: u32,
+    bytes: &[u8],
+    router: u32,
+    wanted: &[u8],
+) -> Result<bool, NoMemory> {
+    let Some(island) = island_of(alloc, bytes, router) else {
         return Ok(false);
     };
-    is_survey(alloc, case.number, &island.graph, island.root, case.survey)
+    is_survey(alloc, number, &island.graph, island.root, wanted)
 }
 
 #[test]
@@ -76,4 +87,26 @@ fn surveys(rt: HostRuntime) {
     for (place, case) in cases().iter().enumerate() {
         assert!(rt; is_so(rt.alloc(), case) == Ok(true), "case {place}");
     }
+}
+
+/// Routers 1.1.1.1, 2.2.2.2 and 5.5.5.5, each joined to the others, and 3.3.3.3, 4.4.4.4 and 5.5.5.5 likewise.
+const TRIANGLES: &[u8] =
+    b"\x00\x01\x02\x01\x01\x01\x01\x01\x01\x01\x01\x01\x80\x00\x00\x01\xf9\x0e\x00\x30\x00\x00\x00\x02\x02\x02\x02\x02\x00\x00\x00\x02\x01\x00\x00\x0a\x05\x05\x05\x05\x00\x00\x00\x05\x01\x00\x00\x0a\x00\x01\x02\x01\x02\x02\x02\x02\x02\x02\x02\x02\x80\x00\x00\x01\x7d\x87\x00\x30\x00\x00\x00\x02\x01\x01\x01\x01\x00\x00\x00\x01\x01\x00\x00\x0a\x05\x05\x05\x05\x00\x00\x00\x05\x01\x00\x00\x0a\x00\x01\x02\x01\x03\x03\x03\x03\x03\x03\x03\x03\x80\x00\x00\x01\xc1\x2c\x00\x30\x00\x00\x00\x02\x04\x04\x04\x04\x00\x00\x00\x04\x01\x00\x00\x0a\x05\x05\x05\x05\x00\x00\x00\x05\x01\x00\x00\x0a\x00\x01\x02\x01\x04\x04\x04\x04\x04\x04\x04\x04\x80\x00\x00\x01\x45\xa5\x00\x30\x00\x00\x00\x02\x03\x03\x03\x03\x00\x00\x00\x03\x01\x00\x00\x0a\x05\x05\x05\x05\x00\x00\x00\x05\x01\x00\x00\x0a\x00\x01\x02\x01\x05\x05\x05\x05\x05\x05\x05\x05\x80\x00\x00\x01\x3b\x6d\x00\x48\x00\x00\x00\x04\x01\x01\x01\x01\x00\x00\x00\x01\x01\x00\x00\x0a\x02\x02\x02\x02\x00\x00\x00\x02\x01\x00\x00\x0a\x03\x03\x03\x03\x00\x00\x00\x03\x01\x00\x00\x0a\x04\x04\x04\x04\x00\x00\x00\x04\x01\x00\x00\x0a";
+
+/// The root, 5.5.5.5, is the only node that separates others.
+const TRIANGLES_SURVEY: &[u8] =
+    b"survey 5 nodes 5 links 6 root 5.5.5.5\nblocks 2 sole 0 separating 1\ncommon 12 carried 8\nsums blue 50 red 46\n";
+
+fn triangles() -> &'static [u8] {
+    TRIANGLES
+}
+
+fn triangles_survey() -> &'static [u8] {
+    TRIANGLES_SURVEY
+}
+
+#[test]
+fn a_root_that_separates(rt: HostRuntime) {
+    let is_so = sums_up(rt.alloc(), 5, triangles(), 0x0101_0101, triangles_survey());
+    assert!(rt; is_so == Ok(true));
 }
