@@ -30,6 +30,8 @@ mod scripted;
 #[cfg(test)]
 mod spoilt_files;
 #[cfg(test)]
+mod surveyed;
+#[cfg(test)]
 mod tabled;
 #[cfg(test)]
 mod traced;
