@@ -46,7 +46,8 @@ missing_comes files form word (inr (inl done)) =
     absurd cc
 missing_comes files None word (inr (inr refused)) = absurd refused
 missing_comes files (Some (OfFiles form)) word (inr (inr (inl missing))) = missing
-missing_comes files (Some (OfFiles form)) word (inr (inr (inr said))) = absurd (never_missing form.task said.0 word said.2)
+missing_comes files (Some (OfFiles form)) word (inr (inr (inr said))) =
+    absurd (never_missing form.task said.0 word said.2)
 missing_comes files (Some (Survey number nodes)) word (inr (inr refused)) = absurd refused
 
 comes_missing : (files : Files) (form : Option Form) (word : ℕ)

@@ -55,8 +55,9 @@ record IsCertifyForm (held : Option Files) (database profile text : List ℕ) : 
   gives : Gives held (OfFiles (form_with database profile (Certify router))) text
 
 certify_form : (held : Option Files) (database profile text : List ℕ) (named : Bool) (address : Option ℕ)
-    → IsSomeAnd (option_or (option_map (λ form. OfFiles form) (if named then option_map (λ task. form_with database profile task) (option_map (λ router. Certify router) address) else None)) None)
-    (λ form. Gives held form text) → IsCertifyForm held database profile text
+    → IsSomeAnd (option_or (option_map (λ form. OfFiles form)
+    (if named then option_map (λ task. form_with database profile task) (option_map (λ router. Certify router) address)
+    else None)) None) (λ form. Gives held form text) → IsCertifyForm held database profile text
 certify_form held database profile text true (Some router) given = record { router = router; gives = given }
 certify_form held database profile text true None given = absurd given
 certify_form held database profile text false address given = absurd given

@@ -1,5 +1,6 @@
 -- The forms of the words.
-use Rattle.std.specs.Prelude.{◌&&◌, ◌≤◌, ℕ, List, [], ◌∷◌, Option, Some, None, codes, length, nat_le, nat_lt, if◌then◌else◌}
+use Rattle.std.specs.Prelude.{◌&&◌, ◌≤◌, ℕ, List, [], ◌∷◌, Option, Some, None}
+use Rattle.std.specs.Prelude.{codes, length, nat_le, nat_lt, if◌then◌else◌}
 use Rattle.std.specs.Option.{option_and_then, option_map, option_or}
 use Rattle.std.specs.Str.{bytes_eq}
 use Rattle.fabric_script.specs.declared.event.FailureName.{FailureName}
@@ -23,8 +24,8 @@ pub record FileForm : Type 0 where
   pub profile : Option (List ℕ)
   pub task : Task
 
--- what the words ask for: something of the files that they name, or the survey of a network that is made from a number and
--- has so many routers
+-- what the words ask for: something of the files that they name, or the survey of a network that is made from a number
+-- and has so many routers
 pub data Form : Type 0 where
   OfFiles : (form : FileForm) → Form
   Survey : (number nodes : ℕ) → Form

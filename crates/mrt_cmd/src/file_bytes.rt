@@ -60,7 +60,8 @@ pub(crate) fn read_files<F: Shelf>(
     form: &FileForm<'_>,
 ) -> Result<FileBytes, Exit>
     ensures read { IfOk result (AreRead (F.held shelf.old) (files_asked form.now)) }
-    ensures refused { IfErr result (AreUnreadOrFault (F.held shelf.old) (files_asked form.now) (F.faults shelf.old) (F.faults shelf.new)) }
+    ensures refused { IfErr result
+        (AreUnreadOrFault (F.held shelf.old) (files_asked form.now) (F.faults shelf.old) (F.faults shelf.new)) }
 
     // Where no count rose, and over a healthy shelf, a refusal is due to the files that are held.
     ensures calm { (Rose (F.faults shelf.old) (F.faults shelf.new) → ⊥)

@@ -17,7 +17,14 @@ ghost use Rattle.mrt_cmd.specs.Form.{IsCheck, IsSurvey, IsWithin, OfFiles, form_
 ghost use Rattle.mrt_cmd.specs.Headline.{ChecksWritten, IsPassed};
 ghost use Rattle.mrt_cmd.specs.Reading.{IsRefusal, IsRefusalOrFault};
 ghost use Rattle.mrt_cmd.specs.TextBytes.{bytes_of};
-ghost use Rattle.mrt_cmd.specs.Run.{GainedLine, IsExitOfSurvey, IsHealthyForText, IsUndisturbed, IsCutShort, WritesNothing};
+ghost use Rattle.mrt_cmd.specs.Run.{
+  GainedLine,
+  IsCutShort,
+  IsExitOfSurvey,
+  IsHealthyForText,
+  IsUndisturbed,
+  WritesNothing,
+};
 
 use crate::answer::answer;
 use crate::exit::Exit;
@@ -37,8 +44,8 @@ use std::alloc::Global;
 ///
 /// It takes the time of reading the files, of an install for each LSA, of the area and the island, and of what is asked: of
 /// checking a certificate, of computing and writing one, of computing one and a router's primaries and writing its table, or of
-/// computing one and all routers' primaries and following packets. A survey takes the time of making the network, and of
-/// computing the certificate of its island.
+/// computing one and all routers' primaries and following packets. A survey takes the time of making the network and
+/// of computing the certificate of its island.
 pub fn run<F: Shelf, K: Sink, E: Sink>(
     alloc: Global,
     words: &[Word],
@@ -146,8 +153,8 @@ fn text_of<F: Shelf>(alloc: Global, form: Form<'_>, shelf: &mut F) -> Result<Tex
 /// The text that a form over files gives.
 fn text_of_files<F: Shelf>(alloc: Global, form: FileForm<'_>, shelf: &mut F) -> Result<Text, Exit>
     ensures text { IfOk result (λ text. Gives (F.held shelf.old) (OfFiles (files_asked form.entry)) (bytes_of text)) }
-    ensures refused { IfErr result
-        (IsRefusalOrFault (F.held shelf.old) (OfFiles (files_asked form.entry)) (F.faults shelf.old) (F.faults shelf.new)) }
+    ensures refused { IfErr result (IsRefusalOrFault (F.held shelf.old) (OfFiles (files_asked form.entry))
+        (F.faults shelf.old) (F.faults shelf.new)) }
     ensures calm { (Rose (F.faults shelf.old) (F.faults shelf.new) → ⊥)
         → IfErr result (IsRefusal (F.held shelf.old) (OfFiles (files_asked form.entry))) }
     ensures healthy { F.healthy shelf.old

@@ -17,8 +17,8 @@ use mrt_rows::compute;
 use mrt_survey::{generate, survey_text};
 use std::alloc::Global;
 
-/// The survey of the network of so many routers that is made from a number, under a profile that says nothing. There is no
-/// fault that it could have.
+/// The survey of the network of so many routers that is made from a number, under a profile that says nothing. No fault
+/// can come of it.
 pub(crate) fn survey(alloc: Global, number: u32, nodes: u16) -> Result<Vec<u8>, Exit>
     requires { IsNetworkSize nodes }
     ensures surveyed { IfOk result (λ text. IsSurveyed number nodes text.items) }
