@@ -1,6 +1,6 @@
 //! What holds of each step. The laws hold of the definitions alone; the functions do nothing.
 
-ghost use Rattle.std.specs.Prelude.{◌≡◌, ◌≢◌, ◌<◌, ℕ, Err, List, Option, Some, length, slice_get};
+ghost use Rattle.std.specs.Prelude.{◌≡◌, ◌≢◌, ℕ, Err, List, Some, slice_get};
 ghost use Rattle.fabric.specs.Answers.{IsAnswer};
 ghost use Rattle.fabric.specs.FabricParts.{AreFabricParts, FabricParts};
 ghost use Rattle.fabric.specs.FabricState.{Answer, FabricState, start};
@@ -12,16 +12,13 @@ ghost use Rattle.fabric.specs.declared.event.Failure.{Failure};
 ghost use Rattle.fabric.specs.declared.event.Refused.{Refused};
 ghost use Rattle.fabric.specs.declared.packet.Entry.{Entry};
 ghost use Rattle.fabric.specs.declared.packet.Packet.{Packet};
-ghost use Rattle.primary_alt.specs.Primaries.{IsPrimary};
-ghost use Rattle.primary_alt.specs.Routers.{IsRouter};
-ghost use Rattle.primary_alt.specs.declared.shortest.Primary.{Primary};
+
+use primary_alt::each_router_has_its_primaries;
 
 /// Laws: in each state that a run from the start leads to, each event has an answer, and only one; so a run has one list
 /// of answers, and leads to one state.
 pub fn one_answer_each()
-    ensures some { (parts : FabricParts) → AreFabricParts parts → (entries : ℕ → ℕ → Option Primary)
-        → ((s t : ℕ) → IsRouter parts.area.ids s → t < length parts.area.ids
-        → IsPrimary parts.area s t (entries s t))
+    ensures some { (parts : FabricParts) → AreFabricParts parts
         → (room : ℕ) (events : List Event) (answers : List Answer) (end : FabricState)
         → IsRun parts (start room) events answers end
         → (event : Event) → (answer : Answer) × IsAnswer parts end event answer }
@@ -33,7 +30,9 @@ pub fn one_answer_each()
         (end other : FabricState)
         → IsRun parts state events answers end → IsRun parts state events others other
         → (answers ≡ others) × (end ≡ other) }
-{}
+{
+    each_router_has_its_primaries();
+}
 
 /// Laws: a refused event changes nothing; a step of a packet leaves all other packets and the failure as they were; a
 /// packet that enters leaves all others and the failure; a failure leaves all packets.
