@@ -1,74 +1,75 @@
 -- Numbers and addresses as texts.
-use Rattle.std.proofs.Common.{◌≡◌, ◌≢◌, ◌<◌, ◌^◌, ◌∙◌, ◌∷◌, ◌++◌, ◌==◌, ◌||◌, ◌&&◌, [], ℕ, List, map, None, ◌/◌, ◌%◌, Bool, true, false, ltb, length, get_or, Option, Some, Result, Ok, Err, decimal, refl, ap, sym, subst, arith, inl, inr}
+use Rattle.std.proofs.Common.{◌≤◌, ◌+◌, ◌≡◌, ◌<◌, ◌^◌, ◌∙◌, ◌∷◌, ◌++◌, ◌==◌, ◌&&◌, [], ℕ, List, map, None, ◌/◌, ◌%◌, true, false, ltb, length, get_or, Option, Some, Result, Ok, Err, decimal, refl, ap, sym, subst, arith, inl, inr}
 use Rattle.std.specs.Int.{IsInRange, w32, from_be_bytes}
 use Rattle.std.specs.List.{All, slice_split, join_with_byte}
 use Rattle.std.specs.Option.{IfSome}
 use Rattle.std.specs.Result.{OkIff, result_ok}
-use Rattle.std.specs.Str.{IsUtf8, bytes_eq}
-use Rattle.std.specs.Str.Parse.{ParsesUnsigned, AllDigits, digits_value}
-use Rattle.std.proofs.lemmas.Bool.{cases_Bool, cases_eq, false≢true, lt-ltb, ltb-true, and_parts, true≢false, le-ltb, ltb-false, eq-eqb}
+use Rattle.std.specs.Str.{bytes_eq}
+use Rattle.std.specs.Str.Parse.{AllDigits, digits_value}
+use Rattle.std.proofs.lemmas.Bool.{cases_Bool, cases_eq, lt-ltb, ltb-true, and_parts}
 use Rattle.std.proofs.lemmas.Bool.Decides.{eqb_tells}
-use Rattle.std.proofs.lemmas.Fmt.{parse-decimal, decimal-digits_value, decimal_digit, first_decimal, IsAscii-decimal, decimal_nonempty, digits_decimal, digits_value-decimal}
-use Rattle.std.proofs.lemmas.Str.{IsUtf8-from_ascii}
+use Rattle.std.proofs.lemmas.Fmt.{decimal-digits_value, decimal_digit, decimal_step, first_decimal, length-decimal-le, decimal_nonempty, digits_decimal, digits_value-decimal}
 use Rattle.std.proofs.lemmas.List.{get_or_default}
 use Rattle.std.proofs.lemmas.List.Splits.{slice_split_at, slice_split_none, join_with_byte-slice_split, length-slice_split}
 use Rattle.std.proofs.lemmas.Nat.{from_be_bytes-to_be_bytes_4}
 use Rattle.std.proofs.lemmas.Slice.Eq.{bytes_eq-Decides}
-use Rattle.std.proofs.Math.Bool.{and-false}
 use Rattle.mrt_graph.specs.Spelling.{address_text, if_spelled}
-use Rattle.std.proofs.lemmas.Str.Parse.{IsNumeralModel, numerals_by_value, tells_digits, parse_plain, digit_at}
-
--- the plus sign and the leading zero that no number has
-abbrev pub HasPlusOrZero : List ℕ → Bool
-HasPlusOrZero text = (get_or text 0 0 == 43) || ((get_or text 0 0 == 48) && ltb 1 (length text))
+use Rattle.std.proofs.lemmas.Str.Parse.{IsNumeralModel, numerals_by_value, tells_digits, digit_at}
 
 numerals : IsNumeralModel (AllDigits 10) (digits_value 10)
 numerals = numerals_by_value (AllDigits 10) tells_digits
 
-neither : (x y : Bool) → (x || y) ≡ false → (x ≡ false) × (y ≡ false)
-neither true y h = absurd (true≢false h)
-neither false y h = (refl, h)
+-- from one to ten bytes, the first of which is no zero before others
+abbrev pub IsPlain : List ℕ → Type 0
+IsPlain text = (0 < length text) × (length text ≤ 10) × (get_or text 0 0 ≡ 48 → length text ≡ 1)
 
-not_both : (x y : Bool) → (x && y) ≡ false → x ≡ true → y ≡ false
-not_both true y h e = h
-not_both false y h e = absurd (false≢true e)
+-- a spelling is so
+pub spelled_plainly : (text : List ℕ) (number : ℕ) → number < 2 ^ 32 → text ≡ decimal number → IsPlain text
+spelled_plainly text number small is = subst IsPlain (sym is) (
+  decimal_nonempty number (omega arith),
+  length-decimal-le 10 number (omega arith) (omega arith) (omega arith),
+  λ zero. elim (cases_eq number 0) [
+    | inl none ↦ ap length (ap decimal none ∙ decimal_digit 0 (omega arith))
+    | inr some ↦ absurd (omega (arith, zero, first_decimal number (omega arith) (omega arith)))
+  ],
+)
 
--- a spelling has neither
-pub spelled_plainly : (text : List ℕ) (number : ℕ) → number < 2 ^ 64 → text ≡ decimal number → HasPlusOrZero text ≡ false
-spelled_plainly text number small is =
-    let digit : IsInRange 48 57 (get_or text 0 0) = subst (λ (t : List ℕ). IsInRange 48 57 (get_or t 0 0)) (sym is)
-    (digit_at (decimal number) 0 (digits_decimal numerals number small) (decimal_nonempty number small)) in
-    let no_plus : (get_or text 0 0 == 43) ≡ false = elim (eqb_tells (get_or text 0 0) 43) [ inl plus ↦ absurd (omega (arith, plus.1, digit.0)) | inr other ↦ other.0 ] in
-    let no_zero : ((get_or text 0 0 == 48) && ltb 1 (length text)) ≡ false = elim (cases_eq number 0) [
-      | inl none ↦ let single : length text ≡ 1 = ap length (is ∙ ap decimal none ∙ decimal_digit 0 (omega arith)) in
-          ap (λ (b : Bool). (get_or text 0 0 == 48) && b) (le-ltb 1 (length text) (omega arith)) ∙ and-false (get_or text 0 0 == 48)
-      | inr some ↦ let above : 48 < get_or text 0 0 = subst (λ (t : List ℕ). 48 < get_or t 0 0) (sym is) (first_decimal number (omega arith) small) in
-          elim (eqb_tells (get_or text 0 0) 48) [ inl zero ↦ absurd (omega (arith, zero.1)) | inr other ↦ ap (λ (b : Bool). b && ltb 1 (length text)) other.0 ]
-    ] in
-    ap (λ (b : Bool). b || ((get_or text 0 0 == 48) && ltb 1 (length text))) no_plus ∙ no_zero
+-- and of digits
+pub spelled_digits : (text : List ℕ) (number : ℕ) → number < 2 ^ 32 → text ≡ decimal number → AllDigits 10 text
+spelled_digits text number small is = subst (AllDigits 10) (sym is) (digits_decimal numerals number (omega arith))
 
-pub spelled_utf8 : (text : List ℕ) (number : ℕ) → number < 2 ^ 64 → text ≡ decimal number → IsUtf8 text
-spelled_utf8 text number small is = subst IsUtf8 (sym is) (IsUtf8-from_ascii (decimal number) (IsAscii-decimal number small))
+-- the value of a spelling is the number
+spelled_value : (text : List ℕ) (number value : ℕ) → number < 2 ^ 32 → text ≡ decimal number → value ≡ digits_value 10 text → value ≡ number
+spelled_value text number value small is valued = valued ∙ ap (digits_value 10) is ∙ digits_value-decimal numerals number (omega arith)
 
--- what is parsed is spelled so
-pub parsed_is_spelled : {E : Type 0} (text : List ℕ) (number : ℕ) (r : Result ℕ E) → HasPlusOrZero text ≡ false → r ≡ Ok number → ParsesUnsigned 32 10 text r → (number < 2 ^ 32) × (text ≡ decimal number)
-parsed_is_spelled {E} text number r plain ok parses =
-    let parts = neither (get_or text 0 0 == 43) ((get_or text 0 0 == 48) && ltb 1 (length text)) plain in
-    let no_plus : get_or text 0 0 ≢ 43 = λ same. true≢false (sym (eq-eqb (get_or text 0 0) 43 same) ∙ parts.0) in
-    let R : Result ℕ E → Type 0 = λ r. OkIff r (AllDigits 10 text × (0 < length text) × (digits_value 10 text < 2 ^ 32)) (digits_value 10 text) in
-    let read = subst R ok (parse_plain numerals 32 text r parses no_plus) in
-    let single : get_or text 0 0 ≡ 48 → length text ≡ 1 = λ same.
-    let short = ltb-false 1 (length text) (not_both (get_or text 0 0 == 48) (ltb 1 (length text)) parts.1 (eq-eqb (get_or text 0 0) 48 same)) in
-    let some = read.0.1 in omega arith in
-    (omega (arith, read.0.2, read.1), sym (decimal-digits_value numerals text read.0.0 read.0.1 single (omega (arith, read.0.2))) ∙ ap decimal (sym read.1))
+-- such a text of digits is the spelling of its value
+plain_is_spelled : (text : List ℕ) (value : ℕ) → IsPlain text → AllDigits 10 text → value ≡ digits_value 10 text → value < 2 ^ 32 → text ≡ decimal value
+plain_is_spelled text value plain digits valued small =
+    sym (decimal-digits_value numerals text digits plain.0 plain.2 (omega (arith, valued))) ∙ ap decimal (sym valued)
 
--- what a reader by `parse` answers
-pub read_is_spelled : {E : Type 0} (text : List ℕ) (r : Result ℕ E) (o : Option ℕ) → HasPlusOrZero text ≡ false → o ≡ result_ok r → ParsesUnsigned 32 10 text r → IfSome o (λ number. (number < 2 ^ 32) × (text ≡ decimal number))
-read_is_spelled {E} text (Ok number) o plain is parses = let ok : ◌≡◌ {A = Result ℕ E} (Ok number) (Ok number) = refl in rw is (parsed_is_spelled {E = E} text number (Ok number) plain ok parses)
-read_is_spelled text (Err e) o plain is parses = rw is tt
+-- what is read of its value, where that fits
+pub read_is_spelled : {E : Type 0} (text : List ℕ) (value : ℕ) (r : Result ℕ E) (o : Option ℕ) → IsPlain text → AllDigits 10 text → value ≡ digits_value 10 text
+    → OkIff r (value < 2 ^ 32) value → o ≡ result_ok r → IfSome o (λ number. (number < 2 ^ 32) × (text ≡ decimal number))
+read_is_spelled text value (Ok number) o plain digits valued fits is =
+    let small : number < 2 ^ 32 = omega (arith, fits.0, fits.1) in rw is (small, plain_is_spelled text number plain digits (fits.1 ∙ valued) small)
+read_is_spelled text value (Err e) o plain digits valued fits is = rw is tt
 
-pub spelled_is_read : {E : Type 0} (text : List ℕ) (number : ℕ) (r : Result ℕ E) (o : Option ℕ) → number < 2 ^ 32 → text ≡ decimal number → o ≡ result_ok r → ParsesUnsigned 32 10 text r → o ≡ Some number
-spelled_is_read text number r o small spelled is parses = is ∙ ap result_ok (parse-decimal 32 number text r small (omega arith) spelled parses)
+pub spelled_is_read : {E : Type 0} (text : List ℕ) (number value : ℕ) (r : Result ℕ E) (o : Option ℕ) → number < 2 ^ 32 → text ≡ decimal number
+    → value ≡ digits_value 10 text → OkIff r (value < 2 ^ 32) value → o ≡ result_ok r → o ≡ Some number
+spelled_is_read text number value (Ok read) o small spelled valued fits is = is ∙ ap Some (fits.1 ∙ spelled_value text number value small spelled valued)
+spelled_is_read text number value (Err e) o small spelled valued fits is =
+    absurd (fits (subst (λ (n : ℕ). n < 2 ^ 32) (sym (spelled_value text number value small spelled valued)) small))
+
+-- numbers of two and of three digits
+pub decimal_two : (n : ℕ) → 10 ≤ n → n < 100 → decimal n ≡ (48 + n / 10) ∷ (48 + n % 10) ∷ []
+decimal_two n low high = rw (decimal_step n low (omega arith), decimal_digit (n / 10) (omega arith)) refl
+
+pub decimal_three : (n : ℕ) → 100 ≤ n → n < 1000 → decimal n ≡ (48 + n / 100) ∷ (48 + n % 100 / 10) ∷ (48 + n % 100 % 10) ∷ []
+decimal_three n low high =
+    let front : n / 10 / 10 ≡ n / 100 = omega arith in
+    let middle : n / 10 % 10 ≡ n % 100 / 10 = omega arith in
+    let last : n % 10 ≡ n % 100 % 10 = omega arith in
+    rw (decimal_step n (omega arith) (omega arith), decimal_two (n / 10) (omega arith) (omega arith), front, middle, last) refl
 
 -- a number has no dot
 no_dot : (number : ℕ) → number < 2 ^ 64 → All (λ b. (b == 46) ≡ false) (decimal number)

@@ -1,13 +1,13 @@
 //! Numbers and addresses, read from texts.
 
-ghost use Rattle.std.specs.Prelude.{◌≡◌, ◌<◌, ◌^◌, ◌++◌, ◌∷◌, ◌==◌, ◌||◌, ◌&&◌, nat_lt, length, slice_index, ℕ, List, Some, decimal};
+ghost use Rattle.std.specs.Prelude.{◌≡◌, ◌<◌, ◌≤◌, ◌^◌, ◌++◌, ◌∷◌, ◌↔◌, IsTrue, IsSome, length, slice_index, ℕ, List, Some, decimal};
 ghost use Rattle.std.specs.Option.{IfSome, IsSomeAnd};
+ghost use Rattle.std.specs.Str.Parse.{AllDigits, digits_value};
 ghost use Rattle.mrt_graph.specs.declared.node_id.Kind.TheVariants.{Router};
 ghost use Rattle.mrt_graph.specs.declared.node_id.NodeId.{NodeId};
 ghost use Rattle.mrt_graph.specs.Spelling.{address_in, address_text, node_text, number_in};
 
 use crate::text_lines::cut_at;
-use std::str;
 
 /// The number that the text spells in decimal, without a sign and without leading zeros.
 ///
@@ -30,21 +30,38 @@ fn number(text: &[u8]) -> Option<u32>
     ensures found { IfSome result (λ number. (number < 2 ^ 32) × (text.now ≡ decimal number)) }
     ensures only { (number : ℕ) → number < 2 ^ 32 → text.now ≡ decimal number → result ≡ Some number }
 {
-    // `parse` takes them too.
-    if has_plus_or_zero(text) {
+    if !is_plain(text) {
         return None;
     }
-    let Ok(text) = str::from_utf8(text) else {
-        return None;
-    };
-    text.parse().ok()
+    let number = value_of(text)?;
+    u32::try_from(number).ok()
 }
 
-/// Whether a plus sign or a leading zero stands in front.
-fn has_plus_or_zero(text: &[u8]) -> bool
-    ensures { result ≡ (slice_index text.now 0 == 43) || ((slice_index text.now 0 == 48) && nat_lt 1 (length text.now)) }
+/// Whether a text has from 1 to 10 bytes, the first of which is no zero before others.
+fn is_plain(text: &[u8]) -> bool
+    ensures { IsTrue result ↔ ((0 < length text.now) × (length text.now ≤ 10) × (slice_index text.now 0 ≡ 48 → length text.now ≡ 1)) }
 {
-    matches!(text, [b'+', ..] | [b'0', _, ..])
+    match text {
+        [] => false,
+        [b'0', _, ..] => false,
+        _ => text.len() <= 10,
+    }
+}
+
+/// The number that digits write in decimal; `None` exactly where a byte is no digit.
+fn value_of(digits: &[u8]) -> Option<u64>
+    requires { length digits.now ≤ 10 }
+    ensures found { IfSome result (λ number. AllDigits 10 digits.now × (number ≡ digits_value 10 digits.now)) }
+    ensures only { AllDigits 10 digits.now → IsSome result }
+{
+    let mut number = 0;
+    for digit in digits {
+        if !digit.is_ascii_digit() {
+            return None;
+        }
+        number = number * 10 + u64::from(*digit - b'0');
+    }
+    Some(number)
 }
 
 /// The number whose four bytes, most significant first, the text spells: each in decimal without leading zeros, joined by
