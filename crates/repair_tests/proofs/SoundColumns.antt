@@ -2,7 +2,7 @@
 use Rattle.std.proofs.Common.{◌≡◌, ◌<◌, ◌≤◌, ◌∙◌, ◌==◌, ℕ, zero, suc, Bool, true, false, List, [], ◌∷◌, Option, Some, None, length, map, slice_get, inl, inr, refl, sym, ap, subst, arith, if◌then◌else◌}
 use Rattle.std.specs.Prelude.{IsSome}
 use Rattle.std.specs.List.{range_with_len}
-use Rattle.std.specs.Option.{option_and_then, option_map_or}
+use Rattle.std.specs.Option.{is_none, option_and_then, option_map_or}
 use Rattle.std.proofs.lemmas.Bool.{cases_eq, cases_lt, eq-eqb, le-ltb, lt-ltb}
 use Rattle.std.proofs.lemmas.List.FromFn.{get_or-map-range_with_len, length-map-range_with_len}
 use Rattle.std.proofs.lemmas.Option.{same_Some, slice_get-get_or, slice_get_past, slice_get_within}
@@ -11,7 +11,7 @@ use Rattle.mrt_graph.specs.declared.cert.Color.TheVariants.{Blue, Red}
 use Rattle.mrt_graph.specs.declared.cert.Row.{Row}
 use Rattle.mrt_graph.specs.declared.link.Link.{Link}
 use Rattle.mrt_graph.specs.Certificate.{Certificate, row_of}
-use Rattle.mrt_graph.specs.Column.{ColumnSound, rows_of_column}
+use Rattle.mrt_graph.specs.Column.{ColumnSound, is_none_at, rows_of_column}
 use Rattle.mrt_graph.specs.ColorWalk.{color_walk, links_followed}
 use Rattle.mrt_graph.specs.Hop.{Hop, color_hop, hop_over}
 use Rattle.mrt_graph.specs.Reaches.{AreDifferent}
@@ -88,17 +88,22 @@ module _ (g : Topology) (c : Certificate) (t : ℕ) (a : IsAcceptedFor g c) (wit
       let same = eq-eqb t t refl in
       rw (low, same) refl
 
+  none_there : slice_get (rows_for c t (length g.ids)) t ≡ Some None
+  none_there = stands t within ∙ ap (λ (o : Option Row). Some o) none_at_t
+
   same_rows : (s : ℕ) → row_of c s t ≡ rows_of_column (rows_for c t (length g.ids)) s t
-  same_rows s = elim (cases_lt s (length g.ids)) [
-    | inl low ↦ sym (ap (option_and_then (λ (o : Option Row). o)) (stands s low))
-    | inr past ↦ none_past s past ∙ sym (ap (option_and_then (λ (o : Option Row). o)) (slice_get_past (rows_for c t (length g.ids)) s (omega (arith, past, many))))
-  ]
+  same_rows s =
+      let destination : is_none_at (rows_for c t (length g.ids)) t ≡ true = ap (λ (o : Option (Option Row)). option_map_or (λ row. is_none row) o false) none_there in
+      rw destination (elim (cases_lt s (length g.ids)) [
+        | inl low ↦ sym (ap (option_and_then (λ (o : Option Row). o)) (stands s low))
+        | inr past ↦ none_past s past ∙ sym (ap (option_and_then (λ (o : Option Row). o)) (slice_get_past (rows_for c t (length g.ids)) s (omega (arith, past, many))))
+      ])
 
   pub column_sound : ColumnSound g.links (length g.ids) (rows_for c t (length g.ids)) t
   column_sound = record {
     a_place_each = many;
     destination = record {
-      none_there = stands t within ∙ ap (λ (o : Option Row). Some o) none_at_t;
+      none_there = none_there;
       there_alone = λ s at. elim (cases_eq s t) [
         | inl same ↦ same
         | inr apart ↦
