@@ -13,16 +13,16 @@ use std::process::Abort;
 use std::test::Fail;
 
 /// Source and destination; blue, red and the tag.
-type RowTold = (u16, u16, u16, u16, Tag);
+pub type RowTold = (u16, u16, u16, u16, Tag);
 
 /// A graph of so many nodes, the first of them routers, its root, and rows.
-struct Case {
-    name: &'static str,
-    count: u16,
-    routers: u16,
-    links: &'static [LinkTold],
-    root: u16,
-    rows: &'static [RowTold],
+pub struct Case {
+    pub name: &'static str,
+    pub count: u16,
+    pub routers: u16,
+    pub links: &'static [LinkTold],
+    pub root: u16,
+    pub rows: &'static [RowTold],
 }
 
 const CASES: &[Case] = &[
@@ -154,7 +154,7 @@ const CASES: &[Case] = &[
     },
 ];
 
-fn cases() -> &'static [Case] {
+pub fn cases() -> &'static [Case] {
     CASES
 }
 
@@ -176,7 +176,7 @@ fn rows_from(
 }
 
 /// The row for t among those of s.
-fn row_in(rows: &[Row], s: u16, t: u16) -> Option<Row>
+pub fn row_in(rows: &[Row], s: u16, t: u16) -> Option<Row>
     requires { s ≢ t }
 {
     let column = if t < s { t } else { t - 1 };

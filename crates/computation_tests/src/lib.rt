@@ -1,6 +1,8 @@
-//! Tests of the computation: search trees, ears, directions, paths, rows and certificates by hand.
+//! Tests of the computation: search trees, ears, directions, paths, rows, columns and certificates by hand.
 #![tactic(auto)]
 
+#[cfg(test)]
+mod columns;
 #[cfg(test)]
 mod hand_certificates;
 #[cfg(test)]

@@ -1,9 +1,14 @@
 pub mod Agreeing
+pub mod AimedRows
 pub mod AllRows
 pub mod BlocksHold
+pub mod CarriedRows
 pub mod CertAccepted
 pub mod CertMade
 pub mod CertSays
+pub mod ChainAims
+pub mod Climbing
+pub mod ColumnRows
 pub mod Counting
 pub mod Filling
 pub mod HeadWays
@@ -14,6 +19,7 @@ pub mod MemberRows
 pub mod NearRows
 pub mod OneBlock
 pub mod OneCert
+pub mod OneColumn
 pub mod OneHop
 pub mod OneRow
 pub mod OrderedGraphs
@@ -25,8 +31,10 @@ pub mod RowsExist
 pub mod RowsPut
 pub mod RulesHold
 pub mod SoleRows
+pub mod SoundColumns
 pub mod TableRows
 pub mod Tables
 pub mod TileLinks
 pub mod Ways
 pub mod WaysBegun
+pub mod WholeCert

@@ -60,7 +60,7 @@ module _ (og : OrderedGraph) (s : ℕ) (s_within : s < length og.g.ids) where
       one_of_block v e range.to (has_head og v s (λ same. range.differ (sym same)) b) range.link sole (sym a)
 
   -- the row over a sole link of s
-  sole_line : (e v : ℕ) → leads og.g.links e s ≡ Some v → og.w.role e ≡ Sole → SoleLine og.g og.w s v (sole_row e)
+  pub sole_line : (e v : ℕ) → leads og.g.links e s ≡ Some v → og.w.role e ≡ Sole → SoleLine og.g og.w s v (sole_row e)
   sole_line e v onward sole =
       let common = og.ordered.links.common e s v onward in
       record {

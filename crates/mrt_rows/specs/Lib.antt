@@ -1,4 +1,6 @@
 pub mod CertOf
+pub mod Chain
+pub mod ColumnOf
 pub mod HopRows
 pub mod Put
 pub mod RowLines

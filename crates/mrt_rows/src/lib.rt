@@ -3,6 +3,9 @@
 
 mod all_rows;
 mod certificate;
+mod chain;
+mod column;
+mod column_row;
 mod homes;
 mod members;
 mod near;
@@ -15,7 +18,9 @@ mod tiles;
 mod words;
 
 pub use certificate::compute;
+pub use column::{Columns, column_of};
 pub use of_source::rows_of;
 pub use rows_law::{
-    certificates_are_accepted, one_certificate, one_row_for_each, tabled_certificates_are_accepted,
+    certificates_are_accepted, columns_are_sound, one_certificate, one_column_for_each,
+    one_row_for_each, tabled_certificates_are_accepted,
 };

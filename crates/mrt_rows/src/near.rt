@@ -42,7 +42,7 @@ pub fn near_row(
 }
 
 /// The row for another member of a block, by the hops up and down to it, and by those to the head.
-fn member_row(
+pub fn member_row(
     up: Option<Hop>,
     down: Option<Hop>,
     up_home: Option<Hop>,
@@ -58,7 +58,7 @@ fn member_row(
 }
 
 /// The row of a blue and a red hop.
-fn row_by(blue: Option<Hop>, red: Option<Hop>, tag: Tag) -> Option<Row>
+pub fn row_by(blue: Option<Hop>, red: Option<Hop>, tag: Tag) -> Option<Row>
     ensures { result ≡ row_by blue red tag }
 {
     let blue = blue?.link;

@@ -1,14 +1,16 @@
 //! What holds of certificates whose rows are those of the table.
 
-ghost use Rattle.std.specs.Prelude.{◌≡◌, ◌≢◌, ◌<◌, ℕ, Option, length};
+ghost use Rattle.std.specs.Prelude.{◌≡◌, ◌≢◌, ◌<◌, ℕ, List, Option, length};
 ghost use Rattle.mrt_graph.specs.declared.cert.CertFile.{CertFile};
 ghost use Rattle.mrt_graph.specs.declared.cert.Row.{Row};
 ghost use Rattle.mrt_graph.specs.Accepted.{Accepted};
+ghost use Rattle.mrt_graph.specs.Column.{ColumnSound};
 ghost use Rattle.mrt_graph.specs.GraphInvariant.{IsTopology};
 ghost use Rattle.mrt_graph.specs.Topology.{Topology};
 ghost use Rattle.link_direction.specs.Directions.{Directions};
 ghost use Rattle.link_direction.specs.OrderedGadag.{IsOrderedGadag};
 ghost use Rattle.mrt_rows.specs.CertOf.{IsCertOf, Tells};
+ghost use Rattle.mrt_rows.specs.ColumnOf.{IsColumnOf};
 ghost use Rattle.mrt_rows.specs.RowsOf.{HasRow};
 
 /// A law: where a file says of a graph what a GADAG with its order says, and its rows are those of the table, the
@@ -30,6 +32,24 @@ pub fn one_row_for_each()
         → ((t : ℕ) → t < length g.ids → s ≢ t → HasRow g root w s rows t)
         → ((t : ℕ) → t < length g.ids → s ≢ t → HasRow g root w s others t)
         → (t : ℕ) → t < length g.ids → s ≢ t → rows t ≡ others t }
+{}
+
+/// A law: by the table there is exactly one column of rows for a node.
+pub fn one_column_for_each()
+    ensures some { (g : Topology) (root : ℕ) (w : Directions) (t : ℕ)
+        → IsTopology g → IsOrderedGadag g root w → t < length g.ids
+        → (column : List (Option Row)) × IsColumnOf g root w t column }
+    ensures one { (g : Topology) (root : ℕ) (w : Directions) (t : ℕ)
+        (column other : List (Option Row))
+        → IsTopology g → IsOrderedGadag g root w → t < length g.ids
+        → IsColumnOf g root w t column → IsColumnOf g root w t other → column ≡ other }
+{}
+
+/// A law: a column of rows by the table is sound, whoever made it.
+pub fn columns_are_sound()
+    ensures { (g : Topology) (root : ℕ) (w : Directions) (t : ℕ) (column : List (Option Row))
+        → IsTopology g → IsOrderedGadag g root w → t < length g.ids
+        → IsColumnOf g root w t column → ColumnSound g.links (length g.ids) column t }
 {}
 
 /// A law: the certificate of a graph and its root is accepted.

@@ -1,0 +1,132 @@
+//! Columns beside the rows of each source.
+
+ghost use Rattle.std.specs.Prelude.{◌≡◌, ◌<◌, IfOk, length};
+ghost use Rattle.link_direction.specs.Directions.{Directions, Says};
+ghost use Rattle.link_direction.specs.OrderedGadag.{SaysOrdered};
+ghost use Rattle.mrt_rows.specs.ColumnOf.{AreHomeHops};
+
+use crate::hand_graphs::{graph, links_of};
+use crate::hand_rows::{Case, cases, row_in};
+use gadag_ears::ears;
+use link_direction::direct;
+use lowpoint_dfs::search;
+use mrt_graph::{Column, Directed, Graph, GraphError, NoMemory, NodeNo, Row};
+use mrt_rows::{Columns, column_of, rows_of};
+use std::alloc::Global;
+use std::process::Abort;
+use std::test::Fail;
+
+/// The GADAG of a graph with its order.
+fn directed_from(
+    rt: &impl Abort,
+    alloc: Global,
+    g: &Graph,
+    root: u16,
+) -> Result<Directed, NoMemory>
+    ensures { IfOk result (λ d. SaysOrdered g.now root d) }
+{
+    assert!(rt; root < g.node_count());
+    let root = NodeNo::new(root);
+    let tree = search(alloc, g, root)?;
+    let gadag = ears(alloc, g, root, &tree)?;
+    direct(alloc, g, root, gadag)
+}
+
+/// The row of `s` for `to`, by the rows of `s`.
+fn row_by_source(
+    alloc: Global,
+    g: &Graph,
+    root: u16,
+    d: &Directed,
+    s: u16,
+    to: u16,
+) -> Result<Option<Row>, NoMemory>
+    requires directed { SaysOrdered g.now root d.now }
+    requires source { s < length g.now.ids }
+{
+    if s == to {
+        return Ok(None);
+    }
+    let rows = rows_of(alloc, g, NodeNo::new(root), d, NodeNo::new(s))?;
+    Ok(row_in(&rows, s, to))
+}
+
+/// Whether a column has at each node what the rows of that node have for `to`.
+fn agrees(
+    alloc: Global,
+    g: &Graph,
+    root: u16,
+    d: &Directed,
+    to: u16,
+    column: &Column,
+) -> Result<bool, NoMemory>
+    requires directed { SaysOrdered g.now root d.now }
+    requires one_each { length column.now ≡ length g.now.ids }
+{
+    for s in 0..g.node_count() {
+        if column.row(NodeNo::new(s)) != row_by_source(alloc, g, root, d, s, to)? {
+            return Ok(false);
+        }
+    }
+    Ok(true)
+}
+
+/// Whether the column of `to` does so, made alone.
+fn alone_agrees(
+    alloc: Global,
+    g: &Graph,
+    root: u16,
+    d: &Directed,
+    to: u16,
+) -> Result<bool, NoMemory>
+    requires directed { SaysOrdered g.now root d.now }
+    requires to { to < length g.now.ids }
+{
+    let column = column_of(alloc, g, NodeNo::new(root), d, NodeNo::new(to))?;
+    agrees(alloc, g, root, d, to, &column)
+}
+
+/// Whether it does so, made with those of other nodes.
+fn one_agrees(
+    alloc: Global,
+    g: &Graph,
+    root: u16,
+    d: &Directed,
+    columns: &Columns,
+    to: u16,
+) -> Result<bool, NoMemory>
+    requires directed { SaysOrdered g.now root d.now }
+    requires to { to < length g.now.ids }
+    requires homes { (w : Directions) → Says g.now d.now w → AreHomeHops g.now w columns.now }
+{
+    let column = columns.to(alloc, g, NodeNo::new(root), d, NodeNo::new(to))?;
+    agrees(alloc, g, root, d, to, &column)
+}
+
+/// Whether the columns of all nodes do so.
+fn all_agree(alloc: Global, g: &Graph, root: u16, d: &Directed) -> Result<bool, NoMemory>
+    requires directed { SaysOrdered g.now root d.now }
+{
+    let columns = Columns::new(alloc, g, d)?;
+    for to in 0..g.node_count() {
+        if !one_agrees(alloc, g, root, d, &columns, to)? || !alone_agrees(alloc, g, root, d, to)? {
+            return Ok(false);
+        }
+    }
+    Ok(true)
+}
+
+fn are_so(rt: &impl Abort, alloc: Global, case: &Case) -> Result<bool, GraphError> {
+    let links = links_of(alloc, case.links)?;
+    let g = graph(rt, alloc, case.count, case.routers, links)?;
+    let d = directed_from(rt, alloc, &g, case.root)?;
+    Ok(all_agree(alloc, &g, case.root, &d)?)
+}
+
+#[test]
+fn columns_beside_rows(rt: HostRuntime) -> Result<(), Fail> {
+    for case in cases() {
+        assert!(rt; are_so(&rt, rt.alloc(), case)?, "{}", case.name);
+    }
+    Ok(())
+}

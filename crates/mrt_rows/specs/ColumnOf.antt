@@ -1,0 +1,48 @@
+-- The column of a destination: the rows of all nodes for it.
+use Rattle.std.specs.Prelude.{◌≡◌, ◌≢◌, ◌<◌, ℕ, List, Option, Some, None, length, slice_get}
+use Rattle.mrt_graph.specs.declared.cert.Row.{Row}
+use Rattle.mrt_graph.specs.Topology.{Topology}
+use Rattle.link_direction.specs.Directions.{Directions}
+use Rattle.inc_dec_spf.specs.declared.reach.Dir.TheVariants.{Down, Up}
+use Rattle.inc_dec_spf.specs.declared.reach.Hop.{Hop}
+use Rattle.inc_dec_spf.specs.LeastPath.{IsHop}
+use Rattle.mrt_rows.specs.declared.column.Columns.{Columns}
+use Rattle.mrt_graph.specs.declared.cert.Tag.TheVariants as tags
+use Rattle.mrt_rows.specs.RowLines.{SoleLine}
+use Rattle.mrt_rows.specs.RowsOf.{HasRow}
+use Rattle.mrt_rows.specs.Source.{NoneOfOneLink}
+
+-- at the place of s stands its row for t: that for t among rows of s that are as the table says
+pub record HasItsRow (g : Topology) (root : ℕ) (w : Directions) (t : ℕ) (column : List (Option Row)) (s : ℕ) : Type 0 where
+  pub rows : ℕ → Option Row
+  pub by_table : (u : ℕ) → u < length g.ids → s ≢ u → HasRow g root w s rows u
+  pub stands : slice_get column s ≡ Some (rows t)
+
+-- each other node has its row for t; at t itself there is none
+pub record IsColumnOf (g : Topology) (root : ℕ) (w : Directions) (t : ℕ) (column : List (Option Row)) : Type 0 where
+  pub one_each : length column ≡ length g.ids
+  pub at_destination : slice_get column t ≡ Some None
+  pub each : (s : ℕ) → s < length g.ids → s ≢ t → HasItsRow g root w t column s
+
+-- the row of s for t over a sole link, if there is one
+pub data IsSoleRow (g : Topology) (w : Directions) (s t : ℕ) : Option Row → Type 0 where
+  OverSole : (row : Row) → row.tag ≡ tags.Sole → SoleLine g w s t row → IsSoleRow g w s t (Some row)
+  NotSole : NoneOfOneLink g w s t → IsSoleRow g w s t None
+
+-- the row of s for t that is among its rows by the table
+pub record IsRowIn (g : Topology) (root : ℕ) (w : Directions) (s t : ℕ) (found : Option Row) : Type 0 where
+  pub row : Row
+  pub is : found ≡ Some row
+  pub each : (rows : ℕ → Option Row) → ((u : ℕ) → u < length g.ids → s ≢ u → HasRow g root w s rows u) → rows t ≡ Some row
+
+-- the heads of all nodes
+pub record AreHeadsOf (g : Topology) (w : Directions) (heads : List ℕ) : Type 0 where
+  pub one_each : length heads ≡ length g.ids
+  pub each : (s head : ℕ) → slice_get heads s ≡ Some head → head ≡ w.head s
+
+-- the hops of all nodes to their heads, up and down
+pub record AreHomeHops (g : Topology) (w : Directions) (columns : Columns) : Type 0 where
+  pub one_up_each : length columns.up_home ≡ length g.ids
+  pub one_down_each : length columns.down_home ≡ length g.ids
+  pub up : (s : ℕ) (hop : Option Hop) → slice_get columns.up_home s ≡ Some hop → IsHop g w Up s (w.head s) hop
+  pub down : (s : ℕ) (hop : Option Hop) → slice_get columns.down_home s ≡ Some hop → IsHop g w Down s (w.head s) hop
