@@ -5,6 +5,7 @@ pub mod BlocksHold
 pub mod CarriedRows
 pub mod CertAccepted
 pub mod CertMade
+pub mod CertOfColumns
 pub mod CertSays
 pub mod ChainAims
 pub mod Climbing

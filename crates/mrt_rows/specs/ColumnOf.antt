@@ -1,6 +1,8 @@
 -- The column of a destination: the rows of all nodes for it.
 use Rattle.std.specs.Prelude.{◌≡◌, ◌≢◌, ◌<◌, ℕ, List, Option, Some, None, length, slice_get}
 use Rattle.mrt_graph.specs.declared.cert.Row.{Row}
+use Rattle.mrt_graph.specs.Certificate.{Certificate, row_of}
+use Rattle.mrt_graph.specs.Column.{rows_of_column}
 use Rattle.mrt_graph.specs.Topology.{Topology}
 use Rattle.link_direction.specs.Directions.{Directions}
 use Rattle.inc_dec_spf.specs.declared.reach.Dir.TheVariants.{Down, Up}
@@ -23,6 +25,11 @@ pub record IsColumnOf (g : Topology) (root : ℕ) (w : Directions) (t : ℕ) (co
   pub one_each : length column ≡ length g.ids
   pub at_destination : slice_get column t ≡ Some None
   pub each : (s : ℕ) → s < length g.ids → s ≢ t → HasItsRow g root w t column s
+
+-- the columns are the rows of a certificate: that of each node has of all nodes their rows for it
+pub record HasColumns (g : Topology) (root : ℕ) (w : Directions) (cert : Certificate) : Type 0 where
+  pub each : (t : ℕ) (column : List (Option Row)) → t < length g.ids → IsColumnOf g root w t column
+      → (s : ℕ) → row_of cert s t ≡ rows_of_column column s t
 
 -- the row of s for t over a sole link, if there is one
 pub data IsSoleRow (g : Topology) (w : Directions) (s t : ℕ) : Option Row → Type 0 where

@@ -21,6 +21,6 @@ pub use certificate::compute;
 pub use column::{Columns, column_of};
 pub use of_source::rows_of;
 pub use rows_law::{
-    certificates_are_accepted, columns_are_sound, one_certificate, one_column_for_each,
-    one_row_for_each, tabled_certificates_are_accepted,
+    certificates_are_accepted, columns_are_of_one_certificate, columns_are_sound, one_certificate,
+    one_column_for_each, one_row_for_each, tabled_certificates_are_accepted,
 };

@@ -3,14 +3,20 @@
 ghost use Rattle.std.specs.Prelude.{◌≡◌, ◌≢◌, ◌<◌, ℕ, List, Option, length};
 ghost use Rattle.mrt_graph.specs.declared.cert.CertFile.{CertFile};
 ghost use Rattle.mrt_graph.specs.declared.cert.Row.{Row};
+ghost use Rattle.mrt_graph.specs.declared.tree.TreeNode.{TreeNode};
 ghost use Rattle.mrt_graph.specs.Accepted.{Accepted};
 ghost use Rattle.mrt_graph.specs.Column.{ColumnSound};
+ghost use Rattle.mrt_graph.specs.DirectedLists.{DirectedLists};
+ghost use Rattle.mrt_graph.specs.GadagLists.{GadagLists};
 ghost use Rattle.mrt_graph.specs.GraphInvariant.{IsTopology};
 ghost use Rattle.mrt_graph.specs.Topology.{Topology};
-ghost use Rattle.link_direction.specs.Directions.{Directions};
+ghost use Rattle.lowpoint_dfs.specs.SearchTree.{IsSearchTree};
+ghost use Rattle.gadag_ears.specs.Gadag.{IsGadag};
+ghost use Rattle.link_direction.specs.Directed.{IsDirected};
+ghost use Rattle.link_direction.specs.Directions.{Directions, Says};
 ghost use Rattle.link_direction.specs.OrderedGadag.{IsOrderedGadag};
 ghost use Rattle.mrt_rows.specs.CertOf.{IsCertOf, Tells};
-ghost use Rattle.mrt_rows.specs.ColumnOf.{IsColumnOf};
+ghost use Rattle.mrt_rows.specs.ColumnOf.{HasColumns, IsColumnOf};
 ghost use Rattle.mrt_rows.specs.RowsOf.{HasRow};
 
 /// A law: where a file says of a graph what a GADAG with its order says, and its rows are those of the table, the
@@ -50,6 +56,15 @@ pub fn columns_are_sound()
     ensures { (g : Topology) (root : ℕ) (w : Directions) (t : ℕ) (column : List (Option Row))
         → IsTopology g → IsOrderedGadag g root w → t < length g.ids
         → IsColumnOf g root w t column → ColumnSound g.links (length g.ids) column t }
+{}
+
+/// A law: with the search tree, the GADAG and the directions of a graph there is its certificate, and the columns by
+/// these directions are its rows.
+pub fn columns_are_of_one_certificate()
+    ensures { (g : Topology) (root : ℕ) (tree : List TreeNode) (gadag : GadagLists)
+        (d : DirectedLists) (w : Directions) → IsTopology g → root < length g.ids
+        → IsSearchTree g root tree → IsGadag g root tree gadag → IsDirected g root gadag d
+        → Says g d w → (file : CertFile) × IsCertOf g root file × HasColumns g root w file.cert }
 {}
 
 /// A law: the certificate of a graph and its root is accepted.
