@@ -1,38 +1,52 @@
 -- Parts that are put at the end of a text, one after another.
-use Rattle.std.proofs.Common.{◌≡◌, ◌++◌, ◌∙◌, ℕ, List, [], Option, Some, None, refl, sym, ap, append_assoc}
+use Rattle.std.proofs.Common.{◌≡◌, ◌++◌, ◌∙◌, ℕ, false, true≢false, List, [], Option, Some, None, refl, sym, ap, append_assoc}
+use Rattle.std.specs.Prelude.{IfSome, IsTrue, is_some}
 use Rattle.std.proofs.lemmas.List.{append-nil}
+use Rattle.mrt_graph.specs.declared.link.Element.{Element}
 use Rattle.primary_alt.specs.declared.shortest.Primary.{Primary}
 use Rattle.mrt_report.specs.Adds.{Adds}
-use Rattle.mrt_report.specs.Letters.{AreArcLetters, AreLetters, AreSecondLetters}
-use Rattle.mrt_report.specs.TableParts.{TableParts}
+use Rattle.mrt_report.specs.Letters.{AreArcElements, AreArcLetters, AreLetters, AreSecondLetters}
+use Rattle.mrt_report.specs.LineParts.{LineParts}
 
 -- a part and another one after it
 pub joined : (before part other middle after : List ℕ) → middle ≡ before ++ part → after ≡ middle ++ other → after ≡ before ++ (part ++ other)
 joined before part other middle after first then = then ∙ ap (λ (xs : List ℕ). xs ++ other) first ∙ append_assoc before part other
 
-letters_of_second : (parts : TableParts) (to : ℕ) (found : Option ℕ) (second : ℕ) (text : List ℕ) → found ≡ Some second → AreArcLetters parts to second text → AreSecondLetters parts to found text
+letters_of_second : (parts : LineParts) (to : ℕ) (found : Option ℕ) (second : ℕ) (text : List ℕ) → found ≡ Some second → AreArcLetters parts to second text → AreSecondLetters parts to found text
 letters_of_second parts to found second text is are = rw is are
 
 -- the letters of both arcs
-pub letters_of_two : (parts : TableParts) (to : ℕ) (primary : Primary) (second : ℕ) (before middle after : List ℕ) → primary.second ≡ Some second
-    → Adds (AreArcLetters parts to primary.first) before middle → Adds (AreArcLetters parts to second) middle after
+pub letters_of_two : (parts : LineParts) (to : ℕ) (primary : Primary) (link far : Option Element) (before middle after : List ℕ) → IsTrue (is_some primary.second)
+    → IfSome primary.second (λ number. AreArcElements parts number link far)
+    → Adds (AreArcLetters parts to primary.first) before middle
+    → ((number : ℕ) → AreArcElements parts number link far → Adds (AreArcLetters parts to number) middle after)
     → Adds (AreLetters parts to primary) before after
-letters_of_two parts to primary second before middle after is one other = record {
-  part = one.part ++ other.part;
-  is = record {
-    first_letters = one.part;
-    first_letters_are = one.is;
-    second_letters = other.part;
-    second_letters_are = letters_of_second parts to primary.second second other.part is other.is;
-    spelled = refl;
-  };
-  added = other.added ∙ ap (λ (xs : List ℕ). xs ++ other.part) one.added ∙ append_assoc before one.part other.part;
-}
+letters_of_two parts to primary link far before middle after some elements one others = go primary.second refl some elements
+  where
+    go : (o : Option ℕ) → primary.second ≡ o → IsTrue (is_some o) → IfSome o (λ number. AreArcElements parts number link far) → Adds (AreLetters parts to primary) before after
+    go None is none are = absurd (true≢false (sym none))
+    go (Some second) is there are =
+        let other = others second are in
+        record {
+          part = one.part ++ other.part;
+          is = record {
+            first_letters = one.part;
+            first_letters_are = one.is;
+            second_letters = other.part;
+            second_letters_are = letters_of_second parts to primary.second second other.part is other.is;
+            spelled = refl;
+          };
+          added = other.added ∙ ap (λ (xs : List ℕ). xs ++ other.part) one.added ∙ append_assoc before one.part other.part;
+        }
+
+none_of : {X : Type 0} (o : Option X) → is_some o ≡ false → o ≡ None
+none_of None is = refl
+none_of (Some x) is = absurd (true≢false is)
 
 -- the letters of one arc
-pub letters_of_one : (parts : TableParts) (to : ℕ) (primary : Primary) (before after : List ℕ) → primary.second ≡ None
+pub letters_of_one : (parts : LineParts) (to : ℕ) (primary : Primary) (before after : List ℕ) → is_some primary.second ≡ false
     → Adds (AreArcLetters parts to primary.first) before after → Adds (AreLetters parts to primary) before after
-letters_of_one parts to primary before after is one = record {
+letters_of_one parts to primary before after not_some one = let is : primary.second ≡ None = none_of primary.second not_some in record {
   part = one.part;
   is = record {
     first_letters = one.part;

@@ -7,9 +7,8 @@ use Rattle.std.proofs.lemmas.List.Folds.{concat-append}
 use Rattle.std.proofs.lemmas.List.Elements.{filter-append}
 use Rattle.mrt_report.specs.Adds.{Adds}
 use Rattle.mrt_report.specs.AddsLines.{AddsLines}
-use Rattle.mrt_report.specs.Lines.{IsLine}
 use Rattle.mrt_report.specs.TableParts.{TableParts}
-use Rattle.mrt_report.specs.TableText.{others}
+use Rattle.mrt_report.specs.TableText.{IsTableLine, others}
 
 range_more : (a n : ℕ) → range_with_len a (suc n) ≡ range_with_len a n ++ (a + n) ∷ []
 range_more a zero = let same : a ≡ a + 0 = omega arith in ap (λ (x : ℕ). x ∷ []) same
@@ -52,17 +51,17 @@ no_lines parts text = record { lines = []; are = tt; added = sym (append-nil tex
 pub line_passed : (parts : TableParts) (n : ℕ) (before after : List ℕ) → n ≡ parts.source → AddsLines parts n before after → AddsLines parts (n + 1) before after
 line_passed parts n before after same so_far = record {
   lines = so_far.lines;
-  are = subst (λ (nodes : List ℕ). AllZip (IsLine parts) nodes so_far.lines) (sym (others_same n parts.source same) ∙ next n parts.source) so_far.are;
+  are = subst (λ (nodes : List ℕ). AllZip (IsTableLine parts) nodes so_far.lines) (sym (others_same n parts.source same) ∙ next n parts.source) so_far.are;
   added = so_far.added;
 }
 
 -- one line more
-pub line_added : (parts : TableParts) (n : ℕ) (before middle after : List ℕ) → n ≢ parts.source → AddsLines parts n before middle → Adds (IsLine parts n) middle after
+pub line_added : (parts : TableParts) (n : ℕ) (before middle after : List ℕ) → n ≢ parts.source → AddsLines parts n before middle → Adds (IsTableLine parts n) middle after
     → AddsLines parts (n + 1) before after
 line_added parts n before middle after other so_far line = record {
   lines = so_far.lines ++ line.part ∷ [];
-  are = subst (λ (nodes : List ℕ). AllZip (IsLine parts) nodes (so_far.lines ++ line.part ∷ [])) (sym (others_more n parts.source other) ∙ next n parts.source)
-      (zip_push (IsLine parts) (others n parts.source) so_far.lines n line.part so_far.are line.is);
+  are = subst (λ (nodes : List ℕ). AllZip (IsTableLine parts) nodes (so_far.lines ++ line.part ∷ [])) (sym (others_more n parts.source other) ∙ next n parts.source)
+      (zip_push (IsTableLine parts) (others n parts.source) so_far.lines n line.part so_far.are line.is);
   added =
       let last : concat (so_far.lines ++ line.part ∷ []) ≡ concat so_far.lines ++ line.part =
       concat-append so_far.lines (line.part ∷ []) ∙ ap (λ (xs : List ℕ). concat so_far.lines ++ xs) (append-nil line.part) in

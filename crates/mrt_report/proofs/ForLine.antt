@@ -2,39 +2,36 @@
 use Rattle.std.proofs.Common.{◌≡◌, ◌≢◌, ◌<◌, ◌==◌, ◌∙◌, ℕ, zero, suc, List, [], ◌∷◌, Option, Some, None, length, slice_get, get_or, inl, inr, refl, sym, ap, subst, arith}
 use Rattle.std.specs.Prelude.{IfSome, IsSome}
 use Rattle.std.specs.List.{find}
-use Rattle.std.specs.Option.{option_map}
+use Rattle.std.specs.Option.{option_and_then, option_map}
 use Rattle.std.proofs.lemmas.Bool.{cases_eq, eq-eqb, ne_eqb}
 use Rattle.std.proofs.lemmas.Option.{get_or_from_slice_get, same_Some, slice_get_within}
 use Rattle.mrt_graph.proofs.ListTests.{there}
-use Rattle.mrt_report.specs.Lines.{IsPrimaryFor}
 use Rattle.area_graph.specs.declared.area_types.Arc.{Arc}
 use Rattle.area_graph.specs.Parts.{AreaParts}
 use Rattle.mrt_graph.specs.declared.cert.Color.{Color}
 use Rattle.mrt_graph.specs.declared.cert.Row.{Row}
 use Rattle.mrt_graph.specs.declared.link.End.{End}
-use Rattle.mrt_graph.specs.Certificate.{Certificate, row_of}
+use Rattle.mrt_graph.specs.declared.link.Link.{Link}
 use Rattle.mrt_graph.specs.GraphInvariant.{IsTopology}
-use Rattle.mrt_graph.specs.Hop.{Hop}
+use Rattle.mrt_graph.specs.Hop.{Hop, color_hop, hop_over}
 use Rattle.mrt_graph.specs.Leads.{leads}
-use Rattle.mrt_graph.specs.Rows.{link_of_color}
+use Rattle.mrt_graph.specs.Rows.{Rows, link_of_color}
 use Rattle.mrt_graph.specs.Topology.{Topology}
 use Rattle.mrt_graph.specs.declared.node_id.NodeId.{NodeId}
 use Rattle.mrt_graph.proofs.NodeIds.{one_place}
 use Rattle.mrt_graph.proofs.EndsAt.{IsEndOver, leads_end}
 use Rattle.primary_alt.specs.ArcWalk.{ArcWalk}
-use Rattle.primary_alt.specs.AcceptedRows.{IsAcceptedFor}
 use Rattle.primary_alt.specs.Primaries.{Direct, IsPrimary, Over}
 use Rattle.primary_alt.specs.declared.shortest.Primary.{Primary}
-use Rattle.primary_alt.proofs.ColorSteps.{hop_there}
 use Rattle.primary_alt.proofs.PrimariesLead.{entry_there}
-use Rattle.mrt_report.specs.TableParts.{AreTableParts, IsSpotOf, TableParts}
+use Rattle.mrt_report.specs.LineParts.{IsPrimaryOf, IsSpotOf}
+use Rattle.mrt_report.specs.TableParts.{AreTableParts, IsPrimaryFor, TableParts}
 use Rattle.mrt_report.proofs.IslandWalks.{walk_there}
 
--- the link of each color in a row touches the node
-pub row_touches : (g : Topology) (c : Certificate) → IsAcceptedFor g c → (color : Color) (s t : ℕ) (row : Row) → s < length g.ids → t < length g.ids → s ≢ t
-    → row_of c s t ≡ Some row → IsSome (leads g.links (link_of_color color row) s)
-row_touches g c accepted color s t row from to other is =
-    go (leads g.links (link_of_color color row) s) (rw is at (hop_there g c accepted color s t from to other))
+-- where a color leads on, the link of this color in the row touches the node
+pub row_touches : (links : List Link) (rows : Rows) (color : Color) (s t : ℕ) (row : Row) → rows s t ≡ Some row
+    → IsSome (color_hop links rows color t s) → IsSome (leads links (link_of_color color row) s)
+row_touches links rows color s t row is on = go (leads links (link_of_color color row) s) (rw is at on)
   where
     made : ℕ → Hop
     made v = record { link = link_of_color color row; to = v }
@@ -43,15 +40,23 @@ row_touches g c accepted color s t row from to other is =
     go None some = cc
     go (Some v) some = refl
 
-is_some : {X : Type 0} (o : Option X) → IsSome o → (x : X) × (o ≡ Some x)
-is_some None some = cc
-is_some (Some x) some = (x, refl)
+-- and there is a row
+pub row_there : (links : List Link) (rows : Rows) (color : Color) (s t : ℕ) → IsSome (color_hop links rows color t s) → IsSome (rows s t)
+row_there links rows color s t on = go (rows s t) on
+  where
+    go : (o : Option Row) → IsSome (option_and_then (λ row. hop_over links s (link_of_color color row)) o) → IsSome o
+    go None some = cc
+    go (Some row) some = refl
+
+found_there : {X : Type 0} (o : Option X) → IsSome o → (x : X) × (o ≡ Some x)
+found_there None some = cc
+found_there (Some x) some = (x, refl)
 
 -- an end is found on a link that touches the node
 pub end_found : (g : Topology) (s e : ℕ) (ends : List End) → IsTopology g → slice_get g.ends s ≡ Some ends → IsSome (leads g.links e s)
     → IsSome (find (λ end. end.link == e) ends)
 end_found g s e ends kept list touches =
-    let far : (v : ℕ) × (leads g.links e s ≡ Some v) = is_some (leads g.links e s) touches in
+    let far : (v : ℕ) × (leads g.links e s ≡ Some v) = found_there (leads g.links e s) touches in
     let over : IsEndOver ends e far.0 = leads_end g s e far.0 ends kept list far.1 in
     finds ends over.place over.end over.at over.over
   where
@@ -109,12 +114,24 @@ second_of : (area : AreaParts) (s t : ℕ) (primary : Primary) → IsPrimary are
 second_of area s t primary (Direct number arc other first direct) = tt
 second_of area s t primary (Over number second arc onward other first over then) = slice_get_within area.arcs second onward then.there
 
-pub first_within : (parts : TableParts) → AreTableParts parts → (to : ℕ) (primary : Primary) → IsPrimaryFor parts to primary → primary.first < length parts.area.arcs
-first_within parts kept to primary is = first_of parts.area kept.primaries.spot is.spot primary (kept.primaries.entries.each is.spot (Some primary) is.entry)
+-- those of a node's primary for another one too
+pub its_first_within : (area : AreaParts) (island : Topology) (source to : ℕ) (primary : Primary) → IsPrimaryOf area island source to primary → primary.first < length area.arcs
+its_first_within area island source to primary its = first_of area its.spot its.target primary its.is
 
-pub second_within : (parts : TableParts) → AreTableParts parts → (to : ℕ) (primary : Primary) → IsPrimaryFor parts to primary
-    → IfSome primary.second (λ second. second < length parts.area.arcs)
-second_within parts kept to primary is = second_of parts.area kept.primaries.spot is.spot primary (kept.primaries.entries.each is.spot (Some primary) is.entry)
+pub its_second_within : (area : AreaParts) (island : Topology) (source to : ℕ) (primary : Primary) → IsPrimaryOf area island source to primary
+    → IfSome primary.second (λ second. second < length area.arcs)
+its_second_within area island source to primary its = second_of area its.spot its.target primary its.is
+
+-- what stands for a node among the router's primaries is the router's primary for it
+pub its_primary : (parts : TableParts) → AreTableParts parts → (to : ℕ) (primary : Primary) → IsPrimaryFor parts to primary
+    → IsPrimaryOf parts.area parts.island parts.source to primary
+its_primary parts kept to primary entry = record {
+  spot = kept.primaries.spot;
+  spot_is = kept.primaries.node;
+  target = entry.spot;
+  target_is = entry.node;
+  is = kept.primaries.entries.each entry.spot (Some primary) entry.entry;
+}
 
 -- what is taken as it is
 pub as_it_is : {X : Type 0} (o : Option X) → option_map (λ x. x) o ≡ o

@@ -19,7 +19,7 @@ use Rattle.mrt_graph.proofs.ListTests.{all_at, there}
 use Rattle.mrt_graph.proofs.NodeIds.{one_place}
 use Rattle.mrt_graph.proofs.Tallies.{IsFound, counted_at}
 use Rattle.primary_alt.specs.ArcWalk.{ArcWalk}
-use Rattle.mrt_report.specs.TableParts.{IsSpotOf}
+use Rattle.mrt_report.specs.LineParts.{IsSpotOf}
 
 -- the link that leads from u to v has these two as its nodes
 record IsLinkOf (links : List Link) (e u v : ℕ) : Type 0 where

@@ -1,10 +1,11 @@
 pub mod Adding
 pub mod AddingLines
+pub mod AgreeingRows
+pub mod ByColumn
 pub mod ForLine
 pub mod Gathering
 pub mod IslandWalks
-pub mod Marking
 pub mod OneLine
 pub mod OneTable
 pub mod Roots
-pub mod RowLinks
+pub mod Telling

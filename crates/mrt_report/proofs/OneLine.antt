@@ -4,7 +4,6 @@ use Rattle.std.specs.Prelude.{codes}
 use Rattle.std.specs.List.{find}
 use Rattle.std.proofs.lemmas.Option.{same_Some}
 use Rattle.area_graph.specs.declared.area_types.Arc.{Arc}
-use Rattle.area_graph.specs.AreaInvariant.{IsArea}
 use Rattle.mrt_graph.specs.declared.cert.Color.{Color}
 use Rattle.mrt_graph.specs.declared.cert.Row.{Row}
 use Rattle.mrt_graph.specs.declared.link.Element.{Element}
@@ -20,9 +19,9 @@ use Rattle.mrt_graph.specs.Topology.{Topology}
 use Rattle.mrt_graph.proofs.ListPlaces.{contains_at}
 use Rattle.mrt_graph.proofs.NodeIds.{one_place}
 use Rattle.primary_alt.specs.declared.shortest.Primary.{Primary}
-use Rattle.mrt_report.specs.Letters.{AreArcLetters, AreLetters, AreSecondLetters, Inside, IsLinkElement, IsNodeElement, IsRepair, Outside}
-use Rattle.mrt_report.specs.Lines.{AreColorWords, ArePrimaryWords, IsArcHop, IsEndOn, IsLine, IsLinkHop, IsPrimaryFor}
-use Rattle.mrt_report.specs.TableParts.{TableParts}
+use Rattle.mrt_report.specs.Letters.{AreArcElements, AreArcLetters, AreLetters, AreSecondLetters, Inside, IsLinkElement, IsNodeElement, IsRepair, Outside}
+use Rattle.mrt_report.specs.Lines.{AreColorWords, ArePrimaryWords, IsArcHop, IsEndOn, IsLine, IsLinkHop}
+use Rattle.mrt_report.specs.LineParts.{LineParts}
 use Rattle.mrt_report.specs.TableWords.{hop_text, letter_text, tag_text}
 
 -- for each failure there is one alternate
@@ -37,25 +36,37 @@ one_node g kept id one other (Inside n at) (Outside none) = absurd (none (contai
 one_node g kept id one other (Outside none) (Inside n at) = absurd (none (contains_at g.ids n id at))
 one_node g kept id one other (Outside none) (Outside none') = refl
 
-one_arc_letters : OneAlternate → (parts : TableParts) → IsTopology parts.island → (to number : ℕ) (one other : List ℕ)
-    → AreArcLetters parts to number one → AreArcLetters parts to number other → one ≡ other
-one_arc_letters alternate parts kept to number one other a b =
+-- an arc leads over one link and to one node
+one_link : (parts : LineParts) (number : ℕ) (link far link' far' : Option Element) → AreArcElements parts number link far
+    → AreArcElements parts number link' far' → link ≡ link'
+one_link parts number link far link' far' a b =
+    let arc : a.arc ≡ b.arc = same_Some a.arc b.arc (sym a.there ∙ b.there) in
+    same_Some link link' (sym (subst (λ (x : Arc). IsLinkElement parts.link_of x.bond link) arc a.link_is) ∙ b.link_is)
+
+one_far : (parts : LineParts) → IsTopology parts.island → (number : ℕ) (link node link' node' : Option Element) → AreArcElements parts number link node
+    → AreArcElements parts number link' node' → node ≡ node'
+one_far parts kept number link node link' node' a b =
     let arc : a.arc ≡ b.arc = same_Some a.arc b.arc (sym a.there ∙ b.there) in
     let far : a.far ≡ b.far = same_Some a.far b.far (sym a.far_is ∙ ap (λ (x : Arc). slice_get parts.area.ids x.to) arc ∙ b.far_is) in
-    let node : a.node ≡ b.node = one_node parts.island kept b.far a.node b.node (subst (λ (id : NodeId). IsNodeElement parts.island.ids id a.node) far a.node_is) b.node_is in
-    let link : a.link ≡ b.link = same_Some a.link b.link (sym (subst (λ (x : Arc). IsLinkElement parts.link_of x.bond a.link) arc a.link_is) ∙ b.link_is) in
+    one_node parts.island kept b.far node node' (subst (λ (id : NodeId). IsNodeElement parts.island.ids id node) far a.node_is) b.node_is
+
+one_arc_letters : OneAlternate → (parts : LineParts) → IsTopology parts.island → (to number : ℕ) (one other : List ℕ)
+    → AreArcLetters parts to number one → AreArcLetters parts to number other → one ≡ other
+one_arc_letters alternate parts kept to number one other a b =
+    let link : a.link ≡ b.link = one_link parts number a.link a.node b.link b.node a.elements_are b.elements_are in
+    let node : a.node ≡ b.node = one_far parts kept number a.link a.node b.link b.node a.elements_are b.elements_are in
     let link_repair : a.link_repair ≡ b.link_repair =
     alternate _ _ _ _ _ _ a.link_repair b.link_repair (subst (λ (x : Option Element). IsRepair parts to x a.link_repair) link a.link_repair_is) b.link_repair_is in
     let node_repair : a.node_repair ≡ b.node_repair =
     alternate _ _ _ _ _ _ a.node_repair b.node_repair (subst (λ (x : Option Element). IsRepair parts to x a.node_repair) node a.node_repair_is) b.node_repair_is in
     a.spelled ∙ (λ i. letter_text (link_repair i) ++ letter_text (node_repair i)) ∙ sym b.spelled
 
-one_second_letters : OneAlternate → (parts : TableParts) → IsTopology parts.island → (to : ℕ) (number : Option ℕ) (one other : List ℕ)
+one_second_letters : OneAlternate → (parts : LineParts) → IsTopology parts.island → (to : ℕ) (number : Option ℕ) (one other : List ℕ)
     → AreSecondLetters parts to number one → AreSecondLetters parts to number other → one ≡ other
 one_second_letters alternate parts kept to None one other a b = a ∙ sym b
 one_second_letters alternate parts kept to (Some number) one other a b = one_arc_letters alternate parts kept to number one other a b
 
-one_letters : OneAlternate → (parts : TableParts) → IsTopology parts.island → (to : ℕ) (primary : Primary) (one other : List ℕ)
+one_letters : OneAlternate → (parts : LineParts) → IsTopology parts.island → (to : ℕ) (primary : Primary) (one other : List ℕ)
     → AreLetters parts to primary one → AreLetters parts to primary other → one ≡ other
 one_letters alternate parts kept to primary one other a b =
     let first : a.first_letters ≡ b.first_letters = one_arc_letters alternate parts kept to primary.first a.first_letters b.first_letters a.first_letters_are b.first_letters_are in
@@ -67,46 +78,37 @@ one_end g s link one other a b =
     let ends : a.ends ≡ b.ends = same_Some a.ends b.ends (sym a.ends_are ∙ b.ends_are) in
     same_Some one other (sym a.is ∙ ap (λ (xs : List End). find (λ end. end.link == link) xs) ends ∙ b.is)
 
-one_link_hop : (parts : TableParts) (link : ℕ) (one other : List ℕ) → IsLinkHop parts link one → IsLinkHop parts link other → one ≡ other
+one_link_hop : (parts : LineParts) (link : ℕ) (one other : List ℕ) → IsLinkHop parts link one → IsLinkHop parts link other → one ≡ other
 one_link_hop parts link one other a b =
     let end : a.end ≡ b.end = one_end parts.island parts.source link a.end b.end a.end_is b.end_is in
     let far : a.far ≡ b.far = same_Some a.far b.far (sym a.far_is ∙ ap (λ (x : End). slice_get parts.island.ids x.to) end ∙ b.far_is) in
     a.spelled ∙ (λ i. hop_text (far i) ((end i).link_data)) ∙ sym b.spelled
 
-one_arc_hop : (parts : TableParts) (number : ℕ) (one other : List ℕ) → IsArcHop parts number one → IsArcHop parts number other → one ≡ other
+one_arc_hop : (parts : LineParts) (number : ℕ) (one other : List ℕ) → IsArcHop parts number one → IsArcHop parts number other → one ≡ other
 one_arc_hop parts number one other a b =
     let arc : a.arc ≡ b.arc = same_Some a.arc b.arc (sym a.arc_is ∙ b.arc_is) in
     let far : a.far ≡ b.far = same_Some a.far b.far (sym a.far_is ∙ ap (λ (x : Arc). slice_get parts.area.ids x.to) arc ∙ b.far_is) in
     a.spelled ∙ (λ i. hop_text (far i) ((arc i).link_data)) ∙ sym b.spelled
 
-one_color_words : (parts : TableParts) (to : ℕ) (one other : List ℕ) → AreColorWords parts to one → AreColorWords parts to other → one ≡ other
+one_color_words : (parts : LineParts) (to : ℕ) (one other : List ℕ) → AreColorWords parts to one → AreColorWords parts to other → one ≡ other
 one_color_words parts to one other a b =
     let row : a.row ≡ b.row = same_Some a.row b.row (sym a.row_is ∙ b.row_is) in
     let blue : a.blue_hop ≡ b.blue_hop = one_link_hop parts b.row.blue a.blue_hop b.blue_hop (subst (λ (x : Row). IsLinkHop parts x.blue a.blue_hop) row a.blue_hop_is) b.blue_hop_is in
     let red : a.red_hop ≡ b.red_hop = one_link_hop parts b.row.red a.red_hop b.red_hop (subst (λ (x : Row). IsLinkHop parts x.red a.red_hop) row a.red_hop_is) b.red_hop_is in
     a.spelled ∙ (λ i. tag_text ((row i).tag) ++ codes " blue " ++ blue i ++ codes " red " ++ red i) ∙ sym b.spelled
 
-one_primary : (parts : TableParts) → IsArea parts.area → (to : ℕ) (one other : Primary) → IsPrimaryFor parts to one → IsPrimaryFor parts to other → one ≡ other
-one_primary parts kept to one other a b =
-    let id : a.node.id ≡ b.node.id = same_Some a.node.id b.node.id (sym a.node.in_island ∙ b.node.in_island) in
-    let spot : a.spot ≡ b.spot = one_place parts.area.ids a.spot b.spot b.node.id kept.ids_ascend
-    (subst (λ (x : NodeId). slice_get parts.area.ids a.spot ≡ Some x) id a.node.in_area) b.node.in_area in
-    same_Some one other (same_Some (Some one) (Some other) (sym a.entry ∙ ap (λ (k : ℕ). slice_get parts.primaries k) spot ∙ b.entry))
-
-one_primary_words : OneAlternate → (parts : TableParts) → IsArea parts.area → IsTopology parts.island → (to : ℕ) (one other : List ℕ)
-    → ArePrimaryWords parts to one → ArePrimaryWords parts to other → one ≡ other
-one_primary_words alternate parts area_kept kept to one other a b =
-    let primary : a.primary ≡ b.primary = one_primary parts area_kept to a.primary b.primary a.primary_is b.primary_is in
-    let hop : a.hop ≡ b.hop = one_arc_hop parts b.primary.first a.hop b.hop (subst (λ (x : Primary). IsArcHop parts x.first a.hop) primary a.hop_is) b.hop_is in
-    let letters : a.letters ≡ b.letters = one_letters alternate parts kept to b.primary a.letters b.letters
-    (subst (λ (x : Primary). AreLetters parts to x a.letters) primary a.letters_are) b.letters_are in
+one_primary_words : OneAlternate → (parts : LineParts) → IsTopology parts.island → (to : ℕ) (primary : Primary) (one other : List ℕ)
+    → ArePrimaryWords parts to primary one → ArePrimaryWords parts to primary other → one ≡ other
+one_primary_words alternate parts kept to primary one other a b =
+    let hop : a.hop ≡ b.hop = one_arc_hop parts primary.first a.hop b.hop a.hop_is b.hop_is in
+    let letters : a.letters ≡ b.letters = one_letters alternate parts kept to primary a.letters b.letters a.letters_are b.letters_are in
     a.spelled ∙ (λ i. hop i ++ codes " repair " ++ letters i) ∙ sym b.spelled
 
 -- one line on each destination
-pub one_line : OneAlternate → (parts : TableParts) → IsArea parts.area → IsTopology parts.island → (to : ℕ) (one other : List ℕ)
-    → IsLine parts to one → IsLine parts to other → one ≡ other
-one_line alternate parts area_kept kept to one other a b =
+pub one_line : OneAlternate → (parts : LineParts) (to : ℕ) (primary : Primary) (one other : List ℕ) → IsTopology parts.island
+    → IsLine parts to primary one → IsLine parts to primary other → one ≡ other
+one_line alternate parts to primary one other kept a b =
     let id : a.id ≡ b.id = same_Some a.id b.id (sym a.id_is ∙ b.id_is) in
     let colors : a.color_words ≡ b.color_words = one_color_words parts to a.color_words b.color_words a.color_words_are b.color_words_are in
-    let primary : a.primary_words ≡ b.primary_words = one_primary_words alternate parts area_kept kept to a.primary_words b.primary_words a.primary_words_are b.primary_words_are in
-    a.spelled ∙ (λ i. node_text (id i) ++ codes " " ++ colors i ++ codes " primary " ++ primary i ++ codes "\n") ∙ sym b.spelled
+    let primaries : a.primary_words ≡ b.primary_words = one_primary_words alternate parts kept to primary a.primary_words b.primary_words a.primary_words_are b.primary_words_are in
+    a.spelled ∙ (λ i. node_text (id i) ++ codes " " ++ colors i ++ codes " primary " ++ primaries i ++ codes "\n") ∙ sym b.spelled

@@ -7,9 +7,8 @@ use Rattle.mrt_graph.specs.declared.link.Element.{Element}
 use Rattle.mrt_graph.specs.declared.link.Element.TheVariants as elements
 use Rattle.mrt_graph.specs.declared.node_id.NodeId.{NodeId}
 use Rattle.mrt_graph.specs.Alternate.{IsAlternate}
-use Rattle.mrt_graph.specs.Certificate.{row_of}
 use Rattle.primary_alt.specs.declared.shortest.Primary.{Primary}
-use Rattle.mrt_report.specs.TableParts.{TableParts}
+use Rattle.mrt_report.specs.LineParts.{LineParts}
 use Rattle.mrt_report.specs.TableWords.{letter_text}
 
 -- the island link that a bond of the area is; none where its entry names no link
@@ -22,33 +21,37 @@ pub data IsNodeElement (ids : List NodeId) (id : NodeId) : Option Element → Ty
   Outside : ¬ Contains ids id → IsNodeElement ids id None
 
 -- the router's alternate for a node of the island, where the element has failed
-abbrev pub IsRepair : TableParts → ℕ → Option Element → Option Color → Type 0
+abbrev pub IsRepair : LineParts → ℕ → Option Element → Option Color → Type 0
 IsRepair parts to failed answer =
-    IsAlternate parts.island.links (length parts.island.ids) (row_of parts.cert) parts.source to failed answer
+    IsAlternate parts.island.links (length parts.island.ids) parts.rows parts.source to failed answer
 
--- of an arc: a letter for its bond, and one for the node that it leads to
-pub record AreArcLetters (parts : TableParts) (to number : ℕ) (text : List ℕ) : Type 0 where
+-- what an arc leads over in the island: the link that its bond is, and the node that it leads to
+pub record AreArcElements (parts : LineParts) (number : ℕ) (link node : Option Element) : Type 0 where
   pub arc : Arc
   pub there : slice_get parts.area.arcs number ≡ Some arc
-  pub link : Option Element
   pub link_is : IsLinkElement parts.link_of arc.bond link
-  pub link_repair : Option Color
-  pub link_repair_is : IsRepair parts to link link_repair
   pub far : NodeId
   pub far_is : slice_get parts.area.ids arc.to ≡ Some far
-  pub node : Option Element
   pub node_is : IsNodeElement parts.island.ids far node
+
+-- of an arc: a letter for its bond, and one for the node that it leads to
+pub record AreArcLetters (parts : LineParts) (to number : ℕ) (text : List ℕ) : Type 0 where
+  pub link : Option Element
+  pub node : Option Element
+  pub elements_are : AreArcElements parts number link node
+  pub link_repair : Option Color
+  pub link_repair_is : IsRepair parts to link link_repair
   pub node_repair : Option Color
   pub node_repair_is : IsRepair parts to node node_repair
   pub spelled : text ≡ letter_text link_repair ++ letter_text node_repair
 
 -- of an arc that may not be there
-abbrev pub AreSecondLetters : TableParts → ℕ → Option ℕ → List ℕ → Type 0
+abbrev pub AreSecondLetters : LineParts → ℕ → Option ℕ → List ℕ → Type 0
 AreSecondLetters parts to None text = text ≡ []
 AreSecondLetters parts to (Some number) text = AreArcLetters parts to number text
 
 -- of a primary: the letters of its first arc and, where there is one, of its second arc
-pub record AreLetters (parts : TableParts) (to : ℕ) (primary : Primary) (text : List ℕ) : Type 0 where
+pub record AreLetters (parts : LineParts) (to : ℕ) (primary : Primary) (text : List ℕ) : Type 0 where
   pub first_letters : List ℕ
   pub first_letters_are : AreArcLetters parts to primary.first first_letters
   pub second_letters : List ℕ

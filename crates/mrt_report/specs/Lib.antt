@@ -1,9 +1,9 @@
 pub mod Adds
 pub mod AddsLines
+pub mod Gathered
 pub mod Letters
+pub mod LineParts
 pub mod Lines
-pub mod Marks
-pub mod RowsFor
 pub mod TableParts
 pub mod TableText
 pub mod TableWords

@@ -3,13 +3,13 @@ use Rattle.std.specs.Prelude.{◌≡◌, ◌<◌, ℕ, List, Option, Some, lengt
 use Rattle.area_graph.specs.AreaInvariant.{IsArea}
 use Rattle.area_graph.specs.Fits.{Fits}
 use Rattle.area_graph.specs.Parts.{AreaParts}
-use Rattle.mrt_graph.specs.declared.node_id.NodeId.{NodeId}
-use Rattle.mrt_graph.specs.Certificate.{Certificate}
+use Rattle.mrt_graph.specs.Certificate.{Certificate, row_of}
 use Rattle.mrt_graph.specs.GraphInvariant.{IsTopology}
 use Rattle.mrt_graph.specs.Topology.{Topology}
 use Rattle.primary_alt.specs.AcceptedRows.{IsAcceptedFor}
 use Rattle.primary_alt.specs.Primaries.{ArePrimaries}
 use Rattle.primary_alt.specs.declared.shortest.Primary.{Primary}
+use Rattle.mrt_report.specs.LineParts.{LineParts, IsSpotOf, line_parts}
 
 -- the area; the island, with the island link that each bond of the area is, if it is one; the island's certificate; the
 -- router, by its number in the island; and its primaries for all nodes of the area
@@ -32,11 +32,15 @@ table_parts area island link_of cert source primaries = record {
   primaries = primaries;
 }
 
--- the two numbers are of one node: of the area, and of the island
-pub record IsSpotOf (area : AreaParts) (island : Topology) (spot n : ℕ) : Type 0 where
-  pub id : NodeId
-  pub in_area : slice_get area.ids spot ≡ Some id
-  pub in_island : slice_get island.ids n ≡ Some id
+-- what each line of the table is made from: the rows are the certificate's
+abbrev pub parts_of_lines : TableParts → LineParts
+parts_of_lines parts = line_parts parts.area parts.island parts.link_of (row_of parts.cert) parts.source
+
+-- the primary for a node of the island
+pub record IsPrimaryFor (parts : TableParts) (to : ℕ) (primary : Primary) : Type 0 where
+  pub spot : ℕ
+  pub node : IsSpotOf parts.area parts.island spot to
+  pub entry : slice_get parts.primaries spot ≡ Some (Some primary)
 
 -- the primaries of an island node
 pub record AreItsPrimaries (area : AreaParts) (island : Topology) (source : ℕ) (primaries : List (Option Primary))

@@ -1,20 +1,28 @@
--- What the two color walks use, by marks.
-use Rattle.std.specs.Prelude.{◌≡◌, ℕ, length}
-use Rattle.mrt_graph.specs.declared.cert.Color.TheVariants.{Blue, Red}
-use Rattle.mrt_graph.specs.Certificate.{row_of}
-use Rattle.mrt_graph.specs.Topology.{Topology}
-use Rattle.mrt_report.specs.Marks.{AreMarked, AreMarksFor}
-use Rattle.mrt_report.specs.TableParts.{TableParts}
-use Rattle.mrt_report.specs.declared.letters.WalkMarks.{WalkMarks}
+-- Which elements a color walk uses, by flags.
+use Rattle.std.specs.Prelude.{◌≡◌, ◌↔◌, ℕ, Bool, false, Option, Some, None, IsTrue, length}
+use Rattle.mrt_graph.specs.declared.cert.Color.{Color}
+use Rattle.mrt_graph.specs.declared.link.Element.{Element}
+use Rattle.mrt_graph.specs.Alternate.{UsesOn}
+use Rattle.mrt_graph.specs.Separates.{IsNeitherEnd}
+use Rattle.primary_alt.specs.Meets.{IsOver}
+use Rattle.mrt_report.specs.LineParts.{LineParts}
+use Rattle.mrt_report.specs.declared.elements.ArcElements.{ArcElements}
+use Rattle.mrt_report.specs.declared.uses.ArcUses.{ArcUses}
 
--- there is a place for each mark, and for the row of each node
-pub record HasRoom (g : Topology) (walks : WalkMarks) : Type 0 where
-  pub blue : AreMarksFor g walks.blue
-  pub red : AreMarksFor g walks.red
-  pub rows : length walks.rows.items ≡ length g.ids
+-- a step over link e to node v is over the element, if there is one
+abbrev pub IsOverOne : ℕ → ℕ → Option Element → Type 0
+IsOverOne e v None = ⊥
+IsOverOne e v (Some x) = IsOver e v x
 
--- what the color walks from the router to a node use is marked, each color by itself
-pub record AreUses (parts : TableParts) (to : ℕ) (walks : WalkMarks) : Type 0 where
-  pub room : HasRoom parts.island walks
-  pub blue : AreMarked parts.island.links (length parts.island.ids) (row_of parts.cert) parts.source to Blue walks.blue
-  pub red : AreMarked parts.island.links (length parts.island.ids) (row_of parts.cert) parts.source to Red walks.red
+-- the flag tells whether the color walk from the router uses the element, where it is neither end; what is not there is
+-- not used
+abbrev pub TellsUse : LineParts → ℕ → Color → Option Element → Bool → Type 0
+TellsUse parts to color None flag = flag ≡ false
+TellsUse parts to color (Some x) flag =
+    IsNeitherEnd x parts.source to
+    → IsTrue flag ↔ UsesOn parts.island.links (length parts.island.ids) parts.rows parts.source to x color
+
+-- the flags tell it of both elements of an arc
+pub record TellUses (parts : LineParts) (to : ℕ) (color : Color) (elements : ArcElements) (flags : ArcUses) : Type 0 where
+  pub link : TellsUse parts to color elements.link flags.link
+  pub node : TellsUse parts to color elements.node flags.node

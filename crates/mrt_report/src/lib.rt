@@ -1,15 +1,19 @@
 //! The texts that the program writes of a router: its table.
 #![tactic(auto)]
 
+mod elements;
+mod gathered;
 mod letters;
 mod line;
-mod marks;
+mod line_law;
 mod onward;
 mod parts;
-mod rows_for;
 mod table;
 mod table_law;
+mod uses;
+mod whole;
 mod words;
 
-pub use table::table_text;
+pub use line_law::{lines_by_the_rows_for_one_destination, one_line_each};
+pub use table::{push_table_line, table_head, table_line, table_text};
 pub use table_law::one_table_each;

@@ -3,6 +3,7 @@
 ghost use Rattle.std.specs.Prelude.{◌≡◌, ◌≢◌, ◌<◌, ◌==◌, IfOk, IfSome, IsSome, length};
 ghost use Rattle.std.specs.List.{find};
 ghost use Rattle.std.specs.Option.{option_map};
+ghost use Rattle.area_graph.specs.AreaInvariant.{IsArea};
 ghost use Rattle.mrt_graph.specs.GraphInvariant.{IsTopology};
 ghost use Rattle.mrt_graph.specs.Leads.{leads};
 ghost use Rattle.mrt_report.specs.Adds.{Adds};
@@ -13,13 +14,12 @@ ghost use Rattle.mrt_report.specs.Lines.{
   IsEndOn,
   IsLine,
   IsLinkHop,
-  IsPrimaryFor,
 };
-ghost use Rattle.mrt_report.specs.TableParts.{AreTableParts};
-ghost use Rattle.mrt_report.specs.Uses.{AreUses};
+ghost use Rattle.mrt_report.specs.LineParts.{AreLineParts};
 ghost use Rattle.mrt_report.specs.Viewed.{viewed};
 
-use crate::letters::{WalkMarks, push_letters};
+use crate::letters::push_letters;
+use crate::onward::row_at;
 use crate::parts::Parts;
 use crate::words::{push, push_hop, push_node, tag_word};
 use area_graph::ArcNo;
@@ -30,33 +30,31 @@ use primary_alt::Primary;
 pub fn push_line(
     text: &mut Vec<u8>,
     parts: &Parts,
-    walks: &WalkMarks,
     to: NodeNo,
+    primary: Primary,
 ) -> Result<(), NoMemory>
-    requires kept { AreTableParts (viewed parts.now) }
-    requires walks { AreUses (viewed parts.now) to walks.now }
-    requires target { to < length parts.now.island.now.ids }
-    requires different { parts.now.source ≢ to }
-    ensures { IfOk result (λ _. Adds (IsLine (viewed parts.now) to) text.old.items text.new.items) }
+    requires kept { AreLineParts (viewed parts.now) to }
+    requires first { primary.first < length parts.now.area.now.arcs }
+    requires second { IfSome primary.second (λ second. second < length parts.now.area.now.arcs) }
+    ensures { IfOk result (λ _.
+        Adds (IsLine (viewed parts.now) to primary) text.old.items text.new.items) }
 {
     push_node(text, parts.island.id(to))?;
     push(text, b" ")?;
     push_colors(text, parts, to)?;
     push(text, b" primary ")?;
-    push_primary(text, parts, walks, to)?;
+    push_primary(text, parts, to, primary)?;
     push(text, b"\n")?;
     Ok(())
 }
 
 /// Puts the hops of both colors at the end of a text.
 fn push_colors(text: &mut Vec<u8>, parts: &Parts, to: NodeNo) -> Result<(), NoMemory>
-    requires kept { AreTableParts (viewed parts.now) }
-    requires target { to < length parts.now.island.now.ids }
-    requires different { parts.now.source ≢ to }
+    requires kept { AreLineParts (viewed parts.now) to }
     ensures { IfOk result (λ _.
         Adds (AreColorWords (viewed parts.now) to) text.old.items text.new.items) }
 {
-    let row = parts.cert.row(parts.source, to);
+    let row = row_at(parts.column, parts.source);
     push(text, tag_word(row.tag))?;
     push(text, b" blue ")?;
     push_link_hop(text, parts, row.blue)?;
@@ -67,7 +65,8 @@ fn push_colors(text: &mut Vec<u8>, parts: &Parts, to: NodeNo) -> Result<(), NoMe
 
 /// Puts the hop over a link of the island at the end of a text.
 fn push_link_hop(text: &mut Vec<u8>, parts: &Parts, link: LinkNo) -> Result<(), NoMemory>
-    requires kept { AreTableParts (viewed parts.now) }
+    requires kept { IsTopology parts.now.island.now }
+    requires within { parts.now.source < length parts.now.island.now.ids }
     requires touches { IsSome (leads parts.now.island.now.links link parts.now.source) }
     ensures { IfOk result (λ _.
         Adds (IsLinkHop (viewed parts.now) link) text.old.items text.new.items) }
@@ -100,39 +99,24 @@ fn first_on(ends: &[End], link: LinkNo) -> Option<End>
 fn push_primary(
     text: &mut Vec<u8>,
     parts: &Parts,
-    walks: &WalkMarks,
     to: NodeNo,
+    primary: Primary,
 ) -> Result<(), NoMemory>
-    requires kept { AreTableParts (viewed parts.now) }
-    requires walks { AreUses (viewed parts.now) to walks.now }
-    requires target { to < length parts.now.island.now.ids }
-    requires different { parts.now.source ≢ to }
+    requires kept { AreLineParts (viewed parts.now) to }
+    requires first { primary.first < length parts.now.area.now.arcs }
+    requires second { IfSome primary.second (λ second. second < length parts.now.area.now.arcs) }
     ensures { IfOk result (λ _.
-        Adds (ArePrimaryWords (viewed parts.now) to) text.old.items text.new.items) }
+        Adds (ArePrimaryWords (viewed parts.now) to primary) text.old.items text.new.items) }
 {
-    let primary = primary_for(parts, to);
     push_arc_hop(text, parts, primary.first)?;
     push(text, b" repair ")?;
-    push_letters(text, parts, walks, to, primary)?;
+    push_letters(text, parts, to, primary)?;
     Ok(())
-}
-
-/// The primary for another node of the island. There is one, since the island connects them.
-fn primary_for(parts: &Parts, to: NodeNo) -> Primary
-    requires kept { AreTableParts (viewed parts.now) }
-    requires target { to < length parts.now.island.now.ids }
-    requires different { parts.now.source ≢ to }
-    ensures is { IsPrimaryFor (viewed parts.now) to result }
-    ensures first { result.first < length parts.now.area.now.arcs }
-    ensures second { IfSome result.second (λ second. second < length parts.now.area.now.arcs) }
-{
-    let spot = parts.area.find(parts.island.id(to)).unwrap();
-    parts.primaries[spot.get() as usize].unwrap()
 }
 
 /// Puts the hop over an arc at the end of a text.
 fn push_arc_hop(text: &mut Vec<u8>, parts: &Parts, number: ArcNo) -> Result<(), NoMemory>
-    requires kept { AreTableParts (viewed parts.now) }
+    requires kept { IsArea parts.now.area.now }
     requires within { number < length parts.now.area.now.arcs }
     ensures { IfOk result (λ _.
         Adds (IsArcHop (viewed parts.now) number) text.old.items text.new.items) }

@@ -1,16 +1,12 @@
 //! Where a packet on a color goes next.
 
-ghost use Rattle.std.specs.Prelude.{◌≡◌, ◌≢◌, ◌<◌, IsSome, Some, length};
-ghost use Rattle.mrt_graph.specs.Certificate.{row_of};
-ghost use Rattle.mrt_graph.specs.Hop.{color_hop};
-ghost use Rattle.mrt_graph.specs.Leads.{leads};
+ghost use Rattle.std.specs.Prelude.{◌≡◌, ◌<◌, IsSome, Some, length, slice_get};
+ghost use Rattle.std.specs.Option.{option_and_then};
+ghost use Rattle.mrt_graph.specs.Column.{rows_of_column};
+ghost use Rattle.mrt_graph.specs.Hop.{color_hop, hop_over};
 ghost use Rattle.mrt_graph.specs.Rows.{link_of_color};
-ghost use Rattle.mrt_report.specs.RowsFor.{AreRowsFor};
-ghost use Rattle.mrt_report.specs.TableParts.{AreTableParts};
-ghost use Rattle.mrt_report.specs.Viewed.{viewed};
 
-use crate::parts::Parts;
-use mrt_graph::{Color, Graph, LinkNo, NodeNo, Row};
+use mrt_graph::{Color, Column, Graph, LinkNo, NodeNo, Row};
 
 /// A link, and the node that it leads to.
 #[derive(Clone, Copy)]
@@ -20,21 +16,23 @@ pub struct Step {
 }
 
 /// Where a packet for `t` goes from `at` on a color, by the rows of all nodes for `t`.
-pub fn onward(parts: &Parts, rows: &[Row], at: NodeNo, t: NodeNo, color: Color) -> Step
-    requires kept { AreTableParts (viewed parts.now) }
-    requires rows { AreRowsFor parts.now.cert.now t rows.now }
-    requires at { at < length parts.now.island.now.ids }
-    requires target { t < length parts.now.island.now.ids }
-    requires different { at ≢ t }
-    ensures hop { color_hop parts.now.island.now.links (row_of parts.now.cert.now) color t at
+pub fn onward(g: &Graph, column: &Column, at: NodeNo, t: NodeNo, color: Color) -> Step
+    requires { IsSome (color_hop g.now.links (rows_of_column column.now) color t at) }
+    ensures hop { color_hop g.now.links (rows_of_column column.now) color t at
         ≡ Some (record { link = result.link; to = result.to }) }
-    ensures link { result.link < length parts.now.island.now.links }
-    ensures within { result.to < length parts.now.island.now.ids }
+    ensures within { result.to < length g.now.ids }
 {
-    let link = link_on(color, &rows[at.get() as usize]);
-    Step {
-        link,
-        to: far_end(parts.island, link, at),
+    over(g, at, link_on(color, &row_at(column, at)))
+}
+
+/// The row of a node for the column's destination.
+pub fn row_at(column: &Column, s: NodeNo) -> Row
+    requires { IsSome (option_and_then (λ row. row) (slice_get column.now s)) }
+    ensures { option_and_then (λ row. row) (slice_get column.now s) ≡ Some result }
+{
+    match column.row(s) {
+        Some(row) => row,
+        None => unreachable!(),
     }
 }
 
@@ -48,12 +46,16 @@ fn link_on(color: Color, row: &Row) -> LinkNo
     }
 }
 
-/// The other node of a link that touches `s`.
-fn far_end(g: &Graph, e: LinkNo, s: NodeNo) -> NodeNo
-    requires within { e < length g.now.links }
-    requires touches { IsSome (leads g.now.links e s) }
-    ensures { leads g.now.links e s ≡ Some result }
+/// The step from a node over a link that touches it.
+fn over(g: &Graph, at: NodeNo, link: LinkNo) -> Step
+    requires { IsSome (hop_over g.now.links at link) }
+    ensures hop { hop_over g.now.links at link
+        ≡ Some (record { link = result.link; to = result.to }) }
+    ensures within { result.to < length g.now.ids }
 {
-    let link = g.link(e);
-    if link.a == s { link.b } else { link.a }
+    let nodes = g.link(link);
+    Step {
+        link,
+        to: if nodes.a == at { nodes.b } else { nodes.a },
+    }
 }

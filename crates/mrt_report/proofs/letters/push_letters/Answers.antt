@@ -1,11 +1,15 @@
+use Rattle.std.proofs.Common.{◌∙◌, sym}
 use Rattle.mrt_report.specs.Viewed.{viewed}
 use Rattle.mrt_report.proofs.Adding.{letters_of_one, letters_of_two}
 use Rattle.mrt_report.proofs.letters.push_letters.Goals as goal
 
 pub returns-in_ok-push_arc_letters-2 : goal.returns-in_ok-push_arc_letters-2
 returns-in_ok-push_arc_letters-2 c =
-    letters_of_two (viewed c.args.parts.now) c.args.to c.args.primary c.in-Some.second _ _ _ c.in-Some.is c.in_ok-push_arc_letters.ensures c.in_ok-push_arc_letters-2.ensures
+    letters_of_two (viewed c.args.parts.now) c.args.to c.args.primary c.elements_of_second-second.result.link c.elements_of_second-second.result.node _ _ _
+    (sym c.is_some.ensures ∙ c.if-is_some.true) c.elements_of_second-second.ensures
+    (c.in_ok-push_arc_letters.ensures c.args.primary.first c.elements_of-first.ensures) c.in_ok-push_arc_letters-2.ensures
 
-pub returns-in_default : goal.returns-in_default
-returns-in_default c =
-    letters_of_one (viewed c.args.parts.now) c.args.to c.args.primary _ _ c.in_default.is c.in_ok-push_arc_letters.ensures
+pub returns-else-is_some : goal.returns-else-is_some
+returns-else-is_some c =
+    letters_of_one (viewed c.args.parts.now) c.args.to c.args.primary _ _ (sym c.is_some.ensures ∙ c.if-is_some.false)
+    (c.in_ok-push_arc_letters.ensures c.args.primary.first c.elements_of-first.ensures)

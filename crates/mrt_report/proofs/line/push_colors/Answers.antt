@@ -1,27 +1,24 @@
-use Rattle.std.proofs.Common.{◌<◌, ◌++◌, ◌∙◌, ℕ, List, refl, sym, ap, subst}
+use Rattle.std.proofs.Common.{◌++◌, ◌∙◌, ℕ, List, refl, ap}
 use Rattle.mrt_graph.specs.declared.cert.Color.TheVariants.{Blue, Red}
-use Rattle.primary_alt.proofs.ColorSteps.{counts}
+use Rattle.mrt_graph.specs.Column.{rows_of_column}
 use Rattle.mrt_report.proofs.Adding.{joined}
-use Rattle.mrt_report.proofs.ForLine.{row_touches}
+use Rattle.mrt_report.proofs.ForLine.{row_there, row_touches}
 use Rattle.mrt_report.proofs.line.push_colors.Goals as goal
 
-pub row-row-requires-clause-source : goal.row-row-requires-clause-source
-row-row-requires-clause-source c =
-    subst (λ (n : ℕ). c.args.parts.now.source < n) (sym (counts c.args.parts.now.island.now c.args.parts.now.cert.now c.requires.kept.accepted).nodes) c.requires.kept.within
-
-pub row-row-requires-clause-target : goal.row-row-requires-clause-target
-row-row-requires-clause-target c =
-    subst (λ (n : ℕ). c.args.to < n) (sym (counts c.args.parts.now.island.now c.args.parts.now.cert.now c.requires.kept.accepted).nodes) c.requires.target
+pub row_at-row-requires : goal.row_at-row-requires
+row_at-row-requires c =
+    row_there c.args.parts.now.island.now.links (rows_of_column c.args.parts.now.column.now) Blue c.args.parts.now.source c.args.to
+    (c.requires.kept.leads_on Blue c.args.parts.now.source c.requires.kept.within c.requires.kept.different)
 
 pub push_link_hop-requires-clause-touches : goal.push_link_hop-requires-clause-touches
 push_link_hop-requires-clause-touches c =
-    row_touches c.args.parts.now.island.now c.args.parts.now.cert.now c.requires.kept.accepted Blue c.args.parts.now.source c.args.to c.row-row.result
-    c.requires.kept.within c.requires.target c.requires.different c.row-row.ensures.value
+    row_touches c.args.parts.now.island.now.links (rows_of_column c.args.parts.now.column.now) Blue c.args.parts.now.source c.args.to c.row_at-row.result
+    c.row_at-row.ensures (c.requires.kept.leads_on Blue c.args.parts.now.source c.requires.kept.within c.requires.kept.different)
 
 pub push_link_hop-requires-2-clause-touches : goal.push_link_hop-requires-2-clause-touches
 push_link_hop-requires-2-clause-touches c =
-    row_touches c.args.parts.now.island.now c.args.parts.now.cert.now c.requires.kept.accepted Red c.args.parts.now.source c.args.to c.row-row.result
-    c.requires.kept.within c.requires.target c.requires.different c.row-row.ensures.value
+    row_touches c.args.parts.now.island.now.links (rows_of_column c.args.parts.now.column.now) Red c.args.parts.now.source c.args.to c.row_at-row.result
+    c.row_at-row.ensures (c.requires.kept.leads_on Red c.args.parts.now.source c.requires.kept.within c.requires.kept.different)
 
 pub returns : goal.returns
 returns c =
@@ -30,8 +27,8 @@ returns c =
     record {
       part = _;
       is = record {
-        row = c.row-row.result;
-        row_is = c.row-row.ensures.value;
+        row = c.row_at-row.result;
+        row_is = c.row_at-row.ensures;
         blue_hop = blue.part;
         blue_hop_is = blue.is;
         red_hop = red.part;

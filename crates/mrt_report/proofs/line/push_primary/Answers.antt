@@ -9,8 +9,6 @@ returns c =
     record {
       part = _;
       is = record {
-        primary = c.primary_for-primary.result;
-        primary_is = c.primary_for-primary.ensures.is;
         hop = hop.part;
         hop_is = hop.is;
         letters = letters.part;

@@ -1,0 +1,51 @@
+use Rattle.std.proofs.Common.{◌∙◌, arith, sym}
+use Rattle.primary_alt.proofs.ColorsUse.{agree, differ}
+use Rattle.mrt_report.specs.Viewed.{viewed}
+use Rattle.mrt_report.proofs.Telling.{IsStepOn, both_begin, both_end, both_go_on, both_stop}
+use Rattle.mrt_report.proofs.uses.uses_of.Goals as goal
+
+pub loop-left-init : goal.loop-left-init
+loop-left-init c = (
+  c.requires.kept.within,
+  rw (c.node_count-left.ensures.count) (both_begin (viewed c.args.parts.now) c.args.to c.args.color c.args.first.now),
+  rw (c.node_count-left.ensures.count) (both_begin (viewed c.args.parts.now) c.args.to c.args.color c.args.second.now),
+)
+
+pub onward-step-requires : goal.onward-step-requires
+onward-step-requires c =
+    c.requires.kept.leads_on c.args.color c.loop-left.at c.loop-left.invariant.0
+    (differ _ _ (sym c.ne.ensures ∙ c.if-ne.true))
+
+pub loop-left-preserved : goal.loop-left-preserved
+loop-left-preserved c =
+    let step : IsStepOn (viewed c.args.parts.now) c.args.to c.args.color c.loop-left.left c.loop-left.at c.onward-step.result.link c.onward-step.result.to = record {
+      some = omega (arith, c.loop-left-test.true);
+      other = differ _ _ (sym c.ne.ensures ∙ c.if-ne.true);
+      hop = c.onward-step.ensures.hop;
+    } in (
+      c.onward-step.ensures.within,
+      both_go_on (viewed c.args.parts.now) c.args.to c.args.color c.loop-left.left c.loop-left.at _ _ c.args.first.now c.loop-left.uses.first _ step
+          c.uses_after.ensures.link c.uses_after.ensures.node c.loop-left.invariant.1,
+      both_go_on (viewed c.args.parts.now) c.args.to c.args.color c.loop-left.left c.loop-left.at _ _ c.args.second.now c.loop-left.uses.second _ step
+          c.uses_after-in-loop-left.ensures.link c.uses_after-in-loop-left.ensures.node c.loop-left.invariant.2,
+    )
+
+pub returns-else-ne-clause-first : goal.returns-else-ne-clause-first
+returns-else-ne-clause-first c =
+    both_end (viewed c.args.parts.now) c.args.to c.args.color c.loop-left.left c.loop-left.at c.args.first.now c.loop-left.uses.first
+    (agree _ _ (sym c.ne.ensures ∙ c.if-ne.false)) c.loop-left.invariant.1
+
+pub returns-else-ne-clause-second : goal.returns-else-ne-clause-second
+returns-else-ne-clause-second c =
+    both_end (viewed c.args.parts.now) c.args.to c.args.color c.loop-left.left c.loop-left.at c.args.second.now c.loop-left.uses.second
+    (agree _ _ (sym c.ne.ensures ∙ c.if-ne.false)) c.loop-left.invariant.2
+
+pub returns-after-loop-left-clause-first : goal.returns-after-loop-left-clause-first
+returns-after-loop-left-clause-first c =
+    both_stop (viewed c.args.parts.now) c.args.to c.args.color c.loop-left.left c.loop-left.at c.args.first.now c.loop-left.uses.first
+    (omega (arith, c.loop-left-test.false)) c.loop-left.invariant.1
+
+pub returns-after-loop-left-clause-second : goal.returns-after-loop-left-clause-second
+returns-after-loop-left-clause-second c =
+    both_stop (viewed c.args.parts.now) c.args.to c.args.color c.loop-left.left c.loop-left.at c.args.second.now c.loop-left.uses.second
+    (omega (arith, c.loop-left-test.false)) c.loop-left.invariant.2

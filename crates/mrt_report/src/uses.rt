@@ -1,0 +1,92 @@
+//! Which of the few elements of a primary a color walk uses.
+
+ghost use Rattle.std.specs.Prelude.{◌↔◌, ◌⊎◌, IsTrue};
+ghost use Rattle.mrt_report.specs.LineParts.{AreLineParts};
+ghost use Rattle.mrt_report.specs.Uses.{IsOverOne, TellUses};
+ghost use Rattle.mrt_report.specs.Viewed.{viewed};
+
+use crate::elements::ArcElements;
+use crate::onward::{Step, onward};
+use crate::parts::Parts;
+use mrt_graph::{Color, Element, NodeNo};
+
+/// Of the elements of an arc, each by itself: whether a color walk uses it.
+#[derive(Clone, Copy)]
+pub struct ArcUses {
+    pub link: bool,
+    pub node: bool,
+}
+
+/// Of the elements of two arcs.
+#[derive(Clone, Copy)]
+pub struct BothUses {
+    pub first: ArcUses,
+    pub second: ArcUses,
+}
+
+/// Which elements of two arcs the color walk from the router to `to` uses.
+///
+/// It follows the walk once, whatever the number of elements, and takes no memory.
+pub fn uses_of(
+    parts: &Parts,
+    to: NodeNo,
+    color: Color,
+    first: &ArcElements,
+    second: &ArcElements,
+) -> BothUses
+    requires kept { AreLineParts (viewed parts.now) to }
+    ensures first { TellUses (viewed parts.now) to color first.now result.first }
+    ensures second { TellUses (viewed parts.now) to color second.now result.second }
+{
+    let none = ArcUses {
+        link: false,
+        node: false,
+    };
+    let mut uses = BothUses {
+        first: none,
+        second: none,
+    };
+    let mut at = parts.source;
+    let mut left = parts.island.node_count();
+    while left > 0 && at != to {
+        let step = onward(parts.island, parts.column, at, to, color);
+        uses = BothUses {
+            first: uses_after(&uses.first, first, &step),
+            second: uses_after(&uses.second, second, &step),
+        };
+        at = step.to;
+        left -= 1;
+    }
+    uses
+}
+
+/// What is used after one step more.
+fn uses_after(uses: &ArcUses, elements: &ArcElements, step: &Step) -> ArcUses
+    ensures link { IsTrue result.link
+        ↔ (IsTrue uses.now.link ⊎ IsOverOne step.now.link step.now.to elements.now.link) }
+    ensures node { IsTrue result.node
+        ↔ (IsTrue uses.now.node ⊎ IsOverOne step.now.link step.now.to elements.now.node) }
+{
+    ArcUses {
+        link: is_used(uses.link, &elements.link, step),
+        node: is_used(uses.node, &elements.node, step),
+    }
+}
+
+/// Whether an element was used before this step, or is by it.
+fn is_used(before: bool, x: &Option<Element>, step: &Step) -> bool
+    ensures { IsTrue result ↔ (IsTrue before ⊎ IsOverOne step.now.link step.now.to x.now) }
+{
+    before || is_over(x, step)
+}
+
+/// Whether an element is the link of a step, or the node that it leads to.
+fn is_over(x: &Option<Element>, step: &Step) -> bool
+    ensures { IsTrue result ↔ IsOverOne step.now.link step.now.to x.now }
+{
+    match x {
+        Some(Element::Link(link)) => *link == step.link,
+        Some(Element::Node(node)) => *node == step.to,
+        None => false,
+    }
+}
