@@ -34,7 +34,7 @@ pub use link::{Element, End, Link, LinkIn};
 pub use no_memory::NoMemory;
 pub use node_id::{Kind, NodeId};
 pub use node_search::NodeSearch;
-pub use node_text::NodeText;
+pub use node_text::{NodeText, push_node_text};
 pub use numbers::{LinkNo, NodeNo};
 pub use seq::Seq;
 pub use text_lines::{first_line, first_word, is_passed_over};

@@ -1,5 +1,6 @@
 ghost use Rattle.std.specs.Prelude.{◌≡◌, ◌<◌, ◌≤◌, ◌+◌, ◌/◌, ◌%◌, ◌++◌, ◌∷◌, [], codes, length, decimal};
 ghost use Rattle.arrayvec.specs.ArrayVec.{array_vec_len};
+ghost use Rattle.mrt_graph.specs.Spelling.{address_text, node_text};
 
 use crate::node_id::{Kind, NodeId};
 use arrayvec::ArrayVec;
@@ -28,17 +29,7 @@ impl NodeText {
         ensures { result ≡ node_text id }
     {
         let mut text = ArrayVec::new();
-        if id.kind == Kind::Network {
-            push_net(&mut text);
-        }
-        let [a, b, c, d] = id.number.to_be_bytes();
-        push_decimal(&mut text, a);
-        text.push(b'.');
-        push_decimal(&mut text, b);
-        text.push(b'.');
-        push_decimal(&mut text, c);
-        text.push(b'.');
-        push_decimal(&mut text, d);
+        push_node_text(&mut text, id);
         NodeText { text }
     }
 
@@ -50,11 +41,26 @@ impl NodeText {
     }
 }
 
+/// Puts a node's name after the text, in which there is room for it. It takes no memory.
+pub fn push_node_text<const N: usize>(text: &mut ArrayVec<u8, N>, id: NodeId)
+    requires { array_vec_len text.old + 19 ≤ N }
+    ensures value { text.new.items ≡ text.old.items ++ node_text id }
+    ensures short { array_vec_len text.new ≤ array_vec_len text.old + 19 }
+{
+    match id.kind {
+        Kind::Router => push_address(text, id.number),
+        Kind::Network => {
+            push_net(text);
+            push_address(text, id.number);
+        }
+    }
+}
+
 /// Puts what stands before a network's address.
-fn push_net(text: &mut ArrayVec<u8, 19>)
-    requires { text.old.items ≡ [] }
-    ensures value { text.new.items ≡ codes "net:" }
-    ensures len { array_vec_len text.new ≡ 4 }
+fn push_net<const N: usize>(text: &mut ArrayVec<u8, N>)
+    requires { array_vec_len text.old + 4 ≤ N }
+    ensures value { text.new.items ≡ text.old.items ++ codes "net:" }
+    ensures len { array_vec_len text.new ≡ array_vec_len text.old + 4 }
 {
     text.push(b'n');
     text.push(b'e');
@@ -62,9 +68,25 @@ fn push_net(text: &mut ArrayVec<u8, 19>)
     text.push(b':');
 }
 
+/// Puts an address after the text.
+fn push_address<const N: usize>(text: &mut ArrayVec<u8, N>, number: u32)
+    requires { array_vec_len text.old + 15 ≤ N }
+    ensures value { text.new.items ≡ text.old.items ++ address_text number }
+    ensures short { array_vec_len text.new ≤ array_vec_len text.old + 15 }
+{
+    let [a, b, c, d] = number.to_be_bytes();
+    push_decimal(text, a);
+    text.push(b'.');
+    push_decimal(text, b);
+    text.push(b'.');
+    push_decimal(text, c);
+    text.push(b'.');
+    push_decimal(text, d);
+}
+
 /// Puts a byte's number after the text.
-fn push_decimal(text: &mut ArrayVec<u8, 19>, number: u8)
-    requires { array_vec_len text.old + 3 ≤ 19 }
+fn push_decimal<const N: usize>(text: &mut ArrayVec<u8, N>, number: u8)
+    requires { array_vec_len text.old + 3 ≤ N }
     ensures value { text.new.items ≡ text.old.items ++ decimal number }
     ensures short { array_vec_len text.new ≤ array_vec_len text.old + 3 }
 {
@@ -79,8 +101,8 @@ fn push_decimal(text: &mut ArrayVec<u8, 19>, number: u8)
 }
 
 /// Puts two digits after the text.
-fn push_pair(text: &mut ArrayVec<u8, 19>, number: u8)
-    requires room { array_vec_len text.old + 2 ≤ 19 }
+fn push_pair<const N: usize>(text: &mut ArrayVec<u8, N>, number: u8)
+    requires room { array_vec_len text.old + 2 ≤ N }
     requires two { number < 100 }
     ensures value { text.new.items ≡ text.old.items ++ (48 + number / 10) ∷ (48 + number % 10) ∷ [] }
     ensures len { array_vec_len text.new ≡ array_vec_len text.old + 2 }
