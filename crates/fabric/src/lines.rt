@@ -1,6 +1,7 @@
 //! The texts of answers.
 
-ghost use Rattle.std.specs.Prelude.{◌≡◌, ◌<◌, ◌++◌, IfOk, Some, Ok, length, slice_get, decimal};
+ghost use Rattle.std.specs.Prelude.{◌≡◌, ◌≤◌, ◌+◌, ◌++◌, [], IfOk, Some, Ok, length};
+ghost use Rattle.arrayvec.specs.ArrayVec.{array_vec_len};
 ghost use Rattle.std.specs.Option.{option_map};
 ghost use Rattle.fabric.specs.OutcomeText.{
   IsTellable,
@@ -15,9 +16,10 @@ ghost use Rattle.mrt_graph.specs.Spelling.{node_text};
 
 use crate::event::{Outcome, Refused};
 use crate::packet::Loss;
-use area_graph::{Area, Spot};
+use area_graph::Area;
+use arrayvec::ArrayVec;
 use itoa::Buffer;
-use mrt_graph::{Color, NoMemory, NodeText};
+use mrt_graph::{Color, NoMemory, NodeId, push_node_text};
 use std::alloc::Global;
 
 /// The line that tells an answer. An area node in the answer is in range.
@@ -44,76 +46,83 @@ pub fn push_answer_line(
     ensures { IfOk result (λ _. option_map (λ line. text.old.items ++ line)
         (answer_line area.now.ids answer) ≡ Some text.new.items) }
 {
-    push_answer(text, area, answer)?;
-    push(text, b"\n")
-}
-
-/// Puts an answer at the end of a text.
-fn push_answer(
-    text: &mut Vec<u8>,
-    area: &Area,
-    answer: Result<Outcome, Refused>,
-) -> Result<(), NoMemory>
-    requires { IsTellable area.now.ids answer }
-    ensures { IfOk result (λ _. option_map (λ part. text.old.items ++ part)
-        (answer_text area.now.ids answer) ≡ Some text.new.items) }
-{
-    match answer {
-        Ok(outcome) => push_outcome(text, area, outcome),
-        Err(refused) => push_words(text, b"refused ", refused_word(refused)),
-    }
-}
-
-/// Puts an outcome at the end of a text.
-fn push_outcome(text: &mut Vec<u8>, area: &Area, outcome: Outcome) -> Result<(), NoMemory>
-    requires { IsTellable area.now.ids (Ok outcome) }
-    ensures { IfOk result (λ _. option_map (λ part. text.old.items ++ part)
-        (outcome_text area.now.ids outcome) ≡ Some text.new.items) }
-{
-    match outcome {
-        Outcome::Entered(number) => push_count(text, b"entered ", number.get()),
-        Outcome::Moved(x) => push_node(text, b"moved ", area, x),
-        Outcome::Switched(color) => push_words(text, b"switched ", color_word(color)),
-        Outcome::Delivered(x) => push_node(text, b"delivered ", area, x),
-        Outcome::Lost(loss) => push_words(text, b"lost ", loss_word(loss)),
-        Outcome::Failed => push(text, b"failed"),
-    }
-}
-
-/// Puts bytes at the end of a text.
-fn push(text: &mut Vec<u8>, part: &[u8]) -> Result<(), NoMemory>
-    ensures { IfOk result (λ _. text.new.items ≡ text.old.items ++ part.now) }
-{
-    text.extend_from_slice(part)?;
+    let mut line = ArrayVec::new();
+    put_answer(&mut line, area, answer);
+    line.push(b'\n');
+    text.extend_from_slice(line.as_slice())?;
     Ok(())
 }
 
-/// Puts two parts at the end of a text.
-fn push_words(text: &mut Vec<u8>, first: &[u8], second: &[u8]) -> Result<(), NoMemory>
-    ensures { IfOk result (λ _. text.new.items ≡ text.old.items ++ (first.now ++ second.now)) }
+/// Puts an answer into an empty line.
+fn put_answer(line: &mut ArrayVec<u8, 32>, area: &Area, answer: Result<Outcome, Refused>)
+    requires told { IsTellable area.now.ids answer }
+    requires empty { line.old.items ≡ [] }
+    ensures value { answer_text area.now.ids answer ≡ Some line.new.items }
+    ensures short { array_vec_len line.new ≤ 29 }
 {
-    push(text, first)?;
-    push(text, second)
+    match answer {
+        Ok(outcome) => put_outcome(line, area, outcome),
+        Err(refused) => put_words(line, b"refused ", refused_word(refused)),
+    }
 }
 
-/// Puts a word and a count at the end of a text.
-fn push_count(text: &mut Vec<u8>, word: &[u8], count: u16) -> Result<(), NoMemory>
-    ensures { IfOk result (λ _. text.new.items ≡ text.old.items ++ (word.now ++ decimal count)) }
+/// Puts an outcome into an empty line.
+fn put_outcome(line: &mut ArrayVec<u8, 32>, area: &Area, outcome: Outcome)
+    requires told { IsTellable area.now.ids (Ok outcome) }
+    requires empty { line.old.items ≡ [] }
+    ensures value { outcome_text area.now.ids outcome ≡ Some line.new.items }
+    ensures short { array_vec_len line.new ≤ 29 }
 {
-    push_words(text, word, Buffer::new().format(count).as_bytes())
+    match outcome {
+        Outcome::Entered(number) => {
+            put_words(
+                line,
+                b"entered ",
+                Buffer::new().format(number.get()).as_bytes(),
+            );
+        }
+        Outcome::Moved(x) => put_node(line, b"moved ", area.id(x)),
+        Outcome::Switched(color) => put_words(line, b"switched ", color_word(color)),
+        Outcome::Delivered(x) => put_node(line, b"delivered ", area.id(x)),
+        Outcome::Lost(loss) => put_words(line, b"lost ", loss_word(loss)),
+        Outcome::Failed => put(line, b"failed"),
+    }
 }
 
-/// Puts a word and a node's name at the end of a text.
-fn push_node(text: &mut Vec<u8>, word: &[u8], area: &Area, x: Spot) -> Result<(), NoMemory>
-    requires { x < length area.now.ids }
-    ensures { IfOk result (λ _. option_map (λ id. text.old.items ++ (word.now ++ node_text id))
-        (slice_get area.now.ids x) ≡ Some text.new.items) }
+/// Puts bytes after a line.
+fn put(line: &mut ArrayVec<u8, 32>, part: &[u8])
+    requires { array_vec_len line.old + length part.now ≤ 32 }
+    ensures value { line.new.items ≡ line.old.items ++ part.now }
+    ensures len { array_vec_len line.new ≡ array_vec_len line.old + length part.now }
 {
-    push_words(text, word, NodeText::new(area.id(x)).bytes())
+    line.try_extend_from_slice(part).unwrap();
+}
+
+/// Puts two parts into an empty line.
+fn put_words(line: &mut ArrayVec<u8, 32>, first: &[u8], second: &[u8])
+    requires empty { line.old.items ≡ [] }
+    requires room { length first.now + length second.now ≤ 29 }
+    ensures value { line.new.items ≡ first.now ++ second.now }
+    ensures short { array_vec_len line.new ≤ 29 }
+{
+    put(line, first);
+    put(line, second);
+}
+
+/// Puts a word and a node's name into an empty line.
+fn put_node(line: &mut ArrayVec<u8, 32>, word: &[u8], id: NodeId)
+    requires empty { line.old.items ≡ [] }
+    requires room { length word.now ≤ 10 }
+    ensures value { line.new.items ≡ word.now ++ node_text id }
+    ensures short { array_vec_len line.new ≤ 29 }
+{
+    put(line, word);
+    push_node_text(line, id);
 }
 
 fn color_word(color: Color) -> &'static [u8]
-    ensures { result.now ≡ color_text color }
+    ensures value { result.now ≡ color_text color }
+    ensures short { length result.now ≤ 4 }
 {
     match color {
         Color::Blue => b"blue",
@@ -122,7 +131,8 @@ fn color_word(color: Color) -> &'static [u8]
 }
 
 fn loss_word(loss: Loss) -> &'static [u8]
-    ensures { result.now ≡ loss_text loss }
+    ensures value { result.now ≡ loss_text loss }
+    ensures short { length result.now ≤ 14 }
 {
     match loss {
         Loss::Inside => b"inside",
@@ -135,7 +145,8 @@ fn loss_word(loss: Loss) -> &'static [u8]
 }
 
 fn refused_word(refused: Refused) -> &'static [u8]
-    ensures { result.now ≡ refused_text refused }
+    ensures value { result.now ≡ refused_text refused }
+    ensures short { length result.now ≤ 14 }
 {
     match refused {
         Refused::NoSuchPlace => b"no-such-place",

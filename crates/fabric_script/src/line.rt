@@ -1,6 +1,7 @@
 //! A line of a script.
 
-ghost use Rattle.std.specs.Prelude.{◌≡◌, ◌∷◌, []};
+ghost use Rattle.std.specs.Prelude.{◌≡◌, ◌∷◌, [], codes};
+ghost use Rattle.std.specs.Str.{bytes_eq};
 ghost use Rattle.mrt_graph.specs.TextLines.{words_of};
 ghost use Rattle.fabric_script.specs.ScriptLines.{entry_in, event_in, event_in_words, injection_in, packet_in, room_in, start_in, start_in_words};
 
@@ -87,7 +88,7 @@ fn long_event(command: &[u8], router: &[u8], to: &[u8], entry: &[u8]) -> Option<
 fn short_event(command: &[u8], word: &[u8]) -> Option<ScriptEvent>
     ensures { result ≡ event_in_words (command.now ∷ word.now ∷ []) }
 {
-    if command == b"step".as_slice() {
+    if is_step(command) {
         let packet = read_packet(word)?;
         return Some(ScriptEvent::Step { packet });
     }
@@ -96,6 +97,13 @@ fn short_event(command: &[u8], word: &[u8]) -> Option<ScriptEvent>
         return Some(ScriptEvent::Fail { failed });
     }
     None
+}
+
+/// Whether a word is `step`.
+fn is_step(command: &[u8]) -> bool
+    ensures { result ≡ bytes_eq command.now (codes "step") }
+{
+    matches!(command, [b's', b't', b'e', b'p'])
 }
 
 /// The event of `inject` and these three words.

@@ -5,7 +5,7 @@ ghost use Rattle.fabric_script.specs.NamedEvents.{bond_of, event_of, failure_of,
 
 use crate::event::{FailureName, ScriptEvent};
 use area_graph::{Area, BondNo, Spot};
-use fabric::{Event, Failure, PacketNo};
+use fabric::{Entry, Event, Failure, PacketNo};
 use mrt_graph::{Kind, NodeId};
 
 /// The event that names give in an area. A name that the area does not have gives the number of no node or bond.
@@ -15,23 +15,33 @@ pub fn event_of(area: &Area, event: &ScriptEvent) -> Event
     ensures { result ≡ event_of area.now event.now }
 {
     match event {
-        ScriptEvent::Inject { router, to, entry } => Event::Inject {
-            at: spot_of(
-                area,
-                NodeId {
-                    kind: Kind::Router,
-                    number: *router,
-                },
-            ),
-            to: spot_of(area, *to),
-            entry: *entry,
-        },
+        ScriptEvent::Inject { router, to, entry } => injection_of(area, *router, *to, *entry),
         ScriptEvent::Step { packet } => Event::Step(PacketNo::new(*packet)),
         ScriptEvent::Fail { failed } => Event::Fail(failure_of(area, failed)),
     }
 }
 
+/// A packet that enters at a router.
+#[inline(never)]
+fn injection_of(area: &Area, router: u32, to: NodeId, entry: Entry) -> Event
+    ensures { result ≡ event_of area.now (ScriptEvent.Inject router to entry) }
+{
+    let at = spot_of(
+        area,
+        NodeId {
+            kind: Kind::Router,
+            number: router,
+        },
+    );
+    Event::Inject {
+        at,
+        to: spot_of(area, to),
+        entry,
+    }
+}
+
 /// The element of this name.
+#[inline(never)]
 pub fn failure_of(area: &Area, failed: &FailureName) -> Failure
     ensures { result ≡ failure_of area.now failed.now }
 {
