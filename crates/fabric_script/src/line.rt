@@ -1,7 +1,9 @@
 //! A line of a script.
 
 ghost use Rattle.std.specs.Prelude.{◌≡◌, ◌∷◌, [], codes};
+ghost use Rattle.std.specs.Option.{option_map};
 ghost use Rattle.std.specs.Str.{bytes_eq};
+ghost use Rattle.fabric_script.specs.Names.{failure_in};
 ghost use Rattle.mrt_graph.specs.TextLines.{words_of};
 ghost use Rattle.fabric_script.specs.ScriptLines.{entry_in, event_in, event_in_words, injection_in, packet_in, room_in, start_in, start_in_words};
 
@@ -64,21 +66,20 @@ pub fn read_event(line: &[u8]) -> Option<ScriptEvent>
 {
     let (command, rest) = first_word(line)?;
     let (first, rest) = first_word(rest)?;
-    let Some((second, rest)) = first_word(rest) else {
-        return short_event(command, first);
-    };
-    let (third, rest) = first_word(rest)?;
-    if first_word(rest).is_some() {
-        return None;
+    match first_word(rest) {
+        None => short_event(command, first),
+        Some((second, rest)) => long_event(command, first, second, rest),
     }
-    long_event(command, first, second, third)
 }
 
-/// The event of a line of four words: `inject ROUTER NODE` and how.
-fn long_event(command: &[u8], router: &[u8], to: &[u8], entry: &[u8]) -> Option<ScriptEvent>
-    ensures { result ≡ event_in_words (command.now ∷ router.now ∷ to.now ∷ entry.now ∷ []) }
+/// The event of a line of four words: `inject ROUTER NODE`, and how in the rest of the line.
+// Most lines are steps, whose code is better without this one inlined.
+#[inline(never)]
+fn long_event(command: &[u8], router: &[u8], to: &[u8], rest: &[u8]) -> Option<ScriptEvent>
+    ensures { result ≡ event_in_words (command.now ∷ router.now ∷ to.now ∷ words_of rest.now) }
 {
-    if command != b"inject".as_slice() {
+    let (entry, rest) = first_word(rest)?;
+    if first_word(rest).is_some() || command != b"inject".as_slice() {
         return None;
     }
     injection(router, to, entry)
@@ -93,10 +94,18 @@ fn short_event(command: &[u8], word: &[u8]) -> Option<ScriptEvent>
         return Some(ScriptEvent::Step { packet });
     }
     if command == b"fail".as_slice() {
-        let failed = read_failure(word)?;
-        return Some(ScriptEvent::Fail { failed });
+        return failure(word);
     }
     None
+}
+
+/// The event of `fail` and this word.
+#[inline(never)]
+fn failure(word: &[u8]) -> Option<ScriptEvent>
+    ensures { result ≡ option_map (λ failed. ScriptEvent.Fail failed) (failure_in word.now) }
+{
+    let failed = read_failure(word)?;
+    Some(ScriptEvent::Fail { failed })
 }
 
 /// Whether a word is `step`.

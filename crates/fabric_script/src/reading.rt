@@ -43,6 +43,7 @@ pub fn read_script(alloc: Global, bytes: &[u8]) -> Result<Script, ScriptError>
 }
 
 /// The script with its one exact answer, from which the clauses of [`read_script`] follow.
+#[inline(never)]
 fn read_lines(alloc: Global, bytes: &[u8]) -> Result<Script, ScriptError>
     requires { length bytes.now ≤ 33554432 }
     ensures { ReadsLines (text_lines bytes.now) result }

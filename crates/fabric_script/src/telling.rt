@@ -13,6 +13,7 @@ use fabric::{Event, Fabric, push_answer_line};
 use mrt_graph::NoMemory;
 
 /// Events by their names, and the lines of their answers.
+#[inline(never)]
 pub fn tell_all(
     fabric: &mut Fabric<'_>,
     area: &Area,
