@@ -1,5 +1,5 @@
 -- The links by which nodes begin least paths, to some nodes side by side.
-use Rattle.std.specs.Prelude.{◌≡◌, ◌≢◌, ◌<◌, ◌+◌, ◌*◌, ℕ, List, Some, None, length, slice_get}
+use Rattle.std.specs.Prelude.{◌≡◌, ◌≢◌, ◌<◌, ◌+◌, ◌*◌, ℕ, Bool, false, List, Some, None, length, slice_get}
 use Rattle.link_direction.specs.Directions.{Directions}
 use Rattle.mrt_graph.specs.Topology.{Topology}
 use Rattle.inc_dec_spf.specs.declared.reach.Dir.{Dir}
@@ -19,6 +19,10 @@ pub data IsFirstLink (g : Topology) (w : Directions) (dir : Dir) (s t link : ℕ
 -- node v has no block of more than one link in common with other nodes but the one that it lies in
 pub record LiesInOneBlock (g : Topology) (w : Directions) (v : ℕ) : Type 0 where
   pub only : (t k h : ℕ) → t < length g.ids → ShareBlock g w v t k h → k ≡ w.block v
+
+-- so does each node that is not marked
+pub record AreOthersInOneBlock (g : Topology) (w : Directions) (marks : List Bool) : Type 0 where
+  pub each : (v : ℕ) → v < length g.ids → slice_get marks v ≡ Some false → LiesInOneBlock g w v
 
 -- the links of node s are there, for so many nodes from number `first` on
 pub record HasLinksAt (g : Topology) (w : Directions) (dir : Dir) (first width : ℕ) (links : List ℕ) (s : ℕ) : Type 0 where

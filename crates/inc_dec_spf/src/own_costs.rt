@@ -1,10 +1,10 @@
 //! The least ways within the blocks of all nodes, to some nodes side by side.
 
-ghost use Rattle.std.specs.Prelude.{◌≡◌, ◌≢◌, ◌<◌, ◌≤◌, ◌+◌, ◌*◌, ◌⊎◌, ℕ, List, Some, length, slice_get};
+ghost use Rattle.std.specs.Prelude.{◌≡◌, ◌≢◌, ◌<◌, ◌≤◌, ◌+◌, ◌*◌, ◌⊎◌, ℕ, List, Some, false, length, slice_get, true};
 ghost use Rattle.mrt_graph.specs.GraphInvariant.{IsTopology};
 ghost use Rattle.link_direction.specs.Directions.{Directions};
 ghost use Rattle.inc_dec_spf.specs.Against.{against};
-ghost use Rattle.inc_dec_spf.specs.FirstLink.{HasLinksAt, LiesInOneBlock, no_link};
+ghost use Rattle.inc_dec_spf.specs.FirstLink.{AreOthersInOneBlock, HasLinksAt, LiesInOneBlock, no_link};
 ghost use Rattle.inc_dec_spf.specs.HasDirections.{AreDirections, HasDirections};
 ghost use Rattle.inc_dec_spf.specs.Rest.{far};
 ghost use Rattle.inc_dec_spf.specs.Turns.{AreTurns};
@@ -93,14 +93,53 @@ fn take_all_ways(
     keep(s.get() as usize * links.len(), links, all_links);
 }
 
-/// Takes the links by which all nodes begin the least ways to the nodes side by side, in a graph whose nodes but `head`
-/// lie in one block each.
+/// Takes the links by which the marked nodes begin the least ways to the nodes side by side, in all their blocks.
+fn take_marked_ways(
+    g: &Graph,
+    d: &Directed,
+    dir: Dir,
+    heads: &[bool],
+    first: NodeNo,
+    all_costs: &[u32],
+    all_links: &mut [LinkNo],
+    costs: &mut [u32],
+    links: &mut [LinkNo],
+)
+    requires kept { IsTopology g.now }
+    requires directed { HasDirections g.now d.now }
+    requires heads { length heads.now ≡ length g.now.ids }
+    requires one_link_each { length links.old ≡ length costs.old }
+    requires all_costs { length all_costs.now ≡ length g.now.ids * length costs.old }
+    requires all_links { length all_links.old ≡ length g.now.ids * length costs.old }
+    requires most { (i cost : ℕ) → slice_get all_costs.now i ≡ Some cost → cost ≤ far }
+    ensures one_each { length costs.new ≡ length costs.old }
+    ensures one_link_each { length links.new ≡ length links.old }
+    ensures all_links { length all_links.new ≡ length all_links.old }
+    ensures marked { (root s : ℕ) (w : Directions) → AreDirections g.now d.now root w
+        → ((y : ℕ) → y < length g.now.ids
+        → IsReadyFrom g.now w dir first (length costs.old) (65536 * length g.now.ids) all_costs.now y)
+        → slice_get heads.now s ≡ Some true
+        → HasLinksAt g.now w dir first (length costs.old) all_links.new s }
+    ensures kept { (y : ℕ) (w : Directions) → slice_get heads.now y ≡ Some false
+        → HasLinksAt g.now w dir first (length costs.old) all_links.old y
+        → HasLinksAt g.now w dir first (length costs.old) all_links.new y }
+{
+    for n in 0..g.node_count() {
+        if heads[n as usize] {
+            let s = NodeNo::new(n);
+            take_all_ways(g, d, s, dir, first, all_costs, all_links, costs, links);
+        }
+    }
+}
+
+/// Takes the links by which all nodes begin the least ways to the nodes side by side. Each node that is not marked lies
+/// in one block.
 pub fn take_links(
     g: &Graph,
     d: &Directed,
     dir: Dir,
     turns: &[NodeNo],
-    head: NodeNo,
+    heads: &[bool],
     first: NodeNo,
     all_costs: &mut [u32],
     all_links: &mut [LinkNo],
@@ -111,7 +150,7 @@ pub fn take_links(
     requires directed { HasDirections g.now d.now }
     requires turns { (root : ℕ) (w : Directions) → AreDirections g.now d.now root w
         → AreTurns g.now w (against dir) turns.now }
-    requires head { head < length g.now.ids }
+    requires heads { length heads.now ≡ length g.now.ids }
     requires one_link_each { length links.old ≡ length costs.old }
     requires all_costs { length all_costs.old ≡ length g.now.ids * length costs.old }
     requires all_links { length all_links.old ≡ length g.now.ids * length costs.old }
@@ -122,11 +161,11 @@ pub fn take_links(
     ensures all_links { length all_links.new ≡ length all_links.old }
     ensures most { (i cost : ℕ) → slice_get all_costs.new i ≡ Some cost → cost ≤ far }
     ensures links { (root : ℕ) (w : Directions) → AreDirections g.now d.now root w
-        → ((v : ℕ) → v < length g.now.ids → v ≢ head → LiesInOneBlock g.now w v)
+        → AreOthersInOneBlock g.now w heads.now
         → (s : ℕ) → s < length g.now.ids → HasLinksAt g.now w dir first (length costs.old) all_links.new s }
 {
     take_own_ways(g, d, dir, turns, first, all_costs, all_links, costs, links);
-    take_all_ways(g, d, head, dir, first, all_costs, all_links, costs, links);
+    take_marked_ways(g, d, dir, heads, first, all_costs, all_links, costs, links);
 }
 
 /// No way is known.

@@ -1,10 +1,10 @@
 //! Tiles: the links by which all nodes begin the least paths to some nodes side by side.
 
-ghost use Rattle.std.specs.Prelude.{◌≡◌, ◌≢◌, ◌<◌, ◌≤◌, ◌+◌, ◌*◌, ℕ, IfOk, Some, length, slice_get};
+ghost use Rattle.std.specs.Prelude.{◌≡◌, ◌<◌, ◌≤◌, ◌+◌, ◌*◌, ℕ, IfOk, Some, length, slice_get};
 ghost use Rattle.mrt_graph.specs.GraphInvariant.{IsTopology};
 ghost use Rattle.link_direction.specs.Directions.{Directions};
 ghost use Rattle.inc_dec_spf.specs.Against.{against};
-ghost use Rattle.inc_dec_spf.specs.FirstLink.{LiesInOneBlock};
+ghost use Rattle.inc_dec_spf.specs.FirstLink.{AreOthersInOneBlock};
 ghost use Rattle.inc_dec_spf.specs.HasDirections.{AreDirections, HasDirections};
 ghost use Rattle.inc_dec_spf.specs.Tile.{IsAimed, IsTile};
 ghost use Rattle.inc_dec_spf.specs.Turns.{AreTurns};
@@ -43,15 +43,17 @@ impl Tile {
         })
     }
 
-    /// Aims it at the nodes from `first` on, in a graph whose nodes but `head` lie in one block each. The turns are
-    /// those of the other direction.
+    /// Aims it at the nodes from `first` on. Each node that is not marked in `heads` lies in one block. The turns are those
+    /// of the other direction.
+    ///
+    /// It takes time in proportion to the ends of all nodes times the width.
     pub fn aim(
         &mut self,
         g: &Graph,
         d: &Directed,
         dir: Dir,
         turns: &[NodeNo],
-        head: NodeNo,
+        heads: &[bool],
         first: NodeNo,
     )
         ghost width: { ℕ }
@@ -59,11 +61,11 @@ impl Tile {
         requires directed { HasDirections g.now d.now }
         requires turns { (root : ℕ) (w : Directions) → AreDirections g.now d.now root w
             → AreTurns g.now w (against dir) turns.now }
-        requires head { head < length g.now.ids }
+        requires heads { length heads.now ≡ length g.now.ids }
         requires tile { IsTile g.now width self.old }
         ensures tile { IsTile g.now width self.new }
         ensures aimed { (root : ℕ) (w : Directions) → AreDirections g.now d.now root w
-            → ((v : ℕ) → v < length g.now.ids → v ≢ head → LiesInOneBlock g.now w v)
+            → AreOthersInOneBlock g.now w heads.now
             → IsAimed g.now w dir first width self.new }
     {
         take_links(
@@ -71,7 +73,7 @@ impl Tile {
             d,
             dir,
             turns,
-            head,
+            heads,
             first,
             &mut self.all_costs,
             &mut self.all_links,

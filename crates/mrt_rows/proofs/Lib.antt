@@ -11,11 +11,13 @@ pub mod ChainAims
 pub mod Climbing
 pub mod ColumnRows
 pub mod Counting
+pub mod FarRows
 pub mod Filling
 pub mod HeadWays
 pub mod HopsExist
 pub mod LeastExists
 pub mod LinesHold
+pub mod MarkedHeads
 pub mod MemberRows
 pub mod NearRows
 pub mod OneBlock
@@ -31,11 +33,13 @@ pub mod RowTags
 pub mod RowsExist
 pub mod RowsPut
 pub mod RulesHold
+pub mod Sharing
 pub mod SoleRows
 pub mod SoundColumns
 pub mod TableRows
 pub mod Tables
 pub mod TileLinks
+pub mod TopRows
 pub mod Ways
 pub mod WaysBegun
 pub mod WholeCert

@@ -1,21 +1,21 @@
--- The rows that first links make, in a graph of one block.
-use Rattle.std.proofs.Common.{◌≡◌, ◌≢◌, ◌∙◌, ◌<◌, ℕ, length, refl, sym, subst}
+-- The rows that first links make.
+use Rattle.std.proofs.Common.{◌≡◌, ◌≢◌, ◌<◌, ℕ, length, refl, sym, subst}
 use Rattle.mrt_graph.specs.declared.cert.Tag.TheVariants as tags
 use Rattle.link_direction.specs.BlockOfTwo.{FromHead, ToHead}
 use Rattle.inc_dec_spf.specs.declared.reach.Dir.{Dir}
 use Rattle.inc_dec_spf.specs.declared.reach.Dir.TheVariants.{Down, Up}
 use Rattle.inc_dec_spf.specs.FirstLink.{Begins, BeginsNone, IsFirstLink, no_link}
 use Rattle.mrt_rows.specs.declared.members.Home.{Home}
-use Rattle.mrt_rows.specs.Put.{IsHome, IsMemberRow, IsOneBlock, IsOwnRow}
+use Rattle.mrt_rows.specs.Put.{IsHome, IsMemberRow, IsOwnRow}
 use Rattle.mrt_rows.specs.RowLines.{BeginsOver, NoWay}
 use Rattle.mrt_rows.specs.Source.{NoneOfOneLink}
 use Rattle.mrt_rows.proofs.HeadWays.{way_from_head, way_home}
 use Rattle.mrt_rows.proofs.LinesHold.{has_head, with_head}
 use Rattle.mrt_rows.proofs.NearRows.{are_members, member_ring, ring_by}
-use Rattle.mrt_rows.proofs.OneBlock.{none_of_one_link, root_is_head}
-use Rattle.mrt_rows.proofs.OrderedGraphs.{OrderedGraph, is_ordered}
+use Rattle.mrt_rows.proofs.OrderedGraphs.{OrderedGraph}
+use Rattle.mrt_rows.proofs.Sharing.{none_of_peers}
 use Rattle.mrt_rows.proofs.Ways.{Ring, Way, inside_itself}
-use Rattle.mrt_rows.proofs.WaysBegun.{Sharing, no_way, share}
+use Rattle.mrt_rows.proofs.WaysBegun.{Sharing, more_of, no_way, share}
 
 -- where a way leads on, the first link begins the least one
 first_begins : (og : OrderedGraph) (m : ℕ) (dir : Dir) (s v link : ℕ) → Ring og m → Sharing og m s v → Way og m dir s v
@@ -35,53 +35,48 @@ none_over : (og : OrderedGraph) (dir : Dir) (s t link : ℕ) → link ≡ no_lin
 none_over og dir s t link same (Begins hop is over some) = absurd (some same)
 none_over og dir s t link same (BeginsNone none over) = none
 
-module _ (og : OrderedGraph) (one : IsOneBlock og.g og.root og.w) (s t : ℕ) (s_within : s < length og.g.ids) (t_within : t < length og.g.ids)
-    (two : s ≢ t) where
-  more : NoneOfOneLink og.g og.w s t
-  more = none_of_one_link og.g og.root og.w (is_ordered og) one s t
+module _ (og : OrderedGraph) (s t : ℕ) (s_within : s < length og.g.ids) (t_within : t < length og.g.ids) (two : s ≢ t) where
+  -- the row for the head, and the row of the head
+  module _ (more : NoneOfOneLink og.g og.w s t) where
+    pub head_row : (a b : ℕ) → IsFirstLink og.g og.w Up s t a → IsFirstLink og.g og.w Down s t b → og.w.head s ≡ t
+        → IsOwnRow og.g og.root og.w s t (record { blue = a; red = b; tag = tags.Head })
+    head_row a b is_a is_b head =
+        let ring = ring_by og s t s_within t_within two more s t s_within (has_head og s t two head) (ToHead refl head refl) in
+        let sharing : Sharing og s s t =
+        record { source = s_within; target = t_within; two = two; common = ToHead refl head (sym head) } in
+        record {
+          line = λ rows. record {
+            block = og.w.block s;
+            head = og.w.head s;
+            share = share og s s t ring sharing;
+            at_head = sym head;
+            blue = first_begins og s Up s t a ring sharing (subst (λ (x : ℕ). Way og s Up s x) head (way_home og s Up ring)) is_a;
+            red = first_begins og s Down s t b ring sharing (subst (λ (x : ℕ). Way og s Down s x) head (way_home og s Down ring)) is_b;
+          };
+        }
 
-  pub head_row : (a b : ℕ) → IsFirstLink og.g og.w Up s t a → IsFirstLink og.g og.w Down s t b → t ≡ og.root
-      → IsOwnRow og.g og.root og.w s t (record { blue = a; red = b; tag = tags.Head })
-  head_row a b is_a is_b at_root =
-      let head : og.w.head s ≡ t =
-      root_is_head og.g og.root og.w (is_ordered og) one s s_within (λ same. two (same ∙ sym at_root)) ∙ sym at_root in
-      let ring = ring_by og s t s_within t_within two more s t s_within (has_head og s t two head) (ToHead refl head refl) in
-      let sharing : Sharing og s s t =
-      record { source = s_within; target = t_within; two = two; common = ToHead refl head (sym head) } in
-      record {
-        line = λ rows. record {
-          block = og.w.block s;
-          head = og.w.head s;
-          share = share og s s t ring sharing;
-          at_head = sym head;
-          blue = first_begins og s Up s t a ring sharing (subst (λ (x : ℕ). Way og s Up s x) head (way_home og s Up ring)) is_a;
-          red = first_begins og s Down s t b ring sharing (subst (λ (x : ℕ). Way og s Down s x) head (way_home og s Down ring)) is_b;
-        };
-      }
+    pub top_row : (a b : ℕ) → IsFirstLink og.g og.w Up s t a → IsFirstLink og.g og.w Down s t b → og.w.head t ≡ s
+        → IsOwnRow og.g og.root og.w s t (record { blue = a; red = b; tag = tags.Top })
+    top_row a b is_a is_b head =
+        let ring =
+        ring_by og s t s_within t_within two more t s t_within (has_head og t s (λ same. two (sym same)) head) (FromHead refl head refl) in
+        let sharing : Sharing og t s t =
+        record { source = s_within; target = t_within; two = two; common = FromHead refl head (sym head) } in
+        record {
+          line = λ rows. record {
+            block = og.w.block t;
+            head = og.w.head t;
+            share = share og t s t ring sharing;
+            at_head = sym head;
+            blue = first_begins og t Up s t a ring sharing (subst (λ (x : ℕ). Way og t Up x t) head (way_from_head og t Up ring)) is_a;
+            red = first_begins og t Down s t b ring sharing (subst (λ (x : ℕ). Way og t Down x t) head (way_from_head og t Down ring)) is_b;
+          };
+        }
 
-  pub top_row : (a b : ℕ) → IsFirstLink og.g og.w Up s t a → IsFirstLink og.g og.w Down s t b → s ≡ og.root
-      → IsOwnRow og.g og.root og.w s t (record { blue = a; red = b; tag = tags.Top })
-  top_row a b is_a is_b at_root =
-      let head : og.w.head t ≡ s =
-      root_is_head og.g og.root og.w (is_ordered og) one t t_within (λ same. two (at_root ∙ sym same)) ∙ sym at_root in
-      let ring =
-      ring_by og s t s_within t_within two more t s t_within (has_head og t s (λ same. two (sym same)) head) (FromHead refl head refl) in
-      let sharing : Sharing og t s t =
-      record { source = s_within; target = t_within; two = two; common = FromHead refl head (sym head) } in
-      record {
-        line = λ rows. record {
-          block = og.w.block t;
-          head = og.w.head t;
-          share = share og t s t ring sharing;
-          at_head = sym head;
-          blue = first_begins og t Up s t a ring sharing (subst (λ (x : ℕ). Way og t Up x t) head (way_from_head og t Up ring)) is_a;
-          red = first_begins og t Down s t b ring sharing (subst (λ (x : ℕ). Way og t Down x t) head (way_from_head og t Down ring)) is_b;
-        };
-      }
-
-  module _ (s_other : s ≢ og.root) (t_other : t ≢ og.root) where
-    same_block : og.w.block s ≡ og.w.block t
-    same_block = one.same s t s_within t_within s_other t_other
+  -- another node of the block
+  module _ (same_block : og.w.block s ≡ og.w.block t) where
+    more : NoneOfOneLink og.g og.w s t
+    more = none_of_peers og s t s_within t_within two same_block
 
     ring_here : Ring og s
     ring_here = member_ring og s t s_within t_within two more same_block
@@ -90,7 +85,7 @@ module _ (og : OrderedGraph) (one : IsOneBlock og.g og.root og.w) (s t : ℕ) (s
     home_begins dir link is =
         first_begins og s dir s (og.w.head s) link ring_here (with_head og s s ring_here (inside_itself og s ring_here)) (way_home og s dir ring_here) is
 
-    pub below_row : (a : ℕ) (home : Home) → a ≢ no_link → IsFirstLink og.g og.w Up s t a → IsHome og.g og.root og.w s home
+    pub below_row : (a : ℕ) (home : Home) → a ≢ no_link → IsFirstLink og.g og.w Up s t a → IsHome og.g og.w s home
         → IsOwnRow og.g og.root og.w s t (record { blue = a; red = home.down; tag = tags.Below })
     below_row a home other is_a is_home = record {
       line = λ rows. record {
@@ -98,25 +93,25 @@ module _ (og : OrderedGraph) (one : IsOneBlock og.g og.root og.w) (s t : ℕ) (s
         head = og.w.head s;
         members = are_members og s t s_within t_within two more same_block;
         blue = begins_over og Up s t a other is_a;
-        red = home_begins Down home.down (is_home.down s_other);
+        red = home_begins Down home.down (is_home.down (more_of og s ring_here));
       };
     }
 
     pub above_row : (a b : ℕ) (home : Home) → a ≡ no_link → b ≢ no_link → IsFirstLink og.g og.w Up s t a → IsFirstLink og.g og.w Down s t b
-        → IsHome og.g og.root og.w s home → IsOwnRow og.g og.root og.w s t (record { blue = home.up; red = b; tag = tags.Above })
+        → IsHome og.g og.w s home → IsOwnRow og.g og.root og.w s t (record { blue = home.up; red = b; tag = tags.Above })
     above_row a b home none other is_a is_b is_home = record {
       line = λ rows. record {
         block = og.w.block s;
         head = og.w.head s;
         members = are_members og s t s_within t_within two more same_block;
         none_up = none_over og Up s t a none is_a;
-        blue = home_begins Up home.up (is_home.up s_other);
+        blue = home_begins Up home.up (is_home.up (more_of og s ring_here));
         red = begins_over og Down s t b other is_b;
       };
     }
 
     pub unordered_row : (a b : ℕ) (home : Home) → a ≡ no_link → b ≡ no_link → IsFirstLink og.g og.w Up s t a → IsFirstLink og.g og.w Down s t b
-        → IsHome og.g og.root og.w s home → IsOwnRow og.g og.root og.w s t (record { blue = home.down; red = home.up; tag = tags.Unordered })
+        → IsHome og.g og.w s home → IsOwnRow og.g og.root og.w s t (record { blue = home.down; red = home.up; tag = tags.Unordered })
     unordered_row a b home none_up none_down is_a is_b is_home = record {
       line = λ rows. record {
         block = og.w.block s;
@@ -124,28 +119,28 @@ module _ (og : OrderedGraph) (one : IsOneBlock og.g og.root og.w) (s t : ℕ) (s
         members = are_members og s t s_within t_within two more same_block;
         none_up = none_over og Up s t a none_up is_a;
         none_down = none_over og Down s t b none_down is_b;
-        blue = home_begins Down home.down (is_home.down s_other);
-        red = home_begins Up home.up (is_home.up s_other);
+        blue = home_begins Down home.down (is_home.down (more_of og s ring_here));
+        red = home_begins Up home.up (is_home.up (more_of og s ring_here));
       };
     }
 
 pub member_below : (a b : ℕ) (home : Home) → a ≢ no_link → IsMemberRow a b home (record { blue = a; red = home.down; tag = tags.Below })
 member_below a b home other = record {
-  own = λ g root s t w kept ordered one s_within t_within two s_other t_other is_a is_b is_home.
-      below_row (record { g = g; root = root; w = w; kept = kept; ordered = ordered }) one s t s_within t_within two s_other t_other a home other is_a is_home;
+  own = λ g root s t w kept ordered s_within t_within two same is_a is_b is_home.
+      below_row (record { g = g; root = root; w = w; kept = kept; ordered = ordered }) s t s_within t_within two same a home other is_a is_home;
 }
 
 pub member_above : (a b : ℕ) (home : Home) → a ≡ no_link → b ≢ no_link → IsMemberRow a b home (record { blue = home.up; red = b; tag = tags.Above })
 member_above a b home none other = record {
-  own = λ g root s t w kept ordered one s_within t_within two s_other t_other is_a is_b is_home.
-      above_row (record { g = g; root = root; w = w; kept = kept; ordered = ordered }) one s t s_within t_within two s_other t_other a b home none other is_a
+  own = λ g root s t w kept ordered s_within t_within two same is_a is_b is_home.
+      above_row (record { g = g; root = root; w = w; kept = kept; ordered = ordered }) s t s_within t_within two same a b home none other is_a
       is_b is_home;
 }
 
 pub member_unordered : (a b : ℕ) (home : Home) → a ≡ no_link → b ≡ no_link
     → IsMemberRow a b home (record { blue = home.down; red = home.up; tag = tags.Unordered })
 member_unordered a b home none_up none_down = record {
-  own = λ g root s t w kept ordered one s_within t_within two s_other t_other is_a is_b is_home.
-      unordered_row (record { g = g; root = root; w = w; kept = kept; ordered = ordered }) one s t s_within t_within two s_other t_other a b home none_up
+  own = λ g root s t w kept ordered s_within t_within two same is_a is_b is_home.
+      unordered_row (record { g = g; root = root; w = w; kept = kept; ordered = ordered }) s t s_within t_within two same a b home none_up
       none_down is_a is_b is_home;
 }

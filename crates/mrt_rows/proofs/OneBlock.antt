@@ -7,13 +7,12 @@ use Rattle.mrt_graph.specs.declared.cert.Row.{Row}
 use Rattle.mrt_graph.specs.declared.cert.Tag.TheVariants as tags
 use Rattle.mrt_graph.specs.RowPlace.{place_of_row}
 use Rattle.mrt_graph.specs.Topology.{Topology}
-use Rattle.link_direction.specs.BlockOfTwo.{FromHead, HaveInCommon, Peers, ToHead}
+use Rattle.link_direction.specs.BlockOfTwo.{FromHead, Peers, ToHead}
 use Rattle.link_direction.specs.Directions.{Directions}
-use Rattle.inc_dec_spf.specs.FirstLink.{LiesInOneBlock}
+use Rattle.inc_dec_spf.specs.LeastPath.{HasMoreLinks}
 use Rattle.inc_dec_spf.proofs.InBlocks.{IsOrdered, inside_of_link}
-use Rattle.mrt_rows.specs.Put.{ArePut, IsOneBlock}
+use Rattle.mrt_rows.specs.Put.{ArePut, IsOneBlock, ShareMoreLinks}
 use Rattle.mrt_rows.specs.RowsOf.{AreAllRows, row_among}
-use Rattle.mrt_rows.specs.Source.{NoneOfOneLink}
 use Rattle.mrt_rows.proofs.AllRows.{row_is}
 use Rattle.mrt_rows.proofs.RowsPut.{place_within}
 
@@ -29,45 +28,65 @@ module _ (g : Topology) (root : ℕ) (w : Directions) (is : IsOrdered g root w) 
         absurd (omega (arith, is.ordered.heads.lower (w.head v) head_within apart, ap w.order head))
   ]
 
-  -- all links lie in it
-  links_within : (e f : ℕ) → e < length g.links → f < length g.links → w.lies_in e ≡ w.lies_in f
-  links_within e f e_within f_within =
-      let e_to = is.ordered.links.directed e e_within in
-      let f_to = is.ordered.links.directed f f_within in
-      let e_in = inside_of_link g root w e (w.tail e) e_to.0 is e_to.1 in
-      let f_in = inside_of_link g root w f (w.tail f) f_to.0 is f_to.1 in
-      sym e_in.in_block ∙ one.same e_in.m f_in.m e_in.within f_in.within e_in.not_root f_in.not_root ∙ f_in.in_block
-
-  -- so it has more than one
-  pub none_of_one_link : (s t : ℕ) → NoneOfOneLink g w s t
-  none_of_one_link s t k h link common only = elim (cases_eq link 0) [
-    | inl zero_is ↦
-        let other = only.no_other 1 one.two_links (links_within 1 link one.two_links only.within ∙ only.in_block) in
-        omega (arith, zero_is, other)
-    | inr apart ↦
-        let first : 0 < length g.links = omega (arith, one.two_links) in
-        let other = only.no_other 0 first (links_within 0 link first only.within ∙ only.in_block) in
-        apart (sym other)
-  ]
-
-  -- a node but the root has this block alone in common with others
-  pub in_one_block : (v : ℕ) → v < length g.ids → v ≢ root → LiesInOneBlock g w v
-  in_one_block v within other = record { only = λ t k h t_within share. go t k h t_within share.common }
+  -- so each two nodes share it, and it has more than one link
+  more_links : (v : ℕ) → v < length g.ids → v ≢ root → HasMoreLinks g w (w.block v)
+  more_links v within other = record {
+    one = 0;
+    other = 1;
+    one_within = first;
+    other_within = one.two_links;
+    one_in_block = in_block 0 first;
+    other_in_block = in_block 1 one.two_links;
+    differ = λ same. omega (arith, same);
+  }
     where
-      root_heads : (t : ℕ) → t < length g.ids → w.head t ≡ root
-      root_heads t t_within = elim (cases_eq t root) [
-        | inl same ↦ ap w.head same ∙ is.ordered.heads.root_head
-        | inr apart ↦ root_is_head t t_within apart
-      ]
+      first : 0 < length g.links
+      first = omega (arith, one.two_links)
 
-      go : (t k h : ℕ) → t < length g.ids → HaveInCommon w v t k h → k ≡ w.block v
-      go t k h t_within (Peers a b c) = sym a
-      go t k h t_within (ToHead a b c) = sym a
-      go t k h t_within (FromHead a b c) = absurd (other (sym b ∙ root_heads t t_within))
+      in_block : (e : ℕ) → e < length g.links → w.lies_in e ≡ w.block v
+      in_block e e_within =
+          let to = is.ordered.links.directed e e_within in
+          let inside = inside_of_link g root w e (w.tail e) to.0 is to.1 in
+          sym inside.in_block ∙ one.same inside.m v inside.within within inside.not_root other
+
+  pub all_share : (s t : ℕ) → s < length g.ids → t < length g.ids → s ≢ t → ShareMoreLinks g w s t
+  all_share s t s_within t_within two = elim (cases_eq s root) [
+    | inl s_root ↦
+        let other : t ≢ root = λ same. two (s_root ∙ sym same) in
+        record {
+          block = w.block t;
+          head = s;
+          share = record {
+            two = two;
+            common = FromHead refl (root_is_head t t_within other ∙ sym s_root) refl;
+            more = more_links t t_within other;
+          };
+        }
+    | inr s_other ↦ elim (cases_eq t root) [
+      | inl t_root ↦ record {
+        block = w.block s;
+        head = t;
+        share = record {
+          two = two;
+          common = ToHead refl (root_is_head s s_within s_other ∙ sym t_root) refl;
+          more = more_links s s_within s_other;
+        };
+      }
+      | inr t_other ↦ record {
+        block = w.block s;
+        head = w.head s;
+        share = record {
+          two = two;
+          common = Peers refl (one.same t s t_within s_within t_other s_other) refl;
+          more = more_links s s_within s_other;
+        };
+      }
+    ]
+  ]
 
   -- the rows that are put are all rows
   pub rows_put : (rows : List Row) → length rows ≡ length g.ids * (length g.ids - 1)
-      → ArePut g root w (λ u t. t < length g.ids) rows → AreAllRows g root w rows
+      → ArePut g root w (ShareMoreLinks g w) rows → AreAllRows g root w rows
   rows_put rows count put = record {
     count = count;
     each = λ s t s_within t_within two.
@@ -77,5 +96,5 @@ module _ (g : Topology) (root : ℕ) (w : Directions) (is : IsOrdered g root w) 
         let at : row_among (length g.ids) rows s t ≡ Some row =
         row_is (length g.ids) rows s t s_within t_within two
         ∙ slice_get-get_or rows place filler (omega (arith, count, place_within (length g.ids) s t s_within t_within two)) in
-        record { row = row; is = at; line = (put.each s t row s_within t_within two t_within at).line (row_among (length g.ids) rows s) };
+        record { row = row; is = at; line = (put.each s t row s_within t_within two (all_share s t s_within t_within two) at).line (row_among (length g.ids) rows s) };
   }

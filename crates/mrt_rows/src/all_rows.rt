@@ -1,45 +1,59 @@
 //! The rows of all nodes.
 
-ghost use Rattle.std.specs.Prelude.{◌≡◌, ◌<◌, IfOk, length};
+ghost use Rattle.std.specs.Prelude.{◌≡◌, ◌-◌, ◌*◌, ℕ, IfOk, length};
 ghost use Rattle.mrt_graph.specs.GraphInvariant.{IsTopology};
 ghost use Rattle.link_direction.specs.Directions.{Directions, Says};
 ghost use Rattle.link_direction.specs.OrderedGadag.{SaysOrdered};
-ghost use Rattle.mrt_rows.specs.Put.{IsOneBlock};
+ghost use Rattle.inc_dec_spf.specs.declared.reach.Dir.TheVariants.{Down, Up};
+ghost use Rattle.inc_dec_spf.specs.HasDirections.{AreDirections, HasDirections};
+ghost use Rattle.inc_dec_spf.specs.Turns.{AreTurns};
+ghost use Rattle.mrt_rows.specs.Put.{ArePut, ShareMoreLinks};
 ghost use Rattle.mrt_rows.specs.RowsOf.{AreAllRows};
 
+use crate::far_rows::put_far_rows;
+use crate::heads::mark_heads;
 use crate::homes::take_homes;
 use crate::members::Home;
-use crate::of_source::put_rows;
 use crate::one_block::is_one_block;
 use crate::tiles::{WIDTH, put_tiles};
 use inc_dec_spf::{Dir, Tile, nodes_by_turn};
 use mrt_graph::{Directed, Graph, LinkNo, NoMemory, NodeNo, Row, Tag};
 use std::alloc::Global;
 
-/// The rows of all nodes, by ascending source, then by ascending destination: tile after tile where the graph is one
-/// block, else source after source.
+/// The rows of all nodes, by ascending source, then by ascending destination: first those of two nodes that have a block
+/// of more than one link in common, then the others. In a graph of one block there are no others.
 pub fn all_rows(alloc: Global, g: &Graph, root: NodeNo, d: &Directed) -> Result<Vec<Row>, NoMemory>
     requires { SaysOrdered g.now root d.now }
     ensures { (w : Directions) → Says g.now d.now w
         → IfOk result (λ rows. AreAllRows g.now root w rows.items) }
 {
-    if is_one_block(g, d, root) {
-        let rows = rows_by_tile(alloc, g, root, d)?;
-        return Ok(rows);
+    let nodes = nodes_by_turn(alloc, g, d, Dir::Up)?;
+    let mut rows = near_rows(alloc, g, d, &nodes)?;
+    if !is_one_block(g, d, root) {
+        put_far_rows(g, root, d, &nodes, &mut rows);
     }
-    let rows = rows_by_source(alloc, g, root, d)?;
     Ok(rows)
 }
 
-/// The rows of a graph of one block, for several destinations side by side.
-fn rows_by_tile(alloc: Global, g: &Graph, root: NodeNo, d: &Directed) -> Result<Vec<Row>, NoMemory>
-    requires { SaysOrdered g.now root d.now }
-    ensures { (w : Directions) → Says g.now d.now w → IsOneBlock g.now root w
-        → IfOk result (λ rows. AreAllRows g.now root w rows.items) }
+/// The rows of all nodes that have a block of more than one link in common, at their places, for several destinations
+/// side by side. What stands at the other places means nothing.
+fn near_rows(
+    alloc: Global,
+    g: &Graph,
+    d: &Directed,
+    by_order: &[NodeNo],
+) -> Result<Vec<Row>, NoMemory>
+    requires directed { HasDirections g.now d.now }
+    requires by_order { (from : ℕ) (w : Directions) → AreDirections g.now d.now from w
+        → AreTurns g.now w Up by_order.now }
+    ensures room { IfOk result (λ rows. length rows.items ≡ length g.now.ids * (length g.now.ids - 1)) }
+    ensures put { (root : ℕ) (w : Directions) → AreDirections g.now d.now root w
+        → IfOk result (λ rows. ArePut g.now root w (ShareMoreLinks g.now w) rows.items) }
 {
     let size = g.node_count() as usize;
-    let by_order = nodes_by_turn(alloc, g, d, Dir::Up)?;
     let against_order = nodes_by_turn(alloc, g, d, Dir::Down)?;
+    let mut heads = vec![in alloc; false; size]?;
+    mark_heads(g, d, &mut heads);
     let mut up = Tile::new(alloc, g, WIDTH)?;
     let mut down = Tile::new(alloc, g, WIDTH)?;
     let link = LinkNo::new(0);
@@ -50,9 +64,9 @@ fn rows_by_tile(alloc: Global, g: &Graph, root: NodeNo, d: &Directed) -> Result<
     take_homes(
         g,
         d,
-        root,
-        &by_order,
+        by_order,
         &against_order,
+        &heads,
         &mut up,
         &mut down,
         &mut homes,
@@ -66,44 +80,13 @@ fn rows_by_tile(alloc: Global, g: &Graph, root: NodeNo, d: &Directed) -> Result<
     put_tiles(
         g,
         d,
-        root,
-        &by_order,
+        by_order,
         &against_order,
+        &heads,
         &homes,
         &mut up,
         &mut down,
         &mut rows,
     );
-    Ok(rows)
-}
-
-/// The rows of any graph, one source after another. Their list is reserved once.
-fn rows_by_source(
-    alloc: Global,
-    g: &Graph,
-    root: NodeNo,
-    d: &Directed,
-) -> Result<Vec<Row>, NoMemory>
-    requires { SaysOrdered g.now root d.now }
-    ensures { (w : Directions) → Says g.now d.now w
-        → IfOk result (λ rows. AreAllRows g.now root w rows.items) }
-{
-    let count = g.node_count();
-    let size = count as usize;
-    let nodes = nodes_by_turn(alloc, g, d, Dir::Up)?;
-    let mut table = vec![in alloc; None; size]?;
-    let mut rows = Vec::with_capacity(alloc, size * (size - 1))?;
-    for s in 0..count {
-        put_rows(
-            alloc,
-            g,
-            root,
-            d,
-            &nodes,
-            NodeNo::new(s),
-            &mut table,
-            &mut rows,
-        )?;
-    }
     Ok(rows)
 }

@@ -16,8 +16,8 @@ use std::alloc::Global;
 
 /// The certificate of a graph and its root: the search, the ears, the directions, and the rows of all nodes.
 ///
-/// It takes time in proportion to the links for the first three, and for each node to its rows and the ends of the
-/// nodes in its blocks.
+/// It takes time in proportion to the links for the first three, and for each node to its rows and the ends of all
+/// nodes.
 pub fn compute(alloc: Global, g: &Graph, root: NodeNo) -> Result<Cert, NoMemory>
     requires { root < length g.now.ids }
     ensures cert { IfOk result (λ cert. (id : NodeId) → slice_get g.now.ids root ≡ Some id

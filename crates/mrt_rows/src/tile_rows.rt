@@ -1,24 +1,25 @@
-//! The rows of one node for some nodes side by side, in a graph of one block.
+//! The rows of one node for some nodes side by side.
 
-ghost use Rattle.std.specs.Prelude.{◌≡◌, ◌≢◌, ◌<◌, ◌≤◌, ◌+◌, ◌-◌, ◌*◌, ◌⊎◌, ℕ, Some, if◌then◌else◌, length, nat_lt, slice_get, slice_set};
+ghost use Rattle.std.specs.Prelude.{◌≡◌, ◌≢◌, ◌<◌, ◌≤◌, ◌+◌, ◌-◌, ◌*◌, ◌⊎◌, ℕ, Some, if◌then◌else◌, length, nat_lt, slice_get};
 ghost use Rattle.mrt_graph.specs.declared.cert.Row.{Row};
 ghost use Rattle.mrt_graph.specs.declared.cert.Tag.{Tag};
 ghost use Rattle.mrt_graph.specs.GraphInvariant.{IsTopology};
-ghost use Rattle.mrt_graph.specs.RowPlace.{place_of_row};
 ghost use Rattle.link_direction.specs.Directions.{Directions};
-ghost use Rattle.link_direction.specs.OrderedGadag.{IsOrderedGadag};
 ghost use Rattle.inc_dec_spf.specs.declared.reach.Dir.TheVariants.{Down, Up};
-ghost use Rattle.mrt_rows.specs.Put.{ArePut, HasLinks, IsHome, IsMemberRow, IsOneBlock};
+ghost use Rattle.inc_dec_spf.specs.HasDirections.{AreDirections, HasDirections};
+ghost use Rattle.mrt_rows.specs.Put.{ArePut, HasLinks, IsHome, IsMemberRow, ShareMoreLinks};
 ghost use Rattle.mrt_rows.specs.RowsOf.{row_among};
 
 use crate::members::{Home, member_row};
-use mrt_graph::{Graph, LinkNo, NodeNo, Row, Tag};
+use crate::places::put;
+use mrt_graph::{Directed, Graph, LinkNo, NodeNo, Row, Tag};
 
-/// Puts the rows of s for the nodes side by side, which begin with `first`: its first links up and down to them, in a
-/// graph of one block, whose head is `root`.
+/// Puts the rows of s for the nodes side by side, which begin with `first`, but for the nodes of the block that it heads:
+/// its first links up and down to them. What it puts for nodes with which it has no block of more than one link in
+/// common means nothing.
 pub fn put_rows_of(
     g: &Graph,
-    root: NodeNo,
+    d: &Directed,
     s: NodeNo,
     first: u16,
     up: &[LinkNo],
@@ -27,6 +28,7 @@ pub fn put_rows_of(
     rows: &mut [Row],
 )
     requires kept { IsTopology g.now }
+    requires directed { HasDirections g.now d.now }
     requires source { s < length g.now.ids }
     requires first { first < length g.now.ids }
     requires one_each { length down.now ≡ length up.now }
@@ -34,24 +36,23 @@ pub fn put_rows_of(
     ensures room { length rows.new ≡ length rows.old }
     ensures kept { (u v : ℕ) → (u ≢ s) ⊎ ((v < first) ⊎ (first + length up.now ≤ v))
         → row_among (length g.now.ids) rows.new u v ≡ row_among (length g.now.ids) rows.old u v }
-    ensures put { (w : Directions) → IsOrderedGadag g.now root w → IsOneBlock g.now root w
-        → HasLinks g.now w Up s first up.now → HasLinks g.now w Down s first down.now → IsHome g.now root w s home.now
-        → ArePut g.now root w (λ u t. (u ≡ s) × (first ≤ t) × (t < first + length up.now)) rows.new }
+    ensures put { (root : ℕ) (w : Directions) → AreDirections g.now d.now root w
+        → HasLinks g.now w Up s first up.now → HasLinks g.now w Down s first down.now → IsHome g.now w s home.now
+        → ArePut g.now root w
+        (λ u t. (u ≡ s) × (first ≤ t) × (t < first + length up.now) × (u ≢ w.head t) × ShareMoreLinks g.now w u t)
+        rows.new }
 {
     let count = g.node_count();
     let width = up.len().min((count - first) as usize);
-    if s == root {
-        put_top_rows(count, root, first, width, up, down, rows);
-        return;
-    }
     let before = (s.get().saturating_sub(first) as usize).min(width);
     let after = ((s.get() + 1).saturating_sub(first) as usize).min(width);
     put_run(count, s, first, 0, before, up, down, home, rows);
     put_run(count, s, first, after, width, up, down, home, rows);
-    put_head_row(count, root, s, first, up, down, rows);
+    put_head_row(count, d.place(s).head, s, first, up, down, rows);
 }
 
-/// Puts the rows of member s for the other members among the nodes from place `from` to place `to`, s not among them.
+/// Puts the rows of s, as those for other nodes of its block, for the nodes from place `from` to place `to`, s not among
+/// them.
 fn put_run(
     count: u16,
     s: NodeNo,
@@ -91,10 +92,10 @@ fn rows_left_out(s: NodeNo, t: usize) -> usize
     if (s.get() as usize) < t { 1 } else { 0 }
 }
 
-/// Puts the row of s for the root, where it is one of the nodes side by side.
+/// Puts the row of s for its head, where that is one of the nodes side by side.
 fn put_head_row(
     count: u16,
-    root: NodeNo,
+    head: NodeNo,
     s: NodeNo,
     first: u16,
     up: &[LinkNo],
@@ -102,78 +103,25 @@ fn put_head_row(
     rows: &mut [Row],
 )
     requires source { s < count }
-    requires two { s ≢ root }
     requires one_each { length down.now ≡ length up.now }
     requires room { length rows.old ≡ count * (count - 1) }
     ensures room { length rows.new ≡ length rows.old }
-    ensures kept { (u v : ℕ) → (u ≢ s) ⊎ (v ≢ root) ⊎ ((v < first) ⊎ (first + length up.now ≤ v))
+    ensures kept { (u v : ℕ) → (u ≢ s) ⊎ (v ≢ head) ⊎ ((v < first) ⊎ (first + length up.now ≤ v))
         → row_among count rows.new u v ≡ row_among count rows.old u v }
-    ensures put { (j blue red : ℕ) (row : Row) → root ≡ first + j → slice_get up.now j ≡ Some blue
-        → slice_get down.now j ≡ Some red → row_among count rows.new s root ≡ Some row
+    ensures put { (j blue red : ℕ) (row : Row) → head ≡ first + j → slice_get up.now j ≡ Some blue
+        → slice_get down.now j ≡ Some red → row_among count rows.new s head ≡ Some row
         → row ≡ record { blue = blue; red = red; tag = Tag.Head } }
 {
-    if root.get() < first || count <= root.get() {
+    if head == s || head.get() < first || count <= head.get() {
         return;
     }
-    let j = (root.get() - first) as usize;
+    let j = (head.get() - first) as usize;
     if j < up.len() {
         let row = Row {
             blue: up[j],
             red: down[j],
             tag: Tag::Head,
         };
-        put(count, s, root, row, rows);
-    }
-}
-
-/// Puts the rows of the root for `width` nodes side by side.
-fn put_top_rows(
-    count: u16,
-    root: NodeNo,
-    first: u16,
-    width: usize,
-    up: &[LinkNo],
-    down: &[LinkNo],
-    rows: &mut [Row],
-)
-    requires source { root < count }
-    requires within { first + width ≤ count }
-    requires ups { width ≤ length up.now }
-    requires downs { width ≤ length down.now }
-    requires room { length rows.old ≡ count * (count - 1) }
-    ensures room { length rows.new ≡ length rows.old }
-    ensures kept { (u v : ℕ) → (u ≢ root) ⊎ ((v < first) ⊎ (first + width ≤ v))
-        → row_among count rows.new u v ≡ row_among count rows.old u v }
-    ensures put { (j blue red : ℕ) (row : Row) → j < width → slice_get up.now j ≡ Some blue
-        → slice_get down.now j ≡ Some red → row_among count rows.new root (first + j) ≡ Some row
-        → row ≡ record { blue = blue; red = red; tag = Tag.Top } }
-{
-    for j in 0..width {
-        let to = NodeNo::new(first + j as u16);
-        if to != root {
-            let row = Row {
-                blue: up[j],
-                red: down[j],
-                tag: Tag::Top,
-            };
-            put(count, root, to, row, rows);
-        }
-    }
-}
-
-/// Puts the row of s for t at its place among those of `count` nodes.
-fn put(count: u16, s: NodeNo, t: NodeNo, row: Row, rows: &mut [Row])
-    requires source { s < count }
-    requires target { t < count }
-    requires two { s ≢ t }
-    requires room { length rows.old ≡ count * (count - 1) }
-    ensures { rows.new ≡ slice_set rows.old (place_of_row count s t) row }
-{
-    let start = s.get() as usize * (count as usize - 1);
-    let column = t.get() as usize;
-    if t.get() < s.get() {
-        rows[start + column] = row;
-    } else {
-        rows[start + column - 1] = row;
+        put(count, s, head, row, rows);
     }
 }

@@ -1,26 +1,31 @@
-use Rattle.std.proofs.Common.{◌<◌, ◌*◌, ℕ, length, sym, subst, inl, inr}
-use Rattle.std.proofs.lemmas.Bool.{cases_eq}
+use Rattle.std.proofs.Common.{◌<◌, ◌*◌, ℕ, Bool, false, Some, get_or, length, slice_get, sym, ap, subst, inl, inr, arith, ◌≡◌, ◌∙◌}
+use Rattle.std.proofs.lemmas.Bool.{cases_Bool}
+use Rattle.std.proofs.lemmas.Option.{slice_get-get_or}
 use Rattle.inc_dec_spf.specs.FirstLink.{HasLinksAt}
 use Rattle.inc_dec_spf.specs.Ways.{IsReadyFrom}
 use Rattle.inc_dec_spf.proofs.own_costs.take_links.Goals as goal
 
 pub returns-clause-links : goal.returns-clause-links
-returns-clause-links c = λ root w are one s within.
+returns-clause-links c = λ root w are others s within.
     let g = c.args.g.now in
+    let dir = c.args.dir in
+    let first = c.args.first in
     let width = length c.args.costs.now in
-    let all = 65536 * length g.ids in
-    elim (cases_eq s c.args.head) [
-      | inl same ↦
-          let ready : (y : ℕ) → y < length g.ids → IsReadyFrom g w c.args.dir c.args.first (length c.take_own_ways.new.costs) all c.take_own_ways.new.all_costs y =
-          λ y y_within.
-          subst (λ (n : ℕ). IsReadyFrom g w c.args.dir c.args.first n all c.take_own_ways.new.all_costs y) (sym c.take_own_ways.ensures.one_each)
-          (c.take_own_ways.ensures.ready root y w are y_within) in
-          subst (λ (v : ℕ). HasLinksAt g w c.args.dir c.args.first width c.take_all_ways.new.all_links v) (sym same)
-          (subst (λ (n : ℕ). HasLinksAt g w c.args.dir c.args.first n c.take_all_ways.new.all_links c.args.head) c.take_own_ways.ensures.one_each
-          (c.take_all_ways.ensures.links root w are ready))
-      | inr other ↦
-          subst (λ (n : ℕ). HasLinksAt g w c.args.dir c.args.first n c.take_all_ways.new.all_links s) c.take_own_ways.ensures.one_each
-          (c.take_all_ways.ensures.kept s w other
-          (subst (λ (n : ℕ). HasLinksAt g w c.args.dir c.args.first n c.take_own_ways.new.all_links s) (sym c.take_own_ways.ensures.one_each)
-          (c.take_own_ways.ensures.links root s w are within (one s within other))))
-    ]
+    let bound = 65536 * length g.ids in
+    let same = c.take_own_ways.ensures.one_each in
+    let after = c.take_marked_ways.new.all_links in
+    let ready : (y : ℕ) → y < length g.ids → IsReadyFrom g w dir first (length c.take_own_ways.new.costs) bound c.take_own_ways.new.all_costs y =
+    λ y y_within.
+    subst (λ (n : ℕ). IsReadyFrom g w dir first n bound c.take_own_ways.new.all_costs y) (sym same)
+    (c.take_own_ways.ensures.ready root y w are y_within) in
+    let here : slice_get c.args.heads.now s ≡ Some (get_or c.args.heads.now s false) =
+    slice_get-get_or c.args.heads.now s false (omega (arith, within, c.requires.heads)) in
+    subst (λ (n : ℕ). HasLinksAt g w dir first n after s) same
+    (elim (cases_Bool (get_or c.args.heads.now s false)) [
+      | inl set ↦ c.take_marked_ways.ensures.marked root s w are ready (here ∙ ap (λ (b : Bool). Some b) set)
+      | inr clear ↦
+          let unmarked : slice_get c.args.heads.now s ≡ Some false = here ∙ ap (λ (b : Bool). Some b) clear in
+          c.take_marked_ways.ensures.kept s w unmarked
+          (subst (λ (n : ℕ). HasLinksAt g w dir first n c.take_own_ways.new.all_links s) (sym same)
+          (c.take_own_ways.ensures.links root s w are within (others.each s within unmarked)))
+    ])

@@ -1,4 +1,5 @@
 use Rattle.std.proofs.Common.{◌≡◌, ◌≢◌, ◌⊎◌, ◌∙◌, ◌<◌, ◌≤◌, ◌+◌, ◌-◌, ℕ, List, Some, length, slice_get, inl, inr, refl, sym, ap, subst, arith}
+use Rattle.std.proofs.lemmas.Bool.{eqb-false}
 use Rattle.std.proofs.lemmas.Option.{same_Some, slice_get_read, slice_get_within}
 use Rattle.mrt_graph.specs.declared.cert.Row.{Row}
 use Rattle.mrt_graph.specs.declared.cert.Tag.TheVariants.{Head}
@@ -9,11 +10,11 @@ use Rattle.mrt_rows.proofs.tile_rows.put_head_row.Goals as goal
 pub returns-then-j-up-clause-kept : goal.returns-then-j-up-clause-kept
 returns-then-j-up-clause-kept c = λ u v out.
     ap (λ (xs : List Row). row_among c.args.count xs u v) c.put.ensures
-    ∙ put_elsewhere c.args.count c.args.s c.args.root (record { blue = c.index-up-j.result; red = c.index-down-j.result; tag = Head }) c.args.rows.now
-    c.requires.source (omega (arith, c.if-count-get.false, c.get-else-get-first.ensures.value)) c.requires.two u v (apart u v out)
+    ∙ put_elsewhere c.args.count c.args.s c.args.head (record { blue = c.index-up-j.result; red = c.index-down-j.result; tag = Head }) c.args.rows.now
+    c.requires.source (omega (arith, c.if-count-get.false, c.get-else-get-first.ensures.value)) (λ same. eqb-false c.args.head c.args.s (sym c.eq.ensures ∙ c.if-eq.false) (sym same)) u v (apart u v out)
   where
-    apart : (u v : ℕ) → (u ≢ c.args.s) ⊎ ((v ≢ c.args.root) ⊎ ((v < c.args.first) ⊎ (c.args.first + length c.args.up.now ≤ v)))
-        → (u ≢ c.args.s) ⊎ (v ≢ c.args.root)
+    apart : (u v : ℕ) → (u ≢ c.args.s) ⊎ ((v ≢ c.args.head) ⊎ ((v < c.args.first) ⊎ (c.args.first + length c.args.up.now ≤ v)))
+        → (u ≢ c.args.s) ⊎ (v ≢ c.args.head)
     apart u v (inl other) = inl other
     apart u v (inr (inl other)) = inr other
     apart u v (inr (inr (inl below))) = inr (λ same. omega (arith, same, below, c.if-get-first.false, c.get.ensures.value))
@@ -26,9 +27,9 @@ returns-then-j-up-clause-put c = λ j blue red row place at_blue at_red at.
     let made : Row = record { blue = c.index-up-j.result; red = c.index-down-j.result; tag = Head } in
     let row_same : made ≡ row =
     same_Some made row
-    (sym (ap (λ (xs : List Row). row_among c.args.count xs c.args.s c.args.root) c.put.ensures
-    ∙ put_there c.args.count c.args.s c.args.root made c.args.rows.now c.requires.source (omega (arith, c.if-count-get.false, c.get-else-get-first.ensures.value))
-    c.requires.two c.requires.room) ∙ at) in
+    (sym (ap (λ (xs : List Row). row_among c.args.count xs c.args.s c.args.head) c.put.ensures
+    ∙ put_there c.args.count c.args.s c.args.head made c.args.rows.now c.requires.source (omega (arith, c.if-count-get.false, c.get-else-get-first.ensures.value))
+    (λ same. eqb-false c.args.head c.args.s (sym c.eq.ensures ∙ c.if-eq.false) (sym same)) c.requires.room) ∙ at) in
     let blue_same : c.index-up-j.result ≡ blue =
     same_Some c.index-up-j.result blue
     (sym (slice_get_read c.args.up.now (length c.args.up.now) (c.get-2.result - c.args.first) c.index-up-j.result refl c.if-j-up.true c.index-up-j.is)

@@ -1,0 +1,63 @@
+-- What nodes with a block in common share.
+use Rattle.std.proofs.Common.{◌≡◌, ◌≢◌, ◌∙◌, ◌⊎◌, ◌<◌, ℕ, Bool, false, true, List, Some, length, slice_get, refl, sym, ap, subst, inl, inr}
+use Rattle.std.proofs.lemmas.Bool.{cases_eq}
+use Rattle.std.proofs.lemmas.Option.{same_Some}
+use Rattle.link_direction.specs.BlockOfTwo.{FromHead, HaveInCommon, Peers, ToHead}
+use Rattle.link_direction.specs.Directions.{Directions}
+use Rattle.inc_dec_spf.specs.FirstLink.{AreOthersInOneBlock}
+use Rattle.inc_dec_spf.specs.LeastPath.{HasMoreLinks, ShareBlock}
+use Rattle.mrt_rows.specs.Put.{AreHeadsMarked, ShareABlock}
+use Rattle.mrt_rows.specs.Source.{NoneOfOneLink}
+use Rattle.mrt_rows.proofs.NearRows.{none_common}
+use Rattle.mrt_rows.proofs.OrderedGraphs.{OrderedGraph, not_root_of_peers, one_common, within}
+
+module _ (og : OrderedGraph) (s t : ℕ) (s_within : s < length og.g.ids) (t_within : t < length og.g.ids) (two : s ≢ t) where
+  -- a block with another node has more than one link
+  pub none_of_peers : og.w.block s ≡ og.w.block t → NoneOfOneLink og.g og.w s t
+  none_of_peers same k h link common one =
+      let k_is = (one_common og s t k h (og.w.block s) (og.w.head s) s_within t_within two common (Peers refl (sym same) refl)).0 in
+      let other = not_root_of_peers og t s t_within s_within (λ back. two (sym back)) (sym same) in
+      elim (og.ordered.blocks s s_within other) [
+        | inl sole ↦ two (sym (sole.no_other_node t t_within (sym same)))
+        | inr closed ↦
+            let inside = within og.g closed.link closed.greatest (og.w.head s) og.kept closed.over.leads_on in
+            closed.another_link (one.no_other closed.another closed.another_within (closed.another_in_block ∙ sym k_is)
+            ∙ sym (one.no_other closed.link inside.link (closed.over.in_block ∙ sym k_is)))
+      ]
+
+  -- a block of more than one link is the only one
+  pub none_of_share : (k h : ℕ) → ShareBlock og.g og.w s t k h → NoneOfOneLink og.g og.w s t
+  none_of_share k h share j i link common one =
+      let same = (one_common og s t k h j i s_within t_within two share.common common).0 in
+      let more = share.more in
+      more.differ (one.no_other more.one more.one_within (more.one_in_block ∙ same)
+      ∙ sym (one.no_other more.other more.other_within (more.other_in_block ∙ same)))
+
+-- two nodes have a block in common, or none
+pub shares_or_not : (w : Directions) (s t : ℕ) → ShareABlock w s t ⊎ (ShareABlock w s t → ⊥)
+shares_or_not w s t = elim (cases_eq (w.block s) (w.block t)) [
+  | inl same ↦ inl (record { block = w.block s; head = w.head s; common = Peers refl (sym same) refl })
+  | inr differ ↦ elim (cases_eq (w.head s) t) [
+    | inl head ↦ inl (record { block = w.block s; head = t; common = ToHead refl head refl })
+    | inr not_head ↦ elim (cases_eq (w.head t) s) [
+      | inl top ↦ inl (record { block = w.block t; head = s; common = FromHead refl top refl })
+      | inr not_top ↦ inr (λ it. none_common w s t not_head not_top differ it.block it.head it.common)
+    ]
+  ]
+]
+
+-- a node that heads no block of more than one link lies in one block
+pub others_in_one_block : (og : OrderedGraph) (marks : List Bool) → AreHeadsMarked og.g og.w marks → AreOthersInOneBlock og.g og.w marks
+others_in_one_block og marks heads = record {
+  each = λ v within unmarked. record { only = λ t k h t_within share. go v t k h t_within unmarked share.more share.common };
+}
+  where
+    go : (v t k h : ℕ) → t < length og.g.ids → slice_get marks v ≡ Some false → HasMoreLinks og.g og.w k → HaveInCommon og.w v t k h
+        → k ≡ og.w.block v
+    go v t k h t_within unmarked more (Peers a b c) = sym a
+    go v t k h t_within unmarked more (ToHead a b c) = sym a
+    go v t k h t_within unmarked more (FromHead a b c) =
+        let marked = heads.each t t_within (subst (λ (x : ℕ). HasMoreLinks og.g og.w x) (sym a) more) in
+        let no : false ≡ true =
+        same_Some false true (sym unmarked ∙ ap (λ (x : ℕ). slice_get marks x) (sym b) ∙ marked) in
+        absurd (cc)
