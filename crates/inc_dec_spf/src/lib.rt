@@ -24,5 +24,5 @@ pub use path_law::{
 pub use reach::{Dir, Hop, Reach};
 pub use side::NO_LINK;
 pub use tile::Tile;
-pub use to_target::{spf_to, spf_to_each};
+pub use to_target::{spf_to, spf_to_each, sweep_to_each};
 pub use turns::nodes_by_turn;

@@ -1,6 +1,7 @@
 //! Where the paths from a node lead.
 
-use mrt_graph::{LinkNo, NodeNo};
+use mrt_graph::{Graph, LinkNo, NoMemory, NodeNo};
+use std::alloc::Global;
 use std::marker::Model;
 
 /// Along the directions of links, or against them.
@@ -44,7 +45,7 @@ pub struct Known {
 /// What a source has for each node, by number: none where no path leads there.
 #[derive(Drop)]
 pub struct Reach {
-    known: Vec<Option<Known>>,
+    pub(crate) known: Vec<Option<Known>>,
 }
 
 impl Model for Reach {
@@ -58,7 +59,8 @@ impl Model for Reach {
 }
 
 impl Reach {
-    ghost use Rattle.std.specs.Prelude.{◌≡◌, ◌<◌, Some, length, slice_get};
+    ghost use Rattle.std.specs.Prelude.{◌≡◌, ◌<◌, IfOk, Some, length, slice_get};
+    ghost use Rattle.mrt_graph.specs.GraphInvariant.{IsTopology};
     ghost use Rattle.inc_dec_spf.specs.Known.{hops_of};
 
     /// What is known of each node at the end.
@@ -66,6 +68,15 @@ impl Reach {
         ensures { result ≡ hops_of known.items }
     {
         Reach { known }
+    }
+
+    /// No hop for any node of a graph.
+    pub fn none(alloc: Global, g: &Graph) -> Result<Reach, NoMemory>
+        ensures one_each { IfOk result (λ reach. length reach ≡ length g.now.ids) }
+        ensures kept { IsTopology g.now }
+    {
+        let known = vec![in alloc; None; g.node_count() as usize]?;
+        Ok(Reach { known })
     }
 
     /// The hop of the least path to node t; None where there is none.

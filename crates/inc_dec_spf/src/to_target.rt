@@ -1,11 +1,14 @@
 //! Least paths to one node, and of each node to its aim.
 
 ghost use Rattle.std.specs.Prelude.{◌≡◌, ◌<◌, ℕ, IfOk, length};
+ghost use Rattle.mrt_graph.specs.GraphInvariant.{IsTopology};
 ghost use Rattle.mrt_graph.specs.Topology.{Topology};
 ghost use Rattle.link_direction.specs.Directions.{Directions, Says};
+ghost use Rattle.inc_dec_spf.specs.Against.{against};
 ghost use Rattle.inc_dec_spf.specs.Aims.{AreAims, AreAimsTo, AreHopsTo, IsAimTo};
 ghost use Rattle.inc_dec_spf.specs.HasDirections.{AreDirections, HasDirections};
 ghost use Rattle.inc_dec_spf.specs.LeastPath.{IsReachTo};
+ghost use Rattle.inc_dec_spf.specs.Turns.{AreTurns};
 
 use crate::aims::{take_aims, take_heads};
 use crate::reach::{Dir, Reach};
@@ -15,9 +18,8 @@ use std::alloc::Global;
 
 /// The least path of each node to its aim, up or down.
 ///
-/// One sweep over the nodes, against their order, serves all blocks. Nodes that aim at nodes of blocks whose heads they
-/// are come last, since their paths begin in these blocks, and not in their own. It takes time in proportion to the
-/// nodes, and to the ends of those that aim at others.
+/// It takes time in proportion to the nodes, and to the ends of those that aim at others. To sweep for several aims, one
+/// after another, see `sweep_to_each`.
 pub fn spf_to_each(
     alloc: Global,
     g: &Graph,
@@ -31,10 +33,38 @@ pub fn spf_to_each(
     ensures { (w : Directions) → Says g.now d.now w → IfOk result (AreHopsTo g.now w dir aims.now) }
 {
     let turns = nodes_by_turn(alloc, g, d, dir.against())?;
-    let mut known = vec![in alloc; None; g.node_count() as usize]?;
-    take_aims(g, d, dir, &turns, aims, &mut known);
-    take_heads(g, d, dir, aims, &mut known);
-    Ok(Reach::new(known))
+    let mut reach = Reach::none(alloc, g)?;
+    sweep_to_each(g, d, &turns, aims, dir, &mut reach);
+    Ok(reach)
+}
+
+/// The least path of each node to its aim, up or down, in place of what `reach` had. The turns are those of the other
+/// direction.
+///
+/// One sweep over the nodes, against their order, serves all blocks. Nodes that aim at nodes of blocks whose heads they
+/// are come last, since their paths begin in these blocks, and not in their own. It takes time in proportion to the
+/// nodes, and to the ends of those that aim at others, and no memory.
+pub fn sweep_to_each(
+    g: &Graph,
+    d: &Directed,
+    turns: &[NodeNo],
+    aims: &[NodeNo],
+    dir: Dir,
+    reach: &mut Reach,
+)
+    requires kept { IsTopology g.now }
+    requires directed { HasDirections g.now d.now }
+    requires turns { (root : ℕ) (w : Directions) → AreDirections g.now d.now root w
+        → AreTurns g.now w (against dir) turns.now }
+    requires aims { (root : ℕ) (w : Directions) → AreDirections g.now d.now root w
+        → AreAims g.now w aims.now }
+    requires one_each { length reach.old ≡ length g.now.ids }
+    ensures one_each { length reach.new ≡ length g.now.ids }
+    ensures hops { (w : Directions) → Says g.now d.now w → AreHopsTo g.now w dir aims.now reach.new }
+{
+    reach.known.fill(None);
+    take_aims(g, d, dir, turns, aims, &mut reach.known);
+    take_heads(g, d, dir, aims, &mut reach.known);
 }
 
 /// The least paths to a node from every node with which it has a block of more than one link in common, up or down.
