@@ -3,7 +3,7 @@
 ghost use Rattle.std.specs.Prelude.{◌≡◌, ◌<◌, IfOk, length};
 ghost use Rattle.link_direction.specs.Directions.{Directions, Says};
 ghost use Rattle.link_direction.specs.OrderedGadag.{SaysOrdered};
-ghost use Rattle.mrt_rows.specs.ColumnOf.{AreHomeHops};
+ghost use Rattle.mrt_rows.specs.Held.{AreHeld};
 
 use crate::hand_graphs::{graph, links_of};
 use crate::hand_rows::{Case, cases, row_in};
@@ -17,12 +17,7 @@ use std::process::Abort;
 use std::test::Fail;
 
 /// The GADAG of a graph with its order.
-fn directed_from(
-    rt: &impl Abort,
-    alloc: Global,
-    g: &Graph,
-    root: u16,
-) -> Result<Directed, NoMemory>
+fn directed_from(rt: &impl Abort, alloc: Global, g: &Graph, root: u16) -> Result<Directed, NoMemory>
     ensures { IfOk result (λ d. SaysOrdered g.now root d) }
 {
     assert!(rt; root < g.node_count());
@@ -36,7 +31,7 @@ fn directed_from(
 fn row_by_source(
     alloc: Global,
     g: &Graph,
-    root: u16,
+    root: NodeNo,
     d: &Directed,
     s: u16,
     to: u16,
@@ -47,7 +42,7 @@ fn row_by_source(
     if s == to {
         return Ok(None);
     }
-    let rows = rows_of(alloc, g, NodeNo::new(root), d, NodeNo::new(s))?;
+    let rows = rows_of(alloc, g, root, d, NodeNo::new(s))?;
     Ok(row_in(&rows, s, to))
 }
 
@@ -55,7 +50,7 @@ fn row_by_source(
 fn agrees(
     alloc: Global,
     g: &Graph,
-    root: u16,
+    root: NodeNo,
     d: &Directed,
     to: u16,
     column: &Column,
@@ -75,14 +70,14 @@ fn agrees(
 fn alone_agrees(
     alloc: Global,
     g: &Graph,
-    root: u16,
+    root: NodeNo,
     d: &Directed,
     to: u16,
 ) -> Result<bool, NoMemory>
     requires directed { SaysOrdered g.now root d.now }
     requires to { to < length g.now.ids }
 {
-    let column = column_of(alloc, g, NodeNo::new(root), d, NodeNo::new(to))?;
+    let column = column_of(alloc, g, root, d, NodeNo::new(to))?;
     agrees(alloc, g, root, d, to, &column)
 }
 
@@ -90,26 +85,29 @@ fn alone_agrees(
 fn one_agrees(
     alloc: Global,
     g: &Graph,
-    root: u16,
+    root: NodeNo,
     d: &Directed,
-    columns: &Columns,
+    columns: &mut Columns,
     to: u16,
 ) -> Result<bool, NoMemory>
     requires directed { SaysOrdered g.now root d.now }
     requires to { to < length g.now.ids }
-    requires homes { (w : Directions) → Says g.now d.now w → AreHomeHops g.now w columns.now }
+    requires held { (w : Directions) → Says g.now d.now w → AreHeld g.now root w columns.old }
+    ensures held { (w : Directions) → Says g.now d.now w → AreHeld g.now root w columns.new }
 {
-    let column = columns.to(alloc, g, NodeNo::new(root), d, NodeNo::new(to))?;
+    let column = columns.to(alloc, g, root, d, NodeNo::new(to))?;
     agrees(alloc, g, root, d, to, &column)
 }
 
 /// Whether the columns of all nodes do so.
-fn all_agree(alloc: Global, g: &Graph, root: u16, d: &Directed) -> Result<bool, NoMemory>
+fn all_agree(alloc: Global, g: &Graph, root: NodeNo, d: &Directed) -> Result<bool, NoMemory>
     requires directed { SaysOrdered g.now root d.now }
 {
-    let columns = Columns::new(alloc, g, d)?;
+    let mut columns = Columns::new(alloc, g, root, d)?;
     for to in 0..g.node_count() {
-        if !one_agrees(alloc, g, root, d, &columns, to)? || !alone_agrees(alloc, g, root, d, to)? {
+        if !one_agrees(alloc, g, root, d, &mut columns, to)?
+            || !alone_agrees(alloc, g, root, d, to)?
+        {
             return Ok(false);
         }
     }
@@ -120,7 +118,7 @@ fn are_so(rt: &impl Abort, alloc: Global, case: &Case) -> Result<bool, GraphErro
     let links = links_of(alloc, case.links)?;
     let g = graph(rt, alloc, case.count, case.routers, links)?;
     let d = directed_from(rt, alloc, &g, case.root)?;
-    Ok(all_agree(alloc, &g, case.root, &d)?)
+    Ok(all_agree(alloc, &g, NodeNo::new(case.root), &d)?)
 }
 
 #[test]

@@ -9,6 +9,7 @@ pub mod CertOfColumns
 pub mod CertSays
 pub mod ChainAims
 pub mod Climbing
+pub mod ColumnPut
 pub mod ColumnRows
 pub mod Counting
 pub mod FarRows
@@ -21,6 +22,7 @@ pub mod MarkedHeads
 pub mod MemberRows
 pub mod NearRows
 pub mod OneBlock
+pub mod OneBlockRows
 pub mod OneCert
 pub mod OneColumn
 pub mod OneHop

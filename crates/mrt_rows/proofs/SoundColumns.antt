@@ -1,6 +1,6 @@
 -- The column of a destination is sound, and there is exactly one.
 use Rattle.std.proofs.Common.{◌≡◌, ◌≢◌, ◌<◌, ◌≤◌, ◌∙◌, ◌==◌, ℕ, zero, suc, Bool, true, false, List, [], ◌∷◌, Option, Some, None, length, slice_get, inl, inr, refl, sym, ap, subst, arith, if◌then◌else◌}
-use Rattle.std.specs.Option.{option_and_then, option_map_or}
+use Rattle.std.specs.Option.{is_none, option_and_then, option_map_or}
 use Rattle.std.proofs.lemmas.Bool.{cases_eq, cases_lt, eq-eqb, le-ltb, lt-ltb}
 use Rattle.std.proofs.lemmas.Option.{same_Some, slice_get_past, slice_get_within}
 use Rattle.mrt_graph.specs.declared.cert.Color.{Color}
@@ -8,7 +8,7 @@ use Rattle.mrt_graph.specs.declared.cert.Color.TheVariants.{Blue, Red}
 use Rattle.mrt_graph.specs.declared.cert.Row.{Row}
 use Rattle.mrt_graph.specs.declared.link.Link.{Link}
 use Rattle.mrt_graph.specs.Certificate.{row_of}
-use Rattle.mrt_graph.specs.Column.{ColumnSound, IsColumnFor, rows_of_column}
+use Rattle.mrt_graph.specs.Column.{ColumnSound, IsColumnFor, is_none_at, rows_of_column}
 use Rattle.mrt_graph.specs.ColorWalk.{color_walk, links_followed}
 use Rattle.mrt_graph.specs.Hop.{Hop, color_hop, hop_over}
 use Rattle.mrt_graph.specs.Reaches.{AreDifferent}
@@ -100,17 +100,19 @@ module _ (og : OrderedGraph) (t : ℕ) (t_within : t < length og.g.ids) (column 
 
   -- its rows are those of the certificate
   pub same_rows : (s : ℕ) → row_of (whole_file og).cert s t ≡ rows_of_column column s t
-  same_rows s = elim (cases_lt s n) [
-    | inl low ↦ elim (cases_eq s t) [
-      | inl same ↦
-          subst (λ (v : ℕ). row_of (whole_file og).cert v t ≡ rows_of_column column v t) (sym same)
-          (none_at_t ∙ sym (ap (option_and_then (λ (o : Option Row). o)) is.at_destination))
-      | inr two ↦
-          whole_row og s t low t_within two ∙ sym (ap (option_and_then (λ (o : Option Row). o)) (stands s low two))
-    ]
-    | inr past ↦
-        none_past s past ∙ sym (ap (option_and_then (λ (o : Option Row). o)) (slice_get_past column s (omega (arith, past, is.one_each))))
-  ]
+  same_rows s =
+      let destination : is_none_at column t ≡ true = ap (λ (o : Option (Option Row)). option_map_or (λ row. is_none row) o false) is.at_destination in
+      rw destination (elim (cases_lt s n) [
+        | inl low ↦ elim (cases_eq s t) [
+          | inl same ↦
+              subst (λ (v : ℕ). row_of (whole_file og).cert v t ≡ option_and_then (λ (o : Option Row). o) (slice_get column v)) (sym same)
+              (none_at_t ∙ sym (ap (option_and_then (λ (o : Option Row). o)) is.at_destination))
+          | inr two ↦
+              whole_row og s t low t_within two ∙ sym (ap (option_and_then (λ (o : Option Row). o)) (stands s low two))
+        ]
+        | inr past ↦
+            none_past s past ∙ sym (ap (option_and_then (λ (o : Option Row). o)) (slice_get_past column s (omega (arith, past, is.one_each))))
+      ])
 
   pub column_for : IsColumnFor column t
   column_for = record {

@@ -5,10 +5,6 @@ use Rattle.mrt_graph.specs.Certificate.{Certificate, row_of}
 use Rattle.mrt_graph.specs.Column.{rows_of_column}
 use Rattle.mrt_graph.specs.Topology.{Topology}
 use Rattle.link_direction.specs.Directions.{Directions}
-use Rattle.inc_dec_spf.specs.declared.reach.Dir.TheVariants.{Down, Up}
-use Rattle.inc_dec_spf.specs.declared.reach.Hop.{Hop}
-use Rattle.inc_dec_spf.specs.LeastPath.{IsHop}
-use Rattle.mrt_rows.specs.declared.column.Columns.{Columns}
 use Rattle.mrt_graph.specs.declared.cert.Tag.TheVariants as tags
 use Rattle.mrt_rows.specs.RowLines.{SoleLine}
 use Rattle.mrt_rows.specs.RowsOf.{HasRow}
@@ -46,10 +42,3 @@ pub record IsRowIn (g : Topology) (root : ℕ) (w : Directions) (s t : ℕ) (fou
 pub record AreHeadsOf (g : Topology) (w : Directions) (heads : List ℕ) : Type 0 where
   pub one_each : length heads ≡ length g.ids
   pub each : (s head : ℕ) → slice_get heads s ≡ Some head → head ≡ w.head s
-
--- the hops of all nodes to their heads, up and down
-pub record AreHomeHops (g : Topology) (w : Directions) (columns : Columns) : Type 0 where
-  pub one_up_each : length columns.up_home ≡ length g.ids
-  pub one_down_each : length columns.down_home ≡ length g.ids
-  pub up : (s : ℕ) (hop : Option Hop) → slice_get columns.up_home s ≡ Some hop → IsHop g w Up s (w.head s) hop
-  pub down : (s : ℕ) (hop : Option Hop) → slice_get columns.down_home s ≡ Some hop → IsHop g w Down s (w.head s) hop

@@ -1,6 +1,7 @@
 pub mod CertOf
 pub mod Chain
 pub mod ColumnOf
+pub mod Held
 pub mod HopRows
 pub mod Put
 pub mod RowLines

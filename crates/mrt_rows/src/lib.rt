@@ -2,6 +2,8 @@
 #![tactic(auto)]
 
 mod all_rows;
+mod by_sweeps;
+mod by_tiles;
 mod certificate;
 mod chain;
 mod column;

@@ -1,32 +1,9 @@
-use Rattle.std.proofs.Common.{ℕ, List, sym, subst}
-use Rattle.inc_dec_spf.specs.declared.reach.Dir.TheVariants.{Down, Up}
-use Rattle.inc_dec_spf.specs.Aims.{AreAims, AreHopsTo}
-use Rattle.mrt_rows.proofs.ColumnRows.{heads_are_aims, home_hops}
-use Rattle.mrt_rows.proofs.OrderedGraphs.{graph_of}
+use Rattle.inc_dec_spf.specs.HasDirections.{AreDirections}
+use Rattle.mrt_rows.proofs.Climbing.{graph_by}
 use Rattle.mrt_rows.proofs.column.Columns.new.Goals as goal
 
-pub spf_to_each-requires-clause-aims : goal.spf_to_each-requires-clause-aims
-spf_to_each-requires-clause-aims c = λ root w are.
-    let og = graph_of c.args.g.now root w c.args.d.now c.heads_of.ensures.kept are in
-    subst (λ (xs : List ℕ). AreAims c.args.g.now w xs) (sym c.deref.ensures.value)
-    (heads_are_aims og c.in_ok-heads.heads.items (c.in_ok-heads.ensures.heads w are.says))
-
-pub spf_to_each-requires-2-clause-aims : goal.spf_to_each-requires-2-clause-aims
-spf_to_each-requires-2-clause-aims c = λ root w are.
-    let og = graph_of c.args.g.now root w c.args.d.now c.heads_of.ensures.kept are in
-    subst (λ (xs : List ℕ). AreAims c.args.g.now w xs) (sym c.deref-2.ensures.value)
-    (heads_are_aims og c.in_ok-heads.heads.items (c.in_ok-heads.ensures.heads w are.says))
-
-pub returns : goal.returns
-returns c = λ w says.
-    let g = c.args.g.now in
-    let heads = c.in_ok-heads.heads.items in
-    let are = c.in_ok-heads.ensures.heads w says in
-    let up = subst (λ (xs : List ℕ). AreHopsTo g w Up xs c.in_ok-up_home.up_home) c.deref.ensures.value (c.in_ok-up_home.ensures w says) in
-    let down = subst (λ (xs : List ℕ). AreHopsTo g w Down xs c.in_ok-down_home.down_home) c.deref-2.ensures.value (c.in_ok-down_home.ensures w says) in
-    record {
-      one_up_each = up.one_each;
-      one_down_each = down.one_each;
-      up = home_hops g w Up heads c.in_ok-up_home.up_home are up;
-      down = home_hops g w Down heads c.in_ok-down_home.down_home are down;
-    }
+pub new-requires-clause-one : goal.new-requires-clause-one
+new-requires-clause-one c = λ w says.
+    let og = graph_by c.args.g.now c.args.root c.args.d.now w c.is_one_block.ensures.kept c.requires says in
+    let are : AreDirections c.args.g.now c.args.d.now c.args.root w = record { says = says; ordered = og.ordered } in
+    c.is_one_block.ensures.one c.if-is_one_block.true w are

@@ -5,7 +5,7 @@ use Rattle.mrt_rows.specs.Source.{IsNear}
 use Rattle.mrt_rows.proofs.ChainAims.{aim_apart}
 use Rattle.mrt_rows.proofs.ColumnRows.{row_at_aim, row_from_aim, some_near}
 use Rattle.mrt_rows.proofs.OrderedGraphs.{graph_of}
-use Rattle.mrt_rows.proofs.column.column_row.Goals as goal
+use Rattle.mrt_rows.proofs.by_sweeps.column_row.Goals as goal
 
 pub returns-in_err-row : goal.returns-in_err-row
 returns-in_err-row c = λ root w below are is_below it two up down up_home down_home.

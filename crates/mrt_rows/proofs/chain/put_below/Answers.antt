@@ -5,15 +5,15 @@ use Rattle.std.proofs.lemmas.List.{length-replicate, length-set}
 use Rattle.std.proofs.lemmas.Option.{get_or_from_slice_get}
 use Rattle.inc_dec_spf.proofs.EndsOffered.{head_of_node}
 use Rattle.mrt_rows.proofs.Climbing.{IsClimbed, all_climbed, begun, graph_by, one_climbed}
-use Rattle.mrt_rows.proofs.chain.below_of.Goals as goal
+use Rattle.mrt_rows.proofs.chain.put_below.Goals as goal
 
 pub loop-root-init : goal.loop-root-init
 loop-root-init c =
-    let blank : c.in_ok-below.below.items ≡ replicate c.node_count.result None = c.in_ok-below.ensures.items_if_clones_equal (search rules) in
+    let blank : c.fill.new.self ≡ replicate (length c.args.below.now) None = search rules in
     record {
-      one_each = ap (λ (xs : List (Option ℕ)). length xs) blank ∙ length-replicate c.node_count.result None ∙ c.node_count.ensures.count;
+      one_each = ap (λ (xs : List (Option ℕ)). length xs) blank ∙ length-replicate (length c.args.below.now) None ∙ c.requires.one_each;
       within = c.requires.to;
-      climbed = λ w says. begun c.args.g.now c.args.root w c.args.to c.node_count.result c.in_ok-below.below.items blank;
+      climbed = λ w says. begun c.args.g.now c.args.root w c.args.to (length c.args.below.now) c.fill.new.self blank;
     }
 
 pub loop-root-smaller : goal.loop-root-smaller
@@ -37,7 +37,7 @@ loop-root-preserved c =
     let d = c.args.d.now in
     let w0 = c.requires.directed.directions in
     let at = c.loop-root.c in
-    let below = c.loop-root.below.items in
+    let below = c.loop-root.below in
     let head = c.place-head.result.head in
     let within = c.loop-root.invariant.within in
     let named = head_of_node g d w0 at head c.requires.directed.says within (rw c.place-head.ensures refl) in
@@ -45,7 +45,7 @@ loop-root-preserved c =
       one_each = length-set below c.get.result (Some at) ∙ c.loop-root.invariant.one_each;
       within = subst (λ (v : ℕ). v < length g.ids) (sym named) (c.requires.directed.ordered.heads.head_within at within);
       climbed = λ w says.
-          let og = graph_by g c.args.root d w c.node_count.ensures.kept c.requires.directed says in
+          let og = graph_by g c.args.root d w c.requires.kept c.requires.directed says in
           let other : at ≢ c.args.root = λ same. let no : c.ne.result ≡ false = rw (eq-eqb at c.args.root same) at c.ne.ensures in let yes = c.loop-root-test.true in (cc) in
           let head_is = head_of_node g d w at head says within (rw c.place-head.ensures refl) in
           subst (λ (v : ℕ). IsClimbed g c.args.root w c.args.to v (set below c.get.result (Some at))) (sym head_is)
@@ -55,9 +55,9 @@ loop-root-preserved c =
 
 pub returns : goal.returns
 returns c = λ w says.
-    let og = graph_by c.args.g.now c.args.root c.args.d.now w c.node_count.ensures.kept c.requires.directed says in
+    let og = graph_by c.args.g.now c.args.root c.args.d.now w c.requires.kept c.requires.directed says in
     let at_root : c.loop-root.c ≡ c.args.root = elim (cases_eq c.loop-root.c c.args.root) [
       | inl same ↦ same
       | inr other ↦ let yes : c.ne.result ≡ true = rw (ne_eqb c.loop-root.c c.args.root other) at c.ne.ensures in let no = c.loop-root-test.false in absurd (cc)
     ] in
-    all_climbed og c.args.to c.loop-root.c c.loop-root.below.items (c.loop-root.invariant.climbed w says) at_root c.loop-root.invariant.one_each
+    all_climbed og c.args.to c.loop-root.c c.loop-root.below (c.loop-root.invariant.climbed w says) at_root c.loop-root.invariant.one_each

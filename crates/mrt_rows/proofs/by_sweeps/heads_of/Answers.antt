@@ -4,7 +4,7 @@ use Rattle.std.proofs.lemmas.List.{length-set}
 use Rattle.std.proofs.lemmas.Option.{same_Some, slice_get_within}
 use Rattle.mrt_graph.proofs.ListPlaces.{set_elsewhere, set_there}
 use Rattle.inc_dec_spf.proofs.EndsOffered.{head_of_node}
-use Rattle.mrt_rows.proofs.column.heads_of.Goals as goal
+use Rattle.mrt_rows.proofs.by_sweeps.heads_of.Goals as goal
 
 pub loop-n-preserved : goal.loop-n-preserved
 loop-n-preserved c =

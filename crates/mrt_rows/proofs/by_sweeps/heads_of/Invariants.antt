@@ -1,6 +1,6 @@
 use Rattle.std.proofs.Common.{◌≡◌, ◌<◌, ℕ, Some, length, slice_get}
 use Rattle.link_direction.specs.Directions.{Directions, Says}
-use Rattle.mrt_rows.proofs.column.heads_of.Given as goal
+use Rattle.mrt_rows.proofs.by_sweeps.heads_of.Given as goal
 
 abbrev pub invariant-loop-n : goal.invariant-loop-n
 invariant-loop-n l = record {
