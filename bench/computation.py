@@ -2,9 +2,10 @@
 """Times the steps of the computation on islands of 1,024 and 2,048 routers, and prints how the time grows.
 
 The islands are a ring, a grid with 32 in a row, a block with four times as many links as nodes, and a line. A ratio below 2.4 for twice the
-nodes means that the time grows as the island does. `spf`, up, and `rows_of` are timed for all sources, and `spf_to`, up, for all targets, so that
-their times may be four times as much, at most 4.4, as that of `compute`. The times of `rows_of` and of `compute` are compared with that which
-`sha256sum` takes of as many bytes as the certificate has. It builds a small program beside the crates in a folder of its own; it fetches nothing.
+nodes means that the time grows as the island does. `spf`, up, and `rows_of` are timed for all sources, and `spf_to`, up, for all targets, as are
+the columns of all nodes, one after another, so that their times may be four times as much, at most 4.4, as that of `compute`. The time of one
+column is told too. The times of `rows_of` and of `compute` are compared with that which `sha256sum` takes of as many bytes as the certificate
+has. It builds a small program beside the crates in a folder of its own; it fetches nothing.
 """
 import os
 import subprocess
@@ -17,7 +18,7 @@ import timing
 
 SIZES = 1024, 2048
 # The steps that do something for each source.
-SQUARE = "spf", "spf_to", "rows_of", "compute"
+SQUARE = "spf", "spf_to", "rows_of", "columns", "compute"
 SHAPES = {
     "ring": lambda n: [(each, each % n + 1) for each in range(1, n + 1)],
     "mesh": lambda n: areas.grid(n, 32),
@@ -37,6 +38,7 @@ ghost use Rattle.lsdb.specs.Installing.{IsBehind};
 ghost use Rattle.lsdb.specs.Installs.{all_installed};
 ghost use Rattle.inc_dec_spf.specs.HasDirections.{HasDirections};
 ghost use Rattle.link_direction.specs.OrderedGadag.{SaysOrdered};
+ghost use Rattle.mrt_rows.specs.Held.{AreHeld};
 ghost use Rattle.ospf_lsa.specs.Lsas.{AreLsas, IsLsa};
 ghost use Rattle.mrt_cmd.specs.Database.{entering, enters};
 
@@ -49,7 +51,7 @@ use lowpoint_dfs::search;
 use lsdb::{Lsdb, an_lsa_without_a_fault_may_be_installed, entries_are_those_of_the_list};
 use mrt_graph::{Directed, Graph, NoMemory, NodeNo};
 use mrt_island::{Island, Profile, find_island};
-use mrt_rows::{compute, rows_of};
+use mrt_rows::{Columns, compute, rows_of};
 use ospf_lsa::{Lsa, read_lsas};
 use std::alloc::Global;
 use std::fs;
@@ -191,6 +193,23 @@ fn time_rows(rt: &HostRuntime, name: &str, g: &Graph, root: NodeNo, d: &Directed
     Ok(())
 }
 
+fn time_columns(rt: &HostRuntime, name: &str, g: &Graph, root: NodeNo, d: &Directed) -> Result<()>
+    requires { SaysOrdered g.now root d.now }
+{
+    let start = Instant::now(rt)?;
+    let Ok(mut columns) = Columns::new(rt.alloc(), g, root, d) else {
+        bail!("no memory");
+    };
+    for to in 0..g.node_count() {
+        let Ok(_column) = columns.to(rt.alloc(), g, root, d, NodeNo::new(to)) else {
+            bail!("no memory");
+        };
+    }
+    let taken = start.elapsed(rt)?.as_nanos();
+    println!(rt; "{name} {} {} columns {taken}", g.node_count(), g.link_count())?;
+    Ok(())
+}
+
 fn time_sources(rt: &HostRuntime, name: &str, g: &Graph, root: NodeNo) -> Result<()> {
     if root.get() >= g.node_count() {
         bail!("no root");
@@ -202,6 +221,7 @@ fn time_sources(rt: &HostRuntime, name: &str, g: &Graph, root: NodeNo) -> Result
         time_paths(rt, name, g, &d)?;
         time_paths_back(rt, name, g, &d)?;
         time_rows(rt, name, g, root, &d)?;
+        time_columns(rt, name, g, root, &d)?;
     }
     Ok(())
 }
@@ -242,6 +262,15 @@ abbrev pub invariant-loop-lsa : goal.invariant-loop-lsa
 invariant-loop-lsa l = IsUnderWay l.database l.lsa-iterator.rest.items (entries_in (entering l.fn.lsas.items))
 """
 
+COLUMNS = """\
+use Rattle.link_direction.specs.Directions.{Directions, Says}
+use Rattle.mrt_rows.specs.Held.{AreHeld}
+use Rattle.timing.proofs.time_columns.Given as goal
+
+abbrev pub invariant-loop-to : goal.invariant-loop-to
+invariant-loop-to l = (w : Directions) → Says l.g l.d w → AreHeld l.g l.fn.root w l.columns
+"""
+
 
 def times(program, folder):
     """The least time of each step, in nanoseconds, by shape, size and step."""
@@ -268,7 +297,7 @@ def main():
     files = {f"{shape}-{size}": areas.database(areas.numbered(pairs(size))) for shape, pairs in SHAPES.items() for size in SIZES}
     with tempfile.TemporaryDirectory() as folder:
         text = PROGRAM.replace("NAMES", ", ".join(f'"{name}"' for name in files))
-        program = beside.build(folder, CRATES, text, proofs={"installed/Invariants.antt": INVARIANTS}, files=files)
+        program = beside.build(folder, CRATES, text, proofs={"installed/Invariants.antt": INVARIANTS, "time_columns/Invariants.antt": COLUMNS}, files=files)
         best = times(program, folder)
     for shape in SHAPES:
         for step in sorted({step for _, _, step in best}):
@@ -276,6 +305,7 @@ def main():
             ratio, most = whole / half, 4.4 if step in SQUARE else 2.4
             print(f"{step} of a {shape}: {half / 1000:.0f} and {whole / 1000:.0f} µs for {SIZES[0]:,} and {SIZES[1]:,} nodes, ratio {ratio:.2f}"
                   + ("" if ratio < most else ", which is TOO MUCH"))
+        print(f"a column of a {shape}: {best[shape, SIZES[1], 'columns'] / 1000 / SIZES[1]:.1f} µs for {SIZES[1]:,} nodes")
         sha = summed(shape, SIZES[1])
         for step in ("rows_of", "compute"):
             print(f"{step} of a {shape}: {best[shape, SIZES[1], step] / 1e6 / sha:.2f} times sha256sum of the certificate")
