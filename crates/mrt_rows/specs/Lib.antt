@@ -1,9 +1,11 @@
 pub mod CertOf
 pub mod Chain
 pub mod ColumnOf
+pub mod DirectedFrom
 pub mod Held
 pub mod HopRows
 pub mod Put
+pub mod Rooted
 pub mod RowLines
 pub mod RowsOf
 pub mod Source

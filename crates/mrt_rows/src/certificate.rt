@@ -7,17 +7,14 @@ ghost use Rattle.mrt_graph.specs.GraphInvariant.{IsTopology};
 ghost use Rattle.mrt_rows.specs.CertOf.{IsCertOf, file_of};
 
 use crate::all_rows::all_rows;
+use crate::directed::directions;
 use crate::words::{all_links, all_nodes};
-use gadag_ears::ears;
-use link_direction::direct;
-use lowpoint_dfs::search;
 use mrt_graph::{Cert, Graph, NoMemory, NodeNo};
 use std::alloc::Global;
 
-/// The certificate of a graph and its root: the search, the ears, the directions, and the rows of all nodes.
+/// The certificate of a graph and its root: the directions, and the rows of all nodes.
 ///
-/// It takes time in proportion to the links for the first three, and for each node to its rows and the ends of all
-/// nodes.
+/// It takes time in proportion to the links for the directions, and for each node to its rows and the ends of all nodes.
 pub fn compute(alloc: Global, g: &Graph, root: NodeNo) -> Result<Cert, NoMemory>
     requires { root < length g.now.ids }
     ensures cert { IfOk result (λ cert. (id : NodeId) → slice_get g.now.ids root ≡ Some id
@@ -28,9 +25,7 @@ pub fn compute(alloc: Global, g: &Graph, root: NodeNo) -> Result<Cert, NoMemory>
         × (length cert.links ≡ length g.now.links)) }
     ensures kept { IfOk result (λ _. IsTopology g.now) }
 {
-    let tree = search(alloc, g, root)?;
-    let gadag = ears(alloc, g, root, &tree)?;
-    let d = direct(alloc, g, root, gadag)?;
+    let d = directions(alloc, g, root)?;
     let rows = all_rows(alloc, g, root, &d)?;
     let nodes = all_nodes(alloc, g, &d)?;
     let links = all_links(alloc, g, &d)?;

@@ -8,6 +8,7 @@ mod certificate;
 mod chain;
 mod column;
 mod column_row;
+mod directed;
 mod far_rows;
 mod heads;
 mod homes;
@@ -16,6 +17,7 @@ mod near;
 mod of_source;
 mod one_block;
 mod places;
+mod rooted;
 mod rows_law;
 mod table;
 mod tile_rows;
@@ -25,7 +27,9 @@ mod words;
 
 pub use certificate::compute;
 pub use column::{Columns, column_of};
+pub use directed::directions;
 pub use of_source::rows_of;
+pub use rooted::RootedColumns;
 pub use rows_law::{
     certificates_are_accepted, columns_are_of_one_certificate, columns_are_sound, one_certificate,
     one_column_for_each, one_row_for_each, tabled_certificates_are_accepted,

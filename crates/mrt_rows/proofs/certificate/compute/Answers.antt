@@ -36,12 +36,12 @@ returns-clause-cert c = λ id is.
     (c.in_ok-links.ensures ordered.directions ordered.says)
     (c.in_ok-rows.ensures ordered.directions ordered.says) id is in
     record {
-      tree = c.in_ok-tree.tree;
-      searched = c.in_ok-tree.ensures;
-      gadag = c.in_ok-gadag.gadag;
-      by_ears = c.in_ok-gadag.ensures;
+      tree = c.in_ok-d.ensures.made.tree;
+      searched = c.in_ok-d.ensures.made.searched;
+      gadag = c.in_ok-d.ensures.made.gadag;
+      by_ears = c.in_ok-d.ensures.made.by_ears;
       directed = c.in_ok-d.d;
-      in_order = c.in_ok-d.ensures.exact;
+      in_order = c.in_ok-d.ensures.made.in_order;
       words = ordered.directions;
       says = ordered.says;
       tells = subst (λ (cert : Certificate). Tells c.args.g.now c.args.root ordered.directions (file_of id cert))
