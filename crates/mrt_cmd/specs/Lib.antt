@@ -15,6 +15,7 @@ pub mod Reading
 pub mod Run
 pub mod SameFile
 pub mod Surveyed
+pub mod TableMade
 pub mod Tabled
 pub mod TextBytes
 pub mod Verdict

@@ -43,9 +43,9 @@ use std::alloc::Global;
 /// come at any place after `Usage`.
 ///
 /// It takes the time of reading the files, of an install for each LSA, of the area and the island, and of what is asked: of
-/// checking a certificate, of computing and writing one, of computing one and a router's primaries and writing its table, or of
-/// computing one and all routers' primaries and following packets. A survey takes the time of making the network and
-/// of computing the certificate of its island.
+/// checking a certificate, of computing and writing one, of computing the rows for one node after the other and a router's
+/// primaries and writing its table, or of computing a certificate and all routers' primaries and following packets. A survey
+/// takes the time of making the network and of computing the certificate of its island.
 pub fn run<F: Shelf, K: Sink, E: Sink>(
     alloc: Global,
     words: &[Word],

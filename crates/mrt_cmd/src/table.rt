@@ -1,11 +1,19 @@
 //! `table DB PROFILE ROUTER`: what a router installs.
 
-ghost use Rattle.std.specs.Prelude.{◌≡◌, ◌<◌, None, Contains, IfOk, IfErr, length};
+ghost use Rattle.std.specs.Prelude.{◌≡◌, ◌≢◌, ◌<◌, None, Contains, IfOk, IfErr, length};
 ghost use Rattle.area_graph.specs.Fits.{Fits};
 ghost use Rattle.area_graph.specs.Nodes.{router as router_node};
 ghost use Rattle.lsdb.specs.Conflicts.{least_conflict};
+ghost use Rattle.mrt_graph.specs.declared.cert.CertFile.{CertFile};
+ghost use Rattle.mrt_graph.specs.GraphInvariant.{IsNetwork};
+ghost use Rattle.mrt_report.specs.Adds.{Adds};
+ghost use Rattle.mrt_report.specs.AddsLines.{AddsLines};
+ghost use Rattle.mrt_report.specs.ByColumn.{IsLineByColumn};
+ghost use Rattle.mrt_rows.specs.CertOf.{IsCertOf};
+ghost use Rattle.mrt_rows.specs.Rooted.{MakeColumns};
 ghost use Rattle.mrt_cmd.specs.Input.{input_of};
 ghost use Rattle.mrt_cmd.specs.Reading.{HasNone};
+ghost use Rattle.mrt_cmd.specs.TableMade.{AreParts, with_cert};
 ghost use Rattle.mrt_cmd.specs.Tabled.{IsTableOf, IsTabled};
 
 use crate::exit::Exit;
@@ -14,10 +22,21 @@ use area_graph::Area;
 use lsdb::Lsdb;
 use mrt_graph::{Graph, Kind, LinkNo, NoMemory, NodeId, NodeNo, accepted_implies_sound};
 use mrt_island::Profile;
-use mrt_report::table_text;
-use mrt_rows::compute;
-use primary_alt::primaries;
+use mrt_report::{lines_make_the_table, primary_for, push_table_line, table_head};
+use mrt_rows::{RootedColumns, certificates_are_accepted};
+use primary_alt::{Primary, primaries};
 use std::alloc::Global;
+
+/// What the lines of a router's table are made from: the area; the island, with the island link that each bond of the
+/// area is, if it is one; the router, by its number in the island; and its primaries for all nodes of the area.
+#[derive(Clone, Copy)]
+struct Parts<'a> {
+    pub area: &'a Area,
+    pub island: &'a Graph,
+    pub link_of: &'a [Option<LinkNo>],
+    pub source: NodeNo,
+    pub primaries: &'a [Option<Primary>],
+}
 
 /// The table of a router: of each other node of its island the two colors' next hops, the primary, and which color
 /// repairs it.
@@ -38,7 +57,8 @@ pub(crate) fn table(
     Ok(table_of(alloc, &area, &island.graph, island.root, link_of, router)?)
 }
 
-/// The table of a router of an island, by the certificate that is computed for it and by the router's primaries.
+/// The table of a router of an island, by the rows of its certificate, of which one column at a time is made, and by the
+/// router's primaries.
 fn table_of(
     alloc: Global,
     area: &Area,
@@ -48,18 +68,84 @@ fn table_of(
     router: u32,
 ) -> Result<Vec<u8>, NoMemory>
     requires root { root < length graph.now.ids }
+    requires root_router { ¬ IsNetwork graph.now.ids root }
     requires fits { Fits area.now graph.now link_of.now }
     requires inside { Contains graph.now.ids (router_node router) }
     ensures { IfOk result (λ text. IsTableOf area.now graph.now root link_of.now router text.items) }
 {
+    certificates_are_accepted();
     accepted_implies_sound();
+    lines_make_the_table();
     let own = NodeId {
         kind: Kind::Router,
         number: router,
     };
     let source = graph.find(own).unwrap();
     let spot = area.find(own).unwrap();
-    let cert = compute(alloc, graph, root)?;
+    let mut columns = RootedColumns::new(alloc, graph, root)?;
     let primaries = primaries(alloc, area, spot)?;
-    table_text(alloc, area, graph, root, link_of, &cert, source, &primaries)
+    let parts = Parts {
+        area,
+        island: graph,
+        link_of,
+        source,
+        primaries: &primaries,
+    };
+    let mut text = table_head(alloc, graph, root, source)?;
+    push_lines(alloc, &mut text, &parts, &mut columns)?;
+    Ok(text)
+}
+
+/// Puts a line on each other node at the end of a text.
+fn push_lines(
+    alloc: Global,
+    text: &mut Vec<u8>,
+    parts: &Parts,
+    columns: &mut RootedColumns,
+) -> Result<(), NoMemory>
+    requires kept { AreParts parts.now }
+    requires made { MakeColumns parts.now.island.now columns.old }
+    ensures { (file : CertFile) → IsCertOf parts.now.island.now columns.old.root file
+        → IfOk result (λ _. AddsLines (IsLineByColumn (with_cert parts.now file.cert))
+        parts.now.source (length parts.now.island.now.ids) text.old.items text.new.items) }
+{
+    for place in 0..parts.island.node_count() {
+        let to = NodeNo::new(place);
+        if to != parts.source {
+            push_line(alloc, text, parts, columns, to)?;
+        }
+    }
+    Ok(())
+}
+
+/// Puts the line on another node at the end of a text. The node's column lives no longer than that.
+fn push_line(
+    alloc: Global,
+    text: &mut Vec<u8>,
+    parts: &Parts,
+    columns: &mut RootedColumns,
+    to: NodeNo,
+) -> Result<(), NoMemory>
+    requires kept { AreParts parts.now }
+    requires made { MakeColumns parts.now.island.now columns.old }
+    requires target { to < length parts.now.island.now.ids }
+    requires different { parts.now.source ≢ to }
+    ensures root { columns.new.root ≡ columns.old.root }
+    ensures made { MakeColumns parts.now.island.now columns.new }
+    ensures line { (file : CertFile) → IsCertOf parts.now.island.now columns.old.root file
+        → IfOk result (λ _. Adds (IsLineByColumn (with_cert parts.now file.cert) to) text.old.items text.new.items) }
+{
+    let column = columns.to(alloc, parts.island, to)?;
+    let primary = primary_for(parts.area, parts.island, parts.primaries, to);
+    push_table_line(
+        text,
+        parts.area,
+        parts.island,
+        parts.link_of,
+        &column,
+        parts.source,
+        to,
+        primary,
+    )?;
+    Ok(())
 }

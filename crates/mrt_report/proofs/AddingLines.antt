@@ -7,8 +7,7 @@ use Rattle.std.proofs.lemmas.List.Folds.{concat-append}
 use Rattle.std.proofs.lemmas.List.Elements.{filter-append}
 use Rattle.mrt_report.specs.Adds.{Adds}
 use Rattle.mrt_report.specs.AddsLines.{AddsLines}
-use Rattle.mrt_report.specs.TableParts.{TableParts}
-use Rattle.mrt_report.specs.TableText.{IsTableLine, others}
+use Rattle.mrt_report.specs.TableText.{others}
 
 range_more : (a n : ℕ) → range_with_len a (suc n) ≡ range_with_len a n ++ (a + n) ∷ []
 range_more a zero = let same : a ≡ a + 0 = omega arith in ap (λ (x : ℕ). x ∷ []) same
@@ -44,24 +43,25 @@ zip_push R (a ∷ more) [] x y all last = absurd all
 zip_push R (a ∷ more) (b ∷ bs) x y all last = (all.0, zip_push R more bs x y all.1 last)
 
 -- at first there is none
-pub no_lines : (parts : TableParts) (text : List ℕ) → AddsLines parts 0 text text
-no_lines parts text = record { lines = []; are = tt; added = sym (append-nil text) }
+pub no_lines : (IsLineOn : ℕ → List ℕ → Type 0) (source : ℕ) (text : List ℕ) → AddsLines IsLineOn source 0 text text
+no_lines IsLineOn source text = record { lines = []; are = tt; added = sym (append-nil text) }
 
 -- the router has no line
-pub line_passed : (parts : TableParts) (n : ℕ) (before after : List ℕ) → n ≡ parts.source → AddsLines parts n before after → AddsLines parts (n + 1) before after
-line_passed parts n before after same so_far = record {
+pub line_passed : (IsLineOn : ℕ → List ℕ → Type 0) (source n : ℕ) (before after : List ℕ) → n ≡ source → AddsLines IsLineOn source n before after
+    → AddsLines IsLineOn source (n + 1) before after
+line_passed IsLineOn source n before after same so_far = record {
   lines = so_far.lines;
-  are = subst (λ (nodes : List ℕ). AllZip (IsTableLine parts) nodes so_far.lines) (sym (others_same n parts.source same) ∙ next n parts.source) so_far.are;
+  are = subst (λ (nodes : List ℕ). AllZip IsLineOn nodes so_far.lines) (sym (others_same n source same) ∙ next n source) so_far.are;
   added = so_far.added;
 }
 
 -- one line more
-pub line_added : (parts : TableParts) (n : ℕ) (before middle after : List ℕ) → n ≢ parts.source → AddsLines parts n before middle → Adds (IsTableLine parts n) middle after
-    → AddsLines parts (n + 1) before after
-line_added parts n before middle after other so_far line = record {
+pub line_added : (IsLineOn : ℕ → List ℕ → Type 0) (source n : ℕ) (before middle after : List ℕ) → n ≢ source → AddsLines IsLineOn source n before middle
+    → Adds (IsLineOn n) middle after → AddsLines IsLineOn source (n + 1) before after
+line_added IsLineOn source n before middle after other so_far line = record {
   lines = so_far.lines ++ line.part ∷ [];
-  are = subst (λ (nodes : List ℕ). AllZip (IsTableLine parts) nodes (so_far.lines ++ line.part ∷ [])) (sym (others_more n parts.source other) ∙ next n parts.source)
-      (zip_push (IsTableLine parts) (others n parts.source) so_far.lines n line.part so_far.are line.is);
+  are = subst (λ (nodes : List ℕ). AllZip IsLineOn nodes (so_far.lines ++ line.part ∷ [])) (sym (others_more n source other) ∙ next n source)
+      (zip_push IsLineOn (others n source) so_far.lines n line.part so_far.are line.is);
   added =
       let last : concat (so_far.lines ++ line.part ∷ []) ≡ concat so_far.lines ++ line.part =
       concat-append so_far.lines (line.part ∷ []) ∙ ap (λ (xs : List ℕ). concat so_far.lines ++ xs) (append-nil line.part) in

@@ -7,6 +7,8 @@ use Rattle.std.proofs.lemmas.Bool.{cases_eq, eq-eqb, ne_eqb}
 use Rattle.std.proofs.lemmas.Option.{get_or_from_slice_get, same_Some, slice_get_within}
 use Rattle.mrt_graph.proofs.ListTests.{there}
 use Rattle.area_graph.specs.declared.area_types.Arc.{Arc}
+use Rattle.area_graph.specs.AreaInvariant.{IsArea}
+use Rattle.area_graph.specs.Fits.{Fits}
 use Rattle.area_graph.specs.Parts.{AreaParts}
 use Rattle.mrt_graph.specs.declared.cert.Color.{Color}
 use Rattle.mrt_graph.specs.declared.cert.Row.{Row}
@@ -25,7 +27,7 @@ use Rattle.primary_alt.specs.Primaries.{Direct, IsPrimary, Over}
 use Rattle.primary_alt.specs.declared.shortest.Primary.{Primary}
 use Rattle.primary_alt.proofs.PrimariesLead.{entry_there}
 use Rattle.mrt_report.specs.LineParts.{IsPrimaryOf, IsSpotOf}
-use Rattle.mrt_report.specs.TableParts.{AreTableParts, IsPrimaryFor, TableParts}
+use Rattle.mrt_report.specs.TableParts.{AreItsPrimaries, IsPrimaryFor}
 use Rattle.mrt_report.proofs.IslandWalks.{walk_there}
 
 -- where a color leads on, the link of this color in the row touches the node
@@ -69,40 +71,41 @@ end_found g s e ends kept list touches =
     ]
 
 -- an entry for another node of the island is a primary
-pub primary_there : (parts : TableParts) → AreTableParts parts → (to spot : ℕ) (entry : Option Primary) → to < length parts.island.ids → parts.source ≢ to
-    → IsSpotOf parts.area parts.island spot to → slice_get parts.primaries spot ≡ Some entry → IsSome entry
-primary_there parts kept to spot entry within other at is =
-    let own = kept.primaries in
-    let walk = kept.island_kept.connected parts.source to kept.within within in
-    let apart : own.spot ≢ spot = λ same. other (one_place parts.island.ids parts.source to at.id kept.island_kept.ids_ascend
-    (subst (λ (x : NodeId). slice_get parts.island.ids parts.source ≡ Some x)
-    (same_Some own.node.id at.id (sym own.node.in_area ∙ ap (slice_get parts.area.ids) same ∙ at.in_area)) own.node.in_island) at.in_island) in
-    let arcs : (arcs : List Arc) × ArcWalk parts.area.arcs own.spot arcs spot = walk_there parts.area parts.island parts.link_of kept.area_kept kept.island_kept kept.fits walk.0 parts.source to own.spot spot walk.1 own.node at in
-    entry_there parts.area own.spot spot entry arcs.0 (own.entries.each spot entry is) apart arcs.1
+primary_there : (area : AreaParts) (island : Topology) (link_of : List (Option ℕ)) → IsArea area → IsTopology island → Fits area island link_of
+    → (source to spot : ℕ) (primaries : List (Option Primary)) (entry : Option Primary) → source < length island.ids → to < length island.ids → source ≢ to
+    → AreItsPrimaries area island source primaries → IsSpotOf area island spot to → slice_get primaries spot ≡ Some entry → IsSome entry
+primary_there area island link_of area_kept island_kept fits source to spot primaries entry own_within within other own at is =
+    let walk = island_kept.connected source to own_within within in
+    let apart : own.spot ≢ spot = λ same. other (one_place island.ids source to at.id island_kept.ids_ascend
+    (subst (λ (x : NodeId). slice_get island.ids source ≡ Some x)
+    (same_Some own.node.id at.id (sym own.node.in_area ∙ ap (slice_get area.ids) same ∙ at.in_area)) own.node.in_island) at.in_island) in
+    let arcs : (arcs : List Arc) × ArcWalk area.arcs own.spot arcs spot = walk_there area island link_of area_kept island_kept fits walk.0 source to own.spot spot walk.1 own.node at in
+    entry_there area own.spot spot entry arcs.0 (own.entries.each spot entry is) apart arcs.1
 
 -- what stands at a node's place among the primaries
-pub entry_of : (parts : TableParts) → AreTableParts parts → (spot : ℕ) (id : NodeId) (d : Option Primary) → slice_get parts.area.ids spot ≡ Some id
-    → slice_get parts.primaries spot ≡ Some (get_or parts.primaries spot d)
-entry_of parts kept spot id d at =
-    let entry : (x : Option Primary) × (slice_get parts.primaries spot ≡ Some x) =
-    there parts.primaries spot (omega (arith, slice_get_within parts.area.ids spot id at, kept.primaries.entries.one_each)) in
-    entry.1 ∙ ap (λ (x : Option Primary). Some x) (sym (get_or_from_slice_get parts.primaries spot entry.0 d entry.1))
+entry_of : (area : AreaParts) (island : Topology) (source : ℕ) (primaries : List (Option Primary)) → AreItsPrimaries area island source primaries
+    → (spot : ℕ) (id : NodeId) (d : Option Primary) → slice_get area.ids spot ≡ Some id → slice_get primaries spot ≡ Some (get_or primaries spot d)
+entry_of area island source primaries own spot id d at =
+    let entry : (x : Option Primary) × (slice_get primaries spot ≡ Some x) =
+    there primaries spot (omega (arith, slice_get_within area.ids spot id at, own.entries.one_each)) in
+    entry.1 ∙ ap (λ (x : Option Primary). Some x) (sym (get_or_from_slice_get primaries spot entry.0 d entry.1))
 
 -- there is a primary at the place of another node of the island
-pub some_entry : (parts : TableParts) → AreTableParts parts → (to spot : ℕ) (id : NodeId) (d : Option Primary) → to < length parts.island.ids → parts.source ≢ to
-    → slice_get parts.area.ids spot ≡ Some id → slice_get parts.island.ids to ≡ Some id → IsSome (get_or parts.primaries spot d)
-some_entry parts kept to spot id d within other in_area in_island =
-    primary_there parts kept to spot (get_or parts.primaries spot d) within other (record { id = id; in_area = in_area; in_island = in_island })
-    (entry_of parts kept spot id d in_area)
+pub some_entry : (area : AreaParts) (island : Topology) (link_of : List (Option ℕ)) → IsArea area → IsTopology island → Fits area island link_of
+    → (source to spot : ℕ) (primaries : List (Option Primary)) (id : NodeId) (d : Option Primary) → source < length island.ids → to < length island.ids → source ≢ to
+    → AreItsPrimaries area island source primaries → slice_get area.ids spot ≡ Some id → slice_get island.ids to ≡ Some id → IsSome (get_or primaries spot d)
+some_entry area island link_of area_kept island_kept fits source to spot primaries id d own_within within other own in_area in_island =
+    primary_there area island link_of area_kept island_kept fits source to spot primaries (get_or primaries spot d) own_within within other own
+    (record { id = id; in_area = in_area; in_island = in_island }) (entry_of area island source primaries own spot id d in_area)
 
 -- and it is the primary for this node
-pub entry_is : (parts : TableParts) → AreTableParts parts → (to spot : ℕ) (id : NodeId) (d : Option Primary) (primary : Primary)
-    → slice_get parts.area.ids spot ≡ Some id → slice_get parts.island.ids to ≡ Some id → get_or parts.primaries spot d ≡ Some primary
-    → IsPrimaryFor parts to primary
-entry_is parts kept to spot id d primary in_area in_island is = record {
+pub entry_is : (area : AreaParts) (island : Topology) (source to spot : ℕ) (primaries : List (Option Primary)) (id : NodeId) (d : Option Primary) (primary : Primary)
+    → AreItsPrimaries area island source primaries → slice_get area.ids spot ≡ Some id → slice_get island.ids to ≡ Some id → get_or primaries spot d ≡ Some primary
+    → IsPrimaryFor area island primaries to primary
+entry_is area island source to spot primaries id d primary own in_area in_island is = record {
   spot = spot;
   node = record { id = id; in_area = in_area; in_island = in_island };
-  entry = entry_of parts kept spot id d in_area ∙ ap (λ (x : Option Primary). Some x) is;
+  entry = entry_of area island source primaries own spot id d in_area ∙ ap (λ (x : Option Primary). Some x) is;
 }
 
 -- the arcs of a primary are arcs of the area
@@ -123,14 +126,14 @@ pub its_second_within : (area : AreaParts) (island : Topology) (source to : ℕ)
 its_second_within area island source to primary its = second_of area its.spot its.target primary its.is
 
 -- what stands for a node among the router's primaries is the router's primary for it
-pub its_primary : (parts : TableParts) → AreTableParts parts → (to : ℕ) (primary : Primary) → IsPrimaryFor parts to primary
-    → IsPrimaryOf parts.area parts.island parts.source to primary
-its_primary parts kept to primary entry = record {
-  spot = kept.primaries.spot;
-  spot_is = kept.primaries.node;
+pub its_primary : (area : AreaParts) (island : Topology) (source to : ℕ) (primaries : List (Option Primary)) (primary : Primary)
+    → AreItsPrimaries area island source primaries → IsPrimaryFor area island primaries to primary → IsPrimaryOf area island source to primary
+its_primary area island source to primaries primary own entry = record {
+  spot = own.spot;
+  spot_is = own.node;
   target = entry.spot;
   target_is = entry.node;
-  is = kept.primaries.entries.each entry.spot (Some primary) entry.entry;
+  is = own.entries.each entry.spot (Some primary) entry.entry;
 }
 
 -- what is taken as it is

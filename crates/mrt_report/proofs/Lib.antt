@@ -3,9 +3,7 @@ pub mod AddingLines
 pub mod AgreeingRows
 pub mod ByColumn
 pub mod ForLine
-pub mod Gathering
 pub mod IslandWalks
 pub mod OneLine
 pub mod OneTable
-pub mod Roots
 pub mod Telling

@@ -30,7 +30,8 @@ one_head g root source one other a b =
     let root_id : a.root_id ≡ b.root_id = same_Some a.root_id b.root_id (sym a.root_is ∙ b.root_is) in
     a.spelled ∙ (λ i. head_line (router i) (root_id i) (length g.ids) (length g.links)) ∙ sym b.spelled
 
-one_primary : (parts : TableParts) → IsArea parts.area → (to : ℕ) (one other : Primary) → IsPrimaryFor parts to one → IsPrimaryFor parts to other → one ≡ other
+one_primary : (parts : TableParts) → IsArea parts.area → (to : ℕ) (one other : Primary) → IsPrimaryFor parts.area parts.island parts.primaries to one
+    → IsPrimaryFor parts.area parts.island parts.primaries to other → one ≡ other
 one_primary parts kept to one other a b =
     let id : a.node.id ≡ b.node.id = same_Some a.node.id b.node.id (sym a.node.in_island ∙ b.node.in_island) in
     let spot : a.spot ≡ b.spot = one_place parts.area.ids a.spot b.spot b.node.id kept.ids_ascend

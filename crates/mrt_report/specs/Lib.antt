@@ -1,6 +1,6 @@
 pub mod Adds
 pub mod AddsLines
-pub mod Gathered
+pub mod ByColumn
 pub mod Letters
 pub mod LineParts
 pub mod Lines

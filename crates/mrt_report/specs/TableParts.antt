@@ -1,12 +1,8 @@
 -- What a router's table is made from.
-use Rattle.std.specs.Prelude.{◌≡◌, ◌<◌, ℕ, List, Option, Some, length, slice_get}
-use Rattle.area_graph.specs.AreaInvariant.{IsArea}
-use Rattle.area_graph.specs.Fits.{Fits}
+use Rattle.std.specs.Prelude.{◌≡◌, ℕ, List, Option, Some, slice_get}
 use Rattle.area_graph.specs.Parts.{AreaParts}
 use Rattle.mrt_graph.specs.Certificate.{Certificate, row_of}
-use Rattle.mrt_graph.specs.GraphInvariant.{IsTopology}
 use Rattle.mrt_graph.specs.Topology.{Topology}
-use Rattle.primary_alt.specs.AcceptedRows.{IsAcceptedFor}
 use Rattle.primary_alt.specs.Primaries.{ArePrimaries}
 use Rattle.primary_alt.specs.declared.shortest.Primary.{Primary}
 use Rattle.mrt_report.specs.LineParts.{LineParts, IsSpotOf, line_parts}
@@ -36,11 +32,12 @@ table_parts area island link_of cert source primaries = record {
 abbrev pub parts_of_lines : TableParts → LineParts
 parts_of_lines parts = line_parts parts.area parts.island parts.link_of (row_of parts.cert) parts.source
 
--- the primary for a node of the island
-pub record IsPrimaryFor (parts : TableParts) (to : ℕ) (primary : Primary) : Type 0 where
+-- among primaries for all nodes of the area, that for a node of the island
+pub record IsPrimaryFor (area : AreaParts) (island : Topology) (primaries : List (Option Primary)) (to : ℕ) (primary : Primary)
+    : Type 0 where
   pub spot : ℕ
-  pub node : IsSpotOf parts.area parts.island spot to
-  pub entry : slice_get parts.primaries spot ≡ Some (Some primary)
+  pub node : IsSpotOf area island spot to
+  pub entry : slice_get primaries spot ≡ Some (Some primary)
 
 -- the primaries of an island node
 pub record AreItsPrimaries (area : AreaParts) (island : Topology) (source : ℕ) (primaries : List (Option Primary))
@@ -48,12 +45,3 @@ pub record AreItsPrimaries (area : AreaParts) (island : Topology) (source : ℕ)
   pub spot : ℕ
   pub node : IsSpotOf area island spot source
   pub entries : ArePrimaries area spot primaries
-
--- the parts belong together
-pub record AreTableParts (parts : TableParts) : Type 0 where
-  pub area_kept : IsArea parts.area
-  pub island_kept : IsTopology parts.island
-  pub fits : Fits parts.area parts.island parts.link_of
-  pub accepted : IsAcceptedFor parts.island parts.cert
-  pub within : parts.source < length parts.island.ids
-  pub primaries : AreItsPrimaries parts.area parts.island parts.source parts.primaries

@@ -29,7 +29,7 @@ pub record IsHead (island : Topology) (root source : ℕ) (text : List ℕ) : Ty
 -- the line on a destination, by the certificate's rows and the router's primary for it
 pub record IsTableLine (parts : TableParts) (to : ℕ) (text : List ℕ) : Type 0 where
   pub primary : Primary
-  pub primary_is : IsPrimaryFor parts to primary
+  pub primary_is : IsPrimaryFor parts.area parts.island parts.primaries to primary
   pub line : IsLine (parts_of_lines parts) to primary text
 
 -- the first line, and one line on each other node of the island, by ascending identifier

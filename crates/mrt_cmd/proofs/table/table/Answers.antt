@@ -5,7 +5,7 @@ use Rattle.mrt_cmd.specs.Input.{Input, HasIsland, input_of, policy, area}
 use Rattle.mrt_cmd.specs.Reading.{HasNoIsland, HasNone}
 use Rattle.mrt_cmd.specs.Tabled.{IsTableOf}
 use Rattle.mrt_cmd.proofs.Refusals.{few, handed_on, island_refused, root_within}
-use Rattle.mrt_cmd.proofs.Tables.{in_own_island}
+use Rattle.mrt_cmd.proofs.Tables.{in_own_island, root_is_router}
 use Rattle.mrt_cmd.proofs.table.table.Goals as goal
 
 pub returns-in_err-island-clause-refused : goal.returns-in_err-island-clause-refused
@@ -19,6 +19,9 @@ returns-in_err-island-clause-refused c =
 
 pub table_of-requires-clause-root : goal.table_of-requires-clause-root
 table_of-requires-clause-root c = root_within _ _ _ _ _ _ c.in_ok-island.ensures.island
+
+pub table_of-requires-clause-root_router : goal.table_of-requires-clause-root_router
+table_of-requires-clause-root_router c = root_is_router _ _ _ _ _ _ c.in_ok-island.ensures.island
 
 pub table_of-requires-clause-inside : goal.table_of-requires-clause-inside
 table_of-requires-clause-inside c = in_own_island _ _ _ _ _ _ c.in_ok-island.ensures.island

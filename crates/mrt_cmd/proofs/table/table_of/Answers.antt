@@ -1,40 +1,41 @@
-use Rattle.std.proofs.Common.{rules, ◌≡◌, Some, slice_get}
-use Rattle.std.proofs.lemmas.Option.{slice_get_within}
+use Rattle.std.proofs.Common.{rules, ◌≡◌, ℕ, List, Option, Some, slice_get, sym, subst}
 use Rattle.area_graph.specs.Nodes.{router as router_node}
-use Rattle.mrt_graph.proofs.ListTests.{there}
-use Rattle.mrt_rows.specs.CertOf.{file_of}
+use Rattle.primary_alt.specs.declared.shortest.Primary.{Primary}
+use Rattle.primary_alt.specs.Primaries.{ArePrimaries}
+use Rattle.mrt_report.specs.TableParts.{table_parts}
+use Rattle.mrt_report.specs.TableText.{IsTableText}
+use Rattle.mrt_rows.specs.CertOf.{IsCertOf}
 use Rattle.mrt_cmd.specs.Tabled.{IsComputedFile}
-use Rattle.mrt_cmd.proofs.Tables.{root_order, table_written}
 use Rattle.mrt_cmd.proofs.table.table_of.Goals as goal
-
-pub table_text-requires-clause-accepted : goal.table_text-requires-clause-accepted
-table_text-requires-clause-accepted c =
-    let root = there c.args.graph.now.ids c.args.root c.requires.root in
-    record { root = c.args.root; number = root.0.number; accepted = c.in_ok-cert.ensures.accepted root.0 root.1 }
-
-pub table_text-requires-clause-root : goal.table_text-requires-clause-root
-table_text-requires-clause-root c =
-    let root = there c.args.graph.now.ids c.args.root c.requires.root in
-    root_order c.args.graph.now c.args.root (file_of root.0 c.in_ok-cert.cert) (c.in_ok-cert.ensures.accepted root.0 root.1)
-
-pub table_text-requires-clause-source : goal.table_text-requires-clause-source
-table_text-requires-clause-source c =
-    let found : slice_get c.args.graph.now.ids c.unwrap-source.result ≡ Some (router_node c.args.router) = search rules in
-    slice_get_within c.args.graph.now.ids c.unwrap-source.result (router_node c.args.router) found
 
 pub returns : goal.returns
 returns c =
-    let root = there c.args.graph.now.ids c.args.root c.requires.root in
-    let file = file_of root.0 c.in_ok-cert.cert in
-    let accepted = c.in_ok-cert.ensures.accepted root.0 root.1 in
-    let certificate : IsComputedFile c.args.graph.now c.args.root file = record {
-      kept = c.in_ok-cert.ensures.kept;
-      computed = c.in_ok-cert.ensures.cert root.0 root.1;
+    let graph = c.args.graph.now in
+    let root = c.args.root in
+    let kept = c.in_ok-columns.ensures.kept in
+    let file = c.in_ok-columns.ensures.cert.0 in
+    let computed = c.in_ok-columns.ensures.cert.1 in
+    let accepted = c.certificates_are_accepted.ensures graph root file kept c.requires.root computed in
+    let certificate : IsComputedFile graph root file = record {
+      kept = kept;
+      computed = computed;
       accepted = accepted;
-      sound = c.accepted_implies_sound.ensures c.args.graph.now c.args.root file accepted;
+      sound = c.accepted_implies_sound.ensures graph root file accepted;
     } in
-    let source : slice_get c.args.graph.now.ids c.unwrap-source.result ≡ Some (router_node c.args.router) = search rules in
+    let source : slice_get graph.ids c.unwrap-source.result ≡ Some (router_node c.args.router) = search rules in
     let spot : slice_get c.args.area.now.ids c.unwrap-spot.result ≡ Some (router_node c.args.router) = search rules in
-    table_written (λ text. text.items) c.table_text.result c.args.area.now c.args.graph.now c.args.root c.args.link_of.now
-    c.args.router file certificate c.unwrap-source.result source c.unwrap-spot.result spot c.in_ok-primaries.primaries.items
-    c.in_ok-primaries.ensures (rw c.deref.ensures.value at c.table_text.ensures)
+    let lines = c.in_ok-push_lines.ensures file (subst (λ (n : ℕ). IsCertOf graph n file) (sym c.in_ok-columns.ensures.root) computed) in
+    let parts = table_parts c.args.area.now graph c.args.link_of.now file.cert c.unwrap-source.result c.deref.result.now in
+    record {
+      file = file;
+      certificate = certificate;
+      source = c.unwrap-source.result;
+      in_island = source;
+      spot = c.unwrap-spot.result;
+      in_area = spot;
+      primaries = c.deref.result.now;
+      primaries_are = subst (λ (entries : List (Option Primary)). ArePrimaries c.args.area.now c.unwrap-spot.result entries)
+          (sym c.deref.ensures.value) c.in_ok-primaries.ensures;
+      spelled = subst (λ (text : List ℕ). IsTableText parts root text) (sym lines.added)
+          (c.lines_make_the_table.ensures parts root c.in_ok-text.text.items lines.lines c.in_ok-text.ensures lines.are);
+    }
