@@ -1,12 +1,15 @@
 //! Tables that are written.
 
-use crate::calling::{Case, Files, comes_out, comes_to};
+use crate::calling::{Case, Files, comes_out, comes_to, left_by, sink, two};
 use crate::files::{
     CROSSED, LAN, LAN_IN_RING, LINE, ONE_SIDED, SAMPLE, SAMPLE_PROFILE, SQUARE, THREE_LINKS,
     TRIANGLE, TWO_TRIANGLES,
 };
+use crate::limits::ring;
 use crate::words::USAGE;
 use mrt_cmd::Exit;
+use mrt_graph::NoMemory;
+use mrt_io::MemSink;
 use std::alloc::Global;
 
 /// Words, the files that they name, and the table that is to be written.
@@ -312,4 +315,23 @@ fn refused_tables(rt: HostRuntime) {
     for case in refused() {
         assert!(rt; comes_out(rt.alloc(), case), "{}", case.name);
     }
+}
+
+/// The last line of the table of the first router on a ring of 2,048, after the end of the line before it.
+const LAST_OF_RING: &[u8] =
+    b"\n0.0.8.0 head blue 0.0.0.2/0.0.0.1 red 0.0.8.0/0.0.0.2 primary 0.0.8.0/0.0.0.2 repair b-\n";
+
+/// Whether the table of the first router on a ring of so many ends with this.
+fn ends_with(alloc: Global, routers: u32, end: &[u8]) -> Result<bool, NoMemory> {
+    let database = ring(alloc, routers, 1)?;
+    let out = MemSink::new(alloc, 2_000_000, 2_000_000, Vec::new(alloc))?;
+    let files = two(&database, b"");
+    let words = &["table", "db", "-", "0.0.0.1"];
+    let left = left_by(alloc, words, files, Vec::new(alloc), out, sink(alloc)?)?;
+    Ok(left.exit == Exit::Done && left.out.bytes().ends_with(end))
+}
+
+#[test]
+fn the_table_of_a_large_ring(rt: HostRuntime) {
+    assert_eq!(rt; ends_with(rt.alloc(), 2048, LAST_OF_RING), Ok(true));
 }
