@@ -1,5 +1,5 @@
 -- What a line stands on: ends on the links of a row, and primaries.
-use Rattle.std.proofs.Common.{◌≡◌, ◌≢◌, ◌<◌, ◌==◌, ◌∙◌, ℕ, zero, suc, List, [], ◌∷◌, Option, Some, None, length, slice_get, get_or, inl, inr, refl, sym, ap, subst, arith}
+use Rattle.std.proofs.Common.{◌≡◌, ◌≢◌, ◌<◌, ◌==◌, ◌∙◌, ℕ, zero, suc, Bool, true, false, List, [], ◌∷◌, Option, Some, None, length, slice_get, get_or, inl, inr, refl, sym, ap, subst, arith, if◌then◌else◌}
 use Rattle.std.specs.Prelude.{IfSome, IsSome}
 use Rattle.std.specs.List.{find}
 use Rattle.std.specs.Option.{option_and_then, option_map}
@@ -14,6 +14,7 @@ use Rattle.mrt_graph.specs.declared.cert.Color.{Color}
 use Rattle.mrt_graph.specs.declared.cert.Row.{Row}
 use Rattle.mrt_graph.specs.declared.link.End.{End}
 use Rattle.mrt_graph.specs.declared.link.Link.{Link}
+use Rattle.mrt_graph.specs.Column.{is_none_at, rows_of_column}
 use Rattle.mrt_graph.specs.GraphInvariant.{IsTopology}
 use Rattle.mrt_graph.specs.Hop.{Hop, color_hop, hop_over}
 use Rattle.mrt_graph.specs.Leads.{leads}
@@ -49,6 +50,18 @@ row_there links rows color s t on = go (rows s t) on
     go : (o : Option Row) → IsSome (option_and_then (λ row. hop_over links s (link_of_color color row)) o) → IsSome o
     go None some = cc
     go (Some row) some = refl
+
+-- a row for t stands at its place in a column
+pub stands_there : (column : List (Option Row)) (s t : ℕ) → IsSome (rows_of_column column s t)
+    → IsSome (option_and_then (λ (row : Option Row). row) (slice_get column s))
+stands_there column s t some = go (is_none_at column t) some
+  where
+    there : Option Row
+    there = option_and_then (λ (row : Option Row). row) (slice_get column s)
+
+    go : (b : Bool) → IsSome (if b then there else None) → IsSome there
+    go true some = some
+    go false some = cc
 
 found_there : {X : Type 0} (o : Option X) → IsSome o → (x : X) × (o ≡ Some x)
 found_there None some = cc
@@ -111,11 +124,11 @@ entry_is area island source to spot primaries id d primary own in_area in_island
 -- the arcs of a primary are arcs of the area
 first_of : (area : AreaParts) (s t : ℕ) (primary : Primary) → IsPrimary area s t (Some primary) → primary.first < length area.arcs
 first_of area s t primary (Direct number arc other first direct) = slice_get_within area.arcs number arc first.there
-first_of area s t primary (Over number second arc onward other first over then) = slice_get_within area.arcs number arc first.there
+first_of area s t primary (Over number second arc onward other first over after) = slice_get_within area.arcs number arc first.there
 
 second_of : (area : AreaParts) (s t : ℕ) (primary : Primary) → IsPrimary area s t (Some primary) → IfSome primary.second (λ second. second < length area.arcs)
 second_of area s t primary (Direct number arc other first direct) = tt
-second_of area s t primary (Over number second arc onward other first over then) = slice_get_within area.arcs second onward then.there
+second_of area s t primary (Over number second arc onward other first over after) = slice_get_within area.arcs second onward after.there
 
 -- those of a node's primary for another one too
 pub its_first_within : (area : AreaParts) (island : Topology) (source to : ℕ) (primary : Primary) → IsPrimaryOf area island source to primary → primary.first < length area.arcs

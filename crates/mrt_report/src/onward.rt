@@ -1,6 +1,6 @@
 //! Where a packet on a color goes next.
 
-ghost use Rattle.std.specs.Prelude.{◌≡◌, ◌<◌, IsSome, Some, length, slice_get};
+ghost use Rattle.std.specs.Prelude.{◌≡◌, ◌<◌, ℕ, IsSome, Some, length, slice_get};
 ghost use Rattle.std.specs.Option.{option_and_then};
 ghost use Rattle.mrt_graph.specs.Column.{rows_of_column};
 ghost use Rattle.mrt_graph.specs.Hop.{color_hop, hop_over};
@@ -28,7 +28,8 @@ pub fn onward(g: &Graph, column: &Column, at: NodeNo, t: NodeNo, color: Color) -
 /// The row of a node for the column's destination.
 pub fn row_at(column: &Column, s: NodeNo) -> Row
     requires { IsSome (option_and_then (λ row. row) (slice_get column.now s)) }
-    ensures { option_and_then (λ row. row) (slice_get column.now s) ≡ Some result }
+    ensures { (t : ℕ) → IsSome (rows_of_column column.now s t)
+        → rows_of_column column.now s t ≡ Some result }
 {
     match column.row(s) {
         Some(row) => row,
