@@ -1,6 +1,6 @@
 //! The rows over sole links, and those that are carried.
 
-ghost use Rattle.std.specs.Prelude.{◌≡◌, ◌≢◌, ◌==◌, ◌<◌, ◌-◌, ◌*◌, ◌⊎◌, ◌||◌, ℕ, Some, length, slice_get};
+ghost use Rattle.std.specs.Prelude.{◌≡◌, ◌≢◌, ◌==◌, ◌<◌, ◌-◌, ◌*◌, ◌⊎◌, ◌||◌, ℕ, Some, length};
 ghost use Rattle.mrt_graph.specs.declared.cert.Row.{Row};
 ghost use Rattle.mrt_graph.specs.GraphInvariant.{IsTopology};
 ghost use Rattle.link_direction.specs.BlockOfTwo.{HaveInCommon};

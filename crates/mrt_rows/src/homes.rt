@@ -4,7 +4,6 @@ ghost use Rattle.std.specs.Prelude.{◌≡◌, ◌<◌, ◌≤◌, ◌+◌, ◌�
 ghost use Rattle.mrt_graph.specs.GraphInvariant.{IsTopology};
 ghost use Rattle.link_direction.specs.Directions.{Directions};
 ghost use Rattle.inc_dec_spf.specs.declared.reach.Dir.TheVariants.{Down, Up};
-ghost use Rattle.inc_dec_spf.specs.FirstLink.{AreOthersInOneBlock};
 ghost use Rattle.inc_dec_spf.specs.HasDirections.{AreDirections, HasDirections};
 ghost use Rattle.inc_dec_spf.specs.Tile.{IsAimed, IsTile};
 ghost use Rattle.inc_dec_spf.specs.Turns.{AreTurns};
