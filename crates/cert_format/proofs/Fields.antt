@@ -16,7 +16,7 @@ use Rattle.mrt_graph.specs.Tags.{tag_number}
 use Rattle.cert_format.specs.CertText.{kind_number, role_number}
 use Rattle.cert_format.specs.Layout.{any, Field, Form, Then, within, tag}
 use Rattle.cert_format.specs.FirstFault.{number_of, fault_in}
-use Rattle.cert_format.specs.declared.error.CertError.{CertError}
+use Rattle.cert_format.specs.declared.error.CertFault.{CertFault}
 use Rattle.cert_format.specs.Reading.{Rest, rest_of, Names, Took, TookField, ReadsNumber, ReadsField}
 
 -- numbers of this width and their bytes
@@ -99,7 +99,7 @@ pub refused_field : (field : Field) (n : ℕ) (before after : Rest) → IsWide f
 refused_field field n before after wide took lt refused next =
     ap (λ (bytes : List ℕ). fault_in (Then field next) before.at bytes) took.parts ∙ field_refuses field next before.at n after.bytes wide lt refused
 
-pub short_field : (field : Field) (e : CertError) (before : Rest) → Names e (Some (before.at, Truncated)) × (length before.bytes < byte_len field.width)
+pub short_field : (field : Field) (e : CertFault) (before : Rest) → Names e (Some (before.at, Truncated)) × (length before.bytes < byte_len field.width)
     → (next : ℕ → Form) → Names e (fault_in (Then field next) before.at before.bytes)
 short_field field e before h next = subst (Names e) (sym (field_short field next before.at before.bytes h.1)) h.0
 
@@ -139,6 +139,6 @@ role_small roles.Closing = omega arith
 pub tag_small : (row_tag : Tag) → tag_number row_tag < 256
 tag_small row_tag = omega (arith, ltb-true _ _ (tag_allowed row_tag))
 
-pub any_is_read : (w : Width) (before : Rest) (r : Result (ℕ × Rest) CertError) → IsWide w → ReadsNumber w before r → ReadsField (any w) (λ n. n) before r
+pub any_is_read : (w : Width) (before : Rest) (r : Result (ℕ × Rest) CertFault) → IsWide w → ReadsNumber w before r → ReadsField (any w) (λ n. n) before r
 any_is_read w before (Ok x) wide read = took_field (any w) x.0 before x.1 wide read.0 read.1 refl
 any_is_read w before (Err e) wide read = short_field (any w) e before read

@@ -1,21 +1,18 @@
 -- Whole files: what their parts make, and that no field of a spelling is at fault.
-use Rattle.std.proofs.Common.{◌≡◌, ℕ, ◌+◌, ◌-◌, ◌*◌, ◌≢◌, List, [], ◌∷◌, ◌++◌, length, Some, None, Ok, refl, sym, ap, subst, ◌∙◌, arith}
+use Rattle.std.proofs.Common.{◌≡◌, ℕ, ◌+◌, ◌-◌, ◌*◌, ◌≢◌, List, [], ◌∷◌, ◌++◌, length, Some, None, refl, sym, ap, ◌∙◌, arith}
 use Rattle.std.specs.List.{flat_map, AllByRecursion}
 use Rattle.std.specs.Int.{w16, w32, from_be_bytes}
 use Rattle.std.specs.Prelude.{codes}
 use Rattle.std.proofs.lemmas.List.{append-nil}
-use Rattle.mrt_graph.specs.Certificate.{IsCertificate, IsCertNode, IsCertLink, IsCertRow, certificate_of}
+use Rattle.mrt_graph.specs.Certificate.{IsCertNode, IsCertLink, IsCertRow}
 use Rattle.mrt_graph.specs.declared.cert.CertNode.{CertNode}
-use Rattle.mrt_graph.specs.declared.cert.CertLink.{CertLink}
-use Rattle.mrt_graph.specs.declared.cert.Row.{Row}
 use Rattle.mrt_graph.specs.declared.cert.CertFile.{CertFile}
-use Rattle.mrt_graph.proofs.Members.{all_weaker}
 use Rattle.cert_format.specs.declared.error.CertKind.TheVariants.{Trailing}
 use Rattle.cert_format.specs.CertText.{header_text, node_text, link_text, row_text, cert_text}
 use Rattle.cert_format.specs.Layout.{Form, End, any, exactly, within, repeated, header_form, node_form, link_form, row_form}
 use Rattle.cert_format.specs.FirstFault.{fault_in, first_fault}
 use Rattle.cert_format.specs.Limits.{HasNumber, IsVersionOne}
-use Rattle.cert_format.specs.Reading.{Rest, Took, IsListOf, IsNode, IsHeader, ReadsFile}
+use Rattle.cert_format.specs.Reading.{IsNode, IsHeader}
 use Rattle.cert_format.proofs.Fields.{wide16, wide32, field_passes}
 use Rattle.cert_format.proofs.Lists.{all_pass}
 use Rattle.cert_format.proofs.Parts.{within_allows, node_part, link_part, row_part}
@@ -30,41 +27,7 @@ pub ended : (at : ℕ) → fault_in End at [] ≡ None
 unfolding fault_in
 ended at = refl
 
--- the lists that a header announces are a certificate
-pub are_certificate : (ns : List CertNode) (ls : List CertLink) (rs : List Row) (nodes links root : ℕ) → IsHeader nodes links root
-    → IsListOf nodes (IsNode nodes) ns → IsListOf links (IsCertLink nodes) ls → IsListOf (nodes * (nodes - 1)) (IsCertRow links) rs → IsCertificate (certificate_of ns ls rs)
-are_certificate ns ls rs nodes links root header n l r = record {
-  some_node = omega (arith, header.some_node, n.many);
-  few_nodes = omega (arith, header.few_nodes, n.many);
-  few_links = omega (arith, header.few_links, l.many);
-  a_row_each = r.many ∙ ap (λ (k : ℕ). k * (k - 1)) (sym n.many);
-  nodes_kept = subst (λ (k : ℕ). AllByRecursion (IsCertNode k) ns) (sym n.many) (all_weaker (IsNode nodes) (IsCertNode nodes) (λ x keeps. keeps.kept) ns n.each);
-  links_kept = subst (λ (k : ℕ). AllByRecursion (IsCertLink k) ls) (sym n.many) l.each;
-  rows_kept = subst (λ (k : ℕ). AllByRecursion (IsCertRow k) rs) (sym l.many) r.each;
-}
-
--- the bytes of a file, from those of its parts
-pub spells : (ns : List CertNode) (ls : List CertLink) (rs : List Row) (nodes links root : ℕ) (b0 b1 b2 b3 b4 : Rest) → IsHeader nodes links root
-    → Took (header_text nodes links root) b0 b1 → Took (flat_map node_text ns) b1 b2 → Took (flat_map link_text ls) b2 b3 → Took (flat_map row_text rs) b3 b4 → b4.bytes ≡ []
-    → IsListOf nodes (IsNode nodes) ns → IsListOf links (IsCertLink nodes) ls → IsListOf (nodes * (nodes - 1)) (IsCertRow links) rs
-    → ReadsFile b0.bytes (Ok (record { root = root; cert = certificate_of ns ls rs }))
-spells ns ls rs nodes links root b0 b1 b2 b3 b4 header p0 p1 p2 p3 nothing n l r =
-    let rows : b3.bytes ≡ flat_map row_text rs = p3.parts ∙ ap (λ (t : List ℕ). flat_map row_text rs ++ t) nothing ∙ append-nil (flat_map row_text rs) in
-    let lists : b1.bytes ≡ flat_map node_text ns ++ (flat_map link_text ls ++ flat_map row_text rs) =
-    p1.parts ∙ ap (λ (t : List ℕ). flat_map node_text ns ++ t) (p2.parts ∙ ap (λ (t : List ℕ). flat_map link_text ls ++ t) rows) in (
-      record {
-        certificate = are_certificate ns ls rs nodes links root header n l r;
-        root = header.root_fits;
-        numbers = all_weaker (IsNode nodes) HasNumber (λ x keeps. keeps.number) ns n.each;
-        nodes = omega (arith, header.few_nodes, n.many);
-        links = omega (arith, header.few_links, l.many);
-      },
-      p0.parts ∙ ap (λ (t : List ℕ). header_text nodes links root ++ t) lists
-          ∙ ap (λ (k : ℕ). header_text k links root ++ (flat_map node_text ns ++ (flat_map link_text ls ++ flat_map row_text rs))) (sym n.many)
-          ∙ ap (λ (k : ℕ). header_text (length ns) k root ++ (flat_map node_text ns ++ (flat_map link_text ls ++ flat_map row_text rs))) (sym l.many),
-    )
-
-header_passes : (nodes links root : ℕ) (next : ℕ → ℕ → Form) (rest : List ℕ) → IsHeader nodes links root
+pub header_passes : (nodes links root : ℕ) (next : ℕ → ℕ → Form) (rest : List ℕ) → IsHeader nodes links root
     → fault_in (header_form next) 0 (header_text nodes links root ++ rest) ≡ fault_in (next nodes links) 14 rest
 header_passes nodes links root next rest header =
     field_passes (exactly w32 (from_be_bytes w32 (codes "MRTC"))) _ _ (from_be_bytes w32 (codes "MRTC")) _ wide32 (omega arith) refl

@@ -1,6 +1,14 @@
+pub mod Buffers
+pub mod Certain
+pub mod Feeding
 pub mod Fields
 pub mod Files
+pub mod Finished
+pub mod Forms
+pub mod GoesOn
 pub mod Lists
 pub mod Parts
+pub mod PartsText
 pub mod SpellingLength
+pub mod Taking
 pub mod Unique

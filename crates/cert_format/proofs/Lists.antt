@@ -4,7 +4,7 @@ use Rattle.std.specs.List.{flat_map, AllByRecursion}
 use Rattle.std.proofs.lemmas.List.{append-nil, length-append, take_more, flat_map_more}
 use Rattle.std.proofs.lemmas.List.Concat.{flat_map-append}
 use Rattle.mrt_graph.proofs.Members.{all_append}
-use Rattle.cert_format.specs.declared.error.CertError.{CertError}
+use Rattle.cert_format.specs.declared.error.CertFault.{CertFault}
 use Rattle.cert_format.specs.Layout.{Form, repeated}
 use Rattle.cert_format.specs.FirstFault.{fault_in}
 use Rattle.cert_format.specs.Reading.{Rest, Names, Took, IsListOf}
@@ -57,7 +57,7 @@ repeated_passes part text Keeps size is (x ∷ xs) k next at rest all =
     ∙ ap (λ (a : ℕ). fault_in (repeated k part next) a rest) place
 
 -- a fault of the next part is the fault of them all
-pub repeats_fault : {A : Type 0} (part : Form → Form) (text : A → List ℕ) (Keeps : A → Type 0) (size total count : ℕ) (xs : List A) (start rest : Rest) (e : CertError) → IsPart part text Keeps size
+pub repeats_fault : {A : Type 0} (part : Form → Form) (text : A → List ℕ) (Keeps : A → Type 0) (size total count : ℕ) (xs : List A) (start rest : Rest) (e : CertFault) → IsPart part text Keeps size
     → Repeats text Keeps size count xs start rest → count < total → ((next : Form) → Names e (fault_in (part next) rest.at rest.bytes))
     → (next : Form) → Names e (fault_in (repeated total part next) start.at start.bytes)
 repeats_fault part text Keeps size total count xs start rest e is so_far lt fault next =
@@ -79,7 +79,7 @@ all_pass part text Keeps size is xs next at rest all =
     let count : length xs ≡ length xs + 0 = omega arith in
     ap (λ (n : ℕ). fault_in (repeated n part next) at (flat_map text xs ++ rest)) count ∙ repeated_passes part text Keeps size is xs 0 next at rest all
 
-length_texts : {A : Type 0} (text : A → List ℕ) (size : ℕ) (xs : List A) → ((x : A) → length (text x) ≡ size) → length (flat_map text xs) ≡ size * length xs
+pub length_texts : {A : Type 0} (text : A → List ℕ) (size : ℕ) (xs : List A) → ((x : A) → length (text x) ≡ size) → length (flat_map text xs) ≡ size * length xs
 length_texts text size [] sized = omega arith
 length_texts text size (x ∷ xs) sized = grind (arith, length-append (text x) (flat_map text xs), sized x, length_texts text size xs sized)
 

@@ -1,11 +1,12 @@
 -- How many bytes a certificate file has.
-use Rattle.std.proofs.Common.{◌≡◌, ◌≤◌, ◌+◌, ◌-◌, ◌*◌, ℕ, suc, List, [], ◌∷◌, ◌++◌, length, refl, arith}
+use Rattle.std.proofs.Common.{◌≡◌, ◌≤◌, ◌+◌, ◌*◌, ℕ, suc, List, [], ◌∷◌, ◌++◌, length, refl, arith}
 use Rattle.std.specs.List.{flat_map}
-use Rattle.std.proofs.Math.Nat.{mul-le-mul_left, mul-le-mul_right}
 use Rattle.std.proofs.lemmas.List.{length-append}
+use Rattle.mrt_graph.specs.Certificate.{IsCertificate}
 use Rattle.mrt_graph.specs.declared.cert.CertFile.{CertFile}
 use Rattle.cert_format.specs.CertText.{cert_text, header_text, link_text, node_text, row_text}
 use Rattle.cert_format.specs.Limits.{IsVersionOne}
+use Rattle.cert_format.proofs.PartsText.{few_row_count}
 
 -- parts of so many bytes each
 parts_length : {A : Type 0} (text : A → List ℕ) (size : ℕ) → ((x : A) → length (text x) ≡ size) → (xs : List A)
@@ -32,12 +33,13 @@ spelling_length f =
     let third = length-append (flat_map link_text f.cert.links) (flat_map row_text f.cert.rows) in
     omega (arith, header, nodes, links, rows, first, second, third)
 
-pub longest_spelling : (f : CertFile) → IsVersionOne f → length (cert_text f) ≤ 21041166
-longest_spelling f within =
+-- of so many nodes and links
+pub few_spelled : (f : CertFile) → IsCertificate f.cert → length f.cert.nodes ≤ 2048 → length f.cert.links ≤ 8192 → length (cert_text f) ≤ 21041166
+few_spelled f is nodes links =
     let length_is = spelling_length f in
-    let one : length f.cert.nodes * (length f.cert.nodes - 1) ≤ 2048 * (length f.cert.nodes - 1) =
-    mul-le-mul_right (length f.cert.nodes - 1) within.nodes in
-    let fewer : length f.cert.nodes - 1 ≤ 2047 = omega (arith, within.nodes) in
-    let other : 2048 * (length f.cert.nodes - 1) ≤ 2048 * 2047 = mul-le-mul_left 2048 fewer in
-    let rows = within.certificate.a_row_each in
-    omega (arith, length_is, one, other, rows, within.nodes, within.links)
+    let few = few_row_count (length f.cert.nodes) nodes in
+    let rows = is.a_row_each in
+    omega (arith, length_is, few, rows, nodes, links)
+
+pub longest_spelling : (f : CertFile) → IsVersionOne f → length (cert_text f) ≤ 21041166
+longest_spelling f within = few_spelled f within.certificate within.nodes within.links

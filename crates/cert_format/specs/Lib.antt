@@ -1,6 +1,14 @@
+pub mod Buffer
 pub mod CertText
+pub mod Finishing
 pub mod FirstFault
+pub mod Held
 pub mod Layout
 pub mod Limits
 pub mod Outcome
+pub mod Parts
+pub mod Progress
 pub mod Reading
+pub mod Stream
+pub mod Taking
+pub mod Unwritten

@@ -1,19 +1,17 @@
 -- What the steps of reading answer.
 use Rattle.std.specs.Prelude.{◌≡◌, ℕ, ◌+◌, ◌<◌, ◌≤◌, ◌^◌, true, List, ◌++◌, length, Option, Some, Result, Ok, Err}
 use Rattle.std.specs.Int.{Width, byte_len, to_be_bytes}
-use Rattle.std.specs.List.{AllByRecursion}
+use Rattle.std.specs.List.{AllByRecursion, flat_map}
 use Rattle.mrt_graph.specs.Certificate.{IsCertNode}
 use Rattle.mrt_graph.specs.declared.cert.CertNode.{CertNode}
-use Rattle.mrt_graph.specs.declared.cert.CertFile.{CertFile}
-use Rattle.cert_format.specs.Limits.{HasNumber, IsVersionOne}
+use Rattle.cert_format.specs.Limits.{HasNumber}
 use Rattle.cert_format.specs.declared.error.CertKind.{CertKind}
 use Rattle.cert_format.specs.declared.error.CertKind.TheVariants.{Truncated}
-use Rattle.cert_format.specs.declared.error.CertError.{CertError}
-use Rattle.cert_format.specs.declared.error.CertError.TheVariants as errors
+use Rattle.cert_format.specs.declared.error.CertFault.{CertFault}
 use Rattle.cert_format.specs.declared.header.Header.{Header}
-use Rattle.cert_format.specs.CertText.{header_text, cert_text}
+use Rattle.cert_format.specs.CertText.{header_text}
 use Rattle.cert_format.specs.Layout.{Field, Form, Then, header_form}
-use Rattle.cert_format.specs.FirstFault.{fault_in, first_fault}
+use Rattle.cert_format.specs.FirstFault.{fault_in}
 
 -- what is left of a file, and the place of its first byte
 pub record Rest : Type 0 where
@@ -24,10 +22,9 @@ pub record Rest : Type 0 where
 abbrev pub rest_of : ℕ → List ℕ → Rest
 rest_of at bytes = record { at = at; bytes = bytes }
 
--- the error is this fault, unless it is want of memory
-abbrev pub Names : CertError → Option (ℕ × CertKind) → Type 0
-Names (errors.Fault at kind) fault = fault ≡ Some (at, kind)
-Names errors.NoMemory fault = Unit {0}
+-- it is this fault
+abbrev pub Names : CertFault → Option (ℕ × CertKind) → Type 0
+Names fault first = first ≡ Some (fault.at, fault.kind)
 
 -- the text stood at the front, and after is what follows it
 pub record Took (text : List ℕ) (before after : Rest) : Type 0 where
@@ -35,7 +32,7 @@ pub record Took (text : List ℕ) (before after : Rest) : Type 0 where
   pub place : after.at ≡ before.at + length text
 
 -- a number of this width, or fewer bytes than it has
-abbrev pub ReadsNumber : Width → Rest → Result (ℕ × Rest) CertError → Type 0
+abbrev pub ReadsNumber : Width → Rest → Result (ℕ × Rest) CertFault → Type 0
 ReadsNumber width before (Ok x) = Took (to_be_bytes width x.0) before x.1 × (x.0 < 256 ^ byte_len width)
 ReadsNumber width before (Err e) = Names e (Some (before.at, Truncated)) × (length before.bytes < byte_len width)
 
@@ -47,12 +44,12 @@ pub record TookField (field : Field) (number : ℕ) (before after : Rest) : Type
   pub goes_on : (next : ℕ → Form) → fault_in (Then field next) before.at before.bytes ≡ fault_in (next number) after.at after.bytes
 
 -- a number that the field allows, or the field's fault
-abbrev pub ReadsField : {A : Type 0} → Field → (A → ℕ) → Rest → Result (A × Rest) CertError → Type 0
+abbrev pub ReadsField : {A : Type 0} → Field → (A → ℕ) → Rest → Result (A × Rest) CertFault → Type 0
 ReadsField field number before (Ok x) = TookField field (number x.0) before x.1
 ReadsField field number before (Err e) = (next : ℕ → Form) → Names e (fault_in (Then field next) before.at before.bytes)
 
 -- a part that is spelled so and keeps this; or the first fault in it
-abbrev pub ReadsPart : {A : Type 0} → (Form → Form) → (A → List ℕ) → (A → Type 0) → Rest → Result (A × Rest) CertError → Type 0
+abbrev pub ReadsPart : {A : Type 0} → (Form → Form) → (A → List ℕ) → (A → Type 0) → Rest → Result (A × Rest) CertFault → Type 0
 ReadsPart part text Keeps before (Ok x) = Took (text x.0) before x.1 × Keeps x.0
 ReadsPart part text Keeps before (Err e) = (next : Form) → Names e (fault_in (part next) before.at before.bytes)
 
@@ -80,11 +77,11 @@ pub record TookHeader (nodes links root : ℕ) (before after : Rest) : Type 0 wh
   pub goes_on : (next : ℕ → ℕ → Form) → fault_in (header_form next) before.at before.bytes ≡ fault_in (next nodes links) after.at after.bytes
 
 -- such a header, or the first fault in it
-abbrev pub ReadsHeader : Rest → Result (Header × Rest) CertError → Type 0
+abbrev pub ReadsHeader : Rest → Result (Header × Rest) CertFault → Type 0
 ReadsHeader before (Ok x) = TookHeader x.0.nodes x.0.links x.0.root before x.1
 ReadsHeader before (Err e) = (next : ℕ → ℕ → Form) → Names e (fault_in (header_form next) before.at before.bytes)
 
--- a certificate file that is spelled so, or the first fault
-abbrev pub ReadsFile : List ℕ → Result CertFile CertError → Type 0
-ReadsFile bytes (Ok f) = IsVersionOne f × (bytes ≡ cert_text f)
-ReadsFile bytes (Err e) = Names e (first_fault bytes)
+-- so many more were read, each of which is spelled so and keeps this
+abbrev pub TookMore : {A : Type 0} → (A → List ℕ) → (A → Type 0) → ℕ → List A → List A → Rest → Rest → Type 0
+TookMore {A} text Keeps count old new before after =
+    (more : List A) × (new ≡ old ++ more) × Took (flat_map text more) before after × IsListOf count Keeps more

@@ -21,6 +21,13 @@ pub enum CertKind {
     Trailing,
 }
 
+/// The first field that is not allowed begins at byte `at`, from 0.
+#[derive(Clone, Copy, Debug, PartialEq, Eq)]
+pub struct CertFault {
+    pub at: u32,
+    pub kind: CertKind,
+}
+
 /// Why a certificate file was not read.
 #[derive(Clone, Copy, Debug, PartialEq, Eq, Error)]
 pub enum CertError {
@@ -31,12 +38,16 @@ pub enum CertError {
     NoMemory,
 }
 
-impl CertError {
-    /// What is wrong with the field at this place.
-    pub(crate) fn new(at: u32, kind: CertKind) -> CertError
-        ensures { result ≡ CertError.Fault at kind }
-    {
-        CertError::Fault { at, kind }
+impl From<CertFault> for CertError {
+    ghost use Rattle.cert_format.specs.declared.error.CertError.TheVariants.{Fault};
+
+    ghost from_gives = { λ fault error. error ≡ Fault fault.at fault.kind };
+
+    fn from(fault: CertFault) -> CertError {
+        CertError::Fault {
+            at: fault.at,
+            kind: fault.kind,
+        }
     }
 }
 

@@ -8,38 +8,44 @@ ghost use Rattle.mrt_graph.specs.Tags.{tag_number};
 ghost use Rattle.cert_format.specs.Layout.{any, exactly, within, tag};
 ghost use Rattle.cert_format.specs.Reading.{ReadsField};
 
-use crate::error::{CertError, CertKind};
+use crate::error::{CertFault, CertKind};
 use crate::rest::Rest;
 use mrt_graph::{Kind, Role, Tag};
 
 /// The magic bytes.
-pub fn magic(rest: Rest<'_>) -> Result<(u32, Rest<'_>), CertError>
+pub fn magic(rest: Rest<'_>) -> Result<(u32, Rest<'_>), CertFault>
     requires { rest.at < 2 ^ 32 - 4 }
     ensures { ReadsField (exactly w32 (from_be_bytes w32 (codes "MRTC"))) (λ n. n) rest.entry result }
 {
     let at = rest.at();
     let (number, rest) = rest.u32()?;
     if number != u32::from_be_bytes(*b"MRTC") {
-        return Err(CertError::new(at, CertKind::Magic));
+        return Err(CertFault {
+            at,
+            kind: CertKind::Magic,
+        });
     }
     Ok((number, rest))
 }
 
 /// The version, which is 1.
-pub fn version(rest: Rest<'_>) -> Result<(u16, Rest<'_>), CertError>
+pub fn version(rest: Rest<'_>) -> Result<(u16, Rest<'_>), CertFault>
     requires { rest.at < 2 ^ 32 - 2 }
     ensures { ReadsField (exactly w16 1) (λ n. n) rest.entry result }
 {
     let at = rest.at();
     let (number, rest) = rest.u16()?;
     if number != 1 {
-        return Err(CertError::new(at, CertKind::Magic));
+        return Err(CertFault {
+            at,
+            kind: CertKind::Magic,
+        });
     }
     Ok((number, rest))
 }
 
 /// A number of 32 bits, whichever it is.
-pub fn any_u32(rest: Rest<'_>) -> Result<(u32, Rest<'_>), CertError>
+pub fn any_u32(rest: Rest<'_>) -> Result<(u32, Rest<'_>), CertFault>
     requires { rest.at < 2 ^ 32 - 4 }
     ensures { ReadsField (any w32) (λ n. n) rest.entry result }
 {
@@ -47,7 +53,7 @@ pub fn any_u32(rest: Rest<'_>) -> Result<(u32, Rest<'_>), CertError>
 }
 
 /// A number of 16 bits, whichever it is.
-pub fn any_u16(rest: Rest<'_>) -> Result<(u16, Rest<'_>), CertError>
+pub fn any_u16(rest: Rest<'_>) -> Result<(u16, Rest<'_>), CertFault>
     requires { rest.at < 2 ^ 32 - 2 }
     ensures { ReadsField (any w16) (λ n. n) rest.entry result }
 {
@@ -55,14 +61,17 @@ pub fn any_u16(rest: Rest<'_>) -> Result<(u16, Rest<'_>), CertError>
 }
 
 /// A number of 16 bits from `least` on, below `bound`.
-pub fn number(rest: Rest<'_>, least: u32, bound: u32) -> Result<(u16, Rest<'_>), CertError>
+pub fn number(rest: Rest<'_>, least: u32, bound: u32) -> Result<(u16, Rest<'_>), CertFault>
     requires { rest.at < 2 ^ 32 - 2 }
     ensures { ReadsField (within w16 least bound) (λ n. n) rest.entry result }
 {
     let at = rest.at();
     let (number, rest) = rest.u16()?;
     if !is_within(number, least, bound) {
-        return Err(CertError::new(at, CertKind::Range));
+        return Err(CertFault {
+            at,
+            kind: CertKind::Range,
+        });
     }
     Ok((number, rest))
 }
@@ -74,14 +83,17 @@ fn is_within(number: u16, least: u32, bound: u32) -> bool
 }
 
 /// A node's kind.
-pub fn kind(rest: Rest<'_>) -> Result<(Kind, Rest<'_>), CertError>
+pub fn kind(rest: Rest<'_>) -> Result<(Kind, Rest<'_>), CertFault>
     requires { rest.at < 2 ^ 32 - 1 }
     ensures { ReadsField (within w8 1 3) kind_number rest.entry result }
 {
     let at = rest.at();
     let (number, rest) = rest.u8()?;
     let Some(kind) = kind_of(number) else {
-        return Err(CertError::new(at, CertKind::Range));
+        return Err(CertFault {
+            at,
+            kind: CertKind::Range,
+        });
     };
     Ok((kind, rest))
 }
@@ -98,14 +110,17 @@ fn kind_of(number: u8) -> Option<Kind>
 }
 
 /// A link's role.
-pub fn role(rest: Rest<'_>) -> Result<(Role, Rest<'_>), CertError>
+pub fn role(rest: Rest<'_>) -> Result<(Role, Rest<'_>), CertFault>
     requires { rest.at < 2 ^ 32 - 1 }
     ensures { ReadsField (within w8 0 3) role_number rest.entry result }
 {
     let at = rest.at();
     let (number, rest) = rest.u8()?;
     let Some(role) = role_of(number) else {
-        return Err(CertError::new(at, CertKind::Range));
+        return Err(CertFault {
+            at,
+            kind: CertKind::Range,
+        });
     };
     Ok((role, rest))
 }
@@ -123,14 +138,17 @@ fn role_of(number: u8) -> Option<Role>
 }
 
 /// A row's tag.
-pub fn tag(rest: Rest<'_>) -> Result<(Tag, Rest<'_>), CertError>
+pub fn tag(rest: Rest<'_>) -> Result<(Tag, Rest<'_>), CertFault>
     requires { rest.at < 2 ^ 32 - 1 }
     ensures { ReadsField tag tag_number rest.entry result }
 {
     let at = rest.at();
     let (number, rest) = rest.u8()?;
     let Some(tag) = tag_of(number) else {
-        return Err(CertError::new(at, CertKind::Tag));
+        return Err(CertFault {
+            at,
+            kind: CertKind::Tag,
+        });
     };
     Ok((tag, rest))
 }

@@ -2,12 +2,12 @@
 
 ghost use Rattle.std.specs.Prelude.{◌<◌, ◌^◌, ◌-◌};
 
-use crate::error::CertError;
+use crate::error::CertFault;
 use crate::field::{any_u32, magic, number, version};
 use crate::rest::Rest;
 
 /// How many nodes and links follow, and the router ID of the root.
-#[derive(Drop)]
+#[derive(Clone, Copy)]
 pub struct Header {
     pub nodes: u16,
     pub links: u16,
@@ -18,7 +18,7 @@ impl Header {
     ghost use Rattle.cert_format.specs.Reading.{ReadsHeader};
 
     /// The header at the front.
-    pub fn read(rest: Rest<'_>) -> Result<(Header, Rest<'_>), CertError>
+    pub fn read(rest: Rest<'_>) -> Result<(Header, Rest<'_>), CertFault>
         requires { rest.at < 2 ^ 32 - 16 }
         ensures { ReadsHeader rest.entry result }
     {

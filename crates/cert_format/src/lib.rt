@@ -4,15 +4,22 @@
 //! number in network order. Each file has one spelling.
 #![tactic(auto)]
 
+mod buffer;
+mod cert_reader;
 mod error;
 mod field;
 mod header;
+mod held;
+mod kept;
 mod list;
 mod part;
+mod putting;
 mod reading;
 mod rest;
 mod writing;
 
-pub use error::{CertError, CertKind};
-pub use reading::{one_spelling, read_cert};
+pub use cert_reader::CertReader;
+pub use error::{CertError, CertFault, CertKind};
+pub use putting::put_cert;
+pub use reading::{any_pieces, one_spelling, read_cert};
 pub use writing::write_cert;

@@ -6,13 +6,13 @@ ghost use Rattle.cert_format.specs.CertText.{node_text, link_text, row_text};
 ghost use Rattle.cert_format.specs.Layout.{node_form, link_form, row_form};
 ghost use Rattle.cert_format.specs.Reading.{ReadsPart, IsNode};
 
-use crate::error::CertError;
+use crate::error::CertFault;
 use crate::field::{any_u16, any_u32, kind, number, role, tag};
 use crate::rest::Rest;
 use mrt_graph::{CertLink, CertNode, LinkNo, NodeId, NodeNo, Row};
 
 /// A node, of so many.
-pub fn node(rest: Rest<'_>, nodes: u16) -> Result<(CertNode, Rest<'_>), CertError>
+pub fn node(rest: Rest<'_>, nodes: u16) -> Result<(CertNode, Rest<'_>), CertFault>
     requires { rest.at < 2 ^ 32 - 16 }
     ensures { ReadsPart (node_form nodes) node_text (IsNode nodes) rest.entry result }
 {
@@ -32,7 +32,7 @@ pub fn node(rest: Rest<'_>, nodes: u16) -> Result<(CertNode, Rest<'_>), CertErro
 }
 
 /// A link between two of so many nodes.
-pub fn link(rest: Rest<'_>, nodes: u16) -> Result<(CertLink, Rest<'_>), CertError>
+pub fn link(rest: Rest<'_>, nodes: u16) -> Result<(CertLink, Rest<'_>), CertFault>
     requires { rest.at < 2 ^ 32 - 16 }
     ensures { ReadsPart (link_form nodes) link_text (IsCertLink nodes) rest.entry result }
 {
@@ -51,7 +51,7 @@ pub fn link(rest: Rest<'_>, nodes: u16) -> Result<(CertLink, Rest<'_>), CertErro
 }
 
 /// A row of two of so many links.
-pub fn row(rest: Rest<'_>, links: u16) -> Result<(Row, Rest<'_>), CertError>
+pub fn row(rest: Rest<'_>, links: u16) -> Result<(Row, Rest<'_>), CertFault>
     requires { rest.at < 2 ^ 32 - 16 }
     ensures { ReadsPart (row_form links) row_text (IsCertRow links) rest.entry result }
 {

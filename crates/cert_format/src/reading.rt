@@ -1,24 +1,24 @@
 //! A whole certificate file.
 
-ghost use Rattle.std.specs.Prelude.{◌≡◌, ◌≤◌, ◌-◌, ◌*◌, ℕ, Some, IfOk, length};
+ghost use Rattle.std.specs.Prelude.{◌≡◌, ◌≤◌, ℕ, List, [], Some, Ok, Err, IfOk, length};
+ghost use Rattle.std.specs.List.{flat_map};
 ghost use Rattle.mrt_graph.specs.declared.cert.CertFile.{CertFile};
 ghost use Rattle.cert_format.specs.declared.error.CertKind.{CertKind};
 ghost use Rattle.cert_format.specs.CertText.{cert_text};
 ghost use Rattle.cert_format.specs.FirstFault.{first_fault};
 ghost use Rattle.cert_format.specs.Limits.{IsVersionOne};
 ghost use Rattle.cert_format.specs.Outcome.{OrNoMemory};
-ghost use Rattle.cert_format.specs.Reading.{ReadsFile};
+ghost use Rattle.cert_format.specs.Outcome.{ReadsFile};
+ghost use Rattle.cert_format.specs.Stream.{end_fault, fed, fed_all};
 
-use crate::error::{CertError, CertKind};
-use crate::header::Header;
-use crate::list::{links, nodes, rows};
-use crate::rest::Rest;
-use mrt_graph::{Cert, CertFile};
+use crate::cert_reader::CertReader;
+use crate::error::CertError;
+use mrt_graph::CertFile;
 use std::alloc::Global;
 
 /// The certificate file of version 1 that the bytes spell, all of the bytes.
 ///
-/// It is one pass. Each list is reserved once, and none for more parts than the bytes that are left could hold.
+/// It is one pass, by a [`CertReader`]. Each list is reserved once.
 ///
 /// It takes time in proportion to the bytes.
 ///
@@ -71,27 +71,10 @@ pub fn read_cert(alloc: Global, bytes: &[u8]) -> Result<CertFile, CertError>
 fn whole(alloc: Global, bytes: &[u8]) -> Result<CertFile, CertError>
     ensures { ReadsFile bytes.now result }
 {
-    let (header, rest) = Header::read(Rest::new(bytes))?;
-    let (nodes, rest) = nodes(alloc, rest, header.nodes)?;
-    let (links, rest) = links(alloc, rest, header.links, header.nodes)?;
-    let (rows, rest) = rows(alloc, rest, row_count(header.nodes), header.links)?;
-    if !rest.is_empty() {
-        return Err(CertError::new(rest.at(), CertKind::Trailing));
-    }
-    Ok(CertFile {
-        root: header.root,
-        cert: Cert::new(nodes, links, rows),
-    })
-}
-
-/// A row of each node for each other one.
-fn row_count(nodes: u16) -> usize
-    requires { nodes ≤ 2048 }
-    ensures value { result ≡ nodes * (nodes - 1) }
-    ensures few { result ≤ 2048 * 2047 }
-{
-    let nodes = nodes as usize;
-    nodes * nodes.saturating_sub(1)
+    let mut reader = CertReader::new(alloc);
+    reader.feed(bytes)?;
+    let file = reader.finish()?;
+    Ok(file)
 }
 
 /// No two certificate files have one spelling, no field of a spelling is at fault, and no spelling has more than
@@ -100,4 +83,15 @@ pub fn one_spelling()
     ensures one { (f g : CertFile) → IsVersionOne f → IsVersionOne g → cert_text f ≡ cert_text g → f ≡ g }
     ensures faultless { (f : CertFile) → IsVersionOne f → first_fault (cert_text f) ≡ None }
     ensures longest { (f : CertFile) → IsVersionOne f → length (cert_text f) ≤ 21041166 }
+{}
+
+/// A stream is read as a whole is, however it is cut into pieces that are fed one after another.
+///
+/// The pieces lead a [`CertReader`] from its front to where their bytes lead it in one piece; where the stream ends
+/// there, its fault is the first one of the bytes, and a spelling has none.
+pub fn any_pieces()
+    ensures one { (pieces : List (List ℕ))
+        → fed_all (Ok []) pieces ≡ fed (Ok []) (flat_map (λ piece. piece) pieces) }
+    ensures fault { (bytes : List ℕ) → end_fault (fed (Ok []) bytes) ≡ first_fault bytes }
+    ensures whole { (f : CertFile) → IsVersionOne f → fed (Ok []) (cert_text f) ≡ Ok (cert_text f) }
 {}

@@ -2,7 +2,7 @@
 
 ghost use Rattle.std.specs.Prelude.{◌≡◌, ◌<◌, ◌^◌, ◌-◌, ◌↔◌, ◌/◌, IsTrue, [], length, min};
 
-use crate::error::{CertError, CertKind};
+use crate::error::{CertFault, CertKind};
 use std::marker::Model;
 
 /// What is left of a file, and the place of its first byte in the file.
@@ -24,10 +24,26 @@ impl<'a> Rest<'a> {
     ghost use Rattle.std.specs.Int.{w8, w16, w32};
     ghost use Rattle.cert_format.specs.Reading.{ReadsNumber, rest_of};
 
-    pub fn new(bytes: &'a [u8]) -> Rest<'a>
-        ensures { result ≡ rest_of 0 bytes.now }
+    pub fn new(at: u32, bytes: &'a [u8]) -> Rest<'a>
+        ensures { result ≡ rest_of at bytes.now }
     {
-        Rest { at: 0, bytes }
+        Rest { at, bytes }
+    }
+
+    /// The same rest once more.
+    pub fn again(&self) -> Rest<'a>
+        ensures { result ≡ self.now }
+    {
+        Rest {
+            at: self.at,
+            bytes: self.bytes,
+        }
+    }
+
+    pub fn bytes(&self) -> &'a [u8]
+        ensures { result.now ≡ self.now.bytes }
+    {
+        self.bytes
     }
 
     /// The place of the first byte that is left.
@@ -51,35 +67,44 @@ impl<'a> Rest<'a> {
         count.min(self.bytes.len() / bytes)
     }
 
-    pub fn u8(self) -> Result<(u8, Rest<'a>), CertError>
+    pub fn u8(self) -> Result<(u8, Rest<'a>), CertFault>
         requires { self.at < 2 ^ 32 - 1 }
         ensures { ReadsNumber w8 self.entry result }
     {
         let at = self.at;
         let Some((byte, bytes)) = self.bytes.split_first() else {
-            return Err(CertError::new(at, CertKind::Truncated));
+            return Err(CertFault {
+                at,
+                kind: CertKind::Truncated,
+            });
         };
         Ok((*byte, Rest { at: at + 1, bytes }))
     }
 
-    pub fn u16(self) -> Result<(u16, Rest<'a>), CertError>
+    pub fn u16(self) -> Result<(u16, Rest<'a>), CertFault>
         requires { self.at < 2 ^ 32 - 2 }
         ensures { ReadsNumber w16 self.entry result }
     {
         let at = self.at;
         let Some((&[high, low], bytes)) = self.bytes.split_first_chunk::<2>() else {
-            return Err(CertError::new(at, CertKind::Truncated));
+            return Err(CertFault {
+                at,
+                kind: CertKind::Truncated,
+            });
         };
         Ok((u16::from_be_bytes([high, low]), Rest { at: at + 2, bytes }))
     }
 
-    pub fn u32(self) -> Result<(u32, Rest<'a>), CertError>
+    pub fn u32(self) -> Result<(u32, Rest<'a>), CertFault>
         requires { self.at < 2 ^ 32 - 4 }
         ensures { ReadsNumber w32 self.entry result }
     {
         let at = self.at;
         let Some((&[a, b, c, d], bytes)) = self.bytes.split_first_chunk::<4>() else {
-            return Err(CertError::new(at, CertKind::Truncated));
+            return Err(CertFault {
+                at,
+                kind: CertKind::Truncated,
+            });
         };
         Ok((u32::from_be_bytes([a, b, c, d]), Rest { at: at + 4, bytes }))
     }

@@ -45,7 +45,7 @@ pub fn write_cert(alloc: Global, f: &CertFile) -> Result<Vec<u8>, NoMemory>
     Ok(out)
 }
 
-fn header_bytes(nodes: u16, links: u16, root: u32) -> [u8; 14]
+pub fn header_bytes(nodes: u16, links: u16, root: u32) -> [u8; 14]
     ensures { result ≡ header_text nodes links root }
 {
     let [nodes, nodes_low] = nodes.to_be_bytes();
@@ -68,7 +68,7 @@ fn put_nodes(out: &mut Vec<u8>, nodes: &[CertNode])
     }
 }
 
-fn node_bytes(node: &CertNode) -> [u8; 11]
+pub fn node_bytes(node: &CertNode) -> [u8; 11]
     ensures text { result ≡ node_text node.now }
     ensures number { HasNumber node.now }
 {
@@ -96,7 +96,7 @@ fn put_links(out: &mut Vec<u8>, links: &[CertLink])
     }
 }
 
-fn link_bytes(link: &CertLink) -> [u8; 7]
+pub fn link_bytes(link: &CertLink) -> [u8; 7]
     ensures { result ≡ link_text link.now }
 {
     let role = match link.role {
@@ -122,7 +122,7 @@ fn put_rows(out: &mut Vec<u8>, rows: &[Row])
     }
 }
 
-fn row_bytes(row: &Row) -> [u8; 5]
+pub fn row_bytes(row: &Row) -> [u8; 5]
     ensures { result ≡ row_text row.now }
 {
     let tag = match row.tag {

@@ -14,7 +14,7 @@ returns-in_err-number c =
 
 pub returns-then-number-from_be_bytes : goal.returns-then-number-from_be_bytes
 returns-then-number-from_be_bytes c =
-    rw (c.new.ensures, c.at-at.ensures) (refused_field (exactly w32 (from_be_bytes w32 (codes "MRTC"))) c.in_ok-number.number c.args.rest c.in_ok-number.rest wide32 c.in_ok-number.ensures.0 c.in_ok-number.ensures.1 (grind (arith, nat_tests)))
+    rw c.at-at.ensures (refused_field (exactly w32 (from_be_bytes w32 (codes "MRTC"))) c.in_ok-number.number c.args.rest c.in_ok-number.rest wide32 c.in_ok-number.ensures.0 c.in_ok-number.ensures.1 (grind (arith, nat_tests)))
 
 pub returns : goal.returns
 returns c = took_field (exactly w32 (from_be_bytes w32 (codes "MRTC"))) c.in_ok-number.number c.args.rest c.in_ok-number.rest wide32 c.in_ok-number.ensures.0 c.in_ok-number.ensures.1 (grind (arith, nat_tests))

@@ -12,7 +12,7 @@ returns-in_err-number c =
 
 pub returns-then-not-is_within : goal.returns-then-not-is_within
 returns-then-not-is_within c =
-    rw (c.new.ensures, c.at-at.ensures) (refused_field (within w16 c.args.least c.args.bound) c.in_ok-number.number c.args.rest c.in_ok-number.rest wide16 c.in_ok-number.ensures.0 c.in_ok-number.ensures.1 (sym c.is_within.ensures ∙ c.if-not-is_within.true))
+    rw c.at-at.ensures (refused_field (within w16 c.args.least c.args.bound) c.in_ok-number.number c.args.rest c.in_ok-number.rest wide16 c.in_ok-number.ensures.0 c.in_ok-number.ensures.1 (sym c.is_within.ensures ∙ c.if-not-is_within.true))
 
 pub returns : goal.returns
 returns c = took_field (within w16 c.args.least c.args.bound) c.in_ok-number.number c.args.rest c.in_ok-number.rest wide16 c.in_ok-number.ensures.0 c.in_ok-number.ensures.1 (sym c.is_within.ensures ∙ c.if-not-is_within.false)

@@ -11,7 +11,7 @@ returns-in_err-number c =
 
 pub returns-in_default : goal.returns-in_default
 returns-in_default c =
-    rw (c.new.ensures, c.at-at.ensures) (refused_field (tag) c.in_ok-number.number c.args.rest c.in_ok-number.rest wide8 c.in_ok-number.ensures.0 c.in_ok-number.ensures.1 (c.in_default.ensures.unknown))
+    rw c.at-at.ensures (refused_field (tag) c.in_ok-number.number c.args.rest c.in_ok-number.rest wide8 c.in_ok-number.ensures.0 c.in_ok-number.ensures.1 (c.in_default.ensures.unknown))
 
 pub returns : goal.returns
 returns c = took_named (tag) tag_number c.in-Some.tag c.in_ok-number.number c.args.rest c.in_ok-number.rest wide8 c.in_ok-number.ensures.0 c.in_ok-number.ensures.1 (tag_allowed c.in-Some.tag) c.in-Some.ensures.known

@@ -13,7 +13,7 @@ returns-in_err-number c =
 
 pub returns-then-number-ne1 : goal.returns-then-number-ne1
 returns-then-number-ne1 c =
-    rw (c.new.ensures, c.at-at.ensures) (refused_field (exactly w16 1) c.in_ok-number.number c.args.rest c.in_ok-number.rest wide16 c.in_ok-number.ensures.0 c.in_ok-number.ensures.1 (grind (arith, nat_tests)))
+    rw c.at-at.ensures (refused_field (exactly w16 1) c.in_ok-number.number c.args.rest c.in_ok-number.rest wide16 c.in_ok-number.ensures.0 c.in_ok-number.ensures.1 (grind (arith, nat_tests)))
 
 pub returns : goal.returns
 returns c = took_field (exactly w16 1) c.in_ok-number.number c.args.rest c.in_ok-number.rest wide16 c.in_ok-number.ensures.0 c.in_ok-number.ensures.1 (grind (arith, nat_tests))

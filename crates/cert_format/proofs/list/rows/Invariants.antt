@@ -1,11 +1,13 @@
-use Rattle.std.specs.Prelude.{◌≡◌, ◌/◌, length, min, vec_len, vec_capacity}
+use Rattle.std.specs.Prelude.{◌≡◌, ◌≤◌, ◌+◌, ◌*◌, ◌++◌, List, vec_len, vec_capacity}
 use Rattle.mrt_graph.specs.Certificate.{IsCertRow}
+use Rattle.mrt_graph.specs.declared.cert.Row.{Row}
 use Rattle.cert_format.specs.CertText.{row_text}
 use Rattle.cert_format.proofs.Lists.{Repeats}
 use Rattle.cert_format.proofs.list.rows.Given as goal
 
 abbrev pub invariant-loop : goal.invariant-loop
-invariant-loop l =
-    Repeats row_text (IsCertRow l.links) 5 l.counter l.rows.items l.fn.rest l.rest
-    × (vec_len l.rows ≡ l.counter)
-    × (vec_capacity l.rows ≡ min l.count (length l.fn.rest.bytes / 5))
+invariant-loop l = record {
+  read : (more : List Row) × (l.rows.items ≡ l.fn.rows.items ++ more) × Repeats row_text (IsCertRow l.links) 5 l.counter more l.fn.rest l.rest;
+  place : l.rest.at ≡ l.fn.rest.at + 5 * l.counter;
+  room : vec_len l.rows + l.count ≤ vec_capacity l.rows + l.counter;
+}

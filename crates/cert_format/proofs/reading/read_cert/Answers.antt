@@ -6,8 +6,7 @@ use Rattle.cert_format.specs.declared.error.CertError.TheVariants as errors
 use Rattle.cert_format.specs.CertText.{cert_text}
 use Rattle.cert_format.specs.FirstFault.{first_fault}
 use Rattle.cert_format.specs.Limits.{IsVersionOne}
-use Rattle.cert_format.specs.Outcome.{OrNoMemory}
-use Rattle.cert_format.specs.Reading.{ReadsFile}
+use Rattle.cert_format.specs.Outcome.{OrNoMemory, ReadsFile}
 use Rattle.cert_format.proofs.Files.{no_fault}
 use Rattle.cert_format.proofs.Unique.{one_file}
 use Rattle.cert_format.proofs.reading.read_cert.Goals as goal

@@ -1,0 +1,91 @@
+-- The bytes of the parts that were read: how many they are, what one more part adds, and how a file goes on after them.
+use Rattle.std.proofs.Common.{◌≡◌, ◌+◌, ◌-◌, ◌*◌, ◌≤◌, ℕ, List, ◌++◌, length, Option, Some, None, refl, ap, subst, ◌∙◌, arith, length-append}
+use Rattle.std.specs.List.{flat_map, AllByRecursion}
+use Rattle.std.proofs.Math.Nat.{mul-le-mul_left, mul-le-mul_right}
+use Rattle.mrt_graph.specs.declared.cert.CertNode.{CertNode}
+use Rattle.mrt_graph.specs.declared.cert.CertLink.{CertLink}
+use Rattle.mrt_graph.specs.declared.cert.Row.{Row}
+use Rattle.cert_format.specs.declared.header.Header.{Header}
+use Rattle.cert_format.specs.CertText.{node_text, link_text, row_text}
+use Rattle.cert_format.specs.Layout.{Form, End, repeated, node_form, link_form, row_form}
+use Rattle.cert_format.specs.FirstFault.{fault_in}
+use Rattle.cert_format.specs.Parts.{Parts, AreParts, AreBelow, AreUnder, AreNone, header_bytes, text_of, row_count}
+use Rattle.cert_format.proofs.Lists.{IsPart, length_texts, repeated_passes}
+
+-- the parts of a header that was read are under it
+pub under : (parts : Parts) (header : Header) → parts.header ≡ Some header → AreParts parts → AreUnder header parts
+under parts header is are = subst (λ (it : Option Header). AreBelow it parts) is are
+
+pub none_yet : (parts : Parts) → parts.header ≡ None → AreParts parts → AreNone parts
+none_yet parts is are = subst (λ (it : Option Header). AreBelow it parts) is are
+
+lists_length : (header : Option Header) (nodes : List CertNode) (links : List CertLink) (rows : List Row)
+    → length (header_bytes header ++ (flat_map node_text nodes ++ (flat_map link_text links ++ flat_map row_text rows)))
+    ≡ length (header_bytes header) + (11 * length nodes + (7 * length links + 5 * length rows))
+lists_length header nodes links rows =
+    let n = length_texts node_text 11 nodes (λ x. refl) in
+    let l = length_texts link_text 7 links (λ x. refl) in
+    let r = length_texts row_text 5 rows (λ x. refl) in
+    let first = length-append (header_bytes header) (flat_map node_text nodes ++ (flat_map link_text links ++ flat_map row_text rows)) in
+    let second = length-append (flat_map node_text nodes) (flat_map link_text links ++ flat_map row_text rows) in
+    let third = length-append (flat_map link_text links) (flat_map row_text rows) in
+    omega (arith, n, l, r, first, second, third)
+
+pub parts_length : (parts : Parts)
+    → length (text_of parts) ≡ length (header_bytes parts.header) + (11 * length parts.nodes + (7 * length parts.links + 5 * length parts.rows))
+parts_length parts = lists_length parts.header parts.nodes parts.links parts.rows
+
+-- how few there are
+pub record AreFew (parts : Parts) : Type 0 where
+  pub nodes : length parts.nodes ≤ 2048
+  pub links : length parts.links ≤ 8192
+  pub rows : length parts.rows ≤ 2048 * 2047
+  pub header : length (header_bytes parts.header) ≤ 14
+
+pub few_row_count : (nodes : ℕ) → nodes ≤ 2048 → row_count nodes ≤ 2048 * 2047
+few_row_count nodes few =
+    let one : nodes * (nodes - 1) ≤ 2048 * (nodes - 1) = mul-le-mul_right (nodes - 1) few in
+    let fewer : nodes - 1 ≤ 2047 = omega (arith, few) in
+    let other : 2048 * (nodes - 1) ≤ 2048 * 2047 = mul-le-mul_left 2048 fewer in
+    omega (arith, one, other)
+
+few_under : (header : Option Header) (parts : Parts) → parts.header ≡ header → AreBelow header parts → AreFew parts
+few_under None parts is are = record {
+  nodes = rw are.nodes (omega arith);
+  links = rw are.links (omega arith);
+  rows = rw are.rows (omega arith);
+  header = rw is (omega arith);
+}
+few_under (Some header) parts is are =
+    let rows = are.few_rows in
+    let all = few_row_count header.nodes are.header.few_nodes in
+    record {
+      nodes = omega (arith, are.few_nodes, are.header.few_nodes);
+      links = omega (arith, are.few_links, are.header.few_links);
+      rows = omega (arith, rows, all);
+      header = rw is (omega arith);
+    }
+
+pub are_few : (parts : Parts) → AreParts parts → AreFew parts
+are_few parts are = few_under parts.header parts refl are
+
+pub few_bytes : (parts : Parts) → AreParts parts → length (text_of parts) ≤ 21041166
+few_bytes parts are =
+    let few = are_few parts are in
+    let whole = parts_length parts in
+    omega (arith, few.nodes, few.links, few.rows, few.header, whole)
+
+-- the form of what follows so many nodes, links and rows
+abbrev pub form_after : Header → ℕ → ℕ → ℕ → Form
+form_after header nodes links rows =
+    repeated (header.nodes - nodes) (node_form header.nodes) (repeated (header.links - links) (link_form header.nodes)
+    (repeated (row_count header.nodes - rows) (row_form header.links) End))
+
+-- so many parts of all that are to come are passed
+pub some_pass : {A : Type 0} (part : Form → Form) (text : A → List ℕ) (Keeps : A → Type 0) (size total : ℕ) (xs : List A) → IsPart part text Keeps size
+    → length xs ≤ total → AllByRecursion Keeps xs → (next : Form) (at : ℕ) (rest : List ℕ)
+    → fault_in (repeated total part next) at (flat_map text xs ++ rest) ≡ fault_in (repeated (total - length xs) part next) (at + size * length xs) rest
+some_pass part text Keeps size total xs is within all next at rest =
+    let count : total ≡ length xs + (total - length xs) = omega (arith, within) in
+    ap (λ (n : ℕ). fault_in (repeated n part next) at (flat_map text xs ++ rest)) count
+    ∙ repeated_passes part text Keeps size is xs (total - length xs) next at rest all

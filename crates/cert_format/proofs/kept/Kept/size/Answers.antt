@@ -1,0 +1,8 @@
+use Rattle.std.proofs.Common.{◌∙◌, arith}
+use Rattle.cert_format.specs.Parts.{parts_of}
+use Rattle.cert_format.proofs.PartsText.{parts_length}
+use Rattle.cert_format.proofs.kept.Kept.size.Goals as goal
+
+pub returns-clause-value : goal.returns-clause-value
+returns-clause-value c =
+    c.size_of.ensures.value ∙ omega (arith, parts_length (parts_of c.args.self.now), c.header_size.ensures)
