@@ -4,6 +4,8 @@
 #[cfg(test)]
 mod cert_files;
 #[cfg(test)]
+mod cert_pieces;
+#[cfg(test)]
 mod certs;
 #[cfg(test)]
 mod devices;
