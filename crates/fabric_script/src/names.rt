@@ -26,7 +26,7 @@ pub fn read_node(text: &[u8]) -> Option<NodeId>
     ensures found { IfSome result (λ id. text.now ≡ node_text id) }
     // What is spelled so is read.
     ensures only { (id : NodeId) → id.number < 2 ^ 32 → text.now ≡ node_text id → result ≡ Some id }
-    // Both in one word.
+    // Both, as one value.
     ensures value { result ≡ node_in text.now }
 {
     match text.strip_prefix(b"net:".as_slice()) {
@@ -56,7 +56,7 @@ pub fn read_failure(text: &[u8]) -> Option<FailureName>
     // What is spelled so is read.
     ensures only { (failed : FailureName) → HasNumbers failed → text.now ≡ failure_text failed
         → result ≡ Some failed }
-    // Both in one word.
+    // Both, as one value.
     ensures value { result ≡ failure_in text.now }
 {
     failure(text)

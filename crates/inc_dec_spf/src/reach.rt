@@ -1,4 +1,4 @@
-//! Where the paths from a node lead.
+//! Where the paths from a node lead, and those to a node begin.
 
 use mrt_graph::{Graph, LinkNo, NoMemory, NodeNo};
 use std::alloc::Global;
@@ -42,7 +42,8 @@ pub struct Known {
     pub link: LinkNo,
 }
 
-/// What a source has for each node, by number: none where no path leads there.
+/// One entry for each node, by number: for it as the destination of one source, or as the source for one destination. None
+/// where no path leads.
 #[derive(Drop)]
 pub struct Reach {
     pub(crate) known: Vec<Option<Known>>,
@@ -79,7 +80,8 @@ impl Reach {
         Ok(Reach { known })
     }
 
-    /// The hop of the least path to node t; None where there is none.
+    /// The hop of the least path to node t or, where the entries are for one destination, from node t. None where there is
+    /// none.
     pub fn hop(&self, t: NodeNo) -> Option<Hop>
         requires { t < length self.now }
         ensures { slice_get self.now t ≡ Some result }

@@ -30,7 +30,7 @@ abbrev pub Gives : Option Files → Form → List ℕ → Type 0
 Gives held (OfFiles form) text = (bytes : FileBytes) × AreRead held form bytes × GivesOver form.task bytes text
 Gives held (Survey number nodes) text = IsSurveyed number nodes text
 
--- what comes of a form that gives no text: a file is not read; else what is said of the bytes. A survey always gives one
+-- what comes of a form that gives no text: a file is not read; else what is said of the bytes. A survey is never refused
 abbrev pub Refuses : Option Files → Form → Exit → Type 0
 Refuses held (OfFiles form) exit =
     IsRefusedBy held (files_in form) exit

@@ -24,8 +24,8 @@ use mrt_survey::{
 use ospf_lsa::bytes_are_lsas_or_have_a_fault;
 
 /// Laws: the bytes of a network that is made are a database without a fault, and just its LSAs are the newest ones;
-/// each of its routers has an island, under a profile that says nothing; and the island of which a survey tells holds
-/// all of them.
+/// under a profile that says nothing, none of its routers has a reason to have no island; and the island of which a survey
+/// tells holds all of them.
 pub fn made_networks_are_taken()
     ensures input { (number nodes : ℕ) → IsNetworkSize nodes
         → IsInput (lsas_text (made_lsas number nodes)) [] (made_input number nodes) }

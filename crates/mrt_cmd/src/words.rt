@@ -21,7 +21,7 @@ use fabric_script::{FailureName, Trace, read_entry, read_failure, read_node};
 use mrt_graph::{read_address, read_number};
 use mrt_io::Word;
 
-/// The least routers that a network is made of.
+/// The fewest routers that a network is made of.
 const LEAST_NODES: u32 = 4;
 
 /// The most routers that a network is made of.
