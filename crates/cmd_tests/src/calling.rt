@@ -50,19 +50,74 @@ pub struct Left {
     pub err: MemSink,
 }
 
-/// Runs these words over a shelf with these files that fails these calls.
+/// Devices in memory: which read of the shelf fails; and of the output its room, how many bytes it takes at a time, and
+/// which write fails.
+#[derive(Clone, Copy)]
+pub struct Devices {
+    pub read: u32,
+    pub room: u32,
+    pub step: u32,
+    pub write: u32,
+}
+
+/// No read or write has this number.
+pub const NEVER: u32 = u32::MAX;
+
+/// Devices that do not fail, with room for so many bytes.
+pub fn calm(room: u32) -> Devices {
+    Devices {
+        read: NEVER,
+        room,
+        step: room,
+        write: NEVER,
+    }
+}
+
+/// Runs these words over a shelf with these files, on such devices.
+pub fn left_on(
+    alloc: Global,
+    words: &[&str],
+    files: Files<'_>,
+    devices: Devices,
+) -> Result<Left, NoMemory> {
+    left_by(alloc, words, files, devices, calm(1000))
+}
+
+/// The same, with an error stream as the output of other devices.
 pub fn left_by(
     alloc: Global,
     words: &[&str],
     files: Files<'_>,
-    fails: Vec<u32>,
-    mut out: MemSink,
-    mut err: MemSink,
+    devices: Devices,
+    err: Devices,
 ) -> Result<Left, NoMemory> {
-    let words = list_of(alloc, words)?;
-    let mut shelf = MemShelf::new(named_files(alloc, files)?, fails);
-    let exit = run(alloc, words.as_slice(), &mut shelf, &mut out, &mut err);
+    let mut shelf = shelf(alloc, files, devices.read)?;
+    let mut out = sink(alloc, devices)?;
+    let mut err = sink(alloc, err)?;
+    let exit = exit_of(alloc, words, &mut shelf, &mut out, &mut err)?;
     Ok(Left { exit, out, err })
+}
+
+/// The exit of these words over these devices.
+fn exit_of(
+    alloc: Global,
+    words: &[&str],
+    shelf: &mut MemShelf,
+    out: &mut MemSink,
+    err: &mut MemSink,
+) -> Result<Exit, NoMemory> {
+    let words = list_of(alloc, words)?;
+    Ok(run(alloc, words.as_slice(), shelf, out, err))
+}
+
+fn shelf(alloc: Global, files: Files<'_>, read: u32) -> Result<MemShelf, NoMemory> {
+    let fails = vec![in alloc; read]?;
+    Ok(MemShelf::new(named_files(alloc, files)?, fails))
+}
+
+fn sink(alloc: Global, devices: Devices) -> Result<MemSink, NoMemory> {
+    let fails = vec![in alloc; devices.write]?;
+    MemSink::new(alloc, devices.room, devices.step.max(1), fails)
 }
 
 fn list_of(alloc: Global, words: &[&str]) -> Result<Vec<Word>, NoMemory> {
@@ -75,14 +130,7 @@ fn list_of(alloc: Global, words: &[&str]) -> Result<Vec<Word>, NoMemory> {
 
 /// Runs these words over devices that do not fail.
 pub fn calmly(alloc: Global, words: &[&str], files: Files<'_>) -> Result<Left, NoMemory> {
-    left_by(
-        alloc,
-        words,
-        files,
-        Vec::new(alloc),
-        sink(alloc)?,
-        sink(alloc)?,
-    )
+    left_on(alloc, words, files, calm(1000))
 }
 
 fn named_files(alloc: Global, files: Files<'_>) -> Result<Vec<(Word, Vec<u8>)>, NoMemory>
@@ -102,11 +150,6 @@ fn named_files(alloc: Global, files: Files<'_>) -> Result<Vec<(Word, Vec<u8>)>, 
         Vec::from_slice(alloc, files.certificate)?,
     ))?;
     Ok(list)
-}
-
-/// A sink with ample room.
-pub fn sink(alloc: Global) -> Result<MemSink, NoMemory> {
-    MemSink::new(alloc, 1000, 1000, Vec::new(alloc))
 }
 
 /// Whether words over devices that do not fail come to this exit, and this is written.

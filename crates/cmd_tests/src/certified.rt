@@ -1,6 +1,6 @@
 //! Certificates that are written.
 
-use crate::calling::{Case, comes_out, front, left_by, sink, two};
+use crate::calling::{Case, Devices, calm, comes_out, front, left_on, two};
 use crate::files::{
     CERTIFICATE, FIRST_TREE, FIVE, FIVE_COMPUTED, LAN, LAN_CERTIFICATE, LINE, LINE_CERTIFICATE,
     RING, RING_COMPUTED, ROUTER, SAMPLE, SAMPLE_CERTIFICATE, SAMPLE_PROFILE, SECOND_TREE, STUB,
@@ -10,7 +10,6 @@ use crate::files::{
 use crate::limits::ring;
 use mrt_cmd::{Exit, What};
 use mrt_graph::NoMemory;
-use mrt_io::MemSink;
 use std::alloc::Global;
 
 const OF_1: &[&str] = &["certify", "db", "-", "1.1.1.1"];
@@ -198,9 +197,12 @@ fn written_certificates(rt: HostRuntime) {
 /// Whether the triangle's certificate is cut short at 80 bytes by an output that takes 40 at a time and fails its third
 /// call.
 fn is_cut_short(alloc: Global) -> Result<bool, NoMemory> {
-    let out = MemSink::new(alloc, 1000, 40, vec![in alloc; 2]?)?;
-    let files = two(TRIANGLE, b"");
-    let left = left_by(alloc, OF_1, files, Vec::new(alloc), out, sink(alloc)?)?;
+    let devices = Devices {
+        step: 40,
+        write: 2,
+        ..calm(1000)
+    };
+    let left = left_on(alloc, OF_1, two(TRIANGLE, b""), devices)?;
     Ok(
         left.exit == Exit::WriteFault { taken: 80 }
             && left.out.bytes() == front(TRIANGLE_CERTIFICATE, 80),
@@ -215,10 +217,8 @@ fn a_certificate_cut_short(rt: HostRuntime) {
 /// What comes of the certificate of a ring of so many routers, and how many bytes of it are written.
 fn comes_of_ring(alloc: Global, routers: u32) -> Result<(Exit, usize), NoMemory> {
     let database = ring(alloc, routers, 1)?;
-    let out = MemSink::new(alloc, 2_000_000, 2_000_000, Vec::new(alloc))?;
-    let files = two(&database, b"");
     let words = &["certify", "db", "-", "0.0.0.1"];
-    let left = left_by(alloc, words, files, Vec::new(alloc), out, sink(alloc)?)?;
+    let left = left_on(alloc, words, two(&database, b""), calm(21_000_000))?;
     Ok((left.exit, left.out.bytes().len()))
 }
 
@@ -228,7 +228,7 @@ fn large_rings(rt: HostRuntime) {
         what: What::IslandNodes,
         size: 2049,
     };
-    for (routers, exit, length) in [(512, Exit::Done, 1_317_390), (2049, too_large, 0)] {
+    for (routers, exit, length) in [(2048, Exit::Done, 20_998_158), (2049, too_large, 0)] {
         assert_eq!(rt; comes_of_ring(rt.alloc(), routers), Ok((exit, length)));
     }
 }

@@ -1,18 +1,18 @@
 //! Shelves and sinks that fail.
 
-use crate::calling::{CHECK, UNDER, front, left_by, sink, two};
+use crate::calling::{CHECK, Devices, NEVER, UNDER, calm, front, left_by, left_on, two};
 use crate::files::{CERTIFICATE, OTHER, ROUTER};
 use mrt_cmd::Exit;
 use mrt_graph::NoMemory;
-use mrt_io::MemSink;
 use std::alloc::Global;
 
 /// The exit over a shelf that fails this call.
 fn exit_where_a_read_fails(alloc: Global, call: u32) -> Result<Exit, NoMemory> {
-    let fails = vec![in alloc; call]?;
-    let files = two(ROUTER, CERTIFICATE);
-    let left = left_by(alloc, UNDER, files, fails, sink(alloc)?, sink(alloc)?)?;
-    Ok(left.exit)
+    let devices = Devices {
+        read: call,
+        ..calm(1000)
+    };
+    Ok(left_on(alloc, UNDER, two(ROUTER, CERTIFICATE), devices)?.exit)
 }
 
 #[test]
@@ -72,10 +72,13 @@ fn outputs() -> &'static [Output] {
 
 /// Whether the exit over this output is as told, and it took the first bytes.
 fn takes_as_told(alloc: Global, output: &Output) -> Result<bool, NoMemory> {
-    let fails = vec![in alloc; output.fails]?;
-    let out = MemSink::new(alloc, output.room, output.step.max(1), fails)?;
-    let files = two(ROUTER, CERTIFICATE);
-    let left = left_by(alloc, CHECK, files, Vec::new(alloc), out, sink(alloc)?)?;
+    let devices = Devices {
+        read: NEVER,
+        room: output.room,
+        step: output.step,
+        write: output.fails,
+    };
+    let left = left_on(alloc, CHECK, two(ROUTER, CERTIFICATE), devices)?;
     Ok(left.exit == output.exit && left.out.bytes() == front(ACCEPTED, output.taken))
 }
 
@@ -89,9 +92,11 @@ fn failing_outputs(rt: HostRuntime) {
 
 /// The exit where the line on it cannot be written, and how many of its bytes are.
 fn exit_untold(alloc: Global) -> Result<(Exit, usize), NoMemory> {
-    let err = MemSink::new(alloc, 1000, 1000, vec![in alloc; 0]?)?;
-    let files = two(ROUTER, OTHER);
-    let left = left_by(alloc, CHECK, files, Vec::new(alloc), sink(alloc)?, err)?;
+    let err = Devices {
+        write: 0,
+        ..calm(1000)
+    };
+    let left = left_by(alloc, CHECK, two(ROUTER, OTHER), calm(1000), err)?;
     Ok((left.exit, left.err.bytes().len()))
 }
 

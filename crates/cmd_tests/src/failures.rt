@@ -2,14 +2,17 @@
 
 use crate::answered::{Answered, FABRIC, is_answered};
 use crate::files::TRIANGLE;
+use std::alloc::Global;
 
-const FAILURES: &[Answered] = &[
-    Answered {
-        name: "repair from 1.1.1.1 to 3.3.3.3, 1.1.1.1 fails before line 2",
-        words: FABRIC,
-        database: TRIANGLE,
-        profile: b"",
-        script: b"\
+/// A script over the triangle, and the answers that are to be written.
+struct Script {
+    script: &'static str,
+    answers: &'static [u8],
+}
+
+const FAILURES: &[Script] = &[
+    Script {
+        script: "\
 island 1.1.1.1 1\n\
 fail 1.1.1.1\n\
 inject 1.1.1.1 3.3.3.3 repair\n\
@@ -21,12 +24,8 @@ entered 0\n\
 lost inside\n\
 refused ended\n",
     },
-    Answered {
-        name: "repair from 1.1.1.1 to 3.3.3.3, 1.1.1.1 fails before line 3",
-        words: FABRIC,
-        database: TRIANGLE,
-        profile: b"",
-        script: b"\
+    Script {
+        script: "\
 island 1.1.1.1 1\n\
 inject 1.1.1.1 3.3.3.3 repair\n\
 fail 1.1.1.1\n\
@@ -38,12 +37,8 @@ failed\n\
 lost inside\n\
 refused ended\n",
     },
-    Answered {
-        name: "repair from 1.1.1.1 to 3.3.3.3, 2.2.2.2 fails before line 2",
-        words: FABRIC,
-        database: TRIANGLE,
-        profile: b"",
-        script: b"\
+    Script {
+        script: "\
 island 1.1.1.1 1\n\
 fail 2.2.2.2\n\
 inject 1.1.1.1 3.3.3.3 repair\n\
@@ -55,12 +50,8 @@ entered 0\n\
 delivered 3.3.3.3\n\
 refused ended\n",
     },
-    Answered {
-        name: "repair from 1.1.1.1 to 3.3.3.3, 2.2.2.2 fails before line 3",
-        words: FABRIC,
-        database: TRIANGLE,
-        profile: b"",
-        script: b"\
+    Script {
+        script: "\
 island 1.1.1.1 1\n\
 inject 1.1.1.1 3.3.3.3 repair\n\
 fail 2.2.2.2\n\
@@ -72,12 +63,8 @@ failed\n\
 delivered 3.3.3.3\n\
 refused ended\n",
     },
-    Answered {
-        name: "repair from 1.1.1.1 to 3.3.3.3, 3.3.3.3 fails before line 2",
-        words: FABRIC,
-        database: TRIANGLE,
-        profile: b"",
-        script: b"\
+    Script {
+        script: "\
 island 1.1.1.1 1\n\
 fail 3.3.3.3\n\
 inject 1.1.1.1 3.3.3.3 repair\n\
@@ -89,12 +76,8 @@ entered 0\n\
 lost is-destination\n\
 refused ended\n",
     },
-    Answered {
-        name: "repair from 1.1.1.1 to 3.3.3.3, 3.3.3.3 fails before line 3",
-        words: FABRIC,
-        database: TRIANGLE,
-        profile: b"",
-        script: b"\
+    Script {
+        script: "\
 island 1.1.1.1 1\n\
 inject 1.1.1.1 3.3.3.3 repair\n\
 fail 3.3.3.3\n\
@@ -106,12 +89,8 @@ failed\n\
 lost is-destination\n\
 refused ended\n",
     },
-    Answered {
-        name: "repair from 1.1.1.1 to 3.3.3.3, link:1.1.1.1/0.0.0.2 fails before line 2",
-        words: FABRIC,
-        database: TRIANGLE,
-        profile: b"",
-        script: b"\
+    Script {
+        script: "\
 island 1.1.1.1 1\n\
 fail link:1.1.1.1/0.0.0.2\n\
 inject 1.1.1.1 3.3.3.3 repair\n\
@@ -123,12 +102,8 @@ entered 0\n\
 delivered 3.3.3.3\n\
 refused ended\n",
     },
-    Answered {
-        name: "repair from 1.1.1.1 to 3.3.3.3, link:1.1.1.1/0.0.0.2 fails before line 3",
-        words: FABRIC,
-        database: TRIANGLE,
-        profile: b"",
-        script: b"\
+    Script {
+        script: "\
 island 1.1.1.1 1\n\
 inject 1.1.1.1 3.3.3.3 repair\n\
 fail link:1.1.1.1/0.0.0.2\n\
@@ -140,12 +115,8 @@ failed\n\
 delivered 3.3.3.3\n\
 refused ended\n",
     },
-    Answered {
-        name: "repair from 1.1.1.1 to 3.3.3.3, link:1.1.1.1/0.0.0.3 fails before line 2",
-        words: FABRIC,
-        database: TRIANGLE,
-        profile: b"",
-        script: b"\
+    Script {
+        script: "\
 island 1.1.1.1 1\n\
 fail link:1.1.1.1/0.0.0.3\n\
 inject 1.1.1.1 3.3.3.3 repair\n\
@@ -157,12 +128,8 @@ entered 0\n\
 switched blue\n\
 moved 2.2.2.2\n",
     },
-    Answered {
-        name: "repair from 1.1.1.1 to 3.3.3.3, link:1.1.1.1/0.0.0.3 fails before line 3",
-        words: FABRIC,
-        database: TRIANGLE,
-        profile: b"",
-        script: b"\
+    Script {
+        script: "\
 island 1.1.1.1 1\n\
 inject 1.1.1.1 3.3.3.3 repair\n\
 fail link:1.1.1.1/0.0.0.3\n\
@@ -174,12 +141,8 @@ failed\n\
 switched blue\n\
 moved 2.2.2.2\n",
     },
-    Answered {
-        name: "repair from 1.1.1.1 to 3.3.3.3, link:2.2.2.2/0.0.0.3 fails before line 2",
-        words: FABRIC,
-        database: TRIANGLE,
-        profile: b"",
-        script: b"\
+    Script {
+        script: "\
 island 1.1.1.1 1\n\
 fail link:2.2.2.2/0.0.0.3\n\
 inject 1.1.1.1 3.3.3.3 repair\n\
@@ -191,12 +154,8 @@ entered 0\n\
 delivered 3.3.3.3\n\
 refused ended\n",
     },
-    Answered {
-        name: "repair from 1.1.1.1 to 3.3.3.3, link:2.2.2.2/0.0.0.3 fails before line 3",
-        words: FABRIC,
-        database: TRIANGLE,
-        profile: b"",
-        script: b"\
+    Script {
+        script: "\
 island 1.1.1.1 1\n\
 inject 1.1.1.1 3.3.3.3 repair\n\
 fail link:2.2.2.2/0.0.0.3\n\
@@ -208,12 +167,8 @@ failed\n\
 delivered 3.3.3.3\n\
 refused ended\n",
     },
-    Answered {
-        name: "blue from 3.3.3.3 to 2.2.2.2, 1.1.1.1 fails before line 2",
-        words: FABRIC,
-        database: TRIANGLE,
-        profile: b"",
-        script: b"\
+    Script {
+        script: "\
 island 1.1.1.1 1\n\
 fail 1.1.1.1\n\
 inject 3.3.3.3 2.2.2.2 blue\n\
@@ -225,12 +180,8 @@ entered 0\n\
 lost color-cut\n\
 refused ended\n",
     },
-    Answered {
-        name: "blue from 3.3.3.3 to 2.2.2.2, 1.1.1.1 fails before line 3",
-        words: FABRIC,
-        database: TRIANGLE,
-        profile: b"",
-        script: b"\
+    Script {
+        script: "\
 island 1.1.1.1 1\n\
 inject 3.3.3.3 2.2.2.2 blue\n\
 fail 1.1.1.1\n\
@@ -242,12 +193,8 @@ failed\n\
 lost color-cut\n\
 refused ended\n",
     },
-    Answered {
-        name: "blue from 3.3.3.3 to 2.2.2.2, 1.1.1.1 fails before line 4",
-        words: FABRIC,
-        database: TRIANGLE,
-        profile: b"",
-        script: b"\
+    Script {
+        script: "\
 island 1.1.1.1 1\n\
 inject 3.3.3.3 2.2.2.2 blue\n\
 step 0\n\
@@ -259,12 +206,8 @@ moved 1.1.1.1\n\
 failed\n\
 lost inside\n",
     },
-    Answered {
-        name: "blue from 3.3.3.3 to 2.2.2.2, 2.2.2.2 fails before line 2",
-        words: FABRIC,
-        database: TRIANGLE,
-        profile: b"",
-        script: b"\
+    Script {
+        script: "\
 island 1.1.1.1 1\n\
 fail 2.2.2.2\n\
 inject 3.3.3.3 2.2.2.2 blue\n\
@@ -276,12 +219,8 @@ entered 0\n\
 moved 1.1.1.1\n\
 lost is-destination\n",
     },
-    Answered {
-        name: "blue from 3.3.3.3 to 2.2.2.2, 2.2.2.2 fails before line 3",
-        words: FABRIC,
-        database: TRIANGLE,
-        profile: b"",
-        script: b"\
+    Script {
+        script: "\
 island 1.1.1.1 1\n\
 inject 3.3.3.3 2.2.2.2 blue\n\
 fail 2.2.2.2\n\
@@ -293,12 +232,8 @@ failed\n\
 moved 1.1.1.1\n\
 lost is-destination\n",
     },
-    Answered {
-        name: "blue from 3.3.3.3 to 2.2.2.2, 2.2.2.2 fails before line 4",
-        words: FABRIC,
-        database: TRIANGLE,
-        profile: b"",
-        script: b"\
+    Script {
+        script: "\
 island 1.1.1.1 1\n\
 inject 3.3.3.3 2.2.2.2 blue\n\
 step 0\n\
@@ -310,12 +245,8 @@ moved 1.1.1.1\n\
 failed\n\
 lost is-destination\n",
     },
-    Answered {
-        name: "blue from 3.3.3.3 to 2.2.2.2, 3.3.3.3 fails before line 2",
-        words: FABRIC,
-        database: TRIANGLE,
-        profile: b"",
-        script: b"\
+    Script {
+        script: "\
 island 1.1.1.1 1\n\
 fail 3.3.3.3\n\
 inject 3.3.3.3 2.2.2.2 blue\n\
@@ -327,12 +258,8 @@ entered 0\n\
 lost inside\n\
 refused ended\n",
     },
-    Answered {
-        name: "blue from 3.3.3.3 to 2.2.2.2, 3.3.3.3 fails before line 3",
-        words: FABRIC,
-        database: TRIANGLE,
-        profile: b"",
-        script: b"\
+    Script {
+        script: "\
 island 1.1.1.1 1\n\
 inject 3.3.3.3 2.2.2.2 blue\n\
 fail 3.3.3.3\n\
@@ -344,12 +271,8 @@ failed\n\
 lost inside\n\
 refused ended\n",
     },
-    Answered {
-        name: "blue from 3.3.3.3 to 2.2.2.2, 3.3.3.3 fails before line 4",
-        words: FABRIC,
-        database: TRIANGLE,
-        profile: b"",
-        script: b"\
+    Script {
+        script: "\
 island 1.1.1.1 1\n\
 inject 3.3.3.3 2.2.2.2 blue\n\
 step 0\n\
@@ -361,12 +284,8 @@ moved 1.1.1.1\n\
 failed\n\
 delivered 2.2.2.2\n",
     },
-    Answered {
-        name: "blue from 3.3.3.3 to 2.2.2.2, link:1.1.1.1/0.0.0.2 fails before line 2",
-        words: FABRIC,
-        database: TRIANGLE,
-        profile: b"",
-        script: b"\
+    Script {
+        script: "\
 island 1.1.1.1 1\n\
 fail link:1.1.1.1/0.0.0.2\n\
 inject 3.3.3.3 2.2.2.2 blue\n\
@@ -378,12 +297,8 @@ entered 0\n\
 moved 1.1.1.1\n\
 lost color-cut\n",
     },
-    Answered {
-        name: "blue from 3.3.3.3 to 2.2.2.2, link:1.1.1.1/0.0.0.2 fails before line 3",
-        words: FABRIC,
-        database: TRIANGLE,
-        profile: b"",
-        script: b"\
+    Script {
+        script: "\
 island 1.1.1.1 1\n\
 inject 3.3.3.3 2.2.2.2 blue\n\
 fail link:1.1.1.1/0.0.0.2\n\
@@ -395,12 +310,8 @@ failed\n\
 moved 1.1.1.1\n\
 lost color-cut\n",
     },
-    Answered {
-        name: "blue from 3.3.3.3 to 2.2.2.2, link:1.1.1.1/0.0.0.2 fails before line 4",
-        words: FABRIC,
-        database: TRIANGLE,
-        profile: b"",
-        script: b"\
+    Script {
+        script: "\
 island 1.1.1.1 1\n\
 inject 3.3.3.3 2.2.2.2 blue\n\
 step 0\n\
@@ -412,12 +323,8 @@ moved 1.1.1.1\n\
 failed\n\
 lost color-cut\n",
     },
-    Answered {
-        name: "blue from 3.3.3.3 to 2.2.2.2, link:1.1.1.1/0.0.0.3 fails before line 2",
-        words: FABRIC,
-        database: TRIANGLE,
-        profile: b"",
-        script: b"\
+    Script {
+        script: "\
 island 1.1.1.1 1\n\
 fail link:1.1.1.1/0.0.0.3\n\
 inject 3.3.3.3 2.2.2.2 blue\n\
@@ -429,12 +336,8 @@ entered 0\n\
 lost color-cut\n\
 refused ended\n",
     },
-    Answered {
-        name: "blue from 3.3.3.3 to 2.2.2.2, link:1.1.1.1/0.0.0.3 fails before line 3",
-        words: FABRIC,
-        database: TRIANGLE,
-        profile: b"",
-        script: b"\
+    Script {
+        script: "\
 island 1.1.1.1 1\n\
 inject 3.3.3.3 2.2.2.2 blue\n\
 fail link:1.1.1.1/0.0.0.3\n\
@@ -446,12 +349,8 @@ failed\n\
 lost color-cut\n\
 refused ended\n",
     },
-    Answered {
-        name: "blue from 3.3.3.3 to 2.2.2.2, link:1.1.1.1/0.0.0.3 fails before line 4",
-        words: FABRIC,
-        database: TRIANGLE,
-        profile: b"",
-        script: b"\
+    Script {
+        script: "\
 island 1.1.1.1 1\n\
 inject 3.3.3.3 2.2.2.2 blue\n\
 step 0\n\
@@ -463,12 +362,8 @@ moved 1.1.1.1\n\
 failed\n\
 delivered 2.2.2.2\n",
     },
-    Answered {
-        name: "blue from 3.3.3.3 to 2.2.2.2, link:2.2.2.2/0.0.0.3 fails before line 2",
-        words: FABRIC,
-        database: TRIANGLE,
-        profile: b"",
-        script: b"\
+    Script {
+        script: "\
 island 1.1.1.1 1\n\
 fail link:2.2.2.2/0.0.0.3\n\
 inject 3.3.3.3 2.2.2.2 blue\n\
@@ -480,12 +375,8 @@ entered 0\n\
 moved 1.1.1.1\n\
 delivered 2.2.2.2\n",
     },
-    Answered {
-        name: "blue from 3.3.3.3 to 2.2.2.2, link:2.2.2.2/0.0.0.3 fails before line 3",
-        words: FABRIC,
-        database: TRIANGLE,
-        profile: b"",
-        script: b"\
+    Script {
+        script: "\
 island 1.1.1.1 1\n\
 inject 3.3.3.3 2.2.2.2 blue\n\
 fail link:2.2.2.2/0.0.0.3\n\
@@ -497,12 +388,8 @@ failed\n\
 moved 1.1.1.1\n\
 delivered 2.2.2.2\n",
     },
-    Answered {
-        name: "blue from 3.3.3.3 to 2.2.2.2, link:2.2.2.2/0.0.0.3 fails before line 4",
-        words: FABRIC,
-        database: TRIANGLE,
-        profile: b"",
-        script: b"\
+    Script {
+        script: "\
 island 1.1.1.1 1\n\
 inject 3.3.3.3 2.2.2.2 blue\n\
 step 0\n\
@@ -516,13 +403,26 @@ delivered 2.2.2.2\n",
     },
 ];
 
-fn failures() -> &'static [Answered] {
+fn failures() -> &'static [Script] {
     FAILURES
+}
+
+/// Whether a script gives its answers.
+fn gives(alloc: Global, case: &Script) -> bool {
+    let case = Answered {
+        name: case.script,
+        words: FABRIC,
+        database: TRIANGLE,
+        profile: b"",
+        script: case.script.as_bytes(),
+        answers: case.answers,
+    };
+    is_answered(alloc, &case)
 }
 
 #[test]
 fn a_failure_at_each_place(rt: HostRuntime) {
     for case in failures() {
-        assert!(rt; is_answered(rt.alloc(), case), "{}", case.name);
+        assert!(rt; gives(rt.alloc(), case), "{}", case.script);
     }
 }

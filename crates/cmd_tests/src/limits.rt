@@ -7,6 +7,8 @@ use mrt_graph::NoMemory;
 use ospf_lsa::sums;
 use std::alloc::Global;
 
+const SCRIPT: &[&str] = &["fabric", "db", "-", "cert"];
+
 /// Whether a file of this kind, of so many bytes 0, is refused as too large with this line, beside sound ones.
 fn is_too_large(alloc: Global, what: What, size: u32, line: &[u8]) -> Result<bool, NoMemory> {
     let long = vec![in alloc; 0; 33_554_433]?;
@@ -22,6 +24,7 @@ fn is_too_large(alloc: Global, what: What, size: u32, line: &[u8]) -> Result<boo
                 certificate: CERTIFICATE,
             },
         ),
+        What::ScriptFile => (SCRIPT, two(ROUTER, long)),
         _ => (CHECK, two(ROUTER, long)),
     };
     Ok(comes_to(alloc, words, files, exit, b"", line))
@@ -44,6 +47,11 @@ fn files_over_their_limits(rt: HostRuntime) {
             What::ProfileFile,
             33_554_433,
             b"mrt: too large: profile-file 33554433\n".as_slice(),
+        ),
+        (
+            What::ScriptFile,
+            33_554_433,
+            b"mrt: too large: script-file 33554433\n".as_slice(),
         ),
     ] {
         let is_so = is_too_large(rt.alloc(), what, size, line);

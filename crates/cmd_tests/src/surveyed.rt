@@ -1,10 +1,9 @@
 //! Surveys of networks that are made from a number.
 
-use crate::calling::{Files, comes_to, front, left_by, sink, two};
+use crate::calling::{Devices, Files, comes_to, front, left_on, two};
 use crate::words::USAGE;
 use mrt_cmd::Exit;
 use mrt_graph::NoMemory;
-use mrt_io::MemSink;
 use std::alloc::Global;
 
 /// Words, and the survey that they ask for.
@@ -29,6 +28,11 @@ const SURVEYS: &[Survey] = &[
         name: "the same again",
         words: FOUR,
         text: FOUR_TEXT,
+    },
+    Survey {
+        name: "the greatest number",
+        words: &["survey", "4294967295", "4"],
+        text: b"survey 4294967295 nodes 4 links 5 root 0.0.0.4\nblocks 1 sole 0 separating 0\ncommon 12 carried 0\nsums blue 23 red 29\n",
     },
     Survey {
         name: "300 routers",
@@ -127,16 +131,13 @@ fn outputs() -> &'static [Output] {
 
 /// Whether the exit over this output, and over a shelf whose first call fails, is as told, and it took the first bytes.
 fn takes_as_told(alloc: Global, output: &Output) -> Result<bool, NoMemory> {
-    let fails = vec![in alloc; output.fails]?;
-    let out = MemSink::new(alloc, output.room, output.step.max(1), fails)?;
-    let left = left_by(
-        alloc,
-        FOUR,
-        no_files(),
-        vec![in alloc; 0]?,
-        out,
-        sink(alloc)?,
-    )?;
+    let devices = Devices {
+        read: 0,
+        room: output.room,
+        step: output.step,
+        write: output.fails,
+    };
+    let left = left_on(alloc, FOUR, no_files(), devices)?;
     Ok(left.exit == output.exit && left.out.bytes() == front(FOUR_TEXT, output.taken))
 }
 

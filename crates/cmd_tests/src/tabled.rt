@@ -1,6 +1,6 @@
 //! Tables that are written.
 
-use crate::calling::{Case, Files, comes_out, comes_to, left_by, sink, two};
+use crate::calling::{Case, Files, calm, comes_out, comes_to, left_on, two};
 use crate::files::{
     CROSSED, LAN, LAN_IN_RING, LINE, ONE_SIDED, SAMPLE, SAMPLE_PROFILE, SQUARE, THREE_LINKS,
     TRIANGLE, TWO_TRIANGLES,
@@ -9,7 +9,6 @@ use crate::limits::ring;
 use crate::words::USAGE;
 use mrt_cmd::Exit;
 use mrt_graph::NoMemory;
-use mrt_io::MemSink;
 use std::alloc::Global;
 
 /// Words, the files that they name, and the table that is to be written.
@@ -324,10 +323,8 @@ const LAST_OF_RING: &[u8] =
 /// Whether the table of the first router on a ring of so many ends with this.
 fn ends_with(alloc: Global, routers: u32, end: &[u8]) -> Result<bool, NoMemory> {
     let database = ring(alloc, routers, 1)?;
-    let out = MemSink::new(alloc, 2_000_000, 2_000_000, Vec::new(alloc))?;
-    let files = two(&database, b"");
     let words = &["table", "db", "-", "0.0.0.1"];
-    let left = left_by(alloc, words, files, Vec::new(alloc), out, sink(alloc)?)?;
+    let left = left_on(alloc, words, two(&database, b""), calm(2_000_000))?;
     Ok(left.exit == Exit::Done && left.out.bytes().ends_with(end))
 }
 

@@ -1,10 +1,13 @@
 //! Traces of packets.
 
 use crate::answered::{Answered, is_answered};
-use crate::calling::{Case, comes_out};
+use crate::calling::{Case, calm, comes_out, left_on, two};
 use crate::files::{CUT, LAN_IN_RING, LINE, ONE_SIDED, TRIANGLE};
+use crate::limits::ring;
 use crate::words::USAGE;
 use mrt_cmd::Exit;
+use mrt_graph::NoMemory;
+use std::alloc::Global;
 
 const TRACES: &[Answered] = &[
     Answered {
@@ -275,4 +278,18 @@ fn refused_traces(rt: HostRuntime) {
     for case in refused() {
         assert!(rt; comes_out(rt.alloc(), case), "{}", case.name);
     }
+}
+
+/// What comes of a trace on blue around a ring of 2,048 routers, and how many bytes tell it.
+fn comes_around_a_ring(alloc: Global) -> Result<(Exit, usize), NoMemory> {
+    let database = ring(alloc, 2048, 1)?;
+    let words = &["trace", "db", "-", "0.0.0.1", "0.0.8.0", "blue"];
+    let left = left_on(alloc, words, two(&database, b""), calm(40_000))?;
+    Ok((left.exit, left.out.bytes().len()))
+}
+
+// One line for the packet that enters, 2,046 that move it, and one for its delivery.
+#[test]
+fn a_trace_around_a_ring(rt: HostRuntime) {
+    assert_eq!(rt; comes_around_a_ring(rt.alloc()), Ok((Exit::Done, 31_888)));
 }

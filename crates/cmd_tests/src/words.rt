@@ -119,7 +119,7 @@ const CASES: &[Case] = &[
         err: USAGE,
     },
     Case {
-        name: "a command to come",
+        name: "a table of no router",
         words: &["table", "db", "-"],
         database: ROUTER,
         profile: b"",
