@@ -60,7 +60,7 @@ impl Model for Reach {
 }
 
 impl Reach {
-    ghost use Rattle.std.specs.Prelude.{◌≡◌, ◌<◌, IfOk, Some, length, slice_get};
+    ghost use Rattle.std.specs.Prelude.{◌≡◌, ◌<◌, ℕ, IfOk, Some, None, length, slice_get};
     ghost use Rattle.mrt_graph.specs.GraphInvariant.{IsTopology};
     ghost use Rattle.inc_dec_spf.specs.Known.{hops_of};
 
@@ -74,6 +74,8 @@ impl Reach {
     /// No hop for any node of a graph.
     pub fn none(alloc: Global, g: &Graph) -> Result<Reach, NoMemory>
         ensures one_each { IfOk result (λ reach. length reach ≡ length g.now.ids) }
+        ensures none { (t : ℕ) → t < length g.now.ids
+            → IfOk result (λ reach. slice_get reach t ≡ Some None) }
         ensures kept { IsTopology g.now }
     {
         let known = vec![in alloc; None; g.node_count() as usize]?;

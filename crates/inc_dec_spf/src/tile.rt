@@ -26,6 +26,8 @@ pub struct Tile {
 
 impl Tile {
     /// A tile of this width.
+    ///
+    /// It takes time and memory in proportion to the nodes times the width.
     pub fn new(alloc: Global, g: &Graph, width: u16) -> Result<Tile, NoMemory>
         ensures { IfOk result (IsTile g.now width) }
     {

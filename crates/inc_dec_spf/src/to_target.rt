@@ -18,8 +18,8 @@ use std::alloc::Global;
 
 /// The least path of each node to its aim, up or down.
 ///
-/// It takes time in proportion to the nodes, and to the ends of those that aim at others. To sweep for several aims, one
-/// after another, see `sweep_to_each`.
+/// It takes time in proportion to the nodes, and to the ends of those that aim at others. To sweep for several lists of
+/// aims, one after another, see `sweep_to_each`.
 pub fn spf_to_each(
     alloc: Global,
     g: &Graph,

@@ -11,6 +11,8 @@ use mrt_graph::{Directed, Graph, NoMemory, NodeNo};
 use std::alloc::Global;
 
 /// The nodes by their turns: up, by ascending order; down, by descending order.
+///
+/// It takes time in proportion to the nodes.
 pub fn nodes_by_turn(
     alloc: Global,
     g: &Graph,
