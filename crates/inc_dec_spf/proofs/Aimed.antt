@@ -56,17 +56,7 @@ pub none_of : (o : Option Known) → ((way : Known) → o ≡ Some way → ⊥) 
 none_of None none = refl
 none_of (Some way) none = absurd (none way refl)
 
--- a node aims in its own block, or not
-pub inside_or_not : (w : Directions) (s aim : ℕ) → AimsInside w s aim ⊎ (AimsInside w s aim → ⊥)
-inside_or_not w s aim = elim (cases_eq aim s) [
-  | inl same ↦ inr (λ it. it.other same)
-  | inr other ↦ elim (cases_eq (w.head aim) s) [
-    | inl head ↦ inr (λ it. it.inside head)
-    | inr inside ↦ inl (record { other = other; inside = inside })
-  ]
-]
-
--- then the two have the own block in common
+-- where a node aims in its own block, the two have that block in common
 pub own_common : (w : Directions) (s aim k h : ℕ) → AimsInside w s aim → HaveInCommon w s aim k h → HaveInCommon w s aim (w.block s) (w.head s)
 own_common w s aim k h it (Peers at_s at_aim head) = Peers refl (at_aim ∙ sym at_s) refl
 own_common w s aim k h it (ToHead at_s head is_head) = ToHead refl head (sym head)

@@ -1,13 +1,11 @@
 -- The nodes by their turns.
-use Rattle.std.proofs.Common.{◌≡◌, ◌<◌, ◌≤◌, ◌+◌, ◌-◌, ◌∙◌, ℕ, zero, suc, List, ◌∷◌, Some, length, set, slice_get, inl, inr, refl, sym, ap, subst, arith}
+use Rattle.std.proofs.Common.{◌≡◌, ◌<◌, ◌≤◌, ◌+◌, ◌-◌, ◌∙◌, ℕ, zero, suc, List, ◌∷◌, Some, length, slice_get, inl, inr, refl, sym, ap, subst, arith}
 use Rattle.std.specs.Prelude.{Contains}
-use Rattle.std.proofs.lemmas.Bool.{cases_eq}
-use Rattle.std.proofs.lemmas.List.{length-set}
 use Rattle.std.proofs.lemmas.Option.{same_Some, slice_get_within}
 use Rattle.mrt_graph.specs.DirectedLists.{DirectedLists}
 use Rattle.mrt_graph.specs.Topology.{Topology}
 use Rattle.mrt_graph.proofs.FewNumbers.{IsAtOnePlace, few_numbers}
-use Rattle.mrt_graph.proofs.ListPlaces.{contains_at, place_of, set_elsewhere, set_there}
+use Rattle.mrt_graph.proofs.ListPlaces.{contains_at, place_of}
 use Rattle.mrt_graph.proofs.Members.{Has, contains_from_has, listed_or_not}
 use Rattle.link_direction.specs.Directions.{Directions}
 use Rattle.inc_dec_spf.specs.declared.reach.Dir.{Dir}
@@ -108,35 +106,6 @@ node_of_turn g d root w dir i are within =
 pub record AreSet (g : Topology) (w : Directions) (dir : Dir) (count : ℕ) (turns : List ℕ) : Type 0 where
   pub one_each : length turns ≡ length g.ids
   pub of_each : (v : ℕ) → v < count → slice_get turns (turn_of dir (length g.ids) w v) ≡ Some v
-
-pub one_more_set : (g : Topology) (d : DirectedLists) (root : ℕ) (w : Directions) (dir : Dir) (v turn : ℕ) (turns after : List ℕ) → AreDirections g d root w → v < length g.ids
-    → turn ≡ turn_of dir (length g.ids) w v → after ≡ set turns turn v → AreSet g w dir v turns → AreSet g w dir (v + 1) after
-one_more_set g d root w dir v turn turns after are within is made set_so_far = record {
-  one_each = ap (λ (ts : List ℕ). length ts) made ∙ length-set turns turn v ∙ set_so_far.one_each;
-  of_each = λ u early. subst (λ (ts : List ℕ). slice_get ts (turn_of dir n w u) ≡ Some u) (sym made) (elim (cases_eq u v) [
-    | inl same ↦
-        subst (λ (x : ℕ). slice_get (set turns turn v) (turn_of dir n w x) ≡ Some x) (sym same)
-        (subst (λ (i : ℕ). slice_get (set turns turn v) i ≡ Some v) is
-        (set_there turns turn v (omega (arith, is, set_so_far.one_each, turn_within dir n (w.order v) (low v within) (high v within)))))
-    | inr other ↦
-        let early' : u < v = omega (arith, early, other) in
-        let inside : u < n = omega (arith, early', within) in
-        set_elsewhere turns turn (turn_of dir n w u) v (λ same. other (apart u inside (same ∙ is))) ∙ set_so_far.of_each u early'
-  ]);
-}
-  where
-    n : ℕ
-    n = length g.ids
-
-    low : (x : ℕ) → x < n → 1 ≤ w.order x
-    low x inside = are.ordered.orders.from_one x inside
-
-    high : (x : ℕ) → x < n → w.order x ≤ n
-    high x inside = are.ordered.orders.to_n x inside
-
-    apart : (u : ℕ) → u < n → turn_of dir n w u ≡ turn_of dir n w v → u ≡ v
-    apart u inside same =
-        are.ordered.orders.differ u v inside within (turns_differ dir n (w.order u) (w.order v) (low u inside) (high u inside) (low v within) (high v within) same)
 
 -- all of them do
 pub all_set : (g : Topology) (d : DirectedLists) (root : ℕ) (w : Directions) (dir : Dir) (count : ℕ) (turns : List ℕ) → AreDirections g d root w → length g.ids ≤ count

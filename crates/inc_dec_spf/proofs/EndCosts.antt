@@ -251,16 +251,6 @@ all_passed g w dir own first bound x count ends costs links none so_far = record
   small = so_far.small;
 }
 
-pub none_least : (g : Topology) (w : Directions) (dir : Dir) (own : Bool) (first bound x : ℕ) (ends : List End) (costs links : List ℕ)
-    → ((j cost : ℕ) → slice_get costs j ≡ Some cost → cost ≡ far) → ((j link : ℕ) → slice_get links j ≡ Some link → link ≡ no_link)
-    → AreLeast g w dir own first bound x ends 0 costs links
-none_least g w dir own first bound x ends costs links all_far no_links = record {
-  each = λ j cost link at at_link.
-      subst (λ (c : ℕ). IsLeastWay (BeginsAt g w dir own x (first + j)) ends 0 c link) (sym (all_far j cost at))
-      (no_way_yet (BeginsAt g w dir own x (first + j)) ends link (no_links j link at_link));
-  small = λ j cost at below. absurd (omega (arith, below, all_far j cost at));
-}
-
 -- what the end leads to in its block is known
 pub step_ready : (g : Topology) (w : Directions) (dir : Dir) (own : Bool) (width : ℕ) (all : List ℕ) (first bound x place : ℕ) (ends : List End) (end : End)
     → AreReady g w dir own first width bound all x → IsWayOn g w dir own x place ends end → w.block end.to ≡ w.lies_in end.link

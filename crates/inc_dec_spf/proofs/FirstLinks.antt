@@ -69,9 +69,6 @@ links_stay g w dir first width y x many all after other same elsewhere has = rec
 pub record AreLinked (g : Topology) (w : Directions) (dir : Dir) (first width i : ℕ) (all : List ℕ) : Type 0 where
   pub each : (y : ℕ) → y < length g.ids → turn_of (against dir) (length g.ids) w y < i → LiesInOneBlock g w y → HasLinksAt g w dir first width all y
 
-pub none_linked : (g : Topology) (w : Directions) (dir : Dir) (first width : ℕ) (all : List ℕ) → AreLinked g w dir first width 0 all
-none_linked g w dir first width all = record { each = λ y within below. absurd (omega (arith, below)) }
-
 -- those of the node at turn i too
 pub one_linked : (g : Topology) (root : ℕ) (w : Directions) (dir : Dir) → IsOrdered g root w → (turns : List ℕ) → AreTurns g w (against dir) turns
     → (first width i x : ℕ) → slice_get turns i ≡ Some x → (bound : ℕ) (ends : List End) (costs links all after : List ℕ) → slice_get g.ends x ≡ Some ends

@@ -12,7 +12,6 @@ use Rattle.mrt_graph.proofs.EndsAt.{end_leads}
 use Rattle.link_direction.specs.Directions.{Directions, Says}
 use Rattle.inc_dec_spf.specs.declared.reach.Dir.{Dir}
 use Rattle.inc_dec_spf.specs.declared.reach.Known.{Known}
-use Rattle.inc_dec_spf.specs.FirstLink.{no_link}
 use Rattle.inc_dec_spf.specs.Known.{hop_of}
 use Rattle.inc_dec_spf.specs.LeastPath.{HasMoreLinks, IsHop, NotReached, Reached, ShareBlock}
 use Rattle.inc_dec_spf.specs.Offers.{goes_on}
@@ -20,7 +19,7 @@ use Rattle.inc_dec_spf.specs.OneWay.{Arrived, AtHome, BeginsIn, IsLeastKnown, Is
 use Rattle.inc_dec_spf.specs.Path.{IsStep, Path, cost_of}
 use Rattle.inc_dec_spf.specs.Rest.{IsRestCost, Rest, far}
 use Rattle.inc_dec_spf.specs.Side.{IsLeastWay, cost_at, lesser, link_of_lesser}
-use Rattle.inc_dec_spf.proofs.EndCosts.{IsEndCost, no_way_yet, rest_at_head, way_passed, way_taken}
+use Rattle.inc_dec_spf.proofs.EndCosts.{IsEndCost, rest_at_head, way_passed, way_taken}
 use Rattle.inc_dec_spf.proofs.InBlocks.{IsOrdered, closed_of_link}
 use Rattle.inc_dec_spf.proofs.Marks.{IsMarkedEnd, link_within, marked_block, marked_role, test_leads_back, test_leads_on}
 use Rattle.inc_dec_spf.proofs.Reached.{closed_of_more, first_step, more_links}
@@ -54,10 +53,6 @@ less_most way known most one is = elim (cases_Bool (nat_lt way.cost (cost_in kno
     cost_most (Some it) below = omega (arith, below it refl)
 
 module _ (g : Topology) (w : Directions) (dir : Dir) (k h x t : ℕ) where
-  -- nothing is known before the first end
-  pub none_known : (ends : List End) (bound : ℕ) → IsLeastKnown g w dir k h x t ends 0 bound None
-  none_known ends bound = record { least = no_way_yet (BeginsIn g w dir k h x t) ends no_link refl; small = λ way same. (cc) }
-
   -- over an end that leads on in the block, with the least cost of what is left after it
   pub step_cost : (place left bound : ℕ) (ends : List End) (end : End) → slice_get g.ends x ≡ Some ends → slice_get ends place ≡ Some end → HasMoreLinks g w k
       → IsStep g w dir k x end → IsRestWithin g w dir k h end.to t bound left → IsEndCost (BeginsIn g w dir k h x t) place left end.metric bound

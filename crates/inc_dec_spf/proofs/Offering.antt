@@ -136,9 +136,6 @@ pub record IsBelow (At : ℕ → ℕ → Known → Type 0) (i v : ℕ) (way : Kn
   pub early : place < i
   pub offer : At place v way
 
-pub none_below : (At : ℕ → ℕ → Known → Type 0) (known : List (Option Known)) → AreOffered (IsBelow At 0) known known
-none_below At known = none_offered (IsBelow At 0) known (λ v way below. omega (arith, below.early))
-
 -- place i offers one way to one node, and that offer was made
 pub one_below : (At : ℕ → ℕ → Known → Type 0) (i to : ℕ) (offer : Known) (before mid after : List (Option Known)) → At i to offer
     → ((v : ℕ) (way : Known) → At i v way → IsOne to offer v way) → AreOffered (IsBelow At i) before mid → AreOffered (IsOne to offer) mid after

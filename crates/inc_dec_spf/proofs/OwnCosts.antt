@@ -22,9 +22,6 @@ use Rattle.inc_dec_spf.proofs.WaysArePaths.{own_rest}
 pub record AreTurned (g : Topology) (w : Directions) (dir : Dir) (first width i : ℕ) (all : List ℕ) : Type 0 where
   pub each : (y : ℕ) → y < length g.ids → turn_of (against dir) (length g.ids) w y < i → IsReadyFrom g w dir first width (65536 * i) all y
 
-pub none_turned : (g : Topology) (w : Directions) (dir : Dir) (first width : ℕ) (all : List ℕ) → AreTurned g w dir first width 0 all
-none_turned g w dir first width all = record { each = λ y within below. absurd (omega (arith, below)) }
-
 -- what has a later turn in one direction has an earlier one in the other
 pub earlier : (dir : Dir) (n a b : ℕ) → 1 ≤ a → a ≤ n → 1 ≤ b → b ≤ n → turn_at dir n a < turn_at dir n b
     → turn_at (against dir) n b < turn_at (against dir) n a

@@ -78,14 +78,6 @@ one_taken Left metric link costs links count costs' links' left old old_link so_
     new_link : ℕ
     new_link = link_of_lesser (left + metric) old link old_link
 
-pub all_taken : (Left : ℕ → ℕ → Type 0) (metric link : ℕ) (costs links : List ℕ) (count : ℕ) (costs' links' : List ℕ) → length costs ≤ count
-    → AreTakenTo Left metric link costs links count costs' links' → AreTaken Left metric link costs links costs' links'
-all_taken Left metric link costs links count costs' links' all taken = record {
-  one_cost_each = taken.one_cost_each;
-  one_link_each = taken.one_link_each;
-  each = λ j old old_link at. taken.each j old old_link (omega (arith, all, slice_get_within costs j old at)) at;
-}
-
 -- the cost after the last end
 at_itself : (to t : ℕ) → t ≡ to → 0 ≡ cost_at to t
 at_itself to t same = rw (eq-eqb to t (sym same)) refl
