@@ -42,18 +42,23 @@ pub none_taken : (rows : List Row) (table : List (Option Row)) (i : ℕ) (all : 
 none_taken rows table i all within is so_far =
     ap (λ (xs : List (Option Row)). rows ++ rows_in xs) (sym (left_at table i None within is)) ∙ so_far
 
+-- there are at most so many rows as places
+few_rows : (table : List (Option Row)) → length (rows_in table) ≤ length table
+few_rows [] = omega arith
+few_rows (None ∷ table) = omega (arith, few_rows table)
+few_rows (Some row ∷ table) = omega (arith, few_rows table)
+
 -- there is room for the row
-pub room_for : (rows : List Row) (table : List (Option Row)) (i : ℕ) (row : Row) (before : List Row) → i < length table
-    → Some row ≡ get_or table i (Some row) → rows ++ rows_in (drop i table) ≡ before ++ rows_in table
-    → length rows < length before + length (rows_in table)
-room_for rows table i row before within is so_far =
+pub room_for : (rows : List Row) (table : List (Option Row)) (i : ℕ) (row : Row) → i < length table
+    → Some row ≡ get_or table i (Some row) → rows ++ rows_in (drop i table) ≡ rows_in table → length rows < length table
+room_for rows table i row within is so_far =
     let left : length (rows_in (drop i table)) ≡ length (rows_in (drop (i + 1) table)) + 1 =
     ap (λ (xs : List (Option Row)). length (rows_in xs)) (left_at table i (Some row) within is) ∙ omega arith in
     omega (
       arith,
       left,
+      few_rows table,
       length-append rows (rows_in (drop i table)),
-      length-append before (rows_in table),
       ap (λ (xs : List Row). length xs) so_far,
     )
 
