@@ -13,8 +13,9 @@ ghost use Rattle.mrt_rows.specs.ColumnOf.{AreHeadsOf, IsColumnOf, IsRowIn};
 ghost use Rattle.mrt_rows.specs.Held.{AreBySweeps, AreSweptTo};
 
 use crate::chain::{put_below, put_row_aims};
-use crate::column_row::{Hops, aimed_row};
-use inc_dec_spf::{Dir, Reach, nodes_by_turn, spf_to_each, sweep_to_each};
+use crate::column_row::aimed_row;
+use crate::near::Hops;
+use inc_dec_spf::{Dir, Reach, nodes_by_turn, sweep_to_each};
 use mrt_graph::{Column, Directed, Graph, NoMemory, NodeNo, Row, Tag};
 use std::alloc::Global;
 
@@ -41,8 +42,10 @@ impl BySweeps {
         let by_order = nodes_by_turn(alloc, g, d, Dir::Up)?;
         let against_order = nodes_by_turn(alloc, g, d, Dir::Down)?;
         let aims = heads_of(alloc, g, d)?;
-        let up_home = spf_to_each(alloc, g, d, &aims, Dir::Up)?;
-        let down_home = spf_to_each(alloc, g, d, &aims, Dir::Down)?;
+        let mut up_home = Reach::none(alloc, g)?;
+        sweep_to_each(g, d, &against_order, &aims, Dir::Up, &mut up_home);
+        let mut down_home = Reach::none(alloc, g)?;
+        sweep_to_each(g, d, &by_order, &aims, Dir::Down, &mut down_home);
         let below = vec![in alloc; None; g.node_count() as usize]?;
         let up = Reach::none(alloc, g)?;
         let down = Reach::none(alloc, g)?;

@@ -81,8 +81,7 @@ pub fn column_of(
         → IfOk result (λ column. IsColumnOf g.now root w to column) }
     ensures sound { IfOk result (λ column. ColumnSound g.now.links (length g.now.ids) column to) }
 {
-    let sweeps = BySweeps::new(alloc, g, d)?;
-    let mut columns = Columns::Sweeps(sweeps);
-    let column = columns.to(alloc, g, root, d, to)?;
+    let mut sweeps = BySweeps::new(alloc, g, d)?;
+    let column = sweeps.to(alloc, g, root, d, to)?;
     Ok(column)
 }

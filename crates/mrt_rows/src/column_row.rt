@@ -1,54 +1,17 @@
 //! The row of one node for a destination.
 
-ghost use Rattle.std.specs.Prelude.{◌≡◌, ◌≢◌, ◌<◌, ℕ, Option, length};
+ghost use Rattle.std.specs.Prelude.{◌≢◌, ◌<◌, ℕ, length};
 ghost use Rattle.mrt_graph.specs.GraphInvariant.{IsTopology};
 ghost use Rattle.link_direction.specs.Directions.{Directions};
 ghost use Rattle.inc_dec_spf.specs.declared.reach.Dir.TheVariants.{Down, Up};
 ghost use Rattle.inc_dec_spf.specs.HasDirections.{AreDirections, HasDirections};
 ghost use Rattle.inc_dec_spf.specs.LeastPath.{IsHop};
-ghost use Rattle.mrt_rows.specs.HopRows.{member_row, row_by};
 ghost use Rattle.mrt_rows.specs.ColumnOf.{IsSoleRow};
-ghost use Rattle.mrt_rows.specs.Source.{IsNear, NoneOfOneLink};
+ghost use Rattle.mrt_rows.specs.Source.{IsNear};
 
-use crate::near::{member_row, row_by};
-use inc_dec_spf::{Hop, is_sole};
+use crate::near::{Hops, near_row_by};
+use inc_dec_spf::is_sole;
 use mrt_graph::{Directed, Graph, NodeNo, Row, Tag};
-
-/// The hops of a node up and down: to what it aims at, and to its head.
-#[derive(Clone, Copy)]
-pub struct Hops {
-    pub up: Option<Hop>,
-    pub down: Option<Hop>,
-    pub up_home: Option<Hop>,
-    pub down_home: Option<Hop>,
-}
-
-/// The row of `s` for `t`, with which it has a block of more than one link in common, by the hops of `s` to `t`.
-/// `None` where the two have no block in common.
-pub fn near_row_by(g: &Graph, d: &Directed, s: NodeNo, t: NodeNo, hops: &Hops) -> Option<Row>
-    requires kept { IsTopology g.now }
-    requires directed { HasDirections g.now d.now }
-    requires source { s < length g.now.ids }
-    requires target { t < length g.now.ids }
-    ensures { (root : ℕ) (w : Directions) → AreDirections g.now d.now root w → s ≢ t
-        → IsHop g.now w Up s t hops.now.up → IsHop g.now w Down s t hops.now.down
-        → IsHop g.now w Up s (w.head s) hops.now.up_home
-        → IsHop g.now w Down s (w.head s) hops.now.down_home
-        → NoneOfOneLink g.now w s t → IsNear g.now root w s t result }
-{
-    let here = d.place(s);
-    let there = d.place(t);
-    if here.head == t {
-        return row_by(hops.up, hops.down, Tag::Head);
-    }
-    if there.head == s {
-        return row_by(hops.up, hops.down, Tag::Top);
-    }
-    if here.block == there.block {
-        return member_row(hops.up, hops.down, hops.up_home, hops.down_home);
-    }
-    None
-}
 
 /// The row of `s` over a sole link to `t`, if there is one.
 fn sole_row(g: &Graph, d: &Directed, s: NodeNo, t: NodeNo) -> Option<Row>

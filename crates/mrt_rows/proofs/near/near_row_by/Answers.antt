@@ -3,7 +3,7 @@ use Rattle.std.proofs.lemmas.Bool.{eqb-false, eqb-true}
 use Rattle.mrt_rows.specs.Source.{Far}
 use Rattle.mrt_rows.proofs.NearRows.{head_near, member_near, none_common, place_says, top_near}
 use Rattle.mrt_rows.proofs.OrderedGraphs.{graph_of}
-use Rattle.mrt_rows.proofs.column_row.near_row_by.Goals as goal
+use Rattle.mrt_rows.proofs.near.near_row_by.Goals as goal
 
 pub returns-then-eq : goal.returns-then-eq
 returns-then-eq c = λ root w are two up down up_home down_home more.
