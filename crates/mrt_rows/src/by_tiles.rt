@@ -22,8 +22,8 @@ use inc_dec_spf::{Dir, Tile, nodes_by_turn};
 use mrt_graph::{Column, Directed, Graph, LinkNo, NoMemory, NodeNo, Row, Tag};
 use std::alloc::Global;
 
-/// What the columns of a graph of one block have in common, and the tiles that they are read from: they are aimed at
-/// the nodes from number `first` on, at none where there is no such node.
+/// What rows by tiles have in common, and the tiles that they are read from: these are aimed at the nodes from number
+/// `first` on, at none where there is no such node.
 #[derive(Drop)]
 pub struct ByTiles {
     pub by_order: Vec<NodeNo>,
@@ -36,11 +36,20 @@ pub struct ByTiles {
 }
 
 impl ByTiles {
-    /// The links home of all nodes, and tiles that are aimed at no node yet.
+    /// The links home of all nodes, and tiles that are aimed at no node yet, in a graph of one block.
     pub fn new(alloc: Global, g: &Graph, root: NodeNo, d: &Directed) -> Result<ByTiles, NoMemory>
         requires directed { SaysOrdered g.now root d.now }
         requires one { (w : Directions) → Says g.now d.now w → IsOneBlock g.now root w }
         ensures { (w : Directions) → Says g.now d.now w → IfOk result (AreByTiles g.now root w) }
+    {
+        let tiles = ByTiles::aimed_at_none(alloc, g, d)?;
+        Ok(tiles)
+    }
+
+    /// The links home of all nodes, and tiles that are aimed at no node yet, in any graph.
+    pub fn aimed_at_none(alloc: Global, g: &Graph, d: &Directed) -> Result<ByTiles, NoMemory>
+        requires { HasDirections g.now d.now }
+        ensures { (w : Directions) → Says g.now d.now w → IfOk result (AreTiles g.now w) }
     {
         let count = g.node_count();
         let by_order = nodes_by_turn(alloc, g, d, Dir::Up)?;
