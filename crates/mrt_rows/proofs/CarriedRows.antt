@@ -5,13 +5,21 @@ use Rattle.mrt_graph.specs.declared.cert.Row.{Row}
 use Rattle.mrt_graph.specs.declared.cert.Tag.{Tag}
 use Rattle.mrt_graph.specs.declared.cert.Tag.TheVariants as tags
 use Rattle.link_direction.specs.BlockOfTwo as two
-use Rattle.link_direction.specs.BlockOfTwo.{HaveInCommon, Peers, ToHead}
-use Rattle.mrt_rows.specs.Chain.{FromHead, FromOwnHead, IsCarriedTo, Near}
+use Rattle.link_direction.specs.BlockOfTwo.{HaveInCommon}
+use Rattle.link_direction.specs.Directions.{Directions}
 use Rattle.mrt_rows.specs.RowLines.{CarriedLine, HasLinksFor, LineOf}
 use Rattle.mrt_rows.specs.RowsOf.{HasRow}
 use Rattle.mrt_rows.specs.Table.{carried}
 use Rattle.mrt_rows.proofs.OneRow.{near_lines, row_same}
 use Rattle.mrt_rows.proofs.OrderedGraphs.{OrderedGraph}
+
+-- the row of s for t has the links of its row for node aim, with which s has a block in common: that is t; or it is so
+-- for the head of t; or t is the root, and it is the head of s
+pub data IsCarriedTo (root : ℕ) (w : Directions) (s : ℕ) : ℕ → ℕ → Type 0 where
+  Near : {t aim : ℕ} (k h : ℕ) → HaveInCommon w s t k h → aim ≡ t → IsCarriedTo root w s t aim
+  FromHead : {t aim : ℕ} → ((k h : ℕ) → ¬ HaveInCommon w s t k h) → t ≢ root → IsCarriedTo root w s (w.head t) aim
+      → IsCarriedTo root w s t aim
+  FromOwnHead : {t aim : ℕ} → ((k h : ℕ) → ¬ HaveInCommon w s t k h) → t ≡ root → aim ≡ w.head s → IsCarriedTo root w s t aim
 
 module _ (og : OrderedGraph) (s : ℕ) (s_within : s < length og.g.ids) (rows : ℕ → Option Row)
     (has : (t : ℕ) → t < length og.g.ids → s ≢ t → HasRow og.g og.root og.w s rows t) where

@@ -44,5 +44,5 @@ cert_of_columns g root tree gadag d w kept within searched by_ears in_order says
         says = says;
         tells = whole_tells og;
       },
-      record { each = λ t column t_within is s. same_rows og t t_within column is s },
+      record { each = λ t column t_within is. record { same = same_rows og t t_within column is } },
     )

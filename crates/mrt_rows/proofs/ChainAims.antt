@@ -7,7 +7,8 @@ use Rattle.link_direction.specs.BlockOfTwo.{HaveInCommon, Peers, ToHead}
 use Rattle.link_direction.specs.Directions.{Directions}
 use Rattle.inc_dec_spf.specs.Aims.{AreAims}
 use Rattle.inc_dec_spf.proofs.OneHop.{one_block}
-use Rattle.mrt_rows.specs.Chain.{AreBelow, AreRowAims, AtHome, Beside, ByHead, Climbs, FromHead, FromOwnHead, IsCarriedTo, IsRowAim, Near, There, Under}
+use Rattle.mrt_rows.specs.Chain.{AreBelow, AreRowAims, AtHome, Beside, ByHead, Climbs, IsRowAim, There, Under}
+use Rattle.mrt_rows.proofs.CarriedRows.{FromHead, FromOwnHead, IsCarriedTo, Near}
 use Rattle.mrt_rows.proofs.OrderedGraphs.{OrderedGraph, is_ordered}
 
 -- one head further

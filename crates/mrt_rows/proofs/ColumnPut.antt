@@ -14,9 +14,6 @@ use Rattle.mrt_rows.proofs.SoundColumns.{column_made}
 pub record AreFirst (g : Topology) (root : ℕ) (w : Directions) (t n : ℕ) (rows : List (Option Row)) : Type 0 where
   pub found : (s : ℕ) (o : Option Row) → s < n → s ≢ t → slice_get rows s ≡ Some o → IsRowIn g root w s t o
 
-pub no_first : (g : Topology) (root : ℕ) (w : Directions) (t : ℕ) (rows : List (Option Row)) → AreFirst g root w t 0 rows
-no_first g root w t rows = record { found = λ s o below. absurd (omega (arith, below)) }
-
 module _ (g : Topology) (root : ℕ) (w : Directions) (t n : ℕ) (rows : List (Option Row)) (first : AreFirst g root w t n rows) where
   -- one more
   pub one_put : (row : Option Row) → n < length rows → IsRowIn g root w n t row → AreFirst g root w t (n + 1) (set rows n row)

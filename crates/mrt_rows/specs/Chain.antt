@@ -1,21 +1,12 @@
--- The heads above a destination, and where the rows for it come from.
+-- The heads above a destination, and what the nodes aim at.
 use Rattle.std.specs.Prelude.{◌≡◌, ◌≢◌, ℕ, List, Option, Some, None, length, slice_get}
 use Rattle.mrt_graph.specs.Topology.{Topology}
-use Rattle.link_direction.specs.BlockOfTwo.{HaveInCommon}
 use Rattle.link_direction.specs.Directions.{Directions}
 
 -- from node c, head by head, one comes to node b
 pub data Climbs (root : ℕ) (w : Directions) : ℕ → ℕ → Type 0 where
   There : {c b : ℕ} → c ≡ b → Climbs root w c b
   ByHead : {c b : ℕ} → c ≢ root → Climbs root w (w.head c) b → Climbs root w c b
-
--- the row of s for t has the links of its row for node aim, with which s has a block in common: that is t; or it is so
--- for the head of t; or t is the root, and it is the head of s
-pub data IsCarriedTo (root : ℕ) (w : Directions) (s : ℕ) : ℕ → ℕ → Type 0 where
-  Near : {t aim : ℕ} (k h : ℕ) → HaveInCommon w s t k h → aim ≡ t → IsCarriedTo root w s t aim
-  FromHead : {t aim : ℕ} → ((k h : ℕ) → ¬ HaveInCommon w s t k h) → t ≢ root → IsCarriedTo root w s (w.head t) aim
-      → IsCarriedTo root w s t aim
-  FromOwnHead : {t aim : ℕ} → ((k h : ℕ) → ¬ HaveInCommon w s t k h) → t ≡ root → aim ≡ w.head s → IsCarriedTo root w s t aim
 
 -- of each node which node below it is on the way from t to the root, if one is
 pub record AreBelow (g : Topology) (root : ℕ) (w : Directions) (t : ℕ) (below : List (Option ℕ)) : Type 0 where

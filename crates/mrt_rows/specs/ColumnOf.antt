@@ -22,10 +22,14 @@ pub record IsColumnOf (g : Topology) (root : ℕ) (w : Directions) (t : ℕ) (co
   pub at_destination : slice_get column t ≡ Some None
   pub each : (s : ℕ) → s < length g.ids → s ≢ t → HasItsRow g root w t column s
 
+-- the column has a certificate's rows of all nodes for t
+pub record HasRowsFor (cert : Certificate) (t : ℕ) (column : List (Option Row)) : Type 0 where
+  pub same : (s : ℕ) → row_of cert s t ≡ rows_of_column column s t
+
 -- the columns are the rows of a certificate: that of each node has of all nodes their rows for it
 pub record HasColumns (g : Topology) (root : ℕ) (w : Directions) (cert : Certificate) : Type 0 where
   pub each : (t : ℕ) (column : List (Option Row)) → t < length g.ids → IsColumnOf g root w t column
-      → (s : ℕ) → row_of cert s t ≡ rows_of_column column s t
+      → HasRowsFor cert t column
 
 -- the row of s for t over a sole link, if there is one
 pub data IsSoleRow (g : Topology) (w : Directions) (s t : ℕ) : Option Row → Type 0 where

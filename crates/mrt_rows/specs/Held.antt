@@ -15,8 +15,12 @@ use Rattle.mrt_rows.specs.declared.column.Columns.TheVariants.{Sweeps, Tiles}
 use Rattle.mrt_rows.specs.Chain.{AreBelow, AreRowAims}
 use Rattle.mrt_rows.specs.Put.{AreHeadsMarked, AreHomes, IsOneBlock}
 
--- the nodes by their turns, marks on the heads of blocks, the links home of all nodes, and two tiles of 64 places for each
--- node, which are aimed at the nodes from one number on
+-- so many destinations are taken side by side
+abbrev pub tile_width : ℕ
+tile_width = 64
+
+-- the nodes by their turns, marks on the heads of blocks, the links home of all nodes, and two tiles with places for so
+-- many of each node, which are aimed at the nodes from one number on
 pub record AreTiles (g : Topology) (w : Directions) (held : ByTiles) : Type 0 where
   pub by_order : AreTurns g w Up held.by_order.items
   pub against_order : AreTurns g w Down held.against_order.items
@@ -24,10 +28,10 @@ pub record AreTiles (g : Topology) (w : Directions) (held : ByTiles) : Type 0 wh
   pub marked : AreHeadsMarked g w held.heads.items
   pub a_home_each : length held.homes.items ≡ length g.ids
   pub homes : AreHomes g w held.homes.items
-  pub up : IsTile g 64 held.up
-  pub down : IsTile g 64 held.down
-  pub aimed_up : IsAimed g w Up held.first 64 held.up
-  pub aimed_down : IsAimed g w Down held.first 64 held.down
+  pub up : IsTile g tile_width held.up
+  pub down : IsTile g tile_width held.down
+  pub aimed_up : IsAimed g w Up held.first tile_width held.up
+  pub aimed_down : IsAimed g w Down held.first tile_width held.down
 
 -- these, in a graph of one block
 pub record AreByTiles (g : Topology) (root : ℕ) (w : Directions) (held : ByTiles) : Type 0 where

@@ -1,8 +1,5 @@
 -- The columns of a graph from a root.
-use Rattle.std.specs.Prelude.{◌≡◌, ◌<◌, ℕ, List, Option, length}
-use Rattle.mrt_graph.specs.declared.cert.Row.{Row}
-use Rattle.mrt_graph.specs.Certificate.{Certificate, row_of}
-use Rattle.mrt_graph.specs.Column.{rows_of_column}
+use Rattle.std.specs.Prelude.{◌<◌, length}
 use Rattle.mrt_graph.specs.Topology.{Topology}
 use Rattle.link_direction.specs.Directions.{Directions, Says}
 use Rattle.mrt_rows.specs.declared.rooted.RootedColumns.{RootedColumns}
@@ -14,7 +11,3 @@ pub record MakeColumns (g : Topology) (rooted : RootedColumns) : Type 0 where
   pub root_within : rooted.root < length g.ids
   pub directed : IsDirectedFrom g rooted.root rooted.directed
   pub held : (w : Directions) → Says g rooted.directed w → AreHeld g rooted.root w rooted.columns
-
--- the column has a certificate's rows of all nodes for t
-pub record HasRowsFor (cert : Certificate) (t : ℕ) (column : List (Option Row)) : Type 0 where
-  pub same : (s : ℕ) → row_of cert s t ≡ rows_of_column column s t

@@ -5,7 +5,8 @@ ghost use Rattle.mrt_graph.specs.declared.cert.CertFile.{CertFile};
 ghost use Rattle.mrt_graph.specs.Column.{ColumnSound};
 ghost use Rattle.mrt_graph.specs.GraphInvariant.{IsTopology};
 ghost use Rattle.mrt_rows.specs.CertOf.{IsCertOf};
-ghost use Rattle.mrt_rows.specs.Rooted.{HasRowsFor, MakeColumns};
+ghost use Rattle.mrt_rows.specs.ColumnOf.{HasRowsFor};
+ghost use Rattle.mrt_rows.specs.Rooted.{MakeColumns};
 
 use crate::column::Columns;
 use crate::directed::directions;

@@ -1,6 +1,6 @@
 use Rattle.std.proofs.Common.{subst}
 use Rattle.mrt_graph.specs.declared.cert.CertFile.{CertFile}
-use Rattle.mrt_rows.specs.Rooted.{HasRowsFor}
+use Rattle.mrt_rows.specs.ColumnOf.{HasRowsFor}
 use Rattle.mrt_rows.proofs.rooted.RootedColumns.to.Goals as goal
 
 pub to-requires-clause-directed : goal.to-requires-clause-directed
@@ -20,4 +20,4 @@ returns-clause-rows c = λ file is.
     kept within made.searched made.by_ears made.in_order ordered.says in
     subst (λ (f : CertFile). HasRowsFor f.cert c.args.to c.in_ok-column.column)
     (c.one_certificate.ensures c.args.g.now c.args.self.now.root found.0 file kept within found.1 is)
-    (record { same = found.2.each c.args.to c.in_ok-column.column c.requires.to (c.in_ok-column.ensures.rows ordered.directions ordered.says) })
+    (found.2.each c.args.to c.in_ok-column.column c.requires.to (c.in_ok-column.ensures.rows ordered.directions ordered.says))
