@@ -1,4 +1,4 @@
-//! The heads of the blocks of more than one link.
+//! Marks on the heads of blocks.
 
 ghost use Rattle.std.specs.Prelude.{◌≡◌, ◌<◌, ◌≤◌, ◌+◌, ℕ, IsTrue, Some, length, slice_get, true};
 ghost use Rattle.mrt_graph.specs.GraphInvariant.{IsTopology};
@@ -9,7 +9,8 @@ ghost use Rattle.mrt_rows.specs.Put.{AreHeadsMarked};
 use inc_dec_spf::is_sole;
 use mrt_graph::{Directed, Graph, LinkNo, NodeNo};
 
-/// Marks the heads of the blocks of more than one link.
+/// Marks the heads of the blocks of both ends of each link that is not sole: those of all blocks of more than one link,
+/// and it may be of others.
 pub fn mark_heads(g: &Graph, d: &Directed, marks: &mut [bool])
     requires kept { IsTopology g.now }
     requires directed { HasDirections g.now d.now }

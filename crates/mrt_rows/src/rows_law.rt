@@ -1,4 +1,4 @@
-//! What holds of certificates whose rows are those of the table.
+//! What holds of certificates and columns whose rows are those of the table.
 
 ghost use Rattle.std.specs.Prelude.{◌≡◌, ◌≢◌, ◌<◌, ℕ, List, Option, length};
 ghost use Rattle.mrt_graph.specs.declared.cert.CertFile.{CertFile};

@@ -16,7 +16,7 @@ use mrt_graph::{Directed, Graph, LinkNo, NodeNo, Row, Tag};
 
 /// Puts the rows of s for the nodes side by side, which begin with `first`, but for the nodes of the block that it heads:
 /// its first links up and down to them. What it puts for nodes with which it has no block of more than one link in
-/// common means nothing.
+/// common means nothing until `put_far_rows` puts it anew.
 pub fn put_rows_of(
     g: &Graph,
     d: &Directed,

@@ -28,7 +28,8 @@ pub fn tile_count(g: &Graph) -> u16
     (g.node_count() + (WIDTH - 1)) / WIDTH
 }
 
-/// Puts the rows of all nodes for the nodes that the tiles are aimed at, which begin with `first`.
+/// Puts the rows of all nodes for the nodes that the tiles are aimed at, which begin with `first`. What it puts for two
+/// nodes that have no block of more than one link in common means nothing until `put_far_rows` puts it anew.
 fn put_tile(
     g: &Graph,
     d: &Directed,
@@ -102,7 +103,7 @@ fn put_members(
 /// Puts the rows of all nodes that have a block of more than one link in common, tile after tile. The heads of these
 /// blocks are marked.
 ///
-/// What it puts for two other nodes means nothing.
+/// What it puts for two other nodes means nothing until `put_far_rows` puts it anew.
 pub fn put_tiles(
     g: &Graph,
     d: &Directed,

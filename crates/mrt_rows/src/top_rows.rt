@@ -14,7 +14,8 @@ use crate::tiles::WIDTH;
 use inc_dec_spf::Tile;
 use mrt_graph::{Directed, Graph, NodeNo, Row, Tag};
 
-/// Puts the row of its head for each of the nodes that the tiles are aimed at, which begin with `first`.
+/// Puts the row of its head for each of the nodes that the tiles are aimed at, which begin with `first`. What it puts for
+/// a node whose block has one link means nothing until `put_far_rows` puts it anew.
 pub fn put_top_rows(g: &Graph, d: &Directed, first: u16, up: &Tile, down: &Tile, rows: &mut [Row])
     requires kept { IsTopology g.now }
     requires directed { HasDirections g.now d.now }
