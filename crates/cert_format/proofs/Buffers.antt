@@ -4,8 +4,10 @@ use Rattle.mrt_io.proofs.Gaining.{Gained-append}
 use Rattle.mrt_io.specs.Writing.{Gained, GainedPart}
 use Rattle.mrt_io.specs.declared.device.PutError.{PutError}
 use Rattle.mrt_io.specs.declared.device.PutError.TheVariants.{Failed}
+use Rattle.mrt_graph.specs.declared.cert.CertNode.{CertNode}
+use Rattle.cert_format.specs.Limits.{HasNumber}
 use Rattle.cert_format.specs.Unwritten.{IsFailedWithin, later_error}
-use Rattle.std.specs.List.{copy_within, flat_map}
+use Rattle.std.specs.List.{AllByRecursion, copy_within, flat_map}
 use Rattle.std.proofs.lemmas.Bool.{cases_lt}
 use Rattle.std.proofs.Math.Seq.{take-add}
 use Rattle.std.proofs.lemmas.List.{take-append-le, take-take, take_all, take_at, take-append-drop, drop_at, drop-drop, drop_all, drop-take}
@@ -85,3 +87,10 @@ all_went i all there after e within full none =
     let nothing : after ≡ [] = elim full [ inl many ↦ absurd (omega (arith, many, ap length none)) | inr gone ↦ gone ] in
     let left : length all - i ≡ length there + length after = sym (length-drop i all) ∙ ap length e ∙ length-append there after in
     omega (arith, left, within, ap length none, ap length nothing)
+
+-- nothing is there, so no node is left
+pub no_node_left : (there : List ℕ) (nodes : List CertNode) → (512 ≤ length there) ⊎ (nodes ≡ []) → there ≡ [] → AllByRecursion HasNumber nodes
+no_node_left there nodes full none = elim full [
+  | inl many ↦ absurd (omega (arith, many, ap length none))
+  | inr gone ↦ subst (AllByRecursion HasNumber) (sym gone) tt
+]

@@ -1,9 +1,10 @@
 //! Bytes of a certificate file on their way to a sink.
 
 ghost use Rattle.std.specs.Prelude.{◌≡◌, ◌⊎◌, ◌≤◌, ◌<◌, ◌+◌, ◌++◌, [], length, take, drop};
-ghost use Rattle.std.specs.List.{flat_map};
+ghost use Rattle.std.specs.List.{AllByRecursion, flat_map};
 ghost use Rattle.cert_format.specs.CertText.{link_text, node_text, row_text};
 ghost use Rattle.cert_format.specs.Buffer.{IsBuffer, buffer_of};
+ghost use Rattle.cert_format.specs.Limits.{HasNumber};
 
 use crate::writing::{link_bytes, node_bytes, row_bytes};
 use mrt_graph::{CertLink, CertNode, Row};
@@ -43,6 +44,7 @@ impl Buffer {
         requires { IsBuffer self.old }
         ensures text { buffer_of self.new ++ flat_map node_text result.now
             ≡ buffer_of self.old ++ flat_map node_text nodes.now }
+        ensures numbers { AllByRecursion HasNumber result.now → AllByRecursion HasNumber nodes.now }
         ensures full { (512 ≤ length (buffer_of self.new)) ⊎ (result.now ≡ []) }
         ensures kept { IsBuffer self.new }
     {

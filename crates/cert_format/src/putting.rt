@@ -3,7 +3,9 @@
 ghost use Rattle.std.specs.Prelude.{◌≡◌, ◌⊎◌, ◌-◌, ◌≤◌, ◌++◌, ◌↔◌, ℕ, [], IsTrue, length, IsOk, IfErr, OnOk};
 ghost use Rattle.mrt_io.specs.Counts.{Rose};
 ghost use Rattle.mrt_io.specs.Writing.{Gained, GainedPart};
+ghost use Rattle.std.specs.List.{AllByRecursion};
 ghost use Rattle.cert_format.specs.CertText.{cert_text};
+ghost use Rattle.cert_format.specs.Limits.{HasNumber, IsVersionOne};
 ghost use Rattle.cert_format.specs.Unwritten.{IsFailedWithin, later_error};
 
 use crate::buffer::Buffer;
@@ -27,7 +29,11 @@ impl<'a> Model for Left<'a> {
 
     ghost Value = { Unwritten };
 
-    ghost view = { λ l. record { there = buffer_of l.buffer; after = parts_text l.nodes.now l.links.now l.rows.now } };
+    ghost view = { λ l. record {
+      there = buffer_of l.buffer;
+      after = parts_text l.nodes.now l.links.now l.rows.now;
+      nodes = l.nodes.now;
+    } };
 
     ghost invariant = { λ l. IsBuffer l.buffer };
 }
@@ -40,6 +46,7 @@ impl<'a> Left<'a> {
         requires links { length f.now.cert.links ≤ 8192 }
         ensures all { result.there ++ result.after ≡ cert_text f.now }
         ensures few { length (cert_text f.now) ≤ 21041166 }
+        ensures within { AllByRecursion HasNumber result.nodes → IsVersionOne f.now }
     {
         let cert = &f.cert;
         let mut buffer = Buffer::new();
@@ -56,6 +63,8 @@ impl<'a> Left<'a> {
     fn fill(&mut self)
         ensures same { self.new.there ++ self.new.after ≡ self.old.there ++ self.old.after }
         ensures full { (512 ≤ length self.new.there) ⊎ (self.new.after ≡ []) }
+        ensures nodes { (512 ≤ length self.new.there) ⊎ (self.new.nodes ≡ []) }
+        ensures numbers { AllByRecursion HasNumber self.new.nodes → AllByRecursion HasNumber self.old.nodes }
     {
         self.nodes = self.buffer.fill_nodes(self.nodes);
         if !self.nodes.is_empty() {
@@ -86,6 +95,7 @@ impl<'a> Left<'a> {
     fn drop_front(&mut self)
         ensures there { self.new.there ≡ drop 512 self.old.there }
         ensures after { self.new.after ≡ self.old.after }
+        ensures nodes { self.new.nodes ≡ self.old.nodes }
     {
         self.buffer.drop_front();
     }
@@ -103,6 +113,7 @@ pub fn put_cert<K: Sink>(sink: &mut K, f: &CertFile) -> Result<(), PutError>
     requires nodes { length f.now.cert.nodes ≤ 2048 }
     requires links { length f.now.cert.links ≤ 8192 }
     ensures gained { OnOk result (Gained (K.written sink.old) (cert_text f.now) (K.written sink.new)) }
+    ensures within { OnOk result (IsVersionOne f.now) }
     ensures part { IfErr result (GainedPart (K.written sink.old) (cert_text f.now) (K.written sink.new)) }
     ensures cause { IfErr result (λ _. Rose (K.faults sink.old) (K.faults sink.new)) }
     ensures count { K.faults sink.old ≤ K.faults sink.new }
@@ -122,6 +133,7 @@ fn put_left<K: Sink>(sink: &mut K, left: Left<'_>) -> Result<(), PutError>
     requires { length (left.there ++ left.after) ≤ 21041166 }
     ensures gained { OnOk result
         (Gained (K.written sink.old) (left.entry.there ++ left.entry.after) (K.written sink.new)) }
+    ensures numbers { OnOk result (AllByRecursion HasNumber left.entry.nodes) }
     ensures part { IfErr result
         (GainedPart (K.written sink.old) (left.entry.there ++ left.entry.after) (K.written sink.new)) }
     ensures cause { IfErr result (λ _. Rose (K.faults sink.old) (K.faults sink.new)) }

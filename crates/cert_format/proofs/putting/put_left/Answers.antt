@@ -1,5 +1,7 @@
 use Rattle.std.proofs.Common.{◌≡◌, ◌≤◌, ◌+◌, ◌-◌, ◌++◌, ◌∙◌, ℕ, length, drop, refl, sym, subst, arith}
-use Rattle.cert_format.proofs.Buffers.{gained_more, gained_part, left_after, parted, parted_length}
+use Rattle.std.specs.List.{AllByRecursion}
+use Rattle.cert_format.specs.Limits.{HasNumber}
+use Rattle.cert_format.proofs.Buffers.{gained_more, gained_part, left_after, no_node_left, parted, parted_length}
 use Rattle.cert_format.proofs.putting.put_left.Goals as goal
 
 pub returns-in-Err-clause-part : goal.returns-in-Err-clause-part
@@ -42,6 +44,10 @@ returns-in-Err-clause-stays_healthy g c = λ n healthy enough.
     let low = g.met.K.Sink.healthy_below c.loop-left.sink (n - c.loop-left.taken) mid in
     absurd (omega (arith, same, low, c.in-Err.ensures.cause))
 
+pub returns-clause-numbers : goal.returns-clause-numbers
+returns-clause-numbers g c =
+    c.loop-left.invariant.numbers (no_node_left c.loop-left.left.there c.loop-left.left.nodes c.loop-left.invariant.nodes (c.is_over.ensures.0 c.loop-left-test.false))
+
 pub loop-left-preserved : goal.loop-left-preserved
 loop-left-preserved g c =
     let all = c.args.left.there ++ c.args.left.after in
@@ -58,6 +64,8 @@ loop-left-preserved g c =
       within = fits;
       left = stays ∙ sym (c.fill-in-loop-left.ensures.same ∙ dropped);
       full = c.fill-in-loop-left.ensures.full;
+      nodes = c.fill-in-loop-left.ensures.nodes;
+      numbers = λ all. before.numbers (subst (AllByRecursion HasNumber) c.drop_front.ensures.nodes (c.fill-in-loop-left.ensures.numbers all));
       gained = gained_more taken all piece more _ _ _ parts before.gained c.in-Ok.ensures.gained;
       count = omega (arith, c.in-Ok.ensures.count);
       no_fault = λ n healthy enough.
