@@ -89,6 +89,11 @@ empty_seen = faultless_seen [] (cut_is [] 0 Truncated empty_cut refl)
 pub one_stream : (pieces : List (List ℕ)) → fed_all (Ok []) pieces ≡ fed (Ok []) (flat_map (λ piece. piece) pieces)
 one_stream pieces = ap (λ (it : Progress). fed_all it pieces) (sym empty_seen) ∙ all_pieces [] pieces
 
+-- a stream without a certain fault is what was fed
+pub all_fed : (pieces : List (List ℕ)) (stream : List ℕ) → fed_all (Ok []) pieces ≡ Ok stream → stream ≡ flat_map (λ piece. piece) pieces
+all_fed pieces stream e =
+    sym (seen_ok (flat_map (λ piece. piece) pieces) stream (sym (one_stream pieces) ∙ e))
+
 same_fault_by : (bytes : List ℕ) (found : Option (ℕ × CertKind)) → certain_fault bytes ≡ found → end_fault (option_map_or (λ fault. Err fault) found (Ok bytes)) ≡ first_fault bytes
 same_fault_by bytes None e = refl
 same_fault_by bytes (Some fault) e = sym (certain_first bytes fault e).0

@@ -87,11 +87,14 @@ pub fn one_spelling()
 
 /// A stream is read as a whole is, however it is cut into pieces that are fed one after another.
 ///
-/// The pieces lead a [`CertReader`] from its front to where their bytes lead it in one piece; where the stream ends
-/// there, its fault is the first one of the bytes, and a spelling has none.
+/// The pieces lead a [`CertReader`] from its front to where their bytes lead it in one piece. Unless that is a fault,
+/// the stream is these bytes. Where the stream ends there, its fault is the first one of the bytes, and a spelling has
+/// none.
 pub fn any_pieces()
     ensures one { (pieces : List (List ℕ))
         → fed_all (Ok []) pieces ≡ fed (Ok []) (flat_map (λ piece. piece) pieces) }
+    ensures stream { (pieces : List (List ℕ)) (stream : List ℕ)
+        → fed_all (Ok []) pieces ≡ Ok stream → stream ≡ flat_map (λ piece. piece) pieces }
     ensures fault { (bytes : List ℕ) → end_fault (fed (Ok []) bytes) ≡ first_fault bytes }
     ensures whole { (f : CertFile) → IsVersionOne f → fed (Ok []) (cert_text f) ≡ Ok (cert_text f) }
 {}
