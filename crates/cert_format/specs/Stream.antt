@@ -25,7 +25,7 @@ certain_fault stream = option_and_then unless_cut (first_fault stream)
 abbrev pub Progress : Type 0
 Progress = Result (List ℕ) (ℕ × CertKind)
 
--- this stream, or its first fault
+-- this stream, or its certain fault
 abbrev pub seen : List ℕ → Progress
 seen stream = option_map_or (λ fault. Err fault) (certain_fault stream) (Ok stream)
 

@@ -63,20 +63,17 @@ impl CertReader {
 
     /// Takes the next piece of the stream.
     ///
-    /// The piece with the header's last byte makes room for the nodes, and that with the last byte of the last node
-    /// makes room for all links and rows.
-    ///
-    /// It takes time in proportion to the piece.
+    /// It takes time in proportion to the piece, and a constant.
     ///
     /// # Errors
     ///
-    /// [`CertError::Fault`] as soon as the last byte of the first field that is not allowed has come, or a byte after
-    /// the last row; each later piece is answered with the same fault. [`CertError::NoMemory`] where there was none:
-    /// the stream is as it was before the piece.
+    /// [`CertError::Fault`] where the first field that is not allowed is whole in the stream with the piece, or a byte
+    /// stands after the last row; each later piece is answered with the same fault. [`CertError::NoMemory`] where there
+    /// was none: the stream is as it was before the piece.
     pub fn feed(&mut self, piece: &[u8]) -> Result<(), CertError>
         // The stream grew by the piece, and has no certain fault.
         ensures ok { OnOk result (IsOk self.new × (self.new ≡ fed self.old piece.now)) }
-        // The fault is the first one of the stream with the piece, and it is kept.
+        // The fault is the certain one of the stream with the piece, or the one that came before, and it is kept.
         ensures fault { (at : ℕ) (kind : CertKind) → result ≡ Err (CertError.Fault at kind)
             → (self.new ≡ Err (at, kind)) × (self.new ≡ fed self.old piece.now) }
         // A fault that came before is answered again.

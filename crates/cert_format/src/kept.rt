@@ -85,7 +85,8 @@ impl Kept {
         Ok(rest)
     }
 
-    /// Takes the next part off the rest, or all the rows that are whole there. None where the next part is cut.
+    /// Takes the next part off the rest, or all the rows that are whole there. None where the next part is cut, or where
+    /// nothing follows the last row.
     pub fn take<'a>(&mut self, rest: Rest<'a>) -> Result<Option<Rest<'a>>, CertError>
         requires parts { AreParts (parts_of self.old) }
         requires place { rest.at ≡ length (text_of (parts_of self.old)) }
@@ -202,7 +203,8 @@ impl Kept {
         Ok(Some(rest))
     }
 
-    /// The header of a whole file, where nothing follows the parts but less than the next one; else the first fault.
+    /// The header, where the parts are a whole file. Else the first fault of the file that ends after the rest, which is
+    /// less than a part.
     pub fn end(&self, rest: Rest<'_>) -> Result<Header, CertFault>
         requires parts { AreParts (parts_of self.now) }
         requires place { rest.at ≡ length (text_of (parts_of self.now)) }

@@ -1,4 +1,4 @@
-//! Certificate files as bytes, both ways.
+//! Certificate files as bytes, both ways: whole, or in pieces from a stream and to a sink.
 //!
 //! A file of version 1 is a header of 14 bytes, 11 bytes for each node, 7 for each link and 5 for each row, with every
 //! number in network order. Each file has one spelling.
