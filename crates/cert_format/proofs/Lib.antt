@@ -9,6 +9,7 @@ pub mod GoesOn
 pub mod Lists
 pub mod Parts
 pub mod PartsText
+pub mod Room
 pub mod SpellingLength
 pub mod Taking
 pub mod Unique

@@ -9,6 +9,7 @@ pub mod Outcome
 pub mod Parts
 pub mod Progress
 pub mod Reading
+pub mod Room
 pub mod Stream
 pub mod Taking
 pub mod Unwritten

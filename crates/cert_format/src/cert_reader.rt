@@ -8,6 +8,7 @@ ghost use Rattle.cert_format.specs.Limits.{IsVersionOne};
 ghost use Rattle.cert_format.specs.Stream.{end_fault, fed};
 ghost use Rattle.cert_format.specs.Held.{held_of};
 ghost use Rattle.cert_format.specs.Parts.{AreParts, parts_of, text_of};
+ghost use Rattle.cert_format.specs.Room.{HasRoom, KeepsRoom};
 ghost use Rattle.cert_format.specs.Taking.{IsTail, ReadsCut, ReadsOn, ReadsOrStays, fault_of_answer};
 ghost use Rattle.cert_format.specs.Finishing.{Finishes};
 
@@ -38,12 +39,13 @@ impl Model for CertReader {
     ghost use Rattle.cert_format.specs.Parts.{parts_of};
     ghost use Rattle.cert_format.specs.Stream.{Progress};
     ghost use Rattle.cert_format.specs.Progress.{IsReading, progress_of};
+    ghost use Rattle.cert_format.specs.Room.{HasRoom};
 
     ghost Value = { Progress };
 
     ghost view = { λ r. progress_of r.fault (parts_of r.kept) (held_of r.held) };
 
-    ghost invariant = { λ r. IsReading r.fault (parts_of r.kept) r.held };
+    ghost invariant = { λ r. IsReading r.fault (parts_of r.kept) r.held × HasRoom r.kept };
 }
 
 impl CertReader {
@@ -151,7 +153,9 @@ fn read_or_stay(kept: &mut Kept, held: &mut Held, piece: &[u8]) -> Result<(), Ce
     requires parts { AreParts (parts_of kept.old) }
     requires tail { IsTail (parts_of kept.old) (held_of held.old) }
     requires small { held.old.len ≤ 14 }
-    ensures { ReadsOrStays (parts_of kept.old) held.old piece.now (parts_of kept.new) held.new result }
+    requires room { HasRoom kept.old }
+    ensures reads { ReadsOrStays (parts_of kept.old) held.old piece.now (parts_of kept.new) held.new result }
+    ensures room { HasRoom kept.new }
 {
     let header = kept.header;
     let nodes = kept.nodes.len();
@@ -177,7 +181,10 @@ fn read_cut<'a>(
     requires parts { AreParts (parts_of kept.old) }
     requires tail { IsTail (parts_of kept.old) (held_of held.old) }
     requires small { held.old.len ≤ 14 }
-    ensures { ReadsCut (parts_of kept.old) (held_of held.old) piece.now (parts_of kept.new) held.new result }
+    requires room { HasRoom kept.old }
+    ensures reads { ReadsCut (parts_of kept.old) (held_of held.old) piece.now (parts_of kept.new) held.new result }
+    ensures room { HasRoom kept.new }
+    ensures keeps { KeepsRoom kept.old kept.new }
 {
     let rest = held.fill(kept.next_size(), piece);
     if held.is_empty() {
@@ -195,7 +202,10 @@ fn read_on(kept: &mut Kept, held: &mut Held, piece: &[u8]) -> Result<(), CertErr
     requires parts { AreParts (parts_of kept.old) }
     requires tail { IsTail (parts_of kept.old) (held_of held.old) }
     requires small { held.old.len ≤ 14 }
-    ensures { ReadsOn (parts_of kept.old) (held_of held.old) piece.now (parts_of kept.new) held.new result }
+    requires room { HasRoom kept.old }
+    ensures reads { ReadsOn (parts_of kept.old) (held_of held.old) piece.now (parts_of kept.new) held.new result }
+    ensures room { HasRoom kept.new }
+    ensures keeps { KeepsRoom kept.old kept.new }
 {
     let Some(rest) = read_cut(kept, held, piece)? else {
         return Ok(());

@@ -1,12 +1,14 @@
 //! What a reader keeps of a certificate file: the parts that it has read.
 
-ghost use Rattle.std.specs.Prelude.{◌≡◌, ◌<◌, ◌≤◌, ◌+◌, ◌-◌, ◌*◌, ◌^◌, ◌++◌, Some, None, IfOk, IfErr, length, take};
+ghost use Rattle.std.specs.Prelude.{◌≡◌, ◌<◌, ◌≤◌, ◌+◌, ◌-◌, ◌*◌, ◌^◌, ◌++◌, Some, None, IfOk, IfErr, OnOk, length, take};
+ghost use Rattle.std.specs.Prelude.{vec_capacity};
 ghost use Rattle.cert_format.specs.FirstFault.{first_fault};
 ghost use Rattle.cert_format.specs.Reading.{Names};
 ghost use Rattle.cert_format.specs.Parts.{AreParts, IsWhole, header_bytes, no_parts, parts_of, row_count, text_of};
 ghost use Rattle.cert_format.specs.Parts.{next_size as size_of_next};
 ghost use Rattle.cert_format.specs.Taking.{CutIn, CutOr, Ends, IsTail, Takes, TakesAll};
 ghost use Rattle.cert_format.specs.Layout.{row_form};
+ghost use Rattle.cert_format.specs.Room.{HasRoom, KeepsRoom};
 
 use crate::error::{CertError, CertFault, CertKind};
 use crate::header::Header;
@@ -27,7 +29,8 @@ pub struct Kept {
 
 impl Kept {
     pub fn new(alloc: Global) -> Kept
-        ensures { parts_of result ≡ no_parts }
+        ensures none { parts_of result ≡ no_parts }
+        ensures room { HasRoom result }
     {
         Kept {
             header: None,
@@ -76,7 +79,10 @@ impl Kept {
     pub fn take_all<'a>(&mut self, rest: Rest<'a>) -> Result<Rest<'a>, CertError>
         requires parts { AreParts (parts_of self.old) }
         requires place { rest.at ≡ length (text_of (parts_of self.old)) }
-        ensures { TakesAll (parts_of self.old) rest.entry (parts_of self.new) result }
+        requires room { HasRoom self.old }
+        ensures takes { TakesAll (parts_of self.old) rest.entry (parts_of self.new) result }
+        ensures room { HasRoom self.new }
+        ensures keeps { KeepsRoom self.old self.new }
     {
         let mut rest = rest;
         while let Some(after) = self.take(rest.again())? {
@@ -90,7 +96,10 @@ impl Kept {
     pub fn take<'a>(&mut self, rest: Rest<'a>) -> Result<Option<Rest<'a>>, CertError>
         requires parts { AreParts (parts_of self.old) }
         requires place { rest.at ≡ length (text_of (parts_of self.old)) }
-        ensures { Takes (parts_of self.old) rest.entry (parts_of self.new) result }
+        requires room { HasRoom self.old }
+        ensures takes { Takes (parts_of self.old) rest.entry (parts_of self.new) result }
+        ensures room { HasRoom self.new }
+        ensures keeps { KeepsRoom self.old self.new }
     {
         let Some(header) = self.header else {
             return self.take_header(rest);
@@ -111,8 +120,11 @@ impl Kept {
     fn take_header<'a>(&mut self, rest: Rest<'a>) -> Result<Option<Rest<'a>>, CertError>
         requires parts { AreParts (parts_of self.old) }
         requires place { rest.at ≡ length (text_of (parts_of self.old)) }
+        requires room { HasRoom self.old }
         requires none { self.old.header ≡ None }
-        ensures { Takes (parts_of self.old) rest.entry (parts_of self.new) result }
+        ensures takes { Takes (parts_of self.old) rest.entry (parts_of self.new) result }
+        ensures room { HasRoom self.new }
+        ensures keeps { KeepsRoom self.old self.new }
     {
         match Header::read(rest) {
             Ok((header, rest)) => {
@@ -132,14 +144,17 @@ impl Kept {
     ) -> Result<Option<Rest<'a>>, CertError>
         requires parts { AreParts (parts_of self.old) }
         requires place { rest.at ≡ length (text_of (parts_of self.old)) }
+        requires room { HasRoom self.old }
         requires header { self.old.header ≡ Some header }
         requires lacks { length self.old.nodes.items < header.nodes }
-        ensures { Takes (parts_of self.old) rest.entry (parts_of self.new) result }
+        ensures takes { Takes (parts_of self.old) rest.entry (parts_of self.new) result }
+        ensures room { HasRoom self.new }
+        ensures keeps { KeepsRoom self.old self.new }
     {
         match node(rest, header.nodes) {
             Ok((node, rest)) => {
                 self.make_room(header)?;
-                self.nodes.push(node)?;
+                self.nodes.push_reserved(node);
                 Ok(Some(rest))
             }
             Err(fault) => unless_cut(fault),
@@ -149,7 +164,13 @@ impl Kept {
     /// Room for all links and rows, where one node is left to come.
     fn make_room(&mut self, header: Header) -> Result<(), CertError>
         ensures same { parts_of self.new ≡ parts_of self.old }
+        ensures nodes { self.new.nodes ≡ self.old.nodes }
         ensures memory { IfErr result (λ error. error ≡ CertError.NoMemory) }
+        ensures links { OnOk result (header.nodes ≤ length self.old.nodes.items + 1
+            → header.links ≤ vec_capacity self.new.links) }
+        ensures rows { OnOk result (header.nodes ≤ length self.old.nodes.items + 1
+            → row_count header.nodes ≤ vec_capacity self.new.rows) }
+        ensures keeps { KeepsRoom self.old self.new }
     {
         if self.nodes.len() + 1 < header.nodes as usize {
             return Ok(());
@@ -166,14 +187,17 @@ impl Kept {
     ) -> Result<Option<Rest<'a>>, CertError>
         requires parts { AreParts (parts_of self.old) }
         requires place { rest.at ≡ length (text_of (parts_of self.old)) }
+        requires room { HasRoom self.old }
         requires header { self.old.header ≡ Some header }
         requires nodes { length self.old.nodes.items ≡ header.nodes }
         requires lacks { length self.old.links.items < header.links }
-        ensures { Takes (parts_of self.old) rest.entry (parts_of self.new) result }
+        ensures takes { Takes (parts_of self.old) rest.entry (parts_of self.new) result }
+        ensures room { HasRoom self.new }
+        ensures keeps { KeepsRoom self.old self.new }
     {
         match link(rest, header.nodes) {
             Ok((link, rest)) => {
-                self.links.push(link)?;
+                self.links.push_reserved(link);
                 Ok(Some(rest))
             }
             Err(fault) => unless_cut(fault),
@@ -188,17 +212,19 @@ impl Kept {
     ) -> Result<Option<Rest<'a>>, CertError>
         requires parts { AreParts (parts_of self.old) }
         requires place { rest.at ≡ length (text_of (parts_of self.old)) }
+        requires room { HasRoom self.old }
         requires header { self.old.header ≡ Some header }
         requires nodes { length self.old.nodes.items ≡ header.nodes }
         requires links { length self.old.links.items ≡ header.links }
         requires lacks { length self.old.rows.items < row_count header.nodes }
-        ensures { Takes (parts_of self.old) rest.entry (parts_of self.new) result }
+        ensures takes { Takes (parts_of self.old) rest.entry (parts_of self.new) result }
+        ensures room { HasRoom self.new }
+        ensures keeps { KeepsRoom self.old self.new }
     {
         let count = rest.room(rows_of(header.nodes) - self.rows.len(), 5);
         if count == 0 {
             return cut_row(rest, header.links);
         }
-        self.rows.reserve_exact(count)?;
         let rest = rows(&mut self.rows, rest, count, header.links)?;
         Ok(Some(rest))
     }
@@ -229,12 +255,13 @@ impl Kept {
 
     /// Forgets the parts that were read after these.
     pub fn back_to(&mut self, header: Option<Header>, nodes: usize, links: usize, rows: usize)
-        ensures { parts_of self.new ≡ record {
+        ensures parts { parts_of self.new ≡ record {
           header = header;
           nodes = take nodes self.old.nodes.items;
           links = take links self.old.links.items;
           rows = take rows self.old.rows.items;
         } }
+        ensures keeps { KeepsRoom self.old self.new }
     {
         self.header = header;
         self.nodes.truncate(nodes);

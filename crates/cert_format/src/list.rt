@@ -21,6 +21,7 @@ pub fn rows<'a>(
 ) -> Result<Rest<'a>, CertFault>
     requires room { vec_len rows.old + count ≤ vec_capacity rows.old }
     requires place { rest.at + 5 * count < 2 ^ 32 - 16 }
+    ensures capacity { vec_capacity rows.new ≡ vec_capacity rows.old }
     ensures read { IfOk result (λ after.
         TookMore row_text (IsCertRow links) count rows.old.items rows.new.items rest.entry after) }
     ensures fault { IfErr result (λ fault. (next : Form)

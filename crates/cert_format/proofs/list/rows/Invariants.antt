@@ -9,5 +9,6 @@ abbrev pub invariant-loop : goal.invariant-loop
 invariant-loop l = record {
   read : (more : List Row) × (l.rows.items ≡ l.fn.rows.items ++ more) × Repeats row_text (IsCertRow l.links) 5 l.counter more l.fn.rest l.rest;
   place : l.rest.at ≡ l.fn.rest.at + 5 * l.counter;
+  capacity : vec_capacity l.rows ≡ vec_capacity l.fn.rows;
   room : vec_len l.rows + l.count ≤ vec_capacity l.rows + l.counter;
 }
