@@ -96,7 +96,7 @@ fn has_tags(rows: &[Row], tags: &[Tag]) -> bool {
 }
 
 /// Whether this is the file of the triangle.
-pub fn is_triangle(file: &CertFile) -> bool {
+fn is_triangle(file: &CertFile) -> bool {
     let tags = [
         Tag::Below,
         Tag::Head,

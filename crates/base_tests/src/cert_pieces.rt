@@ -1,8 +1,8 @@
 //! The certificate of a triangle, read in pieces and put to a sink.
 
-use crate::cert_files::{TRIANGLE, is_triangle};
-use cert_format::{CertError, CertFault, CertKind, CertReader, put_cert, read_cert};
-use mrt_graph::{CertFile, NoMemory};
+use crate::cert_files::TRIANGLE;
+use cert_format::{CertError, CertFault, CertKind, CertReader, put_cert, read_cert, write_cert};
+use mrt_graph::NoMemory;
 use mrt_io::{MemSink, PutError};
 use std::alloc::Global;
 
@@ -10,21 +10,29 @@ fn whole() -> &'static [u8] {
     &TRIANGLE
 }
 
-/// What two pieces come to.
-fn from_two(alloc: Global, first: &[u8], second: &[u8]) -> Result<CertFile, CertError> {
+/// The bytes of the file that was read.
+fn rewritten(alloc: Global, reader: CertReader) -> Result<Vec<u8>, CertError> {
+    let file = reader.finish()?;
+    match write_cert(alloc, &file) {
+        Ok(text) => Ok(text),
+        Err(NoMemory) => Err(CertError::NoMemory),
+    }
+}
+
+/// The bytes of the file that two pieces come to.
+fn from_two(alloc: Global, first: &[u8], second: &[u8]) -> Result<Vec<u8>, CertError> {
     let mut reader = CertReader::new(alloc);
     reader.feed(first)?;
     reader.feed(second)?;
-    let file = reader.finish()?;
-    Ok(file)
+    rewritten(alloc, reader)
 }
 
-/// Whether the triangle's bytes, cut in two there, give its file.
+/// Whether the triangle's bytes, cut in two there, give a file with these bytes.
 fn is_read_cut_at(alloc: Global, at: usize) -> bool {
     let bytes = whole();
     let (first, second) = bytes.split_at(bytes.len().min(at));
     match from_two(alloc, first, second) {
-        Ok(file) => is_triangle(&file),
+        Ok(text) => text.as_slice() == bytes,
         Err(_) => false,
     }
 }
