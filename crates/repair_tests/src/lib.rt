@@ -1,4 +1,4 @@
-//! Tests of primaries, of routes, of repairs, and of packets through a failure.
+//! Tests of primaries, of routes, of repairs, of a table's line, and of packets through a failure.
 #![tactic(auto)]
 
 #[cfg(test)]
@@ -15,3 +15,5 @@ mod next_hops;
 mod packets;
 #[cfg(test)]
 mod small_area;
+#[cfg(test)]
+mod table_lines;
