@@ -1,7 +1,9 @@
 //! Each failure of the triangle, before a packet and at each place of its way.
 
-use crate::answered::{Answered, FABRIC, is_answered};
+use crate::answered::FABRIC;
+use crate::calling::{Files, comes_to};
 use crate::files::TRIANGLE;
+use mrt_cmd::Exit;
 use std::alloc::Global;
 
 /// A script over the triangle, and the answers that are to be written.
@@ -409,15 +411,12 @@ fn failures() -> &'static [Script] {
 
 /// Whether a script gives its answers.
 fn gives(alloc: Global, case: &Script) -> bool {
-    let case = Answered {
-        name: case.script,
-        words: FABRIC,
+    let files = Files {
         database: TRIANGLE,
         profile: b"",
-        script: case.script.as_bytes(),
-        answers: case.answers,
+        certificate: case.script.as_bytes(),
     };
-    is_answered(alloc, &case)
+    comes_to(alloc, FABRIC, files, Exit::Done, case.answers, b"")
 }
 
 #[test]
