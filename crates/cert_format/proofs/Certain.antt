@@ -10,20 +10,20 @@ use Rattle.cert_format.specs.declared.error.CertKind.{CertKind}
 use Rattle.cert_format.specs.declared.error.CertKind.TheVariants.{Truncated}
 use Rattle.cert_format.specs.Layout.{cert_form, exactly}
 use Rattle.cert_format.specs.FirstFault.{first_fault}
-use Rattle.cert_format.specs.Stream.{Progress, is_cut, unless_cut, certain_fault, seen, fed, fed_all, end_fault}
+use Rattle.cert_format.specs.Stream.{Progress, is_cut, if_certain, certain_fault, seen, fed, fed_all, end_fault}
 use Rattle.cert_format.proofs.Fields.{field_short}
 use Rattle.cert_format.proofs.Forms.{fault_stays, same_fault}
 
 pub certain_is : (stream : List ℕ) (at : ℕ) (kind : CertKind) → first_fault stream ≡ Some (at, kind) → is_cut kind ≡ false → certain_fault stream ≡ Some (at, kind)
-certain_is stream at kind e certain = ap (option_and_then unless_cut) e ∙ rw certain refl
+certain_is stream at kind e certain = ap (option_and_then if_certain) e ∙ rw certain refl
 
 pub cut_is : (stream : List ℕ) (at : ℕ) (kind : CertKind) → first_fault stream ≡ Some (at, kind) → is_cut kind ≡ true → certain_fault stream ≡ None
-cut_is stream at kind e cut = ap (option_and_then unless_cut) e ∙ rw cut refl
+cut_is stream at kind e cut = ap (option_and_then if_certain) e ∙ rw cut refl
 
 pub none_is : (stream : List ℕ) → first_fault stream ≡ None → certain_fault stream ≡ None
-none_is stream e = ap (option_and_then unless_cut) e
+none_is stream e = ap (option_and_then if_certain) e
 
-from_first : (first : Option (ℕ × CertKind)) (fault : ℕ × CertKind) → option_and_then unless_cut first ≡ Some fault → (first ≡ Some fault) × (is_cut fault.1 ≡ false)
+from_first : (first : Option (ℕ × CertKind)) (fault : ℕ × CertKind) → option_and_then if_certain first ≡ Some fault → (first ≡ Some fault) × (is_cut fault.1 ≡ false)
 from_first None fault e = absurd cc
 from_first (Some first) fault e = elim (cases_Bool (is_cut first.1)) [
   | inl cut ↦ let none : None ≡ Some fault = rw cut at e in absurd cc

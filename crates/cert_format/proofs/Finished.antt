@@ -18,13 +18,14 @@ use Rattle.cert_format.specs.CertText.{cert_text, header_text, node_text, link_t
 use Rattle.cert_format.specs.Finishing.{Finishes}
 use Rattle.cert_format.specs.Held.{held_of}
 use Rattle.cert_format.specs.Limits.{HasNumber, IsVersionOne}
-use Rattle.cert_format.specs.Parts.{Parts, IsWhole, header_bytes, next_size, no_parts, row_count, text_of}
+use Rattle.cert_format.specs.Parts.{Parts, IsWhole, text_of_header, next_size, no_parts, row_count, text_of}
 use Rattle.cert_format.specs.Progress.{IsReading}
 use Rattle.cert_format.specs.Reading.{IsHeader, IsListOf, IsNode}
 use Rattle.cert_format.specs.Stream.{Progress, end_fault}
 use Rattle.cert_format.specs.Taking.{IsTail}
 use Rattle.cert_format.proofs.Certain.{cut_is, empty_cut}
 use Rattle.cert_format.proofs.Files.{no_fault}
+use Rattle.cert_format.proofs.Forms.{same_fault}
 use Rattle.cert_format.proofs.Unique.{one_file}
 
 -- the lists that a header announces are a certificate
@@ -72,7 +73,7 @@ whole_file parts header held whole tail =
     let lists = flat_map node_text parts.nodes ++ (flat_map link_text parts.links ++ flat_map row_text parts.rows) in (
       whole_parts parts header whole,
       ap Ok (ap (λ (it : List ℕ). text_of parts ++ it) nothing ∙ append-nil (text_of parts)
-          ∙ ap (λ (it : Option Header). header_bytes it ++ lists) whole.header
+          ∙ ap (λ (it : Option Header). text_of_header it ++ lists) whole.header
           ∙ ap (λ (n : ℕ). header_text n header.links header.root ++ lists) (sym whole.nodes)
           ∙ ap (λ (n : ℕ). header_text (length parts.nodes) n header.root ++ lists) (sym whole.links)),
     )
@@ -84,9 +85,6 @@ same_stream a b e = cc
 pub spelled_is_read : (progress : Progress) (answer : Result CertFile CertFault) → Finishes progress answer → (f : CertFile) → IsVersionOne f → progress ≡ Ok (cert_text f) → answer ≡ Ok f
 spelled_is_read progress (Ok g) finishes f is e = ap Ok (one_file g f finishes.0 is (same_stream (cert_text g) (cert_text f) (sym finishes.1 ∙ e)))
 spelled_is_read progress (Err fault) finishes f is e = let none = ap end_fault e ∙ no_fault f is in absurd cc
-
-same_fault : (p q : ℕ × CertKind) → Some p ≡ Some q → p ≡ q
-same_fault p q e = cc
 
 -- the first fault is answered
 pub first_is_answered : (progress : Progress) (answer : Result CertFile CertFault) → Finishes progress answer → (at : ℕ) (kind : CertKind) → end_fault progress ≡ Some (at, kind)

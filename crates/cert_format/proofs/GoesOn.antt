@@ -10,7 +10,7 @@ use Rattle.cert_format.specs.CertText.{node_text, link_text, row_text}
 use Rattle.cert_format.specs.Layout.{Form, End, repeated, node_form, link_form, row_form}
 use Rattle.cert_format.specs.FirstFault.{fault_in, first_fault}
 use Rattle.cert_format.specs.Reading.{IsNode}
-use Rattle.cert_format.specs.Parts.{Parts, AreParts, AreUnder, header_bytes, text_of, row_count}
+use Rattle.cert_format.specs.Parts.{Parts, AreParts, AreUnder, text_of_header, text_of, row_count}
 use Rattle.cert_format.proofs.Files.{header_passes}
 use Rattle.cert_format.proofs.Parts.{node_part, link_part, row_part}
 use Rattle.cert_format.proofs.PartsText.{form_after, none_yet, parts_length, some_pass, under}
@@ -100,9 +100,9 @@ pub goes_on : (parts : Parts) (header : Header) → parts.header ≡ Some header
 goes_on parts header is are bytes =
     let so = under parts header is are in
     let place : 14 + (11 * length parts.nodes + (7 * length parts.links + 5 * length parts.rows)) ≡ length (text_of parts) =
-    sym (parts_length parts ∙ ap (λ (it : Option Header). length (header_bytes it) + (11 * length parts.nodes + (7 * length parts.links + 5 * length parts.rows))) is) in
-    ap first_fault (four (header_bytes parts.header) (flat_map node_text parts.nodes) (flat_map link_text parts.links) (flat_map row_text parts.rows) bytes)
-    ∙ ap (λ (it : Option Header). first_fault (header_bytes it ++ (flat_map node_text parts.nodes ++ (flat_map link_text parts.links ++ (flat_map row_text parts.rows ++ bytes))))) is
+    sym (parts_length parts ∙ ap (λ (it : Option Header). length (text_of_header it) + (11 * length parts.nodes + (7 * length parts.links + 5 * length parts.rows))) is) in
+    ap first_fault (four (text_of_header parts.header) (flat_map node_text parts.nodes) (flat_map link_text parts.links) (flat_map row_text parts.rows) bytes)
+    ∙ ap (λ (it : Option Header). first_fault (text_of_header it ++ (flat_map node_text parts.nodes ++ (flat_map link_text parts.links ++ (flat_map row_text parts.rows ++ bytes))))) is
     ∙ header_passes header.nodes header.links header.root _ _ so.header
     ∙ nodes_go header parts so 14 bytes
     ∙ ap (λ (a : ℕ). fault_in (form_after header (length parts.nodes) (length parts.links) (length parts.rows)) a bytes) place

@@ -83,16 +83,6 @@ pub length_texts : {A : Type 0} (text : A → List ℕ) (size : ℕ) (xs : List 
 length_texts text size [] sized = omega arith
 length_texts text size (x ∷ xs) sized = grind (arith, length-append (text x) (flat_map text xs), sized x, length_texts text size xs sized)
 
-pub list_goes_on : {A : Type 0} (part : Form → Form) (text : A → List ℕ) (Keeps : A → Type 0) (size count : ℕ) (xs : List A) (before after : Rest) → IsPart part text Keeps size
-    → Took (flat_map text xs) before after → IsListOf count Keeps xs
-    → (next : Form) → fault_in (repeated count part next) before.at before.bytes ≡ fault_in next after.at after.bytes
-list_goes_on part text Keeps size count xs before after is took so next =
-    let place : before.at + size * length xs ≡ after.at = omega (arith, took.place, length_texts text size xs is.sized) in
-    ap (λ (t : List ℕ). fault_in (repeated count part next) before.at t) took.parts
-    ∙ ap (λ (n : ℕ). fault_in (repeated n part next) before.at (flat_map text xs ++ after.bytes)) (sym so.many)
-    ∙ all_pass part text Keeps size is xs next before.at after.bytes so.each
-    ∙ ap (λ (a : ℕ). fault_in next a after.bytes) place
-
 -- one more text after those of the first i
 pub texts_more : {A : Type 0} (text : A → List ℕ) (xs : List A) (i : ℕ) (x : A) (before now piece after : List ℕ) → i < length xs → x ≡ get_or xs i x
     → now ≡ before ++ flat_map text (take i xs) → piece ≡ text x → after ≡ now ++ piece → after ≡ before ++ flat_map text (take (i + 1) xs)

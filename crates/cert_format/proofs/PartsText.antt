@@ -9,7 +9,7 @@ use Rattle.cert_format.specs.declared.header.Header.{Header}
 use Rattle.cert_format.specs.CertText.{node_text, link_text, row_text}
 use Rattle.cert_format.specs.Layout.{Form, End, repeated, node_form, link_form, row_form}
 use Rattle.cert_format.specs.FirstFault.{fault_in}
-use Rattle.cert_format.specs.Parts.{Parts, AreParts, AreBelow, AreUnder, AreNone, header_bytes, text_of, row_count}
+use Rattle.cert_format.specs.Parts.{Parts, AreParts, AreBelow, AreUnder, AreNone, text_of_header, text_of, row_count}
 use Rattle.cert_format.proofs.Lists.{IsPart, length_texts, repeated_passes}
 
 -- the parts of a header that was read are under it
@@ -20,19 +20,19 @@ pub none_yet : (parts : Parts) → parts.header ≡ None → AreParts parts → 
 none_yet parts is are = subst (λ (it : Option Header). AreBelow it parts) is are
 
 lists_length : (header : Option Header) (nodes : List CertNode) (links : List CertLink) (rows : List Row)
-    → length (header_bytes header ++ (flat_map node_text nodes ++ (flat_map link_text links ++ flat_map row_text rows)))
-    ≡ length (header_bytes header) + (11 * length nodes + (7 * length links + 5 * length rows))
+    → length (text_of_header header ++ (flat_map node_text nodes ++ (flat_map link_text links ++ flat_map row_text rows)))
+    ≡ length (text_of_header header) + (11 * length nodes + (7 * length links + 5 * length rows))
 lists_length header nodes links rows =
     let n = length_texts node_text 11 nodes (λ x. refl) in
     let l = length_texts link_text 7 links (λ x. refl) in
     let r = length_texts row_text 5 rows (λ x. refl) in
-    let first = length-append (header_bytes header) (flat_map node_text nodes ++ (flat_map link_text links ++ flat_map row_text rows)) in
+    let first = length-append (text_of_header header) (flat_map node_text nodes ++ (flat_map link_text links ++ flat_map row_text rows)) in
     let second = length-append (flat_map node_text nodes) (flat_map link_text links ++ flat_map row_text rows) in
     let third = length-append (flat_map link_text links) (flat_map row_text rows) in
     omega (arith, n, l, r, first, second, third)
 
 pub parts_length : (parts : Parts)
-    → length (text_of parts) ≡ length (header_bytes parts.header) + (11 * length parts.nodes + (7 * length parts.links + 5 * length parts.rows))
+    → length (text_of parts) ≡ length (text_of_header parts.header) + (11 * length parts.nodes + (7 * length parts.links + 5 * length parts.rows))
 parts_length parts = lists_length parts.header parts.nodes parts.links parts.rows
 
 -- how few there are
@@ -40,7 +40,7 @@ pub record AreFew (parts : Parts) : Type 0 where
   pub nodes : length parts.nodes ≤ 2048
   pub links : length parts.links ≤ 8192
   pub rows : length parts.rows ≤ 2048 * 2047
-  pub header : length (header_bytes parts.header) ≤ 14
+  pub header : length (text_of_header parts.header) ≤ 14
 
 pub few_row_count : (nodes : ℕ) → nodes ≤ 2048 → row_count nodes ≤ 2048 * 2047
 few_row_count nodes few =

@@ -2,14 +2,8 @@
 use Rattle.std.proofs.Common.{◌≡◌, ◌+◌, ◌≤◌, ℕ, length, Option, Some, None, vec_capacity, sym, ap, subst, ◌∙◌, arith}
 use Rattle.cert_format.specs.declared.header.Header.{Header}
 use Rattle.cert_format.specs.declared.kept.Kept.{Kept}
-use Rattle.cert_format.specs.Parts.{Parts, parts_of, row_count}
+use Rattle.cert_format.specs.Parts.{row_count}
 use Rattle.cert_format.specs.Room.{HasRoom, KeepsRoom}
-
-pub keeps_none : (kept : Kept) → KeepsRoom kept kept
-keeps_none kept = record { nodes = omega arith; links = omega arith; rows = omega arith }
-
-pub keeps_then : (a b c : Kept) → KeepsRoom a b → KeepsRoom b c → KeepsRoom a c
-keeps_then a b c x y = record { nodes = omega (arith, x.nodes, y.nodes); links = omega (arith, x.links, y.links); rows = omega (arith, x.rows, y.rows) }
 
 same_header : (a b : Header) → Some a ≡ Some b → a ≡ b
 same_header a b e = cc
@@ -55,8 +49,3 @@ room_at_node old new header came room keeps same more links rows =
       links = λ announced is all. subst (λ (it : Header). it.links ≤ vec_capacity new.links) (same_one announced is) (links (omega (arith, all, more, ap (λ (it : Header). it.nodes) (same_one announced is))));
       rows = λ announced is all. subst (λ (it : Header). row_count it.nodes ≤ vec_capacity new.rows) (same_one announced is) (rows (omega (arith, all, more, ap (λ (it : Header). it.nodes) (same_one announced is))));
     }
-
--- parts were forgotten
-pub room_back : (old mid new : Kept) (parts : Parts) → HasRoom old → KeepsRoom old mid → KeepsRoom mid new → parts_of new ≡ parts → parts.header ≡ old.header → length parts.nodes ≤ length old.nodes.items → HasRoom new
-room_back old mid new parts room first then_it is header fewer =
-    room_stays old new room (keeps_then old mid new first then_it) (ap (λ (it : Parts). it.header) is ∙ header) (omega (arith, fewer, ap (λ (it : Parts). length it.nodes) is))

@@ -18,7 +18,7 @@ use Rattle.cert_format.specs.CertText.{node_text, link_text, row_text}
 use Rattle.cert_format.specs.Layout.{Form, End, repeated, cert_form, header_form, node_form, link_form, row_form}
 use Rattle.cert_format.specs.FirstFault.{fault_in, first_fault}
 use Rattle.cert_format.specs.Reading.{Rest, Names, Took, IsListOf, IsNode}
-use Rattle.cert_format.specs.Parts.{Parts, AreParts, AreBelow, AreUnder, Begins, Grew, header_bytes, text_of, row_count, next_size}
+use Rattle.cert_format.specs.Parts.{Parts, AreParts, AreBelow, AreUnder, Begins, Grew, text_of_header, text_of, row_count, next_size}
 use Rattle.cert_format.specs.Stream.{is_cut, certain_fault}
 use Rattle.cert_format.specs.Taking.{Takes, TookParts, CutIn, CutOr, Ends}
 use Rattle.cert_format.proofs.Certain.{certain_is, cut_is, none_is}
@@ -153,10 +153,10 @@ after_nodes h n t = rw (append-nil (n ++ t), append-nil n) (sym (append_assoc h 
 node_text_more : (parts : Parts) (node : CertNode) → parts.links ≡ [] → parts.rows ≡ [] → text_of (with_node parts node) ≡ text_of parts ++ node_text node
 node_text_more parts node no_links no_rows =
     let nothing : flat_map link_text parts.links ++ flat_map row_text parts.rows ≡ [] = rw (no_links, no_rows) refl in
-    ap (λ (it : List ℕ). header_bytes parts.header ++ (flat_map node_text (parts.nodes ++ node ∷ []) ++ it)) nothing
-    ∙ ap (λ (it : List ℕ). header_bytes parts.header ++ (it ++ [])) (one_more node_text parts.nodes node)
-    ∙ after_nodes (header_bytes parts.header) (flat_map node_text parts.nodes) (node_text node)
-    ∙ sym (ap (λ (it : List ℕ). (header_bytes parts.header ++ (flat_map node_text parts.nodes ++ it)) ++ node_text node) nothing)
+    ap (λ (it : List ℕ). text_of_header parts.header ++ (flat_map node_text (parts.nodes ++ node ∷ []) ++ it)) nothing
+    ∙ ap (λ (it : List ℕ). text_of_header parts.header ++ (it ++ [])) (one_more node_text parts.nodes node)
+    ∙ after_nodes (text_of_header parts.header) (flat_map node_text parts.nodes) (node_text node)
+    ∙ sym (ap (λ (it : List ℕ). (text_of_header parts.header ++ (flat_map node_text parts.nodes ++ it)) ++ node_text node) nothing)
 
 node_under : (parts : Parts) (header : Header) (node : CertNode) → AreUnder header parts → length parts.nodes < header.nodes → IsNode header.nodes node → AreUnder header (with_node parts node)
 node_under parts header node are lacks keeps = record {
@@ -194,10 +194,10 @@ after_links h n l t =
 link_text_more : (parts : Parts) (link : CertLink) → parts.rows ≡ [] → text_of (with_link parts link) ≡ text_of parts ++ link_text link
 link_text_more parts link no_rows =
     let nothing : flat_map row_text parts.rows ≡ [] = rw no_rows refl in
-    ap (λ (it : List ℕ). header_bytes parts.header ++ (flat_map node_text parts.nodes ++ (flat_map link_text (parts.links ++ link ∷ []) ++ it))) nothing
-    ∙ ap (λ (it : List ℕ). header_bytes parts.header ++ (flat_map node_text parts.nodes ++ (it ++ []))) (one_more link_text parts.links link)
-    ∙ after_links (header_bytes parts.header) (flat_map node_text parts.nodes) (flat_map link_text parts.links) (link_text link)
-    ∙ sym (ap (λ (it : List ℕ). (header_bytes parts.header ++ (flat_map node_text parts.nodes ++ (flat_map link_text parts.links ++ it))) ++ link_text link) nothing)
+    ap (λ (it : List ℕ). text_of_header parts.header ++ (flat_map node_text parts.nodes ++ (flat_map link_text (parts.links ++ link ∷ []) ++ it))) nothing
+    ∙ ap (λ (it : List ℕ). text_of_header parts.header ++ (flat_map node_text parts.nodes ++ (it ++ []))) (one_more link_text parts.links link)
+    ∙ after_links (text_of_header parts.header) (flat_map node_text parts.nodes) (flat_map link_text parts.links) (link_text link)
+    ∙ sym (ap (λ (it : List ℕ). (text_of_header parts.header ++ (flat_map node_text parts.nodes ++ (flat_map link_text parts.links ++ it))) ++ link_text link) nothing)
 
 link_under : (parts : Parts) (header : Header) (link : CertLink) → AreUnder header parts → length parts.nodes ≡ header.nodes → length parts.links < header.links → IsCertLink header.nodes link → AreUnder header (with_link parts link)
 link_under parts header link are nodes lacks keeps = record {
@@ -226,7 +226,7 @@ with_rows parts rows = record { header = parts.header; nodes = parts.nodes; link
 
 rows_text_more : (parts : Parts) (rows : List Row) → text_of (with_rows parts rows) ≡ text_of parts ++ flat_map row_text rows
 rows_text_more parts rows =
-    let h = header_bytes parts.header in
+    let h = text_of_header parts.header in
     let n = flat_map node_text parts.nodes in
     let l = flat_map link_text parts.links in
     let r = flat_map row_text parts.rows in

@@ -27,13 +27,13 @@ abbrev pub no_parts : Parts
 no_parts = record { header = None; nodes = []; links = []; rows = [] }
 
 -- the bytes of a header that was read
-abbrev pub header_bytes : Option Header → List ℕ
-header_bytes header = option_map_or (λ it. header_text it.nodes it.links it.root) header []
+abbrev pub text_of_header : Option Header → List ℕ
+text_of_header header = option_map_or (λ it. header_text it.nodes it.links it.root) header []
 
 -- the bytes of the parts, in their order
 abbrev pub text_of : Parts → List ℕ
 text_of parts =
-    header_bytes parts.header
+    text_of_header parts.header
     ++ (flat_map node_text parts.nodes ++ (flat_map link_text parts.links ++ flat_map row_text parts.rows))
 
 -- of so many nodes, a row of each for each other one

@@ -14,12 +14,12 @@ is_cut kinds.Tag = false
 is_cut kinds.Trailing = false
 
 -- the fault, unless more bytes may mend it
-abbrev pub unless_cut : ℕ × CertKind → Option (ℕ × CertKind)
-unless_cut fault = if is_cut fault.1 then None else Some fault
+abbrev pub if_certain : ℕ × CertKind → Option (ℕ × CertKind)
+if_certain fault = if is_cut fault.1 then None else Some fault
 
 -- the first fault of a stream that may go on: of a whole field that is not allowed, or of a byte after the last row
 abbrev pub certain_fault : List ℕ → Option (ℕ × CertKind)
-certain_fault stream = option_and_then unless_cut (first_fault stream)
+certain_fault stream = option_and_then if_certain (first_fault stream)
 
 -- what a reader has come to: the stream so far, or the fault that came
 abbrev pub Progress : Type 0

@@ -4,8 +4,8 @@ ghost use Rattle.std.specs.Prelude.{◌≡◌, ◌<◌, ◌≤◌, ◌+◌, ◌-
 ghost use Rattle.std.specs.Prelude.{vec_capacity};
 ghost use Rattle.cert_format.specs.FirstFault.{first_fault};
 ghost use Rattle.cert_format.specs.Reading.{Names};
-ghost use Rattle.cert_format.specs.Parts.{AreParts, IsWhole, header_bytes, no_parts, parts_of, row_count, text_of};
-ghost use Rattle.cert_format.specs.Parts.{next_size as size_of_next};
+ghost use Rattle.cert_format.specs.Parts.{AreParts, IsWhole, no_parts, parts_of, row_count, text_of, text_of_header};
+ghost use Rattle.cert_format.specs.Parts.{next_size};
 ghost use Rattle.cert_format.specs.Taking.{CutIn, CutOr, Ends, IsTail, Takes, TakesAll};
 ghost use Rattle.cert_format.specs.Layout.{row_form};
 ghost use Rattle.cert_format.specs.Room.{HasRoom, KeepsRoom};
@@ -43,7 +43,7 @@ impl Kept {
     /// How many bytes the next part has; none after the last row.
     pub fn next_size(&self) -> usize
         requires { AreParts (parts_of self.now) }
-        ensures value { result ≡ size_of_next (parts_of self.now) }
+        ensures value { result ≡ next_size (parts_of self.now) }
         ensures small { result ≤ 14 }
     {
         let Some(header) = self.header else {
@@ -55,7 +55,7 @@ impl Kept {
         if self.links.len() < header.links as usize {
             return 7;
         }
-        if self.rows.len() < rows_of(header.nodes) {
+        if self.rows.len() < row_count(header.nodes) {
             return 5;
         }
         0
@@ -110,7 +110,7 @@ impl Kept {
         if self.links.len() < header.links as usize {
             return self.take_link(header, rest);
         }
-        if self.rows.len() < rows_of(header.nodes) {
+        if self.rows.len() < row_count(header.nodes) {
             return self.take_rows(header, rest);
         }
         after_all(rest)
@@ -176,7 +176,7 @@ impl Kept {
             return Ok(());
         }
         self.links.reserve_exact(header.links as usize)?;
-        self.rows.reserve_exact(rows_of(header.nodes))?;
+        self.rows.reserve_exact(row_count(header.nodes))?;
         Ok(())
     }
 
@@ -221,7 +221,7 @@ impl Kept {
         ensures room { HasRoom self.new }
         ensures keeps { KeepsRoom self.old self.new }
     {
-        let count = rest.room(rows_of(header.nodes) - self.rows.len(), 5);
+        let count = rest.room(row_count(header.nodes) - self.rows.len(), 5);
         if count == 0 {
             return cut_row(rest, header.links);
         }
@@ -247,7 +247,7 @@ impl Kept {
             node(rest, header.nodes)?;
         } else if self.links.len() < header.links as usize {
             link(rest, header.nodes)?;
-        } else if self.rows.len() < rows_of(header.nodes) {
+        } else if self.rows.len() < row_count(header.nodes) {
             row(rest, header.links)?;
         }
         Ok(header)
@@ -271,7 +271,7 @@ impl Kept {
 }
 
 /// A row of each node for each other one.
-fn rows_of(nodes: u16) -> usize
+fn row_count(nodes: u16) -> usize
     ensures { result ≡ row_count nodes }
 {
     let nodes = nodes as usize;
@@ -279,7 +279,7 @@ fn rows_of(nodes: u16) -> usize
 }
 
 fn header_size(header: Option<Header>) -> u32
-    ensures { result ≡ length (header_bytes header) }
+    ensures { result ≡ length (text_of_header header) }
 {
     match header {
         Some(_) => 14,

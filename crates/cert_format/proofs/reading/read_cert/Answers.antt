@@ -8,6 +8,7 @@ use Rattle.cert_format.specs.FirstFault.{first_fault}
 use Rattle.cert_format.specs.Limits.{IsVersionOne}
 use Rattle.cert_format.specs.Outcome.{OrNoMemory, ReadsFile}
 use Rattle.cert_format.proofs.Files.{no_fault}
+use Rattle.cert_format.proofs.Forms.{same_fault}
 use Rattle.cert_format.proofs.Unique.{one_file}
 use Rattle.cert_format.proofs.reading.read_cert.Goals as goal
 
@@ -15,9 +16,6 @@ spelled_is_read : (bytes : List ℕ) (r : Result CertFile CertError) → ReadsFi
 spelled_is_read bytes (Ok g) read f is e = inl (ap Ok (one_file g f read.0 is (sym read.1 ∙ e)))
 spelled_is_read bytes (Err (errors.Fault at kind)) read f is e = let none = ap first_fault e ∙ no_fault f is in absurd cc
 spelled_is_read bytes (Err errors.NoMemory) read f is e = inr refl
-
-same_fault : (p q : ℕ × CertKind) → Some p ≡ Some q → p ≡ q
-same_fault p q e = cc
 
 first_is_answered : (bytes : List ℕ) (r : Result CertFile CertError) → ReadsFile bytes r → (at : ℕ) (kind : CertKind) → first_fault bytes ≡ Some (at, kind) → OrNoMemory r (Err (errors.Fault at kind))
 first_is_answered bytes (Ok g) read at kind e = let none = ap first_fault read.1 ∙ no_fault g read.0 in absurd cc
