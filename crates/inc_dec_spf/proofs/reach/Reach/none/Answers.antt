@@ -1,4 +1,4 @@
-use Rattle.std.proofs.Common.{rules, ◌≡◌, ◌∙◌, List, Option, Some, None, slice_get, arith, sym, subst}
+use Rattle.std.proofs.Common.{rules, ◌≡◌, List, Option, Some, None, slice_get, arith, sym, subst}
 use Rattle.std.specs.Prelude.{replicate}
 use Rattle.inc_dec_spf.specs.declared.reach.Known.{Known}
 use Rattle.inc_dec_spf.specs.Known.{hops_of}
