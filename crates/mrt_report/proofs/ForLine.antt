@@ -1,5 +1,5 @@
 -- What a line stands on: ends on the links of a row, and primaries.
-use Rattle.std.proofs.Common.{◌≡◌, ◌≢◌, ◌<◌, ◌==◌, ◌∙◌, ℕ, zero, suc, Bool, true, false, List, [], ◌∷◌, Option, Some, None, length, slice_get, get_or, inl, inr, refl, sym, ap, subst, arith, if◌then◌else◌}
+use Rattle.std.proofs.Common.{◌≡◌, ◌≢◌, ◌<◌, ◌==◌, ◌∙◌, ℕ, zero, suc, List, [], ◌∷◌, Option, Some, None, length, slice_get, get_or, inl, inr, refl, sym, ap, subst, arith}
 use Rattle.std.specs.Prelude.{IfSome, IsSome}
 use Rattle.std.specs.List.{find}
 use Rattle.std.specs.Option.{option_and_then, option_map}
@@ -14,7 +14,6 @@ use Rattle.mrt_graph.specs.declared.cert.Color.{Color}
 use Rattle.mrt_graph.specs.declared.cert.Row.{Row}
 use Rattle.mrt_graph.specs.declared.link.End.{End}
 use Rattle.mrt_graph.specs.declared.link.Link.{Link}
-use Rattle.mrt_graph.specs.Column.{is_none_at, rows_of_column}
 use Rattle.mrt_graph.specs.GraphInvariant.{IsTopology}
 use Rattle.mrt_graph.specs.Hop.{Hop, color_hop, hop_over}
 use Rattle.mrt_graph.specs.Leads.{leads}
@@ -50,18 +49,6 @@ row_there links rows color s t on = go (rows s t) on
     go : (o : Option Row) → IsSome (option_and_then (λ row. hop_over links s (link_of_color color row)) o) → IsSome o
     go None some = cc
     go (Some row) some = refl
-
--- a row for t stands at its place in a column
-pub stands_there : (column : List (Option Row)) (s t : ℕ) → IsSome (rows_of_column column s t)
-    → IsSome (option_and_then (λ (row : Option Row). row) (slice_get column s))
-stands_there column s t some = go (is_none_at column t) some
-  where
-    there : Option Row
-    there = option_and_then (λ (row : Option Row). row) (slice_get column s)
-
-    go : (b : Bool) → IsSome (if b then there else None) → IsSome there
-    go true some = some
-    go false some = cc
 
 found_there : {X : Type 0} (o : Option X) → IsSome o → (x : X) × (o ≡ Some x)
 found_there None some = cc

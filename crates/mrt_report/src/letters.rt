@@ -1,8 +1,7 @@
 //! Which color repairs the failure of each element of a primary.
 
-ghost use Rattle.std.specs.Prelude.{◌≡◌, ◌<◌, ◌↔◌, ℕ, IfOk, IfSome, IsTrue, Some, length};
+ghost use Rattle.std.specs.Prelude.{◌≡◌, ◌<◌, ℕ, IfOk, IfSome, Some, length};
 ghost use Rattle.mrt_graph.specs.declared.cert.Color.TheVariants.{Blue, Red};
-ghost use Rattle.mrt_graph.specs.Separates.{IsNeitherEnd};
 ghost use Rattle.mrt_report.specs.Adds.{Adds};
 ghost use Rattle.mrt_report.specs.Letters.{AreArcElements, AreArcLetters, AreLetters, IsRepair};
 ghost use Rattle.mrt_report.specs.LineParts.{AreLineParts};
@@ -14,7 +13,7 @@ use crate::parts::Parts;
 use crate::uses::{ArcUses, uses_of};
 use crate::words::{letter, push};
 use mrt_graph::{Color, Element, NoMemory, NodeNo};
-use primary_alt::Primary;
+use primary_alt::{Primary, is_between};
 
 /// Puts the letters of a primary for `to` at the end of a text.
 pub fn push_letters(
@@ -96,14 +95,4 @@ fn color_round(parts: &Parts, to: NodeNo, x: &Element, blue: bool, red: bool) ->
         return Some(Color::Red);
     }
     None
-}
-
-/// Whether an element is a link, or a node other than `s` and `t`.
-fn is_between(x: &Element, s: NodeNo, t: NodeNo) -> bool
-    ensures { IsTrue result ↔ IsNeitherEnd x.now s t }
-{
-    match x {
-        Element::Link(_) => true,
-        Element::Node(node) => *node != s && *node != t,
-    }
 }

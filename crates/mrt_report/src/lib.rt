@@ -5,7 +5,6 @@ mod elements;
 mod letters;
 mod line;
 mod line_law;
-mod onward;
 mod parts;
 mod primaries;
 mod table;

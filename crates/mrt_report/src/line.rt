@@ -19,12 +19,11 @@ ghost use Rattle.mrt_report.specs.LineParts.{AreLineParts};
 ghost use Rattle.mrt_report.specs.Viewed.{viewed};
 
 use crate::letters::push_letters;
-use crate::onward::row_at;
 use crate::parts::Parts;
 use crate::words::{push, push_hop, push_node, tag_word};
 use area_graph::ArcNo;
 use mrt_graph::{End, Graph, LinkNo, NoMemory, NodeNo};
-use primary_alt::Primary;
+use primary_alt::{Primary, RowsOf};
 
 /// Puts the line on a destination at the end of a text.
 pub fn push_line(
@@ -54,7 +53,7 @@ fn push_colors(text: &mut Vec<u8>, parts: &Parts, to: NodeNo) -> Result<(), NoMe
     ensures { IfOk result (λ _.
         Adds (AreColorWords (viewed parts.now) to) text.old.items text.new.items) }
 {
-    let row = row_at(parts.column, parts.source);
+    let row = parts.column.row_for(parts.source, to);
     push(text, tag_word(row.tag))?;
     push(text, b" blue ")?;
     push_link_hop(text, parts, row.blue)?;

@@ -6,9 +6,9 @@ ghost use Rattle.mrt_report.specs.Uses.{IsOverOne, TellUses};
 ghost use Rattle.mrt_report.specs.Viewed.{viewed};
 
 use crate::elements::ArcElements;
-use crate::onward::{Step, onward};
 use crate::parts::Parts;
 use mrt_graph::{Color, Element, NodeNo};
+use primary_alt::{ColorHop, is_over, next_hop};
 
 /// Of the elements of an arc, each by itself: whether a color walk uses it.
 #[derive(Clone, Copy)]
@@ -49,44 +49,43 @@ pub fn uses_of(
     let mut at = parts.source;
     let mut left = parts.island.node_count();
     while left > 0 && at != to {
-        let step = onward(parts.island, parts.column, at, to, color);
+        let hop = next_hop(parts.island, parts.column, at, to, color);
         uses = BothUses {
-            first: uses_after(&uses.first, first, &step),
-            second: uses_after(&uses.second, second, &step),
+            first: uses_after(&uses.first, first, &hop),
+            second: uses_after(&uses.second, second, &hop),
         };
-        at = step.to;
+        at = hop.to;
         left -= 1;
     }
     uses
 }
 
-/// What is used after one step more.
-fn uses_after(uses: &ArcUses, elements: &ArcElements, step: &Step) -> ArcUses
+/// What is used after one hop more.
+fn uses_after(uses: &ArcUses, elements: &ArcElements, hop: &ColorHop) -> ArcUses
     ensures link { IsTrue result.link
-        ↔ (IsTrue uses.now.link ⊎ IsOverOne step.now.link step.now.to elements.now.link) }
+        ↔ (IsTrue uses.now.link ⊎ IsOverOne hop.now.link hop.now.to elements.now.link) }
     ensures node { IsTrue result.node
-        ↔ (IsTrue uses.now.node ⊎ IsOverOne step.now.link step.now.to elements.now.node) }
+        ↔ (IsTrue uses.now.node ⊎ IsOverOne hop.now.link hop.now.to elements.now.node) }
 {
     ArcUses {
-        link: is_used(uses.link, &elements.link, step),
-        node: is_used(uses.node, &elements.node, step),
+        link: is_used(uses.link, &elements.link, hop),
+        node: is_used(uses.node, &elements.node, hop),
     }
 }
 
-/// Whether an element was used before this step, or is by it.
-fn is_used(before: bool, x: &Option<Element>, step: &Step) -> bool
-    ensures { IsTrue result ↔ (IsTrue before ⊎ IsOverOne step.now.link step.now.to x.now) }
+/// Whether an element was used before this hop, or is by it.
+fn is_used(before: bool, x: &Option<Element>, hop: &ColorHop) -> bool
+    ensures { IsTrue result ↔ (IsTrue before ⊎ IsOverOne hop.now.link hop.now.to x.now) }
 {
-    before || is_over(x, step)
+    before || is_over_one(x, hop)
 }
 
-/// Whether an element is the link of a step, or the node that it leads to.
-fn is_over(x: &Option<Element>, step: &Step) -> bool
-    ensures { IsTrue result ↔ IsOverOne step.now.link step.now.to x.now }
+/// Whether a hop is over an element, if there is one.
+fn is_over_one(x: &Option<Element>, hop: &ColorHop) -> bool
+    ensures { IsTrue result ↔ IsOverOne hop.now.link hop.now.to x.now }
 {
     match x {
-        Some(Element::Link(link)) => *link == step.link,
-        Some(Element::Node(node)) => *node == step.to,
+        Some(x) => is_over(hop, x),
         None => false,
     }
 }

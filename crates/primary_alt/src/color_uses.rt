@@ -34,8 +34,8 @@ pub fn uses<R: RowsOf>(g: &Graph, rows: &R, s: NodeNo, t: NodeNo, x: &Element, c
     false
 }
 
-/// Whether the element is this link or the node that it leads to.
-fn is_over(hop: &ColorHop, x: &Element) -> bool
+/// Whether the element is the link of a hop, or the node that it leads to.
+pub fn is_over(hop: &ColorHop, x: &Element) -> bool
     ensures { IsTrue result ↔ IsOver hop.now.link hop.now.to x.now }
 {
     match x {

@@ -23,17 +23,19 @@ mod shortest;
 mod turned;
 mod weights;
 
-pub use color_hops::{ColorHop, hop_on};
+pub use color_hops::{ColorHop, hop_on, next_hop};
+pub use color_uses::is_over;
 pub use least_walks::primaries;
 pub use primary_law::{
     a_primary_where_a_walk_leads, each_router_has_its_primaries, one_primary_each,
     primaries_lead_nearer, primaries_reach_their_destinations,
 };
-pub use repair::{alternate, alternate_on};
+pub use repair::{alternate, alternate_on, is_between};
 pub use repair_law::{
     a_color_given_goes_round, a_sound_column_goes_round, no_alternate_for_ends_and_what_separates,
     one_alternate_each,
 };
 pub use routes::Routes;
 pub use routes_law::{routes_lead_nearer, routes_reach_their_destinations};
+pub use rows::RowsOf;
 pub use shortest::Primary;

@@ -87,7 +87,7 @@ fn color_round<R: RowsOf>(
 }
 
 /// Whether `x` is a link, or a node other than `s` and `t`.
-fn is_between(x: &Element, s: NodeNo, t: NodeNo) -> bool
+pub fn is_between(x: &Element, s: NodeNo, t: NodeNo) -> bool
     ensures { IsTrue result ↔ IsNeitherEnd x.now s t }
 {
     match x {

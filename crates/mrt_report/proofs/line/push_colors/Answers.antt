@@ -2,12 +2,11 @@ use Rattle.std.proofs.Common.{◌++◌, ◌∙◌, ℕ, List, refl, ap}
 use Rattle.mrt_graph.specs.declared.cert.Color.TheVariants.{Blue, Red}
 use Rattle.mrt_graph.specs.Column.{rows_of_column}
 use Rattle.mrt_report.proofs.Adding.{joined}
-use Rattle.mrt_report.proofs.ForLine.{row_there, row_touches, stands_there}
+use Rattle.mrt_report.proofs.ForLine.{row_there, row_touches}
 use Rattle.mrt_report.proofs.line.push_colors.Goals as goal
 
-pub row_at-row-requires : goal.row_at-row-requires
-row_at-row-requires c =
-    stands_there c.args.parts.now.column.now c.args.parts.now.source c.args.to
+pub row_for-row-requires : goal.row_for-row-requires
+row_for-row-requires c =
     (row_there c.args.parts.now.island.now.links (rows_of_column c.args.parts.now.column.now) Blue c.args.parts.now.source c.args.to
     (c.requires.kept.leads_on Blue c.args.parts.now.source c.requires.kept.within c.requires.kept.different))
 
@@ -15,15 +14,15 @@ pub push_link_hop-requires-clause-touches : goal.push_link_hop-requires-clause-t
 push_link_hop-requires-clause-touches c =
     let on = c.requires.kept.leads_on Blue c.args.parts.now.source c.requires.kept.within c.requires.kept.different in
     let some = row_there c.args.parts.now.island.now.links (rows_of_column c.args.parts.now.column.now) Blue c.args.parts.now.source c.args.to on in
-    row_touches c.args.parts.now.island.now.links (rows_of_column c.args.parts.now.column.now) Blue c.args.parts.now.source c.args.to c.row_at-row.result
-    (c.row_at-row.ensures c.args.to some) on
+    row_touches c.args.parts.now.island.now.links (rows_of_column c.args.parts.now.column.now) Blue c.args.parts.now.source c.args.to c.row_for-row.result
+    c.row_for-row.ensures on
 
 pub push_link_hop-requires-2-clause-touches : goal.push_link_hop-requires-2-clause-touches
 push_link_hop-requires-2-clause-touches c =
     let on = c.requires.kept.leads_on Red c.args.parts.now.source c.requires.kept.within c.requires.kept.different in
     let some = row_there c.args.parts.now.island.now.links (rows_of_column c.args.parts.now.column.now) Red c.args.parts.now.source c.args.to on in
-    row_touches c.args.parts.now.island.now.links (rows_of_column c.args.parts.now.column.now) Red c.args.parts.now.source c.args.to c.row_at-row.result
-    (c.row_at-row.ensures c.args.to some) on
+    row_touches c.args.parts.now.island.now.links (rows_of_column c.args.parts.now.column.now) Red c.args.parts.now.source c.args.to c.row_for-row.result
+    c.row_for-row.ensures on
 
 pub returns : goal.returns
 returns c =
@@ -32,10 +31,8 @@ returns c =
     record {
       part = _;
       is = record {
-        row = c.row_at-row.result;
-        row_is = c.row_at-row.ensures c.args.to
-            (row_there c.args.parts.now.island.now.links (rows_of_column c.args.parts.now.column.now) Blue c.args.parts.now.source c.args.to
-            (c.requires.kept.leads_on Blue c.args.parts.now.source c.requires.kept.within c.requires.kept.different));
+        row = c.row_for-row.result;
+        row_is = c.row_for-row.ensures;
         blue_hop = blue.part;
         blue_hop_is = blue.is;
         red_hop = red.part;

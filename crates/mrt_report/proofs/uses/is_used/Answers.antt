@@ -6,9 +6,9 @@ returns-then-before c = (λ set. inl c.if-before.true, λ either. c.if-before.tr
 
 pub returns-else-before : goal.returns-else-before
 returns-else-before c = (
-  λ set. inr (c.is_over.ensures.0 set),
+  λ set. inr (c.is_over_one.ensures.0 set),
   λ either. elim either [
     | inl was ↦ absurd (true≢false (sym was ∙ c.if-before.false))
-    | inr over ↦ c.is_over.ensures.1 over
+    | inr over ↦ c.is_over_one.ensures.1 over
   ],
 )

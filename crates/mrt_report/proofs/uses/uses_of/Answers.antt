@@ -11,22 +11,22 @@ loop-left-init c = (
   rw (c.node_count-left.ensures.count) (both_begin (viewed c.args.parts.now) c.args.to c.args.color c.args.second.now),
 )
 
-pub onward-step-requires : goal.onward-step-requires
-onward-step-requires c =
+pub next_hop-hop-requires : goal.next_hop-hop-requires
+next_hop-hop-requires c =
     c.requires.kept.leads_on c.args.color c.loop-left.at c.loop-left.invariant.0
     (differ _ _ (sym c.ne.ensures ∙ c.if-ne.true))
 
 pub loop-left-preserved : goal.loop-left-preserved
 loop-left-preserved c =
-    let step : IsStepOn (viewed c.args.parts.now) c.args.to c.args.color c.loop-left.left c.loop-left.at c.onward-step.result.link c.onward-step.result.to = record {
+    let hop : IsStepOn (viewed c.args.parts.now) c.args.to c.args.color c.loop-left.left c.loop-left.at c.next_hop-hop.result.link c.next_hop-hop.result.to = record {
       some = omega (arith, c.loop-left-test.true);
       other = differ _ _ (sym c.ne.ensures ∙ c.if-ne.true);
-      hop = c.onward-step.ensures.hop;
+      hop = c.next_hop-hop.ensures.hop;
     } in (
-      c.onward-step.ensures.within,
-      both_go_on (viewed c.args.parts.now) c.args.to c.args.color c.loop-left.left c.loop-left.at _ _ c.args.first.now c.loop-left.uses.first _ step
+      c.next_hop-hop.ensures.to,
+      both_go_on (viewed c.args.parts.now) c.args.to c.args.color c.loop-left.left c.loop-left.at _ _ c.args.first.now c.loop-left.uses.first _ hop
           c.uses_after.ensures.link c.uses_after.ensures.node c.loop-left.invariant.1,
-      both_go_on (viewed c.args.parts.now) c.args.to c.args.color c.loop-left.left c.loop-left.at _ _ c.args.second.now c.loop-left.uses.second _ step
+      both_go_on (viewed c.args.parts.now) c.args.to c.args.color c.loop-left.left c.loop-left.at _ _ c.args.second.now c.loop-left.uses.second _ hop
           c.uses_after-in-loop-left.ensures.link c.uses_after-in-loop-left.ensures.node c.loop-left.invariant.2,
     )
 
