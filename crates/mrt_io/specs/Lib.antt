@@ -1,5 +1,7 @@
 pub mod Counts
 pub mod Holding
+pub mod Left
 pub mod Memory
 pub mod Named
+pub mod Opened
 pub mod Writing

@@ -21,6 +21,7 @@ use Rattle.std.specs.Prelude.{
   length,
   min,
   take,
+  drop,
   find,
   false,
   nat_lt,
@@ -33,12 +34,14 @@ use Rattle.std.specs.Str.{bytes_eq}
 use Rattle.mrt_io.specs.Counts.{last_count}
 use Rattle.mrt_io.specs.Holding.{Files}
 
--- a shelf in memory: its files by name, the numbers of the calls that are to fail, and how many calls and faults there were
+-- a shelf in memory: its files by name, the numbers of the calls that are to fail, how many calls and faults there were, and
+-- what is left of the file that is open, if one is
 pub record ShelfInMemory : Type 0 where
   pub files : List (List ℕ × List ℕ)
   pub fails : List ℕ
   pub calls : ℕ
   pub faults : ℕ
+  pub left : Option (List ℕ)
 
 -- the bytes of the first file of this name
 abbrev pub file_of : List (List ℕ × List ℕ) → Files
@@ -66,7 +69,7 @@ counted count = min (count + 1) last_count
 abbrev pub IsHealthyShelf : ShelfInMemory → Type 0
 IsHealthyShelf shelf = NoneFrom shelf.calls shelf.fails × (shelf.faults < last_count)
 
--- the next read, of this name, fails: no file of this name is held, or the call is one that is to fail
+-- the next read, of this name, or the opening of it fails: no file of this name is held, or the call is one that is to fail
 abbrev pub is_read_fault : ShelfInMemory → List ℕ → Bool
 is_read_fault shelf name = is_none (file_of shelf.files name) || is_failing shelf.calls shelf.fails
 
@@ -75,6 +78,26 @@ abbrev pub shelf_after : ShelfInMemory → List ℕ → ShelfInMemory
 shelf_after shelf name =
     if is_read_fault shelf name then record shelf { calls = counted shelf.calls; faults = counted shelf.faults }
     else record shelf { calls = counted shelf.calls }
+
+-- the shelf after a call that opened this name, or failed: then nothing is open
+abbrev pub shelf_opened : ShelfInMemory → List ℕ → ShelfInMemory
+shelf_opened shelf name =
+    if is_read_fault shelf name
+    then record shelf { calls = counted shelf.calls; faults = counted shelf.faults; left = None }
+    else record shelf { calls = counted shelf.calls; left = file_of shelf.files name }
+
+-- how many bytes the next call takes into a piece of so many, if it does not fail: as many as there are in the piece, as are left,
+-- and as a number of 32 bits can say
+abbrev pub more_of : ShelfInMemory → ℕ → Option ℕ
+more_of shelf room =
+    if is_failing shelf.calls shelf.fails then None
+    else option_map (λ left. min (min room (length left)) 4294967295) shelf.left
+
+-- the shelf after a call that took so many bytes of what was left, or failed: then nothing is open
+abbrev pub shelf_read_on : ShelfInMemory → Option ℕ → ShelfInMemory
+shelf_read_on shelf None = record shelf { calls = counted shelf.calls; faults = counted shelf.faults; left = None }
+shelf_read_on shelf (Some taken) =
+    record shelf { calls = counted shelf.calls; left = option_map (drop taken) shelf.left }
 
 -- a sink in memory: the bytes that it has, how many more there is room for, how many a call takes at most, the numbers of the
 -- calls that are to fail, and how many calls and faults there were

@@ -1,22 +1,28 @@
 ghost use Rattle.std.specs.Prelude.{
   ◌≡◌,
+  ◌↔◌,
   ◌⊎◌,
   ◌-◌,
   ◌<◌,
   ◌≤◌,
   ℕ,
   List,
+  [],
   Option,
   Some,
   length,
   vec_len,
   take,
   IsErrOf,
+  IsSome,
+  IfSome,
   IfOk,
+  OnOk,
   OnErr,
 };
 ghost use Rattle.mrt_io.specs.Counts.{Rose, last_count};
 ghost use Rattle.mrt_io.specs.Holding.{Files, IsFileOf, IsTooLong, IsKnownTooLong, IsKnownMissing, IsKnownThere};
+ghost use Rattle.mrt_io.specs.Left.{IsLeftOf, IsTakenOff};
 ghost use Rattle.mrt_io.specs.Writing.{Gained};
 
 use crate::word::Word;
@@ -30,6 +36,17 @@ pub enum ShelfError {
     NoMemory,
 }
 
+/// Why a name is not open: the shelf failed, or there was no memory.
+#[derive(Clone, Copy, Debug, PartialEq, Eq)]
+pub enum OpenError {
+    Failed,
+    NoMemory,
+}
+
+/// The error of a shelf that could not read on in what was open.
+#[derive(Clone, Copy, Debug, PartialEq, Eq)]
+pub struct ShelfFailed;
+
 /// The error of a sink that took nothing.
 #[derive(Clone, Copy, Debug, PartialEq, Eq)]
 pub struct PutFailed;
@@ -40,7 +57,7 @@ pub enum PutError {
     Failed { taken: u64 },
 }
 
-/// What files are read from.
+/// What files are read from: a whole file by one call, or the one that is open in pieces.
 ///
 /// Its count of faults is a number of 64 bits that never falls and stays at its last value.
 pub trait Shelf {
@@ -49,8 +66,14 @@ pub trait Shelf {
 
     ghost faults: { Self → ℕ };
 
-    // A healthy shelf reads each name that it holds without a fault.
+    // A healthy shelf reads and opens each name that it holds without a fault.
     ghost healthy: { Self → Type 0 };
+
+    // Whether a name is open.
+    ghost is_open: { Self → Type 0 };
+
+    // What is left: the bytes of the open name that were not yet read. None where they are not told.
+    ghost left: { Self → Option (List ℕ) };
 
     /// The bytes of the file of this name, which has at most `limit`.
     fn read(&mut self, alloc: Global, name: &Word, limit: u32) -> Result<Vec<u8>, ShelfError>
@@ -70,7 +93,43 @@ pub trait Shelf {
         ensures count { faults self.old ≤ faults self.new }
         ensures unchanged { held self.new ≡ held self.old }
         ensures no_fault { healthy self.old → IsKnownThere (held self.old) name.now → faults self.new ≡ faults self.old }
+        ensures stays_healthy { healthy self.old → IsKnownThere (held self.old) name.now → healthy self.new }
+
+        ensures still_open { is_open self.new ↔ is_open self.old }
+        ensures still_left { left self.new ≡ left self.old };
+
+    /// Opens the file of this name at its front. Whatever was open before is not open any more.
+    fn open(&mut self, alloc: Global, name: &Word) -> Result<(), OpenError>
+        // A name is open just where it is `Ok`. Where it is told what is held, that is what is left.
+        ensures open { OnOk result (is_open self.new) }
+        ensures closed { OnErr result (is_open self.new → ⊥) }
+        ensures left { OnOk result (IsLeftOf (held self.old) name.now (left self.new)) }
+
+        ensures failed { IsErrOf result OpenError.Failed → Rose (faults self.old) (faults self.new) }
+
+        ensures count { faults self.old ≤ faults self.new }
+        ensures unchanged { held self.new ≡ held self.old }
+        ensures no_fault { healthy self.old → IsKnownThere (held self.old) name.now → faults self.new ≡ faults self.old }
         ensures stays_healthy { healthy self.old → IsKnownThere (held self.old) name.now → healthy self.new };
+
+    /// Reads the next bytes of the open file into the front of a piece, and answers how many: none where none is left.
+    fn more(&mut self, piece: &mut [u8]) -> Result<u32, ShelfFailed>
+        requires open { is_open self.old }
+        requires some { 0 < length piece.old }
+        ensures length { length piece.new ≡ length piece.old }
+        ensures within { IfOk result (λ count. count ≤ length piece.old) }
+        ensures bytes { IfOk result (λ count. IsTakenOff (left self.old) (take count piece.new) (left self.new)) }
+        ensures end { IfOk result (λ count. IfSome (left self.old) (λ bytes. (count ≡ 0) ↔ (bytes ≡ []))) }
+
+        ensures still_open { OnOk result (is_open self.new) }
+        ensures closed { OnErr result (is_open self.new → ⊥) }
+
+        ensures failed { OnErr result (Rose (faults self.old) (faults self.new)) }
+
+        ensures count { faults self.old ≤ faults self.new }
+        ensures unchanged { held self.new ≡ held self.old }
+        ensures no_fault { healthy self.old → IsSome (left self.old) → faults self.new ≡ faults self.old }
+        ensures stays_healthy { healthy self.old → IsSome (left self.old) → healthy self.new };
 
     // A count at its last value could not rise any more, so no shelf is healthy there.
     ghost healthy_below: { (shelf : Self) → healthy shelf → faults shelf < last_count };
@@ -105,6 +164,19 @@ pub trait Sink {
 
     // A count at its last value could not rise any more, so no sink is healthy there.
     ghost healthy_below: { (sink : Self) (n : ℕ) → healthy_for sink n → faults sink < last_count };
+}
+
+impl From<OpenError> for ShelfError {
+    ghost use Rattle.mrt_io.specs.Left.{read_error};
+
+    ghost from_gives = { λ error cause. cause ≡ read_error error };
+
+    fn from(error: OpenError) -> ShelfError {
+        match error {
+            OpenError::Failed => ShelfError::Failed,
+            OpenError::NoMemory => ShelfError::NoMemory,
+        }
+    }
 }
 
 impl From<AllocError> for ShelfError {

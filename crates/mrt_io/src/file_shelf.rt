@@ -1,6 +1,7 @@
-ghost use Rattle.std.specs.Prelude.{◌≤◌, IfOk, vec_len};
+ghost use Rattle.std.specs.Prelude.{◌≡◌, ◌≤◌, ◌<◌, ◌^◌, IfOk, length, vec_len};
+ghost use Rattle.mrt_io.specs.Memory.{counted as fault_counted};
 
-use crate::device::{Shelf, ShelfError};
+use crate::device::{OpenError, Shelf, ShelfError, ShelfFailed};
 use crate::word::Word;
 use std::alloc::Global;
 use std::io::{ErrorKind, Read};
@@ -15,17 +16,22 @@ const PIECE: usize = 65536;
 pub struct FileShelf<'a, R: Files> {
     rt: &'a R,
     faults: u64,
+    opened: Option<R::File>,
 }
 
 impl<'a, R: Files> FileShelf<'a, R> {
-    /// The machine's files, without a fault yet.
+    /// The machine's files, without a fault yet, and none of them open.
     pub fn new(rt: &'a R) -> FileShelf<'a, R> {
-        FileShelf { rt, faults: 0 }
+        FileShelf {
+            rt,
+            faults: 0,
+            opened: None,
+        }
     }
 }
 
 impl<'a, R: Files> Shelf for FileShelf<'a, R> {
-    ghost use Rattle.std.specs.Prelude.{None};
+    ghost use Rattle.std.specs.Prelude.{None, IsSome};
 
     ghost held = { λ _. None };
 
@@ -33,16 +39,87 @@ impl<'a, R: Files> Shelf for FileShelf<'a, R> {
 
     ghost healthy = { λ _. ⊥ };
 
+    ghost is_open = { λ shelf. IsSome shelf.opened };
+
+    ghost left = { λ _. None };
+
     ghost healthy_below = { λ _ never. absurd never };
 
     /// It reads at most one byte more than the limit, in pieces of 65,536 bytes at most.
     fn read(&mut self, alloc: Global, name: &Word, limit: u32) -> Result<Vec<u8>, ShelfError> {
         let file = read_file(self.rt, alloc, name, limit);
         if let Err(ShelfError::Failed) = file {
-            self.faults = self.faults.saturating_add(1);
+            self.faults = counted(self.faults);
         }
         file
     }
+
+    /// It takes no memory.
+    fn open(&mut self, _: Global, name: &Word) -> Result<(), OpenError> {
+        let file = open_file(self.rt, name);
+        if let Err(OpenError::Failed) = file {
+            self.faults = counted(self.faults);
+        }
+        match file {
+            Ok(file) => {
+                self.opened = Some(file);
+                Ok(())
+            }
+            Err(error) => {
+                self.opened = None;
+                Err(error)
+            }
+        }
+    }
+
+    /// It reads once, and again only where that was interrupted.
+    fn more(&mut self, piece: &mut [u8]) -> Result<u32, ShelfFailed> {
+        let wanted = piece.len().min(u32::MAX as usize);
+        let count = match &mut self.opened {
+            Some(file) => read_some(file, &mut piece[..wanted]),
+            None => Err(ShelfFailed),
+        };
+        if count.is_err() {
+            self.opened = None;
+            self.faults = counted(self.faults);
+        }
+        count
+    }
+}
+
+/// One fault more; the count stays at its last value.
+fn counted(faults: u64) -> u64
+    ensures { result ≡ fault_counted faults }
+{
+    faults.saturating_add(1)
+}
+
+/// The file of this name, at its front.
+fn open_file<R: Files>(rt: &R, name: &Word) -> Result<R::File, OpenError> {
+    let path = str::from_utf8(name.bytes()).map_err(|_| OpenError::Failed)?;
+    fs::open(rt, path).map_err(|error| {
+        if error.kind() == ErrorKind::OutOfMemory {
+            OpenError::NoMemory
+        } else {
+            OpenError::Failed
+        }
+    })
+}
+
+/// Reads the next bytes of a file into the front of a piece, and answers how many.
+fn read_some<F: Read>(file: &mut F, piece: &mut [u8]) -> Result<u32, ShelfFailed>
+    requires { length piece.old < 2 ^ 32 }
+    ensures length { length piece.new ≡ length piece.old }
+    ensures within { IfOk result (λ count. count ≤ length piece.old) }
+{
+    for _ in 0..u64::MAX {
+        match file.read(piece) {
+            Ok(count) => return Ok(count as u32),
+            Err(error) if error.kind() == ErrorKind::Interrupted => {}
+            Err(_) => return Err(ShelfFailed),
+        }
+    }
+    Err(ShelfFailed)
 }
 
 /// The bytes of a file, of which at most one more than the limit are read.
@@ -54,8 +131,7 @@ fn read_file<R: Files>(
 ) -> Result<Vec<u8>, ShelfError>
     ensures { IfOk result (λ file. vec_len file ≤ limit) }
 {
-    let path = str::from_utf8(name.bytes()).map_err(|_| ShelfError::Failed)?;
-    let mut file = fs::open(rt, path).map_err(|error| cause_of(&error))?;
+    let mut file = open_file(rt, name)?;
     let mut bytes = Vec::new(alloc);
     let mut piece = [0; PIECE];
     for _ in 0..u64::MAX {

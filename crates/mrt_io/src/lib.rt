@@ -10,7 +10,7 @@ mod put;
 mod std_sink;
 mod word;
 
-pub use device::{PutError, PutFailed, Shelf, ShelfError, Sink};
+pub use device::{OpenError, PutError, PutFailed, Shelf, ShelfError, ShelfFailed, Sink};
 pub use file_shelf::FileShelf;
 pub use mem_shelf::MemShelf;
 pub use mem_sink::MemSink;

@@ -1,8 +1,0 @@
-use Rattle.std.proofs.Common.{◌≡◌, drop}
-use Rattle.mrt_io.specs.Memory.{file_of}
-use Rattle.mrt_io.specs.Named.{named}
-use Rattle.mrt_io.proofs.mem_shelf.file_named.Given as goal
-
--- No file so far has the name.
-abbrev pub invariant-loop-file : goal.invariant-loop-file
-invariant-loop-file l = file_of (named (drop l.file-index l.files)) l.name ≡ file_of (named l.files) l.name
