@@ -88,7 +88,8 @@ joined_supports : (policy : Policy) (area : AreaParts) (u v router : ℕ) → Jo
     → policy.supports router ≡ true
 joined_supports policy area u v router joins at =
     let bond = joins.bond in
-    let ends = (and_parts bond.paired (may_end policy area.ids bond.a bond.data_a && may_end policy area.ids bond.b bond.data_b) joins.eligible).1 in
+    let beside = (and_parts bond.paired _ joins.eligible).1 in
+    let ends = (and_parts (may_end policy area.ids bond.a bond.data_a && may_end policy area.ids bond.b bond.data_b) _ beside).0 in
     let may = and_parts (may_end policy area.ids bond.a bond.data_a) (may_end policy area.ids bond.b bond.data_b) ends in
     elim (far_cases u bond.a bond.b v joins.leads) [
       | inl out ↦ end_supports policy area.ids v router bond.data_b at (subst (λ (s : ℕ). may_end policy area.ids s bond.data_b ≡ true) out.1 may.1)

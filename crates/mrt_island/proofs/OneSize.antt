@@ -1,5 +1,5 @@
 -- An island has one size.
-use Rattle.std.proofs.Common.{◌≡◌, ◌∙◌, ℕ, Bool, List, Option, length, map, sym, ap}
+use Rattle.std.proofs.Common.{◌≡◌, ◌∙◌, ℕ, Bool, List, Option, length, sym, ap}
 use Rattle.std.proofs.lemmas.List.{length-map}
 use Rattle.mrt_graph.specs.EndsOfLinks.{pair_of}
 use Rattle.mrt_graph.specs.Topology.{Topology}

@@ -1,6 +1,6 @@
 -- Flags that tell eligible pairs, and what leads over these.
 use Rattle.std.proofs.Common.{◌≡◌, ◌↔◌, ◌<◌, ◌∙◌, ℕ, Bool, true, false, List, [], ◌∷◌, length, get_or, map, Some, sym, ap, arith}
-use Rattle.std.specs.Prelude.{◌&&◌, slice_get}
+use Rattle.std.specs.Prelude.{slice_get}
 use Rattle.std.specs.List.{AllByRecursion}
 use Rattle.std.proofs.lemmas.Bool.{and_parts}
 use Rattle.std.proofs.lemmas.List.{get_or-map}
@@ -13,7 +13,7 @@ use Rattle.area_graph.specs.AreaInvariant.{IsBond}
 use Rattle.area_graph.specs.Parts.{AreaParts}
 use Rattle.area_graph.specs.declared.area_types.Bond.{Bond}
 use Rattle.mrt_island.specs.Policy.{Policy}
-use Rattle.mrt_island.specs.Eligible.{is_eligible, may_end}
+use Rattle.mrt_island.specs.Eligible.{is_eligible}
 use Rattle.mrt_island.specs.Members.{IsMember, Joins}
 use Rattle.mrt_island.specs.Searching.{ArePairs, LeadsOver}
 
@@ -23,7 +23,7 @@ flag_at p bonds k bond there = get_or-map p bonds k bond false (slice_get_within
 
 -- an eligible pair is a pair
 pub eligible_paired : (policy : Policy) (ids : List NodeId) (bond : Bond) → is_eligible policy ids bond ≡ true → bond.paired ≡ true
-eligible_paired policy ids bond eligible = (and_parts bond.paired (may_end policy ids bond.a bond.data_a && may_end policy ids bond.b bond.data_b) eligible).0
+eligible_paired policy ids bond eligible = (and_parts bond.paired _ eligible).0
 
 pub are_pairs : (policy : Policy) (ids : List NodeId) (bonds : List Bond) (flags : List Bool) → flags ≡ map (is_eligible policy ids) bonds → ArePairs bonds flags
 are_pairs policy ids bonds flags told = λ k bond there set.

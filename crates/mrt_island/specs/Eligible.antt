@@ -1,5 +1,5 @@
--- Eligible pairs (RFC 7811, section 5; RFC 7812).
-use Rattle.std.specs.Prelude.{◌&&◌, ℕ, Bool, true, false, List, slice_get}
+-- Eligible pairs (RFC 7811, section 5; RFC 7812, section 7).
+use Rattle.std.specs.Prelude.{◌&&◌, ◌==◌, ℕ, Bool, true, false, not, List, slice_get}
 use Rattle.std.specs.Option.{option_map_or}
 use Rattle.mrt_graph.specs.declared.node_id.Kind.{Kind}
 use Rattle.mrt_graph.specs.declared.node_id.Kind.TheVariants.{Router, Network}
@@ -22,7 +22,18 @@ abbrev pub may_end : Policy → List NodeId → ℕ → ℕ → Bool
 may_end policy ids s link_data =
     option_map_or (λ id. node_supports policy id.kind id.number && end_eligible policy id.kind id.number link_data) (slice_get ids s) false
 
--- whether a bond is an eligible pair: a pair no router end of which is marked ineligible with its link data, and both nodes of which
--- support the profile
+-- MaxLinkMetric, the metric of a link that is not for transit traffic (RFC 6987, sections 2 and 3)
+abbrev pub max_link_metric : ℕ
+max_link_metric = 65535
+
+-- whether a link may be for transit traffic where one of its ends has this metric; a network's end has metric 0
+abbrev pub is_for_transit : ℕ → Bool
+is_for_transit metric = not (metric == max_link_metric)
+
+-- whether a bond is an eligible pair: a pair no router end of which is marked ineligible with its link data, no end of which has
+-- metric 65,535, and both nodes of which support the profile
 abbrev pub is_eligible : Policy → List NodeId → Bond → Bool
-is_eligible policy ids bond = bond.paired && (may_end policy ids bond.a bond.data_a && may_end policy ids bond.b bond.data_b)
+is_eligible policy ids bond =
+    bond.paired
+    && ((may_end policy ids bond.a bond.data_a && may_end policy ids bond.b bond.data_b)
+    && (is_for_transit bond.metric_a && is_for_transit bond.metric_b))

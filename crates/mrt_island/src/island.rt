@@ -34,15 +34,15 @@ pub struct Island {
 
 /// The island of a router of the area.
 ///
-/// A pair is eligible where no router end of it is marked `ineligible` with its link data, and both its nodes support the profile; a
-/// network always does.
+/// A pair is eligible where no router end of it is marked `ineligible` with its link data, no end of it has metric 65,535 (RFC 6987),
+/// and both its nodes support the profile; a network always does.
 ///
 /// It takes time in proportion to the nodes, arcs and bonds of the area, with a look-up or two in the profile for each
 /// router and each end of a pair, and the time of `Graph::new`.
 ///
 /// # Example
 ///
-/// All links are point-to-point. The profile has the lines `ineligible 3.3.3.3 10.0.34.3` and `no-mrt 5.5.5.5`.
+/// All links are point-to-point, with small metrics. The profile has the lines `ineligible 3.3.3.3 10.0.34.3` and `no-mrt 5.5.5.5`.
 ///
 /// ```text
 ///     1.1.1.1 --------- 2.2.2.2

@@ -10,6 +10,7 @@ pub mod MadeArea
 pub mod MadeBounds
 pub mod MadeConnected
 pub mod MadeIsland
+pub mod MadeMetrics
 pub mod MadePairs
 pub mod Marked
 pub mod OneSurvey

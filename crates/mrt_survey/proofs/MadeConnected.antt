@@ -1,5 +1,5 @@
 -- All routers of a network that is made are joined, so that an island holds them all.
-use Rattle.std.proofs.Common.{◌≡◌, ◌≢◌, ◌≤◌, ◌<◌, ◌∙◌, ◌+◌, ◌-◌, ◌*◌, ◌%◌, ◌++◌, ℕ, zero, suc, Bool, true, List, [], ◌∷◌, Option, Some, None, length, map, slice_get, get_or, refl, sym, ap, subst, inl, inr, arith}
+use Rattle.std.proofs.Common.{◌≡◌, ◌≢◌, ◌≤◌, ◌<◌, ◌∙◌, ◌+◌, ◌-◌, ◌*◌, ◌%◌, ◌++◌, ◌&&◌, ℕ, zero, suc, Bool, true, List, [], ◌∷◌, Option, Some, None, length, map, slice_get, get_or, refl, sym, ap, subst, inl, inr, arith}
 use Rattle.std.specs.List.{range_with_len}
 use Rattle.std.specs.List.Sorted.{IsStrictlySortedBy}
 use Rattle.std.specs.Option.{is_some}
@@ -36,6 +36,7 @@ use Rattle.mrt_survey.specs.MadeLinks.{chord_count, chord_link, drawn_from, made
 use Rattle.mrt_survey.specs.MadeLsas.{made_lsas}
 use Rattle.mrt_survey.proofs.MadeArea.{made_count, made_nodes}
 use Rattle.mrt_survey.proofs.MadeBounds.{all_range, mod_small}
+use Rattle.mrt_survey.proofs.MadeMetrics.{bond_transit, low_arcs}
 use Rattle.mrt_survey.proofs.MadePairs.{HasPair, has_either, link_pairs}
 
 -- what the profile without a line says
@@ -136,7 +137,9 @@ module _ (number nodes : ℕ) (some : 4 ≤ nodes) where
       let high : slice_get area.ids bond.b ≡ Some (router_node (j + 1)) = ap (slice_get area.ids) b ∙ router_there j within in
       let eligible : is_eligible empty area.ids bond ≡ true =
       and_from bond.paired _ is.paired
-      (and_from (may_end empty area.ids bond.a bond.data_a) _ (may area.ids bond.a (i + 1) bond.data_a low) (may area.ids bond.b (j + 1) bond.data_b high)) in
+      (and_from (may_end empty area.ids bond.a bond.data_a && may_end empty area.ids bond.b bond.data_b) _
+      (and_from (may_end empty area.ids bond.a bond.data_a) _ (may area.ids bond.a (i + 1) bond.data_a low) (may area.ids bond.b (j + 1) bond.data_b high))
+      (bond_transit area.ids all arc (low_arcs number nodes some) pair.way.there)) in
       let onward : far_node i (nodes_of bond) ≡ Some j = rw (eq-eqb bond.a i a) (ap (λ (k : ℕ). Some k) b) in
       let backward : far_node j (nodes_of bond) ≡ Some i =
       rw (ne_eqb bond.a j (λ same. omega (arith, same, a, lower)), eq-eqb bond.b j b) (ap (λ (k : ℕ). Some k) a) in (
