@@ -27,3 +27,5 @@ mod many_routers;
 mod profiles;
 #[cfg(test)]
 mod small_areas;
+#[cfg(test)]
+mod stub_routers;
