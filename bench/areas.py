@@ -1,5 +1,5 @@
 """Areas as databases for the other scripts: worked shapes, random areas, and the largest ones."""
-from lsas import POINT_TO_POINT, TRANSIT, address, network_lsa, router_lsa
+from lsas import MAX_LINK_METRIC, POINT_TO_POINT, TRANSIT, address, network_lsa, router_lsa
 
 
 def write(path, data):
@@ -45,22 +45,35 @@ def worked(links, lan=None, metrics={}):
     return data
 
 
+def random_metric(random):
+    """Mostly a small metric; now and then that of a link that is not for transit traffic, or the one below it."""
+    return random.randint(1, 4) if random.random() < 0.95 else random.choice([MAX_LINK_METRIC, MAX_LINK_METRIC, MAX_LINK_METRIC - 1])
+
+
+def without_transit(links):
+    """A router's links, none of them for transit traffic, as those of a router in maintenance."""
+    return [(to, data, kind, MAX_LINK_METRIC) for to, data, kind, _ in links]
+
+
 def random_area(random):
-    """Up to seven routers with links of any metrics, parallel ones among them, and now and then a LAN."""
+    """Up to seven routers with links of any metrics, parallel ones among them, and now and then a LAN or a router in maintenance."""
     count = random.randint(1, 7)
     found = {number: [] for number in range(1, count + 1)}
     for data in range(random.randint(0, 2 * count)):
         if count > 1:
             one, other = random.sample(range(1, count + 1), 2)
             for here, there in ((one, other), (other, one)):
-                found[here].append((router(there), data, POINT_TO_POINT, random.randint(1, 4)))
+                found[here].append((router(there), data, POINT_TO_POINT, random_metric(random)))
     lans = []
     for number in range(random.randint(0, 2)):
         attached = random.sample(range(1, count + 1), random.randint(1, count))
         lan = address("10.0.0.0") + (number << 8) + attached[0]
         for one in attached:
-            found[one].append((lan, address("10.0.0.0") + (number << 8) + one, TRANSIT, random.randint(1, 4)))
+            found[one].append((lan, address("10.0.0.0") + (number << 8) + one, TRANSIT, random_metric(random)))
         lans.append(network_lsa(lan, router(attached[0]), 0xFFFFFF00, [router(one) for one in attached]))
+    if random.random() < 0.1:
+        stub = random.randint(1, count)
+        found[stub] = without_transit(found[stub])
     return b"".join(router_lsa(router(number), links) for number, links in found.items()) + b"".join(lans)
 
 
@@ -71,7 +84,7 @@ def random_ring(random):
     links += [tuple(random.sample(range(1, count + 1), 2)) for _ in range(random.randrange(4))]
     attached = random.sample(range(1, count + 1), random.randint(2, count))
     lan = (address("10.0.0.0") + attached[0], attached) if random.random() < 0.4 else None
-    return worked(links, lan, {link: random.randint(1, 4) for link in links})
+    return worked(links, lan, {link: random_metric(random) for link in links})
 
 
 # areas of routers 1 to n, of point-to-point links alone

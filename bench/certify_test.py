@@ -11,7 +11,7 @@ import certify
 import lowpoint
 from areas import random_area, router, survey_area, worked
 from database import Refused
-from lsas import POINT_TO_POINT, STUB, address, router_lsa
+from lsas import MAX_LINK_METRIC, POINT_TO_POINT, STUB, address, router_lsa
 
 ALONE = router_lsa(router(1), [])
 WITH_STUB = router_lsa(router(1), [(router(1), 0xFFFFFFFF, STUB, 0)])
@@ -28,6 +28,20 @@ ONE_SIDED = router_lsa(router(1), [(router(2), 2, POINT_TO_POINT, 10)]) + router
 # A second link from 1 to 3 is cheaper; each of its ends has link data of its own.
 SQUARE = b"".join(router_lsa(router(one), [(router(other), data, POINT_TO_POINT, metric) for other, data, metric in links]) for one, links in [
     (1, [(2, 2, 10), (3, 3, 10), (3, 9, 5)]), (2, [(1, 1, 10), (4, 4, 10)]), (3, [(1, 1, 10), (1, 8, 5), (4, 4, 10)]), (4, [(2, 2, 10), (3, 3, 10)])])
+
+
+def triangle_of(metrics):
+    """The triangle; at router i the link to j has the metric of (i, j), 10 where none is given."""
+    return b"".join(router_lsa(router(one), [(router(other), other, POINT_TO_POINT, metrics.get((one, other), 10)) for other in others])
+                    for one, others in ((1, (2, 3)), (2, (1, 3)), (3, (1, 2))))
+
+
+# The link between 1 and 3 is not for transit traffic, by its end at 1 or at 3; it nearly is; no link of 2 is.
+OUT_AT_1 = triangle_of({(1, 3): MAX_LINK_METRIC})
+OUT_AT_3 = triangle_of({(3, 1): MAX_LINK_METRIC})
+NEARLY_OUT = triangle_of({(1, 3): MAX_LINK_METRIC - 1, (3, 1): MAX_LINK_METRIC - 1})
+MAINTAINED = triangle_of({(2, 1): MAX_LINK_METRIC, (2, 3): MAX_LINK_METRIC})
+ONE_LINK = b"".join(router_lsa(router(one), [(router(3 - one), 3 - one, POINT_TO_POINT, metric)]) for one, metric in ((1, MAX_LINK_METRIC), (2, 10)))
 
 # Written by hand: the certificates of one router, of the triangle and of the line.
 ALONE_CERT = "4d525443 00010001000001010101 01010101010001 00000000".replace(" ", "")
@@ -99,6 +113,25 @@ router 1.1.1.1 root 1.1.1.1 nodes 3 links 3
     ("a primary outside the island", SQUARE, b"ineligible 1.1.1.1 0.0.0.9", 1, """
 4.4.4.4 head blue 3.3.3.3/0.0.0.3 red 2.2.2.2/0.0.0.2 primary 3.3.3.3/0.0.0.9 repair br"""),
     ("no such router", TRIANGLE, b"", 9, "not there: 9.9.9.9"),
+    ("a link that is not for transit", OUT_AT_1, b"", 1, """
+router 1.1.1.1 root 3.3.3.3 nodes 3 links 2
+2.2.2.2 sole blue 2.2.2.2/0.0.0.2 red 2.2.2.2/0.0.0.2 primary 2.2.2.2/0.0.0.2 repair --
+3.3.3.3 carried blue 2.2.2.2/0.0.0.2 red 2.2.2.2/0.0.0.2 primary 2.2.2.2/0.0.0.2 repair --"""),
+    ("a primary over it", OUT_AT_3, b"", 1, """
+router 1.1.1.1 root 3.3.3.3 nodes 3 links 2
+2.2.2.2 sole blue 2.2.2.2/0.0.0.2 red 2.2.2.2/0.0.0.2 primary 2.2.2.2/0.0.0.2 repair --
+3.3.3.3 carried blue 2.2.2.2/0.0.0.2 red 2.2.2.2/0.0.0.2 primary 3.3.3.3/0.0.0.3 repair b-"""),
+    ("a metric below it", NEARLY_OUT, b"", 1, "3.3.3.3 head blue 3.3.3.3/0.0.0.3 red 2.2.2.2/0.0.0.2 primary 2.2.2.2/0.0.0.2 repair bb"),
+    ("a router in maintenance", MAINTAINED, b"", 2, "router 2.2.2.2 root 2.2.2.2 nodes 1 links 0"),
+    ("its neighbour", MAINTAINED, b"", 1, """
+router 1.1.1.1 root 3.3.3.3 nodes 2 links 1
+3.3.3.3 sole blue 3.3.3.3/0.0.0.3 red 3.3.3.3/0.0.0.3 primary 3.3.3.3/0.0.0.3 repair --"""),
+]
+
+# Traces.
+TRACES = [
+    ("over a link that is not for transit", ONE_LINK, "1.1.1.1 2.2.2.2 repair", "entered 0\ndelivered 2.2.2.2\n"),
+    ("where it has failed", ONE_LINK, "1.1.1.1 2.2.2.2 repair link:1.1.1.1/0.0.0.2", "failed\nentered 0\nlost outside\n"),
 ]
 
 
@@ -148,6 +181,9 @@ def checks():
         (router_lsa(router(1), [(router(2), 2, 1, 10), (router(3), 3, 1, 0)]) + TRIANGLE[48:], b"", triangle, "bad database: zero-metric at 0"),
         (ALONE + changed(ALONE, 20, "ff"), b"", triangle, "bad database: conflict at 24 with 0"),
         (ALONE + ALONE, b"", bytes.fromhex(ALONE_CERT), "accepted root 1.1.1.1 nodes 1 links 0"),
+        (OUT_AT_1, b"", triangle, "no: rule 1 at 0 2"),
+        (OUT_AT_3, b"", triangle, "no: rule 1 at 0 2"),
+        (NEARLY_OUT, b"", triangle, "accepted root 3.3.3.3 nodes 3 links 3"),
     ]
 
 
@@ -224,6 +260,8 @@ def main():
     for what, data, profile, source, text in TABLES:
         lines = answer(certify.table, data, profile, router(source)).split("\n")
         expect(what, lines[-len(text.strip().split("\n")):], text.strip().split("\n"))
+    for what, data, words, text in TRACES:
+        expect(what, answer(certify.trace, data, b"", [word.encode() for word in words.split(" ")]), text.encode())
     for number, (data, profile, cert, line) in enumerate(checks()):
         expect(f"check {number}", answer(certify.check, data, profile, cert), line)
     expect("survey 0 4", survey(0, 4), (4, 5, 1, 0, 12, 0, 23, 27))
@@ -235,7 +273,8 @@ def main():
         expect(f"area {number}", answer(certify.check, data, b"", cert).split(" ")[0], "accepted")
         file = certificate.read(cert)
         expect(f"sound {number}", is_sound(len(file.ids), file.pairs, file.cert.rows), True)
-    print(f"{len(CERTS)} certificates, {len(ORDERS)} orders, {len(TABLES)} tables, {len(checks())} checks and {areas} random areas as expected")
+    print(f"{len(CERTS)} certificates, {len(ORDERS)} orders, {len(TABLES)} tables, {len(TRACES)} traces, {len(checks())} checks and {areas} random "
+          "areas as expected")
 
 
 if __name__ == "__main__":

@@ -1,8 +1,8 @@
-"""The profile file and the MRT Island of a router (RFC 7811, section 5; RFC 7812)."""
+"""The profile file and the MRT Island of a router (RFC 7811, section 5; RFC 7812; RFC 6987)."""
 from collections import namedtuple
 
 from database import NETWORK, ROUTER, Id, Refused
-from lsas import spelled
+from lsas import MAX_LINK_METRIC, spelled
 
 ISLAND_NODES, ISLAND_LINKS = 2048, 8192
 
@@ -80,9 +80,9 @@ def supports(profile, node):
 
 
 def is_eligible(area, profile, bond):
-    """A pair that no router end forbids, between nodes that support the profile."""
+    """A pair that no router end forbids, for transit traffic both ways, between nodes that support the profile."""
     ends = [(area.ids[bond.a], bond.data_a), (area.ids[bond.b], bond.data_b)]
-    return bond.paired and all(
+    return bond.paired and MAX_LINK_METRIC not in (bond.metric_a, bond.metric_b) and all(
         supports(profile, node) and (node.kind == NETWORK or (node.number, data) not in profile.ineligible) for node, data in ends)
 
 

@@ -3,6 +3,8 @@ import struct
 
 POINT_TO_POINT, TRANSIT, STUB, VIRTUAL = 1, 2, 3, 4
 FIRST_SEQUENCE = 0x80000001
+# The metric of a link that is not for transit traffic (RFC 6987).
+MAX_LINK_METRIC = 65535
 
 
 def sums(data):
