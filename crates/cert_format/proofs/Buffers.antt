@@ -1,13 +1,12 @@
 -- Bytes that go out, and bytes that stay.
-use Rattle.std.proofs.Common.{◌≡◌, ◌⊎◌, ◌+◌, ◌-◌, ◌≤◌, ℕ, List, [], ◌∷◌, ◌++◌, length, take, drop, min, Option, inl, inr, refl, sym, ap, subst, ◌∙◌, arith, append_assoc, length-append, length-take, length-drop}
+use Rattle.std.proofs.Common.{◌≡◌, ◌⊎◌, ◌<◌, ◌+◌, ◌-◌, ◌≤◌, ℕ, List, [], ◌∷◌, ◌++◌, length, take, drop, min, Option, inl, inr, refl, sym, ap, subst, ◌∙◌, arith, append_assoc, length-append, length-take, length-drop}
 use Rattle.mrt_io.proofs.Gaining.{Gained-append}
 use Rattle.mrt_io.specs.Writing.{Gained, GainedPart}
 use Rattle.mrt_io.specs.declared.device.PutError.{PutError}
 use Rattle.mrt_io.specs.declared.device.PutError.TheVariants.{Failed}
-use Rattle.mrt_graph.specs.declared.cert.CertNode.{CertNode}
-use Rattle.cert_format.specs.Limits.{HasNumber}
+use Rattle.cert_format.specs.Buffer.{piece_length}
 use Rattle.cert_format.specs.Unwritten.{IsFailedWithin, later_error}
-use Rattle.std.specs.List.{AllByRecursion, copy_within, flat_map}
+use Rattle.std.specs.List.{copy_within, flat_map}
 use Rattle.std.proofs.lemmas.Bool.{cases_lt}
 use Rattle.std.proofs.Math.Seq.{take-add}
 use Rattle.std.proofs.lemmas.List.{take-append-le, take-take, take_all, take_at, take-append-drop, drop_at, drop-drop, drop_all, drop-take}
@@ -66,31 +65,29 @@ pub failed_within : (i : ℕ) (error : PutError) (piece : List ℕ) (old new : O
 failed_within i (Failed part) piece old new few part_of = omega (arith, few, part_of.0)
 
 -- the bytes that go out, and those that stay
-pub parted : (i : ℕ) (all there after : List ℕ) → drop i all ≡ there ++ after → drop i all ≡ take 512 there ++ (drop 512 there ++ after)
+pub parted : (i : ℕ) (all there after : List ℕ) → drop i all ≡ there ++ after → drop i all ≡ take piece_length there ++ (drop piece_length there ++ after)
 parted i all there after e =
-    e ∙ ap (λ (it : List ℕ). it ++ after) (sym (take-append-drop 512 there)) ∙ append_assoc (take 512 there) (drop 512 there) after
+    e ∙ ap (λ (it : List ℕ). it ++ after) (sym (take-append-drop piece_length there)) ∙ append_assoc (take piece_length there) (drop piece_length there) after
 
-pub parted_length : (i : ℕ) (all there after : List ℕ) → drop i all ≡ there ++ after → i ≤ length all → i + length (take 512 there) ≤ length all
+pub parted_length : (i : ℕ) (all there after : List ℕ) → drop i all ≡ there ++ after → i ≤ length all → i + length (take piece_length there) ≤ length all
 parted_length i all there after e within =
     let left : length all - i ≡ length there + length after = sym (length-drop i all) ∙ ap length e ∙ length-append there after in
-    omega (arith, left, within, length-take 512 there)
+    omega (arith, left, within, length-take piece_length there)
 
 -- what is left once they went out
-pub left_after : (i : ℕ) (all there after : List ℕ) → drop i all ≡ there ++ after → drop (i + length (take 512 there)) all ≡ drop 512 there ++ after
+pub left_after : (i : ℕ) (all there after : List ℕ) → drop i all ≡ there ++ after → drop (i + length (take piece_length there)) all ≡ drop piece_length there ++ after
 left_after i all there after e =
-    sym (drop-drop (length (take 512 there)) i all) ∙ ap (drop (length (take 512 there))) (parted i all there after e)
-    ∙ drop_at (take 512 there) (drop 512 there ++ after) (length (take 512 there)) refl
+    sym (drop-drop (length (take piece_length there)) i all) ∙ ap (drop (length (take piece_length there))) (parted i all there after e)
+    ∙ drop_at (take piece_length there) (drop piece_length there ++ after) (length (take piece_length there)) refl
 
 -- nothing is there, so nothing is left
-pub all_went : (i : ℕ) (all there after : List ℕ) → drop i all ≡ there ++ after → i ≤ length all → (512 ≤ length there) ⊎ (after ≡ []) → there ≡ [] → length all ≡ i
+pub all_went : (i : ℕ) (all there after : List ℕ) → drop i all ≡ there ++ after → i ≤ length all → (piece_length ≤ length there) ⊎ (after ≡ []) → there ≡ [] → length all ≡ i
 all_went i all there after e within full none =
     let nothing : after ≡ [] = elim full [ inl many ↦ absurd (omega (arith, many, ap length none)) | inr gone ↦ gone ] in
     let left : length all - i ≡ length there + length after = sym (length-drop i all) ∙ ap length e ∙ length-append there after in
     omega (arith, left, within, ap length none, ap length nothing)
 
--- nothing is there, so no node is left
-pub no_node_left : (there : List ℕ) (nodes : List CertNode) → (512 ≤ length there) ⊎ (nodes ≡ []) → there ≡ [] → AllByRecursion HasNumber nodes
-no_node_left there nodes full none = elim full [
-  | inl many ↦ absurd (omega (arith, many, ap length none))
-  | inr gone ↦ subst (AllByRecursion HasNumber) (sym gone) tt
-]
+-- some are there, so some go out
+pub some_go : (there : List ℕ) → (there ≡ [] → ⊥) → 0 < length (take piece_length there)
+some_go [] some = absurd (some refl)
+some_go (byte ∷ there) some = omega (arith, length-take piece_length (byte ∷ there))

@@ -1,5 +1,5 @@
 -- Room for the parts that are to come.
-use Rattle.std.proofs.Common.{◌≡◌, ◌+◌, ◌≤◌, ℕ, length, Option, Some, None, vec_capacity, sym, ap, subst, ◌∙◌, arith}
+use Rattle.std.proofs.Common.{◌≡◌, ◌+◌, ◌≤◌, length, Option, Some, None, vec_capacity, sym, ap, subst, ◌∙◌, arith}
 use Rattle.cert_format.specs.declared.header.Header.{Header}
 use Rattle.cert_format.specs.declared.kept.Kept.{Kept}
 use Rattle.cert_format.specs.Parts.{row_count}

@@ -1,12 +1,20 @@
 -- Bytes on their way to a sink.
-use Rattle.std.specs.Prelude.{◌≡◌, ◌≤◌, ℕ, List, length, take}
+use Rattle.std.specs.Prelude.{◌≡◌, ◌+◌, ◌≤◌, ℕ, List, length, take}
 use Rattle.cert_format.specs.declared.buffer.Buffer.{Buffer}
+
+-- how many bytes go out at once
+abbrev pub piece_length : ℕ
+piece_length = 65536
+
+-- how many there is room for: a part has at most 14
+abbrev pub room_length : ℕ
+room_length = piece_length + 14
 
 -- the bytes that are there
 abbrev pub buffer_of : Buffer → List ℕ
 buffer_of buffer = take buffer.len buffer.bytes
 
--- as many as it says, at most 526
+-- as many as it says, and there is room for them
 pub record IsBuffer (buffer : Buffer) : Type 0 where
-  pub small : buffer.len ≤ 526
+  pub small : buffer.len ≤ room_length
   pub many : length (buffer_of buffer) ≡ buffer.len

@@ -8,11 +8,10 @@ use Rattle.mrt_io.specs.declared.device.PutError.{PutError}
 use Rattle.mrt_io.specs.declared.device.PutError.TheVariants.{Failed}
 use Rattle.cert_format.specs.CertText.{node_text, link_text, row_text}
 
--- the bytes that are there, those of the parts after them, and the nodes among these
+-- the bytes that are there, and those of the parts after them
 pub record Unwritten : Type 0 where
   pub there : List ℕ
   pub after : List ℕ
-  pub nodes : List CertNode
 
 -- the bytes of nodes, links and rows
 abbrev pub parts_text : List CertNode → List CertLink → List Row → List ℕ

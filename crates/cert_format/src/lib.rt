@@ -11,6 +11,7 @@ mod field;
 mod header;
 mod held;
 mod kept;
+mod limits;
 mod list;
 mod part;
 mod putting;
@@ -20,6 +21,7 @@ mod writing;
 
 pub use cert_reader::CertReader;
 pub use error::{CertError, CertFault, CertKind};
+pub use limits::within_version_one;
 pub use putting::put_cert;
 pub use reading::{any_pieces, one_spelling, read_cert};
 pub use writing::write_cert;

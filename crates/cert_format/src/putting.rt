@@ -3,12 +3,13 @@
 ghost use Rattle.std.specs.Prelude.{◌≡◌, ◌⊎◌, ◌-◌, ◌≤◌, ◌++◌, ◌↔◌, ℕ, [], IsTrue, length, IsOk, IfErr, OnOk};
 ghost use Rattle.mrt_io.specs.Counts.{Rose};
 ghost use Rattle.mrt_io.specs.Writing.{Gained, GainedPart};
-ghost use Rattle.std.specs.List.{AllByRecursion};
+ghost use Rattle.cert_format.specs.Buffer.{piece_length};
 ghost use Rattle.cert_format.specs.CertText.{cert_text};
-ghost use Rattle.cert_format.specs.Limits.{HasNumber, IsVersionOne};
+ghost use Rattle.cert_format.specs.Limits.{IsVersionOne};
 ghost use Rattle.cert_format.specs.Unwritten.{IsFailedWithin, later_error};
 
 use crate::buffer::Buffer;
+use crate::limits::within_version_one;
 use crate::writing::header_bytes;
 use mrt_graph::{CertFile, CertLink, CertNode, Row};
 use mrt_io::{PutError, Sink, put_all};
@@ -32,7 +33,6 @@ impl<'a> Model for Left<'a> {
     ghost view = { λ l. record {
       there = buffer_of l.buffer;
       after = parts_text l.nodes.now l.links.now l.rows.now;
-      nodes = l.nodes.now;
     } };
 
     ghost invariant = { λ l. IsBuffer l.buffer };
@@ -46,7 +46,6 @@ impl<'a> Left<'a> {
         requires links { length f.now.cert.links ≤ 8192 }
         ensures all { result.there ++ result.after ≡ cert_text f.now }
         ensures few { length (cert_text f.now) ≤ 21041166 }
-        ensures within { AllByRecursion HasNumber result.nodes → IsVersionOne f.now }
     {
         let cert = &f.cert;
         let mut buffer = Buffer::new();
@@ -59,12 +58,10 @@ impl<'a> Left<'a> {
         }
     }
 
-    /// Brings 512 bytes there, or all that are left.
+    /// Brings a piece there, or all the bytes that are left.
     fn fill(&mut self)
         ensures same { self.new.there ++ self.new.after ≡ self.old.there ++ self.old.after }
-        ensures full { (512 ≤ length self.new.there) ⊎ (self.new.after ≡ []) }
-        ensures nodes { (512 ≤ length self.new.there) ⊎ (self.new.nodes ≡ []) }
-        ensures numbers { AllByRecursion HasNumber self.new.nodes → AllByRecursion HasNumber self.old.nodes }
+        ensures full { (piece_length ≤ length self.new.there) ⊎ (self.new.after ≡ []) }
     {
         self.nodes = self.buffer.fill_nodes(self.nodes);
         if !self.nodes.is_empty() {
@@ -84,24 +81,23 @@ impl<'a> Left<'a> {
         self.buffer.front().is_empty()
     }
 
-    /// The first 512 bytes that are there, or all where there are fewer.
+    /// The first piece of the bytes that are there, or all where there are fewer.
     fn front(&self) -> &[u8]
-        ensures { result.now ≡ take 512 self.now.there }
+        ensures { result.now ≡ take piece_length self.now.there }
     {
         self.buffer.front()
     }
 
     /// Forgets these.
     fn drop_front(&mut self)
-        ensures there { self.new.there ≡ drop 512 self.old.there }
+        ensures there { self.new.there ≡ drop piece_length self.old.there }
         ensures after { self.new.after ≡ self.old.after }
-        ensures nodes { self.new.nodes ≡ self.old.nodes }
     {
         self.buffer.drop_front();
     }
 }
 
-/// Writes the bytes of a certificate file of version 1, 512 at a time, as [`write_cert`](crate::write_cert) gives them.
+/// Writes the bytes of a certificate file of version 1, 65,536 at a time, as [`write_cert`](crate::write_cert) gives them.
 /// It takes no memory.
 ///
 /// It takes time in proportion to the bytes.
@@ -113,7 +109,7 @@ pub fn put_cert<K: Sink>(sink: &mut K, f: &CertFile) -> Result<(), PutError>
     requires nodes { length f.now.cert.nodes ≤ 2048 }
     requires links { length f.now.cert.links ≤ 8192 }
     ensures gained { OnOk result (Gained (K.written sink.old) (cert_text f.now) (K.written sink.new)) }
-    ensures within { OnOk result (IsVersionOne f.now) }
+    ensures within { IsVersionOne f.now }
     ensures part { IfErr result (GainedPart (K.written sink.old) (cert_text f.now) (K.written sink.new)) }
     ensures cause { IfErr result (λ _. Rose (K.faults sink.old) (K.faults sink.new)) }
     ensures count { K.faults sink.old ≤ K.faults sink.new }
@@ -125,6 +121,7 @@ pub fn put_cert<K: Sink>(sink: &mut K, f: &CertFile) -> Result<(), PutError>
     ensures stays_healthy { (n : ℕ) → K.healthy_for sink.old n → length (cert_text f.now) ≤ n
         → K.healthy_for sink.new (n - length (cert_text f.now)) }
 {
+    within_version_one(f);
     put_left(sink, Left::new(f))
 }
 
@@ -133,7 +130,6 @@ fn put_left<K: Sink>(sink: &mut K, left: Left<'_>) -> Result<(), PutError>
     requires { length (left.there ++ left.after) ≤ 21041166 }
     ensures gained { OnOk result
         (Gained (K.written sink.old) (left.entry.there ++ left.entry.after) (K.written sink.new)) }
-    ensures numbers { OnOk result (AllByRecursion HasNumber left.entry.nodes) }
     ensures part { IfErr result
         (GainedPart (K.written sink.old) (left.entry.there ++ left.entry.after) (K.written sink.new)) }
     ensures cause { IfErr result (λ _. Rose (K.faults sink.old) (K.faults sink.new)) }

@@ -1,10 +1,6 @@
 use Rattle.std.proofs.Common.{List, ℕ, IfErr, subst}
-use Rattle.std.proofs.lemmas.Result.{on_ok_weaker}
 use Rattle.mrt_io.specs.Writing.{GainedPart}
 use Rattle.cert_format.proofs.putting.put_cert.Goals as goal
-
-pub returns-clause-within : goal.returns-clause-within
-returns-clause-within g c = on_ok_weaker c.put_left.result c.new.ensures.within c.put_left.ensures.numbers
 
 pub returns-clause-part : goal.returns-clause-part
 returns-clause-part g c =

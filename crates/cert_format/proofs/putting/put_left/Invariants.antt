@@ -1,7 +1,6 @@
 use Rattle.std.proofs.Common.{◌≡◌, ◌⊎◌, ◌≤◌, ◌-◌, ◌++◌, ℕ, [], length, take, drop}
-use Rattle.std.specs.List.{AllByRecursion}
 use Rattle.mrt_io.specs.Writing.{Gained}
-use Rattle.cert_format.specs.Limits.{HasNumber}
+use Rattle.cert_format.specs.Buffer.{piece_length}
 use Rattle.cert_format.proofs.putting.put_left.Given as goal
 
 -- So many bytes were taken, without a fault where the sink is healthy for all of them; the others are left.
@@ -11,9 +10,7 @@ invariant-loop-left g l =
     record {
       within : l.taken ≤ length all;
       left : drop l.taken all ≡ l.left.there ++ l.left.after;
-      full : (512 ≤ length l.left.there) ⊎ (l.left.after ≡ []);
-      nodes : (512 ≤ length l.left.there) ⊎ (l.left.nodes ≡ []);
-      numbers : AllByRecursion HasNumber l.left.nodes → AllByRecursion HasNumber l.fn.left.nodes;
+      full : (piece_length ≤ length l.left.there) ⊎ (l.left.after ≡ []);
       gained : Gained (g.K.Sink.written l.fn.sink) (take l.taken all) (g.K.Sink.written l.sink);
       count : g.K.Sink.faults l.fn.sink ≤ g.K.Sink.faults l.sink;
       no_fault : (n : ℕ) → g.K.Sink.healthy_for l.fn.sink n → length all ≤ n

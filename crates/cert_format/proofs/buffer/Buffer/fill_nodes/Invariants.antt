@@ -1,14 +1,12 @@
 use Rattle.std.proofs.Common.{◌≡◌, ◌++◌, length}
-use Rattle.std.specs.List.{AllByRecursion, flat_map}
+use Rattle.std.specs.List.{flat_map}
 use Rattle.cert_format.specs.Buffer.{IsBuffer, buffer_of}
 use Rattle.cert_format.specs.CertText.{node_text}
-use Rattle.cert_format.specs.Limits.{HasNumber}
 use Rattle.cert_format.proofs.buffer.Buffer.fill_nodes.Given as goal
 
 abbrev pub invariant-loop-self : goal.invariant-loop-self
 invariant-loop-self l = record {
   text : buffer_of l.self ++ flat_map node_text l.nodes ≡ buffer_of l.fn.self ++ flat_map node_text l.fn.nodes;
-  numbers : AllByRecursion HasNumber l.nodes → AllByRecursion HasNumber l.fn.nodes;
   kept : IsBuffer l.self;
 }
 
