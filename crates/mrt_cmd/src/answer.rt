@@ -53,7 +53,7 @@ fn answer_for(
 {
     match task {
         Task::Check { .. } => Ok(Text::Line(check(alloc, database, profile, last)?)),
-        Task::Certify { router } => Ok(Text::Bytes(certificate(alloc, database, profile, router)?)),
+        Task::Certify { router } => Ok(Text::Cert(certificate(alloc, database, profile, router)?)),
         Task::Table { router } => Ok(Text::Bytes(table(alloc, database, profile, router)?)),
         Task::Trace { trace: asked } => Ok(Text::Bytes(trace(alloc, database, profile, &asked)?)),
         Task::Fabric { .. } => Ok(Text::Bytes(run_of_bytes(alloc, database, profile, last)?)),

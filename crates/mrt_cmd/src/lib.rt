@@ -19,6 +19,7 @@ mod survey_law;
 mod table;
 mod text;
 mod verdict;
+mod version_one;
 mod words;
 
 pub use exit::{DbKind, Exit, What};

@@ -127,7 +127,7 @@ pub fn run<F: Shelf, K: Sink, E: Sink>(
         return put_line(err, Exit::Usage);
     };
     match text_of(alloc, form, shelf) {
-        Ok(text) => put_text(out, err, text.as_slice()),
+        Ok(text) => put_text(out, err, &text),
         Err(exit) => put_line(err, exit),
     }
 }
@@ -167,20 +167,20 @@ fn text_of_files<F: Shelf>(alloc: Global, form: FileForm<'_>, shelf: &mut F) -> 
 }
 
 /// Writes the answer's text, or else the line of the fault.
-fn put_text<K: Sink, E: Sink>(out: &mut K, err: &mut E, text: &[u8]) -> Exit
+fn put_text<K: Sink, E: Sink>(out: &mut K, err: &mut E, text: &Text) -> Exit
     ensures kind { WritesNothing result → ⊥ }
-    ensures done { result ≡ Exit.Done → Gained (K.written out.old) text.now (K.written out.new) }
+    ensures done { result ≡ Exit.Done → Gained (K.written out.old) (bytes_of text.now) (K.written out.new) }
     ensures write_fault { (taken : ℕ) → result ≡ Exit.WriteFault taken
         → IsCutShort (K.healthy_for out.old) (K.faults out.old) (K.faults out.new)
-        (K.written out.old) (K.written out.new) text.now taken }
+        (K.written out.old) (K.written out.new) (bytes_of text.now) taken }
     ensures calm { (Rose (K.faults out.old) (K.faults out.new) → ⊥) → result ≡ Exit.Done }
-    ensures healthy { K.healthy_for out.old (length text.now) → result ≡ Exit.Done }
-    ensures no_fault { K.healthy_for out.old (length text.now) → K.faults out.new ≡ K.faults out.old }
+    ensures healthy { K.healthy_for out.old (length (bytes_of text.now)) → result ≡ Exit.Done }
+    ensures no_fault { K.healthy_for out.old (length (bytes_of text.now)) → K.faults out.new ≡ K.faults out.old }
     ensures silent { result ≡ Exit.Done → err.new ≡ err.old }
     ensures line { (result ≡ Exit.Done → ⊥) → GainedLine (E.healthy_for err.old) (E.faults err.old) (E.faults err.new)
         (E.written err.old) (E.written err.new) (line_of result) }
 {
-    match put_all(out, text) {
+    match text.put(out) {
         Ok(()) => Exit::Done,
         Err(fault) => put_line(err, Exit::from(fault)),
     }

@@ -1,24 +1,36 @@
 //! The text of an answer.
 
-ghost use Rattle.std.specs.Prelude.{◌≡◌};
+ghost use Rattle.std.specs.Prelude.{◌≡◌, ◌≤◌, ℕ, length, IsOk, IfErr, OnOk};
+ghost use Rattle.mrt_io.specs.Counts.{Rose};
+ghost use Rattle.mrt_io.specs.Writing.{Gained, GainedPart};
 ghost use Rattle.mrt_cmd.specs.TextBytes.{bytes_of};
 
 use crate::line::Line;
+use crate::version_one::VersionOne;
+use mrt_io::{PutError, Sink, put_all};
 
-/// A line in a fixed array, or bytes for which memory was taken.
+/// A line in a fixed array, bytes for which memory was taken, or a certificate whose bytes are still to be made.
 #[derive(Drop)]
 pub(crate) enum Text {
     Line(Line),
     Bytes(Vec<u8>),
+    Cert(VersionOne),
 }
 
 impl Text {
-    pub(crate) fn as_slice(&self) -> &[u8]
-        ensures { result.now ≡ bytes_of self.now }
+    /// Writes the bytes to a sink, or as many as it takes, and takes no memory.
+    pub(crate) fn put<K: Sink>(&self, sink: &mut K) -> Result<(), PutError>
+        ensures gained { OnOk result (Gained (K.written sink.old) (bytes_of self.now) (K.written sink.new)) }
+        ensures part { IfErr result (GainedPart (K.written sink.old) (bytes_of self.now) (K.written sink.new)) }
+        ensures cause { IfErr result (λ _. Rose (K.faults sink.old) (K.faults sink.new)) }
+        ensures succeeds { K.healthy_for sink.old (length (bytes_of self.now)) → IsOk result }
+        ensures no_fault { (n : ℕ) → K.healthy_for sink.old n → length (bytes_of self.now) ≤ n
+            → K.faults sink.new ≡ K.faults sink.old }
     {
         match self {
-            Text::Line(line) => line.as_slice(),
-            Text::Bytes(bytes) => bytes.as_slice(),
+            Text::Line(line) => put_all(sink, line.as_slice()),
+            Text::Bytes(bytes) => put_all(sink, bytes.as_slice()),
+            Text::Cert(cert) => cert.put(sink),
         }
     }
 }

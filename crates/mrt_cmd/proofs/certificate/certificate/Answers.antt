@@ -1,4 +1,5 @@
-use Rattle.std.proofs.Common.{arith}
+use Rattle.std.proofs.Common.{ap, arith}
+use Rattle.cert_format.specs.CertText.{cert_text}
 use Rattle.mrt_graph.specs.declared.cert.CertFile.{CertFile}
 use Rattle.mrt_rows.specs.CertOf.{file_of}
 use Rattle.mrt_cmd.specs.Certified.{IsComputed}
@@ -12,12 +13,12 @@ compute-requires c = root_within _ _ _ _ _ _ c.in_ok-island.ensures.island
 pub id-requires : goal.id-requires
 id-requires c = root_within _ _ _ _ _ _ c.in_ok-island.ensures.island
 
-pub write_cert-requires-clause-nodes : goal.write_cert-requires-clause-nodes
-write_cert-requires-clause-nodes c =
+pub new-requires-clause-nodes : goal.new-requires-clause-nodes
+new-requires-clause-nodes c =
     omega (arith, c.in_ok-cert.ensures.counts.0, c.in_ok-cert.ensures.kept.few_nodes)
 
-pub write_cert-requires-clause-links : goal.write_cert-requires-clause-links
-write_cert-requires-clause-links c =
+pub new-requires-clause-links : goal.new-requires-clause-links
+new-requires-clause-links c =
     omega (arith, c.in_ok-cert.ensures.counts.1, c.in_ok-cert.ensures.kept.few_links)
 
 pub returns-clause-certified : goal.returns-clause-certified
@@ -32,11 +33,11 @@ returns-clause-certified c =
       island = c.in_ok-island.ensures.island;
       within = few island.graph c.in_ok-cert.ensures.kept;
     } in
-    let computed : IsComputed island.graph island.root c.in_ok-text.text.items = record {
+    let computed : IsComputed island.graph island.root (cert_text c.new.result) = record {
       kept = c.in_ok-cert.ensures.kept;
       file = file;
       computed = c.in_ok-cert.ensures.cert c.id.result c.id.ensures;
-      spelled = record { within = c.in_ok-text.ensures.within; spelled = c.in_ok-text.ensures.text };
+      spelled = record { within = c.new.ensures.within; spelled = ap cert_text c.new.ensures.file };
       accepted = accepted;
       sound = c.accepted_implies_sound.ensures island.graph island.root file accepted;
     } in

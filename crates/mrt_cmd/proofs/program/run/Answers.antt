@@ -23,7 +23,7 @@ pub returns-in-Ok-clause-write_fault : goal.returns-in-Ok-clause-write_fault
 returns-in-Ok-clause-write_fault g c = λ taken is.
     let given : GivesText (g.F.Shelf.held c.args.shelf.now) c.args.words.now
     (bytes_of c.in-Ok.text) = search rules in
-    (bytes_of c.in-Ok.text, given, rw c.as_slice.ensures at (c.put_text.ensures.write_fault taken is))
+    (bytes_of c.in-Ok.text, given, c.put_text.ensures.write_fault taken is)
 
 pub returns-in-Ok-clause-comes : goal.returns-in-Ok-clause-comes
 returns-in-Ok-clause-comes g c = λ shelf_spared out_spared.
@@ -31,7 +31,7 @@ returns-in-Ok-clause-comes g c = λ shelf_spared out_spared.
     (bytes_of c.in-Ok.text) = search rules in
     let done : c.put_text.result ≡ Done = elim out_spared [
       | inl calm ↦ c.put_text.ensures.calm calm
-      | inr healthy ↦ c.put_text.ensures.healthy (rw c.as_slice.ensures (healthy (bytes_of c.in-Ok.text) given))
+      | inr healthy ↦ c.put_text.ensures.healthy (healthy (bytes_of c.in-Ok.text) given)
     ] in
     inl (inr (inl (done, bytes_of c.in-Ok.text, given)))
 
