@@ -18,6 +18,8 @@ mod node_texts;
 #[cfg(test)]
 mod numbers_and_words;
 #[cfg(test)]
+mod opened_files;
+#[cfg(test)]
 mod plain_islands;
 #[cfg(test)]
 mod plain_programs;
