@@ -2,12 +2,8 @@
 use Rattle.std.specs.Prelude.{◌≡◌, ◌++◌, ℕ, List, Option, Some, None, IfSome}
 use Rattle.std.specs.Option.{IsSomeAnd}
 use Rattle.mrt_io.specs.Holding.{Files}
-use Rattle.mrt_io.specs.declared.device.OpenError.{OpenError}
-use Rattle.mrt_io.specs.declared.device.OpenError.TheVariants as open_errors
-use Rattle.mrt_io.specs.declared.device.ShelfError.{ShelfError}
-use Rattle.mrt_io.specs.declared.device.ShelfError.TheVariants as read_errors
 
--- a file of this name is held, and all of its bytes are told to be left; no claim where it is not told what is held
+-- a file of this name is held, and it is told that all of its bytes are left; no claim where it is not told what is held
 abbrev pub IsLeftOf : Option Files → List ℕ → Option (List ℕ) → Type 0
 IsLeftOf held name left = IfSome held (λ files. IsSomeAnd left (λ bytes. files name ≡ Some bytes))
 
@@ -15,8 +11,3 @@ IsLeftOf held name left = IfSome held (λ files. IsSomeAnd left (λ bytes. files
 abbrev pub IsTakenOff : Option (List ℕ) → List ℕ → Option (List ℕ) → Type 0
 IsTakenOff None taken now = now ≡ None
 IsTakenOff (Some before) taken now = IsSomeAnd now (λ left. before ≡ taken ++ left)
-
--- what a read answers where its name could not be opened
-abbrev pub read_error : OpenError → ShelfError
-read_error open_errors.Failed = read_errors.Failed
-read_error open_errors.NoMemory = read_errors.NoMemory

@@ -57,7 +57,7 @@ pub enum PutError {
     Failed { taken: u64 },
 }
 
-/// What files are read from: a whole file by one call, or the one that is open in pieces.
+/// What files are read from: a whole file by one call, or the open file in pieces.
 ///
 /// Its count of faults is a number of 64 bits that never falls and stays at its last value.
 pub trait Shelf {
@@ -100,7 +100,7 @@ pub trait Shelf {
 
     /// Opens the file of this name at its front. Whatever was open before is not open any more.
     fn open(&mut self, alloc: Global, name: &Word) -> Result<(), OpenError>
-        // A name is open just where it is `Ok`. Where it is told what is held, that is what is left.
+        // A name is open just where it is `Ok`. Where it is told what is held, the file is held and all of its bytes are left.
         ensures open { OnOk result (is_open self.new) }
         ensures closed { OnErr result (is_open self.new → ⊥) }
         ensures left { OnOk result (IsLeftOf (held self.old) name.now (left self.new)) }
@@ -128,8 +128,8 @@ pub trait Shelf {
 
         ensures count { faults self.old ≤ faults self.new }
         ensures unchanged { held self.new ≡ held self.old }
-        ensures no_fault { healthy self.old → IsSome (left self.old) → faults self.new ≡ faults self.old }
-        ensures stays_healthy { healthy self.old → IsSome (left self.old) → healthy self.new };
+        ensures no_fault { healthy self.old → faults self.new ≡ faults self.old }
+        ensures stays_healthy { healthy self.old → healthy self.new };
 
     // A count at its last value could not rise any more, so no shelf is healthy there.
     ghost healthy_below: { (shelf : Self) → healthy shelf → faults shelf < last_count };
@@ -167,10 +167,6 @@ pub trait Sink {
 }
 
 impl From<OpenError> for ShelfError {
-    ghost use Rattle.mrt_io.specs.Left.{read_error};
-
-    ghost from_gives = { λ error cause. cause ≡ read_error error };
-
     fn from(error: OpenError) -> ShelfError {
         match error {
             OpenError::Failed => ShelfError::Failed,

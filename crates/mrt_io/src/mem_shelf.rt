@@ -87,7 +87,7 @@ fn file_named<'a>(files: &'a [(Word, Vec<u8>)], name: &Word) -> Option<&'a [u8]>
     Some(files[place].1.as_slice())
 }
 
-/// The first file of this name, open at its front; none where the call is to fail.
+/// The first file of this name, open at its front; none where there is no such file or the call is to fail.
 fn front_of(files: &[(Word, Vec<u8>)], name: &Word, failing: bool) -> Option<Open>
     ensures opened { IsOpenIn (named files.now) result }
     ensures left { left_of (named files.now) result ≡ (if failing then None else file_of (named files.now) name.now) }

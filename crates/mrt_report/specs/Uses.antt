@@ -9,7 +9,7 @@ use Rattle.mrt_report.specs.LineParts.{LineParts}
 use Rattle.mrt_report.specs.declared.elements.ArcElements.{ArcElements}
 use Rattle.mrt_report.specs.declared.uses.ArcUses.{ArcUses}
 
--- a step over link e to node v is over the element, if there is one
+-- a hop over link e to node v is over the element, if there is one
 abbrev pub IsOverOne : ℕ → ℕ → Option Element → Type 0
 IsOverOne e v None = ⊥
 IsOverOne e v (Some x) = IsOver e v x

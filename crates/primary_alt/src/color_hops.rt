@@ -33,7 +33,9 @@ pub fn hop_on(g: &Graph, c: &Cert, at: NodeNo, t: NodeNo, color: Color) -> Color
     next_hop(g, c, at, t, color)
 }
 
-/// Where a packet for `t` goes from `at` on a color, by these rows.
+/// Where a packet for `t` goes from `at` on a color, by these rows (RFC 7812, section 5.2).
+///
+/// It takes the time of reading one row and one link.
 pub fn next_hop<R: RowsOf>(g: &Graph, rows: &R, at: NodeNo, t: NodeNo, color: Color) -> ColorHop
     requires { IsSome (color_hop g.now.links (R.rows rows.now) color t at) }
     ensures hop { color_hop g.now.links (R.rows rows.now) color t at
