@@ -1,6 +1,8 @@
+pub mod Causes
 pub mod Databases
 pub mod Entering
 pub mod Exactly
+pub mod Held
 pub mod MadeNetworks
 pub mod NeverSaid
 pub mod OneCertificate

@@ -1,14 +1,12 @@
 -- Exits that no refusal of a form is: yes, the usage, and a fault of the output.
-use Rattle.std.proofs.Common.{◌≡◌, ◌+◌, ℕ, List, [], ◌∷◌, Option, Some, None, inl, inr, subst}
-use Rattle.std.specs.Option.{IsSomeAnd}
+use Rattle.std.proofs.Common.{◌≡◌, ◌+◌, ℕ, List, [], ◌∷◌, Option, Some, None, inl, inr}
 use Rattle.mrt_io.specs.Holding.{Files}
 use Rattle.mrt_cmd.specs.declared.exit.Exit.{Exit}
 use Rattle.mrt_cmd.specs.declared.exit.Exit.TheVariants as exits
 use Rattle.mrt_cmd.specs.declared.exit.What.{What}
 use Rattle.mrt_cmd.specs.Answers.{FileBytes, IsRefusedOver, IsRefusedTask}
-use Rattle.mrt_cmd.specs.Comes.{IsRefused, Refuses}
 use Rattle.mrt_cmd.specs.Files.{NamedFile, IsRefusedBy, SaysOneOf, files_in}
-use Rattle.mrt_cmd.specs.Form.{Form, OfFiles, Survey, Task, Check, Certify, Table, Trace, Fabric, form_of}
+use Rattle.mrt_cmd.specs.Form.{Form, OfFiles, Survey, Task, Check, Certify, Table, Trace, Fabric}
 use Rattle.mrt_cmd.specs.Input.{Input}
 use Rattle.mrt_cmd.specs.Islands.{HasNoIslandFor}
 use Rattle.mrt_cmd.specs.Packets.{IsNoRun}
@@ -87,15 +85,3 @@ pub not_of_form : (held : Option Files) (form : Form) (before now : ℕ) (exit :
 not_of_form held form before now exit OfDone said = not_of_refusal held form exits.Done OfDone said
 not_of_form held form before now exit OfUsage said = not_of_refusal held form exits.Usage OfUsage said
 not_of_form held form before now exit OfOutput said = not_of_refusal held form _ OfOutput said
-
--- where a refusal of the words' form is no, the words check
-pub no_is_refused : (held : Option Files) (words : List (List ℕ)) (form : Form) (before now rule a b : ℕ) (exit : Exit)
-    → Some form ≡ form_of words → exit ≡ exits.No rule a b → IsRefusalOrFault held form before now exit
-    → IsRefused held words (exits.No rule a b)
-no_is_refused held words form before now rule a b exit is is_no said =
-    subst (λ (it : Option Form). IsSomeAnd it (λ f. Refuses held f (exits.No rule a b))) is
-    (refused (subst (IsRefusalOrFault held form before now) is_no said))
-  where
-    refused : IsRefusalOrFault held form before now (exits.No rule a b) → Refuses held form (exits.No rule a b)
-    refused (inl said) = said
-    refused (inr memory) = cc

@@ -22,7 +22,6 @@ use Rattle.std.proofs.Common.{
   arith,
 }
 use Rattle.std.specs.Prelude.{IfErr, Some, nat_lt, slice_get, if◌then◌else◌}
-use Rattle.std.specs.Option.{IsSomeAnd}
 use Rattle.std.specs.Result.{IsErrAnd}
 use Rattle.std.proofs.lemmas.Bool.{ltb-true, ltb-false}
 use Rattle.std.proofs.lemmas.Option.{slice_get_within}
@@ -42,9 +41,9 @@ use Rattle.mrt_cmd.specs.declared.exit.Exit.TheVariants as exits
 use Rattle.mrt_cmd.specs.declared.exit.What.TheVariants as whats
 use Rattle.mrt_io.specs.Holding.{Files}
 use Rattle.mrt_cmd.specs.Answers.{FileBytes, IsRefusedOver}
-use Rattle.mrt_cmd.specs.Comes.{AreRead, Comes, IsLastRead, Refuses}
+use Rattle.mrt_cmd.specs.Comes.{AreRead, IsLastRead}
 use Rattle.mrt_cmd.specs.Files.{task_file}
-use Rattle.mrt_cmd.specs.Form.{FileForm, Form, OfFiles, Task, Check, Certify, Table, Trace, Fabric, form_of}
+use Rattle.mrt_cmd.specs.Form.{FileForm, Form, OfFiles, Task, Check, Certify, Table, Trace, Fabric}
 use Rattle.mrt_cmd.specs.Input.{Input, HasAreaWithin, HasIsland, IsCertFile, IsInput, area, policy}
 use Rattle.mrt_cmd.specs.Reading.{
   AreUnread,
@@ -237,13 +236,6 @@ unread_or_fault held form before now (exits.ReadFault word) said = said
 unread_or_fault held form before now (exits.TooLarge what size) said = unread_refused held form (exits.TooLarge what size) said
 unread_or_fault held form before now exits.NoMemory said = inr refl
 unread_or_fault held form before now exit said = unread_refused held form exit said
-
--- a refusal of the form of the words is what comes of them
-pub refusal_comes : (held : Option Files) (words : List (List ℕ)) (form : Form) (exit : Exit)
-    → Some form ≡ form_of words → IsRefusal held form exit → Comes held words exit ⊎ (exit ≡ exits.NoMemory)
-refusal_comes held words form exit is (inl refused) =
-    inl (inr (inr (subst (λ (it : Option Form). IsSomeAnd it (λ form. Refuses held form exit)) is refused)))
-refusal_comes held words form exit is (inr memory) = inr memory
 
 -- the bytes of the file that a task names are within its limit
 pub last_within : (held : Option Files) (task : Task) (bytes : List ℕ) → IsLastRead held (task_file task) bytes

@@ -25,13 +25,11 @@ use Rattle.mrt_cmd.specs.Certified.{IsCertified}
 use Rattle.mrt_cmd.specs.Comes.{AreRead, Gives, GivesText, IsProfileRead, Refuses}
 use Rattle.mrt_graph.specs.Spelling.{address_in}
 use Rattle.mrt_cmd.specs.Files.{NamedFile, SaysOneOf, files_in, refusal_of}
-use Rattle.mrt_cmd.specs.Form.{FileForm, Form, OfFiles, Survey, Task, Check, Certify, Table, Trace, Fabric, IsCheck, IsCheckTask, form_of, profile_name}
+use Rattle.mrt_cmd.specs.Form.{FileForm, Form, OfFiles, Survey, Task, Check, Certify, Table, Trace, Fabric, IsCheck, IsCheckTask, profile_name}
 use Rattle.mrt_cmd.specs.Headline.{ChecksWritten, IsPassed, profile_held}
 use Rattle.mrt_cmd.specs.Input.{Input, HasIsland, IsInput, area, policy}
-use Rattle.mrt_cmd.specs.Reading.{IsRefusalOrFault}
 use Rattle.mrt_cmd.specs.Run.{WritesNothing}
 use Rattle.mrt_cmd.specs.Verdict.{accepted_line}
-use Rattle.mrt_cmd.proofs.Exactly.{ComesOnce}
 use Rattle.mrt_cmd.proofs.OneExit.{AreaLaws, is_area}
 use Rattle.mrt_cmd.proofs.OneVerdict.{contained}
 
@@ -192,23 +190,6 @@ passed_written (exits.ReadFault word) never = tt
 passed_written (exits.WriteFault taken) never = tt
 passed_written exits.NoMemory never = tt
 passed_written exit never = absurd (never tt)
-
--- where the words give a text, they are refused by no exit but that of a device or of memory
-module _ (once : ComesOnce) (files : Files) (words : List (List ℕ)) (form : Form) (is : Some form ≡ form_of words)
-    (line : List ℕ) (given : GivesText (Some files) words line) where
-  refused_done : (exit : Exit) → Refuses (Some files) form exit → exits.Done ≡ exit
-  refused_done exit refused =
-      once files words exits.Done exit (inr (inl (refl, line, given)))
-      (inr (inr (subst (λ (it : Option Form). IsSomeAnd it (λ form. Refuses (Some files) form exit)) is refused)))
-
-  pub passed_refused : (before now : ℕ) (exit : Exit) → IsRefusalOrFault (Some files) form before now exit
-      → IsPassed exit
-  passed_refused before now exits.Done said = tt
-  passed_refused before now (exits.ReadFault word) said = tt
-  passed_refused before now (exits.WriteFault taken) said = tt
-  passed_refused before now exits.NoMemory said = tt
-  passed_refused before now exit (inl refused) = let other = refused_done exit refused in absurd cc
-  passed_refused before now exit (inr memory) = absurd cc
 
 -- no file's being unread says no
 none_says_no : (named : List NamedFile) (rule a b : ℕ) → SaysOneOf named (exits.No rule a b) → ⊥

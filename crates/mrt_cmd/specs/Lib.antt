@@ -1,5 +1,6 @@
 pub mod Answers
 pub mod Asked
+pub mod Causes
 pub mod Certified
 pub mod Comes
 pub mod Database

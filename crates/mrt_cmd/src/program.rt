@@ -10,6 +10,7 @@ ghost use Rattle.mrt_island.specs.declared.profile_error.ProfileKind.{ProfileKin
 ghost use Rattle.mrt_cmd.specs.declared.exit.DbKind.{DbKind};
 ghost use Rattle.mrt_cmd.specs.declared.exit.What.{What};
 ghost use Rattle.mrt_cmd.specs.Asked.{asked, files_asked};
+ghost use Rattle.mrt_cmd.specs.Causes.{HasNoText, IsAnswered};
 ghost use Rattle.mrt_cmd.specs.Comes.{Comes, FailsAt, Gives, GivesText, IsRefused, MissesAt, NamesHeld};
 ghost use Rattle.mrt_cmd.specs.Exits.{line_of};
 ghost use Rattle.mrt_cmd.specs.Files.{AreThere, files_of};
@@ -53,6 +54,33 @@ pub fn run<F: Shelf, K: Sink, E: Sink>(
     out: &mut K,
     err: &mut E,
 ) -> Exit
+    // All causes, over all forms, as one: the exit has its cause and its line, and it is complete.
+    ensures answered { IsAnswered words.now
+        (record {
+          held = F.held shelf.old;
+          healthy = F.healthy shelf.old;
+          faults = F.faults shelf.old;
+          faults_now = F.faults shelf.new;
+          untouched = shelf.new ≡ shelf.old;
+        })
+        (record {
+          healthy_for = K.healthy_for out.old;
+          faults = K.faults out.old;
+          faults_now = K.faults out.new;
+          written = K.written out.old;
+          written_now = K.written out.new;
+          untouched = out.new ≡ out.old;
+        })
+        (record {
+          healthy_for = E.healthy_for err.old;
+          faults = E.faults err.old;
+          faults_now = E.faults err.new;
+          written = E.written err.old;
+          written_now = E.written err.new;
+          untouched = err.new ≡ err.old;
+        })
+        result }
+
     // `Usage` comes just where the words are none of the forms, and nothing is read then.
     ensures usage { (result ≡ Exit.Usage) ↔ IsNone (form_of words.now) }
     ensures usage_reads_nothing { result ≡ Exit.Usage → shelf.new ≡ shelf.old }
@@ -121,14 +149,35 @@ pub fn run<F: Shelf, K: Sink, E: Sink>(
         (E.written err.old) (E.written err.new) (line_of result) }
 {
     one_exit_comes();
-    only_a_check_says_no();
     what_was_written_passes();
-    let Some(form) = read_form(words) else {
-        return put_line(err, Exit::Usage);
-    };
-    match text_of(alloc, form, shelf) {
+    match text_for(alloc, words, shelf) {
         Ok(text) => put_text(out, err, &text),
         Err(exit) => put_line(err, exit),
+    }
+}
+
+/// The text that the words give, or else the exit that says why they give none.
+fn text_for<F: Shelf>(alloc: Global, words: &[Word], shelf: &mut F) -> Result<Text, Exit>
+    ensures text { IfOk result (λ text. GivesText (F.held shelf.old) words.now (bytes_of text)) }
+    ensures cause { IfErr result (HasNoText words.now
+        (record {
+          held = F.held shelf.old;
+          healthy = F.healthy shelf.old;
+          faults = F.faults shelf.old;
+          faults_now = F.faults shelf.new;
+          untouched = shelf.new ≡ shelf.old;
+        })) }
+    ensures comes { IsUndisturbed (F.healthy shelf.old) (F.faults shelf.old) (F.faults shelf.new)
+        → IfErr result (λ exit. Comes (F.held shelf.old) words.now exit ⊎ (exit ≡ Exit.NoMemory)) }
+    ensures no_fault { F.healthy shelf.old → NamesHeld (F.held shelf.old) words.now
+        → F.faults shelf.new ≡ F.faults shelf.old }
+    ensures survey { IsSomeAnd (form_of words.now) IsSurvey → IfErr result (λ exit. exit ≡ Exit.NoMemory) }
+    ensures survey_reads_nothing { IsSomeAnd (form_of words.now) IsSurvey → shelf.new ≡ shelf.old }
+{
+    only_a_check_says_no();
+    match read_form(words) {
+        None => Err(Exit::Usage),
+        Some(form) => text_of(alloc, form, shelf),
     }
 }
 

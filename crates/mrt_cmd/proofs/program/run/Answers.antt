@@ -1,144 +1,132 @@
-use Rattle.std.proofs.Common.{rules, ◌≡◌, ◌∙◌, ◌⊎◌, Option, Some, ap, inl, inr, subst, sym}
-use Rattle.std.specs.Option.{is_some}
-use Rattle.std.proofs.lemmas.Bool.{true≢false}
-use Rattle.std.specs.Prelude.{IsNone}
-use Rattle.mrt_io.specs.Holding.{Files}
+use Rattle.std.proofs.Common.{◌≡◌, ◌∙◌, inl, inr, refl, subst, sym}
 use Rattle.mrt_cmd.specs.declared.exit.Exit.{Exit}
-use Rattle.mrt_cmd.specs.declared.exit.Exit.TheVariants.{Done, NoMemory, Usage, WriteFault}
-use Rattle.mrt_cmd.specs.Comes.{Comes, Gives, GivesText}
-use Rattle.mrt_cmd.specs.Form.{IsSurvey, form_of}
+use Rattle.mrt_cmd.specs.declared.exit.Exit.TheVariants as exits
+use Rattle.mrt_cmd.specs.Causes.{HasNoText, ShelfInCall}
 use Rattle.mrt_cmd.specs.TextBytes.{bytes_of}
-use Rattle.mrt_cmd.specs.Asked.{asked}
-use Rattle.mrt_cmd.specs.Reading.{IsRefusal, IsRefusalOrFault}
-use Rattle.mrt_cmd.proofs.Exactly.{exactly, exactly_missing, none_missing}
-use Rattle.mrt_cmd.proofs.NeverSaid.{IsUnsaid, OfDone, OfOutput, OfUsage, no_is_refused, not_of_form}
-use Rattle.mrt_cmd.proofs.Refusals.{refusal_comes}
-use Rattle.mrt_cmd.proofs.SurveyExits.{form_surveys, memory_of_survey, written_of_survey}
-use Rattle.mrt_cmd.proofs.WrittenPasses.{no_form, passed_refused, passed_written}
+use Rattle.mrt_cmd.proofs.Causes.{passed_stopped, stopped, told_of, written}
+use Rattle.mrt_cmd.proofs.SurveyExits.{memory_of_survey, written_of_survey}
+use Rattle.mrt_cmd.proofs.WrittenPasses.{passed_written}
 use Rattle.mrt_cmd.proofs.program.run.Given.{Over}
 use Rattle.mrt_cmd.proofs.program.run.Goals as goal
 
--- The text that was cut short is the one that the form gave.
+-- All causes as one, where the words give a text: the other clauses are parts of it.
+pub returns-in-Ok-clause-answered : goal.returns-in-Ok-clause-answered
+returns-in-Ok-clause-answered g c =
+    written c.one_exit_comes.ensures.exit c.args.words.now _ _ _ c.put_text.result (bytes_of c.in-Ok.text) c.in-Ok.ensures.text
+    c.put_text.ensures.kind c.put_text.ensures.done
+    c.put_text.ensures.write_fault
+    (told_of _ c.put_text.result c.put_text.ensures.silent c.put_text.ensures.line)
+    (λ spared. elim spared [
+      | inl calm ↦ c.put_text.ensures.calm calm
+      | inr healthy ↦ c.put_text.ensures.healthy (healthy (bytes_of c.in-Ok.text) c.in-Ok.ensures.text)
+    ]) c.text_for.ensures.no_fault
+    (λ healthy. c.put_text.ensures.no_fault (healthy (bytes_of c.in-Ok.text) c.in-Ok.ensures.text))
+
 pub returns-in-Ok-clause-write_fault : goal.returns-in-Ok-clause-write_fault
 returns-in-Ok-clause-write_fault g c = λ taken is.
-    let given : GivesText (g.F.Shelf.held c.args.shelf.now) c.args.words.now
-    (bytes_of c.in-Ok.text) = search rules in
-    (bytes_of c.in-Ok.text, given, c.put_text.ensures.write_fault taken is)
+    (bytes_of c.in-Ok.text, c.in-Ok.ensures.text, c.put_text.ensures.write_fault taken is)
+
+pub returns-in-Ok-clause-usage : goal.returns-in-Ok-clause-usage
+returns-in-Ok-clause-usage g c = (returns-in-Ok-clause-answered g c).usage
+
+pub returns-in-Ok-clause-healthy_read : goal.returns-in-Ok-clause-healthy_read
+returns-in-Ok-clause-healthy_read g c = (returns-in-Ok-clause-answered g c).missing
 
 pub returns-in-Ok-clause-comes : goal.returns-in-Ok-clause-comes
-returns-in-Ok-clause-comes g c = λ shelf_spared out_spared.
-    let given : GivesText (g.F.Shelf.held c.args.shelf.now) c.args.words.now
-    (bytes_of c.in-Ok.text) = search rules in
-    let done : c.put_text.result ≡ Done = elim out_spared [
-      | inl calm ↦ c.put_text.ensures.calm calm
-      | inr healthy ↦ c.put_text.ensures.healthy (healthy (bytes_of c.in-Ok.text) given)
-    ] in
-    inl (inr (inl (done, bytes_of c.in-Ok.text, given)))
+returns-in-Ok-clause-comes g c = (returns-in-Ok-clause-answered g c).complete
 
 pub returns-in-Ok-clause-exactly : goal.returns-in-Ok-clause-exactly
-returns-in-Ok-clause-exactly g c = λ shelf_spared out_spared.
-    exactly (g.F.Shelf.held c.args.shelf.now) c.args.words.now c.put_text.result c.one_exit_comes.ensures.exit
-    (returns-in-Ok-clause-comes g c shelf_spared out_spared)
+returns-in-Ok-clause-exactly g c = (returns-in-Ok-clause-answered g c).exactly
 
-pub returns-in-Err-clause-healthy_read : goal.returns-in-Err-clause-healthy_read
-returns-in-Err-clause-healthy_read g c = λ healthy.
-    let comes : Comes (g.F.Shelf.held c.args.shelf.now) c.args.words.now c.put_line-in-Err.result ⊎
-    (c.put_line-in-Err.result ≡ NoMemory) = search rules in
-    exactly_missing (g.F.Shelf.held c.args.shelf.now) c.args.words.now c.put_line-in-Err.result
-    c.one_exit_comes.ensures.exit comes
+-- And where they give none.
+abbrev shelf_of : (g : Over) → goal.After-put_line g → ShelfInCall
+shelf_of g c = record {
+  held = g.F.Shelf.held c.args.shelf.now;
+  healthy = g.F.Shelf.healthy c.args.shelf.now;
+  faults = g.F.Shelf.faults c.args.shelf.now;
+  faults_now = g.F.Shelf.faults c.text_for.new.shelf;
+  untouched = c.text_for.new.shelf ≡ c.args.shelf.now;
+}
 
-pub returns-in-Err-clause-comes : goal.returns-in-Err-clause-comes
-returns-in-Err-clause-comes g c = λ shelf_spared out_spared.
-    let refusal : IsRefusal (g.F.Shelf.held c.args.shelf.now) (asked c.in-Some.form) c.in-Err.exit = elim shelf_spared [
-      | inl calm ↦ c.in-Err.ensures.calm calm
-      | inr healthy ↦ c.in-Err.ensures.healthy healthy
-    ] in
-    rw c.put_line-in-Err.ensures.same
-    (refusal_comes (g.F.Shelf.held c.args.shelf.now) c.args.words.now (asked c.in-Some.form) c.in-Err.exit
-    c.in-Some.ensures.form refusal)
-
-pub returns-in-Err-clause-exactly : goal.returns-in-Err-clause-exactly
-returns-in-Err-clause-exactly g c = λ shelf_spared out_spared.
-    exactly (g.F.Shelf.held c.args.shelf.now) c.args.words.now c.put_line-in-Err.result c.one_exit_comes.ensures.exit
-    (returns-in-Err-clause-comes g c shelf_spared out_spared)
-
--- A certificate that was written passes.
-pub returns-in_default-clause-written_passes : goal.returns-in_default-clause-written_passes
-returns-in_default-clause-written_passes g c = λ files told written.
-    let passes = c.what_was_written_passes.ensures files c.args.words.now written in
-    let none : IsNone (form_of c.args.words.now) = search rules in
-    absurd (no_form (form_of c.args.words.now) (λ it. Gives (Some files) it passes.0) none passes.1)
-
-pub returns-in-Ok-clause-written_passes : goal.returns-in-Ok-clause-written_passes
-returns-in-Ok-clause-written_passes g c = λ files told written. passed_written c.put_text.result c.put_text.ensures.kind
-
-pub returns-in-Err-clause-written_passes : goal.returns-in-Err-clause-written_passes
-returns-in-Err-clause-written_passes g c = λ files told written.
-    let passes = c.what_was_written_passes.ensures files c.args.words.now written in
-    rw c.put_line-in-Err.ensures.same
-    (passed_refused c.one_exit_comes.ensures.exit files c.args.words.now (asked c.in-Some.form) c.in-Some.ensures.form passes.0
-    passes.1 (g.F.Shelf.faults c.args.shelf.now) (g.F.Shelf.faults c.text_of.new.shelf) c.in-Err.exit
-    (subst (λ (held : Option Files). IsRefusalOrFault held (asked c.in-Some.form) (g.F.Shelf.faults c.args.shelf.now)
-    (g.F.Shelf.faults c.text_of.new.shelf) c.in-Err.exit) told c.in-Err.ensures.refused))
-
--- Where a text is put, no file was missing.
-pub returns-in-Ok-clause-healthy_read : goal.returns-in-Ok-clause-healthy_read
-returns-in-Ok-clause-healthy_read g c = λ healthy told.
-    let given : GivesText (g.F.Shelf.held c.args.shelf.now) c.args.words.now (bytes_of c.in-Ok.text) = search rules in
-    none_missing (g.F.Shelf.held c.args.shelf.now) c.args.words.now (bytes_of c.in-Ok.text) c.put_text.result
-    c.one_exit_comes.ensures.exit given told c.put_text.ensures.kind
-
--- A refusal of the form is neither yes nor the usage, and no fault of the output.
-never : (g : Over) (c : goal.After-put_line-in-Err g) (exit : Exit) → IsUnsaid exit → c.put_line-in-Err.result ≡ exit → ⊥
-never g c exit unsaid is =
-    not_of_form (g.F.Shelf.held c.args.shelf.now) (asked c.in-Some.form) (g.F.Shelf.faults c.args.shelf.now)
-    (g.F.Shelf.faults c.text_of.new.shelf) exit unsaid
-    (subst (IsRefusalOrFault (g.F.Shelf.held c.args.shelf.now) (asked c.in-Some.form) (g.F.Shelf.faults c.args.shelf.now)
-    (g.F.Shelf.faults c.text_of.new.shelf)) (sym c.put_line-in-Err.ensures.same ∙ is) c.in-Err.ensures.refused)
+pub returns-in-Err-clause-answered : goal.returns-in-Err-clause-answered
+returns-in-Err-clause-answered g c =
+    rw c.put_line.ensures.same
+    (stopped c.one_exit_comes.ensures.exit c.args.words.now _ _ _ c.in-Err.exit c.in-Err.ensures.cause refl refl
+    c.put_line.ensures.line c.in-Err.ensures.comes c.text_for.ensures.no_fault)
 
 pub returns-in-Err-clause-usage : goal.returns-in-Err-clause-usage
-returns-in-Err-clause-usage g c = (λ is. absurd (never g c Usage OfUsage is), λ none. absurd (true≢false (ap is_some c.in-Some.ensures.form ∙ none)))
+returns-in-Err-clause-usage g c = (returns-in-Err-clause-answered g c).usage
+
+pub returns-in-Err-clause-healthy_read : goal.returns-in-Err-clause-healthy_read
+returns-in-Err-clause-healthy_read g c = (returns-in-Err-clause-answered g c).missing
+
+pub returns-in-Err-clause-comes : goal.returns-in-Err-clause-comes
+returns-in-Err-clause-comes g c = (returns-in-Err-clause-answered g c).complete
+
+pub returns-in-Err-clause-exactly : goal.returns-in-Err-clause-exactly
+returns-in-Err-clause-exactly g c = (returns-in-Err-clause-answered g c).exactly
+
+-- what the exit says of why the words give no text
+abbrev Says : (g : Over) → goal.After-put_line g → Exit → Type 0
+Says g c exit = HasNoText c.args.words.now (shelf_of g c) exit
+
+says : (g : Over) (c : goal.After-put_line g) (exit : Exit) → c.put_line.result ≡ exit → Says g c exit
+says g c exit is = subst (Says g c) (sym c.put_line.ensures.same ∙ is) c.in-Err.ensures.cause
 
 pub returns-in-Err-clause-usage_reads_nothing : goal.returns-in-Err-clause-usage_reads_nothing
-returns-in-Err-clause-usage_reads_nothing g c = λ is. absurd (never g c Usage OfUsage is)
+returns-in-Err-clause-usage_reads_nothing g c = λ is. (says g c exits.Usage is).1
+
+pub returns-in-Err-clause-read_fault : goal.returns-in-Err-clause-read_fault
+returns-in-Err-clause-read_fault g c = λ word is. says g c (exits.ReadFault word) is
+
+pub returns-in-Err-clause-too_large : goal.returns-in-Err-clause-too_large
+returns-in-Err-clause-too_large g c = λ what size is. says g c (exits.TooLarge what size) is
+
+pub returns-in-Err-clause-bad_database : goal.returns-in-Err-clause-bad_database
+returns-in-Err-clause-bad_database g c = λ at kind is. says g c (exits.BadDatabase at kind) is
+
+pub returns-in-Err-clause-bad_profile : goal.returns-in-Err-clause-bad_profile
+returns-in-Err-clause-bad_profile g c = λ line kind is. says g c (exits.BadProfile line kind) is
+
+pub returns-in-Err-clause-bad_certificate : goal.returns-in-Err-clause-bad_certificate
+returns-in-Err-clause-bad_certificate g c = λ at kind is. says g c (exits.BadCertificate at kind) is
+
+pub returns-in-Err-clause-bad_script : goal.returns-in-Err-clause-bad_script
+returns-in-Err-clause-bad_script g c = λ line is. says g c (exits.BadScript line) is
+
+pub returns-in-Err-clause-not_there : goal.returns-in-Err-clause-not_there
+returns-in-Err-clause-not_there g c = λ number is. says g c (exits.NotThere number) is
+
+pub returns-in-Err-clause-no : goal.returns-in-Err-clause-no
+returns-in-Err-clause-no g c = λ rule a b is. (says g c (exits.No rule a b) is).0
 
 pub returns-in-Err-clause-no_from_check_alone : goal.returns-in-Err-clause-no_from_check_alone
-returns-in-Err-clause-no_from_check_alone g c = λ rule a b is.
-    c.only_a_check_says_no.ensures (g.F.Shelf.held c.args.shelf.now) c.args.words.now rule a b
-    (no_is_refused (g.F.Shelf.held c.args.shelf.now) c.args.words.now (asked c.in-Some.form)
-    (g.F.Shelf.faults c.args.shelf.now) (g.F.Shelf.faults c.text_of.new.shelf) rule a b c.in-Err.exit c.in-Some.ensures.form
-    (sym c.put_line-in-Err.ensures.same ∙ is) c.in-Err.ensures.refused)
+returns-in-Err-clause-no_from_check_alone g c = λ rule a b is. (says g c (exits.No rule a b) is).1
 
 pub returns-in-Err-clause-done : goal.returns-in-Err-clause-done
-returns-in-Err-clause-done g c = λ is. absurd (never g c Done OfDone is)
+returns-in-Err-clause-done g c = λ is. absurd (says g c exits.Done is)
 
 pub returns-in-Err-clause-write_fault : goal.returns-in-Err-clause-write_fault
-returns-in-Err-clause-write_fault g c = λ taken is. absurd (never g c (WriteFault taken) OfOutput is)
+returns-in-Err-clause-write_fault g c = λ taken is. absurd (says g c (exits.WriteFault taken) is)
 
 pub returns-in-Err-clause-silent : goal.returns-in-Err-clause-silent
-returns-in-Err-clause-silent g c = λ is. absurd (never g c Done OfDone is)
+returns-in-Err-clause-silent g c = λ is. absurd (says g c exits.Done is)
+
+-- A certificate that was written passes.
+pub returns-in-Ok-clause-written_passes : goal.returns-in-Ok-clause-written_passes
+returns-in-Ok-clause-written_passes g c = λ files held written. passed_written c.put_text.result c.put_text.ensures.kind
+
+pub returns-in-Err-clause-written_passes : goal.returns-in-Err-clause-written_passes
+returns-in-Err-clause-written_passes g c = λ files held written.
+    let passes = c.what_was_written_passes.ensures files c.args.words.now written in
+    rw c.put_line.ensures.same
+    (passed_stopped c.one_exit_comes.ensures.exit files c.args.words.now (shelf_of g c) held passes.0 passes.1 c.in-Err.exit
+    c.in-Err.ensures.cause)
 
 -- A survey is never refused, and it reads nothing.
-pub returns-in_default-clause-survey : goal.returns-in_default-clause-survey
-returns-in_default-clause-survey g c = λ surveys.
-    let none : IsNone (form_of c.args.words.now) = search rules in
-    absurd (no_form (form_of c.args.words.now) IsSurvey none surveys)
-
 pub returns-in-Ok-clause-survey : goal.returns-in-Ok-clause-survey
 returns-in-Ok-clause-survey g c = λ surveys. written_of_survey c.put_text.result c.put_text.ensures.kind
 
-pub returns-in-Ok-clause-survey_reads_nothing : goal.returns-in-Ok-clause-survey_reads_nothing
-returns-in-Ok-clause-survey_reads_nothing g c = λ surveys.
-    c.text_of.ensures.survey_reads_nothing
-    (form_surveys (form_of c.args.words.now) (asked c.in-Some.form) c.in-Some.ensures.form surveys)
-
 pub returns-in-Err-clause-survey : goal.returns-in-Err-clause-survey
 returns-in-Err-clause-survey g c = λ surveys.
-    memory_of_survey c.put_line-in-Err.result
-    (c.put_line-in-Err.ensures.same ∙ c.in-Err.ensures.survey
-    (form_surveys (form_of c.args.words.now) (asked c.in-Some.form) c.in-Some.ensures.form surveys))
-
-pub returns-in-Err-clause-survey_reads_nothing : goal.returns-in-Err-clause-survey_reads_nothing
-returns-in-Err-clause-survey_reads_nothing g c = λ surveys.
-    c.text_of.ensures.survey_reads_nothing
-    (form_surveys (form_of c.args.words.now) (asked c.in-Some.form) c.in-Some.ensures.form surveys)
+    memory_of_survey c.put_line.result (c.put_line.ensures.same ∙ c.in-Err.ensures.survey surveys)
