@@ -98,6 +98,19 @@ const CASES: &[Case] = &[
         err: b"mrt: bad database: body at 0\n",
     },
     Case {
+        name: "more links than bytes",
+        words: CHECK,
+        database: b"\x00\x01\x02\x01\x01\x01\x01\x01\x01\x01\x01\x01\x80\x00\x00\x01\x9a\xad\x00\x24\x00\x00\xff\xff\x01\x01\x01\x01\xff\xff\xff\xff\x03\x00\x00\x00",
+        profile: b"",
+        certificate: CERTIFICATE,
+        exit: Exit::BadDatabase {
+            at: 0,
+            kind: DbKind::Lsa(LsaKind::Body),
+        },
+        out: b"",
+        err: b"mrt: bad database: body at 0\n",
+    },
+    Case {
         name: "a fault: truncated",
         words: CHECK,
         database: b"\x00\x01\x02\x01\x01\x01\x01\x01\x01\x01\x01\x01\x80\x00\x00\x01\x33\x28\x00",

@@ -1,6 +1,6 @@
 //! Certificates that are written.
 
-use crate::calling::{Case, Devices, calm, comes_out, front, left_on, two};
+use crate::calling::{Case, Devices, NEVER, calm, comes_out, front, left_on, two};
 use crate::files::{
     CERTIFICATE, FIRST_TREE, FIVE, FIVE_COMPUTED, LAN, LAN_CERTIFICATE, LINE, LINE_CERTIFICATE,
     RING, RING_COMPUTED, ROUTER, SAMPLE, SAMPLE_CERTIFICATE, SAMPLE_PROFILE, SECOND_TREE, STUB,
@@ -194,24 +194,95 @@ fn written_certificates(rt: HostRuntime) {
     }
 }
 
-/// Whether the triangle's certificate is cut short at 80 bytes by an output that takes 40 at a time and fails its third
-/// call.
-fn is_cut_short(alloc: Global) -> Result<bool, NoMemory> {
-    let devices = Devices {
+/// An output that takes so many bytes at a time, its room, and the call that it fails; and what it takes of the
+/// triangle's certificate.
+#[derive(Clone, Copy)]
+struct Output {
+    room: u32,
+    step: u32,
+    fails: u32,
+    exit: Exit,
+    taken: usize,
+}
+
+const OUTPUTS: &[Output] = &[
+    Output {
+        room: 1000,
         step: 40,
-        write: 2,
-        ..calm(1000)
+        fails: 2,
+        exit: Exit::WriteFault { taken: 80 },
+        taken: 80,
+    },
+    Output {
+        room: 97,
+        step: 40,
+        fails: NEVER,
+        exit: Exit::WriteFault { taken: 97 },
+        taken: 97,
+    },
+    Output {
+        room: 98,
+        step: 40,
+        fails: NEVER,
+        exit: Exit::Done,
+        taken: 98,
+    },
+    Output {
+        room: 98,
+        step: 7,
+        fails: 14,
+        exit: Exit::Done,
+        taken: 98,
+    },
+];
+
+fn outputs() -> &'static [Output] {
+    OUTPUTS
+}
+
+/// Whether the exit over this output is as told, and it took the first bytes.
+fn takes_as_told(alloc: Global, output: &Output) -> Result<bool, NoMemory> {
+    let devices = Devices {
+        read: NEVER,
+        room: output.room,
+        step: output.step,
+        write: output.fails,
     };
     let left = left_on(alloc, OF_1, two(TRIANGLE, b""), devices)?;
     Ok(
-        left.exit == Exit::WriteFault { taken: 80 }
-            && left.out.bytes() == front(TRIANGLE_CERTIFICATE, 80),
+        left.exit == output.exit
+            && left.out.bytes() == front(TRIANGLE_CERTIFICATE, output.taken),
     )
 }
 
 #[test]
-fn a_certificate_cut_short(rt: HostRuntime) {
-    assert_eq!(rt; is_cut_short(rt.alloc()), Ok(true));
+fn certificates_cut_short(rt: HostRuntime) {
+    for output in outputs() {
+        let is_so = takes_as_told(rt.alloc(), output);
+        assert!(rt; is_so == Ok(true), "{} {}", output.room, output.fails);
+    }
+}
+
+/// An output that takes 7 bytes at a time and fails this call, before which it has taken seven times as many.
+fn failing_at(call: u8) -> Output {
+    let taken = u16::from(call) * 7;
+    Output {
+        room: 98,
+        step: 7,
+        fails: u32::from(call),
+        exit: Exit::WriteFault {
+            taken: u64::from(taken),
+        },
+        taken: usize::from(taken),
+    }
+}
+
+#[test]
+fn certificates_cut_short_at_each_call(rt: HostRuntime) {
+    for call in 0..14 {
+        let is_so = takes_as_told(rt.alloc(), &failing_at(call));
+        assert!(rt; is_so == Ok(true), "{call}");
+    }
 }
 
 /// What comes of the certificate of a ring of so many routers, and how many bytes of it are written.

@@ -90,20 +90,25 @@ fn failing_outputs(rt: HostRuntime) {
     }
 }
 
-/// The exit where the line on it cannot be written, and how many of its bytes are.
-fn exit_untold(alloc: Global) -> Result<(Exit, usize), NoMemory> {
+/// The exit where the line on it cannot be written, the status, and how many bytes of the line are written.
+fn exit_untold(alloc: Global, words: &[&str]) -> Result<(Exit, u8, usize), NoMemory> {
     let err = Devices {
         write: 0,
         ..calm(1000)
     };
-    let left = left_by(alloc, CHECK, two(ROUTER, OTHER), calm(1000), err)?;
-    Ok((left.exit, left.err.bytes().len()))
+    let left = left_by(alloc, words, two(ROUTER, OTHER), calm(1000), err)?;
+    Ok((left.exit, left.exit.status(), left.err.bytes().len()))
 }
 
 #[test]
-fn a_failing_error_stream(rt: HostRuntime) {
-    let exit = Exit::NotThere {
+fn failing_error_streams(rt: HostRuntime) {
+    let not_there = Exit::NotThere {
         number: 0x0202_0202,
     };
-    assert_eq!(rt; exit_untold(rt.alloc()), Ok((exit, 0)));
+    for (words, exit, status) in [
+        (CHECK, not_there, 7),
+        (["table", "db", "-"].as_slice(), Exit::Usage, 2),
+    ] {
+        assert_eq!(rt; exit_untold(rt.alloc(), words), Ok((exit, status, 0)));
+    }
 }

@@ -12,6 +12,8 @@ mod calling;
 #[cfg(test)]
 mod certified;
 #[cfg(test)]
+mod cut_files;
+#[cfg(test)]
 mod every_order;
 #[cfg(test)]
 mod failing_devices;

@@ -3,7 +3,7 @@
 use crate::calling::{CHECK, Case, comes_out};
 use crate::files::{
     CERTIFICATE, FIVE, FIVE_CERTIFICATE, LINE, LINE_CERTIFICATE, OLD, OTHER, ROUTER, TRIANGLE,
-    TRIANGLE_CERTIFICATE, TWO_TREES,
+    TRIANGLE_CERTIFICATE, TRIANGLE_IN_CIRCLE, TWO_TREES,
 };
 use cert_format::CertKind;
 use mrt_cmd::Exit;
@@ -36,6 +36,20 @@ const CASES: &[Case] = &[
         },
         out: b"",
         err: b"mrt: no: rule 6 at 0 0\n",
+    },
+    Case {
+        name: "heads in a circle",
+        words: CHECK,
+        database: TRIANGLE,
+        profile: b"",
+        certificate: TRIANGLE_IN_CIRCLE,
+        exit: Exit::No {
+            rule: 3,
+            a: 0,
+            b: 0,
+        },
+        out: b"",
+        err: b"mrt: no: rule 3 at 0 0\n",
     },
     Case {
         name: "another graph",
