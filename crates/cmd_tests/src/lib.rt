@@ -32,6 +32,8 @@ mod scripted;
 #[cfg(test)]
 mod spoilt_files;
 #[cfg(test)]
+mod stub_routers;
+#[cfg(test)]
 mod surveyed;
 #[cfg(test)]
 mod tabled;

@@ -1,0 +1,313 @@
+//! Routers that want no transit traffic.
+
+use crate::answered::{Answered, is_answered};
+use crate::calling::{CHECK, Case, comes_out};
+use crate::files::TRIANGLE_CERTIFICATE;
+use mrt_cmd::Exit;
+
+/// Routers 1, 2 and 3, each joined to the others; metric 65,535 at router 1's end of its link to 3.
+const AT_1: &[u8] =
+    b"\x00\x01\x02\x01\x01\x01\x01\x01\x01\x01\x01\x01\x80\x00\x00\x01\xf3\x28\x00\x30\x00\x00\x00\x02\x02\x02\x02\x02\x00\x00\x00\x02\x01\x00\x00\x0a\x03\x03\x03\x03\x00\x00\x00\x03\x01\x00\xff\xff\x00\x01\x02\x01\x02\x02\x02\x02\x02\x02\x02\x02\x80\x00\x00\x01\xa4\x6a\x00\x30\x00\x00\x00\x02\x01\x01\x01\x01\x00\x00\x00\x01\x01\x00\x00\x0a\x03\x03\x03\x03\x00\x00\x00\x03\x01\x00\x00\x0a\x00\x01\x02\x01\x03\x03\x03\x03\x03\x03\x03\x03\x80\x00\x00\x01\xeb\x20\x00\x30\x00\x00\x00\x02\x01\x01\x01\x01\x00\x00\x00\x01\x01\x00\x00\x0a\x02\x02\x02\x02\x00\x00\x00\x02\x01\x00\x00\x0a";
+
+/// The same at router 3's end of that link.
+const AT_3: &[u8] =
+    b"\x00\x01\x02\x01\x01\x01\x01\x01\x01\x01\x01\x01\x80\x00\x00\x01\x21\xf0\x00\x30\x00\x00\x00\x02\x02\x02\x02\x02\x00\x00\x00\x02\x01\x00\x00\x0a\x03\x03\x03\x03\x00\x00\x00\x03\x01\x00\x00\x0a\x00\x01\x02\x01\x02\x02\x02\x02\x02\x02\x02\x02\x80\x00\x00\x01\xa4\x6a\x00\x30\x00\x00\x00\x02\x01\x01\x01\x01\x00\x00\x00\x01\x01\x00\x00\x0a\x03\x03\x03\x03\x00\x00\x00\x03\x01\x00\x00\x0a\x00\x01\x02\x01\x03\x03\x03\x03\x03\x03\x03\x03\x80\x00\x00\x01\x37\xde\x00\x30\x00\x00\x00\x02\x01\x01\x01\x01\x00\x00\x00\x01\x01\x00\xff\xff\x02\x02\x02\x02\x00\x00\x00\x02\x01\x00\x00\x0a";
+
+/// The same at both ends, and metric 65,534 at router 1's end of its link to 2.
+const AT_BOTH: &[u8] =
+    b"\x00\x01\x02\x01\x01\x01\x01\x01\x01\x01\x01\x01\x80\x00\x00\x01\x2d\xf9\x00\x30\x00\x00\x00\x02\x02\x02\x02\x02\x00\x00\x00\x02\x01\x00\xff\xfe\x03\x03\x03\x03\x00\x00\x00\x03\x01\x00\xff\xff\x00\x01\x02\x01\x02\x02\x02\x02\x02\x02\x02\x02\x80\x00\x00\x01\xa4\x6a\x00\x30\x00\x00\x00\x02\x01\x01\x01\x01\x00\x00\x00\x01\x01\x00\x00\x0a\x03\x03\x03\x03\x00\x00\x00\x03\x01\x00\x00\x0a\x00\x01\x02\x01\x03\x03\x03\x03\x03\x03\x03\x03\x80\x00\x00\x01\x37\xde\x00\x30\x00\x00\x00\x02\x01\x01\x01\x01\x00\x00\x00\x01\x01\x00\xff\xff\x02\x02\x02\x02\x00\x00\x00\x02\x01\x00\x00\x0a";
+
+/// Metric 65,534 at both ends of the link between 1 and 3.
+const BELOW: &[u8] =
+    b"\x00\x01\x02\x01\x01\x01\x01\x01\x01\x01\x01\x01\x80\x00\x00\x01\xd5\x47\x00\x30\x00\x00\x00\x02\x02\x02\x02\x02\x00\x00\x00\x02\x01\x00\x00\x0a\x03\x03\x03\x03\x00\x00\x00\x03\x01\x00\xff\xfe\x00\x01\x02\x01\x02\x02\x02\x02\x02\x02\x02\x02\x80\x00\x00\x01\xa4\x6a\x00\x30\x00\x00\x00\x02\x01\x01\x01\x01\x00\x00\x00\x01\x01\x00\x00\x0a\x03\x03\x03\x03\x00\x00\x00\x03\x01\x00\x00\x0a\x00\x01\x02\x01\x03\x03\x03\x03\x03\x03\x03\x03\x80\x00\x00\x01\x25\xf1\x00\x30\x00\x00\x00\x02\x01\x01\x01\x01\x00\x00\x00\x01\x01\x00\xff\xfe\x02\x02\x02\x02\x00\x00\x00\x02\x01\x00\x00\x0a";
+
+/// The triangle with metric 65,535 at all links of router 2.
+const MAINTAINED: &[u8] =
+    b"\x00\x01\x02\x01\x01\x01\x01\x01\x01\x01\x01\x01\x80\x00\x00\x01\x21\xf0\x00\x30\x00\x00\x00\x02\x02\x02\x02\x02\x00\x00\x00\x02\x01\x00\x00\x0a\x03\x03\x03\x03\x00\x00\x00\x03\x01\x00\x00\x0a\x00\x01\x02\x01\x02\x02\x02\x02\x02\x02\x02\x02\x80\x00\x00\x01\xc2\x60\x00\x30\x00\x00\x00\x02\x01\x01\x01\x01\x00\x00\x00\x01\x01\x00\xff\xff\x03\x03\x03\x03\x00\x00\x00\x03\x01\x00\xff\xff\x00\x01\x02\x01\x03\x03\x03\x03\x03\x03\x03\x03\x80\x00\x00\x01\xeb\x20\x00\x30\x00\x00\x00\x02\x01\x01\x01\x01\x00\x00\x00\x01\x01\x00\x00\x0a\x02\x02\x02\x02\x00\x00\x00\x02\x01\x00\x00\x0a";
+
+/// Routers 1, 2 and 3 in a line, with metric 65,535 at both links of router 2.
+const PASSED: &[u8] =
+    b"\x00\x01\x02\x01\x01\x01\x01\x01\x01\x01\x01\x01\x80\x00\x00\x01\x75\xc3\x00\x24\x00\x00\x00\x01\x02\x02\x02\x02\x00\x00\x00\x02\x01\x00\x00\x0a\x00\x01\x02\x01\x02\x02\x02\x02\x02\x02\x02\x02\x80\x00\x00\x01\xc2\x60\x00\x30\x00\x00\x00\x02\x01\x01\x01\x01\x00\x00\x00\x01\x01\x00\xff\xff\x03\x03\x03\x03\x00\x00\x00\x03\x01\x00\xff\xff\x00\x01\x02\x01\x03\x03\x03\x03\x03\x03\x03\x03\x80\x00\x00\x01\xdc\x4c\x00\x24\x00\x00\x00\x01\x02\x02\x02\x02\x00\x00\x00\x02\x01\x00\x00\x0a";
+
+/// Routers 1 and 2 joined, with metric 65,535 at router 1.
+const TWO: &[u8] =
+    b"\x00\x01\x02\x01\x01\x01\x01\x01\x01\x01\x01\x01\x80\x00\x00\x01\xc0\x82\x00\x24\x00\x00\x00\x01\x02\x02\x02\x02\x00\x00\x00\x02\x01\x00\xff\xff\x00\x01\x02\x01\x02\x02\x02\x02\x02\x02\x02\x02\x80\x00\x00\x01\xf8\x3d\x00\x24\x00\x00\x00\x01\x01\x01\x01\x01\x00\x00\x00\x01\x01\x00\x00\x0a";
+
+/// Routers 1 to 4 on LAN 10.0.0.4, and a link between 1 and 2; router 3's link to the LAN has metric 65,535.
+const ON_LAN: &[u8] =
+    b"\x00\x01\x02\x01\x01\x01\x01\x01\x01\x01\x01\x01\x80\x00\x00\x01\x4e\xb8\x00\x30\x00\x00\x00\x02\x0a\x00\x00\x04\x0a\x00\x00\x01\x02\x00\x00\x0a\x02\x02\x02\x02\x00\x00\x00\x02\x01\x00\x00\x0a\x00\x01\x02\x01\x02\x02\x02\x02\x02\x02\x02\x02\x80\x00\x00\x01\xa3\x5f\x00\x30\x00\x00\x00\x02\x0a\x00\x00\x04\x0a\x00\x00\x02\x02\x00\x00\x0a\x01\x01\x01\x01\x00\x00\x00\x01\x01\x00\x00\x0a\x00\x01\x02\x01\x03\x03\x03\x03\x03\x03\x03\x03\x80\x00\x00\x01\xdd\x43\x00\x24\x00\x00\x00\x01\x0a\x00\x00\x04\x0a\x00\x00\x03\x02\x00\xff\xff\x00\x01\x02\x01\x04\x04\x04\x04\x04\x04\x04\x04\x80\x00\x00\x01\x54\xb9\x00\x24\x00\x00\x00\x01\x0a\x00\x00\x04\x0a\x00\x00\x04\x02\x00\x00\x0a\x00\x01\x02\x02\x0a\x00\x00\x04\x04\x04\x04\x04\x80\x00\x00\x01\xa4\x67\x00\x28\xff\xff\xff\x00\x04\x04\x04\x04\x01\x01\x01\x01\x02\x02\x02\x02\x03\x03\x03\x03";
+
+const CASES: &[Case] = &[
+    Case {
+        name: "the link is out",
+        words: &["table", "db", "-", "1.1.1.1"],
+        database: AT_1,
+        profile: b"",
+        certificate: b"",
+        exit: Exit::Done,
+        out: b"\
+router 1.1.1.1 root 3.3.3.3 nodes 3 links 2\n\
+2.2.2.2 sole blue 2.2.2.2/0.0.0.2 red 2.2.2.2/0.0.0.2 primary 2.2.2.2/0.0.0.2 repair --\n\
+3.3.3.3 carried blue 2.2.2.2/0.0.0.2 red 2.2.2.2/0.0.0.2 primary 2.2.2.2/0.0.0.2 repair --\n",
+        err: b"",
+    },
+    Case {
+        name: "it is out by its other end, and a primary goes over it",
+        words: &["table", "db", "-", "1.1.1.1"],
+        database: AT_3,
+        profile: b"",
+        certificate: b"",
+        exit: Exit::Done,
+        out: b"\
+router 1.1.1.1 root 3.3.3.3 nodes 3 links 2\n\
+2.2.2.2 sole blue 2.2.2.2/0.0.0.2 red 2.2.2.2/0.0.0.2 primary 2.2.2.2/0.0.0.2 repair --\n\
+3.3.3.3 carried blue 2.2.2.2/0.0.0.2 red 2.2.2.2/0.0.0.2 primary 3.3.3.3/0.0.0.3 repair b-\n",
+        err: b"",
+    },
+    Case {
+        name: "a primary goes over it at its metric, since a detour costs more",
+        words: &["table", "db", "-", "1.1.1.1"],
+        database: AT_BOTH,
+        profile: b"",
+        certificate: b"",
+        exit: Exit::Done,
+        out: b"\
+router 1.1.1.1 root 3.3.3.3 nodes 3 links 2\n\
+2.2.2.2 sole blue 2.2.2.2/0.0.0.2 red 2.2.2.2/0.0.0.2 primary 2.2.2.2/0.0.0.2 repair --\n\
+3.3.3.3 carried blue 2.2.2.2/0.0.0.2 red 2.2.2.2/0.0.0.2 primary 3.3.3.3/0.0.0.3 repair b-\n",
+        err: b"",
+    },
+    Case {
+        name: "a metric below it",
+        words: &["table", "db", "-", "1.1.1.1"],
+        database: BELOW,
+        profile: b"",
+        certificate: b"",
+        exit: Exit::Done,
+        out: b"\
+router 1.1.1.1 root 3.3.3.3 nodes 3 links 3\n\
+2.2.2.2 above blue 3.3.3.3/0.0.0.3 red 2.2.2.2/0.0.0.2 primary 2.2.2.2/0.0.0.2 repair b-\n\
+3.3.3.3 head blue 3.3.3.3/0.0.0.3 red 2.2.2.2/0.0.0.2 primary 2.2.2.2/0.0.0.2 repair bb\n",
+        err: b"",
+    },
+    Case {
+        name: "a router in maintenance",
+        words: &["table", "db", "-", "2.2.2.2"],
+        database: MAINTAINED,
+        profile: b"",
+        certificate: b"",
+        exit: Exit::Done,
+        out: b"\
+router 2.2.2.2 root 2.2.2.2 nodes 1 links 0\n",
+        err: b"",
+    },
+    Case {
+        name: "its neighbours",
+        words: &["table", "db", "-", "1.1.1.1"],
+        database: MAINTAINED,
+        profile: b"",
+        certificate: b"",
+        exit: Exit::Done,
+        out: b"\
+router 1.1.1.1 root 3.3.3.3 nodes 2 links 1\n\
+3.3.3.3 sole blue 3.3.3.3/0.0.0.3 red 3.3.3.3/0.0.0.3 primary 3.3.3.3/0.0.0.3 repair --\n",
+        err: b"",
+    },
+    Case {
+        name: "a router on a LAN is out",
+        words: &["table", "db", "-", "1.1.1.1"],
+        database: ON_LAN,
+        profile: b"",
+        certificate: b"",
+        exit: Exit::Done,
+        out: b"\
+router 1.1.1.1 root 4.4.4.4 nodes 4 links 4\n\
+2.2.2.2 below blue 2.2.2.2/0.0.0.2 red net:10.0.0.4/10.0.0.1 primary 2.2.2.2/0.0.0.2 repair r-\n\
+4.4.4.4 carried blue 2.2.2.2/0.0.0.2 red net:10.0.0.4/10.0.0.1 primary net:10.0.0.4/10.0.0.1 repair b---\n\
+net:10.0.0.4 head blue 2.2.2.2/0.0.0.2 red net:10.0.0.4/10.0.0.1 primary net:10.0.0.4/10.0.0.1 repair b-\n",
+        err: b"",
+    },
+    Case {
+        name: "the router that is out of the LAN",
+        words: &["table", "db", "-", "3.3.3.3"],
+        database: ON_LAN,
+        profile: b"",
+        certificate: b"",
+        exit: Exit::Done,
+        out: b"\
+router 3.3.3.3 root 3.3.3.3 nodes 1 links 0\n",
+        err: b"",
+    },
+    Case {
+        name: "the certificate from before",
+        words: CHECK,
+        database: AT_1,
+        profile: b"",
+        certificate: TRIANGLE_CERTIFICATE,
+        exit: Exit::No {
+            rule: 1,
+            a: 0,
+            b: 2,
+        },
+        out: b"",
+        err: b"mrt: no: rule 1 at 0 2\n",
+    },
+    Case {
+        name: "the certificate from before, by the other end",
+        words: CHECK,
+        database: AT_3,
+        profile: b"",
+        certificate: TRIANGLE_CERTIFICATE,
+        exit: Exit::No {
+            rule: 1,
+            a: 0,
+            b: 2,
+        },
+        out: b"",
+        err: b"mrt: no: rule 1 at 0 2\n",
+    },
+    Case {
+        name: "the certificate from before, by a metric below it",
+        words: CHECK,
+        database: BELOW,
+        profile: b"",
+        certificate: TRIANGLE_CERTIFICATE,
+        exit: Exit::Done,
+        out: b"accepted root 3.3.3.3 nodes 3 links 3\n",
+        err: b"",
+    },
+];
+
+const TRACES: &[Answered] = &[
+    Answered {
+        name: "over the link",
+        words: &["trace", "db", "-", "1.1.1.1", "2.2.2.2", "repair"],
+        database: TWO,
+        profile: b"",
+        script: b"",
+        answers: b"\
+entered 0\n\
+delivered 2.2.2.2\n",
+    },
+    Answered {
+        name: "the link has failed, and nothing repairs it",
+        words: &[
+            "trace",
+            "db",
+            "-",
+            "1.1.1.1",
+            "2.2.2.2",
+            "repair",
+            "link:1.1.1.1/0.0.0.2",
+        ],
+        database: TWO,
+        profile: b"",
+        script: b"",
+        answers: b"\
+failed\n\
+entered 0\n\
+lost outside\n",
+    },
+    Answered {
+        name: "from a router in maintenance",
+        words: &["trace", "db", "-", "2.2.2.2", "3.3.3.3", "repair"],
+        database: MAINTAINED,
+        profile: b"",
+        script: b"",
+        answers: b"\
+entered 0\n\
+delivered 3.3.3.3\n",
+    },
+    Answered {
+        name: "to it",
+        words: &["trace", "db", "-", "1.1.1.1", "2.2.2.2", "repair"],
+        database: MAINTAINED,
+        profile: b"",
+        script: b"",
+        answers: b"\
+entered 0\n\
+delivered 2.2.2.2\n",
+    },
+    Answered {
+        name: "through it, where there is no other way",
+        words: &["trace", "db", "-", "1.1.1.1", "3.3.3.3", "repair"],
+        database: PASSED,
+        profile: b"",
+        script: b"",
+        answers: b"\
+entered 0\n\
+moved 2.2.2.2\n\
+delivered 3.3.3.3\n",
+    },
+    Answered {
+        name: "no repair goes through it",
+        words: &[
+            "trace",
+            "db",
+            "-",
+            "1.1.1.1",
+            "3.3.3.3",
+            "repair",
+            "link:1.1.1.1/0.0.0.3",
+        ],
+        database: MAINTAINED,
+        profile: b"",
+        script: b"",
+        answers: b"\
+failed\n\
+entered 0\n\
+lost no-alternate\n",
+    },
+    Answered {
+        name: "it is in no other island",
+        words: &["trace", "db", "-", "1.1.1.1", "2.2.2.2", "blue"],
+        database: MAINTAINED,
+        profile: b"",
+        script: b"",
+        answers: b"\
+refused no-such-place\n",
+    },
+    Answered {
+        name: "a failed primary over the link is repaired in the island",
+        words: &[
+            "trace",
+            "db",
+            "-",
+            "1.1.1.1",
+            "3.3.3.3",
+            "repair",
+            "link:1.1.1.1/0.0.0.3",
+        ],
+        database: AT_3,
+        profile: b"",
+        script: b"",
+        answers: b"\
+failed\n\
+entered 0\n\
+switched blue\n\
+moved 2.2.2.2\n\
+delivered 3.3.3.3\n",
+    },
+];
+
+fn cases() -> &'static [Case] {
+    CASES
+}
+
+fn traces() -> &'static [Answered] {
+    TRACES
+}
+
+#[test]
+fn tables_and_checks(rt: HostRuntime) {
+    for case in cases() {
+        assert!(rt; comes_out(rt.alloc(), case), "{}", case.name);
+    }
+}
+
+#[test]
+fn packets(rt: HostRuntime) {
+    for case in traces() {
+        assert!(rt; is_answered(rt.alloc(), case), "{}", case.name);
+    }
+}
