@@ -11,8 +11,10 @@ pub mod OneReading
 pub mod OneSurvey
 pub mod OneTable
 pub mod OneVerdict
+pub mod Pieces
 pub mod Refusals
 pub mod SurveyExits
 pub mod Tables
 pub mod Unread
+pub mod Works
 pub mod WrittenPasses

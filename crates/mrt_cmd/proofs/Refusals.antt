@@ -21,7 +21,7 @@ use Rattle.std.proofs.Common.{
   inr,
   arith,
 }
-use Rattle.std.specs.Prelude.{IfErr, Some, nat_lt, slice_get, if◌then◌else◌}
+use Rattle.std.specs.Prelude.{IfErr, IfOk, Some, nat_lt, slice_get, if◌then◌else◌}
 use Rattle.std.specs.Result.{IsErrAnd}
 use Rattle.std.proofs.lemmas.Bool.{ltb-true, ltb-false}
 use Rattle.std.proofs.lemmas.Option.{slice_get_within}
@@ -32,6 +32,7 @@ use Rattle.mrt_graph.specs.TextLines.{text_lines}
 use Rattle.mrt_graph.specs.Topology.{Topology}
 use Rattle.fabric_script.specs.declared.script.Script.{Script}
 use Rattle.fabric_script.specs.ScriptFaults.{IsScript}
+use Rattle.cert_format.specs.declared.error.CertFault.{CertFault}
 use Rattle.mrt_graph.specs.declared.cert.CertFile.{CertFile}
 use Rattle.mrt_graph.specs.declared.node_id.NodeId.{NodeId}
 use Rattle.mrt_island.specs.IslandOf.{IsIsland, IsOver}
@@ -42,14 +43,15 @@ use Rattle.mrt_cmd.specs.declared.exit.What.TheVariants as whats
 use Rattle.mrt_io.specs.Holding.{Files}
 use Rattle.mrt_cmd.specs.Answers.{FileBytes, IsRefusedOver}
 use Rattle.mrt_cmd.specs.Comes.{AreRead, IsLastRead}
+use Rattle.mrt_cmd.specs.Faults.{certificate_exit}
 use Rattle.mrt_cmd.specs.Files.{task_file}
 use Rattle.mrt_cmd.specs.Form.{FileForm, Form, OfFiles, Task, Check, Certify, Table, Trace, Fabric}
 use Rattle.mrt_cmd.specs.Input.{Input, HasAreaWithin, HasIsland, IsCertFile, IsInput, area, policy}
+use Rattle.mrt_cmd.specs.Kept.{IsCertRead}
 use Rattle.mrt_cmd.specs.Reading.{
   AreUnread,
   AreUnreadOrFault,
   HasNoArea,
-  HasNoCert,
   HasNoIsland,
   HasNone,
   HasNoScript,
@@ -62,6 +64,7 @@ use Rattle.mrt_cmd.specs.Reading.{
   IsTaskRefusal,
   IsVerdictFor,
 }
+use Rattle.mrt_cmd.specs.Verdict.{GivesVerdict, IsAcceptedFor}
 
 -- what an error tells, handed on
 pub handed_on : {T : Type 0} (result : Result T Exit) (exit : Exit) → IsErrAnd result (λ told. told ≡ exit)
@@ -130,12 +133,17 @@ pub verdicts_of_bytes : {T : Type 0} (answer : Result T Exit) (input : Input) (b
 verdicts_of_bytes (Ok t) input bytes file is said = tt
 verdicts_of_bytes (Err exit) input bytes file is said = verdict_of_bytes input bytes file is exit said
 
--- a fault of the bytes of a certificate
-pub bad_bytes : (input : Input) (bytes : List ℕ) (exit : Exit) → HasNoCert bytes exit
-    → IsCheckRefusal input bytes exit
-bad_bytes input bytes (exits.BadCertificate at kind) said = inl said
-bad_bytes input bytes exits.NoMemory said = inr refl
-bad_bytes input bytes exit said = absurd said
+-- what is accepted is what the bytes give
+pub verdicts_given : {T : Type 0} (items : T → List ℕ) (answer : Result T Exit) (input : Input) (bytes : List ℕ)
+    (file : CertFile) → IsCertFile bytes file → IfOk answer (λ text. IsAcceptedFor input file (items text))
+    → IfOk answer (λ text. GivesVerdict input bytes (items text))
+verdicts_given items (Ok text) input bytes file is said = record { file = file; is = is; accepted = said }
+verdicts_given items (Err exit) input bytes file is said = tt
+
+-- the first fault of the bytes of a certificate
+pub bad_bytes : (input : Input) (bytes : List ℕ) (fault : CertFault) → IsCertRead bytes (Err fault)
+    → IsCheckRefusal input bytes (certificate_exit fault)
+bad_bytes input bytes fault said = inl said
 
 -- what is said of a script's router is said of the script's bytes
 run_of_bytes : (input : Input) (bytes : List ℕ) (script : Script) → IsScript (text_lines bytes) script → (exit : Exit)

@@ -2,8 +2,7 @@
 use Rattle.std.specs.Prelude.{ℕ, nat_lt, if◌then◌else◌}
 use Rattle.area_graph.specs.declared.area_error.AreaError.{AreaError}
 use Rattle.area_graph.specs.declared.area_error.AreaError.TheVariants as area_errors
-use Rattle.cert_format.specs.declared.error.CertError.{CertError}
-use Rattle.cert_format.specs.declared.error.CertError.TheVariants as cert_errors
+use Rattle.cert_format.specs.declared.error.CertFault.{CertFault}
 use Rattle.fabric_script.specs.declared.script_error.ScriptError.{ScriptError}
 use Rattle.fabric_script.specs.declared.script_error.ScriptError.TheVariants as script_errors
 use Rattle.lsdb.specs.declared.change.Conflict.{Conflict}
@@ -34,9 +33,8 @@ profile_exit (profile_errors.Fault line kind) = BadProfile line kind
 profile_exit profile_errors.NoMemory = NoMemory
 
 -- a field of a certificate file has a fault
-abbrev pub certificate_exit : CertError → Exit
-certificate_exit (cert_errors.Fault at kind) = BadCertificate at kind
-certificate_exit cert_errors.NoMemory = NoMemory
+abbrev pub certificate_exit : CertFault → Exit
+certificate_exit fault = BadCertificate fault.at fault.kind
 
 -- a line of a script is not as it should be
 abbrev pub script_exit : ScriptError → Exit

@@ -11,7 +11,9 @@ pub mod Form
 pub mod Headline
 pub mod Input
 pub mod Islands
+pub mod Kept
 pub mod Packets
+pub mod Pieces
 pub mod Reading
 pub mod Run
 pub mod SameFile

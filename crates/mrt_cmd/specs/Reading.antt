@@ -1,11 +1,10 @@
 -- What the steps of the top call say of their refusals.
-use Rattle.std.specs.Prelude.{◌≡◌, ◌⊎◌, ◌+◌, ℕ, List, Option, Some, None, IfSome}
-use Rattle.cert_format.specs.FirstFault.{first_fault}
+use Rattle.std.specs.Prelude.{◌≡◌, ◌⊎◌, ◌+◌, ℕ, List, Option, None, IfSome}
 use Rattle.fabric_script.specs.ScriptFaults.{IsFirstFault as IsFirstFaultOfScript}
 use Rattle.mrt_io.specs.Counts.{Rose}
 use Rattle.mrt_io.specs.Holding.{Files, IsTooLong}
 use Rattle.mrt_cmd.specs.declared.exit.Exit.{Exit}
-use Rattle.mrt_cmd.specs.declared.exit.Exit.TheVariants.{No, BadDatabase, BadProfile, BadCertificate, BadScript, TooLarge, NotThere, ReadFault, NoMemory}
+use Rattle.mrt_cmd.specs.declared.exit.Exit.TheVariants.{No, BadDatabase, BadProfile, BadScript, TooLarge, NotThere, ReadFault, NoMemory}
 use Rattle.mrt_cmd.specs.Answers.{FileBytes, IsRefusedOver, IsRefusedTask}
 use Rattle.mrt_cmd.specs.Comes.{Refuses}
 use Rattle.mrt_cmd.specs.Files.{NamedFile, IsRefusedBy, MayFail, files_in, files_of}
@@ -34,6 +33,12 @@ IsUnread held file _ = ⊥
 abbrev pub IsUnreadOrFault : Option Files → NamedFile → ℕ → ℕ → Exit → Type 0
 IsUnreadOrFault held file before now (ReadFault word) = (word ≡ file.place) × Rose before now
 IsUnreadOrFault held file before now exit = IsUnread held file exit
+
+-- the file could not be read on for a fault of the shelf, or there was no memory
+abbrev pub IsStopped : NamedFile → ℕ → ℕ → Exit → Type 0
+IsStopped file before now (ReadFault word) = (word ≡ file.place) × Rose before now
+IsStopped file before now NoMemory = Unit {0}
+IsStopped file before now _ = ⊥
 
 -- the files of a form over files were not all read, as they call for, or there was no memory
 abbrev pub AreUnread : Option Files → FileForm → Exit → Type 0
@@ -64,12 +69,6 @@ abbrev pub HasNoProfile : List ℕ → Exit → Type 0
 HasNoProfile bytes (BadProfile line kind) = IsFirstFault (text_lines bytes) line kind
 HasNoProfile bytes NoMemory = Unit {0}
 HasNoProfile bytes _ = ⊥
-
--- the first fault of a certificate's bytes, or there was no memory
-abbrev pub HasNoCert : List ℕ → Exit → Type 0
-HasNoCert bytes (BadCertificate at kind) = first_fault bytes ≡ Some (at, kind)
-HasNoCert bytes NoMemory = Unit {0}
-HasNoCert bytes _ = ⊥
 
 -- the first line of a script's bytes that is not as it should be, or there was no memory
 abbrev pub HasNoScript : List ℕ → Exit → Type 0

@@ -1,73 +1,81 @@
-//! What comes of a task over the bytes of its files.
+//! What comes of the files that were read.
 
-ghost use Rattle.std.specs.Prelude.{◌≡◌, ◌≤◌, None, IfOk, IfErr, length};
+ghost use Rattle.std.specs.Prelude.{◌≡◌, ◌≤◌, ℕ, List, None, IfOk, IfErr, length, vec_len};
 ghost use Rattle.lsdb.specs.Conflicts.{least_conflict};
-ghost use Rattle.mrt_cmd.specs.Answers.{GivesFor, GivesOver};
-ghost use Rattle.mrt_cmd.specs.Asked.{task_asked};
+ghost use Rattle.mrt_cmd.specs.Answers.{FileBytes, GivesFor, GivesOver};
+ghost use Rattle.mrt_cmd.specs.Form.{Task};
 ghost use Rattle.mrt_cmd.specs.Input.{input_of};
+ghost use Rattle.mrt_cmd.specs.Kept.{AreBytesOf, HasScriptWithin, IsCertRead, IsWorkFor};
 ghost use Rattle.mrt_cmd.specs.Reading.{IsAnswerOver, IsCheckRefusal, IsTaskRefusal};
 ghost use Rattle.mrt_cmd.specs.TextBytes.{bytes_of};
 ghost use Rattle.mrt_cmd.specs.Verdict.{GivesVerdict};
 
 use crate::certificate::certificate;
 use crate::exit::Exit;
-use crate::file_bytes::FileBytes;
-use crate::input::{cert_of, database_of, profile_of};
+use crate::files_read::FilesRead;
+use crate::input::{database_of, profile_of};
 use crate::line::Line;
 use crate::packets::{run_of_bytes, trace};
 use crate::table::table;
 use crate::text::Text;
 use crate::verdict::verdict;
-use crate::words::Task;
+use crate::work::Work;
+use cert_format::CertFault;
 use lsdb::Lsdb;
+use mrt_graph::CertFile;
 use mrt_island::Profile;
 use std::alloc::Global;
 
-/// The text of a task over the bytes of its files.
-pub(crate) fn answer(alloc: Global, task: Task<'_>, bytes: &FileBytes) -> Result<Text, Exit>
-    requires database { length bytes.now.database ≤ 8388608 }
-    requires profile { length bytes.now.profile ≤ 33554432 }
-    requires last { length bytes.now.last ≤ 33554432 }
-    ensures text { IfOk result (λ text. GivesOver (task_asked task.entry) bytes.now (bytes_of text)) }
-    ensures refused { IfErr result (IsAnswerOver (task_asked task.entry) bytes.now) }
+/// The text of what is to be done with the files that were read.
+pub(crate) fn answer(alloc: Global, files: FilesRead) -> Result<Text, Exit>
+    requires database { vec_len files.database ≤ 8388608 }
+    requires profile { vec_len files.profile ≤ 33554432 }
+    requires script { HasScriptWithin files.work }
+    ensures text { (task : Task) (bytes : FileBytes) → AreBytesOf task files bytes
+        → IfOk result (λ text. GivesOver task bytes (bytes_of text)) }
+    ensures refused { (task : Task) (bytes : FileBytes) → AreBytesOf task files bytes
+        → IfErr result (IsAnswerOver task bytes) }
 {
-    let database = database_of(alloc, bytes.database())?;
-    let profile = profile_of(alloc, bytes.profile())?;
-    answer_for(alloc, task, &database, &profile, bytes.last())
+    let database = database_of(alloc, &files.database)?;
+    let profile = profile_of(alloc, &files.profile)?;
+    answer_for(alloc, files.work, &database, &profile)
 }
 
 /// The same, where database and profile have no fault.
-fn answer_for(
-    alloc: Global,
-    task: Task<'_>,
-    database: &Lsdb,
-    profile: &Profile,
-    last: &[u8],
-) -> Result<Text, Exit>
+fn answer_for(alloc: Global, work: Work, database: &Lsdb, profile: &Profile) -> Result<Text, Exit>
     requires settled { least_conflict database.now.entries ≡ None }
-    requires limit { length last.now ≤ 33554432 }
-    ensures text { IfOk result (λ text.
-        GivesFor (task_asked task.entry) (input_of database.now.entries profile.now) last.now (bytes_of text)) }
-    ensures refused { IfErr result
-        (IsTaskRefusal (task_asked task.entry) (input_of database.now.entries profile.now) last.now) }
+    requires script { HasScriptWithin work }
+    ensures text { (task : Task) (last : List ℕ) → IsWorkFor task last work → IfOk result (λ text.
+        GivesFor task (input_of database.now.entries profile.now) last (bytes_of text)) }
+    ensures refused { (task : Task) (last : List ℕ) → IsWorkFor task last work → IfErr result
+        (IsTaskRefusal task (input_of database.now.entries profile.now) last) }
 {
-    match task {
-        Task::Check { .. } => Ok(Text::Line(check(alloc, database, profile, last)?)),
-        Task::Certify { router } => Ok(Text::Cert(certificate(alloc, database, profile, router)?)),
-        Task::Table { router } => Ok(Text::Bytes(table(alloc, database, profile, router)?)),
-        Task::Trace { trace: asked } => Ok(Text::Bytes(trace(alloc, database, profile, &asked)?)),
-        Task::Fabric { .. } => Ok(Text::Bytes(run_of_bytes(alloc, database, profile, last)?)),
+    match work {
+        Work::Check { certificate } => {
+            Ok(Text::Line(check(alloc, database, profile, certificate)?))
+        }
+        Work::Certify { router } => Ok(Text::Cert(certificate(alloc, database, profile, router)?)),
+        Work::Table { router } => Ok(Text::Bytes(table(alloc, database, profile, router)?)),
+        Work::Trace { trace: asked } => Ok(Text::Bytes(trace(alloc, database, profile, &asked)?)),
+        Work::Fabric { script } => {
+            Ok(Text::Bytes(run_of_bytes(alloc, database, profile, &script)?))
+        }
     }
 }
 
-/// The accepted line, where the bytes are a certificate that is accepted for the island of its root.
-fn check(alloc: Global, database: &Lsdb, profile: &Profile, bytes: &[u8]) -> Result<Line, Exit>
+/// The accepted line, where there is a certificate and it is accepted for the island of its root.
+fn check(
+    alloc: Global,
+    database: &Lsdb,
+    profile: &Profile,
+    certificate: Result<CertFile, CertFault>,
+) -> Result<Line, Exit>
     requires settled { least_conflict database.now.entries ≡ None }
-    ensures text { IfOk result (λ line.
-        GivesVerdict (input_of database.now.entries profile.now) bytes.now line.items) }
-    ensures refused { IfErr result
-        (IsCheckRefusal (input_of database.now.entries profile.now) bytes.now) }
+    ensures text { (bytes : List ℕ) → IsCertRead bytes certificate → IfOk result (λ line.
+        GivesVerdict (input_of database.now.entries profile.now) bytes line.items) }
+    ensures refused { (bytes : List ℕ) → IsCertRead bytes certificate → IfErr result
+        (IsCheckRefusal (input_of database.now.entries profile.now) bytes) }
 {
-    let file = cert_of(alloc, bytes)?;
+    let file = certificate?;
     verdict(alloc, database, profile, &file)
 }

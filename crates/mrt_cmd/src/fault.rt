@@ -6,7 +6,7 @@ ghost use Rattle.mrt_cmd.specs.Faults.{area_exit, certificate_exit, conflict_exi
 
 use crate::exit::{DbKind, Exit, What};
 use area_graph::AreaError;
-use cert_format::CertError;
+use cert_format::CertFault;
 use fabric_script::ScriptError;
 use lsdb::Conflict;
 use mrt_graph::NoMemory;
@@ -72,13 +72,13 @@ impl From<ProfileError> for Exit {
     }
 }
 
-impl From<CertError> for Exit {
-    ghost from_gives = { λ error exit. exit ≡ certificate_exit error };
+impl From<CertFault> for Exit {
+    ghost from_gives = { λ fault exit. exit ≡ certificate_exit fault };
 
-    fn from(error: CertError) -> Exit {
-        match error {
-            CertError::Fault { at, kind } => Exit::BadCertificate { at, kind },
-            CertError::NoMemory => Exit::NoMemory,
+    fn from(fault: CertFault) -> Exit {
+        Exit::BadCertificate {
+            at: fault.at,
+            kind: fault.kind,
         }
     }
 }

@@ -9,17 +9,15 @@ ghost use Rattle.fabric_script.specs.ScriptFaults.{IsScript};
 ghost use Rattle.mrt_graph.specs.TextLines.{text_lines};
 ghost use Rattle.ospf_lsa.specs.Lsas.{AreLsas, IsLsa};
 ghost use Rattle.mrt_cmd.specs.Database.{IsDatabase, entering, enters};
-ghost use Rattle.mrt_cmd.specs.Input.{IsCertFile, IsProfile};
-ghost use Rattle.mrt_cmd.specs.Reading.{HasNoCert, HasNoDatabase, HasNoProfile, HasNoScript};
+ghost use Rattle.mrt_cmd.specs.Input.{IsProfile};
+ghost use Rattle.mrt_cmd.specs.Reading.{HasNoDatabase, HasNoProfile, HasNoScript};
 
 use crate::exit::Exit;
-use cert_format::read_cert;
 use fabric_script::{Script, read_script};
 use lsdb::{
     Lsdb, an_lsa_without_a_fault_may_be_installed, entries_are_those_of_the_list,
     refuses_exactly_where_not_settled, tells_the_first_conflict,
 };
-use mrt_graph::CertFile;
 use mrt_island::{Profile, read_profile};
 use ospf_lsa::{Lsa, NETWORK_LSA, ROUTER_LSA, read_lsas};
 use std::alloc::Global;
@@ -83,14 +81,6 @@ pub(crate) fn profile_of(alloc: Global, bytes: &[u8]) -> Result<Profile, Exit>
     ensures none { IfErr result (HasNoProfile bytes.now) }
 {
     Ok(read_profile(alloc, bytes)?)
-}
-
-/// The certificate file that the bytes are.
-pub(crate) fn cert_of(alloc: Global, bytes: &[u8]) -> Result<CertFile, Exit>
-    ensures file { IfOk result (λ file. IsCertFile bytes.now file) }
-    ensures none { IfErr result (HasNoCert bytes.now) }
-{
-    Ok(read_cert(alloc, bytes)?)
 }
 
 /// The script that the bytes are.

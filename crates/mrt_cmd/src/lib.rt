@@ -3,9 +3,10 @@
 
 mod answer;
 mod certificate;
+mod certificate_file;
 mod exit;
 mod fault;
-mod file_bytes;
+mod files_read;
 mod input;
 mod island;
 mod line;
@@ -21,6 +22,7 @@ mod text;
 mod verdict;
 mod version_one;
 mod words;
+mod work;
 
 pub use exit::{DbKind, Exit, What};
 pub use line::Line;

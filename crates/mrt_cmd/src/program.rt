@@ -29,7 +29,7 @@ ghost use Rattle.mrt_cmd.specs.Run.{
 
 use crate::answer::answer;
 use crate::exit::Exit;
-use crate::file_bytes::read_files;
+use crate::files_read::read_files;
 use crate::run_law::{one_exit_comes, only_a_check_says_no, what_was_written_passes};
 use crate::survey::survey;
 use crate::text::Text;
@@ -40,8 +40,9 @@ use std::alloc::Global;
 /// Does what the words ask for: reads the files that they name, writes the text of the answer to `out`, or else one line on
 /// why there is none to `err`.
 ///
-/// Everything is read and all memory is taken before the first byte is written. A fault of `err` changes no exit. `NoMemory` may
-/// come at any place after `Usage`.
+/// Everything is read and all memory is taken before the first byte is written. A certificate is read in pieces, and what they
+/// spell is kept; the other files are held whole. A fault of `err` changes no exit. `NoMemory` may come at any place after
+/// `Usage`.
 ///
 /// It takes the time of reading the files, of an install for each LSA, of the area and the island, and of what is asked: of
 /// checking a certificate, of computing and writing one, of computing the rows for one node after the other and a router's
@@ -211,8 +212,8 @@ fn text_of_files<F: Shelf>(alloc: Global, form: FileForm<'_>, shelf: &mut F) -> 
     ensures no_fault { F.healthy shelf.old → AreThere (F.held shelf.old) (files_of (OfFiles (files_asked form.entry)))
         → F.faults shelf.new ≡ F.faults shelf.old }
 {
-    let bytes = read_files(alloc, shelf, &form)?;
-    answer(alloc, form.task, &bytes)
+    let files = read_files(alloc, shelf, &form)?;
+    answer(alloc, files)
 }
 
 /// Writes the answer's text, or else the line of the fault.

@@ -1,17 +1,20 @@
 //! Reading the files that the words name.
 
-ghost use Rattle.std.specs.Prelude.{◌≡◌, ◌≤◌, ◌<◌, ◌-◌, ◌^◌, IfOk, IfErr, IfSome};
+ghost use Rattle.std.specs.Prelude.{◌≡◌, ◌≤◌, ◌<◌, ◌-◌, ◌^◌, ℕ, List, IfOk, IfErr, IfSome};
 ghost use Rattle.std.specs.Option.{IsSomeAnd, option_map};
 ghost use Rattle.mrt_io.specs.Counts.{Rose};
 ghost use Rattle.mrt_io.specs.Holding.{IsKnownThere};
 ghost use Rattle.mrt_cmd.specs.Asked.{task_asked};
 ghost use Rattle.mrt_cmd.specs.Comes.{IsLastRead, IsProfileRead};
 ghost use Rattle.mrt_cmd.specs.Files.{IsReadAs, profile_file, task_file};
+ghost use Rattle.mrt_cmd.specs.Kept.{IsWorkFor};
 ghost use Rattle.mrt_cmd.specs.Reading.{IsUnread, IsUnreadOrFault};
 
+use crate::certificate_file::read_certificate_file;
 use crate::exit::Exit;
 use crate::named_file::NamedFile;
 use crate::words::Task;
+use crate::work::Work;
 use mrt_io::{Shelf, ShelfError, Word};
 use std::alloc::Global;
 
@@ -72,13 +75,14 @@ pub(crate) fn read_profile_file<F: Shelf>(
     }
 }
 
-/// The bytes of the file that a task names; where it names none they are none, and nothing is read.
+/// What is to be done for a task, once the file was read that it names, if it names one.
 pub(crate) fn read_task_file<F: Shelf>(
     alloc: Global,
     shelf: &mut F,
     task: Task<'_>,
-) -> Result<Vec<u8>, Exit>
-    ensures read { IfOk result (λ bytes. IsLastRead (F.held shelf.old) (task_file (task_asked task.entry)) bytes.items) }
+) -> Result<Work, Exit>
+    ensures read { IfOk result (λ work. (last : List ℕ)
+        × IsLastRead (F.held shelf.old) (task_file (task_asked task.entry)) last × IsWorkFor (task_asked task.entry) last work) }
     ensures refused { IfErr result (λ exit. IsSomeAnd (task_file (task_asked task.entry))
         (λ file. IsUnreadOrFault (F.held shelf.old) file (F.faults shelf.old) (F.faults shelf.new) exit)) }
     ensures calm { (Rose (F.faults shelf.old) (F.faults shelf.new) → ⊥)
@@ -91,10 +95,14 @@ pub(crate) fn read_task_file<F: Shelf>(
         → F.faults shelf.new ≡ F.faults shelf.old }
 {
     match task {
-        Task::Check { certificate } => {
-            read_file(alloc, shelf, &NamedFile::certificate(certificate))
-        }
-        Task::Fabric { script } => read_file(alloc, shelf, &NamedFile::script(script)),
-        Task::Certify { .. } | Task::Table { .. } | Task::Trace { .. } => Ok(Vec::new(alloc)),
+        Task::Check { certificate } => Ok(Work::Check {
+            certificate: read_certificate_file(alloc, shelf, &NamedFile::certificate(certificate))?,
+        }),
+        Task::Certify { router } => Ok(Work::Certify { router }),
+        Task::Table { router } => Ok(Work::Table { router }),
+        Task::Trace { trace } => Ok(Work::Trace { trace }),
+        Task::Fabric { script } => Ok(Work::Fabric {
+            script: read_file(alloc, shelf, &NamedFile::script(script))?,
+        }),
     }
 }

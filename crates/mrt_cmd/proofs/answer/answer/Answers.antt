@@ -1,12 +1,26 @@
-use Rattle.std.proofs.Common.{ℕ, List, map, subst}
-use Rattle.std.specs.Prelude.{IfErr}
+use Rattle.std.proofs.Common.{◌∙◌, ℕ, List, map, sym, subst}
 use Rattle.lsdb.specs.Entries.{Entry}
-use Rattle.mrt_cmd.specs.Asked.{task_asked}
 use Rattle.mrt_cmd.specs.Database.{IsDatabase}
 use Rattle.mrt_cmd.specs.Input.{Input, IsInput, IsProfile}
-use Rattle.mrt_cmd.specs.Reading.{IsTaskRefusal}
+use Rattle.mrt_cmd.specs.TextBytes.{bytes_of}
 use Rattle.mrt_cmd.proofs.Refusals.{tasks_over}
+use Rattle.mrt_cmd.proofs.Works.{gives_over}
 use Rattle.mrt_cmd.proofs.answer.answer.Goals as goal
+
+pub returns-clause-text : goal.returns-clause-text
+returns-clause-text c =
+    let input : Input = record {
+      newest = map (λ (entry : Entry). entry.lsa) c.in_ok-database.database.entries;
+      settings = c.in_ok-profile.profile;
+    } in
+    λ task bytes are.
+    let given : IsInput bytes.database bytes.profile input = record {
+      database_is = subst (λ (b : List ℕ). IsDatabase b input.newest) (c.deref.ensures.value ∙ sym are.database)
+          c.in_ok-database.ensures.newest;
+      profile_is = subst (λ (b : List ℕ). IsProfile b input.settings) (c.deref-2.ensures.value ∙ sym are.profile)
+          c.in_ok-profile.ensures.profile;
+    } in
+    gives_over bytes_of c.answer_for.result task bytes input given (c.answer_for.ensures.text task bytes.last are.work)
 
 pub returns-clause-refused : goal.returns-clause-refused
 returns-clause-refused c =
@@ -14,12 +28,11 @@ returns-clause-refused c =
       newest = map (λ (entry : Entry). entry.lsa) c.in_ok-database.database.entries;
       settings = c.in_ok-profile.profile;
     } in
-    let given : IsInput c.args.bytes.now.database c.args.bytes.now.profile input = record {
-      database_is = subst (λ (bytes : List ℕ). IsDatabase bytes input.newest) c.database.ensures
+    λ task bytes are.
+    let given : IsInput bytes.database bytes.profile input = record {
+      database_is = subst (λ (b : List ℕ). IsDatabase b input.newest) (c.deref.ensures.value ∙ sym are.database)
           c.in_ok-database.ensures.newest;
-      profile_is = subst (λ (bytes : List ℕ). IsProfile bytes input.settings) c.profile.ensures
+      profile_is = subst (λ (b : List ℕ). IsProfile b input.settings) (c.deref-2.ensures.value ∙ sym are.profile)
           c.in_ok-profile.ensures.profile;
     } in
-    tasks_over c.answer_for.result (task_asked c.args.task) c.args.bytes.now input given
-    (subst (λ (bytes : List ℕ). IfErr c.answer_for.result (IsTaskRefusal (task_asked c.args.task) input bytes))
-    c.last.ensures c.answer_for.ensures.refused)
+    tasks_over c.answer_for.result task bytes input given (c.answer_for.ensures.refused task bytes.last are.work)

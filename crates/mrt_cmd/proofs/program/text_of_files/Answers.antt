@@ -1,5 +1,30 @@
-use Rattle.mrt_cmd.proofs.Refusals.{last_within}
+use Rattle.mrt_cmd.specs.Asked.{files_asked}
+use Rattle.mrt_cmd.specs.TextBytes.{bytes_of}
+use Rattle.mrt_cmd.proofs.Refusals.{calm_over, refused_over}
+use Rattle.mrt_cmd.proofs.Works.{gives_form, script_within}
 use Rattle.mrt_cmd.proofs.program.text_of_files.Goals as goal
 
-pub answer-requires-clause-last : goal.answer-requires-clause-last
-answer-requires-clause-last g c = last_within _ _ _ c.in_ok-bytes.ensures.read.last_read
+pub answer-requires-clause-script : goal.answer-requires-clause-script
+answer-requires-clause-script g c =
+    let read = c.in_ok-files.ensures.read in
+    script_within _ _ _ _ read.1.last_read read.2.work
+
+pub returns-clause-text : goal.returns-clause-text
+returns-clause-text g c =
+    let read = c.in_ok-files.ensures.read in
+    gives_form bytes_of c.answer.result _ (files_asked c.args.form) read.0 read.1 (c.answer.ensures.text _ read.0 read.2)
+
+pub returns-clause-refused : goal.returns-clause-refused
+returns-clause-refused g c =
+    let read = c.in_ok-files.ensures.read in
+    refused_over c.answer.result _ (files_asked c.args.form) read.0 _ _ read.1 (c.answer.ensures.refused _ read.0 read.2)
+
+pub returns-clause-calm : goal.returns-clause-calm
+returns-clause-calm g c =
+    let read = c.in_ok-files.ensures.read in
+    λ calm. calm_over c.answer.result _ (files_asked c.args.form) read.0 read.1 (c.answer.ensures.refused _ read.0 read.2)
+
+pub returns-clause-healthy : goal.returns-clause-healthy
+returns-clause-healthy g c =
+    let read = c.in_ok-files.ensures.read in
+    λ healthy. calm_over c.answer.result _ (files_asked c.args.form) read.0 read.1 (c.answer.ensures.refused _ read.0 read.2)

@@ -1,56 +1,28 @@
-//! The bytes of the files that a form over files names.
+//! The files that a form over files names, once they were read.
 
 ghost use Rattle.std.specs.Prelude.{◌≡◌, ◌≤◌, IfOk, IfErr, length};
 ghost use Rattle.mrt_io.specs.Counts.{Rose};
+ghost use Rattle.mrt_cmd.specs.Answers.{FileBytes};
 ghost use Rattle.mrt_cmd.specs.Asked.{files_asked};
 ghost use Rattle.mrt_cmd.specs.Comes.{AreRead};
 ghost use Rattle.mrt_cmd.specs.Files.{AreThere, files_in};
+ghost use Rattle.mrt_cmd.specs.Kept.{AreBytesOf};
 ghost use Rattle.mrt_cmd.specs.Reading.{AreUnread, AreUnreadOrFault};
 
 use crate::exit::Exit;
 use crate::named_file::NamedFile;
 use crate::reading::{read_file, read_profile_file, read_task_file};
 use crate::words::FileForm;
+use crate::work::Work;
 use mrt_io::Shelf;
 use std::alloc::Global;
-use std::marker::Model;
 
-/// The bytes of the database, of the profile, and of the file that the task names; none where none is named.
+/// The bytes of the database and of the profile, and what is to be done with them.
 #[derive(Drop)]
-pub(crate) struct FileBytes {
-    database: Vec<u8>,
-    profile: Vec<u8>,
-    last: Vec<u8>,
-}
-
-impl Model for FileBytes {
-    ghost use Rattle.mrt_cmd.specs.Answers.{FileBytes};
-
-    ghost Value = { FileBytes };
-
-    ghost view = { λ bytes. record { database = bytes.database.items; profile = bytes.profile.items; last = bytes.last.items } };
-}
-
-impl FileBytes {
-    ghost use Rattle.std.specs.Prelude.{◌≡◌};
-
-    pub(crate) fn database(&self) -> &[u8]
-        ensures { result.now ≡ self.now.database }
-    {
-        &self.database
-    }
-
-    pub(crate) fn profile(&self) -> &[u8]
-        ensures { result.now ≡ self.now.profile }
-    {
-        &self.profile
-    }
-
-    pub(crate) fn last(&self) -> &[u8]
-        ensures { result.now ≡ self.now.last }
-    {
-        &self.last
-    }
+pub(crate) struct FilesRead {
+    pub(crate) database: Vec<u8>,
+    pub(crate) profile: Vec<u8>,
+    pub(crate) work: Work,
 }
 
 /// Reads the files that a form over files names, in the order of the words.
@@ -58,8 +30,9 @@ pub(crate) fn read_files<F: Shelf>(
     alloc: Global,
     shelf: &mut F,
     form: &FileForm<'_>,
-) -> Result<FileBytes, Exit>
-    ensures read { IfOk result (AreRead (F.held shelf.old) (files_asked form.now)) }
+) -> Result<FilesRead, Exit>
+    ensures read { IfOk result (λ files. (bytes : FileBytes) × AreRead (F.held shelf.old) (files_asked form.now) bytes
+        × AreBytesOf (files_asked form.now).task files bytes) }
     ensures refused { IfErr result
         (AreUnreadOrFault (F.held shelf.old) (files_asked form.now) (F.faults shelf.old) (F.faults shelf.new)) }
 
@@ -72,10 +45,10 @@ pub(crate) fn read_files<F: Shelf>(
 {
     let database = read_file(alloc, shelf, &NamedFile::database(form.database))?;
     let profile = read_profile_file(alloc, shelf, form.profile)?;
-    let last = read_task_file(alloc, shelf, form.task)?;
-    Ok(FileBytes {
+    let work = read_task_file(alloc, shelf, form.task)?;
+    Ok(FilesRead {
         database,
         profile,
-        last,
+        work,
     })
 }

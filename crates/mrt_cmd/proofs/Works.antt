@@ -1,0 +1,47 @@
+-- What is kept of the files that were read, and what comes of it.
+use Rattle.std.proofs.Common.{◌≡◌, ◌≤◌, ℕ, List, Option, Result, Ok, Err, length, sym, subst}
+use Rattle.std.specs.Prelude.{IfOk}
+use Rattle.mrt_io.specs.Holding.{Files}
+use Rattle.mrt_cmd.specs.declared.exit.Exit.{Exit}
+use Rattle.mrt_cmd.specs.declared.work.Work.{Work}
+use Rattle.mrt_cmd.specs.declared.work.Work.TheVariants as works
+use Rattle.mrt_cmd.specs.Answers.{FileBytes, GivesFor, GivesOver}
+use Rattle.mrt_cmd.specs.Comes.{AreRead, Gives, IsLastRead}
+use Rattle.mrt_cmd.specs.Files.{task_file}
+use Rattle.mrt_cmd.specs.Form.{FileForm, OfFiles, Task}
+use Rattle.mrt_cmd.specs.Input.{Input, IsInput}
+use Rattle.mrt_cmd.specs.Kept.{HasScriptWithin, IsWorkFor}
+use Rattle.mrt_cmd.proofs.Refusals.{last_within}
+
+-- what was read for a task was read for the task that was asked
+pub work_read : (held : Option Files) (task asked : Task) → asked ≡ task → (last : List ℕ) (work : Work)
+    → IsLastRead held (task_file task) last → IsWorkFor task last work
+    → (bytes : List ℕ) × IsLastRead held (task_file asked) bytes × IsWorkFor asked bytes work
+work_read held task asked is last work read kept =
+    subst (λ (t : Task). (bytes : List ℕ) × IsLastRead held (task_file t) bytes × IsWorkFor t bytes work) (sym is)
+    (last, read, kept)
+
+-- a script is within its limit
+pub script_within : (held : Option Files) (task : Task) (last : List ℕ) (work : Work)
+    → IsLastRead held (task_file task) last → IsWorkFor task last work → HasScriptWithin work
+script_within held task last (works.Check certificate) read kept = tt
+script_within held task last (works.Certify router) read kept = tt
+script_within held task last (works.Table router) read kept = tt
+script_within held task last (works.Trace trace) read kept = tt
+script_within held task last (works.Fabric script) read kept =
+    subst (λ (bytes : List ℕ). length bytes ≤ 33554432) kept.1 (last_within held task last read)
+
+-- a text for what the bytes hold is one over the bytes
+pub gives_over : {T : Type 0} (items : T → List ℕ) (answer : Result T Exit) (task : Task) (bytes : FileBytes)
+    (input : Input) → IsInput bytes.database bytes.profile input
+    → IfOk answer (λ text. GivesFor task input bytes.last (items text))
+    → IfOk answer (λ text. GivesOver task bytes (items text))
+gives_over items (Ok text) task bytes input given said = record { input = input; given = given; gives = said }
+gives_over items (Err exit) task bytes input given said = tt
+
+-- a text over the bytes that were read is what the form gives
+pub gives_form : {T : Type 0} (items : T → List ℕ) (answer : Result T Exit) (held : Option Files) (form : FileForm)
+    (bytes : FileBytes) → AreRead held form bytes → IfOk answer (λ text. GivesOver form.task bytes (items text))
+    → IfOk answer (λ text. Gives held (OfFiles form) (items text))
+gives_form items (Ok text) held form bytes read said = (bytes, read, said)
+gives_form items (Err exit) held form bytes read said = tt
