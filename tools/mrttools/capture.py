@@ -1,0 +1,189 @@
+"""Frames of capture files, and the IP datagrams in them."""
+from __future__ import annotations
+
+import struct
+from typing import BinaryIO, Callable, Iterator, NamedTuple
+
+import dpkt
+
+PCAP_MAGICS = {
+    bytes.fromhex(text) for text in ("a1b2c3d4", "d4c3b2a1", "a1b23c4d", "4d3cb2a1", "a1b2cd34", "34cdb2a1")
+}
+SECTION, INTERFACE, OLD_PACKET, SIMPLE_PACKET, PACKET = 0x0A0D0D0A, 1, 2, 3, 6
+BYTE_ORDERS = {bytes.fromhex("1a2b3c4d"): ">", bytes.fromhex("4d3c2b1a"): "<"}
+
+ETHERNET, LINUX_COOKED, LINUX_COOKED_2 = 1, 113, 276
+# The numbers for raw IP differ by system and by age.
+RAW_IP = {12, 14, 101, 228}
+IP_TYPE, VLAN_TYPES = 0x0800, {0x8100, 0x88A8, 0x9100}
+
+
+class CaptureError(Exception):
+    """A file that is no capture, or that is damaged so that the rest of it cannot be read."""
+
+
+class Frame(NamedTuple):
+    """A captured frame with its kind of link, by the numbers of libpcap."""
+
+    link: int
+    data: bytes
+
+
+class Datagram(NamedTuple):
+    """An IPv4 datagram, or a fragment of one."""
+
+    source: bytes
+    target: bytes
+    protocol: int
+    number: int
+    offset: int
+    more: bool
+    payload: bytes
+
+
+class BadDatagram(Exception):
+    """Why a frame's IP datagram cannot be used."""
+
+
+# frames
+
+
+def exactly(file: BinaryIO, size: int) -> bytes:
+    """So many bytes of a file; a file that ends before is an EOFError."""
+    data = file.read(size)
+    if len(data) < size:
+        raise EOFError
+    return data
+
+
+def frames(name: str, tell: Callable[[str], None]) -> Iterator[Frame]:
+    """The frames of a pcap or pcapng file. A file that ends within a frame is told, and its whole frames are given."""
+    with open(name, "rb") as file:
+        magic = file.read(4)
+        file.seek(0)
+        if magic in PCAP_MAGICS:
+            found = pcap_frames(file)
+        elif magic == struct.pack(">I", SECTION):
+            found = pcapng_frames(file)
+        else:
+            raise CaptureError("it is neither a pcap nor a pcapng file")
+        try:
+            yield from found
+        except (EOFError, dpkt.NeedData):
+            tell("the capture ends within a frame")
+
+
+def pcap_frames(file: BinaryIO) -> Iterator[Frame]:
+    reader = dpkt.pcap.Reader(file)
+    # The upper bits can say how long a checksum of the link is.
+    link = reader.datalink() & 0xFFFF
+    for _, data in reader:
+        yield Frame(link, data)
+
+
+def pcapng_frames(file: BinaryIO) -> Iterator[Frame]:
+    """Frames by the kind of link of their own interface; dpkt's reader takes that of the first one for all."""
+    links: list[int] = []
+    for kind, order, body in pcapng_blocks(file):
+        if kind == SECTION:
+            links = []
+        elif kind == INTERFACE and len(body) >= 8:
+            links.append(struct.unpack_from(order + "H", body)[0])
+        elif kind in (PACKET, OLD_PACKET) and len(body) >= 20:
+            yield frame_of_packet(kind, order, body, links)
+        elif kind == SIMPLE_PACKET and len(body) >= 4 and links:
+            yield Frame(links[0], body[4 : 4 + struct.unpack_from(order + "I", body)[0]])
+
+
+def frame_of_packet(kind: int, order: str, body: bytes, links: list[int]) -> Frame:
+    (number,) = struct.unpack_from(order + ("I" if kind == PACKET else "H"), body)
+    (size,) = struct.unpack_from(order + "I", body, 12)
+    if number >= len(links):
+        raise CaptureError(f"a frame is of interface {number}, which the file does not have")
+    return Frame(links[number], body[20 : 20 + size])
+
+
+def pcapng_blocks(file: BinaryIO) -> Iterator[tuple[int, str, bytes]]:
+    """The blocks of a pcapng file: kind, byte order and body."""
+    order = "<"
+    while start := file.read(8):
+        if len(start) < 8:
+            raise EOFError
+        if start[:4] == struct.pack(">I", SECTION):
+            mark = exactly(file, 4)
+            if mark not in BYTE_ORDERS:
+                raise CaptureError("a section of the pcapng file has no byte order")
+            order, start = BYTE_ORDERS[mark], start + mark
+        kind, size = struct.unpack_from(order + "II", start)
+        if size % 4 or size < len(start) + 4:
+            raise CaptureError(f"a block of the pcapng file has the length {size}")
+        body = start[8:] + exactly(file, size - len(start))
+        yield kind, order, body[:-4]
+
+
+# datagrams
+
+
+def ip_bytes(frame: Frame) -> bytes | None:
+    """The IP datagram of a frame of a known kind of link; nothing where it carries something else."""
+    data = frame.data
+    if frame.link in RAW_IP:
+        return data
+    at, after = {ETHERNET: (12, 14), LINUX_COOKED: (14, 16), LINUX_COOKED_2: (0, 20)}[frame.link]
+    kind = data[at : at + 2]
+    while int.from_bytes(kind, "big") in VLAN_TYPES:
+        kind, after = data[after + 2 : after + 4], after + 4
+    return data[after:] if kind == struct.pack(">H", IP_TYPE) else None
+
+
+def is_known(link: int) -> bool:
+    return link in RAW_IP or link in (ETHERNET, LINUX_COOKED, LINUX_COOKED_2)
+
+
+def datagram_of(data: bytes) -> Datagram:
+    """The datagram of IPv4 bytes, without what a link adds after it."""
+    if len(data) < 20:
+        raise BadDatagram("cut in the IP header")
+    head, _, total, number, place, _, protocol, _, source, target = struct.unpack_from(">BBHHHBBH4s4s", data)
+    start = 4 * (head & 15)
+    if head >> 4 != 4 or start < 20 or total < start:
+        raise BadDatagram("a wrong IP header")
+    if len(data) < total:
+        raise BadDatagram("cut by the capture")
+    return Datagram(source, target, protocol, number, 8 * (place & 0x1FFF), bool(place & 0x2000), data[start:total])
+
+
+def is_protocol(data: bytes, protocol: int) -> bool:
+    """Whether IPv4 bytes say that they are of a protocol, be they whole or not."""
+    return len(data) >= 10 and data[0] >> 4 == 4 and data[9] == protocol
+
+
+class Fragments:
+    """Datagrams that came in part so far."""
+
+    def __init__(self) -> None:
+        self.waiting: dict[tuple[bytes, bytes, int], dict[int, Datagram]] = {}
+
+    def put(self, part: Datagram) -> bytes | None:
+        """The payload of the datagram that this fragment completes, if it completes one."""
+        if part.offset == 0 and not part.more:
+            return part.payload
+        key = part.source, part.target, part.number
+        parts = self.waiting.setdefault(key, {})
+        parts[part.offset] = part
+        payload = joined(parts)
+        if payload is not None:
+            del self.waiting[key]
+        return payload
+
+
+def joined(parts: dict[int, Datagram]) -> bytes | None:
+    """The payload that fragments cover without a gap, up to the last of them."""
+    payload = b""
+    while (part := parts.get(len(payload))) is not None:
+        payload += part.payload
+        if not part.more:
+            return payload
+        if not part.payload:
+            break
+    return None

@@ -1,0 +1,1 @@
+"""Tests of the tools for operators; tools/test runs them."""

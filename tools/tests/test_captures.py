@@ -1,0 +1,194 @@
+"""Captures of every kind that the converter reads."""
+import unittest
+
+import dpkt
+
+from tests import making
+from tests.making import Converted, datagram, ethernet, over_ethernet, pair, pcap, pcapng, update
+
+
+class Links(unittest.TestCase):
+    """One update of two router-LSAs, over each kind of link."""
+
+    def setUp(self) -> None:
+        self.wanted = b"".join(pair())
+        self.ip = datagram(update(pair()))
+
+    def check(self, capture: bytes) -> None:
+        done = Converted(capture)
+        self.assertEqual((done.status, done.output, done.file), (0, "", self.wanted), done.lines)
+
+    def test_ethernet(self) -> None:
+        self.check(pcap([ethernet(self.ip)]))
+
+    def test_one_vlan_tag(self) -> None:
+        self.check(pcap([ethernet(self.ip, tags=1)]))
+
+    def test_two_vlan_tags(self) -> None:
+        self.check(pcap([ethernet(self.ip, tags=2)]))
+
+    def test_raw_ip(self) -> None:
+        self.check(pcap([self.ip], making.RAW))
+
+    def test_cooked(self) -> None:
+        self.check(pcap([bytes(dpkt.sll.SLL(type=4, ethtype=0x0800)) + self.ip], making.COOKED))
+
+    def test_cooked_2(self) -> None:
+        self.check(pcap([bytes(dpkt.sll2.SLL2(type=4, ethtype=0x0800)) + self.ip], making.COOKED_2))
+
+    def test_cooked_2_with_vlan_tag(self) -> None:
+        head = bytes(dpkt.sll2.SLL2(type=4, ethtype=0x8100))
+        self.check(pcap([head + bytes.fromhex("00640800") + self.ip], making.COOKED_2))
+
+    def test_pcapng_in_both_byte_orders(self) -> None:
+        for order in "<>":
+            self.check(pcapng([(0, ethernet(self.ip))], [making.ETHERNET], order))
+
+    def test_pcapng_with_two_kinds_of_link(self) -> None:
+        one, other = pair()
+        frames = [(0, ethernet(datagram(update([one])))), (1, datagram(update([other])))]
+        self.check(pcapng(frames, [making.ETHERNET, making.RAW]))
+
+    def test_pcapng_of_two_sections(self) -> None:
+        one, other = pair()
+        self.check(
+            pcapng([(0, ethernet(datagram(update([one]))))], [making.ETHERNET])
+            + pcapng([(0, datagram(update([other])))], [making.RAW], ">")
+        )
+
+    def test_what_is_no_ospf_is_passed_over(self) -> None:
+        others = [bytes(60), datagram(b"x" * 40, protocol=17), b"", b"\x45"]
+        self.check(pcap([ethernet(other) for other in others] + [ethernet(self.ip)]))
+
+    def test_a_link_that_is_not_known(self) -> None:
+        done = Converted(pcapng([(0, bytes(90)), (1, self.ip)], [195, making.RAW]))
+        self.assertEqual((done.status, done.file), (0, self.wanted))
+        self.assertTrue(done.says("dropped 1 frame: a kind of link that is not known here, number 195"), done.lines)
+
+
+class Fragments(unittest.TestCase):
+    """Datagrams that come in parts."""
+
+    def setUp(self) -> None:
+        self.wanted = b"".join(pair())
+        self.parts = making.fragments(update(pair()), 32)
+
+    def test_in_order(self) -> None:
+        self.assertEqual(Converted(pcap(map(ethernet, self.parts))).file, self.wanted)
+
+    def test_in_any_order_and_twice(self) -> None:
+        self.assertEqual(Converted(pcap(map(ethernet, [self.parts[1], *reversed(self.parts)]))).file, self.wanted)
+
+    def test_two_datagrams_mixed(self) -> None:
+        one, other = (making.fragments(update([record]), 32, number) for number, record in enumerate(pair()))
+        mixed = [part for both in zip(one, other) for part in both]
+        self.assertEqual(Converted(pcap(map(ethernet, mixed))).file, self.wanted)
+
+    def test_one_is_missing(self) -> None:
+        frames = [ethernet(part) for part in self.parts[:1] + self.parts[2:]]
+        done = Converted(pcap(frames + [ethernet(datagram(update(pair()[:1])))]))
+        self.assertEqual((done.status, done.file), (0, pair()[0]))
+        self.assertTrue(done.says("dropped 1 OSPF packet: fragments are missing"), done.lines)
+
+
+class Damage(unittest.TestCase):
+    """Captures and packets that are cut or changed. A good update stands beside each."""
+
+    def check(self, frame: bytes, told: str) -> None:
+        done = Converted(pcap([frame, ethernet(datagram(update(pair())))]))
+        self.assertEqual((done.status, done.file), (0, b"".join(pair())), done.lines)
+        self.assertTrue(done.says(told), done.lines)
+
+    def test_a_packet_cut_by_the_capture(self) -> None:
+        self.check(ethernet(datagram(update(pair())))[:70], "dropped 1 OSPF packet: cut by the capture")
+
+    def test_a_wrong_ip_header(self) -> None:
+        ip = datagram(update(pair()))
+        self.check(ethernet(b"\x41" + ip[1:]), "dropped 1 OSPF packet: a wrong IP header")
+
+    def test_a_wrong_ospf_checksum(self) -> None:
+        packet = bytearray(update(pair()))
+        packet[40] ^= 1
+        self.check(ethernet(datagram(bytes(packet))), "dropped 1 OSPF packet: a wrong OSPF checksum")
+
+    def test_a_wrong_ospf_length(self) -> None:
+        packet = update(pair())
+        self.check(
+            ethernet(datagram(packet[:2] + b"\xff\xff" + packet[4:])), "dropped 1 OSPF packet: a wrong OSPF length"
+        )
+        self.check(ethernet(datagram(packet[:20])), "dropped 1 OSPF packet: shorter than an OSPF header")
+
+    def test_another_version(self) -> None:
+        self.check(ethernet(datagram(making.ospf(4, bytes(4), version=3))), "dropped 1 OSPF packet: OSPF version 3")
+
+    def test_a_wrong_lsa_checksum(self) -> None:
+        bad = bytearray(pair()[0])
+        bad[30] ^= 1
+        self.check(ethernet(datagram(update([bytes(bad)]))), "dropped 1 LSA: a wrong LSA checksum")
+
+    def test_lsas_that_do_not_fit(self) -> None:
+        record = pair()[0]
+        for size in (0, 19, 200):
+            wrong = record[:18] + size.to_bytes(2, "big") + record[20:]
+            self.check(
+                ethernet(datagram(update([wrong]))), "dropped 1 OSPF packet: an LSA that does not fit in its packet"
+            )
+
+    def test_an_update_without_a_count(self) -> None:
+        self.check(
+            ethernet(datagram(making.ospf(4, b"\0\0"))), "dropped 1 OSPF packet: a Link State Update without a count"
+        )
+
+    def test_the_lsas_before_one_that_does_not_fit_are_taken(self) -> None:
+        packet = making.ospf(4, (3).to_bytes(4, "big") + b"".join(pair()))
+        done = Converted(over_ethernet(packet))
+        self.assertEqual((done.status, done.file), (0, b"".join(pair())))
+        self.assertTrue(done.says("an LSA that does not fit in its packet"), done.lines)
+
+    def test_other_faults_of_lsas(self) -> None:
+        faults = {
+            "the reserved sequence number": making.router_lsa("1.1.1.1", [], sequence=0x80000000),
+            "two router IDs in one router-LSA": making.lsa(1, "1.1.1.1", "3.3.3.3", bytes(4)),
+            "a body that does not fit its length": making.lsa(1, "3.3.3.3", "3.3.3.3", b"\0\0\0\1"),
+        }
+        for told, record in faults.items():
+            self.check(ethernet(datagram(update([record]))), f"dropped 1 LSA: {told}")
+
+    def test_a_network_lsa_of_a_wrong_length(self) -> None:
+        record = making.lsa(2, "10.0.0.1", "1.1.1.1", bytes(7))
+        self.check(ethernet(datagram(update([record]))), "dropped 1 LSA: a body that does not fit its length")
+
+    def test_a_capture_that_ends_within_a_frame(self) -> None:
+        frame = ethernet(datagram(update(pair())))
+        whole = pcapng([(0, frame), (0, frame)], [making.ETHERNET])
+        done = Converted(whole[:-40])
+        self.assertEqual((done.status, done.file), (0, b"".join(pair())))
+        self.assertTrue(done.says("the capture ends within a frame"), done.lines)
+        done = Converted(pcap([frame]) + bytes(7))
+        self.assertEqual((done.status, done.file), (0, b"".join(pair())))
+        self.assertTrue(done.says("the capture ends within a frame"), done.lines)
+
+    def test_files_that_are_no_captures(self) -> None:
+        for capture in (b"", b"LSAs", bytes(100), pcapng([], [])[:20] + b"\xff" * 8, pcapng([(3, bytes(20))], [1])):
+            done = Converted(capture)
+            self.assertEqual((done.status, done.file, len(done.lines)), (1, None, 1), done.lines)
+
+    def test_a_capture_that_is_not_there(self) -> None:
+        done = Converted(b"", "--newest")
+        self.assertEqual(done.left, ["area.pcap"])
+
+
+class Authentication(unittest.TestCase):
+    """Packets with a password, and with a digest after them."""
+
+    def test_a_password(self) -> None:
+        self.assertEqual(Converted(over_ethernet(update(pair(), authentication=1))).file, b"".join(pair()))
+
+    def test_a_digest(self) -> None:
+        self.assertEqual(
+            Converted(over_ethernet(update(pair(), authentication=2) + b"d" * 16)).file, b"".join(pair())
+        )
+
+    def test_one_that_is_not_known(self) -> None:
+        done = Converted(over_ethernet(update(pair(), authentication=3)))
+        self.assertEqual((done.status, done.file), (1, None))
