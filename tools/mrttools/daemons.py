@@ -1,0 +1,191 @@
+"""The daemons of the lab, FRR and BIRD: how one is started in a namespace, and its database and routes."""
+from __future__ import annotations
+
+import json
+import os
+import re
+import shutil
+import subprocess
+from typing import NamedTuple
+
+from .lsas import Key, address
+from .network import LAN, Interface, Network, interfaces, router_id
+
+# What two routers with one database agree on: each LSA's sequence number and checksum.
+Database = dict[Key, tuple[int, int]]
+# The next hops to each prefix: interface and gateway, which is empty where the prefix is attached.
+Routes = dict[str, set[tuple[str, str]]]
+
+
+class Running(NamedTuple):
+    """A daemon's processes, and where it is asked."""
+
+    processes: list[subprocess.Popen[bytes]]
+    folder: str
+
+
+def run_in(space: str, log: str, *words: str) -> subprocess.Popen[bytes]:
+    """Starts a program in a namespace, with what it says in a file."""
+    with open(log, "ab") as file:
+        return subprocess.Popen(
+            ["ip", "netns", "exec", space, *words], stdin=subprocess.DEVNULL, stdout=file, stderr=file
+        )
+
+
+def answer(*words: str) -> str:
+    """What a daemon's client prints; nothing as long as the daemon does not answer."""
+    done = subprocess.run(words, stdout=subprocess.PIPE, stderr=subprocess.DEVNULL, text=True, check=False)
+    return done.stdout if done.returncode == 0 else ""
+
+
+class Frr:
+    """zebra and ospfd for each router."""
+
+    name = "FRR"
+    needs = ["/usr/lib/frr/zebra", "/usr/lib/frr/ospfd", "vtysh"]
+    routes_command = "show ip ospf route json"
+
+    def version(self) -> str:
+        return answer("/usr/lib/frr/ospfd", "--version").split("\n", 1)[0]
+
+    def start(self, network: Network, router: int, folder: str) -> Running:
+        # The daemons give up root's rights for those of the user frr.
+        shutil.chown(folder, "frr", "frr")
+        zebra, ospfd = os.path.join(folder, "zebra.conf"), os.path.join(folder, "ospfd.conf")
+        write(zebra, f"hostname r{router}\n")
+        write(ospfd, self.configuration(router))
+        common = ["-z", f"{folder}/zserv.api", "--vty_socket", folder, "-P", "0", "--log", "stdout"]
+        return Running(
+            [
+                run_in(
+                    network.of(router),
+                    f"{folder}/log",
+                    f"/usr/lib/frr/{name}",
+                    "-f",
+                    file,
+                    "-i",
+                    f"{folder}/{name}.pid",
+                    *common,
+                )
+                for name, file in (("zebra", zebra), ("ospfd", ospfd))
+            ],
+            folder,
+        )
+
+    def configuration(self, router: int) -> str:
+        lines = [f"hostname r{router}", "interface lo", " ip ospf area 0"]
+        for interface in interfaces(router):
+            lines += [
+                f"interface {interface.name}",
+                " ip ospf area 0",
+                f" ip ospf cost {interface.metric}",
+                " ip ospf hello-interval 1",
+                " ip ospf dead-interval 4",
+            ]
+            lines += [] if interface.far == LAN else [" ip ospf network point-to-point"]
+        return "\n".join(lines + ["router ospf", f" ospf router-id {router_id(router)}", ""])
+
+    def ask(self, running: Running, question: str) -> str:
+        return answer("vtysh", "--vty_socket", running.folder, "-d", "ospfd", "-c", question)
+
+    def database(self, running: Running) -> Database:
+        found: Database = {}
+        kind = 0
+        for line in self.ask(running, "show ip ospf database").splitlines():
+            if "Link States" in line:
+                kind = {"Router": 1, "Net": 2}.get(line.split()[0], 0)
+            fields = re.match(r"(\S+)\s+(\S+)\s+\d+ 0x([0-9a-f]{8}) 0x([0-9a-f]{4})", line)
+            if fields and kind:
+                found[Key(kind, address(fields[1]), address(fields[2]))] = int(fields[3], 16), int(fields[4], 16)
+        return found
+
+    def routes(self, running: Running) -> Routes:
+        said = json.loads(self.ask(running, self.routes_command) or "{}")
+        return {prefix: {frr_hop(hop) for hop in route["nexthops"]} for prefix, route in said.items()}
+
+
+def frr_hop(hop: dict[str, str]) -> tuple[str, str]:
+    """A next hop of FRR's JSON."""
+    return (hop["via"], hop["ip"]) if "via" in hop else (hop["directlyAttachedTo"], "")
+
+
+class Bird:
+    """bird for each router."""
+
+    name = "BIRD"
+    needs = ["bird", "birdc"]
+    routes_command = "show route protocol lab"
+
+    def version(self) -> str:
+        return subprocess.run(["bird", "--version"], stderr=subprocess.PIPE, text=True, check=False).stderr.strip()
+
+    def start(self, network: Network, router: int, folder: str) -> Running:
+        write(f"{folder}/bird.conf", self.configuration(router))
+        return Running(
+            [
+                run_in(
+                    network.of(router),
+                    f"{folder}/log",
+                    "bird",
+                    "-f",
+                    "-c",
+                    f"{folder}/bird.conf",
+                    "-s",
+                    f"{folder}/bird.ctl",
+                    "-P",
+                    f"{folder}/bird.pid",
+                )
+            ],
+            folder,
+        )
+
+    def configuration(self, router: int) -> str:
+        lines = [
+            f"router id {router_id(router)};",
+            "protocol device { }",
+            "protocol ospf v2 lab {",
+            "    area 0 {",
+            f"        stubnet {router_id(router)}/32;",
+        ]
+        lines += [self.interface(interface) for interface in interfaces(router)]
+        return "\n".join(lines + ["    };", "}", ""])
+
+    def interface(self, interface: Interface) -> str:
+        kind = "broadcast" if interface.far == LAN else "ptp"
+        return f'        interface "{interface.name}" {{ type {kind}; cost {interface.metric}; hello 1; dead 4; }};'
+
+    def ask(self, running: Running, question: str) -> str:
+        return answer("birdc", "-s", f"{running.folder}/bird.ctl", question)
+
+    def database(self, running: Running) -> Database:
+        found: Database = {}
+        for line in self.ask(running, "show ospf lsadb").splitlines():
+            fields = re.match(r"\s*(000[12])\s+(\S+)\s+(\S+)\s+([0-9a-f]{8})\s+\d+\s+([0-9a-f]{4})", line)
+            if fields:
+                found[Key(int(fields[1]), address(fields[2]), address(fields[3]))] = int(fields[4], 16), int(
+                    fields[5], 16
+                )
+        return found
+
+    def routes(self, running: Running) -> Routes:
+        found: Routes = {}
+        prefix = ""
+        for line in self.ask(running, self.routes_command).splitlines():
+            route = re.match(r"(\d\S+/\d+)\s", line)
+            via, attached = re.match(r"\s+via (\S+) on (\S+)", line), re.match(r"\s+dev (\S+)", line)
+            if route:
+                prefix = route[1]
+                found[prefix] = set()
+            elif via:
+                found[prefix].add((via[2], via[1]))
+            elif attached:
+                found[prefix].add((attached[1], ""))
+        return found
+
+
+def write(name: str, text: str) -> None:
+    with open(name, "w", encoding="ascii") as file:
+        file.write(text)
+
+
+DAEMONS: dict[str, Frr | Bird] = {"frr": Frr(), "bird": Bird()}

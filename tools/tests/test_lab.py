@@ -1,0 +1,129 @@
+"""What the lab reads from daemons, and how it compares. The lab itself is run by hand."""
+import unittest
+from functools import partial
+
+from mrttools import comparing, network
+from mrttools.daemons import Bird, Frr, Running
+from mrttools.lsas import Key, address
+
+NOTHING = Running([], "")
+
+FRR_DATABASE = """
+       OSPF Router with ID (10.255.0.1)
+
+                Router Link States (Area 0.0.0.0)
+
+Link ID         ADV Router      Age  Seq#       CkSum  Link count
+10.255.0.1     10.255.0.1       12 0x80000007 0x2e04 7
+
+                Net Link States (Area 0.0.0.0)
+
+Link ID         ADV Router      Age  Seq#       CkSum
+198.51.100.7   10.255.0.7       33 0x80000001 0xf00d
+
+                AS External Link States
+
+Link ID         ADV Router      Age  Seq#       CkSum  Route
+0.0.0.0        10.255.0.1       12 0x80000001 0xbeef E2 0.0.0.0/0 [0x0]
+"""
+
+BIRD_DATABASE = """BIRD 2.0.12 ready.
+
+Area 0.0.0.0
+
+ Type   LS ID           Router          Sequence   Age  Checksum
+ 0001  10.255.0.1      10.255.0.1      80000007    12    2e04
+ 0002  198.51.100.7    10.255.0.7      80000001    33    f00d
+ 0005  0.0.0.0         10.255.0.1      80000001    12    beef
+"""
+
+FRR_ROUTES = """{"10.255.0.2/32": {"routeType": "N", "cost": 10, "area": "0.0.0.0",
+  "nexthops": [{"ip": "10.0.12.2", "via": "to-r2"}, {"ip": "10.0.16.6", "via": "to-r6"}]},
+ "198.51.100.0/24": {"routeType": "N", "cost": 5, "area": "0.0.0.0",
+  "nexthops": [{"ip": " ", "directly attached to": "to-lan", "directlyAttachedTo": "to-lan"}]}}"""
+
+BIRD_ROUTES = """BIRD 2.0.12 ready.
+Table master4:
+10.255.0.2/32        unicast [lab 02:00:00.000] * I (150/10) [10.255.0.2]
+\tvia 10.0.12.2 on to-r2 weight 1
+\tvia 10.0.16.6 on to-r6 weight 1
+198.51.100.0/24      unicast [lab 02:00:00.000] * I (150/5) [10.255.0.7]
+\tdev to-lan
+"""
+
+DATABASE = {
+    Key(1, address("10.255.0.1"), address("10.255.0.1")): (0x80000007, 0x2E04),
+    Key(2, address("198.51.100.7"), address("10.255.0.7")): (0x80000001, 0xF00D),
+}
+ROUTES = {"10.255.0.2/32": {("to-r2", "10.0.12.2"), ("to-r6", "10.0.16.6")}, "198.51.100.0/24": {("to-lan", "")}}
+
+TABLE = """router 10.255.0.1 root 10.255.0.2 nodes 10 links 12
+10.255.0.2 head blue 10.255.0.6/10.0.16.1 red 10.255.0.2/10.0.12.1 primary 10.255.0.2/10.0.12.1 repair b-
+10.255.0.4 unordered blue 10.255.0.2/10.0.12.1 red 10.255.0.6/10.0.16.1 primary 10.255.0.9/10.0.19.1 repair bb
+"""
+
+
+def trace(first: str, _: str) -> str:
+    return f"entered 0\n{first}\n"
+
+
+class Daemons(unittest.TestCase):
+    def asked(self, kind: type, text: str) -> Frr | Bird:
+        """A daemon that answers every question with one text."""
+        daemon = kind()
+        daemon.ask = lambda running, question: text
+        return daemon
+
+    def test_databases(self) -> None:
+        self.assertEqual(self.asked(Frr, FRR_DATABASE).database(NOTHING), DATABASE)
+        self.assertEqual(self.asked(Bird, BIRD_DATABASE).database(NOTHING), DATABASE)
+
+    def test_routes(self) -> None:
+        self.assertEqual(self.asked(Frr, FRR_ROUTES).routes(NOTHING), ROUTES)
+        self.assertEqual(self.asked(Bird, BIRD_ROUTES).routes(NOTHING), ROUTES)
+
+    def test_no_answer(self) -> None:
+        for kind in (Frr, Bird):
+            self.assertEqual((self.asked(kind, "").database(NOTHING), self.asked(kind, "").routes(NOTHING)), ({}, {}))
+
+
+class Comparing(unittest.TestCase):
+    def results(self, routes: comparing.Routes) -> list[comparing.Result]:
+        table = "\n".join(TABLE.splitlines()[:2])
+        return list(comparing.compare(1, table, partial(trace, "delivered 10.255.0.2"), routes))
+
+    def test_the_same(self) -> None:
+        results = self.results({"10.255.0.2/32": {("to-r2", "10.0.12.2")}})
+        self.assertTrue(results[0].same)
+        self.assertEqual(comparing.report(results, "D"), ["primaries: 1 of 1 are the one next hop of D"])
+
+    def test_one_of_several(self) -> None:
+        results = self.results(ROUTES)
+        self.assertTrue(results[0].one_of_several and not results[0].same)
+        self.assertEqual(len(comparing.report(results, "D")), 2)
+
+    def test_different(self) -> None:
+        results = self.results({"10.255.0.2/32": {("to-r6", "10.0.16.6")}})
+        self.assertFalse(results[0].same or results[0].one_of_several)
+        line = "different: from 10.255.0.1 to 10.255.0.2: mrt to-r2/10.255.0.2, D to-r6/10.255.0.6"
+        self.assertIn(line, comparing.report(results, "D"))
+
+    def test_no_route(self) -> None:
+        self.assertTrue(comparing.report(self.results({}), "D")[-1].endswith("D no route"))
+
+    def test_a_network_that_is_attached(self) -> None:
+        line = "net:198.51.100.7 head blue a/0.0.0.1 red b/0.0.0.2 primary net:198.51.100.7/198.51.100.3 repair b-"
+        (result,) = comparing.compare(3, f"head\n{line}", partial(trace, "delivered net:198.51.100.7"), ROUTES)
+        self.assertEqual((result.primary, result.same), (("to-lan", None), True))
+
+
+class TheNetwork(unittest.TestCase):
+    def test_interfaces_meet(self) -> None:
+        for router in network.ROUTERS:
+            for interface in network.interfaces(router):
+                self.assertEqual(network.owner(interface.address), router)
+                others = [far for far in network.interfaces(interface.far or 3) if far.prefix == interface.prefix]
+                self.assertEqual(len(others), 1)
+
+    def test_names_fit_the_kernel(self) -> None:
+        self.assertTrue(all(len(each.name) < 16 for router in network.ROUTERS for each in network.interfaces(router)))
