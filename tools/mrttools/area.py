@@ -1,0 +1,119 @@
+"""The area of a database that `mrt` has taken: its nodes, and the links that both ends tell."""
+from __future__ import annotations
+
+from itertools import groupby
+from typing import Iterable, Iterator, NamedTuple
+
+from . import lsas
+from .lsas import NETWORK, POINT_TO_POINT, ROUTER, TRANSIT, Lsa
+
+
+class Node(NamedTuple):
+    """A router by its router ID, or a network by its designated router's address. Nodes are ordered by number, then
+    by kind."""
+
+    number: int
+    kind: int
+
+    @property
+    def text(self) -> str:
+        return ("net:" if self.kind == NETWORK else "") + lsas.spelled(self.number)
+
+
+class Arc(NamedTuple):
+    """What one end tells of a link."""
+
+    tail: Node
+    to: Node
+    data: int
+    place: int
+
+
+class Bond(NamedTuple):
+    """A link between two nodes, the lesser one first, with the link data of both ends."""
+
+    a: Node
+    b: Node
+    data_a: int
+    data_b: int
+
+    def is_of(self, router: int, data: int) -> bool:
+        """Whether this is the link of a router with this link data."""
+        return Node(router, ROUTER) in (self.a, self.b) and data == (
+            self.data_a if self.a == Node(router, ROUTER) else self.data_b
+        )
+
+    def far(self, node: Node) -> Node:
+        return self.b if node == self.a else self.a
+
+
+class Area(NamedTuple):
+    nodes: list[Node]
+    bonds: list[Bond]
+
+
+def node_of(text: str) -> Node:
+    """The node that a word names, as a router or with `net:`; another word is a ValueError."""
+    if text.startswith("net:"):
+        return Node(lsas.address(text[4:]), NETWORK)
+    return Node(lsas.address(text), ROUTER)
+
+
+def speakers(found: Iterable[Lsa]) -> dict[Node, Lsa]:
+    """The live LSA of each node. Of several of one network that of the greatest router speaks."""
+    chosen = [group[0] for group in (instances for instances in map(lsas.newest, lsas.by_key(found).values()))]
+    live = [lsa for lsa in chosen if lsa.kind in (ROUTER, NETWORK) and not lsa.withdrawn]
+    return {Node(lsa.number, lsa.kind): lsa for lsa in sorted(live, key=lambda lsa: lsa.router)}
+
+
+def arcs_from(node: Node, lsa: Lsa) -> Iterator[Arc]:
+    """The links that a node's LSA tells, to routers and to transit networks."""
+    if node.kind == NETWORK:
+        for place, router in enumerate(lsas.routers_of(lsa.record)):
+            yield Arc(node, Node(router, ROUTER), 0, place)
+        return
+    for place, link in enumerate(lsas.links_of(lsa.record)):
+        if link.kind == POINT_TO_POINT and link.far != node.number:
+            yield Arc(node, Node(link.far, ROUTER), link.data, place)
+        elif link.kind == TRANSIT:
+            yield Arc(node, Node(link.far, NETWORK), link.data, place)
+
+
+def bonds_of(arcs: Iterable[Arc]) -> list[Bond]:
+    """Of two nodes the k-th arcs of both ways, by link data and by place, are one link."""
+
+    def way(arc: Arc) -> tuple[Node, Node]:
+        return arc.tail, arc.to
+
+    ways = {ends: list(group) for ends, group in groupby(sorted(arcs), key=way)}
+    return [
+        Bond(a, b, there.data, back.data)
+        for (a, b), arcs_there in sorted(ways.items())
+        if a < b
+        for there, back in zip(arcs_there, ways.get((b, a), []))
+    ]
+
+
+def area_of(found: Iterable[Lsa]) -> Area:
+    """The area of LSAs, old instances among them."""
+    speaking = speakers(found)
+    return Area(
+        sorted(speaking),
+        bonds_of(arc for node, lsa in speaking.items() for arc in arcs_from(node, lsa) if arc.to in speaking),
+    )
+
+
+def ineligible(profile: str) -> set[tuple[int, int]]:
+    """The links that a profile keeps out, by router and link data."""
+    lines = [line.split() for line in profile.splitlines() if not line.startswith("#")]
+    return {(lsas.address(words[1]), lsas.address(words[2])) for words in lines if words[:1] == ["ineligible"]}
+
+
+def island_bonds(area: Area, members: Iterable[Node], kept_out: set[tuple[int, int]]) -> list[Bond]:
+    """The links of an island by their numbers in its certificate."""
+    inside = set(members)
+    return [
+        bond
+        for bond in area.bonds
+        if {bond.a, bond.b} <= inside and not any(bond.is_of(router, data) for router, data in kept_out)
+    ]

@@ -1,0 +1,154 @@
+"""Pictures, by the sample with a LAN. A stand-in for the program gives its certificate: nothing need be built."""
+import os
+import shutil
+import subprocess
+import tempfile
+import unittest
+
+from mrttools import area, certificate, layout, lsas, picture
+from mrttools.area import Node
+from mrttools.picture import Arrow, Course, Failure, Island
+from tests.making import DATA, TOOLS
+
+STAND_IN = """#!/bin/sh
+case $1 in
+certify) cat {data}/lan.cert; exit {certify} ;;
+check) [ {check} = 0 ] || echo 'mrt: no: rule 7 at 0 1' >&2; exit {check} ;;
+table) echo head; echo '10.255.1.1 top blue 10.255.1.5/192.0.2.5 red a/b primary 10.255.1.5/192.0.2.5 repair br' ;;
+trace) printf 'failed\\nentered 0\\nswitched blue\\n' ;;
+esac
+"""
+
+
+def router(last: int) -> Node:
+    return area.node_of(f"10.255.1.{last}")
+
+
+LAN = area.node_of("net:198.51.100.4")
+
+
+def sample() -> Island:
+    """The island of lan.lsas under lan.profile."""
+    with open(f"{DATA}/lan.lsas", "rb") as file:
+        whole = area.area_of(lsas.split(file.read()))
+    with open(f"{DATA}/lan.profile", encoding="ascii") as file:
+        kept_out = area.ineligible(file.read())
+    with open(f"{DATA}/lan.cert", "rb") as file:
+        cert = certificate.read(file.read())
+    return Island(whole, cert, area.island_bonds(whole, cert.nodes, kept_out))
+
+
+class Areas(unittest.TestCase):
+    def setUp(self) -> None:
+        self.island = sample()
+
+    def test_nodes(self) -> None:
+        # 10.255.1.7 is withdrawn.
+        self.assertEqual(self.island.area.nodes, [*map(router, range(1, 7)), LAN])
+        self.assertEqual(self.island.certificate.nodes, self.island.area.nodes)
+
+    def test_links_are_those_of_the_certificate(self) -> None:
+        nodes = self.island.certificate.nodes
+        pairs = [(nodes[a], nodes[b]) for a, b in self.island.certificate.pairs]
+        self.assertEqual(pairs, [(bond.a, bond.b) for bond in self.island.bonds])
+        self.assertEqual(len(self.island.area.bonds), len(self.island.bonds) + 1)
+
+    def test_parallel_links_by_their_data(self) -> None:
+        parallel = [bond for bond in self.island.bonds if (bond.a, bond.b) == (router(2), router(5))]
+        self.assertEqual([lsas.spelled(bond.data_a) for bond in parallel], ["192.0.2.5", "192.0.2.9"])
+        self.assertTrue(parallel[1].is_of(router(5).number, lsas.address("192.0.2.10")))
+
+    def test_root_and_cut_nodes(self) -> None:
+        self.assertEqual(self.island.certificate.root, router(1))
+        self.assertEqual(self.island.certificate.cut_nodes(), {router(3), LAN})
+
+
+class Arrows(unittest.TestCase):
+    def setUp(self) -> None:
+        self.island = sample()
+
+    def test_trees_lead_to_the_destination(self) -> None:
+        arrows = picture.tree_arrows(self.island, router(1))
+        for color in certificate.COLORS:
+            following = {arrow.tail: arrow.bond.far(arrow.tail) for arrow in arrows if arrow.sort in (color, "both")}
+            self.assertEqual(set(following), set(self.island.certificate.nodes) - {router(1)})
+            for node in following:
+                for _ in following:
+                    node = following.get(node, node)
+                self.assertEqual(node, router(1))
+
+    def test_only_ways_are_one_arrow(self) -> None:
+        both = {arrow.tail for arrow in picture.tree_arrows(self.island, router(1)) if arrow.sort == "both"}
+        self.assertEqual(both, {router(3), router(4), router(6)})
+
+    def test_a_walk_ends(self) -> None:
+        walk = picture.walk_arrows(self.island, router(6), "red", router(5))
+        self.assertEqual(walk[-1].bond.far(walk[-1].tail), router(5))
+
+    def test_the_text_has_each_link_and_node(self) -> None:
+        text = picture.dot_text(self.island, router(1), None)
+        for node in self.island.area.nodes:
+            self.assertIn(f'"{node.text}" [', text)
+        self.assertIn('style="dotted"', text)
+        self.assertIn("198.51.100.4\\nnetwork\\ncut node", text)
+
+    def test_a_failure(self) -> None:
+        bond = self.island.bonds[0]
+        courses = [
+            Course(router(2), "blue", [], None),
+            Course(router(5), None, [Arrow(bond, bond.a, "primary")], None),
+            Course(router(6), None, [], "no-alternate"),
+        ]
+        text = picture.dot_text(self.island, router(1), Failure("10.255.1.3", router(3), courses))
+        for words in ("switching to blue: 10.255.1.2", "losing its packets: 10.255.1.6 (no-alternate)"):
+            self.assertIn(words, text)
+
+
+class Layouts(unittest.TestCase):
+    def test_crossings(self) -> None:
+        corners = "node a 0 0\nnode b 1 1\nnode c 0 1\nnode d 1 0\n"
+        self.assertEqual(layout.crossings(corners + "edge a b\nedge c d\n"), 1)
+        self.assertEqual(layout.crossings(corners + "edge a c\nedge b d\nedge a b\nedge b a\nedge d b\n"), 0)
+
+
+@unittest.skipUnless(shutil.which("dot"), "graphviz is not installed")
+class TheTool(unittest.TestCase):
+    """The script with a stand-in for the program."""
+
+    def run_draw(self, *words: str, certify: int = 0, check: int = 0) -> subprocess.CompletedProcess[str]:
+        with tempfile.TemporaryDirectory() as folder:
+            program = os.path.join(folder, "mrt")
+            with open(program, "w", encoding="ascii") as file:
+                file.write(STAND_IN.format(data=DATA, certify=certify, check=check))
+            os.chmod(program, 0o755)
+            command = [f"{TOOLS}/draw", "--mrt", program, f"{DATA}/lan.lsas", f"{DATA}/lan.profile", *words]
+            return subprocess.run(command, stdout=subprocess.PIPE, stderr=subprocess.PIPE, text=True, check=False)
+
+    def test_trees(self) -> None:
+        for to in ("10.255.1.1", "net:198.51.100.4"):
+            done = self.run_draw(to)
+            self.assertEqual((done.returncode, done.stderr), (0, ""))
+            self.assertIn("</svg>", done.stdout)
+
+    def test_a_failed_link(self) -> None:
+        done = self.run_draw("10.255.1.1", "--failed", "link:10.255.1.2/192.0.2.5")
+        self.assertEqual((done.returncode, done.stderr), (0, ""))
+        self.assertIn("switching to blue", done.stdout)
+
+    def test_what_the_program_refuses(self) -> None:
+        for statuses in ({"certify": 3}, {"check": 1}):
+            done = self.run_draw("10.255.1.1", **statuses)
+            self.assertEqual((done.returncode, done.stdout), (max(statuses.values()), ""))
+
+    def test_what_is_not_there(self) -> None:
+        for words in (
+            ["10.255.9.9"],
+            ["10.255.1.1", "--failed", "link:10.255.1.2/1.2.3.4"],
+            ["10.255.1.1", "--failed", "x"],
+        ):
+            done = self.run_draw(*words)
+            self.assertEqual((done.returncode, done.stdout), (7, ""), done.stderr)
+            self.assertTrue(done.stderr.startswith("draw: not there: "), done.stderr)
+
+    def test_a_word_that_is_no_node(self) -> None:
+        self.assertEqual(self.run_draw("net:1.2.3").returncode, 2)
