@@ -30,18 +30,18 @@ class Arc(NamedTuple):
 
 
 class Bond(NamedTuple):
-    """A link between two nodes, the lesser one first, with the link data of both ends."""
+    """A link between two nodes, with the link data of both ends. Where both ends tell of it, the lesser node is
+    first. Of parallel links that only one end tells, that end is first, and the other has no data."""
 
     a: Node
     b: Node
     data_a: int
-    data_b: int
+    data_b: int | None
 
     def is_of(self, router: int, data: int) -> bool:
         """Whether this is the link of a router with this link data."""
-        return Node(router, ROUTER) in (self.a, self.b) and data == (
-            self.data_a if self.a == Node(router, ROUTER) else self.data_b
-        )
+        node = Node(router, ROUTER)
+        return (node, data) in ((self.a, self.data_a), (self.b, self.data_b))
 
     def far(self, node: Node) -> Node:
         return self.b if node == self.a else self.a
@@ -80,18 +80,21 @@ def arcs_from(node: Node, lsa: Lsa) -> Iterator[Arc]:
 
 
 def bonds_of(arcs: Iterable[Arc]) -> list[Bond]:
-    """Of two nodes the k-th arcs of both ways, by link data and by place, are one link."""
+    """The links of arcs between nodes that tell of each other. The k-th arcs of both ways, by link data and by place,
+    are one link; then come the arcs that are left over."""
 
     def way(arc: Arc) -> tuple[Node, Node]:
         return arc.tail, arc.to
 
     ways = {ends: list(group) for ends, group in groupby(sorted(arcs), key=way)}
-    return [
-        Bond(a, b, there.data, back.data)
-        for (a, b), arcs_there in sorted(ways.items())
-        if a < b
-        for there, back in zip(arcs_there, ways.get((b, a), []))
-    ]
+    pairs, single = [], []
+    for (a, b), there in sorted(ways.items()):
+        back = ways.get((b, a), [])
+        if a < b:
+            pairs += [Bond(a, b, one.data, other.data) for one, other in zip(there, back)]
+        if back:
+            single += [Bond(a, b, arc.data, None) for arc in there[len(back) :]]
+    return pairs + single
 
 
 def area_of(found: Iterable[Lsa]) -> Area:
@@ -103,17 +106,19 @@ def area_of(found: Iterable[Lsa]) -> Area:
     )
 
 
-def ineligible(profile: str) -> set[tuple[int, int]]:
-    """The links that a profile keeps out, by router and link data."""
-    lines = [line.split() for line in profile.splitlines() if not line.startswith("#")]
+def ineligible(profile: bytes) -> set[tuple[int, int]]:
+    """The links that a profile keeps out, by router and link data. A line that begins with # may hold any bytes."""
+    lines = [line.decode("ascii").split() for line in profile.split(b"\n") if not line.startswith(b"#")]
     return {(lsas.address(words[1]), lsas.address(words[2])) for words in lines if words[:1] == ["ineligible"]}
 
 
 def island_bonds(area: Area, members: Iterable[Node], kept_out: set[tuple[int, int]]) -> list[Bond]:
-    """The links of an island by their numbers in its certificate."""
+    """The links of an island by their numbers in its certificate: both ends tell of them, and none is kept out."""
     inside = set(members)
     return [
         bond
         for bond in area.bonds
-        if {bond.a, bond.b} <= inside and not any(bond.is_of(router, data) for router, data in kept_out)
+        if bond.data_b is not None
+        and {bond.a, bond.b} <= inside
+        and not any(bond.is_of(router, data) for router, data in kept_out)
     ]

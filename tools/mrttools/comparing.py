@@ -44,7 +44,8 @@ def lines_of(table: str) -> Iterator[Line]:
 def next_router(trace: str) -> int | None:
     """The router that a packet meets first, by its trace; none where it is delivered to a network right away."""
     word, name = trace.splitlines()[1].split(" ")
-    assert word in ("moved", "delivered"), trace
+    if word not in ("moved", "delivered"):
+        raise ValueError(f"a packet goes nowhere by primaries: {word} {name}")
     return None if name.startswith("net:") else network.owner(name)
 
 

@@ -4,7 +4,7 @@ from __future__ import annotations
 
 import struct
 from itertools import accumulate
-from typing import Iterable, NamedTuple
+from typing import Iterable, Iterator, NamedTuple
 
 ROUTER, NETWORK = 1, 2
 POINT_TO_POINT, TRANSIT = 1, 2
@@ -183,10 +183,12 @@ def by_key(lsas: Iterable[Lsa]) -> dict[Key, list[Lsa]]:
     return found
 
 
-def split(data: bytes) -> Iterable[Lsa]:
-    """The LSAs of a database file that `mrt` takes."""
+def split(data: bytes) -> Iterator[Lsa]:
+    """The LSAs of a database file, up to the first that does not fit; where `mrt` takes the file, all of them."""
     at = 0
-    while at < len(data):
-        length = struct.unpack_from(">H", data, at + 18)[0]
+    while len(data) - at >= HEADER:
+        length = int.from_bytes(data[at + 18 : at + 20], "big")
+        if not HEADER <= length <= len(data) - at:
+            return
         yield lsa_of(data[at : at + length])
         at += length

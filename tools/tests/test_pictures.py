@@ -8,6 +8,7 @@ import unittest
 from mrttools import area, certificate, layout, lsas, picture
 from mrttools.area import Node
 from mrttools.picture import Arrow, Course, Failure, Island
+from tests import making
 from tests.making import DATA, TOOLS
 
 STAND_IN = """#!/bin/sh
@@ -31,7 +32,7 @@ def sample() -> Island:
     """The island of lan.lsas under lan.profile."""
     with open(f"{DATA}/lan.lsas", "rb") as file:
         whole = area.area_of(lsas.split(file.read()))
-    with open(f"{DATA}/lan.profile", encoding="ascii") as file:
+    with open(f"{DATA}/lan.profile", "rb") as file:
         kept_out = area.ineligible(file.read())
     with open(f"{DATA}/lan.cert", "rb") as file:
         cert = certificate.read(file.read())
@@ -57,6 +58,18 @@ class Areas(unittest.TestCase):
         parallel = [bond for bond in self.island.bonds if (bond.a, bond.b) == (router(2), router(5))]
         self.assertEqual([lsas.spelled(bond.data_a) for bond in parallel], ["192.0.2.5", "192.0.2.9"])
         self.assertTrue(parallel[1].is_of(router(5).number, lsas.address("192.0.2.10")))
+
+    def test_a_link_that_one_end_tells_is_in_no_island(self) -> None:
+        one = making.router_lsa("1.1.1.1", [("2.2.2.2", "10.0.0.1", 1, 1), ("2.2.2.2", "10.0.0.5", 1, 1)])
+        other, third = making.router_lsa("2.2.2.2", [("1.1.1.1", "10.0.0.2", 1, 1)]), making.router_lsa("3.3.3.3", [])
+        whole = area.area_of(map(lsas.lsa_of, [one, other, third]))
+        self.assertEqual(len(whole.bonds), 2)
+        self.assertEqual(area.island_bonds(whole, whole.nodes, set()), whole.bonds[:1])
+        self.assertTrue(whole.bonds[1].is_of(lsas.address("1.1.1.1"), lsas.address("10.0.0.5")))
+
+    def test_profiles(self) -> None:
+        profile = b"# \xff\x0bineligible 9.9.9.9 9.9.9.9\r\npriority 1.1.1.1 3\n\tineligible  1.1.1.1\t2.2.2.2\r\n"
+        self.assertEqual(area.ineligible(profile), {(lsas.address("1.1.1.1"), lsas.address("2.2.2.2"))})
 
     def test_root_and_cut_nodes(self) -> None:
         self.assertEqual(self.island.certificate.root, router(1))
