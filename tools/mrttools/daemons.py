@@ -2,14 +2,13 @@
 from __future__ import annotations
 
 import json
-import os
 import re
 import shutil
 import subprocess
 from typing import NamedTuple
 
 from .lsas import Key, address
-from .network import LAN, Interface, Network, interfaces, router_id
+from .network import DESIGNATED, LAN, Interface, Network, interfaces, router_id
 
 # What two routers with one database agree on: each LSA's sequence number and checksum.
 Database = dict[Key, tuple[int, int]]
@@ -43,7 +42,6 @@ class Frr:
 
     name = "FRR"
     needs = ["/usr/lib/frr/zebra", "/usr/lib/frr/ospfd", "vtysh"]
-    routes_command = "show ip ospf route json"
 
     def version(self) -> str:
         return answer("/usr/lib/frr/ospfd", "--version").split("\n", 1)[0]
@@ -51,26 +49,14 @@ class Frr:
     def start(self, network: Network, router: int, folder: str) -> Running:
         # The daemons give up root's rights for those of the user frr.
         shutil.chown(folder, "frr", "frr")
-        zebra, ospfd = os.path.join(folder, "zebra.conf"), os.path.join(folder, "ospfd.conf")
-        write(zebra, f"hostname r{router}\n")
-        write(ospfd, self.configuration(router))
-        common = ["-z", f"{folder}/zserv.api", "--vty_socket", folder, "-P", "0", "--log", "stdout"]
-        return Running(
-            [
-                run_in(
-                    network.of(router),
-                    f"{folder}/log",
-                    f"/usr/lib/frr/{name}",
-                    "-f",
-                    file,
-                    "-i",
-                    f"{folder}/{name}.pid",
-                    *common,
-                )
-                for name, file in (("zebra", zebra), ("ospfd", ospfd))
-            ],
-            folder,
-        )
+        write(f"{folder}/zebra.conf", f"hostname r{router}\n")
+        write(f"{folder}/ospfd.conf", self.configuration(router))
+        processes = []
+        for name in ("zebra", "ospfd"):
+            files = ["-f", f"{folder}/{name}.conf", "-i", f"{folder}/{name}.pid", "-z", f"{folder}/zserv.api"]
+            words = [f"/usr/lib/frr/{name}", *files, "--vty_socket", folder, "-P", "0", "--log", "stdout"]
+            processes.append(run_in(network.of(router), f"{folder}/log", *words))
+        return Running(processes, folder)
 
     def configuration(self, router: int) -> str:
         lines = [f"hostname r{router}", "interface lo", " ip ospf area 0"]
@@ -82,7 +68,8 @@ class Frr:
                 " ip ospf hello-interval 1",
                 " ip ospf dead-interval 4",
             ]
-            lines += [] if interface.far == LAN else [" ip ospf network point-to-point"]
+            on_lan, between_two = f" ip ospf priority {int(router == DESIGNATED)}", " ip ospf network point-to-point"
+            lines.append(on_lan if interface.far == LAN else between_two)
         return "\n".join(lines + ["router ospf", f" ospf router-id {router_id(router)}", ""])
 
     def ask(self, running: Running, question: str) -> str:
@@ -100,7 +87,7 @@ class Frr:
         return found
 
     def routes(self, running: Running) -> Routes:
-        said = json.loads(self.ask(running, self.routes_command) or "{}")
+        said = json.loads(self.ask(running, "show ip ospf route json") or "{}")
         return {prefix: {frr_hop(hop) for hop in route["nexthops"]} for prefix, route in said.items()}
 
 
@@ -114,30 +101,14 @@ class Bird:
 
     name = "BIRD"
     needs = ["bird", "birdc"]
-    routes_command = "show route protocol lab"
 
     def version(self) -> str:
         return subprocess.run(["bird", "--version"], stderr=subprocess.PIPE, text=True, check=False).stderr.strip()
 
     def start(self, network: Network, router: int, folder: str) -> Running:
         write(f"{folder}/bird.conf", self.configuration(router))
-        return Running(
-            [
-                run_in(
-                    network.of(router),
-                    f"{folder}/log",
-                    "bird",
-                    "-f",
-                    "-c",
-                    f"{folder}/bird.conf",
-                    "-s",
-                    f"{folder}/bird.ctl",
-                    "-P",
-                    f"{folder}/bird.pid",
-                )
-            ],
-            folder,
-        )
+        files = ["-c", f"{folder}/bird.conf", "-s", f"{folder}/bird.ctl", "-P", f"{folder}/bird.pid"]
+        return Running([run_in(network.of(router), f"{folder}/log", "bird", "-f", *files)], folder)
 
     def configuration(self, router: int) -> str:
         lines = [
@@ -147,11 +118,11 @@ class Bird:
             "    area 0 {",
             f"        stubnet {router_id(router)}/32;",
         ]
-        lines += [self.interface(interface) for interface in interfaces(router)]
+        lines += [self.interface(router, interface) for interface in interfaces(router)]
         return "\n".join(lines + ["    };", "}", ""])
 
-    def interface(self, interface: Interface) -> str:
-        kind = "broadcast" if interface.far == LAN else "ptp"
+    def interface(self, router: int, interface: Interface) -> str:
+        kind = f"broadcast; priority {int(router == DESIGNATED)}" if interface.far == LAN else "ptp"
         return f'        interface "{interface.name}" {{ type {kind}; cost {interface.metric}; hello 1; dead 4; }};'
 
     def ask(self, running: Running, question: str) -> str:
@@ -162,15 +133,14 @@ class Bird:
         for line in self.ask(running, "show ospf lsadb").splitlines():
             fields = re.match(r"\s*(000[12])\s+(\S+)\s+(\S+)\s+([0-9a-f]{8})\s+\d+\s+([0-9a-f]{4})", line)
             if fields:
-                found[Key(int(fields[1]), address(fields[2]), address(fields[3]))] = int(fields[4], 16), int(
-                    fields[5], 16
-                )
+                key = Key(int(fields[1]), address(fields[2]), address(fields[3]))
+                found[key] = int(fields[4], 16), int(fields[5], 16)
         return found
 
     def routes(self, running: Running) -> Routes:
         found: Routes = {}
         prefix = ""
-        for line in self.ask(running, self.routes_command).splitlines():
+        for line in self.ask(running, "show route protocol lab").splitlines():
             route = re.match(r"(\d\S+/\d+)\s", line)
             via, attached = re.match(r"\s+via (\S+) on (\S+)", line), re.match(r"\s+dev (\S+)", line)
             if route:

@@ -7,16 +7,15 @@ from itertools import combinations
 
 Point = tuple[float, float]
 
-# More layouts than one only as long as that takes no second.
-MANY_LINKS = 200
+# Above this number of links one layout has to do, with straight lines: to bend them around nodes takes minutes there.
+MANY_LINKS = 80
 LAYOUTS = 12
 
 
-def run_dot(text: str, start: int, form: str) -> bytes:
+def run_dot(text: str, start: int, lines: str, form: str) -> bytes:
     """What graphviz makes of a text, from one of its random starts, each of which is the same every time."""
-    return subprocess.run(
-        ["dot", f"-Gstart={start}", f"-T{form}"], input=text.encode(), stdout=subprocess.PIPE, check=True
-    ).stdout
+    command = ["dot", f"-Gstart={start}", f"-Gsplines={lines}", f"-T{form}"]
+    return subprocess.run(command, input=text.encode(), stdout=subprocess.PIPE, check=True).stdout
 
 
 def turn(a: Point, b: Point, c: Point) -> bool:
@@ -44,11 +43,9 @@ def crossings(plain: str) -> int:
     return sum(cross(*(places[name] for end in pair for name in end)) for pair in apart)
 
 
-def best_start(text: str, links: int) -> int:
-    """The start whose layout has the fewest crossings."""
-    starts = range(1, LAYOUTS + 1 if links <= MANY_LINKS else 2)
-    return min(starts, key=lambda start: crossings(run_dot(text, start, "plain").decode()))
-
-
 def svg(text: str, links: int) -> bytes:
-    return run_dot(text, best_start(text, links), "svg")
+    """The picture, from the start whose layout has the fewest crossings."""
+    if links > MANY_LINKS:
+        return run_dot(text, 1, "line", "svg")
+    start = min(range(1, LAYOUTS + 1), key=lambda start: crossings(run_dot(text, start, "line", "plain").decode()))
+    return run_dot(text, start, "true", "svg")

@@ -19,6 +19,8 @@ from typing import NamedTuple
 
 LAN = 0
 LAN_METRIC = {3: 10, 4: 10, 7: 5}
+# The others may not become one, so that the LAN has the same name in each run.
+DESIGNATED = 7
 # Point-to-point links with their metric, which is the same both ways.
 LINKS = {(1, 2): 10, (2, 3): 10, (4, 5): 10, (5, 6): 10, (1, 6): 10, (2, 5): 10, (5, 8): 10, (1, 9): 10, (7, 9): 10}
 ROUTERS = list(range(1, 10))

@@ -198,7 +198,7 @@ def dot_text(island: Island, target: Node, failure: Failure | None) -> str:
     lines = [node_line(node, island, target, failure) for node in island.area.nodes]
     lines += [arrow_line(arrow) for arrow in arrows] + link_lines(island, arrows, failure)
     head = [
-        'layout=neato; overlap=false; splines=true; mode=KK; sep="+18"; labelloc=b; fontname="Helvetica"; fontsize=12',
+        'layout=neato; overlap=false; mode=KK; sep="+18"; labelloc=b; fontname="Helvetica"; fontsize=12',
         f"label={caption(island, target, arrows, failure)}",
         'node [fontname="Helvetica", fontsize=11, margin="0.06,0.04"]',
         "edge [arrowsize=0.7, len=1.5]",

@@ -1,4 +1,5 @@
 """Captures of every kind that the converter reads."""
+import tempfile
 import unittest
 
 import dpkt
@@ -43,6 +44,12 @@ class Links(unittest.TestCase):
     def test_pcapng_in_both_byte_orders(self) -> None:
         for order in "<>":
             self.check(pcapng([(0, ethernet(self.ip))], [making.ETHERNET], order))
+
+    def test_pcapng_by_dpkt(self) -> None:
+        with tempfile.TemporaryFile() as file:
+            dpkt.pcapng.Writer(file).writepkt(ethernet(self.ip), 0)
+            file.seek(0)
+            self.check(file.read())
 
     def test_pcapng_with_two_kinds_of_link(self) -> None:
         one, other = pair()
