@@ -170,7 +170,7 @@ def told(failure: Failure) -> list[str]:
         if switching:
             lines.append(colored(color, f"switching to {color}: {', '.join(switching)}"))
     lost = [f"{course.router.text} ({course.lost})" for course in failure.courses if course.lost]
-    return lines + ([f"losing its packets: {', '.join(lost)}"] if lost else [])
+    return lines + ([f"losing packets: {', '.join(lost)}"] if lost else [])
 
 
 def keys(island: Island, arrows: list[Arrow]) -> str:

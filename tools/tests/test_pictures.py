@@ -113,7 +113,7 @@ class Arrows(unittest.TestCase):
             Course(router(6), None, [], "no-alternate"),
         ]
         text = picture.dot_text(self.island, router(1), Failure("10.255.1.3", router(3), courses))
-        for words in ("switching to blue: 10.255.1.2", "losing its packets: 10.255.1.6 (no-alternate)"):
+        for words in ("switching to blue: 10.255.1.2", "losing packets: 10.255.1.6 (no-alternate)"):
             self.assertIn(words, text)
 
 
