@@ -249,10 +249,7 @@ fn takes_as_told(alloc: Global, output: &Output) -> Result<bool, NoMemory> {
         write: output.fails,
     };
     let left = left_on(alloc, OF_1, two(TRIANGLE, b""), devices)?;
-    Ok(
-        left.exit == output.exit
-            && left.out.bytes() == front(TRIANGLE_CERTIFICATE, output.taken),
-    )
+    Ok(left.exit == output.exit && left.out.bytes() == front(TRIANGLE_CERTIFICATE, output.taken))
 }
 
 #[test]
