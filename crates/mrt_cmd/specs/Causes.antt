@@ -25,8 +25,8 @@ use Rattle.mrt_cmd.specs.Exits.{line_of}
 use Rattle.mrt_cmd.specs.Form.{IsCheck, form_of}
 use Rattle.mrt_cmd.specs.Run.{GainedLine, IsCutShort, IsHealthyForText, IsUndisturbed, WritesNothing}
 
--- a shelf over a call: what it held, if that is told; whether it was healthy; its count of faults, before and now; and whether
--- it was left as it was
+-- a shelf over a call: what it held, if that is told; whether it was healthy; its count of faults, before and now;
+-- and whether it was left as it was
 pub record ShelfInCall : Type 1 where
   pub held : Option Files
   pub healthy : Type 0
@@ -34,8 +34,8 @@ pub record ShelfInCall : Type 1 where
   pub faults_now : ℕ
   pub untouched : Type 0
 
--- a sink over a call: for how many bytes it was healthy; its count of faults, before and now; what was written to it, before and
--- now, if that is told; and whether it was left as it was
+-- a sink over a call: for how many bytes it was healthy; its count of faults, before and now; what was written to it,
+-- before and now, if that is told; and whether it was left as it was
 pub record SinkInCall : Type 1 where
   pub healthy_for : ℕ → Type 0
   pub faults : ℕ
@@ -44,10 +44,10 @@ pub record SinkInCall : Type 1 where
   pub written_now : Option (List ℕ)
   pub untouched : Type 0
 
--- why the words give no text, by the exit that says so: they are no form, and nothing was read; the shelf failed at a file, after
--- files that could be read; the refusal is what comes of the words over the files, each in its turn (a file over its limit, the
--- database, the profile, the certificate or the script, the area, the router, the island), and no is so for a check alone; or memory
--- was wanted, which may be at any place once the words are a form
+-- why the words give no text, by the exit that says so: they are no form, and nothing was read; the shelf failed at a
+-- file, after files that could be read; the refusal is what comes of the words over the files, each in its turn (a
+-- file over its limit, the database, the profile, the certificate or the script, the area, the router, the island),
+-- and no is so for a check alone; or memory was wanted, which may be at any place once the words are a form
 abbrev pub HasNoText : List (List ℕ) → ShelfInCall → Exit → Type 0
 HasNoText words shelf Usage = IsNone (form_of words) × shelf.untouched
 HasNoText words shelf (ReadFault word) = FailsAt shelf.held words word × Rose shelf.faults shelf.faults_now
@@ -62,8 +62,8 @@ HasNoText words shelf NoMemory = IsSome (form_of words)
 HasNoText words shelf Done = ⊥
 HasNoText words shelf (WriteFault taken) = ⊥
 
--- why an exit came, and what the output gained: on Done the text; on a fault of the output the text's first bytes, its count
--- having risen and it not having been healthy for the text; else nothing, and the words give no text
+-- why an exit came, and what the output gained: on Done the text; on a fault of the output the text's first bytes,
+-- its count having risen and it not having been healthy for the text; else nothing, and the words give no text
 abbrev pub HasCause : List (List ℕ) → ShelfInCall → SinkInCall → Exit → Type 0
 HasCause words shelf out Done =
     (text : List ℕ) × GivesText shelf.held words text × Gained out.written text out.written_now
@@ -77,7 +77,8 @@ abbrev pub IsTold : SinkInCall → Exit → Type 0
 IsTold err Done = err.untouched
 IsTold err exit = GainedLine err.healthy_for err.faults err.faults_now err.written err.written_now (line_of exit)
 
--- the exit speaks of the bytes of the files: not of the words, of a file that was not read or is over its limit, or of memory
+-- the exit speaks of the bytes of the files: not of the words, of a file that was not read or is over its limit, or
+-- of memory
 abbrev pub IsOfBytes : Exit → Type 0
 IsOfBytes Usage = ⊥
 IsOfBytes (ReadFault word) = ⊥
@@ -96,19 +97,21 @@ IsShelfCalm shelf = IsUndisturbed shelf.healthy shelf.faults shelf.faults_now
 abbrev pub IsOutputCalm : List (List ℕ) → ShelfInCall → SinkInCall → Type 0
 IsOutputCalm words shelf out = IsUndisturbed (IsHealthyForText out.healthy_for shelf.held words) out.faults out.faults_now
 
--- a call ended as it had to: its exit has its cause and its line; and it is complete, that is, each exit comes where it is to come, but
--- for want of memory
+-- a call ended as it had to: its exit has its cause and its line; and it is complete, that is, each exit comes where
+-- it is to come, but for want of memory
 pub record IsAnswered (words : List (List ℕ)) (shelf : ShelfInCall) (out err : SinkInCall) (exit : Exit) : Type 0 where
   pub cause : HasCause words shelf out exit
   pub told : IsTold err exit
   -- the usage, exactly where the words are no form
   pub usage : (exit ≡ Usage) ↔ IsNone (form_of words)
-  -- over a shelf that tells what it holds, an exit that speaks of bytes only where each file that the words name is held
+  -- over a shelf that tells what it holds, an exit that speaks of bytes only where each file that the words name is
+  -- held
   pub held : IsSome shelf.held → IsOfBytes exit → NamesHeld shelf.held words
   -- over a healthy shelf that tells what it holds, a fault of reading exactly at the first name that is not held
   pub missing : shelf.healthy → IsSome shelf.held
       → (exit ≡ NoMemory) ⊎ ((word : ℕ) → (exit ≡ ReadFault word) ↔ MissesAt shelf.held words word)
-  -- where no fault of the shelf decides and it tells what it holds, each refusal exactly where it is what comes of the words
+  -- where no fault of the shelf decides and it tells what it holds, each refusal exactly where it is what comes of the
+  -- words
   pub refused : IsShelfCalm shelf → IsSome shelf.held
       → (exit ≡ NoMemory)
       ⊎ ((refusal : Exit) → WritesNothing refusal → (exit ≡ refusal) ↔ Comes shelf.held words refusal)
