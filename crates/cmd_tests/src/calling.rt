@@ -50,7 +50,7 @@ pub struct Left {
     pub err: MemSink,
 }
 
-/// Devices in memory: which read of the shelf fails; and of the output its room, how many bytes it takes at a time, and
+/// Devices in memory: which call of the shelf fails; and of the output its room, how many bytes it takes at a time, and
 /// which write fails.
 #[derive(Clone, Copy)]
 pub struct Devices {
@@ -60,7 +60,7 @@ pub struct Devices {
     pub write: u32,
 }
 
-/// No read or write has this number.
+/// No call of a device has this number.
 pub const NEVER: u32 = u32::MAX;
 
 /// Devices that do not fail, with room for so many bytes.

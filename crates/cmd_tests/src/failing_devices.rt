@@ -1,7 +1,7 @@
 //! Shelves and sinks that fail.
 
-use crate::calling::{CHECK, Devices, NEVER, UNDER, calm, front, left_by, left_on, two};
-use crate::files::{CERTIFICATE, OTHER, ROUTER};
+use crate::calling::{CHECK, Devices, Files, NEVER, UNDER, calm, front, left_by, left_on, two};
+use crate::files::{CERTIFICATE, OTHER, ROUTER, TRIANGLE, TRIANGLE_CERTIFICATE};
 use mrt_cmd::Exit;
 use mrt_graph::NoMemory;
 use std::alloc::Global;
@@ -20,6 +20,36 @@ fn failing_shelves(rt: HostRuntime) {
     for (call, word) in [(0, 1), (1, 2), (2, 3)] {
         let exit = exit_where_a_read_fails(rt.alloc(), call);
         assert_eq!(rt; exit, Ok(Exit::ReadFault { word }));
+    }
+}
+
+/// The exit of the check of a triangle's certificate, over a shelf that fails this call: the database is read, and the
+/// profile; then the certificate is opened, comes in one piece, and ends.
+fn exit_of_a_check(alloc: Global, call: u32) -> Result<Exit, NoMemory> {
+    let devices = Devices {
+        read: call,
+        ..calm(1000)
+    };
+    let files = Files {
+        database: TRIANGLE,
+        profile: b"priority 3.3.3.3 128\n",
+        certificate: TRIANGLE_CERTIFICATE,
+    };
+    Ok(left_on(alloc, UNDER, files, devices)?.exit)
+}
+
+#[test]
+fn shelves_that_fail_in_a_check(rt: HostRuntime) {
+    for (call, wanted) in [
+        (0, Exit::ReadFault { word: 1 }),
+        (1, Exit::ReadFault { word: 2 }),
+        (2, Exit::ReadFault { word: 3 }),
+        (3, Exit::ReadFault { word: 3 }),
+        (4, Exit::ReadFault { word: 3 }),
+        (5, Exit::Done),
+    ] {
+        let exit = exit_of_a_check(rt.alloc(), call);
+        assert_eq!(rt; exit, Ok(wanted));
     }
 }
 

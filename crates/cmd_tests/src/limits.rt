@@ -9,7 +9,8 @@ use std::alloc::Global;
 
 const SCRIPT: &[&str] = &["fabric", "db", "-", "cert"];
 
-/// Whether a file of this kind, of so many bytes 0, is refused as too large with this line, beside sound ones.
+/// Whether a file of this kind, of so many bytes 0, is refused as too large with this line, beside sound ones. Its first
+/// byte is a fault already.
 fn is_too_large(alloc: Global, what: What, size: u32, line: &[u8]) -> Result<bool, NoMemory> {
     let long = vec![in alloc; 0; 33_554_433]?;
     let long = front(&long, size as usize);
