@@ -6,23 +6,6 @@ use mrt_cmd::Exit;
 use mrt_graph::NoMemory;
 use std::alloc::Global;
 
-/// The exit over a shelf that fails this call.
-fn exit_where_a_read_fails(alloc: Global, call: u32) -> Result<Exit, NoMemory> {
-    let devices = Devices {
-        read: call,
-        ..calm(1000)
-    };
-    Ok(left_on(alloc, UNDER, two(ROUTER, CERTIFICATE), devices)?.exit)
-}
-
-#[test]
-fn failing_shelves(rt: HostRuntime) {
-    for (call, word) in [(0, 1), (1, 2), (2, 3)] {
-        let exit = exit_where_a_read_fails(rt.alloc(), call);
-        assert_eq!(rt; exit, Ok(Exit::ReadFault { word }));
-    }
-}
-
 /// The exit of the check of a triangle's certificate, over a shelf that fails this call: the database is read, and the
 /// profile; then the certificate is opened, comes in one piece, and ends.
 fn exit_of_a_check(alloc: Global, call: u32) -> Result<Exit, NoMemory> {

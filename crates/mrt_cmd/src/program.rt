@@ -41,8 +41,8 @@ use std::alloc::Global;
 /// why there is none to `err`.
 ///
 /// Everything is read and all memory is taken before the first byte is written. A certificate is read in pieces, and what they
-/// spell is kept; the other files are held whole. A fault of `err` changes no exit. `NoMemory` may come at any place after
-/// `Usage`.
+/// spell, or their first fault, is kept; the other files are held whole. A fault of `err` changes no exit. `NoMemory` may come
+/// at any place after `Usage`.
 ///
 /// It takes the time of reading the files, of an install for each LSA, of the area and the island, and of what is asked: of
 /// checking a certificate, of computing and writing one, of computing the rows for one node after the other and a router's
