@@ -79,21 +79,45 @@ cause_of words shelf out exits.Done said untouched = absurd said
 cause_of words shelf out (exits.WriteFault taken) said untouched = absurd said
 cause_of words shelf out exit said untouched = (said, untouched)
 
-line_told : (words : List (List ℕ)) (shelf : ShelfInCall) (err : SinkInCall) (exit : Exit) → HasNoText words shelf exit
-    → GainedLine err.healthy_for err.faults err.faults_now err.written err.written_now (line_of exit) → IsTold err exit
-line_told words shelf err exits.Done said line = absurd said
-line_told words shelf err exit said line = line
+-- each refusal exactly where it is what comes of the words
+abbrev IsExact : Option Files → List (List ℕ) → Exit → Type 0
+IsExact held words exit =
+    (refusal : Exit) → WritesNothing refusal → (exit ≡ refusal) ↔ Comes held words refusal
+
+-- that, unless memory was wanted, or a file was not read
+abbrev IsExactOnceRead : Option Files → List (List ℕ) → Exit → Type 0
+IsExactOnceRead held words exit =
+    (exit ≡ exits.NoMemory) ⊎ ((word : ℕ) × (exit ≡ exits.ReadFault word)) ⊎ IsExact held words exit
+
+come_exact : (held : Option Files) (words : List (List ℕ)) (exit : Exit) → ComesOnce → Comes held words exit
+    → IsSome held → IsExactOnceRead held words exit
+come_exact held words exit once comes told = elim (exactly_one held words exit once (inl comes) told) [
+  | inl memory ↦ inl memory
+  | inr each ↦ inr (inr (λ refusal nothing. each refusal))
+]
+
+-- whatever the count: the cause says that a refusal comes of the words
+stopped_exact : (once : ComesOnce) (words : List (List ℕ)) (shelf : ShelfInCall) (exit : Exit)
+    → HasNoText words shelf exit → IsSome shelf.held → IsExactOnceRead shelf.held words exit
+stopped_exact once words shelf exits.Done said told = absurd said
+stopped_exact once words shelf (exits.WriteFault taken) said told = absurd said
+stopped_exact once words shelf exits.NoMemory said told = inl refl
+stopped_exact once words shelf (exits.ReadFault word) said told = inr (inl (word, refl))
+stopped_exact once words shelf exits.Usage said told =
+    come_exact shelf.held words exits.Usage once (inl (refl, said.0)) told
+stopped_exact once words shelf (exits.No rule a b) said told =
+    come_exact shelf.held words (exits.No rule a b) once (inr (inr said.0)) told
+stopped_exact once words shelf exit said told = come_exact shelf.held words exit once (inr (inr said)) told
 
 -- where the words give no text, and the output is left as it was
 pub stopped : (once : ComesOnce) (words : List (List ℕ)) (shelf : ShelfInCall) (out err : SinkInCall) (exit : Exit)
-    → HasNoText words shelf exit → out.untouched → out.faults_now ≡ out.faults
-    → GainedLine err.healthy_for err.faults err.faults_now err.written err.written_now (line_of exit)
+    → HasNoText words shelf exit → out.untouched → out.faults_now ≡ out.faults → IsTold err exit
     → (IsShelfCalm shelf → Comes shelf.held words exit ⊎ (exit ≡ exits.NoMemory))
     → (shelf.healthy → NamesHeld shelf.held words → shelf.faults_now ≡ shelf.faults)
     → IsAnswered words shelf out err exit
-stopped once words shelf out err exit said untouched same line comes calm = record {
+stopped once words shelf out err exit said untouched same of comes calm = record {
   cause = cause_of words shelf out exit said untouched;
-  told = line_told words shelf err exit said line;
+  told = of;
   usage = (λ is. (subst (HasNoText words shelf) is said).0, λ none. none_is_usage words shelf exit said none);
   held = λ told of. stopped_held words shelf exit said told of;
   missing = λ healthy told. exactly_missing shelf.held words exit once (comes (inr healthy)) told;
@@ -101,6 +125,7 @@ stopped once words shelf out err exit said untouched same line comes calm = reco
     | inl memory ↦ inl memory
     | inr each ↦ inr (λ refusal nothing. each refusal)
   ];
+  refused_once_read = λ told. stopped_exact once words shelf exit said told;
   complete = λ spared other. comes spared;
   exactly = λ spared other told. exactly_one shelf.held words exit once (comes spared) told;
   no_read_fault = calm;
@@ -110,8 +135,7 @@ stopped once words shelf out err exit said untouched same line comes calm = reco
 -- where the words give a text and something is written, no refusal comes
 none_refused : (held : Option Files) (words : List (List ℕ)) (text : List ℕ) (result : Exit) → ComesOnce
     → GivesText held words text → IsSome held → (WritesNothing result → ⊥)
-    → (result ≡ exits.NoMemory)
-    ⊎ ((refusal : Exit) → WritesNothing refusal → (result ≡ refusal) ↔ Comes held words refusal)
+    → (result ≡ exits.NoMemory) ⊎ IsExact held words result
 none_refused None words text result once given told never = absurd cc
 none_refused (Some files) words text result once given told never =
     inr (λ refusal nothing. (
@@ -119,6 +143,14 @@ none_refused (Some files) words text result once given told never =
       λ comes. absurd (subst WritesNothing
           (sym (once files words exits.Done refusal (inr (inl (refl, text, given))) comes)) nothing),
     ))
+
+none_refused_once_read : (held : Option Files) (words : List (List ℕ)) (text : List ℕ) (result : Exit) → ComesOnce
+    → GivesText held words text → IsSome held → (WritesNothing result → ⊥) → IsExactOnceRead held words result
+none_refused_once_read held words text result once given told never =
+    elim (none_refused held words text result once given told never) [
+      | inl memory ↦ inl memory
+      | inr each ↦ inr (inr each)
+    ]
 
 written_cause : (words : List (List ℕ)) (shelf : ShelfInCall) (out : SinkInCall) (exit : Exit) (text : List ℕ)
     → GivesText shelf.held words text → (WritesNothing exit → ⊥)
@@ -161,6 +193,7 @@ written once words shelf out err exit text given never done cut told spared calm
       held = λ known of. given_held shelf.held words text given known;
       missing = λ healthy known. none_missing shelf.held words text exit once given known never;
       refused = λ quiet known. none_refused shelf.held words text exit once given known never;
+      refused_once_read = λ known. none_refused_once_read shelf.held words text exit once given known never;
       complete = λ quiet other. comes other;
       exactly = λ quiet other known. exactly_one shelf.held words exit once (comes other) known;
       no_read_fault = calm;

@@ -115,6 +115,11 @@ pub record IsAnswered (words : List (List ℕ)) (shelf : ShelfInCall) (out err :
   pub refused : IsShelfCalm shelf → IsSome shelf.held
       → (exit ≡ NoMemory)
       ⊎ ((refusal : Exit) → WritesNothing refusal → (exit ≡ refusal) ↔ Comes shelf.held words refusal)
+  -- over a shelf that tells what it holds, also where its count rose: unless a file was not read, each refusal exactly
+  -- where it is what comes of the words
+  pub refused_once_read : IsSome shelf.held
+      → (exit ≡ NoMemory) ⊎ ((word : ℕ) × (exit ≡ ReadFault word))
+      ⊎ ((refusal : Exit) → WritesNothing refusal → (exit ≡ refusal) ↔ Comes shelf.held words refusal)
   -- where none of the output decides either, the exit is what comes of the words
   pub complete : IsShelfCalm shelf → IsOutputCalm words shelf out → Comes shelf.held words exit ⊎ (exit ≡ NoMemory)
   -- and exactly that one where the shelf tells what it holds

@@ -152,8 +152,8 @@ pub fn run<F: Shelf, K: Sink, E: Sink>(
     one_exit_comes();
     what_was_written_passes();
     match text_for(alloc, words, shelf) {
-        Ok(text) => put_text(out, err, &text),
-        Err(exit) => put_line(err, exit),
+        Ok(text) => tell(err, put_text(out, &text)),
+        Err(exit) => tell(err, exit),
     }
 }
 
@@ -216,8 +216,8 @@ fn text_of_files<F: Shelf>(alloc: Global, form: FileForm<'_>, shelf: &mut F) -> 
     answer(alloc, files)
 }
 
-/// Writes the answer's text, or else the line of the fault.
-fn put_text<K: Sink, E: Sink>(out: &mut K, err: &mut E, text: &Text) -> Exit
+/// Writes the answer's text.
+fn put_text<K: Sink>(out: &mut K, text: &Text) -> Exit
     ensures kind { WritesNothing result → ⊥ }
     ensures done { result ≡ Exit.Done → Gained (K.written out.old) (bytes_of text.now) (K.written out.new) }
     ensures write_fault { (taken : ℕ) → result ≡ Exit.WriteFault taken
@@ -226,22 +226,22 @@ fn put_text<K: Sink, E: Sink>(out: &mut K, err: &mut E, text: &Text) -> Exit
     ensures calm { (Rose (K.faults out.old) (K.faults out.new) → ⊥) → result ≡ Exit.Done }
     ensures healthy { K.healthy_for out.old (length (bytes_of text.now)) → result ≡ Exit.Done }
     ensures no_fault { K.healthy_for out.old (length (bytes_of text.now)) → K.faults out.new ≡ K.faults out.old }
-    ensures silent { result ≡ Exit.Done → err.new ≡ err.old }
-    ensures line { (result ≡ Exit.Done → ⊥) → GainedLine (E.healthy_for err.old) (E.faults err.old) (E.faults err.new)
-        (E.written err.old) (E.written err.new) (line_of result) }
 {
     match text.put(out) {
         Ok(()) => Exit::Done,
-        Err(fault) => put_line(err, Exit::from(fault)),
+        Err(fault) => Exit::from(fault),
     }
 }
 
-/// Writes the exit's line, as far as the sink takes it, and is the exit.
-fn put_line<E: Sink>(err: &mut E, exit: Exit) -> Exit
+/// Writes the exit's line, as far as the sink takes it, and nothing on `Done`; and is the exit.
+fn tell<E: Sink>(err: &mut E, exit: Exit) -> Exit
     ensures same { result ≡ exit }
-    ensures line { GainedLine (E.healthy_for err.old) (E.faults err.old) (E.faults err.new)
+    ensures silent { exit ≡ Exit.Done → err.new ≡ err.old }
+    ensures line { (exit ≡ Exit.Done → ⊥) → GainedLine (E.healthy_for err.old) (E.faults err.old) (E.faults err.new)
         (E.written err.old) (E.written err.new) (line_of exit) }
 {
-    let _ = put_all(err, exit.line().as_slice());
+    if exit != Exit::Done {
+        let _ = put_all(err, exit.line().as_slice());
+    }
     exit
 }

@@ -2,6 +2,7 @@ use Rattle.std.proofs.Common.{◌≡◌, ◌∙◌, inl, inr, refl, subst, sym}
 use Rattle.mrt_cmd.specs.declared.exit.Exit.{Exit}
 use Rattle.mrt_cmd.specs.declared.exit.Exit.TheVariants as exits
 use Rattle.mrt_cmd.specs.Causes.{HasNoText, ShelfInCall}
+use Rattle.mrt_cmd.specs.Run.{WritesNothing}
 use Rattle.mrt_cmd.specs.TextBytes.{bytes_of}
 use Rattle.mrt_cmd.proofs.Causes.{passed_stopped, stopped, told_of, written}
 use Rattle.mrt_cmd.proofs.SurveyExits.{memory_of_survey, written_of_survey}
@@ -12,19 +13,24 @@ use Rattle.mrt_cmd.proofs.program.run.Goals as goal
 -- All causes as one, where the words give a text: the other clauses are parts of it.
 pub returns-in-Ok-clause-answered : goal.returns-in-Ok-clause-answered
 returns-in-Ok-clause-answered g c =
-    written c.one_exit_comes.ensures.exit c.args.words.now _ _ _ c.put_text.result (bytes_of c.in-Ok.text) c.in-Ok.ensures.text
+    rw c.tell.ensures.same
+    (written c.one_exit_comes.ensures.exit c.args.words.now _ _ _ c.put_text.result (bytes_of c.in-Ok.text) c.in-Ok.ensures.text
     c.put_text.ensures.kind c.put_text.ensures.done
     c.put_text.ensures.write_fault
-    (told_of _ c.put_text.result c.put_text.ensures.silent c.put_text.ensures.line)
+    (told_of _ c.put_text.result c.tell.ensures.silent c.tell.ensures.line)
     (λ spared. elim spared [
       | inl calm ↦ c.put_text.ensures.calm calm
       | inr healthy ↦ c.put_text.ensures.healthy (healthy (bytes_of c.in-Ok.text) c.in-Ok.ensures.text)
     ]) c.text_for.ensures.no_fault
-    (λ healthy. c.put_text.ensures.no_fault (healthy (bytes_of c.in-Ok.text) c.in-Ok.ensures.text))
+    (λ healthy. c.put_text.ensures.no_fault (healthy (bytes_of c.in-Ok.text) c.in-Ok.ensures.text)))
+
+pub returns-in-Ok-clause-done : goal.returns-in-Ok-clause-done
+returns-in-Ok-clause-done g c = λ is.
+    (bytes_of c.in-Ok.text, c.in-Ok.ensures.text, c.put_text.ensures.done (sym c.tell.ensures.same ∙ is))
 
 pub returns-in-Ok-clause-write_fault : goal.returns-in-Ok-clause-write_fault
 returns-in-Ok-clause-write_fault g c = λ taken is.
-    (bytes_of c.in-Ok.text, c.in-Ok.ensures.text, c.put_text.ensures.write_fault taken is)
+    (bytes_of c.in-Ok.text, c.in-Ok.ensures.text, c.put_text.ensures.write_fault taken (sym c.tell.ensures.same ∙ is))
 
 pub returns-in-Ok-clause-usage : goal.returns-in-Ok-clause-usage
 returns-in-Ok-clause-usage g c = (returns-in-Ok-clause-answered g c).usage
@@ -38,8 +44,62 @@ returns-in-Ok-clause-comes g c = (returns-in-Ok-clause-answered g c).complete
 pub returns-in-Ok-clause-exactly : goal.returns-in-Ok-clause-exactly
 returns-in-Ok-clause-exactly g c = (returns-in-Ok-clause-answered g c).exactly
 
+-- an exit that is that of something written to the output is none on which nothing is
+never : (put told exit : Exit) → (WritesNothing put → ⊥) → told ≡ put → told ≡ exit → WritesNothing exit → ⊥
+never put told exit kind same is nothing = kind (subst WritesNothing (sym (sym same ∙ is)) nothing)
+
+pub returns-in-Ok-clause-usage_reads_nothing : goal.returns-in-Ok-clause-usage_reads_nothing
+returns-in-Ok-clause-usage_reads_nothing g c = λ is.
+    absurd (never c.put_text.result c.tell.result exits.Usage c.put_text.ensures.kind c.tell.ensures.same is tt)
+
+pub returns-in-Ok-clause-read_fault : goal.returns-in-Ok-clause-read_fault
+returns-in-Ok-clause-read_fault g c = λ word is.
+    absurd (never c.put_text.result c.tell.result (exits.ReadFault word) c.put_text.ensures.kind c.tell.ensures.same is tt)
+
+pub returns-in-Ok-clause-too_large : goal.returns-in-Ok-clause-too_large
+returns-in-Ok-clause-too_large g c = λ what size is.
+    absurd (never c.put_text.result c.tell.result (exits.TooLarge what size) c.put_text.ensures.kind c.tell.ensures.same is tt)
+
+pub returns-in-Ok-clause-bad_database : goal.returns-in-Ok-clause-bad_database
+returns-in-Ok-clause-bad_database g c = λ at kind is.
+    absurd (never c.put_text.result c.tell.result (exits.BadDatabase at kind) c.put_text.ensures.kind c.tell.ensures.same is tt)
+
+pub returns-in-Ok-clause-bad_profile : goal.returns-in-Ok-clause-bad_profile
+returns-in-Ok-clause-bad_profile g c = λ line kind is.
+    absurd (never c.put_text.result c.tell.result (exits.BadProfile line kind) c.put_text.ensures.kind c.tell.ensures.same is tt)
+
+pub returns-in-Ok-clause-bad_certificate : goal.returns-in-Ok-clause-bad_certificate
+returns-in-Ok-clause-bad_certificate g c = λ at kind is.
+    absurd (never c.put_text.result c.tell.result (exits.BadCertificate at kind) c.put_text.ensures.kind c.tell.ensures.same is tt)
+
+pub returns-in-Ok-clause-bad_script : goal.returns-in-Ok-clause-bad_script
+returns-in-Ok-clause-bad_script g c = λ line is.
+    absurd (never c.put_text.result c.tell.result (exits.BadScript line) c.put_text.ensures.kind c.tell.ensures.same is tt)
+
+pub returns-in-Ok-clause-not_there : goal.returns-in-Ok-clause-not_there
+returns-in-Ok-clause-not_there g c = λ number is.
+    absurd (never c.put_text.result c.tell.result (exits.NotThere number) c.put_text.ensures.kind c.tell.ensures.same is tt)
+
+pub returns-in-Ok-clause-no : goal.returns-in-Ok-clause-no
+returns-in-Ok-clause-no g c = λ rule a b is.
+    absurd (never c.put_text.result c.tell.result (exits.No rule a b) c.put_text.ensures.kind c.tell.ensures.same is tt)
+
+pub returns-in-Ok-clause-no_from_check_alone : goal.returns-in-Ok-clause-no_from_check_alone
+returns-in-Ok-clause-no_from_check_alone g c = λ rule a b is.
+    absurd (never c.put_text.result c.tell.result (exits.No rule a b) c.put_text.ensures.kind c.tell.ensures.same is tt)
+
+pub returns-in-Ok-clause-writes_nothing : goal.returns-in-Ok-clause-writes_nothing
+returns-in-Ok-clause-writes_nothing g c = λ nothing.
+    absurd (never c.put_text.result c.tell.result c.tell.result c.put_text.ensures.kind c.tell.ensures.same refl nothing)
+
+pub returns-in-Ok-clause-silent : goal.returns-in-Ok-clause-silent
+returns-in-Ok-clause-silent g c = λ is. c.tell.ensures.silent (sym c.tell.ensures.same ∙ is)
+
+pub returns-in-Ok-clause-line : goal.returns-in-Ok-clause-line
+returns-in-Ok-clause-line g c = rw c.tell.ensures.same c.tell.ensures.line
+
 -- And where they give none.
-abbrev shelf_of : (g : Over) → goal.After-put_line g → ShelfInCall
+abbrev shelf_of : (g : Over) → goal.After-tell-in-Err g → ShelfInCall
 shelf_of g c = record {
   held = g.F.Shelf.held c.args.shelf.now;
   healthy = g.F.Shelf.healthy c.args.shelf.now;
@@ -50,9 +110,9 @@ shelf_of g c = record {
 
 pub returns-in-Err-clause-answered : goal.returns-in-Err-clause-answered
 returns-in-Err-clause-answered g c =
-    rw c.put_line.ensures.same
+    rw c.tell-in-Err.ensures.same
     (stopped c.one_exit_comes.ensures.exit c.args.words.now _ _ _ c.in-Err.exit c.in-Err.ensures.cause refl refl
-    c.put_line.ensures.line c.in-Err.ensures.comes c.text_for.ensures.no_fault)
+    (told_of _ c.in-Err.exit c.tell-in-Err.ensures.silent c.tell-in-Err.ensures.line) c.in-Err.ensures.comes c.text_for.ensures.no_fault)
 
 pub returns-in-Err-clause-usage : goal.returns-in-Err-clause-usage
 returns-in-Err-clause-usage g c = (returns-in-Err-clause-answered g c).usage
@@ -67,11 +127,11 @@ pub returns-in-Err-clause-exactly : goal.returns-in-Err-clause-exactly
 returns-in-Err-clause-exactly g c = (returns-in-Err-clause-answered g c).exactly
 
 -- what the exit says of why the words give no text
-abbrev Says : (g : Over) → goal.After-put_line g → Exit → Type 0
+abbrev Says : (g : Over) → goal.After-tell-in-Err g → Exit → Type 0
 Says g c exit = HasNoText c.args.words.now (shelf_of g c) exit
 
-says : (g : Over) (c : goal.After-put_line g) (exit : Exit) → c.put_line.result ≡ exit → Says g c exit
-says g c exit is = subst (Says g c) (sym c.put_line.ensures.same ∙ is) c.in-Err.ensures.cause
+says : (g : Over) (c : goal.After-tell-in-Err g) (exit : Exit) → c.tell-in-Err.result ≡ exit → Says g c exit
+says g c exit is = subst (Says g c) (sym c.tell-in-Err.ensures.same ∙ is) c.in-Err.ensures.cause
 
 pub returns-in-Err-clause-usage_reads_nothing : goal.returns-in-Err-clause-usage_reads_nothing
 returns-in-Err-clause-usage_reads_nothing g c = λ is. (says g c exits.Usage is).1
@@ -112,21 +172,26 @@ returns-in-Err-clause-write_fault g c = λ taken is. absurd (says g c (exits.Wri
 pub returns-in-Err-clause-silent : goal.returns-in-Err-clause-silent
 returns-in-Err-clause-silent g c = λ is. absurd (says g c exits.Done is)
 
+pub returns-in-Err-clause-line : goal.returns-in-Err-clause-line
+returns-in-Err-clause-line g c = rw c.tell-in-Err.ensures.same c.tell-in-Err.ensures.line
+
 -- A certificate that was written passes.
 pub returns-in-Ok-clause-written_passes : goal.returns-in-Ok-clause-written_passes
-returns-in-Ok-clause-written_passes g c = λ files held written. passed_written c.put_text.result c.put_text.ensures.kind
+returns-in-Ok-clause-written_passes g c = λ files held written.
+    rw c.tell.ensures.same (passed_written c.put_text.result c.put_text.ensures.kind)
 
 pub returns-in-Err-clause-written_passes : goal.returns-in-Err-clause-written_passes
 returns-in-Err-clause-written_passes g c = λ files held written.
     let passes = c.what_was_written_passes.ensures files c.args.words.now written in
-    rw c.put_line.ensures.same
+    rw c.tell-in-Err.ensures.same
     (passed_stopped c.one_exit_comes.ensures.exit files c.args.words.now (shelf_of g c) held passes.0 passes.1 c.in-Err.exit
     c.in-Err.ensures.cause)
 
 -- A survey is never refused, and it reads nothing.
 pub returns-in-Ok-clause-survey : goal.returns-in-Ok-clause-survey
-returns-in-Ok-clause-survey g c = λ surveys. written_of_survey c.put_text.result c.put_text.ensures.kind
+returns-in-Ok-clause-survey g c = λ surveys.
+    rw c.tell.ensures.same (written_of_survey c.put_text.result c.put_text.ensures.kind)
 
 pub returns-in-Err-clause-survey : goal.returns-in-Err-clause-survey
 returns-in-Err-clause-survey g c = λ surveys.
-    memory_of_survey c.put_line.result (c.put_line.ensures.same ∙ c.in-Err.ensures.survey surveys)
+    memory_of_survey c.tell-in-Err.result (c.tell-in-Err.ensures.same ∙ c.in-Err.ensures.survey surveys)
