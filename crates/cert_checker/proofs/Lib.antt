@@ -1,3 +1,5 @@
+pub mod BlockRuleHolds
+pub mod CommonBlocks
 pub mod Kept
 pub mod RowJudged
 pub mod Verdicts

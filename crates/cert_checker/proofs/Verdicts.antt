@@ -1,18 +1,31 @@
 -- From what each search found to the verdict.
-use Rattle.std.proofs.Common.{◌≡◌, ◌<◌, ◌↔◌, ℕ, true, length, refl, subst, arith}
+use Rattle.std.proofs.Common.{◌≡◌, ◌<◌, ◌≤◌, ◌↔◌, ℕ, length, refl, subst, arith}
 use Rattle.std.proofs.lemmas.Bool.{true≢false}
+use Rattle.cert_checker.proofs.BlockRuleHolds.{block_rule_holds}
 use Rattle.cert_checker.specs.declared.fault.Fault.{Fault}
 use Rattle.cert_checker.specs.declared.verdict.Verdict.{Verdict}
 use Rattle.cert_checker.specs.declared.verdict.Verdict.TheVariants.{Yes, No}
 use Rattle.cert_checker.specs.Judged.{Judged}
 use Rattle.cert_checker.specs.RowFaults.{FirstBefore, HeldBefore, row_test}
 use Rattle.mrt_graph.specs.declared.cert.CertFile.{CertFile}
+use Rattle.mrt_graph.specs.declared.cert.Tag.{Tag}
+use Rattle.mrt_graph.specs.declared.cert.Tag.TheVariants.{Sole, Head, Top, Below, Above, Unordered, Carried}
 use Rattle.mrt_graph.specs.Accepted.{Accepted}
 use Rattle.mrt_graph.specs.FirstFault.{FirstFault}
 use Rattle.mrt_graph.specs.Places.{IsFirstPair}
 use Rattle.mrt_graph.specs.Rules.{Rule, GraphRule, OrderRule, HeadRule, LinkRule, LoneRule, ClosedRule, TagRule, BlockRule, rule_number, told}
+use Rattle.mrt_graph.specs.Tags.{tag_number}
 use Rattle.mrt_graph.specs.Topology.{Topology}
 use Rattle.mrt_graph.proofs.RuleFaults.{HoldBefore}
+
+few_tags : (tag : Tag) → tag_number tag ≤ 6
+few_tags Sole = omega arith
+few_tags Head = omega arith
+few_tags Top = omega arith
+few_tags Below = omega arith
+few_tags Above = omega arith
+few_tags Unordered = omega arith
+few_tags Carried = omega arith
 
 module _ (g : Topology) (root : ℕ) (file : CertFile) where
   -- all six rules hold, and all on rows
@@ -21,7 +34,12 @@ module _ (g : Topology) (root : ℕ) (file : CertFile) where
       → HeldBefore (row_test g root file.cert rule) (length file.cert.nodes) (length file.cert.nodes) 0)
       → Accepted g root file
   all_hold before held (TagRule T) = λ a b first second. (held (TagRule T)).sources a b first second
-  all_hold before held BlockRule = λ a b first second. (held BlockRule).sources a b first second
+  all_hold before held BlockRule = block_rule_holds g root file.cert (record {
+    same_graph = before GraphRule (omega arith);
+    heads = before HeadRule (omega arith);
+    links = before LinkRule (omega arith);
+    rows = λ tag a b first second. (held (TagRule tag)).sources a b first second;
+  })
   all_hold before held GraphRule = before GraphRule (omega arith)
   all_hold before held OrderRule = before OrderRule (omega arith)
   all_hold before held HeadRule = before HeadRule (omega arith)
@@ -43,12 +61,17 @@ module _ (g : Topology) (root : ℕ) (file : CertFile) where
       fails : (rule : Rule) → IsFirstPair (row_test g root file.cert rule) (length file.cert.nodes) fault.a fault.b
           → (told g root file rule).FailsAt fault.a fault.b
       fails (TagRule T) here = here
-      fails BlockRule here = here
       fails _ here = absurd (true≢false here.fails)
+
+      -- it is one of those on tags
+      of_tag : (rule : Rule) → IsFirstPair (row_test g root file.cert rule) (length file.cert.nodes) fault.a fault.b
+          → rule_number rule ≤ 13
+      of_tag (TagRule T) here = omega (arith, few_tags T)
+      of_tag _ here = absurd (true≢false here.fails)
 
       earlier : (other : Rule) → rule_number other < fault.rule → (told g root file other).Holds
       earlier (TagRule T) less = λ a b first second. (known.earlier (TagRule T) less).sources a b first second
-      earlier BlockRule less = λ a b first second. (known.earlier BlockRule less).sources a b first second
+      earlier BlockRule less = absurd (omega (arith, less, known.numbered, of_tag known.rule known.here))
       earlier GraphRule less = before GraphRule (omega arith)
       earlier OrderRule less = before OrderRule (omega arith)
       earlier HeadRule less = before HeadRule (omega arith)

@@ -4,14 +4,14 @@ use Rattle.std.specs.Option.{MatchOption}
 use Rattle.cert_checker.specs.declared.fault.Fault.{Fault}
 use Rattle.mrt_graph.specs.Certificate.{Certificate}
 use Rattle.mrt_graph.specs.Places.{Each, IsFirstPair}
-use Rattle.mrt_graph.specs.RowRules.{rows_in_block, rows_tagged}
-use Rattle.mrt_graph.specs.Rules.{Rule, TagRule, BlockRule, rule_number}
+use Rattle.mrt_graph.specs.RowRules.{rows_tagged}
+use Rattle.mrt_graph.specs.Rules.{Rule, TagRule, rule_number}
 use Rattle.mrt_graph.specs.Topology.{Topology}
 
--- what a rule asks of the row of s for t; the first six rules ask nothing of rows
+-- what is asked of the row of s for t: each rule on a tag asks something of rows; the first six ask nothing, and the
+-- fourteenth follows from others
 abbrev pub row_test : Topology → ℕ → Certificate → Rule → ℕ → ℕ → Bool
 row_test g root c (TagRule tag) s t = rows_tagged tag g.links c root s t
-row_test g root c BlockRule s t = rows_in_block c s t
 row_test g root c _ s t = true
 
 -- the first rule that fails a test

@@ -114,7 +114,7 @@ fn is_link_placed(c: &Cert, e: LinkNo) -> bool
 }
 
 /// Whether `k` is the common block of the nodes `s` and `t`.
-pub(crate) fn has_common_block(c: &Cert, s: NodeNo, t: NodeNo, k: NodeNo) -> bool
+fn has_common_block(c: &Cert, s: NodeNo, t: NodeNo, k: NodeNo) -> bool
     requires source { s < length c.now.nodes }
     requires target { t < length c.now.nodes }
     ensures { result ≡ is_common_block c.now s t (Some k) }

@@ -1,5 +1,5 @@
 //! The checker of certificates: fourteen rules, read without memory. Rules 1 to 6 are read one after another, rules 7
-//! to 14 in one pass that keeps the least.
+//! to 13 in one pass that keeps the least. The fourteenth follows from others and is not read.
 #![tactic(auto)]
 
 mod block_links;

@@ -1,15 +1,14 @@
-//! Rules seven to fourteen, at one row: what the row keeps, by its tag.
+//! Rules seven to thirteen, at one row: what the row keeps, by its tag.
 
 ghost use Rattle.std.specs.Prelude.{◌≡◌, ◌<◌, Some, false, length};
 ghost use Rattle.std.specs.Option.{option_map_or};
 ghost use Rattle.cert_checker.specs.RowAt.{IsRowAt};
 ghost use Rattle.mrt_graph.specs.declared.cert.Tag.TheVariants.{Carried};
-ghost use Rattle.mrt_graph.specs.Certificate.{IsCertRow, row_of};
-ghost use Rattle.mrt_graph.specs.RowRules.{carried_row, carrier, lies_in_block, row_rule, same_links};
+ghost use Rattle.mrt_graph.specs.Certificate.{row_of};
+ghost use Rattle.mrt_graph.specs.RowRules.{carried_row, carrier, row_rule, same_links};
 ghost use Rattle.mrt_graph.specs.Related.{are_unrelated};
 ghost use Rattle.mrt_graph.specs.Tags.{same_tag};
 
-use crate::heads::has_common_block;
 use crate::near_rows::keeps_near_rule;
 use crate::row_words::{far_end, number_of};
 use mrt_graph::{Cert, Graph, NodeNo, Row, Tag};
@@ -31,7 +30,7 @@ pub(crate) fn keeps_rule(g: &Graph, c: &Cert, root: NodeNo, s: NodeNo, t: NodeNo
     }
 }
 
-pub(crate) fn is_carried(tag: Tag) -> bool
+fn is_carried(tag: Tag) -> bool
     ensures { result ≡ same_tag tag Carried }
 {
     number_of(tag) == number_of(Tag::Carried)
@@ -80,15 +79,4 @@ fn has_links_for(c: &Cert, s: NodeNo, w: NodeNo, row: &Row) -> bool
     }
     let other = c.row(s, w);
     row.blue == other.blue && row.red == other.red
-}
-
-/// Whether both links of the row of `s` for `t` lie in the common block of the two.
-pub(crate) fn lies_in_common_block(c: &Cert, s: NodeNo, t: NodeNo, row: &Row) -> bool
-    requires source { s < length c.now.nodes }
-    requires target { t < length c.now.nodes }
-    requires row { IsCertRow (length c.now.links) row.now }
-    ensures { result ≡ lies_in_block c.now s t row.now }
-{
-    has_common_block(c, s, t, c.link(row.blue).block)
-        && has_common_block(c, s, t, c.link(row.red).block)
 }

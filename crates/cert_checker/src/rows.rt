@@ -1,22 +1,18 @@
-//! Rules seven to fourteen, in one pass over the rows in their order.
+//! Rules seven to thirteen, in one pass over the rows in their order.
 
-ghost use Rattle.std.specs.Prelude.{◌≡◌, ◌<◌, ◌+◌, ◌||◌, length};
+ghost use Rattle.std.specs.Prelude.{◌≡◌, ◌<◌, ◌+◌, length};
 ghost use Rattle.cert_checker.specs.RowFaults.{JudgedRow, KeptBefore, better, lesser_fault, row_test};
-ghost use Rattle.mrt_graph.specs.declared.cert.Tag.TheVariants.{Carried};
-ghost use Rattle.mrt_graph.specs.Certificate.{IsCertRow};
-ghost use Rattle.mrt_graph.specs.RowRules.{lies_in_block};
 ghost use Rattle.mrt_graph.specs.SameGraph.{SameCounts};
-ghost use Rattle.mrt_graph.specs.Tags.{same_tag};
 
 use crate::fault::Fault;
-use crate::row_rules::{is_carried, keeps_rule, lies_in_common_block};
+use crate::row_rules::keeps_rule;
 use crate::row_words::number_of;
-use mrt_graph::{Cert, Graph, NodeNo, Row};
+use mrt_graph::{Cert, Graph, NodeNo};
 
 /// The first rule on rows that fails, and its first place.
 ///
-/// Each row meets the rule of its tag and the fourteenth alone, so one pass keeps the least rule that has failed, with
-/// the place where it failed first.
+/// Each row meets the rule of its tag alone, so one pass keeps the least rule that has failed, with the place where it
+/// failed first. The fourteenth rule follows from rules 1, 3 and 4 and those of the tags, so no row is asked for it.
 pub(crate) fn first_row_fault(g: &Graph, c: &Cert, root: NodeNo) -> Option<Fault>
     requires { SameCounts g.now c.now }
     ensures { KeptBefore (row_test g.now root c.now) (length c.now.nodes)
@@ -83,7 +79,7 @@ fn lesser(kept: Option<Fault>, fault: Fault) -> Fault
     }
 }
 
-/// The first rule that the row of `s` for `t` breaks.
+/// The rule of its tag, where the row of `s` for `t` breaks it.
 fn row_fault(g: &Graph, c: &Cert, root: NodeNo, s: NodeNo, t: NodeNo) -> Option<u8>
     requires counts { SameCounts g.now c.now }
     requires source { s < length c.now.nodes }
@@ -97,17 +93,5 @@ fn row_fault(g: &Graph, c: &Cert, root: NodeNo, s: NodeNo, t: NodeNo) -> Option<
     if !keeps_rule(g, c, root, s, t, &row) {
         return Some(7 + number_of(row.tag));
     }
-    if !is_in_block(c, s, t, &row) {
-        return Some(14);
-    }
     None
-}
-
-fn is_in_block(c: &Cert, s: NodeNo, t: NodeNo, row: &Row) -> bool
-    requires source { s < length c.now.nodes }
-    requires target { t < length c.now.nodes }
-    requires row { IsCertRow (length c.now.links) row.now }
-    ensures { result ≡ (same_tag row.now.tag Carried || lies_in_block c.now s t row.now) }
-{
-    is_carried(row.tag) || lies_in_common_block(c, s, t, row)
 }

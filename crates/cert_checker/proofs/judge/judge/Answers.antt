@@ -1,4 +1,4 @@
-use Rattle.std.proofs.Common.{ℕ, length, refl}
+use Rattle.std.proofs.Common.{ℕ, refl}
 use Rattle.cert_checker.proofs.Verdicts.{all_hold, row_fails}
 use Rattle.mrt_graph.specs.declared.cert.CertFile.{CertFile}
 use Rattle.mrt_graph.specs.Rules.{GraphRule, OrderRule, HeadRule, LinkRule, LoneRule, ClosedRule, told}
