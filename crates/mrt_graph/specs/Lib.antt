@@ -42,5 +42,6 @@ pub mod Tails
 pub mod TextLines
 pub mod Topology
 pub mod TreeWords
+pub mod TwoBytes
 pub mod Uses
 pub mod Walk

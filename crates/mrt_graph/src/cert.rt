@@ -42,6 +42,9 @@ pub struct Row {
     pub tag: Tag,
 }
 
+// As many bytes as in a file.
+const _: () = prove!(size_of::<Row>() == 5);
+
 /// A certificate's words on one node.
 #[derive(Clone, Copy, Debug, PartialEq, Eq)]
 pub struct CertNode {

@@ -1,6 +1,14 @@
 //! Numbers of nodes and links, from 0, each a type of its own so that neither stands in the other's place.
 //! Contracts see them as plain numbers.
 
+ghost use Rattle.std.proofs.Common.{rules};
+ghost use Rattle.std.specs.Cmp.{partial_order_from_own_ties};
+ghost use Rattle.std.specs.Cmp.Rules.{comparing};
+ghost use Rattle.std.specs.Ordering.{as_partial_cmp, nat_cmp};
+ghost use Rattle.std.specs.Prelude.{nat_eq};
+
+use std::cmp::Ordering;
+use std::fmt::{self, Debug, Formatter, Write};
 use std::marker::Model;
 
 /// The number of a node of a graph, from 0.
@@ -35,17 +43,30 @@ impl NodeNo {
 }
 
 /// The number of a link of a graph, from 0.
-#[derive(Clone, Copy, Debug, Default, PartialEq, Eq, PartialOrd, Ord)]
-pub struct LinkNo(u16);
+///
+/// It stands as two bytes, so that a row takes as many bytes in memory as in a file.
+#[derive(Clone, Copy, Default)]
+pub struct LinkNo {
+    high: u8,
+    low: u8,
+}
 
 impl Model for LinkNo {
-    ghost use Rattle.std.specs.Prelude.{ℕ};
+    ghost use Rattle.std.specs.Prelude.{ℕ, [], ◌∷◌, slice_index_or};
+    ghost use Rattle.std.proofs.Common.{ap, refl};
+    ghost use Rattle.std.proofs.lemmas.Nat.{be_bytes_2};
+    ghost use Rattle.mrt_graph.specs.TwoBytes.{AreBytes, byte_of, number_of};
 
     ghost Value = { ℕ };
 
-    ghost view = { λ link. link.0 };
+    ghost view = { λ link. number_of link.high link.low };
 
-    ghost inverse = { λ number. record { 0 = number } };
+    ghost inverse = { λ number. record { high = byte_of number 0; low = byte_of number 1 } };
+
+    ghost invariant = { λ link. AreBytes (link.high ∷ link.low ∷ []) };
+
+    ghost inverse_ok = { λ link kept. ap (λ bytes. record { high = slice_index_or bytes 0 0; low = slice_index_or bytes 1 0 })
+        (be_bytes_2 (link.high ∷ link.low ∷ []) (number_of link.high link.low) refl kept refl) };
 }
 
 impl LinkNo {
@@ -54,13 +75,58 @@ impl LinkNo {
     pub fn new(number: u16) -> LinkNo
         ensures { result ≡ number }
     {
-        LinkNo(number)
+        let [high, low] = number.to_be_bytes();
+        LinkNo { high, low }
     }
 
     pub fn get(&self) -> u16
         ensures value { result ≡ self.now }
         ensures small { self.now < 2 ^ 16 }
     {
-        self.0
+        u16::from_be_bytes([self.high, self.low])
+    }
+}
+
+impl Debug for LinkNo {
+    fn fmt<W: Write>(&self, f: &mut Formatter<W>) -> Result<(), fmt::Error> {
+        self.get().fmt(f)
+    }
+}
+
+impl PartialEq for LinkNo {
+    ghost eq = { nat_eq };
+
+    ghost laws = { Prim.search (comparing, rules) };
+
+    fn eq(&self, other: &LinkNo) -> bool {
+        self.get() == other.get()
+    }
+}
+
+impl Eq for LinkNo {
+    ghost laws = { Prim.search (comparing, rules) };
+}
+
+impl Ord for LinkNo {
+    ghost cmp = { nat_cmp };
+
+    ghost total = { Prim.search (comparing, rules) };
+
+    ghost matches_partial_cmp = { Prim.search (comparing, rules) };
+
+    ghost matches_eq = { Prim.search (comparing, rules) };
+
+    fn cmp(&self, other: &LinkNo) -> Ordering {
+        self.get().cmp(&other.get())
+    }
+}
+
+impl PartialOrd for LinkNo {
+    ghost partial_cmp = { as_partial_cmp nat_cmp };
+
+    ghost laws = { partial_order_from_own_ties (Prim.search (comparing, rules)) (Prim.search (comparing, rules)) };
+
+    fn partial_cmp(&self, other: &LinkNo) -> Option<Ordering> {
+        Some(self.cmp(other))
     }
 }
