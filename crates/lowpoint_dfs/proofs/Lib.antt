@@ -1,6 +1,7 @@
 pub mod Ancestors
 pub mod FoundInTurn
 pub mod LowReached
+pub mod LowSet
 pub mod LowestSoFar
 pub mod LowpointsGiven
 pub mod NodesListed
