@@ -25,7 +25,7 @@ from lsas import lsa
 KINDS = "database", "profile", "certificate", "script"
 LINES = {
     0: rb"",
-    1: rb"mrt: no: rule ([1-9]|1[0-4]) at \d+ \d+\n",
+    1: rb"mrt: no: rule ([1-9]|1[0-3]) at \d+ \d+\n",
     2: rb"mrt: usage: [^\n]+\n",
     3: rb"mrt: bad database: (conflict at \d+ with \d+|(truncated|length|checksum|reserved-sequence|id-mismatch|body|zero-metric) at \d+)\n",
     4: rb"mrt: bad profile: (bytes|words|address|number|repeated) on line \d+\n",
