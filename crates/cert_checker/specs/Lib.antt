@@ -1,5 +1,6 @@
 pub mod Found
 pub mod Judged
+pub mod KnownNode
 pub mod LikeBefore
 pub mod RowAt
 pub mod RowFaults

@@ -1,31 +1,80 @@
 //! Rules seven to thirteen, at one row: what the row keeps, by its tag.
 
-ghost use Rattle.std.specs.Prelude.{◌≡◌, ◌<◌, Some, false, length};
-ghost use Rattle.std.specs.Option.{option_map_or};
+ghost use Rattle.std.specs.Prelude.{◌≡◌, ◌<◌, IfSome, Some, false, length};
+ghost use Rattle.std.specs.Option.{option_map, option_map_or};
+ghost use Rattle.cert_checker.specs.KnownNode.{AreHops, IsKnown};
 ghost use Rattle.cert_checker.specs.RowAt.{IsRowAt};
 ghost use Rattle.mrt_graph.specs.declared.cert.Tag.TheVariants.{Carried};
+ghost use Rattle.mrt_graph.specs.BothThere.{both};
 ghost use Rattle.mrt_graph.specs.Certificate.{row_of};
-ghost use Rattle.mrt_graph.specs.RowRules.{carried_row, carrier, row_rule, same_links};
+ghost use Rattle.mrt_graph.specs.RowRules.{carried_row, carrier, near_row, row_rule, same_links};
 ghost use Rattle.mrt_graph.specs.Related.{are_unrelated};
+ghost use Rattle.mrt_graph.specs.SameGraph.{SameCounts};
 ghost use Rattle.mrt_graph.specs.Tags.{same_tag};
 
+use crate::hops::{Hop, Hops, hop_by};
+use crate::known_node::{KnownNode, row_for};
 use crate::near_rows::keeps_near_rule;
-use crate::row_words::{far_end, number_of};
+use crate::row_words::number_of;
 use mrt_graph::{Cert, Graph, NodeNo, Row, Tag};
 
-/// Whether the row of `s` for `t` keeps what its tag asks.
-pub(crate) fn keeps_rule(g: &Graph, c: &Cert, root: NodeNo, s: NodeNo, t: NodeNo, row: &Row) -> bool
-    requires { IsRowAt g.now c.now s t row.now }
-    ensures { result ≡ row_rule row.now.tag g.now.links c.now root s t row.now }
+/// Whether a row keeps its rule, and the hops that serve the next row.
+#[derive(Drop)]
+pub(crate) struct RuleJudged {
+    pub keeps: bool,
+    pub hops: Hops,
+}
+
+/// Whether the row of `s` for `t` keeps what its tag asks. A row that is carried asks for no hops.
+pub(crate) fn judge_rule(
+    g: &Graph,
+    c: &Cert,
+    root: NodeNo,
+    s: &KnownNode,
+    t: NodeNo,
+    row: &Row,
+    last: Hops,
+) -> RuleJudged
+    requires counts { SameCounts g.now c.now }
+    requires row { IsRowAt c.now s.now t row.now }
+    requires last { AreHops g.now c.now s.now.number last }
+    ensures keeps { result.keeps ≡ row_rule row.now.tag g.now.links c.now root s.now.number t row.now }
+    ensures hops { AreHops g.now c.now s.now.number result.hops }
 {
     if is_carried(row.tag) {
-        return carried(c, root, s, t, row);
+        return RuleJudged {
+            keeps: carried(c, root, s, t, row),
+            hops: last,
+        };
     }
-    match far_end(g, c, row.blue, s) {
+    let blue = hop_by(g, c, s.number, last.blue, row.blue);
+    let red = hop_by(g, c, s.number, last.red, row.red);
+    RuleJudged {
+        keeps: keeps_hop_rule(c, s, t, row, &blue, &red),
+        hops: Hops { blue, red },
+    }
+}
+
+/// Whether a row that is not carried, with these hops, keeps what its tag asks.
+fn keeps_hop_rule(
+    c: &Cert,
+    s: &KnownNode,
+    t: NodeNo,
+    row: &Row,
+    blue: &Option<Hop>,
+    red: &Option<Hop>,
+) -> bool
+    requires row { IsRowAt c.now s.now t row.now }
+    requires blue { IfSome blue.now (λ hop. IsKnown c.now hop.to) }
+    requires red { IfSome red.now (λ hop. IsKnown c.now hop.to) }
+    ensures { result ≡ both (near_row row.now.tag c.now s.now.number t row.now)
+        (option_map (λ hop. hop.to.number) blue.now) (option_map (λ hop. hop.to.number) red.now) }
+{
+    match blue {
         None => false,
-        Some(blue) => match far_end(g, c, row.red, s) {
+        Some(blue) => match red {
             None => false,
-            Some(red) => keeps_near_rule(c, s, t, row, blue, red),
+            Some(red) => keeps_near_rule(c, s, t, row, &blue.to, &red.to),
         }
     }
 }
@@ -36,47 +85,48 @@ fn is_carried(tag: Tag) -> bool
     number_of(tag) == number_of(Tag::Carried)
 }
 
-fn carried(c: &Cert, root: NodeNo, s: NodeNo, t: NodeNo, row: &Row) -> bool
-    requires source { s < length c.now.nodes }
+/// Whether a row that is carried keeps what its tag asks.
+fn carried(c: &Cert, root: NodeNo, s: &KnownNode, t: NodeNo, row: &Row) -> bool
+    requires source { IsKnown c.now s.now }
     requires target { t < length c.now.nodes }
-    ensures { result ≡ carried_row c.now root s t row.now }
+    ensures { result ≡ carried_row c.now root s.now.number t row.now }
 {
     unrelated(c, s, t) && has_links_for(c, s, carrier_of(c, root, s, t), row)
 }
 
-fn unrelated(c: &Cert, s: NodeNo, t: NodeNo) -> bool
-    requires source { s < length c.now.nodes }
+fn unrelated(c: &Cert, s: &KnownNode, t: NodeNo) -> bool
+    requires source { IsKnown c.now s.now }
     requires target { t < length c.now.nodes }
-    ensures { result ≡ are_unrelated c.now s t }
+    ensures { result ≡ are_unrelated c.now s.now.number t }
 {
-    let from = c.node(s);
+    let from = s.words;
     let to = c.node(t);
-    from.block != to.block && from.head != t && to.head != s
+    from.block != to.block && from.head != t && to.head != s.number
 }
 
 /// The node for which `s` has the links that it has for `t`.
-fn carrier_of(c: &Cert, root: NodeNo, s: NodeNo, t: NodeNo) -> NodeNo
-    requires source { s < length c.now.nodes }
+fn carrier_of(c: &Cert, root: NodeNo, s: &KnownNode, t: NodeNo) -> NodeNo
+    requires source { IsKnown c.now s.now }
     requires target { t < length c.now.nodes }
-    ensures value { carrier c.now root s t ≡ Some result }
+    ensures value { carrier c.now root s.now.number t ≡ Some result }
     ensures within { result < length c.now.nodes }
 {
     if t == root {
-        c.node(s).head
+        c.node(s.number).head
     } else {
         c.node(t).head
     }
 }
 
 /// Whether the row has the links of the row of `s` for `w`.
-fn has_links_for(c: &Cert, s: NodeNo, w: NodeNo, row: &Row) -> bool
-    requires source { s < length c.now.nodes }
+fn has_links_for(c: &Cert, s: &KnownNode, w: NodeNo, row: &Row) -> bool
+    requires source { IsKnown c.now s.now }
     requires carrier { w < length c.now.nodes }
-    ensures { result ≡ option_map_or (same_links row.now) (row_of c.now s w) false }
+    ensures { result ≡ option_map_or (same_links row.now) (row_of c.now s.now.number w) false }
 {
-    if s == w {
+    if s.number == w {
         return false;
     }
-    let other = c.row(s, w);
+    let other = row_for(c, s, w);
     row.blue == other.blue && row.red == other.red
 }

@@ -1,7 +1,7 @@
 //! Words of the rules on rows: where a link leads, what tag a row has, which role a link has.
 
 ghost use Rattle.std.specs.Prelude.{◌≡◌, ◌<◌, ◌≤◌, IfSome, length};
-ghost use Rattle.mrt_graph.specs.CertWords.{has_role, tagged};
+ghost use Rattle.mrt_graph.specs.CertWords.{has_role};
 ghost use Rattle.mrt_graph.specs.Leads.{leads};
 ghost use Rattle.mrt_graph.specs.Roles.{is_closing, is_plain, is_sole};
 ghost use Rattle.mrt_graph.specs.SameGraph.{SameCounts};
@@ -18,18 +18,6 @@ pub(crate) fn far_end(g: &Graph, c: &Cert, e: LinkNo, s: NodeNo) -> Option<NodeN
 {
     let _same = c.node_count();
     g.link(e).far_node(s)
-}
-
-/// Whether `v` has a row for `t`, and the row has this tag.
-pub(crate) fn has_tag(c: &Cert, v: NodeNo, t: NodeNo, tag: Tag) -> bool
-    requires from { v < length c.now.nodes }
-    requires to { t < length c.now.nodes }
-    ensures { result ≡ tagged c.now v t tag }
-{
-    if v == t {
-        return false;
-    }
-    number_of(c.row(v, t).tag) == number_of(tag)
 }
 
 pub(crate) fn number_of(tag: Tag) -> u8

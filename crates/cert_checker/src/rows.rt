@@ -1,13 +1,23 @@
 //! Rules seven to thirteen, in one pass over the rows in their order.
 
 ghost use Rattle.std.specs.Prelude.{◌≡◌, ◌<◌, ◌+◌, length};
+ghost use Rattle.cert_checker.specs.KnownNode.{AreHops, IsKnown};
 ghost use Rattle.cert_checker.specs.RowFaults.{JudgedRow, KeptBefore, better, lesser_fault, row_test};
 ghost use Rattle.mrt_graph.specs.SameGraph.{SameCounts};
 
 use crate::fault::Fault;
-use crate::row_rules::keeps_rule;
+use crate::hops::Hops;
+use crate::known_node::{KnownNode, known_node, row_for};
+use crate::row_rules::judge_rule;
 use crate::row_words::number_of;
 use mrt_graph::{Cert, Graph, NodeNo};
+
+/// The rule that a row breaks, if it breaks one, and the hops that serve the next row.
+#[derive(Drop)]
+struct RowJudged {
+    fault: Option<u8>,
+    hops: Hops,
+}
 
 /// The first rule on rows that fails, and its first place.
 ///
@@ -37,14 +47,16 @@ fn judge_rows_of(
     requires before { KeptBefore (row_test g.now root c.now) (length c.now.nodes) s 0 before }
     ensures { KeptBefore (row_test g.now root c.now) (length c.now.nodes) (s + 1) 0 result }
 {
+    let source = known_node(c, s);
+    let mut hops = Hops {
+        blue: None,
+        red: None,
+    };
     let mut kept = before;
     for t in 0..c.node_count() {
-        kept = keep(
-            kept,
-            row_fault(g, c, root, s, NodeNo::new(t)),
-            s,
-            NodeNo::new(t),
-        );
+        let judged = judge_row(g, c, root, &source, NodeNo::new(t), hops);
+        kept = keep(kept, judged.fault, s, NodeNo::new(t));
+        hops = judged.hops;
     }
     kept
 }
@@ -80,18 +92,30 @@ fn lesser(kept: Option<Fault>, fault: Fault) -> Fault
 }
 
 /// The rule of its tag, where the row of `s` for `t` breaks it.
-fn row_fault(g: &Graph, c: &Cert, root: NodeNo, s: NodeNo, t: NodeNo) -> Option<u8>
+fn judge_row(g: &Graph, c: &Cert, root: NodeNo, s: &KnownNode, t: NodeNo, last: Hops) -> RowJudged
     requires counts { SameCounts g.now c.now }
-    requires source { s < length c.now.nodes }
+    requires source { IsKnown c.now s.now }
     requires target { t < length c.now.nodes }
-    ensures { JudgedRow (λ rule. row_test g.now root c.now rule s t) result }
+    requires last { AreHops g.now c.now s.now.number last }
+    ensures judged { JudgedRow (λ rule. row_test g.now root c.now rule s.now.number t) result.fault }
+    ensures hops { AreHops g.now c.now s.now.number result.hops }
 {
-    if s == t {
-        return None;
+    if s.number == t {
+        return RowJudged {
+            fault: None,
+            hops: last,
+        };
     }
-    let row = c.row(s, t);
-    if !keeps_rule(g, c, root, s, t, &row) {
-        return Some(7 + number_of(row.tag));
+    let row = row_for(c, s, t);
+    let judged = judge_rule(g, c, root, s, t, &row, last);
+    if judged.keeps {
+        return RowJudged {
+            fault: None,
+            hops: judged.hops,
+        };
     }
-    None
+    RowJudged {
+        fault: Some(7 + number_of(row.tag)),
+        hops: judged.hops,
+    }
 }
