@@ -1,10 +1,10 @@
 -- What a fabric keeps, event by event.
-use Rattle.std.proofs.Common.{◌≡◌, ◌≢◌, ◌<◌, ◌≤◌, ◌++◌, ◌∙◌, ℕ, List, [], ◌∷◌, Option, Some, None, Ok, Err, length, set, slice_get, inl, inr, refl, sym, ap, subst, arith}
+use Rattle.std.proofs.Common.{◌≡◌, ◌≢◌, ◌<◌, ◌≤◌, ◌++◌, ◌∙◌, ℕ, List, [], ◌∷◌, Option, Some, None, Ok, Err, get_or, length, set, slice_get, inl, inr, refl, sym, ap, subst, arith}
 use Rattle.std.specs.Prelude.{slice_set}
 use Rattle.std.specs.Option.{option_map_or}
 use Rattle.std.proofs.lemmas.Bool.{cases_eq}
 use Rattle.std.proofs.lemmas.List.{length-append, length-set}
-use Rattle.std.proofs.lemmas.Option.{same_Some, slice_get_past, slice_get_within}
+use Rattle.std.proofs.lemmas.Option.{same_Some, slice_get_past, slice_get_read, slice_get_within}
 use Rattle.fabric.specs.Answers.{Answered, GetsNumber, HasEnded, IsStepAnswer, MayEnter, NoPacket}
 use Rattle.fabric.specs.FabricParts.{AreFabricParts, FabricParts}
 use Rattle.fabric.specs.FabricState.{entering, packet_after, state_after, state_of}
@@ -83,3 +83,8 @@ module _ (parts : FabricParts) (are : AreFabricParts parts) (packets : List Pack
       after : state_of (slice_set packets p (packet_after outcome q)) failure room ≡ state_after (state_of packets failure room) (Step p) (Ok outcome)
       after = ap (λ (xs : List Packet). state_of xs failure room)
           (sym (ap (λ (o : Option Packet). option_map_or (λ (packet : Packet). slice_set packets p (packet_after outcome packet)) o packets) there))
+
+-- what is read twice at one place is the same
+pub read_again : {X : Type 0} (xs : List X) (n i : ℕ) (x y : X) → n ≡ length xs → i < n → x ≡ get_or xs i x → y ≡ get_or xs i y → x ≡ y
+read_again xs n i x y count inside one other =
+    same_Some x y (sym (slice_get_read xs n i x count inside one) ∙ slice_get_read xs n i y count inside other)

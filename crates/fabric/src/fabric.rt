@@ -145,12 +145,12 @@ impl<'a> Fabric<'a> {
         if place >= self.packets.len() {
             return Err(Refused::NoSuchPacket);
         }
-        let packet = self.packets[place];
+        let packet = &self.packets[place];
         let State::Going = packet.state else {
             return Err(Refused::Ended);
         };
-        let outcome = handled(&self.parts, self.failure, &packet);
-        self.packets[place] = packet_after(&outcome, packet);
+        let outcome = handled(&self.parts, self.failure, packet);
+        change(&mut self.packets[place], &outcome);
         Ok(outcome)
     }
 
@@ -172,9 +172,9 @@ impl<'a> Fabric<'a> {
     }
 }
 
-/// A packet after an outcome of its own.
-fn packet_after(outcome: &Outcome, mut packet: Packet) -> Packet
-    ensures { result ≡ packet_after outcome.now packet }
+/// Makes a packet what it is after an outcome of its own.
+fn change(packet: &mut Packet, outcome: &Outcome)
+    ensures { packet.new ≡ packet_after outcome.now packet.old }
 {
     match outcome {
         Outcome::Moved(x) => packet.place = *x,
@@ -187,5 +187,4 @@ fn packet_after(outcome: &Outcome, mut packet: Packet) -> Packet
         Outcome::Entered(_) => {}
         Outcome::Failed => {}
     }
-    packet
 }

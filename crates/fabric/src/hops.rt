@@ -31,8 +31,9 @@ pub fn next_hop(parts: &Parts, packet: &Packet) -> Option<NextHop>
 {
     match packet.mode {
         Mode::Primary => primary_hop(parts, packet.place, packet.to),
-        Mode::Entered(color) => Some(color_hop(parts, color, packet.place, packet.to)),
-        Mode::Switched(color) => Some(color_hop(parts, color, packet.place, packet.to)),
+        Mode::Entered(color) | Mode::Switched(color) => {
+            Some(color_hop(parts, color, packet.place, packet.to))
+        }
     }
 }
 

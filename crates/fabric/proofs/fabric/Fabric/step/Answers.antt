@@ -2,7 +2,7 @@ use Rattle.std.proofs.Common.{Ok, ◌≡◌, ◌∙◌, ℕ, Some, slice_get, re
 use Rattle.std.proofs.lemmas.Option.{slice_get_read}
 use Rattle.fabric.specs.OutcomeText.{IsTellable}
 use Rattle.fabric.specs.Viewed.{FabricSeen, viewed}
-use Rattle.fabric.proofs.KeptStates.{kept_handled, step_ended, step_handled, step_unmade}
+use Rattle.fabric.proofs.KeptStates.{kept_handled, read_again, step_ended, step_handled, step_unmade}
 use Rattle.fabric.proofs.Tellable.{outcome_tellable}
 use Rattle.fabric.proofs.fabric.Fabric.step.Goals as goal
 
@@ -17,41 +17,43 @@ returns-then-place-len-clause-step c =
 pub returns-in_default : goal.returns-in_default
 returns-in_default c =
     let at = c.get-place.ensures.value in
-    let there : slice_get c.self.inside.packets.items c.get-place.result ≡ Some c.index.result.now =
-    slice_get_read c.self.inside.packets.items c.len.result c.get-place.result c.index.result.now (c.len.ensures ∙ c.self.inside.packets.ok.0) c.if-place-len.false c.index.ensures in
+    let there : slice_get c.self.inside.packets.items c.get-place.result ≡ Some c.index-packet.result.now =
+    slice_get_read c.self.inside.packets.items c.len.result c.get-place.result c.index-packet.result.now (c.len.ensures ∙ c.self.inside.packets.ok.0) c.if-place-len.false c.index-packet.ensures in
     record {
-      step = rw (← c.self.view_is) (step_ended (viewed c.self.inside.parts) c.self.invariant.0 c.self.inside.packets.items c.self.inside.failure c.self.inside.room c.self.invariant.2 c.args.p c.index.result.now
-          (subst (λ (k : ℕ). slice_get c.self.inside.packets.items k ≡ Some c.index.result.now) at there) c.in_default.not-Going);
+      step = rw (← c.self.view_is) (step_ended (viewed c.self.inside.parts) c.self.invariant.0 c.self.inside.packets.items c.self.inside.failure c.self.inside.room c.self.invariant.2 c.args.p c.index-packet.result.now
+          (subst (λ (k : ℕ). slice_get c.self.inside.packets.items k ≡ Some c.index-packet.result.now) at there) c.in_default.not-Going);
       parts = refl;
       told = tt;
     }
 
 pub handled-outcome-requires-clause-packet : goal.handled-outcome-requires-clause-packet
 handled-outcome-requires-clause-packet c =
-    c.self.invariant.2.packets c.get-place.result c.index.result.now
-    (slice_get_read c.self.inside.packets.items c.len.result c.get-place.result c.index.result.now (c.len.ensures ∙ c.self.inside.packets.ok.0) c.if-place-len.false c.index.ensures)
+    c.self.invariant.2.packets c.get-place.result c.index-packet.result.now
+    (slice_get_read c.self.inside.packets.items c.len.result c.get-place.result c.index-packet.result.now (c.len.ensures ∙ c.self.inside.packets.ok.0) c.if-place-len.false c.index-packet.ensures)
 
 pub invariant_of-self : goal.invariant_of-self
 invariant_of-self c =
-    let there : slice_get c.self.inside.packets.items c.get-place.result ≡ Some c.index.result.now =
-    slice_get_read c.self.inside.packets.items c.len.result c.get-place.result c.index.result.now (c.len.ensures ∙ c.self.inside.packets.ok.0) c.if-place-len.false c.index.ensures in (
+    let there : slice_get c.self.inside.packets.items c.get-place.result ≡ Some c.index-packet.result.now =
+    slice_get_read c.self.inside.packets.items c.len.result c.get-place.result c.index-packet.result.now (c.len.ensures ∙ c.self.inside.packets.ok.0) c.if-place-len.false c.index-packet.ensures in
+    let same = read_again c.self.inside.packets.items c.len.result c.get-place.result c.index_mut.result.now c.index-packet.result.now (c.len.ensures ∙ c.self.inside.packets.ok.0) c.if-place-len.false c.index_mut.ensures.value c.index-packet.ensures in (
       c.self.invariant.0,
       c.self.invariant.1,
-      rw c.packet_after.ensures (kept_handled (viewed c.self.inside.parts) c.self.invariant.0 c.self.inside.packets.items c.self.inside.failure c.self.inside.room c.self.invariant.2
-          c.get-place.result c.index.result.now c.handled-outcome.result there c.in-Going.is c.handled-outcome.ensures),
+      rw (c.change.ensures, same) (kept_handled (viewed c.self.inside.parts) c.self.invariant.0 c.self.inside.packets.items c.self.inside.failure c.self.inside.room c.self.invariant.2
+          c.get-place.result c.index-packet.result.now c.handled-outcome.result there c.in-Going.is c.handled-outcome.ensures),
       c.self.invariant.3,
     )
 
 pub returns-clause-step : goal.returns-clause-step
 returns-clause-step c =
-    let there : slice_get c.self.inside.packets.items c.get-place.result ≡ Some c.index.result.now =
-    slice_get_read c.self.inside.packets.items c.len.result c.get-place.result c.index.result.now (c.len.ensures ∙ c.self.inside.packets.ok.0) c.if-place-len.false c.index.ensures in
-    rw (← c.self.view_is, ← c.get-place.ensures.value, c.packet_after.ensures) (step_handled (viewed c.self.inside.parts) c.self.invariant.0 c.self.inside.packets.items c.self.inside.failure c.self.inside.room c.self.invariant.2
-    c.get-place.result c.index.result.now c.handled-outcome.result there c.in-Going.is c.handled-outcome.ensures)
+    let there : slice_get c.self.inside.packets.items c.get-place.result ≡ Some c.index-packet.result.now =
+    slice_get_read c.self.inside.packets.items c.len.result c.get-place.result c.index-packet.result.now (c.len.ensures ∙ c.self.inside.packets.ok.0) c.if-place-len.false c.index-packet.ensures in
+    let same = read_again c.self.inside.packets.items c.len.result c.get-place.result c.index_mut.result.now c.index-packet.result.now (c.len.ensures ∙ c.self.inside.packets.ok.0) c.if-place-len.false c.index_mut.ensures.value c.index-packet.ensures in
+    rw (← c.self.view_is, ← c.get-place.ensures.value, c.change.ensures, same) (step_handled (viewed c.self.inside.parts) c.self.invariant.0 c.self.inside.packets.items c.self.inside.failure c.self.inside.room c.self.invariant.2
+    c.get-place.result c.index-packet.result.now c.handled-outcome.result there c.in-Going.is c.handled-outcome.ensures)
 
 pub returns-clause-told : goal.returns-clause-told
 returns-clause-told c =
-    let there : slice_get c.self.inside.packets.items c.get-place.result ≡ Some c.index.result.now =
-    slice_get_read c.self.inside.packets.items c.len.result c.get-place.result c.index.result.now (c.len.ensures ∙ c.self.inside.packets.ok.0) c.if-place-len.false c.index.ensures in
-    subst (λ (seen : FabricSeen). IsTellable seen.parts.area.ids (Ok c.handled-outcome.result)) c.self.view_is (outcome_tellable (viewed c.self.inside.parts) c.self.invariant.0 c.self.inside.failure c.index.result.now
-    (c.self.invariant.2.packets c.get-place.result c.index.result.now there) c.in-Going.is c.handled-outcome.result c.handled-outcome.ensures)
+    let there : slice_get c.self.inside.packets.items c.get-place.result ≡ Some c.index-packet.result.now =
+    slice_get_read c.self.inside.packets.items c.len.result c.get-place.result c.index-packet.result.now (c.len.ensures ∙ c.self.inside.packets.ok.0) c.if-place-len.false c.index-packet.ensures in
+    subst (λ (seen : FabricSeen). IsTellable seen.parts.area.ids (Ok c.handled-outcome.result)) c.self.view_is (outcome_tellable (viewed c.self.inside.parts) c.self.invariant.0 c.self.inside.failure c.index-packet.result.now
+    (c.self.invariant.2.packets c.get-place.result c.index-packet.result.now there) c.in-Going.is c.handled-outcome.result c.handled-outcome.ensures)
