@@ -7,6 +7,7 @@ pub mod NotThere
 pub mod OneText
 pub mod Placed
 pub mod SpellingsTold
+pub mod StepsRead
 pub mod RunsOn
 pub mod StepsTold
 pub mod TraceTold

@@ -19,7 +19,7 @@ use Rattle.fabric_script.specs.Names.{HasNumbers, failure_in, failure_text, link
 use Rattle.fabric_script.proofs.NamesRead.{cut_at_slash}
 use Rattle.fabric_script.proofs.NamesSpelled.{failure_spelled, node_spelled}
 
-spelling_told : (spelling : ℕ → List ℕ) (text : List ℕ) (n number : ℕ) → if_spelled spelling text n ≡ Some number
+pub spelling_told : (spelling : ℕ → List ℕ) (text : List ℕ) (n number : ℕ) → if_spelled spelling text n ≡ Some number
     → (number < 2 ^ 32) × (text ≡ spelling number)
 spelling_told spelling text n number is = elim (cases_Bool (nat_lt n (2 ^ 32) && bytes_eq text (spelling n))) [
   | inl both ↦

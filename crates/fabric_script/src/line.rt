@@ -1,6 +1,6 @@
 //! A line of a script.
 
-ghost use Rattle.std.specs.Prelude.{◌≡◌, ◌∷◌, [], codes};
+ghost use Rattle.std.specs.Prelude.{◌≡◌, ◌∷◌, [], IfSome, Some, codes};
 ghost use Rattle.std.specs.Option.{option_map};
 ghost use Rattle.std.specs.Str.{bytes_eq};
 ghost use Rattle.fabric_script.specs.Names.{failure_in};
@@ -62,6 +62,25 @@ fn read_packet(word: &[u8]) -> Option<u16>
 
 /// The event of a line.
 pub fn read_event(line: &[u8]) -> Option<ScriptEvent>
+    ensures { result ≡ event_in line.now }
+{
+    match plain_step(line) {
+        Some(packet) => Some(ScriptEvent::Step { packet }),
+        None => event_of_words(line),
+    }
+}
+
+/// The packet of a line of `step`, one space and a number, as most lines are: they are read without a look for words.
+fn plain_step(line: &[u8]) -> Option<u16>
+    ensures { IfSome result (λ packet. event_in line.now ≡ Some (ScriptEvent.Step packet)) }
+{
+    let word = line.strip_prefix(b"step ".as_slice())?;
+    read_packet(word)
+}
+
+/// The event of the words of a line.
+#[inline(never)]
+fn event_of_words(line: &[u8]) -> Option<ScriptEvent>
     ensures { result ≡ event_in line.now }
 {
     let (command, rest) = first_word(line)?;
