@@ -42,7 +42,7 @@ fn injection_of(area: &Area, router: u32, to: NodeId, entry: Entry) -> Event
 
 /// The element of this name.
 #[inline(never)]
-pub fn failure_of(area: &Area, failed: &FailureName) -> Failure
+fn failure_of(area: &Area, failed: &FailureName) -> Failure
     ensures { result ≡ failure_of area.now failed.now }
 {
     match failed {

@@ -6,9 +6,10 @@ ghost use Rattle.fabric_script.specs.Told.{IsSteppedOn};
 ghost use Rattle.fabric_script.specs.Trace.{HasEnded};
 ghost use Rattle.fabric_script.specs.Unstepped.{IsUnstepped};
 
-use crate::telling::tell;
+use crate::event::ScriptEvent;
+use crate::telling::tell_one;
 use area_graph::Area;
-use fabric::{Event, Fabric, PacketNo, State, packets_end};
+use fabric::{Fabric, PacketNo, State, packets_end};
 use mrt_graph::NoMemory;
 
 /// The steps of packet 0 until it has ended, and the lines of their answers. It has had none before.
@@ -23,7 +24,7 @@ pub fn tell_steps(fabric: &mut Fabric<'_>, area: &Area, text: &mut Vec<u8>) -> R
         if has_ended(fabric) {
             return Ok(());
         }
-        tell(fabric, area, Event::Step(PacketNo::new(0)), text)?;
+        tell_one(fabric, area, ScriptEvent::Step { packet: 0 }, text)?;
     }
     Ok(())
 }

@@ -6,7 +6,7 @@ ghost use Rattle.fabric_script.specs.Told.{IsTold};
 ghost use Rattle.fabric_script.specs.Trace.{beginning, failures_of};
 
 use crate::event::{FailureName, ScriptEvent};
-use crate::of_area::{event_of, failure_of};
+use crate::of_area::event_of;
 use crate::trace::Trace;
 use area_graph::Area;
 use fabric::{Event, Fabric, push_answer_line};
@@ -21,8 +21,9 @@ pub fn tell_all(
     text: &mut Vec<u8>,
 ) -> Result<(), NoMemory>
     requires { fabric.old.parts.area ≡ area.now }
-    ensures { IfOk result (λ _. IsTold fabric.old.parts fabric.old.state
+    ensures told { IfOk result (λ _. IsTold fabric.old.parts fabric.old.state
         (map (event_of area.now) events.now) fabric.new.state text.old.items text.new.items) }
+    ensures parts { fabric.new.parts ≡ fabric.old.parts }
 {
     for event in events {
         tell(fabric, area, event_of(area, event), text)?;
@@ -44,7 +45,7 @@ pub fn tell_beginning(
     ensures parts { fabric.new.parts ≡ fabric.old.parts }
 {
     tell_failure(fabric, area, &trace.failed, text)?;
-    tell(fabric, area, event_of(area, &entering(trace)), text)
+    tell_one(fabric, area, entering(trace), text)
 }
 
 /// The failure, if there is one, and the line of its answer.
@@ -61,7 +62,7 @@ fn tell_failure(
 {
     match failed {
         None => Ok(()),
-        Some(failed) => tell(fabric, area, Event::Fail(failure_of(area, failed)), text),
+        Some(failed) => tell_one(fabric, area, ScriptEvent::Fail { failed: *failed }, text),
     }
 }
 
@@ -76,8 +77,25 @@ fn entering(trace: &Trace) -> ScriptEvent
     }
 }
 
+/// One event by its names, and the line of its answer.
+pub fn tell_one(
+    fabric: &mut Fabric<'_>,
+    area: &Area,
+    event: ScriptEvent,
+    text: &mut Vec<u8>,
+) -> Result<(), NoMemory>
+    requires { fabric.old.parts.area ≡ area.now }
+    ensures told { IfOk result (λ _. IsTold fabric.old.parts fabric.old.state
+        (event_of area.now event ∷ []) fabric.new.state text.old.items text.new.items) }
+    ensures parts { fabric.new.parts ≡ fabric.old.parts }
+{
+    tell_all(fabric, area, [event].as_slice(), text)
+}
+
 /// One event, and the line of its answer.
-pub fn tell(
+// It has one caller, so that all that an event takes is part of that loop.
+#[inline(always)]
+fn tell(
     fabric: &mut Fabric<'_>,
     area: &Area,
     event: Event,

@@ -16,7 +16,7 @@ returns c =
     let told = from_start parts c.in_ok-fabric.fabric.parts c.args.script.now.room c.in_ok-fabric.fabric.state
     c.tell_all.new.fabric.state (map (event_of c.args.area.now) c.as_slice.result.now) c.new-text.result.items
     c.tell_all.new.text.items (ap (λ (f : FabricSeen). f.parts) c.in_ok-fabric.ensures)
-    (ap (λ (f : FabricSeen). f.state) c.in_ok-fabric.ensures) c.new-text.ensures.items c.in_ok-tell_all.ensures in
+    (ap (λ (f : FabricSeen). f.state) c.in_ok-fabric.ensures) c.new-text.ensures.items c.in_ok-tell_all.ensures.told in
     rw (← c.as_slice.ensures) (record {
       answers = told.answers;
       end = c.tell_all.new.fabric.state;

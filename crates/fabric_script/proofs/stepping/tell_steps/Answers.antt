@@ -21,12 +21,12 @@ returns-then-has_ended c = record {
 
 pub loop-preserved : goal.loop-preserved
 loop-preserved c = record {
-  parts = c.tell.ensures.parts ∙ c.loop.invariant.parts;
-  stepped = one_more c.args.fabric.now.parts c.args.fabric.now.state c.loop.fabric.state c.tell.new.fabric.state c.loop.counter
-      c.args.text.now.items c.loop.text.items c.tell.new.text.items c.loop.invariant.stepped
+  parts = c.tell_one.ensures.parts ∙ c.loop.invariant.parts;
+  stepped = one_more c.args.fabric.now.parts c.args.fabric.now.state c.loop.fabric.state c.tell_one.new.fabric.state c.loop.counter
+      c.args.text.now.items c.loop.text.items c.tell_one.new.text.items c.loop.invariant.stepped
       (λ ended. true≢false (sym (c.has_ended.ensures.1 ended) ∙ c.if-has_ended.false))
-      (subst (λ (p : FabricParts). IsTold p c.loop.fabric.state (Step 0 ∷ []) c.tell.new.fabric.state c.loop.text.items
-      c.tell.new.text.items) c.loop.invariant.parts (rw c.new.ensures at c.in_ok-tell.ensures.told));
+      (subst (λ (p : FabricParts). IsTold p c.loop.fabric.state (Step 0 ∷ []) c.tell_one.new.fabric.state c.loop.text.items
+      c.tell_one.new.text.items) c.loop.invariant.parts c.in_ok-tell_one.ensures.told);
 }
 
 pub returns : goal.returns

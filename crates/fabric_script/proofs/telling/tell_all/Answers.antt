@@ -15,8 +15,8 @@ loop-event-preserved c = record {
       c.event_of.ensures c.loop-event.invariant.told c.in_ok-tell.ensures.told;
 }
 
-pub returns : goal.returns
-returns c =
+pub returns-clause-told : goal.returns-clause-told
+returns-clause-told c =
     all_told c.args.fabric.now.parts c.args.fabric.now.state c.loop-event.fabric.state (event_of c.args.area.now)
     c.args.events.now c.loop-event.event-index c.args.text.now.items c.loop-event.text.items c.loop-event-test.false
     c.loop-event.invariant.told
