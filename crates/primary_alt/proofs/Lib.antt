@@ -8,6 +8,7 @@ pub mod Beginning
 pub mod ColorSteps
 pub mod ColorsUse
 pub mod DistancesExist
+pub mod DistancesFound
 pub mod FirstRows
 pub mod FirstsByDistances
 pub mod FirstsFound

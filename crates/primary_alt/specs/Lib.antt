@@ -6,6 +6,7 @@ pub mod BackwardSearch
 pub mod Beginnings
 pub mod Distance
 pub mod Distances
+pub mod DistancesFrom
 pub mod FirstArcs
 pub mod Meets
 pub mod NoArc

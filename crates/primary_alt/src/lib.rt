@@ -19,6 +19,7 @@ mod repair_law;
 mod routes;
 mod routes_law;
 mod rows;
+mod searches;
 mod shortest;
 mod turned;
 mod weights;
@@ -26,6 +27,7 @@ mod weights;
 pub use color_hops::{ColorHop, hop_on, next_hop};
 pub use color_uses::is_over;
 pub use least_walks::primaries;
+pub use of_area::{all_arcs, is_network};
 pub use primary_law::{
     a_primary_where_a_walk_leads, each_router_has_its_primaries, one_primary_each,
     primaries_lead_nearer, primaries_reach_their_destinations,
@@ -38,4 +40,5 @@ pub use repair_law::{
 pub use routes::Routes;
 pub use routes_law::{routes_lead_nearer, routes_reach_their_destinations};
 pub use rows::RowsOf;
+pub use searches::Searches;
 pub use shortest::Primary;
