@@ -1,4 +1,4 @@
-//! Tests of primaries, of routes, of repairs, of a table's line, and of packets through a failure.
+//! Tests of primaries, of loop-free alternates, of routes, of repairs, of a table's line, and of packets through a failure.
 #![tactic(auto)]
 
 #[cfg(test)]
@@ -7,6 +7,8 @@ mod alternates;
 mod columns;
 #[cfg(test)]
 mod databases;
+#[cfg(test)]
+mod loop_free;
 #[cfg(test)]
 mod networks;
 #[cfg(test)]

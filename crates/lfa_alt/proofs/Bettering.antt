@@ -1,0 +1,115 @@
+-- One choice after another.
+use Rattle.std.proofs.Common.{◌≡◌, ◌+◌, ◌∙◌, ◌⊎◌, ℕ, true, false, List, Option, Some, None, length, map, set, slice_get, get_or, inl, inr, refl, sym, ap, subst, arith}
+use Rattle.std.specs.Prelude.{◌↔◌}
+use Rattle.std.specs.Ordering.{is_gt, ordering_reverse}
+use Rattle.std.specs.declared.cmp.Ordering.{Ordering}
+use Rattle.std.specs.declared.cmp.Ordering.TheVariants.{Less, Equal, Greater}
+use Rattle.std.proofs.lemmas.Bool.{cases_Bool, cases_lt}
+use Rattle.std.proofs.lemmas.Cmp.{nat_cmp_total, on_total, then_total, tied_itself, upto}
+use Rattle.std.proofs.lemmas.Option.{get_or_from_slice_get, same_Some, slice_get-map, slice_get_within}
+use Rattle.std.proofs.lemmas.List.{length-map}
+use Rattle.std.specs.Option.{option_map}
+use Rattle.std.specs.Cmp.{IsTotalOrder}
+use Rattle.mrt_graph.proofs.ListPlaces.{set_there}
+use Rattle.area_graph.specs.Parts.{AreaParts}
+use Rattle.lfa_alt.specs.declared.alternate.Choice.{Choice}
+use Rattle.lfa_alt.specs.declared.target.Target.{Target}
+use Rattle.lfa_alt.specs.declared.way.Way.{Way}
+use Rattle.lfa_alt.specs.Best.{IsBest, IsOfferedBy, NoneIs, TheBest, better}
+use Rattle.lfa_alt.specs.LoopFree.{choice_cmp, rank_of, second_number}
+use Rattle.lfa_alt.specs.Nearer.{IsBetterBy}
+use Rattle.lfa_alt.specs.Targets.{Offers}
+
+-- the order is total
+pub choice_total : IsTotalOrder choice_cmp
+choice_total =
+    then_total
+    (then_total (then_total (on_total (λ (c : Choice). rank_of c.node) nat_cmp_total) (on_total (λ (c : Choice). c.cost) nat_cmp_total))
+    (on_total (λ (c : Choice). c.first) nat_cmp_total))
+    (on_total (λ (c : Choice). second_number c.second) nat_cmp_total)
+
+-- of two, one is not after the other
+other_way : (a b : Choice) → is_gt (choice_cmp a b) ≡ true → is_gt (choice_cmp b a) ≡ false
+other_way a b gt = go (choice_cmp a b) (choice_cmp b a) gt (choice_total.antisymm a b)
+  where
+    go : (x y : Ordering) → is_gt x ≡ true → x ≡ ordering_reverse y → is_gt y ≡ false
+    go x Less gt' same = refl
+    go x Equal gt' same = refl
+    go x Greater gt' same = let clash : false ≡ true = ap is_gt (sym same) ∙ gt' in cc
+
+itself : (a : Choice) → is_gt (choice_cmp a a) ≡ false
+itself a = ap is_gt (tied_itself choice_total a)
+
+-- what is as good as a choice of others is the best of all
+module _ (P Q R : Choice → Type 0) (split : (c : Choice) → R c → P c ⊎ Q c) (left : (c : Choice) → P c → R c) (right : (c : Choice) → Q c → R c) where
+  pub best_of_both : (best offered : Option Choice) → IsBest P best → ((c : Choice) → (offered ≡ Some c) ↔ Q c) → IsBest R (better best offered)
+  best_of_both None None (NoneIs none) exactly = NoneIs (λ c is. elim (split c is) [ inl p ↦ none c p | inr q ↦ let clash = (exactly c).1 q in cc ])
+  best_of_both None (Some d) (NoneIs none) exactly = TheBest d (right d ((exactly d).0 refl)) (λ c is. elim (split c is) [
+    | inl p ↦ absurd (none c p)
+    | inr q ↦ subst (λ (x : Choice). is_gt (choice_cmp d x) ≡ false) (same_Some d c ((exactly c).1 q)) (itself d)
+  ])
+  best_of_both (Some same) None (TheBest b p first) exactly = TheBest b (left b p) (λ c is. elim (split c is) [ inl p' ↦ first c p' | inr q ↦ let clash = (exactly c).1 q in cc ])
+  best_of_both (Some same) (Some d) (TheBest b p first) exactly = elim (cases_Bool (is_gt (choice_cmp b d))) [
+    | inl after ↦
+        let low = other_way b d after in
+        rw after
+        (TheBest d (right d ((exactly d).0 refl)) (λ c is. elim (split c is) [
+          | inl p' ↦ upto choice_total d b c low (first c p')
+          | inr q ↦ subst (λ (x : Choice). is_gt (choice_cmp d x) ≡ false) (same_Some d c ((exactly c).1 q)) (itself d)
+        ]))
+    | inr upto' ↦
+        rw upto'
+        (TheBest b (left b p) (λ c is. elim (split c is) [
+          | inl p' ↦ first c p'
+          | inr q ↦ subst (λ (x : Choice). is_gt (choice_cmp b x) ≡ false) (same_Some d c ((exactly c).1 q)) upto'
+        ]))
+  ]
+
+-- at the place that is written
+pub better_there : (Is : Choice → Type 0) (items : List (Option Choice)) (i : ℕ) (offered made old new now : Option Choice) → slice_get items i ≡ Some old
+    → now ≡ get_or items i now → made ≡ better now offered → slice_get (set items i made) i ≡ Some new → ((choice : Choice) → (offered ≡ Some choice) ↔ Is choice)
+    → IsBetterBy Is old new
+better_there Is items i offered made old new now was read is at exactly =
+    let same : now ≡ old = read ∙ get_or_from_slice_get items i old now was in
+    let new_is : made ≡ new = same_Some made new (sym (set_there items i made (slice_get_within items i old was)) ∙ at) in
+    record {
+      offered = offered;
+      exactly = exactly;
+      is = sym new_is ∙ is ∙ ap (λ (o : Option Choice). better o offered) same;
+    }
+
+-- one way more
+pub one_more : (area : AreaParts) (s t n : ℕ) (entry : Option Target) (ways : List Way) (way : Way) (old new : Option Choice) → slice_get ways n ≡ Some way
+    → IsBest (IsOfferedBy area s t entry ways n) old → IsBetterBy (Offers area s t entry way) old new → IsBest (IsOfferedBy area s t entry ways (n + 1)) new
+one_more area s t n entry ways way old new at best by =
+    subst (λ (o : Option Choice). IsBest (IsOfferedBy area s t entry ways (n + 1)) o) (sym by.is)
+    (best_of_both (IsOfferedBy area s t entry ways n) (Offers area s t entry way) (IsOfferedBy area s t entry ways (n + 1)) split
+    (λ c is. record { number = is.number; way = is.way; low = omega (arith, is.low); there = is.there; offers = is.offers })
+    (λ c offers. record { number = n; way = way; low = omega arith; there = at; offers = offers })
+    old by.offered best by.exactly)
+  where
+    split : (c : Choice) → IsOfferedBy area s t entry ways (n + 1) c → IsOfferedBy area s t entry ways n c ⊎ Offers area s t entry way c
+    split c is = elim (cases_lt is.number n) [
+      | inl early ↦ inl (record { number = is.number; way = is.way; low = early; there = is.there; offers = is.offers })
+      | inr upto' ↦
+          let here : is.number ≡ n = omega (arith, is.low, upto') in
+          let same : is.way ≡ way = same_Some is.way way (sym is.there ∙ ap (λ (i : ℕ). slice_get ways i) here ∙ at) in
+          inr (subst (λ (w : Way). Offers area s t entry w c) same is.offers)
+    ]
+
+-- none yet
+pub none_yet : (area : AreaParts) (s t : ℕ) (entry : Option Target) (ways : List Way) → IsBest (IsOfferedBy area s t entry ways 0) None
+none_yet area s t entry ways = NoneIs (λ c is. absurd (omega (arith, is.low)))
+
+-- at first there is no choice for any node
+abbrev nothing : Option Target → Option Choice
+nothing _ = None
+
+pub nothing_each : (targets : List (Option Target)) → length (map nothing targets) ≡ length targets
+nothing_each targets = length-map targets nothing
+
+pub nothing_there : (targets : List (Option Target)) (items : List (Option Choice)) (t : ℕ) (entry : Option Target) (choice : Option Choice) → items ≡ map nothing targets
+    → slice_get targets t ≡ Some entry → slice_get items t ≡ Some choice → None ≡ choice
+nothing_there targets items t entry choice are at is =
+    same_Some None choice
+    (sym (slice_get-map nothing targets t ∙ ap (option_map nothing) at) ∙ ap (λ (xs : List (Option Choice)). slice_get xs t) (sym are) ∙ is)

@@ -1,0 +1,69 @@
+-- The candidates for a destination are the ways that serve it.
+use Rattle.std.proofs.Common.{◌≡◌, ◌<◌, ℕ, Some, None, length, inl, inr, refl, sym, subst}
+use Rattle.std.proofs.lemmas.Bool.{cases_Bool}
+use Rattle.area_graph.specs.declared.area_types.Arc.{Arc}
+use Rattle.area_graph.specs.AreaInvariant.{IsArea}
+use Rattle.area_graph.specs.Parts.{AreaParts}
+use Rattle.mrt_graph.specs.GraphInvariant.{IsNetwork}
+use Rattle.primary_alt.specs.Offers.{is_network}
+use Rattle.primary_alt.specs.Routers.{IsRouter}
+use Rattle.primary_alt.proofs.AreaArcs.{arcs_between}
+use Rattle.primary_alt.proofs.ArcWalks.{arc_kept, network_by_test, no_network_by_test, to_network}
+use Rattle.primary_alt.proofs.RouterFacts.{router_alone, router_from}
+use Rattle.lfa_alt.specs.declared.way.Way.{Way}
+use Rattle.lfa_alt.specs.Candidates.{Across, Candidate, IsCandidate, Leaves, Straight}
+use Rattle.lfa_alt.specs.Ways.{AcrossNetwork, IsWayOver, Serves, ToNetwork, ToRouter, candidate_of, way_across, way_over}
+
+-- a way that serves t, and is told so
+pub record IsServed (area : AreaParts) (s t : ℕ) (candidate : Candidate) : Type 0 where
+  pub way : Way
+  pub number : ℕ
+  pub over : IsWayOver area s number way
+  pub serves : Serves way.network way.second t
+  pub same : candidate_of way ≡ candidate
+
+module _ (area : AreaParts) (kept : IsArea area) (s t : ℕ) where
+  -- an arc of a network leads to a router
+  from_network : (second : ℕ) (v : ℕ) (onward : Arc) → IsNetwork area.ids v → Leaves area v second onward → IsRouter area.ids onward.to
+  from_network second v onward network on =
+      router_from area.ids onward.to ((arcs_between area kept).tos second onward on.there)
+      (λ net. to_network area onward kept (arc_kept area second onward kept on.there) net (subst (λ (u : ℕ). IsNetwork area.ids u) (sym on.from) network))
+
+  pub served : (number : ℕ) (way : Way) → IsWayOver area s number way → Serves way.network way.second t → IsCandidate area s t (candidate_of way)
+  served number way (ToRouter arc leaves router) serves =
+      Straight number arc leaves (inl (router_from area.ids arc.to ((arcs_between area kept).tos number arc leaves.there) router))
+  served number way (ToNetwork arc leaves network) serves = Straight number arc leaves (inr serves)
+  served number way (AcrossNetwork second arc onward leaves network on further) serves =
+      Across number second arc onward leaves (record { network = network; other = serves }) on (from_network second arc.to onward network on) further
+
+  straight : (number : ℕ) (arc : Arc) → Leaves area s number arc → ¬ IsNetwork area.ids arc.to
+      → IsServed area s t (record { first = number; second = None; next = arc.to; bond = arc.bond; metric = arc.metric })
+  straight number arc leaves router = record { way = way_over number arc None; number = number; over = ToRouter arc leaves router; serves = tt; same = refl }
+
+  pub serving : (candidate : Candidate) → IsCandidate area s t candidate → IsServed area s t candidate
+  serving candidate (Straight number arc leaves which) = elim (cases_Bool (is_network area.ids arc.to)) [
+    | inl network ↦ elim which [
+      | inl router ↦ straight number arc leaves (router_alone area.ids arc.to router)
+      | inr here ↦ record {
+        way = way_over number arc (Some arc.to);
+        number = number;
+        over = ToNetwork arc leaves (network_by_test area.ids arc.to network);
+        serves = here;
+        same = refl;
+      }
+    ]
+    | inr router ↦ straight number arc leaves (no_network_by_test area.ids arc.to router)
+  ]
+  serving candidate (Across number second arc onward leaves leads on router further) = record {
+    way = way_across number arc (Some second) onward;
+    number = number;
+    over = AcrossNetwork second arc onward leaves leads.network on further;
+    serves = leads.other;
+    same = refl;
+  }
+
+  -- a way leads to a node
+  pub leads_within : (number : ℕ) (way : Way) → IsWayOver area s number way → way.next < length area.ids
+  leads_within number way (ToRouter arc leaves router) = (arcs_between area kept).tos number arc leaves.there
+  leads_within number way (ToNetwork arc leaves network) = (arcs_between area kept).tos number arc leaves.there
+  leads_within number way (AcrossNetwork second arc onward leaves network on further) = (arcs_between area kept).tos second onward on.there

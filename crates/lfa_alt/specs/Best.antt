@@ -1,0 +1,36 @@
+-- The first one of the choices so far.
+use Rattle.std.specs.Prelude.{◌≡◌, ◌<◌, ℕ, List, Option, Some, None, length, slice_get, if◌then◌else◌}
+use Rattle.std.specs.Ordering.{is_gt}
+use Rattle.area_graph.specs.Parts.{AreaParts}
+use Rattle.lfa_alt.specs.declared.alternate.Choice.{Choice}
+use Rattle.lfa_alt.specs.declared.target.Target.{Target}
+use Rattle.lfa_alt.specs.declared.way.Way.{Way}
+use Rattle.lfa_alt.specs.LoopFree.{IsFirstOf, choice_cmp}
+use Rattle.lfa_alt.specs.Targets.{Offers}
+
+-- of these choices the first one; none where there is none
+pub data IsBest (Is : Choice → Type 0) : Option Choice → Type 0 where
+  NoneIs : ((choice : Choice) → ¬ Is choice) → IsBest Is None
+  TheBest : (choice : Choice) → Is choice → IsFirstOf Is choice → IsBest Is (Some choice)
+
+-- the one that comes first; the former where they come together
+abbrev pub better : Option Choice → Option Choice → Option Choice
+better None offered = offered
+better (Some best) None = Some best
+better (Some best) (Some offered) = if is_gt (choice_cmp best offered) then Some offered else Some best
+
+-- one of the first so many ways offers the choice for t
+pub record IsOfferedBy (area : AreaParts) (s t : ℕ) (entry : Option Target) (ways : List Way) (count : ℕ) (choice : Choice)
+    : Type 0 where
+  pub number : ℕ
+  pub way : Way
+  pub low : number < count
+  pub there : slice_get ways number ≡ Some way
+  pub offers : Offers area s t entry way choice
+
+-- of each node the first one of the choices that the first so many ways offer
+pub record AreBest (area : AreaParts) (s : ℕ) (targets : List (Option Target)) (ways : List Way) (count : ℕ)
+    (best : List (Option Choice)) : Type 0 where
+  pub one_each : length best ≡ length targets
+  pub each : (t : ℕ) (entry : Option Target) (choice : Option Choice) → slice_get targets t ≡ Some entry
+      → slice_get best t ≡ Some choice → IsBest (IsOfferedBy area s t entry ways count) choice

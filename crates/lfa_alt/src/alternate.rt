@@ -1,0 +1,24 @@
+//! Loop-free alternates.
+
+use area_graph::{ArcNo, Spot};
+
+/// Where a router sends a packet for one destination once its primary fails: the arc of the router, the arc of the
+/// network that it leads to, if it leads to one other than the destination, and the router reached, or the destination.
+#[derive(Clone, Copy, Debug, PartialEq, Eq)]
+pub struct Lfa {
+    pub first: ArcNo,
+    pub second: Option<ArcNo>,
+    pub next: Spot,
+    /// Whether it goes round the primary's next too.
+    pub node: bool,
+}
+
+/// A loop-free alternate, and the cost of the shortest path over it.
+#[derive(Clone, Copy)]
+pub struct Choice {
+    pub first: ArcNo,
+    pub second: Option<ArcNo>,
+    pub next: Spot,
+    pub node: bool,
+    pub cost: u64,
+}

@@ -1,0 +1,129 @@
+//! The ways from a router to its neighbors.
+
+ghost use Rattle.std.specs.Prelude.{◌≡◌, ◌≢◌, ◌<◌, ◌≤◌, ◌↔◌, ◌⊎◌, IfOk, IfSome, IsNone, IsTrue, Some, Contains, length, slice_get};
+ghost use Rattle.area_graph.specs.declared.area_types.Arc.{Arc};
+ghost use Rattle.area_graph.specs.AreaInvariant.{IsArea};
+ghost use Rattle.mrt_graph.specs.GraphInvariant.{IsNetwork};
+ghost use Rattle.lfa_alt.specs.declared.way.Way.{Way};
+ghost use Rattle.lfa_alt.specs.Candidates.{Leaves};
+ghost use Rattle.lfa_alt.specs.Ways.{AreWays, IsAcrossTo, IsWayOver, way_across, way_over};
+
+use crate::way::Way;
+use area_graph::{Arc, ArcNo, Area, Spot};
+use mrt_graph::NoMemory;
+use primary_alt::is_network;
+use std::alloc::Global;
+
+/// The ways of a router, ordered by the node that they lead to.
+///
+/// It looks at all arcs once, and once more for each arc of the router to a network.
+pub fn ways(alloc: Global, area: &Area, arcs: &[Arc], source: Spot) -> Result<Vec<Way>, NoMemory>
+    requires kept { IsArea area.now }
+    requires arcs { arcs.now ≡ area.now.arcs }
+    ensures { IfOk result (λ ways. AreWays area.now source ways.items) }
+{
+    let mut ways = Vec::new(alloc);
+    for number in 0..arcs.len() {
+        if let Some(first) = own_arc(arcs, number, source) {
+            push_over(area, arcs, source, first, &mut ways)?;
+        }
+    }
+    ways.sort_unstable_by_key(|way| way.next.get());
+    Ok(ways)
+}
+
+/// The arc of that number, if it leaves the source.
+fn own_arc(arcs: &[Arc], number: usize, source: Spot) -> Option<ArcNo>
+    requires few { length arcs.now ≤ 32768 }
+    requires within { number < length arcs.now }
+    ensures some { IfSome result (λ first. (first ≡ number)
+        × ((arc : Arc) → slice_get arcs.now number ≡ Some arc → arc.tail ≡ source)) }
+    ensures none { IsNone result → (arc : Arc) → slice_get arcs.now number ≡ Some arc
+        → arc.tail ≢ source }
+{
+    if arcs[number].tail == source {
+        Some(ArcNo::new(number as u16))
+    } else {
+        None
+    }
+}
+
+/// Puts the ways over an arc of the source after those that are there.
+fn push_over(
+    area: &Area,
+    arcs: &[Arc],
+    source: Spot,
+    number: ArcNo,
+    ways: &mut Vec<Way>,
+) -> Result<(), NoMemory>
+    requires kept { IsArea area.now }
+    requires arcs { arcs.now ≡ area.now.arcs }
+    requires within { number < length arcs.now }
+    requires from { (arc : Arc) → slice_get arcs.now number ≡ Some arc → arc.tail ≡ source }
+    ensures { IfOk result (λ _. (way : Way) → Contains ways.new.items way
+        ↔ (Contains ways.old.items way ⊎ IsWayOver area.now source number way)) }
+{
+    let arc = &arcs[number.get() as usize];
+    if is_network(area, arc.to) {
+        ways.push(way_over(number, arc, Some(arc.to)))?;
+        push_across(arcs, source, number, arc, ways)
+    } else {
+        ways.push(way_over(number, arc, None))?;
+        Ok(())
+    }
+}
+
+/// Puts the ways over an arc to a network and from there on to another node than the source after those that are there.
+fn push_across(
+    arcs: &[Arc],
+    source: Spot,
+    number: ArcNo,
+    arc: &Arc,
+    ways: &mut Vec<Way>,
+) -> Result<(), NoMemory>
+    requires few { length arcs.now ≤ 32768 }
+    ensures { IfOk result (λ _. (way : Way) → Contains ways.new.items way
+        ↔ (Contains ways.old.items way ⊎ IsAcrossTo arcs.now source number arc.now (length arcs.now) way)) }
+{
+    for second in 0..arcs.len() {
+        let onward = &arcs[second];
+        if leads_on(arc, onward, source) {
+            let second = Some(ArcNo::new(second as u16));
+            ways.push(way_across(number, arc, second, onward))?;
+        }
+    }
+    Ok(())
+}
+
+/// Whether an arc goes on from another one, to another node than the source.
+fn leads_on(arc: &Arc, onward: &Arc, source: Spot) -> bool
+    ensures { IsTrue result ↔ ((onward.now.tail ≡ arc.now.to) × (onward.now.to ≢ source)) }
+{
+    onward.tail == arc.to && onward.to != source
+}
+
+fn way_over(number: ArcNo, arc: &Arc, network: Option<Spot>) -> Way
+    ensures { result ≡ way_over number arc.now network }
+{
+    Way {
+        first: number,
+        second: None,
+        next: arc.to,
+        bond: arc.bond,
+        metric: arc.metric as u32,
+        network,
+    }
+}
+
+fn way_across(number: ArcNo, arc: &Arc, second: Option<ArcNo>, onward: &Arc) -> Way
+    ensures { result ≡ way_across number arc.now second onward.now }
+{
+    Way {
+        first: number,
+        second,
+        next: onward.to,
+        bond: arc.bond,
+        metric: arc.metric as u32 + onward.metric as u32,
+        network: Some(arc.to),
+    }
+}
