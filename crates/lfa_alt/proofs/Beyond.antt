@@ -11,6 +11,12 @@ use Rattle.primary_alt.specs.Primaries.{Direct, IsFirstArc, IsPrimary, Itself, N
 use Rattle.primary_alt.proofs.AreaArcs.{arcs_between}
 use Rattle.primary_alt.proofs.ArcWalks.{arc_kept, one_distance}
 
+-- where the primary goes on over a second arc, which costs nothing, and where it does not
+pub data GoesOn (area : AreaParts) (primary : Primary) (arc : Arc) : Type 0 where
+  Alone : primary.second ≡ None → primary.next ≡ arc.to → GoesOn area primary arc
+  Onward : (second : ℕ) (onward : Arc) → primary.second ≡ Some second → slice_get area.arcs second ≡ Some onward → onward.tail ≡ arc.to → onward.metric ≡ 0
+      → primary.next ≡ onward.to → GoesOn area primary arc
+
 -- the primary's first arc is there; its metric and the distance of the primary's next are the distance
 pub record IsPart (area : AreaParts) (s t : ℕ) (primary : Primary) : Type 0 where
   pub arc : Arc
@@ -20,6 +26,7 @@ pub record IsPart (area : AreaParts) (s t : ℕ) (primary : Primary) : Type 0 wh
   pub near : IsDistance area.arcs s t (arc.metric + rest)
   pub far : IsDistance area.arcs primary.next t rest
   pub next : primary.next < length area.ids
+  pub on : GoesOn area primary arc
 
 module _ (area : AreaParts) (kept : IsArea area) (s t : ℕ) where
   first_near : (n : ℕ) (arc : Arc) → (first : IsFirstArc area.arcs s t n arc) → IsDistance area.arcs s t (arc.metric + first.shortest.rest)
@@ -39,6 +46,7 @@ module _ (area : AreaParts) (kept : IsArea area) (s t : ℕ) where
         near = first_near n arc first;
         far = first.shortest.far;
         next = (arcs_between area kept).tos n arc first.there;
+        on = Alone refl refl;
       })
   by_entry primary entry (Over n k arc onward apart first over second) is =
       let made : Primary = record { first = n; second = Some k; next = onward.to } in
@@ -55,6 +63,7 @@ module _ (area : AreaParts) (kept : IsArea area) (s t : ℕ) where
         near = subst (λ (d : ℕ). IsDistance area.arcs s t (arc.metric + d)) same (first_near n arc first);
         far = second.shortest.far;
         next = (arcs_between area kept).tos k onward second.there;
+        on = Onward k onward refl second.there second.from free refl;
       })
 
   pub part_of : (primary : Primary) → IsPrimary area s t (Some primary) → IsPart area s t primary

@@ -43,7 +43,7 @@ module _ (area : AreaParts) (kept : IsArea area) (s : ℕ) (ways : List Way) (ar
           offers = (by.serves, subst (λ (c : Candidate). IsLoopFreeBy area s t target.primary c choice) (sym by.same) is.loop_free);
         }
 
-    best_free : IsTarget area s t target → (best : Option Choice) → IsBest (IsOfferedBy area s t (Some target) ways (length ways)) best → IsLfa area s t (option_map lfa_of best)
+    pub best_free : IsTarget area s t target → (best : Option Choice) → IsBest (IsOfferedBy area s t (Some target) ways (length ways)) best → IsLfa area s t (option_map lfa_of best)
     best_free is None (NoneIs none) = NoneIsLoopFree target.primary is.primary (λ choice free. none choice (offered_by choice free))
     best_free is (Some same) (TheBest choice offered first) =
         TheFirst target.primary choice is.primary (free_by choice offered) (λ other free. first other (offered_by other free))

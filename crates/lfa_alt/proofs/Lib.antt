@@ -1,7 +1,13 @@
 pub mod Bettering
 pub mod Beyond
 pub mod CandidateWays
+pub mod Chosen
+pub mod HopsLead
+pub mod LfasExist
 pub mod LfasFound
 pub mod Nearer
 pub mod Offered
+pub mod OneLfa
+pub mod ShortestWalks
+pub mod WalksRound
 pub mod WaysFound

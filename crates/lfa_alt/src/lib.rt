@@ -5,11 +5,15 @@
 mod alternate;
 mod choosing;
 mod finding;
+mod lfa_law;
 mod offering;
 mod target;
 mod targets;
+mod walk_law;
 mod way;
 mod ways;
 
 pub use alternate::Lfa;
 pub use finding::loop_free;
+pub use lfa_law::{each_router_has_its_alternates, one_loop_free_alternate_each};
+pub use walk_law::{a_protecting_alternate_goes_round_the_next, no_alternate_leads_back};

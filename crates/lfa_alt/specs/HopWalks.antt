@@ -1,0 +1,32 @@
+-- The walk that a packet takes along primaries.
+use Rattle.std.specs.Prelude.{◌≡◌, ◌≢◌, ◌⊎◌, ◌++◌, ℕ, List, [], ◌∷◌, Option, Some, None, slice_get}
+use Rattle.area_graph.specs.declared.area_types.Arc.{Arc}
+use Rattle.primary_alt.specs.declared.shortest.Primary.{Primary}
+
+-- one hop: the first arc, and the second one where there is one
+pub data AreHopArcs (arcs : List Arc) : ℕ → Option ℕ → List Arc → Type 0 where
+  OneArc : (first : ℕ) (arc : Arc) → slice_get arcs first ≡ Some arc → AreHopArcs arcs first None (arc ∷ [])
+  TwoArcs : (first second : ℕ) (arc onward : Arc) → slice_get arcs first ≡ Some arc → slice_get arcs second ≡ Some onward
+      → AreHopArcs arcs first (Some second) (arc ∷ onward ∷ [])
+
+-- by the entries that the nodes have for t, the walk from s to t, hop by hop
+pub data HopWalk (arcs : List Arc) (entries : ℕ → Option Primary) (t : ℕ) : ℕ → List (List Arc) → Type 0 where
+  Ended : (s : ℕ) → s ≡ t → HopWalk arcs entries t s []
+  Hop : (s : ℕ) (primary : Primary) (hop : List Arc) (hops : List (List Arc)) → s ≢ t → entries s ≡ Some primary
+      → AreHopArcs arcs primary.first primary.second hop → HopWalk arcs entries t primary.next hops
+      → HopWalk arcs entries t s (hop ∷ hops)
+
+-- a walk from s meets x: it begins there, or one of its arcs leads there
+abbrev pub Meets : ℕ → List Arc → ℕ → Type 0
+Meets s [] x = s ≡ x
+Meets s (arc ∷ more) x = (s ≡ x) ⊎ Meets arc.to more x
+
+-- one of the arcs is of the bond
+abbrev pub UsesBond : List Arc → ℕ → Type 0
+UsesBond [] bond = ⊥
+UsesBond (arc ∷ more) bond = (arc.bond ≡ bond) ⊎ UsesBond more bond
+
+-- the arcs of all hops, one after another
+abbrev pub arcs_of : List (List Arc) → List Arc
+arcs_of [] = []
+arcs_of (hop ∷ hops) = hop ++ arcs_of hops
