@@ -1,6 +1,7 @@
 -- A loop-free alternate, and the candidate that it is.
 use Rattle.std.proofs.Common.{◌≡◌, ◌≢◌, ◌<◌, ◌∙◌, ℕ, List, Option, Some, None, length, slice_get, inl, inr, refl, sym, ap, subst}
-use Rattle.std.proofs.lemmas.Option.{same_Some}
+use Rattle.std.specs.Prelude.{IfSome}
+use Rattle.std.proofs.lemmas.Option.{same_Some, slice_get_within}
 use Rattle.area_graph.specs.declared.area_types.Arc.{Arc}
 use Rattle.area_graph.specs.AreaInvariant.{IsArea}
 use Rattle.area_graph.specs.Parts.{AreaParts}
@@ -73,3 +74,20 @@ module _ (area : AreaParts) (kept : IsArea area) (s t : ℕ) where
           | inr nothing ↦ nothing
         ]
       ]
+
+first_within : (area : AreaParts) (s t : ℕ) (c : Candidate) → IsCandidate area s t c → c.first < length area.arcs
+first_within area s t c (Straight number arc leaves which) = slice_get_within area.arcs number arc leaves.there
+first_within area s t c (Across number second arc onward leaves leads on router further) = slice_get_within area.arcs number arc leaves.there
+
+-- the arc and the next of an alternate are there
+pub arc_there : (area : AreaParts) (s t : ℕ) (entry : Option Lfa) → IsLfa area s t entry → IfSome entry (λ lfa. lfa.first < length area.arcs)
+arc_there area s t None is = tt
+arc_there area s t (Some lfa) is =
+    let by = chosen area s t lfa is in
+    subst (λ (n : ℕ). n < length area.arcs) (sym by.free.loop_free.first ∙ ap (λ (l : Lfa). l.first) by.same) (first_within area s t by.free.candidate by.free.is)
+
+pub next_there : (area : AreaParts) → IsArea area → (s t : ℕ) (entry : Option Lfa) → IsLfa area s t entry → IfSome entry (λ lfa. lfa.next < length area.ids)
+next_there area kept s t None is = tt
+next_there area kept s t (Some lfa) is =
+    let by = chosen area s t lfa is in
+    subst (λ (n : ℕ). n < length area.ids) (sym by.free.loop_free.next ∙ ap (λ (l : Lfa). l.next) by.same) (next_within area kept s t by.free.candidate by.free.is)

@@ -1,3 +1,4 @@
+pub mod Adding
 pub mod Bettering
 pub mod Beyond
 pub mod CandidateWays

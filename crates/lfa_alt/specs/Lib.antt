@@ -1,6 +1,9 @@
+pub mod Adds
 pub mod Best
 pub mod Candidates
 pub mod HopWalks
+pub mod LfaText
+pub mod LfaWords
 pub mod LoopFree
 pub mod Nearer
 pub mod Targets

@@ -9,11 +9,14 @@ mod lfa_law;
 mod offering;
 mod target;
 mod targets;
+mod text;
 mod walk_law;
 mod way;
 mod ways;
+mod words;
 
 pub use alternate::Lfa;
 pub use finding::loop_free;
 pub use lfa_law::{each_router_has_its_alternates, one_loop_free_alternate_each};
+pub use text::lfa_text;
 pub use walk_law::{a_protecting_alternate_goes_round_the_next, no_alternate_leads_back};
