@@ -9,6 +9,7 @@ pub mod LfasFound
 pub mod Nearer
 pub mod Offered
 pub mod OneLfa
+pub mod OneText
 pub mod ShortestWalks
 pub mod WalksRound
 pub mod WaysFound
