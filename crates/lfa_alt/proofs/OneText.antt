@@ -1,12 +1,11 @@
 -- A router has one text on its loop-free alternates.
-use Rattle.std.proofs.Common.{◌≡◌, ◌++◌, ◌∙◌, ℕ, zero, suc, Bool, List, [], Option, Some, None, codes, decimal, length, slice_get, refl, sym, ap, subst}
+use Rattle.std.proofs.Common.{◌≡◌, ◌++◌, ◌∙◌, ℕ, zero, suc, List, Option, Some, None, codes, decimal, length, slice_get, refl, sym, ap, subst}
 use Rattle.std.proofs.lemmas.Option.{same_Some}
 use Rattle.area_graph.specs.declared.area_types.Arc.{Arc}
 use Rattle.area_graph.specs.Parts.{AreaParts}
 use Rattle.mrt_graph.specs.declared.node_id.NodeId.{NodeId}
 use Rattle.mrt_graph.specs.Spelling.{node_text}
 use Rattle.primary_alt.specs.declared.shortest.Primary.{Primary}
-use Rattle.primary_alt.specs.Primaries.{IsPrimary}
 use Rattle.primary_alt.proofs.PrimariesLead.{one_entry}
 use Rattle.lfa_alt.specs.declared.alternate.Lfa.{Lfa}
 use Rattle.lfa_alt.specs.LfaText.{AreLfaWords, AreLines, IsArcHop, IsHead, IsLfaHop, IsLfaText, IsLine, IsPartOn, Line, NoLine}

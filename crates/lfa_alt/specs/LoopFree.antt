@@ -11,15 +11,15 @@ use Rattle.lfa_alt.specs.declared.alternate.Choice.{Choice}
 use Rattle.lfa_alt.specs.declared.alternate.Lfa.{Lfa}
 use Rattle.lfa_alt.specs.Candidates.{Candidate, IsCandidate}
 
--- the distance from n to t is less than that from n to x and that from x to t together. Where no walk leads, a distance
--- is greater than any number
+-- dist(n, t) < dist(n, x) + dist(x, t): n has a distance to t, and it is less than the way over x. Where no walk leads, a
+-- distance counts as greater than any number
 pub record IsNearerThanOver (arcs : List Arc) (x n t : ℕ) : Type 0 where
   pub rest : ℕ
   pub near : IsDistance arcs n t rest
   pub less : (out back : ℕ) → IsDistance arcs n x out → IsDistance arcs x t back → rest < out + back
 
--- a candidate whose next is n protects the primary's next, which is not t: the basic condition (inequality 1) with the
--- primary's next in the place of the source (inequality 3)
+-- a candidate whose next is n protects the primary's next e: e is not t, and dist(n, t) < dist(n, e) + dist(e, t)
+-- (inequality 3: the condition on nodes)
 pub record Protects (arcs : List Arc) (t : ℕ) (primary : Primary) (n : ℕ) : Type 0 where
   pub further : primary.next ≢ t
   pub nearer : IsNearerThanOver arcs primary.next n t
@@ -30,8 +30,9 @@ pub record IsOtherBond (arcs : List Arc) (primary : Primary) (bond : ℕ) : Type
   pub there : slice_get arcs primary.first ≡ Some arc
   pub other : bond ≢ arc.bond
 
--- this is what is told of a loop-free candidate of s for t: its arcs and its next, whether it protects the primary's
--- next, and the sum of the metrics of its arcs and the distance of its next
+-- a candidate is loop-free: its first arc is of another bond than the primary's, and dist(n, t) < dist(n, s) + dist(s, t),
+-- n being its next (inequality 1: the basic condition). What is told of it: its arcs and its next, whether it protects
+-- the primary's next, and the sum of its arcs' metrics and dist(n, t)
 pub record IsLoopFreeBy (area : AreaParts) (s t : ℕ) (primary : Primary) (candidate : Candidate) (choice : Choice)
     : Type 0 where
   pub other_bond : IsOtherBond area.arcs primary candidate.bond
@@ -42,7 +43,7 @@ pub record IsLoopFreeBy (area : AreaParts) (s t : ℕ) (primary : Primary) (cand
   pub node : IsTrue choice.node ↔ Protects area.arcs t primary candidate.next
   pub cost : choice.cost ≡ candidate.metric + loop_free.rest
 
--- of some candidate
+-- what is told of one of the loop-free candidates of s for t
 pub record IsLoopFree (area : AreaParts) (s t : ℕ) (primary : Primary) (choice : Choice) : Type 0 where
   pub candidate : Candidate
   pub is : IsCandidate area s t candidate
@@ -53,7 +54,7 @@ abbrev pub rank_of : Bool → ℕ
 rank_of true = 0
 rank_of false = 1
 
--- second arcs by number; none before any
+-- second arcs by number. Those of one first arc that serve t all have a second arc, or none has
 abbrev pub second_number : Option ℕ → ℕ
 second_number None = zero
 second_number (Some number) = suc number
