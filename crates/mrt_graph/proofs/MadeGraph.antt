@@ -37,7 +37,7 @@ are_ends count n links ends within range ordered =
           omega arith;
     }
 
-pub made_keeps : (ids : List NodeId) (links : List LinkIn) (lists : List (List End)) → AreGraphParts ids links → length ids ≤ 2048 → length links ≤ 8192 → All IsInRange links → AreEndLists (length ids) links lists →
+pub made_keeps : (ids : List NodeId) (links : List LinkIn) (lists : List (List End)) → AreGraphParts ids links → length ids ≤ 4096 → length links ≤ 16384 → All IsInRange links → AreEndLists (length ids) links lists →
     IsTopology (record { ids = ids; links = map pair_of links; ends = lists })
 made_keeps ids links lists parts few_nodes few_links range made =
     record {

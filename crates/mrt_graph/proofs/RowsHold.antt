@@ -67,20 +67,20 @@ module _ (g : Topology) (root : ℕ) (file : CertFile) (accepted : Accepted g ro
   module _ (s t : ℕ) (s_within : s < length file.cert.nodes) (t_within : t < length file.cert.nodes) (differ : s ≢ t)
     where
       -- the row of s for t, and what the fourteenth rule asks of it
-      in_block_there : Passing
+      pub in_block_there : Passing
           (λ (row : Row). same_tag row.tag tags.Carried || lies_in_block file.cert s t row)
           (row_of file.cert s t)
       in_block_there = some_passes _ (row_of file.cert s t)
           (unless (s == t) _ (accepted BlockRule s t s_within t_within) (ne_eqb s t differ))
 
-      abbrev row : Row
+      abbrev pub row : Row
       row = in_block_there.value
 
-      there : row_of file.cert s t ≡ Some row
+      pub there : row_of file.cert s t ≡ Some row
       there = in_block_there.is
 
       -- the row keeps what its tag asks
-      row_keeps : row_rule row.tag g.links file.cert root s t row ≡ true
+      pub row_keeps : row_rule row.tag g.links file.cert root s t row ≡ true
       row_keeps =
           let asked = unless (s == t) _ (accepted (TagRule row.tag) s t s_within t_within) (ne_eqb s t differ) in
           let holds =
@@ -130,7 +130,7 @@ module _ (g : Topology) (root : ℕ) (file : CertFile) (accepted : Accepted g ro
           }
 
       -- the row of nodes that are not related is Carried
-      carried : (Related w s t → ⊥) → row.tag ≡ tags.Carried
+      pub carried : (Related w s t → ⊥) → row.tag ≡ tags.Carried
       carried far = elim (carried_or_not row.tag) [
         | inl is ↦ is
         | inr near ↦ absurd (far (common_related w s t (w.part row.blue) (blue_in_block near)))

@@ -43,8 +43,8 @@ pub record AreEnds (count : ℕ) (links : List Link) (n : ℕ) (ends : List End)
 -- what each graph keeps
 pub record IsTopology (graph : Topology) : Type 0 where
   pub some_node : 1 ≤ length graph.ids
-  pub few_nodes : length graph.ids ≤ 2048
-  pub few_links : length graph.links ≤ 8192
+  pub few_nodes : length graph.ids ≤ 4096
+  pub few_links : length graph.links ≤ 16384
   pub ids_ascend : IsStrictlySortedBy node_id_cmp graph.ids
   pub links_kept : AllByRecursion (IsLink graph.ids) graph.links
   pub a_list_each : length graph.ends ≡ length graph.ids

@@ -12,6 +12,7 @@ pub mod EndRows
 pub mod EndsOfLinks
 pub mod FirstEnd
 pub mod FirstFault
+pub mod Foldable
 pub mod GadagLists
 pub mod GadagWords
 pub mod GraphInvariant

@@ -31,7 +31,7 @@ pub record AreGraphParts (ids : List NodeId) (links : List LinkIn) : Type 0 wher
 
 -- more nodes or links than a graph holds
 abbrev pub IsTooLarge : ℕ → ℕ → Type 0
-IsTooLarge nodes links = (2048 < nodes) ⊎ (8192 < links)
+IsTooLarge nodes links = (4096 < nodes) ⊎ (16384 < links)
 
 -- the answer where they are too many: both counts, each told as a number of 32 bits, the greatest one where it is greater
 abbrev pub too_large : ℕ → ℕ → GraphError

@@ -1,14 +1,14 @@
--- A number of sixteen bits as two bytes in network order.
+-- A number of sixteen bits as two bytes with the low byte first.
 use Rattle.std.specs.Prelude.{◌<◌, ℕ, List, [], ◌∷◌, slice_index_or}
-use Rattle.std.specs.Int.{w16, from_be_bytes, to_be_bytes}
+use Rattle.std.specs.Int.{w16, from_le_bytes, to_le_bytes}
 
 -- the number that two bytes are
 abbrev pub number_of : ℕ → ℕ → ℕ
-number_of high low = from_be_bytes w16 (high ∷ low ∷ [])
+number_of low high = from_le_bytes w16 (low ∷ high ∷ [])
 
 -- the byte of a number at a place
 abbrev pub byte_of : ℕ → ℕ → ℕ
-byte_of number place = slice_index_or (to_be_bytes w16 number) place 0
+byte_of number place = slice_index_or (to_le_bytes w16 number) place 0
 
 -- they are bytes
 abbrev pub AreBytes : List ℕ → Type 0

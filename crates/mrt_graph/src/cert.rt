@@ -83,9 +83,10 @@ impl Model for Cert {
     ghost invariant = { λ c. IsCertificate (certificate_of c.nodes.items c.links.items c.rows.items) };
 }
 
-/// A certificate with the router ID of its root.
+/// A certificate with the version of its file, 1 or 2, and the router ID of its root.
 #[derive(Drop)]
 pub struct CertFile {
+    pub version: u16,
     pub root: u32,
     pub cert: Cert,
 }

@@ -4,8 +4,9 @@ ghost use Rattle.std.specs.Prelude.{◌≡◌, ◌≢◌, ◌<◌, ◌⊎◌, �
 ghost use Rattle.mrt_graph.specs.declared.cert.CertFile.{CertFile};
 ghost use Rattle.mrt_graph.specs.declared.cert.Color.{Color};
 ghost use Rattle.mrt_graph.specs.Accepted.{Accepted};
-ghost use Rattle.mrt_graph.specs.Certificate.{row_of};
+ghost use Rattle.mrt_graph.specs.Certificate.{IsCertificate, row_of};
 ghost use Rattle.mrt_graph.specs.FirstFault.{FirstFault};
+ghost use Rattle.mrt_graph.specs.Foldable.{IsFoldable};
 ghost use Rattle.mrt_graph.specs.Hop.{color_hop};
 ghost use Rattle.mrt_graph.specs.Sound.{Sound};
 ghost use Rattle.mrt_graph.specs.Topology.{Topology};
@@ -22,6 +23,13 @@ pub fn accepted_rows_lead_on()
     ensures { (g : Topology) (root : ℕ) (file : CertFile) → Accepted g root file
         → (color : Color) (s t : ℕ) → s < length g.ids → t < length g.ids → s ≢ t
         → IsSome (color_hop g.links (row_of file.cert) color t s) }
+{}
+
+/// A law: in each certificate that is accepted the rows of two nodes without a common block are those that its other rows
+/// say, so that a file can leave them out.
+pub fn accepted_files_are_foldable()
+    ensures { (g : Topology) (root : ℕ) (file : CertFile) → IsCertificate file.cert → Accepted g root file
+        → IsFoldable file.cert }
 {}
 
 /// Laws: a certificate file is accepted for a graph and its root, or one of the fourteen rules is the first to fail;

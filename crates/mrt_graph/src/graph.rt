@@ -14,13 +14,13 @@ use std::alloc::Global;
 use std::marker::Model;
 
 /// The most nodes that a graph may have.
-const MAX_NODES: usize = 2048;
+const MAX_NODES: usize = 4096;
 
 /// The most links that it may have.
-const MAX_LINKS: usize = 8192;
+const MAX_LINKS: usize = 16384;
 
 /// A connected graph of routers and transit networks (RFC 2328, section 2.1), as large as an island may be: at most
-/// 2,048 nodes and 8,192 links.
+/// 4,096 nodes and 16,384 links.
 ///
 /// Nodes are numbered from 0 by ascending identifier. Each link has one end at each of its two nodes, and no link
 /// joins two networks.
@@ -70,7 +70,7 @@ impl Graph {
     /// The identifiers ascend strictly; there is at least one. Each link has its lower node first, no link joins two
     /// networks, links ascend by `a`, then by `b`, and together they connect all nodes.
     ///
-    /// It answers `TooLarge` exactly where there are more than 2,048 nodes or more than 8,192 links.
+    /// It answers `TooLarge` exactly where there are more than 4,096 nodes or more than 16,384 links.
     ///
     /// It takes time in proportion to nodes and links, and for each node that of sorting its ends.
     pub fn new(alloc: Global, ids: Vec<NodeId>, links: Vec<LinkIn>) -> Result<Graph, GraphError>

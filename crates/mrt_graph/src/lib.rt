@@ -23,7 +23,10 @@ mod text_numbers;
 mod tree;
 
 pub use cert::{Cert, CertFile, CertLink, CertNode, Color, Role, Row, Tag};
-pub use cert_law::{accepted_implies_sound, accepted_or_one_first_fault, accepted_rows_lead_on};
+pub use cert_law::{
+    accepted_files_are_foldable, accepted_implies_sound, accepted_or_one_first_fault,
+    accepted_rows_lead_on,
+};
 pub use column::Column;
 pub use directed::Directed;
 pub use gadag::{Gadag, Mark, Place, Way};

@@ -44,29 +44,29 @@ impl NodeNo {
 
 /// The number of a link of a graph, from 0.
 ///
-/// It stands as two bytes, so that a row takes as many bytes in memory as in a file.
+/// It stands as two bytes, the low one first, so that a row takes as many bytes in memory as in a file.
 #[derive(Clone, Copy, Default)]
 pub struct LinkNo {
-    high: u8,
     low: u8,
+    high: u8,
 }
 
 impl Model for LinkNo {
     ghost use Rattle.std.specs.Prelude.{ℕ, [], ◌∷◌, slice_index_or};
     ghost use Rattle.std.proofs.Common.{ap, refl};
-    ghost use Rattle.std.proofs.lemmas.Nat.{be_bytes_2};
+    ghost use Rattle.std.proofs.lemmas.Nat.{le_bytes_2};
     ghost use Rattle.mrt_graph.specs.TwoBytes.{AreBytes, byte_of, number_of};
 
     ghost Value = { ℕ };
 
-    ghost view = { λ link. number_of link.high link.low };
+    ghost view = { λ link. number_of link.low link.high };
 
-    ghost inverse = { λ number. record { high = byte_of number 0; low = byte_of number 1 } };
+    ghost inverse = { λ number. record { low = byte_of number 0; high = byte_of number 1 } };
 
-    ghost invariant = { λ link. AreBytes (link.high ∷ link.low ∷ []) };
+    ghost invariant = { λ link. AreBytes (link.low ∷ link.high ∷ []) };
 
-    ghost inverse_ok = { λ link kept. ap (λ bytes. record { high = slice_index_or bytes 0 0; low = slice_index_or bytes 1 0 })
-        (be_bytes_2 (link.high ∷ link.low ∷ []) (number_of link.high link.low) refl kept refl) };
+    ghost inverse_ok = { λ link kept. ap (λ bytes. record { low = slice_index_or bytes 0 0; high = slice_index_or bytes 1 0 })
+        (le_bytes_2 (link.low ∷ link.high ∷ []) (number_of link.low link.high) refl kept refl) };
 }
 
 impl LinkNo {
@@ -75,15 +75,15 @@ impl LinkNo {
     pub fn new(number: u16) -> LinkNo
         ensures { result ≡ number }
     {
-        let [high, low] = number.to_be_bytes();
-        LinkNo { high, low }
+        let [low, high] = number.to_le_bytes();
+        LinkNo { low, high }
     }
 
     pub fn get(&self) -> u16
         ensures value { result ≡ self.now }
         ensures small { self.now < 2 ^ 16 }
     {
-        u16::from_be_bytes([self.high, self.low])
+        u16::from_le_bytes([self.low, self.high])
     }
 }
 

@@ -10,7 +10,6 @@ pub mod LinesRead
 pub mod LinkNumbers
 pub mod LinkParts
 pub mod OneIsland
-pub mod OneSize
 pub mod Pairing
 pub mod RootSoFar
 pub mod Stores

@@ -9,5 +9,3 @@ pub mod Numbering
 pub mod Rooting
 pub mod IslandOf
 pub mod Searching
-pub mod GraphErrors
-pub mod Outcome

@@ -1,15 +1,15 @@
 //! Islands.
 
-ghost use Rattle.std.specs.Prelude.{◌≡◌, ◌↔◌, ℕ, false, IfOk, IfErr, Err, Contains};
+ghost use Rattle.std.specs.Prelude.{◌≡◌, ◌≤◌, ◌↔◌, ℕ, false, IfOk, IfErr, Err, Contains, length};
+ghost use Rattle.mrt_graph.specs.NewGraph.{AreGraphParts, IsGraphOf};
 ghost use Rattle.area_graph.specs.AreaInvariant.{IsArea};
 ghost use Rattle.area_graph.specs.Fits.{Fits};
 ghost use Rattle.area_graph.specs.Nodes.{router as router_node};
-ghost use Rattle.mrt_island.specs.IslandOf.{HasSize, IsIsland, IsOver};
+ghost use Rattle.mrt_island.specs.IslandOf.{IsIsland};
 ghost use Rattle.mrt_island.specs.Members.{IsInside};
-ghost use Rattle.mrt_island.specs.Outcome.{IsCause, IsRefusal};
+ghost use Rattle.mrt_island.specs.declared.island_error.IslandError.TheVariants.{NoMemory as no_memory};
 ghost use Rattle.mrt_island.specs.Policy.{policy_of};
 ghost use Rattle.mrt_island.specs.Searching.{IsExtent};
-ghost use Rattle.mrt_graph.specs.NewGraph.{IsTooLarge};
 
 use crate::extent::{Extent, extent_of};
 use crate::island_error::IslandError;
@@ -17,7 +17,7 @@ use crate::numbering::{ids_inside, link_numbers, links_between};
 use crate::profile::Profile;
 use crate::rooting::root;
 use area_graph::{Area, Bond};
-use mrt_graph::{Graph, Kind, LinkNo, NodeId, NodeNo, Seq};
+use mrt_graph::{Graph, GraphError, Kind, LinkIn, LinkNo, NoMemory, NodeId, NodeNo, Seq};
 use std::alloc::Global;
 
 /// The MRT Island of a router (RFC 7811, section 5): the router, every node that eligible pairs of its area join to it, and the
@@ -67,8 +67,8 @@ pub struct Island {
 /// # Errors
 ///
 /// [`IslandError::NotThere`] exactly where the area has no such router, [`IslandError::Unsupported`] exactly where it is there and the
-/// profile says `no-mrt` of it. [`IslandError::TooLarge`] where the island has more than 2,048 nodes or more than 8,192 links; its
-/// numbers are the two counts. [`IslandError::NoMemory`] comes where there was none for a list.
+/// profile says `no-mrt` of it. [`IslandError::NoMemory`] comes where there was none for a list. No island is too large for a graph:
+/// an area has at most 4,096 nodes and 32,768 arcs, and each link of the island takes two arcs.
 pub fn find_island(
     alloc: Global,
     area: &Area,
@@ -81,11 +81,6 @@ pub fn find_island(
     ensures not_there { (result ≡ Err IslandError.NotThere) ↔ (Contains area.now.ids (router_node router) → ⊥) }
     ensures unsupported { (result ≡ Err IslandError.Unsupported)
         ↔ (Contains area.now.ids (router_node router) × ((policy_of profile.now).supports router ≡ false)) }
-
-    // An island that is too large is refused with its counts, and no other is.
-    ensures over { (nodes links : ℕ) → result ≡ Err (IslandError.TooLarge nodes links) → IsOver (policy_of profile.now) area.now router nodes links }
-    ensures too_large { (nodes links : ℕ) → IsOver (policy_of profile.now) area.now router nodes links
-        → IsRefusal (IslandError.TooLarge nodes links) result }
 {
     let bonds = area.bonds();
     let own = NodeId {
@@ -116,18 +111,30 @@ fn island_of(
     ensures island { IfOk result (λ island. (router : ℕ) → IsInside (policy_of profile.now) area.now router extent.now.nodes.items
         → IsIsland (policy_of profile.now) area.now router island.graph island.root island.link_of) }
     ensures fits { IfOk result (λ island. Fits area.now island.graph island.link_of) }
-    ensures refused { IfErr result (IsCause (policy_of profile.now) area.now extent.now.nodes.items) }
-    ensures too_large { (nodes links : ℕ) → HasSize (policy_of profile.now) area.now extent.now.nodes.items nodes links → IsTooLarge nodes links
-        → IsRefusal (IslandError.TooLarge nodes links) result }
+    ensures refused { IfErr result (λ error. error ≡ no_memory) }
 {
     let ids = ids_inside(alloc, area, &extent.nodes)?;
     let links = links_between(alloc, &extent.nodes, &extent.links, bonds)?;
     let link_of = link_numbers(alloc, &extent.links)?;
     let root = root(&ids, profile);
-    let graph = Graph::new(alloc, ids, links)?;
+    let graph = graph(alloc, ids, links)?;
     Ok(Island {
         graph,
         root,
         link_of: Seq::from_vec(link_of),
     })
+}
+
+/// The graph of so few nodes and links that it is not too large.
+fn graph(alloc: Global, ids: Vec<NodeId>, links: Vec<LinkIn>) -> Result<Graph, NoMemory>
+    requires parts { AreGraphParts ids.items links.items }
+    requires nodes { length ids.items ≤ 4096 }
+    requires links { length links.items ≤ 16384 }
+    ensures { IfOk result (λ graph. IsGraphOf ids.items links.items graph) }
+{
+    match Graph::new(alloc, ids, links) {
+        Ok(graph) => Ok(graph),
+        Err(GraphError::NoMemory) => Err(NoMemory),
+        Err(GraphError::TooLarge { .. }) => unreachable!(),
+    }
 }

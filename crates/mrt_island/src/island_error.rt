@@ -1,30 +1,15 @@
 ghost use Rattle.std.specs.Prelude.{◌≡◌};
 ghost use Rattle.mrt_island.specs.declared.island_error.IslandError.TheVariants.{NoMemory as no_memory};
 
-use mrt_graph::{GraphError, NoMemory};
+use mrt_graph::NoMemory;
 use std::alloc::{AllocError, AllocFailed};
 
-/// Why a router has no island here: it is not in the area, or it does not support the profile; its island has more nodes or links than
-/// a graph holds, told by both counts; or there was no memory.
+/// Why a router has no island here: it is not in the area, or it does not support the profile; or there was no memory.
 #[derive(Clone, Copy, Debug, PartialEq, Eq)]
 pub enum IslandError {
     NotThere,
     Unsupported,
-    TooLarge { nodes: u32, links: u32 },
     NoMemory,
-}
-
-impl From<GraphError> for IslandError {
-    ghost use Rattle.mrt_island.specs.GraphErrors.{error_of};
-
-    ghost from_gives = { λ graph error. error ≡ error_of graph };
-
-    fn from(error: GraphError) -> IslandError {
-        match error {
-            GraphError::TooLarge { nodes, links } => IslandError::TooLarge { nodes, links },
-            GraphError::NoMemory => IslandError::NoMemory,
-        }
-    }
 }
 
 impl From<NoMemory> for IslandError {

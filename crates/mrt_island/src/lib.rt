@@ -14,7 +14,6 @@ mod profile_reading;
 mod rooting;
 mod setting;
 mod settling;
-mod size_law;
 
 pub use island::{Island, find_island};
 pub use island_error::IslandError;
@@ -23,4 +22,3 @@ pub use profile::Profile;
 pub use profile_error::{ProfileError, ProfileKind};
 pub use profile_reading::read_profile;
 pub use setting::Setting;
-pub use size_law::an_island_has_one_size;

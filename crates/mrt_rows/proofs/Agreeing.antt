@@ -218,6 +218,7 @@ module _ (g : Topology) (kept : IsTopology g) (w v : Directions) (alike : AreAli
       → Tells g root w file
       → Tells g root v file
   tells_too root file heads tells = record {
+    version = tells.version;
     root_number = tells.root_number;
     nodes = record {
       one_each = tells.nodes.one_each;

@@ -21,7 +21,7 @@ use Rattle.mrt_rows.specs.RowsOf.{AreAllRows, HasRow, row_among}
 use Rattle.mrt_rows.proofs.AllRows.{row_is}
 use Rattle.mrt_rows.proofs.OrderedGraphs.{OrderedGraph, within}
 use Rattle.mrt_rows.proofs.OtherLines.{begins_in, home_in}
-use Rattle.mrt_rows.proofs.RowPlaces.{placed}
+use Rattle.mrt_graph.proofs.RowPlaces.{placed}
 
 -- what holds at each place holds of all
 pub all_by_places : {X : Type 0} (P : X → Type 0) (xs : List X) → ((i : ℕ) (x : X) → slice_get xs i ≡ Some x → P x)
@@ -196,6 +196,7 @@ module _ (og : OrderedGraph) where
     pub cert_tells : (id : NodeId) → slice_get og.g.ids og.root ≡ Some id
         → Tells og.g og.root og.w (file_of id (certificate_of nodes links rows))
     cert_tells id is = record {
+      version = refl;
       root_number = λ other at. ap (λ (x : NodeId). x.number) (same_Some id other (sym is ∙ at));
       nodes = node_words_are;
       links = link_words_are;

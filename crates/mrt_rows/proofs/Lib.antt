@@ -30,7 +30,6 @@ pub mod OneRow
 pub mod OrderedGraphs
 pub mod OtherLines
 pub mod PushedWords
-pub mod RowPlaces
 pub mod RowTags
 pub mod RowsExist
 pub mod RowsPut

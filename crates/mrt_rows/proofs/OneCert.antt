@@ -26,11 +26,12 @@ use Rattle.mrt_rows.specs.CertOf.{IsCertOf, Tells, link_words, node_words}
 use Rattle.mrt_rows.proofs.Agreeing.{tells_too}
 use Rattle.mrt_rows.proofs.OneRow.{one_row}
 use Rattle.mrt_rows.proofs.OrderedGraphs.{OrderedGraph}
-use Rattle.mrt_rows.proofs.RowPlaces.{placed, row_at}
+use Rattle.mrt_graph.proofs.RowPlaces.{placed, row_at}
 
-file_same : (a b : CertFile) → a.root ≡ b.root → a.cert.nodes ≡ b.cert.nodes → a.cert.links ≡ b.cert.links
+file_same : (a b : CertFile) → a.version ≡ b.version → a.root ≡ b.root → a.cert.nodes ≡ b.cert.nodes → a.cert.links ≡ b.cert.links
     → a.cert.rows ≡ b.cert.rows → a ≡ b
-file_same a b root nodes links rows = λ i. record {
+file_same a b version root nodes links rows = λ i. record {
+  version = version i;
   root = root i;
   cert = record { nodes = nodes i; links = links i; rows = rows i };
 }
@@ -89,7 +90,7 @@ module _ (og : OrderedGraph) (file other : CertFile) (tells : Tells og.g og.root
       tells.root_number id.0 id.1 ∙ sym (other_tells.root_number id.0 id.1)
 
   one_file : file ≡ other
-  one_file = file_same file other root_same nodes_same links_same rows_same
+  one_file = file_same file other (tells.version ∙ sym other_tells.version) root_same nodes_same links_same rows_same
 
 -- the files are one, by two accounts of one GADAG with its order
 pub one_cert : (g : Topology) (root : ℕ) (d : DirectedLists) (w v : Directions) (file other : CertFile) → IsTopology g

@@ -11,7 +11,7 @@ use Rattle.link_direction.specs.Directions.{Directions}
 use Rattle.mrt_rows.specs.Put.{ArePut}
 use Rattle.mrt_rows.specs.RowsOf.{row_among}
 use Rattle.mrt_rows.proofs.AllRows.{row_is}
-use Rattle.mrt_rows.proofs.RowPlaces.{column, column_above, column_below}
+use Rattle.mrt_graph.proofs.RowPlaces.{column, column_above, column_below}
 
 -- the columns of two nodes differ
 column_within : (n s t : ℕ) → s < n → t < n → s ≢ t → column s t < n - 1

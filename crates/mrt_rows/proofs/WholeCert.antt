@@ -20,7 +20,7 @@ use Rattle.mrt_rows.specs.RowsOf.{AreAllRows, HasRow, row_among}
 use Rattle.mrt_rows.proofs.AllRows.{row_is}
 use Rattle.mrt_rows.proofs.CertMade.{cert_tells}
 use Rattle.mrt_rows.proofs.OrderedGraphs.{OrderedGraph}
-use Rattle.mrt_rows.proofs.RowPlaces.{placed, row_at}
+use Rattle.mrt_graph.proofs.RowPlaces.{placed, row_at}
 use Rattle.mrt_rows.proofs.RowsExist.{some_rows}
 use Rattle.mrt_rows.proofs.RowsPut.{place_within, places_differ}
 

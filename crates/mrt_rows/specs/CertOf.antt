@@ -33,18 +33,19 @@ pub record AreLinkWords (g : Topology) (w : Directions) (links : List CertLink) 
   pub one_each : length links ≡ length g.links
   pub each : (e : ℕ) (link : Link) → slice_get g.links e ≡ Some link → slice_get links e ≡ Some (link_words w e link)
 
--- a file says this of the graph: its root is the number of the graph's root; it has the words on each node and on each
--- link, and a row of each node for each other one, by the table
+-- a file says this of the graph: it has version 2, and its root is the number of the graph's root; it has the words on each
+-- node and on each link, and a row of each node for each other one, by the table
 pub record Tells (g : Topology) (root : ℕ) (w : Directions) (file : CertFile) : Type 0 where
+  pub version : file.version ≡ 2
   pub root_number : (id : NodeId) → slice_get g.ids root ≡ Some id → file.root ≡ id.number
   pub nodes : AreNodeWords g w file.cert.nodes
   pub links : AreLinkWords g w file.cert.links
   pub row_count : length file.cert.rows ≡ length g.ids * (length g.ids - 1)
   pub rows : (s t : ℕ) → s < length g.ids → t < length g.ids → s ≢ t → HasRow g root w s (row_of file.cert s) t
 
--- a certificate, with the number of a root
+-- a certificate, as a file of version 2 with the number of a root
 abbrev pub file_of : NodeId → Certificate → CertFile
-file_of id cert = record { root = id.number; cert = cert }
+file_of id cert = record { version = 2; root = id.number; cert = cert }
 
 -- the certificate of a graph and its root: by its search tree, the ears of this tree, and their order
 pub record IsCertOf (g : Topology) (root : ℕ) (file : CertFile) : Type 0 where

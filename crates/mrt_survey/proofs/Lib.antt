@@ -9,9 +9,9 @@ pub mod LsasMade
 pub mod MadeArea
 pub mod MadeBounds
 pub mod MadeConnected
-pub mod MadeIsland
 pub mod MadeMetrics
 pub mod MadePairs
+pub mod MadeRouters
 pub mod Marked
 pub mod OneSurvey
 pub mod Rounds

@@ -17,8 +17,8 @@ mod words;
 
 pub use database::generate;
 pub use made_law::{
-    made_areas_are_within_the_limits, made_islands_are_within_the_limits,
-    made_islands_hold_all_routers, made_lsas_may_be_installed,
+    made_areas_are_within_the_limits, made_islands_hold_all_routers, made_lsas_may_be_installed,
+    made_routers_are_in_the_area,
 };
 pub use separating_law::separating_nodes_head_blocks;
 pub use survey::survey_text;

@@ -10,8 +10,8 @@ ghost use Rattle.mrt_graph.specs.Topology.{Topology};
 ghost use Rattle.lsdb.specs.Conflicts.{least_conflict};
 ghost use Rattle.lsdb.specs.Installing.{IsKept};
 ghost use Rattle.lsdb.specs.Installs.{AreBehind, all_installed};
-ghost use Rattle.mrt_island.specs.IslandOf.{IsIsland, IsOver};
-ghost use Rattle.mrt_island.specs.Policy.{Policy, policy_of};
+ghost use Rattle.mrt_island.specs.IslandOf.{IsIsland};
+ghost use Rattle.mrt_island.specs.Policy.{policy_of};
 ghost use Rattle.mrt_survey.specs.MadeLinks.{made_links};
 ghost use Rattle.mrt_survey.specs.MadeLsas.{made_lsas};
 
@@ -41,13 +41,10 @@ pub fn made_areas_are_within_the_limits()
         (length (area_of (made_lsas number nodes)).arcs) → ⊥ }
 {}
 
-/// Laws: each router of such a network is in its area, and its island is within the limits, whatever a profile says.
-pub fn made_islands_are_within_the_limits()
-    ensures there { (number nodes router : ℕ) → 1 ≤ router → router ≤ nodes
+/// A law: each router of such a network is in its area.
+pub fn made_routers_are_in_the_area()
+    ensures { (number nodes router : ℕ) → 1 ≤ router → router ≤ nodes
         → Contains (area_of (made_lsas number nodes)).ids (router_node router) }
-    ensures within { (number nodes : ℕ) → nodes ≤ 2048
-        → (policy : Policy) (router inside links : ℕ)
-        → IsOver policy (area_of (made_lsas number nodes)) router inside links → ⊥ }
 {}
 
 /// A law: under a profile that says nothing the island of a router of such a network holds all its routers.

@@ -10,7 +10,7 @@ use Rattle.mrt_graph.specs.Topology.{Topology}
 pub record IsAcceptedFor (g : Topology) (c : Certificate) : Type 0 where
   pub root : ℕ
   pub number : ℕ
-  pub accepted : Accepted g root (record { root = number; cert = c })
+  pub accepted : Accepted g root (record { version = 2; root = number; cert = c })
 
 -- a link or a node of the graph
 abbrev pub IsElementOf : Topology → Element → Type 0

@@ -1,6 +1,5 @@
-use Rattle.std.proofs.Common.{◌≡◌, ◌∙◌, List, Bool, Err, length, sym, ap, subst, arith}
+use Rattle.std.proofs.Common.{◌≡◌, ◌∙◌, List, Bool, length, sym, ap, subst, arith}
 use Rattle.std.proofs.lemmas.List.{length-map}
-use Rattle.std.proofs.lemmas.Result.{err_from_is_err_and}
 use Rattle.std.specs.List.Sorted.{IsStrictlySortedBy}
 use Rattle.mrt_graph.specs.declared.link.LinkIn.{LinkIn}
 use Rattle.mrt_graph.specs.declared.node_id.NodeId.{NodeId}
@@ -8,7 +7,7 @@ use Rattle.mrt_graph.specs.NewGraph.{AreGraphParts, IsGraphOf}
 use Rattle.mrt_graph.specs.NodeOrder.{node_id_cmp}
 use Rattle.mrt_island.specs.Numbering.{ids_of, is_link, links_of}
 use Rattle.mrt_island.specs.Rooting.{HasRouter, IsRoot}
-use Rattle.mrt_island.proofs.Assembling.{graph_cause, ids_made, links_made, made_island, nodes_few, not_large, numbers_made, refused_large}
+use Rattle.mrt_island.proofs.Assembling.{ids_made, links_few, links_made, made_island, nodes_few, numbers_made}
 use Rattle.mrt_island.proofs.Bounds.{bonds_few}
 use Rattle.mrt_island.proofs.Counting.{ascend_flagged, length_flagged}
 use Rattle.mrt_island.proofs.Fitting.{island_fits}
@@ -42,8 +41,8 @@ root-root-requires-clause-some c =
     c.deref-5.ensures.value ∙ ids_made c.args.area.now c.args.extent.now.nodes.items c.deref.result.now c.in_ok-ids.ids.items c.in_ok-ids.ensures c.deref.ensures.value in
     subst HasRouter (sym ids) (has_router (policy_of c.args.profile.now) c.args.area.now c.requires.extent.router c.args.extent.now.nodes.items c.requires.extent.those)
 
-pub new-requires : goal.new-requires
-new-requires c =
+pub graph-requires-clause-parts : goal.graph-requires-clause-parts
+graph-requires-clause-parts c =
     let ids : c.in_ok-ids.ids.items ≡ ids_of c.args.area.now c.args.extent.now.nodes.items =
     ids_made c.args.area.now c.args.extent.now.nodes.items c.deref.result.now c.in_ok-ids.ids.items c.in_ok-ids.ensures c.deref.ensures.value in
     let links : c.in_ok-links.links.items ≡ links_of (policy_of c.args.profile.now) c.args.area.now c.args.extent.now.nodes.items =
@@ -52,28 +51,6 @@ new-requires c =
     subst (λ (l : List NodeId). AreGraphParts l c.in_ok-links.links.items) (sym ids)
     (subst (λ (l : List LinkIn). AreGraphParts (ids_of c.args.area.now c.args.extent.now.nodes.items) l) (sym links)
     (graph_parts (policy_of c.args.profile.now) c.args.area.now c.requires.extent.router c.args.extent.now.nodes.items c.requires.kept c.requires.extent.those))
-
-pub returns-in_err-graph-clause-refused : goal.returns-in_err-graph-clause-refused
-returns-in_err-graph-clause-refused c =
-    let ids : c.in_ok-ids.ids.items ≡ ids_of c.args.area.now c.args.extent.now.nodes.items =
-    ids_made c.args.area.now c.args.extent.now.nodes.items c.deref.result.now c.in_ok-ids.ids.items c.in_ok-ids.ensures c.deref.ensures.value in
-    let links : c.in_ok-links.links.items ≡ links_of (policy_of c.args.profile.now) c.args.area.now c.args.extent.now.nodes.items =
-    links_made (policy_of c.args.profile.now) c.args.area.now c.args.extent.now.nodes.items c.args.extent.now.links.items c.deref-2.result.now c.deref-3.result.now c.args.bonds.now c.in_ok-links.links.items
-    c.in_ok-links.ensures c.deref-2.ensures.value c.deref-3.ensures.value c.requires.bonds c.requires.extent.between in
-    let exit = err_from_is_err_and c.from_residual-in_err-graph.result c.from_residual-in_err-graph.ensures.1 in
-    rw exit.1 (graph_cause (policy_of c.args.profile.now) c.args.area.now c.args.extent.now.nodes.items c.in_ok-ids.ids.items c.in_ok-links.links.items _ exit.0 c.requires.kept c.requires.extent.those.one_each ids links
-    (λ same. c.in_err-graph.ensures.too_large.1 (ap Err same)) c.in_err-graph.ensures.refused exit.2)
-
-pub returns-in_err-graph-clause-too_large : goal.returns-in_err-graph-clause-too_large
-returns-in_err-graph-clause-too_large c = λ n l size large.
-    let ids : c.in_ok-ids.ids.items ≡ ids_of c.args.area.now c.args.extent.now.nodes.items =
-    ids_made c.args.area.now c.args.extent.now.nodes.items c.deref.result.now c.in_ok-ids.ids.items c.in_ok-ids.ensures c.deref.ensures.value in
-    let links : c.in_ok-links.links.items ≡ links_of (policy_of c.args.profile.now) c.args.area.now c.args.extent.now.nodes.items =
-    links_made (policy_of c.args.profile.now) c.args.area.now c.args.extent.now.nodes.items c.args.extent.now.links.items c.deref-2.result.now c.deref-3.result.now c.args.bonds.now c.in_ok-links.links.items
-    c.in_ok-links.ensures c.deref-2.ensures.value c.deref-3.ensures.value c.requires.bonds c.requires.extent.between in
-    let exit = err_from_is_err_and c.from_residual-in_err-graph.result c.from_residual-in_err-graph.ensures.1 in
-    rw exit.1 (refused_large (policy_of c.args.profile.now) c.args.area.now c.args.extent.now.nodes.items c.in_ok-ids.ids.items c.in_ok-links.links.items _ exit.0 n l c.requires.kept c.requires.extent.those.one_each ids links
-    (λ over. let told = c.in_err-graph.ensures.too_large.0 over in cc) exit.2 size large)
 
 pub returns-clause-island : goal.returns-clause-island
 returns-clause-island c = λ router those.
@@ -86,7 +63,7 @@ returns-clause-island c = λ router those.
     c.from_vec.ensures ∙ numbers_made (policy_of c.args.profile.now) c.args.area.now c.args.extent.now.nodes.items c.args.extent.now.links.items c.deref-4.result.now c.in_ok-link_of.link_of.items
     c.in_ok-link_of.ensures c.deref-4.ensures.value c.requires.extent.between in
     made_island (policy_of c.args.profile.now) c.args.area.now router c.args.extent.now.nodes.items c.in_ok-ids.ids.items c.in_ok-links.links.items c.in_ok-graph.graph c.root-root.result c.from_vec.result
-    those ids links numbers c.in_ok-graph.ensures.made
+    those ids links numbers c.in_ok-graph.ensures
     (subst (λ (l : List NodeId). IsRoot (policy_of c.args.profile.now) l c.root-root.result) c.deref-5.ensures.value c.root-root.ensures)
 
 pub returns-clause-fits : goal.returns-clause-fits
@@ -101,15 +78,20 @@ returns-clause-fits c =
     c.in_ok-link_of.ensures c.deref-4.ensures.value c.requires.extent.between in
     island_fits (policy_of c.args.profile.now) c.args.area.now c.args.extent.now.nodes.items c.in_ok-graph.graph c.from_vec.result c.requires.kept c.requires.extent.those.one_each
     (subst (λ (l : List NodeId). IsGraphOf l (links_of (policy_of c.args.profile.now) c.args.area.now c.args.extent.now.nodes.items) c.in_ok-graph.graph) ids
-    (subst (λ (l : List LinkIn). IsGraphOf c.in_ok-ids.ids.items l c.in_ok-graph.graph) links c.in_ok-graph.ensures.made))
+    (subst (λ (l : List LinkIn). IsGraphOf c.in_ok-ids.ids.items l c.in_ok-graph.graph) links c.in_ok-graph.ensures))
     numbers
 
-pub returns-clause-too_large : goal.returns-clause-too_large
-returns-clause-too_large c = λ n l size large.
+pub graph-requires-clause-nodes : goal.graph-requires-clause-nodes
+graph-requires-clause-nodes c =
     let ids : c.in_ok-ids.ids.items ≡ ids_of c.args.area.now c.args.extent.now.nodes.items =
     ids_made c.args.area.now c.args.extent.now.nodes.items c.deref.result.now c.in_ok-ids.ids.items c.in_ok-ids.ensures c.deref.ensures.value in
+    let count = ap (λ (l : List NodeId). length l) ids ∙ length_flagged c.args.extent.now.nodes.items c.args.area.now.ids c.requires.extent.those.one_each in
+    omega (arith, count, nodes_few c.args.area.now c.args.extent.now.nodes.items c.requires.kept c.requires.extent.those.one_each)
+
+pub graph-requires-clause-links : goal.graph-requires-clause-links
+graph-requires-clause-links c =
     let links : c.in_ok-links.links.items ≡ links_of (policy_of c.args.profile.now) c.args.area.now c.args.extent.now.nodes.items =
     links_made (policy_of c.args.profile.now) c.args.area.now c.args.extent.now.nodes.items c.args.extent.now.links.items c.deref-2.result.now c.deref-3.result.now c.args.bonds.now c.in_ok-links.links.items
     c.in_ok-links.ensures c.deref-2.ensures.value c.deref-3.ensures.value c.requires.bonds c.requires.extent.between in
-    absurd (not_large (policy_of c.args.profile.now) c.args.area.now c.args.extent.now.nodes.items c.in_ok-ids.ids.items c.in_ok-links.links.items n l c.requires.extent.those.one_each ids links
-    (λ over. let told = c.in_ok-graph.ensures.too_large.0 over in cc) size large)
+    let count = ap (λ (l : List LinkIn). length l) links in
+    omega (arith, count, links_few (policy_of c.args.profile.now) c.args.area.now c.args.extent.now.nodes.items c.requires.kept)

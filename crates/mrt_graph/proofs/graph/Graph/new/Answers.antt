@@ -11,8 +11,8 @@ end_lists-requires-clause-within c =
 pub invariant_of-result : goal.invariant_of-result
 invariant_of-result c =
     let count : c.len-2.result ≡ length c.args.ids.items = omega arith in
-    let few_nodes : length c.args.ids.items ≤ 2048 = omega arith in
-    let few_links : length c.args.links.items ≤ 8192 = omega arith in
+    let few_nodes : length c.args.ids.items ≤ 4096 = omega arith in
+    let few_links : length c.args.links.items ≤ 16384 = omega arith in
     rw (c.in_ok-links.ensures, c.deref-2.ensures.value)
     (made_keeps c.args.ids.items c.args.links.items (lists_of c.in_ok-ends.ends.items) c.requires few_nodes few_links (rw c.deref.ensures.value at c.in_ok-ends.ensures.range)
     (rw (count, c.deref.ensures.value) at c.in_ok-ends.ensures.lists))

@@ -1,0 +1,35 @@
+-- What a file of version 2 leaves out, and which node's head is at fault.
+use Rattle.std.specs.Prelude.{◌==◌, ℕ, zero, suc, Bool, List, Option, Some, None, not, filter, length, map, if◌then◌else◌}
+use Rattle.std.specs.List.{flat_map, range_with_len}
+use Rattle.std.specs.Option.{option_map_or, option_or}
+use Rattle.mrt_graph.specs.declared.cert.Row.{Row}
+use Rattle.mrt_graph.specs.declared.cert.Tag.TheVariants.{Carried}
+use Rattle.mrt_graph.specs.Certificate.{Certificate}
+use Rattle.mrt_graph.specs.Foldable.{comes_to, is_own_head}
+use Rattle.mrt_graph.specs.Related.{are_unrelated}
+use Rattle.mrt_graph.specs.Tags.{same_tag}
+
+-- the least number below n that passes a test
+abbrev pub least : (ℕ → Bool) → ℕ → Option ℕ
+least test zero = None
+least test (suc n) = option_or (least test n) (if test n then Some n else None)
+
+-- the node whose head is at fault: where no node is its own head, node 0; else the least one whose chain of heads does
+-- not come to the least of those; none where each one's does
+abbrev pub head_fault : Certificate → Option ℕ
+head_fault c =
+    option_map_or (λ r. least (λ a. not (comes_to c r a)) (length c.nodes)) (least (is_own_head c) (length c.nodes)) (Some 0)
+
+-- each node with each other one, by ascending source, then by ascending destination
+abbrev pub pairs : ℕ → List (ℕ × ℕ)
+pairs n =
+    flat_map (λ s. map (λ t. (s, t)) (filter (λ t. not (t == s)) (range_with_len 0 n))) (range_with_len 0 n)
+
+-- of each of them whether the two are related
+abbrev pub related_pairs : Certificate → List Bool
+related_pairs c = map (λ pair. not (are_unrelated c pair.0 pair.1)) (pairs (length c.nodes))
+
+-- a row that is not Carried
+abbrev pub is_near : Row → Bool
+is_near row = not (same_tag row.tag Carried)
+
