@@ -3,6 +3,7 @@
 
 mod body;
 mod checksum;
+mod copy;
 mod error;
 mod field;
 mod link;
