@@ -61,7 +61,7 @@ gained_part i (Failed part) all piece more old mid new e within first then_it =
     )
 
 -- the error's number of bytes is small
-pub failed_within : (i : ℕ) (error : PutError) (piece : List ℕ) (old new : Option (List ℕ)) → i + length piece ≤ 21041166 → GainedPart old piece new error → IsFailedWithin i error
+pub failed_within : (i : ℕ) (error : PutError) (piece : List ℕ) (old new : Option (List ℕ)) → i + length piece ≤ 84025358 → GainedPart old piece new error → IsFailedWithin i error
 failed_within i (Failed part) piece old new few part_of = omega (arith, few, part_of.0)
 
 -- the bytes that go out, and those that stay

@@ -1,7 +1,7 @@
 -- A field that is read is the field that was written, and what was written is read again.
 use Rattle.std.proofs.Common.{◌≡◌, ℕ, ◌+◌, ◌^◌, ◌<◌, true, false, ltb, List, [], ◌∷◌, ◌++◌, length, get_or, Some, Result, Ok, Err, refl, sym, ap, subst, ◌∙◌, arith}
 use Rattle.std.specs.Int.{Width, w8, w16, w32, byte_len, from_be_bytes, to_be_bytes}
-use Rattle.std.proofs.lemmas.Bool.{ltb-true, lt-ltb, le-ltb}
+use Rattle.std.proofs.lemmas.Bool.{lt-ltb, le-ltb}
 use Rattle.std.proofs.lemmas.List.{take_at, drop_at, length-append}
 use Rattle.std.proofs.lemmas.Nat.{be_bytes_2, be_bytes_4, from_be_bytes-to_be_bytes_2, from_be_bytes-to_be_bytes_4}
 use Rattle.cert_format.specs.declared.error.CertKind.TheVariants.{Truncated}
@@ -112,14 +112,17 @@ role_allowed roles.Plain = refl
 role_allowed roles.Sole = refl
 role_allowed roles.Closing = refl
 
-pub tag_allowed : (row_tag : Tag) → tag.allows (tag_number row_tag) ≡ true
-tag_allowed tags.Sole = refl
-tag_allowed tags.Head = refl
-tag_allowed tags.Top = refl
-tag_allowed tags.Below = refl
-tag_allowed tags.Above = refl
-tag_allowed tags.Unordered = refl
-tag_allowed tags.Carried = refl
+pub tag_allowed : (tags : ℕ) (row_tag : Tag) → tag_number row_tag < tags → (tag tags).allows (tag_number row_tag) ≡ true
+tag_allowed tags row_tag below = lt-ltb (tag_number row_tag) tags below
+
+pub few_tags : (row_tag : Tag) → tag_number row_tag < 7
+few_tags tags.Sole = omega arith
+few_tags tags.Head = omega arith
+few_tags tags.Top = omega arith
+few_tags tags.Below = omega arith
+few_tags tags.Above = omega arith
+few_tags tags.Unordered = omega arith
+few_tags tags.Carried = omega arith
 
 -- what stands for a number is the number's one
 pub took_named : {A : Type 0} (field : Field) (number : A → ℕ) (x : A) (n : ℕ) (before after : Rest) → IsWide field.width → Took (to_be_bytes field.width n) before after → n < 256 ^ byte_len field.width → field.allows (number x) ≡ true
@@ -137,7 +140,7 @@ role_small roles.Sole = omega arith
 role_small roles.Closing = omega arith
 
 pub tag_small : (row_tag : Tag) → tag_number row_tag < 256
-tag_small row_tag = omega (arith, ltb-true _ _ (tag_allowed row_tag))
+tag_small row_tag = omega (arith, few_tags row_tag)
 
 pub any_is_read : (w : Width) (before : Rest) (r : Result (ℕ × Rest) CertFault) → IsWide w → ReadsNumber w before r → ReadsField (any w) (λ n. n) before r
 any_is_read w before (Ok x) wide read = took_field (any w) x.0 before x.1 wide read.0 read.1 refl

@@ -5,7 +5,7 @@ use Rattle.std.proofs.lemmas.Bool.{cases_Bool, ltb-true, ltb-false, le-ltb, both
 use Rattle.std.proofs.lemmas.List.{take-append-le, drop-append-le}
 use Rattle.cert_format.specs.declared.error.CertKind.{CertKind}
 use Rattle.cert_format.specs.declared.error.CertKind.TheVariants.{Truncated, Trailing}
-use Rattle.cert_format.specs.Layout.{Form, End, Then, repeated, header_form, node_form, link_form, row_form}
+use Rattle.cert_format.specs.Layout.{Form, End, Then, Fails, repeated, header_form, node_form, link_form, row_form}
 use Rattle.cert_format.specs.FirstFault.{number_of, fault_in}
 use Rattle.cert_format.specs.Stream.{is_cut}
 
@@ -14,6 +14,7 @@ abbrev pub Spans : Form → ℕ → Type 0
 Spans End size = size ≡ 0
 Spans (Then field next) size =
     (byte_len field.width ≤ size) × (is_cut field.fault ≡ false) × ((n : ℕ) → Spans (next n) (size - byte_len field.width))
+Spans (Fails place fault) size = is_cut fault ≡ false
 
 -- what some faults are
 pub same_fault : (p q : ℕ × CertKind) → Some p ≡ Some q → p ≡ q
@@ -29,6 +30,8 @@ unfolding fault_in
 cut_short End size at [] a kind spans e cut = absurd cc
 cut_short End size at (byte ∷ bytes) a kind spans e cut =
     absurd (both_ways (is_cut Trailing) refl (ap is_cut (same_kind at a Trailing kind e) ∙ cut))
+cut_short (Fails place fault) size at bytes a kind spans e cut =
+    absurd (both_ways (is_cut fault) spans (ap is_cut (same_kind place a fault kind e) ∙ cut))
 cut_short (Then field next) size at bytes a kind spans e cut = elim (cases_Bool (ltb (length bytes) (byte_len field.width))) [
   | inl few ↦ let lt = ltb-true _ _ few in omega (arith, lt, spans.0)
   | inr long ↦ let le = ltb-false _ _ long in elim (cases_Bool (field.allows (number_of field bytes))) [
@@ -49,6 +52,7 @@ pub fault_stays : (form : Form) (at : ℕ) (bytes more : List ℕ) (a : ℕ) (ki
 unfolding fault_in
 fault_stays End at [] more a kind e certain = absurd cc
 fault_stays End at (byte ∷ bytes) more a kind e certain = e
+fault_stays (Fails place fault) at bytes more a kind e certain = e
 fault_stays (Then field next) at bytes more a kind e certain = elim (cases_Bool (ltb (length bytes) (byte_len field.width))) [
   | inl few ↦
       let here : ◌≡◌ {A = Option (ℕ × CertKind)} (Some (at, Truncated)) (Some (a, kind)) = rw few at e in
@@ -75,22 +79,22 @@ repeated_more (suc count) more part next =
     let step : suc count + more ≡ suc (count + more) = omega arith in
     ap (λ (n : ℕ). repeated n part next) step ∙ ap part (repeated_more count more part next)
 
-pub row_spans : (links : ℕ) (next : Form) (size : ℕ) → Spans next size → Spans (row_form links next) (5 + size)
-row_spans links next size spans =
+pub row_spans : (tags links : ℕ) (next : Form) (size : ℕ) → Spans next size → Spans (row_form tags links next) (5 + size)
+row_spans tags links next size spans =
     let left : 5 + size - 2 - 2 - 1 ≡ size = omega arith in
     (omega arith, refl, λ blue. (omega arith, refl, λ red. (omega arith, refl, λ it. subst (Spans next) (sym left) spans)))
 
-pub rows_span : (links count : ℕ) → Spans (repeated count (row_form links) End) (5 * count)
-rows_span links zero = omega arith
-rows_span links (suc count) =
+pub rows_span : (tags links count : ℕ) → Spans (repeated count (row_form tags links) End) (5 * count)
+rows_span tags links zero = omega arith
+rows_span tags links (suc count) =
     let size : 5 + 5 * count ≡ 5 * suc count = omega arith in
-    subst (Spans (row_form links (repeated count (row_form links) End))) size (row_spans links (repeated count (row_form links) End) (5 * count) (rows_span links count))
+    subst (Spans (row_form tags links (repeated count (row_form tags links) End))) size (row_spans tags links (repeated count (row_form tags links) End) (5 * count) (rows_span tags links count))
 
-pub node_spans : (nodes : ℕ) → Spans (node_form nodes End) 11
+pub node_spans : (nodes : ℕ) → Spans (node_form nodes (λ node. End)) 11
 node_spans nodes = (omega arith, refl, λ kind. (omega arith, refl, λ number. (omega arith, refl, λ order. (omega arith, refl, λ head. (omega arith, refl, λ block. refl)))))
 
 pub link_spans : (nodes : ℕ) → Spans (link_form nodes End) 7
 link_spans nodes = (omega arith, refl, λ a. (omega arith, refl, λ b. (omega arith, refl, λ block. (omega arith, refl, λ role. refl))))
 
-pub header_spans : Spans (header_form (λ nodes links. End)) 14
+pub header_spans : Spans (header_form (λ version nodes links. End)) 14
 header_spans = (omega arith, refl, λ magic. (omega arith, refl, λ version. (omega arith, refl, λ nodes. (omega arith, refl, λ links. (omega arith, refl, λ root. refl)))))

@@ -1,7 +1,7 @@
 -- Heads are not at fault exactly where each chain comes to the least node that is its own head.
 use Rattle.std.proofs.Common.{◌≡◌, ◌⊎◌, ◌∙◌, ◌<◌, ℕ, zero, suc, Bool, true, false, not, Option, Some, None, length, inl, inr, refl, sym, ap, arith}
 use Rattle.std.proofs.lemmas.Bool.{cases_Bool, cases_eq, false≢true, not-true}
-use Rattle.std.specs.Option.{option_map_or, option_or}
+use Rattle.std.specs.Option.{option_map_or}
 use Rattle.mrt_graph.specs.Certificate.{Certificate}
 use Rattle.mrt_graph.specs.Foldable.{IsLeastOwnHead, comes_to, is_own_head}
 use Rattle.cert_format.specs.Folded.{head_fault, least}

@@ -5,7 +5,7 @@ use Rattle.std.proofs.lemmas.List.{append-nil, length-append, take_more, flat_ma
 use Rattle.std.proofs.lemmas.List.Concat.{flat_map-append}
 use Rattle.mrt_graph.proofs.Members.{all_append}
 use Rattle.cert_format.specs.declared.error.CertFault.{CertFault}
-use Rattle.cert_format.specs.Layout.{Form, repeated}
+use Rattle.cert_format.specs.Layout.{Form, collected, repeated}
 use Rattle.cert_format.specs.FirstFault.{fault_in}
 use Rattle.cert_format.specs.Reading.{Rest, Names, Took, IsListOf}
 
@@ -13,6 +13,11 @@ use Rattle.cert_format.specs.Reading.{Rest, Names, Took, IsListOf}
 pub record IsPart {A : Type 0} (part : Form → Form) (text : A → List ℕ) (Keeps : A → Type 0) (size : ℕ) : Type 0 where
   pub sized : (x : A) → length (text x) ≡ size
   pub passes : (x : A) → Keeps x → (next : Form) (at : ℕ) (rest : List ℕ) → fault_in (part next) at (text x ++ rest) ≡ fault_in next (at + size) rest
+
+-- the same of a part that decides what follows it
+pub record IsPartGiven {A : Type 0} (part : (A → Form) → Form) (text : A → List ℕ) (Keeps : A → Type 0) (size : ℕ) : Type 0 where
+  pub sized : (x : A) → length (text x) ≡ size
+  pub passes : (x : A) → Keeps x → (next : A → Form) (at : ℕ) (rest : List ℕ) → fault_in (part next) at (text x ++ rest) ≡ fault_in (next x) (at + size) rest
 
 pub Took-then : (x : List ℕ) (y : List ℕ) (a b c : Rest) → Took x a b → Took y b c → Took (x ++ y) a c
 Took-then x y a b c p q = record {
@@ -55,6 +60,23 @@ repeated_passes part text Keeps size is (x ∷ xs) k next at rest all =
     ∙ is.passes x all.0 (repeated (length xs + k) part next) at (flat_map text xs ++ rest)
     ∙ repeated_passes part text Keeps size is xs k next (at + size) rest all.1
     ∙ ap (λ (a : ℕ). fault_in (repeated k part next) a rest) place
+
+-- parts that were read are collected
+pub collected_passes : {A : Type 0} (part : (A → Form) → Form) (text : A → List ℕ) (Keeps : A → Type 0) (size : ℕ) → IsPartGiven part text Keeps size
+    → (xs : List A) (k : ℕ) (next : List A → Form) (at : ℕ) (rest : List ℕ) → AllByRecursion Keeps xs
+    → fault_in (collected (length xs + k) part next) at (flat_map text xs ++ rest) ≡ fault_in (collected k part (λ more. next (xs ++ more))) (at + size * length xs) rest
+collected_passes part text Keeps size is [] k next at rest all =
+    let zeros : 0 + k ≡ k = omega arith in
+    let place : at ≡ at + size * 0 = omega arith in
+    ap (λ (n : ℕ). fault_in (collected n part next) at rest) zeros ∙ ap (λ (a : ℕ). fault_in (collected k part next) a rest) place
+collected_passes {A} part text Keeps size is (x ∷ xs) k next at rest all =
+    let count : suc (length xs) + k ≡ suc (length xs + k) = omega arith in
+    let place : at + size + size * length xs ≡ at + size * suc (length xs) = grind arith in
+    ap (λ (n : ℕ). fault_in (collected n part next) at (flat_map text (x ∷ xs) ++ rest)) count
+    ∙ ap (λ (t : List ℕ). fault_in (part (λ y. collected (length xs + k) part (λ ys. next (y ∷ ys)))) at t) (append_assoc (text x) (flat_map text xs) rest)
+    ∙ is.passes x all.0 (λ y. collected (length xs + k) part (λ ys. next (y ∷ ys))) at (flat_map text xs ++ rest)
+    ∙ collected_passes part text Keeps size is xs k (λ ys. next (x ∷ ys)) (at + size) rest all.1
+    ∙ ap (λ (a : ℕ). fault_in (collected k part (λ more. next ((x ∷ xs) ++ more))) a rest) place
 
 -- a fault of the next part is the fault of them all
 pub repeats_fault : {A : Type 0} (part : Form → Form) (text : A → List ℕ) (Keeps : A → Type 0) (size total count : ℕ) (xs : List A) (start rest : Rest) (e : CertFault) → IsPart part text Keeps size

@@ -1,17 +1,17 @@
 -- The rows that are not Carried, and the nodes, fix all rows of a foldable certificate.
-use Rattle.std.proofs.Common.{◌≡◌, ◌≢◌, ◌⊎◌, ◌∙◌, ◌==◌, ◌||◌, ◌<◌, ◌*◌, ◌-◌, ◌&&◌, nat_lt, ℕ, zero, suc, Bool, true, false, not, List, [], ◌∷◌, Option, Some, None, filter, length, get_or, slice_get, inl, inr, refl, sym, ap, subst, arith}
+use Rattle.std.proofs.Common.{◌≡◌, ◌≢◌, ◌⊎◌, ◌∙◌, ◌==◌, ◌<◌, ◌*◌, ◌-◌, nat_lt, ℕ, zero, suc, true, false, not, List, [], ◌∷◌, Option, Some, None, filter, length, slice_get, inl, inr, refl, sym, ap, subst, arith}
 use Rattle.std.proofs.lemmas.Bool.{and_parts, cases_Bool, cases_eq, eq-eqb, eqb-true, ltb-true, ne_eqb, false≢true}
 use Rattle.std.proofs.lemmas.List.{same_lists}
 use Rattle.std.proofs.lemmas.Option.{get_or_from_slice_get, same_Some}
-use Rattle.std.specs.Option.{option_and_then, option_map, option_map_or}
+use Rattle.std.specs.Option.{option_and_then}
 use Rattle.mrt_graph.specs.declared.cert.CertLink.{CertLink}
 use Rattle.mrt_graph.specs.declared.cert.CertNode.{CertNode}
 use Rattle.mrt_graph.specs.declared.cert.Row.{Row}
 use Rattle.mrt_graph.specs.declared.cert.Tag.TheVariants.{Carried}
-use Rattle.mrt_graph.specs.BothThere.{are_different, are_equal}
+use Rattle.mrt_graph.specs.BothThere.{are_different}
 use Rattle.mrt_graph.specs.Certificate.{Certificate, are_two, certificate_of, row_of}
 use Rattle.mrt_graph.specs.CertWords.{block_of, head_of}
-use Rattle.mrt_graph.specs.Foldable.{IsFoldable, comes_to, in_chain, is_folded}
+use Rattle.mrt_graph.specs.Foldable.{IsFoldable, in_chain, is_folded}
 use Rattle.cert_format.specs.Folded.{is_near}
 use Rattle.mrt_graph.specs.Related.{are_unrelated}
 use Rattle.mrt_graph.specs.RowPlace.{place_of_row}
@@ -53,7 +53,7 @@ same_near (a ∷ xs) (b ∷ ys) count alike same k x y x_is y_is near = elim (ca
     later (suc j) x_at y_at fails rest = rest j x_at y_at
 
 -- the chain goes on from the head
-chain_shift : (c : Certificate) (k a : ℕ) → in_chain c (suc k) a ≡ option_and_then (in_chain c k) (head_of c a)
+pub chain_shift : (c : Certificate) (k a : ℕ) → in_chain c (suc k) a ≡ option_and_then (in_chain c k) (head_of c a)
 chain_shift c zero a = go (head_of c a)
   where
     go : (o : Option ℕ) → o ≡ option_and_then (in_chain c zero) o
@@ -66,32 +66,32 @@ chain_shift c (suc k) a = ap (option_and_then (head_of c)) (chain_shift c k a) �
     go (Some h) = refl
 
 -- a row of two nodes, and how it is folded
-record Folded (c : Certificate) (r s t : ℕ) : Type 0 where
-  row : Row
-  is : row_of c s t ≡ Some row
-  folds : is_folded c r s t row ≡ true
+pub record Folded (c : Certificate) (r s t : ℕ) : Type 0 where
+  pub row : Row
+  pub is : row_of c s t ≡ Some row
+  pub folds : is_folded c r s t row ≡ true
 
-folded_at : (c : Certificate) (f : IsFoldable c) (s t : ℕ) → s < length c.nodes → t < length c.nodes → s ≢ t → Folded c f.top s t
+pub folded_at : (c : Certificate) (f : IsFoldable c) (s t : ℕ) → s < length c.nodes → t < length c.nodes → s ≢ t → Folded c f.top s t
 folded_at c f s t s_within t_within two =
     let p = some_passes (is_folded c f.top s t) (row_of c s t)
     (unless (s == t) _ (f.rows s t s_within t_within) (ne_eqb s t two)) in
     record { row = p.value; is = p.is; folds = p.passes }
 
 -- a row is near where its nodes are related
-near_told : (c : Certificate) (r s t : ℕ) (row : Row) → is_folded c r s t row ≡ true → is_near row ≡ not (are_unrelated c s t)
+pub near_told : (c : Certificate) (r s t : ℕ) (row : Row) → is_folded c r s t row ≡ true → is_near row ≡ not (are_unrelated c s t)
 near_told c r s t row folds = elim (cases_Bool (are_unrelated c s t)) [
   | inl far ↦ let tests = rw far at folds in ap not ((and_parts (same_tag row.tag Carried) _ tests).0) ∙ sym (ap not far)
   | inr near ↦ let tests = rw near at folds in tests ∙ sym (ap not near)
 ]
 
 -- a far row has the links of the row for the carrier
-record Carries (c : Certificate) (s h : ℕ) (row : Row) : Type 0 where
-  other : Row
-  is : row_of c s h ≡ Some other
-  blue : row.blue ≡ other.blue
-  red : row.red ≡ other.red
+pub record Carries (c : Certificate) (s h : ℕ) (row : Row) : Type 0 where
+  pub other : Row
+  pub is : row_of c s h ≡ Some other
+  pub blue : row.blue ≡ other.blue
+  pub red : row.red ≡ other.red
 
-carries : (c : Certificate) (r s t h : ℕ) (row : Row) → is_folded c r s t row ≡ true → are_unrelated c s t ≡ true
+pub carries : (c : Certificate) (r s t h : ℕ) (row : Row) → is_folded c r s t row ≡ true → are_unrelated c s t ≡ true
     → carrier c r s t ≡ Some h → Carries c s h row
 carries c r s t h row folds far by =
     let tests = rw far at folds in
@@ -116,12 +116,12 @@ none_is_none : {X : Type 0} (x : X) → ◌≡◌ {A = Option X} None (Some x) �
 none_is_none x e = cc
 
 -- a row is one of two nodes that are there
-record Pair (c : Certificate) (s t : ℕ) : Type 0 where
-  first : s < length c.nodes
-  second : t < length c.nodes
-  differ : s ≢ t
+pub record Pair (c : Certificate) (s t : ℕ) : Type 0 where
+  pub first : s < length c.nodes
+  pub second : t < length c.nodes
+  pub differ : s ≢ t
 
-pair_of_row : (c : Certificate) (s t : ℕ) (row : Row) → row_of c s t ≡ Some row → Pair c s t
+pub pair_of_row : (c : Certificate) (s t : ℕ) (row : Row) → row_of c s t ≡ Some row → Pair c s t
 pair_of_row c s t row is = elim (cases_Bool (are_two (length c.nodes) s t)) [
   | inl two ↦
       let one = and_parts (nat_lt s (length c.nodes)) _ two in
@@ -131,7 +131,7 @@ pair_of_row c s t row is = elim (cases_Bool (are_two (length c.nodes) s t)) [
 ]
 
 -- a carrier is there
-carrier_there : (c : Certificate) (r s t : ℕ) (row : Row) → is_folded c r s t row ≡ true → are_unrelated c s t ≡ true
+pub carrier_there : (c : Certificate) (r s t : ℕ) (row : Row) → is_folded c r s t row ≡ true → are_unrelated c s t ≡ true
     → (h : ℕ) × (carrier c r s t ≡ Some h)
 carrier_there c r s t row folds far = go (carrier c r s t) refl
   where
@@ -144,14 +144,14 @@ carrier_there c r s t row folds far = go (carrier c r s t) refl
         let none : option_and_then (row_of c s) (carrier c r s t) ≡ None = ap (option_and_then (row_of c s)) is in
         absurd (none_is_none p.value (sym none ∙ p.is))
 
-carrier_far : (c : Certificate) (r s t : ℕ) → t ≢ r → carrier c r s t ≡ head_of c t
+pub carrier_far : (c : Certificate) (r s t : ℕ) → t ≢ r → carrier c r s t ≡ head_of c t
 carrier_far c r s t other = rw (ne_eqb t r other) refl
 
-carrier_home : (c : Certificate) (r s t : ℕ) → t ≡ r → carrier c r s t ≡ head_of c s
+pub carrier_home : (c : Certificate) (r s t : ℕ) → t ≡ r → carrier c r s t ≡ head_of c s
 carrier_home c r s t same = rw (eq-eqb t r same) refl
 
 -- a node and its head are related
-under_head : (c : Certificate) (s h : ℕ) → head_of c s ≡ Some h → are_unrelated c s h ≡ false
+pub under_head : (c : Certificate) (s h : ℕ) → head_of c s ≡ Some h → are_unrelated c s h ≡ false
 under_head c s h is = go (cases_Bool (are_unrelated c s h))
   where
     go : (are_unrelated c s h ≡ true) ⊎ (are_unrelated c s h ≡ false) → are_unrelated c s h ≡ false
@@ -163,9 +163,9 @@ under_head c s h is = go (cases_Bool (are_unrelated c s h))
         absurd (false≢true (sym (ap not (eq-eqb h h refl)) ∙ same))
 
 module _ (nodes : List CertNode) (links more : List CertLink) (rows others : List Row)
-  (count : length rows ≡ length nodes * (length nodes - 1)) (other_count : length others ≡ length nodes * (length nodes - 1))
-  (folds : IsFoldable (certificate_of nodes links rows)) (other_folds : IsFoldable (certificate_of nodes more others))
-  (same : filter is_near rows ≡ filter is_near others) where
+    (count : length rows ≡ length nodes * (length nodes - 1)) (other_count : length others ≡ length nodes * (length nodes - 1))
+    (folds : IsFoldable (certificate_of nodes links rows)) (other_folds : IsFoldable (certificate_of nodes more others))
+    (same : filter is_near rows ≡ filter is_near others) where
   abbrev a : Certificate
   a = certificate_of nodes links rows
 

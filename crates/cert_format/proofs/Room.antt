@@ -2,7 +2,7 @@
 use Rattle.std.proofs.Common.{◌≡◌, ◌+◌, ◌≤◌, length, Option, Some, None, vec_capacity, sym, ap, subst, ◌∙◌, arith}
 use Rattle.cert_format.specs.declared.header.Header.{Header}
 use Rattle.cert_format.specs.declared.kept.Kept.{Kept}
-use Rattle.cert_format.specs.Parts.{row_count}
+use Rattle.cert_format.specs.Versions.{all_rows}
 use Rattle.cert_format.specs.Room.{HasRoom, KeepsRoom}
 
 same_header : (a b : Header) → Some a ≡ Some b → a ≡ b
@@ -41,11 +41,11 @@ room_at_header kept header came some none room =
 -- a node came, the last one with room for the links and the rows
 pub room_at_node : (old new : Kept) (header : Header) → old.header ≡ Some header → HasRoom old → KeepsRoom old new → new.header ≡ old.header → length new.nodes.items ≡ length old.nodes.items + 1
     → (header.nodes ≤ length old.nodes.items + 1 → header.links ≤ vec_capacity new.links)
-    → (header.nodes ≤ length old.nodes.items + 1 → row_count header.nodes ≤ vec_capacity new.rows) → HasRoom new
+    → (header.nodes ≤ length old.nodes.items + 1 → all_rows header.nodes ≤ vec_capacity new.rows) → HasRoom new
 room_at_node old new header came room keeps same more links rows =
     let same_one : (announced : Header) → new.header ≡ Some announced → header ≡ announced = λ announced is. same_header header announced (sym came ∙ sym same ∙ is) in
     record {
       nodes = λ announced is. omega (arith, room.nodes announced (sym same ∙ is), keeps.nodes);
       links = λ announced is all. subst (λ (it : Header). it.links ≤ vec_capacity new.links) (same_one announced is) (links (omega (arith, all, more, ap (λ (it : Header). it.nodes) (same_one announced is))));
-      rows = λ announced is all. subst (λ (it : Header). row_count it.nodes ≤ vec_capacity new.rows) (same_one announced is) (rows (omega (arith, all, more, ap (λ (it : Header). it.nodes) (same_one announced is))));
+      rows = λ announced is all. subst (λ (it : Header). all_rows it.nodes ≤ vec_capacity new.rows) (same_one announced is) (rows (omega (arith, all, more, ap (λ (it : Header). it.nodes) (same_one announced is))));
     }

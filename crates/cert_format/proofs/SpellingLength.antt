@@ -1,12 +1,14 @@
 -- How many bytes a certificate file has.
-use Rattle.std.proofs.Common.{◌≡◌, ◌≤◌, ◌+◌, ◌*◌, ℕ, suc, List, [], ◌∷◌, ◌++◌, length, refl, arith}
+use Rattle.std.proofs.Common.{◌≡◌, ◌≤◌, ◌+◌, ◌*◌, ℕ, suc, List, [], ◌∷◌, ◌++◌, length, inl, inr, refl, arith}
 use Rattle.std.specs.List.{flat_map}
 use Rattle.std.proofs.lemmas.List.{length-append}
 use Rattle.mrt_graph.specs.Certificate.{IsCertificate}
 use Rattle.mrt_graph.specs.declared.cert.CertFile.{CertFile}
 use Rattle.cert_format.specs.CertText.{cert_text, header_text, link_text, node_text, row_text}
-use Rattle.cert_format.specs.Limits.{IsVersionOne}
-use Rattle.cert_format.proofs.PartsText.{few_row_count}
+use Rattle.cert_format.specs.Limits.{IsCertFile, IsOfVersion}
+use Rattle.cert_format.specs.Versions.{all_rows, rows_in, stands_in}
+use Rattle.cert_format.proofs.PartsText.{few_rows}
+use Rattle.std.proofs.lemmas.List.Sums.{count_by-le-length, length-filter}
 
 -- parts of so many bytes each
 parts_length : {A : Type 0} (text : A → List ℕ) (size : ℕ) → ((x : A) → length (text x) ≡ size) → (xs : List A)
@@ -20,26 +22,40 @@ parts_length text size sized (x ∷ xs) =
     omega (arith, here, rest, both, product)
 
 pub spelling_length : (f : CertFile) → length (cert_text f)
-    ≡ 14 + 11 * length f.cert.nodes + 7 * length f.cert.links + 5 * length f.cert.rows
+    ≡ 14 + 11 * length f.cert.nodes + 7 * length f.cert.links + 5 * length (rows_in f.version f.cert.rows)
 spelling_length f =
-    let header : length (header_text (length f.cert.nodes) (length f.cert.links) f.root) ≡ 14 = refl in
+    let rows_text = flat_map row_text (rows_in f.version f.cert.rows) in
+    let header : length (header_text f.version (length f.cert.nodes) (length f.cert.links) f.root) ≡ 14 = refl in
     let nodes = parts_length node_text 11 (λ x. refl) f.cert.nodes in
     let links = parts_length link_text 7 (λ x. refl) f.cert.links in
-    let rows = parts_length row_text 5 (λ x. refl) f.cert.rows in
-    let first = length-append (header_text (length f.cert.nodes) (length f.cert.links) f.root)
-    (flat_map node_text f.cert.nodes ++ (flat_map link_text f.cert.links ++ flat_map row_text f.cert.rows)) in
-    let second = length-append (flat_map node_text f.cert.nodes)
-    (flat_map link_text f.cert.links ++ flat_map row_text f.cert.rows) in
-    let third = length-append (flat_map link_text f.cert.links) (flat_map row_text f.cert.rows) in
+    let rows = parts_length row_text 5 (λ x. refl) (rows_in f.version f.cert.rows) in
+    let first = length-append (header_text f.version (length f.cert.nodes) (length f.cert.links) f.root)
+    (flat_map node_text f.cert.nodes ++ (flat_map link_text f.cert.links ++ rows_text)) in
+    let second = length-append (flat_map node_text f.cert.nodes) (flat_map link_text f.cert.links ++ rows_text) in
+    let third = length-append (flat_map link_text f.cert.links) rows_text in
     omega (arith, header, nodes, links, rows, first, second, third)
 
 -- of so many nodes and links
-pub few_spelled : (f : CertFile) → IsCertificate f.cert → length f.cert.nodes ≤ 2048 → length f.cert.links ≤ 8192 → length (cert_text f) ≤ 21041166
-few_spelled f is nodes links =
+few_spelled_by : (f : CertFile) (most more : ℕ) → IsCertificate f.cert → length f.cert.nodes ≤ most → length f.cert.links ≤ more
+    → length (cert_text f) ≤ 14 + 11 * most + 7 * more + 5 * all_rows most
+few_spelled_by f most more is nodes links =
     let length_is = spelling_length f in
-    let few = few_row_count (length f.cert.nodes) nodes in
+    let few = few_rows (length f.cert.nodes) most nodes in
     let rows = is.a_row_each in
-    omega (arith, length_is, few, rows, nodes, links)
+    let standing = length-filter (stands_in f.version) f.cert.rows in
+    let fewer = count_by-le-length (stands_in f.version) f.cert.rows in
+    omega (arith, length_is, few, rows, nodes, links, standing, fewer)
 
-pub longest_spelling : (f : CertFile) → IsVersionOne f → length (cert_text f) ≤ 21041166
-longest_spelling f within = few_spelled f within.certificate within.nodes within.links
+pub few_spelled : (f : CertFile) → IsCertificate f.cert → IsOfVersion f → length (cert_text f) ≤ 84025358
+few_spelled f is (inl one) = few_spelled_by f 4096 16384 is (omega (arith, one.nodes)) (omega (arith, one.links))
+few_spelled f is (inr two) = few_spelled_by f 4096 16384 is two.nodes two.links
+
+pub longest_spelling : (f : CertFile) → IsCertFile f → length (cert_text f) ≤ 84025358
+longest_spelling f within = few_spelled f within.certificate within.of_version
+
+pub longest_one : (f : CertFile) → IsCertFile f → f.version ≡ 1 → length (cert_text f) ≤ 21041166
+longest_one f within version = go within.of_version
+  where
+    go : IsOfVersion f → length (cert_text f) ≤ 21041166
+    go (inl one) = few_spelled_by f 2048 8192 within.certificate one.nodes one.links
+    go (inr two) = absurd (omega (arith, version, two.version))

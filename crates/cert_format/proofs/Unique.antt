@@ -1,10 +1,11 @@
 -- No two files have one spelling.
-use Rattle.std.proofs.Common.{◌≡◌, ℕ, zero, suc, ◌-◌, ◌*◌, ◌^◌, ◌<◌, ◌≤◌, List, [], ◌∷◌, ◌++◌, length, take, drop, refl, sym, ap, subst, ◌∙◌, append_assoc, arith}
+use Rattle.std.proofs.Common.{◌≡◌, inl, inr, ℕ, zero, suc, ◌-◌, ◌*◌, ◌^◌, ◌<◌, ◌≤◌, List, [], ◌∷◌, ◌++◌, length, take, drop, refl, sym, ap, subst, ◌∙◌, append_assoc, arith}
 use Rattle.std.specs.Int.{Width, w8, w16, w32, byte_len, from_be_bytes, to_be_bytes}
 use Rattle.std.specs.List.{flat_map, AllByRecursion}
 use Rattle.std.specs.Prelude.{codes}
 use Rattle.std.proofs.lemmas.List.{take_at, drop_at, append-nil}
-use Rattle.mrt_graph.specs.Certificate.{IsCertLink, IsCertRow, certificate_of}
+use Rattle.mrt_graph.specs.Certificate.{IsCertLink, certificate_of}
+use Rattle.mrt_graph.specs.Foldable.{IsFoldable}
 use Rattle.mrt_graph.specs.declared.node_id.Kind.{Kind}
 use Rattle.mrt_graph.specs.declared.node_id.Kind.TheVariants as kinds
 use Rattle.mrt_graph.specs.declared.cert.Role.{Role}
@@ -17,10 +18,15 @@ use Rattle.mrt_graph.specs.declared.cert.CertLink.{CertLink}
 use Rattle.mrt_graph.specs.declared.cert.CertFile.{CertFile}
 use Rattle.mrt_graph.specs.Tags.{tag_number}
 use Rattle.cert_format.specs.CertText.{kind_number, role_number, node_text, link_text, row_text, cert_text}
-use Rattle.cert_format.specs.Limits.{IsVersionOne}
+use Rattle.cert_format.specs.Limits.{IsCertFile, IsOfVersion}
 use Rattle.cert_format.specs.Reading.{IsNode}
+use Rattle.cert_format.specs.Versions.{row_count}
 use Rattle.cert_format.proofs.Fields.{IsWide, wide8, wide16, wide32, kind_small, role_small, tag_small}
-use Rattle.cert_format.proofs.Files.{file_header, file_nodes}
+use Rattle.cert_format.specs.Reading.{IsFileRow}
+use Rattle.cert_format.specs.Versions.{rows_in, tag_count}
+use Rattle.cert_format.proofs.FileRows.{all_stand, file_rows_count}
+use Rattle.cert_format.proofs.Files.{file_header, file_nodes, file_rows, small_version}
+use Rattle.cert_format.proofs.OneUnfolding.{one_unfolding}
 
 -- two lists that begin with pieces of one length are one piece by piece
 pub pieces : (n : ℕ) (a : List ℕ) (b : List ℕ) (r : List ℕ) (s : List ℕ) → length a ≡ n → length b ≡ n → a ++ r ≡ b ++ s → (a ≡ b) × (r ≡ s)
@@ -117,10 +123,10 @@ links_one n few x y kx ky e =
     let r = numbers w8 (role_number x.role) (role_number y.role) [] [] wide8 (role_small x.role) (role_small y.role) k.1 in
     link_is x y a.0 b.0 k.0 (sym (role_again x.role) ∙ ap role_back r.0 ∙ role_again y.role)
 
-rows_one : (m : ℕ) → m ≤ 65535 → (x y : Row) → IsCertRow m x → IsCertRow m y → row_text x ≡ row_text y → x ≡ y
-rows_one m few x y kx ky e =
-    let b = numbers w16 x.blue y.blue _ _ wide16 (omega arith) (omega arith) e in
-    let r = numbers w16 x.red y.red _ _ wide16 (omega arith) (omega arith) b.1 in
+rows_one : (tags m : ℕ) → m ≤ 65535 → (x y : Row) → IsFileRow tags m x → IsFileRow tags m y → row_text x ≡ row_text y → x ≡ y
+rows_one tags m few x y kx ky e =
+    let b = numbers w16 x.blue y.blue _ _ wide16 (omega (arith, kx.kept.blue)) (omega (arith, ky.kept.blue)) e in
+    let r = numbers w16 x.red y.red _ _ wide16 (omega (arith, kx.kept.red)) (omega (arith, ky.kept.red)) b.1 in
     let t = numbers w8 (tag_number x.tag) (tag_number y.tag) [] [] wide8 (tag_small x.tag) (tag_small y.tag) r.1 in
     row_is x y b.0 r.0 (sym (tag_again x.tag) ∙ ap tag_back t.0 ∙ tag_again y.tag)
 
@@ -138,28 +144,58 @@ lists_one text Keeps size sized one (x ∷ xs) (y ∷ ys) r s same kx ky e =
     let there : xs ≡ ys = others.0 in
     (cc, others.1)
 
-file_is : (f g : CertFile) → f.root ≡ g.root → f.cert.nodes ≡ g.cert.nodes → f.cert.links ≡ g.cert.links → f.cert.rows ≡ g.cert.rows → f ≡ g
-file_is f g r n l w =
-    let made : ℕ → List CertNode → List CertLink → List Row → CertFile = λ root nodes links rows. record { root = root; cert = certificate_of nodes links rows } in
-    ap (λ (v : ℕ). made v f.cert.nodes f.cert.links f.cert.rows) r
-    ∙ ap (λ (v : List CertNode). made g.root v f.cert.links f.cert.rows) n
-    ∙ ap (λ (v : List CertLink). made g.root g.cert.nodes v f.cert.rows) l
-    ∙ ap (λ (v : List Row). made g.root g.cert.nodes g.cert.links v) w
+file_is : (f g : CertFile) → f.version ≡ g.version → f.root ≡ g.root → f.cert.nodes ≡ g.cert.nodes → f.cert.links ≡ g.cert.links → f.cert.rows ≡ g.cert.rows → f ≡ g
+file_is f g v r n l w =
+    let made : ℕ → ℕ → List CertNode → List CertLink → List Row → CertFile = λ version root nodes links rows. record { version = version; root = root; cert = certificate_of nodes links rows } in
+    ap (λ (it : ℕ). made it f.root f.cert.nodes f.cert.links f.cert.rows) v
+    ∙ ap (λ (it : ℕ). made g.version it f.cert.nodes f.cert.links f.cert.rows) r
+    ∙ ap (λ (it : List CertNode). made g.version g.root it f.cert.links f.cert.rows) n
+    ∙ ap (λ (it : List CertLink). made g.version g.root g.cert.nodes it f.cert.rows) l
+    ∙ ap (λ (it : List Row). made g.version g.root g.cert.nodes g.cert.links it) w
 
-pub one_file : (f g : CertFile) → IsVersionOne f → IsVersionOne g → cert_text f ≡ cert_text g → f ≡ g
+one_or_two : ◌≡◌ {A = ℕ} 1 2 → ⊥
+one_or_two e = omega (arith, e)
+
+-- the rows that stand in a file fix all its rows
+all_rows_one : (f g : CertFile) → IsCertFile f → IsCertFile g → f.version ≡ g.version → f.cert.nodes ≡ g.cert.nodes → rows_in f.version f.cert.rows ≡ rows_in g.version g.cert.rows
+    → IsOfVersion f → IsOfVersion g → f.cert.rows ≡ g.cert.rows
+all_rows_one f g kf kg v n e (inl one) (inl other) =
+    sym (all_stand f.cert.rows) ∙ ap (λ (it : ℕ). rows_in it f.cert.rows) (sym one.version) ∙ e
+    ∙ ap (λ (it : ℕ). rows_in it g.cert.rows) other.version ∙ all_stand g.cert.rows
+all_rows_one f g kf kg v n e (inl one) (inr other) = absurd (one_or_two (sym one.version ∙ v ∙ other.version))
+all_rows_one f g kf kg v n e (inr one) (inl other) = absurd (one_or_two (sym other.version ∙ sym v ∙ one.version))
+all_rows_one f g kf kg v n e (inr one) (inr other) =
+    let near : rows_in 2 f.cert.rows ≡ rows_in 2 g.cert.rows =
+    ap (λ (it : ℕ). rows_in it f.cert.rows) (sym one.version) ∙ e ∙ ap (λ (it : ℕ). rows_in it g.cert.rows) other.version in
+    let folds : IsFoldable (certificate_of f.cert.nodes g.cert.links g.cert.rows) =
+    subst (λ (it : List CertNode). IsFoldable (certificate_of it g.cert.links g.cert.rows)) (sym n) (foldable_again g other.foldable) in
+    one_unfolding f.cert.nodes f.cert.links g.cert.links f.cert.rows g.cert.rows kf.certificate.a_row_each
+    (kg.certificate.a_row_each ∙ ap (λ (it : List CertNode). length it * (length it - 1)) (sym n)) (foldable_again f one.foldable) folds near
+  where
+    foldable_again : (f : CertFile) → IsFoldable f.cert → IsFoldable (certificate_of f.cert.nodes f.cert.links f.cert.rows)
+    foldable_again f folds = record { top = folds.top; least = folds.least; chains = folds.chains; rows = folds.rows }
+
+pub one_file : (f g : CertFile) → IsCertFile f → IsCertFile g → cert_text f ≡ cert_text g → f ≡ g
 one_file f g kf kg e =
     let hf = file_header f kf in
     let hg = file_header g kg in
-    let v = pieces 6 (codes "MRTC" ++ to_be_bytes w16 1) (codes "MRTC" ++ to_be_bytes w16 1) _ _ refl refl e in
-    let n = numbers w16 (length f.cert.nodes) (length g.cert.nodes) _ _ wide16 (omega (arith, kf.nodes)) (omega (arith, kg.nodes)) v.1 in
-    let m = numbers w16 (length f.cert.links) (length g.cert.links) _ _ wide16 (omega (arith, kf.links)) (omega (arith, kg.links)) n.1 in
+    let magic = pieces 4 (codes "MRTC") (codes "MRTC") _ _ refl refl e in
+    let v = numbers w16 f.version g.version _ _ wide16 (small_version f.version hf.known) (small_version g.version hg.known) magic.1 in
+    let n = numbers w16 (length f.cert.nodes) (length g.cert.nodes) _ _ wide16 (omega (arith, kf.certificate.few_nodes)) (omega (arith, kg.certificate.few_nodes)) v.1 in
+    let m = numbers w16 (length f.cert.links) (length g.cert.links) _ _ wide16 (omega (arith, kf.certificate.few_links)) (omega (arith, kg.certificate.few_links)) n.1 in
     let r = numbers w32 f.root g.root _ _ wide32 kf.root kg.root m.1 in
+    let rows_f = rows_in f.version f.cert.rows in
+    let rows_g = rows_in g.version g.cert.rows in
+    let tags = tag_count f.version in
     let nodes_g : AllByRecursion (IsNode (length f.cert.nodes)) g.cert.nodes = subst (λ (k : ℕ). AllByRecursion (IsNode k) g.cert.nodes) (sym n.0) (file_nodes g kg) in
     let links_g : AllByRecursion (IsCertLink (length f.cert.nodes)) g.cert.links = subst (λ (k : ℕ). AllByRecursion (IsCertLink k) g.cert.links) (sym n.0) kg.certificate.links_kept in
-    let rows_g : AllByRecursion (IsCertRow (length f.cert.links)) g.cert.rows = subst (λ (k : ℕ). AllByRecursion (IsCertRow k) g.cert.rows) (sym m.0) kg.certificate.rows_kept in
-    let many : length f.cert.rows ≡ length g.cert.rows = kf.certificate.a_row_each ∙ ap (λ (k : ℕ). k * (k - 1)) n.0 ∙ sym kg.certificate.a_row_each in
+    let kept_g : AllByRecursion (IsFileRow tags (length f.cert.links)) rows_g =
+    subst (λ (k : ℕ). AllByRecursion (IsFileRow (tag_count k) (length f.cert.links)) rows_g) (sym v.0)
+    (subst (λ (k : ℕ). AllByRecursion (IsFileRow (tag_count g.version) k) rows_g) (sym m.0) (file_rows g kg)) in
     let ns = lists_one node_text (IsNode (length f.cert.nodes)) 11 (λ x. refl) (nodes_one (length f.cert.nodes) kf.certificate.few_nodes) f.cert.nodes g.cert.nodes _ _ n.0 (file_nodes f kf) nodes_g r.1 in
     let ls = lists_one link_text (IsCertLink (length f.cert.nodes)) 7 (λ x. refl) (links_one (length f.cert.nodes) kf.certificate.few_nodes) f.cert.links g.cert.links _ _ m.0 kf.certificate.links_kept links_g ns.1 in
-    let rows : flat_map row_text f.cert.rows ++ [] ≡ flat_map row_text g.cert.rows ++ [] = append-nil (flat_map row_text f.cert.rows) ∙ ls.1 ∙ sym (append-nil (flat_map row_text g.cert.rows)) in
-    let rs = lists_one row_text (IsCertRow (length f.cert.links)) 5 (λ x. refl) (rows_one (length f.cert.links) kf.certificate.few_links) f.cert.rows g.cert.rows [] [] many kf.certificate.rows_kept rows_g rows in
-    file_is f g r.0 ns.0 ls.0 rs.0
+    let many : length rows_f ≡ length rows_g =
+    file_rows_count f kf ∙ ap (λ (k : ℕ). row_count k f.cert.nodes) v.0 ∙ ap (row_count g.version) ns.0 ∙ sym (file_rows_count g kg) in
+    let rows : flat_map row_text rows_f ++ [] ≡ flat_map row_text rows_g ++ [] = append-nil (flat_map row_text rows_f) ∙ ls.1 ∙ sym (append-nil (flat_map row_text rows_g)) in
+    let rs = lists_one row_text (IsFileRow tags (length f.cert.links)) 5 (λ x. refl) (rows_one tags (length f.cert.links) kf.certificate.few_links) rows_f rows_g [] [] many (file_rows f kf) kept_g rows in
+    file_is f g v.0 r.0 ns.0 ls.0 (all_rows_one f g kf kg v.0 ns.0 rs.0 kf.of_version kg.of_version)

@@ -11,6 +11,7 @@ use Rattle.mrt_graph.specs.declared.cert.CertNode.{CertNode}
 use Rattle.mrt_graph.specs.declared.cert.CertLink.{CertLink}
 use Rattle.mrt_graph.specs.declared.cert.CertFile.{CertFile}
 use Rattle.mrt_graph.specs.Tags.{tag_number}
+use Rattle.cert_format.specs.Versions.{rows_in}
 
 -- the number that spells a kind
 abbrev pub kind_number : Kind → ℕ
@@ -24,9 +25,9 @@ role_number roles.Sole = 1
 role_number roles.Closing = 2
 
 -- a header: the magic bytes, the version, the number of nodes, the number of links and the root's router ID
-abbrev pub header_text : ℕ → ℕ → ℕ → List ℕ
-header_text nodes links root =
-    codes "MRTC" ++ (to_be_bytes w16 1 ++ (to_be_bytes w16 nodes ++ (to_be_bytes w16 links ++ to_be_bytes w32 root)))
+abbrev pub header_text : ℕ → ℕ → ℕ → ℕ → List ℕ
+header_text version nodes links root =
+    codes "MRTC" ++ (to_be_bytes w16 version ++ (to_be_bytes w16 nodes ++ (to_be_bytes w16 links ++ to_be_bytes w32 root)))
 
 -- a node: its kind and its number, its order, its head and its block
 abbrev pub node_text : CertNode → List ℕ
@@ -42,8 +43,9 @@ link_text link =
 abbrev pub row_text : Row → List ℕ
 row_text row = to_be_bytes w16 row.blue ++ (to_be_bytes w16 row.red ++ to_be_bytes w8 (tag_number row.tag))
 
--- the header, then the nodes and the links by number, and the rows by ascending source, then by ascending destination
+-- the header, then the nodes and the links by number, and those rows that stand in a file of this version, by ascending
+-- source, then by ascending destination
 abbrev pub cert_text : CertFile → List ℕ
 cert_text f =
-    header_text (length f.cert.nodes) (length f.cert.links) f.root
-    ++ (flat_map node_text f.cert.nodes ++ (flat_map link_text f.cert.links ++ flat_map row_text f.cert.rows))
+    header_text f.version (length f.cert.nodes) (length f.cert.links) f.root
+    ++ (flat_map node_text f.cert.nodes ++ (flat_map link_text f.cert.links ++ flat_map row_text (rows_in f.version f.cert.rows)))

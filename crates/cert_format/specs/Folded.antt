@@ -20,16 +20,15 @@ abbrev pub head_fault : Certificate → Option ℕ
 head_fault c =
     option_map_or (λ r. least (λ a. not (comes_to c r a)) (length c.nodes)) (least (is_own_head c) (length c.nodes)) (Some 0)
 
--- each node with each other one, by ascending source, then by ascending destination
-abbrev pub pairs : ℕ → List (ℕ × ℕ)
-pairs n =
-    flat_map (λ s. map (λ t. (s, t)) (filter (λ t. not (t == s)) (range_with_len 0 n))) (range_with_len 0 n)
+-- of each node but s whether s is related to it, by ascending number
+abbrev pub related_to : Certificate → ℕ → List Bool
+related_to c s =
+    map (λ t. not (are_unrelated c s t)) (filter (λ t. not (t == s)) (range_with_len 0 (length c.nodes)))
 
--- of each of them whether the two are related
+-- of each node and each other one whether they are related, by ascending source, then by ascending destination
 abbrev pub related_pairs : Certificate → List Bool
-related_pairs c = map (λ pair. not (are_unrelated c pair.0 pair.1)) (pairs (length c.nodes))
+related_pairs c = flat_map (related_to c) (range_with_len 0 (length c.nodes))
 
 -- a row that is not Carried
 abbrev pub is_near : Row → Bool
 is_near row = not (same_tag row.tag Carried)
-

@@ -1,7 +1,8 @@
--- The limits of version 1.
-use Rattle.std.specs.Prelude.{◌<◌, ◌≤◌, ◌^◌, length}
+-- The limits of the two versions, and what each certificate file keeps.
+use Rattle.std.specs.Prelude.{◌≡◌, ◌⊎◌, ◌<◌, ◌≤◌, ◌^◌, length}
 use Rattle.std.specs.List.{AllByRecursion}
 use Rattle.mrt_graph.specs.Certificate.{IsCertificate}
+use Rattle.mrt_graph.specs.Foldable.{IsFoldable}
 use Rattle.mrt_graph.specs.declared.cert.CertNode.{CertNode}
 use Rattle.mrt_graph.specs.declared.cert.CertFile.{CertFile}
 
@@ -9,10 +10,26 @@ use Rattle.mrt_graph.specs.declared.cert.CertFile.{CertFile}
 abbrev pub HasNumber : CertNode → Type 0
 HasNumber node = node.id.number < 2 ^ 32
 
--- a certificate file of version 1: what every certificate keeps, with numbers of 32 bits, and not too many nodes and links
+-- of version 1: not too many nodes and links
 pub record IsVersionOne (f : CertFile) : Type 0 where
+  pub version : f.version ≡ 1
+  pub nodes : length f.cert.nodes ≤ 2048
+  pub links : length f.cert.links ≤ 8192
+
+-- of version 2: not too many nodes and links, and the rows that it leaves out follow from its other ones
+pub record IsVersionTwo (f : CertFile) : Type 0 where
+  pub version : f.version ≡ 2
+  pub nodes : length f.cert.nodes ≤ 4096
+  pub links : length f.cert.links ≤ 16384
+  pub foldable : IsFoldable f.cert
+
+-- one of the two
+abbrev pub IsOfVersion : CertFile → Type 0
+IsOfVersion f = IsVersionOne f ⊎ IsVersionTwo f
+
+-- a certificate file: what every certificate keeps, with numbers of 32 bits, and what its version asks
+pub record IsCertFile (f : CertFile) : Type 0 where
   pub certificate : IsCertificate f.cert
   pub root : f.root < 2 ^ 32
   pub numbers : AllByRecursion HasNumber f.cert.nodes
-  pub nodes : length f.cert.nodes ≤ 2048
-  pub links : length f.cert.links ≤ 8192
+  pub of_version : IsOfVersion f

@@ -2,7 +2,7 @@
 use Rattle.std.specs.Prelude.{◌≡◌, ◌≤◌, Some, length, vec_capacity}
 use Rattle.cert_format.specs.declared.header.Header.{Header}
 use Rattle.cert_format.specs.declared.kept.Kept.{Kept}
-use Rattle.cert_format.specs.Parts.{row_count}
+use Rattle.cert_format.specs.Versions.{all_rows}
 
 -- there is room for all nodes once the header is there, and for all links and rows once all nodes are
 pub record HasRoom (kept : Kept) : Type 0 where
@@ -10,7 +10,7 @@ pub record HasRoom (kept : Kept) : Type 0 where
   pub links : (announced : Header) → kept.header ≡ Some announced → announced.nodes ≤ length kept.nodes.items
       → announced.links ≤ vec_capacity kept.links
   pub rows : (announced : Header) → kept.header ≡ Some announced → announced.nodes ≤ length kept.nodes.items
-      → row_count announced.nodes ≤ vec_capacity kept.rows
+      → all_rows announced.nodes ≤ vec_capacity kept.rows
 
 -- there is as much room as before
 pub record KeepsRoom (old new : Kept) : Type 0 where

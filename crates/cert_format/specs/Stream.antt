@@ -12,6 +12,7 @@ is_cut kinds.Magic = false
 is_cut kinds.Range = false
 is_cut kinds.Tag = false
 is_cut kinds.Trailing = false
+is_cut kinds.Heads = false
 
 -- the fault, unless more bytes may mend it
 abbrev pub if_certain : ℕ × CertKind → Option (ℕ × CertKind)

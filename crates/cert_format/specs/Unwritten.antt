@@ -7,15 +7,17 @@ use Rattle.mrt_graph.specs.declared.cert.Row.{Row}
 use Rattle.mrt_io.specs.declared.device.PutError.{PutError}
 use Rattle.mrt_io.specs.declared.device.PutError.TheVariants.{Failed}
 use Rattle.cert_format.specs.CertText.{node_text, link_text, row_text}
+use Rattle.cert_format.specs.Versions.{rows_in}
 
 -- the bytes that are there, and those of the parts after them
 pub record Unwritten : Type 0 where
   pub there : List ℕ
   pub after : List ℕ
 
--- the bytes of nodes, links and rows
-abbrev pub parts_text : List CertNode → List CertLink → List Row → List ℕ
-parts_text nodes links rows = flat_map node_text nodes ++ (flat_map link_text links ++ flat_map row_text rows)
+-- the bytes of nodes, links and those rows that stand in a file of this version
+abbrev pub parts_text : ℕ → List CertNode → List CertLink → List Row → List ℕ
+parts_text version nodes links rows =
+    flat_map node_text nodes ++ (flat_map link_text links ++ flat_map row_text (rows_in version rows))
 
 -- the error of a piece that follows so many bytes: how many were taken of all
 abbrev pub later_error : ℕ → PutError → PutError

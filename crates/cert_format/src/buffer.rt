@@ -4,7 +4,9 @@ ghost use Rattle.std.specs.Prelude.{◌≡◌, ◌⊎◌, ◌≤◌, ◌<◌, �
 ghost use Rattle.std.specs.List.{flat_map};
 ghost use Rattle.cert_format.specs.CertText.{link_text, node_text, row_text};
 ghost use Rattle.cert_format.specs.Buffer.{IsBuffer, buffer_of, piece_length, room_length};
+ghost use Rattle.cert_format.specs.Versions.{rows_in};
 
+use crate::versions::stands_in;
 use crate::writing::{link_bytes, node_bytes, row_bytes};
 use mrt_graph::{CertLink, CertNode, Row};
 
@@ -82,32 +84,37 @@ impl Buffer {
         links
     }
 
-    /// Rows, until a piece is there, and the rows that are left.
-    pub fn fill_rows<'a>(&mut self, rows: &'a [Row]) -> &'a [Row]
+    /// Those of the rows that stand in a file of this version, until a piece is there, and the rows that are left.
+    pub fn fill_rows<'a>(&mut self, version: u16, rows: &'a [Row]) -> &'a [Row]
         requires { IsBuffer self.old }
-        ensures text { buffer_of self.new ++ flat_map row_text result.now
-            ≡ buffer_of self.old ++ flat_map row_text rows.now }
+        ensures text { buffer_of self.new ++ flat_map row_text (rows_in version result.now)
+            ≡ buffer_of self.old ++ flat_map row_text (rows_in version rows.now) }
         ensures full { (piece_length ≤ length (buffer_of self.new)) ⊎ (result.now ≡ []) }
         ensures kept { IsBuffer self.new }
     {
-        let missing = PIECE.saturating_sub(self.len);
-        let (rows, rest) = rows.split_at(missing.div_ceil(5).min(rows.len()));
-        self.push_rows(rows);
-        rest
+        let mut rows = rows;
+        while self.len < PIECE && !rows.is_empty() {
+            let missing = PIECE - self.len;
+            let (front, rest) = rows.split_at(missing.div_ceil(5).min(rows.len()));
+            self.push_rows(version, front);
+            rows = rest;
+        }
+        rows
     }
 
     /// Rows that have room.
-    fn push_rows(&mut self, rows: &[Row])
+    fn push_rows(&mut self, version: u16, rows: &[Row])
         requires kept { IsBuffer self.old }
         requires room { self.old.len + 5 * length rows.now ≤ room_length }
-        ensures bytes { buffer_of self.new ≡ buffer_of self.old ++ flat_map row_text rows.now }
+        ensures bytes { buffer_of self.new ≡ buffer_of self.old ++ flat_map row_text (rows_in version rows.now) }
         ensures kept { IsBuffer self.new }
-        ensures len { self.new.len ≡ self.old.len + 5 * length rows.now }
     {
         let mut len = self.len;
         for row in rows {
-            self.bytes[len..len + 5].copy_from_slice(&row_bytes(row));
-            len += 5;
+            if stands_in(version, row) {
+                self.bytes[len..len + 5].copy_from_slice(&row_bytes(row));
+                len += 5;
+            }
         }
         self.len = len;
     }

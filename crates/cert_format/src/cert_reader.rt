@@ -4,7 +4,7 @@ ghost use Rattle.std.specs.Prelude.{◌≡◌, ◌≤◌, ◌++◌, ℕ, Ok, Err
 ghost use Rattle.mrt_graph.specs.declared.cert.CertFile.{CertFile};
 ghost use Rattle.cert_format.specs.declared.error.CertKind.{CertKind};
 ghost use Rattle.cert_format.specs.CertText.{cert_text};
-ghost use Rattle.cert_format.specs.Limits.{IsVersionOne};
+ghost use Rattle.cert_format.specs.Limits.{IsCertFile};
 ghost use Rattle.cert_format.specs.Stream.{end_fault, fed};
 ghost use Rattle.cert_format.specs.Held.{held_of};
 ghost use Rattle.cert_format.specs.Parts.{AreParts, parts_of, text_of};
@@ -16,11 +16,12 @@ use crate::error::{CertError, CertFault};
 use crate::held::Held;
 use crate::kept::Kept;
 use crate::rest::Rest;
+use crate::unfold::unfold;
 use mrt_graph::{Cert, CertFile};
 use std::alloc::Global;
 use std::marker::Model;
 
-/// Reads a certificate file of version 1 from a stream that comes in pieces.
+/// Reads a certificate file of version 1 or 2 from a stream that comes in pieces.
 ///
 /// It keeps the parts that are whole, and at most 13 bytes of the next one. Whole parts are read straight from the
 /// piece.
@@ -99,9 +100,9 @@ impl CertReader {
     /// The fault that came, or the first one of the stream: where the stream is cut, the field that lacks bytes.
     pub fn finish(self) -> Result<CertFile, CertFault>
         // What is read is spelled so, and within the limits.
-        ensures found { IfOk result (λ f. IsVersionOne f × (self ≡ Ok (cert_text f))) }
+        ensures found { IfOk result (λ f. IsCertFile f × (self ≡ Ok (cert_text f))) }
         // What is spelled so is read.
-        ensures only { (f : CertFile) → IsVersionOne f → self ≡ Ok (cert_text f) → result ≡ Ok f }
+        ensures only { (f : CertFile) → IsCertFile f → self ≡ Ok (cert_text f) → result ≡ Ok f }
         // A fault is the first one, and the first one is answered.
         ensures fault { IfErr result (λ fault. end_fault self ≡ Some (fault.at, fault.kind)) }
         ensures faulty { (at : ℕ) (kind : CertKind) → end_fault self ≡ Some (at, kind)
@@ -126,12 +127,18 @@ fn file_of(kept: Kept, held: &Held) -> Result<CertFile, CertFault>
     requires parts { AreParts (parts_of kept) }
     requires tail { IsTail (parts_of kept) (held_of held.now) }
     requires small { held.now.len ≤ 14 }
+    requires room { HasRoom kept }
     ensures { Finishes (Ok (text_of (parts_of kept) ++ held_of held.now)) result }
 {
     let header = kept.end(Rest::new(kept.size(), held.bytes()))?;
+    let mut rows = kept.rows;
+    if header.version != 1 {
+        unfold(&mut rows, &kept.nodes, &kept.down);
+    }
     Ok(CertFile {
+        version: header.version,
         root: header.root,
-        cert: Cert::new(kept.nodes, kept.links, kept.rows),
+        cert: Cert::new(kept.nodes, kept.links, rows),
     })
 }
 
@@ -157,14 +164,11 @@ fn read_or_stay(kept: &mut Kept, held: &mut Held, piece: &[u8]) -> Result<(), Ce
     ensures reads { ReadsOrStays (parts_of kept.old) held.old piece.now (parts_of kept.new) held.new result }
     ensures room { HasRoom kept.new }
 {
-    let header = kept.header;
-    let nodes = kept.nodes.len();
-    let links = kept.links.len();
-    let rows = kept.rows.len();
+    let mark = kept.mark();
     let before = *held;
     match read_on(kept, held, piece) {
         Err(CertError::NoMemory) => {
-            kept.back_to(header, nodes, links, rows);
+            kept.back_to(mark);
             *held = before;
             Err(CertError::NoMemory)
         }

@@ -19,6 +19,9 @@ pub enum CertKind {
     Tag,
     /// Bytes stand after the last row.
     Trailing,
+    /// The chain of heads of a node does not come to the least node that is its own head, or there is no such node. It
+    /// comes in version 2 alone.
+    Heads,
 }
 
 /// The first field that is not allowed begins at byte `at`, from 0.

@@ -1,12 +1,13 @@
 //! The fields of a certificate file.
 
-ghost use Rattle.std.specs.Prelude.{◌≡◌, ◌<◌, ◌^◌, ◌-◌, IfSome, false, codes};
+ghost use Rattle.std.specs.Prelude.{◌≡◌, ◌<◌, ◌≤◌, ◌^◌, ◌-◌, IfSome, false, codes};
 ghost use Rattle.std.specs.Option.{IfNone};
 ghost use Rattle.std.specs.Int.{w8, w16, w32, from_be_bytes};
 ghost use Rattle.cert_format.specs.CertText.{kind_number, role_number};
 ghost use Rattle.mrt_graph.specs.Tags.{tag_number};
-ghost use Rattle.cert_format.specs.Layout.{any, exactly, within, tag};
+ghost use Rattle.cert_format.specs.Layout.{any, exactly, known_version, within, tag};
 ghost use Rattle.cert_format.specs.Reading.{ReadsField};
+ghost use Rattle.cert_format.specs.Versions.{is_version};
 
 use crate::error::{CertFault, CertKind};
 use crate::rest::Rest;
@@ -28,20 +29,26 @@ pub fn magic(rest: Rest<'_>) -> Result<(u32, Rest<'_>), CertFault>
     Ok((number, rest))
 }
 
-/// The version, which is 1.
+/// The version, 1 or 2.
 pub fn version(rest: Rest<'_>) -> Result<(u16, Rest<'_>), CertFault>
     requires { rest.at < 2 ^ 32 - 2 }
-    ensures { ReadsField (exactly w16 1) (λ n. n) rest.entry result }
+    ensures { ReadsField known_version (λ n. n) rest.entry result }
 {
     let at = rest.at();
     let (number, rest) = rest.u16()?;
-    if number != 1 {
+    if !is_known(number) {
         return Err(CertFault {
             at,
             kind: CertKind::Magic,
         });
     }
     Ok((number, rest))
+}
+
+fn is_known(number: u16) -> bool
+    ensures { result ≡ is_version number }
+{
+    number == 1 || number == 2
 }
 
 /// A number of 32 bits, whichever it is.
@@ -137,34 +144,34 @@ fn role_of(number: u8) -> Option<Role>
     }
 }
 
-/// A row's tag.
-pub fn tag(rest: Rest<'_>) -> Result<(Tag, Rest<'_>), CertFault>
-    requires { rest.at < 2 ^ 32 - 1 }
-    ensures { ReadsField tag tag_number rest.entry result }
+/// A row's tag, one of the first so many.
+pub fn tag(rest: Rest<'_>, tags: u8) -> Result<(Tag, Rest<'_>), CertFault>
+    requires place { rest.at < 2 ^ 32 - 1 }
+    requires tags { tags ≤ 7 }
+    ensures { ReadsField (tag tags) tag_number rest.entry result }
 {
     let at = rest.at();
     let (number, rest) = rest.u8()?;
-    let Some(tag) = tag_of(number) else {
+    if number >= tags {
         return Err(CertFault {
             at,
             kind: CertKind::Tag,
         });
-    };
-    Ok((tag, rest))
+    }
+    Ok((tag_of(number), rest))
 }
 
-fn tag_of(number: u8) -> Option<Tag>
-    ensures known { IfSome result (λ it. tag_number it ≡ number) }
-    ensures unknown { IfNone result ((tag).allows number ≡ false) }
+fn tag_of(number: u8) -> Tag
+    requires { number < 7 }
+    ensures { tag_number result ≡ number }
 {
     match number {
-        0 => Some(Tag::Sole),
-        1 => Some(Tag::Head),
-        2 => Some(Tag::Top),
-        3 => Some(Tag::Below),
-        4 => Some(Tag::Above),
-        5 => Some(Tag::Unordered),
-        6 => Some(Tag::Carried),
-        _ => None,
+        0 => Tag::Sole,
+        1 => Tag::Head,
+        2 => Tag::Top,
+        3 => Tag::Below,
+        4 => Tag::Above,
+        5 => Tag::Unordered,
+        _ => Tag::Carried,
     }
 }

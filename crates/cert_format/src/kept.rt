@@ -3,28 +3,49 @@
 ghost use Rattle.std.specs.Prelude.{◌≡◌, ◌<◌, ◌≤◌, ◌+◌, ◌-◌, ◌*◌, ◌^◌, ◌++◌, Some, None, IfOk, IfErr, OnOk, length, take};
 ghost use Rattle.std.specs.Prelude.{vec_capacity};
 ghost use Rattle.cert_format.specs.FirstFault.{first_fault};
-ghost use Rattle.cert_format.specs.Reading.{Names};
-ghost use Rattle.cert_format.specs.Parts.{AreParts, IsWhole, no_parts, parts_of, row_count, text_of, text_of_header};
+ghost use Rattle.std.specs.List.{AllByRecursion};
+ghost use Rattle.cert_format.specs.Marks.{front_of, mark_of};
+ghost use Rattle.cert_format.specs.Reading.{IsHeader, IsNode, Names};
+ghost use Rattle.cert_format.specs.Parts.{AreParts, IsBare, IsKnown, IsWhole, no_parts, parts_of, text_of, text_of_header};
 ghost use Rattle.cert_format.specs.Parts.{next_size};
 ghost use Rattle.cert_format.specs.Taking.{CutIn, CutOr, Ends, IsTail, Takes, TakesAll};
-ghost use Rattle.cert_format.specs.Layout.{row_form};
+ghost use Rattle.cert_format.specs.Layout.{head_place, row_form};
 ghost use Rattle.cert_format.specs.Room.{HasRoom, KeepsRoom};
+ghost use Rattle.cert_format.specs.Versions.{all_rows};
 
 use crate::error::{CertError, CertFault, CertKind};
 use crate::header::Header;
+use crate::heads::look_down;
 use crate::list::rows;
 use crate::part::{link, node, row};
+use crate::related::count_related;
 use crate::rest::Rest;
-use mrt_graph::{CertLink, CertNode, Row};
+use crate::versions::tag_count;
+use mrt_graph::{CertLink, CertNode, NodeNo, Row};
 use std::alloc::Global;
 
-/// The header, the nodes, the links and the rows, as far as they were read.
+/// The header, the nodes, the links and the rows, as far as they were read. Once all nodes were, how many rows there are in
+/// the file, and of version 2 the nodes from the top down.
 #[derive(Drop)]
 pub struct Kept {
     pub header: Option<Header>,
     pub nodes: Vec<CertNode>,
     pub links: Vec<CertLink>,
     pub rows: Vec<Row>,
+    pub row_count: usize,
+    pub down: Vec<NodeNo>,
+    alloc: Global,
+}
+
+/// How far the parts of a file are read.
+#[derive(Clone, Copy)]
+pub struct Mark {
+    pub header: Option<Header>,
+    pub nodes: usize,
+    pub links: usize,
+    pub rows: usize,
+    pub row_count: usize,
+    pub down: usize,
 }
 
 impl Kept {
@@ -37,6 +58,9 @@ impl Kept {
             nodes: Vec::new(alloc),
             links: Vec::new(alloc),
             rows: Vec::new(alloc),
+            row_count: 0,
+            down: Vec::new(alloc),
+            alloc,
         }
     }
 
@@ -55,7 +79,7 @@ impl Kept {
         if self.links.len() < header.links as usize {
             return 7;
         }
-        if self.rows.len() < row_count(header.nodes) {
+        if self.rows.len() < self.row_count {
             return 5;
         }
         0
@@ -65,7 +89,7 @@ impl Kept {
     pub fn size(&self) -> u32
         requires { AreParts (parts_of self.now) }
         ensures value { result ≡ length (text_of (parts_of self.now)) }
-        ensures small { result ≤ 21041166 }
+        ensures small { result ≤ 84025358 }
     {
         size_of(
             header_size(self.header),
@@ -110,7 +134,7 @@ impl Kept {
         if self.links.len() < header.links as usize {
             return self.take_link(header, rest);
         }
-        if self.rows.len() < row_count(header.nodes) {
+        if self.rows.len() < self.row_count {
             return self.take_rows(header, rest);
         }
         after_all(rest)
@@ -136,7 +160,7 @@ impl Kept {
         }
     }
 
-    /// A node; the last one with room for the links and the rows.
+    /// A node; after the last one the heads are looked at, and there is room for the links and the rows.
     fn take_node<'a>(
         &mut self,
         header: Header,
@@ -155,6 +179,7 @@ impl Kept {
             Ok((node, rest)) => {
                 self.make_room(header)?;
                 self.nodes.push_reserved(node);
+                self.know(header)?;
                 Ok(Some(rest))
             }
             Err(fault) => unless_cut(fault),
@@ -169,14 +194,40 @@ impl Kept {
         ensures links { OnOk result (header.nodes ≤ length self.old.nodes.items + 1
             → header.links ≤ vec_capacity self.new.links) }
         ensures rows { OnOk result (header.nodes ≤ length self.old.nodes.items + 1
-            → row_count header.nodes ≤ vec_capacity self.new.rows) }
+            → all_rows header.nodes ≤ vec_capacity self.new.rows) }
         ensures keeps { KeepsRoom self.old self.new }
     {
         if self.nodes.len() + 1 < header.nodes as usize {
             return Ok(());
         }
         self.links.reserve_exact(header.links as usize)?;
-        self.rows.reserve_exact(row_count(header.nodes))?;
+        self.rows.reserve_exact(all_rows(header.nodes))?;
+        Ok(())
+    }
+
+    /// What is known once all nodes were read: the nodes from the top down, unless a head is at fault, and how many rows
+    /// there are.
+    fn know(&mut self, header: Header) -> Result<(), CertError>
+        requires header { IsHeader header.version header.nodes header.links header.root }
+        requires nodes { length self.old.nodes.items ≤ header.nodes }
+        requires kept { AllByRecursion (IsNode header.nodes) self.old.nodes.items }
+        requires bare { IsBare (parts_of self.old) }
+        ensures known { IsKnown header (parts_of self.old) (parts_of self.new) result }
+        ensures nodes { self.new.nodes ≡ self.old.nodes }
+        ensures header { self.new.header ≡ self.old.header }
+        ensures keeps { KeepsRoom self.old self.new }
+    {
+        if self.nodes.len() < header.nodes as usize {
+            return Ok(());
+        }
+        if header.version == 1 {
+            self.row_count = all_rows(header.nodes);
+            return Ok(());
+        }
+        if let Some(a) = look_down(self.alloc, &self.nodes, &mut self.down)? {
+            return Err(head_fault(a));
+        }
+        self.row_count = count_related(&self.nodes);
         Ok(())
     }
 
@@ -216,16 +267,17 @@ impl Kept {
         requires header { self.old.header ≡ Some header }
         requires nodes { length self.old.nodes.items ≡ header.nodes }
         requires links { length self.old.links.items ≡ header.links }
-        requires lacks { length self.old.rows.items < row_count header.nodes }
+        requires lacks { length self.old.rows.items < self.old.row_count }
         ensures takes { Takes (parts_of self.old) rest.entry (parts_of self.new) result }
         ensures room { HasRoom self.new }
         ensures keeps { KeepsRoom self.old self.new }
     {
-        let count = rest.room(row_count(header.nodes) - self.rows.len(), 5);
+        let tags = tag_count(header.version);
+        let count = rest.room(self.row_count - self.rows.len(), 5);
         if count == 0 {
-            return cut_row(rest, header.links);
+            return cut_row(rest, tags, header.links);
         }
-        let rest = rows(&mut self.rows, rest, count, header.links)?;
+        let rest = rows(&mut self.rows, rest, count, tags, header.links)?;
         Ok(Some(rest))
     }
 
@@ -247,32 +299,43 @@ impl Kept {
             node(rest, header.nodes)?;
         } else if self.links.len() < header.links as usize {
             link(rest, header.nodes)?;
-        } else if self.rows.len() < row_count(header.nodes) {
-            row(rest, header.links)?;
+        } else if self.rows.len() < self.row_count {
+            row(rest, tag_count(header.version), header.links)?;
         }
         Ok(header)
     }
 
+    /// How far the parts are read.
+    pub fn mark(&self) -> Mark
+        ensures { result ≡ mark_of (parts_of self.now) }
+    {
+        Mark {
+            header: self.header,
+            nodes: self.nodes.len(),
+            links: self.links.len(),
+            rows: self.rows.len(),
+            row_count: self.row_count,
+            down: self.down.len(),
+        }
+    }
+
     /// Forgets the parts that were read after these.
-    pub fn back_to(&mut self, header: Option<Header>, nodes: usize, links: usize, rows: usize)
-        ensures parts { parts_of self.new ≡ record {
-          header = header;
-          nodes = take nodes self.old.nodes.items;
-          links = take links self.old.links.items;
-          rows = take rows self.old.rows.items;
-        } }
+    pub fn back_to(&mut self, mark: Mark)
+        ensures parts { parts_of self.new ≡ front_of mark (parts_of self.old) }
         ensures keeps { KeepsRoom self.old self.new }
     {
-        self.header = header;
-        self.nodes.truncate(nodes);
-        self.links.truncate(links);
-        self.rows.truncate(rows);
+        self.header = mark.header;
+        self.nodes.truncate(mark.nodes);
+        self.links.truncate(mark.links);
+        self.rows.truncate(mark.rows);
+        self.row_count = mark.row_count;
+        self.down.truncate(mark.down);
     }
 }
 
 /// A row of each node for each other one.
-fn row_count(nodes: u16) -> usize
-    ensures { result ≡ row_count nodes }
+fn all_rows(nodes: u16) -> usize
+    ensures { result ≡ all_rows nodes }
 {
     let nodes = nodes as usize;
     nodes * nodes.saturating_sub(1)
@@ -289,13 +352,23 @@ fn header_size(header: Option<Header>) -> u32
 
 fn size_of(header: u32, nodes: usize, links: usize, rows: usize) -> u32
     requires header { header ≤ 14 }
-    requires nodes { nodes ≤ 2048 }
-    requires links { links ≤ 8192 }
-    requires rows { rows ≤ 2048 * 2047 }
+    requires nodes { nodes ≤ 4096 }
+    requires links { links ≤ 16384 }
+    requires rows { rows ≤ 4096 * 4095 }
     ensures value { result ≡ header + (11 * nodes + (7 * links + 5 * rows)) }
-    ensures small { result ≤ 21041166 }
+    ensures small { result ≤ 84025358 }
 {
     header + (11 * nodes + (7 * links + 5 * rows)) as u32
+}
+
+/// The fault of a node's head.
+fn head_fault(a: u16) -> CertError
+    ensures { result ≡ CertError.Fault (head_place a) CertKind.Heads }
+{
+    CertError::Fault {
+        at: 14 + 11 * u32::from(a) + 7,
+        kind: CertKind::Heads,
+    }
 }
 
 /// Nothing follows the last row.
@@ -312,12 +385,13 @@ fn after_all<'a>(rest: Rest<'a>) -> Result<Option<Rest<'a>>, CertError>
 }
 
 /// Fewer bytes than a row has.
-fn cut_row<'a>(rest: Rest<'a>, links: u16) -> Result<Option<Rest<'a>>, CertError>
+fn cut_row<'a>(rest: Rest<'a>, tags: u8, links: u16) -> Result<Option<Rest<'a>>, CertError>
     requires place { rest.at < 2 ^ 32 - 16 }
     requires short { length rest.bytes < 5 }
-    ensures { CutIn (row_form links) rest.entry result }
+    requires tags { tags ≤ 7 }
+    ensures { CutIn (row_form tags links) rest.entry result }
 {
-    match row(rest, links) {
+    match row(rest, tags, links) {
         Ok(_) => Ok(None),
         Err(fault) => unless_cut(fault),
     }

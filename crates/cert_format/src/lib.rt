@@ -1,7 +1,8 @@
 //! Certificate files as bytes, both ways: whole, or in pieces from a stream and to a sink.
 //!
-//! A file of version 1 is a header of 14 bytes, 11 bytes for each node, 7 for each link and 5 for each row, with every
-//! number in network order. Each file has one spelling.
+//! A file is a header of 14 bytes, 11 bytes for each node, 7 for each link and 5 for each row, with every number in network
+//! order. In version 1 all rows stand there, in version 2 those of related nodes, from which the others follow. Each file
+//! has one spelling.
 #![tactic(auto)]
 
 mod buffer;
@@ -9,6 +10,7 @@ mod cert_reader;
 mod error;
 mod field;
 mod header;
+mod heads;
 mod held;
 mod kept;
 mod limits;
@@ -16,12 +18,15 @@ mod list;
 mod part;
 mod putting;
 mod reading;
+mod related;
 mod rest;
+mod unfold;
+mod versions;
 mod writing;
 
 pub use cert_reader::CertReader;
 pub use error::{CertError, CertFault, CertKind};
-pub use limits::within_version_one;
+pub use limits::within_limits;
 pub use putting::put_cert;
 pub use reading::{any_pieces, one_spelling, read_cert};
 pub use writing::write_cert;

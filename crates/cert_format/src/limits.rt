@@ -1,17 +1,16 @@
-//! The limits of version 1.
+//! The limits of the two versions.
 
-ghost use Rattle.std.specs.Prelude.{◌<◌, ◌≤◌, ◌^◌, length};
-ghost use Rattle.cert_format.specs.Limits.{IsVersionOne};
+ghost use Rattle.std.specs.Prelude.{◌<◌, ◌^◌};
+ghost use Rattle.cert_format.specs.Limits.{IsCertFile, IsOfVersion};
 
 use mrt_graph::CertFile;
 
-/// A certificate file of at most so many nodes and links is within version 1, since its numbers have 32 bits.
+/// What a certificate file keeps whose version is met, since its numbers have 32 bits.
 ///
 /// It takes time in proportion to the nodes.
-pub fn within_version_one(f: &CertFile)
-    requires nodes { length f.now.cert.nodes ≤ 2048 }
-    requires links { length f.now.cert.links ≤ 8192 }
-    ensures { IsVersionOne f.now }
+pub fn within_limits(f: &CertFile)
+    requires { IsOfVersion f.now }
+    ensures { IsCertFile f.now }
 {
     let _root = f.root;
     let _count = f.cert.node_count();

@@ -1,10 +1,10 @@
 //! The parts of a certificate file that stand in it again and again.
 
-ghost use Rattle.std.specs.Prelude.{◌<◌, ◌^◌, ◌-◌};
-ghost use Rattle.mrt_graph.specs.Certificate.{IsCertLink, IsCertRow};
+ghost use Rattle.std.specs.Prelude.{◌<◌, ◌≤◌, ◌^◌, ◌-◌};
+ghost use Rattle.mrt_graph.specs.Certificate.{IsCertLink};
 ghost use Rattle.cert_format.specs.CertText.{node_text, link_text, row_text};
 ghost use Rattle.cert_format.specs.Layout.{node_form, link_form, row_form};
-ghost use Rattle.cert_format.specs.Reading.{ReadsPart, IsNode};
+ghost use Rattle.cert_format.specs.Reading.{ReadsPart, IsFileRow, IsNode};
 
 use crate::error::CertFault;
 use crate::field::{any_u16, any_u32, kind, number, role, tag};
@@ -50,15 +50,16 @@ pub fn link(rest: Rest<'_>, nodes: u16) -> Result<(CertLink, Rest<'_>), CertFaul
     Ok((link, rest))
 }
 
-/// A row of two of so many links.
-pub fn row(rest: Rest<'_>, links: u16) -> Result<(Row, Rest<'_>), CertFault>
-    requires { rest.at < 2 ^ 32 - 16 }
-    ensures { ReadsPart (row_form links) row_text (IsCertRow links) rest.entry result }
+/// A row of two of so many links, with one of so many tags.
+pub fn row(rest: Rest<'_>, tags: u8, links: u16) -> Result<(Row, Rest<'_>), CertFault>
+    requires place { rest.at < 2 ^ 32 - 16 }
+    requires tags { tags ≤ 7 }
+    ensures { ReadsPart (row_form tags links) row_text (IsFileRow tags links) rest.entry result }
 {
     let links = u32::from(links);
     let (blue, rest) = number(rest, 0, links)?;
     let (red, rest) = number(rest, 0, links)?;
-    let (tag, rest) = tag(rest)?;
+    let (tag, rest) = tag(rest, tags)?;
     let row = Row {
         blue: LinkNo::new(blue),
         red: LinkNo::new(red),

@@ -5,11 +5,11 @@ ghost use Rattle.mrt_io.specs.Counts.{Rose};
 ghost use Rattle.mrt_io.specs.Writing.{Gained, GainedPart};
 ghost use Rattle.cert_format.specs.Buffer.{piece_length};
 ghost use Rattle.cert_format.specs.CertText.{cert_text};
-ghost use Rattle.cert_format.specs.Limits.{IsVersionOne};
+ghost use Rattle.cert_format.specs.Limits.{IsCertFile, IsOfVersion};
 ghost use Rattle.cert_format.specs.Unwritten.{IsFailedWithin, later_error};
 
 use crate::buffer::Buffer;
-use crate::limits::within_version_one;
+use crate::limits::within_limits;
 use crate::writing::header_bytes;
 use mrt_graph::{CertFile, CertLink, CertNode, Row};
 use mrt_io::{PutError, Sink, put_all};
@@ -22,6 +22,7 @@ struct Left<'a> {
     nodes: &'a [CertNode],
     links: &'a [CertLink],
     rows: &'a [Row],
+    version: u16,
 }
 
 impl<'a> Model for Left<'a> {
@@ -32,7 +33,7 @@ impl<'a> Model for Left<'a> {
 
     ghost view = { λ l. record {
       there = buffer_of l.buffer;
-      after = parts_text l.nodes.now l.links.now l.rows.now;
+      after = parts_text l.version l.nodes.now l.links.now l.rows.now;
     } };
 
     ghost invariant = { λ l. IsBuffer l.buffer };
@@ -42,19 +43,19 @@ impl<'a> Left<'a> {
     ghost use Rattle.std.specs.Prelude.{take, drop};
 
     fn new(f: &'a CertFile) -> Left<'a>
-        requires nodes { length f.now.cert.nodes ≤ 2048 }
-        requires links { length f.now.cert.links ≤ 8192 }
+        requires { IsOfVersion f.now }
         ensures all { result.there ++ result.after ≡ cert_text f.now }
-        ensures few { length (cert_text f.now) ≤ 21041166 }
+        ensures few { length (cert_text f.now) ≤ 84025358 }
     {
         let cert = &f.cert;
         let mut buffer = Buffer::new();
-        buffer.push(&header_bytes(cert.node_count(), cert.link_count(), f.root));
+        buffer.push(&header_bytes(f.version, cert.node_count(), cert.link_count(), f.root));
         Left {
             buffer,
             nodes: cert.nodes(),
             links: cert.links(),
             rows: cert.rows(),
+            version: f.version,
         }
     }
 
@@ -71,7 +72,7 @@ impl<'a> Left<'a> {
         if !self.links.is_empty() {
             return;
         }
-        self.rows = self.buffer.fill_rows(self.rows);
+        self.rows = self.buffer.fill_rows(self.version, self.rows);
     }
 
     /// Whether no bytes are there.
@@ -97,19 +98,18 @@ impl<'a> Left<'a> {
     }
 }
 
-/// Writes the bytes of a certificate file of version 1, 65,536 at a time, as [`write_cert`](crate::write_cert) gives them.
+/// Writes the bytes of a certificate file, 65,536 at a time, as [`write_cert`](crate::write_cert) gives them.
 /// It takes no memory.
 ///
-/// It takes time in proportion to the bytes.
+/// It takes time in proportion to the rows and to the bytes.
 ///
 /// # Errors
 ///
 /// `Failed { taken }` where the sink failed: how many bytes it had taken, fewer than all.
 pub fn put_cert<K: Sink>(sink: &mut K, f: &CertFile) -> Result<(), PutError>
-    requires nodes { length f.now.cert.nodes ≤ 2048 }
-    requires links { length f.now.cert.links ≤ 8192 }
+    requires { IsOfVersion f.now }
     ensures gained { OnOk result (Gained (K.written sink.old) (cert_text f.now) (K.written sink.new)) }
-    ensures within { IsVersionOne f.now }
+    ensures within { IsCertFile f.now }
     ensures part { IfErr result (GainedPart (K.written sink.old) (cert_text f.now) (K.written sink.new)) }
     ensures cause { IfErr result (λ _. Rose (K.faults sink.old) (K.faults sink.new)) }
     ensures count { K.faults sink.old ≤ K.faults sink.new }
@@ -121,13 +121,13 @@ pub fn put_cert<K: Sink>(sink: &mut K, f: &CertFile) -> Result<(), PutError>
     ensures stays_healthy { (n : ℕ) → K.healthy_for sink.old n → length (cert_text f.now) ≤ n
         → K.healthy_for sink.new (n - length (cert_text f.now)) }
 {
-    within_version_one(f);
+    within_limits(f);
     put_left(sink, Left::new(f))
 }
 
 /// Writes what is left.
 fn put_left<K: Sink>(sink: &mut K, left: Left<'_>) -> Result<(), PutError>
-    requires { length (left.there ++ left.after) ≤ 21041166 }
+    requires { length (left.there ++ left.after) ≤ 84025358 }
     ensures gained { OnOk result
         (Gained (K.written sink.old) (left.entry.there ++ left.entry.after) (K.written sink.new)) }
     ensures part { IfErr result

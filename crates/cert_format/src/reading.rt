@@ -6,7 +6,7 @@ ghost use Rattle.mrt_graph.specs.declared.cert.CertFile.{CertFile};
 ghost use Rattle.cert_format.specs.declared.error.CertKind.{CertKind};
 ghost use Rattle.cert_format.specs.CertText.{cert_text};
 ghost use Rattle.cert_format.specs.FirstFault.{first_fault};
-ghost use Rattle.cert_format.specs.Limits.{IsVersionOne};
+ghost use Rattle.cert_format.specs.Limits.{IsCertFile};
 ghost use Rattle.cert_format.specs.Outcome.{OrNoMemory};
 ghost use Rattle.cert_format.specs.Outcome.{ReadsFile};
 ghost use Rattle.cert_format.specs.Stream.{end_fault, fed, fed_all};
@@ -16,7 +16,7 @@ use crate::error::CertError;
 use mrt_graph::CertFile;
 use std::alloc::Global;
 
-/// The certificate file of version 1 that the bytes spell, all of the bytes.
+/// The certificate file of version 1 or 2 that the bytes spell, all of the bytes.
 ///
 /// It is one pass, by a [`CertReader`]. Each list is reserved once.
 ///
@@ -56,9 +56,9 @@ use std::alloc::Global;
 /// [`CertError::NoMemory`] comes where there was none for a list.
 pub fn read_cert(alloc: Global, bytes: &[u8]) -> Result<CertFile, CertError>
     // What is read is spelled so, and within the limits.
-    ensures found { IfOk result (λ f. IsVersionOne f × (bytes.now ≡ cert_text f)) }
+    ensures found { IfOk result (λ f. IsCertFile f × (bytes.now ≡ cert_text f)) }
     // What is spelled so is read.
-    ensures only { (f : CertFile) → IsVersionOne f → bytes.now ≡ cert_text f → OrNoMemory result (Ok f) }
+    ensures only { (f : CertFile) → IsCertFile f → bytes.now ≡ cert_text f → OrNoMemory result (Ok f) }
 
     // A fault is the first one, and the first one is answered.
     ensures fault { (at : ℕ) (kind : CertKind) → result ≡ Err (CertError.Fault at kind) → first_fault bytes.now ≡ Some (at, kind) }
@@ -78,11 +78,12 @@ fn whole(alloc: Global, bytes: &[u8]) -> Result<CertFile, CertError>
 }
 
 /// No two certificate files have one spelling, no field of a spelling is at fault, and no spelling has more than
-/// 21,041,166 bytes.
+/// 84,025,358 bytes, of version 1 no more than 21,041,166.
 pub fn one_spelling()
-    ensures one { (f g : CertFile) → IsVersionOne f → IsVersionOne g → cert_text f ≡ cert_text g → f ≡ g }
-    ensures faultless { (f : CertFile) → IsVersionOne f → first_fault (cert_text f) ≡ None }
-    ensures longest { (f : CertFile) → IsVersionOne f → length (cert_text f) ≤ 21041166 }
+    ensures one { (f g : CertFile) → IsCertFile f → IsCertFile g → cert_text f ≡ cert_text g → f ≡ g }
+    ensures faultless { (f : CertFile) → IsCertFile f → first_fault (cert_text f) ≡ None }
+    ensures longest { (f : CertFile) → IsCertFile f → length (cert_text f) ≤ 84025358 }
+    ensures longest_one { (f : CertFile) → IsCertFile f → f.version ≡ 1 → length (cert_text f) ≤ 21041166 }
 {}
 
 /// A stream is read as a whole is, however it is cut into pieces that are fed one after another.
@@ -96,5 +97,5 @@ pub fn any_pieces()
     ensures stream { (pieces : List (List ℕ)) (stream : List ℕ)
         → fed_all (Ok []) pieces ≡ Ok stream → stream ≡ flat_map (λ piece. piece) pieces }
     ensures fault { (bytes : List ℕ) → end_fault (fed (Ok []) bytes) ≡ first_fault bytes }
-    ensures whole { (f : CertFile) → IsVersionOne f → fed (Ok []) (cert_text f) ≡ Ok (cert_text f) }
+    ensures whole { (f : CertFile) → IsCertFile f → fed (Ok []) (cert_text f) ≡ Ok (cert_text f) }
 {}

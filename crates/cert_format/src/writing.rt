@@ -11,48 +11,66 @@ ghost use Rattle.cert_format.specs.CertText.{
   row_text,
   cert_text,
 };
-ghost use Rattle.cert_format.specs.Limits.{HasNumber, IsVersionOne};
+ghost use Rattle.cert_format.specs.Limits.{HasNumber, IsCertFile, IsOfVersion};
+ghost use Rattle.cert_format.specs.Versions.{rows_in};
 
+use crate::limits::within_limits;
+use crate::versions::stands_in;
 use mrt_graph::{CertFile, CertLink, CertNode, Kind, NoMemory, Role, Row, Tag};
 use std::alloc::Global;
 
-/// The bytes of a certificate file of version 1: of n nodes and m links `14 + 11n + 7m + 5n(n - 1)`, reserved once.
+/// The bytes of a certificate file: of n nodes, m links and r rows in the file `14 + 11n + 7m + 5r`, reserved once. Of
+/// version 1 all n(n - 1) rows stand in the file, of version 2 those that are not Carried.
 ///
-/// It takes time in proportion to the bytes that it gives.
+/// It takes time in proportion to the rows and to the bytes that it gives.
 ///
 /// # Errors
 ///
 /// [`NoMemory`] where there was none for the bytes.
 pub fn write_cert(alloc: Global, f: &CertFile) -> Result<Vec<u8>, NoMemory>
-    requires nodes { length f.now.cert.nodes ≤ 2048 }
-    requires links { length f.now.cert.links ≤ 8192 }
+    requires { IsOfVersion f.now }
     ensures text { IfOk result (λ v. v.items ≡ cert_text f.now) }
-    ensures within { IfOk result (λ _. IsVersionOne f.now) }
+    ensures within { IfOk result (λ _. IsCertFile f.now) }
 {
+    within_limits(f);
     let cert = &f.cert;
     let nodes = cert.nodes();
     let links = cert.links();
     let rows = cert.rows();
     let mut out = Vec::with_capacity(
         alloc,
-        14 + 11 * nodes.len() + 7 * links.len() + 5 * rows.len(),
+        14 + 11 * nodes.len() + 7 * links.len() + 5 * count_rows(f.version, rows),
     )?;
-    let header = header_bytes(cert.node_count(), cert.link_count(), f.root);
+    let header = header_bytes(f.version, cert.node_count(), cert.link_count(), f.root);
     out.extend_from_slice(&header).unwrap();
     put_nodes(&mut out, nodes);
     put_links(&mut out, links);
-    put_rows(&mut out, rows);
+    put_rows(&mut out, f.version, rows);
     Ok(out)
 }
 
-pub fn header_bytes(nodes: u16, links: u16, root: u32) -> [u8; 14]
-    ensures { result ≡ header_text nodes links root }
+pub fn header_bytes(version: u16, nodes: u16, links: u16, root: u32) -> [u8; 14]
+    ensures { result ≡ header_text version nodes links root }
 {
+    let [version, version_low] = version.to_be_bytes();
     let [nodes, nodes_low] = nodes.to_be_bytes();
     let [links, links_low] = links.to_be_bytes();
     let [a, b, c, d] = root.to_be_bytes();
     [
-        b'M', b'R', b'T', b'C', 0, 1, nodes, nodes_low, links, links_low, a, b, c, d,
+        b'M',
+        b'R',
+        b'T',
+        b'C',
+        version,
+        version_low,
+        nodes,
+        nodes_low,
+        links,
+        links_low,
+        a,
+        b,
+        c,
+        d,
     ]
 }
 
@@ -110,15 +128,23 @@ pub fn link_bytes(link: &CertLink) -> [u8; 7]
     [a, a_low, b, b_low, block, block_low, role]
 }
 
+/// How many of the rows stand in a file of this version.
+fn count_rows(version: u16, rows: &[Row]) -> usize
+    ensures { result ≡ length (rows_in version rows.now) }
+{
+    rows.iter().filter(|row| stands_in(version, row)).count()
+}
+
+/// Those of the rows that stand in a file of this version.
 #[inline(never)]
-fn put_rows(out: &mut Vec<u8>, rows: &[Row])
-    requires { vec_len out.old + 5 * length rows.now ≤ vec_capacity out.old }
-    ensures text { out.new.items ≡ out.old.items ++ flat_map row_text rows.now }
-    ensures len { vec_len out.new ≡ vec_len out.old + 5 * length rows.now }
-    ensures capacity { vec_capacity out.old ≤ vec_capacity out.new }
+fn put_rows(out: &mut Vec<u8>, version: u16, rows: &[Row])
+    requires { vec_len out.old + 5 * length (rows_in version rows.now) ≤ vec_capacity out.old }
+    ensures text { out.new.items ≡ out.old.items ++ flat_map row_text (rows_in version rows.now) }
 {
     for row in rows {
-        out.extend_from_slice(&row_bytes(row)).unwrap();
+        if stands_in(version, row) {
+            out.extend_from_slice(&row_bytes(row)).unwrap();
+        }
     }
 }
 

@@ -1,5 +1,5 @@
 use Rattle.cert_format.proofs.Files.{no_fault}
-use Rattle.cert_format.proofs.SpellingLength.{longest_spelling}
+use Rattle.cert_format.proofs.SpellingLength.{longest_one, longest_spelling}
 use Rattle.cert_format.proofs.Unique.{one_file}
 use Rattle.cert_format.proofs.reading.one_spelling.Goals as goal
 
@@ -11,3 +11,6 @@ returns-clause-faultless c = no_fault
 
 pub returns-clause-longest : goal.returns-clause-longest
 returns-clause-longest c = longest_spelling
+
+pub returns-clause-longest_one : goal.returns-clause-longest_one
+returns-clause-longest_one c = longest_one

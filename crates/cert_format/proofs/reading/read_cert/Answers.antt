@@ -5,14 +5,14 @@ use Rattle.cert_format.specs.declared.error.CertError.{CertError}
 use Rattle.cert_format.specs.declared.error.CertError.TheVariants as errors
 use Rattle.cert_format.specs.CertText.{cert_text}
 use Rattle.cert_format.specs.FirstFault.{first_fault}
-use Rattle.cert_format.specs.Limits.{IsVersionOne}
+use Rattle.cert_format.specs.Limits.{IsCertFile}
 use Rattle.cert_format.specs.Outcome.{OrNoMemory, ReadsFile}
 use Rattle.cert_format.proofs.Files.{no_fault}
 use Rattle.cert_format.proofs.Forms.{same_fault}
 use Rattle.cert_format.proofs.Unique.{one_file}
 use Rattle.cert_format.proofs.reading.read_cert.Goals as goal
 
-spelled_is_read : (bytes : List ℕ) (r : Result CertFile CertError) → ReadsFile bytes r → (f : CertFile) → IsVersionOne f → bytes ≡ cert_text f → OrNoMemory r (Ok f)
+spelled_is_read : (bytes : List ℕ) (r : Result CertFile CertError) → ReadsFile bytes r → (f : CertFile) → IsCertFile f → bytes ≡ cert_text f → OrNoMemory r (Ok f)
 spelled_is_read bytes (Ok g) read f is e = inl (ap Ok (one_file g f read.0 is (sym read.1 ∙ e)))
 spelled_is_read bytes (Err (errors.Fault at kind)) read f is e = let none = ap first_fault e ∙ no_fault f is in absurd cc
 spelled_is_read bytes (Err errors.NoMemory) read f is e = inr refl

@@ -1,12 +1,13 @@
-use Rattle.std.proofs.Common.{◌≡◌, ◌+◌, ◌*◌, ◌++◌, length, take}
+use Rattle.std.proofs.Common.{◌≡◌, ◌≤◌, ◌+◌, ◌*◌, ◌++◌, length, take}
 use Rattle.std.specs.List.{flat_map}
 use Rattle.cert_format.specs.Buffer.{buffer_of}
 use Rattle.cert_format.specs.CertText.{row_text}
+use Rattle.cert_format.specs.Versions.{rows_in}
 use Rattle.cert_format.proofs.buffer.Buffer.push_rows.Given as goal
 
 abbrev pub invariant-loop-row : goal.invariant-loop-row
 invariant-loop-row l = record {
-  text : take l.len l.self.bytes ≡ buffer_of l.fn.self ++ flat_map row_text (take l.row-index l.rows);
+  text : take l.len l.self.bytes ≡ buffer_of l.fn.self ++ flat_map row_text (rows_in l.version (take l.row-index l.rows));
   many : length (take l.len l.self.bytes) ≡ l.len;
-  len : l.len ≡ l.fn.self.len + 5 * l.row-index;
+  len : l.len ≤ l.fn.self.len + 5 * l.row-index;
 }

@@ -33,4 +33,4 @@ pub returns-in_err-row-clause-fault : goal.returns-in_err-row-clause-fault
 returns-in_err-row-clause-fault c =
     let q = err_from_is_err_and c.from_residual-in_err-row.result c.from_residual-in_err-row.ensures.1 in
     let so = under (parts_of c.args.self.now) c.in-Some.header c.in-Some.is c.requires.parts in
-    rw (q.1, q.2) (row_named (parts_of c.args.self.now) c.in-Some.header c.args.rest c.in_err-row.field-0.0 c.in-Some.is c.requires.parts (omega (arith, c.if-len-header.false, so.few_nodes)) (omega (arith, c.if-len-header-2.false, so.few_links)) (omega (arith, c.if-len-row_count.true, c.row_count.ensures)) c.requires.place c.in_err-row.ensures)
+    rw (q.1, q.2) (row_named (parts_of c.args.self.now) c.in-Some.header c.args.rest c.in_err-row.field-0.0 c.in-Some.is c.requires.parts (omega (arith, c.if-len-header.false, so.few_nodes)) (omega (arith, c.if-len-header-2.false, so.few_links)) (omega (arith, c.if-len-self.true)) c.requires.place (rw c.tag_count.ensures.value at c.in_err-row.ensures))

@@ -7,4 +7,4 @@ use Rattle.cert_format.proofs.kept.Kept.take.Goals as goal
 pub returns-clause-takes : goal.returns-clause-takes
 returns-clause-takes c =
     let so = under (parts_of c.args.self.now) c.in-Some.header c.in-Some.is c.requires.parts in
-    ended (parts_of c.args.self.now) c.in-Some.header c.args.rest c.after_all.result c.in-Some.is c.requires.parts (omega (arith, c.if-len-header.false, so.few_nodes)) (omega (arith, c.if-len-header-2.false, so.few_links)) (omega (arith, c.if-len-row_count.false, so.few_rows, c.row_count.ensures)) c.requires.place c.after_all.ensures
+    ended (parts_of c.args.self.now) c.in-Some.header c.args.rest c.after_all.result c.in-Some.is c.requires.parts (omega (arith, c.if-len-header.false, so.few_nodes)) (omega (arith, c.if-len-header-2.false, so.few_links)) (omega (arith, c.if-len-self.false, so.few_rows)) c.requires.place c.after_all.ensures

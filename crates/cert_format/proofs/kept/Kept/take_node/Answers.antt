@@ -1,18 +1,16 @@
-use Rattle.std.proofs.Common.{length, ap, sym, subst, arith}
-use Rattle.cert_format.specs.Parts.{Parts, parts_of}
+use Rattle.std.proofs.Common.{◌∙◌, List, Vec, Global, Ok, Err, length, ap, subst, arith}
+use Rattle.std.proofs.lemmas.Result.{err_from_is_err_and}
+use Rattle.mrt_graph.specs.declared.cert.CertNode.{CertNode}
+use Rattle.cert_format.specs.Parts.{IsKnown, Parts, parts_of}
+use Rattle.cert_format.proofs.Known.{known_err, known_ok, with_nodes}
 use Rattle.cert_format.proofs.PartsText.{few_bytes}
-use Rattle.cert_format.specs.Taking.{TookParts}
-use Rattle.cert_format.proofs.Taking.{node_refused, node_taken, with_node}
+use Rattle.cert_format.proofs.Taking.{node_refused, with_node}
 use Rattle.cert_format.proofs.Room.{room_at_node, room_stays}
 use Rattle.cert_format.proofs.kept.Kept.take_node.Goals as goal
 
 pub node-requires : goal.node-requires
 node-requires c =
     omega (arith, c.requires.place, few_bytes (parts_of c.args.self.now) c.requires.parts)
-
-pub returns-in_ok-make_room-in-Ok-clause-takes : goal.returns-in_ok-make_room-in-Ok-clause-takes
-returns-in_ok-make_room-in-Ok-clause-takes c =
-    rw c.push_reserved.ensures.items (subst (λ (it : Parts). TookParts (parts_of c.args.self.now) c.args.rest (with_node it c.in-Ok.node) c.in-Ok.rest) (sym c.make_room.ensures.same) (node_taken (parts_of c.args.self.now) c.args.header c.in-Ok.node c.args.rest c.in-Ok.rest c.requires.header c.requires.parts c.requires.lacks c.requires.place c.in-Ok.ensures.0 c.in-Ok.ensures.1))
 
 pub returns-in-Err-clause-takes : goal.returns-in-Err-clause-takes
 returns-in-Err-clause-takes c =
@@ -22,10 +20,33 @@ pub returns-in_err-make_room-in-Ok-clause-room : goal.returns-in_err-make_room-i
 returns-in_err-make_room-in-Ok-clause-room c =
     room_stays c.args.self.now c.make_room.new.self c.requires.room c.make_room.ensures.keeps (ap (λ (it : Parts). it.header) c.make_room.ensures.same) (omega (arith, ap (λ (it : Parts). length it.nodes) c.make_room.ensures.same))
 
-pub returns-in_ok-make_room-in-Ok-clause-room : goal.returns-in_ok-make_room-in-Ok-clause-room
-returns-in_ok-make_room-in-Ok-clause-room c =
-    room_at_node c.args.self.now _ c.args.header c.requires.header c.requires.room
-    (record { nodes = omega (arith, c.make_room.ensures.keeps.nodes, c.push_reserved.ensures.capacity); links = c.make_room.ensures.keeps.links; rows = c.make_room.ensures.keeps.rows })
-    (ap (λ (it : Parts). it.header) c.make_room.ensures.same)
-    (omega (arith, c.push_reserved.ensures.len, ap (λ (it : Parts). length it.nodes) c.make_room.ensures.same))
-    c.in_ok-make_room-in-Ok.ensures.links c.in_ok-make_room-in-Ok.ensures.rows
+pub returns-in_err-know-in-Ok-clause-takes : goal.returns-in_err-know-in-Ok-clause-takes
+returns-in_err-know-in-Ok-clause-takes c =
+    let q = err_from_is_err_and c.from_residual-in_err-know-in-Ok.result c.from_residual-in_err-know-in-Ok.ensures.1 in
+    let known : IsKnown c.args.header (with_node (parts_of c.make_room.new.self) c.in-Ok.node) (parts_of c.know.new.self) (Err c.in_err-know-in-Ok.field-0.0) =
+    subst (λ (items : List CertNode). IsKnown c.args.header (with_nodes (parts_of c.make_room.new.self) items) (parts_of c.know.new.self) (Err c.in_err-know-in-Ok.field-0.0)) c.push_reserved.ensures.items c.in_err-know-in-Ok.ensures.known in
+    let same = subst (λ (it : Parts). IsKnown c.args.header (with_node it c.in-Ok.node) (parts_of c.know.new.self) (Err c.in_err-know-in-Ok.field-0.0)) c.make_room.ensures.same known in
+    rw (q.1, q.2) (known_err (parts_of c.args.self.now) (parts_of c.know.new.self) c.args.header c.in-Ok.node c.args.rest c.in-Ok.rest c.in_err-know-in-Ok.field-0.0 c.requires.header c.requires.parts c.requires.lacks c.in-Ok.ensures.0 c.in-Ok.ensures.1 same)
+
+pub returns-in_ok-know-in-Ok-clause-takes : goal.returns-in_ok-know-in-Ok-clause-takes
+returns-in_ok-know-in-Ok-clause-takes c =
+    let known : IsKnown c.args.header (with_node (parts_of c.make_room.new.self) c.in-Ok.node) (parts_of c.know.new.self) (Ok tt) =
+    subst (λ (items : List CertNode). IsKnown c.args.header (with_nodes (parts_of c.make_room.new.self) items) (parts_of c.know.new.self) (Ok tt)) c.push_reserved.ensures.items c.in_ok-know-in-Ok.ensures.known in
+    let same = subst (λ (it : Parts). IsKnown c.args.header (with_node it c.in-Ok.node) (parts_of c.know.new.self) (Ok tt)) c.make_room.ensures.same known in
+    known_ok (parts_of c.args.self.now) (parts_of c.know.new.self) c.args.header c.in-Ok.node c.args.rest c.in-Ok.rest c.requires.header c.requires.parts c.requires.lacks c.requires.place c.in-Ok.ensures.0 c.in-Ok.ensures.1 same
+
+pub returns-in_err-know-in-Ok-clause-room : goal.returns-in_err-know-in-Ok-clause-room
+returns-in_err-know-in-Ok-clause-room c =
+    room_at_node c.args.self.now c.know.new.self c.args.header c.requires.header c.requires.room
+    (record { nodes = omega (arith, c.make_room.ensures.keeps.nodes, c.push_reserved.ensures.capacity, c.know.ensures.keeps.nodes); links = omega (arith, c.make_room.ensures.keeps.links, c.know.ensures.keeps.links); rows = omega (arith, c.make_room.ensures.keeps.rows, c.know.ensures.keeps.rows) })
+    (c.know.ensures.header ∙ ap (λ (it : Parts). it.header) c.make_room.ensures.same)
+    (ap (λ (it : Vec CertNode Global). length it.items) c.know.ensures.nodes ∙ omega (arith, c.push_reserved.ensures.len, ap (λ (it : Parts). length it.nodes) c.make_room.ensures.same))
+    (λ last. omega (arith, c.in_ok-make_room-in-Ok.ensures.links last, c.know.ensures.keeps.links)) (λ last. omega (arith, c.in_ok-make_room-in-Ok.ensures.rows last, c.know.ensures.keeps.rows))
+
+pub returns-in_ok-know-in-Ok-clause-room : goal.returns-in_ok-know-in-Ok-clause-room
+returns-in_ok-know-in-Ok-clause-room c =
+    room_at_node c.args.self.now c.know.new.self c.args.header c.requires.header c.requires.room
+    (record { nodes = omega (arith, c.make_room.ensures.keeps.nodes, c.push_reserved.ensures.capacity, c.know.ensures.keeps.nodes); links = omega (arith, c.make_room.ensures.keeps.links, c.know.ensures.keeps.links); rows = omega (arith, c.make_room.ensures.keeps.rows, c.know.ensures.keeps.rows) })
+    (c.know.ensures.header ∙ ap (λ (it : Parts). it.header) c.make_room.ensures.same)
+    (ap (λ (it : Vec CertNode Global). length it.items) c.know.ensures.nodes ∙ omega (arith, c.push_reserved.ensures.len, ap (λ (it : Parts). length it.nodes) c.make_room.ensures.same))
+    (λ last. omega (arith, c.in_ok-make_room-in-Ok.ensures.links last, c.know.ensures.keeps.links)) (λ last. omega (arith, c.in_ok-make_room-in-Ok.ensures.rows last, c.know.ensures.keeps.rows))

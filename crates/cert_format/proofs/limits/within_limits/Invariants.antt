@@ -1,7 +1,7 @@
 use Rattle.std.proofs.Common.{take}
 use Rattle.std.specs.List.{AllByRecursion}
 use Rattle.cert_format.specs.Limits.{HasNumber}
-use Rattle.cert_format.proofs.limits.within_version_one.Given as goal
+use Rattle.cert_format.proofs.limits.within_limits.Given as goal
 
 abbrev pub invariant-loop-node : goal.invariant-loop-node
 invariant-loop-node l = AllByRecursion HasNumber (take l.node-index l.f.cert.nodes)

@@ -1,6 +1,6 @@
 use Rattle.cert_format.specs.Limits.{HasNumber}
 use Rattle.cert_format.proofs.Lists.{all_more}
-use Rattle.cert_format.proofs.limits.within_version_one.Goals as goal
+use Rattle.cert_format.proofs.limits.within_limits.Goals as goal
 
 pub loop-node-preserved : goal.loop-node-preserved
 loop-node-preserved c =

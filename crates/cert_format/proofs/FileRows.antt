@@ -1,0 +1,138 @@
+-- The rows that stand in a file.
+use Rattle.std.proofs.Common.{◌≡◌, ◌∙◌, ◌==◌, ◌<◌, ◌≤◌, ◌*◌, ◌-◌, ◌+◌, ◌++◌, ℕ, Bool, cond, take, drop, length-append, true, false, not, List, [], ◌∷◌, Some, filter, length, map, get_or, slice_get, inl, inr, refl, sym, ap, arith}
+use Rattle.std.proofs.lemmas.Bool.{cases_Bool, cases_eq, eq-eqb, false≢true, ne_eqb}
+use Rattle.std.proofs.lemmas.List.{append-nil, take-append-drop, flat_map_more, same_lists, length-map}
+use Rattle.std.proofs.lemmas.List.Elements.{filter-append, filter_more}
+use Rattle.std.proofs.lemmas.List.Sums.{count_by-le-length, length-filter}
+use Rattle.cert_format.specs.CertText.{row_text}
+use Rattle.std.proofs.lemmas.Option.{get_or_from_slice_get, slice_get-map}
+use Rattle.std.specs.List.{AllByRecursion, flat_map}
+use Rattle.std.specs.Option.{option_map}
+use Rattle.mrt_graph.specs.declared.cert.CertFile.{CertFile}
+use Rattle.mrt_graph.specs.declared.cert.Row.{Row}
+use Rattle.mrt_graph.specs.Certificate.{Certificate, IsCertRow}
+use Rattle.mrt_graph.specs.Foldable.{IsFoldable}
+use Rattle.mrt_graph.specs.Tags.{tag_number}
+use Rattle.mrt_graph.proofs.RowPlaces.{placed, row_at}
+use Rattle.mrt_graph.proofs.Tallies.{length_is_tally, tally_map}
+use Rattle.cert_format.specs.Folded.{is_near, related_pairs}
+use Rattle.cert_format.specs.Limits.{IsCertFile, IsOfVersion}
+use Rattle.cert_format.specs.Reading.{IsFileRow}
+use Rattle.cert_format.specs.Unfolding.{set_marks}
+use Rattle.cert_format.specs.Versions.{row_count, rows_in, stands_in, tag_count}
+use Rattle.cert_format.proofs.Fields.{few_tags}
+use Rattle.cert_format.proofs.OneUnfolding.{folded_at, near_told}
+use Rattle.cert_format.proofs.Pairs.{pairs_length, related_at}
+
+-- a tag other than Carried
+pub near_tag : (row : Row) → is_near row ≡ true → tag_number row.tag < 6
+near_tag row near = elim (cases_eq (tag_number row.tag) 6) [
+  | inl same ↦ absurd (false≢true (sym (ap not (eq-eqb (tag_number row.tag) 6 same)) ∙ near))
+  | inr other ↦ omega (arith, few_tags row.tag, other)
+]
+
+pub tag_near : (row : Row) → tag_number row.tag < 6 → is_near row ≡ true
+tag_near row few = ap not (ne_eqb (tag_number row.tag) 6 (λ same. omega (arith, few, same)))
+
+stands_tagged : (version : ℕ) (row : Row) → stands_in version row ≡ true → tag_number row.tag < tag_count version
+stands_tagged version row stands = elim (cases_Bool (version == 1)) [
+  | inl one ↦ rw one (few_tags row.tag)
+  | inr two ↦ rw two (near_tag row (rw two at stands))
+]
+
+pub file_rows_kept : (version links : ℕ) (rows : List Row) → AllByRecursion (IsCertRow links) rows → AllByRecursion (IsFileRow (tag_count version) links) (rows_in version rows)
+file_rows_kept version links [] all = tt
+file_rows_kept version links (row ∷ rows) all = elim (cases_Bool (stands_in version row)) [
+  | inl stands ↦ rw stands (record { kept = all.0; tagged = stands_tagged version row stands }, file_rows_kept version links rows all.1)
+  | inr left ↦ rw left (file_rows_kept version links rows all.1)
+]
+
+-- in version 1 all stand there
+pub all_stand : (rows : List Row) → rows_in 1 rows ≡ rows
+all_stand [] = refl
+all_stand (row ∷ rows) = ap (λ (it : List Row). row ∷ it) (all_stand rows)
+
+-- near rows alone
+pub near_stand : (rows : List Row) → rows_in 2 rows ≡ filter is_near rows
+near_stand rows = refl
+
+-- in a foldable certificate a row is near exactly where its pair is related
+pub near_tests : (c : Certificate) → length c.rows ≡ length c.nodes * (length c.nodes - 1) → IsFoldable c → map is_near c.rows ≡ related_pairs c
+near_tests c many folds =
+    same_lists (map is_near c.rows) (related_pairs c) (length-map c.rows is_near ∙ many ∙ sym (pairs_length c)) (λ k d within.
+    let n = length c.nodes in
+    let at = placed n k (omega (arith, within, length-map c.rows is_near, many)) in
+    let it = folded_at c folds at.source at.target at.source_within at.target_within at.two in
+    let row : slice_get c.rows k ≡ Some it.row =
+    sym (ap (slice_get c.rows) at.place) ∙ sym (row_at c n at.source at.target refl at.source_within at.target_within at.two) ∙ it.is in
+    let near : slice_get (map is_near c.rows) k ≡ Some (is_near it.row) = slice_get-map is_near c.rows k ∙ ap (option_map is_near) row in
+    let pair = related_at c n at.source at.target refl at.source_within at.target_within at.two in
+    let mark = sym (ap (slice_get (related_pairs c)) at.place) ∙ pair in
+    get_or_from_slice_get (map is_near c.rows) k (is_near it.row) d near
+    ∙ near_told c folds.top at.source at.target it.row it.folds
+    ∙ sym (get_or_from_slice_get (related_pairs c) k _ d mark))
+
+-- so many rows are near as tests hold
+pub near_count : (rows : List Row) → length (filter is_near rows) ≡ set_marks (map is_near rows)
+near_count rows =
+    length_is_tally is_near rows ∙ sym (tally_map (λ (mark : Bool). mark) is_near rows)
+    ∙ sym (length_is_tally (λ (mark : Bool). mark) (map is_near rows))
+
+version_rows : (f : CertFile) → length f.cert.rows ≡ length f.cert.nodes * (length f.cert.nodes - 1) → IsOfVersion f
+    → length (rows_in f.version f.cert.rows) ≡ row_count f.version f.cert.nodes
+version_rows f many (inl one) = rw one.version (ap length (all_stand f.cert.rows) ∙ many)
+version_rows f many (inr two) = rw two.version (near_count f.cert.rows ∙ ap set_marks (near_tests f.cert many two.foldable))
+
+-- as many rows stand in a file as its nodes say
+pub file_rows_count : (f : CertFile) → IsCertFile f → length (rows_in f.version f.cert.rows) ≡ row_count f.version f.cert.nodes
+file_rows_count f is = version_rows f is.certificate.a_row_each is.of_version
+
+-- of one row more
+pub stand_more : (version : ℕ) (rows : List Row) (i : ℕ) (row : Row) → i < length rows → row ≡ get_or rows i row
+    → rows_in version (take (i + 1) rows) ≡ rows_in version (take i rows) ++ cond (stands_in version row) (row ∷ []) []
+stand_more version rows i row within is =
+    filter_more (stands_in version) rows i row within
+    ∙ ap (λ (it : Row). rows_in version (take i rows) ++ cond (stands_in version it) (it ∷ []) []) (sym is)
+
+pub texts_stand : (version : ℕ) (rows : List Row) (i : ℕ) (row : Row) (before now piece after : List ℕ) → i < length rows → row ≡ get_or rows i row
+    → stands_in version row ≡ true → now ≡ before ++ flat_map row_text (rows_in version (take i rows)) → piece ≡ row_text row → after ≡ now ++ piece
+    → after ≡ before ++ flat_map row_text (rows_in version (take (i + 1) rows))
+texts_stand version rows i row before now piece after within is stands so_far here e =
+    let more : rows_in version (take (i + 1) rows) ≡ rows_in version (take i rows) ++ row ∷ [] =
+    stand_more version rows i row within is ∙ ap (λ (b : Bool). rows_in version (take i rows) ++ cond b (row ∷ []) []) stands in
+    rw (e, so_far, here, more) (flat_map_more row_text before (rows_in version (take i rows)) row)
+
+pub texts_left : (version : ℕ) (rows : List Row) (i : ℕ) (row : Row) (before now : List ℕ) → i < length rows → row ≡ get_or rows i row
+    → stands_in version row ≡ false → now ≡ before ++ flat_map row_text (rows_in version (take i rows))
+    → now ≡ before ++ flat_map row_text (rows_in version (take (i + 1) rows))
+texts_left version rows i row before now within is left so_far =
+    let more : rows_in version (take (i + 1) rows) ≡ rows_in version (take i rows) ++ [] =
+    stand_more version rows i row within is ∙ ap (λ (b : Bool). rows_in version (take i rows) ++ cond b (row ∷ []) []) left in
+    so_far ∙ ap (λ (it : List Row). before ++ flat_map row_text it) (sym (more ∙ append-nil (rows_in version (take i rows))))
+
+pub more_stand : (version : ℕ) (rows : List Row) (i : ℕ) (row : Row) → i < length rows → row ≡ get_or rows i row → stands_in version row ≡ true
+    → length (rows_in version (take (i + 1) rows)) ≡ length (rows_in version (take i rows)) + 1
+more_stand version rows i row within is stands =
+    let more : rows_in version (take (i + 1) rows) ≡ rows_in version (take i rows) ++ row ∷ [] =
+    stand_more version rows i row within is ∙ ap (λ (b : Bool). rows_in version (take i rows) ++ cond b (row ∷ []) []) stands in
+    ap length more ∙ length-append (rows_in version (take i rows)) (row ∷ [])
+
+pub none_stand : (version : ℕ) (rows : List Row) (i : ℕ) (row : Row) → i < length rows → row ≡ get_or rows i row → stands_in version row ≡ false
+    → length (rows_in version (take (i + 1) rows)) ≡ length (rows_in version (take i rows))
+none_stand version rows i row within is left =
+    let more : rows_in version (take (i + 1) rows) ≡ rows_in version (take i rows) ++ [] =
+    stand_more version rows i row within is ∙ ap (λ (b : Bool). rows_in version (take i rows) ++ cond b (row ∷ []) []) left in
+    ap length (more ∙ append-nil (rows_in version (take i rows)))
+
+-- two lists of rows, one after the other
+pub stand_both : (version : ℕ) (rows more : List Row) → rows_in version (rows ++ more) ≡ rows_in version rows ++ rows_in version more
+stand_both version rows more = filter-append (stands_in version) rows more
+
+pub few_stand : (version : ℕ) (rows : List Row) → length (rows_in version rows) ≤ length rows
+few_stand version rows = omega (arith, length-filter (stands_in version) rows, count_by-le-length (stands_in version) rows)
+
+pub stand_within : (version : ℕ) (rows : List Row) (i : ℕ) → length (rows_in version (take i rows)) ≤ length (rows_in version rows)
+stand_within version rows i =
+    let parts : rows_in version rows ≡ rows_in version (take i rows) ++ rows_in version (drop i rows) =
+    ap (rows_in version) (sym (take-append-drop i rows)) ∙ stand_both version (take i rows) (drop i rows) in
+    omega (arith, ap length parts, length-append (rows_in version (take i rows)) (rows_in version (drop i rows)))
