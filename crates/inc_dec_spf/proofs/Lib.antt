@@ -1,4 +1,9 @@
 pub mod Aimed
+pub mod Lanes
+pub mod LanesBegun
+pub mod LanesOffered
+pub mod LanesReached
+pub mod LanesSwept
 pub mod ByTurn
 pub mod EndCosts
 pub mod EndsOffered

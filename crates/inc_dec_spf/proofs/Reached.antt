@@ -115,7 +115,7 @@ best_is known t way other at is =
     subst (λ (best : Known). IsNoLater best other) (same_Some is.best way (same_Some (Some is.best) (Some way) (sym is.there ∙ at))) is.no_later
 
 -- the hop of a node other than the source
-hop_for : (g : Topology) (root : ℕ) (w : Directions) (dir : Dir) (s t : ℕ) (known : List (Option Known)) (o : Option Known) → IsOrdered g root w
+pub hop_for : (g : Topology) (root : ℕ) (w : Directions) (dir : Dir) (s t : ℕ) (known : List (Option Known)) (o : Option Known) → IsOrdered g root w
     → IsSwept g w dir s (length g.ids) known → s < length g.ids → s ≢ t → slice_get known t ≡ Some o → IsHop g w dir s t (option_map hop_of o)
 hop_for g root w dir s t known None is swept s_within two at = NotReached none
   where

@@ -1,5 +1,6 @@
 pub mod Against
 pub mod Aims
+pub mod Fan
 pub mod FirstLink
 pub mod HasDirections
 pub mod Known

@@ -2,6 +2,8 @@
 #![tactic(auto)]
 
 mod aims;
+mod beside;
+mod fan;
 mod least_paths;
 mod offers;
 mod one_way;
@@ -15,6 +17,7 @@ mod to_target;
 mod turns;
 mod ways;
 
+pub use fan::Fan;
 pub use least_paths::spf;
 pub use offers::is_sole;
 pub use path_law::{

@@ -1,0 +1,162 @@
+//! Offers of ways from some sources side by side.
+
+ghost use Rattle.std.specs.Prelude.{◌≡◌, ◌<◌, ◌≤◌, ◌+◌, ◌*◌, ◌⊎◌, ◌^◌, ◌≢◌, ℕ, List, length, slice_get, slice_index, slice_set, Some};
+ghost use Rattle.mrt_graph.specs.declared.link.End.{End};
+ghost use Rattle.mrt_graph.specs.GraphInvariant.{IsTopology};
+ghost use Rattle.link_direction.specs.Directions.{Directions};
+ghost use Rattle.inc_dec_spf.specs.Fan.{AreCosts, AreLow, AreOver, HasOffered, comes_before, first_cost, first_place, known_by, lane};
+ghost use Rattle.inc_dec_spf.specs.HasDirections.{AreDirections, HasDirections};
+ghost use Rattle.inc_dec_spf.specs.Known.{AreOffered};
+ghost use Rattle.inc_dec_spf.specs.Offers.{IsFirstOffer};
+ghost use Rattle.inc_dec_spf.specs.Rest.{far};
+
+use crate::offers::{is_sole, leads_on};
+use crate::reach::Dir;
+use mrt_graph::{Directed, Graph, NodeNo};
+
+/// Stands for no end: no node has so many.
+pub const NO_PLACE: u16 = 65535;
+
+/// Whether a way comes before another one.
+fn comes_before(cost: u32, place: u16, old: u32, old_place: u16) -> bool
+    ensures { result ≡ comes_before cost place old old_place }
+{
+    cost < old || (cost == old && place < old_place)
+}
+
+/// The cost of the one of two ways that comes first.
+fn first_cost(cost: u32, place: u16, old: u32, old_place: u16) -> u32
+    ensures { result ≡ first_cost cost place old old_place }
+{
+    if comes_before(cost, place, old, old_place) {
+        cost
+    } else {
+        old
+    }
+}
+
+/// The place of the end by which the one of two ways begins that comes first.
+fn first_place(cost: u32, place: u16, old: u32, old_place: u16) -> u16
+    ensures { result ≡ first_place cost place old old_place }
+{
+    if comes_before(cost, place, old, old_place) {
+        place
+    } else {
+        old_place
+    }
+}
+
+/// Offers a way: it is kept where it comes first.
+fn offer_at(at: usize, cost: u32, place: u16, costs: &mut [u32], places: &mut [u16])
+    requires costs { at < length costs.old }
+    requires places { at < length places.old }
+    ensures costs { costs.new ≡ slice_set costs.old at
+        (first_cost cost place (slice_index costs.old at) (slice_index places.old at)) }
+    ensures places { places.new ≡ slice_set places.old at
+        (first_place cost place (slice_index costs.old at) (slice_index places.old at)) }
+{
+    let old = costs[at];
+    let old_place = places[at];
+    costs[at] = first_cost(cost, place, old, old_place);
+    places[at] = first_place(cost, place, old, old_place);
+}
+
+/// Offers the ways over an end with this metric, at the places from `at` on: `from_costs` and `from_places` have what is
+/// known where the end leads from.
+fn offer_over(
+    from_costs: &[u32],
+    from_places: &[u16],
+    metric: u16,
+    at: usize,
+    costs: &mut [u32],
+    places: &mut [u16],
+)
+    requires one_place_each { length from_places.now ≡ length from_costs.now }
+    requires costs { at + length from_costs.now ≤ length costs.old }
+    requires places { at + length from_costs.now ≤ length places.old }
+    requires most { (j : ℕ) → slice_index from_costs.now j ≤ far }
+    ensures over { AreOver from_costs.now from_places.now metric at costs.old places.old costs.new places.new }
+    ensures small { metric < 2 ^ 16 }
+{
+    for j in 0..from_costs.len() {
+        let cost = from_costs[j] + metric as u32;
+        offer_at(at + j, cost, from_places[j], costs, places);
+    }
+}
+
+/// Offers each node to which an end of x leads on in its block, for each source at its place.
+pub fn offer_on(
+    g: &Graph,
+    d: &Directed,
+    x: NodeNo,
+    dir: Dir,
+    from_costs: &[u32],
+    from_places: &[u16],
+    costs: &mut [u32],
+    places: &mut [u16],
+)
+    requires kept { IsTopology g.now }
+    requires directed { HasDirections g.now d.now }
+    requires node { x < length g.now.ids }
+    requires from { AreCosts from_costs.now from_places.now }
+    requires small { (j : ℕ) → slice_index from_costs.now j < far → slice_index from_costs.now j + 65536 ≤ far }
+    requires room { length costs.old ≡ length g.now.ids * length from_costs.now }
+    requires costs { AreCosts costs.old places.old }
+    ensures room { length costs.new ≡ length costs.old }
+    ensures costs { AreCosts costs.new places.new }
+    ensures low { (bound : ℕ) → AreLow bound from_costs.now → AreLow (bound + 65535) costs.old
+        → AreLow (bound + 65535) costs.new }
+    ensures offered { (root j : ℕ) (w : Directions) (ends : List End) → AreDirections g.now d.now root w
+        → j < length from_costs.now
+        → HasOffered g.now w dir x (known_by ends (slice_index from_costs.now j) (slice_index from_places.now j))
+        (lane ends (length g.now.ids) (length from_costs.now) costs.old places.old j)
+        (lane ends (length g.now.ids) (length from_costs.now) costs.new places.new j) }
+{
+    let block = d.place(x).block;
+    let width = from_costs.len();
+    for end in g.ends(x) {
+        let mark = d.mark(end.link);
+        if mark.block == block && leads_on(dir, mark.way, x, end.to) {
+            let at = end.to.get() as usize * width;
+            offer_over(from_costs, from_places, end.metric, at, costs, places);
+        }
+    }
+}
+
+/// Offers each node to which an end of the source leads on, but over sole links. The source is the one at place j of so
+/// many.
+pub fn offer_begun(
+    g: &Graph,
+    d: &Directed,
+    source: NodeNo,
+    dir: Dir,
+    j: usize,
+    width: usize,
+    costs: &mut [u32],
+    places: &mut [u16],
+)
+    requires kept { IsTopology g.now }
+    requires directed { HasDirections g.now d.now }
+    requires source { source < length g.now.ids }
+    requires place { j < width }
+    requires room { length costs.old ≡ length g.now.ids * width }
+    requires costs { AreCosts costs.old places.old }
+    ensures room { length costs.new ≡ length costs.old }
+    ensures costs { AreCosts costs.new places.new }
+    ensures low { AreLow 65535 costs.old → AreLow 65535 costs.new }
+    ensures offered { (root : ℕ) (w : Directions) (ends : List End) → AreDirections g.now d.now root w
+        → slice_get g.now.ends source ≡ Some ends
+        → AreOffered (IsFirstOffer g.now w dir source) (lane ends (length g.now.ids) width costs.old places.old j)
+        (lane ends (length g.now.ids) width costs.new places.new j) }
+    ensures others { (k : ℕ) (ends : List End) → k < width → k ≢ j
+        → lane ends (length g.now.ids) width costs.new places.new k
+        ≡ lane ends (length g.now.ids) width costs.old places.old k }
+{
+    for (place, end) in g.ends(source).iter().enumerate() {
+        let mark = d.mark(end.link);
+        if !is_sole(mark.role) && leads_on(dir, mark.way, source, end.to) {
+            let at = end.to.get() as usize * width + j;
+            offer_at(at, end.metric as u32, place as u16, costs, places);
+        }
+    }
+}
