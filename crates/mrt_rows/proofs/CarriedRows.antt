@@ -24,7 +24,7 @@ pub data IsCarriedTo (root : ℕ) (w : Directions) (s : ℕ) : ℕ → ℕ → T
 module _ (og : OrderedGraph) (s : ℕ) (s_within : s < length og.g.ids) (rows : ℕ → Option Row)
     (has : (t : ℕ) → t < length og.g.ids → s ≢ t → HasRow og.g og.root og.w s rows t) where
   -- where the two have no block in common, the row is carried
-  carried_tag : (t : ℕ) (row : Row) (T : Tag) → LineOf T og.g og.root og.w s rows t row → ((k h : ℕ) → HaveInCommon og.w s t k h → ⊥) → T ≡ tags.Carried
+  pub carried_tag : (t : ℕ) (row : Row) (T : Tag) → LineOf T og.g og.root og.w s rows t row → ((k h : ℕ) → HaveInCommon og.w s t k h → ⊥) → T ≡ tags.Carried
   carried_tag t row tags.Sole line apart = absurd (apart line.block line.head line.common)
   carried_tag t row tags.Head line apart = absurd (apart line.block line.head line.share.common)
   carried_tag t row tags.Top line apart = absurd (apart line.block line.head line.share.common)

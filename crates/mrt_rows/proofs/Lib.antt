@@ -20,7 +20,9 @@ pub mod LeastExists
 pub mod LinesHold
 pub mod MarkedHeads
 pub mod MemberRows
+pub mod NearFound
 pub mod NearRows
+pub mod NearSection
 pub mod OneBlock
 pub mod OneBlockRows
 pub mod OneCert
@@ -30,13 +32,16 @@ pub mod OneRow
 pub mod OrderedGraphs
 pub mod OtherLines
 pub mod PushedWords
+pub mod RowOver
 pub mod RowTags
 pub mod RowsExist
 pub mod RowsPut
 pub mod RulesHold
 pub mod Sharing
+pub mod SoleBlocks
 pub mod SoleRows
 pub mod SoundColumns
+pub mod SourceCert
 pub mod TableRows
 pub mod Tables
 pub mod TileLinks

@@ -36,7 +36,7 @@ mark_says g d w e mark says inside is =
 
 module _ (og : OrderedGraph) (s : ℕ) (s_within : s < length og.g.ids) where
   -- a sole link is the one link of its block
-  one_of_block : (m e : ℕ) → m < length og.g.ids → m ≢ og.root → e < length og.g.links → og.w.role e ≡ Sole
+  pub one_of_block : (m e : ℕ) → m < length og.g.ids → m ≢ og.root → e < length og.g.links → og.w.role e ≡ Sole
       → og.w.lies_in e ≡ og.w.block m → HasOneLink og.g og.w (og.w.lies_in e) e
   one_of_block m e inside other e_within sole block = elim (og.ordered.blocks m inside other) [
     | inl it ↦ record {

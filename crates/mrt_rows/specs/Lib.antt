@@ -4,6 +4,7 @@ pub mod ColumnOf
 pub mod DirectedFrom
 pub mod Held
 pub mod HopRows
+pub mod NearOf
 pub mod Put
 pub mod Rooted
 pub mod RowLines

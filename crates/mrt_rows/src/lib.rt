@@ -18,7 +18,10 @@ mod of_source;
 mod one_block;
 mod places;
 mod rooted;
+mod row_over;
 mod rows_law;
+mod soles;
+mod source_rows;
 mod table;
 mod tile_rows;
 mod tiles;
@@ -31,6 +34,8 @@ pub use directed::directions;
 pub use of_source::rows_of;
 pub use rooted::RootedColumns;
 pub use rows_law::{
-    certificates_are_accepted, columns_are_of_one_certificate, columns_are_sound, one_certificate,
-    one_column_for_each, one_row_for_each, tabled_certificates_are_accepted,
+    certificates_are_accepted, columns_are_of_one_certificate, columns_are_sound,
+    near_rows_are_those_of_each_node, one_certificate, one_column_for_each, one_row_for_each,
+    tabled_certificates_are_accepted,
 };
+pub use source_rows::SourceRows;

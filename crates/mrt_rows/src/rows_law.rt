@@ -1,10 +1,11 @@
 //! What holds of certificates and columns whose rows are those of the table.
 
-ghost use Rattle.std.specs.Prelude.{◌≡◌, ◌≢◌, ◌<◌, ℕ, List, Option, length};
+ghost use Rattle.std.specs.Prelude.{◌≡◌, ◌≢◌, ◌<◌, ◌+◌, ◌-◌, ◌*◌, ◌++◌, ℕ, List, [], Option, filter, length};
 ghost use Rattle.mrt_graph.specs.declared.cert.CertFile.{CertFile};
 ghost use Rattle.mrt_graph.specs.declared.cert.Row.{Row};
 ghost use Rattle.mrt_graph.specs.declared.tree.TreeNode.{TreeNode};
 ghost use Rattle.mrt_graph.specs.Accepted.{Accepted};
+ghost use Rattle.mrt_graph.specs.Certificate.{Certificate};
 ghost use Rattle.mrt_graph.specs.Column.{ColumnSound};
 ghost use Rattle.mrt_graph.specs.DirectedLists.{DirectedLists};
 ghost use Rattle.mrt_graph.specs.GadagLists.{GadagLists};
@@ -17,6 +18,7 @@ ghost use Rattle.link_direction.specs.Directions.{Directions, Says};
 ghost use Rattle.link_direction.specs.OrderedGadag.{IsOrderedGadag};
 ghost use Rattle.mrt_rows.specs.CertOf.{IsCertOf, Tells};
 ghost use Rattle.mrt_rows.specs.ColumnOf.{HasColumns, IsColumnOf};
+ghost use Rattle.mrt_rows.specs.NearOf.{is_near, near_rows_before, near_rows_of};
 ghost use Rattle.mrt_rows.specs.RowsOf.{HasRow};
 
 /// A law: where a file says of a graph what a GADAG with its order says, and its rows are those of the table, the
@@ -77,4 +79,13 @@ pub fn certificates_are_accepted()
 pub fn one_certificate()
     ensures { (g : Topology) (root : ℕ) (file other : CertFile) → IsTopology g → root < length g.ids
         → IsCertOf g root file → IsCertOf g root other → file ≡ other }
+{}
+
+/// A law: the near rows of a certificate are those of its nodes, one node after another.
+pub fn near_rows_are_those_of_each_node()
+    ensures none { (c : Certificate) → near_rows_before c 0 ≡ [] }
+    ensures more { (c : Certificate) (s : ℕ)
+        → near_rows_before c (s + 1) ≡ near_rows_before c s ++ near_rows_of c s }
+    ensures all { (c : Certificate) → length c.rows ≡ length c.nodes * (length c.nodes - 1)
+        → near_rows_before c (length c.nodes) ≡ filter is_near c.rows }
 {}

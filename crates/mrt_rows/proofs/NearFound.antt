@@ -1,0 +1,99 @@
+-- The near rows of a source, one destination after another.
+use Rattle.std.proofs.Common.{◌≡◌, ◌≢◌, ◌∙◌, ◌<◌, ◌≤◌, ◌+◌, ◌++◌, ℕ, zero, suc, Bool, true, List, [], ◌∷◌, Option, Some, None, filter, length, not, set, slice_get, take, refl, sym, ap, subst, inl, inr, arith, add-one, append-nil}
+use Rattle.std.proofs.lemmas.Bool.{cases_eq}
+use Rattle.std.proofs.lemmas.Option.{slice_get_within}
+use Rattle.mrt_graph.specs.declared.cert.Row.{Row}
+use Rattle.mrt_graph.specs.declared.cert.Tag.{Tag}
+use Rattle.mrt_graph.specs.declared.cert.Tag.TheVariants as tags
+use Rattle.mrt_graph.specs.Tags.{same_tag}
+use Rattle.link_direction.specs.BlockOfTwo.{HaveInCommon, ToHead}
+use Rattle.inc_dec_spf.specs.declared.reach.Dir.{Dir}
+use Rattle.inc_dec_spf.specs.declared.reach.Dir.TheVariants.{Down, Up}
+use Rattle.inc_dec_spf.specs.FirstLink.{IsFirstLink}
+use Rattle.inc_dec_spf.specs.LeastPath.{HasMoreLinks}
+use Rattle.mrt_rows.specs.declared.members.Home.{Home}
+use Rattle.mrt_rows.specs.NearOf.{Apart, AreLinked, InCommon, IsNearRow, is_near, near_first, near_in}
+use Rattle.mrt_rows.specs.Put.{IsHome, IsOwnRow, ShareMoreLinks}
+use Rattle.mrt_rows.specs.RowLines.{LineOf}
+use Rattle.mrt_rows.specs.RowsOf.{HasRow}
+use Rattle.mrt_rows.proofs.CarriedRows.{carried_tag, row_near}
+use Rattle.mrt_rows.proofs.MarkedHeads.{not_own_head}
+use Rattle.mrt_rows.proofs.OrderedGraphs.{OrderedGraph}
+
+-- a row that is not carried is near
+near_by : (tag : Tag) → tag ≢ tags.Carried → not (same_tag tag tags.Carried) ≡ true
+near_by tags.Sole other = refl
+near_by tags.Head other = refl
+near_by tags.Top other = refl
+near_by tags.Below other = refl
+near_by tags.Above other = refl
+near_by tags.Unordered other = refl
+near_by tags.Carried other = absurd (other refl)
+
+near_alone : (row : Row) → row.tag ≢ tags.Carried → near_in (Some row) ≡ row ∷ []
+near_alone row other = rw (near_by row.tag other) refl
+
+far_alone : (row : Row) → row.tag ≡ tags.Carried → near_in (Some row) ≡ []
+far_alone row same = let is : is_near row ≡ not (same_tag tags.Carried tags.Carried) = ap (λ (T : Tag). not (same_tag T tags.Carried)) same in rw is refl
+
+-- a row more in the room
+pub row_more : (room : List Row) (found : ℕ) (row : Row) → found < length room → take (found + 1) (set room found row) ≡ take found room ++ row ∷ []
+row_more [] found row within = absurd (omega (arith, within))
+row_more (x ∷ room) zero row within = refl
+row_more (x ∷ room) (suc found) row within =
+    let next : suc found + 1 ≡ suc (found + 1) = omega arith in
+    ap (λ (k : ℕ). take k (x ∷ set room found row)) next ∙ ap (λ (xs : List Row). x ∷ xs) (row_more room found row (omega (arith, within)))
+
+module _ (og : OrderedGraph) (s : ℕ) (s_within : s < length og.g.ids) (rows : ℕ → Option Row)
+    (has : (t : ℕ) → t < length og.g.ids → s ≢ t → HasRow og.g og.root og.w s rows t) where
+  -- the row for a node with which s has a block in common is near
+  near_there : (t : ℕ) (row : Row) → t < length og.g.ids → s ≢ t → IsNearRow og.g og.root og.w s t (Some row) → near_in (rows t) ≡ row ∷ []
+  near_there t row t_within two (InCommon row' k h common own) =
+      let is = row_near og s s_within rows has t k h row t_within two common (own.line rows) in
+      ap near_in is
+      ∙ near_alone row (λ same. (subst (λ (T : Tag). LineOf T og.g og.root og.w s rows t row) same (own.line rows)).apart k h common)
+
+  -- that for another is not
+  far_there : (t : ℕ) → t < length og.g.ids → s ≢ t → IsNearRow og.g og.root og.w s t None → near_in (rows t) ≡ []
+  far_there t t_within two (Apart none) =
+      let it = has t t_within two in
+      ap near_in it.is ∙ far_alone it.row (carried_tag og s s_within rows has t it.row it.row.tag it.line none)
+
+  -- the row for t is put, where there is one
+  pub some_found : (room : List Row) (found t : ℕ) (row : Row) → found < length room → t < length og.g.ids → s ≢ t
+      → IsNearRow og.g og.root og.w s t (Some row) → take found room ≡ near_first rows t
+      → take (found + 1) (set room found row) ≡ near_first rows (t + 1)
+  some_found room found t row within t_within two near so_far =
+      let next : suc t ≡ t + 1 = omega arith in
+      row_more room found row within ∙ ap (λ (xs : List Row). xs ++ row ∷ []) so_far
+      ∙ ap (λ (xs : List Row). near_first rows t ++ xs) (sym (near_there t row t_within two near)) ∙ ap (near_first rows) next
+
+  pub none_found : (room : List Row) (found t : ℕ) → t < length og.g.ids → s ≢ t → IsNearRow og.g og.root og.w s t None
+      → take found room ≡ near_first rows t → take found room ≡ near_first rows (t + 1)
+  none_found room found t t_within two near so_far =
+      let next : suc t ≡ t + 1 = omega arith in
+      so_far ∙ sym (append-nil (near_first rows t)) ∙ ap (λ (xs : List Row). near_first rows t ++ xs) (sym (far_there t t_within two near))
+      ∙ ap (near_first rows) next
+
+-- none stands for the source itself
+pub own_found : (s : ℕ) (rows : ℕ → Option Row) (room : List Row) (found t : ℕ) → t ≡ s → rows s ≡ None → take found room ≡ near_first rows t
+    → take found room ≡ near_first rows (t + 1)
+own_found s rows room found t same none so_far =
+    let next : suc t ≡ t + 1 = omega arith in
+    so_far ∙ sym (append-nil (near_first rows t)) ∙ ap (λ (xs : List Row). near_first rows t ++ xs) (sym (ap near_in (ap rows same ∙ none)))
+    ∙ ap (near_first rows) next
+
+-- the links home are those for the head
+pub home_linked : (og : OrderedGraph) (s : ℕ) (up down : List ℕ) (home : Home) → s < length og.g.ids → AreLinked og.g og.w Up s up
+    → AreLinked og.g og.w Down s down → slice_get up (og.w.head s) ≡ Some home.up → slice_get down (og.w.head s) ≡ Some home.down → IsHome og.g og.w s home
+home_linked og s up down home s_within ups downs at_up at_down = record {
+  up = λ more. ups.each (og.w.head s) home.up at_up (shares more);
+  down = λ more. downs.each (og.w.head s) home.down at_down (shares more);
+}
+  where
+    shares : HasMoreLinks og.g og.w (og.w.block s) → ShareMoreLinks og.g og.w s (og.w.head s)
+    shares more = record {
+      block = og.w.block s;
+      head = og.w.head s;
+      share = record { two = not_own_head og s s_within more; common = ToHead refl refl refl; more = more };
+    }

@@ -1,0 +1,119 @@
+use Rattle.std.proofs.Common.{◌≡◌, ◌≢◌, ◌∙◌, ◌==◌, ◌<◌, ◌≤◌, ◌+◌, ℕ, Bool, true, false, List, Option, Some, None, get_or, length, length-set, not, set, slice_get, take, refl, sym, ap, subst, inl, inr, arith}
+use Rattle.std.proofs.lemmas.Bool.{cases_eq, eqb-false, eqb-true, ne_eqb}
+use Rattle.std.proofs.lemmas.Option.{slice_get_read}
+use Rattle.mrt_graph.specs.declared.cert.Row.{Row}
+use Rattle.mrt_graph.specs.declared.gadag.Place.{Place}
+use Rattle.mrt_graph.specs.DirectedLists.{DirectedLists}
+use Rattle.mrt_graph.specs.Topology.{Topology}
+use Rattle.link_direction.specs.Directions.{Directions, Says}
+use Rattle.inc_dec_spf.specs.declared.reach.Dir.TheVariants.{Down, Up}
+use Rattle.inc_dec_spf.specs.FirstLink.{IsFirstLink}
+use Rattle.mrt_rows.specs.declared.members.Home.{Home}
+use Rattle.mrt_rows.specs.NearOf.{AreLinked, AreSoles, IsNearRow, IsPlaceOf, IsSoleOf, near_first}
+use Rattle.mrt_rows.specs.Put.{ShareMoreLinks}
+use Rattle.mrt_rows.proofs.NearFound.{home_linked, none_found, own_found, some_found}
+use Rattle.mrt_rows.proofs.NearRows.{place_says}
+use Rattle.mrt_rows.proofs.OrderedGraphs.{OrderedGraph, graph_of}
+use Rattle.mrt_rows.proofs.row_over.put_near_rows.Goals as goal
+use Rattle.mrt_rows.proofs.row_over.put_near_rows.Goals.{then-ne+in-Some, then-ne+in_default, else-ne}
+
+read_at : (xs : List ℕ) (i at x : ℕ) → i < length xs → at ≡ i → x ≡ get_or xs at x → slice_get xs i ≡ Some x
+read_at xs i at x within same read = slice_get_read xs (length xs) i x refl within (subst (λ (k : ℕ). x ≡ get_or xs k x) same read)
+
+place_of : (g : Topology) (d : DirectedLists) (w : Directions) (v : ℕ) (place : Place) → Says g d w → v < length g.ids → slice_get d.places v ≡ Some place
+    → IsPlaceOf w v place
+place_of g d w v place says within at = let it = place_says g d w v place says within at in record { head = it.0; block = it.1 }
+
+not-true : (b : Bool) → not b ≡ true → b ≡ false
+not-true true is = cc
+not-true false is = refl
+
+same_by : (a b : ℕ) (differ : Bool) → differ ≡ not (a == b) → differ ≡ false → a ≡ b
+same_by a b differ is fails = elim (cases_eq a b) [
+  | inl same ↦ same
+  | inr other ↦ let yes : differ ≡ true = rw (ne_eqb a b other) at is in absurd (cc)
+]
+
+pub loop-n-preserved : goal.loop-n-preserved
+loop-n-preserved c =
+    let g = c.args.g.now in
+    let d = c.args.d.now in
+    let s = c.args.s in
+    let n = c.loop-n.n in
+    let node = c.new-t.result in
+    let node_is : node ≡ n = c.new-t.ensures in
+    let n_within : n < length g.ids = omega (arith, c.loop-n-test.true, c.node_count-n-end.ensures.count) in
+    let node_within : node < length g.ids = omega (arith, node_is, n_within) in
+    let here = c.place-here.result in
+    let found = c.loop-n.found in
+    let room = c.loop-n.room in
+    let within : found < length room = omega (arith, c.loop-n.invariant.few, c.loop-n.invariant.room, c.requires.room, n_within) in
+    let sole_at = read_at c.args.soles.now s c.get.result c.index-soles-get.result (omega (arith, c.requires.source, c.requires.soles)) c.get.ensures.value
+    c.index-soles-get.is in
+    let home : Home = record { up = c.index-up-head.result; down = c.index-down-head.result } in
+    elim c.if-ne.branch [
+      | then-ne+in-Some t ↦
+          let two : s ≢ node = λ same. eqb-false node s (not-true (node == s) (sym c.ne.ensures ∙ t.if-ne.true)) (sym same) in
+          rw (t.room-is, t.found-is) (record {
+            room = length-set room found t.in-Some.row ∙ c.loop-n.invariant.room;
+            few = omega (arith, c.loop-n.invariant.few);
+            rows = λ root w rows are soles up down has none.
+                let og = graph_of g root w d c.requires.kept are in
+                let head = place_says g d w s here are.says c.requires.source c.place-here.ensures in
+                let head_within = are.ordered.heads.head_within s c.requires.source in
+                let at_home : c.get-head.result ≡ w.head s = c.get-head.ensures.value ∙ head.0 in
+                let is_home = home_linked og s c.args.up.now c.args.down.now home c.requires.source up down
+                (read_at c.args.up.now (w.head s) c.get-head.result c.index-up-head.result (omega (arith, head_within, c.requires.ups)) at_home c.index-up-head.is)
+                (read_at c.args.down.now (w.head s) c.get-head.result c.index-down-head.result (omega (arith, head_within, c.requires.downs)) at_home
+                c.index-down-head.is) in
+                let near = t.row_over.ensures g root w c.requires.kept are.ordered c.requires.source node_within
+                (place_of g d w s here are.says c.requires.source c.place-here.ensures) (place_of g d w node t.place.result are.says node_within t.place.ensures)
+                (soles.each s c.index-soles-get.result sole_at)
+                (soles.each node t.index-soles-at.result
+                (read_at c.args.soles.now node n t.index-soles-at.result (omega (arith, node_within, c.requires.soles)) (sym node_is) t.index-soles-at.is))
+                (up.each node t.index-up-at.result
+                (read_at c.args.up.now node n t.index-up-at.result (omega (arith, node_within, c.requires.ups)) (sym node_is) t.index-up-at.is))
+                (down.each node t.index-down-at.result
+                (read_at c.args.down.now node n t.index-down-at.result (omega (arith, node_within, c.requires.downs)) (sym node_is) t.index-down-at.is)) is_home in
+                subst (λ (i : ℕ). take (found + 1) (set room found t.in-Some.row) ≡ near_first rows (i + 1)) node_is
+                (some_found og s c.requires.source rows has room found node t.in-Some.row within node_within two
+                (subst (λ (o : Option Row). IsNearRow g root w s node o) t.in-Some.is near)
+                (subst (λ (i : ℕ). take found room ≡ near_first rows i) (sym node_is) (c.loop-n.invariant.rows root w rows are soles up down has none)));
+          })
+      | then-ne+in_default t ↦
+          let two : s ≢ node = λ same. eqb-false node s (not-true (node == s) (sym c.ne.ensures ∙ t.if-ne.true)) (sym same) in
+          rw (t.room-is, t.found-is) (record {
+            room = c.loop-n.invariant.room;
+            few = omega (arith, c.loop-n.invariant.few);
+            rows = λ root w rows are soles up down has none.
+                let og = graph_of g root w d c.requires.kept are in
+                let head = place_says g d w s here are.says c.requires.source c.place-here.ensures in
+                let head_within = are.ordered.heads.head_within s c.requires.source in
+                let at_home : c.get-head.result ≡ w.head s = c.get-head.ensures.value ∙ head.0 in
+                let is_home = home_linked og s c.args.up.now c.args.down.now home c.requires.source up down
+                (read_at c.args.up.now (w.head s) c.get-head.result c.index-up-head.result (omega (arith, head_within, c.requires.ups)) at_home c.index-up-head.is)
+                (read_at c.args.down.now (w.head s) c.get-head.result c.index-down-head.result (omega (arith, head_within, c.requires.downs)) at_home
+                c.index-down-head.is) in
+                let near = t.row_over.ensures g root w c.requires.kept are.ordered c.requires.source node_within
+                (place_of g d w s here are.says c.requires.source c.place-here.ensures) (place_of g d w node t.place.result are.says node_within t.place.ensures)
+                (soles.each s c.index-soles-get.result sole_at)
+                (soles.each node t.index-soles-at.result
+                (read_at c.args.soles.now node n t.index-soles-at.result (omega (arith, node_within, c.requires.soles)) (sym node_is) t.index-soles-at.is))
+                (up.each node t.index-up-at.result
+                (read_at c.args.up.now node n t.index-up-at.result (omega (arith, node_within, c.requires.ups)) (sym node_is) t.index-up-at.is))
+                (down.each node t.index-down-at.result
+                (read_at c.args.down.now node n t.index-down-at.result (omega (arith, node_within, c.requires.downs)) (sym node_is) t.index-down-at.is)) is_home in
+                subst (λ (i : ℕ). take found room ≡ near_first rows (i + 1)) node_is
+                (none_found og s c.requires.source rows has room found node node_within two
+                (subst (λ (o : Option Row). IsNearRow g root w s node o) t.in_default.is near)
+                (subst (λ (i : ℕ). take found room ≡ near_first rows i) (sym node_is) (c.loop-n.invariant.rows root w rows are soles up down has none)));
+          })
+      | else-ne t ↦
+          let same : node ≡ s = same_by node s c.ne.result c.ne.ensures t.if-ne.false in
+          rw (t.room-is, t.found-is) (record {
+            room = c.loop-n.invariant.room;
+            few = omega (arith, c.loop-n.invariant.few);
+            rows = λ root w rows are soles up down has none.
+                own_found s rows room found n (sym node_is ∙ same) none (c.loop-n.invariant.rows root w rows are soles up down has none);
+          })
+    ]

@@ -1,0 +1,90 @@
+-- The near rows of a certificate, source after source: those that are not Carried.
+use Rattle.std.specs.Prelude.{◌≡◌, ◌≢◌, ◌<◌, ◌+◌, ◌-◌, ◌*◌, ◌++◌, ℕ, zero, suc, Bool, List, [], ◌∷◌, Option, Some, None, drop, filter, length, not, slice_get, take}
+use Rattle.mrt_graph.specs.declared.cert.Row.{Row}
+use Rattle.mrt_graph.specs.declared.cert.Tag.TheVariants.{Carried}
+use Rattle.mrt_graph.specs.declared.gadag.Place.{Place}
+use Rattle.mrt_graph.specs.Certificate.{Certificate}
+use Rattle.mrt_graph.specs.Tags.{same_tag}
+use Rattle.mrt_graph.specs.Topology.{Topology}
+use Rattle.link_direction.specs.BlockOfTwo.{HaveInCommon}
+use Rattle.link_direction.specs.Directions.{Directions, Says}
+use Rattle.inc_dec_spf.specs.declared.reach.Dir.{Dir}
+use Rattle.inc_dec_spf.specs.declared.reach.Dir.TheVariants.{Down, Up}
+use Rattle.inc_dec_spf.specs.Fan.{IsFan, IsOpen}
+use Rattle.inc_dec_spf.specs.FirstLink.{IsFirstLink, no_link}
+use Rattle.inc_dec_spf.specs.Turns.{AreTurns}
+use Rattle.mrt_rows.specs.declared.members.Home.{Home}
+use Rattle.mrt_rows.specs.declared.source_rows.SourceRows.{SourceRows}
+use Rattle.mrt_rows.specs.DirectedFrom.{IsDirectedFrom}
+use Rattle.mrt_rows.specs.Put.{IsHome, IsOwnRow, ShareMoreLinks}
+use Rattle.mrt_rows.specs.RowLines.{HasOneLink}
+
+-- a row that is not Carried
+abbrev pub is_near : Row → Bool
+is_near row = not (same_tag row.tag Carried)
+
+-- of the rows of node s in a certificate, those that are near, by ascending destination
+abbrev pub near_rows_of : Certificate → ℕ → List Row
+near_rows_of c s = filter is_near (take (length c.nodes - 1) (drop (s * (length c.nodes - 1)) c.rows))
+
+-- of the rows of the nodes before s, those that are near, by ascending source, then by ascending destination
+abbrev pub near_rows_before : Certificate → ℕ → List Row
+near_rows_before c s = filter is_near (take (s * (length c.nodes - 1)) c.rows)
+
+-- the row, where it is there and near
+abbrev pub near_in : Option Row → List Row
+near_in None = []
+near_in (Some row) = filter is_near (row ∷ [])
+
+-- of some rows of a source by destination, the near ones of those for the first nodes
+abbrev pub near_first : (ℕ → Option Row) → ℕ → List Row
+near_first rows zero = []
+near_first rows (suc t) = near_first rows t ++ near_in (rows t)
+
+-- the row of s for t, where they have a block in common
+pub data IsNearRow (g : Topology) (root : ℕ) (w : Directions) (s t : ℕ) : Option Row → Type 0 where
+  InCommon : (row : Row) (k h : ℕ) → HaveInCommon w s t k h → IsOwnRow g root w s t row → IsNearRow g root w s t (Some row)
+  Apart : ((k h : ℕ) → ¬ HaveInCommon w s t k h) → IsNearRow g root w s t None
+
+-- the one link of v's block; none where it has more links, or v is the root
+pub record IsSoleOf (g : Topology) (w : Directions) (v link : ℕ) : Type 0 where
+  pub sole : link ≢ no_link → HasOneLink g w (w.block v) link
+  pub none : link ≡ no_link → (e : ℕ) → ¬ HasOneLink g w (w.block v) e
+
+-- that of each node
+pub record AreSoles (g : Topology) (w : Directions) (soles : List ℕ) : Type 0 where
+  pub one_each : length soles ≡ length g.ids
+  pub each : (v link : ℕ) → slice_get soles v ≡ Some link → IsSoleOf g w v link
+
+-- a node's place is as the directions say
+pub record IsPlaceOf (w : Directions) (v : ℕ) (place : Place) : Type 0 where
+  pub head : place.head ≡ w.head v
+  pub block : place.block ≡ w.block v
+
+-- the links by which s begins the least paths to the nodes with which it has a block of more than one link in common
+pub record AreLinked (g : Topology) (w : Directions) (dir : Dir) (s : ℕ) (links : List ℕ) : Type 0 where
+  pub each : (t link : ℕ) → slice_get links t ≡ Some link → ShareMoreLinks g w s t → IsFirstLink g w dir s t link
+
+-- so many sources are taken side by side
+abbrev pub fan_width : ℕ
+fan_width = 64
+
+-- what is held between two sources: the nodes by their turns, the sole links, room for each node, and two fans, which are
+-- open from the nodes from one number on
+pub record AreFans (g : Topology) (w : Directions) (held : SourceRows) : Type 0 where
+  pub by_order : AreTurns g w Up held.by_order.items
+  pub against_order : AreTurns g w Down held.against_order.items
+  pub soles : AreSoles g w held.soles.items
+  pub up : IsFan g fan_width held.up
+  pub down : IsFan g fan_width held.down
+  pub open_up : IsOpen g w Up held.first fan_width held.up
+  pub open_down : IsOpen g w Down held.first fan_width held.down
+  pub one_up_each : length held.up_links.items ≡ length g.ids
+  pub one_down_each : length held.down_links.items ≡ length g.ids
+  pub room : length held.room.items ≡ length g.ids
+
+-- these make the rows of the graph from their root: by its directions, and by what is held between sources
+pub record MakeRows (g : Topology) (held : SourceRows) : Type 0 where
+  pub root_within : held.root < length g.ids
+  pub directed : IsDirectedFrom g held.root held.directed
+  pub fans : (w : Directions) → Says g held.directed w → AreFans g w held
