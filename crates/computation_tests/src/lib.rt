@@ -16,6 +16,8 @@ mod hand_paths;
 #[cfg(test)]
 mod hand_rows;
 #[cfg(test)]
+mod near_rows;
+#[cfg(test)]
 mod paths_to_nodes;
 #[cfg(test)]
 mod search_trees;

@@ -1,0 +1,5 @@
+use Rattle.mrt_rows.specs.NearOf.{MakeRows}
+use Rattle.computation_tests.proofs.near_rows.near_of_all.Given as goal
+
+abbrev pub invariant-loop-n : goal.invariant-loop-n
+invariant-loop-n l = MakeRows l.g l.rows
