@@ -3,9 +3,10 @@
 
 The islands are a ring, a grid with 32 in a row, a block with four times as many links as nodes, and a line. A ratio below 2.4 for twice the
 nodes means that the time grows as the island does. `spf`, up, and `rows_of` are timed for all sources, and `spf_to`, up, for all targets, as are
-the columns of all nodes, one after another, so that their times may be four times as much, at most 4.4, as that of `compute`. The time of one
-column is told too. The times of `rows_of` and of `compute` are compared with that which `sha256sum` takes of as many bytes as the certificate
-has. It builds a small program beside the crates in a folder of its own; it fetches nothing.
+the columns of all nodes, one after another, and the near rows of all nodes (`SourceRows`), so that their times may be four times as much, at
+most 4.4, as that of `compute`. The time of one column is told too. The times of `rows_of`, of the near rows and of `compute` are compared with
+that which `sha256sum` takes of as many bytes as the certificate has. It builds a small program beside the crates in a folder of its own; it
+fetches nothing.
 """
 import os
 import subprocess
@@ -18,7 +19,7 @@ import timing
 
 SIZES = 1024, 2048
 # The steps that do something for each source.
-SQUARE = "spf", "spf_to", "rows_of", "columns", "compute"
+SQUARE = "spf", "spf_to", "rows_of", "columns", "near_rows", "compute"
 SHAPES = {
     "ring": lambda n: [(each, each % n + 1) for each in range(1, n + 1)],
     "mesh": lambda n: areas.grid(n, 32),
@@ -39,6 +40,7 @@ ghost use Rattle.lsdb.specs.Installs.{all_installed};
 ghost use Rattle.inc_dec_spf.specs.HasDirections.{HasDirections};
 ghost use Rattle.link_direction.specs.OrderedGadag.{SaysOrdered};
 ghost use Rattle.mrt_rows.specs.Held.{AreHeld};
+ghost use Rattle.mrt_rows.specs.NearOf.{MakeRows};
 ghost use Rattle.ospf_lsa.specs.Lsas.{AreLsas, IsLsa};
 ghost use Rattle.mrt_cmd.specs.Database.{entering, enters};
 
@@ -51,7 +53,7 @@ use lowpoint_dfs::search;
 use lsdb::{Lsdb, an_lsa_without_a_fault_may_be_installed, entries_are_those_of_the_list};
 use mrt_graph::{Directed, Graph, NoMemory, NodeNo};
 use mrt_island::{Island, Profile, find_island};
-use mrt_rows::{Columns, compute, rows_of};
+use mrt_rows::{Columns, SourceRows, compute, rows_of};
 use ospf_lsa::{Lsa, read_lsas};
 use std::alloc::Global;
 use std::fs;
@@ -210,6 +212,31 @@ fn time_columns(rt: &HostRuntime, name: &str, g: &Graph, root: NodeNo, d: &Direc
     Ok(())
 }
 
+fn find_all(g: &Graph, rows: &mut SourceRows)
+    requires { MakeRows g.now rows.old }
+    ensures { MakeRows g.now rows.new }
+{
+    for source in 0..g.node_count() {
+        rows.find(g, NodeNo::new(source));
+    }
+}
+
+fn time_near_rows(rt: &HostRuntime, name: &str, g: &Graph, root: NodeNo) -> Result<()> {
+    if root.get() >= g.node_count() {
+        bail!("no root");
+    }
+    for _ in 0..7 {
+        let start = Instant::now(rt)?;
+        let Ok(mut rows) = SourceRows::new(rt.alloc(), g, root) else {
+            bail!("no memory");
+        };
+        find_all(g, &mut rows);
+        let taken = start.elapsed(rt)?.as_nanos();
+        println!(rt; "{name} {} {} near_rows {taken}", g.node_count(), g.link_count())?;
+    }
+    Ok(())
+}
+
 fn time_sources(rt: &HostRuntime, name: &str, g: &Graph, root: NodeNo) -> Result<()> {
     if root.get() >= g.node_count() {
         bail!("no root");
@@ -246,6 +273,7 @@ fn main(rt: HostRuntime) -> Result<()> {
         let island = island_of(&rt, name)?;
         time_steps(&rt, name, &island.graph, island.root)?;
         time_sources(&rt, name, &island.graph, island.root)?;
+        time_near_rows(&rt, name, &island.graph, island.root)?;
         time_compute(&rt, name, &island.graph, island.root)?;
     }
     Ok(())
@@ -269,6 +297,14 @@ use Rattle.timing.proofs.time_columns.Given as goal
 
 abbrev pub invariant-loop-to : goal.invariant-loop-to
 invariant-loop-to l = (w : Directions) → Says l.g l.d w → AreHeld l.g l.fn.root w l.columns
+"""
+
+FOUND = """\
+use Rattle.mrt_rows.specs.NearOf.{MakeRows}
+use Rattle.timing.proofs.find_all.Given as goal
+
+abbrev pub invariant-loop-source : goal.invariant-loop-source
+invariant-loop-source l = MakeRows l.g l.rows
 """
 
 
@@ -296,8 +332,9 @@ def summed(shape, size):
 def main():
     files = {f"{shape}-{size}": areas.database(areas.numbered(pairs(size))) for shape, pairs in SHAPES.items() for size in SIZES}
     with tempfile.TemporaryDirectory() as folder:
+        proofs = {"installed/Invariants.antt": INVARIANTS, "time_columns/Invariants.antt": COLUMNS, "find_all/Invariants.antt": FOUND}
         text = PROGRAM.replace("NAMES", ", ".join(f'"{name}"' for name in files))
-        program = beside.build(folder, CRATES, text, proofs={"installed/Invariants.antt": INVARIANTS, "time_columns/Invariants.antt": COLUMNS}, files=files)
+        program = beside.build(folder, CRATES, text, proofs=proofs, files=files)
         best = times(program, folder)
     for shape in SHAPES:
         for step in sorted({step for _, _, step in best}):
@@ -307,7 +344,7 @@ def main():
                   + ("" if ratio < most else ", which is TOO MUCH"))
         print(f"a column of a {shape}: {best[shape, SIZES[1], 'columns'] / 1000 / SIZES[1]:.1f} µs for {SIZES[1]:,} nodes")
         sha = summed(shape, SIZES[1])
-        for step in ("rows_of", "compute"):
+        for step in ("rows_of", "near_rows", "compute"):
             print(f"{step} of a {shape}: {best[shape, SIZES[1], step] / 1e6 / sha:.2f} times sha256sum of the certificate")
 
 
