@@ -1,0 +1,12 @@
+pub mod Avoiding
+pub mod GoesRound
+pub mod HoldTogether
+pub mod MayMeet
+pub mod Moving
+pub mod OneChoice
+pub mod Round
+pub mod RoundLinks
+pub mod RoundNodes
+pub mod RowWays
+pub mod SharedBlock
+pub mod Steps

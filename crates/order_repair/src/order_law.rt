@@ -1,0 +1,68 @@
+//! What holds of the color that is chosen by order.
+
+ghost use Rattle.std.specs.Prelude.{◌≡◌, ◌<◌, ℕ, length};
+ghost use Rattle.mrt_graph.specs.declared.cert.CertFile.{CertFile};
+ghost use Rattle.mrt_graph.specs.declared.cert.Color.{Color};
+ghost use Rattle.mrt_graph.specs.declared.link.Element.{Element};
+ghost use Rattle.mrt_graph.specs.Alternate.{UsesOn};
+ghost use Rattle.mrt_graph.specs.Certificate.{row_of};
+ghost use Rattle.mrt_graph.specs.DirectedLists.{DirectedLists};
+ghost use Rattle.mrt_graph.specs.GraphInvariant.{IsTopology};
+ghost use Rattle.mrt_graph.specs.Reaches.{Reaches};
+ghost use Rattle.mrt_graph.specs.Separates.{Separates};
+ghost use Rattle.mrt_graph.specs.Topology.{Topology};
+ghost use Rattle.link_direction.specs.Directions.{Directions, Says};
+ghost use Rattle.link_direction.specs.OrderedGadag.{IsOrderedGadag};
+ghost use Rattle.inc_dec_spf.specs.LeastPath.{ShareBlock};
+ghost use Rattle.mrt_rows.specs.CertOf.{IsCertOf, Tells};
+ghost use Rattle.mrt_rows.specs.DirectedFrom.{IsDirectedFrom};
+ghost use Rattle.order_repair.specs.Failed.{IsBetween, LiesIn};
+ghost use Rattle.order_repair.specs.OrderChoice.{IsOrderChoice};
+
+/// Laws, where the rows of a file are those of the table: the walk of the color that is chosen by order for a failure
+/// reaches its end, and does not use what has failed.
+pub fn a_chosen_color_goes_round()
+    ensures arrives { (g : Topology) (root : ℕ) (w : Directions) (file : CertFile) → IsTopology g
+        → IsOrderedGadag g root w → Tells g root w file → (s t : ℕ) → s < length g.ids
+        → t < length g.ids → (x : Element) (color : Color) → IsBetween g w s t x
+        → IsOrderChoice g root w s t x color
+        → Reaches g.links (length g.ids) (row_of file.cert) color s t }
+    ensures round { (g : Topology) (root : ℕ) (w : Directions) (file : CertFile) → IsTopology g
+        → IsOrderedGadag g root w → Tells g root w file → (s t : ℕ) → s < length g.ids
+        → t < length g.ids → (x : Element) (color : Color) → IsBetween g w s t x
+        → IsOrderChoice g root w s t x color
+        → ¬ UsesOn g.links (length g.ids) (row_of file.cert) s t x color }
+{}
+
+/// Laws: so does the walk of that color over the rows of the graph's certificate, where the color is chosen by the
+/// directions of the graph.
+pub fn a_chosen_color_goes_round_in_the_certificate()
+    ensures arrives { (g : Topology) (root : ℕ) (d : DirectedLists) (w : Directions) (file : CertFile)
+        → IsTopology g → root < length g.ids → IsDirectedFrom g root d → Says g d w
+        → IsCertOf g root file → (s t : ℕ) → s < length g.ids → t < length g.ids
+        → (x : Element) (color : Color) → IsBetween g w s t x → IsOrderChoice g root w s t x color
+        → Reaches g.links (length g.ids) (row_of file.cert) color s t }
+    ensures round { (g : Topology) (root : ℕ) (d : DirectedLists) (w : Directions) (file : CertFile)
+        → IsTopology g → root < length g.ids → IsDirectedFrom g root d → Says g d w
+        → IsCertOf g root file → (s t : ℕ) → s < length g.ids → t < length g.ids
+        → (x : Element) (color : Color) → IsBetween g w s t x → IsOrderChoice g root w s t x color
+        → ¬ UsesOn g.links (length g.ids) (row_of file.cert) s t x color }
+{}
+
+/// A law: by order there is exactly one color for each failure.
+pub fn one_color_for_each_failure()
+    ensures some { (g : Topology) (root : ℕ) (w : Directions) (s t : ℕ) (x : Element) → IsTopology g
+        → IsOrderedGadag g root w → s < length g.ids → t < length g.ids → IsBetween g w s t x
+        → (color : Color) × IsOrderChoice g root w s t x color }
+    ensures one { (g : Topology) (root : ℕ) (w : Directions) (s t : ℕ) (x : Element) (color other : Color)
+        → IsTopology g → IsOrderedGadag g root w → s < length g.ids → t < length g.ids
+        → IsBetween g w s t x → IsOrderChoice g root w s t x color
+        → IsOrderChoice g root w s t x other → color ≡ other }
+{}
+
+/// A law: no node or link of a block of more than one link separates two other nodes of it.
+pub fn blocks_hold_together()
+    ensures { (g : Topology) (root : ℕ) (w : Directions) (s t block head : ℕ) (x : Element)
+        → IsTopology g → IsOrderedGadag g root w → s < length g.ids → t < length g.ids
+        → ShareBlock g w s t block head → LiesIn g w block head x → ¬ Separates g.links x s t }
+{}
