@@ -1,6 +1,10 @@
+pub mod Arrows
 pub mod Avoiding
+pub mod ChosenBy
+pub mod ColorLines
 pub mod GoesRound
 pub mod HoldTogether
+pub mod HopsTell
 pub mod MayMeet
 pub mod Moving
 pub mod OneChoice
@@ -10,3 +14,4 @@ pub mod RoundNodes
 pub mod RowWays
 pub mod SharedBlock
 pub mod Steps
+pub mod TagFound

@@ -1,2 +1,5 @@
+pub mod Arrow
+pub mod Colors
 pub mod Failed
 pub mod OrderChoice
+pub mod Tagging

@@ -1,8 +1,16 @@
 //! Repairs by order: which color goes round a failure, told without following a walk.
 #![tactic(auto)]
 
+mod choice;
+mod colors;
+mod link_line;
+mod node_line;
 mod order_law;
+mod pair;
+mod reached;
+mod tagging;
 
+pub use choice::order_choice;
 pub use order_law::{
     a_chosen_color_goes_round, a_chosen_color_goes_round_in_the_certificate, blocks_hold_together,
     one_color_for_each_failure,

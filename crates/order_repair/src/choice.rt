@@ -1,0 +1,69 @@
+//! The color that goes round a failure.
+
+ghost use Rattle.std.specs.Prelude.{◌≡◌, ◌<◌, ℕ, length};
+ghost use Rattle.link_direction.specs.Directions.{Directions};
+ghost use Rattle.inc_dec_spf.specs.HasDirections.{HasDirections};
+ghost use Rattle.mrt_rows.specs.Source.{AreHops, IsSource};
+ghost use Rattle.order_repair.specs.Failed.{IsBetween, IsNotSole, IsWithin};
+ghost use Rattle.order_repair.specs.OrderChoice.{IsOrderChoice, LineFor};
+ghost use Rattle.order_repair.specs.Tagging.{IsNearTag};
+
+use crate::link_line::link_color;
+use crate::node_line::node_color;
+use crate::pair::Pair;
+use crate::tagging::tag_for;
+use inc_dec_spf::Reach;
+use mrt_graph::{Color, Directed, Element, Graph, NodeNo};
+
+/// The color of `source` for `to` where an element of their common block has failed: a node of it other than the two, its
+/// head included, or a link of it. The block has more than one link, and `up` and `down` are the hops of `source`.
+///
+/// The order numbers and the hops of the source alone tell it; no walk is followed. It takes the same time always, and no
+/// memory.
+pub fn order_choice(
+    g: &Graph,
+    d: &Directed,
+    up: &Reach,
+    down: &Reach,
+    source: NodeNo,
+    to: NodeNo,
+    failed: Element,
+) -> Color
+    requires directed { HasDirections g.now d.now }
+    requires source { source < length g.now.ids }
+    requires to { to < length g.now.ids }
+    requires one_up_each { length up.now ≡ length g.now.ids }
+    requires one_down_each { length down.now ≡ length g.now.ids }
+    requires failed { IsWithin g.now failed }
+    ensures { (root : ℕ) (w : Directions) → AreHops g.now d.now root w source up.now down.now
+        → IsBetween g.now w source to failed → IsOrderChoice g.now root w source to failed result }
+{
+    // what each graph keeps is told by reading it
+    let _count = g.node_count();
+    match tag_for(g, d, up, down, source, to) {
+        Some(tag) => color_for(g, d, up, down, Pair { source, to, tag }, failed),
+        None => Color::Blue,
+    }
+}
+
+/// The color for a pair where an element of their block has failed.
+pub fn color_for(
+    g: &Graph,
+    d: &Directed,
+    up: &Reach,
+    down: &Reach,
+    pair: Pair,
+    failed: Element,
+) -> Color
+    requires source { IsSource g.now d.now pair.source up.now down.now }
+    requires to { pair.to < length g.now.ids }
+    requires failed { IsWithin g.now failed }
+    requires near { IsNearTag pair.tag }
+    ensures { (root : ℕ) (w : Directions) → AreHops g.now d.now root w pair.source up.now down.now
+        → IsNotSole w failed → LineFor pair.tag g.now w pair.source pair.to failed result }
+{
+    match failed {
+        Element::Node(failed) => node_color(g, d, up, down, pair, failed),
+        Element::Link(failed) => link_color(g, d, up, down, pair, failed),
+    }
+}

@@ -1,0 +1,20 @@
+//! One color or the other.
+
+ghost use Rattle.std.specs.Prelude.{◌≡◌};
+ghost use Rattle.order_repair.specs.Colors.{blue_where, red_where};
+
+use mrt_graph::Color;
+
+/// Red where this holds, else blue.
+pub fn red_where(holds: bool) -> Color
+    ensures { result ≡ red_where holds }
+{
+    if holds { Color::Red } else { Color::Blue }
+}
+
+/// Blue where this holds, else red.
+pub fn blue_where(holds: bool) -> Color
+    ensures { result ≡ blue_where holds }
+{
+    if holds { Color::Blue } else { Color::Red }
+}

@@ -1,0 +1,60 @@
+//! The tag of the row for a node that shares a block of more than one link with the source.
+
+ghost use Rattle.std.specs.Prelude.{◌≡◌, ◌<◌, ℕ, IfSome, length};
+ghost use Rattle.link_direction.specs.Directions.{Directions};
+ghost use Rattle.mrt_rows.specs.Source.{AreHops, IsSource};
+ghost use Rattle.order_repair.specs.Tagging.{IsNearTag, IsTagFor, peer_tag, tag_where};
+
+use inc_dec_spf::{Hop, Reach};
+use mrt_graph::{Directed, Graph, NodeNo, Tag};
+
+/// The tag of the row of `s` for `t`, where they share a block of more than one link; `None` where they do not.
+pub fn tag_for(
+    g: &Graph,
+    d: &Directed,
+    up: &Reach,
+    down: &Reach,
+    s: NodeNo,
+    t: NodeNo,
+) -> Option<Tag>
+    requires source { IsSource g.now d.now s up.now down.now }
+    requires to { t < length g.now.ids }
+    ensures tag { (root : ℕ) (w : Directions) → AreHops g.now d.now root w s up.now down.now
+        → IsTagFor g.now root w s t result }
+    ensures near { IfSome result IsNearTag }
+{
+    if s == t {
+        return None;
+    }
+    let here = d.place(s);
+    let there = d.place(t);
+    if here.head == t {
+        return tag_where(up.hop(t), Tag::Head);
+    }
+    if there.head == s {
+        return tag_where(up.hop(t), Tag::Top);
+    }
+    if here.block == there.block {
+        return Some(peer_tag(up.hop(t), down.hop(t)));
+    }
+    None
+}
+
+/// This tag, where there is a hop.
+fn tag_where(hop: Option<Hop>, tag: Tag) -> Option<Tag>
+    ensures { result ≡ tag_where hop tag }
+{
+    let _hop = hop?;
+    Some(tag)
+}
+
+/// The tag of the row for another node of the source's own block, by the hops up and down to it.
+fn peer_tag(up: Option<Hop>, down: Option<Hop>) -> Tag
+    ensures { result ≡ peer_tag up down }
+{
+    match (up, down) {
+        (Some(_), _) => Tag::Below,
+        (None, Some(_)) => Tag::Above,
+        (None, None) => Tag::Unordered,
+    }
+}
