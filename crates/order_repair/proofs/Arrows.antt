@@ -1,5 +1,5 @@
 -- The two nodes of a link by its mark are those that its direction tells.
-use Rattle.std.proofs.Common.{◌≡◌, ◌≢◌, ◌∙◌, ◌<◌, ℕ, Some, slice_get, refl, ap, subst, arith}
+use Rattle.std.proofs.Common.{sym, ◌≡◌, ◌≢◌, ◌∙◌, ◌<◌, ℕ, Option, Some, slice_get, refl, ap, subst, arith, length}
 use Rattle.std.proofs.lemmas.Bool.{eq-eqb, ne_eqb}
 use Rattle.std.proofs.lemmas.Option.{same_Some, slice_get_within}
 use Rattle.mrt_graph.specs.declared.cert.Color.{Color}
@@ -14,7 +14,7 @@ use Rattle.mrt_graph.specs.DirectedLists.{DirectedLists}
 use Rattle.mrt_graph.specs.Leads.{far_node, leads}
 use Rattle.mrt_graph.specs.Tails.{tail_of}
 use Rattle.mrt_graph.specs.Topology.{Topology}
-use Rattle.std.specs.Option.{option_and_then}
+use Rattle.std.specs.Option.{option_and_then, option_map}
 use Rattle.link_direction.specs.Directions.{Directions, Says}
 use Rattle.order_repair.specs.declared.link_line.Arrow.{Arrow}
 use Rattle.order_repair.specs.Arrow.{arrow_of}
@@ -57,3 +57,10 @@ plain_line g w tag s t e arrow color not_closing not_sole is line =
     IsPlain arrow.to (plain_role (w.role e) not_closing not_sole)
     (subst (λ (x : ℕ). leads g.links e x ≡ Some arrow.to) is.from is.onward)
     (subst (λ (x : ℕ). PlainLine tag g w s t x arrow.to color) is.from line)
+
+-- the block of a link by its mark
+pub mark_block : (g : Topology) (d : DirectedLists) (w : Directions) (e : ℕ) (mark : Mark) → Says g d w → e < length g.links
+    → slice_get d.marks e ≡ Some mark → mark.block ≡ w.lies_in e
+mark_block g d w e mark says inside is =
+    same_Some mark.block (w.lies_in e)
+    (sym (ap (λ (o : Option Mark). option_map (λ m. m.block) o) is) ∙ says.link_blocks e inside)

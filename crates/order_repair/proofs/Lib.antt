@@ -1,3 +1,4 @@
+pub mod Adding
 pub mod Arrows
 pub mod Avoiding
 pub mod ChosenBy
@@ -8,6 +9,8 @@ pub mod HopsTell
 pub mod MayMeet
 pub mod Moving
 pub mod OneChoice
+pub mod OneText
+pub mod Pairs
 pub mod Round
 pub mod RoundLinks
 pub mod RoundNodes

@@ -1,5 +1,8 @@
+pub mod Adds
 pub mod Arrow
+pub mod Blocks
 pub mod Colors
 pub mod Failed
 pub mod OrderChoice
+pub mod OrderText
 pub mod Tagging

@@ -41,7 +41,7 @@ pub fn order_choice(
     // what each graph keeps is told by reading it
     let _count = g.node_count();
     match tag_for(g, d, up, down, source, to) {
-        Some(tag) => color_for(g, d, up, down, Pair { source, to, tag }, failed),
+        Some(tag) => color_for(g, d, up, down, &Pair { source, to, tag }, failed),
         None => Color::Blue,
     }
 }
@@ -52,15 +52,15 @@ pub fn color_for(
     d: &Directed,
     up: &Reach,
     down: &Reach,
-    pair: Pair,
+    pair: &Pair,
     failed: Element,
 ) -> Color
-    requires source { IsSource g.now d.now pair.source up.now down.now }
-    requires to { pair.to < length g.now.ids }
+    requires source { IsSource g.now d.now pair.now.source up.now down.now }
+    requires to { pair.now.to < length g.now.ids }
     requires failed { IsWithin g.now failed }
-    requires near { IsNearTag pair.tag }
-    ensures { (root : ℕ) (w : Directions) → AreHops g.now d.now root w pair.source up.now down.now
-        → IsNotSole w failed → LineFor pair.tag g.now w pair.source pair.to failed result }
+    requires near { IsNearTag pair.now.tag }
+    ensures { (root : ℕ) (w : Directions) → AreHops g.now d.now root w pair.now.source up.now down.now
+        → IsNotSole w failed → LineFor pair.now.tag g.now w pair.now.source pair.now.to failed result }
 {
     match failed {
         Element::Node(failed) => node_color(g, d, up, down, pair, failed),

@@ -3,15 +3,21 @@
 
 mod choice;
 mod colors;
+mod line;
 mod link_line;
 mod node_line;
 mod order_law;
 mod pair;
 mod reached;
 mod tagging;
+mod text;
+mod text_law;
+mod words;
 
 pub use choice::order_choice;
 pub use order_law::{
     a_chosen_color_goes_round, a_chosen_color_goes_round_in_the_certificate, blocks_hold_together,
     one_color_for_each_failure,
 };
+pub use text::order_text;
+pub use text_law::one_text_each;

@@ -30,15 +30,15 @@ pub fn link_color(
     d: &Directed,
     up: &Reach,
     down: &Reach,
-    pair: Pair,
+    pair: &Pair,
     failed: LinkNo,
 ) -> Color
-    requires source { IsSource g.now d.now pair.source up.now down.now }
-    requires to { pair.to < length g.now.ids }
+    requires source { IsSource g.now d.now pair.now.source up.now down.now }
+    requires to { pair.now.to < length g.now.ids }
     requires failed { failed < length g.now.links }
-    requires near { IsNearTag pair.tag }
-    ensures { (root : ℕ) (w : Directions) → AreHops g.now d.now root w pair.source up.now down.now
-        → w.role failed ≢ Sole → LinkLine pair.tag g.now w pair.source pair.to failed result }
+    requires near { IsNearTag pair.now.tag }
+    ensures { (root : ℕ) (w : Directions) → AreHops g.now d.now root w pair.now.source up.now down.now
+        → w.role failed ≢ Sole → LinkLine pair.now.tag g.now w pair.now.source pair.now.to failed result }
 {
     let mark = d.mark(failed);
     match mark.role {
@@ -82,16 +82,16 @@ fn plain_color(
     d: &Directed,
     up: &Reach,
     down: &Reach,
-    pair: Pair,
+    pair: &Pair,
     failed: Arrow,
 ) -> Color
-    requires source { IsSource g.now d.now pair.source up.now down.now }
-    requires to { pair.to < length g.now.ids }
+    requires source { IsSource g.now d.now pair.now.source up.now down.now }
+    requires to { pair.now.to < length g.now.ids }
     requires from { failed.from < length g.now.ids }
     requires onto { failed.to < length g.now.ids }
-    requires near { IsNearTag pair.tag }
-    ensures { (root : ℕ) (w : Directions) → AreHops g.now d.now root w pair.source up.now down.now
-        → PlainLine pair.tag g.now w pair.source pair.to failed.from failed.to result }
+    requires near { IsNearTag pair.now.tag }
+    ensures { (root : ℕ) (w : Directions) → AreHops g.now d.now root w pair.now.source up.now down.now
+        → PlainLine pair.now.tag g.now w pair.now.source pair.now.to failed.from failed.to result }
 {
     let source = d.order(pair.source);
     let to = d.order(pair.to);
@@ -113,15 +113,15 @@ fn unordered_link_color(
     d: &Directed,
     up: &Reach,
     down: &Reach,
-    pair: Pair,
+    pair: &Pair,
     failed: Arrow,
 ) -> Color
-    requires source { IsSource g.now d.now pair.source up.now down.now }
-    requires to { pair.to < length g.now.ids }
+    requires source { IsSource g.now d.now pair.now.source up.now down.now }
+    requires to { pair.now.to < length g.now.ids }
     requires from { failed.from < length g.now.ids }
     requires onto { failed.to < length g.now.ids }
-    ensures { (root : ℕ) (w : Directions) → AreHops g.now d.now root w pair.source up.now down.now
-        → PlainLine Unordered g.now w pair.source pair.to failed.from failed.to result }
+    ensures { (root : ℕ) (w : Directions) → AreHops g.now d.now root w pair.now.source up.now down.now
+        → PlainLine Unordered g.now w pair.now.source pair.now.to failed.from failed.to result }
 {
     if failed.to == pair.source {
         return Color::Red;

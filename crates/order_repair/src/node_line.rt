@@ -19,15 +19,15 @@ pub fn node_color(
     d: &Directed,
     up: &Reach,
     down: &Reach,
-    pair: Pair,
+    pair: &Pair,
     failed: NodeNo,
 ) -> Color
-    requires source { IsSource g.now d.now pair.source up.now down.now }
-    requires to { pair.to < length g.now.ids }
+    requires source { IsSource g.now d.now pair.now.source up.now down.now }
+    requires to { pair.now.to < length g.now.ids }
     requires failed { failed < length g.now.ids }
-    requires near { IsNearTag pair.tag }
-    ensures { (root : ℕ) (w : Directions) → AreHops g.now d.now root w pair.source up.now down.now
-        → NodeLine pair.tag g.now w pair.source pair.to failed result }
+    requires near { IsNearTag pair.now.tag }
+    ensures { (root : ℕ) (w : Directions) → AreHops g.now d.now root w pair.now.source up.now down.now
+        → NodeLine pair.now.tag g.now w pair.now.source pair.now.to failed result }
 {
     let source = d.order(pair.source);
     let to = d.order(pair.to);
@@ -48,14 +48,14 @@ fn unordered_node_color(
     d: &Directed,
     up: &Reach,
     down: &Reach,
-    pair: Pair,
+    pair: &Pair,
     failed: NodeNo,
 ) -> Color
-    requires source { IsSource g.now d.now pair.source up.now down.now }
-    requires to { pair.to < length g.now.ids }
+    requires source { IsSource g.now d.now pair.now.source up.now down.now }
+    requires to { pair.now.to < length g.now.ids }
     requires failed { failed < length g.now.ids }
-    ensures { (root : ℕ) (w : Directions) → AreHops g.now d.now root w pair.source up.now down.now
-        → NodeLine Unordered g.now w pair.source pair.to failed result }
+    ensures { (root : ℕ) (w : Directions) → AreHops g.now d.now root w pair.now.source up.now down.now
+        → NodeLine Unordered g.now w pair.now.source pair.now.to failed result }
 {
     if failed == d.place(pair.source).head {
         return Color::Red;

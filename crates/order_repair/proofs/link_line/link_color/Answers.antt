@@ -14,5 +14,5 @@ returns-in_default c = λ root w hops not_sole.
     let arrow =
     subst (λ (a : Arrow). IsArrow g w e a) (sym c.arrow_of.ensures)
     (arrow_is g d w e c.link.result mark hops.are.says c.link.ensures.within.ascending c.link.ensures.value c.mark-mark.ensures) in
-    plain_line g w c.args.pair.tag c.args.pair.source c.args.pair.to e c.arrow_of.result c.plain_color.result
+    plain_line g w c.args.pair.now.tag c.args.pair.now.source c.args.pair.now.to e c.arrow_of.result c.plain_color.result
     (λ closing. c.in_default.not-Closing (role ∙ closing)) not_sole arrow (c.plain_color.ensures root w hops)

@@ -9,7 +9,7 @@ pub returns : goal.returns
 returns c = λ root w hops.
     let to = c.args.failed.to in
     let from = c.args.failed.from in
-    let source = c.args.pair.source in
+    let source = c.args.pair.now.source in
     let low = c.is_reached.ensures w Down source hops.goes_down in
     let over = c.is_over.ensures w hops.are.says hops.goes_up in
     Else (λ one. elim one [
@@ -20,5 +20,5 @@ returns c = λ root w hops.
       | inl same ↦ eqb-false from source (sym c.eq-2.ensures ∙ c.if-eq-2.false) same
       | inr it ↦ let yes = over.1 it in let no : ◌≡◌ {A = Bool} true false = sym yes ∙ c.if-is_over.false in cc
     ])
-    (most_line c.args.g.now c.args.d.now w hops.are.says c.args.pair.to from c.order.result c.order-2.result c.blue_where.result
+    (most_line c.args.g.now c.args.d.now w hops.are.says c.args.pair.now.to from c.order.result c.order-2.result c.blue_where.result
     c.requires.to c.requires.from c.order.ensures c.order-2.ensures c.blue_where.ensures))

@@ -1,0 +1,13 @@
+use Rattle.std.proofs.Common.{◌≡◌, ℕ, length}
+use Rattle.link_direction.specs.Directions.{Directions}
+use Rattle.mrt_rows.specs.Source.{AreHops}
+use Rattle.order_repair.specs.Adds.{Adds}
+use Rattle.order_repair.specs.OrderText.{AreParts, IsPartOn}
+use Rattle.order_repair.proofs.text.push_lines.Given as goal
+
+abbrev pub invariant-loop-t : goal.invariant-loop-t
+invariant-loop-t l = record {
+  count : l.count ≡ length l.g.ids;
+  lines : (root : ℕ) (w : Directions) → AreHops l.g l.d root w l.source l.up l.down
+      → Adds (AreParts (IsPartOn l.g root w l.source) l.t) l.fn.text.items l.text.items;
+}

@@ -1,0 +1,72 @@
+-- The text on a router's repairs by order.
+use Rattle.std.specs.Prelude.{◌≡◌, ◌≢◌, ◌++◌, ◌⊎◌, ℕ, zero, suc, List, [], Some, codes, length, slice_get}
+use Rattle.mrt_graph.specs.declared.cert.Color.{Color}
+use Rattle.mrt_graph.specs.declared.cert.Color.TheVariants.{Blue, Red}
+use Rattle.mrt_graph.specs.declared.link.Element.TheVariants as elements
+use Rattle.mrt_graph.specs.declared.node_id.NodeId.{NodeId}
+use Rattle.mrt_graph.specs.Spelling.{node_text}
+use Rattle.mrt_graph.specs.Topology.{Topology}
+use Rattle.link_direction.specs.Directions.{Directions}
+use Rattle.inc_dec_spf.specs.LeastPath.{ShareBlock}
+use Rattle.order_repair.specs.Failed.{LiesIn}
+use Rattle.order_repair.specs.OrderChoice.{IsOrderChoice}
+
+-- the first line: the router and the root
+pub record IsHead (g : Topology) (root s : ℕ) (text : List ℕ) : Type 0 where
+  pub router : NodeId
+  pub router_is : slice_get g.ids s ≡ Some router
+  pub root_id : NodeId
+  pub root_is : slice_get g.ids root ≡ Some root_id
+  pub spelled : text ≡ codes "order " ++ node_text router ++ codes " root " ++ node_text root_id ++ codes "\n"
+
+-- the letter of a color
+abbrev pub letter_of : Color → List ℕ
+letter_of Blue = codes "b"
+letter_of Red = codes "r"
+
+-- a letter for a node of the block of s and t: `-` for the two, else that of the color where it has failed. Nothing for
+-- a node that is not of the block
+pub data IsNodeLetter (g : Topology) (root : ℕ) (w : Directions) (s t k h f : ℕ) : List ℕ → Type 0 where
+  NoNode : ¬ LiesIn g w k h (elements.Node f) → IsNodeLetter g root w s t k h f []
+  AtEnd : LiesIn g w k h (elements.Node f) → (f ≡ s) ⊎ (f ≡ t) → IsNodeLetter g root w s t k h f (codes "-")
+  ForNode : (color : Color) → LiesIn g w k h (elements.Node f) → f ≢ s → f ≢ t
+      → IsOrderChoice g root w s t (elements.Node f) color → IsNodeLetter g root w s t k h f (letter_of color)
+
+-- and a letter for a link of the block. Nothing for a link of another one
+pub data IsLinkLetter (g : Topology) (root : ℕ) (w : Directions) (s t k h e : ℕ) : List ℕ → Type 0 where
+  NoLink : ¬ LiesIn g w k h (elements.Link e) → IsLinkLetter g root w s t k h e []
+  ForLink : (color : Color) → LiesIn g w k h (elements.Link e) → IsOrderChoice g root w s t (elements.Link e) color
+      → IsLinkLetter g root w s t k h e (letter_of color)
+
+-- parts, one for each of the first so many numbers
+abbrev pub AreParts : (ℕ → List ℕ → Type 0) → ℕ → List ℕ → Type 0
+AreParts IsPart zero text = text ≡ []
+AreParts IsPart (suc n) text =
+    (parts : List ℕ) × (part : List ℕ) × AreParts IsPart n parts × IsPart n part × (text ≡ parts ++ part)
+
+-- the line on t, with which s has a block of more than one link in common: the letters of the block's nodes, by number
+-- and so by ascending identifier, and those of its links, by number
+pub record IsLine (g : Topology) (root : ℕ) (w : Directions) (s t : ℕ) (text : List ℕ) : Type 0 where
+  pub block : ℕ
+  pub head : ℕ
+  pub share : ShareBlock g w s t block head
+  pub id : NodeId
+  pub id_is : slice_get g.ids t ≡ Some id
+  pub nodes : List ℕ
+  pub nodes_are : AreParts (IsNodeLetter g root w s t block head) (length g.ids) nodes
+  pub links : List ℕ
+  pub links_are : AreParts (IsLinkLetter g root w s t block head) (length g.links) links
+  pub spelled : text ≡ node_text id ++ codes " " ++ nodes ++ codes " " ++ links ++ codes "\n"
+
+-- one line on a node with which s has such a block in common, and none on another one
+pub data IsPartOn (g : Topology) (root : ℕ) (w : Directions) (s t : ℕ) : List ℕ → Type 0 where
+  NoLine : ((k h : ℕ) → ¬ ShareBlock g w s t k h) → IsPartOn g root w s t []
+  Line : (text : List ℕ) → IsLine g root w s t text → IsPartOn g root w s t text
+
+-- the first line, and the lines on all nodes, by number and so by ascending identifier
+pub record IsOrderText (g : Topology) (root : ℕ) (w : Directions) (s : ℕ) (text : List ℕ) : Type 0 where
+  pub head : List ℕ
+  pub head_is : IsHead g root s head
+  pub lines : List ℕ
+  pub lines_are : AreParts (IsPartOn g root w s) (length g.ids) lines
+  pub spelled : text ≡ head ++ lines

@@ -1,0 +1,104 @@
+//! The text on a router's repairs by order.
+
+ghost use Rattle.std.specs.Prelude.{◌≡◌, ◌<◌, ℕ, IfOk, IfSome, length};
+ghost use Rattle.mrt_graph.specs.GraphInvariant.{IsTopology};
+ghost use Rattle.link_direction.specs.Directions.{Directions, Says};
+ghost use Rattle.link_direction.specs.OrderedGadag.{SaysOrdered};
+ghost use Rattle.mrt_rows.specs.Source.{AreHops, IsSource};
+ghost use Rattle.order_repair.specs.Adds.{Adds};
+ghost use Rattle.order_repair.specs.OrderText.{AreParts, IsHead, IsOrderText, IsPartOn};
+
+use crate::line::push_line;
+use crate::pair::Pair;
+use crate::tagging::tag_for;
+use crate::words::{push, push_node};
+use inc_dec_spf::{Dir, Reach, spf};
+use mrt_graph::{Directed, Graph, NoMemory, NodeNo};
+use std::alloc::Global;
+
+/// The text on the repairs by order of a router: a line on the router and the root, and a line on each node with which the
+/// router has a block of more than one link in common. That line has a letter for each node and each link of the block.
+///
+/// Two searches serve the whole text, and no walk is followed. For each of these nodes it takes time in proportion to the
+/// nodes and the links of the graph.
+///
+/// # Errors
+///
+/// [`NoMemory`] where there was none for the searches or the text.
+pub fn order_text(
+    alloc: Global,
+    g: &Graph,
+    root: NodeNo,
+    d: &Directed,
+    source: NodeNo,
+) -> Result<Vec<u8>, NoMemory>
+    requires directed { SaysOrdered g.now root d.now }
+    requires source { source < length g.now.ids }
+    ensures { (w : Directions) → Says g.now d.now w
+        → IfOk result (λ text. IsOrderText g.now root w source text.items) }
+{
+    // what each graph keeps is told by reading it
+    let _count = g.node_count();
+    let up = spf(alloc, g, d, source, Dir::Up)?;
+    let down = spf(alloc, g, d, source, Dir::Down)?;
+    let mut text = Vec::new(alloc);
+    push_head(&mut text, g, root, source)?;
+    push_lines(&mut text, g, d, &up, &down, source)?;
+    Ok(text)
+}
+
+/// Puts the first line at the end of a text.
+fn push_head(text: &mut Vec<u8>, g: &Graph, root: NodeNo, source: NodeNo) -> Result<(), NoMemory>
+    requires root { root < length g.now.ids }
+    requires source { source < length g.now.ids }
+    ensures { IfOk result (λ _. Adds (IsHead g.now root source) text.old.items text.new.items) }
+{
+    push(text, b"order ")?;
+    push_node(text, g.id(source))?;
+    push(text, b" root ")?;
+    push_node(text, g.id(root))?;
+    push(text, b"\n")?;
+    Ok(())
+}
+
+/// Puts the lines on all nodes at the end of a text.
+fn push_lines(
+    text: &mut Vec<u8>,
+    g: &Graph,
+    d: &Directed,
+    up: &Reach,
+    down: &Reach,
+    source: NodeNo,
+) -> Result<(), NoMemory>
+    requires source { IsSource g.now d.now source up.now down.now }
+    ensures { (root : ℕ) (w : Directions) → AreHops g.now d.now root w source up.now down.now
+        → IfOk result (λ _. Adds (AreParts (IsPartOn g.now root w source) (length g.now.ids))
+        text.old.items text.new.items) }
+{
+    let count = g.node_count();
+    for t in 0..count {
+        push_part(text, g, d, up, down, source, NodeNo::new(t))?;
+    }
+    Ok(())
+}
+
+/// Puts the line on a node at the end of a text, where there is one.
+fn push_part(
+    text: &mut Vec<u8>,
+    g: &Graph,
+    d: &Directed,
+    up: &Reach,
+    down: &Reach,
+    source: NodeNo,
+    to: NodeNo,
+) -> Result<(), NoMemory>
+    requires source { IsSource g.now d.now source up.now down.now }
+    requires to { to < length g.now.ids }
+    ensures { (root : ℕ) (w : Directions) → AreHops g.now d.now root w source up.now down.now
+        → IfOk result (λ _. Adds (IsPartOn g.now root w source to) text.old.items text.new.items) }
+{
+    match tag_for(g, d, up, down, source, to) {
+        Some(tag) => push_line(text, g, d, up, down, &Pair { source, to, tag }),
+        None => Ok(()),
+    }
+}

@@ -1,0 +1,17 @@
+//! That a router has one text.
+
+ghost use Rattle.std.specs.Prelude.{◌≡◌, ◌<◌, ℕ, List, length};
+ghost use Rattle.mrt_graph.specs.GraphInvariant.{IsTopology};
+ghost use Rattle.mrt_graph.specs.Topology.{Topology};
+ghost use Rattle.link_direction.specs.Directions.{Directions};
+ghost use Rattle.link_direction.specs.OrderedGadag.{IsOrderedGadag};
+ghost use Rattle.order_repair.specs.OrderText.{IsOrderText};
+
+/// A law: there is exactly one text on the repairs by order of a router.
+pub fn one_text_each()
+    ensures some { (g : Topology) (root : ℕ) (w : Directions) (s : ℕ) → IsTopology g
+        → IsOrderedGadag g root w → s < length g.ids → (text : List ℕ) × IsOrderText g root w s text }
+    ensures one { (g : Topology) (root : ℕ) (w : Directions) (s : ℕ) (text other : List ℕ)
+        → IsTopology g → IsOrderedGadag g root w → s < length g.ids → IsOrderText g root w s text
+        → IsOrderText g root w s other → text ≡ other }
+{}
