@@ -15,6 +15,8 @@ pub mod Round
 pub mod RoundLinks
 pub mod RoundNodes
 pub mod RowWays
+pub mod SameWords
 pub mod SharedBlock
 pub mod Steps
 pub mod TagFound
+pub mod TextOfGraph

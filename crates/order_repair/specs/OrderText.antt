@@ -4,10 +4,12 @@ use Rattle.mrt_graph.specs.declared.cert.Color.{Color}
 use Rattle.mrt_graph.specs.declared.cert.Color.TheVariants.{Blue, Red}
 use Rattle.mrt_graph.specs.declared.link.Element.TheVariants as elements
 use Rattle.mrt_graph.specs.declared.node_id.NodeId.{NodeId}
+use Rattle.mrt_graph.specs.DirectedLists.{DirectedLists}
 use Rattle.mrt_graph.specs.Spelling.{node_text}
 use Rattle.mrt_graph.specs.Topology.{Topology}
-use Rattle.link_direction.specs.Directions.{Directions}
+use Rattle.link_direction.specs.Directions.{Directions, Says}
 use Rattle.inc_dec_spf.specs.LeastPath.{ShareBlock}
+use Rattle.mrt_rows.specs.DirectedFrom.{IsDirectedFrom}
 use Rattle.order_repair.specs.Failed.{LiesIn}
 use Rattle.order_repair.specs.OrderChoice.{IsOrderChoice}
 
@@ -70,3 +72,11 @@ pub record IsOrderText (g : Topology) (root : ℕ) (w : Directions) (s : ℕ) (t
   pub lines : List ℕ
   pub lines_are : AreParts (IsPartOn g root w s) (length g.ids) lines
   pub spelled : text ≡ head ++ lines
+
+-- the text on s in the graph with a root: by what the directions of the graph from the root say
+pub record IsTextFrom (g : Topology) (root s : ℕ) (text : List ℕ) : Type 0 where
+  pub directed : DirectedLists
+  pub from_root : IsDirectedFrom g root directed
+  pub words : Directions
+  pub says : Says g directed words
+  pub is : IsOrderText g root words s text

@@ -4,9 +4,10 @@ ghost use Rattle.std.specs.Prelude.{◌≡◌, ◌<◌, ℕ, IfOk, IfSome, lengt
 ghost use Rattle.mrt_graph.specs.GraphInvariant.{IsTopology};
 ghost use Rattle.link_direction.specs.Directions.{Directions, Says};
 ghost use Rattle.link_direction.specs.OrderedGadag.{SaysOrdered};
+ghost use Rattle.mrt_rows.specs.DirectedFrom.{IsDirectedFrom};
 ghost use Rattle.mrt_rows.specs.Source.{AreHops, IsSource};
 ghost use Rattle.order_repair.specs.Adds.{Adds};
-ghost use Rattle.order_repair.specs.OrderText.{AreParts, IsHead, IsOrderText, IsPartOn};
+ghost use Rattle.order_repair.specs.OrderText.{AreParts, IsHead, IsOrderText, IsPartOn, IsTextFrom};
 
 use crate::line::push_line;
 use crate::pair::Pair;
@@ -34,8 +35,10 @@ pub fn order_text(
 ) -> Result<Vec<u8>, NoMemory>
     requires directed { SaysOrdered g.now root d.now }
     requires source { source < length g.now.ids }
-    ensures { (w : Directions) → Says g.now d.now w
+    ensures by_words { (w : Directions) → Says g.now d.now w
         → IfOk result (λ text. IsOrderText g.now root w source text.items) }
+    ensures of_graph { IsDirectedFrom g.now root d.now
+        → IfOk result (λ text. IsTextFrom g.now root source text.items) }
 {
     // what each graph keeps is told by reading it
     let _count = g.node_count();

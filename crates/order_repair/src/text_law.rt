@@ -5,7 +5,7 @@ ghost use Rattle.mrt_graph.specs.GraphInvariant.{IsTopology};
 ghost use Rattle.mrt_graph.specs.Topology.{Topology};
 ghost use Rattle.link_direction.specs.Directions.{Directions};
 ghost use Rattle.link_direction.specs.OrderedGadag.{IsOrderedGadag};
-ghost use Rattle.order_repair.specs.OrderText.{IsOrderText};
+ghost use Rattle.order_repair.specs.OrderText.{IsOrderText, IsTextFrom};
 
 /// A law: there is exactly one text on the repairs by order of a router.
 pub fn one_text_each()
@@ -14,4 +14,7 @@ pub fn one_text_each()
     ensures one { (g : Topology) (root : ℕ) (w : Directions) (s : ℕ) (text other : List ℕ)
         → IsTopology g → IsOrderedGadag g root w → s < length g.ids → IsOrderText g root w s text
         → IsOrderText g root w s other → text ≡ other }
+    ensures of_graph { (g : Topology) (root s : ℕ) (text other : List ℕ) → IsTopology g
+        → root < length g.ids → s < length g.ids → IsTextFrom g root s text
+        → IsTextFrom g root s other → text ≡ other }
 {}

@@ -22,8 +22,8 @@ push_lines-requires c =
       };
     }
 
-pub returns : goal.returns
-returns c = λ w says.
+pub returns-clause-by_words : goal.returns-clause-by_words
+returns-clause-by_words c = λ w says.
     let g = c.args.g.now in
     let has : HasDirections g c.args.d.now = record {
       root = c.args.root;
@@ -44,3 +44,9 @@ returns c = λ w says.
       lines_are = lines.is;
       spelled = lines.added ∙ ap (λ (xs : List ℕ). xs ++ lines.part) (head.added ∙ ap (λ (xs : List ℕ). xs ++ head.part) c.new-text.ensures.items);
     }
+
+pub returns-clause-of_graph : goal.returns-clause-of_graph
+returns-clause-of_graph c = λ from_root.
+    let w = c.requires.directed.directions in
+    let says = c.requires.directed.says in
+    record { directed = c.args.d.now; from_root = from_root; words = w; says = says; is = returns-clause-by_words c w says }
