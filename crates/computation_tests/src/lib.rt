@@ -1,4 +1,4 @@
-//! Tests of the computation: search trees, ears, directions, paths, rows, columns and certificates by hand.
+//! Tests of the computation: search trees, ears, directions, paths, rows, columns and certificates by hand; repairs by order.
 #![tactic(auto)]
 
 #[cfg(test)]
@@ -17,6 +17,8 @@ mod hand_paths;
 mod hand_rows;
 #[cfg(test)]
 mod near_rows;
+#[cfg(test)]
+mod order_walks;
 #[cfg(test)]
 mod paths_to_nodes;
 #[cfg(test)]

@@ -1,4 +1,4 @@
-//! Tests of primaries, of loop-free alternates, of routes, of repairs, of a table's line, and of packets through a failure.
+//! Tests of primaries, of loop-free alternates, of repairs by order, of routes, of repairs, of a table's line, and of packets through a failure.
 #![tactic(auto)]
 
 #[cfg(test)]
@@ -13,6 +13,8 @@ mod loop_free;
 mod networks;
 #[cfg(test)]
 mod next_hops;
+#[cfg(test)]
+mod order_texts;
 #[cfg(test)]
 mod packets;
 #[cfg(test)]

@@ -1,0 +1,229 @@
+//! The color that is chosen by order, beside the walks themselves: for each two nodes of a block, and each of its nodes and
+//! links failed.
+
+ghost use Rattle.std.specs.Prelude.{◌≡◌, ◌<◌, length};
+ghost use Rattle.inc_dec_spf.specs.HasDirections.{HasDirections};
+
+use crate::hand_graphs::{graph, links_of};
+use crate::hand_paths::{directed_of, reach_of};
+use crate::hand_rows::{Case, cases};
+use inc_dec_spf::{Dir, Reach};
+use mrt_graph::{Cert, Color, Directed, Element, Graph, GraphError, LinkNo, NodeNo};
+use mrt_rows::compute;
+use order_repair::order_choice;
+use std::alloc::Global;
+use std::process::Abort;
+use std::test::Fail;
+
+/// The link of a color in the row of a node for another one.
+fn link_of(cert: &Cert, at: NodeNo, to: NodeNo, color: Color) -> Option<LinkNo> {
+    if at == to || at.get() >= cert.node_count() || to.get() >= cert.node_count() {
+        return None;
+    }
+    let row = cert.row(at, to);
+    match color {
+        Color::Blue => Some(row.blue),
+        Color::Red => Some(row.red),
+    }
+}
+
+/// Where a link leads from a node.
+fn far_node(g: &Graph, at: NodeNo, link: LinkNo) -> Option<NodeNo> {
+    if link.get() >= g.link_count() {
+        return None;
+    }
+    g.link(link).far_node(at)
+}
+
+/// Whether the walk on a color arrives and does not use an element.
+fn goes_round(
+    g: &Graph,
+    cert: &Cert,
+    s: NodeNo,
+    t: NodeNo,
+    color: Color,
+    failed: Element,
+) -> Option<bool> {
+    let mut at = s;
+    for _ in 0..g.node_count() {
+        if at == t {
+            return Some(true);
+        }
+        let link = link_of(cert, at, t, color)?;
+        at = far_node(g, at, link)?;
+        if failed == Element::Link(link) || failed == Element::Node(at) {
+            return Some(false);
+        }
+    }
+    Some(at == t)
+}
+
+/// The block that two nodes have in common.
+fn common_block(g: &Graph, d: &Directed, s: NodeNo, t: NodeNo) -> Option<NodeNo>
+    requires directed { HasDirections g.now d.now }
+    requires source { s < length g.now.ids }
+    requires to { t < length g.now.ids }
+{
+    let here = d.place(s);
+    let there = d.place(t);
+    if here.block == there.block || here.head == t {
+        return Some(here.block);
+    }
+    if there.head == s {
+        return Some(there.block);
+    }
+    None
+}
+
+/// How many links a block has.
+fn count_links(g: &Graph, d: &Directed, block: NodeNo) -> u32
+    requires { HasDirections g.now d.now }
+{
+    let mut count: u32 = 0;
+    for e in 0..g.link_count() {
+        if d.mark(LinkNo::new(e)).block == block {
+            count = count.saturating_add(1);
+        }
+    }
+    count
+}
+
+/// Whether a node lies in a block, which is named by one of its nodes, or heads it.
+fn is_node_of(g: &Graph, d: &Directed, block: NodeNo, f: NodeNo) -> bool
+    requires directed { HasDirections g.now d.now }
+    requires block { block < length g.now.ids }
+    requires node { f < length g.now.ids }
+{
+    d.place(f).block == block || d.place(block).head == f
+}
+
+/// Whether the color goes round each node of their block other than the two.
+fn rounds_nodes(
+    g: &Graph,
+    d: &Directed,
+    cert: &Cert,
+    up: &Reach,
+    down: &Reach,
+    block: NodeNo,
+    s: NodeNo,
+    t: NodeNo,
+) -> bool
+    requires directed { HasDirections g.now d.now }
+    requires one_up_each { length up.now ≡ length g.now.ids }
+    requires one_down_each { length down.now ≡ length g.now.ids }
+    requires block { block < length g.now.ids }
+    requires source { s < length g.now.ids }
+    requires to { t < length g.now.ids }
+{
+    for f in 0..g.node_count() {
+        let f = NodeNo::new(f);
+        if f != s && f != t && is_node_of(g, d, block, f) {
+            let color = order_choice(g, d, up, down, s, t, Element::Node(f));
+            if goes_round(g, cert, s, t, color, Element::Node(f)) != Some(true) {
+                return false;
+            }
+        }
+    }
+    true
+}
+
+/// Whether the color goes round each link of their block.
+fn rounds_links(
+    g: &Graph,
+    d: &Directed,
+    cert: &Cert,
+    up: &Reach,
+    down: &Reach,
+    block: NodeNo,
+    s: NodeNo,
+    t: NodeNo,
+) -> bool
+    requires directed { HasDirections g.now d.now }
+    requires one_up_each { length up.now ≡ length g.now.ids }
+    requires one_down_each { length down.now ≡ length g.now.ids }
+    requires source { s < length g.now.ids }
+    requires to { t < length g.now.ids }
+{
+    for e in 0..g.link_count() {
+        let e = LinkNo::new(e);
+        if d.mark(e).block == block {
+            let color = order_choice(g, d, up, down, s, t, Element::Link(e));
+            if goes_round(g, cert, s, t, color, Element::Link(e)) != Some(true) {
+                return false;
+            }
+        }
+    }
+    true
+}
+
+/// Whether the colors from a node to another one go round what fails in their block.
+fn rounds_all(
+    g: &Graph,
+    d: &Directed,
+    cert: &Cert,
+    up: &Reach,
+    down: &Reach,
+    s: NodeNo,
+    t: NodeNo,
+) -> bool
+    requires directed { HasDirections g.now d.now }
+    requires one_up_each { length up.now ≡ length g.now.ids }
+    requires one_down_each { length down.now ≡ length g.now.ids }
+    requires source { s < length g.now.ids }
+    requires to { t < length g.now.ids }
+{
+    match common_block(g, d, s, t) {
+        Some(block) => {
+            s == t
+                || block.get() >= g.node_count()
+                || count_links(g, d, block) < 2
+                || (rounds_nodes(g, d, cert, up, down, block, s, t)
+                    && rounds_links(g, d, cert, up, down, block, s, t))
+        }
+        None => true,
+    }
+}
+
+/// Whether those from a node to each other one do.
+fn rounds_from(
+    rt: &impl Abort,
+    alloc: Global,
+    g: &Graph,
+    d: &Directed,
+    cert: &Cert,
+    s: u16,
+) -> Result<bool, GraphError>
+    requires directed { HasDirections g.now d.now }
+{
+    assert!(rt; s < g.node_count());
+    let up = reach_of(rt, alloc, g, d, s, Dir::Up)?;
+    let down = reach_of(rt, alloc, g, d, s, Dir::Down)?;
+    for t in 0..g.node_count() {
+        if !rounds_all(g, d, cert, &up, &down, NodeNo::new(s), NodeNo::new(t)) {
+            return Ok(false);
+        }
+    }
+    Ok(true)
+}
+
+fn is_so(rt: &impl Abort, alloc: Global, case: &Case) -> Result<bool, GraphError> {
+    let links = links_of(alloc, case.links)?;
+    let g = graph(rt, alloc, case.count, case.routers, links)?;
+    let d = directed_of(rt, alloc, &g, case.root)?;
+    assert!(rt; case.root < g.node_count());
+    let cert = compute(alloc, &g, NodeNo::new(case.root))?;
+    for s in 0..case.count {
+        if !rounds_from(rt, alloc, &g, &d, &cert, s)? {
+            return Ok(false);
+        }
+    }
+    Ok(true)
+}
+
+#[test]
+fn colors_by_order_beside_walks(rt: HostRuntime) -> Result<(), Fail> {
+    for case in cases() {
+        assert!(rt; is_so(&rt, rt.alloc(), case)?, "{}", case.name);
+    }
+    Ok(())
+}
