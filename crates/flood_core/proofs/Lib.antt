@@ -1,0 +1,4 @@
+pub mod OnePacket
+pub mod OneFile
+pub mod Placing
+pub mod Refusals

@@ -1,0 +1,19 @@
+use Rattle.std.proofs.Common.{◌≡◌, ◌∙◌, ◌+◌, refl, sym, ap, subst, length, arith}
+use Rattle.flood_core.specs.declared.error.UpdateError.{UpdateError}
+use Rattle.flood_core.specs.declared.error.UpdateError.TheVariants.{Fault}
+use Rattle.flood_core.specs.declared.error.UpdateKind.TheVariants as kinds
+use Rattle.std.proofs.lemmas.List.{length-map}
+use Rattle.flood_core.specs.Updates.{placed_from}
+use Rattle.flood_core.proofs.OnePacket.{count_refused}
+use Rattle.flood_core.proofs.Refusals.{told_here}
+use Rattle.flood_core.proofs.packet.packet.Goals as goal
+
+pub returns-then-number_32-as_slice-clause-fault : goal.returns-then-number_32-as_slice-clause-fault
+returns-then-number_32-as_slice-clause-fault c = λ place kind told.
+    told_here c.args.at place kinds.Count kind c.args.bytes.now
+    (count_refused c.args.bytes.now c.in_ok-lsas.ensures.found.read c.in_default.ensures.sound
+    c.in_ok-lsas.ensures.found.faultless c.in_ok-lsas.ensures.found.spelled
+    (λ same. c.if-number_32-as_slice.true (c.number_32.ensures ∙ same ∙ sym (ap length c.as_slice.ensures.value
+    ∙ ap length c.in_ok-lsas.ensures.found.placed
+    ∙ length-map c.in_ok-lsas.ensures.found.read (placed_from (c.args.at + 28))))))
+    (let same : Fault c.args.at kinds.Count ≡ Fault place kind = cc in same)

@@ -1,0 +1,5 @@
+pub mod PacketFields
+pub mod Updates
+pub mod PacketFaults
+pub mod UpdateOutcome
+pub mod Reading

@@ -1,0 +1,24 @@
+//! Bytes and Link State Update packets. It holds of the definitions alone; the function does nothing.
+
+ghost use Rattle.std.specs.Prelude.{◌≡◌, ◌⊎◌, ℕ, List, []};
+ghost use Rattle.std.specs.List.{AllByRecursion};
+ghost use Rattle.ospf_lsa.specs.Lsas.{IsByte};
+ghost use Rattle.flood_core.specs.declared.error.UpdateKind.{UpdateKind};
+ghost use Rattle.flood_core.specs.declared.update.Update.{Update};
+ghost use Rattle.flood_core.specs.Updates.{AreUpdates};
+ghost use Rattle.flood_core.specs.UpdateOutcome.{IsFirstFault};
+
+/// Any bytes are packets without a fault, one after another, or have a first packet with a fault; never both, and each
+/// in one way.
+pub fn bytes_are_updates_or_have_a_fault()
+    ensures either { (bytes : List ℕ) → AllByRecursion IsByte bytes
+        → ((updates : List Update) × AreUpdates 0 bytes updates [])
+        ⊎ ((at : ℕ) × (kind : UpdateKind) × IsFirstFault bytes at kind) }
+    ensures never_both { (bytes : List ℕ) (updates : List Update) (at : ℕ) (kind : UpdateKind)
+        → AreUpdates 0 bytes updates [] → IsFirstFault bytes at kind → ⊥ }
+    ensures one_list { (bytes : List ℕ) (updates others : List Update)
+        → AreUpdates 0 bytes updates [] → AreUpdates 0 bytes others [] → updates ≡ others }
+    ensures one_fault { (bytes : List ℕ) (at place : ℕ) (kind other : UpdateKind)
+        → IsFirstFault bytes at kind → IsFirstFault bytes place other
+        → (at ≡ place) × (kind ≡ other) }
+{}
