@@ -1,14 +1,19 @@
-//! Link State Update packets (RFC 2328, section A.3.5).
+//! Link State Update packets, and the flooding of what they bring (RFC 2328, sections 13 and A.3.5).
 #![tactic(auto)]
 
+mod answer;
 mod error;
 mod field;
+mod flood;
 mod packet;
 mod reading;
+mod router;
 mod update;
 mod update_law;
 
+pub use answer::Answer;
 pub use error::{UpdateError, UpdateKind};
+pub use flood::Flood;
 pub use reading::read_updates;
 pub use update::Update;
 pub use update_law::bytes_are_updates_or_have_a_fault;

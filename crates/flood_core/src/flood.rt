@@ -1,0 +1,161 @@
+//! Packets and the routers that they reach.
+
+ghost use Rattle.std.specs.Prelude.{◌≡◌, ◌≤◌, ◌<◌, ◌+◌, ◌++◌, ◌^◌, ◌↔◌, Some, IfOk, OnOk, length, replicate, vec_len};
+ghost use Rattle.std.specs.List.{AllByRecursion};
+ghost use Rattle.flood_core.specs.FloodStep.{answer_of, sent_on};
+ghost use Rattle.flood_core.specs.Receiving.{new_router};
+
+use crate::answer::Answer;
+use crate::router::Router;
+use crate::update::Update;
+use lsdb::Lsdb;
+use mrt_graph::{NoMemory, Seq};
+use ospf_lsa::Lsa;
+use std::alloc::Global;
+use std::marker::Model;
+
+/// Packets, and routers each with a database of its own, which packets reach in any order, any number of times, or
+/// never (RFC 2328, section 13).
+#[derive(Drop)]
+pub struct Flood {
+    alloc: Global,
+    packets: Vec<Update>,
+    routers: Vec<Router>,
+    changed: u32,
+}
+
+impl Model for Flood {
+    ghost use Rattle.flood_core.specs.FloodState.{FloodState, IsFlood};
+
+    ghost Value = { FloodState };
+
+    ghost view = { λ f. record { packets = f.packets.items; routers = f.routers.items; changed = f.changed } };
+
+    ghost invariant = { λ f. IsFlood (record { packets = f.packets.items; routers = f.routers.items; changed = f.changed }) };
+}
+
+impl Flood {
+    ghost use Rattle.flood_core.specs.declared.answer.Answer.TheVariants as answers;
+    ghost use Rattle.flood_core.specs.FloodState.{database_of, started};
+    ghost use Rattle.flood_core.specs.FloodStep.{delivered};
+    ghost use Rattle.flood_core.specs.Receiving.{MayFlood};
+
+    /// The packets of a file, and so many routers with empty databases. There are 1 to 64 routers, at most
+    /// 4,294,000,000 packets, and at most 65,535 LSAs in each; those of types 1 and 2 may stand in a database.
+    ///
+    /// # Errors
+    ///
+    /// [`NoMemory`] where there was none for the list of the routers.
+    pub fn new(alloc: Global, updates: Vec<Update>, routers: u16) -> Result<Flood, NoMemory>
+        requires some { 1 ≤ routers }
+        requires few { routers ≤ 64 }
+        requires few_updates { length updates.items ≤ 4294000000 }
+        requires may_flood { AllByRecursion MayFlood updates.items }
+        ensures { IfOk result (λ flood. flood ≡ started updates.items routers) }
+    {
+        Ok(Flood {
+            alloc,
+            packets: updates,
+            routers: new_routers(alloc, routers)?,
+            changed: 0,
+        })
+    }
+
+    /// Delivers the packet of this number to the router of this number, both from 0. Fewer than 65,535 deliveries were
+    /// answered [`Answer::Changed`] before.
+    ///
+    /// Each LSA of type 1 or 2 is installed in turn, with the number of LSAs that arrived at that router before as its
+    /// place. Those whose install answers `Added` or `Replaced` are new, and become a packet, the last one, which the
+    /// router sends on: with the place, the router and the area of the delivered one, and the LSAs as they stand there.
+    ///
+    /// It takes time in proportion to the packet's bytes, over many deliveries.
+    ///
+    /// # Errors
+    ///
+    /// [`NoMemory`] where there was none for a database or for the new packet. The whole is given up then.
+    pub fn deliver(self, packet: u32, router: u16) -> Result<(Flood, Answer), NoMemory>
+        requires { self.changed < 65535 }
+        ensures answer { IfOk result (λ done. done.1 ≡ (delivered self packet router).0) }
+        ensures state { IfOk result (λ done. done.0 ≡ (delivered self packet router).1) }
+        // The cause of each refusal.
+        ensures no_packet { IfOk result (λ done. (done.1 ≡ answers.NoSuchPacket) ↔ (length self.packets ≤ packet)) }
+        ensures no_router { IfOk result (λ done.
+            (done.1 ≡ answers.NoSuchRouter) ↔ ((packet < length self.packets) × (length self.routers ≤ router))) }
+    {
+        if self.packets.as_slice().len() <= packet as usize {
+            return Ok((self, Answer::NoSuchPacket));
+        }
+        if self.routers.as_slice().len() <= usize::from(router) {
+            return Ok((self, Answer::NoSuchRouter));
+        }
+        let Flood {
+            alloc,
+            mut packets,
+            mut routers,
+            changed,
+        } = self;
+        let update = &packets[packet as usize];
+        let news = routers[usize::from(router)].receive(alloc, update.lsas.as_slice())?;
+        let sent = update.with_lsas(news);
+        let answer = send_on(&mut packets, sent)?;
+        let flood = Flood {
+            alloc,
+            packets,
+            routers,
+            changed: changed + 1,
+        };
+        Ok((flood, answer))
+    }
+
+    /// A router's database.
+    pub fn database(&self, router: u16) -> &Lsdb
+        requires { router < length self.now.routers }
+        ensures { database_of self.now router ≡ Some result.now }
+    {
+        &self.routers[usize::from(router)].database
+    }
+}
+
+impl Update {
+    /// The packet with these LSAs alone.
+    fn with_lsas(&self, lsas: Vec<Lsa>) -> Update
+        ensures { result ≡ record self.now { lsas = lsas.items } }
+    {
+        Update {
+            at: self.at,
+            router: self.router,
+            area: self.area,
+            lsas: Seq::from_vec(lsas),
+        }
+    }
+}
+
+/// So many routers with empty databases.
+fn new_routers(alloc: Global, count: u16) -> Result<Vec<Router>, NoMemory>
+    ensures { IfOk result (λ routers. routers.items ≡ replicate count new_router) }
+{
+    let mut routers = Vec::with_capacity(alloc, usize::from(count))?;
+    for _number in 0..count {
+        routers.push(Router::new(alloc))?;
+    }
+    Ok(routers)
+}
+
+/// Puts a packet of new LSAs at the end, if there are any, and tells how many there are and the packet's number.
+fn send_on(packets: &mut Vec<Update>, sent: Update) -> Result<Answer, NoMemory>
+    requires few { length sent.lsas < 2 ^ 32 }
+    requires room { length packets.old.items < 2 ^ 32 }
+    ensures answer { IfOk result (λ answer. answer ≡ answer_of (length packets.old.items) sent.lsas) }
+    ensures packets { OnOk result (packets.new.items ≡ packets.old.items ++ sent_on sent sent.lsas) }
+{
+    let count = sent.lsas.as_slice().len() as u32;
+    if count == 0 {
+        return Ok(Answer::Changed { count, sent: None });
+    }
+    let number = packets.as_slice().len() as u32;
+    packets.push(sent)?;
+    Ok(Answer::Changed {
+        count,
+        sent: Some(number),
+    })
+}
