@@ -4,3 +4,7 @@ pub mod Placing
 pub mod Refusals
 pub mod InTurn
 pub mod OneDelivery
+pub mod Covered
+pub mod Bringing
+pub mod Converging
+pub mod RunsAsLists

@@ -6,3 +6,4 @@ pub mod Reading
 pub mod Receiving
 pub mod FloodState
 pub mod FloodStep
+pub mod Runs

@@ -8,6 +8,7 @@ mod flood;
 mod packet;
 mod reading;
 mod router;
+mod run_law;
 mod update;
 mod update_law;
 
@@ -15,5 +16,10 @@ pub use answer::Answer;
 pub use error::{UpdateError, UpdateKind};
 pub use flood::Flood;
 pub use reading::read_updates;
+pub use run_law::{
+    a_database_is_that_of_what_was_delivered, an_instance_is_sent_on_once, flooding_converges,
+    newest_of_the_same_are_the_same, nothing_is_made_up,
+    the_same_deliveries_give_the_same_database,
+};
 pub use update::Update;
 pub use update_law::bytes_are_updates_or_have_a_fault;
