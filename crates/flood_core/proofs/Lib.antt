@@ -8,3 +8,4 @@ pub mod Covered
 pub mod Bringing
 pub mod Converging
 pub mod RunsAsLists
+pub mod MayBeFlooded

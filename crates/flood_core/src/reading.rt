@@ -1,8 +1,10 @@
 //! A whole file of packets.
 
 ghost use Rattle.std.specs.Prelude.{◌≡◌, ◌≤◌, ℕ, List, [], IfOk, Err, length};
+ghost use Rattle.std.specs.List.{AllByRecursion};
 ghost use Rattle.flood_core.specs.declared.error.UpdateKind.{UpdateKind};
 ghost use Rattle.flood_core.specs.declared.update.Update.{Update};
+ghost use Rattle.flood_core.specs.Receiving.{MayFlood};
 ghost use Rattle.flood_core.specs.UpdateOutcome.{AreAnswer, IsFirstFault, IsRefusal};
 ghost use Rattle.flood_core.specs.Updates.{AreUpdates};
 
@@ -28,6 +30,9 @@ pub fn read_updates(alloc: Global, bytes: &[u8]) -> Result<Vec<Update>, UpdateEr
     requires { length bytes.now ≤ 33554432 }
     // What is read are the packets of the file.
     ensures found { IfOk result (λ updates. AreUpdates 0 bytes.now updates.items []) }
+    // It may be flooded.
+    ensures few { IfOk result (λ updates. length updates.items ≤ 4294000000) }
+    ensures may_flood { IfOk result (λ updates. AllByRecursion MayFlood updates.items) }
     // Packets of a file are read.
     ensures only { (updates : List Update) → AreUpdates 0 bytes.now updates [] → AreAnswer updates result }
 

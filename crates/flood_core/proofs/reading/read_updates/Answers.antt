@@ -1,9 +1,12 @@
-use Rattle.std.proofs.Common.{◌≡◌, ◌∙◌, ℕ, List, Err, refl, sym, ap, subst, length, arith}
+use Rattle.std.proofs.Common.{◌≡◌, ◌∙◌, ℕ, List, Err, refl, sym, ap, subst, length, drop, arith}
 use Rattle.std.proofs.lemmas.Result.{err_from_is_err_and}
 use Rattle.flood_core.specs.PacketFields.{length_field}
 use Rattle.flood_core.specs.Updates.{IsUpdate}
 use Rattle.flood_core.proofs.OneFile.{one_list, never_both, read_more, all_read, none_read, first_told}
+use Rattle.flood_core.proofs.MayBeFlooded.{all_may_flood, few_updates}
 use Rattle.flood_core.proofs.Refusals.{told_in_file}
+use Rattle.std.specs.Int.{w8}
+use Rattle.std.proofs.Math.Facts.{Fits-lt-pow}
 use Rattle.flood_core.proofs.reading.read_updates.Goals as goal
 
 pub loop-at-preserved : goal.loop-at-preserved
@@ -13,6 +16,21 @@ loop-at-preserved c =
     (subst (λ (b : List ℕ). IsUpdate c.loop-at.at b c.in_ok-update.update) c.after.ensures
     c.in_ok-update.ensures.found)
     (c.in_ok-update.ensures.length ∙ ap length_field c.after.ensures) c.in_ok-push.ensures.items
+
+pub returns-clause-found : goal.returns-clause-found
+returns-clause-found c =
+    all_read c.args.bytes.now c.loop-at.updates.items c.loop-at.at c.loop-at-test.false c.loop-at.invariant
+
+pub returns-clause-few : goal.returns-clause-few
+returns-clause-few c =
+    let few = few_updates 0 c.args.bytes.now c.loop-at.updates.items (drop c.loop-at.at c.args.bytes.now)
+    c.loop-at.invariant.are in
+    omega (arith, few, c.requires)
+
+pub returns-clause-may_flood : goal.returns-clause-may_flood
+returns-clause-may_flood c =
+    all_may_flood 0 c.args.bytes.now c.loop-at.updates.items (drop c.loop-at.at c.args.bytes.now)
+    (λ i. Fits-lt-pow {w = w8} (c.type_inv.bytes i)) c.loop-at.invariant.are
 
 pub returns-clause-only : goal.returns-clause-only
 returns-clause-only c = λ updates are.
