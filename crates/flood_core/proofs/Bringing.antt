@@ -1,6 +1,6 @@
 -- What deliveries bring to a router, and what it sends on.
-use Rattle.std.proofs.Common.{◌≡◌, ◌∙◌, ◌<◌, ◌≤◌, ◌+◌, ◌++◌, ◌==◌, ◌⊎◌, ℕ, zero, suc, Bool, true, false, cond, List, [], ◌∷◌, Option, Some, None, length, replicate, set, slice_get, inl, inr, refl, sym, ap, subst, append_assoc, arith}
-use Rattle.std.specs.List.{AllByRecursion, filter, flat_map}
+use Rattle.std.proofs.Common.{◌≡◌, ◌∙◌, ◌<◌, ◌≤◌, ◌+◌, ◌++◌, ◌==◌, ℕ, zero, suc, Bool, true, false, cond, List, [], ◌∷◌, Option, Some, None, length, replicate, set, slice_get, inl, inr, refl, sym, ap, subst, arith}
+use Rattle.std.specs.List.{AllByRecursion}
 use Rattle.std.specs.Option.{option_map_or}
 use Rattle.std.proofs.lemmas.Bool.{eqb-true, eq-eqb}
 use Rattle.std.proofs.lemmas.List.{length-append, append-nil}
@@ -16,7 +16,7 @@ use Rattle.flood_core.specs.declared.router.Router.{Router}
 use Rattle.flood_core.specs.declared.update.Update.{Update}
 use Rattle.flood_core.specs.FloodState.{FloodState, started}
 use Rattle.flood_core.specs.FloodStep.{answer_of, delivered, reached, sent_on}
-use Rattle.flood_core.specs.Receiving.{after_all, is_topology, new_router, news, topology, MayFlood}
+use Rattle.flood_core.specs.Receiving.{after_all, is_topology, news, topology, MayFlood}
 use Rattle.flood_core.specs.Runs.{Delivery, after_deliveries, after_delivery, brought, brought_by, lsas_at, lsas_of, sent, sent_after, sent_in, WasDelivered}
 use Rattle.flood_core.proofs.Covered.{has_left, has_right, has_either}
 use Rattle.flood_core.proofs.InTurn.{after_append, news_append}

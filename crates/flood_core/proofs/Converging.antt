@@ -1,8 +1,7 @@
 -- Lists of LSAs that cover all LSAs of a file have its newest instances.
-use Rattle.std.proofs.Common.{◌≡◌, ◌∙◌, ◌<◌, ◌+◌, ◌++◌, ◌↔◌, ◌⊎◌, ℕ, Bool, true, false, not, cond, List, [], ◌∷◌, Option, Some, None, Contains, map, inl, inr, refl, sym, ap, subst, append_assoc, arith}
+use Rattle.std.proofs.Common.{◌≡◌, ◌∙◌, ◌+◌, ◌++◌, ℕ, Bool, true, false, not, cond, List, [], ◌∷◌, Option, Some, None, map, inl, inr, refl, sym, ap, subst, append_assoc}
 use Rattle.std.specs.List.{AllByRecursion, list_any}
-use Rattle.std.specs.List.Sorted.{IsPermutation}
-use Rattle.std.specs.Option.{is_some, option_map}
+use Rattle.std.specs.Option.{is_some}
 use Rattle.std.proofs.lemmas.List.{append-nil, map-append}
 use Rattle.mrt_graph.proofs.Members.{Has, all_append, contains_from_has, has_from_contains, has_map}
 use Rattle.ospf_lsa.specs.declared.lsa.Lsa.{Lsa}
@@ -11,16 +10,16 @@ use Rattle.lsdb.specs.declared.change.Change.TheVariants.{Added, Replaced, Older
 use Rattle.lsdb.specs.declared.change.Conflict.{Conflict}
 use Rattle.lsdb.specs.Conflicts.{conflict_of, earlier, least_conflict}
 use Rattle.lsdb.specs.Entries.{Entry, entries_in}
-use Rattle.lsdb.specs.Installing.{change_of, changed, installed, noted, IsKept}
+use Rattle.lsdb.specs.Installing.{change_of, changed, installed, IsKept}
 use Rattle.lsdb.specs.Keys.{key_of, same_key}
 use Rattle.lsdb.specs.Newest.{IsSettled}
 use Rattle.lsdb.specs.Orders.{newest_in, without_place, HoldTheSame}
 use Rattle.lsdb.proofs.Agreements.{same_agree, settled_agree}
 use Rattle.lsdb.proofs.Lists.{all_of_list, entries_step}
 use Rattle.lsdb.proofs.Settling.{none_of_two, no_conflict_settled, settled_no_conflict}
-use Rattle.flood_core.specs.Receiving.{arrived, is_new}
+use Rattle.flood_core.specs.Receiving.{is_new}
 use Rattle.flood_core.specs.Runs.{numbered, AreNewestOfTheSame}
-use Rattle.flood_core.proofs.Covered.{any_more, covered_numbered, covers, has_either, has_left, has_right, new_where_uncovered}
+use Rattle.flood_core.proofs.Covered.{any_more, covered_numbered, covers, has_either, has_right, new_where_uncovered}
 
 -- ---- an install that brings nothing new
 

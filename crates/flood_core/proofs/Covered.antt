@@ -1,10 +1,10 @@
 -- Which LSAs are new after others, and which of them are sent on.
-use Rattle.std.proofs.Common.{◌≡◌, ◌∙◌, ◌<◌, ◌≤◌, ◌+◌, ◌++◌, ◌||◌, ◌&&◌, ◌⊎◌, ℕ, Bool, true, false, not, cond, List, [], ◌∷◌, inl, inr, refl, sym, ap, subst, append_assoc, arith}
+use Rattle.std.proofs.Common.{◌≡◌, ◌∙◌, ◌+◌, ◌++◌, ◌||◌, ◌&&◌, ◌⊎◌, ℕ, Bool, true, false, not, cond, List, [], ◌∷◌, inl, inr, refl, sym, ap, subst, append_assoc}
 use Rattle.std.specs.List.{AllByRecursion, IsDistinct, filter, list_all, list_any}
-use Rattle.std.specs.Ordering.{is_eq, is_gt, ordering_reverse}
+use Rattle.std.specs.Ordering.{is_eq, is_gt}
 use Rattle.std.specs.declared.cmp.Ordering.{Ordering}
 use Rattle.std.specs.declared.cmp.Ordering.TheVariants.{Less, Equal, Greater}
-use Rattle.std.proofs.lemmas.Bool.{and_parts, and_from, not-true, cases_Bool}
+use Rattle.std.proofs.lemmas.Bool.{and_parts, and_from, not-true}
 use Rattle.std.proofs.lemmas.List.{append-nil}
 use Rattle.std.proofs.lemmas.List.Folds.{list_any-append}
 use Rattle.mrt_graph.proofs.Members.{Has}
@@ -17,7 +17,7 @@ use Rattle.lsdb.specs.Entries.{Entry}
 use Rattle.lsdb.specs.Installing.{installed}
 use Rattle.lsdb.specs.Installs.{all_installed}
 use Rattle.lsdb.specs.Keys.{key_of, same_key, is_of}
-use Rattle.lsdb.specs.Rank.{outranks, rank_cmp}
+use Rattle.lsdb.specs.Rank.{outranks}
 use Rattle.lsdb.proofs.Arrivals.{own_key}
 use Rattle.lsdb.proofs.Lists.{any_and, pass_none}
 use Rattle.lsdb.proofs.Ranks.{above, flipped, greater_is, none_outranks_itself}

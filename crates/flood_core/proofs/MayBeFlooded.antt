@@ -1,10 +1,9 @@
 -- What is read may be flooded.
-use Rattle.std.proofs.Common.{◌≡◌, ◌∙◌, ◌<◌, ◌≤◌, ◌+◌, ◌-◌, ◌*◌, ◌^◌, ◌⊎◌, ◌==◌, ◌||◌, ℕ, Bool, true, false, cond, List, [], ◌∷◌, length, map, drop, inl, inr, refl, sym, ap, subst, arith}
-use Rattle.std.specs.List.{AllByRecursion, filter}
-use Rattle.std.proofs.lemmas.Bool.{cases_Bool, eqb-true, or_parts}
+use Rattle.std.proofs.Common.{◌≡◌, ◌≤◌, ◌+◌, ◌-◌, ◌*◌, ◌⊎◌, ◌==◌, ◌||◌, ℕ, Bool, true, false, cond, List, [], ◌∷◌, length, map, drop, inl, inr, refl, sym, ap, subst, arith}
+use Rattle.std.specs.List.{AllByRecursion}
+use Rattle.std.proofs.lemmas.Bool.{eqb-true}
 use Rattle.std.proofs.lemmas.List.{length-append, length-drop, length-map, length-take}
 use Rattle.mrt_graph.proofs.Bytes.{IsBytes, bytes_after}
-use Rattle.ospf_lsa.specs.Header.{number_at}
 use Rattle.ospf_lsa.specs.Lsas.{AreLsas, IsLsa}
 use Rattle.ospf_lsa.specs.LsaText.{lsa_text, lsa_length, lsas_text}
 use Rattle.ospf_lsa.specs.Types.{router_lsa, network_lsa}
@@ -14,7 +13,7 @@ use Rattle.ospf_lsa.proofs.OneReading.{length_lsa}
 use Rattle.lsdb.specs.Installing.{IsKept}
 use Rattle.lsdb.proofs.Readings.{read_is_kept}
 use Rattle.flood_core.specs.declared.update.Update.{Update}
-use Rattle.flood_core.specs.PacketFields.{length_field, lsa_bytes}
+use Rattle.flood_core.specs.PacketFields.{length_field}
 use Rattle.flood_core.specs.Receiving.{is_topology, topology, MayFlood}
 use Rattle.flood_core.specs.Updates.{AreUpdates, IsUpdate, placed_from}
 
@@ -49,8 +48,15 @@ kept_all start at (lsa ∷ lsas) are =
 
 one_may_flood : (at : ℕ) (bytes : List ℕ) (update : Update) → IsBytes bytes → IsUpdate at bytes update → MayFlood update
 one_may_flood at bytes update are is = record {
-  few = omega (arith, ap length is.lsas, length-map is.read (placed_from (at + 28)), few_lsas is.read,
-      ap length is.spelled, length-take (length_field bytes - 28) (drop 28 bytes), number_fits 2 2 bytes are);
+  few = omega (
+    arith,
+    ap length is.lsas,
+    length-map is.read (placed_from (at + 28)),
+    few_lsas is.read,
+    ap length is.spelled,
+    length-take (length_field bytes - 28) (drop 28 bytes),
+    number_fits 2 2 bytes are,
+  );
   kept = subst (λ (ls : List Lsa). AllByRecursion IsKept (topology ls)) (sym is.lsas)
       (kept_all (at + 28) 0 is.read is.faultless);
 }

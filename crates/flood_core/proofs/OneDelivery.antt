@@ -1,5 +1,5 @@
 -- One delivery.
-use Rattle.std.proofs.Common.{◌≡◌, ◌∙◌, ◌<◌, ◌≤◌, ◌+◌, ◌*◌, ◌^◌, ◌++◌, ℕ, zero, suc, Bool, true, false, cond, List, [], ◌∷◌, Option, Some, None, length, set, slice_get, refl, sym, ap, subst, arith}
+use Rattle.std.proofs.Common.{◌≡◌, ◌∙◌, ◌<◌, ◌≤◌, ◌+◌, ◌++◌, ℕ, zero, suc, Bool, true, false, cond, List, [], ◌∷◌, Option, Some, length, set, slice_get, refl, sym, ap, subst, arith}
 use Rattle.std.specs.List.{AllByRecursion, filter}
 use Rattle.std.specs.Option.{option_map_or}
 use Rattle.std.proofs.lemmas.List.{length-append}
@@ -130,10 +130,14 @@ may_flood_at state p update is packet =
 pub few_sent : (state : FloodState) (p r : ℕ) (update sent : Update) (router router' : Router) (lsas new : List Lsa)
     → IsFlood state → IsDone state p r update sent router router' lsas new → length sent.lsas ≤ 65535
 few_sent state p r update sent router router' lsas new is done =
-    omega (arith, ap (λ (u : Update). length u.lsas) done.sent_is,
-    ap length (new_of state p r update sent router router' lsas new done),
-    few_news router (topology update.lsas), few_topology update.lsas,
-    (may_flood_at state p update is done.packet).few)
+    omega (
+      arith,
+      ap (λ (u : Update). length u.lsas) done.sent_is,
+      ap length (new_of state p r update sent router router' lsas new done),
+      few_news router (topology update.lsas),
+      few_topology update.lsas,
+      (may_flood_at state p update is done.packet).few,
+    )
 
 sent_may_flood : (state : FloodState) (p r : ℕ) (update sent : Update) (router router' : Router) (lsas new : List Lsa)
     → IsFlood state → IsDone state p r update sent router router' lsas new → MayFlood sent
@@ -168,8 +172,13 @@ pub flood_kept : (state self : FloodState) (p r : ℕ) (update sent : Update) (r
     → packets ≡ state.packets ++ sent_on sent sent.lsas
     → IsFlood (record { packets = packets; routers = set state.routers r router'; changed = state.changed + 1 })
 flood_kept state self p r update sent router router' lsas new packets view room is done told = record {
-  few_packets = omega (arith, ap length told, length-append state.packets (sent_on sent sent.lsas),
-      one_sent sent sent.lsas, is.few_packets);
+  few_packets = omega (
+    arith,
+    ap length told,
+    length-append state.packets (sent_on sent sent.lsas),
+    one_sent sent sent.lsas,
+    is.few_packets,
+  );
   few_deliveries = omega (arith, room, ap (λ (s : FloodState). s.changed) view);
   packets = subst (AllByRecursion MayFlood) (sym told)
       (all_append MayFlood state.packets (sent_on sent sent.lsas) is.packets

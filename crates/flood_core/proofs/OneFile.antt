@@ -1,5 +1,5 @@
 -- Bytes are packets, or have a first packet with a fault, in one way.
-use Rattle.std.proofs.Common.{◌≡◌, ◌∙◌, ◌<◌, ◌≤◌, ◌+◌, ◌⊎◌, ℕ, zero, suc, List, [], ◌∷◌, ◌++◌, length, drop, Ok, Err, inl, inr, refl, sym, ap, subst, arith}
+use Rattle.std.proofs.Common.{◌≡◌, ◌∙◌, ◌<◌, ◌≤◌, ◌+◌, ◌⊎◌, ℕ, zero, suc, List, [], ◌∷◌, ◌++◌, length, drop, inl, inr, refl, sym, ap, subst, arith}
 use Rattle.std.specs.List.{AllByRecursion}
 use Rattle.std.proofs.lemmas.Bool.{cases_lt}
 use Rattle.std.proofs.lemmas.List.{drop_all, drop-drop, length-drop}
@@ -67,8 +67,14 @@ one_fault bytes at place kind other first second =
     first.faultless second.faultless
     (none_where_fault (drop first.packet bytes) kind first.offset first.fault)
     (none_where_fault (drop second.packet bytes) other second.offset second.fault) in
-    let packet : first.packet ≡ second.packet = omega (arith, ap length same.left, length-drop first.packet bytes,
-    length-drop second.packet bytes, first.more, second.more) in
+    let packet : first.packet ≡ second.packet = omega (
+      arith,
+      ap length same.left,
+      length-drop first.packet bytes,
+      length-drop second.packet bytes,
+      first.more,
+      second.more,
+    ) in
     let fault = one_first_fault (drop first.packet bytes) kind other first.offset second.offset first.fault
     (subst (λ (b : List ℕ). HasFirstFault other second.offset b) (sym same.left) second.fault) in (
       omega (arith, first.place, second.place, packet, fault.1),
@@ -93,10 +99,11 @@ one_more start at bytes rest [] update are placed is =
     let whole : IsUpdate start bytes update =
     subst (λ (k : ℕ). IsUpdate k bytes update) here (subst (λ (b : List ℕ). IsUpdate at b update) are is) in
     (whole, ap (λ (b : List ℕ). drop (length_field b) b) are)
-one_more start at bytes rest (first ∷ updates) update are placed is =
-    (are.0,
-    one_more (start + length_field bytes) at (drop (length_field bytes) bytes) rest updates update are.1
-    (omega (arith, placed, length-drop (length_field bytes) bytes, are.0.whole)) is)
+one_more start at bytes rest (first ∷ updates) update are placed is = (
+  are.0,
+  one_more (start + length_field bytes) at (drop (length_field bytes) bytes) rest updates update are.1
+      (omega (arith, placed, length-drop (length_field bytes) bytes, are.0.whole)) is,
+)
 
 -- one more packet
 pub read_more : (bytes : List ℕ) (updates updates' : List Update) (at length' : ℕ) (update : Update)
@@ -147,8 +154,11 @@ either_from (suc steps) bytes updates at are enough so_far = elim (cases_lt at (
   | inr past ↦ inl (updates, all_read bytes updates at past so_far)
   | inl more ↦ elim (either_at_front at (drop at bytes) (bytes_after at bytes are)) [
     | inr fault ↦
-        inr (at + fault.1, fault.0,
-            first_found bytes updates at (at + fault.1) fault.0 fault.1 more so_far fault.2 refl)
+        inr (
+          at + fault.1,
+          fault.0,
+          first_found bytes updates at (at + fault.1) fault.0 fault.1 more so_far fault.2 refl,
+        )
     | inl front ↦
         either_from steps bytes (updates ++ front.0 ∷ []) (at + length_field (drop at bytes)) are
         (omega (arith, enough, front.1.long_enough))

@@ -1,5 +1,5 @@
 -- The packet at the front of bytes is one without a fault or has a first fault, and each in one way.
-use Rattle.std.proofs.Common.{◌≡◌, ◌≢◌, ◌∙◌, ◌<◌, ◌≤◌, ◌+◌, ◌⊎◌, ℕ, List, length, map, inl, inr, refl, sym, ap, subst, arith}
+use Rattle.std.proofs.Common.{◌≡◌, ◌≢◌, ◌∙◌, ◌<◌, ◌≤◌, ◌+◌, ◌⊎◌, ℕ, List, length, map, inl, inr, refl, sym, ap, arith}
 use Rattle.std.proofs.lemmas.Bool.{cases_lt, cases_eq}
 use Rattle.mrt_graph.proofs.Bytes.{IsBytes, bytes_after}
 use Rattle.ospf_lsa.specs.declared.error.LsaKind.{LsaKind}
@@ -15,7 +15,7 @@ use Rattle.flood_core.specs.declared.error.UpdateKind.TheVariants as kinds
 use Rattle.flood_core.specs.declared.update.Update.{Update}
 use Rattle.flood_core.specs.PacketFaults.{HasFault, HasFirstFault, HasLsaFault, HasOtherCount, HasOtherHeader, HasShortLength, IsTruncated, order_of}
 use Rattle.flood_core.specs.PacketFields.{ospf_version, link_state_update, version_field, type_field, length_field, router_field, area_field, count_field, lsa_bytes}
-use Rattle.flood_core.specs.Reading.{AreRead, HasSoundHeader}
+use Rattle.flood_core.specs.Reading.{HasSoundHeader}
 use Rattle.flood_core.specs.Updates.{IsUpdate, placed_from}
 
 -- ---- one reading
@@ -149,27 +149,29 @@ counted : (at : ℕ) (bytes : List ℕ) (lsas : List Lsa) → HasSoundHeader byt
     → lsa_bytes bytes ≡ lsas_text lsas → IsEither at bytes
 counted at bytes lsas sound are spelled = elim (cases_eq (count_field bytes) (length lsas)) [
   | inl same ↦
-      inl (record {
-            at = at;
-            router = router_field bytes;
-            area = area_field bytes;
-            lsas = map (placed_from (at + 28)) lsas;
-          },
-          record {
-            header_there = sound.header_there;
-            whole = sound.whole;
-            version = sound.version;
-            type = sound.type;
-            long_enough = sound.long_enough;
-            read = lsas;
-            faultless = are;
-            spelled = spelled;
-            count = same;
-            place = refl;
-            router = refl;
-            area = refl;
-            lsas = refl;
-          })
+      inl (
+        record {
+          at = at;
+          router = router_field bytes;
+          area = area_field bytes;
+          lsas = map (placed_from (at + 28)) lsas;
+        },
+        record {
+          header_there = sound.header_there;
+          whole = sound.whole;
+          version = sound.version;
+          type = sound.type;
+          long_enough = sound.long_enough;
+          read = lsas;
+          faultless = are;
+          spelled = spelled;
+          count = same;
+          place = refl;
+          router = refl;
+          area = refl;
+          lsas = refl;
+        },
+      )
   | inr differs ↦ inr (kinds.Count, 0, count_refused bytes lsas sound are spelled differs)
 ]
 
@@ -207,6 +209,7 @@ short_length bytes there version type short = record {
     not_cut : IsTruncated bytes → ⊥
     not_cut (inl less) = omega (arith, less, there)
     not_cut (inr less) = omega (arith, less, there, short)
+
     not_foreign : HasOtherHeader bytes → ⊥
     not_foreign (inl differs) = differs version
     not_foreign (inr differs) = differs type

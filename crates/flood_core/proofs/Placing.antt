@@ -1,7 +1,7 @@
 -- LSAs with their places in the file, one after another.
-use Rattle.std.proofs.Common.{◌≡◌, ◌∙◌, ◌<◌, ◌≤◌, ◌+◌, ℕ, zero, suc, List, [], ◌∷◌, ◌++◌, ◌⊎◌, Contains, length, map, take, drop, set, get_or, inl, inr, refl, sym, ap, subst, arith, add-one}
+use Rattle.std.proofs.Common.{◌≡◌, ◌∙◌, ◌<◌, ◌+◌, ℕ, zero, suc, List, [], ◌∷◌, ◌++◌, length, map, take, drop, set, get_or, inl, inr, refl, sym, ap, subst, arith, add-one}
 use Rattle.std.proofs.lemmas.List.{length-append}
-use Rattle.mrt_graph.proofs.Members.{Has, has_from_contains}
+use Rattle.mrt_graph.proofs.Members.{Has}
 use Rattle.ospf_lsa.specs.declared.lsa.Lsa.{Lsa}
 use Rattle.ospf_lsa.specs.Lsas.{AreLsas}
 use Rattle.ospf_lsa.specs.LsaText.{lsa_text, lsa_length, lsas_text}

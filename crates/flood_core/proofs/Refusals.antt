@@ -1,5 +1,5 @@
 -- What a packet's first fault tells of the file.
-use Rattle.std.proofs.Common.{◌≡◌, ◌∙◌, ◌<◌, ◌≤◌, ◌+◌, ◌-◌, ◌^◌, ℕ, List, Contains, length, drop, Result, Ok, Err, refl, sym, ap, subst, arith}
+use Rattle.std.proofs.Common.{◌≡◌, ◌<◌, ◌≤◌, ◌+◌, ◌-◌, ◌^◌, ℕ, List, Contains, length, drop, ap, subst, arith}
 use Rattle.std.proofs.lemmas.List.{length-take, length-drop}
 use Rattle.mrt_graph.proofs.Members.{has_from_contains}
 use Rattle.ospf_lsa.specs.declared.error.LsaKind.{LsaKind}
@@ -22,8 +22,14 @@ use Rattle.flood_core.proofs.Placing.{at_within}
 
 pub length_lsa_bytes : (bytes : List ℕ) → HasSoundHeader bytes → length (lsa_bytes bytes) + 28 ≤ length bytes
 length_lsa_bytes bytes sound =
-    omega (arith, sound.header_there, sound.whole, sound.long_enough, length-drop 28 bytes,
-    length-take (length_field bytes - 28) (drop 28 bytes))
+    omega (
+      arith,
+      sound.header_there,
+      sound.whole,
+      sound.long_enough,
+      length-drop 28 bytes,
+      length-take (length_field bytes - 28) (drop 28 bytes),
+    )
 
 -- the places of a packet's LSAs in the file fit 32 bits
 pub places_fit : (at : ℕ) (bytes front : List ℕ) (lsas : List Lsa) → at + length bytes < 2 ^ 32 → HasSoundHeader bytes

@@ -1,10 +1,10 @@
 -- After any deliveries each database is that of a list.
-use Rattle.std.proofs.Common.{◌≡◌, ◌∙◌, ◌<◌, ◌+◌, ◌++◌, ◌↔◌, ◌&&◌, ℕ, Bool, true, false, List, [], ◌∷◌, Option, Some, None, Contains, map, slice_get, inl, inr, refl, sym, ap, subst, arith}
-use Rattle.std.specs.List.{AllByRecursion, IsDistinct, filter, filter_map, list_any}
+use Rattle.std.proofs.Common.{◌≡◌, ◌∙◌, ◌<◌, ◌+◌, ◌↔◌, ◌&&◌, ℕ, true, List, [], ◌∷◌, Option, Some, None, Contains, map, inl, refl, sym, ap, subst, arith}
+use Rattle.std.specs.List.{AllByRecursion, IsDistinct, list_any}
 use Rattle.std.specs.List.Sorted.{IsPermutation}
 use Rattle.std.specs.Option.{option_map, IsSomeAnd}
 use Rattle.std.proofs.lemmas.Option.{same_Some, slice_get_within}
-use Rattle.mrt_graph.proofs.Members.{Has, all_filter_map, all_from_has, all_has, all_weaker, contains_from_has, has_at, has_filter, has_from_contains, is_from}
+use Rattle.mrt_graph.proofs.Members.{Has, all_filter_map, all_from_has, all_has, contains_from_has, has_filter, has_from_contains, is_from}
 use Rattle.ospf_lsa.specs.declared.lsa.Lsa.{Lsa}
 use Rattle.lsdb.specs.declared.key.Key.{Key}
 use Rattle.lsdb.specs.Conflicts.{least_conflict}
@@ -25,7 +25,7 @@ use Rattle.flood_core.specs.declared.update.Update.{Update}
 use Rattle.flood_core.specs.FloodState.{FloodState, database_of, started}
 use Rattle.flood_core.specs.Receiving.{after_all, is_topology, new_router, news, topology, MayFlood}
 use Rattle.flood_core.specs.Runs.{Delivery, after_deliveries, brought, delivered_to, lsas_of, numbered, same_instance, sent, AreNewestOfTheSame, IsFlooded}
-use Rattle.flood_core.proofs.Bringing.{AllLsas, AreAfter, after_run, all_of_file, all_packets, brought_of_file, came, kept_topology, packet_of, router_at_start, sent_found, stays, brought_are_topology}
+use Rattle.flood_core.proofs.Bringing.{AreAfter, after_run, all_of_file, all_packets, brought_of_file, came, kept_topology, packet_of, router_at_start, sent_found, stays, brought_are_topology}
 use Rattle.flood_core.proofs.Converging.{IsCover, cover_settled, covers_agree, kept_numbered, numbered_has}
 use Rattle.flood_core.proofs.OneDelivery.{all_news}
 use Rattle.flood_core.proofs.Covered.{all_covered, any_has, covers, entries_after, found_in, sent_once}

@@ -37,5 +37,5 @@ abbrev pub delivered : FloodState → ℕ → ℕ → Answer × FloodState
 delivered state packet router =
     option_map_or
     (λ update.
-        option_map_or (reached state router update) (slice_get state.routers router) (answers.NoSuchRouter, state))
+    option_map_or (reached state router update) (slice_get state.routers router) (answers.NoSuchRouter, state))
     (slice_get state.packets packet) (answers.NoSuchPacket, state)

@@ -1,11 +1,10 @@
 -- What a router does with the LSAs that arrive (RFC 2328, section 13).
-use Rattle.std.specs.Prelude.{◌≤◌, ◌+◌, ◌*◌, ◌||◌, ◌==◌, ℕ, Bool, true, false, List, [], ◌∷◌, Option, Some, None, length, if◌then◌else◌}
+use Rattle.std.specs.Prelude.{◌≤◌, ◌+◌, ◌||◌, ◌==◌, ℕ, Bool, true, false, List, [], ◌∷◌, Some, None, length, if◌then◌else◌}
 use Rattle.std.specs.List.{AllByRecursion, filter}
 use Rattle.ospf_lsa.specs.declared.lsa.Lsa.{Lsa}
 use Rattle.ospf_lsa.specs.Types.{router_lsa, network_lsa}
 use Rattle.lsdb.specs.declared.change.Change.{Change}
 use Rattle.lsdb.specs.declared.change.Change.TheVariants.{Added, Replaced, Older, Same, Clash}
-use Rattle.lsdb.specs.Entries.{Entry, Database}
 use Rattle.lsdb.specs.Installing.{installed, IsKept}
 use Rattle.flood_core.specs.declared.router.Router.{Router}
 use Rattle.flood_core.specs.declared.update.Update.{Update}

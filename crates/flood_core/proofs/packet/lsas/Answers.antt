@@ -1,6 +1,5 @@
-use Rattle.std.proofs.Common.{◌≡◌, ◌∙◌, ◌+◌, ◌<◌, ◌^◌, Err, List, Contains, refl, sym, ap, subst, arith}
+use Rattle.std.proofs.Common.{◌≡◌, ◌+◌, ◌<◌, ◌^◌, Err, List, Contains, ap, subst, arith}
 use Rattle.ospf_lsa.specs.declared.lsa.Lsa.{Lsa}
-use Rattle.flood_core.specs.declared.error.UpdateError.{UpdateError}
 use Rattle.flood_core.specs.declared.error.UpdateError.TheVariants.{Fault}
 use Rattle.flood_core.specs.declared.error.UpdateKind.TheVariants as kinds
 use Rattle.flood_core.proofs.Refusals.{places_fit, told_of_lsa, record_within}

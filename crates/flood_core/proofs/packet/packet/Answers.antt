@@ -1,5 +1,4 @@
-use Rattle.std.proofs.Common.{◌≡◌, ◌∙◌, ◌+◌, refl, sym, ap, subst, length, arith}
-use Rattle.flood_core.specs.declared.error.UpdateError.{UpdateError}
+use Rattle.std.proofs.Common.{◌≡◌, ◌∙◌, ◌+◌, sym, ap, length}
 use Rattle.flood_core.specs.declared.error.UpdateError.TheVariants.{Fault}
 use Rattle.flood_core.specs.declared.error.UpdateKind.TheVariants as kinds
 use Rattle.std.proofs.lemmas.List.{length-map}

@@ -1,4 +1,4 @@
-use Rattle.std.proofs.Common.{◌≡◌, ◌∙◌, ℕ, List, Err, refl, sym, ap, subst, length, drop, arith}
+use Rattle.std.proofs.Common.{◌∙◌, ℕ, List, Err, ap, subst, drop, arith}
 use Rattle.std.proofs.lemmas.Result.{err_from_is_err_and}
 use Rattle.flood_core.specs.PacketFields.{length_field}
 use Rattle.flood_core.specs.Updates.{IsUpdate}

@@ -1,17 +1,17 @@
-use Rattle.std.proofs.Common.{◌≡◌, ◌≤◌, ◌<◌, ◌+◌, ◌++◌, ◌^◌, Some, length, List, refl, ℕ, set, subst, ap, arith}
+use Rattle.std.proofs.Common.{◌≡◌, ◌<◌, ◌+◌, length, refl, ℕ, set, subst, ap, arith}
 use Rattle.std.proofs.lemmas.Option.{slice_get_read}
-use Rattle.ospf_lsa.specs.declared.lsa.Lsa.{Lsa}
-use Rattle.flood_core.specs.declared.router.Router.{Router}
-use Rattle.flood_core.specs.declared.update.Update.{Update}
 use Rattle.flood_core.specs.FloodStep.{delivered}
-use Rattle.flood_core.specs.FloodState.{FloodState, IsFlood}
+use Rattle.flood_core.specs.FloodState.{FloodState}
 use Rattle.flood_core.proofs.OneDelivery.{IsDone, answer_told, few_sent, flood_kept, state_told}
 use Rattle.flood_core.proofs.flood.Flood.deliver.Goals as goal
 
 pub send_on-requires-clause-few : goal.send_on-requires-clause-few
 send_on-requires-clause-few c =
-    let state : FloodState = record { packets = c.self.inside.packets.items; routers = c.self.inside.routers.items;
-    changed = c.self.inside.changed } in
+    let state : FloodState = record {
+      packets = c.self.inside.packets.items;
+      routers = c.self.inside.routers.items;
+      changed = c.self.inside.changed;
+    } in
     let packet_there : c.args.packet < length c.self.inside.packets.items =
     omega (arith, c.if-as_slice-packet.false, ap length c.as_slice.ensures.value) in
     let router_there : c.from-2.result < length c.self.inside.routers.items =
@@ -27,13 +27,19 @@ send_on-requires-clause-few c =
       after = c.in_ok-news.ensures.after;
       sent_is = c.with_lsas-sent.ensures;
     } in
-    omega (arith, few_sent state c.args.packet c.from-2.result c.index-update.result.now c.with_lsas-sent.result
-    c.index_mut.result.now c.receive.new.self c.as_slice-3.result.now c.in_ok-news.news.items c.self.invariant done)
+    omega (
+      arith,
+      few_sent state c.args.packet c.from-2.result c.index-update.result.now c.with_lsas-sent.result
+          c.index_mut.result.now c.receive.new.self c.as_slice-3.result.now c.in_ok-news.news.items c.self.invariant done,
+    )
 
 pub invariant_of-flood : goal.invariant_of-flood
 invariant_of-flood c =
-    let state : FloodState = record { packets = c.self.inside.packets.items; routers = c.self.inside.routers.items;
-    changed = c.self.inside.changed } in
+    let state : FloodState = record {
+      packets = c.self.inside.packets.items;
+      routers = c.self.inside.routers.items;
+      changed = c.self.inside.changed;
+    } in
     let packet_there : c.args.packet < length c.self.inside.packets.items =
     omega (arith, c.if-as_slice-packet.false, ap length c.as_slice.ensures.value) in
     let router_there : c.from-2.result < length c.self.inside.routers.items =
@@ -55,8 +61,11 @@ invariant_of-flood c =
 
 pub returns-clause-answer : goal.returns-clause-answer
 returns-clause-answer c =
-    let state : FloodState = record { packets = c.self.inside.packets.items; routers = c.self.inside.routers.items;
-    changed = c.self.inside.changed } in
+    let state : FloodState = record {
+      packets = c.self.inside.packets.items;
+      routers = c.self.inside.routers.items;
+      changed = c.self.inside.changed;
+    } in
     let packet_there : c.args.packet < length c.self.inside.packets.items =
     omega (arith, c.if-as_slice-packet.false, ap length c.as_slice.ensures.value) in
     let router_there : c.from-2.result < length c.self.inside.routers.items =
@@ -79,8 +88,11 @@ returns-clause-answer c =
 
 pub returns-clause-state : goal.returns-clause-state
 returns-clause-state c =
-    let state : FloodState = record { packets = c.self.inside.packets.items; routers = c.self.inside.routers.items;
-    changed = c.self.inside.changed } in
+    let state : FloodState = record {
+      packets = c.self.inside.packets.items;
+      routers = c.self.inside.routers.items;
+      changed = c.self.inside.changed;
+    } in
     let packet_there : c.args.packet < length c.self.inside.packets.items =
     omega (arith, c.if-as_slice-packet.false, ap length c.as_slice.ensures.value) in
     let router_there : c.from-2.result < length c.self.inside.routers.items =
@@ -96,8 +108,11 @@ returns-clause-state c =
       after = c.in_ok-news.ensures.after;
       sent_is = c.with_lsas-sent.ensures;
     } in
-    subst (λ (r : ℕ). record { packets = c.send_on.new.packets.items;
-    routers = set c.self.inside.routers.items c.from-2.result c.receive.new.self; changed = c.self.inside.changed + 1 }
+    subst (λ (r : ℕ). record {
+      packets = c.send_on.new.packets.items;
+      routers = set c.self.inside.routers.items c.from-2.result c.receive.new.self;
+      changed = c.self.inside.changed + 1;
+    }
     ≡ (delivered c.args.self c.args.packet r).1) c.from-2.ensures
     (state_told state c.args.self c.args.packet c.from-2.result c.index-update.result.now c.with_lsas-sent.result
     c.index_mut.result.now c.receive.new.self c.as_slice-3.result.now c.in_ok-news.news.items
