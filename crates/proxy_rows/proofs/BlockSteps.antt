@@ -1,0 +1,374 @@
+-- By the proxy rows, from each node of the block and from its head both colors lead on by moves to the new node.
+use Rattle.std.proofs.Common.{◌≡◌, ◌≢◌, ◌⊎◌, ◌<◌, ◌+◌, ◌∙◌, ℕ, List, Option, Some, None, slice_get, length, inl, inr, refl, sym, ap, subst, arith}
+use Rattle.std.proofs.lemmas.Bool.{eq-eqb, ne_eqb}
+use Rattle.std.specs.Option.{option_and_then, option_map}
+use Rattle.mrt_graph.specs.declared.cert.Color.{Color}
+use Rattle.mrt_graph.specs.declared.cert.Color.TheVariants.{Blue, Red}
+use Rattle.mrt_graph.specs.declared.cert.Role.TheVariants as roles
+use Rattle.mrt_graph.specs.declared.cert.Row.{Row}
+use Rattle.mrt_graph.specs.declared.cert.Tag.{Tag}
+use Rattle.mrt_graph.specs.declared.cert.Tag.TheVariants as tags
+use Rattle.mrt_graph.specs.declared.link.End.{End}
+use Rattle.mrt_graph.specs.declared.link.Link.{Link}
+use Rattle.mrt_graph.specs.Certificate.{Certificate, row_of}
+use Rattle.mrt_graph.specs.FirstEnd.{IsFirstEnd}
+use Rattle.mrt_graph.specs.Hop.{Hop, color_hop, hop_over}
+use Rattle.mrt_graph.specs.Leads.{leads}
+use Rattle.mrt_graph.specs.Rows.{Rows, link_of_color}
+use Rattle.mrt_graph.specs.Topology.{Topology}
+use Rattle.mrt_graph.proofs.Blocks.{Words, Blocks, At, Inner, Top}
+use Rattle.mrt_graph.proofs.Bridge.{color_leads}
+use Rattle.mrt_graph.proofs.EndsAt.{end_leads}
+use Rattle.mrt_graph.proofs.Hops.{lead_back}
+use Rattle.mrt_graph.proofs.InBlock.{at_within}
+use Rattle.mrt_graph.proofs.ListTests.{there}
+use Rattle.mrt_graph.proofs.Moves.{Ends, Move, BlueTop, BlueBelow, BlueAbove, BlueAboveHome, BlueUnordered, BlueUnorderedIn, BlueUnorderedHome, RedTop, RedBelow, RedBelowHome, RedAbove, RedUnordered, RedUnorderedIn}
+use Rattle.proxy_rows.specs.declared.attachment.Attachment.{Attachment}
+use Rattle.proxy_rows.specs.declared.proxy_row.Out.{Out}
+use Rattle.proxy_rows.specs.declared.proxy_row.Out.TheVariants as outs
+use Rattle.proxy_rows.specs.declared.proxy_row.ProxyRow.{ProxyRow}
+use Rattle.proxy_rows.specs.declared.side.Side.TheVariants.{Low, High}
+use Rattle.proxy_rows.specs.GraphWith.{AreRowsWith, link_out, links_with, new_node}
+use Rattle.proxy_rows.specs.Ground.{IsGround}
+use Rattle.proxy_rows.specs.ProxyRows.{IsHeadBlue, Itself, ToLow, IsHeadRed, IsOnward, IsPlainToLow, IsProxyRow, OfHead, OfLow, OfHigh, OfOther, OfOutside, IsSideOut, Here, Over}
+use Rattle.proxy_rows.specs.Sides.{IsIn, IsMember, IsOfBlock}
+use Rattle.proxy_rows.proofs.Attaching.{words}
+use Rattle.proxy_rows.proofs.BlockRows.{HeadHops, head_hops, high_member, high_more, link_is, low_member, low_more, low_not_high, stays, to_high}
+use Rattle.proxy_rows.proofs.ColorMoves.{Moving, There, Onward, Passage, Step, passage}
+use Rattle.proxy_rows.proofs.Grounds.{apart, b, counts, head_is, head_no_member, is_higher, is_lower, is_member, member_at, upper_member}
+use Rattle.proxy_rows.proofs.HeadLinks.{red_link, same_as_red}
+use Rattle.proxy_rows.proofs.NewLinks.{lower_leads, old_leads, upper_leads}
+
+-- a color takes a link that leads on
+pub takes : (links : List Link) (all : Rows) (color : Color) (t s e v : ℕ) (row : Row) → all s t ≡ Some row → link_of_color color row ≡ e
+    → leads links e s ≡ Some v → color_hop links all color t s ≡ Some (record { link = e; to = v })
+takes links all color t s e v row at is onward =
+    ap (option_and_then (λ row. hop_over links s (link_of_color color row))) at
+    ∙ ap (hop_over links s) is
+    ∙ ap (option_map (λ v. record { link = e; to = v })) onward
+
+-- the tag that a proxy row has among the moves
+abbrev pub kind_of : (g : Topology) (c : Certificate) (at : Attachment) (s : ℕ) (entry : ProxyRow) → IsProxyRow g c at s entry → Tag
+kind_of g c at s _ (OfHead blue red is blue_is red_is) = tags.Top
+kind_of g c at s _ (OfLow blue row low out row_is) = tags.Below
+kind_of g c at s _ (OfHigh red row high out row_is) = tags.Above
+kind_of g c at s _ (OfOther row is not_low not_high row_is) = tags.Unordered
+kind_of g c at s _ (OfOutside entry row not_in is row_is) = tags.Carried
+
+-- a node with its proxy row, and the row's tag
+pub record Known (g : Topology) (c : Certificate) (at : Attachment) (entries : List ProxyRow) (s : ℕ) (T : Tag) : Type 0 where
+  pub entry : ProxyRow
+  pub there : slice_get entries s ≡ Some entry
+  pub row : IsProxyRow g c at s entry
+  pub tag : T ≡ kind_of g c at s entry row
+
+module _ (g : Topology) (c : Certificate) (at : Attachment) (ground : IsGround g c at) (entries : List ProxyRow)
+    (one_each : length entries ≡ length g.ids) (each : (s : ℕ) (row : ProxyRow) → slice_get entries s ≡ Some row → IsProxyRow g c at s row)
+    (all : Rows) (are : AreRowsWith g at entries all) where
+  abbrev w : Words
+  w = words g c ground.accepted
+
+  blocks : Blocks w
+  blocks = b g c at ground
+
+  abbrev links : List Link
+  links = links_with g at
+
+  abbrev next : Color → ℕ → Option Hop
+  next color s = color_hop links all color (new_node g) s
+
+  abbrev N : ℕ → Type 0
+  N s = At w at.upper s
+
+  -- each node's tag
+  tag_by : (s : ℕ) (o : Option ProxyRow) → slice_get entries s ≡ o → Tag
+  tag_by s None is = tags.Carried
+  tag_by s (Some entry) is = kind_of g c at s entry (each s entry is)
+
+  abbrev tag : ℕ → Tag
+  tag s = tag_by s (slice_get entries s) refl
+
+  known_by : (s : ℕ) → s < length entries → (o : Option ProxyRow) (is : slice_get entries s ≡ o) → Known g c at entries s (tag_by s o is)
+  unfolding tag_by
+  known_by s within None is = let entry = there entries s within in absurd (cc (entry.1, is))
+  known_by s within (Some entry) is = record { entry = entry; there = is; row = each s entry is; tag = refl }
+
+  known : (s : ℕ) → N s → Known g c at entries s (tag s)
+  known s at_s =
+      known_by s (omega (arith, at_within w blocks at.upper s (upper_member g c at ground) at_s, (counts g c at ground).nodes, one_each)) (slice_get entries s) refl
+
+  -- what is on Low, on High, the head, or another member, by its tag
+  low_is : (s : ℕ) → IsIn g.links c at Low s → tag s ≡ tags.Below
+  low_is s low = let k = known s (member_at g c at ground s (low_member g c at ground s low)) in k.tag ∙ go k.entry k.row
+    where
+      go : (entry : ProxyRow) (row : IsProxyRow g c at s entry) → kind_of g c at s entry row ≡ tags.Below
+      go _ (OfHead blue red is blue_is red_is) = absurd (head_no_member g c at ground (subst (IsMember c at) is (low_member g c at ground s low)))
+      go _ (OfLow blue row _ out row_is) = refl
+      go _ (OfHigh red row high out row_is) = absurd (low_not_high g c at ground s low high)
+      go _ (OfOther row is not_low not_high row_is) = absurd (not_low low)
+      go _ (OfOutside entry row not_in is row_is) = absurd (not_in (inl (low_member g c at ground s low)))
+
+  high_is : (s : ℕ) → IsIn g.links c at High s → tag s ≡ tags.Above
+  high_is s high = let k = known s (member_at g c at ground s (high_member g c at ground s high)) in k.tag ∙ go k.entry k.row
+    where
+      go : (entry : ProxyRow) (row : IsProxyRow g c at s entry) → kind_of g c at s entry row ≡ tags.Above
+      go _ (OfHead blue red is blue_is red_is) = absurd (head_no_member g c at ground (subst (IsMember c at) is (high_member g c at ground s high)))
+      go _ (OfLow blue row low out row_is) = absurd (low_not_high g c at ground s low high)
+      go _ (OfHigh red row _ out row_is) = refl
+      go _ (OfOther row is not_low not_high row_is) = absurd (not_high high)
+      go _ (OfOutside entry row not_in is row_is) = absurd (not_in (inl (high_member g c at ground s high)))
+
+  head_at : N at.head
+  head_at = Top (head_is g c at ground)
+
+  top_is : (s : ℕ) → s ≡ at.head → tag s ≡ tags.Top
+  top_is s same = let k = known s (subst N (sym same) head_at) in k.tag ∙ go k.entry k.row
+    where
+      no_member : IsMember c at s → ⊥
+      no_member is = head_no_member g c at ground (subst (IsMember c at) same is)
+
+      go : (entry : ProxyRow) (row : IsProxyRow g c at s entry) → kind_of g c at s entry row ≡ tags.Top
+      go _ (OfHead blue red is blue_is red_is) = refl
+      go _ (OfLow blue row low out row_is) = absurd (no_member (low_member g c at ground s low))
+      go _ (OfHigh red row high out row_is) = absurd (no_member (high_member g c at ground s high))
+      go _ (OfOther row is not_low not_high row_is) = absurd (no_member is)
+      go _ (OfOutside entry row not_in is row_is) = absurd (not_in (inr same))
+
+  -- a member is on Low, on High, or on neither
+  data Place (s : ℕ) : Type 0 where
+    OnLow : IsIn g.links c at Low s → tag s ≡ tags.Below → Place s
+    OnHigh : IsIn g.links c at High s → tag s ≡ tags.Above → Place s
+    OnNeither : tag s ≡ tags.Unordered → Place s
+
+  place : (s : ℕ) → IsMember c at s → Place s
+  place s is = let k = known s (member_at g c at ground s is) in go k.entry k.row k.tag
+    where
+      go : (entry : ProxyRow) (row : IsProxyRow g c at s entry) → tag s ≡ kind_of g c at s entry row → Place s
+      go _ (OfHead blue red same blue_is red_is) known = absurd (head_no_member g c at ground (subst (IsMember c at) same is))
+      go _ (OfLow blue row low out row_is) known = OnLow low known
+      go _ (OfHigh red row high out row_is) known = OnHigh high known
+      go _ (OfOther row _ not_low not_high row_is) known = OnNeither known
+      go _ (OfOutside entry row not_in _ row_is) known = absurd (not_in (inl is))
+
+  -- a color goes over a link of the graph, by a move
+  over : (color : Color) (s e v : ℕ) (T U : Tag) → N s → next color s ≡ Some (record { link = e; to = v }) → IsOfBlock c at e → leads g.links e s ≡ Some v
+      → tag s ≡ T → tag v ≡ U → Move color T (w.order s) U (w.order v) → Step next N tag w.order (λ _. roles.Plain) (new_node g) s color
+  over color s e v T U at_s on of onward tag_s tag_v move =
+      let at_v = stays g c at ground s e v at_s of onward in
+      let within = at_within w blocks at.upper v (upper_member g c at ground) at_v in
+      record {
+        hop = record { link = e; to = v };
+        takes = on;
+        stays = inr at_v;
+        goes = Onward (λ same. omega (arith, within, (counts g c at ground).nodes, same))
+            (subst (λ X. Move color X (w.order s) (tag v) (w.order v)) (sym tag_s) (subst (λ X. Move color T (w.order s) X (w.order v)) (sym tag_v) move));
+      }
+
+  -- a color goes over a new link to the new node
+  home : (color : Color) (s e : ℕ) (T : Tag) → next color s ≡ Some (record { link = e; to = new_node g }) → tag s ≡ T → Ends color T roles.Plain
+      → Step next N tag w.order (λ _. roles.Plain) (new_node g) s color
+  home color s e T on tag_s may = record {
+    hop = record { link = e; to = new_node g };
+    takes = on;
+    stays = inl refl;
+    goes = There refl (subst (λ X. Ends color X roles.Plain) (sym tag_s) may);
+  }
+
+  -- the links that a node's row gives for the new node
+  blue_over : (s e v : ℕ) (entry : ProxyRow) → slice_get entries s ≡ Some entry → entry.blue ≡ outs.Link e → leads g.links e s ≡ Some v
+      → next Blue s ≡ Some (record { link = e; to = v })
+  blue_over s e v entry at_s is onward =
+      let r = are s entry at_s in
+      takes links all Blue (new_node g) s e v r.row r.there (r.blue ∙ ap (link_out g at s) is) (old_leads g at e s v onward)
+
+  red_over : (s e v : ℕ) (entry : ProxyRow) → slice_get entries s ≡ Some entry → entry.red ≡ outs.Link e → leads g.links e s ≡ Some v
+      → next Red s ≡ Some (record { link = e; to = v })
+  red_over s e v entry at_s is onward =
+      let r = are s entry at_s in
+      takes links all Red (new_node g) s e v r.row r.there (r.red ∙ ap (link_out g at s) is) (old_leads g at e s v onward)
+
+  lower_out : (s : ℕ) → s ≡ at.lower → (link_out g at s outs.Attached ≡ length g.links) × (leads links (length g.links) s ≡ Some (new_node g))
+  lower_out s same = (rw (eq-eqb s at.lower same) refl, subst (λ (x : ℕ). leads links (length g.links) x ≡ Some (new_node g)) (sym same) (lower_leads g at))
+
+  upper_out : (s : ℕ) → s ≡ at.upper → (link_out g at s outs.Attached ≡ length g.links + 1) × (leads links (length g.links + 1) s ≡ Some (new_node g))
+  upper_out s same = (
+    rw (ne_eqb s at.lower (λ low. apart g c at ground (sym low ∙ same))) refl,
+    subst (λ (x : ℕ). leads links (length g.links + 1) x ≡ Some (new_node g)) (sym same) (upper_leads g at),
+  )
+
+  -- where an end leads
+  end_on : (Asked : End → Type 0) (v : ℕ) (end : End) → IsFirstEnd g Asked v end → leads g.links end.link v ≡ Some end.to
+  end_on Asked v end first = end_leads g v first.place first.ends end ground.kept first.list first.there
+
+  abbrev StepOf : Color → ℕ → Type 0
+  StepOf color s = Step next N tag w.order (λ _. roles.Plain) (new_node g) s color
+
+  -- at the head
+  head_blue : (s : ℕ) (blue red : Out) → s ≡ at.head → slice_get entries s ≡ Some (record { blue = blue; red = red }) → IsHeadBlue g c at blue → StepOf Blue s
+  head_blue s _ red same at_s (Itself low) =
+      let r = are s _ at_s in
+      let out = lower_out s (same ∙ low) in
+      home Blue s (length g.links) tags.Top
+      (takes links all Blue (new_node g) s (length g.links) (new_node g) r.row r.there (r.blue ∙ out.0) out.1) (top_is s same) tt
+  head_blue s _ red same at_s (ToLow end other first) =
+      let on : leads g.links end.link s ≡ Some end.to = subst (λ (x : ℕ). leads g.links end.link x ≡ Some end.to) (sym same) (end_on (IsPlainToLow g c at) at.head end first) in
+      over Blue s end.link end.to tags.Top tags.Below (subst N (sym same) head_at) (blue_over s end.link end.to _ at_s refl on) first.asked.of_block on
+      (top_is s same) (low_is end.to first.asked.low) (BlueTop _ _)
+
+  head_red : (s : ℕ) (blue red : Out) → s ≡ at.head → slice_get entries s ≡ Some (record { blue = blue; red = red }) → IsHeadRed c at red → StepOf Red s
+  head_red s blue red same at_s is =
+      let t = to_high g c at ground in
+      let on : leads g.links t.hop.link s ≡ Some t.hop.to = subst (λ (x : ℕ). leads g.links t.hop.link x ≡ Some t.hop.to) (sym same) t.leads_on in
+      over Red s t.hop.link t.hop.to tags.Top tags.Above (subst N (sym same) head_at) (red_over s t.hop.link t.hop.to _ at_s (red_link g c at ground red is) on) t.of on
+      (top_is s same) (high_is t.hop.to t.high) (RedTop _ _)
+
+  -- on the two sides, away from the head
+  low_blue : (s : ℕ) (blue red : Out) → IsIn g.links c at Low s → slice_get entries s ≡ Some (record { blue = blue; red = red }) → IsSideOut g c at Low s blue → StepOf Blue s
+  low_blue s _ red low at_s (Here same) =
+      let r = are s _ at_s in
+      let out = lower_out s same in
+      home Blue s (length g.links) tags.Below
+      (takes links all Blue (new_node g) s (length g.links) (new_node g) r.row r.there (r.blue ∙ out.0) out.1) (low_is s low) tt
+  low_blue s _ red low at_s (Over end other first) =
+      let on = end_on (IsOnward g c at Low s) s end first in
+      over Blue s end.link end.to tags.Below tags.Below (member_at g c at ground s (low_member g c at ground s low)) (blue_over s end.link end.to _ at_s refl on)
+      first.asked.of_block on (low_is s low) (low_is end.to first.asked.within) (BlueBelow _ _ (is_lower g c at ground s end.to first.asked.onward))
+
+  high_red : (s : ℕ) (blue red : Out) → IsIn g.links c at High s → slice_get entries s ≡ Some (record { blue = blue; red = red }) → IsSideOut g c at High s red → StepOf Red s
+  high_red s blue _ high at_s (Here same) =
+      let r = are s _ at_s in
+      let out = upper_out s same in
+      home Red s (length g.links + 1) tags.Above
+      (takes links all Red (new_node g) s (length g.links + 1) (new_node g) r.row r.there (r.red ∙ out.0) out.1) (high_is s high) tt
+  high_red s blue _ high at_s (Over end other first) =
+      let on = end_on (IsOnward g c at High s) s end first in
+      over Red s end.link end.to tags.Above tags.Above (member_at g c at ground s (high_member g c at ground s high)) (red_over s end.link end.to _ at_s refl on)
+      first.asked.of_block on (high_is s high) (high_is end.to first.asked.within) (RedAbove _ _ (is_higher g c at ground s end.to first.asked.onward))
+
+  -- the links of a member's row for the head
+  blue_link : (s : ℕ) (row : Row) (h : HeadHops g c at ground s) → row_of c s at.head ≡ Some row → outs.Link row.blue ≡ outs.Link h.blue.link
+  blue_link s row h is = ap (λ (k : ℕ). outs.Link k) (link_is g.links (row_of c) Blue at.head s row h.blue is h.blue_is)
+
+  red_link_of : (s : ℕ) (row : Row) (h : HeadHops g c at ground s) → row_of c s at.head ≡ Some row → outs.Link row.red ≡ outs.Link h.red.link
+  red_link_of s row h is = ap (λ (k : ℕ). outs.Link k) (link_is g.links (row_of c) Red at.head s row h.red is h.red_is)
+
+  -- on the two sides, towards the head
+  low_red : (s : ℕ) (blue : Out) (row : Row) → IsIn g.links c at Low s → slice_get entries s ≡ Some (record { blue = blue; red = outs.Link row.red })
+      → row_of c s at.head ≡ Some row → StepOf Red s
+  low_red s blue row low at_s is =
+      let member = low_member g c at ground s low in
+      let h = head_hops g c at ground s member in
+      let at_n = member_at g c at ground s member in
+      let on = red_over s h.red.link h.red.to _ at_s (red_link_of s row h is) h.red_leads in
+      elim h.red_goes [
+        | inl lower ↦ over Red s h.red.link h.red.to tags.Below tags.Below at_n on h.red_of h.red_leads (low_is s low)
+            (low_is h.red.to (low_more g c at ground h.red.to h.red.link s lower.0 h.red_of (lead_back g.links h.red.link s h.red.to h.red_leads) lower.1 low))
+            (RedBelow _ _ lower.1)
+        | inr top ↦ over Red s h.red.link h.red.to tags.Below tags.Top at_n on h.red_of h.red_leads (low_is s low) (top_is h.red.to top) (RedBelowHome _ _)
+      ]
+
+  high_blue : (s : ℕ) (red : Out) (row : Row) → IsIn g.links c at High s → slice_get entries s ≡ Some (record { blue = outs.Link row.blue; red = red })
+      → row_of c s at.head ≡ Some row → StepOf Blue s
+  high_blue s red row high at_s is =
+      let member = high_member g c at ground s high in
+      let h = head_hops g c at ground s member in
+      let at_n = member_at g c at ground s member in
+      let on = blue_over s h.blue.link h.blue.to _ at_s (blue_link s row h is) h.blue_leads in
+      elim h.blue_goes [
+        | inl higher ↦ over Blue s h.blue.link h.blue.to tags.Above tags.Above at_n on h.blue_of h.blue_leads (high_is s high)
+            (high_is h.blue.to (high_more g c at ground h.blue.to h.blue.link s higher.0 h.blue_of (lead_back g.links h.blue.link s h.blue.to h.blue_leads) higher.1 high))
+            (BlueAbove _ _ higher.1)
+        | inr top ↦ over Blue s h.blue.link h.blue.to tags.Above tags.Top at_n on h.blue_of h.blue_leads (high_is s high) (top_is h.blue.to top.0) (BlueAboveHome _ _)
+      ]
+
+  -- at the other members
+  other_blue : (s : ℕ) (row : Row) → IsMember c at s → ¬ IsIn g.links c at High s → tag s ≡ tags.Unordered
+      → slice_get entries s ≡ Some (record { blue = outs.Link row.red; red = outs.Link row.blue }) → row_of c s at.head ≡ Some row → StepOf Blue s
+  other_blue s row member not_high known_as at_s is =
+      let h = head_hops g c at ground s member in
+      let at_n = member_at g c at ground s member in
+      let on = blue_over s h.red.link h.red.to _ at_s (red_link_of s row h is) h.red_leads in
+      elim h.red_goes [
+        | inl lower ↦ elim (place h.red.to lower.0) [
+          | OnLow low below ↦ over Blue s h.red.link h.red.to tags.Unordered tags.Below at_n on h.red_of h.red_leads known_as below (BlueUnorderedIn _ _)
+          | OnHigh high above ↦ absurd (not_high (high_more g c at ground s h.red.link h.red.to member h.red_of h.red_leads lower.1 high))
+          | OnNeither also ↦ over Blue s h.red.link h.red.to tags.Unordered tags.Unordered at_n on h.red_of h.red_leads known_as also (BlueUnordered _ _ lower.1)
+        ]
+        | inr top ↦ over Blue s h.red.link h.red.to tags.Unordered tags.Top at_n on h.red_of h.red_leads known_as (top_is h.red.to top) (BlueUnorderedHome _ _)
+      ]
+
+  other_red : (s : ℕ) (row : Row) → IsMember c at s → ¬ IsIn g.links c at Low s → ¬ IsIn g.links c at High s → tag s ≡ tags.Unordered
+      → slice_get entries s ≡ Some (record { blue = outs.Link row.red; red = outs.Link row.blue }) → row_of c s at.head ≡ Some row → StepOf Red s
+  other_red s row member not_low not_high known_as at_s is =
+      let h = head_hops g c at ground s member in
+      let at_n = member_at g c at ground s member in
+      let on = red_over s h.blue.link h.blue.to _ at_s (blue_link s row h is) h.blue_leads in
+      elim h.blue_goes [
+        | inl higher ↦ elim (place h.blue.to higher.0) [
+          | OnLow low below ↦ absurd (not_low (low_more g c at ground s h.blue.link h.blue.to member h.blue_of h.blue_leads higher.1 low))
+          | OnHigh high above ↦ over Red s h.blue.link h.blue.to tags.Unordered tags.Above at_n on h.blue_of h.blue_leads known_as above (RedUnorderedIn _ _)
+          | OnNeither also ↦ over Red s h.blue.link h.blue.to tags.Unordered tags.Unordered at_n on h.blue_of h.blue_leads known_as also (RedUnordered _ _ higher.1)
+        ]
+        | inr top ↦
+            let t = to_high g c at ground in
+            let same = same_as_red g c at ground h.blue.link h.blue_of top.1 in
+            let down : leads g.links h.blue.link at.head ≡ Some s =
+            subst (λ (x : ℕ). leads g.links h.blue.link x ≡ Some s) top.0 (lead_back g.links h.blue.link s h.blue.to h.blue_leads) in
+            let also : leads g.links h.blue.link at.head ≡ Some t.hop.to = subst (λ (k : ℕ). leads g.links k at.head ≡ Some t.hop.to) (sym same) t.leads_on in
+            let there : t.hop.to ≡ s = cc in
+            absurd (not_high (subst (IsIn g.links c at High) there t.high))
+      ]
+
+  -- a node of the block or its head belongs to it
+  belongs : (s : ℕ) → N s → IsMember c at s ⊎ (s ≡ at.head)
+  belongs s (Inner within same) = inl (is_member g c at ground s within same)
+  belongs s (Top same) = inr (same ∙ sym (head_is g c at ground))
+
+  -- the step of each color
+  step : (color : Color) (s : ℕ) → N s → StepOf color s
+  step Blue s at_n = let k = known s at_n in go k.entry k.row k.there k.tag
+    where
+      go : (entry : ProxyRow) (row : IsProxyRow g c at s entry) → slice_get entries s ≡ Some entry → tag s ≡ kind_of g c at s entry row → StepOf Blue s
+      go _ (OfHead blue red is blue_is red_is) at_s known_as = head_blue s blue red is at_s blue_is
+      go _ (OfLow blue row low out row_is) at_s known_as = low_blue s blue (outs.Link row.red) low at_s out
+      go _ (OfHigh red row high out row_is) at_s known_as = high_blue s red row high at_s row_is
+      go _ (OfOther row is not_low not_high row_is) at_s known_as = other_blue s row is not_high known_as at_s row_is
+      go _ (OfOutside entry row not_in is row_is) at_s known_as = absurd (not_in (belongs s at_n))
+  step Red s at_n = let k = known s at_n in go k.entry k.row k.there k.tag
+    where
+      go : (entry : ProxyRow) (row : IsProxyRow g c at s entry) → slice_get entries s ≡ Some entry → tag s ≡ kind_of g c at s entry row → StepOf Red s
+      go _ (OfHead blue red is blue_is red_is) at_s known_as = head_red s blue red is at_s red_is
+      go _ (OfLow blue row low out row_is) at_s known_as = low_red s blue row low at_s row_is
+      go _ (OfHigh red row high out row_is) at_s known_as = high_red s (outs.Link row.blue) red high at_s out
+      go _ (OfOther row is not_low not_high row_is) at_s known_as = other_red s row is not_low not_high known_as at_s row_is
+      go _ (OfOutside entry row not_in is row_is) at_s known_as = absurd (not_in (belongs s at_n))
+
+  -- the node whose row is Top is the head; no row is Sole, and none is Carried
+  tag_facts : (s : ℕ) → N s → (tag s ≢ tags.Sole) × (tag s ≢ tags.Carried) × (tag s ≡ tags.Top → s ≡ at.head)
+  tag_facts s at_n = let k = known s at_n in go k.entry k.row k.tag
+    where
+      go : (entry : ProxyRow) (row : IsProxyRow g c at s entry) → tag s ≡ kind_of g c at s entry row
+          → (tag s ≢ tags.Sole) × (tag s ≢ tags.Carried) × (tag s ≡ tags.Top → s ≡ at.head)
+      go _ (OfHead blue red is blue_is red_is) known_as = (λ x. cc, λ x. cc, λ x. is)
+      go _ (OfLow blue row low out row_is) known_as = (λ x. cc, λ x. cc, λ x. absurd cc)
+      go _ (OfHigh red row high out row_is) known_as = (λ x. cc, λ x. cc, λ x. absurd cc)
+      go _ (OfOther row is not_low not_high row_is) known_as = (λ x. cc, λ x. cc, λ x. absurd cc)
+      go _ (OfOutside entry row not_in is row_is) known_as = absurd (not_in (belongs s at_n))
+
+  moving : Moving links next N tag w.order (λ _. roles.Plain) (new_node g)
+  moving = record {
+    on_links = λ color. color_leads links all color (new_node g);
+    most = blocks.most;
+    order_within = λ x at_x. blocks.order_within x (at_within w blocks at.upper x (upper_member g c at ground) at_x);
+    one_order = λ x y at_x at_y. blocks.one_order x y (at_within w blocks at.upper x (upper_member g c at ground) at_x) (at_within w blocks at.upper y (upper_member g c at ground) at_y);
+    one_top = λ x y at_x at_y x_top y_top. (tag_facts x at_x).2 x_top ∙ sym ((tag_facts y at_y).2 y_top);
+    not_sole = λ x at_x. (tag_facts x at_x).0;
+    not_carried = λ x at_x. (tag_facts x at_x).1;
+    step = λ color x at_x other. step color x at_x;
+  }
+
+  -- from each node of the block and from its head both colors arrive at the new node
+  pub from_block : (s : ℕ) → At w at.upper s → Passage next N (new_node g) s
+  from_block s at_n =
+      let within = at_within w blocks at.upper s (upper_member g c at ground) at_n in
+      passage links next N tag w.order (λ _. roles.Plain) (new_node g) moving s at_n (λ same. omega (arith, within, (counts g c at ground).nodes, same))

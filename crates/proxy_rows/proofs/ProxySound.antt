@@ -1,0 +1,301 @@
+-- With the proxy rows both colors reach the new node from each node of the graph, and share only what separates the two.
+use Rattle.std.proofs.Common.{◌≡◌, ◌≢◌, ◌<◌, ◌==◌, ◌+◌, ◌∙◌, ℕ, List, [], ◌∷◌, Option, Some, slice_get, length, inl, inr, refl, sym, ap, subst, arith, if◌then◌else◌}
+use Rattle.std.proofs.lemmas.Bool.{cases_eq, eq-eqb, ne_eqb}
+use Rattle.mrt_graph.specs.declared.cert.Color.{Color}
+use Rattle.mrt_graph.specs.declared.cert.Color.TheVariants.{Blue, Red}
+use Rattle.mrt_graph.specs.declared.cert.Row.{Row}
+use Rattle.mrt_graph.specs.declared.link.Element.{Element}
+use Rattle.mrt_graph.specs.declared.link.Element.TheVariants as elements
+use Rattle.mrt_graph.specs.declared.link.Link.{Link}
+use Rattle.mrt_graph.specs.Certificate.{Certificate, row_of}
+use Rattle.mrt_graph.specs.Hop.{Hop, color_hop}
+use Rattle.mrt_graph.specs.Leads.{leads}
+use Rattle.mrt_graph.specs.Rows.{Rows}
+use Rattle.mrt_graph.specs.Sound.{SoundFor}
+use Rattle.mrt_graph.specs.Topology.{Topology}
+use Rattle.mrt_graph.proofs.Blocks.{Words, Blocks, Member, At, Inner, Top, Below}
+use Rattle.mrt_graph.proofs.Bridge.{color_leads, sound_for}
+use Rattle.mrt_graph.proofs.Claims.{Good, Way}
+use Rattle.mrt_graph.proofs.Compose.{composed}
+use Rattle.mrt_graph.proofs.Hops.{follows_trail}
+use Rattle.mrt_graph.proofs.ListTests.{there}
+use Rattle.mrt_graph.proofs.Members.{Has}
+use Rattle.mrt_graph.proofs.RowFacts.{SameHops}
+use Rattle.mrt_graph.proofs.RowFacts as facts
+use Rattle.mrt_graph.proofs.Steps.{next_of}
+use Rattle.mrt_graph.proofs.Trails.{Follows, IsOnLinks, Parts, nodes_on}
+use Rattle.proxy_rows.specs.declared.attachment.Attachment.{Attachment}
+use Rattle.proxy_rows.specs.declared.proxy_row.Out.TheVariants as outs
+use Rattle.proxy_rows.specs.declared.proxy_row.ProxyRow.{ProxyRow}
+use Rattle.proxy_rows.specs.GraphWith.{AreRowsWith, link_out, links_with, new_node}
+use Rattle.proxy_rows.specs.Ground.{IsGround}
+use Rattle.proxy_rows.specs.ProxyRows.{BelongsTo, IsEntry, First, None as none_of_it, IsProxyRow, OfHead, OfLow, OfHigh, OfOther, OfOutside}
+use Rattle.proxy_rows.specs.Sides.{IsMember}
+use Rattle.proxy_rows.proofs.Attaching.{words}
+use Rattle.proxy_rows.proofs.BlockRows.{high_member, link_is, low_member}
+use Rattle.proxy_rows.proofs.BlockSteps.{from_block, takes}
+use Rattle.proxy_rows.proofs.Entries.{Entry, Inside, ByMember, ByHead, at_or_not, before_head, before_member, entry, head_parts, last_on, member_parts, nodes_within, outside_hops}
+use Rattle.proxy_rows.proofs.FirstVisit.{PartsBoth, on_front_too, parts_on, visit}
+use Rattle.proxy_rows.proofs.Grounds.{b, counts, head_is, head_within, lower_at, lower_within, member_at, member_block, member_within, rows, upper_member, upper_within}
+use Rattle.proxy_rows.proofs.OutsideRows.{begins, good}
+use Rattle.proxy_rows.proofs.NewLinks.{leads_within, old_leads}
+
+-- hops are followed alike where each node gives the same
+follows_alike : (next other : ℕ → Option Hop) → (t s : ℕ) (hops : List Hop) → ((x : ℕ) → next x ≡ other x) → Follows next t s hops → Follows other t s hops
+follows_alike next other t s [] same f = f
+follows_alike next other t s (hop ∷ hops) same f = (f.0, (sym (same s) ∙ f.1.0, follows_alike next other t hop.to hops same f.1.1))
+
+abbrev way_alike : (next other : ℕ → Option Hop) (t s : ℕ) → ((x : ℕ) → next x ≡ other x) → Way next t s → Way other t s
+way_alike next other t s same way = record { hops = way.hops; follows = follows_alike next other t s way.hops same way.follows; differ = way.differ }
+
+module _ (g : Topology) (c : Certificate) (at : Attachment) (ground : IsGround g c at) (entries : List ProxyRow)
+    (one_each : length entries ≡ length g.ids) (each : (s : ℕ) (row : ProxyRow) → slice_get entries s ≡ Some row → IsProxyRow g c at s row)
+    (all : Rows) (are : AreRowsWith g at entries all) where
+  abbrev w : Words
+  w = words g c ground.accepted
+
+  blocks : Blocks w
+  blocks = b g c at ground
+
+  m_member : Member w at.upper
+  m_member = upper_member g c at ground
+
+  abbrev links : List Link
+  links = links_with g at
+
+  abbrev next : Color → ℕ → Option Hop
+  next color s = color_hop links all color (new_node g) s
+
+  count_is : w.count ≡ length g.ids
+  count_is = (counts g c at ground).nodes
+
+  ends : (e u v : ℕ) → leads g.links e u ≡ Some v → v < length g.ids
+  ends e u v on = subst (λ (n : ℕ). v < n) count_is (blocks.to_within e u v on)
+
+  -- at the entry of the block
+  belongs : (s e : ℕ) → IsEntry c at s e → BelongsTo c at e
+  belongs s e (First steps _ chain is before) = is
+  belongs s e (none_of_it _ same none) = inr same
+
+  -- a node outside the block goes for the new node where it goes for the head
+  goes_for : (color : Color) (x e : ℕ) (row : Row) → x < w.count → e < w.count → x ≢ e → row_of c x e ≡ Some row
+      → (entry : ProxyRow) → slice_get entries x ≡ Some entry → entry ≡ record { blue = outs.Link row.blue; red = outs.Link row.red }
+      → next color x ≡ next_of w color e x
+  goes_for Blue x e row x_within e_within differ row_is entry at_x is =
+      let hop = begins (w.blue e) e x differ (good g c at ground x e x_within e_within differ).blue in
+      let over = link_is g.links (row_of c) Blue e x row hop.0 row_is hop.1 in
+      let on = (rows g c at ground).blue_leads e x hop.0 hop.1 in
+      let r = are x entry at_x in
+      takes links all Blue (new_node g) x hop.0.link hop.0.to r.row r.there
+      (r.blue ∙ ap (λ (p : ProxyRow). link_out g at x p.blue) is ∙ over) (old_leads g at hop.0.link x hop.0.to on) ∙ sym hop.1
+  goes_for Red x e row x_within e_within differ row_is entry at_x is =
+      let hop = begins (w.red e) e x differ (good g c at ground x e x_within e_within differ).red in
+      let over = link_is g.links (row_of c) Red e x row hop.0 row_is hop.1 in
+      let on = (rows g c at ground).red_leads e x hop.0 hop.1 in
+      let r = are x entry at_x in
+      takes links all Red (new_node g) x hop.0.link hop.0.to r.row r.there
+      (r.red ∙ ap (λ (p : ProxyRow). link_out g at x p.red) is ∙ over) (old_leads g at hop.0.link x hop.0.to on) ∙ sym hop.1
+
+  same_hops : (color : Color) (x s t : ℕ) → SameHops w x s t → next_of w color s x ≡ next_of w color t x
+  same_hops Blue x s t same = same.blue
+  same_hops Red x s t same = same.red
+
+  outside_next : (color : Color) (x : ℕ) → x < w.count → (At w at.upper x → ⊥) → next color x ≡ next_of w color (w.head at.upper) x
+  outside_next color x within out =
+      let known = there entries x (omega (arith, within, count_is, one_each)) in
+      go known.0 (each x known.0 known.1) known.1
+    where
+      no_member : IsMember c at x → ⊥
+      no_member is = out (member_at g c at ground x is)
+
+      from : (e : ℕ) (row : Row) → BelongsTo c at e → row_of c x e ≡ Some row
+          → slice_get entries x ≡ Some (record { blue = outs.Link row.blue; red = outs.Link row.red }) → next color x ≡ next_of w color (w.head at.upper) x
+      from e row (inr top) row_is at_x =
+          let is_head : e ≡ w.head at.upper = top ∙ head_is g c at ground in
+          subst (λ (v : ℕ). next color x ≡ next_of w color v x) is_head
+          (goes_for color x e row within (subst (λ (v : ℕ). v < w.count) (sym top) (head_within g c at ground)) (λ same. out (Top (same ∙ is_head))) row_is _ at_x refl)
+      from e row (inl member) row_is at_x =
+          let e_within = member_within g c at ground e member in
+          let e_same = member_block g c at ground e member in
+          goes_for color x e row within e_within (λ same. no_member (subst (IsMember c at) (sym same) member)) row_is _ at_x refl
+          ∙ same_hops color x e (w.head at.upper) (outside_hops w blocks at.upper m_member (rows g c at ground) x within out e e_within e_same)
+
+      go : (entry : ProxyRow) → IsProxyRow g c at x entry → slice_get entries x ≡ Some entry → next color x ≡ next_of w color (w.head at.upper) x
+      go _ (OfHead blue red is blue_is red_is) at_x = absurd (out (Top (is ∙ head_is g c at ground)))
+      go _ (OfLow blue row low out_is row_is) at_x = absurd (no_member (low_member g c at ground x low))
+      go _ (OfHigh red row high out_is row_is) at_x = absurd (no_member (high_member g c at ground x high))
+      go _ (OfOther row is not_low not_high row_is) at_x = absurd (no_member is)
+      go _ (OfOutside entry row not_in is row_is) at_x = from entry row (belongs x entry is) row_is at_x
+
+  -- the words of the graph with the new node, as far as the composition of two parts of a way reads them
+  abbrev with : Words
+  with = record {
+    links = links;
+    root = w.root;
+    count = 0;
+    order = w.order;
+    head = w.head;
+    block = w.block;
+    part = w.part;
+    role = w.role;
+    tag = w.tag;
+    blue = λ t s. if t == new_node g then next Blue s else w.blue t s;
+    red = λ t s. if t == new_node g then next Red s else w.red t s;
+  }
+
+  blue_new : (x : ℕ) → next Blue x ≡ with.blue (new_node g) x
+  blue_new x = rw (eq-eqb (new_node g) (new_node g) refl) refl
+
+  red_new : (x : ℕ) → next Red x ≡ with.red (new_node g) x
+  red_new x = rw (eq-eqb (new_node g) (new_node g) refl) refl
+
+  blue_old : (t : ℕ) → t ≢ new_node g → (x : ℕ) → w.blue t x ≡ with.blue t x
+  blue_old t other x = rw (ne_eqb t (new_node g) other) refl
+
+  red_old : (t : ℕ) → t ≢ new_node g → (x : ℕ) → w.red t x ≡ with.red t x
+  red_old t other x = rw (ne_eqb t (new_node g) other) refl
+
+  on_links : (color : Color) (t : ℕ) → IsOnLinks links (next_of with color t)
+  on_links Blue t s hop is = elim (cases_eq t (new_node g)) [
+    | inl new ↦ color_leads links all Blue (new_node g) s hop (blue_new s ∙ subst (λ (v : ℕ). with.blue v s ≡ Some hop) new is)
+    | inr old ↦ old_leads g at hop.link s hop.to ((rows g c at ground).blue_leads t s hop (blue_old t old s ∙ is))
+  ]
+  on_links Red t s hop is = elim (cases_eq t (new_node g)) [
+    | inl new ↦ color_leads links all Red (new_node g) s hop (red_new s ∙ subst (λ (v : ℕ). with.red v s ≡ Some hop) new is)
+    | inr old ↦ old_leads g at hop.link s hop.to ((rows g c at ground).red_leads t s hop (red_old t old s ∙ is))
+  ]
+
+  rows_with : facts.Rows with
+  rows_with = record {
+    blue_leads = on_links Blue;
+    red_leads = on_links Red;
+    near = λ s t s_within t_within differ related. absurd (omega (arith, s_within));
+    far = λ s t s_within t_within differ not_root far. absurd (omega (arith, s_within));
+    far_root = λ s s_within differ far. absurd (omega (arith, s_within));
+  }
+
+  -- what is on all walks to the two routers is on all walks to the new node
+  parts_new : (x : Element) (s : ℕ) → s < w.count → PartsBoth g at x s → Parts links x s (new_node g)
+  parts_new x s within both hops trail = elim (visit g at ends s (new_node g) (subst (λ (n : ℕ). s < n) count_is within) hops trail) [
+    | inl old ↦
+        let below = nodes_within g.links (length g.ids) ends s (new_node g) (subst (λ (n : ℕ). s < n) count_is within) hops old (new_node g)
+        (last_on g.links s (new_node g) hops old) in
+        absurd (omega (arith, below))
+    | inr front ↦ on_front_too g at x s hops both front
+  ]
+
+  -- what parts s and its way into the block does so with the new node too
+  parts_kept : (x : Element) (s e : ℕ) → s < w.count → PartsBoth g at (elements.Node e) s → Parts g.links x s e → Parts links x s e
+  parts_kept x s e within both parts hops trail = elim (visit g at ends s e (subst (λ (n : ℕ). s < n) count_is within) hops trail) [
+    | inl old ↦ parts hops old
+    | inr front ↦ on_front_too g at x s hops (record { lower = parts_on g x s e at.lower both.lower parts; upper = parts_on g x s e at.upper both.upper parts }) front
+  ]
+
+  -- from a node outside, by its way into the block
+  by_entry : (s e : ℕ) → s < w.count → e < w.count → s ≢ e → At w at.upper e → PartsBoth g at (elements.Node e) s
+      → ((color : Color) (x : ℕ) (hops : List Hop) → Follows (next_of w color e) e s hops → Has (nodes_on s hops) x → x ≢ e
+      → (x < w.count) × (next color x ≡ next_of w color e x)) → Good with s (new_node g)
+  by_entry s e s_within e_within differ e_at both alike =
+      let first = good g c at ground s e s_within e_within differ in
+      let second = from_block g c at ground entries one_each each all are e e_at in
+      let old : e ≢ new_node g = λ same. omega (arith, e_within, count_is, same) in
+      composed with rows_with s e (new_node g) (record {
+        parts = parts_new (elements.Node e) s s_within both;
+        first = record {
+          blue = way_alike (w.blue e) (with.blue e) e s (blue_old e old) first.blue;
+          red = way_alike (w.red e) (with.red e) e s (red_old e old) first.red;
+          apart = λ x between on_blue on_red. parts_kept x s e s_within both (first.apart x between on_blue on_red);
+        };
+        second = record {
+          blue = way_alike (next Blue) (with.blue (new_node g)) (new_node g) e blue_new second.blue;
+          red = way_alike (next Red) (with.red (new_node g)) (new_node g) e red_new second.red;
+          apart = λ x between on_blue on_red. absurd (second.apart x between on_blue on_red);
+        };
+        blue_same = λ x has other.
+            let a = alike Blue x first.blue.hops first.blue.follows has other in
+            (λ same. omega (arith, a.0, count_is, same), sym (blue_new x) ∙ a.1 ∙ blue_old e old x);
+        red_same = λ x has other.
+            let a = alike Red x first.red.hops first.red.follows has other in
+            (λ same. omega (arith, a.0, count_is, same), sym (red_new x) ∙ a.1 ∙ red_old e old x);
+      })
+
+  leads_of : (color : Color) (t : ℕ) → IsOnLinks g.links (next_of w color t)
+  leads_of Blue t = (rows g c at ground).blue_leads t
+  leads_of Red t = (rows g c at ground).red_leads t
+
+  -- each node on the way to the member where a node's way enters goes for the new node where it goes for that member
+  by_member : (s e y : ℕ) → s < w.count → e < w.count → w.block e ≡ w.block at.upper → Member w y → w.head y ≡ e → Below w y s
+      → (At w at.upper s → ⊥) → Good with s (new_node g)
+  by_member s e y s_within e_within e_same y_member head below out =
+      let e_at : At w at.upper e = Inner e_within e_same in
+      let differ : s ≢ e = λ same. out (subst (At w at.upper) (sym same) e_at) in
+      let lower = member_parts w blocks at.upper m_member s at.lower e y e_within e_same y_member head below (lower_at g c at ground) in
+      let upper = member_parts w blocks at.upper m_member s at.upper e y e_within e_same y_member head below (Inner (upper_within g c at ground) refl) in
+      by_entry s e s_within e_within differ e_at (record { lower = lower; upper = upper })
+      (λ color x hops follows has other.
+      let x_within = on_within color e s hops s_within follows x has in
+      let x_out : At w at.upper x → ⊥ =
+      before_member w blocks at.upper m_member (next_of w color e) (leads_of color e) s x e y hops e_within e_same y_member head below follows has other in (
+        x_within,
+        outside_next color x x_within x_out
+            ∙ sym (same_hops color x e (w.head at.upper) (outside_hops w blocks at.upper m_member (rows g c at ground) x x_within x_out e e_within e_same)),
+      ))
+    where
+      on_within : (color : Color) (t s : ℕ) (hops : List Hop) → s < w.count → Follows (next_of w color t) t s hops → (x : ℕ) → Has (nodes_on s hops) x → x < w.count
+      on_within color t s hops within follows x has =
+          nodes_within g.links w.count blocks.to_within s t within hops (follows_trail g.links (next_of w color t) (leads_of color t) t s hops follows) x has
+
+  by_head : (s : ℕ) → s < w.count → (Below w at.upper s → ⊥) → (At w at.upper s → ⊥) → Good with s (new_node g)
+  by_head s s_within none out =
+      let h = w.head at.upper in
+      let h_at : At w at.upper h = Top refl in
+      let h_within = blocks.head_within at.upper (upper_within g c at ground) in
+      let differ : s ≢ h = λ same. out (Top same) in
+      let lower = head_parts w blocks at.upper m_member s at.lower none (lower_at g c at ground) in
+      let upper = head_parts w blocks at.upper m_member s at.upper none (Inner (upper_within g c at ground) refl) in
+      by_entry s h s_within h_within differ h_at (record { lower = lower; upper = upper })
+      (λ color x hops follows has other.
+      let x_within =
+      nodes_within g.links w.count blocks.to_within s h s_within hops (follows_trail g.links (next_of w color h) (leads_of color h) h s hops follows) x has in (
+        x_within,
+        outside_next color x x_within
+            (before_head w blocks at.upper m_member (next_of w color h) (leads_of color h) s x hops none follows has other),
+      ))
+
+  -- a node of the block
+  inside : (s : ℕ) → At w at.upper s → Good with s (new_node g)
+  inside s at_s =
+      let p = from_block g c at ground entries one_each each all are s at_s in
+      record {
+        blue = way_alike (next Blue) (with.blue (new_node g)) (new_node g) s blue_new p.blue;
+        red = way_alike (next Red) (with.red (new_node g)) (new_node g) s red_new p.red;
+        apart = λ x between on_blue on_red. absurd (p.apart x between on_blue on_red);
+      }
+
+  not_at : (s : ℕ) → ((w.block s ≢ w.block at.upper) × (s ≢ w.head at.upper)) → At w at.upper s → ⊥
+  not_at s out (Inner _ same) = out.0 same
+  not_at s out (Top same) = out.1 same
+
+  outside : (s : ℕ) → s < w.count → (At w at.upper s → ⊥) → Entry w blocks at.upper m_member s → Good with s (new_node g)
+  outside s within out (Inside at_s) = absurd (out at_s)
+  outside s within out (ByMember e y e_within e_same y_member head below) = by_member s e y within e_within e_same y_member head below out
+  outside s within out (ByHead none) = by_head s within none out
+
+  good_with : (s : ℕ) → s < w.count → Good with s (new_node g)
+  good_with s within = elim (at_or_not w blocks at.upper m_member s within) [
+    | inl at_s ↦ inside s at_s
+    | inr out ↦ outside s within (not_at s out) (entry w blocks at.upper m_member s within)
+  ]
+
+  -- the rows are sound for the new node
+  pub sound : (s : ℕ) → s < length g.ids → SoundFor links (length g.ids + 1) all s (new_node g)
+  sound s within =
+      let s_within = subst (λ (n : ℕ). s < n) (sym count_is) within in
+      let all_good = good_with s s_within in
+      let below = λ (x : ℕ) (l : x < w.count). subst (λ (n : ℕ). x < n) count_is l in
+      sound_for links (length g.ids + 1) all
+      (leads_within g at ends (below at.lower (lower_within g c at ground)) (below at.upper (upper_within g c at ground)))
+      s (new_node g) (omega (arith, within))
+      (way_alike (with.blue (new_node g)) (next Blue) (new_node g) s (λ x. sym (blue_new x)) all_good.blue)
+      (way_alike (with.red (new_node g)) (next Red) (new_node g) s (λ x. sym (red_new x)) all_good.red)
+      (λ x between on_blue on_red. all_good.apart x between on_blue on_red)

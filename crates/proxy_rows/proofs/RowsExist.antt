@@ -1,0 +1,277 @@
+-- Two routers with a block in common have proxy rows.
+use Rattle.std.proofs.Common.{◌≡◌, ◌≢◌, ◌⊎◌, ◌<◌, ◌≤◌, ◌+◌, ◌-◌, ◌++◌, ◌∙◌, ℕ, zero, suc, Bool, true, false, List, [], ◌∷◌, Option, Some, None, slice_get, length, length-append, inl, inr, refl, sym, ap, subst, arith}
+use Rattle.std.proofs.lemmas.Bool.{cases_Bool, cases_eq, cases_lt, both_ways}
+use Rattle.std.proofs.lemmas.Option.{same_Some}
+use Rattle.mrt_graph.specs.declared.cert.Row.{Row}
+use Rattle.mrt_graph.specs.declared.link.End.{End}
+use Rattle.mrt_graph.specs.Certificate.{Certificate, row_of}
+use Rattle.mrt_graph.specs.CertWords.{has_role, link_block}
+use Rattle.mrt_graph.specs.FirstEnd.{IsFirstEnd}
+use Rattle.mrt_graph.specs.GraphInvariant.{IsTopology}
+use Rattle.mrt_graph.specs.Related.{are_unrelated}
+use Rattle.mrt_graph.specs.Roles.{is_plain}
+use Rattle.mrt_graph.specs.Rules.{GraphRule}
+use Rattle.mrt_graph.specs.Topology.{Topology}
+use Rattle.mrt_graph.proofs.EndsAt.{end_leads, list_of_ends}
+use Rattle.mrt_graph.proofs.ListPlaces.{pushed_at}
+use Rattle.mrt_graph.proofs.ListTests.{there}
+use Rattle.mrt_graph.proofs.RowsHold.{in_block_there}
+use Rattle.proxy_rows.specs.declared.attachment.Attachment.{Attachment}
+use Rattle.proxy_rows.specs.declared.proxy_row.Out.{Out}
+use Rattle.proxy_rows.specs.declared.proxy_row.Out.TheVariants as outs
+use Rattle.proxy_rows.specs.declared.proxy_row.ProxyRow.{ProxyRow}
+use Rattle.proxy_rows.specs.declared.side.Side.{Side}
+use Rattle.proxy_rows.specs.declared.side.Side.TheVariants.{Low, High}
+use Rattle.proxy_rows.specs.AcceptedFor.{IsAcceptedFor}
+use Rattle.proxy_rows.specs.Attachment.{IsAttachment}
+use Rattle.proxy_rows.specs.Ends.{NoneBefore}
+use Rattle.proxy_rows.specs.Ground.{IsGround}
+use Rattle.proxy_rows.specs.ProxyRows.{AreProxyRows, AreRowsOf, IsHeadBlue, Itself, ToLow, IsOnward, IsPlainToLow, IsProxyRow, OfHead, OfLow, OfHigh, OfOther, IsSideOut, Here, Over}
+use Rattle.proxy_rows.specs.Sides.{IsIn, Router, Onward, IsMember, IsOfBlock, goes_on, router_of}
+use Rattle.proxy_rows.proofs.Attaching.{are_apart, attached, attached_turned, orders_differ, words}
+use Rattle.proxy_rows.proofs.BlockRows.{high_member, low_member, to_high}
+use Rattle.proxy_rows.proofs.FirstEnds.{end_within, none_at_all, none_more}
+use Rattle.proxy_rows.proofs.Grounds.{b, counts, head_within, is_higher, is_lower, is_member, member_block}
+use Rattle.proxy_rows.proofs.HeadLinks.{head_red}
+use Rattle.proxy_rows.proofs.OutsideRows.{outside_row}
+use Rattle.proxy_rows.proofs.SideEnds.{head_end, side_end}
+
+-- something holds, or it does not
+abbrev Decided : Type 0 → Type 0
+Decided P = P ⊎ (P → ⊥)
+
+decided_true : (test : Bool) → Decided (test ≡ true)
+decided_true test = elim (cases_Bool test) [ inl holds ↦ inl holds | inr fails ↦ inr (λ holds. both_ways test fails holds) ]
+
+-- of ends, each of which has what is asked for or does not, there is a first one, or none has it
+first_or_none : (g : Topology) (Asked : End → Type 0) (v : ℕ) (ends : List End) → slice_get g.ends v ≡ Some ends
+    → ((k : ℕ) (end : End) → slice_get ends k ≡ Some end → Decided (Asked end)) → (n : ℕ) → ((end : End) × IsFirstEnd g Asked v end) ⊎ NoneBefore Asked ends n
+first_or_none g Asked v ends list decided zero = inr (λ k end less at. absurd (omega (arith, less)))
+first_or_none g Asked v ends list decided (suc n) = elim (first_or_none g Asked v ends list decided n) [
+  | inl found ↦ inl found
+  | inr before ↦ go before (slice_get ends n) refl
+]
+  where
+    go : NoneBefore Asked ends n → (o : Option End) → slice_get ends n ≡ o → ((end : End) × IsFirstEnd g Asked v end) ⊎ NoneBefore Asked ends (suc n)
+    go before None at = inr (λ k end less at_k. elim (cases_lt k n) [
+      | inl early ↦ before k end early at_k
+      | inr late ↦
+          let last : k ≡ n = omega (arith, late, less) in
+          let here : slice_get ends n ≡ Some end = subst (λ (i : ℕ). slice_get ends i ≡ Some end) last at_k in
+          let clash : ◌≡◌ {A = Option End} None (Some end) = sym at ∙ here in
+          absurd (cc)
+    ])
+    go before (Some end) at = elim (decided n end at) [
+      | inl asked ↦ inl (end, record { ends = ends; list = list; place = n; there = at; asked = asked; none_before = before })
+      | inr not_asked ↦
+          let up : n + 1 ≡ suc n = omega arith in
+          inr (subst (λ (m : ℕ). NoneBefore Asked ends m) up (none_more Asked ends n end at not_asked before))
+    ]
+
+module _ (g : Topology) (c : Certificate) (at : Attachment) (ground : IsGround g c at) where
+  count_is : length c.nodes ≡ length g.ids
+  count_is = (counts g c at ground).nodes
+
+  decided_of_block : (e : ℕ) → Decided (IsOfBlock c at e)
+  decided_of_block e = go (link_block c e) refl
+    where
+      go : (o : Option ℕ) → link_block c e ≡ o → Decided (IsOfBlock c at e)
+      go None is = inr (λ of. let clash : ◌≡◌ {A = Option ℕ} None (Some at.block) = sym is ∙ of in cc)
+      go (Some k) is = elim (cases_eq k at.block) [
+        | inl same ↦ inl (is ∙ ap (λ (x : ℕ). Some x) same)
+        | inr other ↦ inr (λ of. other (same_Some k at.block (sym is ∙ of)))
+      ]
+
+  decided_member : (s : ℕ) → s < length c.nodes → Decided (IsMember c at s)
+  decided_member s within = elim (cases_eq ((words g c ground.accepted).block s) ((words g c ground.accepted).block at.upper)) [
+    | inl same ↦ inl (is_member g c at ground s within same)
+    | inr other ↦ inr (λ is. other (member_block g c at ground s is))
+  ]
+
+  side_member : (side : Side) (s : ℕ) → IsIn g.links c at side s → IsMember c at s
+  side_member Low s is = low_member g c at ground s is
+  side_member High s is = high_member g c at ground s is
+
+  -- a number that falls where one goes on
+  rank : Side → ℕ → ℕ
+  rank Low s = (b g c at ground).most - (words g c ground.accepted).order s
+  rank High s = (words g c ground.accepted).order s
+
+  rank_falls : (side : Side) (s v : ℕ) → v < length c.nodes → goes_on c side s v ≡ true → rank side v < rank side s
+  unfolding rank
+  rank_falls Low s v within on = omega (arith, is_lower g c at ground s v on, (b g c at ground).order_within v within)
+  rank_falls High s v within on = is_higher g c at ground s v on
+
+  -- an end leads on along a side, or it does not
+  decided_onward : (side : Side) (s : ℕ) (end : End) → ((v : ℕ) → goes_on c side s v ≡ true → v ≡ end.to → Decided (IsIn g.links c at side v)) → Decided (IsOnward g c at side s end)
+  decided_onward side s end decided = elim (decided_of_block end.link) [
+    | inr not_of ↦ inr (λ asked. not_of asked.of_block)
+    | inl of ↦ elim (decided_true (goes_on c side s end.to)) [
+      | inr not_on ↦ inr (λ asked. not_on asked.onward)
+      | inl on ↦ elim (decided end.to on refl) [
+        | inr not_in ↦ inr (λ asked. not_in asked.within)
+        | inl is ↦ inl (record { of_block = of; within = is; onward = on })
+      ]
+    ]
+  ]
+
+  -- a node is on a side, or it is not
+  decided_by_end : (side : Side) (s : ℕ) → s < length g.ids → IsMember c at s → s ≢ router_of at side → (ends : List End) → slice_get g.ends s ≡ Some ends
+      → ((end : End) × IsFirstEnd g (IsOnward g c at side s) s end) ⊎ NoneBefore (IsOnward g c at side s) ends (length ends) → Decided (IsIn g.links c at side s)
+  decided_by_end side s within member other ends list (inl found) =
+      let end = found.0 in
+      let first = found.1 in
+      inl (Onward s end.link end.to member first.asked.of_block (end_leads g s first.place first.ends end ground.kept first.list first.there) first.asked.onward first.asked.within)
+  decided_by_end side s within member other ends list (inr none) =
+      inr (λ is. side_end g c at ground side s within other is (none_at_all g (IsOnward g c at side s) s (length ends) ends list (omega arith) none))
+
+  decided_in_by : (bound : ℕ) (side : Side) (s : ℕ) → s < length g.ids → rank side s < bound → Decided (IsIn g.links c at side s)
+  decided_in_by zero side s within less = absurd (omega (arith, less))
+  decided_in_by (suc bound) side s within less = elim (decided_member s (omega (arith, within, count_is))) [
+    | inr outside ↦ inr (λ is. outside (side_member side s is))
+    | inl member ↦ elim (cases_eq s (router_of at side)) [
+      | inl same ↦ inl (Router s same member)
+      | inr other ↦ go (decided_in_by bound side) member other
+    ]
+  ]
+    where
+      go : ((v : ℕ) → v < length g.ids → rank side v < bound → Decided (IsIn g.links c at side v)) → IsMember c at s → s ≢ router_of at side → Decided (IsIn g.links c at side s)
+      go ih member other =
+          let list = list_of_ends g s ground.kept within in
+          decided_by_end side s within member other list.0 list.1
+          (first_or_none g (IsOnward g c at side s) s list.0 list.1
+          (λ k end at_k.
+          let inside = end_within g c at ground s k list.0 end list.1 at_k in
+          decided_onward side s end (λ v on same.
+          let v_within : v < length c.nodes = omega (arith, inside.1, same) in
+          ih v (omega (arith, v_within, count_is)) (omega (arith, less, rank_falls side s v v_within on))))
+          (length list.0))
+
+  decided_in : (side : Side) (s : ℕ) → s < length g.ids → Decided (IsIn g.links c at side s)
+  decided_in side s within = decided_in_by (suc (rank side s)) side s within (omega arith)
+
+  -- blue at the head, and out of a node of a side
+  head_blue_there : (out : Out) × IsHeadBlue g c at out
+  head_blue_there = elim (cases_eq at.head at.lower) [
+    | inl same ↦ (outs.Attached, Itself same)
+    | inr other ↦
+        let h_within = head_within g c at ground in
+        let list = list_of_ends g at.head ground.kept (omega (arith, h_within, count_is)) in
+        go other list.0 list.1
+        (first_or_none g (IsPlainToLow g c at) at.head list.0 list.1
+        (λ k end at_k.
+        let inside = end_within g c at ground at.head k list.0 end list.1 at_k in
+        plain_decided end (omega (arith, inside.1, count_is))) (length list.0))
+  ]
+    where
+      plain_decided : (end : End) → end.to < length g.ids → Decided (IsPlainToLow g c at end)
+      plain_decided end within = elim (decided_of_block end.link) [
+        | inr not_of ↦ inr (λ asked. not_of asked.of_block)
+        | inl of ↦ elim (decided_true (has_role is_plain c end.link)) [
+          | inr not_plain ↦ inr (λ asked. not_plain asked.plain)
+          | inl plain ↦ elim (decided_in Low end.to within) [
+            | inr not_in ↦ inr (λ asked. not_in asked.low)
+            | inl is ↦ inl (record { of_block = of; plain = plain; low = is })
+          ]
+        ]
+      ]
+
+      go : at.head ≢ at.lower → (ends : List End) → slice_get g.ends at.head ≡ Some ends
+          → ((end : End) × IsFirstEnd g (IsPlainToLow g c at) at.head end) ⊎ NoneBefore (IsPlainToLow g c at) ends (length ends) → (out : Out) × IsHeadBlue g c at out
+      go other ends list (inl found) = (outs.Link found.0.link, ToLow found.0 other found.1)
+      go other ends list (inr none) = absurd (head_end g c at ground other (none_at_all g (IsPlainToLow g c at) at.head (length ends) ends list (omega arith) none))
+
+  side_out_there : (side : Side) (s : ℕ) → s < length g.ids → IsIn g.links c at side s → (out : Out) × IsSideOut g c at side s out
+  side_out_there side s within is = elim (cases_eq s (router_of at side)) [
+    | inl same ↦ (outs.Attached, Here same)
+    | inr other ↦
+        let list = list_of_ends g s ground.kept within in
+        go other list.0 list.1
+        (first_or_none g (IsOnward g c at side s) s list.0 list.1
+        (λ k end at_k.
+        let inside = end_within g c at ground s k list.0 end list.1 at_k in
+        decided_onward side s end (λ v on same. decided_in side v (omega (arith, inside.1, same, count_is)))) (length list.0))
+  ]
+    where
+      go : s ≢ router_of at side → (ends : List End) → slice_get g.ends s ≡ Some ends
+          → ((end : End) × IsFirstEnd g (IsOnward g c at side s) s end) ⊎ NoneBefore (IsOnward g c at side s) ends (length ends) → (out : Out) × IsSideOut g c at side s out
+      go other ends list (inl found) = (outs.Link found.0.link, Over found.0 other found.1)
+      go other ends list (inr none) = absurd (side_end g c at ground side s within other is (none_at_all g (IsOnward g c at side s) s (length ends) ends list (omega arith) none))
+
+  -- each node has a row
+  row_there : (s : ℕ) → s < length g.ids → (row : ProxyRow) × IsProxyRow g c at s row
+  row_there s within = elim (cases_eq s at.head) [
+    | inl top ↦
+        let blue = head_blue_there in
+        let red = outs.Link (to_high g c at ground).hop.link in
+        (record { blue = blue.0; red = red }, OfHead blue.0 red top blue.1 (head_red g c at ground))
+    | inr other ↦
+        let row =
+        in_block_there g ground.accepted.root _ ground.accepted.accepted s at.head (omega (arith, within, count_is)) (head_within g c at ground) other in
+        go other row.value row.is (decided_in Low s within) (decided_in High s within) (decided_member s (omega (arith, within, count_is)))
+  ]
+    where
+      go : s ≢ at.head → (row : Row) → row_of c s at.head ≡ Some row → Decided (IsIn g.links c at Low s) → Decided (IsIn g.links c at High s) → Decided (IsMember c at s)
+          → (row : ProxyRow) × IsProxyRow g c at s row
+      go other row is (inl low) high member =
+          let blue = side_out_there Low s within low in
+          (record { blue = blue.0; red = outs.Link row.red }, OfLow blue.0 row low blue.1 is)
+      go other row is (inr not_low) (inl high) member =
+          let red = side_out_there High s within high in
+          (record { blue = outs.Link row.blue; red = red.0 }, OfHigh red.0 row high red.1 is)
+      go other row is (inr not_low) (inr not_high) (inl member) =
+          (record { blue = outs.Link row.red; red = outs.Link row.blue }, OfOther row member not_low not_high is)
+      go other row is (inr not_low) (inr not_high) (inr outside) = (
+        record { blue = outs.Link row.blue; red = outs.Link row.red },
+        outside_row g c at ground s (omega (arith, within, count_is)) (λ belongs. elim belongs [ inl member ↦ outside member | inr top ↦ other top ]) row is,
+      )
+
+  -- and the first so many nodes have rows
+  record Firsts (n : ℕ) : Type 0 where
+    rows : List ProxyRow
+    many : length rows ≡ n
+    each : (s : ℕ) (row : ProxyRow) → slice_get rows s ≡ Some row → IsProxyRow g c at s row
+
+  firsts : (n : ℕ) → n ≤ length g.ids → Firsts n
+  firsts zero within = record { rows = []; many = refl; each = λ s row at_s. absurd (cc) }
+  firsts (suc n) within =
+      let before = firsts n (omega (arith, within)) in
+      let last = row_there n (omega (arith, within)) in
+      record {
+        rows = before.rows ++ last.0 ∷ [];
+        many = omega (arith, before.many, length-append before.rows (last.0 ∷ []));
+        each = λ s row at_s.
+            elim (pushed_at before.rows last.0 row s at_s) [
+              | inl early ↦ before.each s row early
+              | inr now ↦
+                  let here : n ≡ s = sym (now.0 ∙ before.many) in
+                  subst (IsProxyRow g c at s) now.1 (subst (λ (i : ℕ). IsProxyRow g c at i last.0) here last.1)
+            ];
+      }
+
+  pub rows_there : (rows : List ProxyRow) × AreRowsOf g c at rows
+  rows_there = let all = firsts (length g.ids) (omega arith) in (all.rows, record { one_each = all.many; each = all.each })
+
+-- two routers have an attachment, or no block in common
+attachment_there : (g : Topology) (c : Certificate) → IsAcceptedFor g c → (a b : ℕ) → a < length g.ids → b < length g.ids → a ≢ b → are_unrelated c a b ≡ false
+    → (at : Attachment) × IsAttachment c a b at
+attachment_there g c accepted a b a_within b_within differ related =
+    let same = (accepted.accepted GraphRule).counts.nodes in
+    let one = there c.nodes a (omega (arith, a_within, same)) in
+    let other = there c.nodes b (omega (arith, b_within, same)) in
+    let near : are_apart a b one.0 other.0 ≡ false = rw (one.1, other.1) at related in
+    let apart = orders_differ g c accepted a b one.0 other.0 one.1 other.1 differ in
+    elim (cases_lt one.0.order other.0.order) [
+      | inl less ↦ (_, attached g c accepted a b one.0 other.0 one.1 other.1 differ near less)
+      | inr above ↦ (_, attached_turned g c accepted a b one.0 other.0 one.1 other.1 differ near (omega (arith, above, apart)))
+    ]
+
+pub rows_or_none : (g : Topology) (c : Certificate) (a b : ℕ) → IsTopology g → IsAcceptedFor g c → a < length g.ids → b < length g.ids → a ≢ b
+    → ((rows : List ProxyRow) × AreProxyRows g c a b rows) ⊎ (are_unrelated c a b ≡ true)
+rows_or_none g c a b kept accepted a_within b_within differ = elim (cases_Bool (are_unrelated c a b)) [
+  | inl unrelated ↦ inr unrelated
+  | inr related ↦
+      let at = attachment_there g c accepted a b a_within b_within differ related in
+      let rows = rows_there g c at.0 (record { kept = kept; accepted = accepted; a = a; b = b; attached = at.1 }) in
+      inl (rows.0, record { at = at.0; attached = at.1; rows = rows.1 })
+]

@@ -1,0 +1,6 @@
+use Rattle.proxy_rows.specs.Ends.{NoneBefore}
+use Rattle.proxy_rows.specs.ProxyRows.{IsOnward}
+use Rattle.proxy_rows.proofs.ends.first_onward.Given as goal
+
+abbrev pub invariant-loop-number : goal.invariant-loop-number
+invariant-loop-number l = NoneBefore (IsOnward l.g l.c l.at l.fn.side l.fn.s) l.ends l.number

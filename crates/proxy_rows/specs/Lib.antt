@@ -1,0 +1,10 @@
+pub mod AcceptedFor
+pub mod Adds
+pub mod Attachment
+pub mod Ends
+pub mod GraphWith
+pub mod Ground
+pub mod ProxyRows
+pub mod ProxyText
+pub mod Sides
+pub mod Steps

@@ -1,0 +1,71 @@
+-- The text on a prefix that is attached to two routers.
+use Rattle.std.specs.Prelude.{◌≡◌, ◌++◌, ℕ, zero, suc, List, [], Some, codes, length, slice_get}
+use Rattle.mrt_graph.specs.declared.link.End.{End}
+use Rattle.mrt_graph.specs.declared.node_id.NodeId.{NodeId}
+use Rattle.mrt_graph.specs.Certificate.{Certificate}
+use Rattle.mrt_graph.specs.Spelling.{address_text, node_text}
+use Rattle.mrt_graph.specs.Topology.{Topology}
+use Rattle.proxy_rows.specs.declared.proxy_row.Out.{Out}
+use Rattle.proxy_rows.specs.declared.proxy_row.Out.TheVariants.{Attached, Link}
+use Rattle.proxy_rows.specs.declared.proxy_row.ProxyRow.{ProxyRow}
+use Rattle.proxy_rows.specs.ProxyRows.{AreProxyRows}
+
+-- the first line: the two routers, as they were given, and the root
+pub record IsHead (g : Topology) (a b root : ℕ) (text : List ℕ) : Type 0 where
+  pub one : NodeId
+  pub one_is : slice_get g.ids a ≡ Some one
+  pub other : NodeId
+  pub other_is : slice_get g.ids b ≡ Some other
+  pub top : NodeId
+  pub top_is : slice_get g.ids root ≡ Some top
+  pub spelled : text
+      ≡ codes "proxy " ++ node_text one ++ codes " " ++ node_text other ++ codes " root " ++ node_text top ++ codes "\n"
+
+-- the end of s on link e
+pub record IsEndOn (g : Topology) (s e : ℕ) (end : End) : Type 0 where
+  pub ends : List End
+  pub list : slice_get g.ends s ≡ Some ends
+  pub place : ℕ
+  pub there : slice_get ends place ≡ Some end
+  pub on_link : end.link ≡ e
+
+-- the hop over link e: its far node, and the link data of its end at s as an address
+pub record IsHop (g : Topology) (s e : ℕ) (text : List ℕ) : Type 0 where
+  pub end : End
+  pub end_is : IsEndOn g s e end
+  pub far : NodeId
+  pub far_is : slice_get g.ids end.to ≡ Some far
+  pub spelled : text ≡ node_text far ++ codes "/" ++ address_text end.link_data
+
+-- where s sends: that hop, or that the prefix is attached to s
+abbrev pub IsOutText : Topology → ℕ → Out → List ℕ → Type 0
+IsOutText g s (Link e) text = IsHop g s e text
+IsOutText g s Attached text = text ≡ codes "attached"
+
+-- the line on node s: where it sends on each color
+pub record IsLine (g : Topology) (entries : List ProxyRow) (s : ℕ) (text : List ℕ) : Type 0 where
+  pub id : NodeId
+  pub id_is : slice_get g.ids s ≡ Some id
+  pub row : ProxyRow
+  pub row_is : slice_get entries s ≡ Some row
+  pub blue : List ℕ
+  pub blue_is : IsOutText g s row.blue blue
+  pub red : List ℕ
+  pub red_is : IsOutText g s row.red red
+  pub spelled : text ≡ node_text id ++ codes " blue " ++ blue ++ codes " red " ++ red ++ codes "\n"
+
+-- the lines on the first so many nodes, by number, and so by ascending identifier
+abbrev pub AreLines : Topology → List ProxyRow → ℕ → List ℕ → Type 0
+AreLines g entries zero text = text ≡ []
+AreLines g entries (suc s) text =
+    (lines : List ℕ) × (line : List ℕ) × AreLines g entries s lines × IsLine g entries s line × (text ≡ lines ++ line)
+
+-- the first line, and the lines on all nodes, by the proxy rows of a and b
+pub record IsProxyText (g : Topology) (root : ℕ) (c : Certificate) (a b : ℕ) (text : List ℕ) : Type 0 where
+  pub entries : List ProxyRow
+  pub entries_are : AreProxyRows g c a b entries
+  pub head : List ℕ
+  pub head_is : IsHead g a b root head
+  pub lines : List ℕ
+  pub lines_are : AreLines g entries (length g.ids) lines
+  pub spelled : text ≡ head ++ lines
