@@ -1,1 +1,2 @@
+pub mod ProxyFiles
 pub mod RouterGraphs

@@ -24,6 +24,10 @@ mod plain_islands;
 #[cfg(test)]
 mod plain_programs;
 #[cfg(test)]
+mod proxy_islands;
+#[cfg(test)]
+mod proxying;
+#[cfg(test)]
 mod router_graphs;
 #[cfg(test)]
 mod verdicts;

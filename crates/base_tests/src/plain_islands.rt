@@ -52,7 +52,8 @@ fn rows(alloc: Global, pairs: &[(u16, u16)]) -> Result<Vec<Row>, NoMemory> {
     Ok(rows)
 }
 
-fn any_node() -> CertNode {
+/// A node of which the plain programs read nothing.
+pub fn any_node() -> CertNode {
     CertNode {
         id: NodeId {
             kind: Kind::Router,
@@ -64,7 +65,8 @@ fn any_node() -> CertNode {
     }
 }
 
-fn any_link() -> CertLink {
+/// A link of which they read nothing.
+pub fn any_link() -> CertLink {
     CertLink {
         a: NodeNo::new(0),
         b: NodeNo::new(1),
