@@ -1,73 +1,95 @@
 -- One choice after another.
-use Rattle.std.proofs.Common.{◌≡◌, ◌+◌, ◌∙◌, ◌⊎◌, ℕ, true, false, List, Option, Some, None, length, map, set, slice_get, get_or, inl, inr, refl, sym, ap, subst, arith}
+use Rattle.std.proofs.Common.{◌≡◌, ◌≤◌, ◌+◌, ◌∙◌, ◌⊎◌, ℕ, true, false, List, Option, Some, None, length, map, set, slice_get, get_or, inl, inr, refl, sym, ap, subst, arith}
 use Rattle.std.specs.Prelude.{◌↔◌}
-use Rattle.std.specs.Ordering.{is_gt, ordering_reverse}
+use Rattle.std.specs.Ordering.{is_gt, nat_cmp, ordering_reverse}
 use Rattle.std.specs.declared.cmp.Ordering.{Ordering}
 use Rattle.std.specs.declared.cmp.Ordering.TheVariants.{Less, Equal, Greater}
 use Rattle.std.proofs.lemmas.Bool.{cases_Bool, cases_lt}
 use Rattle.std.proofs.lemmas.Cmp.{nat_cmp_total, on_total, then_total, tied_itself, upto}
 use Rattle.std.proofs.lemmas.Option.{get_or_from_slice_get, same_Some, slice_get-map, slice_get_within}
 use Rattle.std.proofs.lemmas.List.{length-map}
-use Rattle.std.specs.Option.{option_map}
-use Rattle.std.specs.Cmp.{IsTotalOrder}
+use Rattle.std.specs.Option.{option_cmp, option_map}
+use Rattle.std.specs.Cmp.{IsTotalOrder, nat_cmp_is}
+use Rattle.std.specs.Cmp.Lexicographic.{options_total}
 use Rattle.mrt_graph.proofs.ListPlaces.{set_there}
+use Rattle.mrt_graph.proofs.Ties.{tie_of_equals}
 use Rattle.area_graph.specs.Parts.{AreaParts}
-use Rattle.lfa_alt.specs.declared.alternate.Choice.{Choice}
-use Rattle.lfa_alt.specs.declared.target.Target.{Target}
+use Rattle.lfa_alt.specs.declared.alternate.FreeCandidate.{FreeCandidate}
+use Rattle.lfa_alt.specs.declared.destination.Destination.{Destination}
 use Rattle.lfa_alt.specs.declared.way.Way.{Way}
 use Rattle.lfa_alt.specs.Best.{IsBest, IsOfferedBy, NoneIs, TheBest, better}
-use Rattle.lfa_alt.specs.LoopFree.{choice_cmp, rank_of, second_number}
+use Rattle.lfa_alt.specs.LoopFree.{candidate_cmp, rank_of}
 use Rattle.lfa_alt.specs.Nearer.{IsBetterBy}
-use Rattle.lfa_alt.specs.Targets.{Offers}
+use Rattle.lfa_alt.specs.Destinations.{Offers}
+use Rattle.lfa_alt.specs.Ways.{NotLater}
 
 -- the order is total
-pub choice_total : IsTotalOrder choice_cmp
-choice_total =
+pub candidate_total : IsTotalOrder candidate_cmp
+candidate_total =
     then_total
-    (then_total (then_total (on_total (λ (c : Choice). rank_of c.node) nat_cmp_total) (on_total (λ (c : Choice). c.cost) nat_cmp_total))
-    (on_total (λ (c : Choice). c.first) nat_cmp_total))
-    (on_total (λ (c : Choice). second_number c.second) nat_cmp_total)
+    (then_total (then_total (on_total (λ (c : FreeCandidate). rank_of c.node) nat_cmp_total) (on_total (λ (c : FreeCandidate). c.cost) nat_cmp_total))
+    (on_total (λ (c : FreeCandidate). c.first) nat_cmp_total))
+    (on_total (λ (c : FreeCandidate). c.second) (options_total nat_cmp_total))
+
+not_gt : (a b : ℕ) → a ≤ b → is_gt (nat_cmp a b) ≡ false
+not_gt a b low = elim (cases_lt a b) [
+  | inl below ↦ ap is_gt (sym (nat_cmp_is a b Less below))
+  | inr upto ↦ ap is_gt (tie_of_equals a b (omega (arith, low, upto)))
+]
+
+-- one that is told the same, but for no later second arc, does not come after the other
+seconds_not_after : (one other : Option ℕ) → NotLater one other → is_gt (option_cmp nat_cmp one other) ≡ false
+seconds_not_after None None low = refl
+seconds_not_after (Some one) (Some other) low = not_gt one other low
+seconds_not_after None (Some other) low = refl
+seconds_not_after (Some one) None low = absurd low
+
+pub not_after : (one other : FreeCandidate) → one.node ≡ other.node → one.cost ≡ other.cost → one.first ≡ other.first → NotLater one.second other.second
+    → is_gt (candidate_cmp one other) ≡ false
+not_after one other node cost first second =
+    rw (tie_of_equals (rank_of one.node) (rank_of other.node) (ap rank_of node), tie_of_equals one.cost other.cost cost, tie_of_equals one.first other.first first)
+    (seconds_not_after one.second other.second second)
 
 -- of two, one is not after the other
-other_way : (a b : Choice) → is_gt (choice_cmp a b) ≡ true → is_gt (choice_cmp b a) ≡ false
-other_way a b gt = go (choice_cmp a b) (choice_cmp b a) gt (choice_total.antisymm a b)
+other_way : (a b : FreeCandidate) → is_gt (candidate_cmp a b) ≡ true → is_gt (candidate_cmp b a) ≡ false
+other_way a b gt = go (candidate_cmp a b) (candidate_cmp b a) gt (candidate_total.antisymm a b)
   where
     go : (x y : Ordering) → is_gt x ≡ true → x ≡ ordering_reverse y → is_gt y ≡ false
     go x Less gt' same = refl
     go x Equal gt' same = refl
     go x Greater gt' same = let clash : false ≡ true = ap is_gt (sym same) ∙ gt' in cc
 
-itself : (a : Choice) → is_gt (choice_cmp a a) ≡ false
-itself a = ap is_gt (tied_itself choice_total a)
+itself : (a : FreeCandidate) → is_gt (candidate_cmp a a) ≡ false
+itself a = ap is_gt (tied_itself candidate_total a)
 
 -- what is as good as a choice of others is the best of all
-module _ (P Q R : Choice → Type 0) (split : (c : Choice) → R c → P c ⊎ Q c) (left : (c : Choice) → P c → R c) (right : (c : Choice) → Q c → R c) where
-  pub best_of_both : (best offered : Option Choice) → IsBest P best → ((c : Choice) → (offered ≡ Some c) ↔ Q c) → IsBest R (better best offered)
+module _ (P Q R : FreeCandidate → Type 0) (split : (c : FreeCandidate) → R c → P c ⊎ Q c) (left : (c : FreeCandidate) → P c → R c) (right : (c : FreeCandidate) → Q c → R c) where
+  pub best_of_both : (best offered : Option FreeCandidate) → IsBest P best → ((c : FreeCandidate) → (offered ≡ Some c) ↔ Q c) → IsBest R (better best offered)
   best_of_both None None (NoneIs none) exactly = NoneIs (λ c is. elim (split c is) [ inl p ↦ none c p | inr q ↦ let clash = (exactly c).1 q in cc ])
   best_of_both None (Some d) (NoneIs none) exactly = TheBest d (right d ((exactly d).0 refl)) (λ c is. elim (split c is) [
     | inl p ↦ absurd (none c p)
-    | inr q ↦ subst (λ (x : Choice). is_gt (choice_cmp d x) ≡ false) (same_Some d c ((exactly c).1 q)) (itself d)
+    | inr q ↦ subst (λ (x : FreeCandidate). is_gt (candidate_cmp d x) ≡ false) (same_Some d c ((exactly c).1 q)) (itself d)
   ])
   best_of_both (Some same) None (TheBest b p first) exactly = TheBest b (left b p) (λ c is. elim (split c is) [ inl p' ↦ first c p' | inr q ↦ let clash = (exactly c).1 q in cc ])
-  best_of_both (Some same) (Some d) (TheBest b p first) exactly = elim (cases_Bool (is_gt (choice_cmp b d))) [
+  best_of_both (Some same) (Some d) (TheBest b p first) exactly = elim (cases_Bool (is_gt (candidate_cmp b d))) [
     | inl after ↦
         let low = other_way b d after in
         rw after
         (TheBest d (right d ((exactly d).0 refl)) (λ c is. elim (split c is) [
-          | inl p' ↦ upto choice_total d b c low (first c p')
-          | inr q ↦ subst (λ (x : Choice). is_gt (choice_cmp d x) ≡ false) (same_Some d c ((exactly c).1 q)) (itself d)
+          | inl p' ↦ upto candidate_total d b c low (first c p')
+          | inr q ↦ subst (λ (x : FreeCandidate). is_gt (candidate_cmp d x) ≡ false) (same_Some d c ((exactly c).1 q)) (itself d)
         ]))
     | inr upto' ↦
         rw upto'
         (TheBest b (left b p) (λ c is. elim (split c is) [
           | inl p' ↦ first c p'
-          | inr q ↦ subst (λ (x : Choice). is_gt (choice_cmp b x) ≡ false) (same_Some d c ((exactly c).1 q)) upto'
+          | inr q ↦ subst (λ (x : FreeCandidate). is_gt (candidate_cmp b x) ≡ false) (same_Some d c ((exactly c).1 q)) upto'
         ]))
   ]
 
 -- at the place that is written
-pub better_there : (Is : Choice → Type 0) (items : List (Option Choice)) (i : ℕ) (offered made old new now : Option Choice) → slice_get items i ≡ Some old
-    → now ≡ get_or items i now → made ≡ better now offered → slice_get (set items i made) i ≡ Some new → ((choice : Choice) → (offered ≡ Some choice) ↔ Is choice)
+pub better_there : (Is : FreeCandidate → Type 0) (items : List (Option FreeCandidate)) (i : ℕ) (offered made old new now : Option FreeCandidate) → slice_get items i ≡ Some old
+    → now ≡ get_or items i now → made ≡ better now offered → slice_get (set items i made) i ≡ Some new → ((choice : FreeCandidate) → (offered ≡ Some choice) ↔ Is choice)
     → IsBetterBy Is old new
 better_there Is items i offered made old new now was read is at exactly =
     let same : now ≡ old = read ∙ get_or_from_slice_get items i old now was in
@@ -75,20 +97,20 @@ better_there Is items i offered made old new now was read is at exactly =
     record {
       offered = offered;
       exactly = exactly;
-      is = sym new_is ∙ is ∙ ap (λ (o : Option Choice). better o offered) same;
+      is = sym new_is ∙ is ∙ ap (λ (o : Option FreeCandidate). better o offered) same;
     }
 
 -- one way more
-pub one_more : (area : AreaParts) (s t n : ℕ) (entry : Option Target) (ways : List Way) (way : Way) (old new : Option Choice) → slice_get ways n ≡ Some way
+pub one_more : (area : AreaParts) (s t n : ℕ) (entry : Option Destination) (ways : List Way) (way : Way) (old new : Option FreeCandidate) → slice_get ways n ≡ Some way
     → IsBest (IsOfferedBy area s t entry ways n) old → IsBetterBy (Offers area s t entry way) old new → IsBest (IsOfferedBy area s t entry ways (n + 1)) new
 one_more area s t n entry ways way old new at best by =
-    subst (λ (o : Option Choice). IsBest (IsOfferedBy area s t entry ways (n + 1)) o) (sym by.is)
+    subst (λ (o : Option FreeCandidate). IsBest (IsOfferedBy area s t entry ways (n + 1)) o) (sym by.is)
     (best_of_both (IsOfferedBy area s t entry ways n) (Offers area s t entry way) (IsOfferedBy area s t entry ways (n + 1)) split
     (λ c is. record { number = is.number; way = is.way; low = omega (arith, is.low); there = is.there; offers = is.offers })
     (λ c offers. record { number = n; way = way; low = omega arith; there = at; offers = offers })
     old by.offered best by.exactly)
   where
-    split : (c : Choice) → IsOfferedBy area s t entry ways (n + 1) c → IsOfferedBy area s t entry ways n c ⊎ Offers area s t entry way c
+    split : (c : FreeCandidate) → IsOfferedBy area s t entry ways (n + 1) c → IsOfferedBy area s t entry ways n c ⊎ Offers area s t entry way c
     split c is = elim (cases_lt is.number n) [
       | inl early ↦ inl (record { number = is.number; way = is.way; low = early; there = is.there; offers = is.offers })
       | inr upto' ↦
@@ -98,18 +120,18 @@ one_more area s t n entry ways way old new at best by =
     ]
 
 -- none yet
-pub none_yet : (area : AreaParts) (s t : ℕ) (entry : Option Target) (ways : List Way) → IsBest (IsOfferedBy area s t entry ways 0) None
+pub none_yet : (area : AreaParts) (s t : ℕ) (entry : Option Destination) (ways : List Way) → IsBest (IsOfferedBy area s t entry ways 0) None
 none_yet area s t entry ways = NoneIs (λ c is. absurd (omega (arith, is.low)))
 
 -- at first there is no choice for any node
-abbrev nothing : Option Target → Option Choice
+abbrev nothing : Option Destination → Option FreeCandidate
 nothing _ = None
 
-pub nothing_each : (targets : List (Option Target)) → length (map nothing targets) ≡ length targets
-nothing_each targets = length-map targets nothing
+pub nothing_each : (destinations : List (Option Destination)) → length (map nothing destinations) ≡ length destinations
+nothing_each destinations = length-map destinations nothing
 
-pub nothing_there : (targets : List (Option Target)) (items : List (Option Choice)) (t : ℕ) (entry : Option Target) (choice : Option Choice) → items ≡ map nothing targets
-    → slice_get targets t ≡ Some entry → slice_get items t ≡ Some choice → None ≡ choice
-nothing_there targets items t entry choice are at is =
+pub nothing_there : (destinations : List (Option Destination)) (items : List (Option FreeCandidate)) (t : ℕ) (entry : Option Destination) (choice : Option FreeCandidate) → items ≡ map nothing destinations
+    → slice_get destinations t ≡ Some entry → slice_get items t ≡ Some choice → None ≡ choice
+nothing_there destinations items t entry choice are at is =
     same_Some None choice
-    (sym (slice_get-map nothing targets t ∙ ap (option_map nothing) at) ∙ ap (λ (xs : List (Option Choice)). slice_get xs t) (sym are) ∙ is)
+    (sym (slice_get-map nothing destinations t ∙ ap (option_map nothing) at) ∙ ap (λ (xs : List (Option FreeCandidate)). slice_get xs t) (sym are) ∙ is)

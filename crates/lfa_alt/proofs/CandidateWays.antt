@@ -1,4 +1,4 @@
--- The candidates for a destination are the ways that serve it.
+-- What leads to a neighbour for a destination are the ways that serve it.
 use Rattle.std.proofs.Common.{◌≡◌, ◌<◌, ℕ, Some, None, length, inl, inr, refl, sym, subst}
 use Rattle.std.proofs.lemmas.Bool.{cases_Bool}
 use Rattle.area_graph.specs.declared.area_types.Arc.{Arc}
@@ -11,7 +11,7 @@ use Rattle.primary_alt.proofs.AreaArcs.{arcs_between}
 use Rattle.primary_alt.proofs.ArcWalks.{arc_kept, network_by_test, no_network_by_test, to_network}
 use Rattle.primary_alt.proofs.RouterFacts.{router_alone, router_from}
 use Rattle.lfa_alt.specs.declared.way.Way.{Way}
-use Rattle.lfa_alt.specs.Candidates.{Across, Candidate, IsCandidate, Leaves, Straight}
+use Rattle.lfa_alt.specs.Candidates.{Across, Candidate, Leaves, Straight, ToNeighbour}
 use Rattle.lfa_alt.specs.Ways.{AcrossNetwork, IsWayOver, Serves, ToNetwork, ToRouter, candidate_of, way_across, way_over}
 
 -- a way that serves t, and is told so
@@ -29,7 +29,7 @@ module _ (area : AreaParts) (kept : IsArea area) (s t : ℕ) where
       router_from area.ids onward.to ((arcs_between area kept).tos second onward on.there)
       (λ net. to_network area onward kept (arc_kept area second onward kept on.there) net (subst (λ (u : ℕ). IsNetwork area.ids u) (sym on.from) network))
 
-  pub served : (number : ℕ) (way : Way) → IsWayOver area s number way → Serves way.network way.second t → IsCandidate area s t (candidate_of way)
+  pub served : (number : ℕ) (way : Way) → IsWayOver area s number way → Serves way.network way.second t → ToNeighbour area s t (candidate_of way)
   served number way (ToRouter arc leaves router) serves =
       Straight number arc leaves (inl (router_from area.ids arc.to ((arcs_between area kept).tos number arc leaves.there) router))
   served number way (ToNetwork arc leaves network) serves = Straight number arc leaves (inr serves)
@@ -40,7 +40,7 @@ module _ (area : AreaParts) (kept : IsArea area) (s t : ℕ) where
       → IsServed area s t (record { first = number; second = None; next = arc.to; bond = arc.bond; metric = arc.metric })
   straight number arc leaves router = record { way = way_over number arc None; number = number; over = ToRouter arc leaves router; serves = tt; same = refl }
 
-  pub serving : (candidate : Candidate) → IsCandidate area s t candidate → IsServed area s t candidate
+  pub serving : (candidate : Candidate) → ToNeighbour area s t candidate → IsServed area s t candidate
   serving candidate (Straight number arc leaves which) = elim (cases_Bool (is_network area.ids arc.to)) [
     | inl network ↦ elim which [
       | inl router ↦ straight number arc leaves (router_alone area.ids arc.to router)

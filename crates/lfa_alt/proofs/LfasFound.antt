@@ -1,75 +1,126 @@
 -- The loop-free alternates, by the best choice for each node.
-use Rattle.std.proofs.Common.{◌≡◌, ◌<◌, ◌∙◌, ℕ, List, Option, Some, None, length, map, slice_get, sym, ap, subst, arith}
+use Rattle.std.proofs.Common.{◌≡◌, ◌<◌, ◌+◌, ◌∙◌, ℕ, false, List, Option, Some, None, length, map, slice_get, refl, sym, ap, subst, arith}
 use Rattle.std.specs.Option.{option_map}
+use Rattle.std.specs.Ordering.{is_gt}
+use Rattle.std.specs.Prelude.{◌↔◌, IsTrue}
+use Rattle.std.proofs.lemmas.Cmp.{upto}
 use Rattle.std.proofs.lemmas.List.{length-map}
 use Rattle.std.proofs.lemmas.Option.{same_Some, slice_get-map, slice_get_within}
 use Rattle.area_graph.specs.AreaInvariant.{IsArea}
 use Rattle.area_graph.specs.Parts.{AreaParts}
+use Rattle.primary_alt.specs.Distance.{IsDistance}
 use Rattle.mrt_graph.proofs.ListPlaces.{contains_at, place_of}
 use Rattle.mrt_graph.proofs.ListTests.{there}
-use Rattle.lfa_alt.specs.declared.alternate.Choice.{Choice}
+use Rattle.lfa_alt.specs.declared.alternate.FreeCandidate.{FreeCandidate}
 use Rattle.lfa_alt.specs.declared.alternate.Lfa.{Lfa}
-use Rattle.lfa_alt.specs.declared.target.Target.{Target}
+use Rattle.lfa_alt.specs.declared.destination.Destination.{Destination}
 use Rattle.lfa_alt.specs.declared.way.Way.{Way}
 use Rattle.lfa_alt.specs.Best.{AreBest, IsBest, IsOfferedBy, NoneIs, TheBest}
 use Rattle.lfa_alt.specs.Candidates.{Candidate}
-use Rattle.lfa_alt.specs.LoopFree.{AreLfas, IsLfa, IsLoopFree, IsLoopFreeBy, NoPrimary, NoneIsLoopFree, TheFirst, lfa_of}
-use Rattle.lfa_alt.specs.Targets.{AreTargets, IsTarget, IsTargetFor}
-use Rattle.lfa_alt.specs.Ways.{AreWays}
+use Rattle.lfa_alt.specs.LoopFree.{AreLfas, IsLfa, IsLoopFree, NoPrimary, NoneIsLoopFree, Protects, TheFirst, alternate_of, candidate_cmp}
+use Rattle.lfa_alt.specs.Destinations.{AreDestinations, IsDestination, IsDestinationFor}
+use Rattle.lfa_alt.specs.Ways.{AreWays, NotLater, Serves}
+use Rattle.lfa_alt.proofs.Bettering.{candidate_total, not_after}
 use Rattle.lfa_alt.proofs.Beyond.{part_of}
 use Rattle.lfa_alt.proofs.CandidateWays.{leads_within, served, serving}
+
+-- the one serves what the other one serves
+serves_alike : (network network' second second' : Option ℕ) (t : ℕ) → network ≡ network' → NotLater second second' → Serves network' second' t → Serves network second t
+serves_alike network network' second second' t same low serves = subst (λ (o : Option ℕ). Serves o second t) (sym same) (go network' second second' low serves)
+  where
+    go : (network second second' : Option ℕ) → NotLater second second' → Serves network second' t → Serves network second t
+    go None second second' low serves = tt
+    go (Some network) None None low serves = serves
+    go (Some network) (Some second) (Some second') low serves = serves
+    go (Some network) None (Some second') low serves = absurd low
+    go (Some network) (Some second) None low serves = absurd low
 
 module _ (area : AreaParts) (kept : IsArea area) (s : ℕ) (ways : List Way) (are : AreWays area s ways) where
   pub ways_within : (number : ℕ) (way : Way) → slice_get ways number ≡ Some way → way.next < length area.ids
   ways_within number way at = let is = are.only way (contains_at ways number way at) in leads_within area kept s 0 is.0 way is.1
 
-  module _ (t : ℕ) (target : Target) where
+  module _ (t : ℕ) (destination : Destination) where
     -- what a way offers is loop-free
-    free_by : (choice : Choice) → IsOfferedBy area s t (Some target) ways (length ways) choice → IsLoopFree area s t target.primary choice
+    free_by : (choice : FreeCandidate) → IsOfferedBy area s t (Some destination) ways (length ways) choice → IsLoopFree area s t destination.primary choice
     free_by choice is =
         let over = are.only is.way (contains_at ways is.number is.way is.there) in
-        record { candidate = _; is = served area kept s t over.0 is.way over.1 is.offers.0; loop_free = is.offers.1 }
+        record { candidate = _; is = record { leads = served area kept s t over.0 is.way over.1 is.offers.0; other_bond = is.offers.1 }; loop_free = is.offers.2 }
 
-    -- and what is loop-free a way offers
-    offered_by : (choice : Choice) → IsLoopFree area s t target.primary choice → IsOfferedBy area s t (Some target) ways (length ways) choice
+    -- and where something is loop-free, a way offers what does not come after it
+    record IsPreceded (choice : FreeCandidate) : Type 0 where
+      offer : FreeCandidate
+      is : IsOfferedBy area s t (Some destination) ways (length ways) offer
+      upto : is_gt (candidate_cmp offer choice) ≡ false
+
+    offered_by : (choice : FreeCandidate) → IsLoopFree area s t destination.primary choice → IsPreceded choice
     offered_by choice is =
-        let by = serving area kept s t is.candidate is.is in
-        let at = place_of ways by.way (are.all by.number by.way by.over) in
+        let by = serving area kept s t is.candidate is.is.leads in
+        let has = are.all by.number by.way by.over in
+        let way = has.way in
+        let at = place_of ways way has.there in
+        let first : way.first ≡ is.candidate.first = has.stands.first ∙ ap (λ (c : Candidate). c.first) by.same in
+        let second : by.way.second ≡ is.candidate.second = ap (λ (c : Candidate). c.second) by.same in
+        let next : way.next ≡ is.candidate.next = has.stands.next ∙ ap (λ (c : Candidate). c.next) by.same in
+        let bond : way.bond ≡ is.candidate.bond = has.stands.bond ∙ ap (λ (c : Candidate). c.bond) by.same in
+        let metric : way.metric ≡ is.candidate.metric = has.stands.metric ∙ ap (λ (c : Candidate). c.metric) by.same in
+        let free = is.loop_free in
         record {
-          number = at.0;
-          way = by.way;
-          low = slice_get_within ways at.0 by.way at.1;
-          there = at.1;
-          offers = (by.serves, subst (λ (c : Candidate). IsLoopFreeBy area s t target.primary c choice) (sym by.same) is.loop_free);
+          offer = record { first = way.first; second = way.second; next = way.next; node = choice.node; cost = choice.cost };
+          is = record {
+            number = at.0;
+            way = way;
+            low = slice_get_within ways at.0 way at.1;
+            there = at.1;
+            offers = (
+              serves_alike way.network by.way.network way.second by.way.second t has.stands.network has.stands.second by.serves,
+              record { arc = is.is.other_bond.arc; there = is.is.other_bond.there; other = λ same. is.is.other_bond.other (sym bond ∙ same) },
+              record {
+                loop_free = record {
+                  rest = free.loop_free.rest;
+                  near = subst (λ (n : ℕ). IsDistance area.arcs n t free.loop_free.rest) (sym next) free.loop_free.near;
+                  less = λ out back to from. free.loop_free.less out back (subst (λ (n : ℕ). IsDistance area.arcs n s out) next to) from;
+                };
+                first = refl;
+                second = refl;
+                next = refl;
+                node = subst (λ (n : ℕ). IsTrue choice.node ↔ Protects area.arcs t destination.primary n) (sym next) free.node;
+                cost = free.cost ∙ ap (λ (m : ℕ). m + free.loop_free.rest) (sym metric);
+              },
+            );
+          };
+          upto = not_after (record { first = way.first; second = way.second; next = way.next; node = choice.node; cost = choice.cost }) choice refl refl (first ∙ sym free.first)
+              (subst (λ (o : Option ℕ). NotLater way.second o) (second ∙ sym free.second) has.stands.second);
         }
 
-    pub best_free : IsTarget area s t target → (best : Option Choice) → IsBest (IsOfferedBy area s t (Some target) ways (length ways)) best → IsLfa area s t (option_map lfa_of best)
-    best_free is None (NoneIs none) = NoneIsLoopFree target.primary is.primary (λ choice free. none choice (offered_by choice free))
+    pub best_free : IsDestination area s t destination → (best : Option FreeCandidate) → IsBest (IsOfferedBy area s t (Some destination) ways (length ways)) best
+        → IsLfa area s t (option_map alternate_of best)
+    best_free is None (NoneIs none) = NoneIsLoopFree destination.primary is.primary (λ choice free. let by = offered_by choice free in none by.offer by.is)
     best_free is (Some same) (TheBest choice offered first) =
-        TheFirst target.primary choice is.primary (free_by choice offered) (λ other free. first other (offered_by other free))
+        TheFirst destination.primary choice is.primary (free_by choice offered)
+        (λ other free. let by = offered_by other free in upto candidate_total choice by.offer other (first by.offer by.is) by.upto)
 
-  best_for : (t : ℕ) (entry : Option Target) → IsTargetFor area s t entry → (best : Option Choice) → IsBest (IsOfferedBy area s t entry ways (length ways)) best
-      → IsLfa area s t (option_map lfa_of best)
+  best_for : (t : ℕ) (entry : Option Destination) → IsDestinationFor area s t entry → (best : Option FreeCandidate) → IsBest (IsOfferedBy area s t entry ways (length ways)) best
+      → IsLfa area s t (option_map alternate_of best)
   best_for t None is None (NoneIs none) = NoPrimary is
   best_for t None is (Some same) (TheBest choice offered first) = absurd offered.offers
-  best_for t (Some target) is best by = best_free t target is best by
+  best_for t (Some destination) is best by = best_free t destination is best by
 
-  pub are_lfas : (targets : List (Option Target)) (best : List (Option Choice)) (entries : List (Option Lfa)) → AreTargets area s targets
-      → AreBest area s targets ways (length ways) best → entries ≡ map (option_map lfa_of) best → AreLfas area s entries
-  are_lfas targets best entries all first told = record {
-    one_each = ap length told ∙ length-map best (option_map lfa_of) ∙ first.one_each ∙ all.one_each;
+  pub are_lfas : (destinations : List (Option Destination)) (best : List (Option FreeCandidate)) (entries : List (Option Lfa)) → AreDestinations area s destinations
+      → AreBest area s destinations ways (length ways) best → entries ≡ map (option_map alternate_of) best → AreLfas area s entries
+  are_lfas destinations best entries all first told = record {
+    one_each = ap length told ∙ length-map best (option_map alternate_of) ∙ first.one_each ∙ all.one_each;
     each = λ t entry at.
         let read = ap (λ (xs : List (Option Lfa)). slice_get xs t) (sym told) ∙ at in
-        let low : t < length best = omega (arith, slice_get_within entries t entry at, ap length told, length-map best (option_map lfa_of)) in
+        let low : t < length best = omega (arith, slice_get_within entries t entry at, ap length told, length-map best (option_map alternate_of)) in
         let choice = there best t low in
-        let target = there targets t (omega (arith, low, first.one_each)) in
-        let same : option_map lfa_of choice.0 ≡ entry =
-        same_Some (option_map lfa_of choice.0) entry (sym (slice_get-map (option_map lfa_of) best t ∙ ap (option_map (option_map lfa_of)) choice.1) ∙ read) in
-        subst (λ (e : Option Lfa). IsLfa area s t e) same (best_for t target.0 (all.each t target.0 target.1) choice.0 (first.each t target.0 choice.0 target.1 choice.1));
+        let destination = there destinations t (omega (arith, low, first.one_each)) in
+        let same : option_map alternate_of choice.0 ≡ entry =
+        same_Some (option_map alternate_of choice.0) entry (sym (slice_get-map (option_map alternate_of) best t ∙ ap (option_map (option_map alternate_of)) choice.1) ∙ read) in
+        subst (λ (e : Option Lfa). IsLfa area s t e) same (best_for t destination.0 (all.each t destination.0 destination.1) choice.0 (first.each t destination.0 choice.0 destination.1 choice.1));
   }
 
-pub throughs : (area : AreaParts) → IsArea area → (s : ℕ) (targets : List (Option Target)) → AreTargets area s targets → (t : ℕ) (target : Target)
-    → slice_get targets t ≡ Some (Some target) → target.primary.next < length area.ids
-throughs area kept s targets all t target at =
-    let is : IsTarget area s t target = all.each t (Some target) at in
-    (part_of area kept s t target.primary is.primary).next
+pub throughs : (area : AreaParts) → IsArea area → (s : ℕ) (destinations : List (Option Destination)) → AreDestinations area s destinations → (t : ℕ) (destination : Destination)
+    → slice_get destinations t ≡ Some (Some destination) → destination.primary.next < length area.ids
+throughs area kept s destinations all t destination at =
+    let is : IsDestination area s t destination = all.each t (Some destination) at in
+    (part_of area kept s t destination.primary is.primary).next

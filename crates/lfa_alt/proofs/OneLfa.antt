@@ -1,5 +1,6 @@
 -- A router has one answer for each node.
-use Rattle.std.proofs.Common.{◌≡◌, ◌∙◌, ℕ, Bool, true, false, Option, Some, None, slice_get, refl, sym, ap, subst, arith}
+use Rattle.std.proofs.Common.{◌≡◌, ◌∙◌, ℕ, Bool, true, false, Option, Some, None, slice_get, refl, sym, ap, subst}
+use Rattle.std.specs.Option.{option_cmp}
 use Rattle.std.specs.Ordering.{is_gt, nat_cmp, ordering_reverse}
 use Rattle.std.specs.declared.cmp.Ordering.{Ordering}
 use Rattle.std.specs.declared.cmp.Ordering.TheVariants.{Less, Equal, Greater}
@@ -10,15 +11,15 @@ use Rattle.area_graph.specs.Parts.{AreaParts}
 use Rattle.mrt_graph.proofs.Ties.{then_tie}
 use Rattle.primary_alt.specs.declared.shortest.Primary.{Primary}
 use Rattle.primary_alt.proofs.PrimariesLead.{one_entry}
-use Rattle.lfa_alt.specs.declared.alternate.Choice.{Choice}
+use Rattle.lfa_alt.specs.declared.alternate.FreeCandidate.{FreeCandidate}
 use Rattle.lfa_alt.specs.declared.alternate.Lfa.{Lfa}
-use Rattle.lfa_alt.specs.Candidates.{Across, Candidate, IsCandidate, Straight}
-use Rattle.lfa_alt.specs.LoopFree.{IsFirstOf, IsLfa, IsLoopFree, NoPrimary, NoneIsLoopFree, TheFirst, choice_cmp, lfa_of, rank_of, second_number}
-use Rattle.lfa_alt.proofs.Bettering.{choice_total}
+use Rattle.lfa_alt.specs.Candidates.{Across, Candidate, Straight, ToNeighbour}
+use Rattle.lfa_alt.specs.LoopFree.{IsFirstOf, IsLfa, IsLoopFree, NoPrimary, NoneIsLoopFree, TheFirst, candidate_cmp, alternate_of, rank_of}
+use Rattle.lfa_alt.proofs.Bettering.{candidate_total}
 use Rattle.lfa_alt.proofs.Chosen.{its_primary}
 
 -- the arcs of a candidate tell where it leads
-same_next : (area : AreaParts) (s t : ℕ) (one other : Candidate) → IsCandidate area s t one → IsCandidate area s t other → one.first ≡ other.first → one.second ≡ other.second
+same_next : (area : AreaParts) (s t : ℕ) (one other : Candidate) → ToNeighbour area s t one → ToNeighbour area s t other → one.first ≡ other.first → one.second ≡ other.second
     → one.next ≡ other.next
 same_next area s t one other (Straight n arc leaves which) (Straight n' arc' leaves' which') first second =
     ap (λ (a : Arc). a.to) (same_Some arc arc' (sym leaves.there ∙ ap (λ (k : ℕ). slice_get area.arcs k) first ∙ leaves'.there))
@@ -30,8 +31,8 @@ same_next area s t one other (Across n k arc onward leaves leads on router furth
     ap (λ (a : Arc). a.to) (same_Some onward onward' (sym on.there ∙ ap (λ (i : ℕ). slice_get area.arcs i) (same_Some k k' second) ∙ on'.there))
 
 -- neither of two comes before the other: they come together
-together : (one other : Choice) → is_gt (choice_cmp one other) ≡ false → is_gt (choice_cmp other one) ≡ false → choice_cmp one other ≡ Equal
-together one other up down = go (choice_cmp one other) (choice_cmp other one) up down (choice_total.antisymm one other)
+together : (one other : FreeCandidate) → is_gt (candidate_cmp one other) ≡ false → is_gt (candidate_cmp other one) ≡ false → candidate_cmp one other ≡ Equal
+together one other up down = go (candidate_cmp one other) (candidate_cmp other one) up down (candidate_total.antisymm one other)
   where
     go : (x y : Ordering) → is_gt x ≡ false → is_gt y ≡ false → x ≡ ordering_reverse y → x ≡ Equal
     go x Less up down same = let clash : true ≡ false = ap is_gt (sym same) ∙ up in cc
@@ -47,15 +48,15 @@ equal_ranks false false same = refl
 equal_ranks true false same = cc
 equal_ranks false true same = cc
 
-equal_seconds : (a b : Option ℕ) → second_number a ≡ second_number b → a ≡ b
+equal_seconds : (a b : Option ℕ) → option_cmp nat_cmp a b ≡ Equal → a ≡ b
 equal_seconds None None same = refl
-equal_seconds (Some a) (Some b) same = ap (λ (n : ℕ). Some n) (omega (arith, same))
-equal_seconds None (Some b) same = absurd (omega (arith, same))
-equal_seconds (Some a) None same = absurd (omega (arith, same))
+equal_seconds (Some a) (Some b) same = ap (λ (n : ℕ). Some n) (equal_numbers a b same)
+equal_seconds None (Some b) same = cc
+equal_seconds (Some a) None same = cc
 
 -- two that come first are one
-same_lfa : (area : AreaParts) (s t : ℕ) (primary primary' : Primary) (one other : Choice) → primary ≡ primary' → IsLoopFree area s t primary one → IsLoopFree area s t primary' other
-    → IsFirstOf (IsLoopFree area s t primary) one → IsFirstOf (IsLoopFree area s t primary') other → lfa_of one ≡ lfa_of other
+same_lfa : (area : AreaParts) (s t : ℕ) (primary primary' : Primary) (one other : FreeCandidate) → primary ≡ primary' → IsLoopFree area s t primary one → IsLoopFree area s t primary' other
+    → IsFirstOf (IsLoopFree area s t primary) one → IsFirstOf (IsLoopFree area s t primary') other → alternate_of one ≡ alternate_of other
 same_lfa area s t primary primary' one other prim free free' first first' =
     let up = first other (subst (λ (p : Primary). IsLoopFree area s t p other) (sym prim) free') in
     let down = first' one (subst (λ (p : Primary). IsLoopFree area s t p one) prim free) in
@@ -64,10 +65,10 @@ same_lfa area s t primary primary' one other prim free free' first first' =
     let tie'' = then_tie _ _ tie'.0 in
     let node : one.node ≡ other.node = equal_ranks one.node other.node (equal_numbers (rank_of one.node) (rank_of other.node) tie''.0) in
     let number : one.first ≡ other.first = equal_numbers one.first other.first tie'.1 in
-    let second : one.second ≡ other.second = equal_seconds one.second other.second (equal_numbers (second_number one.second) (second_number other.second) tie.1) in
+    let second : one.second ≡ other.second = equal_seconds one.second other.second tie.1 in
     let next : one.next ≡ other.next =
     free.loop_free.next
-    ∙ same_next area s t free.candidate free'.candidate free.is free'.is (sym free.loop_free.first ∙ number ∙ free'.loop_free.first) (sym free.loop_free.second ∙ second ∙ free'.loop_free.second)
+    ∙ same_next area s t free.candidate free'.candidate free.is.leads free'.is.leads (sym free.loop_free.first ∙ number ∙ free'.loop_free.first) (sym free.loop_free.second ∙ second ∙ free'.loop_free.second)
     ∙ sym free'.loop_free.next in
     rw (number, second, next, node) refl
 

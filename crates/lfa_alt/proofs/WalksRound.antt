@@ -26,7 +26,7 @@ module _ (area : AreaParts) (kept : IsArea area) (s t : ℕ) (router : IsRouter 
   next_is = sym by.free.loop_free.next ∙ ap (λ (l : Lfa). l.next) by.same
 
   at : IsAt area kept t lfa.next
-  at = subst (λ (v : ℕ). IsAt area kept t v) next_is (next_at area kept s t by.free.candidate by.free.is)
+  at = subst (λ (v : ℕ). IsAt area kept t v) next_is (next_at area kept s t by.free.candidate by.free.is.leads)
 
   pub arrives : (hops : List (List Arc)) × HopWalk area.arcs entries t lfa.next hops
   arrives =
@@ -43,7 +43,7 @@ module _ (area : AreaParts) (kept : IsArea area) (s t : ℕ) (router : IsRouter 
   not_source hops walk meets =
       let best = shortest hops walk in
       let part = part_of area kept s t by.primary by.is in
-      goes_round area kept (arcs_of hops) by.free.candidate.next s t _ (next_within area kept s t by.free.candidate by.free.is) (router_within area.ids s router) part.near
+      goes_round area kept (arcs_of hops) by.free.candidate.next s t _ (next_within area kept s t by.free.candidate by.free.is.leads) (router_within area.ids s router) part.near
       by.free.loop_free.loop_free best.leads best.least (subst (λ (v : ℕ). Meets v (arcs_of hops) s) (sym next_is) meets)
 
   pub not_bond : (hops : List (List Arc)) → HopWalk area.arcs entries t lfa.next hops → (own : List Arc) → AreHopArcs area.arcs lfa.first lfa.second own
@@ -52,11 +52,11 @@ module _ (area : AreaParts) (kept : IsArea area) (s t : ℕ) (router : IsRouter 
       let one : primary ≡ by.primary = its_primary area s t primary by.primary prim by.is in
       let part = part_of area kept s t primary prim in
       let from : arc.tail ≡ s = ap (λ (a : Arc). a.tail) (same_Some arc part.arc (sym there ∙ part.there)) ∙ part.from in
-      let bond = by.free.loop_free.other_bond in
+      let bond = by.free.is.other_bond in
       let base : bond.arc ≡ arc = same_Some bond.arc arc (sym bond.there ∙ ap (λ (p : Primary). slice_get area.arcs p.first) (sym one) ∙ there) in
       elim (uses_either own (arcs_of hops) arc.bond uses) [
         | inl first ↦
-            own_bonds area kept s t router primary.first arc there from by.free.candidate by.free.is (λ same. bond.other (same ∙ ap (λ (a : Arc). a.bond) (sym base)))
+            own_bonds area kept s t router primary.first arc there from by.free.candidate by.free.is.leads (λ same. bond.other (same ∙ ap (λ (a : Arc). a.bond) (sym base)))
             lfa.first lfa.second own arcs (ap (λ (l : Lfa). l.first) (sym by.same) ∙ by.free.loop_free.first) (ap (λ (l : Lfa). l.second) (sym by.same) ∙ by.free.loop_free.second) first
         | inr later ↦ not_source hops walk (uses_meets area kept (arcs_of hops) lfa.next t primary.first s arc there from (leads hops walk) later)
       ]
@@ -68,6 +68,6 @@ module _ (area : AreaParts) (kept : IsArea area) (s t : ℕ) (router : IsRouter 
       let best = shortest hops walk in
       let part = part_of area kept s t by.primary by.is in
       let protects = by.free.loop_free.node.0 (ap (λ (l : Lfa). l.node) by.same ∙ holds) in
-      goes_round area kept (arcs_of hops) by.free.candidate.next by.primary.next t part.rest (next_within area kept s t by.free.candidate by.free.is) part.next part.far
+      goes_round area kept (arcs_of hops) by.free.candidate.next by.primary.next t part.rest (next_within area kept s t by.free.candidate by.free.is.leads) part.next part.far
       protects.nearer best.leads best.least
       (subst (λ (v : ℕ). Meets v (arcs_of hops) by.primary.next) (sym next_is) (subst (λ (p : Primary). Meets lfa.next (arcs_of hops) p.next) one meets))

@@ -1,91 +1,123 @@
 -- The ways of a router, one arc after another.
-use Rattle.std.proofs.Common.{◌≡◌, ◌≢◌, ◌<◌, ◌≤◌, ◌+◌, ◌∙◌, ◌⊎◌, ◌++◌, ℕ, List, [], ◌∷◌, Some, None, length, slice_get, inl, inr, sym, ap, subst, arith}
+use Rattle.std.proofs.Common.{◌≡◌, ◌≢◌, ◌<◌, ◌≤◌, ◌+◌, ◌∙◌, ◌⊎◌, ◌++◌, ℕ, List, [], ◌∷◌, Option, Some, None, length, slice_get, inl, inr, refl, sym, ap, subst, arith}
 use Rattle.std.specs.Prelude.{◌↔◌, Contains, IsPermutation}
 use Rattle.std.proofs.lemmas.Bool.{cases_lt}
 use Rattle.std.proofs.lemmas.List.Elements.{Contains-append_cases, Contains-append_left, Contains-append_right}
 use Rattle.std.proofs.lemmas.List.Sorted.{Contains-permutation, IsPermutation-sym}
 use Rattle.std.proofs.lemmas.Option.{same_Some, slice_get_within}
 use Rattle.area_graph.specs.declared.area_types.Arc.{Arc}
+use Rattle.area_graph.specs.AreaInvariant.{IsArea}
 use Rattle.area_graph.specs.Parts.{AreaParts}
 use Rattle.mrt_graph.specs.GraphInvariant.{IsNetwork}
 use Rattle.mrt_graph.proofs.Members.{contains_cases, contains_first, contains_none}
+use Rattle.primary_alt.proofs.ArcWalks.{arc_kept}
 use Rattle.lfa_alt.specs.declared.way.Way.{Way}
 use Rattle.lfa_alt.specs.Candidates.{Leaves}
-use Rattle.lfa_alt.specs.Ways.{AcrossNetwork, AreWays, IsAcrossTo, IsWayOver, ToNetwork, ToRouter, way_across, way_over}
-
--- these ways and no others
-abbrev pub Are : List Way → (Way → Type 0) → Type 0
-Are ways Is = (way : Way) → Contains ways way ↔ Is way
+use Rattle.lfa_alt.specs.Ways.{AcrossNetwork, AddsAcross, AddsOver, AreWays, HasAcross, HasFor, IsAcrossTo, IsAgain, IsWayOver, LeadsOn, NotLater, StandsFor, ToNetwork, ToRouter, way_across, way_over}
 
 -- one way more
-pub pushed : (ways : List Way) (made : Way) (Is : Way → Type 0) → Are ways Is → Are (ways ++ made ∷ []) (λ way. Is way ⊎ (way ≡ made))
-pushed ways made Is are = λ way. (
-  λ has. elim (Contains-append_cases ways (made ∷ []) way has) [
-    | inl old ↦ inl ((are way).0 old)
-    | inr new ↦ elim (contains_cases made way [] new) [ inl same ↦ inr same | inr none ↦ absurd (contains_none way none) ]
-  ],
-  λ is. elim is [
-    | inl old ↦ Contains-append_left ways (made ∷ []) way ((are way).1 old)
-    | inr same ↦ subst (λ (w : Way). Contains (ways ++ made ∷ []) w) (sym same) (Contains-append_right ways (made ∷ []) made (contains_first made []))
-  ],
-)
+pushed_cases : (ways : List Way) (made way : Way) → Contains (ways ++ made ∷ []) way → Contains ways way ⊎ (way ≡ made)
+pushed_cases ways made way has = elim (Contains-append_cases ways (made ∷ []) way has) [
+  | inl old ↦ inl old
+  | inr new ↦ elim (contains_cases made way [] new) [ inl same ↦ inr same | inr none ↦ absurd (contains_none way none) ]
+]
 
-pub pushed_own : (ways : List Way) (made : Way) → Are (ways ++ made ∷ []) (λ way. Contains ways way ⊎ (way ≡ made))
-pushed_own ways made = pushed ways made (λ way. Contains ways way) (λ way. (λ has. has, λ has. has))
+pushed_kept : (ways : List Way) (made way : Way) → Contains ways way → Contains (ways ++ made ∷ []) way
+pushed_kept ways made way has = Contains-append_left ways (made ∷ []) way has
 
-module _ (arcs : List Arc) (s number : ℕ) (arc : Arc) (olds ways : List Way) (count : ℕ) (onward : Arc) (at : slice_get arcs count ≡ Some onward)
-    (are : Are ways (λ way. Contains olds way ⊎ IsAcrossTo arcs s number arc count way)) where
-  earlier : (way : Way) → IsAcrossTo arcs s number arc count way → IsAcrossTo arcs s number arc (count + 1) way
-  earlier way is = record { second = is.second; onward = is.onward; low = omega (arith, is.low); there = is.there; from = is.from; further = is.further; is = is.is }
+pushed_there : (ways : List Way) (made : Way) → Contains (ways ++ made ∷ []) made
+pushed_there ways made = Contains-append_right ways (made ∷ []) made (contains_first made [])
 
-  last_or : (way : Way) → IsAcrossTo arcs s number arc (count + 1) way
-      → IsAcrossTo arcs s number arc count way ⊎ ((onward.tail ≡ arc.to) × (onward.to ≢ s) × (way ≡ way_across number arc (Some count) onward))
-  last_or way is = elim (cases_lt is.second count) [
-    | inl low ↦ inl (record { second = is.second; onward = is.onward; low = low; there = is.there; from = is.from; further = is.further; is = is.is })
-    | inr upto ↦
-        let here : is.second ≡ count = omega (arith, is.low, upto) in
-        let same : is.onward ≡ onward = same_Some is.onward onward (sym is.there ∙ ap (λ (i : ℕ). slice_get arcs i) here ∙ at) in
-        inr (
-          ap (λ (a : Arc). a.tail) (sym same) ∙ is.from,
-          λ back. is.further (ap (λ (a : Arc). a.to) same ∙ back),
-          is.is ∙ ap (λ (a : Arc). way_across number arc (Some is.second) a) same ∙ ap (λ (i : ℕ). way_across number arc (Some i) onward) here,
-        )
-  ]
+-- a way stands for itself
+not_later : (second : Option ℕ) → NotLater second second
+not_later None = tt
+not_later (Some second) = omega arith
 
-  pub across_more : onward.tail ≡ arc.to → onward.to ≢ s → (made : Way) → made ≡ way_across number arc (Some count) onward
-      → Are (ways ++ made ∷ []) (λ way. Contains olds way ⊎ IsAcrossTo arcs s number arc (count + 1) way)
-  across_more from further made is = λ way. (
-    λ has. elim ((pushed ways made (λ w. Contains olds w ⊎ IsAcrossTo arcs s number arc count w) are way).0 has) [
-      | inl before ↦ elim before [ inl old ↦ inl old | inr across ↦ inr (earlier way across) ]
-      | inr same ↦ inr (record { second = count; onward = onward; low = omega arith; there = at; from = from; further = further; is = same ∙ is })
-    ],
-    λ has. (pushed ways made (λ w. Contains olds w ⊎ IsAcrossTo arcs s number arc count w) are way).1 (elim has [
-      | inl old ↦ inl (inl old)
-      | inr across ↦ elim (last_or way across) [ inl before ↦ inl (inr before) | inr here ↦ inr (here.2 ∙ sym is) ]
-    ]),
-  )
+stands_itself : (way : Way) → StandsFor way way
+stands_itself way = record { first = refl; second = not_later way.second; next = refl; bond = refl; metric = refl; network = refl }
 
-  pub across_left : ¬ ((onward.tail ≡ arc.to) × (onward.to ≢ s)) → Are ways (λ way. Contains olds way ⊎ IsAcrossTo arcs s number arc (count + 1) way)
-  across_left not = λ way. (
-    λ has. elim ((are way).0 has) [ inl old ↦ inl old | inr across ↦ inr (earlier way across) ],
-    λ has. (are way).1 (elim has [
+for_itself : (ways : List Way) (made way : Way) → way ≡ made → Contains ways made → HasFor ways way
+for_itself ways made way same has = subst (λ (w : Way). HasFor ways w) (sym same) (record { way = made; there = has; stands = stands_itself made })
+
+for_more : (ways more : List Way) (way : Way) → ((w : Way) → Contains ways w → Contains more w) → HasFor ways way → HasFor more way
+for_more ways more way kept has = record { way = has.way; there = kept has.way has.there; stands = has.stands }
+
+module _ (arcs : List Arc) (s number : ℕ) (arc : Arc) (olds : List Way) where
+  across_later : (j k : ℕ) (one other : Arc) (ways more : List Way) → j ≤ k → one.tail ≡ other.tail → one.to ≡ other.to → ((w : Way) → Contains ways w → Contains more w)
+      → HasAcross arcs number arc j one ways → HasAcross arcs number arc k other more
+  across_later j k one other ways more low tail to kept has = record {
+    least = has.least;
+    other = has.other;
+    low = omega (arith, has.low, low);
+    there = has.there;
+    from = has.from ∙ tail;
+    to = has.to ∙ to;
+    has = kept _ has.has;
+  }
+
+  pub across_none : AddsAcross arcs s number arc 0 olds olds
+  across_none = record { only = λ way has. inl has; kept = λ way has. has; all = λ second onward low. absurd (omega (arith, low)) }
+
+  module _ (ways : List Way) (count : ℕ) (onward : Arc) (at : slice_get arcs count ≡ Some onward) (are : AddsAcross arcs s number arc count olds ways) where
+    earlier : (way : Way) → IsAcrossTo arcs s number arc count way → IsAcrossTo arcs s number arc (count + 1) way
+    earlier way is = record { second = is.second; onward = is.onward; low = omega (arith, is.low); there = is.there; on = is.on; is = is.is }
+
+    here_is : (k : ℕ) (other : Arc) → k ≡ count → slice_get arcs k ≡ Some other → other ≡ onward
+    here_is k other here there = same_Some other onward (sym there ∙ ap (λ (i : ℕ). slice_get arcs i) here ∙ at)
+
+    pub across_more : LeadsOn arc s onward → (made : Way) → made ≡ way_across number arc (Some count) onward → AddsAcross arcs s number arc (count + 1) olds (ways ++ made ∷ [])
+    across_more on made is = record {
+      only = λ way has. elim (pushed_cases ways made way has) [
+        | inl before ↦ elim (are.only way before) [ inl old ↦ inl old | inr across ↦ inr (earlier way across) ]
+        | inr same ↦ inr (record { second = count; onward = onward; low = omega arith; there = at; on = on; is = same ∙ is })
+      ];
+      kept = λ way has. pushed_kept ways made way (are.kept way has);
+      all = λ k other low there leads. elim (cases_lt k count) [
+        | inl early ↦ across_later k k other other ways (ways ++ made ∷ []) (omega arith) refl refl (pushed_kept ways made) (are.all k other early there leads)
+        | inr upto ↦
+            let here : k ≡ count = omega (arith, low, upto) in
+            let same : other ≡ onward = here_is k other here there in
+            record {
+              least = count;
+              other = onward;
+              low = omega (arith, here);
+              there = at;
+              from = ap (λ (a : Arc). a.tail) (sym same);
+              to = ap (λ (a : Arc). a.to) (sym same);
+              has = subst (λ (w : Way). Contains (ways ++ made ∷ []) w) is (pushed_there ways made);
+            }
+      ];
+    }
+
+    pub across_left : (LeadsOn arc s onward → HasAcross arcs number arc count onward ways) → AddsAcross arcs s number arc (count + 1) olds ways
+    across_left has_here = record {
+      only = λ way has. elim (are.only way has) [ inl old ↦ inl old | inr across ↦ inr (earlier way across) ];
+      kept = are.kept;
+      all = λ k other low there leads. elim (cases_lt k count) [
+        | inl early ↦ are.all k other early there leads
+        | inr upto ↦
+            let here : k ≡ count = omega (arith, low, upto) in
+            let same : other ≡ onward = here_is k other here there in
+            across_later count k onward other ways ways (omega (arith, here)) (ap (λ (a : Arc). a.tail) (sym same)) (ap (λ (a : Arc). a.to) (sym same)) (λ w has. has)
+            (has_here (subst (λ (a : Arc). LeadsOn arc s a) same leads))
+      ];
+    }
+
+    -- the one before leads there
+    pub across_again : IsAgain arcs count onward → LeadsOn arc s onward → HasAcross arcs number arc count onward ways
+    across_again again on =
+        across_later again.before count again.arc onward ways ways (omega (arith, again.up)) again.tail again.to (λ w has. has)
+        (are.all again.before again.arc (omega (arith, again.up)) again.there (again.tail ∙ on.0, λ back. on.1 (sym again.to ∙ back)))
+
+  pub across_all : (ways : List Way) (count : ℕ) → length arcs ≤ count → AddsAcross arcs s number arc count olds ways → AddsAcross arcs s number arc (length arcs) olds ways
+  across_all ways count all are = record {
+    only = λ way has. elim (are.only way has) [
       | inl old ↦ inl old
-      | inr across ↦ elim (last_or way across) [ inl before ↦ inr before | inr here ↦ absurd (not (here.0, here.1)) ]
-    ]),
-  )
-
-pub across_all : (arcs : List Arc) (s number : ℕ) (arc : Arc) (olds ways : List Way) (count : ℕ) → length arcs ≤ count
-    → Are ways (λ way. Contains olds way ⊎ IsAcrossTo arcs s number arc count way) → Are ways (λ way. Contains olds way ⊎ IsAcrossTo arcs s number arc (length arcs) way)
-across_all arcs s number arc olds ways count all are = λ way. (
-  λ has. elim ((are way).0 has) [
-    | inl old ↦ inl old
-    | inr is ↦ inr (record { second = is.second; onward = is.onward; low = slice_get_within arcs is.second is.onward is.there; there = is.there; from = is.from; further = is.further; is = is.is })
-  ],
-  λ has. (are way).1 (elim has [
-    | inl old ↦ inl old
-    | inr is ↦ inr (record { second = is.second; onward = is.onward; low = omega (arith, is.low, all); there = is.there; from = is.from; further = is.further; is = is.is })
-  ]),
-)
+      | inr is ↦ inr (record { second = is.second; onward = is.onward; low = slice_get_within arcs is.second is.onward is.there; there = is.there; on = is.on; is = is.is })
+    ];
+    kept = are.kept;
+    all = λ k other low there leads. are.all k other (omega (arith, low, all)) there leads;
+  }
 
 -- the ways over one arc
 module _ (area : AreaParts) (s number : ℕ) (arc : Arc) (leaves : Leaves area s number arc) where
@@ -106,8 +138,7 @@ module _ (area : AreaParts) (s number : ℕ) (arc : Arc) (leaves : Leaves area s
             onward = onward;
             low = slice_get_within area.arcs second onward on.there;
             there = on.there;
-            from = on.from ∙ ap (λ (a : Arc). a.to) same;
-            further = further;
+            on = (on.from ∙ ap (λ (a : Arc). a.to) same, further);
             is = ap (λ (a : Arc). way_across number a (Some second) onward) same;
           })
 
@@ -116,7 +147,7 @@ module _ (area : AreaParts) (s number : ℕ) (arc : Arc) (leaves : Leaves area s
         | inl same ↦ subst (λ (w : Way). IsWayOver area s number w) (sym same) (ToNetwork arc leaves network)
         | inr across ↦
             subst (λ (w : Way). IsWayOver area s number w) (sym across.is)
-            (AcrossNetwork across.second arc across.onward leaves network (record { there = across.there; from = across.from }) across.further)
+            (AcrossNetwork across.second arc across.onward leaves network (record { there = across.there; from = across.on.0 }) across.on.1)
       ]
 
   pub over_router : ¬ IsNetwork area.ids arc.to → (way : Way) → IsWayOver area s number way ↔ (way ≡ way_over number arc None)
@@ -128,48 +159,72 @@ module _ (area : AreaParts) (s number : ℕ) (arc : Arc) (leaves : Leaves area s
       told way (AcrossNetwork second other onward is net on further) = absurd (router (subst (λ (a : Arc). IsNetwork area.ids a.to) (one_arc other is) net))
 
   -- what a network adds to the ways that were there
-  pub network_adds : IsNetwork area.ids arc.to → (olds ways more : List Way) (made : Way) → made ≡ way_over number arc (Some arc.to) → ways ≡ olds ++ made ∷ []
-      → Are more (λ way. Contains ways way ⊎ IsAcrossTo area.arcs s number arc (length area.arcs) way) → Are more (λ way. Contains olds way ⊎ IsWayOver area s number way)
-  network_adds network olds ways more made is grown are = λ way.
-      let over = over_network network way in
-      let own = subst (λ (ws : List Way). Contains ws way ↔ (Contains olds way ⊎ (way ≡ made))) (sym grown) (pushed_own olds made way) in (
-        λ has. elim ((are way).0 has) [
-          | inl before ↦ elim (own.0 before) [ inl old ↦ inl old | inr same ↦ inr (over.1 (inl (same ∙ is))) ]
-          | inr across ↦ inr (over.1 (inr across))
-        ],
-        λ has. (are way).1 (elim has [
-          | inl old ↦ inl (own.1 (inl old))
-          | inr by ↦ elim (over.0 by) [ inl same ↦ inl (own.1 (inr (same ∙ sym is))) | inr across ↦ inr across ]
-        ]),
-      )
+  across_for : IsArea area → IsNetwork area.ids arc.to → (more : List Way) (way : Way) → (is : IsAcrossTo area.arcs s number arc (length area.arcs) way)
+      → HasAcross area.arcs number arc is.second is.onward more → HasFor more way
+  across_for kept network more way is has =
+      let free : (k : ℕ) (a : Arc) → slice_get area.arcs k ≡ Some a → a.tail ≡ arc.to → a.metric ≡ 0 =
+      λ k a at tail. ((arc_kept area k a kept at).of_network (subst (λ (v : ℕ). IsNetwork area.ids v) (sym tail) network)).0 in
+      let one = free has.least has.other has.there (has.from ∙ is.on.0) in
+      let two = free is.second is.onward is.there is.on.0 in
+      let made = way_across number arc (Some has.least) has.other in
+      record {
+        way = made;
+        there = has.has;
+        stands = subst (λ (w : Way). StandsFor made w) (sym is.is)
+            (record { first = refl; second = has.low; next = has.to; bond = refl; metric = ap (λ (n : ℕ). arc.metric + n) (one ∙ sym two); network = refl });
+      }
 
-  pub router_adds : ¬ IsNetwork area.ids arc.to → (olds ways : List Way) (made : Way) → made ≡ way_over number arc None → ways ≡ olds ++ made ∷ []
-      → Are ways (λ way. Contains olds way ⊎ IsWayOver area s number way)
-  router_adds router olds ways made is grown = λ way.
-      let over = over_router router way in
-      let own = subst (λ (ws : List Way). Contains ws way ↔ (Contains olds way ⊎ (way ≡ made))) (sym grown) (pushed_own olds made way) in (
-        λ has. elim (own.0 has) [ inl old ↦ inl old | inr same ↦ inr (over.1 (same ∙ is)) ],
-        λ has. own.1 (elim has [ inl old ↦ inl old | inr by ↦ inr (over.0 by ∙ sym is) ]),
-      )
+  pub network_adds : IsArea area → IsNetwork area.ids arc.to → (olds ways more : List Way) (made : Way) → made ≡ way_over number arc (Some arc.to) → ways ≡ olds ++ made ∷ []
+      → AddsAcross area.arcs s number arc (length area.arcs) ways more → AddsOver area s number olds more
+  network_adds kept network olds ways more made is grown are = record {
+    only = λ way has. elim (are.only way has) [
+      | inl before ↦ elim (pushed_cases olds made way (subst (λ (ws : List Way). Contains ws way) grown before)) [
+        | inl old ↦ inl old
+        | inr same ↦ inr ((over_network network way).1 (inl (same ∙ is)))
+      ]
+      | inr across ↦ inr ((over_network network way).1 (inr across))
+    ];
+    kept = λ way has. are.kept way (subst (λ (ws : List Way). Contains ws way) (sym grown) (pushed_kept olds made way has));
+    all = λ way by. elim ((over_network network way).0 by) [
+      | inl same ↦ for_itself more made way (same ∙ sym is) (are.kept made (subst (λ (ws : List Way). Contains ws made) (sym grown) (pushed_there olds made)))
+      | inr across ↦ across_for kept network more way across (are.all across.second across.onward across.low across.there across.on)
+    ];
+  }
 
--- the ways over the first arcs
+  pub router_adds : ¬ IsNetwork area.ids arc.to → (olds ways : List Way) (made : Way) → made ≡ way_over number arc None → ways ≡ olds ++ made ∷ [] → AddsOver area s number olds ways
+  router_adds router olds ways made is grown = record {
+    only = λ way has. elim (pushed_cases olds made way (subst (λ (ws : List Way). Contains ws way) grown has)) [
+      | inl old ↦ inl old
+      | inr same ↦ inr ((over_router router way).1 (same ∙ is))
+    ];
+    kept = λ way has. subst (λ (ws : List Way). Contains ws way) (sym grown) (pushed_kept olds made way has);
+    all = λ way by. for_itself ways made way ((over_router router way).0 by ∙ sym is) (subst (λ (ws : List Way). Contains ws made) (sym grown) (pushed_there olds made));
+  }
+
+-- ways over the first arcs
 abbrev pub IsWayTo : AreaParts → ℕ → ℕ → Way → Type 0
 IsWayTo area s count way = (number : ℕ) × (number < count) × IsWayOver area s number way
 
-pub arc_more : (area : AreaParts) (s count : ℕ) (olds ways : List Way) → Are olds (IsWayTo area s count) → Are ways (λ way. Contains olds way ⊎ IsWayOver area s count way)
-    → Are ways (IsWayTo area s (count + 1))
-arc_more area s count olds ways before are = λ way. (
-  λ has. elim ((are way).0 has) [
-    | inl old ↦ let was = (before way).0 old in (was.0, omega (arith, was.1), was.2)
+pub record AreWaysTo (area : AreaParts) (s count : ℕ) (ways : List Way) : Type 0 where
+  pub only : (way : Way) → Contains ways way → IsWayTo area s count way
+  pub all : (number : ℕ) (way : Way) → number < count → IsWayOver area s number way → HasFor ways way
+
+pub no_way : (area : AreaParts) (s : ℕ) → AreWaysTo area s 0 []
+no_way area s = record { only = λ way has. absurd (contains_none way has); all = λ number way low. absurd (omega (arith, low)) }
+
+pub arc_more : (area : AreaParts) (s count : ℕ) (olds ways : List Way) → AreWaysTo area s count olds → AddsOver area s count olds ways → AreWaysTo area s (count + 1) ways
+arc_more area s count olds ways before are = record {
+  only = λ way has. elim (are.only way has) [
+    | inl old ↦ let was = before.only way old in (was.0, omega (arith, was.1), was.2)
     | inr is ↦ (count, omega arith, is)
-  ],
-  λ is. (are way).1 (elim (cases_lt is.0 count) [
-    | inl low ↦ inl ((before way).1 (is.0, low, is.2))
+  ];
+  all = λ number way low is. elim (cases_lt number count) [
+    | inl early ↦ for_more olds ways way are.kept (before.all number way early is)
     | inr upto ↦
-        let here : is.0 ≡ count = omega (arith, is.1, upto) in
-        inr (subst (λ (n : ℕ). IsWayOver area s n way) here is.2)
-  ]),
-)
+        let here : number ≡ count = omega (arith, low, upto) in
+        are.all way (subst (λ (n : ℕ). IsWayOver area s n way) here is)
+  ];
+}
 
 -- its arc leaves s
 own_arc : (area : AreaParts) (s number : ℕ) (way : Way) → IsWayOver area s number way → (arc : Arc) × Leaves area s number arc
@@ -177,23 +232,24 @@ own_arc area s number way (ToRouter arc is not) = (arc, is)
 own_arc area s number way (ToNetwork arc is net) = (arc, is)
 own_arc area s number way (AcrossNetwork second arc onward is net on further) = (arc, is)
 
-pub arc_left : (area : AreaParts) (s count : ℕ) (ways : List Way) → ((arc : Arc) → slice_get area.arcs count ≡ Some arc → arc.tail ≢ s) → Are ways (IsWayTo area s count)
-    → Are ways (IsWayTo area s (count + 1))
-arc_left area s count ways other are = λ way. (
-  λ has. let was = (are way).0 has in (was.0, omega (arith, was.1), was.2),
-  λ is. (are way).1 (elim (cases_lt is.0 count) [
-    | inl low ↦ (is.0, low, is.2)
+pub arc_left : (area : AreaParts) (s count : ℕ) (ways : List Way) → ((arc : Arc) → slice_get area.arcs count ≡ Some arc → arc.tail ≢ s) → AreWaysTo area s count ways
+    → AreWaysTo area s (count + 1) ways
+arc_left area s count ways other are = record {
+  only = λ way has. let was = are.only way has in (was.0, omega (arith, was.1), was.2);
+  all = λ number way low is. elim (cases_lt number count) [
+    | inl early ↦ are.all number way early is
     | inr upto ↦
-        let here : is.0 ≡ count = omega (arith, is.1, upto) in
-        let own = own_arc area s count way (subst (λ (n : ℕ). IsWayOver area s n way) here is.2) in
+        let here : number ≡ count = omega (arith, low, upto) in
+        let own = own_arc area s count way (subst (λ (n : ℕ). IsWayOver area s n way) here is) in
         absurd (other own.0 own.1.there own.1.from)
-  ]),
-)
+  ];
+}
 
-pub all_ways : (area : AreaParts) (s count : ℕ) (ways moved : List Way) → length area.arcs ≤ count → Are ways (IsWayTo area s count) → IsPermutation ways moved → AreWays area s moved
+pub all_ways : (area : AreaParts) (s count : ℕ) (ways moved : List Way) → length area.arcs ≤ count → AreWaysTo area s count ways → IsPermutation ways moved → AreWays area s moved
 all_ways area s count ways moved all are same = record {
-  only = λ way has. let is = (are way).0 (Contains-permutation moved ways way (IsPermutation-sym ways moved same) has) in (is.0, is.2);
+  only = λ way has. let is = are.only way (Contains-permutation moved ways way (IsPermutation-sym ways moved same) has) in (is.0, is.2);
   all = λ number way is.
       let own = own_arc area s number way is in
-      Contains-permutation ways moved way same ((are way).1 (number, omega (arith, slice_get_within area.arcs number own.0 own.1.there, all), is));
+      for_more ways moved way (λ w. Contains-permutation ways moved w same)
+      (are.all number way (omega (arith, slice_get_within area.arcs number own.0 own.1.there, all)) is);
 }

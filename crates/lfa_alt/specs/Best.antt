@@ -2,25 +2,25 @@
 use Rattle.std.specs.Prelude.{◌≡◌, ◌<◌, ℕ, List, Option, Some, None, length, slice_get, if◌then◌else◌}
 use Rattle.std.specs.Ordering.{is_gt}
 use Rattle.area_graph.specs.Parts.{AreaParts}
-use Rattle.lfa_alt.specs.declared.alternate.Choice.{Choice}
-use Rattle.lfa_alt.specs.declared.target.Target.{Target}
+use Rattle.lfa_alt.specs.declared.alternate.FreeCandidate.{FreeCandidate}
+use Rattle.lfa_alt.specs.declared.destination.Destination.{Destination}
 use Rattle.lfa_alt.specs.declared.way.Way.{Way}
-use Rattle.lfa_alt.specs.LoopFree.{IsFirstOf, choice_cmp}
-use Rattle.lfa_alt.specs.Targets.{Offers}
+use Rattle.lfa_alt.specs.LoopFree.{IsFirstOf, candidate_cmp}
+use Rattle.lfa_alt.specs.Destinations.{Offers}
 
 -- of these choices the first one; none where there is none
-pub data IsBest (Is : Choice → Type 0) : Option Choice → Type 0 where
-  NoneIs : ((choice : Choice) → ¬ Is choice) → IsBest Is None
-  TheBest : (choice : Choice) → Is choice → IsFirstOf Is choice → IsBest Is (Some choice)
+pub data IsBest (Is : FreeCandidate → Type 0) : Option FreeCandidate → Type 0 where
+  NoneIs : ((choice : FreeCandidate) → ¬ Is choice) → IsBest Is None
+  TheBest : (choice : FreeCandidate) → Is choice → IsFirstOf Is choice → IsBest Is (Some choice)
 
 -- the one that comes first; the former where they come together
-abbrev pub better : Option Choice → Option Choice → Option Choice
+abbrev pub better : Option FreeCandidate → Option FreeCandidate → Option FreeCandidate
 better None offered = offered
 better (Some best) None = Some best
-better (Some best) (Some offered) = if is_gt (choice_cmp best offered) then Some offered else Some best
+better (Some best) (Some offered) = if is_gt (candidate_cmp best offered) then Some offered else Some best
 
 -- one of the first so many ways offers the choice for t
-pub record IsOfferedBy (area : AreaParts) (s t : ℕ) (entry : Option Target) (ways : List Way) (count : ℕ) (choice : Choice)
+pub record IsOfferedBy (area : AreaParts) (s t : ℕ) (entry : Option Destination) (ways : List Way) (count : ℕ) (choice : FreeCandidate)
     : Type 0 where
   pub number : ℕ
   pub way : Way
@@ -29,8 +29,8 @@ pub record IsOfferedBy (area : AreaParts) (s t : ℕ) (entry : Option Target) (w
   pub offers : Offers area s t entry way choice
 
 -- of each node the first one of the choices that the first so many ways offer
-pub record AreBest (area : AreaParts) (s : ℕ) (targets : List (Option Target)) (ways : List Way) (count : ℕ)
-    (best : List (Option Choice)) : Type 0 where
-  pub one_each : length best ≡ length targets
-  pub each : (t : ℕ) (entry : Option Target) (choice : Option Choice) → slice_get targets t ≡ Some entry
+pub record AreBest (area : AreaParts) (s : ℕ) (destinations : List (Option Destination)) (ways : List Way) (count : ℕ)
+    (best : List (Option FreeCandidate)) : Type 0 where
+  pub one_each : length best ≡ length destinations
+  pub each : (t : ℕ) (entry : Option Destination) (choice : Option FreeCandidate) → slice_get destinations t ≡ Some entry
       → slice_get best t ≡ Some choice → IsBest (IsOfferedBy area s t entry ways count) choice

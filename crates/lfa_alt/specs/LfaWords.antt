@@ -7,7 +7,7 @@ use Rattle.mrt_graph.specs.Spelling.{address_text, node_text}
 abbrev pub hop_text : NodeId → ℕ → List ℕ
 hop_text far link_data = node_text far ++ codes "/" ++ address_text link_data
 
--- what an alternate protects: the primary's next too, or its link alone
+-- whether an alternate protects the primary's next: it does; or that is not promised
 abbrev pub kind_text : Bool → List ℕ
 kind_text true = codes "node"
 kind_text false = codes "link"

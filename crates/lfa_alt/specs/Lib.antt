@@ -6,5 +6,5 @@ pub mod LfaText
 pub mod LfaWords
 pub mod LoopFree
 pub mod Nearer
-pub mod Targets
+pub mod Destinations
 pub mod Ways

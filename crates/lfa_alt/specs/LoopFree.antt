@@ -1,5 +1,6 @@
 -- Loop-free alternates (RFC 5286, sections 3.1 and 3.2).
-use Rattle.std.specs.Prelude.{◌≡◌, ◌≢◌, ◌<◌, ◌+◌, ◌↔◌, ℕ, zero, suc, Bool, true, false, List, Option, Some, None, IsTrue, length, slice_get}
+use Rattle.std.specs.Prelude.{◌≡◌, ◌≢◌, ◌<◌, ◌+◌, ◌↔◌, ℕ, Bool, true, false, List, Option, Some, None, IsTrue, length, slice_get}
+use Rattle.std.specs.Option.{option_cmp}
 use Rattle.std.specs.Ordering.{is_gt, nat_cmp, on, then_cmp}
 use Rattle.std.specs.declared.cmp.Ordering.{Ordering}
 use Rattle.area_graph.specs.declared.area_types.Arc.{Arc}
@@ -7,7 +8,7 @@ use Rattle.area_graph.specs.Parts.{AreaParts}
 use Rattle.primary_alt.specs.declared.shortest.Primary.{Primary}
 use Rattle.primary_alt.specs.Distance.{IsDistance}
 use Rattle.primary_alt.specs.Primaries.{IsPrimary}
-use Rattle.lfa_alt.specs.declared.alternate.Choice.{Choice}
+use Rattle.lfa_alt.specs.declared.alternate.FreeCandidate.{FreeCandidate}
 use Rattle.lfa_alt.specs.declared.alternate.Lfa.{Lfa}
 use Rattle.lfa_alt.specs.Candidates.{Candidate, IsCandidate}
 
@@ -24,18 +25,11 @@ pub record Protects (arcs : List Arc) (t : ℕ) (primary : Primary) (n : ℕ) : 
   pub further : primary.next ≢ t
   pub nearer : IsNearerThanOver arcs primary.next n t
 
--- the bond is not that of the primary's first arc
-pub record IsOtherBond (arcs : List Arc) (primary : Primary) (bond : ℕ) : Type 0 where
-  pub arc : Arc
-  pub there : slice_get arcs primary.first ≡ Some arc
-  pub other : bond ≢ arc.bond
-
--- a candidate is loop-free: its first arc is of another bond than the primary's, and dist(n, t) < dist(n, s) + dist(s, t),
--- n being its next (inequality 1: the basic condition). What is told of it: its arcs and its next, whether it protects
--- the primary's next, and the sum of its arcs' metrics and dist(n, t)
-pub record IsLoopFreeBy (area : AreaParts) (s t : ℕ) (primary : Primary) (candidate : Candidate) (choice : Choice)
+-- a candidate is loop-free: dist(n, t) < dist(n, s) + dist(s, t), n being its next (inequality 1: the basic condition).
+-- What is told of it: its arcs and its next, whether it protects the primary's next, and the sum of its arcs' metrics and
+-- dist(n, t)
+pub record IsLoopFreeBy (area : AreaParts) (s t : ℕ) (primary : Primary) (candidate : Candidate) (choice : FreeCandidate)
     : Type 0 where
-  pub other_bond : IsOtherBond area.arcs primary candidate.bond
   pub loop_free : IsNearerThanOver area.arcs s candidate.next t
   pub first : choice.first ≡ candidate.first
   pub second : choice.second ≡ candidate.second
@@ -44,9 +38,9 @@ pub record IsLoopFreeBy (area : AreaParts) (s t : ℕ) (primary : Primary) (cand
   pub cost : choice.cost ≡ candidate.metric + loop_free.rest
 
 -- what is told of one of the loop-free candidates of s for t
-pub record IsLoopFree (area : AreaParts) (s t : ℕ) (primary : Primary) (choice : Choice) : Type 0 where
+pub record IsLoopFree (area : AreaParts) (s t : ℕ) (primary : Primary) (choice : FreeCandidate) : Type 0 where
   pub candidate : Candidate
-  pub is : IsCandidate area s t candidate
+  pub is : IsCandidate area s t primary candidate
   pub loop_free : IsLoopFreeBy area s t primary candidate choice
 
 -- one that protects the primary's next comes before one that does not
@@ -54,37 +48,32 @@ abbrev pub rank_of : Bool → ℕ
 rank_of true = 0
 rank_of false = 1
 
--- second arcs by number. Those of one first arc that serve t all have a second arc, or none has
-abbrev pub second_number : Option ℕ → ℕ
-second_number None = zero
-second_number (Some number) = suc number
-
 -- the order of choice: one that protects the primary's next before one that does not; then by cost; then by first arc;
--- then by second arc
-abbrev pub choice_cmp : Choice → Choice → Ordering
-choice_cmp =
+-- then by second arc. Those of one first arc that serve t all have a second arc, or none has
+abbrev pub candidate_cmp : FreeCandidate → FreeCandidate → Ordering
+candidate_cmp =
     then_cmp
     (then_cmp (then_cmp (on (λ choice. rank_of choice.node) nat_cmp) (on (λ choice. choice.cost) nat_cmp))
     (on (λ choice. choice.first) nat_cmp))
-    (on (λ choice. second_number choice.second) nat_cmp)
+    (on (λ choice. choice.second) (option_cmp nat_cmp))
 
--- the alternate that is chosen
-abbrev pub lfa_of : Choice → Lfa
-lfa_of choice = record { first = choice.first; second = choice.second; next = choice.next; node = choice.node }
+-- the alternate that a loop-free candidate makes
+abbrev pub alternate_of : FreeCandidate → Lfa
+alternate_of choice = record { first = choice.first; second = choice.second; next = choice.next; node = choice.node }
 
 -- no other of these comes before it
-abbrev pub IsFirstOf : (Choice → Type 0) → Choice → Type 0
-IsFirstOf Is choice = (other : Choice) → Is other → is_gt (choice_cmp choice other) ≡ false
+abbrev pub IsFirstOf : (FreeCandidate → Type 0) → FreeCandidate → Type 0
+IsFirstOf Is choice = (other : FreeCandidate) → Is other → is_gt (candidate_cmp choice other) ≡ false
 
 -- the loop-free alternate of router s for t: the first one of the loop-free candidates. There is none where t has no
 -- primary, as where s is t, and where no candidate is loop-free
 pub data IsLfa (area : AreaParts) (s t : ℕ) : Option Lfa → Type 0 where
   NoPrimary : IsPrimary area s t None → IsLfa area s t None
   NoneIsLoopFree : (primary : Primary) → IsPrimary area s t (Some primary)
-      → ((choice : Choice) → ¬ IsLoopFree area s t primary choice) → IsLfa area s t None
-  TheFirst : (primary : Primary) (choice : Choice) → IsPrimary area s t (Some primary)
+      → ((choice : FreeCandidate) → ¬ IsLoopFree area s t primary choice) → IsLfa area s t None
+  TheFirst : (primary : Primary) (choice : FreeCandidate) → IsPrimary area s t (Some primary)
       → IsLoopFree area s t primary choice → IsFirstOf (IsLoopFree area s t primary) choice
-      → IsLfa area s t (Some (lfa_of choice))
+      → IsLfa area s t (Some (alternate_of choice))
 
 -- the loop-free alternates of router s for all nodes, by number
 pub record AreLfas (area : AreaParts) (s : ℕ) (entries : List (Option Lfa)) : Type 0 where

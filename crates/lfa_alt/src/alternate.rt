@@ -9,13 +9,15 @@ pub struct Lfa {
     pub first: ArcNo,
     pub second: Option<ArcNo>,
     pub next: Spot,
-    /// Whether it goes round the primary's next too.
+    /// Whether it protects the primary's next: no packet comes there on the way round. Where it is false, that is not
+    /// promised.
     pub node: bool,
 }
 
-/// A loop-free alternate, and the cost of the shortest path over it.
+/// A loop-free candidate: its arcs and its next, whether it protects the primary's next, and the cost of the shortest
+/// path over it.
 #[derive(Clone, Copy)]
-pub struct Choice {
+pub struct FreeCandidate {
     pub first: ArcNo,
     pub second: Option<ArcNo>,
     pub next: Spot,

@@ -1,65 +1,65 @@
-//! What a way offers for a destination, and which of two choices comes first.
+//! What loop-free candidate a way is for a destination, and which of two comes first.
 
 ghost use Rattle.std.specs.Prelude.{◌≡◌, ◌≢◌, ◌<◌, ◌+◌, ◌↔◌, ℕ, IfSome, IsTrue, None, Some, length, slice_index_or};
 ghost use Rattle.std.specs.Ordering.{is_gt};
 ghost use Rattle.area_graph.specs.Parts.{AreaParts};
 ghost use Rattle.primary_alt.specs.DistancesFrom.{AreDistancesFrom};
-ghost use Rattle.lfa_alt.specs.declared.alternate.Choice.{Choice};
+ghost use Rattle.lfa_alt.specs.declared.alternate.FreeCandidate.{FreeCandidate};
 ghost use Rattle.lfa_alt.specs.Best.{better};
-ghost use Rattle.lfa_alt.specs.LoopFree.{IsLoopFreeBy, choice_cmp, rank_of, second_number};
+ghost use Rattle.lfa_alt.specs.LoopFree.{IsLoopFreeBy, candidate_cmp};
 ghost use Rattle.lfa_alt.specs.Nearer.{IsNearer, ProtectsBy};
-ghost use Rattle.lfa_alt.specs.Targets.{IsTarget, IsTargetFor, Offers};
+ghost use Rattle.lfa_alt.specs.Destinations.{IsDestination, IsDestinationFor, Offers};
 ghost use Rattle.lfa_alt.specs.Ways.{Serves, candidate_of};
 
-use crate::alternate::Choice;
-use crate::target::Target;
+use crate::alternate::FreeCandidate;
+use crate::destination::Destination;
 use crate::way::Way;
-use area_graph::{ArcNo, BondNo, Spot};
+use area_graph::{BondNo, Spot};
 
-/// The choice that a way offers for a node, by the distances from its next.
-pub fn choice_for(
+/// The loop-free candidate that a way is for a node, if it is one, by the distances from its next.
+pub fn candidate_for(
     way: &Way,
     source: Spot,
     known: &[Option<u32>],
     t: usize,
-    target: &Option<Target>,
-) -> Option<Choice>
+    destination: &Option<Destination>,
+) -> Option<FreeCandidate>
     requires source { source < length known.now }
     requires to { t < length known.now }
-    requires through { IfSome target.now (λ target. target.primary.next < length known.now) }
+    requires through { IfSome destination.now (λ destination. destination.primary.next < length known.now) }
     ensures { (area : AreaParts) → AreDistancesFrom area.arcs way.now.next known.now
-        → IsTargetFor area source t target.now → (choice : Choice)
-        → (result ≡ Some choice) ↔ Offers area source t target.now way.now choice }
+        → IsDestinationFor area source t destination.now → (choice : FreeCandidate)
+        → (result ≡ Some choice) ↔ Offers area source t destination.now way.now choice }
 {
-    match target {
-        Some(target) => offered(way, source, known, t, target),
+    match destination {
+        Some(destination) => offered(way, source, known, t, destination),
         None => None,
     }
 }
 
-/// The choice that a way offers for a node with a primary.
+/// The loop-free candidate that a way is for a node with a primary, if it is one.
 fn offered(
     way: &Way,
     source: Spot,
     known: &[Option<u32>],
     t: usize,
-    target: &Target,
-) -> Option<Choice>
+    destination: &Destination,
+) -> Option<FreeCandidate>
     requires source { source < length known.now }
     requires to { t < length known.now }
-    requires through { target.now.primary.next < length known.now }
+    requires through { destination.now.primary.next < length known.now }
     ensures { (area : AreaParts) → AreDistancesFrom area.arcs way.now.next known.now
-        → IsTarget area source t target.now → (choice : Choice)
-        → (result ≡ Some choice) ↔ Offers area source t (Some target.now) way.now choice }
+        → IsDestination area source t destination.now → (choice : FreeCandidate)
+        → (result ≡ Some choice) ↔ Offers area source t (Some destination.now) way.now choice }
 {
-    if !may_serve(way, t, target.bond) {
+    if !may_serve(way, t, destination.bond) {
         return None;
     }
     let rest = known[t]?;
-    if !is_nearer(rest, &known[source.get() as usize], target.distance) {
+    if !is_nearer(rest, &known[source.get() as usize], destination.distance) {
         return None;
     }
-    Some(choice_over(way, rest, protects(known, t, target, rest)))
+    Some(candidate_over(way, rest, protects(known, t, destination, rest)))
 }
 
 /// Whether a way serves a node, and does not begin with that bond.
@@ -86,15 +86,15 @@ fn is_nearer(rest: u32, out: &Option<u32>, back: u32) -> bool
 }
 
 /// Whether the way protects the primary's next.
-fn protects(known: &[Option<u32>], t: usize, target: &Target, rest: u32) -> bool
-    requires through { target.now.primary.next < length known.now }
-    ensures { IsTrue result ↔ ProtectsBy known.now t target.now rest }
+fn protects(known: &[Option<u32>], t: usize, destination: &Destination, rest: u32) -> bool
+    requires through { destination.now.primary.next < length known.now }
+    ensures { IsTrue result ↔ ProtectsBy known.now t destination.now rest }
 {
-    let through = target.primary.next.get() as usize;
-    through != t && is_nearer(rest, &known[through], target.beyond)
+    let through = destination.primary.next.get() as usize;
+    through != t && is_nearer(rest, &known[through], destination.beyond)
 }
 
-fn choice_over(way: &Way, rest: u32, node: bool) -> Choice
+fn candidate_over(way: &Way, rest: u32, node: bool) -> FreeCandidate
     ensures { result ≡ record {
       first = way.now.first;
       second = way.now.second;
@@ -103,7 +103,7 @@ fn choice_over(way: &Way, rest: u32, node: bool) -> Choice
       cost = way.now.metric + rest;
     } }
 {
-    Choice {
+    FreeCandidate {
         first: way.first,
         second: way.second,
         next: way.next,
@@ -113,7 +113,7 @@ fn choice_over(way: &Way, rest: u32, node: bool) -> Choice
 }
 
 /// The one that comes first; the former where they come together.
-pub fn better(best: Option<Choice>, offered: Option<Choice>) -> Option<Choice>
+pub fn better(best: Option<FreeCandidate>, offered: Option<FreeCandidate>) -> Option<FreeCandidate>
     ensures { result ≡ better best offered }
 {
     match (best, offered) {
@@ -130,8 +130,8 @@ pub fn better(best: Option<Choice>, offered: Option<Choice>) -> Option<Choice>
 }
 
 /// Whether the other one comes before this one.
-fn is_after(one: &Choice, other: &Choice) -> bool
-    ensures { result ≡ is_gt (choice_cmp one.now other.now) }
+fn is_after(one: &FreeCandidate, other: &FreeCandidate) -> bool
+    ensures { result ≡ is_gt (candidate_cmp one.now other.now) }
 {
     if one.node != other.node {
         return other.node;
@@ -142,15 +142,5 @@ fn is_after(one: &Choice, other: &Choice) -> bool
     if one.first != other.first {
         return one.first > other.first;
     }
-    second_number(one.second) > second_number(other.second)
-}
-
-/// One more than the number of a second arc; 0 for none.
-fn second_number(second: Option<ArcNo>) -> u32
-    ensures { result ≡ second_number second }
-{
-    match second {
-        Some(number) => number.get() as u32 + 1,
-        None => 0,
-    }
+    one.second > other.second
 }

@@ -3,53 +3,70 @@
 ghost use Rattle.std.specs.Prelude.{◌≡◌, ◌<◌, IfOk, length, map};
 ghost use Rattle.std.specs.Option.{option_map};
 ghost use Rattle.mrt_graph.specs.GraphInvariant.{IsNetwork};
-ghost use Rattle.lfa_alt.specs.LoopFree.{AreLfas, lfa_of};
+ghost use Rattle.primary_alt.specs.Primaries.{ArePrimaries};
+ghost use Rattle.lfa_alt.specs.LoopFree.{AreLfas, alternate_of};
 
-use crate::alternate::{Choice, Lfa};
+use crate::alternate::{FreeCandidate, Lfa};
+use crate::destinations::destinations;
 use crate::offering::{Near, best_of};
-use crate::targets::targets;
 use crate::ways::ways;
 use area_graph::{Area, Spot};
 use mrt_graph::NoMemory;
-use primary_alt::{Searches, all_arcs, primaries};
+use primary_alt::{Primary, Searches, all_arcs, primaries};
 use std::alloc::Global;
 
 /// Of each node the loop-free alternate of the source, a router, for it (RFC 5286, section 3): None for the source
 /// itself, where no walk leads, and where no candidate is loop-free.
 ///
-/// One search from each neighbor serves all nodes, and three from the source give its primaries. So it takes time in
-/// proportion to the neighbors times the arcs, times the logarithm of the latter, and to the candidates times the nodes.
+/// One search from each neighbour serves all nodes, and three from the source give its primaries. So it takes time in
+/// proportion to the neighbours times the arcs, times the logarithm of the latter, and to the ways times the nodes. A way
+/// is an arc of the source, or its arc to a network and a node on that network. The hub of a star and a router on a network
+/// of all routers search from each of them.
 pub fn loop_free(alloc: Global, area: &Area, source: Spot) -> Result<Vec<Option<Lfa>>, NoMemory>
     requires within { source < length area.now.ids }
     requires router { ¬ IsNetwork area.now.ids source }
     ensures { IfOk result (λ entries. AreLfas area.now source entries.items) }
 {
     let primaries = primaries(alloc, area, source)?;
+    alternates(alloc, area, source, &primaries)
+}
+
+/// Of each node the loop-free alternate of the source for it, by the primaries of the source.
+pub fn alternates(
+    alloc: Global,
+    area: &Area,
+    source: Spot,
+    primaries: &[Option<Primary>],
+) -> Result<Vec<Option<Lfa>>, NoMemory>
+    requires within { source < length area.now.ids }
+    requires primaries { ArePrimaries area.now source primaries.now }
+    ensures { IfOk result (λ entries. AreLfas area.now source entries.items) }
+{
     let arcs = all_arcs(alloc, area)?;
     let mut searches = Searches::new(alloc, area)?;
     let mut known = vec![in alloc; None; area.count() as usize]?;
     searches.distances(source, &mut known)?;
-    let targets = targets(alloc, area, &arcs, source, &primaries, &known)?;
+    let destinations = destinations(alloc, area, &arcs, source, primaries, &known)?;
     let ways = ways(alloc, area, &arcs, source)?;
     let near = Near { at: source, known };
-    let best = best_of(alloc, &mut searches, near, source, &targets, &ways)?;
+    let best = best_of(alloc, &mut searches, near, source, &destinations, &ways)?;
     lfas(alloc, &best)
 }
 
-/// The alternates of these choices.
-fn lfas(alloc: Global, best: &[Option<Choice>]) -> Result<Vec<Option<Lfa>>, NoMemory>
-    ensures { IfOk result (λ entries. entries.items ≡ map (option_map lfa_of) best.now) }
+/// The alternates that these candidates make.
+fn lfas(alloc: Global, best: &[Option<FreeCandidate>]) -> Result<Vec<Option<Lfa>>, NoMemory>
+    ensures { IfOk result (λ entries. entries.items ≡ map (option_map alternate_of) best.now) }
 {
     let mut entries = Vec::with_capacity(alloc, best.len())?;
     for t in 0..best.len() {
-        entries.push_reserved(lfa_of(best[t]));
+        entries.push_reserved(alternate_of(best[t]));
     }
     Ok(entries)
 }
 
-/// The alternate of a choice, if there is one.
-fn lfa_of(choice: Option<Choice>) -> Option<Lfa>
-    ensures { result ≡ option_map lfa_of choice }
+/// The alternate that a candidate makes, if there is one.
+fn alternate_of(choice: Option<FreeCandidate>) -> Option<Lfa>
+    ensures { result ≡ option_map alternate_of choice }
 {
     let choice = choice?;
     Some(Lfa {

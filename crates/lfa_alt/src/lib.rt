@@ -4,11 +4,11 @@
 
 mod alternate;
 mod choosing;
+mod destination;
+mod destinations;
 mod finding;
 mod lfa_law;
 mod offering;
-mod target;
-mod targets;
 mod text;
 mod text_law;
 mod walk_law;

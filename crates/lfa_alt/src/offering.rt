@@ -1,18 +1,18 @@
-//! The first one of the choices that ways offer, of all nodes at once.
+//! The first one of the loop-free candidates that ways offer, of all nodes at once.
 
 ghost use Rattle.std.specs.Prelude.{◌≡◌, ◌<◌, ℕ, IfOk, OnOk, Option, None, Some, length, map, slice_get};
 ghost use Rattle.area_graph.specs.Parts.{AreaParts};
 ghost use Rattle.primary_alt.specs.DistancesFrom.{AreDistancesFrom};
-ghost use Rattle.lfa_alt.specs.declared.alternate.Choice.{Choice};
-ghost use Rattle.lfa_alt.specs.declared.target.Target.{Target};
+ghost use Rattle.lfa_alt.specs.declared.alternate.FreeCandidate.{FreeCandidate};
+ghost use Rattle.lfa_alt.specs.declared.destination.Destination.{Destination};
 ghost use Rattle.lfa_alt.specs.declared.way.Way.{Way};
 ghost use Rattle.lfa_alt.specs.Best.{AreBest};
 ghost use Rattle.lfa_alt.specs.Nearer.{IsBetterBy};
-ghost use Rattle.lfa_alt.specs.Targets.{AreTargets, Offers};
+ghost use Rattle.lfa_alt.specs.Destinations.{AreDestinations, Offers};
 
-use crate::alternate::Choice;
-use crate::choosing::{better, choice_for};
-use crate::target::Target;
+use crate::alternate::FreeCandidate;
+use crate::choosing::{better, candidate_for};
+use crate::destination::Destination;
 use crate::way::Way;
 use area_graph::Spot;
 use mrt_graph::NoMemory;
@@ -26,7 +26,7 @@ pub struct Near {
     pub known: Vec<Option<u32>>,
 }
 
-/// Of each node the first one of the choices that the ways offer for it.
+/// Of each node the first one of the loop-free candidates that the ways offer for it.
 ///
 /// One search for each node that ways lead to, where those to one node stand together.
 pub fn best_of(
@@ -34,34 +34,37 @@ pub fn best_of(
     searches: &mut Searches,
     mut near: Near,
     source: Spot,
-    targets: &[Option<Target>],
+    destinations: &[Option<Destination>],
     ways: &[Way],
-) -> Result<Vec<Option<Choice>>, NoMemory>
+) -> Result<Vec<Option<FreeCandidate>>, NoMemory>
     requires source { source < length searches.old.ids }
     requires near { AreDistancesFrom searches.old.arcs near.at near.known.items }
     requires one_each { length near.known.items ≡ length searches.old.ids }
-    requires targets { AreTargets searches.old source targets.now }
-    requires throughs { (t : ℕ) (target : Target) → slice_get targets.now t ≡ Some (Some target)
-        → target.primary.next < length searches.old.ids }
+    requires destinations { AreDestinations searches.old source destinations.now }
+    requires throughs { (t : ℕ) (destination : Destination) → slice_get destinations.now t ≡ Some (Some destination)
+        → destination.primary.next < length searches.old.ids }
     requires ways { (number : ℕ) (way : Way) → slice_get ways.now number ≡ Some way
         → way.next < length searches.old.ids }
     ensures { IfOk result (λ best.
-        AreBest searches.old source targets.now ways.now (length ways.now) best.items) }
+        AreBest searches.old source destinations.now ways.now (length ways.now) best.items) }
 {
-    let mut best = no_choices(alloc, targets)?;
+    let mut best = none_each(alloc, destinations)?;
     for number in 0..ways.len() {
         let way = &ways[number];
         go_to(searches, way.next, &mut near)?;
-        offer(way, source, &near.known, targets, &mut best);
+        offer(way, source, &near.known, destinations, &mut best);
     }
     Ok(best)
 }
 
 /// None for each of these.
-fn no_choices(alloc: Global, targets: &[Option<Target>]) -> Result<Vec<Option<Choice>>, NoMemory>
-    ensures { IfOk result (λ choices. choices.items ≡ map (λ _. None) targets.now) }
+fn none_each(
+    alloc: Global,
+    destinations: &[Option<Destination>],
+) -> Result<Vec<Option<FreeCandidate>>, NoMemory>
+    ensures { IfOk result (λ choices. choices.items ≡ map (λ _. None) destinations.now) }
 {
-    let choices = targets.iter().map(|_| None).collect(alloc)?;
+    let choices = destinations.iter().map(|_| None).collect(alloc)?;
     Ok(choices)
 }
 
@@ -82,27 +85,30 @@ fn go_to(searches: &mut Searches, s: Spot, near: &mut Near) -> Result<(), NoMemo
     Ok(())
 }
 
-/// Puts what a way offers for each node where its choice so far is, if it comes first.
+/// Puts what a way offers for each node in place of its first candidate so far, if it comes before that one.
 fn offer(
     way: &Way,
     source: Spot,
     known: &[Option<u32>],
-    targets: &[Option<Target>],
-    best: &mut Vec<Option<Choice>>,
+    destinations: &[Option<Destination>],
+    best: &mut Vec<Option<FreeCandidate>>,
 )
     requires source { source < length known.now }
-    requires one_each { length targets.now ≡ length known.now }
+    requires one_each { length destinations.now ≡ length known.now }
     requires best { length best.old.items ≡ length known.now }
-    requires throughs { (t : ℕ) (target : Target) → slice_get targets.now t ≡ Some (Some target)
-        → target.primary.next < length known.now }
+    requires throughs { (t : ℕ) (destination : Destination) → slice_get destinations.now t ≡ Some (Some destination)
+        → destination.primary.next < length known.now }
     ensures one_each { length best.new.items ≡ length best.old.items }
     ensures better { (area : AreaParts) → AreDistancesFrom area.arcs way.now.next known.now
-        → AreTargets area source targets.now → (t : ℕ) (entry : Option Target) (old new : Option Choice)
-        → slice_get targets.now t ≡ Some entry → slice_get best.old.items t ≡ Some old
+        → AreDestinations area source destinations.now → (t : ℕ) (entry : Option Destination) (old new : Option FreeCandidate)
+        → slice_get destinations.now t ≡ Some entry → slice_get best.old.items t ≡ Some old
         → slice_get best.new.items t ≡ Some new
         → IsBetterBy (Offers area source t entry way.now) old new }
 {
     for t in 0..best.len() {
-        best[t] = better(best[t], choice_for(way, source, known, t, &targets[t]));
+        best[t] = better(
+            best[t],
+            candidate_for(way, source, known, t, &destinations[t]),
+        );
     }
 }

@@ -9,7 +9,7 @@ ghost use Rattle.lfa_alt.specs.LfaText.{AreLfaWords, AreLines, IsArcHop, IsHead,
 ghost use Rattle.lfa_alt.specs.LoopFree.{AreLfas, IsLfa};
 
 use crate::alternate::Lfa;
-use crate::finding::loop_free;
+use crate::finding::alternates;
 use crate::words::{kind_word, push, push_count, push_hop, push_node};
 use area_graph::{ArcNo, Area, Spot};
 use mrt_graph::NoMemory;
@@ -28,7 +28,7 @@ pub fn lfa_text(alloc: Global, area: &Area, source: Spot) -> Result<Vec<u8>, NoM
     ensures { IfOk result (λ text. IsLfaText area.now source text.items) }
 {
     let primaries = primaries(alloc, area, source)?;
-    let entries = loop_free(alloc, area, source)?;
+    let entries = alternates(alloc, area, source, &primaries)?;
     let mut text = Vec::new(alloc);
     push_head(&mut text, area, source)?;
     push_lines(&mut text, area, source, &primaries, &entries)?;

@@ -12,14 +12,20 @@ ghost use Rattle.lfa_alt.specs.declared.alternate.Lfa.{Lfa};
 ghost use Rattle.lfa_alt.specs.HopWalks.{AreHopArcs, HopWalk, Meets, UsesBond, arcs_of};
 ghost use Rattle.lfa_alt.specs.LoopFree.{IsLfa};
 
-/// Laws, where each router has its primary for a node: from the next of a loop-free alternate the primaries hop by hop
-/// lead to the node, on a walk along arcs; this walk does not meet the source; so neither the alternate nor the walk
-/// after it uses the bond of the source's primary.
+/// Laws, where each router has its primary for a node: a loop-free alternate's own arcs are there and lead from the source
+/// to its next, and from there the primaries hop by hop lead to the node, on a walk along arcs; this walk does not meet the
+/// source; so the one walk of both does not use the bond of the source's primary.
 pub fn no_alternate_leads_back()
     ensures arrives { (area : AreaParts) → IsArea area → (s t : ℕ) → IsRouter area.ids s
         → (lfa : Lfa) → IsLfa area s t (Some lfa) → (entries : ℕ → Option Primary)
         → ((x : ℕ) → IsRouter area.ids x → IsPrimary area x t (entries x))
         → (hops : List (List Arc)) × HopWalk area.arcs entries t lfa.next hops }
+    ensures own { (area : AreaParts) → IsArea area → (s t : ℕ) → IsRouter area.ids s
+        → (lfa : Lfa) → IsLfa area s t (Some lfa)
+        → (own : List Arc) × AreHopArcs area.arcs lfa.first lfa.second own }
+    ensures begins { (area : AreaParts) → IsArea area → (s t : ℕ) → IsRouter area.ids s
+        → (lfa : Lfa) → IsLfa area s t (Some lfa) → (own : List Arc)
+        → AreHopArcs area.arcs lfa.first lfa.second own → ArcWalk area.arcs s own lfa.next }
     ensures leads { (area : AreaParts) → IsArea area → (s t : ℕ) → IsRouter area.ids s
         → (lfa : Lfa) → IsLfa area s t (Some lfa) → (entries : ℕ → Option Primary)
         → ((x : ℕ) → IsRouter area.ids x → IsPrimary area x t (entries x))

@@ -1,4 +1,4 @@
-//! A way from a router to a neighbor.
+//! A way from a router to a neighbour.
 
 use area_graph::{ArcNo, BondNo, Spot};
 

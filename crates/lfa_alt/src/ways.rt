@@ -1,12 +1,10 @@
-//! The ways from a router to its neighbors.
+//! The ways from a router to its neighbours.
 
-ghost use Rattle.std.specs.Prelude.{◌≡◌, ◌≢◌, ◌<◌, ◌≤◌, ◌↔◌, ◌⊎◌, IfOk, IfSome, IsNone, IsTrue, Some, Contains, length, slice_get};
+ghost use Rattle.std.specs.Prelude.{◌≡◌, ◌≢◌, ◌<◌, ◌≤◌, ◌↔◌, IfOk, IfSome, IsNone, IsTrue, Some, length, slice_get};
 ghost use Rattle.area_graph.specs.declared.area_types.Arc.{Arc};
 ghost use Rattle.area_graph.specs.AreaInvariant.{IsArea};
 ghost use Rattle.mrt_graph.specs.GraphInvariant.{IsNetwork};
-ghost use Rattle.lfa_alt.specs.declared.way.Way.{Way};
-ghost use Rattle.lfa_alt.specs.Candidates.{Leaves};
-ghost use Rattle.lfa_alt.specs.Ways.{AreWays, IsAcrossTo, IsWayOver, way_across, way_over};
+ghost use Rattle.lfa_alt.specs.Ways.{AddsAcross, AddsOver, AreWays, IsAgain, LeadsOn, way_across, way_over};
 
 use crate::way::Way;
 use area_graph::{Arc, ArcNo, Area, Spot};
@@ -14,9 +12,11 @@ use mrt_graph::NoMemory;
 use primary_alt::is_network;
 use std::alloc::Global;
 
-/// The ways of a router, ordered by the node that they lead to.
+/// Ways of a router that stand for all of its ways, ordered by the node that they lead to: over each arc of the router to a
+/// network and on to a node, the one way by the least arc between these two.
 ///
-/// It looks at all arcs once, and once more for each arc of the router to a network.
+/// So there are at most as many as the arcs of the router, and its arcs to networks times the nodes on them. It looks at
+/// all arcs once, and once more for each arc of the router to a network.
 pub fn ways(alloc: Global, area: &Area, arcs: &[Arc], source: Spot) -> Result<Vec<Way>, NoMemory>
     requires kept { IsArea area.now }
     requires arcs { arcs.now ≡ area.now.arcs }
@@ -48,7 +48,7 @@ fn own_arc(arcs: &[Arc], number: usize, source: Spot) -> Option<ArcNo>
     }
 }
 
-/// Puts the ways over an arc of the source after those that are there.
+/// Puts ways over an arc of the source after those that are there.
 fn push_over(
     area: &Area,
     arcs: &[Arc],
@@ -60,8 +60,7 @@ fn push_over(
     requires arcs { arcs.now ≡ area.now.arcs }
     requires within { number < length arcs.now }
     requires from { (arc : Arc) → slice_get arcs.now number ≡ Some arc → arc.tail ≡ source }
-    ensures { IfOk result (λ _. (way : Way) → Contains ways.new.items way
-        ↔ (Contains ways.old.items way ⊎ IsWayOver area.now source number way)) }
+    ensures { IfOk result (λ _. AddsOver area.now source number ways.old.items ways.new.items) }
 {
     let arc = &arcs[number.get() as usize];
     if is_network(area, arc.to) {
@@ -73,7 +72,10 @@ fn push_over(
     }
 }
 
-/// Puts the ways over an arc to a network and from there on to another node than the source after those that are there.
+/// Puts ways over an arc to a network and from there on to other nodes than the source after those that are there: to each
+/// node the one by the least arc.
+///
+/// The arcs of a network to one node follow one another.
 fn push_across(
     arcs: &[Arc],
     source: Spot,
@@ -82,12 +84,12 @@ fn push_across(
     ways: &mut Vec<Way>,
 ) -> Result<(), NoMemory>
     requires few { length arcs.now ≤ 32768 }
-    ensures { IfOk result (λ _. (way : Way) → Contains ways.new.items way
-        ↔ (Contains ways.old.items way ⊎ IsAcrossTo arcs.now source number arc.now (length arcs.now) way)) }
+    ensures { IfOk result (λ _.
+        AddsAcross arcs.now source number arc.now (length arcs.now) ways.old.items ways.new.items) }
 {
     for second in 0..arcs.len() {
         let onward = &arcs[second];
-        if leads_on(arc, onward, source) {
+        if leads_on(arc, onward, source) && !is_again(arcs, second, onward) {
             let second = Some(ArcNo::new(second as u16));
             ways.push(way_across(number, arc, second, onward))?;
         }
@@ -97,9 +99,21 @@ fn push_across(
 
 /// Whether an arc goes on from another one, to another node than the source.
 fn leads_on(arc: &Arc, onward: &Arc, source: Spot) -> bool
-    ensures { IsTrue result ↔ ((onward.now.tail ≡ arc.now.to) × (onward.now.to ≢ source)) }
+    ensures { IsTrue result ↔ LeadsOn arc.now source onward.now }
 {
     onward.tail == arc.to && onward.to != source
+}
+
+/// Whether the arc just before leads between the same two nodes.
+fn is_again(arcs: &[Arc], second: usize, onward: &Arc) -> bool
+    requires within { second < length arcs.now }
+    ensures { IsTrue result ↔ IsAgain arcs.now second onward.now }
+{
+    if second == 0 {
+        return false;
+    }
+    let before = &arcs[second - 1];
+    before.tail == onward.tail && before.to == onward.to
 }
 
 fn way_over(number: ArcNo, arc: &Arc, network: Option<Spot>) -> Way

@@ -3,7 +3,7 @@ use Rattle.std.proofs.lemmas.Option.{slice_get_read, slice_get_within}
 use Rattle.mrt_graph.proofs.ListTests.{there}
 use Rattle.area_graph.specs.Parts.{AreaParts}
 use Rattle.primary_alt.specs.DistancesFrom.{AreDistancesFrom}
-use Rattle.lfa_alt.specs.declared.alternate.Choice.{Choice}
+use Rattle.lfa_alt.specs.declared.alternate.FreeCandidate.{FreeCandidate}
 use Rattle.lfa_alt.specs.Best.{IsBest, IsOfferedBy}
 use Rattle.lfa_alt.proofs.Bettering.{none_yet, nothing_each, nothing_there, one_more}
 use Rattle.lfa_alt.proofs.offering.best_of.Goals as goal
@@ -14,9 +14,9 @@ loop-number-init c = record {
   one_each = c.requires.one_each;
   near = c.requires.near;
   best = record {
-    one_each = ap length c.in_ok-best.ensures ∙ nothing_each c.args.targets.now;
+    one_each = ap length c.in_ok-best.ensures ∙ nothing_each c.args.destinations.now;
     each = λ t entry choice at is.
-        subst (λ (o : Option Choice). IsBest (IsOfferedBy c.args.searches.now c.args.source t entry c.args.ways.now 0) o) (nothing_there c.args.targets.now c.in_ok-best.best.items t entry choice c.in_ok-best.ensures at is)
+        subst (λ (o : Option FreeCandidate). IsBest (IsOfferedBy c.args.searches.now c.args.source t entry c.args.ways.now 0) o) (nothing_there c.args.destinations.now c.in_ok-best.best.items t entry choice c.in_ok-best.ensures at is)
         (none_yet c.args.searches.now c.args.source t entry c.args.ways.now);
   };
 }
@@ -49,7 +49,7 @@ loop-number-preserved c =
             let old = there c.loop-number.best.items t low in
             let before : IsBest (IsOfferedBy area s t entry c.args.ways.now n) old.0 =
             subst (λ (a : AreaParts). IsBest (IsOfferedBy a s t entry c.args.ways.now n) old.0) c.loop-number.invariant.same (c.loop-number.invariant.best.each t entry old.0 here old.1) in
-            let by = c.offer.ensures.better area read c.requires.targets t entry old.0 choice here old.1 is in
+            let by = c.offer.ensures.better area read c.requires.destinations t entry old.0 choice here old.1 is in
             subst (λ (a : AreaParts). IsBest (IsOfferedBy a s t entry c.args.ways.now (n + 1)) choice) (sym same)
             (one_more area s t n entry c.args.ways.now way old.0 choice at before by);
       };

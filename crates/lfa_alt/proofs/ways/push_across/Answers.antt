@@ -1,11 +1,13 @@
-use Rattle.std.proofs.Common.{◌∙◌, ◌+◌, ◌⊎◌, ℕ, List, Vec, Global, Some, length, sym, ap, subst, refl, true≢false}
+use Rattle.std.proofs.Common.{◌∙◌, ◌+◌, ℕ, List, Vec, Global, Some, length, sym, ap, subst, refl, true≢false}
 use Rattle.std.proofs.lemmas.Option.{slice_get_read}
 use Rattle.lfa_alt.specs.declared.way.Way.{Way}
-use Rattle.lfa_alt.specs.Ways.{IsAcrossTo, way_across}
-use Rattle.lfa_alt.proofs.WaysFound.{Are, across_all, across_left, across_more}
-use Rattle.lfa_alt.proofs.ways.push_across.Goals.{then-leads_on+in_ok-push, else-leads_on}
+use Rattle.lfa_alt.specs.Ways.{AddsAcross, way_across}
+use Rattle.lfa_alt.proofs.WaysFound.{across_again, across_all, across_left, across_more, across_none}
+use Rattle.lfa_alt.proofs.ways.push_across.Goals.{then-leads_on+then-not-is_again+in_ok-push, else-leads_on, else-leads_on-via-then-leads_on+else-not-is_again, else-leads_on-via-else-leads_on}
 use Rattle.lfa_alt.proofs.ways.push_across.Goals as goal
-use Rattle.std.specs.Prelude.{Contains}
+
+pub loop-second-init : goal.loop-second-init
+loop-second-init c = across_none c.args.arcs.now c.args.source c.args.number c.args.arc.now c.args.ways.now.items
 
 pub loop-second-preserved : goal.loop-second-preserved
 loop-second-preserved c =
@@ -18,16 +20,20 @@ loop-second-preserved c =
     let second = c.loop-second.second in
     let onward = c.index-arcs-second.result in
     let at = slice_get_read arcs (length arcs) second onward refl c.loop-second-test.true c.index-arcs-second.is in
+    let are = c.loop-second.invariant in
     elim c.if-leads_on.branch [
-      | then-leads_on+in_ok-push w ↦
-          let on = c.leads_on.ensures.0 w.if-leads_on.true in
-          subst (λ (ws : List Way). Are ws (λ way. Contains olds way ⊎ IsAcrossTo arcs s number arc (second + 1) way))
-          (sym (ap (λ (v : Vec Way Global). v.items) w.ways-is ∙ w.in_ok-push.ensures.items))
-          (across_more arcs s number arc olds ways second onward at c.loop-second.invariant on.0 on.1 w.way_across.result
-          (w.way_across.ensures ∙ ap (λ (n : ℕ). way_across number arc (Some n) onward) w.new.ensures))
+      | then-leads_on+then-not-is_again+in_ok-push w ↦
+          subst (λ (v : Vec Way Global). AddsAcross arcs s number arc (second + 1) olds v.items) (sym w.ways-is)
+          (subst (λ (ws : List Way). AddsAcross arcs s number arc (second + 1) olds ws) (sym w.in_ok-push.ensures.items)
+          (across_more arcs s number arc olds ways second onward at are (c.leads_on.ensures.0 w.if-leads_on.true) w.way_across.result
+          (w.way_across.ensures ∙ ap (λ (n : ℕ). way_across number arc (Some n) onward) w.new.ensures)))
       | else-leads_on w ↦
-          subst (λ (ws : List Way). Are ws (λ way. Contains olds way ⊎ IsAcrossTo arcs s number arc (second + 1) way)) (sym (ap (λ (v : Vec Way Global). v.items) w.ways-is))
-          (across_left arcs s number arc olds ways second onward at c.loop-second.invariant (λ on. true≢false (sym (c.leads_on.ensures.1 on) ∙ w.if-leads_on.false)))
+          subst (λ (v : Vec Way Global). AddsAcross arcs s number arc (second + 1) olds v.items) (sym w.ways-is)
+          (across_left arcs s number arc olds ways second onward at are
+          (elim w.else-leads_on.branch [
+            | else-leads_on-via-then-leads_on+else-not-is_again v ↦ across_again arcs s number arc olds ways second onward at are (v.is_again.ensures.0 v.if-not-is_again.false)
+            | else-leads_on-via-else-leads_on v ↦ λ on. absurd (true≢false (sym (c.leads_on.ensures.1 on) ∙ v.if-leads_on.false))
+          ]))
     ]
 
 pub returns : goal.returns

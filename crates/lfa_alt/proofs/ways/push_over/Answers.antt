@@ -1,12 +1,11 @@
-use Rattle.std.proofs.Common.{◌∙◌, ◌<◌, ◌⊎◌, List, length, sym, subst, refl, arith}
-use Rattle.std.specs.Prelude.{Contains}
+use Rattle.std.proofs.Common.{◌∙◌, ◌<◌, List, length, sym, subst, refl, arith}
 use Rattle.std.proofs.lemmas.Result.{on_ok_weaker}
 use Rattle.area_graph.specs.declared.area_types.Arc.{Arc}
 use Rattle.primary_alt.proofs.ArcWalks.{network_by_test, no_network_by_test}
 use Rattle.primary_alt.proofs.Beginning.{at_own}
 use Rattle.lfa_alt.specs.Candidates.{Leaves}
-use Rattle.lfa_alt.specs.Ways.{IsAcrossTo}
-use Rattle.lfa_alt.proofs.WaysFound.{Are, network_adds, router_adds}
+use Rattle.lfa_alt.specs.Ways.{AddsAcross}
+use Rattle.lfa_alt.proofs.WaysFound.{network_adds, router_adds}
 use Rattle.lfa_alt.proofs.ways.push_over.Goals as goal
 
 pub returns-in_ok-push : goal.returns-in_ok-push
@@ -20,9 +19,9 @@ returns-in_ok-push c =
     let network = network_by_test area.ids arc.to (sym c.is_network.ensures ∙ c.if-is_network.true) in
     on_ok_weaker c.push_across.result
     (λ are.
-    network_adds area c.args.source c.args.number arc leaves network c.args.ways.now.items c.push.new.self.items c.push_across.new.ways.items c.way_over.result c.way_over.ensures
+    network_adds area c.args.source c.args.number arc leaves c.requires.kept network c.args.ways.now.items c.push.new.self.items c.push_across.new.ways.items c.way_over.result c.way_over.ensures
     c.in_ok-push.ensures.items
-    (subst (λ (xs : List Arc). Are c.push_across.new.ways.items (λ way. Contains c.push.new.self.items way ⊎ IsAcrossTo xs c.args.source c.args.number arc (length xs) way)) c.requires.arcs are))
+    (subst (λ (xs : List Arc). AddsAcross xs c.args.source c.args.number arc (length xs) c.push.new.self.items c.push_across.new.ways.items) c.requires.arcs are))
     c.push_across.ensures
 
 pub returns-in_ok-push-2 : goal.returns-in_ok-push-2

@@ -4,7 +4,7 @@ use Rattle.primary_alt.specs.declared.shortest.Primary.{Primary}
 use Rattle.primary_alt.specs.Primaries.{IsPrimary}
 use Rattle.primary_alt.proofs.Beginning.{at_own}
 use Rattle.lfa_alt.proofs.Beyond.{left_of, part_of}
-use Rattle.lfa_alt.proofs.targets.target.Goals as goal
+use Rattle.lfa_alt.proofs.destinations.destination.Goals as goal
 
 pub overflow_sub-result : goal.overflow_sub-result
 overflow_sub-result c =

@@ -5,7 +5,7 @@ use primary_alt::Primary;
 
 /// What is asked of a destination that has a primary.
 #[derive(Clone, Copy)]
-pub struct Target {
+pub struct Destination {
     pub primary: Primary,
     /// The bond of the primary's first arc.
     pub bond: BondNo,
