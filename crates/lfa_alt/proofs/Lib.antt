@@ -1,4 +1,3 @@
-pub mod Adding
 pub mod Bettering
 pub mod Beyond
 pub mod CandidateWays

@@ -1,15 +1,17 @@
 -- A router has one text on its loop-free alternates.
-use Rattle.std.proofs.Common.{◌≡◌, ◌++◌, ◌∙◌, ℕ, zero, suc, List, Option, Some, None, codes, decimal, length, slice_get, refl, sym, ap, subst}
+use Rattle.std.proofs.Common.{◌≡◌, ◌++◌, ◌∙◌, ℕ, List, Option, Some, None, codes, decimal, length, slice_get, refl, sym, ap, subst}
 use Rattle.std.proofs.lemmas.Option.{same_Some}
 use Rattle.area_graph.specs.declared.area_types.Arc.{Arc}
 use Rattle.area_graph.specs.Parts.{AreaParts}
 use Rattle.mrt_graph.specs.declared.node_id.NodeId.{NodeId}
 use Rattle.mrt_graph.specs.Spelling.{node_text}
+use Rattle.text_parts.specs.Hops.{hop_text}
+use Rattle.text_parts.proofs.Adding.{one_text_of_parts}
 use Rattle.primary_alt.specs.declared.shortest.Primary.{Primary}
 use Rattle.primary_alt.proofs.PrimariesLead.{one_entry}
 use Rattle.lfa_alt.specs.declared.alternate.Lfa.{Lfa}
-use Rattle.lfa_alt.specs.LfaText.{AreLfaWords, AreLines, IsArcHop, IsHead, IsLfaHop, IsLfaText, IsLine, IsPartOn, Line, NoLine}
-use Rattle.lfa_alt.specs.LfaWords.{hop_text, kind_text}
+use Rattle.lfa_alt.specs.LfaText.{AreLfaWords, IsArcHop, IsHead, IsLfaHop, IsLfaText, IsLine, IsPartOn, Line, NoLine}
+use Rattle.lfa_alt.specs.LfaWords.{kind_text}
 use Rattle.lfa_alt.proofs.Chosen.{its_primary}
 use Rattle.lfa_alt.proofs.OneLfa.{one_answer}
 
@@ -56,17 +58,9 @@ one_part area s t text other (Line p x is line) (NoLine none) = let clash : ◌�
 one_part area s t text other (Line p x is line) (Line p' x' is' line') =
     one_line area s t p' x x' (subst (λ (q : Primary). IsLine area s t q x) (its_primary area s t p p' is is') line) line'
 
-one_lines : (area : AreaParts) (s t : ℕ) (text other : List ℕ) → AreLines area s t text → AreLines area s t other → text ≡ other
-one_lines area s zero text other is is' = is ∙ sym is'
-one_lines area s (suc t) text other is is' =
-    is.4
-    ∙ ap (λ (xs : List ℕ). xs ++ is.1) (one_lines area s t is.0 is'.0 is.2 is'.2)
-    ∙ ap (λ (xs : List ℕ). is'.0 ++ xs) (one_part area s t is.1 is'.1 is.3 is'.3)
-    ∙ sym is'.4
-
 pub one_text : (area : AreaParts) (s : ℕ) (text other : List ℕ) → IsLfaText area s text → IsLfaText area s other → text ≡ other
 one_text area s text other is is' =
     is.spelled
     ∙ ap (λ (xs : List ℕ). xs ++ is.lines) (one_head area s is.head is'.head is.head_is is'.head_is)
-    ∙ ap (λ (xs : List ℕ). is'.head ++ xs) (one_lines area s (length area.ids) is.lines is'.lines is.lines_are is'.lines_are)
+    ∙ ap (λ (xs : List ℕ). is'.head ++ xs) (one_text_of_parts (IsPartOn area s) (one_part area s) (length area.ids) is.lines is'.lines is.lines_are is'.lines_are)
     ∙ sym is'.spelled

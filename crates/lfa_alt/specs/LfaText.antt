@@ -1,13 +1,15 @@
 -- The text on a router's loop-free alternates.
-use Rattle.std.specs.Prelude.{◌≡◌, ◌++◌, ℕ, zero, suc, List, [], Option, Some, None, codes, decimal, length, slice_get}
+use Rattle.std.specs.Prelude.{◌≡◌, ◌++◌, ℕ, List, [], Option, Some, None, codes, decimal, length, slice_get}
 use Rattle.area_graph.specs.declared.area_types.Arc.{Arc}
 use Rattle.area_graph.specs.Parts.{AreaParts}
 use Rattle.mrt_graph.specs.declared.node_id.NodeId.{NodeId}
 use Rattle.mrt_graph.specs.Spelling.{node_text}
+use Rattle.text_parts.specs.Hops.{hop_text}
+use Rattle.text_parts.specs.Parts.{AreParts}
 use Rattle.primary_alt.specs.declared.shortest.Primary.{Primary}
 use Rattle.primary_alt.specs.Primaries.{IsPrimary}
 use Rattle.lfa_alt.specs.declared.alternate.Lfa.{Lfa}
-use Rattle.lfa_alt.specs.LfaWords.{hop_text, kind_text}
+use Rattle.lfa_alt.specs.LfaWords.{kind_text}
 use Rattle.lfa_alt.specs.LoopFree.{IsLfa}
 
 -- the first line: the router, and how many nodes the area has
@@ -55,16 +57,10 @@ pub data IsPartOn (area : AreaParts) (s t : ℕ) : List ℕ → Type 0 where
   Line : (primary : Primary) (text : List ℕ) → IsPrimary area s t (Some primary) → IsLine area s t primary text
       → IsPartOn area s t text
 
--- the lines on the first so many nodes, by number, and so by ascending identifier
-abbrev pub AreLines : AreaParts → ℕ → ℕ → List ℕ → Type 0
-AreLines area s zero text = text ≡ []
-AreLines area s (suc t) text =
-    (lines : List ℕ) × (part : List ℕ) × AreLines area s t lines × IsPartOn area s t part × (text ≡ lines ++ part)
-
--- the first line, and the lines on all nodes
+-- the first line, and the lines on all nodes, by number, and so by ascending identifier
 pub record IsLfaText (area : AreaParts) (s : ℕ) (text : List ℕ) : Type 0 where
   pub head : List ℕ
   pub head_is : IsHead area s head
   pub lines : List ℕ
-  pub lines_are : AreLines area s (length area.ids) lines
+  pub lines_are : AreParts (IsPartOn area s) (length area.ids) lines
   pub spelled : text ≡ head ++ lines

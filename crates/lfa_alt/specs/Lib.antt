@@ -1,4 +1,3 @@
-pub mod Adds
 pub mod Best
 pub mod Candidates
 pub mod HopWalks

@@ -4,17 +4,19 @@ ghost use Rattle.std.specs.Prelude.{◌≡◌, ◌<◌, IfOk, IfSome, length};
 ghost use Rattle.area_graph.specs.AreaInvariant.{IsArea};
 ghost use Rattle.mrt_graph.specs.GraphInvariant.{IsNetwork};
 ghost use Rattle.primary_alt.specs.Primaries.{ArePrimaries, IsPrimary};
-ghost use Rattle.lfa_alt.specs.Adds.{Adds};
-ghost use Rattle.lfa_alt.specs.LfaText.{AreLfaWords, AreLines, IsArcHop, IsHead, IsLfaHop, IsLfaText, IsLine, IsPartOn};
+ghost use Rattle.text_parts.specs.Adds.{Adds};
+ghost use Rattle.text_parts.specs.Parts.{AreParts};
+ghost use Rattle.lfa_alt.specs.LfaText.{AreLfaWords, IsArcHop, IsHead, IsLfaHop, IsLfaText, IsLine, IsPartOn};
 ghost use Rattle.lfa_alt.specs.LoopFree.{AreLfas, IsLfa};
 
 use crate::alternate::Lfa;
 use crate::finding::alternates;
-use crate::words::{kind_word, push, push_count, push_hop, push_node};
+use crate::words::kind_word;
 use area_graph::{ArcNo, Area, Spot};
 use mrt_graph::NoMemory;
 use primary_alt::{Primary, primaries};
 use std::alloc::Global;
+use text_parts::{push, push_count, push_hop, push_node};
 
 /// The text on the loop-free alternates of a router: a line on the router, and a line on each node that it has a primary
 /// for.
@@ -59,7 +61,7 @@ fn push_lines(
     requires primaries { ArePrimaries area.now source primaries.now }
     requires entries { AreLfas area.now source entries.now }
     ensures { IfOk result (λ _.
-        Adds (AreLines area.now source (length area.now.ids)) text.old.items text.new.items) }
+        Adds (AreParts (IsPartOn area.now source) (length area.now.ids)) text.old.items text.new.items) }
 {
     let count = area.count();
     for t in 0..count {

@@ -4,13 +4,10 @@ use Rattle.std.specs.Prelude.{IfSome, IsTrue, is_some}
 use Rattle.std.proofs.lemmas.List.{append-nil}
 use Rattle.mrt_graph.specs.declared.link.Element.{Element}
 use Rattle.primary_alt.specs.declared.shortest.Primary.{Primary}
-use Rattle.mrt_report.specs.Adds.{Adds}
+use Rattle.text_parts.specs.Adds.{Adds}
+use Rattle.text_parts.proofs.Adding.{joined}
 use Rattle.mrt_report.specs.Letters.{AreArcElements, AreArcLetters, AreLetters, AreSecondLetters}
 use Rattle.mrt_report.specs.LineParts.{LineParts}
-
--- a part and another one after it
-pub joined : (before part other middle after : List ℕ) → middle ≡ before ++ part → after ≡ middle ++ other → after ≡ before ++ (part ++ other)
-joined before part other middle after first then = then ∙ ap (λ (xs : List ℕ). xs ++ other) first ∙ append_assoc before part other
 
 letters_of_second : (parts : LineParts) (to : ℕ) (found : Option ℕ) (second : ℕ) (text : List ℕ) → found ≡ Some second → AreArcLetters parts to second text → AreSecondLetters parts to found text
 letters_of_second parts to found second text is are = rw is are

@@ -5,7 +5,7 @@ use Rattle.std.proofs.lemmas.Bool.{eq-eqb, ne_eqb}
 use Rattle.std.proofs.lemmas.List.{append-nil}
 use Rattle.std.proofs.lemmas.List.Folds.{concat-append}
 use Rattle.std.proofs.lemmas.List.Elements.{filter-append}
-use Rattle.mrt_report.specs.Adds.{Adds}
+use Rattle.text_parts.specs.Adds.{Adds}
 use Rattle.mrt_report.specs.AddsLines.{AddsLines}
 use Rattle.mrt_report.specs.TableText.{others}
 

@@ -22,7 +22,8 @@ use Rattle.primary_alt.specs.declared.shortest.Primary.{Primary}
 use Rattle.mrt_report.specs.Letters.{AreArcElements, AreArcLetters, AreLetters, AreSecondLetters, Inside, IsLinkElement, IsNodeElement, IsRepair, Outside}
 use Rattle.mrt_report.specs.Lines.{AreColorWords, ArePrimaryWords, IsArcHop, IsEndOn, IsLine, IsLinkHop}
 use Rattle.mrt_report.specs.LineParts.{LineParts}
-use Rattle.mrt_report.specs.TableWords.{hop_text, letter_text, tag_text}
+use Rattle.text_parts.specs.Hops.{hop_text}
+use Rattle.mrt_report.specs.TableWords.{letter_text, tag_text}
 
 -- for each failure there is one alternate
 abbrev pub OneAlternate : Type 0

@@ -10,7 +10,8 @@ use Rattle.mrt_graph.specs.Topology.{Topology}
 use Rattle.primary_alt.specs.declared.shortest.Primary.{Primary}
 use Rattle.mrt_report.specs.Letters.{AreLetters}
 use Rattle.mrt_report.specs.LineParts.{LineParts}
-use Rattle.mrt_report.specs.TableWords.{hop_text, tag_text}
+use Rattle.text_parts.specs.Hops.{hop_text}
+use Rattle.mrt_report.specs.TableWords.{tag_text}
 
 -- a node's end on a link
 pub record IsEndOn (g : Topology) (s link : ℕ) (end : End) : Type 0 where

@@ -1,11 +1,9 @@
 -- The words of a table.
-use Rattle.std.specs.Prelude.{◌++◌, ℕ, List, Option, Some, None, codes}
+use Rattle.std.specs.Prelude.{ℕ, List, Option, Some, None, codes}
 use Rattle.mrt_graph.specs.declared.cert.Color.{Color}
 use Rattle.mrt_graph.specs.declared.cert.Color.TheVariants.{Blue, Red}
 use Rattle.mrt_graph.specs.declared.cert.Tag.{Tag}
 use Rattle.mrt_graph.specs.declared.cert.Tag.TheVariants.{Sole, Head, Top, Below, Above, Unordered, Carried}
-use Rattle.mrt_graph.specs.declared.node_id.NodeId.{NodeId}
-use Rattle.mrt_graph.specs.Spelling.{address_text, node_text}
 
 -- a row's tag, in lower case
 abbrev pub tag_text : Tag → List ℕ
@@ -16,10 +14,6 @@ tag_text Below = codes "below"
 tag_text Above = codes "above"
 tag_text Unordered = codes "unordered"
 tag_text Carried = codes "carried"
-
--- where a packet goes: the far node, and the link data of the near end as an address
-abbrev pub hop_text : NodeId → ℕ → List ℕ
-hop_text far link_data = node_text far ++ codes "/" ++ address_text link_data
 
 -- the color that repairs a failure, or that none does
 abbrev pub letter_text : Option Color → List ℕ

@@ -2,7 +2,7 @@
 
 ghost use Rattle.std.specs.Prelude.{◌≡◌, ◌<◌, ℕ, IfOk, IfSome, Some, length};
 ghost use Rattle.mrt_graph.specs.declared.cert.Color.TheVariants.{Blue, Red};
-ghost use Rattle.mrt_report.specs.Adds.{Adds};
+ghost use Rattle.text_parts.specs.Adds.{Adds};
 ghost use Rattle.mrt_report.specs.Letters.{AreArcElements, AreArcLetters, AreLetters, IsRepair};
 ghost use Rattle.mrt_report.specs.LineParts.{AreLineParts};
 ghost use Rattle.mrt_report.specs.Uses.{TellUses, TellsUse};
@@ -11,9 +11,10 @@ ghost use Rattle.mrt_report.specs.Viewed.{viewed};
 use crate::elements::{ArcElements, elements_of, elements_of_second};
 use crate::parts::Parts;
 use crate::uses::{ArcUses, uses_of};
-use crate::words::{letter, push};
+use crate::words::letter;
 use mrt_graph::{Color, Element, NoMemory, NodeNo};
 use primary_alt::{Primary, is_between};
+use text_parts::push;
 
 /// Puts the letters of a primary for `to` at the end of a text.
 pub fn push_letters(

@@ -6,7 +6,7 @@ ghost use Rattle.std.specs.Option.{option_map};
 ghost use Rattle.area_graph.specs.AreaInvariant.{IsArea};
 ghost use Rattle.mrt_graph.specs.GraphInvariant.{IsTopology};
 ghost use Rattle.mrt_graph.specs.Leads.{leads};
-ghost use Rattle.mrt_report.specs.Adds.{Adds};
+ghost use Rattle.text_parts.specs.Adds.{Adds};
 ghost use Rattle.mrt_report.specs.Lines.{
   AreColorWords,
   ArePrimaryWords,
@@ -20,10 +20,11 @@ ghost use Rattle.mrt_report.specs.Viewed.{viewed};
 
 use crate::letters::push_letters;
 use crate::parts::Parts;
-use crate::words::{push, push_hop, push_node, tag_word};
+use crate::words::tag_word;
 use area_graph::ArcNo;
 use mrt_graph::{End, Graph, LinkNo, NoMemory, NodeNo};
 use primary_alt::{Primary, RowsOf};
+use text_parts::{push, push_hop, push_node};
 
 /// Puts the line on a destination at the end of a text.
 pub fn push_line(

@@ -4,18 +4,18 @@ ghost use Rattle.std.specs.Prelude.{◌≢◌, ◌<◌, IfOk, length};
 ghost use Rattle.area_graph.specs.Fits.{Fits};
 ghost use Rattle.mrt_graph.specs.Column.{ColumnSound, rows_of_column};
 ghost use Rattle.mrt_graph.specs.GraphInvariant.{IsNetwork};
-ghost use Rattle.mrt_report.specs.Adds.{Adds};
+ghost use Rattle.text_parts.specs.Adds.{Adds};
 ghost use Rattle.mrt_report.specs.LineParts.{IsPrimaryOf, line_parts};
 ghost use Rattle.mrt_report.specs.Lines.{IsLine};
 ghost use Rattle.mrt_report.specs.TableText.{IsHead};
 
 use crate::line::push_line;
 use crate::parts::Parts;
-use crate::words::{push, push_count, push_node};
 use area_graph::Area;
 use mrt_graph::{Column, Graph, LinkNo, NoMemory, NodeNo};
 use primary_alt::Primary;
 use std::alloc::Global;
+use text_parts::{push, push_count, push_node};
 
 /// As many bytes as a line of a table has at most.
 const LONGEST_LINE: usize = 192;

@@ -13,7 +13,6 @@ mod separating_law;
 mod survey;
 mod survey_law;
 mod tally;
-mod words;
 
 pub use database::generate;
 pub use made_law::{

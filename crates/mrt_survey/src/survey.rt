@@ -7,9 +7,9 @@ ghost use Rattle.mrt_survey.specs.SurveyText.{IsSurveyText, block_line, island_l
 
 use crate::counts::{blocks_with_links, separating_nodes, sole_links};
 use crate::tally::{Tally, tally_of};
-use crate::words::{push, push_node, push_number};
 use mrt_graph::{Cert, Graph, NoMemory, NodeId, NodeNo};
 use std::alloc::Global;
+use text_parts::{push, push_node, push_number};
 
 /// As many bytes as a survey has at most.
 const LONGEST: usize = 320;

@@ -1,5 +1,5 @@
 use Rattle.std.proofs.Common.{refl}
-use Rattle.lfa_alt.proofs.Adding.{joined}
+use Rattle.text_parts.proofs.Adding.{joined}
 use Rattle.lfa_alt.proofs.text.push_line.Goals as goal
 
 pub returns : goal.returns

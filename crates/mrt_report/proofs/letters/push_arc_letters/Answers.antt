@@ -1,5 +1,5 @@
 use Rattle.std.proofs.Common.{◌++◌, ◌∙◌, ℕ, List, ap, refl}
-use Rattle.mrt_report.proofs.Adding.{joined}
+use Rattle.text_parts.proofs.Adding.{joined}
 use Rattle.mrt_report.proofs.letters.push_arc_letters.Goals as goal
 
 pub returns : goal.returns

@@ -1,7 +1,7 @@
 use Rattle.std.proofs.Common.{◌++◌, ◌∙◌, ℕ, List, refl, ap}
 use Rattle.mrt_graph.specs.declared.cert.Color.TheVariants.{Blue, Red}
 use Rattle.mrt_graph.specs.Column.{rows_of_column}
-use Rattle.mrt_report.proofs.Adding.{joined}
+use Rattle.text_parts.proofs.Adding.{joined}
 use Rattle.mrt_report.proofs.ForLine.{row_there, row_touches}
 use Rattle.mrt_report.proofs.line.push_colors.Goals as goal
 

@@ -1,5 +1,5 @@
 use Rattle.std.proofs.Common.{refl}
-use Rattle.mrt_report.proofs.Adding.{joined}
+use Rattle.text_parts.proofs.Adding.{joined}
 use Rattle.mrt_report.proofs.line.push_primary.Goals as goal
 
 pub returns : goal.returns

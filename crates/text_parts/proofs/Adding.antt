@@ -1,0 +1,33 @@
+-- Parts that are put at the end of a text, one after another.
+use Rattle.std.proofs.Common.{◌≡◌, ◌+◌, ◌++◌, ◌∙◌, ℕ, zero, suc, List, [], refl, sym, ap, subst, arith, append-nil, append_assoc}
+use Rattle.text_parts.specs.Adds.{Adds}
+use Rattle.text_parts.specs.Parts.{AreParts}
+
+-- no part
+pub nothing : (IsPart : List ℕ → Type 0) (text : List ℕ) → IsPart [] → Adds IsPart text text
+nothing IsPart text is = record { part = []; is = is; added = sym (append-nil text) }
+
+-- a part and another one after it
+pub joined : (before part other middle after : List ℕ) → middle ≡ before ++ part → after ≡ middle ++ other → after ≡ before ++ (part ++ other)
+joined before part other middle after first then = then ∙ ap (λ (xs : List ℕ). xs ++ other) first ∙ append_assoc before part other
+
+-- one part more
+pub one_part_more : (IsPart : ℕ → List ℕ → Type 0) (n : ℕ) (before middle after : List ℕ) → Adds (AreParts IsPart n) before middle
+    → Adds (IsPart n) middle after → Adds (AreParts IsPart (n + 1)) before after
+one_part_more IsPart n before middle after parts part =
+    let up : suc n ≡ n + 1 = omega arith in
+    record {
+      part = parts.part ++ part.part;
+      is = subst (λ (k : ℕ). AreParts IsPart k (parts.part ++ part.part)) up (parts.part, part.part, parts.is, part.is, refl);
+      added = joined before parts.part part.part middle after parts.added part.added;
+    }
+
+-- where there is one part for each number, there is one text of them
+pub one_text_of_parts : (IsPart : ℕ → List ℕ → Type 0) → ((n : ℕ) (part other : List ℕ) → IsPart n part → IsPart n other → part ≡ other) → (n : ℕ) (text other : List ℕ)
+    → AreParts IsPart n text → AreParts IsPart n other → text ≡ other
+one_text_of_parts IsPart one zero text other is is' = is ∙ sym is'
+one_text_of_parts IsPart one (suc n) text other is is' =
+    is.4
+    ∙ ap (λ (xs : List ℕ). xs ++ is.1) (one_text_of_parts IsPart one n is.0 is'.0 is.2 is'.2)
+    ∙ ap (λ (xs : List ℕ). is'.0 ++ xs) (one n is.1 is'.1 is.3 is'.3)
+    ∙ sym is'.4

@@ -1,0 +1,8 @@
+-- A text of one part after another.
+use Rattle.std.specs.Prelude.{◌≡◌, ◌++◌, ℕ, zero, suc, List, []}
+
+-- parts, one for each of the first so many numbers
+abbrev pub AreParts : (ℕ → List ℕ → Type 0) → ℕ → List ℕ → Type 0
+AreParts IsPart zero text = text ≡ []
+AreParts IsPart (suc n) text =
+    (parts : List ℕ) × (part : List ℕ) × AreParts IsPart n parts × IsPart n part × (text ≡ parts ++ part)
