@@ -1,4 +1,4 @@
--- One choice after another.
+-- One candidate after another.
 use Rattle.std.proofs.Common.{◌≡◌, ◌≤◌, ◌+◌, ◌∙◌, ◌⊎◌, ℕ, true, false, List, Option, Some, None, length, map, set, slice_get, get_or, inl, inr, refl, sym, ap, subst, arith}
 use Rattle.std.specs.Prelude.{◌↔◌}
 use Rattle.std.specs.Ordering.{is_gt, nat_cmp, ordering_reverse}
@@ -62,7 +62,7 @@ other_way a b gt = go (candidate_cmp a b) (candidate_cmp b a) gt (candidate_tota
 itself : (a : FreeCandidate) → is_gt (candidate_cmp a a) ≡ false
 itself a = ap is_gt (tied_itself candidate_total a)
 
--- what is as good as a choice of others is the best of all
+-- the best of two sorts is the best of both
 module _ (P Q R : FreeCandidate → Type 0) (split : (c : FreeCandidate) → R c → P c ⊎ Q c) (left : (c : FreeCandidate) → P c → R c) (right : (c : FreeCandidate) → Q c → R c) where
   pub best_of_both : (best offered : Option FreeCandidate) → IsBest P best → ((c : FreeCandidate) → (offered ≡ Some c) ↔ Q c) → IsBest R (better best offered)
   best_of_both None None (NoneIs none) exactly = NoneIs (λ c is. elim (split c is) [ inl p ↦ none c p | inr q ↦ let clash = (exactly c).1 q in cc ])
@@ -123,7 +123,7 @@ one_more area s t n entry ways way old new at best by =
 pub none_yet : (area : AreaParts) (s t : ℕ) (entry : Option Destination) (ways : List Way) → IsBest (IsOfferedBy area s t entry ways 0) None
 none_yet area s t entry ways = NoneIs (λ c is. absurd (omega (arith, is.low)))
 
--- at first there is no choice for any node
+-- at first there is no candidate for any node
 abbrev nothing : Option Destination → Option FreeCandidate
 nothing _ = None
 

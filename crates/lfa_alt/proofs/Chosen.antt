@@ -22,7 +22,7 @@ use Rattle.lfa_alt.specs.LoopFree.{IsLfa, IsLoopFree, NoPrimary, NoneIsLoopFree,
 use Rattle.lfa_alt.proofs.HopsLead.{IsAt}
 use Rattle.lfa_alt.proofs.ShortestWalks.{touches}
 
--- the choice behind an alternate
+-- the loop-free candidate that an alternate is
 pub record IsChosen (area : AreaParts) (s t : ℕ) (lfa : Lfa) : Type 0 where
   pub primary : Primary
   pub is : IsPrimary area s t (Some primary)

@@ -1,4 +1,4 @@
--- The loop-free alternates, by the best choice for each node.
+-- The loop-free alternates, by the best candidate for each node.
 use Rattle.std.proofs.Common.{◌≡◌, ◌<◌, ◌+◌, ◌∙◌, ℕ, false, List, Option, Some, None, length, map, slice_get, refl, sym, ap, subst, arith}
 use Rattle.std.specs.Option.{option_map}
 use Rattle.std.specs.Ordering.{is_gt}

@@ -1,4 +1,4 @@
--- The first one of the choices so far.
+-- The first one of the loop-free candidates so far.
 use Rattle.std.specs.Prelude.{◌≡◌, ◌<◌, ℕ, List, Option, Some, None, length, slice_get, if◌then◌else◌}
 use Rattle.std.specs.Ordering.{is_gt}
 use Rattle.area_graph.specs.Parts.{AreaParts}
@@ -8,7 +8,7 @@ use Rattle.lfa_alt.specs.declared.way.Way.{Way}
 use Rattle.lfa_alt.specs.LoopFree.{IsFirstOf, candidate_cmp}
 use Rattle.lfa_alt.specs.Destinations.{Offers}
 
--- of these choices the first one; none where there is none
+-- of these candidates the first one; none where there is none
 pub data IsBest (Is : FreeCandidate → Type 0) : Option FreeCandidate → Type 0 where
   NoneIs : ((choice : FreeCandidate) → ¬ Is choice) → IsBest Is None
   TheBest : (choice : FreeCandidate) → Is choice → IsFirstOf Is choice → IsBest Is (Some choice)
@@ -19,7 +19,7 @@ better None offered = offered
 better (Some best) None = Some best
 better (Some best) (Some offered) = if is_gt (candidate_cmp best offered) then Some offered else Some best
 
--- one of the first so many ways offers the choice for t
+-- one of the first so many ways offers the candidate for t
 pub record IsOfferedBy (area : AreaParts) (s t : ℕ) (entry : Option Destination) (ways : List Way) (count : ℕ) (choice : FreeCandidate)
     : Type 0 where
   pub number : ℕ
@@ -28,7 +28,7 @@ pub record IsOfferedBy (area : AreaParts) (s t : ℕ) (entry : Option Destinatio
   pub there : slice_get ways number ≡ Some way
   pub offers : Offers area s t entry way choice
 
--- of each node the first one of the choices that the first so many ways offer
+-- of each node the first one of the candidates that the first so many ways offer
 pub record AreBest (area : AreaParts) (s : ℕ) (destinations : List (Option Destination)) (ways : List Way) (count : ℕ)
     (best : List (Option FreeCandidate)) : Type 0 where
   pub one_each : length best ≡ length destinations

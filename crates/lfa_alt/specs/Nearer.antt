@@ -16,7 +16,7 @@ pub record ProtectsBy (known : List (Option ℕ)) (t : ℕ) (destination : Desti
   pub there : slice_get known destination.primary.next ≡ Some out
   pub nearer : IsNearer rest out destination.beyond
 
--- the new choice is the old one or one that is offered, whichever comes first
+-- the new candidate is the old one or one that is offered, whichever comes first
 pub record IsBetterBy (Is : FreeCandidate → Type 0) (old new : Option FreeCandidate) : Type 0 where
   pub offered : Option FreeCandidate
   pub exactly : (choice : FreeCandidate) → (offered ≡ Some choice) ↔ Is choice
