@@ -1,19 +1,15 @@
 -- The near rows of a source, one destination after another.
-use Rattle.std.proofs.Common.{◌≡◌, ◌≢◌, ◌∙◌, ◌<◌, ◌≤◌, ◌+◌, ◌++◌, ℕ, zero, suc, Bool, true, List, [], ◌∷◌, Option, Some, None, filter, length, not, set, slice_get, take, refl, sym, ap, subst, inl, inr, arith, add-one, append-nil}
-use Rattle.std.proofs.lemmas.Bool.{cases_eq}
-use Rattle.std.proofs.lemmas.Option.{slice_get_within}
+use Rattle.std.proofs.Common.{◌≡◌, ◌≢◌, ◌∙◌, ◌<◌, ◌+◌, ◌++◌, ℕ, zero, suc, true, List, [], ◌∷◌, Option, Some, None, length, not, set, slice_get, take, refl, sym, ap, subst, arith, append-nil}
 use Rattle.mrt_graph.specs.declared.cert.Row.{Row}
 use Rattle.mrt_graph.specs.declared.cert.Tag.{Tag}
 use Rattle.mrt_graph.specs.declared.cert.Tag.TheVariants as tags
 use Rattle.mrt_graph.specs.Tags.{same_tag}
-use Rattle.link_direction.specs.BlockOfTwo.{HaveInCommon, ToHead}
-use Rattle.inc_dec_spf.specs.declared.reach.Dir.{Dir}
+use Rattle.link_direction.specs.BlockOfTwo.{ToHead}
 use Rattle.inc_dec_spf.specs.declared.reach.Dir.TheVariants.{Down, Up}
-use Rattle.inc_dec_spf.specs.FirstLink.{IsFirstLink}
 use Rattle.inc_dec_spf.specs.LeastPath.{HasMoreLinks}
 use Rattle.mrt_rows.specs.declared.members.Home.{Home}
 use Rattle.mrt_rows.specs.NearOf.{Apart, AreLinked, InCommon, IsNearRow, is_near, near_first, near_in}
-use Rattle.mrt_rows.specs.Put.{IsHome, IsOwnRow, ShareMoreLinks}
+use Rattle.mrt_rows.specs.Put.{IsHome, ShareMoreLinks}
 use Rattle.mrt_rows.specs.RowLines.{LineOf}
 use Rattle.mrt_rows.specs.RowsOf.{HasRow}
 use Rattle.mrt_rows.proofs.CarriedRows.{carried_tag, row_near}

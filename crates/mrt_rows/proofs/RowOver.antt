@@ -1,14 +1,13 @@
 -- The row for a node with which the source has a block in common, by first links and sole links.
-use Rattle.std.proofs.Common.{◌≡◌, ◌≢◌, ◌∙◌, ◌<◌, ℕ, Option, Some, None, length, refl, sym, ap, subst, inl, inr}
+use Rattle.std.proofs.Common.{◌≡◌, ◌≢◌, ◌<◌, ℕ, Some, None, length, refl, sym, subst, inl, inr}
 use Rattle.std.proofs.lemmas.Bool.{cases_eq}
 use Rattle.mrt_graph.specs.declared.cert.Row.{Row}
 use Rattle.mrt_graph.specs.declared.cert.Tag.TheVariants as tags
-use Rattle.mrt_graph.specs.declared.gadag.Place.{Place}
 use Rattle.link_direction.specs.BlockOfTwo.{FromHead, HaveInCommon, Peers, ToHead}
 use Rattle.inc_dec_spf.specs.declared.reach.Dir.TheVariants.{Down, Up}
 use Rattle.inc_dec_spf.specs.FirstLink.{IsFirstLink, no_link}
 use Rattle.mrt_rows.specs.declared.members.Home.{Home}
-use Rattle.mrt_rows.specs.NearOf.{Apart, InCommon, IsNearRow, IsPlaceOf, IsSoleOf}
+use Rattle.mrt_rows.specs.NearOf.{Apart, InCommon, IsNearRow, IsSoleOf}
 use Rattle.mrt_rows.specs.Put.{IsHome, IsMemberRow, IsOwnRow, ShareMoreLinks}
 use Rattle.mrt_rows.specs.RowLines.{HasOneLink}
 use Rattle.mrt_rows.specs.Source.{NoneOfOneLink}

@@ -1,5 +1,5 @@
 -- Blocks of one link, and nodes that lie in others.
-use Rattle.std.proofs.Common.{◌≡◌, ◌≢◌, ◌⊎◌, ◌∙◌, ◌<◌, ◌≤◌, ◌+◌, ℕ, List, Option, Some, None, length, slice_get, refl, sym, ap, subst, inl, inr, arith}
+use Rattle.std.proofs.Common.{◌≡◌, ◌≢◌, ◌⊎◌, ◌∙◌, ◌<◌, ◌≤◌, ◌+◌, ℕ, List, Option, Some, length, slice_get, refl, sym, ap, subst, inl, inr, arith}
 use Rattle.std.specs.Option.{option_and_then, option_map}
 use Rattle.std.proofs.lemmas.Bool.{cases_eq}
 use Rattle.std.proofs.lemmas.Option.{same_Some, slice_get_within}
@@ -15,13 +15,12 @@ use Rattle.link_direction.specs.Directions.{Directions, Says}
 use Rattle.inc_dec_spf.specs.FirstLink.{no_link}
 use Rattle.inc_dec_spf.specs.LeastPath.{HasMoreLinks, ShareBlock}
 use Rattle.inc_dec_spf.proofs.InBlocks.{inside_of_link}
-use Rattle.mrt_rows.specs.NearOf.{AreSoles, IsSoleOf}
+use Rattle.mrt_rows.specs.NearOf.{AreSoles}
 use Rattle.mrt_rows.specs.RowLines.{HasOneLink}
 use Rattle.mrt_rows.proofs.LinesHold.{has_head}
 use Rattle.mrt_rows.proofs.OrderedGraphs.{OrderedGraph, is_ordered, not_root_of_peers, within}
 use Rattle.mrt_rows.proofs.OtherLines.{one_link_between}
 use Rattle.mrt_rows.proofs.SoleRows.{one_of_block}
-use Rattle.mrt_rows.proofs.Ways.{Ring}
 use Rattle.mrt_rows.proofs.WaysBegun.{ring_of}
 
 -- what the list of marks says of a link's block

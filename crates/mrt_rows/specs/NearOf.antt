@@ -1,5 +1,5 @@
 -- The near rows of a certificate, source after source: those that are not Carried.
-use Rattle.std.specs.Prelude.{◌≡◌, ◌≢◌, ◌<◌, ◌+◌, ◌-◌, ◌*◌, ◌++◌, ℕ, zero, suc, Bool, List, [], ◌∷◌, Option, Some, None, drop, filter, length, not, slice_get, take}
+use Rattle.std.specs.Prelude.{◌≡◌, ◌≢◌, ◌<◌, ◌-◌, ◌*◌, ◌++◌, ℕ, zero, suc, Bool, List, [], ◌∷◌, Option, Some, None, drop, filter, length, not, slice_get, take}
 use Rattle.mrt_graph.specs.declared.cert.Row.{Row}
 use Rattle.mrt_graph.specs.declared.cert.Tag.TheVariants.{Carried}
 use Rattle.mrt_graph.specs.declared.gadag.Place.{Place}
@@ -13,10 +13,9 @@ use Rattle.inc_dec_spf.specs.declared.reach.Dir.TheVariants.{Down, Up}
 use Rattle.inc_dec_spf.specs.Fan.{IsFan, IsOpen}
 use Rattle.inc_dec_spf.specs.FirstLink.{IsFirstLink, no_link}
 use Rattle.inc_dec_spf.specs.Turns.{AreTurns}
-use Rattle.mrt_rows.specs.declared.members.Home.{Home}
 use Rattle.mrt_rows.specs.declared.source_rows.SourceRows.{SourceRows}
 use Rattle.mrt_rows.specs.DirectedFrom.{IsDirectedFrom}
-use Rattle.mrt_rows.specs.Put.{IsHome, IsOwnRow, ShareMoreLinks}
+use Rattle.mrt_rows.specs.Put.{IsOwnRow, ShareMoreLinks}
 use Rattle.mrt_rows.specs.RowLines.{HasOneLink}
 
 -- a row that is not Carried

@@ -1,19 +1,16 @@
-use Rattle.std.proofs.Common.{◌≡◌, ◌≢◌, ◌∙◌, ◌==◌, ◌<◌, ◌≤◌, ◌+◌, ℕ, Bool, true, false, List, Option, Some, None, get_or, length, length-set, not, set, slice_get, take, refl, sym, ap, subst, inl, inr, arith}
-use Rattle.std.proofs.lemmas.Bool.{cases_eq, eqb-false, eqb-true, ne_eqb}
+use Rattle.std.proofs.Common.{◌≡◌, ◌≢◌, ◌∙◌, ◌==◌, ◌<◌, ◌+◌, ℕ, Bool, true, false, List, Option, Some, get_or, length, length-set, not, set, slice_get, take, refl, sym, subst, inl, inr, arith}
+use Rattle.std.proofs.lemmas.Bool.{cases_eq, eqb-false, ne_eqb}
 use Rattle.std.proofs.lemmas.Option.{slice_get_read}
 use Rattle.mrt_graph.specs.declared.cert.Row.{Row}
 use Rattle.mrt_graph.specs.declared.gadag.Place.{Place}
 use Rattle.mrt_graph.specs.DirectedLists.{DirectedLists}
 use Rattle.mrt_graph.specs.Topology.{Topology}
 use Rattle.link_direction.specs.Directions.{Directions, Says}
-use Rattle.inc_dec_spf.specs.declared.reach.Dir.TheVariants.{Down, Up}
-use Rattle.inc_dec_spf.specs.FirstLink.{IsFirstLink}
 use Rattle.mrt_rows.specs.declared.members.Home.{Home}
-use Rattle.mrt_rows.specs.NearOf.{AreLinked, AreSoles, IsNearRow, IsPlaceOf, IsSoleOf, near_first}
-use Rattle.mrt_rows.specs.Put.{ShareMoreLinks}
+use Rattle.mrt_rows.specs.NearOf.{IsNearRow, IsPlaceOf, near_first}
 use Rattle.mrt_rows.proofs.NearFound.{home_linked, none_found, own_found, some_found}
 use Rattle.mrt_rows.proofs.NearRows.{place_says}
-use Rattle.mrt_rows.proofs.OrderedGraphs.{OrderedGraph, graph_of}
+use Rattle.mrt_rows.proofs.OrderedGraphs.{graph_of}
 use Rattle.mrt_rows.proofs.row_over.put_near_rows.Goals as goal
 use Rattle.mrt_rows.proofs.row_over.put_near_rows.Goals.{then-ne+in-Some, then-ne+in_default, else-ne}
 

@@ -1,4 +1,4 @@
-use Rattle.std.proofs.Common.{◌≡◌, ◌∙◌, ℕ, Some, set, slice_get, sym, subst, ap, arith}
+use Rattle.std.proofs.Common.{◌∙◌, ℕ, set, slice_get, sym, ap, arith}
 use Rattle.mrt_graph.proofs.ListPlaces.{set_elsewhere, set_there}
 use Rattle.mrt_rows.proofs.soles.put_sole.Goals as goal
 

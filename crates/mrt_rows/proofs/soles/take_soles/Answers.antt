@@ -1,5 +1,4 @@
 use Rattle.std.proofs.Common.{◌≡◌, ◌∙◌, ◌<◌, ◌+◌, ℕ, length, sym, ap, subst, arith}
-use Rattle.mrt_graph.specs.declared.cert.Role.TheVariants.{Sole}
 use Rattle.mrt_rows.proofs.OrderedGraphs.{graph_of}
 use Rattle.mrt_rows.proofs.SoleBlocks.{AreSolesTo, all_soles, block_says, sole_more, sole_passed}
 use Rattle.mrt_rows.proofs.SoleRows.{mark_says}

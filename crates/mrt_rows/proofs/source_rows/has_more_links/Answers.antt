@@ -1,4 +1,4 @@
-use Rattle.std.proofs.Common.{Some, length, slice_get, ap, sym, ◌∙◌, arith}
+use Rattle.std.proofs.Common.{ap, sym, ◌∙◌, arith}
 use Rattle.std.proofs.lemmas.Option.{slice_get_within}
 use Rattle.mrt_graph.proofs.EndsAt.{leads_end}
 use Rattle.mrt_rows.proofs.OrderedGraphs.{graph_of}

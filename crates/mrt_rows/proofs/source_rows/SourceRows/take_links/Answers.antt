@@ -1,16 +1,14 @@
-use Rattle.std.proofs.Common.{◌≡◌, ◌∙◌, ◌<◌, ◌≤◌, ◌+◌, ℕ, List, length, sym, ap, subst, arith}
-use Rattle.std.specs.Vec.{with_items}
+use Rattle.std.proofs.Common.{◌≡◌, ◌∙◌, ℕ, List, length, sym, ap, subst, arith}
 use Rattle.std.proofs.lemmas.List.{with_items_is}
 use Rattle.std.proofs.lemmas.Option.{slice_get_within}
 use Rattle.mrt_graph.specs.DirectedLists.{DirectedLists}
 use Rattle.mrt_graph.specs.Topology.{Topology}
 use Rattle.link_direction.specs.Directions.{Directions, Says}
-use Rattle.inc_dec_spf.specs.declared.fan.Fan.{Fan}
 use Rattle.inc_dec_spf.specs.declared.reach.Dir.{Dir}
 use Rattle.inc_dec_spf.specs.declared.reach.Dir.TheVariants.{Down, Up}
 use Rattle.inc_dec_spf.specs.Fan.{HasFirstLinks, IsOpen}
 use Rattle.inc_dec_spf.proofs.SameDirections.{directions_are}
-use Rattle.mrt_rows.specs.NearOf.{AreFans, AreLinked}
+use Rattle.mrt_rows.specs.NearOf.{AreLinked}
 use Rattle.mrt_rows.proofs.source_rows.SourceRows.take_links.Goals as goal
 
 linked : (g : Topology) (w : Directions) (dir : Dir) (s : ℕ) (links after : List ℕ) → after ≡ links → HasFirstLinks g w dir s links → AreLinked g w dir s after
