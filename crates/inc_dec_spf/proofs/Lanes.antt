@@ -1,6 +1,5 @@
 -- Offers of ways from some sources side by side, told of each of them.
-use Rattle.std.proofs.Common.{◌≡◌, ◌≢◌, ◌==◌, ◌⊎◌, ◌<◌, ◌≤◌, ◌+◌, ◌*◌, ◌∙◌, ℕ, Bool, true, false, List, Option, Some, None, get_or, length, map, nat_lt, set, slice_get, inl, inr, refl, sym, ap, subst, arith}
-use Rattle.std.specs.List.{range_with_len}
+use Rattle.std.proofs.Common.{◌≡◌, ◌≢◌, ◌==◌, ◌⊎◌, ◌<◌, ◌≤◌, ◌+◌, ◌*◌, ◌∙◌, ℕ, Bool, true, false, List, Option, Some, None, get_or, length, nat_lt, set, slice_get, inl, inr, refl, sym, ap, subst, arith}
 use Rattle.std.specs.Option.{unwrap_or}
 use Rattle.std.proofs.lemmas.Bool.{cases_Bool, cases_eq, cases_lt, eqb-true, lt-ltb, ltb-false, ltb-true, and_parts}
 use Rattle.std.proofs.lemmas.List.{get_or-set_other, get_or-set_same, length-set, same_lists}
@@ -9,10 +8,9 @@ use Rattle.std.proofs.lemmas.Option.{slice_get-get_or, slice_get_past, unwrap_or
 use Rattle.mrt_graph.specs.declared.link.End.{End}
 use Rattle.mrt_graph.proofs.ListPlaces.{set_elsewhere, set_there}
 use Rattle.inc_dec_spf.specs.declared.reach.Known.{Known}
-use Rattle.inc_dec_spf.specs.Fan.{AreCosts, AreLow, AreOver, comes_before, first_cost, first_place, known_at, known_by, lane, link_at, no_place}
+use Rattle.inc_dec_spf.specs.Fan.{AreCosts, comes_before, first_cost, first_place, known_at, known_by, lane, link_at, no_place}
 use Rattle.inc_dec_spf.specs.Known.{AreOffered, IsOne, comes_first}
 use Rattle.inc_dec_spf.specs.Rest.{far}
-use Rattle.inc_dec_spf.proofs.FirstLinks.{places_apart}
 use Rattle.inc_dec_spf.proofs.Offering.{offer_left, offer_taken}
 
 -- which of two ways is kept
@@ -266,74 +264,3 @@ pub record AreOverTo (from_costs from_places : List ℕ) (metric at count : ℕ)
       ≡ first_place (get_or from_costs j 0 + metric) (get_or from_places j 0) (get_or costs (at + j) 0) (get_or places (at + j) 0)
   pub costs_elsewhere : (i : ℕ) → (i < at) ⊎ (at + count ≤ i) → get_or costs' i 0 ≡ get_or costs i 0
   pub places_elsewhere : (i : ℕ) → (i < at) ⊎ (at + count ≤ i) → get_or places' i 0 ≡ get_or places i 0
-
-pub none_over : (from_costs from_places : List ℕ) (metric at : ℕ) (costs places : List ℕ)
-    → AreOverTo from_costs from_places metric at 0 costs places costs places
-none_over from_costs from_places metric at costs places = record {
-  one_cost_each = refl;
-  one_place_each = refl;
-  costs_within = λ j below. absurd (omega (arith, below));
-  places_within = λ j below. absurd (omega (arith, below));
-  costs_elsewhere = λ i out. refl;
-  places_elsewhere = λ i out. refl;
-}
-
-pub one_over : (from_costs from_places : List ℕ) (metric at count : ℕ) (costs places costs' places' : List ℕ) (new new_place : ℕ)
-    → at + count < length costs → at + count < length places → AreOverTo from_costs from_places metric at count costs places costs' places'
-    → new ≡ first_cost (get_or from_costs count 0 + metric) (get_or from_places count 0) (get_or costs' (at + count) 0) (get_or places' (at + count) 0)
-    → new_place ≡ first_place (get_or from_costs count 0 + metric) (get_or from_places count 0) (get_or costs' (at + count) 0) (get_or places' (at + count) 0)
-    → AreOverTo from_costs from_places metric at (count + 1) costs places (set costs' (at + count) new) (set places' (at + count) new_place)
-one_over from_costs from_places metric at count costs places costs' places' new new_place room room_places so_far new_is new_place_is = record {
-  one_cost_each = length-set costs' (at + count) new ∙ so_far.one_cost_each;
-  one_place_each = length-set places' (at + count) new_place ∙ so_far.one_place_each;
-  costs_within = λ j below. elim (cases_eq j count) [
-    | inl same ↦
-        subst (λ (x : ℕ). get_or (set costs' (at + count) new) (at + x) 0
-        ≡ first_cost (get_or from_costs x 0 + metric) (get_or from_places x 0) (get_or costs (at + x) 0) (get_or places (at + x) 0)) (sym same)
-        (read_set costs' (at + count) new (omega (arith, room, so_far.one_cost_each)) ∙ new_is
-        ∙ ap (λ (c : ℕ). first_cost (get_or from_costs count 0 + metric) (get_or from_places count 0) c (get_or places' (at + count) 0)) old_cost
-        ∙ ap (λ (p : ℕ). first_cost (get_or from_costs count 0 + metric) (get_or from_places count 0) (get_or costs (at + count) 0) p) old_place)
-    | inr other ↦ read_other costs' (at + count) (at + j) new (λ same. other (omega (arith, same))) ∙ so_far.costs_within j (omega (arith, below, other))
-  ];
-  places_within = λ j below. elim (cases_eq j count) [
-    | inl same ↦
-        subst (λ (x : ℕ). get_or (set places' (at + count) new_place) (at + x) 0
-        ≡ first_place (get_or from_costs x 0 + metric) (get_or from_places x 0) (get_or costs (at + x) 0) (get_or places (at + x) 0)) (sym same)
-        (read_set places' (at + count) new_place (omega (arith, room_places, so_far.one_place_each)) ∙ new_place_is
-        ∙ ap (λ (c : ℕ). first_place (get_or from_costs count 0 + metric) (get_or from_places count 0) c (get_or places' (at + count) 0)) old_cost
-        ∙ ap (λ (p : ℕ). first_place (get_or from_costs count 0 + metric) (get_or from_places count 0) (get_or costs (at + count) 0) p) old_place)
-    | inr other ↦
-        read_other places' (at + count) (at + j) new_place (λ same. other (omega (arith, same))) ∙ so_far.places_within j (omega (arith, below, other))
-  ];
-  costs_elsewhere = λ i out. read_other costs' (at + count) i new (apart i out) ∙ so_far.costs_elsewhere i (wider i out);
-  places_elsewhere = λ i out. read_other places' (at + count) i new_place (apart i out) ∙ so_far.places_elsewhere i (wider i out);
-}
-  where
-    old_cost : get_or costs' (at + count) 0 ≡ get_or costs (at + count) 0
-    old_cost = so_far.costs_elsewhere (at + count) (inr (omega arith))
-
-    old_place : get_or places' (at + count) 0 ≡ get_or places (at + count) 0
-    old_place = so_far.places_elsewhere (at + count) (inr (omega arith))
-
-    apart : (i : ℕ) → (i < at) ⊎ (at + (count + 1) ≤ i) → i ≢ at + count
-    apart i (inl below) same = omega (arith, below, same)
-    apart i (inr above) same = omega (arith, above, same)
-
-    wider : (i : ℕ) → (i < at) ⊎ (at + (count + 1) ≤ i) → (i < at) ⊎ (at + count ≤ i)
-    wider i (inl below) = inl below
-    wider i (inr above) = inr (omega (arith, above))
-
-pub all_over : (from_costs from_places : List ℕ) (metric at count : ℕ) (costs places costs' places' : List ℕ) → count ≡ length from_costs
-    → AreOverTo from_costs from_places metric at count costs places costs' places' → AreOver from_costs from_places metric at costs places costs' places'
-all_over from_costs from_places metric at count costs places costs' places' all over = record {
-  one_cost_each = over.one_cost_each;
-  one_place_each = over.one_place_each;
-  costs_within = λ j below. over.costs_within j (omega (arith, below, all));
-  places_within = λ j below. over.places_within j (omega (arith, below, all));
-  costs_elsewhere = λ i out. over.costs_elsewhere i (outside i out);
-  places_elsewhere = λ i out. over.places_elsewhere i (outside i out);
-}
-  where
-    outside : (i : ℕ) → (i < at) ⊎ (at + length from_costs ≤ i) → (i < at) ⊎ (at + count ≤ i)
-    outside i (inl below) = inl below
-    outside i (inr above) = inr (omega (arith, above, all))

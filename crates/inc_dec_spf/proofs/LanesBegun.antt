@@ -1,10 +1,9 @@
 -- What the ends of a source offer, in the lane of the source.
-use Rattle.std.proofs.Common.{◌≡◌, ◌≢◌, ◌⊎◌, ◌<◌, ◌≤◌, ◌+◌, ◌*◌, ◌∙◌, ℕ, List, Option, Some, get_or, length, set, slice_get, inl, inr, refl, sym, ap, subst, arith}
+use Rattle.std.proofs.Common.{◌≡◌, ◌≢◌, ◌⊎◌, ◌<◌, ◌≤◌, ◌+◌, ◌*◌, ◌∙◌, ℕ, List, Option, Some, get_or, length, set, slice_get, inl, inr, sym, ap, subst, arith}
 use Rattle.std.specs.Option.{option_map_or}
 use Rattle.std.proofs.lemmas.Bool.{cases_eq}
 use Rattle.std.proofs.lemmas.List.{length-set}
 use Rattle.mrt_graph.specs.declared.link.End.{End}
-use Rattle.inc_dec_spf.specs.declared.reach.Known.{Known}
 use Rattle.inc_dec_spf.specs.Fan.{AreCosts, AreLow, first_cost, first_place, known_at, known_by, lane, link_at, no_place}
 use Rattle.inc_dec_spf.specs.FirstLink.{no_link}
 use Rattle.inc_dec_spf.specs.Known.{AreOffered, IsOne}

@@ -1,17 +1,17 @@
 -- The sweep for some sources side by side, told of each of them.
-use Rattle.std.proofs.Common.{◌≡◌, ◌≢◌, ◌⊎◌, ◌<◌, ◌≤◌, ◌+◌, ◌*◌, ◌∙◌, ℕ, List, Option, Some, None, get_or, length, slice_get, inl, inr, refl, sym, ap, subst, arith}
+use Rattle.std.proofs.Common.{◌≡◌, ◌<◌, ◌≤◌, ◌+◌, ◌*◌, ◌∙◌, ℕ, List, Option, Some, None, get_or, length, slice_get, inl, inr, refl, sym, ap, subst, arith}
 use Rattle.std.proofs.lemmas.Bool.{cases_eq, cases_lt}
-use Rattle.std.proofs.lemmas.Option.{same_Some, slice_get_within}
+use Rattle.std.proofs.lemmas.Option.{same_Some}
 use Rattle.mrt_graph.specs.declared.link.End.{End}
 use Rattle.mrt_graph.specs.Topology.{Topology}
 use Rattle.link_direction.specs.Directions.{Directions}
 use Rattle.inc_dec_spf.specs.declared.reach.Dir.{Dir}
 use Rattle.inc_dec_spf.specs.declared.reach.Known.{Known}
-use Rattle.inc_dec_spf.specs.Fan.{AreCosts, HasOffered, IsFromAt, known_at, known_by, lane, link_at, no_place}
+use Rattle.inc_dec_spf.specs.Fan.{HasOffered, IsFromAt, known_at, known_by, lane}
 use Rattle.inc_dec_spf.specs.Known.{AreOffered}
-use Rattle.inc_dec_spf.specs.Offers.{GoesOn, IsFurtherOffer, IsTurnOffer}
+use Rattle.inc_dec_spf.specs.Offers.{GoesOn, IsTurnOffer}
 use Rattle.inc_dec_spf.specs.Rest.{far}
-use Rattle.inc_dec_spf.proofs.Lanes.{far_none, lane_at, lane_length, lane_past}
+use Rattle.inc_dec_spf.proofs.Lanes.{far_none, lane_at, lane_past}
 use Rattle.inc_dec_spf.proofs.Swept.{none_from, turn_offers}
 
 -- nothing is known of any node

@@ -1,13 +1,10 @@
-use Rattle.std.proofs.Common.{◌≡◌, ◌<◌, ◌≤◌, ◌+◌, ◌*◌, ◌∙◌, ℕ, List, Option, Some, get_or, length, length-set, set, slice_get, inl, inr, refl, sym, ap, subst, arith}
-use Rattle.std.proofs.lemmas.Option.{same_Some, slice_get_read, slice_get_within}
+use Rattle.std.proofs.Common.{◌≡◌, ◌<◌, ◌≤◌, ◌+◌, ◌*◌, ◌∙◌, ℕ, List, Some, length, length-set, slice_get, inl, inr, refl, sym, ap, subst, arith}
+use Rattle.std.proofs.lemmas.Option.{same_Some, slice_get_read}
 use Rattle.mrt_graph.specs.declared.link.End.{End}
 use Rattle.mrt_graph.specs.GraphInvariant.{IsEnd}
 use Rattle.mrt_graph.proofs.ListTests.{all_at}
-use Rattle.inc_dec_spf.specs.declared.reach.Known.{Known}
-use Rattle.inc_dec_spf.specs.Fan.{AreCosts, AreLow, first_cost, first_place, lane, link_at, no_place}
-use Rattle.inc_dec_spf.specs.Known.{AreOffered, IsOne}
-use Rattle.inc_dec_spf.specs.Rest.{far}
-use Rattle.inc_dec_spf.proofs.EndsOffered.{IsFirstAt, first_all, first_left, first_taken}
+use Rattle.inc_dec_spf.specs.Fan.{lane, no_place}
+use Rattle.inc_dec_spf.proofs.EndsOffered.{first_all, first_left, first_taken}
 use Rattle.inc_dec_spf.proofs.LanesBegun.{begun_by, begun_costs, begun_low, begun_others}
 use Rattle.inc_dec_spf.proofs.Marks.{IsMarkedEnd}
 use Rattle.inc_dec_spf.proofs.SideBySide.{row_within}

@@ -1,13 +1,12 @@
-use Rattle.std.proofs.Common.{◌≡◌, ◌<◌, ◌≤◌, ◌+◌, ◌*◌, ◌∙◌, ℕ, Bool, false, true, List, Some, get_or, length, slice_get, refl, sym, ap, subst, inl, inr, arith}
+use Rattle.std.proofs.Common.{◌≡◌, ◌<◌, ◌≤◌, ◌+◌, ◌*◌, ◌∙◌, ℕ, Bool, false, true, List, Some, get_or, length, slice_get, sym, ap, subst, inl, inr, arith}
 use Rattle.std.specs.List.{slice_range}
 use Rattle.std.proofs.lemmas.Bool.{cases_lt}
 use Rattle.std.proofs.lemmas.List.{get_or-drop, get_or-take, get_or_past, length-drop, length-take}
 use Rattle.std.proofs.lemmas.Option.{same_Some, slice_get-get_or}
 use Rattle.mrt_graph.specs.Topology.{Topology}
 use Rattle.link_direction.specs.Directions.{Directions}
-use Rattle.inc_dec_spf.specs.Fan.{AreCosts, AreStops, IsFromAt, no_place}
+use Rattle.inc_dec_spf.specs.Fan.{AreCosts, AreStops}
 use Rattle.inc_dec_spf.specs.Offers.{GoesOn}
-use Rattle.inc_dec_spf.specs.Rest.{far}
 use Rattle.inc_dec_spf.proofs.SideBySide.{row_within}
 use Rattle.inc_dec_spf.proofs.fan.take_from.Goals as goal
 

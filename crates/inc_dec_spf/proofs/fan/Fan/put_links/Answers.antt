@@ -1,9 +1,8 @@
-use Rattle.std.proofs.Common.{◌≡◌, ◌≢◌, ◌<◌, ◌≤◌, ◌+◌, ◌-◌, ◌*◌, ◌∙◌, ℕ, List, Some, get_or, length, length-set, set, slice_get, inl, inr, refl, sym, ap, subst, arith}
+use Rattle.std.proofs.Common.{◌≡◌, ◌<◌, ◌+◌, ◌-◌, ◌*◌, ◌∙◌, ℕ, List, Some, get_or, length, length-set, set, slice_get, inl, inr, sym, ap, subst, arith}
 use Rattle.std.proofs.lemmas.Bool.{cases_eq}
 use Rattle.std.proofs.lemmas.Option.{same_Some, slice_get_within}
 use Rattle.mrt_graph.proofs.ListPlaces.{set_elsewhere, set_there}
-use Rattle.mrt_graph.specs.declared.link.End.{End}
-use Rattle.inc_dec_spf.specs.Fan.{IsFirstPlace, link_at, no_place}
+use Rattle.inc_dec_spf.specs.Fan.{IsFirstPlace, link_at}
 use Rattle.inc_dec_spf.specs.FirstLink.{IsFirstLink}
 use Rattle.std.proofs.lemmas.Grind.{get_or_default_zero}
 use Rattle.inc_dec_spf.proofs.SideBySide.{row_within}
