@@ -73,6 +73,7 @@ fn rows_at(
     let high = side_marks(alloc, g, c, at, Side::High)?;
     let mut rows = Vec::with_capacity(alloc, count as usize)?;
     for s in 0..count {
+        // Taken apart so that the borrow checker's part of the proof meets the type of its fields.
         let ProxyRow { blue, red } = row(g, c, at, &low, &high, NodeNo::new(s));
         rows.push_reserved(ProxyRow { blue, red });
     }
