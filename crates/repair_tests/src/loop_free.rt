@@ -1,4 +1,4 @@
-//! Loop-free alternates of the first router of small networks, as they were worked out beside this program.
+//! Loop-free alternates of routers of small networks, as they were worked out beside this program.
 
 use crate::databases::area_of;
 use crate::networks::{LAN, TRIANGLE};
@@ -30,7 +30,20 @@ const LANS: &[u8] =
 const APART: &[u8] =
     b"\x00\x01\x02\x01\x00\x00\x00\x01\x00\x00\x00\x01\x80\x00\x00\x01\xde\x6f\x00\x24\x00\x00\x00\x01\x00\x00\x00\x02\x00\x00\x00\x02\x01\x00\x00\x01\x00\x01\x02\x01\x00\x00\x00\x02\x00\x00\x00\x02\x80\x00\x00\x01\xb6\x97\x00\x24\x00\x00\x00\x01\x00\x00\x00\x01\x00\x00\x00\x01\x01\x00\x00\x01\x00\x01\x02\x01\x00\x00\x00\x03\x00\x00\x00\x03\x80\x00\x00\x01\xee\x57\x00\x24\x00\x00\x00\x01\x00\x00\x00\x04\x00\x00\x00\x04\x01\x00\x00\x01\x00\x01\x02\x01\x00\x00\x00\x04\x00\x00\x00\x04\x80\x00\x00\x01\xc6\x7f\x00\x24\x00\x00\x00\x01\x00\x00\x00\x03\x00\x00\x00\x03\x01\x00\x00\x01";
 
+/// Routers 1, 2 and 9 on a network with the identifier 0.0.0.5, and links from 1 to 2 and 9.
+const BETWEEN: &[u8] =
+    b"\x00\x01\x02\x01\x00\x00\x00\x01\x00\x00\x00\x01\x80\x00\x00\x01\xe1\x1e\x00\x3c\x00\x00\x00\x03\x00\x00\x00\x05\x0a\x00\x00\x01\x02\x00\x00\x04\x00\x00\x00\x02\x00\x00\x00\x02\x01\x00\x00\x03\x00\x00\x00\x09\x00\x00\x00\x09\x01\x00\x00\x09\x00\x01\x02\x01\x00\x00\x00\x02\x00\x00\x00\x02\x80\x00\x00\x01\x2e\xfc\x00\x30\x00\x00\x00\x02\x00\x00\x00\x05\x0a\x00\x00\x02\x02\x00\x00\x01\x00\x00\x00\x01\x00\x00\x00\x01\x01\x00\x00\x03\x00\x01\x02\x01\x00\x00\x00\x09\x00\x00\x00\x09\x80\x00\x00\x01\xe6\x28\x00\x30\x00\x00\x00\x02\x00\x00\x00\x05\x0a\x00\x00\x09\x02\x00\x00\x02\x00\x00\x00\x01\x00\x00\x00\x01\x01\x00\x00\x09\x00\x01\x02\x02\x00\x00\x00\x05\x00\x00\x00\x02\x80\x00\x00\x01\x10\x33\x00\x24\xff\xff\xff\x00\x00\x00\x00\x02\x00\x00\x00\x01\x00\x00\x00\x09";
+
+/// Routers 1 to 3 in a ring. The LSA of router 4, which 1 and 2 list, is at MaxAge, and router 5, which 1 and 3 list, has none.
+const GONE: &[u8] =
+    b"\x00\x01\x02\x01\x00\x00\x00\x01\x00\x00\x00\x01\x80\x00\x00\x01\x81\x7f\x00\x48\x00\x00\x00\x04\x00\x00\x00\x02\x00\x00\x00\x02\x01\x00\x00\x05\x00\x00\x00\x03\x00\x00\x00\x03\x01\x00\x00\x05\x00\x00\x00\x04\x00\x00\x00\x04\x01\x00\x00\x01\x00\x00\x00\x05\x00\x00\x00\x05\x01\x00\x00\x01\x00\x01\x02\x01\x00\x00\x00\x02\x00\x00\x00\x02\x80\x00\x00\x01\x2c\xeb\x00\x3c\x00\x00\x00\x03\x00\x00\x00\x01\x00\x00\x00\x01\x01\x00\x00\x05\x00\x00\x00\x03\x00\x00\x00\x03\x01\x00\x00\x07\x00\x00\x00\x04\x00\x00\x00\x04\x01\x00\x00\x01\x00\x01\x02\x01\x00\x00\x00\x03\x00\x00\x00\x03\x80\x00\x00\x01\x34\xe1\x00\x3c\x00\x00\x00\x03\x00\x00\x00\x01\x00\x00\x00\x01\x01\x00\x00\x05\x00\x00\x00\x02\x00\x00\x00\x02\x01\x00\x00\x07\x00\x00\x00\x05\x00\x00\x00\x05\x01\x00\x00\x01\x0e\x10\x02\x01\x00\x00\x00\x04\x00\x00\x00\x04\x80\x00\x00\x01\x4e\xe8\x00\x30\x00\x00\x00\x02\x00\x00\x00\x01\x00\x00\x00\x01\x01\x00\x00\x01\x00\x00\x00\x02\x00\x00\x00\x02\x01\x00\x00\x01";
+
+/// Routers 1 to 3 on a network. It and routers 1 and 2 list each other four times each. Router 1 has a link to 3.
+const LISTED: &[u8] =
+    b"\x00\x01\x02\x01\x00\x00\x00\x01\x00\x00\x00\x01\x80\x00\x00\x01\x2d\xb7\x00\x54\x00\x00\x00\x05\x00\x00\x00\x07\x00\x00\x00\x01\x02\x00\x00\x02\x00\x00\x00\x07\x00\x00\x00\x02\x02\x00\x00\x01\x00\x00\x00\x07\x00\x00\x00\x03\x02\x00\x00\x01\x00\x00\x00\x07\x00\x00\x00\x04\x02\x00\x00\x01\x00\x00\x00\x03\x00\x00\x00\x03\x01\x00\x00\x01\x00\x01\x02\x01\x00\x00\x00\x02\x00\x00\x00\x02\x80\x00\x00\x01\xda\x1a\x00\x48\x00\x00\x00\x04\x00\x00\x00\x07\x00\x00\x00\x01\x02\x00\x00\x01\x00\x00\x00\x07\x00\x00\x00\x02\x02\x00\x00\x01\x00\x00\x00\x07\x00\x00\x00\x03\x02\x00\x00\x01\x00\x00\x00\x07\x00\x00\x00\x04\x02\x00\x00\x05\x00\x01\x02\x01\x00\x00\x00\x03\x00\x00\x00\x03\x80\x00\x00\x01\x20\x09\x00\x30\x00\x00\x00\x02\x00\x00\x00\x07\x00\x00\x00\x09\x02\x00\x00\x04\x00\x00\x00\x01\x00\x00\x00\x01\x01\x00\x00\x01\x00\x01\x02\x02\x00\x00\x00\x07\x00\x00\x00\x02\x80\x00\x00\x01\xea\x3b\x00\x3c\xff\xff\xff\x00\x00\x00\x00\x02\x00\x00\x00\x01\x00\x00\x00\x01\x00\x00\x00\x02\x00\x00\x00\x03\x00\x00\x00\x02\x00\x00\x00\x01\x00\x00\x00\x02\x00\x00\x00\x01";
+
 struct Case {
+    source: u16,
     bytes: &'static [u8],
     told: &'static [Told],
 }
@@ -38,17 +51,20 @@ struct Case {
 const CASES: &[Case] = &[
     // Routers 1, 2 and 3, each joined to the others: each is reached over the other one.
     Case {
+        source: 0,
         bytes: TRIANGLE,
         told: &[None, Some((1, None, 2, false)), Some((0, None, 1, false))],
     },
-    // A ring of four routers: the one across is reached round the primary's next, and its neighbors cannot be.
+    // A ring of four routers: the one across is reached round the primary's next, and its neighbours cannot be.
     Case {
+        source: 0,
         bytes: RING,
         told: &[None, None, Some((1, None, 3, true)), None],
     },
     // A LAN of four routers, of which 1 and 2 are joined by a link too: candidates over the LAN, and a network as a
     // destination.
     Case {
+        source: 0,
         bytes: LAN,
         told: &[
             None,
@@ -61,6 +77,7 @@ const CASES: &[Case] = &[
     // Two parallel links: the bond of the primary is left out, its parallel is not. Behind them one that protects the
     // primary's next comes before a cheaper one that does not.
     Case {
+        source: 0,
         bytes: PARALLEL,
         told: &[
             None,
@@ -71,6 +88,7 @@ const CASES: &[Case] = &[
     },
     // Equal sums: the first arc decides.
     Case {
+        source: 0,
         bytes: EQUAL,
         told: &[
             None,
@@ -84,6 +102,7 @@ const CASES: &[Case] = &[
     },
     // Two LANs: the source is on both, and second arcs decide.
     Case {
+        source: 0,
         bytes: LANS,
         told: &[
             None,
@@ -94,6 +113,40 @@ const CASES: &[Case] = &[
             None,
             Some((2, Some(17), 2, false)),
             Some((2, None, 7, true)),
+        ],
+    },
+    // A source that is not the first node.
+    Case {
+        source: 1,
+        bytes: BETWEEN,
+        told: &[Some((4, None, 0, false)), None, None, None],
+    },
+    // Neither a router at MaxAge nor one without an LSA is a neighbour.
+    Case {
+        source: 0,
+        bytes: GONE,
+        told: &[None, Some((1, None, 2, false)), Some((0, None, 1, false))],
+    },
+    // Many listings on one network: over each first arc, the least second one.
+    Case {
+        source: 0,
+        bytes: LISTED,
+        told: &[
+            None,
+            Some((2, Some(15), 1, false)),
+            Some((1, Some(19), 2, false)),
+            Some((2, None, 3, false)),
+        ],
+    },
+    // And of the other router.
+    Case {
+        source: 1,
+        bytes: LISTED,
+        told: &[
+            Some((6, Some(11), 0, false)),
+            None,
+            Some((6, Some(19), 2, false)),
+            Some((6, None, 3, false)),
         ],
     },
 ];
@@ -120,9 +173,8 @@ fn are_so(entries: &[Option<Lfa>], row: &[Told]) -> bool {
     entries.len() == row.len()
 }
 
-fn has_alternates(alloc: Global, area: &Area, row: &[Told]) -> Option<bool> {
-    let source = Spot::new(0);
-    if area.count() == 0 {
+fn has_alternates(alloc: Global, area: &Area, source: Spot, row: &[Told]) -> Option<bool> {
+    if area.count() <= source.get() {
         return None;
     }
     match area.id(source).kind {
@@ -136,32 +188,43 @@ fn has_alternates(alloc: Global, area: &Area, row: &[Told]) -> Option<bool> {
 
 fn is_so(alloc: Global, case: &Case) -> Option<bool> {
     let area = area_of(alloc, case.bytes)?;
-    has_alternates(alloc, &area, case.told)
+    has_alternates(alloc, &area, Spot::new(case.source), case.told)
 }
 
 struct Text {
+    source: u16,
     bytes: &'static [u8],
     text: &'static [u8],
 }
 
 const TEXTS: &[Text] = &[
     Text {
+        source: 0,
         bytes: TRIANGLE,
         text: b"lfa 1.1.1.1 nodes 3\n2.2.2.2 primary 2.2.2.2/0.0.0.2 lfa 3.3.3.3/0.0.0.3 next 3.3.3.3 link\n3.3.3.3 primary 3.3.3.3/0.0.0.3 lfa 2.2.2.2/0.0.0.2 next 2.2.2.2 link\n",
     },
     Text {
+        source: 0,
         bytes: RING,
         text: b"lfa 1.1.1.1 nodes 4\n2.2.2.2 primary 2.2.2.2/0.0.0.2 lfa none\n3.3.3.3 primary 2.2.2.2/0.0.0.2 lfa 4.4.4.4/0.0.0.4 next 4.4.4.4 node\n4.4.4.4 primary 4.4.4.4/0.0.0.4 lfa none\n",
     },
     // over a LAN, and to it
     Text {
+        source: 0,
         bytes: LAN,
         text: b"lfa 1.1.1.1 nodes 5\n2.2.2.2 primary 2.2.2.2/0.0.0.2 lfa net:10.0.0.4/10.0.0.1 next 2.2.2.2 link\n3.3.3.3 primary net:10.0.0.4/10.0.0.1 lfa 2.2.2.2/0.0.0.2 next 2.2.2.2 link\n4.4.4.4 primary net:10.0.0.4/10.0.0.1 lfa 2.2.2.2/0.0.0.2 next 2.2.2.2 link\nnet:10.0.0.4 primary net:10.0.0.4/10.0.0.1 lfa 2.2.2.2/0.0.0.2 next 2.2.2.2 link\n",
     },
     // no line on nodes that no walk leads to
     Text {
+        source: 0,
         bytes: APART,
         text: b"lfa 0.0.0.1 nodes 4\n0.0.0.2 primary 0.0.0.2/0.0.0.2 lfa none\n",
+    },
+    // of another router than the first one, and a network's line between routers' lines
+    Text {
+        source: 1,
+        bytes: BETWEEN,
+        text: b"lfa 0.0.0.2 nodes 4\n0.0.0.1 primary net:0.0.0.5/10.0.0.2 lfa 0.0.0.1/0.0.0.1 next 0.0.0.1 link\nnet:0.0.0.5 primary net:0.0.0.5/10.0.0.2 lfa none\n0.0.0.9 primary net:0.0.0.5/10.0.0.2 lfa none\n",
     },
 ];
 
@@ -169,9 +232,8 @@ fn texts() -> &'static [Text] {
     TEXTS
 }
 
-fn text_of(alloc: Global, area: &Area) -> Option<Vec<u8>> {
-    let source = Spot::new(0);
-    if area.count() == 0 {
+fn text_of(alloc: Global, area: &Area, source: Spot) -> Option<Vec<u8>> {
+    if area.count() <= source.get() {
         return None;
     }
     match area.id(source).kind {
@@ -182,19 +244,19 @@ fn text_of(alloc: Global, area: &Area) -> Option<Vec<u8>> {
 
 fn has_text(alloc: Global, case: &Text) -> Option<bool> {
     let area = area_of(alloc, case.bytes)?;
-    let text = text_of(alloc, &area)?;
+    let text = text_of(alloc, &area, Spot::new(case.source))?;
     Some(text.as_slice() == case.text)
 }
 
 #[test]
-fn texts_of_the_first_router(rt: HostRuntime) {
+fn texts_on_loop_free_alternates(rt: HostRuntime) {
     for case in texts() {
         assert!(rt; has_text(rt.alloc(), case) == Some(true));
     }
 }
 
 #[test]
-fn loop_free_alternates_of_the_first_router(rt: HostRuntime) {
+fn loop_free_alternates_of_a_router(rt: HostRuntime) {
     for case in cases() {
         assert!(rt; is_so(rt.alloc(), case) == Some(true));
     }
