@@ -16,6 +16,7 @@ pub mod Pairs
 pub mod Parts
 pub mod PartsText
 pub mod Placings
+pub mod Puttings
 pub mod Room
 pub mod SpellingLength
 pub mod Spreading

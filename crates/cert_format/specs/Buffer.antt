@@ -1,5 +1,5 @@
 -- Bytes on their way to a sink.
-use Rattle.std.specs.Prelude.{◌≡◌, ◌+◌, ◌≤◌, ℕ, List, length, take}
+use Rattle.std.specs.Prelude.{◌≡◌, ◌+◌, ◌++◌, ◌≤◌, ℕ, List, length, take}
 use Rattle.cert_format.specs.declared.buffer.Buffer.{Buffer}
 
 -- how many bytes go out at once
@@ -18,3 +18,9 @@ buffer_of buffer = take buffer.len buffer.bytes
 pub record IsBuffer (buffer : Buffer) : Type 0 where
   pub small : buffer.len ≤ room_length
   pub many : length (buffer_of buffer) ≡ buffer.len
+
+-- the first of the bytes that were to come are there now, after those that were there; the others are left
+pub record IsFilled (there now come left : List ℕ) : Type 0 where
+  pub more : List ℕ
+  pub adds : now ≡ there ++ more
+  pub parts : more ++ left ≡ come

@@ -12,10 +12,10 @@ pub mod Outcome
 pub mod Parts
 pub mod Placing
 pub mod Progress
+pub mod Putting
 pub mod Reading
 pub mod Room
 pub mod Stream
 pub mod Taking
 pub mod Unfolding
-pub mod Unwritten
 pub mod Versions

@@ -1,9 +1,9 @@
 //! Bytes of a certificate file on their way to a sink.
 
-ghost use Rattle.std.specs.Prelude.{◌≡◌, ◌⊎◌, ◌≤◌, ◌<◌, ◌+◌, ◌*◌, ◌++◌, [], length, take, drop};
+ghost use Rattle.std.specs.Prelude.{◌≡◌, ◌≢◌, ◌≤◌, ◌↔◌, IsTrue, ◌<◌, ◌+◌, ◌*◌, ◌++◌, [], length, take, drop};
 ghost use Rattle.std.specs.List.{flat_map};
 ghost use Rattle.cert_format.specs.CertText.{link_text, node_text, row_text};
-ghost use Rattle.cert_format.specs.Buffer.{IsBuffer, buffer_of, piece_length, room_length};
+ghost use Rattle.cert_format.specs.Buffer.{IsBuffer, IsFilled, buffer_of, piece_length, room_length};
 ghost use Rattle.cert_format.specs.Versions.{rows_in};
 
 use crate::versions::stands_in;
@@ -49,9 +49,9 @@ impl Buffer {
     /// Nodes, until a piece is there, and the nodes that are left.
     pub fn fill_nodes<'a>(&mut self, nodes: &'a [CertNode]) -> &'a [CertNode]
         requires { IsBuffer self.old }
-        ensures text { buffer_of self.new ++ flat_map node_text result.now
-            ≡ buffer_of self.old ++ flat_map node_text nodes.now }
-        ensures full { (piece_length ≤ length (buffer_of self.new)) ⊎ (result.now ≡ []) }
+        ensures text { IsFilled (buffer_of self.old) (buffer_of self.new) (flat_map node_text nodes.now)
+            (flat_map node_text result.now) }
+        ensures fewer { length (buffer_of self.old) < piece_length → nodes.now ≢ [] → length result.now < length nodes.now }
         ensures kept { IsBuffer self.new }
     {
         let mut nodes = nodes;
@@ -68,9 +68,9 @@ impl Buffer {
     /// Links, until a piece is there, and the links that are left.
     pub fn fill_links<'a>(&mut self, links: &'a [CertLink]) -> &'a [CertLink]
         requires { IsBuffer self.old }
-        ensures text { buffer_of self.new ++ flat_map link_text result.now
-            ≡ buffer_of self.old ++ flat_map link_text links.now }
-        ensures full { (piece_length ≤ length (buffer_of self.new)) ⊎ (result.now ≡ []) }
+        ensures text { IsFilled (buffer_of self.old) (buffer_of self.new) (flat_map link_text links.now)
+            (flat_map link_text result.now) }
+        ensures fewer { length (buffer_of self.old) < piece_length → links.now ≢ [] → length result.now < length links.now }
         ensures kept { IsBuffer self.new }
     {
         let mut links = links;
@@ -87,9 +87,9 @@ impl Buffer {
     /// Those of the rows that stand in a file of this version, until a piece is there, and the rows that are left.
     pub fn fill_rows<'a>(&mut self, version: u16, rows: &'a [Row]) -> &'a [Row]
         requires { IsBuffer self.old }
-        ensures text { buffer_of self.new ++ flat_map row_text (rows_in version result.now)
-            ≡ buffer_of self.old ++ flat_map row_text (rows_in version rows.now) }
-        ensures full { (piece_length ≤ length (buffer_of self.new)) ⊎ (result.now ≡ []) }
+        ensures text { IsFilled (buffer_of self.old) (buffer_of self.new) (flat_map row_text (rows_in version rows.now))
+            (flat_map row_text (rows_in version result.now)) }
+        ensures fewer { length (buffer_of self.old) < piece_length → rows.now ≢ [] → length result.now < length rows.now }
         ensures kept { IsBuffer self.new }
     {
         let mut rows = rows;
@@ -117,6 +117,14 @@ impl Buffer {
             }
         }
         self.len = len;
+    }
+
+    /// Whether a piece is there.
+    pub fn has_piece(&self) -> bool
+        requires { IsBuffer self.now }
+        ensures { IsTrue result ↔ (piece_length ≤ length (buffer_of self.now)) }
+    {
+        PIECE <= self.len
     }
 
     /// The first piece, or all where there are fewer bytes.

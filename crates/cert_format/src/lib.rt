@@ -7,6 +7,7 @@
 
 mod buffer;
 mod cert_reader;
+mod cert_writer;
 mod error;
 mod field;
 mod header;
@@ -25,6 +26,7 @@ mod versions;
 mod writing;
 
 pub use cert_reader::CertReader;
+pub use cert_writer::CertWriter;
 pub use error::{CertError, CertFault, CertKind};
 pub use limits::within_limits;
 pub use putting::put_cert;

@@ -1,13 +1,14 @@
-use Rattle.std.proofs.Common.{◌≡◌, ◌++◌, length}
+use Rattle.std.proofs.Common.{◌≡◌, ◌⊎◌, ◌<◌, length}
 use Rattle.std.specs.List.{flat_map}
-use Rattle.cert_format.specs.Buffer.{IsBuffer, buffer_of}
+use Rattle.cert_format.specs.Buffer.{IsBuffer, IsFilled, buffer_of}
 use Rattle.cert_format.specs.CertText.{link_text}
 use Rattle.cert_format.proofs.buffer.Buffer.fill_links.Given as goal
 
 abbrev pub invariant-loop-self : goal.invariant-loop-self
 invariant-loop-self l = record {
-  text : buffer_of l.self ++ flat_map link_text l.links ≡ buffer_of l.fn.self ++ flat_map link_text l.fn.links;
+  text : IsFilled (buffer_of l.fn.self) (buffer_of l.self) (flat_map link_text l.fn.links) (flat_map link_text l.links);
   kept : IsBuffer l.self;
+  fewer : ((l.self.len ≡ l.fn.self.len) × (length l.links ≡ length l.fn.links)) ⊎ (length l.links < length l.fn.links);
 }
 
 abbrev pub decreases-loop-self : goal.decreases-loop-self

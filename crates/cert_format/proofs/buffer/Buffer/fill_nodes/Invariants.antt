@@ -1,13 +1,14 @@
-use Rattle.std.proofs.Common.{◌≡◌, ◌++◌, length}
+use Rattle.std.proofs.Common.{◌≡◌, ◌⊎◌, ◌<◌, length}
 use Rattle.std.specs.List.{flat_map}
-use Rattle.cert_format.specs.Buffer.{IsBuffer, buffer_of}
+use Rattle.cert_format.specs.Buffer.{IsBuffer, IsFilled, buffer_of}
 use Rattle.cert_format.specs.CertText.{node_text}
 use Rattle.cert_format.proofs.buffer.Buffer.fill_nodes.Given as goal
 
 abbrev pub invariant-loop-self : goal.invariant-loop-self
 invariant-loop-self l = record {
-  text : buffer_of l.self ++ flat_map node_text l.nodes ≡ buffer_of l.fn.self ++ flat_map node_text l.fn.nodes;
+  text : IsFilled (buffer_of l.fn.self) (buffer_of l.self) (flat_map node_text l.fn.nodes) (flat_map node_text l.nodes);
   kept : IsBuffer l.self;
+  fewer : ((l.self.len ≡ l.fn.self.len) × (length l.nodes ≡ length l.fn.nodes)) ⊎ (length l.nodes < length l.fn.nodes);
 }
 
 abbrev pub decreases-loop-self : goal.decreases-loop-self

@@ -1,0 +1,287 @@
+-- Steps of a writer, one after another.
+use Rattle.std.proofs.Common.{◌≡◌, ◌∙◌, ◌<◌, ◌≤◌, ◌+◌, ◌-◌, ◌^◌, ◌++◌, ℕ, List, [], length, take, drop, Option, Some, None, Result, Ok, Err, refl, sym, ap, subst, arith, append_assoc, length-append, length-take, length-drop}
+use Rattle.std.specs.Prelude.{IfErr, OnOk}
+use Rattle.std.proofs.lemmas.List.{append-nil, take_at, drop_all, drop_at}
+use Rattle.mrt_io.proofs.Gaining.{Gained-append}
+use Rattle.mrt_io.specs.Counts.{Rose, last_count}
+use Rattle.mrt_io.specs.Writing.{Gained, GainedPart}
+use Rattle.mrt_io.specs.declared.device.PutError.{PutError}
+use Rattle.mrt_io.specs.declared.device.PutError.TheVariants.{Failed}
+use Rattle.cert_format.specs.Buffer.{IsFilled, piece_length}
+use Rattle.cert_format.specs.Putting.{IsFailedWithin, IsGiven, Puts, Writer, later_error}
+use Rattle.cert_format.proofs.Buffers.{gained_part}
+
+-- more bytes are held, and the sink is left alone
+pub puts_held : (told : Option (List ℕ)) (was : ℕ) (healthy : ℕ → Type 0) (more : List ℕ) (old new : Writer) → new.version ≡ old.version → new.gone ≡ old.gone → new.held ≡ old.held ++ more
+    → Puts told told was was healthy healthy more old new (Ok tt)
+puts_held told was healthy more old new version gone held = record {
+  given = λ before bytes is. record {
+    first = is.first;
+    parts = ap (λ (it : List ℕ). it ++ more) is.parts ∙ append_assoc is.first old.held more ∙ ap (λ (it : List ℕ). is.first ++ it) (sym held);
+    gained = is.gained;
+    counted = gone ∙ is.counted;
+  };
+  part = λ before bytes later is. tt;
+  cause = tt;
+  count = omega arith;
+  succeeds = λ n well enough. refl;
+  no_fault = λ n well enough. refl;
+  stays_healthy = λ n well enough. subst (λ (k : ℕ). healthy (n - k)) (sym gone) well;
+  size = omega (arith, gone, ap length held);
+  same = version;
+}
+
+pub puts_none : (told : Option (List ℕ)) (was : ℕ) (healthy : ℕ → Type 0) (writer : Writer) → Puts told told was was healthy healthy [] writer writer (Ok tt)
+puts_none told was healthy writer = puts_held told was healthy [] writer writer refl refl (sym (append-nil writer.held))
+
+-- the second of two steps begins where the first one ended
+module _ (t0 t1 t2 : Option (List ℕ)) (f0 f1 f2 : ℕ) (h0 h1 h2 : ℕ → Type 0) (a b : List ℕ) (old mid new : Writer)
+    (one : Puts t0 t1 f0 f1 h0 h1 a old mid (Ok tt)) where
+  enough_first : (n : ℕ) → old.gone + length (old.held ++ (a ++ b)) ≤ n → old.gone + length (old.held ++ a) ≤ n
+  enough_first n enough =
+      omega (arith, enough, length-append old.held (a ++ b), length-append a b, length-append old.held a)
+
+  enough_then : (n : ℕ) → old.gone + length (old.held ++ (a ++ b)) ≤ n → mid.gone + length (mid.held ++ b) ≤ n
+  enough_then n enough =
+      omega (arith, enough, one.size, length-append old.held (a ++ b), length-append a b, length-append old.held a, length-append mid.held b)
+
+  given_then : (result : Result Unit PutError) → Puts t1 t2 f1 f2 h1 h2 b mid new result → (before : Option (List ℕ)) (bytes : List ℕ) → IsGiven before t0 bytes old
+      → OnOk result (IsGiven before t2 (bytes ++ (a ++ b)) new)
+  given_then (Ok x) two before bytes is = subst (λ (it : List ℕ). IsGiven before t2 it new) (append_assoc bytes a b) (two.given before (bytes ++ a) (one.given before bytes is))
+  given_then (Err e) two before bytes is = tt
+
+  part_then : (result : Result Unit PutError) → Puts t1 t2 f1 f2 h1 h2 b mid new result → (before : Option (List ℕ)) (bytes later : List ℕ) → IsGiven before t0 bytes old
+      → IfErr result (GainedPart before (bytes ++ ((a ++ b) ++ later)) t2)
+  part_then (Ok x) two before bytes later is = tt
+  part_then (Err e) two before bytes later is =
+      let same : (bytes ++ a) ++ (b ++ later) ≡ bytes ++ ((a ++ b) ++ later) = append_assoc bytes a (b ++ later) ∙ ap (λ (it : List ℕ). bytes ++ it) (sym (append_assoc a b later)) in
+      subst (λ (it : List ℕ). GainedPart before it t2 e) same (two.part before (bytes ++ a) later (one.given before bytes is))
+
+  cause_then : (result : Result Unit PutError) → Puts t1 t2 f1 f2 h1 h2 b mid new result → IfErr result (λ _. Rose f0 f2)
+  cause_then (Ok x) two = tt
+  cause_then (Err e) two = omega (arith, two.cause, one.count)
+
+  size_then : (result : Result Unit PutError) → Puts t1 t2 f1 f2 h1 h2 b mid new result → OnOk result (new.gone + length new.held ≡ old.gone + length (old.held ++ (a ++ b)))
+  size_then (Ok x) two =
+      omega (arith, two.size, one.size, length-append old.held (a ++ b), length-append a b, length-append old.held a, length-append mid.held b)
+  size_then (Err e) two = tt
+
+  pub puts_then : (result : Result Unit PutError) → Puts t1 t2 f1 f2 h1 h2 b mid new result → Puts t0 t2 f0 f2 h0 h2 (a ++ b) old new result
+  puts_then result two = record {
+    given = given_then result two;
+    part = part_then result two;
+    cause = cause_then result two;
+    count = omega (arith, one.count, two.count);
+    succeeds = λ n well enough. two.succeeds n (one.stays_healthy n well (enough_first n enough)) (enough_then n enough);
+    no_fault = λ n well enough. two.no_fault n (one.stays_healthy n well (enough_first n enough)) (enough_then n enough) ∙ one.no_fault n well (enough_first n enough);
+    stays_healthy = λ n well enough. two.stays_healthy n (one.stays_healthy n well (enough_first n enough)) (enough_then n enough);
+    size = size_then result two;
+    same = two.same ∙ one.same;
+  }
+
+-- a step that failed failed also with what was to follow
+pub puts_failed : (told tells : Option (List ℕ)) (was is : ℕ) (healthy stays : ℕ → Type 0) (a b : List ℕ) (old new : Writer) (e : PutError)
+    → Puts told tells was is healthy stays a old new (Err e) → Puts told tells was is healthy stays (a ++ b) old new (Err e)
+puts_failed told tells was is healthy stays a b old new e step = record {
+  given = λ before bytes so. tt;
+  part = λ before bytes later so.
+      subst (λ (it : List ℕ). GainedPart before (bytes ++ it) tells e) (sym (append_assoc a b later)) (step.part before bytes (b ++ later) so);
+  cause = step.cause;
+  count = step.count;
+  succeeds = λ n well enough. step.succeeds n well (less n enough);
+  no_fault = λ n well enough. step.no_fault n well (less n enough);
+  stays_healthy = λ n well enough. step.stays_healthy n well (less n enough);
+  size = tt;
+  same = step.same;
+}
+  where
+    less : (n : ℕ) → old.gone + length (old.held ++ (a ++ b)) ≤ n → old.gone + length (old.held ++ a) ≤ n
+    less n enough = omega (arith, enough, length-append old.held (a ++ b), length-append a b, length-append old.held a)
+
+-- the first bytes that are held went out
+pub puts_front : (told tells : Option (List ℕ)) (was is : ℕ) (healthy stays : ℕ → Type 0) (piece : List ℕ) (old new : Writer) → new.version ≡ old.version
+    → new.gone ≡ old.gone + length piece → old.held ≡ piece ++ new.held → Gained told piece tells → was ≤ is
+    → ((n : ℕ) → healthy n → length piece ≤ n → is ≡ was) → ((n : ℕ) → healthy n → length piece ≤ n → stays (n - length piece))
+    → Puts told tells was is healthy stays [] old new (Ok tt)
+puts_front told tells was is healthy stays piece old new version gone held gained count no_fault stays_healthy = record {
+  given = λ before bytes so. record {
+    first = so.first ++ piece;
+    parts = append-nil bytes ∙ so.parts ∙ ap (λ (it : List ℕ). so.first ++ it) held ∙ sym (append_assoc so.first piece new.held);
+    gained = Gained-append so.first piece before told tells so.gained gained;
+    counted = omega (arith, gone, so.counted, length-append so.first piece);
+  };
+  part = λ before bytes later so. tt;
+  cause = tt;
+  count = count;
+  succeeds = λ n well enough. refl;
+  no_fault = λ n well enough. no_fault (n - old.gone) well (fits n enough);
+  stays_healthy = λ n well enough.
+      let less : n - old.gone - length piece ≡ n - new.gone = omega (arith, gone) in
+      subst stays less (stays_healthy (n - old.gone) well (fits n enough));
+  size = omega (arith, gone, ap length held, length-append piece new.held, length-append old.held []);
+  same = version;
+}
+  where
+    fits : (n : ℕ) → old.gone + length (old.held ++ []) ≤ n → length piece ≤ n - old.gone
+    fits n enough = omega (arith, enough, length-append old.held [], ap length held, length-append piece new.held)
+
+-- the sink failed
+pub puts_fails : (told tells : Option (List ℕ)) (was is : ℕ) (healthy stays : ℕ → Type 0) (piece rest : List ℕ) (old new : Writer) (error : PutError) → new.version ≡ old.version
+    → old.held ≡ piece ++ rest → GainedPart told piece tells error → Rose was is → was ≤ is → ((n : ℕ) → healthy n → was < last_count)
+    → ((n : ℕ) → healthy n → length piece ≤ n → is ≡ was) → Puts told tells was is healthy stays [] old new (Err (later_error old.gone error))
+puts_fails told tells was is healthy stays piece rest old new error version held gained cause count below no_fault = record {
+  given = λ before bytes so. tt;
+  part = λ before bytes later so.
+      let all : bytes ++ ([] ++ later) ≡ so.first ++ (piece ++ (rest ++ later)) =
+      ap (λ (it : List ℕ). it ++ later) (so.parts ∙ ap (λ (it : List ℕ). so.first ++ it) held) ∙ append_assoc so.first (piece ++ rest) later
+      ∙ ap (λ (it : List ℕ). so.first ++ it) (append_assoc piece rest later) in
+      let left : drop old.gone (bytes ++ ([] ++ later)) ≡ piece ++ (rest ++ later) =
+      ap (drop old.gone) all ∙ drop_at so.first (piece ++ (rest ++ later)) old.gone (sym so.counted) in
+      let front : take old.gone (bytes ++ ([] ++ later)) ≡ so.first = ap (take old.gone) all ∙ take_at so.first (piece ++ (rest ++ later)) old.gone (sym so.counted) in
+      gained_part old.gone error (bytes ++ ([] ++ later)) piece (rest ++ later) before told tells left
+      (omega (arith, so.counted, ap length all, length-append so.first (piece ++ (rest ++ later))))
+      (subst (λ (it : List ℕ). Gained before it told) (sym front) so.gained) gained;
+  cause = cause;
+  count = count;
+  succeeds = λ n well enough. absurd (never n well enough);
+  no_fault = λ n well enough. absurd (never n well enough);
+  stays_healthy = λ n well enough. absurd (never n well enough);
+  size = tt;
+  same = version;
+}
+  where
+    never : (n : ℕ) → healthy (n - old.gone) → old.gone + length (old.held ++ []) ≤ n → ⊥
+    never n well enough =
+        let fits : length piece ≤ n - old.gone = omega (arith, enough, length-append old.held [], ap length held, length-append piece rest) in
+        omega (arith, cause, no_fault (n - old.gone) well fits, below (n - old.gone) well)
+
+pub piece_fits : (held piece : List ℕ) → piece ≡ take piece_length held → length piece ≤ length held
+piece_fits held piece is = omega (arith, ap length is, length-take piece_length held)
+
+-- the error's number of bytes has 64 bits
+pub fails_within : (i : ℕ) (error : PutError) (piece : List ℕ) (old new : Option (List ℕ)) → i + length piece < 2 ^ 64 → GainedPart old piece new error → IsFailedWithin i error
+fails_within i (Failed part) piece old new few part_of = omega (arith, few, part_of.0)
+
+-- what is left of so many bytes is less than a piece
+pub fewer_held : (result : Result Unit PutError) (old new : List ℕ) → length old ≤ piece_length + 14 → OnOk result (new ≡ drop piece_length old) → OnOk result (length new < piece_length)
+fewer_held (Ok x) old new within is = omega (arith, ap length is, length-drop piece_length old, within)
+fewer_held (Err e) old new within is = tt
+
+-- a turn that failed: all that was to come failed
+pub turn_failed : (t0 t1 t2 : Option (List ℕ)) (f0 f1 f2 : ℕ) (h0 h1 h2 : ℕ → Type 0) (done left all : List ℕ) (old mid new : Writer) (e : PutError) → done ++ left ≡ all
+    → Puts t0 t1 f0 f1 h0 h1 done old mid (Ok tt) → Puts t1 t2 f1 f2 h1 h2 [] mid new (Err e) → Puts t0 t2 f0 f2 h0 h2 all old new (Err e)
+turn_failed t0 t1 t2 f0 f1 f2 h0 h1 h2 done left all old mid new e parts one two =
+    let both = puts_then t0 t1 t2 f0 f1 f2 h0 h1 h2 done [] old mid new one (Err e) two in
+    let same : (done ++ []) ++ left ≡ all = ap (λ (it : List ℕ). it ++ left) (append-nil done) ∙ parts in
+    subst (λ (it : List ℕ). Puts t0 t2 f0 f2 h0 h2 it old new (Err e)) same (puts_failed t0 t2 f0 f2 h0 h2 (done ++ []) left old new e both)
+
+-- a turn: a piece went out, and more bytes are held
+pub turn_done : (t0 t1 t2 : Option (List ℕ)) (f0 f1 f2 : ℕ) (h0 h1 h2 : ℕ → Type 0) (done left rest all : List ℕ) (old mid after new : Writer) → done ++ left ≡ all
+    → Puts t0 t1 f0 f1 h0 h1 done old mid (Ok tt) → Puts t1 t2 f1 f2 h1 h2 [] mid after (Ok tt) → new.version ≡ after.version → new.gone ≡ after.gone → IsFilled after.held new.held left rest
+    → (so_far : List ℕ) × (so_far ++ rest ≡ all) × Puts t0 t2 f0 f2 h0 h2 so_far old new (Ok tt)
+turn_done t0 t1 t2 f0 f1 f2 h0 h1 h2 done left rest all old mid after new parts one two version gone filled =
+    let both = puts_then t0 t1 t2 f0 f1 f2 h0 h1 h2 done [] old mid after one (Ok tt) two in
+    let more = filled.more in
+    let last = puts_then t0 t2 t2 f0 f2 f2 h0 h2 h2 (done ++ []) more old after new both (Ok tt) (puts_held t2 f2 h2 more after new version gone filled.adds) in (
+      (done ++ []) ++ more,
+      append_assoc (done ++ []) more rest ∙ ap (λ (it : List ℕ). it ++ (more ++ rest)) (append-nil done) ∙ ap (λ (it : List ℕ). done ++ it) filled.parts ∙ parts,
+      last,
+    )
+
+-- a writer whose bytes are all gone
+pub all_gone : (before tells : Option (List ℕ)) (bytes : List ℕ) (new : Writer) → new.held ≡ [] → IsGiven before tells bytes new → Gained before bytes tells
+all_gone before tells bytes new none is =
+    let same : is.first ≡ bytes = sym (is.parts ∙ ap (λ (it : List ℕ). is.first ++ it) none ∙ append-nil is.first) in
+    subst (λ (it : List ℕ). Gained before it tells) same is.gained
+
+-- the last bytes went out
+pub closed_gained : (told tells : Option (List ℕ)) (was is : ℕ) (healthy stays : ℕ → Type 0) (old new : Writer) (result : Result Unit PutError) → Puts told tells was is healthy stays [] old new result
+    → OnOk result (new.held ≡ []) → (before : Option (List ℕ)) (bytes : List ℕ) → IsGiven before told bytes old → OnOk result (Gained before bytes tells)
+closed_gained told tells was is healthy stays old new (Ok x) step none before bytes so =
+    subst (λ (it : List ℕ). Gained before it tells) (append-nil bytes) (all_gone before tells (bytes ++ []) new none (step.given before bytes so))
+closed_gained told tells was is healthy stays old new (Err e) step none before bytes so = tt
+
+pub closed_part : (told tells : Option (List ℕ)) (was is : ℕ) (healthy stays : ℕ → Type 0) (old new : Writer) (result : Result Unit PutError) → Puts told tells was is healthy stays [] old new result
+    → (before : Option (List ℕ)) (bytes : List ℕ) → IsGiven before told bytes old → IfErr result (GainedPart before bytes tells)
+closed_part told tells was is healthy stays old new (Ok x) step before bytes so = tt
+closed_part told tells was is healthy stays old new (Err e) step before bytes so =
+    subst (λ (it : List ℕ). GainedPart before it tells e) (append-nil bytes) (step.part before bytes [] so)
+
+pub closed_healthy : (told tells : Option (List ℕ)) (was is : ℕ) (healthy stays : ℕ → Type 0) (old new : Writer) (result : Result Unit PutError) → Puts told tells was is healthy stays [] old new result
+    → OnOk result (new.held ≡ []) → (n : ℕ) → healthy (n - old.gone) → old.gone + length old.held ≤ n → stays (n - (old.gone + length old.held))
+closed_healthy told tells was is healthy stays old new (Ok x) step none n well enough =
+    let same : new.gone ≡ old.gone + length old.held = omega (arith, step.size, ap length none, length-append old.held []) in
+    subst (λ (k : ℕ). stays (n - k)) same (step.stays_healthy n well (omega (arith, enough, length-append old.held [])))
+closed_healthy told tells was is healthy stays old new (Err e) step none n well enough =
+    let ok = step.succeeds n well (omega (arith, enough, length-append old.held [])) in absurd cc
+
+-- a writer at its beginning
+pub begun : (told : Option (List ℕ)) (writer : Writer) → writer.gone ≡ 0 → IsGiven told told writer.held writer
+begun told writer none = record { first = []; parts = refl; gained = gained_none told; counted = none }
+  where
+    gained_none : (told : Option (List ℕ)) → Gained told [] told
+    gained_none None = refl
+    gained_none (Some before) = ap (λ (it : List ℕ). Some it) (sym (append-nil before))
+
+-- less than a piece is held, so none is left
+pub none_held : (result : Result Unit PutError) (old new : List ℕ) → length old < piece_length → OnOk result (new ≡ drop piece_length old) → OnOk result (new ≡ [])
+none_held (Ok x) old new few is = is ∙ drop_all piece_length old (omega (arith, few))
+none_held (Err e) old new few is = tt
+
+-- all parts of a file, one after another
+module _ (t0 t1 t2 t3 : Option (List ℕ)) (f0 f1 f2 f3 : ℕ) (h0 h1 h2 h3 : ℕ → Type 0) (a b c : List ℕ) (w0 w1 w2 w3 : Writer)
+    (one : Puts t0 t1 f0 f1 h0 h1 a w0 w1 (Ok tt)) (two : Puts t1 t2 f1 f2 h1 h2 b w1 w2 (Ok tt)) where
+  pub both_parts : Puts t0 t2 f0 f2 h0 h2 (a ++ b) w0 w2 (Ok tt)
+  both_parts = puts_then t0 t1 t2 f0 f1 f2 h0 h1 h2 a b w0 w1 w2 one (Ok tt) two
+
+  pub all_parts : (result : Result Unit PutError) → Puts t2 t3 f2 f3 h2 h3 c w2 w3 result → Puts t0 t3 f0 f3 h0 h3 (a ++ (b ++ c)) w0 w3 result
+  all_parts result three =
+      subst (λ (it : List ℕ). Puts t0 t3 f0 f3 h0 h3 it w0 w3 result) (append_assoc a b c)
+      (puts_then t0 t2 t3 f0 f2 f3 h0 h2 h3 (a ++ b) c w0 w2 w3 both_parts result three)
+
+pub second_failed : (t0 t1 t2 : Option (List ℕ)) (f0 f1 f2 : ℕ) (h0 h1 h2 : ℕ → Type 0) (a b c : List ℕ) (w0 w1 w2 : Writer) (e : PutError)
+    → Puts t0 t1 f0 f1 h0 h1 a w0 w1 (Ok tt) → Puts t1 t2 f1 f2 h1 h2 b w1 w2 (Err e) → Puts t0 t2 f0 f2 h0 h2 (a ++ (b ++ c)) w0 w2 (Err e)
+second_failed t0 t1 t2 f0 f1 f2 h0 h1 h2 a b c w0 w1 w2 e one two =
+    subst (λ (it : List ℕ). Puts t0 t2 f0 f2 h0 h2 it w0 w2 (Err e)) (append_assoc a b c)
+    (puts_failed t0 t2 f0 f2 h0 h2 (a ++ b) c w0 w2 e (puts_then t0 t1 t2 f0 f1 f2 h0 h1 h2 a b w0 w1 w2 one (Err e) two))
+
+-- a file that failed
+pub record FailsWith (told tells : Option (List ℕ)) (was is : ℕ) (healthy stays : ℕ → Type 0) (text : List ℕ) (e : PutError) : Type 0 where
+  pub part : GainedPart told text tells e
+  pub cause : Rose was is
+  pub count : was ≤ is
+  pub never : (n : ℕ) → healthy n → length text ≤ n → ⊥
+
+pub whole_failed : (told tells : Option (List ℕ)) (was is : ℕ) (healthy stays : ℕ → Type 0) (more text : List ℕ) (old new : Writer) (e : PutError) → old.gone ≡ 0 → old.held ++ more ≡ text
+    → Puts told tells was is healthy stays more old new (Err e) → FailsWith told tells was is healthy stays text e
+whole_failed told tells was is healthy stays more text old new e none whole step = record {
+  part =
+      let same : old.held ++ (more ++ []) ≡ text = ap (λ (it : List ℕ). old.held ++ it) (append-nil more) ∙ whole in
+      subst (λ (it : List ℕ). GainedPart told it tells e) same (step.part told old.held [] (begun told old none));
+  cause = step.cause;
+  count = step.count;
+  never = λ n well enough.
+      let less : n ≡ n - old.gone = omega (arith, none) in
+      let ok = step.succeeds n (subst healthy less well) (omega (arith, none, enough, ap length whole)) in
+      absurd cc;
+}
+
+-- a whole file, before its end is closed
+pub record IsAlmost (told tells : Option (List ℕ)) (was is : ℕ) (healthy stays : ℕ → Type 0) (text : List ℕ) (new : Writer) : Type 0 where
+  pub given : IsGiven told tells text new
+  pub count : was ≤ is
+  pub size : new.gone + length new.held ≡ length text
+  pub no_fault : (n : ℕ) → healthy n → length text ≤ n → is ≡ was
+  pub stays_healthy : (n : ℕ) → healthy n → length text ≤ n → stays (n - new.gone)
+
+pub almost : (told tells : Option (List ℕ)) (was is : ℕ) (healthy stays : ℕ → Type 0) (more : List ℕ) (old new : Writer) → old.gone ≡ 0
+    → Puts told tells was is healthy stays more old new (Ok tt) → IsAlmost told tells was is healthy stays (old.held ++ more) new
+almost told tells was is healthy stays more old new none step =
+    let less : (n : ℕ) → n ≡ n - old.gone = λ n. omega (arith, none) in
+    record {
+      given = step.given told old.held (begun told old none);
+      count = step.count;
+      size = omega (arith, step.size, none);
+      no_fault = λ n well enough. step.no_fault n (subst healthy (less n) well) (omega (arith, none, enough));
+      stays_healthy = λ n well enough. step.stays_healthy n (subst healthy (less n) well) (omega (arith, none, enough));
+    }

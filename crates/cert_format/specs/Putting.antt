@@ -1,0 +1,58 @@
+-- What a writer to a sink has done.
+use Rattle.std.specs.Prelude.{◌≡◌, ◌<◌, ◌≤◌, ◌+◌, ◌-◌, ◌^◌, ◌++◌, ℕ, List, Option, Result, length, IsOk, IfErr, OnOk}
+use Rattle.std.specs.List.{flat_map}
+use Rattle.mrt_graph.specs.declared.cert.CertNode.{CertNode}
+use Rattle.mrt_graph.specs.declared.cert.CertLink.{CertLink}
+use Rattle.mrt_graph.specs.declared.cert.Row.{Row}
+use Rattle.mrt_io.specs.Counts.{Rose}
+use Rattle.mrt_io.specs.Writing.{Gained, GainedPart}
+use Rattle.mrt_io.specs.declared.device.PutError.{PutError}
+use Rattle.mrt_io.specs.declared.device.PutError.TheVariants.{Failed}
+use Rattle.cert_format.specs.CertText.{link_text, node_text, row_text}
+use Rattle.cert_format.specs.Versions.{rows_in}
+
+-- a writer: the version of the file, how many bytes went out, and those that it holds
+pub record Writer : Type 0 where
+  pub version : ℕ
+  pub gone : ℕ
+  pub held : List ℕ
+
+-- of all the bytes that the writer was given, the sink gained the first ones since it told `before`, and the others are
+-- held
+pub record IsGiven (before now : Option (List ℕ)) (given : List ℕ) (writer : Writer) : Type 0 where
+  pub first : List ℕ
+  pub parts : given ≡ first ++ writer.held
+  pub gained : Gained before first now
+  pub counted : writer.gone ≡ length first
+
+-- The writer is given more bytes. The sink told `told` before and tells `tells` now, its count of faults was `was` and is
+-- `is`, and it was healthy for these numbers of bytes and is for those.
+pub record Puts (told tells : Option (List ℕ)) (was is : ℕ) (healthy stays : ℕ → Type 0) (more : List ℕ) (old new : Writer)
+    (result : Result Unit PutError) : Type 0 where
+  -- all that was given went out or is held
+  pub given : (before : Option (List ℕ)) (bytes : List ℕ) → IsGiven before told bytes old
+      → OnOk result (IsGiven before tells (bytes ++ more) new)
+  -- else the sink gained some of it, fewer than all, also of what was to follow
+  pub part : (before : Option (List ℕ)) (bytes later : List ℕ) → IsGiven before told bytes old
+      → IfErr result (GainedPart before (bytes ++ (more ++ later)) tells)
+  pub cause : IfErr result (λ _. Rose was is)
+  pub count : was ≤ is
+  -- over a sink that is healthy for all the bytes
+  pub succeeds : (n : ℕ) → healthy (n - old.gone) → old.gone + length (old.held ++ more) ≤ n → IsOk result
+  pub no_fault : (n : ℕ) → healthy (n - old.gone) → old.gone + length (old.held ++ more) ≤ n → is ≡ was
+  pub stays_healthy : (n : ℕ) → healthy (n - old.gone) → old.gone + length (old.held ++ more) ≤ n → stays (n - new.gone)
+  pub size : OnOk result (new.gone + length new.held ≡ old.gone + length (old.held ++ more))
+  pub same : new.version ≡ old.version
+
+-- the error of a later piece, after so many bytes: how many were taken of all
+abbrev pub later_error : ℕ → PutError → PutError
+later_error before (Failed taken) = Failed (before + taken)
+
+-- these are a number of 64 bits
+abbrev pub IsFailedWithin : ℕ → PutError → Type 0
+IsFailedWithin before (Failed taken) = before + taken < 2 ^ 64
+
+-- the bytes of nodes, links and those rows that stand in a file of this version
+abbrev pub parts_text : ℕ → List CertNode → List CertLink → List Row → List ℕ
+parts_text version nodes links rows =
+    flat_map node_text nodes ++ (flat_map link_text links ++ flat_map row_text (rows_in version rows))
