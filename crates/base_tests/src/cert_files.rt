@@ -22,7 +22,7 @@ pub const TRIANGLE: [u8; 98] = [
 ];
 
 /// Four routers in a line.
-const LINE: [u8; 139] = [
+pub const LINE: [u8; 139] = [
     0x4d, 0x52, 0x54, 0x43, 0x00, 0x01, 0x00, 0x04, 0x00, 0x03, 0x04, 0x04, 0x04, 0x04, 0x01, 0x01,
     0x01, 0x01, 0x01, 0x00, 0x04, 0x00, 0x01, 0x00, 0x00, 0x01, 0x02, 0x02, 0x02, 0x02, 0x00, 0x03,
     0x00, 0x02, 0x00, 0x01, 0x01, 0x03, 0x03, 0x03, 0x03, 0x00, 0x02, 0x00, 0x03, 0x00, 0x02, 0x01,
@@ -146,8 +146,11 @@ type Told = (&'static [(usize, u8)], u32, CertKind);
 const SPOILT: &[Told] = &[
     (&[(0, 0), (0, 0)], 0, CertKind::Magic),
     (&[(3, 0), (9, 9)], 0, CertKind::Magic),
-    (&[(5, 2), (5, 2)], 4, CertKind::Magic),
+    (&[(5, 0), (5, 0)], 4, CertKind::Magic),
+    (&[(5, 3), (5, 3)], 4, CertKind::Magic),
+    (&[(4, 1), (5, 1)], 4, CertKind::Magic),
     (&[(6, 0), (7, 0)], 6, CertKind::Range),
+    (&[(6, 8), (7, 1)], 6, CertKind::Range),
     (&[(8, 0x20), (9, 1)], 8, CertKind::Range),
     (&[(14, 0), (14, 0)], 14, CertKind::Range),
     (&[(14, 3), (14, 3)], 14, CertKind::Range),

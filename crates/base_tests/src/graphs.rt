@@ -191,29 +191,29 @@ struct Line {
 
 const LINES: &[Line] = &[
     Line {
-        routers: 2048,
+        routers: 4096,
         times: 1,
-        counts: Ok((2048, 2047)),
+        counts: Ok((4096, 4095)),
     },
     Line {
-        routers: 2049,
+        routers: 4097,
         times: 1,
         counts: Err(GraphError::TooLarge {
-            nodes: 2049,
-            links: 2048,
+            nodes: 4097,
+            links: 4096,
         }),
     },
     Line {
         routers: 2,
-        times: 8192,
-        counts: Ok((2, 8192)),
+        times: 16384,
+        counts: Ok((2, 16384)),
     },
     Line {
         routers: 2,
-        times: 8193,
+        times: 16385,
         counts: Err(GraphError::TooLarge {
             nodes: 2,
-            links: 8193,
+            links: 16385,
         }),
     },
 ];

@@ -167,6 +167,7 @@ fn file(
     apply(rt, &mut parts, case.0);
     apply(rt, &mut parts, case.1);
     Ok(CertFile {
+        version: 1,
         root: parts.root,
         cert: cert(rt, parts.nodes, parts.links, parts.rows),
     })
