@@ -1,20 +1,21 @@
 -- Rows on their way to their places, from the last one back.
-use Rattle.std.proofs.Common.{◌≡◌, ◌≢◌, ◌∙◌, ◌<◌, ◌≤◌, ◌+◌, ◌-◌, ◌*◌, ℕ, Bool, true, false, cond, not, List, [], ◌∷◌, ◌++◌, filter, length, map, get_or, set, take, drop, replicate, nat_lt, if◌then◌else◌, inl, inr, refl, sym, ap, arith, length-append, length-take}
+use Rattle.std.proofs.Common.{◌≡◌, ◌≢◌, ◌∙◌, ◌<◌, ◌≤◌, ◌+◌, ◌-◌, ◌*◌, ℕ, zero, suc, Bool, true, false, cond, not, List, [], ◌∷◌, ◌++◌, Some, filter, length, map, get_or, set, take, drop, replicate, slice_get, nat_lt, if◌then◌else◌, inl, inr, refl, sym, ap, arith, length-append, length-take}
 use Rattle.std.proofs.lemmas.Bool.{cases_lt, le-ltb, lt-ltb}
 use Rattle.std.proofs.lemmas.List.{drop_all, drop_more, drop-set, length-replicate, length-set, take_all, take_at, take-set-le, take-take, get_or-take}
 use Rattle.std.proofs.Math.Nat.{mul-le-mul_right}
 use Rattle.std.proofs.lemmas.List.Filters.{length-filter_more}
-use Rattle.std.proofs.lemmas.Option.{get_or_from_slice_get}
+use Rattle.std.proofs.lemmas.Option.{get_or_from_slice_get, same_Some}
 use Rattle.mrt_graph.specs.declared.cert.CertNode.{CertNode}
 use Rattle.mrt_graph.specs.declared.cert.Row.{Row}
 use Rattle.mrt_graph.specs.Certificate.{certificate_of}
 use Rattle.mrt_graph.specs.Related.{are_unrelated}
 use Rattle.mrt_graph.specs.RowPlace.{place_of_row}
+use Rattle.mrt_graph.proofs.ListPlaces.{set_elsewhere}
 use Rattle.mrt_graph.proofs.ListTests.{all_at, there}
 use Rattle.mrt_graph.proofs.RowPlaces.{column_above, column_below}
 use Rattle.cert_format.specs.Folded.{is_near}
-use Rattle.cert_format.specs.Unfolding.{AreNear, AreSpread, IsSpreading, carried, marks_of, set_marks}
-use Rattle.cert_format.proofs.Pairs.{few_set, pairs_length, related_at}
+use Rattle.cert_format.specs.Unfolding.{AreBlank, AreNear, AreSpread, IsSpreading, carried, marks_of, set_marks}
+use Rattle.cert_format.proofs.Pairs.{at_right, few_set, pairs_length, related_at}
 
 -- one mark more
 pub set_more : (marks : List Bool) (q : ℕ) → q < length marks → get_or marks q false ≡ true → set_marks (take (q + 1) marks) ≡ set_marks (take q marks) + 1
@@ -211,3 +212,27 @@ spread_all nodes rows count all near = record {
   same = all_near rows near;
   marks = all_marked (marks_of nodes) rows (sym count ∙ all) all near;
 }
+
+-- so are the rows that were put after the near ones
+pub blank_start : (near rows : List Row) (all : ℕ) → rows ≡ near ++ replicate (all - length near) carried → AreBlank (length near) all rows
+blank_start near rows all is q from below =
+    let place : q ≡ length near + (q - length near) = omega (arith, from) in
+    ap (λ (it : List Row). slice_get it q) is
+    ∙ ap (slice_get (near ++ replicate (all - length near) carried)) place
+    ∙ at_right near (replicate (all - length near) carried) (q - length near)
+    ∙ replicate_at (all - length near) (q - length near) (omega (arith, from, below))
+  where
+    replicate_at : (n k : ℕ) → k < n → slice_get (replicate n carried) k ≡ Some carried
+    replicate_at zero k within = absurd (omega (arith, within))
+    replicate_at (suc n) zero within = refl
+    replicate_at (suc n) (suc k) within = replicate_at n k (omega (arith, within))
+
+-- a row that is put stands before those that are blank
+pub blank_before : (from to q : ℕ) (rows : List Row) (x : Row) → q ≡ to - 1 → AreBlank from to rows → AreBlank from q (set rows q x)
+blank_before from to q rows x last blank k low below = set_elsewhere rows q k x (λ same. omega (arith, below, same)) ∙ blank k low (omega (arith, below, last))
+
+-- what stands there already is put
+pub same_put : (rows : List Row) (q : ℕ) (x : Row) → slice_get rows q ≡ Some x → rows ≡ set rows q x
+same_put [] q x is = cc
+same_put (y ∷ rows) zero x is = ap (λ (it : Row). it ∷ rows) (same_Some y x is)
+same_put (y ∷ rows) (suc q) x is = ap (λ (it : List Row). y ∷ it) (same_put rows q x is)

@@ -23,6 +23,10 @@ marks_of nodes = related_pairs (certificate_of nodes [] [])
 abbrev pub carried : Row
 carried = record { blue = 0; red = 0; tag = Carried }
 
+-- from one place up to another the rows have no links of their own yet
+abbrev pub AreBlank : ℕ → ℕ → List Row → Type 0
+AreBlank from to rows = (q : ℕ) → from ≤ q → q < to → slice_get rows q ≡ Some carried
+
 -- none of the rows is Carried
 abbrev pub AreNear : List Row → Type 0
 AreNear rows = AllByRecursion (λ row. is_near row ≡ true) rows

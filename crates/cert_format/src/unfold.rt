@@ -10,6 +10,7 @@ ghost use Rattle.mrt_graph.specs.declared.cert.Row.{Row};
 ghost use Rattle.cert_format.specs.Down.{IsDown};
 ghost use Rattle.cert_format.specs.Folded.{is_near};
 ghost use Rattle.cert_format.specs.Unfolding.{
+  AreBlank,
   AreNear,
   AreSettledBefore,
   AreSpread,
@@ -55,13 +56,14 @@ fn spread(rows: &mut Vec<Row>, nodes: &[CertNode]) -> bool
     ensures same { IsFalse result → rows.new.items ≡ rows.old.items }
 {
     let all = nodes.len() * nodes.len().saturating_sub(1);
-    let mut left = rows.len();
-    if left == all {
+    let near = rows.len();
+    if near == all {
         return false;
     }
     make_places(rows, all);
+    let mut left = near;
     for s in (0..nodes.len()).rev() {
-        left = spread_from(rows, nodes, s, left);
+        left = spread_from(rows, nodes, s, near, left);
     }
     true
 }
@@ -87,14 +89,16 @@ fn carried_row() -> Row
     }
 }
 
-/// Moves the rows of one node to their places. So many rows are left where they were, and then so many.
-fn spread_from(rows: &mut [Row], nodes: &[CertNode], s: usize, left: usize) -> usize
+/// Moves the rows of one node to their places. Of `near` rows so many are left where they were, and then so many.
+fn spread_from(rows: &mut [Row], nodes: &[CertNode], s: usize, near: usize, left: usize) -> usize
     requires few { length nodes.now ≤ 65535 }
     requires within { s < length nodes.now }
     requires many { length rows.old ≡ length (marks_of nodes.now) }
     requires left { left ≡ set_marks (take ((s + 1) * (length nodes.now - 1)) (marks_of nodes.now)) }
+    requires blank { AreBlank near ((s + 1) * (length nodes.now - 1)) rows.old }
     ensures many { length rows.new ≡ length rows.old }
     ensures left { result ≡ set_marks (take (s * (length nodes.now - 1)) (marks_of nodes.now)) }
+    ensures blank { AreBlank near (s * (length nodes.now - 1)) rows.new }
     ensures spread { (near : List Row) → AreNear near
         → IsSpreading (marks_of nodes.now) near rows.old ((s + 1) * (length nodes.now - 1)) left
         → IsSpreading (marks_of nodes.now) near rows.new (s * (length nodes.now - 1)) result }
@@ -104,28 +108,31 @@ fn spread_from(rows: &mut [Row], nodes: &[CertNode], s: usize, left: usize) -> u
     for t in (0..nodes.len()).rev() {
         if t != s {
             place -= 1;
-            left = spread_one(rows, place, left, are_related(nodes, s, t));
+            left = spread_one(rows, place, near, left, are_related(nodes, s, t));
         }
     }
     left
 }
 
-/// Moves the last row that is left where it was to its place, or puts a Carried row there.
-fn spread_one(rows: &mut [Row], place: usize, left: usize, related: bool) -> usize
+/// Moves the last row that is left where it was to its place, or puts a Carried row there, unless it stands there.
+fn spread_one(rows: &mut [Row], place: usize, near: usize, left: usize, related: bool) -> usize
     requires place { place < length rows.old }
     requires left { left ≤ place + 1 }
     requires some { IsTrue related → 1 ≤ left }
+    requires blank { near ≤ place → slice_get rows.old place ≡ Some carried }
     ensures many { length rows.new ≡ length rows.old }
     ensures moved { IsTrue related → (rows.new ≡ slice_set rows.old place (slice_index_or rows.old (left - 1) carried))
         × (result ≡ left - 1) }
     ensures put { IsFalse related → (rows.new ≡ slice_set rows.old place carried) × (result ≡ left) }
 {
-    if !related {
-        rows[place] = carried_row();
-        return left;
+    if related {
+        rows[place] = rows[left - 1];
+        return left - 1;
     }
-    rows[place] = rows[left - 1];
-    left - 1
+    if place < near {
+        rows[place] = carried_row();
+    }
+    left
 }
 
 /// Gives the Carried rows of one node their links.

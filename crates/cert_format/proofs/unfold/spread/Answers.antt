@@ -1,15 +1,15 @@
 use Rattle.std.proofs.Common.{◌≡◌, ◌∙◌, ◌-◌, ◌*◌, ◌++◌, ℕ, [], length, replicate, sym, ap, subst, arith}
 use Rattle.mrt_graph.specs.Certificate.{certificate_of}
-use Rattle.cert_format.specs.Unfolding.{IsSpreading, carried, marks_of}
+use Rattle.cert_format.specs.Unfolding.{AreBlank, IsSpreading, carried, marks_of}
 use Rattle.cert_format.proofs.Pairs.{few_set, pairs_length}
-use Rattle.cert_format.proofs.Spreading.{spread_all, spread_start}
+use Rattle.cert_format.proofs.Spreading.{blank_start, spread_all, spread_start}
 use Rattle.cert_format.proofs.unfold.spread.Goals as goal
 
-pub returns-then-left-all-clause-spread : goal.returns-then-left-all-clause-spread
-returns-then-left-all-clause-spread c =
+pub returns-then-near-all-clause-spread : goal.returns-then-near-all-clause-spread
+returns-then-near-all-clause-spread c =
     let all : length c.args.nodes.now * c.saturating_sub.result ≡ length c.args.nodes.now * (length c.args.nodes.now - 1) = ap (λ (k : ℕ). length c.args.nodes.now * k) c.saturating_sub.ensures in
     spread_all c.args.nodes.now c.args.rows.now.items c.requires.many
-    (omega (arith, c.if-left-all.true, c.len-left.ensures, all, pairs_length (certificate_of c.args.nodes.now [] []))) c.requires.near
+    (omega (arith, c.if-near-all.true, c.len-near.ensures, all, pairs_length (certificate_of c.args.nodes.now [] []))) c.requires.near
 
 pub make_places-requires-clause-many : goal.make_places-requires-clause-many
 make_places-requires-clause-many c =
@@ -26,8 +26,10 @@ loop-s-init c =
     let rows : c.make_places.new.rows.items ≡ near ++ replicate (length marks - length near) carried =
     c.make_places.ensures ∙ ap (λ (k : ℕ). near ++ replicate (k - length near) carried) all in
     let start = spread_start marks near c.make_places.new.rows.items c.requires.many rows in
-    let left : c.len-left.result ≡ length near = omega (arith, c.len-left.ensures) in
-    let so : IsSpreading marks near c.make_places.new.rows.items (n * (n - 1)) c.len-left.result =
-    subst (λ (k : ℕ). IsSpreading marks near c.make_places.new.rows.items k c.len-left.result) pairs
+    let left : c.len-near.result ≡ length near = omega (arith, c.len-near.ensures) in
+    let so : IsSpreading marks near c.make_places.new.rows.items (n * (n - 1)) c.len-near.result =
+    subst (λ (k : ℕ). IsSpreading marks near c.make_places.new.rows.items k c.len-near.result) pairs
     (subst (λ (k : ℕ). IsSpreading marks near c.make_places.new.rows.items (length marks) k) (sym left) start) in
-    record { many = so.many; left = so.counted; spread = so }
+    let blank : AreBlank c.len-near.result (n * (n - 1)) c.make_places.new.rows.items =
+    rw (left, sym pairs) (blank_start near c.make_places.new.rows.items (length marks) rows) in
+    record { many = so.many; blank = blank; left = so.counted; spread = so }

@@ -1,12 +1,13 @@
-use Rattle.std.proofs.Common.{◌≡◌, ◌∙◌, ◌+◌, ◌-◌, ℕ, length, take, refl, sym, ap, subst, arith, inl, inr}
+use Rattle.std.proofs.Common.{◌≡◌, ◌∙◌, ◌+◌, ◌-◌, ℕ, length, get_or, take, refl, sym, ap, subst, arith, inl, inr}
 use Rattle.std.proofs.lemmas.Bool.{cases_Bool}
-use Rattle.cert_format.specs.Unfolding.{IsSpreading, marks_of, set_marks}
-use Rattle.cert_format.proofs.Spreading.{home_is, next_is, place_first, set_few, set_more, set_none, spread_far, spread_near}
+use Rattle.cert_format.specs.Unfolding.{IsSpreading, carried, marks_of, set_marks}
+use Rattle.cert_format.proofs.Spreading.{blank_before, home_is, next_is, place_first, set_few, set_more, set_none, spread_far, spread_near}
 use Rattle.cert_format.proofs.unfold.spread_from.Goals as goal
 
 pub loop-t-init : goal.loop-t-init
 loop-t-init c = record {
   place = sym (place_first (length c.args.nodes.now) c.args.s c.requires.within);
+  blank = c.requires.blank;
   left = c.requires.left;
   spread = λ near all is. is;
 }
@@ -44,6 +45,7 @@ loop-t-preserved-then-t-s c =
           let moved = c.spread_one-left.ensures.moved related in
           record {
             place = it.is;
+            blank = rw moved.0 (blank_before c.args.near c.loop-t.place q c.loop-t.rows (get_or c.loop-t.rows (c.loop-t.left - 1) carried) refl before.blank);
             left = moved.1 ∙ omega (arith, counted, set_more marks q it.within (it.marked ∙ related));
             spread = λ near all is.
                 let so_far : IsSpreading marks near c.loop-t.rows (q + 1) c.loop-t.left = subst (λ (k : ℕ). IsSpreading marks near c.loop-t.rows k c.loop-t.left) it.one_less (before.spread near all is) in
@@ -53,6 +55,7 @@ loop-t-preserved-then-t-s c =
           let put = c.spread_one-left.ensures.put far in
           record {
             place = it.is;
+            blank = rw put.0 (blank_before c.args.near c.loop-t.place q c.loop-t.rows carried refl before.blank);
             left = put.1 ∙ counted ∙ set_none marks q it.within (it.marked ∙ far);
             spread = λ near all is.
                 let so_far : IsSpreading marks near c.loop-t.rows (q + 1) c.loop-t.left = subst (λ (k : ℕ). IsSpreading marks near c.loop-t.rows k c.loop-t.left) it.one_less (before.spread near all is) in
@@ -63,6 +66,7 @@ loop-t-preserved-then-t-s c =
 pub loop-t-preserved : goal.loop-t-preserved
 loop-t-preserved c = record {
   place = home_is (length c.args.nodes.now) c.args.s c.loop-t.t c.loop-t.place c.loop-t-test.true c.if-t-s.false c.loop-t.invariant.place;
+  blank = c.loop-t.invariant.blank;
   left = c.loop-t.invariant.left;
   spread = c.loop-t.invariant.spread;
 }
