@@ -1,0 +1,2 @@
+pub mod LinesTaken
+pub mod TextsTold

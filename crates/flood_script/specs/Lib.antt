@@ -1,0 +1,4 @@
+pub mod FloodLines
+pub mod FloodScripts
+pub mod Taking
+pub mod FloodTexts

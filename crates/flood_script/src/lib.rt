@@ -1,0 +1,21 @@
+//! Scripts of deliveries: the lines of a script file, and the text of a run.
+#![tactic(auto)]
+
+mod comparing;
+mod error;
+mod line;
+mod lines;
+mod reading;
+mod script;
+mod script_law;
+mod telling;
+mod verdict;
+
+pub use comparing::Compare;
+pub use error::FloodScriptError;
+pub use lines::{push_answer, push_verdict};
+pub use reading::read_flood_script;
+pub use script::{FloodLine, FloodScript};
+pub use script_law::lines_are_a_flood_script_or_have_a_fault;
+pub use telling::flood_text;
+pub use verdict::Verdict;
