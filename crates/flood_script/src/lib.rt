@@ -9,6 +9,7 @@ mod reading;
 mod script;
 mod script_law;
 mod telling;
+mod text_law;
 mod verdict;
 
 pub use comparing::Compare;
@@ -18,4 +19,7 @@ pub use reading::read_flood_script;
 pub use script::{FloodLine, FloodScript};
 pub use script_law::lines_are_a_flood_script_or_have_a_fault;
 pub use telling::flood_text;
+pub use text_law::{
+    a_comparison_tells_of_the_deliveries_before_it, newest_of_the_same_give_one_area,
+};
 pub use verdict::Verdict;

@@ -1,0 +1,47 @@
+-- What a comparison tells of, and areas of newest instances.
+use Rattle.std.proofs.Common.{◌≡◌, ◌∙◌, ◌∷◌, ◌++◌, [], ℕ, List, refl, sym, ap, append_assoc}
+use Rattle.ospf_lsa.specs.declared.lsa.Lsa.{Lsa}
+use Rattle.lsdb.specs.Entries.{Database}
+use Rattle.lsdb.specs.Orders.{newest_in}
+use Rattle.area_graph.specs.AreaOf.{area_of}
+use Rattle.area_graph.proofs.EveryOrder.{same_records}
+use Rattle.flood_core.specs.FloodState.{FloodState}
+use Rattle.flood_core.specs.Runs.{AreNewestOfTheSame, after_deliveries}
+use Rattle.flood_script.specs.declared.script.FloodLine.{FloodLine}
+use Rattle.flood_script.specs.declared.script.FloodLine.TheVariants.{Deliver, Same}
+use Rattle.flood_script.specs.declared.verdict.Verdict.{Verdict}
+use Rattle.flood_script.specs.FloodTexts.{IsCompared, IsFloodText, after_line, deliveries_of, verdict_line}
+
+pub compared_in_state : (says : Database → Database → ℕ → Verdict → Type 0) (first : FloodState)
+    (before after : List FloodLine) (one other router : ℕ) (text : List ℕ)
+    → IsFloodText says first (before ++ Same one other router ∷ after) text
+    → (front : List ℕ) × (rest : List ℕ) × (verdict : Verdict) × IsFloodText says first before front
+    × IsCompared says (after_deliveries first (deliveries_of before)) one other router verdict
+    × (text ≡ front ++ (verdict_line verdict ++ rest))
+compared_in_state says first [] after one other router text is =
+    ([], is.1, is.3.0, refl, is.3.1, is.2 ∙ ap (λ (t : List ℕ). t ++ is.1) is.3.2)
+compared_in_state says first (Deliver packet to ∷ before) after one other router text is =
+    let later = compared_in_state says (after_line first (Deliver packet to)) before after one other router is.1 is.4 in (
+      is.0 ++ later.0,
+      later.1,
+      later.2,
+      (is.0, later.0, refl, is.3, later.3),
+      later.4,
+      is.2 ∙ ap (λ (t : List ℕ). is.0 ++ t) later.5
+          ∙ sym (append_assoc is.0 later.0 (verdict_line later.2 ++ later.1)),
+    )
+compared_in_state says first (Same its others of ∷ before) after one other router text is =
+    let later = compared_in_state says first before after one other router is.1 is.4 in (
+      is.0 ++ later.0,
+      later.1,
+      later.2,
+      (is.0, later.0, refl, is.3, later.3),
+      later.4,
+      is.2 ∙ ap (λ (t : List ℕ). is.0 ++ t) later.5
+          ∙ sym (append_assoc is.0 later.0 (verdict_line later.2 ++ later.1)),
+    )
+
+pub one_area : (its others : List Lsa) → AreNewestOfTheSame its others → area_of its ≡ area_of others
+one_area its others are =
+    ap area_of are.one_is ∙ same_records are.lsas are.others are.kept are.settled are.same
+    ∙ sym (ap area_of are.other_is)

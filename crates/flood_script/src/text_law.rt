@@ -1,0 +1,30 @@
+//! Laws over the texts of scripts, and over databases that are compared. They hold of the definitions alone; the
+//! functions do nothing.
+
+ghost use Rattle.std.specs.Prelude.{◌≡◌, ◌++◌, ◌∷◌, ℕ, List};
+ghost use Rattle.ospf_lsa.specs.declared.lsa.Lsa.{Lsa};
+ghost use Rattle.area_graph.specs.AreaOf.{area_of};
+ghost use Rattle.flood_core.specs.FloodState.{FloodState};
+ghost use Rattle.flood_core.specs.Runs.{AreNewestOfTheSame, after_deliveries};
+ghost use Rattle.flood_script.specs.declared.script.FloodLine.{FloodLine};
+ghost use Rattle.flood_script.specs.declared.script.FloodLine.TheVariants as lines;
+ghost use Rattle.flood_script.specs.declared.verdict.Verdict.{Verdict};
+ghost use Rattle.flood_script.specs.FloodTexts.{IsCompared, IsFloodText, deliveries_of, verdict_line};
+
+use crate::comparing::Compare;
+
+/// A law: the line of a comparison tells of the databases as they are after the deliveries of the lines before it.
+pub fn a_comparison_tells_of_the_deliveries_before_it<C: Compare>(_comparing: &C)
+    ensures { (first : FloodState) (before after : List FloodLine) (one other router : ℕ) (text : List ℕ)
+        → IsFloodText (C.says _comparing.now) first (before ++ lines.Same one other router ∷ after) text
+        → (front : List ℕ) × (rest : List ℕ) × (verdict : Verdict)
+        × IsFloodText (C.says _comparing.now) first before front
+        × IsCompared (C.says _comparing.now) (after_deliveries first (deliveries_of before)) one other router verdict
+        × (text ≡ front ++ (verdict_line verdict ++ rest)) }
+{}
+
+/// A law: the first newest instances of two settled lists that hold the same LSAs give one area. So do the databases of
+/// two routers to which the same LSAs were delivered, and of any two where flooding has converged.
+pub fn newest_of_the_same_give_one_area()
+    ensures { (its others : List Lsa) → AreNewestOfTheSame its others → area_of its ≡ area_of others }
+{}
