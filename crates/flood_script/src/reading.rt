@@ -1,10 +1,11 @@
 //! A whole script file.
 
 ghost use Rattle.std.specs.Prelude.{◌≡◌, ◌≤◌, ◌<◌, ◌^◌, ◌+◌, ◌++◌, ◌∷◌, [], ℕ, Ok, Err, IfOk, OnOk, Some, List, length};
+ghost use Rattle.std.specs.List.{AllByRecursion};
 ghost use Rattle.mrt_graph.specs.TextLines.{text_lines};
 ghost use Rattle.flood_script.specs.declared.script.FloodLine.{FloodLine};
 ghost use Rattle.flood_script.specs.declared.script.FloodScript.{FloodScript};
-ghost use Rattle.flood_script.specs.FloodScripts.{IsFirstFault, IsScript, OrNoMemory, ReadsLines, deliveries_in};
+ghost use Rattle.flood_script.specs.FloodScripts.{IsAmong, IsFirstFault, IsScript, OrNoMemory, ReadsLines, deliveries_in};
 ghost use Rattle.flood_script.specs.Taking.{IsRefused, ScriptOf, after_line, after_more, may_follow, said};
 
 use crate::error::FloodScriptError;
@@ -41,8 +42,11 @@ pub fn read_flood_script(alloc: Global, bytes: &[u8]) -> Result<FloodScript, Flo
         → IsFirstFault (text_lines bytes.now) line }
     ensures faulty { (line : ℕ) → IsFirstFault (text_lines bytes.now) line
         → OrNoMemory result (Err (FloodScriptError.Fault line)) }
+    // What is read may be run.
     ensures some { IfOk result (λ script. 1 ≤ script.routers) }
     ensures at_most { IfOk result (λ script. script.routers ≤ 64) }
+    ensures few { IfOk result (λ script. deliveries_in script.lines ≤ 65535) }
+    ensures among { IfOk result (λ script. AllByRecursion (IsAmong script.routers) script.lines) }
 {
     read_lines(alloc, bytes)
 }

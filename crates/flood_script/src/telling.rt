@@ -2,6 +2,8 @@
 
 ghost use Rattle.std.specs.Prelude.{◌≡◌, ◌≤◌, ◌<◌, ◌+◌, ◌∷◌, ◌++◌, [], ℕ, List, IfOk, length};
 ghost use Rattle.std.specs.List.{AllByRecursion};
+ghost use Rattle.flood_core.specs.FloodState.{started};
+ghost use Rattle.flood_core.specs.Receiving.{MayFlood};
 ghost use Rattle.flood_script.specs.declared.script.FloodLine.{FloodLine};
 ghost use Rattle.flood_script.specs.FloodScripts.{IsAmong, deliveries_in};
 ghost use Rattle.flood_script.specs.FloodTexts.{IsFloodText, IsLineText, after_line};
@@ -9,12 +11,12 @@ ghost use Rattle.flood_script.specs.FloodTexts.{IsFloodText, IsLineText, after_l
 use crate::comparing::Compare;
 use crate::lines::{push_answer, push_verdict};
 use crate::script::{FloodLine, FloodScript};
-use flood_core::Flood;
+use flood_core::{Flood, Update};
 use mrt_graph::NoMemory;
 use std::alloc::Global;
 
-/// The lines of the answers to the lines of a script, one for each, and how the routers stand then. The routers are as
-/// many as the script says, and with its deliveries no more than 65,535 are answered as changed.
+/// The lines of the answers to the lines of a script, one for each, where its deliveries begin with the packets of a file
+/// and with empty databases. The packets may be flooded, and the script is one that was read.
 ///
 /// It takes the time of the deliveries and of the comparisons.
 ///
@@ -23,17 +25,37 @@ use std::alloc::Global;
 /// [`NoMemory`] where there was none for a database, a packet, a comparison or the text.
 pub fn flood_text<C: Compare>(
     alloc: Global,
-    flood: Flood,
+    updates: Vec<Update>,
     script: &FloodScript,
     comparing: &C,
 ) -> Result<Vec<u8>, NoMemory>
-    requires room { flood.changed + deliveries_in script.now.lines ≤ 65535 }
-    requires among { AllByRecursion (IsAmong (length flood.routers)) script.now.lines }
-    ensures { IfOk result (λ text. IsFloodText (C.says comparing.now) flood script.now.lines text.items) }
+    requires few_updates { length updates.items ≤ 4294000000 }
+    requires may_flood { AllByRecursion MayFlood updates.items }
+    requires some { 1 ≤ script.now.routers }
+    requires at_most { script.now.routers ≤ 64 }
+    requires few { deliveries_in script.now.lines ≤ 65535 }
+    requires among { AllByRecursion (IsAmong script.now.routers) script.now.lines }
+    ensures { IfOk result (λ text. IsFloodText (C.says comparing.now) (started updates.items script.now.routers)
+        script.now.lines text.items) }
+{
+    let flood = Flood::new(alloc, updates, script.routers)?;
+    tell_all(alloc, flood, script.lines.as_slice(), comparing)
+}
+
+/// The lines of the answers to lines of a script, one for each.
+fn tell_all<C: Compare>(
+    alloc: Global,
+    flood: Flood,
+    lines: &[FloodLine],
+    comparing: &C,
+) -> Result<Vec<u8>, NoMemory>
+    requires room { flood.changed + deliveries_in lines.now ≤ 65535 }
+    requires among { AllByRecursion (IsAmong (length flood.routers)) lines.now }
+    ensures { IfOk result (λ text. IsFloodText (C.says comparing.now) flood lines.now text.items) }
 {
     let mut flood = flood;
     let mut text = Vec::new(alloc);
-    for line in script.lines.as_slice() {
+    for line in lines {
         flood = tell(alloc, flood, line, comparing, &mut text)?;
     }
     Ok(text)
