@@ -2,7 +2,6 @@
 use Rattle.std.proofs.Common.{◌≡◌, ◌∙◌, ◌∷◌, ◌++◌, [], ℕ, List, refl, sym, ap, append_assoc}
 use Rattle.ospf_lsa.specs.declared.lsa.Lsa.{Lsa}
 use Rattle.lsdb.specs.Entries.{Database}
-use Rattle.lsdb.specs.Orders.{newest_in}
 use Rattle.area_graph.specs.AreaOf.{area_of}
 use Rattle.area_graph.proofs.EveryOrder.{same_records}
 use Rattle.flood_core.specs.FloodState.{FloodState}

@@ -1,5 +1,5 @@
 -- The lines of a script, taken in one after another.
-use Rattle.std.proofs.Common.{◌≡◌, ◌⊎◌, ◌<◌, ◌≤◌, ◌+◌, ◌-◌, ◌∙◌, ◌∷◌, ◌++◌, ◌&&◌, ◌==◌, [], ℕ, Bool, zero, suc, true, false, cond, not, List, length, take, drop, get_or, map, slice_get, Option, Some, None, Result, Ok, Err, refl, ap, sym, subst, append_assoc, arith, inl, inr}
+use Rattle.std.proofs.Common.{◌≡◌, ◌⊎◌, ◌<◌, ◌≤◌, ◌+◌, ◌-◌, ◌∙◌, ◌∷◌, ◌++◌, ◌==◌, [], ℕ, Bool, zero, suc, true, false, cond, not, List, length, take, drop, get_or, map, slice_get, Option, Some, None, Result, Ok, Err, refl, ap, sym, subst, arith, inl, inr}
 use Rattle.std.specs.Prelude.{codes, nat_le, nat_lt}
 use Rattle.std.specs.List.{AllByRecursion, filter, list_all, slice_split}
 use Rattle.std.specs.Option.{option_and_then, option_map, option_map_or}
@@ -454,8 +454,12 @@ few_parts (part ∷ next ∷ parts) = let fewer = few_parts (next ∷ parts) in 
 
 pub few_lines : (text : List ℕ) → length (text_lines text) ≤ length text + 1
 few_lines text =
-    omega (arith, few_parts (slice_split (λ b. b == 10) text), length-slice_split (λ b. b == 10) text,
-    count_by-le-length (λ b. b == 10) text)
+    omega (
+      arith,
+      few_parts (slice_split (λ b. b == 10) text),
+      length-slice_split (λ b. b == 10) text,
+      count_by-le-length (λ b. b == 10) text,
+    )
 
 -- ---- one script, one first fault
 
@@ -481,11 +485,15 @@ begins_before lines more (inr script) = by (told lines) refl
             told_are = is;
             start = ap routers_in head ∙ script.1.start;
             lines_are = cut.front_is;
-            few = omega (arith, script.1.few, ap deliveries_in cut.whole,
-                deliveries_append cut.before cut.after);
+            few = omega (
+              arith,
+              script.1.few,
+              ap deliveries_in cut.whole,
+              deliveries_append cut.before cut.after,
+            );
             among = all_first (IsAmong script.0.routers) cut.before cut.after
                 (subst (AllByRecursion (IsAmong script.0.routers)) cut.whole script.1.among);
-          }
+          },
         )
 
 begins_so_far : (lines : List (List ℕ)) (few many : ℕ) → few ≤ many → IsBeginning (take many lines)

@@ -1,16 +1,15 @@
 -- The lines of a script, told one after another.
-use Rattle.std.proofs.Common.{◌≡◌, ◌≤◌, ◌+◌, ◌∷◌, ◌++◌, ◌∙◌, ◌<◌, [], ℕ, suc, Bool, List, Option, Some, None, cond, length, set, slice_get, refl, sym, ap, subst, append_assoc, arith, add-one, drop, drop-cons, get_or}
+use Rattle.std.proofs.Common.{◌≡◌, ◌≤◌, ◌+◌, ◌∷◌, ◌++◌, ◌∙◌, ◌<◌, [], ℕ, List, Option, Some, None, length, slice_get, refl, sym, ap, subst, append_assoc, arith, add-one, drop, drop-cons, get_or}
 use Rattle.std.specs.List.{AllByRecursion}
 use Rattle.std.specs.Option.{option_map_or}
 use Rattle.std.proofs.lemmas.List.{append-nil}
 use Rattle.std.proofs.Math.ListN.{length-set}
 use Rattle.lsdb.specs.Entries.{Database}
-use Rattle.flood_core.specs.declared.answer.Answer.{Answer}
 use Rattle.flood_core.specs.declared.answer.Answer.TheVariants as answers
 use Rattle.flood_core.specs.declared.router.Router.{Router}
 use Rattle.flood_core.specs.declared.update.Update.{Update}
 use Rattle.flood_core.specs.FloodState.{FloodState}
-use Rattle.flood_core.specs.FloodStep.{delivered, reached}
+use Rattle.flood_core.specs.FloodStep.{reached}
 use Rattle.flood_core.specs.Receiving.{after_all, topology}
 use Rattle.flood_script.specs.declared.script.FloodLine.{FloodLine}
 use Rattle.flood_script.specs.declared.script.FloodLine.TheVariants.{Deliver, Same}
@@ -40,7 +39,7 @@ kept_at state router update (Some there) = record {
 kept : (state : FloodState) (router : ℕ) (o : Option Update)
     → Keeps state (option_map_or
     (λ (update : Update).
-        option_map_or (reached state router update) (slice_get state.routers router) (answers.NoSuchRouter, state))
+    option_map_or (reached state router update) (slice_get state.routers router) (answers.NoSuchRouter, state))
     o (answers.NoSuchPacket, state)).1
 kept state router None = record { changed = omega arith; routers = refl }
 kept state router (Some update) = kept_at state router update (slice_get state.routers router)

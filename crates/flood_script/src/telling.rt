@@ -82,7 +82,12 @@ fn tell<C: Compare>(
             Ok(next)
         }
         FloodLine::Same { one, other, router } => {
-            let verdict = comparing.compare(alloc, flood.database(*one), flood.database(*other), *router)?;
+            let verdict = comparing.compare(
+                alloc,
+                flood.database(*one),
+                flood.database(*other),
+                *router,
+            )?;
             push_verdict(text, verdict)?;
             Ok(flood)
         }

@@ -12,8 +12,12 @@ overflow_add-number c =
 
 pub take_line-requires-clause-few : goal.take_line-requires-clause-few
 take_line-requires-clause-few c =
-    omega (arith, few_deliveries (take c.loop-line.number (text_lines c.args.bytes.now)) c.loop-line.routers
-    c.loop-line.lines.items c.loop-line.invariant.taken.say, c.loop-line.invariant.counted)
+    omega (
+      arith,
+      few_deliveries (take c.loop-line.number (text_lines c.args.bytes.now)) c.loop-line.routers
+          c.loop-line.lines.items c.loop-line.invariant.taken.say,
+      c.loop-line.invariant.counted,
+    )
 
 pub loop-line-preserved : goal.loop-line-preserved
 loop-line-preserved c = record {

@@ -1,7 +1,5 @@
-use Rattle.std.proofs.Common.{◌≡◌, ◌∙◌, ◌<◌, ◌≤◌, ℕ, List, length, drop, refl, sym, ap, subst, arith}
+use Rattle.std.proofs.Common.{◌<◌, length, drop, arith}
 use Rattle.std.proofs.lemmas.List.{drop_all}
-use Rattle.flood_script.specs.declared.script.FloodLine.{FloodLine}
-use Rattle.flood_script.specs.FloodTexts.{IsFloodText}
 use Rattle.flood_script.proofs.TextsTold.{drop_next, told_all, told_more}
 use Rattle.flood_script.proofs.telling.tell_all.Goals as goal
 
