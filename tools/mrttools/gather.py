@@ -10,6 +10,7 @@ from .lsas import NETWORK, POINT_TO_POINT, ROUTER, TRANSIT, Key, Lsa
 from .updates import BadPacket, Packet
 
 FILE_LIMIT = 8388608
+PACKETS_LIMIT = 33554432
 
 
 class NoDatabase(Exception):
@@ -17,10 +18,12 @@ class NoDatabase(Exception):
 
 
 class Gathered(NamedTuple):
-    """What a capture held: frames, OSPF packets, good LSAs by area, and what was dropped, with the reason."""
+    """What a capture held: frames, OSPF packets, good LSAs by area, Link State Updates by area as they stand, and what
+    was dropped, with the reason."""
 
     counts: Counter[str]
     areas: dict[int, list[Lsa]]
+    packets: dict[int, list[bytes]]
     dropped: Counter[str]
 
 
@@ -30,6 +33,7 @@ class Gathering:
     def __init__(self) -> None:
         self.counts: Counter[str] = Counter()
         self.areas: dict[int, list[Lsa]] = {}
+        self.packets: dict[int, list[bytes]] = {}
         self.dropped: Counter[str] = Counter()
         self.fragments = Fragments()
 
@@ -55,6 +59,7 @@ class Gathering:
         if packet.kind != updates.UPDATE:
             return
         self.counts["updates"] += 1
+        self.packets.setdefault(packet.area, []).append(packet.data)
         found = self.areas.setdefault(packet.area, [])
         for lsa in updates.records_of(packet):
             fault = lsas.damage(lsa)
@@ -67,7 +72,7 @@ class Gathering:
         """What there is after the last frame."""
         if self.fragments.waiting:
             self.dropped["OSPF packet: fragments are missing"] += len(self.fragments.waiting)
-        return Gathered(self.counts, self.areas, self.dropped)
+        return Gathered(self.counts, self.areas, self.packets, self.dropped)
 
 
 def gather(name: str, tell: Callable[[str], None]) -> Gathered:
@@ -149,6 +154,14 @@ def database_of(found: list[Lsa], only_newest: bool) -> list[Lsa]:
     return written
 
 
+def packets_of(packets: list[bytes]) -> list[bytes]:
+    """The Link State Updates to write: all, as they stand."""
+    size = sum(map(len, packets))
+    if size > PACKETS_LIMIT:
+        raise NoDatabase(f"the file would have {size:,} bytes, and mrt takes {PACKETS_LIMIT:,}")
+    return packets
+
+
 # what is told
 
 
@@ -186,6 +199,18 @@ def outranked(instances: dict[Key, list[Lsa]]) -> list[str]:
     return found
 
 
+def counted(gathered: Gathered) -> list[str]:
+    """What the capture held, and what was dropped."""
+    counts = gathered.counts
+    lines = [f"frames {counts['frames']}, OSPF packets {counts['packets']}, Link State Updates {counts['updates']}"]
+    return lines + [f"dropped {number} {reason}" for reason, number in sorted(gathered.dropped.items())]
+
+
+def packets_summary(gathered: Gathered, written: list[bytes]) -> list[str]:
+    """What an operator should know of the capture and of the file of packets."""
+    return counted(gathered) + [f"written: {len(written)} Link State Updates, {sum(map(len, written))} bytes"]
+
+
 def summary(gathered: Gathered, area: int, written: list[Lsa]) -> list[str]:
     """What an operator should know of the capture and of the file."""
     found = gathered.areas[area]
@@ -193,9 +218,7 @@ def summary(gathered: Gathered, area: int, written: list[Lsa]) -> list[str]:
     live = [lsa for lsa in newest_of_each(instances) if not lsa.withdrawn]
     kinds = Counter(key.kind for key in instances)
     routers, networks = (sum(lsa.kind == kind for lsa in live) for kind in (ROUTER, NETWORK))
-    counts = gathered.counts
-    lines = [f"frames {counts['frames']}, OSPF packets {counts['packets']}, Link State Updates {counts['updates']}"]
-    lines += [f"dropped {number} {reason}" for reason, number in sorted(gathered.dropped.items())]
+    lines = counted(gathered)
     lines += [
         f"not taken: {len(gathered.areas[other])} LSAs of area {lsas.spelled(other)}"
         for other in sorted(gathered.areas)

@@ -73,6 +73,31 @@ class Links(unittest.TestCase):
         self.assertTrue(done.says("dropped 1 frame: a kind of link that is not known here, number 195"), done.lines)
 
 
+class Packets(unittest.TestCase):
+    """Link State Updates that are written as they stand."""
+
+    def test_updates_in_their_order(self) -> None:
+        one, other = pair()
+        updates = [update([other]), update([one, other]), update([one])]
+        done = Converted(over_ethernet(*updates, making.ospf(1, bytes(20))), "--packets")
+        self.assertEqual((done.status, done.file), (0, b"".join(updates)), done.lines)
+        self.assertTrue(done.says(f"written: 3 Link State Updates, {len(b''.join(updates))} bytes"), done.lines)
+
+    def test_one_area(self) -> None:
+        updates = [update(pair()), update(pair(), "0.0.0.1")]
+        done = Converted(over_ethernet(*updates), "--packets", "--area", "0.0.0.1")
+        self.assertEqual((done.status, done.file), (0, updates[1]), done.lines)
+
+    def test_a_spoilt_lsa_stays(self) -> None:
+        one, other = pair()
+        spoilt = update([one[:-1] + bytes([one[-1] ^ 1]), other])
+        done = Converted(over_ethernet(spoilt), "--packets")
+        self.assertEqual((done.status, done.file), (0, spoilt), done.lines)
+
+    def test_not_with_newest(self) -> None:
+        self.assertEqual(Converted(over_ethernet(update(pair())), "--packets", "--newest").status, 2)
+
+
 class Fragments(unittest.TestCase):
     """Datagrams that come in parts."""
 
