@@ -1,10 +1,12 @@
-//! Tests of LSAs, of databases of them, of areas, and of islands.
+//! Tests of LSAs, of databases of them, of areas, of islands, and of flooding.
 #![tactic(auto)]
 
 #[cfg(test)]
 mod databases;
 #[cfg(test)]
 mod every_order;
+#[cfg(test)]
+mod flooded;
 #[cfg(test)]
 mod installing;
 #[cfg(test)]
@@ -29,3 +31,5 @@ mod profiles;
 mod small_areas;
 #[cfg(test)]
 mod stub_routers;
+#[cfg(test)]
+mod update_files;

@@ -1,0 +1,121 @@
+//! Packets that reach routers by a script.
+
+use crate::update_files::PACKETS;
+use area_graph::build_area;
+use flood_core::read_updates;
+use flood_script::{Compare, FloodScriptError, Verdict, flood_text, read_flood_script};
+use lsdb::Lsdb;
+use mrt_graph::{Kind, NoMemory, NodeId};
+use std::alloc::Global;
+
+/// Compares two databases by how many nodes their areas have, where both have the router.
+struct ByNodes;
+
+impl Compare for ByNodes {
+    ghost says = { λ _ _ _ _ _. Unit {0} };
+
+    fn compare(
+        &self,
+        alloc: Global,
+        one: &Lsdb,
+        other: &Lsdb,
+        router: u32,
+    ) -> Result<Verdict, NoMemory> {
+        Ok(verdict_of(nodes(alloc, one, router), nodes(alloc, other, router)))
+    }
+}
+
+fn verdict_of(one: Option<u16>, other: Option<u16>) -> Verdict {
+    match (one, other) {
+        (Some(one), Some(other)) if one == other => Verdict::Same,
+        (Some(_), Some(_)) => Verdict::Different,
+        _ => Verdict::None,
+    }
+}
+
+fn nodes(alloc: Global, database: &Lsdb, router: u32) -> Option<u16> {
+    database.settled().ok()?;
+    let area = build_area(alloc, database).ok()?;
+    area.find(NodeId {
+        kind: Kind::Router,
+        number: router,
+    })?;
+    Some(area.count())
+}
+
+/// The text of a script over the three packets.
+fn text_of(alloc: Global, script: &[u8]) -> Option<Vec<u8>> {
+    if 1000 < script.len() {
+        return None;
+    }
+    let script = read_flood_script(alloc, script).ok()?;
+    let updates = read_updates(alloc, PACKETS.as_slice()).ok()?;
+    flood_text(alloc, updates, &script, &ByNodes).ok()
+}
+
+fn gives(alloc: Global, script: &[u8], wanted: &[u8]) -> bool {
+    match text_of(alloc, script) {
+        None => false,
+        Some(text) => text.as_slice() == wanted,
+    }
+}
+
+/// Scripts and their texts.
+fn runs() -> &'static [(&'static [u8], &'static [u8])] {
+    &[
+        (
+            b"routers 2\ndeliver 0 0\ndeliver 0 0\ndeliver 2 1\nsame 0 1 3.3.3.3\nsame 0 1 1.1.1.1\ndeliver 1 1\ndeliver 3 1\nsame 0 1 1.1.1.1\ndeliver 9 0\ndeliver 0 5\n",
+            b"changed 3 sent 3\nchanged 0\nchanged 2 sent 4\ndifferent\nnone\nchanged 1 sent 5\nchanged 0\nsame\nrefused no-such-packet\nrefused no-such-router\n",
+        ),
+        // another order, and what was sent on in turn
+        (
+            b"routers 3\ndeliver 2 0\ndeliver 1 0\ndeliver 4 1\ndeliver 3 1\ndeliver 0 2\nsame 0 1 2.2.2.2\nsame 1 2 2.2.2.2\n",
+            b"changed 2 sent 3\nchanged 1 sent 4\nchanged 1 sent 5\nchanged 2 sent 6\nchanged 3 sent 7\nsame\nsame\n",
+        ),
+        // of both numbers that are not there the packet's is told
+        (b"routers 1\ndeliver 3 1\n", b"refused no-such-packet\n"),
+        (b"routers 1\n", b""),
+    ]
+}
+
+#[test]
+fn scripts_have_their_texts(rt: HostRuntime) {
+    for (script, wanted) in runs() {
+        assert!(rt; gives(rt.alloc(), script, wanted));
+    }
+}
+
+/// Scripts, and the first line of each that is not as it should be.
+fn scripts() -> &'static [(&'static [u8], Option<u32>)] {
+    &[
+        (b"", Some(1)),
+        (b"# none\n", Some(2)),
+        (b"routers 0\n", Some(1)),
+        (b"routers 65\n", Some(1)),
+        (b"routers 64\n", None),
+        (b"\t \nrouters 2\ndeliver 0\n", Some(3)),
+        (b"routers 2\nrouters 2\n", Some(2)),
+        (b"routers 2\nsame 0 1 1.1.1.1\nsame 0 2 1.1.1.1\n", Some(3)),
+        (b"routers 2\nsame 0 1 1.1.1\n", Some(2)),
+        (b"routers 2\ndeliver 4294967296 0\n", Some(2)),
+        (b"routers 2\ndeliver 0 65536\n", Some(2)),
+        (b"routers 2\ndeliver 4294967295 65535", None),
+    ]
+}
+
+fn fault_of(alloc: Global, script: &[u8]) -> Option<u32> {
+    if 1000 < script.len() {
+        return None;
+    }
+    match read_flood_script(alloc, script) {
+        Err(FloodScriptError::Fault { line }) => Some(line),
+        _ => None,
+    }
+}
+
+#[test]
+fn the_first_wrong_line_is_told(rt: HostRuntime) {
+    for (script, wanted) in scripts() {
+        assert_eq!(rt; fault_of(rt.alloc(), script), *wanted);
+    }
+}
