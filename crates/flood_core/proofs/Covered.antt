@@ -189,11 +189,9 @@ has_either (z ∷ zs) ys x (inr later) =
 abbrev pub Covers : List Lsa → List Lsa → Type 0
 Covers out before = (e : Lsa) → Has before e → list_any (covers e) out ≡ true
 
-all_covered_by : (b : Bool) (out before : List Lsa) (x : Lsa) (later : List Lsa) → list_any (covers x) before ≡ not b
-    → Covers out before
-    → ((out' : List Lsa) → Covers out' (before ++ x ∷ []) → Covers (out' ++ later) (before ++ x ∷ []))
+all_covered_by : (b : Bool) (out before : List Lsa) (x : Lsa) → list_any (covers x) before ≡ not b → Covers out before
     → Covers (out ++ cond b (x ∷ []) []) (before ++ x ∷ [])
-all_covered_by true out before x later is so_far on e has = elim (has_either before (x ∷ []) e has) [
+all_covered_by true out before x is so_far e has = elim (has_either before (x ∷ []) e has) [
   | inl earlier ↦ any_more (covers e) out (x ∷ []) (so_far e earlier)
   | inr last ↦ elim last [
     | inl same ↦
@@ -202,7 +200,7 @@ all_covered_by true out before x later is so_far on e has = elim (has_either bef
     | inr none ↦ absurd none
   ]
 ]
-all_covered_by false out before x later is so_far on e has = elim (has_either before (x ∷ []) e has) [
+all_covered_by false out before x is so_far e has = elim (has_either before (x ∷ []) e has) [
   | inl earlier ↦ any_more (covers e) out [] (so_far e earlier)
   | inr last ↦ elim last [
     | inl same ↦
@@ -232,8 +230,7 @@ all_covered before [] out so_far =
 all_covered before (x ∷ xs) out so_far =
     let b : Bool = is_news (after_all new_router before) x in
     let here : Covers (out ++ cond b (x ∷ []) []) (before ++ x ∷ []) =
-    all_covered_by b out before x [] (flip _ _ (news_after before x)) so_far
-    (λ out' held. subst (λ (ls : List Lsa). Covers ls (before ++ x ∷ [])) (sym (append-nil out')) held) in
+    all_covered_by b out before x (flip _ _ (news_after before x)) so_far in
     let on : Covers ((out ++ cond b (x ∷ []) []) ++ news (after_all new_router (before ++ x ∷ [])) xs)
     ((before ++ x ∷ []) ++ xs) = all_covered (before ++ x ∷ []) xs (out ++ cond b (x ∷ []) []) here in
     subst (λ (ls : List Lsa). Covers ls (before ++ x ∷ xs))
