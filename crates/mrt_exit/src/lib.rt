@@ -1,0 +1,11 @@
+//! The exits of the top call: what came of the words, the program's status, and the line on standard error.
+#![tactic(auto)]
+
+mod exit;
+mod fault;
+mod line;
+mod telling;
+
+pub use exit::{DbKind, Exit, What};
+pub use line::{Line, line_of, push, push_address, push_decimal};
+pub use telling::tell;
