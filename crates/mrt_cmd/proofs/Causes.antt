@@ -4,31 +4,32 @@ use Rattle.std.specs.Prelude.{IfErr, IsNone, IsSome}
 use Rattle.std.specs.Option.{IsSomeAnd}
 use Rattle.mrt_io.specs.Holding.{Files}
 use Rattle.mrt_io.specs.Writing.{Gained}
-use Rattle.mrt_cmd.specs.declared.exit.Exit.{Exit}
-use Rattle.mrt_cmd.specs.declared.exit.Exit.TheVariants as exits
+use Rattle.mrt_exit.specs.declared.exit.Exit.{Exit}
+use Rattle.mrt_exit.specs.declared.exit.Exit.TheVariants as exits
 use Rattle.mrt_cmd.specs.Causes.{HasCause, HasNoText, IsAnswered, IsOutputCalm, IsShelfCalm, IsTold, ShelfInCall, SinkInCall}
 use Rattle.mrt_cmd.specs.Comes.{Comes, Gives, GivesText, IsRefused, NamesHeld, Refuses}
-use Rattle.mrt_cmd.specs.Exits.{line_of}
+use Rattle.mrt_exit.specs.Exits.{line_of}
 use Rattle.mrt_cmd.specs.Files.{MayFail, files_of}
-use Rattle.mrt_cmd.specs.Form.{Form, IsCheck, form_of}
+use Rattle.mrt_cmd.specs.Form.{Form, AsksVerdict, form_of}
 use Rattle.mrt_cmd.specs.Headline.{IsPassed}
 use Rattle.mrt_cmd.specs.Reading.{IsRefusalOrFault}
-use Rattle.mrt_cmd.specs.Run.{GainedLine, IsCutShort, IsHealthyForText, WritesNothing}
+use Rattle.mrt_exit.specs.Telling.{GainedLine, IsCutShort}
+use Rattle.mrt_cmd.specs.Run.{IsHealthyForText, WritesNothing}
 use Rattle.mrt_cmd.proofs.Exactly.{ComesOnce, exactly as exactly_one, exactly_missing, none_missing}
 use Rattle.mrt_cmd.proofs.Held.{given_held, stopped_held}
 use Rattle.mrt_cmd.proofs.NeverSaid.{OfDone, OfOutput, OfUsage, not_of_form}
 use Rattle.mrt_cmd.proofs.WrittenPasses.{no_form}
 
--- only a check says no
-abbrev pub OnlyACheck : Type 0
-OnlyACheck = (held : Option Files) (words : List (List ℕ)) (rule a b : ℕ) → IsRefused held words (exits.No rule a b)
-    → IsSomeAnd (form_of words) IsCheck
+-- only a verdict says no
+abbrev pub OnlyAVerdict : Type 0
+OnlyAVerdict = (held : Option Files) (words : List (List ℕ)) (rule a b : ℕ) → IsRefused held words (exits.No rule a b)
+    → IsSomeAnd (form_of words) AsksVerdict
 
 some_form : (form : Form) (o : Option Form) → Some form ≡ o → IsSome o
 some_form form o is = subst (λ (it : Option Form). IsSome it) is refl
 
 -- a refusal of the form of the words says why they give no text
-module _ (only : OnlyACheck) (words : List (List ℕ)) (shelf : ShelfInCall) (form : Form) (is : Some form ≡ form_of words) where
+module _ (only : OnlyAVerdict) (words : List (List ℕ)) (shelf : ShelfInCall) (form : Form) (is : Some form ≡ form_of words) where
   of_words : (exit : Exit) → Refuses shelf.held form exit → IsRefused shelf.held words exit
   of_words exit refused = subst (λ (it : Option Form). IsSomeAnd it (λ f. Refuses shelf.held f exit)) is refused
 
@@ -50,7 +51,7 @@ module _ (only : OnlyACheck) (words : List (List ℕ)) (shelf : ShelfInCall) (fo
   refused_words exit (inr memory) = absurd cc
 
 -- of what came of the form
-pub refused_over_words : {T : Type 0} (result : Result T Exit) → OnlyACheck → (words : List (List ℕ)) (shelf : ShelfInCall)
+pub refused_over_words : {T : Type 0} (result : Result T Exit) → OnlyAVerdict → (words : List (List ℕ)) (shelf : ShelfInCall)
     (form : Form) → Some form ≡ form_of words
     → IfErr result (IsRefusalOrFault shelf.held form shelf.faults shelf.faults_now) → IfErr result (HasNoText words shelf)
 refused_over_words (Ok text) only words shelf form is said = tt

@@ -3,12 +3,12 @@ use Rattle.std.proofs.Common.{◌≡◌, ◌⊎◌, ◌↔◌, ℕ, List, Option
 use Rattle.std.specs.Prelude.{IsNone, IsSome}
 use Rattle.std.specs.Option.{IsSomeAnd}
 use Rattle.mrt_io.specs.Holding.{Files}
-use Rattle.mrt_cmd.specs.declared.exit.Exit.{Exit}
-use Rattle.mrt_cmd.specs.declared.exit.Exit.TheVariants as exits
+use Rattle.mrt_exit.specs.declared.exit.Exit.{Exit}
+use Rattle.mrt_exit.specs.declared.exit.Exit.TheVariants as exits
 use Rattle.mrt_cmd.specs.Answers.{FileBytes, IsRefusedOver}
 use Rattle.mrt_cmd.specs.Comes.{Comes, Gives, GivesText, MissesAt, Refuses}
 use Rattle.mrt_cmd.specs.Files.{IsFirstMissing, files_of}
-use Rattle.mrt_cmd.specs.Form.{Form, OfFiles, Survey, Task, Check, Certify, Table, Trace, Fabric, form_of}
+use Rattle.mrt_cmd.specs.Form.{Form, OfFiles, Survey, Task, Check, Certify, Table, Trace, Fabric, Upgrade, Lfa, Order, Proxy, form_of}
 use Rattle.mrt_cmd.specs.Run.{WritesNothing}
 
 -- one exit comes of the words at most
@@ -31,6 +31,10 @@ never_missing (Certify router) bytes word said = said.2
 never_missing (Table router) bytes word said = said.2
 never_missing (Trace trace) bytes word said = said.2
 never_missing (Fabric script) bytes word said = said.2.2
+never_missing (Upgrade certificate) bytes word said = said.2.2
+never_missing (Lfa router) bytes word said = said.2
+never_missing (Order router) bytes word said = said.2
+never_missing (Proxy router first second) bytes word said = said.2
 
 -- a file that is not held is what comes of the words just where it is the first that is not
 missing_comes : (files : Files) (form : Option Form) (word : ℕ)

@@ -4,14 +4,14 @@ use Rattle.std.specs.Prelude.{IfSome, IsSome, is_some}
 use Rattle.std.specs.List.{AllByRecursion}
 use Rattle.std.specs.Option.{IsSomeAnd, option_map, option_to_list}
 use Rattle.mrt_io.specs.Holding.{Files}
-use Rattle.mrt_cmd.specs.declared.exit.Exit.{Exit}
-use Rattle.mrt_cmd.specs.declared.exit.Exit.TheVariants as exits
-use Rattle.mrt_cmd.specs.declared.exit.What.{What}
+use Rattle.mrt_exit.specs.declared.exit.Exit.{Exit}
+use Rattle.mrt_exit.specs.declared.exit.Exit.TheVariants as exits
+use Rattle.mrt_exit.specs.declared.exit.What.{What}
 use Rattle.mrt_cmd.specs.Answers.{FileBytes}
 use Rattle.mrt_cmd.specs.Causes.{HasNoText, IsOfBytes, ShelfInCall}
 use Rattle.mrt_cmd.specs.Comes.{AreRead, Gives, GivesText, IsLastRead, IsProfileRead, IsRefused, NamesHeld, Refuses}
 use Rattle.mrt_cmd.specs.Files.{NamedFile, AreThere, SaysOneOf, files_in, files_of, profile_file, task_file}
-use Rattle.mrt_cmd.specs.Form.{FileForm, Form, OfFiles, Survey, Task, Check, Certify, Table, Trace, Fabric, form_of}
+use Rattle.mrt_cmd.specs.Form.{FileForm, Form, OfFiles, Survey, Task, Check, Certify, Table, Trace, Fabric, Upgrade, Lfa, Order, Proxy, form_of}
 use Rattle.mrt_cmd.proofs.WrittenPasses.{unread_says_one}
 
 -- files that were read are held
@@ -49,11 +49,19 @@ of_files form = ((λ size of. of), go form.profile form.task)
     go None (Table router) = tt
     go None (Trace trace) = tt
     go None (Fabric script) = ((λ size of. of), tt)
+    go None (Upgrade certificate) = ((λ size of. of), tt)
+    go None (Lfa router) = tt
+    go None (Order router) = tt
+    go None (Proxy router first second) = tt
     go (Some name) (Check certificate) = ((λ size of. of), ((λ size of. of), tt))
     go (Some name) (Certify router) = ((λ size of. of), tt)
     go (Some name) (Table router) = ((λ size of. of), tt)
     go (Some name) (Trace trace) = ((λ size of. of), tt)
     go (Some name) (Fabric script) = ((λ size of. of), ((λ size of. of), tt))
+    go (Some name) (Upgrade certificate) = ((λ size of. of), ((λ size of. of), tt))
+    go (Some name) (Lfa router) = ((λ size of. of), tt)
+    go (Some name) (Order router) = ((λ size of. of), tt)
+    go (Some name) (Proxy router first second) = ((λ size of. of), tt)
 
 not_of_bytes : (named : List NamedFile) (exit : Exit) → AllByRecursion (λ file. IsOfFile file.what) named
     → IsOfBytes exit → SaysOneOf named exit → ⊥

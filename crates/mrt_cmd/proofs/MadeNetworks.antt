@@ -11,8 +11,6 @@ use Rattle.lsdb.specs.Installing.{IsKept}
 use Rattle.lsdb.specs.Installs.{all_installed}
 use Rattle.lsdb.specs.Newest.{IsSettled}
 use Rattle.lsdb.specs.Orders.{newest_in}
-use Rattle.mrt_island.specs.IslandOf.{IsOver}
-use Rattle.mrt_island.specs.Policy.{Policy}
 use Rattle.mrt_island.specs.declared.setting.Setting.{Setting}
 use Rattle.ospf_lsa.specs.LsaText.{lsas_text}
 use Rattle.ospf_lsa.specs.Lsas.{AreLsas}
@@ -21,15 +19,13 @@ use Rattle.mrt_graph.specs.declared.cert.CertFile.{CertFile}
 use Rattle.mrt_graph.specs.Topology.{Topology}
 use Rattle.mrt_survey.specs.MadeLsas.{made_lsas}
 use Rattle.mrt_survey.specs.SurveyText.{IsSurveyText}
-use Rattle.mrt_cmd.specs.declared.exit.DbKind.{DbKind}
-use Rattle.mrt_cmd.specs.declared.exit.Exit.{Exit}
-use Rattle.mrt_cmd.specs.declared.exit.Exit.TheVariants as exits
-use Rattle.mrt_cmd.specs.declared.exit.What.{What}
-use Rattle.mrt_cmd.specs.declared.exit.What.TheVariants as whats
+use Rattle.mrt_exit.specs.declared.exit.DbKind.{DbKind}
+use Rattle.mrt_exit.specs.declared.exit.Exit.{Exit}
+use Rattle.mrt_exit.specs.declared.exit.Exit.TheVariants as exits
 use Rattle.mrt_cmd.specs.Database.{IsBadDatabase, IsDatabase, entering, enters}
 use Rattle.mrt_cmd.specs.Form.{IsNetworkSize}
-use Rattle.mrt_cmd.specs.Input.{Input, IsInput, area, input_of, policy}
-use Rattle.mrt_cmd.specs.Islands.{HasNoIslandFor, IsLargeIsland}
+use Rattle.mrt_cmd.specs.Input.{Input, IsInput, area, input_of}
+use Rattle.mrt_cmd.specs.Islands.{HasNoIslandFor}
 use Rattle.mrt_cmd.specs.Reading.{HasNoDatabase, HasNone}
 use Rattle.mrt_cmd.specs.Surveyed.{IsSummedUp, made_input}
 use Rattle.mrt_cmd.specs.Tabled.{IsComputedFile}
@@ -48,8 +44,6 @@ pub record NetworkLaws : Type 0 where
       → IsTooLarge (length (area_of (made_lsas number nodes)).ids) (length (area_of (made_lsas number nodes)).arcs) → ⊥
   pub there : (number nodes router : ℕ) → 1 ≤ router → router ≤ nodes
       → Contains (area_of (made_lsas number nodes)).ids (router_node router)
-  pub few : (number nodes : ℕ) → nodes ≤ 2048 → (policy : Policy) (router inside links : ℕ)
-      → IsOver policy (area_of (made_lsas number nodes)) router inside links → ⊥
 
 -- what may stand in a database enters it
 kept_enters : (lsa : Lsa) → IsKept lsa → enters lsa ≡ true
@@ -91,19 +85,10 @@ module _ (laws : NetworkLaws) (number nodes : ℕ) (size : IsNetworkSize nodes) 
     profile_is = record { faultless = λ place. refl; said = refl };
   }
 
-  no_large_made : (router : ℕ) (what : What) (size : ℕ)
-      → IsLargeIsland (policy (made_input number nodes)) (area (made_input number nodes)) router what size → ⊥
-  no_large_made router whats.IslandNodes count large =
-      laws.few number nodes size.1 (policy (made_input number nodes)) router count large.0 large.1
-  no_large_made router whats.IslandLinks count large =
-      laws.few number nodes size.1 (policy (made_input number nodes)) router large.0 count large.1
-  no_large_made router what count large = large
-
   pub made_has_island : (router : ℕ) → 1 ≤ router → router ≤ nodes → (exit : Exit)
       → HasNoIslandFor (made_input number nodes) router exit → ⊥
-  made_has_island router first last (exits.TooLarge what count) (inl large) =
+  made_has_island router first last (exits.TooLarge what count) large =
       no_large_area (area (made_input number nodes)) what count (laws.within number nodes size.1) large
-  made_has_island router first last (exits.TooLarge what count) (inr large) = no_large_made router what count large.1
   made_has_island router first last (exits.NotThere other) missing = elim missing.2 [
     | inl absent ↦ absent (laws.there number nodes router first last)
     | inr unsupported ↦ cc

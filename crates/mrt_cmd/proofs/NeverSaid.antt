@@ -1,15 +1,16 @@
 -- Exits that no refusal of a form is: yes, the usage, and a fault of the output.
 use Rattle.std.proofs.Common.{◌≡◌, ◌+◌, ℕ, List, [], ◌∷◌, Option, Some, None, inl, inr}
 use Rattle.mrt_io.specs.Holding.{Files}
-use Rattle.mrt_cmd.specs.declared.exit.Exit.{Exit}
-use Rattle.mrt_cmd.specs.declared.exit.Exit.TheVariants as exits
-use Rattle.mrt_cmd.specs.declared.exit.What.{What}
+use Rattle.mrt_exit.specs.declared.exit.Exit.{Exit}
+use Rattle.mrt_exit.specs.declared.exit.Exit.TheVariants as exits
+use Rattle.mrt_exit.specs.declared.exit.What.{What}
 use Rattle.mrt_cmd.specs.Answers.{FileBytes, IsRefusedOver, IsRefusedTask}
 use Rattle.mrt_cmd.specs.Files.{NamedFile, IsRefusedBy, SaysOneOf, files_in}
-use Rattle.mrt_cmd.specs.Form.{Form, OfFiles, Survey, Task, Check, Certify, Table, Trace, Fabric}
+use Rattle.mrt_cmd.specs.Form.{Form, OfFiles, Survey, Task, Check, Certify, Table, Trace, Fabric, Upgrade, Lfa, Order, Proxy}
 use Rattle.mrt_cmd.specs.Input.{Input}
-use Rattle.mrt_cmd.specs.Islands.{HasNoIslandFor}
+use Rattle.mrt_cmd.specs.Islands.{HasNoneFor}
 use Rattle.mrt_cmd.specs.Packets.{IsNoRun}
+use Rattle.mrt_cmd.specs.Proxied.{HasNoProxy}
 use Rattle.mrt_cmd.specs.Reading.{IsRefusal, IsRefusalOrFault}
 use Rattle.mrt_cmd.specs.Verdict.{IsNoVerdict}
 use Rattle.mrt_cmd.proofs.WrittenPasses.{unread_says_one}
@@ -46,10 +47,17 @@ not_of_reading None named exit unsaid said = not_of_files named exit unsaid said
 not_of_reading (Some files) named exit unsaid said =
     not_of_files named exit unsaid (unread_says_one files named exit said)
 
-not_of_island : (input : Input) (router : ℕ) (exit : Exit) → IsUnsaid exit → HasNoIslandFor input router exit → ⊥
-not_of_island input router exit OfDone said = said
-not_of_island input router exit OfUsage said = said
-not_of_island input router exit OfOutput said = said
+not_of_missing : (Missing : Type 0) (input : Input) (router : ℕ) (exit : Exit) → IsUnsaid exit
+    → HasNoneFor Missing input router exit → ⊥
+not_of_missing Missing input router exit OfDone said = said
+not_of_missing Missing input router exit OfUsage said = said
+not_of_missing Missing input router exit OfOutput said = said
+
+not_of_proxy : (input : Input) (number first second : ℕ) (exit : Exit) → IsUnsaid exit
+    → HasNoProxy input number first second exit → ⊥
+not_of_proxy input number first second exit OfDone said = said
+not_of_proxy input number first second exit OfUsage said = said
+not_of_proxy input number first second exit OfOutput said = said
 
 not_of_verdict : (input : Input) (bytes : List ℕ) (exit : Exit) → IsUnsaid exit → IsNoVerdict input bytes exit → ⊥
 not_of_verdict input bytes exit OfDone said = said.2
@@ -64,10 +72,14 @@ not_of_run input bytes exit OfOutput said = said.2
 not_of_task : (task : Task) (input : Input) (last : List ℕ) (exit : Exit) → IsUnsaid exit
     → IsRefusedTask task input last exit → ⊥
 not_of_task (Check certificate) input last exit unsaid said = not_of_verdict input last exit unsaid said
-not_of_task (Certify router) input last exit unsaid said = not_of_island input router exit unsaid said
-not_of_task (Table router) input last exit unsaid said = not_of_island input router exit unsaid said
-not_of_task (Trace trace) input last exit unsaid said = not_of_island input trace.from exit unsaid said
+not_of_task (Certify router) input last exit unsaid said = not_of_missing _ input router exit unsaid said
+not_of_task (Table router) input last exit unsaid said = not_of_missing _ input router exit unsaid said
+not_of_task (Trace trace) input last exit unsaid said = not_of_missing _ input trace.from exit unsaid said
 not_of_task (Fabric script) input last exit unsaid said = not_of_run input last exit unsaid said
+not_of_task (Upgrade certificate) input last exit unsaid said = not_of_verdict input last exit unsaid said
+not_of_task (Lfa router) input last exit unsaid said = not_of_missing _ input router exit unsaid said
+not_of_task (Order router) input last exit unsaid said = not_of_missing _ input router exit unsaid said
+not_of_task (Proxy router first second) input last exit unsaid said = not_of_proxy input router first second exit unsaid said
 
 not_of_bytes : (task : Task) (bytes : FileBytes) (exit : Exit) → IsUnsaid exit → IsRefusedOver task bytes exit → ⊥
 not_of_bytes task bytes exit OfDone said = not_of_task task said.0 bytes.last exits.Done OfDone said.2

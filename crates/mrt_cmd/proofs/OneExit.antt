@@ -1,5 +1,5 @@
 -- Of the words and of what a shelf holds there comes one exit.
-use Rattle.std.proofs.Common.{◌≡◌, ◌∙◌, ◌⊎◌, ◌+◌, ◌++◌, ◌==◌, ℕ, Bool, true, false, List, [], ◌∷◌, Option, Some, None, length, refl, sym, ap, subst, inl, inr}
+use Rattle.std.proofs.Common.{◌≡◌, ◌∙◌, ◌⊎◌, ◌<◌, ◌+◌, ◌++◌, ◌==◌, ℕ, Bool, true, false, List, [], ◌∷◌, Option, Some, None, length, refl, sym, ap, subst, inl, inr}
 use Rattle.std.specs.Prelude.{IsNone}
 use Rattle.std.specs.List.{AllByRecursion}
 use Rattle.std.specs.Option.{IsSomeAnd, option_map, option_to_list}
@@ -7,10 +7,13 @@ use Rattle.std.proofs.lemmas.Bool.{eqb-true, le-ltb, or_cases}
 use Rattle.area_graph.specs.AreaInvariant.{IsArea}
 use Rattle.area_graph.specs.AreaOf.{area_of}
 use Rattle.area_graph.specs.AreaSize.{IsTooLarge}
+use Rattle.area_graph.specs.Nodes.{router as router_node}
+use Rattle.area_graph.specs.Parts.{AreaParts}
 use Rattle.mrt_graph.specs.Accepted.{Accepted}
 use Rattle.mrt_graph.specs.FirstFault.{FirstFault}
 use Rattle.mrt_graph.specs.TextLines.{text_lines}
 use Rattle.mrt_graph.specs.Topology.{Topology}
+use Rattle.mrt_graph.proofs.NodeIds.{one_place}
 use Rattle.mrt_graph.specs.declared.cert.CertFile.{CertFile}
 use Rattle.mrt_island.specs.declared.profile_error.ProfileKind.{ProfileKind}
 use Rattle.cert_format.specs.CertText.{cert_text}
@@ -27,13 +30,15 @@ use Rattle.lsdb.specs.Orders.{newest_in}
 use Rattle.ospf_lsa.specs.LsaText.{lsa_length, lsas_text}
 use Rattle.ospf_lsa.specs.Lsas.{AreLsas, IsLsa}
 use Rattle.ospf_lsa.specs.declared.lsa.Lsa.{Lsa}
+use Rattle.lfa_alt.specs.LfaText.{IsLfaText}
 use Rattle.mrt_rows.specs.CertOf.{IsCertOf}
 use Rattle.mrt_survey.specs.MadeLsas.{made_lsas}
-use Rattle.mrt_cmd.specs.declared.exit.DbKind.{DbKind}
-use Rattle.mrt_cmd.specs.declared.exit.Exit.{Exit}
-use Rattle.mrt_cmd.specs.declared.exit.Exit.TheVariants as exits
-use Rattle.mrt_cmd.specs.declared.exit.What.{What}
+use Rattle.mrt_exit.specs.declared.exit.DbKind.{DbKind}
+use Rattle.mrt_exit.specs.declared.exit.Exit.{Exit}
+use Rattle.mrt_exit.specs.declared.exit.Exit.TheVariants as exits
+use Rattle.mrt_exit.specs.declared.exit.What.{What}
 use Rattle.mrt_cmd.specs.Answers.{FileBytes, GivesFor, GivesOver, IsRefusedOver, IsRefusedTask}
+use Rattle.mrt_cmd.specs.LoopFree.{HasLoopFree}
 use Rattle.mrt_cmd.specs.Certified.{IsCertified, IsComputed}
 use Rattle.mrt_cmd.specs.Comes.{AreRead, Gives, IsLastRead, IsProfileRead, Refuses}
 use Rattle.mrt_cmd.specs.Database.{IsBadDatabase, IsDatabase, entering, enters}
@@ -46,14 +51,18 @@ use Rattle.mrt_cmd.specs.Files.{
   files_in,
   refusal_of,
 }
-use Rattle.mrt_cmd.specs.Form.{FileForm, Form, OfFiles, Survey, IsNetworkSize, Task, Check, Certify, Table, Trace, Fabric}
-use Rattle.mrt_cmd.specs.Input.{Input, HasIsland, IsCertFile, IsInput, area, policy}
-use Rattle.mrt_cmd.specs.Islands.{HasNoIslandFor}
+use Rattle.mrt_cmd.specs.Form.{FileForm, Form, OfFiles, Survey, IsNetworkSize, Task, Check, Certify, Table, Trace, Fabric, Upgrade, Lfa, Order, Proxy}
+use Rattle.mrt_cmd.specs.Input.{Input, HasAreaWithin, HasIsland, IsAbsent, IsSpellingOf, IsInput, IsMissing, area, policy}
+use Rattle.mrt_cmd.specs.Islands.{HasNoIslandFor, HasNoRouterFor, HasNoneFor}
+use Rattle.mrt_cmd.specs.Ordered.{HasOrder, IsOrderOf}
 use Rattle.mrt_cmd.specs.Packets.{ArePartsFor, GivesRun, IsNoRun, IsScriptGiven, IsTraceGiven}
+use Rattle.mrt_cmd.specs.Proxied.{HasBoth, HasNoProxy, HasProxy, MissesOne}
 use Rattle.mrt_cmd.specs.Surveyed.{made_input}
 use Rattle.mrt_cmd.specs.Tabled.{IsTableOf, IsTabled}
+use Rattle.mrt_cmd.specs.Upgraded.{GivesUpgrade, IsUpgradeFor, upgraded}
 use Rattle.mrt_cmd.specs.Verdict.{GivesVerdict, IsAcceptedFor, IsNoVerdict, IsRefusedFor, accepted_line}
 use Rattle.mrt_cmd.proofs.Refusals.{root_within}
+use Rattle.mrt_cmd.proofs.Upgrades.{read_accepted}
 use Rattle.mrt_cmd.proofs.OneReading.{
   CertLaws,
   DatabaseLaws,
@@ -67,16 +76,16 @@ use Rattle.mrt_cmd.proofs.OneReading.{
   one_database,
   one_profile,
 }
+use Rattle.mrt_cmd.proofs.OneOrder.{OrderLaw, one_order_of}
+use Rattle.mrt_cmd.proofs.OneProxy.{IsOneGraph, ProxyLaws, no_unrelated, none_missed, one_missed, one_proxied_text}
 use Rattle.mrt_cmd.proofs.OneSurvey.{SurveyTextLaw, one_surveyed}
 use Rattle.mrt_cmd.proofs.OneTable.{CertificateLaw, TableLaws, one_table}
 use Rattle.mrt_cmd.proofs.OneVerdict.{
   IslandLaws,
+  contained,
   inside_is_there,
-  missing_is_not_large,
   no_large_area,
-  no_large_island,
   one_large_area,
-  one_large_island,
 }
 
 -- the laws of the layers below on the fourteen rules
@@ -113,6 +122,11 @@ pub record SurveyLaws : Type 0 where
       → IsInput (lsas_text (made_lsas number nodes)) [] (made_input number nodes)
   pub text : SurveyTextLaw
 
+-- the law on the texts of loop-free alternates
+abbrev pub LoopFreeLaw : Type 0
+LoopFreeLaw = (area : AreaParts) (s : ℕ) (text other : List ℕ) → IsLfaText area s text → IsLfaText area s other
+    → text ≡ other
+
 -- all of them
 pub record Laws : Type 0 where
   pub packets : PacketLaws
@@ -123,6 +137,9 @@ pub record Laws : Type 0 where
   pub certs : CertLaws
   pub areas : AreaLaws
   pub islands : IslandLaws
+  pub loop_free : LoopFreeLaw
+  pub orders : OrderLaw
+  pub proxies : ProxyLaws
   pub rules : RuleLaws
 
 entered : (lsa : Lsa) → enters lsa ≡ true → (lsa.kind ≡ 1) ⊎ (lsa.kind ≡ 2)
@@ -169,6 +186,42 @@ module _ (laws : Laws) where
 
   module _ (input : Input) (kept : (IsTooLarge (length (area input).ids) (length (area input).arcs) → ⊥)
       → IsArea (area input)) where
+    -- ---- of a router that is missed
+
+    no_none : (Missing : Type 0) (router : ℕ) → HasAreaWithin input → (Missing → ⊥) → (exit : Exit)
+        → HasNoneFor Missing input router exit → ⊥
+    no_none Missing router within there (exits.TooLarge what size) none = no_large_area (area input) what size within none
+    no_none Missing router within there (exits.NotThere number) none = there none.2
+    no_none Missing router within there exit none = none
+
+    one_none : (Missing : Type 0) (router : ℕ) (exit other : Exit) → HasNoneFor Missing input router exit
+        → HasNoneFor Missing input router other → exit ≡ other
+    one_none Missing router (exits.TooLarge what size) (exits.TooLarge other count) one two =
+        too_large_is what other size count (one_large_area (area input) what other size count one two)
+    one_none Missing router (exits.TooLarge what size) (exits.NotThere number) one two =
+        absurd (no_large_area (area input) what size two.0 one)
+    one_none Missing router (exits.NotThere number) (exits.TooLarge what size) one two =
+        absurd (no_large_area (area input) what size one.0 two)
+    one_none Missing router (exits.NotThere number) (exits.NotThere other) one two = ap exits.NotThere (one.1 ∙ sym two.1)
+    one_none Missing router (exits.TooLarge what size) other one two = absurd two
+    one_none Missing router (exits.NotThere number) other one two = absurd two
+    one_none Missing router exit other one two = absurd one
+
+    -- ---- of a router's loop-free alternates
+
+    no_refusal_loop_free : (router : ℕ) (text : List ℕ) (exit : Exit) → HasLoopFree input router text
+        → HasNoRouterFor input router exit → ⊥
+    no_refusal_loop_free router text exit taken refused =
+        no_none (IsAbsent (area input) router) router taken.area_within
+        (λ absent. absent (contained (area input).ids taken.spot (router_node router) taken.in_area)) exit refused
+
+    one_loop_free : (router : ℕ) (text other : List ℕ) → HasLoopFree input router text
+        → HasLoopFree input router other → text ≡ other
+    one_loop_free router text other one two =
+        let spots = one_place (area input).ids one.spot two.spot (router_node router) (kept one.area_within).ids_ascend one.in_area two.in_area in
+        laws.loop_free (area input) two.spot text other
+        (subst (λ (spot : ℕ). IsLfaText (area input) spot text) spots one.spelled) two.spelled
+
     -- ---- of the island of a router
 
     module _ (router : ℕ) where
@@ -184,55 +237,11 @@ module _ (laws : Laws) where
           one.island two.island in
           record { same_graph = same.0; same_root = same.1 }
 
-      no_island_large : (graph : Topology) (root : ℕ) (what : What) (size : ℕ) → HasIsland input router graph root
-          → HasNoIslandFor input router (exits.TooLarge what size) → ⊥
-      no_island_large graph root what size island (inl large) = no_large_area (area input) what size island.area_within
-          large
-      no_island_large graph root what size island (inr large) =
-          no_large_island laws.islands (policy input) (area input) (kept island.area_within) router what size
-          graph root island.link_of island.island
-          island.within large.1
-
-      no_island_missing : (graph : Topology) (root number : ℕ) → HasIsland input router graph root
-          → HasNoIslandFor input router (exits.NotThere number) → ⊥
-      no_island_missing graph root number island missing =
-          inside_is_there (policy input) (area input) router island.island.inside island.island.those missing.2
-
       no_island_none : (graph : Topology) (root : ℕ) (exit : Exit) → HasIsland input router graph root
           → HasNoIslandFor input router exit → ⊥
-      no_island_none graph root (exits.TooLarge what size) island none = no_island_large graph root what size island none
-      no_island_none graph root (exits.NotThere number) island none = no_island_missing graph root number island none
-      no_island_none graph root exit island none = none
-
-      no_large_missing : (what : What) (size number : ℕ) → HasNoIslandFor input router (exits.TooLarge what size)
-          → HasNoIslandFor input router (exits.NotThere number) → ⊥
-      no_large_missing what size number (inl large) missing = no_large_area (area input) what size missing.0 large
-      no_large_missing what size number (inr large) missing =
-          missing_is_not_large laws.islands (policy input) (area input) (kept large.0) router what size
-          missing.2 large.1
-
-      one_large : (what other : What) (size count : ℕ) → HasNoIslandFor input router (exits.TooLarge what size)
-          → HasNoIslandFor input router (exits.TooLarge other count)
-          → (what ≡ other) × (size ≡ count)
-      one_large what other size count (inl one) (inl two) = one_large_area (area input) what other size count one two
-      one_large what other size count (inl one) (inr two) = absurd (no_large_area (area input) what size two.0 one)
-      one_large what other size count (inr one) (inl two) = absurd (no_large_area (area input) other count one.0 two)
-      one_large what other size count (inr one) (inr two) =
-          one_large_island laws.islands (policy input) (area input) (kept one.0) router what other size count
-          one.1 two.1
-
-      one_none : (exit other : Exit) → HasNoIslandFor input router exit → HasNoIslandFor input router other
-          → exit ≡ other
-      one_none (exits.TooLarge what size) (exits.TooLarge other count) one two = too_large_is what other size count
-          (one_large what other size count one two)
-      one_none (exits.TooLarge what size) (exits.NotThere number) one two = absurd
-          (no_large_missing what size number one two)
-      one_none (exits.NotThere number) (exits.TooLarge what size) one two = absurd
-          (no_large_missing what size number two one)
-      one_none (exits.NotThere number) (exits.NotThere other) one two = ap exits.NotThere (one.1 ∙ sym two.1)
-      one_none (exits.TooLarge what size) other one two = absurd two
-      one_none (exits.NotThere number) other one two = absurd two
-      one_none exit other one two = absurd one
+      no_island_none graph root exit island none =
+          no_none (IsMissing (policy input) (area input) router) router island.area_within
+          (inside_is_there (policy input) (area input) router island.island.inside island.island.those) exit none
 
       -- ---- of the certificate that is computed for it
 
@@ -271,6 +280,91 @@ module _ (laws : Laws) where
           (root_within (policy input) (area input) router two.graph two.root two.island.link_of two.island.island) router
           text other table two.table
 
+      -- ---- of its repairs by order
+
+      one_order : (text other : List ℕ) → HasOrder input router text → HasOrder input router other → text ≡ other
+      one_order text other one two =
+          let same = one_island one.graph two.graph one.root two.root one.island two.island in
+          one_order_of laws.orders two.graph two.root
+          (root_within (policy input) (area input) router two.graph two.root two.island.link_of two.island.island) router
+          text other
+          (subst (λ (g : Topology). IsOrderOf g two.root router text) same.same_graph
+          (subst (λ (n : ℕ). IsOrderOf one.graph n router text) same.same_root one.order)) two.order
+
+      -- ---- of the rows for a prefix
+
+      module _ (first second : ℕ) where
+        same_both : (one other : HasBoth input router first second) → IsOneGraph one.graph other.graph one.root other.root
+        same_both one other =
+            let same = one_island one.graph other.graph one.root other.root one.island other.island in
+            record { graphs = same.same_graph; roots = same.same_root }
+
+        both_within : (both : HasBoth input router first second) → both.root < length both.graph.ids
+        both_within both =
+            root_within (policy input) (area input) router both.graph both.root both.island.link_of both.island.island
+
+        one_proxied : (text other : List ℕ) → HasProxy input router first second text → HasProxy input router first second other
+            → text ≡ other
+        one_proxied text other one another =
+            one_proxied_text laws.certificates input router first second laws.proxies text other one another
+            (same_both one.both another.both) (both_within another.both)
+
+        same_missed : (both : HasBoth input router first second) (missing : ℕ) (misses : MissesOne input router first second missing)
+            → both.graph ≡ misses.graph
+        same_missed both missing misses =
+            (one_island both.graph misses.graph both.root misses.root both.island misses.island).same_graph
+
+        no_refusal_proxied : (text : List ℕ) (exit : Exit) → HasProxy input router first second text
+            → HasNoProxy input router first second exit → ⊥
+        no_refusal_proxied text (exits.NotThere missing) taken (inl none) =
+            no_island_none taken.both.graph taken.both.root (exits.NotThere missing) taken.both.island none
+        no_refusal_proxied text (exits.NotThere missing) taken (inr misses) =
+            none_missed input router missing first second taken.both misses (same_missed taken.both missing misses)
+        no_refusal_proxied text exits.NoCommonBlock taken refused =
+            no_unrelated laws.certificates input router first second laws.proxies text taken refused.0
+            (same_both taken.both refused.0) (both_within refused.0) refused.1
+        no_refusal_proxied text exit taken refused =
+            no_island_none taken.both.graph taken.both.root exit taken.both.island refused
+
+        missing_first : (missing : ℕ) (other : Exit) → MissesOne input router first second missing
+            → HasNoProxy input router first second other → exits.NotThere missing ≡ other
+        missing_first missing (exits.NotThere lacking) misses (inl none) =
+            absurd (no_island_none misses.graph misses.root (exits.NotThere lacking) misses.island none)
+        missing_first missing (exits.NotThere lacking) misses (inr other) =
+            ap exits.NotThere (one_missed input router missing lacking first second misses other
+            (one_island misses.graph other.graph misses.root other.root misses.island other.island).same_graph)
+        missing_first missing exits.NoCommonBlock misses apart =
+            absurd (none_missed input router missing first second apart.0 misses (same_missed apart.0 missing misses))
+        missing_first missing other misses none =
+            absurd (no_island_none misses.graph misses.root other misses.island none)
+
+        none_first : (exit other : Exit) → HasNoIslandFor input router exit → HasNoProxy input router first second other
+            → exit ≡ other
+        none_first exit (exits.NotThere lacking) none (inl other) =
+            one_none (IsMissing (policy input) (area input) router) router exit (exits.NotThere lacking) none other
+        none_first exit (exits.NotThere lacking) none (inr misses) =
+            absurd (no_island_none misses.graph misses.root exit misses.island none)
+        none_first exit exits.NoCommonBlock none apart =
+            absurd (no_island_none apart.0.graph apart.0.root exit apart.0.island none)
+        none_first exit other none another =
+            one_none (IsMissing (policy input) (area input) router) router exit other none another
+
+        apart_first : (other : Exit) → HasNoProxy input router first second exits.NoCommonBlock
+            → HasNoProxy input router first second other → exits.NoCommonBlock ≡ other
+        apart_first (exits.NotThere lacking) apart (inl none) =
+            absurd (no_island_none apart.0.graph apart.0.root (exits.NotThere lacking) apart.0.island none)
+        apart_first (exits.NotThere lacking) apart (inr misses) =
+            absurd (none_missed input router lacking first second apart.0 misses (same_missed apart.0 lacking misses))
+        apart_first exits.NoCommonBlock apart other = refl
+        apart_first other apart none = absurd (no_island_none apart.0.graph apart.0.root other apart.0.island none)
+
+        one_no_proxy : (exit other : Exit) → HasNoProxy input router first second exit → HasNoProxy input router first second other
+            → exit ≡ other
+        one_no_proxy (exits.NotThere missing) other (inl none) another = none_first (exits.NotThere missing) other none another
+        one_no_proxy (exits.NotThere missing) other (inr misses) another = missing_first missing other misses another
+        one_no_proxy exits.NoCommonBlock other one another = apart_first other one another
+        one_no_proxy exit other one another = none_first exit other one another
+
       -- ---- of what the steps of packets read there
 
       no_refusal_parts : (parts : FabricParts) (exit : Exit) → ArePartsFor input router parts
@@ -282,8 +376,8 @@ module _ (laws : Laws) where
       one_parts parts other one two =
           let same = laws.islands.one_island (policy input) (area input) router parts.island other.island one.root two.root
           one.has.link_of two.has.link_of (kept one.has.area_within) one.has.island two.has.island in
-          let file : CertFile = record { root = one.root_number; cert = parts.cert } in
-          let second : CertFile = record { root = two.root_number; cert = other.cert } in
+          let file : CertFile = record { version = 2; root = one.root_number; cert = parts.cert } in
+          let second : CertFile = record { version = 2; root = two.root_number; cert = other.cert } in
           let computed : IsCertOf other.island two.root file =
           subst (λ (n : ℕ). IsCertOf other.island n file) same.1
           (subst (λ (g : Topology). IsCertOf g one.root file) same.0 one.certificate.computed) in
@@ -322,7 +416,7 @@ module _ (laws : Laws) where
       said_of_script exit (exits.BadScript line) script is one two =
           absurd (laws.packets.never_both (text_lines bytes) script line is two)
       said_of_script exit other script is one two =
-          one_none two.0.router exit other (subst (λ (s : Script). HasNoIslandFor input s.router exit)
+          one_none (IsMissing (policy input) (area input) two.0.router) two.0.router exit other (subst (λ (s : Script). HasNoIslandFor input s.router exit)
           (laws.packets.one_script (text_lines bytes) script two.0 is two.1) one) two.2
 
       one_no_run : (exit other : Exit) → IsNoRun input bytes exit → IsNoRun input bytes other → exit ≡ other
@@ -356,24 +450,25 @@ module _ (laws : Laws) where
           let equal = laws.rules.one two.0 two.1 file rule a b number x y fault two.3 in
           λ i. exits.No (equal.0 i) (equal.1 i) (equal.2 i)
 
-      no_none : (rule a b : ℕ) (other : Exit) → IsRefusedFor input file (exits.No rule a b)
+      no_after_island : (rule a b : ℕ) (other : Exit) → IsRefusedFor input file (exits.No rule a b)
           → HasNoIslandFor input file.root other → exits.No rule a b ≡ other
-      no_none rule a b other one two = absurd (no_island_none file.root one.0 one.1 other one.2 two)
+      no_after_island rule a b other one two = absurd (no_island_none file.root one.0 one.1 other one.2 two)
 
       one_for : (exit other : Exit) → IsRefusedFor input file exit → IsRefusedFor input file other → exit ≡ other
       one_for (exits.No rule a b) (exits.No number x y) one two = one_no rule a b number x y one two
-      one_for (exits.No rule a b) other one two = no_none rule a b other one two
-      one_for exit (exits.No rule a b) one two = sym (no_none rule a b exit two one)
-      one_for exit other one two = one_none file.root exit other one two
+      one_for (exits.No rule a b) other one two = no_after_island rule a b other one two
+      one_for exit (exits.No rule a b) one two = sym (no_after_island rule a b exit two one)
+      one_for exit other one two = one_none (IsMissing (policy input) (area input) file.root) file.root exit other one two
 
-      no_refusal_for : (text : List ℕ) (exit : Exit) → IsAcceptedFor input file text → IsRefusedFor input file exit → ⊥
-      no_refusal_for text (exits.No rule a b) taken refused =
-          let same = one_island file.root taken.graph refused.0 taken.root refused.1 taken.island refused.2 in
-          let accepted : Accepted refused.0 refused.1 file =
+      no_refusal_for : (graph : Topology) (root : ℕ) → HasIsland input file.root graph root → Accepted graph root file
+          → (exit : Exit) → IsRefusedFor input file exit → ⊥
+      no_refusal_for graph root island accepted (exits.No rule a b) refused =
+          let same = one_island file.root graph refused.0 root refused.1 island refused.2 in
+          let accepted_too : Accepted refused.0 refused.1 file =
           subst (λ (g : Topology). Accepted g refused.1 file) same.same_graph
-          (subst (λ (n : ℕ). Accepted taken.graph n file) same.same_root taken.accepted.accepted) in
-          laws.rules.never_both refused.0 refused.1 file rule a b accepted refused.3
-      no_refusal_for text exit taken refused = no_island_none file.root taken.graph taken.root exit taken.island refused
+          (subst (λ (n : ℕ). Accepted graph n file) same.same_root accepted) in
+          laws.rules.never_both refused.0 refused.1 file rule a b accepted_too refused.3
+      no_refusal_for graph root island accepted exit refused = no_island_none file.root graph root exit island refused
 
       one_text_for : (text other : List ℕ) → IsAcceptedFor input file text → IsAcceptedFor input file other
           → text ≡ other
@@ -392,7 +487,7 @@ module _ (laws : Laws) where
           λ i. exits.BadCertificate (same i).0 (same i).1
       bad_bytes_first at kind other one two = absurd (no_bad_cert laws.certs certificate two.0 (at, kind) two.1 one)
 
-      said_of_file : (exit other : Exit) (file : CertFile) → IsCertFile certificate file → IsRefusedFor input file exit
+      said_of_file : (exit other : Exit) (file : CertFile) → IsSpellingOf certificate file → IsRefusedFor input file exit
           → IsNoVerdict input certificate other → exit ≡ other
       said_of_file exit (exits.BadCertificate at kind) file is one two =
           absurd (no_bad_cert laws.certs certificate file (at, kind) is two)
@@ -410,8 +505,9 @@ module _ (laws : Laws) where
       no_verdict_given text (exits.BadCertificate at kind) taken refused =
           no_bad_cert laws.certs certificate taken.file (at, kind) taken.is refused
       no_verdict_given text exit taken refused =
-          no_refusal_for refused.0 text exit (subst (λ (f : CertFile). IsAcceptedFor input f text)
-          (one_cert laws.certs certificate taken.file refused.0 taken.is refused.1) taken.accepted) refused.2
+          let accepted = subst (λ (f : CertFile). IsAcceptedFor input f text)
+          (one_cert laws.certs certificate taken.file refused.0 taken.is refused.1) taken.accepted in
+          no_refusal_for refused.0 accepted.graph accepted.root accepted.island accepted.accepted.accepted exit refused.2
 
       one_verdict_text : (text other : List ℕ) → GivesVerdict input certificate text
           → GivesVerdict input certificate other → text ≡ other
@@ -419,16 +515,37 @@ module _ (laws : Laws) where
           one_text_for two.file text other (subst (λ (f : CertFile). IsAcceptedFor input f text)
           (one_cert laws.certs certificate one.file two.file one.is two.is) one.accepted) two.accepted
 
+      no_upgrade_given : (text : List ℕ) (exit : Exit) → GivesUpgrade input certificate text
+          → IsNoVerdict input certificate exit → ⊥
+      no_upgrade_given text (exits.BadCertificate at kind) taken refused =
+          no_bad_cert laws.certs certificate taken.file (at, kind) taken.is refused
+      no_upgrade_given text exit taken refused =
+          let upgrade = subst (λ (f : CertFile). IsUpgradeFor input f text)
+          (one_cert laws.certs certificate taken.file refused.0 taken.is refused.1) taken.upgrade in
+          no_refusal_for refused.0 upgrade.graph upgrade.root upgrade.island
+          (read_accepted upgrade.graph upgrade.root refused.0 upgrade.upgrade.accepted) exit refused.2
+
+      one_upgrade_text : (text other : List ℕ) → GivesUpgrade input certificate text
+          → GivesUpgrade input certificate other → text ≡ other
+      one_upgrade_text text other one two =
+          one.upgrade.upgrade.spelled.spelled
+          ∙ ap (λ (f : CertFile). cert_text (upgraded f)) (one_cert laws.certs certificate one.file two.file one.is two.is)
+          ∙ sym two.upgrade.upgrade.spelled.spelled
+
     -- ---- of a task
 
     module _ (last : List ℕ) where
       one_task : (task : Task) (exit other : Exit) → IsRefusedTask task input last exit
           → IsRefusedTask task input last other → exit ≡ other
       one_task (Check certificate) exit other one two = one_verdict last exit other one two
-      one_task (Certify router) exit other one two = one_none router exit other one two
-      one_task (Table router) exit other one two = one_none router exit other one two
-      one_task (Trace trace) exit other one two = one_none trace.from exit other one two
+      one_task (Certify router) exit other one two = one_none (IsMissing (policy input) (area input) router) router exit other one two
+      one_task (Table router) exit other one two = one_none (IsMissing (policy input) (area input) router) router exit other one two
+      one_task (Trace trace) exit other one two = one_none (IsMissing (policy input) (area input) trace.from) trace.from exit other one two
       one_task (Fabric script) exit other one two = one_no_run last exit other one two
+      one_task (Upgrade certificate) exit other one two = one_verdict last exit other one two
+      one_task (Lfa router) exit other one two = one_none (IsAbsent (area input) router) router exit other one two
+      one_task (Order router) exit other one two = one_none (IsMissing (policy input) (area input) router) router exit other one two
+      one_task (Proxy router first second) exit other one two = one_no_proxy router first second exit other one two
 
       no_task : (task : Task) (text : List ℕ) (exit : Exit) → GivesFor task input last text
           → IsRefusedTask task input last exit → ⊥
@@ -438,6 +555,11 @@ module _ (laws : Laws) where
       no_task (Trace trace) text exit taken refused =
           no_refusal_parts trace.from taken.0 exit taken.1 refused
       no_task (Fabric script) text exit taken refused = no_run_given last text exit taken refused
+      no_task (Upgrade certificate) text exit taken refused = no_upgrade_given last text exit taken refused
+      no_task (Lfa router) text exit taken refused = no_refusal_loop_free router text exit taken refused
+      no_task (Order router) text exit taken refused =
+          no_island_none router taken.graph taken.root exit taken.island refused
+      no_task (Proxy router first second) text exit taken refused = no_refusal_proxied router first second text exit taken refused
 
       one_task_text : (task : Task) (text other : List ℕ) → GivesFor task input last text
           → GivesFor task input last other → text ≡ other
@@ -446,6 +568,10 @@ module _ (laws : Laws) where
       one_task_text (Table router) text other one two = one_tabled router text other one two
       one_task_text (Trace trace) text other one two = one_trace trace text other one two
       one_task_text (Fabric script) text other one two = one_run_text last text other one two
+      one_task_text (Upgrade certificate) text other one two = one_upgrade_text last text other one two
+      one_task_text (Lfa router) text other one two = one_loop_free router text other one two
+      one_task_text (Order router) text other one two = one_order router text other one two
+      one_task_text (Proxy router first second) text other one two = one_proxied router first second text other one two
 
   -- ---- over the bytes of the files
 

@@ -4,7 +4,7 @@ use Rattle.std.specs.Option.{option_map_or}
 use Rattle.std.proofs.lemmas.Bool.{cases_lt}
 use Rattle.cert_format.specs.CertText.{cert_text}
 use Rattle.cert_format.specs.FirstFault.{first_fault}
-use Rattle.cert_format.specs.Limits.{IsVersionOne}
+use Rattle.cert_format.specs.Limits.{IsCertFile}
 use Rattle.cert_format.specs.declared.error.CertKind.{CertKind}
 use Rattle.lsdb.specs.Conflicts.{least_conflict}
 use Rattle.lsdb.specs.Disagreements.{IsFirstConflictOf}
@@ -25,9 +25,9 @@ use Rattle.ospf_lsa.specs.Outcome.{IsFirstFault}
 use Rattle.ospf_lsa.specs.declared.error.LsaKind.{LsaKind}
 use Rattle.ospf_lsa.specs.declared.lsa.Lsa.{Lsa as Advertisement}
 use Rattle.mrt_cmd.specs.Database.{HoldsLsas, IsBadDatabase, IsDatabase, entering, enters}
-use Rattle.mrt_cmd.specs.Input.{IsCertFile, IsProfile}
-use Rattle.mrt_cmd.specs.declared.exit.DbKind.{DbKind}
-use Rattle.mrt_cmd.specs.declared.exit.DbKind.TheVariants.{Lsa, Conflict}
+use Rattle.mrt_cmd.specs.Input.{IsSpellingOf, IsProfile}
+use Rattle.mrt_exit.specs.declared.exit.DbKind.{DbKind}
+use Rattle.mrt_exit.specs.declared.exit.DbKind.TheVariants.{Lsa, Conflict}
 
 -- what an option holds is one
 pub held_once : {X : Type 0} (x y : X) (option : Option X) → option ≡ Some x → option ≡ Some y → x ≡ y
@@ -153,15 +153,15 @@ one_bad_profile lines line number kind other one two = go (cases_lt (line - 1) (
 -- ---- certificates
 
 pub record CertLaws : Type 0 where
-  pub one : (f g : CertFile) → IsVersionOne f → IsVersionOne g → cert_text f ≡ cert_text g → f ≡ g
-  pub faultless : (f : CertFile) → IsVersionOne f → first_fault (cert_text f) ≡ None
+  pub one : (f g : CertFile) → IsCertFile f → IsCertFile g → cert_text f ≡ cert_text g → f ≡ g
+  pub faultless : (f : CertFile) → IsCertFile f → first_fault (cert_text f) ≡ None
 
-pub no_bad_cert : CertLaws → (bytes : List ℕ) (file : CertFile) (fault : ℕ × CertKind) → IsCertFile bytes file
+pub no_bad_cert : CertLaws → (bytes : List ℕ) (file : CertFile) (fault : ℕ × CertKind) → IsSpellingOf bytes file
     → first_fault bytes ≡ Some fault → ⊥
 no_bad_cert laws bytes file fault one some =
     let none : first_fault bytes ≡ None = ap first_fault one.spelled ∙ laws.faultless file one.within in
     absurd cc
 
-pub one_cert : CertLaws → (bytes : List ℕ) (file other : CertFile) → IsCertFile bytes file → IsCertFile bytes other
+pub one_cert : CertLaws → (bytes : List ℕ) (file other : CertFile) → IsSpellingOf bytes file → IsSpellingOf bytes other
     → file ≡ other
 one_cert laws bytes file other one two = laws.one file other one.within two.within (sym one.spelled ∙ two.spelled)

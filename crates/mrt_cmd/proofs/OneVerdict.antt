@@ -7,15 +7,14 @@ use Rattle.std.proofs.lemmas.List.Elements.{Contains-get_or}
 use Rattle.area_graph.specs.AreaInvariant.{IsArea}
 use Rattle.area_graph.specs.Nodes.{router}
 use Rattle.area_graph.specs.Parts.{AreaParts}
-use Rattle.mrt_graph.specs.NewGraph.{IsTooLarge}
 use Rattle.mrt_graph.specs.Topology.{Topology}
-use Rattle.mrt_island.specs.IslandOf.{IsIsland, IsOver}
+use Rattle.mrt_island.specs.IslandOf.{IsIsland}
 use Rattle.mrt_island.specs.Members.{IsInside}
 use Rattle.mrt_island.specs.Policy.{Policy}
-use Rattle.mrt_cmd.specs.declared.exit.What.{What}
-use Rattle.mrt_cmd.specs.declared.exit.What.TheVariants as whats
+use Rattle.mrt_exit.specs.declared.exit.What.{What}
+use Rattle.mrt_exit.specs.declared.exit.What.TheVariants as whats
 use Rattle.mrt_cmd.specs.Input.{IsMissing}
-use Rattle.mrt_cmd.specs.Islands.{IsLargeArea, IsLargeIsland}
+use Rattle.mrt_cmd.specs.Islands.{IsLargeArea}
 
 pub one_large_area : (area : AreaParts) (what other : What) (size count : ℕ) → IsLargeArea area what size
     → IsLargeArea area other count → (what ≡ other) × (size ≡ count)
@@ -46,59 +45,9 @@ inside_is_there policy area number inside those (inr unsupported) =
     let supported = those.supported in
     absurd cc
 
--- the laws of the layers below on the island of a router
+-- the law of the layers below on the island of a router
 pub record IslandLaws : Type 0 where
   pub one_island : (policy : Policy) (area : AreaParts) (number : ℕ) (g h : Topology) (root node : ℕ)
       (link_of others : List (Option ℕ)) → IsArea area
       → IsIsland policy area number g root link_of → IsIsland policy area number h node others
       → (g ≡ h) × (root ≡ node) × (link_of ≡ others)
-  pub one_size : (policy : Policy) (area : AreaParts) (number nodes links others more : ℕ) → IsArea area
-      → IsOver policy area number nodes links
-      → IsOver policy area number others more → (nodes ≡ others) × (links ≡ more)
-  pub size : (policy : Policy) (area : AreaParts) (number nodes links : ℕ) (g : Topology) (root : ℕ)
-      (link_of : List (Option ℕ)) → IsArea area
-      → IsOver policy area number nodes links → IsIsland policy area number g root link_of
-      → (nodes ≡ length g.ids) × (links ≡ length g.links)
-
-module _ (laws : IslandLaws) (policy : Policy) (area : AreaParts) (kept : IsArea area) (number : ℕ) where
-  pub one_large_island : (what other : What) (size count : ℕ) → IsLargeIsland policy area number what size
-      → IsLargeIsland policy area number other count
-      → (what ≡ other) × (size ≡ count)
-  one_large_island whats.IslandNodes whats.IslandNodes size count one two =
-      (refl, (laws.one_size policy area number size one.0 count two.0 kept one.1 two.1).0)
-  one_large_island whats.IslandNodes whats.IslandLinks size count one two =
-      let same = (laws.one_size policy area number size one.0 two.0 count kept one.1 two.1).0 in
-      absurd (omega (arith, same, one.2, two.2))
-  one_large_island whats.IslandLinks whats.IslandNodes size count one two =
-      let same = (laws.one_size policy area number one.0 size count two.0 kept one.1 two.1).0 in
-      absurd (omega (arith, same, one.2, two.2))
-  one_large_island whats.IslandLinks whats.IslandLinks size count one two =
-      (refl, (laws.one_size policy area number one.0 size two.0 count kept one.1 two.1).1)
-  one_large_island whats.IslandNodes other size count one two = absurd two
-  one_large_island whats.IslandLinks other size count one two = absurd two
-  one_large_island what other size count one two = absurd one
-
-  no_over : (nodes links : ℕ) (graph : Topology) (root : ℕ) (link_of : List (Option ℕ))
-      → IsIsland policy area number graph root link_of
-      → (IsTooLarge (length graph.ids) (length graph.links) → ⊥) → IsOver policy area number nodes links → ⊥
-  no_over nodes links graph root link_of island within over =
-      let same = laws.size policy area number nodes links graph root link_of kept over island in
-      within (subst (λ (n : ℕ). IsTooLarge n (length graph.links)) same.0
-      (subst (λ (n : ℕ). IsTooLarge nodes n) same.1 over.too_large))
-
-  pub no_large_island : (what : What) (size : ℕ) (graph : Topology) (root : ℕ) (link_of : List (Option ℕ))
-      → IsIsland policy area number graph root link_of
-      → (IsTooLarge (length graph.ids) (length graph.links) → ⊥) → IsLargeIsland policy area number what size → ⊥
-  no_large_island whats.IslandNodes size graph root link_of island within large = no_over size large.0 graph root
-      link_of island within large.1
-  no_large_island whats.IslandLinks size graph root link_of island within large = no_over large.0 size graph root
-      link_of island within large.1
-  no_large_island what size graph root link_of island within large = absurd large
-
-  pub missing_is_not_large : (what : What) (size : ℕ) → IsMissing policy area number
-      → IsLargeIsland policy area number what size → ⊥
-  missing_is_not_large whats.IslandNodes size missing large = inside_is_there policy area number large.1.inside
-      large.1.those missing
-  missing_is_not_large whats.IslandLinks size missing large = inside_is_there policy area number large.1.inside
-      large.1.those missing
-  missing_is_not_large what size missing large = absurd large

@@ -7,8 +7,8 @@ use Rattle.cert_format.specs.Stream.{Progress, fed, fed_all}
 use Rattle.mrt_io.specs.Counts.{Rose, last_count}
 use Rattle.mrt_io.specs.Holding.{Files, IsFileOf, IsTooLong}
 use Rattle.mrt_io.specs.Left.{IsLeftOf, IsTakenOff}
-use Rattle.mrt_cmd.specs.declared.exit.Exit.{Exit}
-use Rattle.mrt_cmd.specs.declared.exit.Exit.TheVariants as exits
+use Rattle.mrt_exit.specs.declared.exit.Exit.{Exit}
+use Rattle.mrt_exit.specs.declared.exit.Exit.TheVariants as exits
 use Rattle.mrt_cmd.specs.Files.{NamedFile, IsReadAs}
 use Rattle.mrt_cmd.specs.Pieces.{IsFedOn, IsFedSoFar}
 use Rattle.mrt_cmd.specs.Reading.{IsStopped, IsUnread, IsUnreadOrFault}

@@ -1,33 +1,9 @@
 -- Refusals of single steps, as refusals of the whole.
-use Rattle.std.proofs.Common.{
-  ◌≡◌,
-  ◌<◌,
-  ◌≤◌,
-  ◌⊎◌,
-  ℕ,
-  Bool,
-  true,
-  false,
-  List,
-  Option,
-  Result,
-  Ok,
-  Err,
-  length,
-  refl,
-  sym,
-  subst,
-  inl,
-  inr,
-  arith,
-}
-use Rattle.std.specs.Prelude.{IfErr, IfOk, Some, nat_lt, slice_get, if◌then◌else◌}
+use Rattle.std.proofs.Common.{◌≡◌, ◌<◌, ◌⊎◌, ℕ, List, Option, Result, Ok, Err, length, refl, sym, subst, inl, inr}
+use Rattle.std.specs.Prelude.{IfErr, IfOk, Some, slice_get}
 use Rattle.std.specs.Result.{IsErrAnd}
-use Rattle.std.proofs.lemmas.Bool.{ltb-true, ltb-false}
 use Rattle.std.proofs.lemmas.Option.{slice_get_within}
 use Rattle.area_graph.specs.Parts.{AreaParts}
-use Rattle.mrt_graph.specs.GraphInvariant.{IsTopology}
-use Rattle.mrt_graph.specs.NewGraph.{IsTooLarge}
 use Rattle.mrt_graph.specs.TextLines.{text_lines}
 use Rattle.mrt_graph.specs.Topology.{Topology}
 use Rattle.fabric_script.specs.declared.script.Script.{Script}
@@ -35,18 +11,17 @@ use Rattle.fabric_script.specs.ScriptFaults.{IsScript}
 use Rattle.cert_format.specs.declared.error.CertFault.{CertFault}
 use Rattle.mrt_graph.specs.declared.cert.CertFile.{CertFile}
 use Rattle.mrt_graph.specs.declared.node_id.NodeId.{NodeId}
-use Rattle.mrt_island.specs.IslandOf.{IsIsland, IsOver}
+use Rattle.mrt_island.specs.IslandOf.{IsIsland}
 use Rattle.mrt_island.specs.Policy.{Policy}
-use Rattle.mrt_cmd.specs.declared.exit.Exit.{Exit}
-use Rattle.mrt_cmd.specs.declared.exit.Exit.TheVariants as exits
-use Rattle.mrt_cmd.specs.declared.exit.What.TheVariants as whats
+use Rattle.mrt_exit.specs.declared.exit.Exit.{Exit}
+use Rattle.mrt_exit.specs.declared.exit.Exit.TheVariants as exits
 use Rattle.mrt_io.specs.Holding.{Files}
 use Rattle.mrt_cmd.specs.Answers.{FileBytes, IsRefusedOver}
-use Rattle.mrt_cmd.specs.Comes.{AreRead, IsLastRead}
-use Rattle.mrt_cmd.specs.Faults.{certificate_exit}
-use Rattle.mrt_cmd.specs.Files.{task_file}
-use Rattle.mrt_cmd.specs.Form.{FileForm, Form, OfFiles, Task, Check, Certify, Table, Trace, Fabric}
-use Rattle.mrt_cmd.specs.Input.{Input, HasAreaWithin, HasIsland, IsCertFile, IsInput, area, policy}
+use Rattle.mrt_cmd.specs.Comes.{AreRead}
+use Rattle.mrt_exit.specs.Faults.{certificate_exit}
+use Rattle.mrt_cmd.specs.Form.{FileForm, Form, OfFiles, Task, Check, Certify, Table, Trace, Fabric, Upgrade, Lfa, Order, Proxy}
+use Rattle.mrt_cmd.specs.Islands.{HasNoneFor}
+use Rattle.mrt_cmd.specs.Input.{Input, HasAreaWithin, HasIsland, IsSpellingOf, IsInput, area, policy}
 use Rattle.mrt_cmd.specs.Kept.{IsCertRead}
 use Rattle.mrt_cmd.specs.Reading.{
   AreUnread,
@@ -56,7 +31,7 @@ use Rattle.mrt_cmd.specs.Reading.{
   HasNone,
   HasNoScript,
   IsAnswerOver,
-  IsCheckRefusal,
+  IsVerdictRefusal,
   IsRefusal,
   IsRefusalOrFault,
   IsRejected,
@@ -72,25 +47,14 @@ pub handed_on : {T : Type 0} (result : Result T Exit) (exit : Exit) → IsErrAnd
 handed_on (Ok t) exit is P held = tt
 handed_on (Err told) exit is P held = subst P (sym is) held
 
-pub large_island_told : (policy : Policy) (area : AreaParts) (router nodes links : ℕ)
-    → IsOver policy area router nodes links
-    → HasNoIsland policy area router (if nat_lt 2048 nodes then exits.TooLarge whats.IslandNodes nodes else
-    exits.TooLarge whats.IslandLinks links)
-large_island_told policy area router nodes links over = go (nat_lt 2048 nodes) refl
-  where
-    go : (b : Bool) → nat_lt 2048 nodes ≡ b → HasNoIsland policy area router
-        (if nat_lt 2048 nodes then exits.TooLarge whats.IslandNodes nodes else exits.TooLarge whats.IslandLinks links)
-    go true e = rw e (links, over, ltb-true 2048 nodes e)
-    go false e = rw e (nodes, over, ltb-false 2048 nodes e)
-
-pub area_refused : (input : Input) (router : ℕ) (exit : Exit) → HasNoArea (area input) exit → HasNone input router exit
-area_refused input router (exits.TooLarge what size) said = inl (inl said)
-area_refused input router exits.NoMemory said = inr refl
-area_refused input router exit said = absurd said
+pub area_refused : (Missing : Type 0) (input : Input) (router : ℕ) (exit : Exit) → HasNoArea (area input) exit
+    → HasNoneFor Missing input router exit ⊎ (exit ≡ exits.NoMemory)
+area_refused Missing input router (exits.TooLarge what size) said = inl said
+area_refused Missing input router exits.NoMemory said = inr refl
+area_refused Missing input router exit said = absurd said
 
 pub island_refused : (input : Input) (router : ℕ) → HasAreaWithin input → (exit : Exit)
     → HasNoIsland (policy input) (area input) router exit → HasNone input router exit
-island_refused input router within (exits.TooLarge what size) said = inl (inr (within, said))
 island_refused input router within (exits.NotThere number) said = inl (within, said.0, said.1)
 island_refused input router within exits.NoMemory said = inr refl
 island_refused input router within exit said = absurd said
@@ -120,8 +84,8 @@ rejected_over (Ok t) input file graph root island said = tt
 rejected_over (Err exit) input file graph root island said = rejected input file graph root island exit said
 
 -- what is said of the certificate is said of its bytes
-verdict_of_bytes : (input : Input) (bytes : List ℕ) (file : CertFile) → IsCertFile bytes file → (exit : Exit)
-    → IsVerdictFor input file exit → IsCheckRefusal input bytes exit
+verdict_of_bytes : (input : Input) (bytes : List ℕ) (file : CertFile) → IsSpellingOf bytes file → (exit : Exit)
+    → IsVerdictFor input file exit → IsVerdictRefusal input bytes exit
 verdict_of_bytes input bytes file is exit (inr memory) = inr memory
 verdict_of_bytes input bytes file is (exits.TooLarge what size) (inl said) = inl (file, is, said)
 verdict_of_bytes input bytes file is (exits.NotThere number) (inl said) = inl (file, is, said)
@@ -129,20 +93,20 @@ verdict_of_bytes input bytes file is (exits.No rule a b) (inl said) = inl (file,
 verdict_of_bytes input bytes file is exit (inl said) = absurd said
 
 pub verdicts_of_bytes : {T : Type 0} (answer : Result T Exit) (input : Input) (bytes : List ℕ) (file : CertFile)
-    → IsCertFile bytes file → IfErr answer (IsVerdictFor input file) → IfErr answer (IsCheckRefusal input bytes)
+    → IsSpellingOf bytes file → IfErr answer (IsVerdictFor input file) → IfErr answer (IsVerdictRefusal input bytes)
 verdicts_of_bytes (Ok t) input bytes file is said = tt
 verdicts_of_bytes (Err exit) input bytes file is said = verdict_of_bytes input bytes file is exit said
 
 -- what is accepted is what the bytes give
 pub verdicts_given : {T : Type 0} (items : T → List ℕ) (answer : Result T Exit) (input : Input) (bytes : List ℕ)
-    (file : CertFile) → IsCertFile bytes file → IfOk answer (λ text. IsAcceptedFor input file (items text))
+    (file : CertFile) → IsSpellingOf bytes file → IfOk answer (λ text. IsAcceptedFor input file (items text))
     → IfOk answer (λ text. GivesVerdict input bytes (items text))
 verdicts_given items (Ok text) input bytes file is said = record { file = file; is = is; accepted = said }
 verdicts_given items (Err exit) input bytes file is said = tt
 
 -- the first fault of the bytes of a certificate
 pub bad_bytes : (input : Input) (bytes : List ℕ) (fault : CertFault) → IsCertRead bytes (Err fault)
-    → IsCheckRefusal input bytes (certificate_exit fault)
+    → IsVerdictRefusal input bytes (certificate_exit fault)
 bad_bytes input bytes fault said = inl said
 
 -- what is said of a script's router is said of the script's bytes
@@ -165,11 +129,6 @@ bad_lines input bytes (exits.BadScript line) said = inl said
 bad_lines input bytes exits.NoMemory said = inr refl
 bad_lines input bytes exit said = absurd said
 
--- a graph is not too large
-pub few : (graph : Topology) → IsTopology graph → IsTooLarge (length graph.ids) (length graph.links) → ⊥
-few graph kept (inl nodes) = absurd (omega (arith, kept.few_nodes, nodes))
-few graph kept (inr links) = absurd (omega (arith, kept.few_links, links))
-
 -- the root is a node of the island
 pub root_within : (policy : Policy) (area : AreaParts) (router : ℕ) (graph : Topology) (root : ℕ)
     (link_of : List (Option ℕ)) → IsIsland policy area router graph root link_of
@@ -187,11 +146,16 @@ task_over task bytes input given (exits.BadScript line) (inl said) = inl (input,
 task_over task bytes input given (exits.TooLarge what size) (inl said) = inl (input, given, said)
 task_over task bytes input given (exits.NotThere number) (inl said) = inl (input, given, said)
 task_over task bytes input given (exits.No rule a b) (inl said) = inl (input, given, said)
+task_over task bytes input given exits.NoCommonBlock (inl said) = inl (input, given, said)
 task_over (Check certificate) bytes input given exit (inl said) = absurd said.2
 task_over (Certify router) bytes input given exit (inl said) = absurd said
 task_over (Table router) bytes input given exit (inl said) = absurd said
 task_over (Trace trace) bytes input given exit (inl said) = absurd said
 task_over (Fabric script) bytes input given exit (inl said) = absurd said.2
+task_over (Upgrade certificate) bytes input given exit (inl said) = absurd said.2
+task_over (Lfa router) bytes input given exit (inl said) = absurd said
+task_over (Order router) bytes input given exit (inl said) = absurd said
+task_over (Proxy router first second) bytes input given exit (inl said) = absurd said
 
 pub tasks_over : {T : Type 0} (answer : Result T Exit) (task : Task) (bytes : FileBytes) (input : Input)
     → IsInput bytes.database bytes.profile input
@@ -244,12 +208,3 @@ unread_or_fault held form before now (exits.ReadFault word) said = said
 unread_or_fault held form before now (exits.TooLarge what size) said = unread_refused held form (exits.TooLarge what size) said
 unread_or_fault held form before now exits.NoMemory said = inr refl
 unread_or_fault held form before now exit said = unread_refused held form exit said
-
--- the bytes of the file that a task names are within its limit
-pub last_within : (held : Option Files) (task : Task) (bytes : List ℕ) → IsLastRead held (task_file task) bytes
-    → length bytes ≤ 33554432
-last_within held (Check certificate) bytes read = read.1
-last_within held (Certify router) bytes read = rw read omega arith
-last_within held (Table router) bytes read = rw read omega arith
-last_within held (Trace trace) bytes read = rw read omega arith
-last_within held (Fabric script) bytes read = read.1

@@ -1,7 +1,7 @@
 -- The exits of a survey.
 use Rattle.std.proofs.Common.{◌≡◌, sym, subst}
-use Rattle.mrt_cmd.specs.declared.exit.Exit.{Exit}
-use Rattle.mrt_cmd.specs.declared.exit.Exit.TheVariants as exits
+use Rattle.mrt_exit.specs.declared.exit.Exit.{Exit}
+use Rattle.mrt_exit.specs.declared.exit.Exit.TheVariants as exits
 use Rattle.mrt_cmd.specs.Run.{IsExitOfSurvey, WritesNothing}
 
 pub written_of_survey : (exit : Exit) → (WritesNothing exit → ⊥) → IsExitOfSurvey exit

@@ -5,8 +5,8 @@ use Rattle.std.specs.Option.{IsSomeAnd, option_map, option_to_list}
 use Rattle.std.proofs.lemmas.Bool.{le-ltb, lt-ltb}
 use Rattle.mrt_io.specs.Counts.{Rose}
 use Rattle.mrt_io.specs.Holding.{Files}
-use Rattle.mrt_cmd.specs.declared.exit.Exit.{Exit}
-use Rattle.mrt_cmd.specs.declared.exit.Exit.TheVariants as exits
+use Rattle.mrt_exit.specs.declared.exit.Exit.{Exit}
+use Rattle.mrt_exit.specs.declared.exit.Exit.TheVariants as exits
 use Rattle.mrt_cmd.specs.Comes.{AreRead, IsLastRead, IsProfileRead}
 use Rattle.mrt_cmd.specs.Files.{
   NamedFile,

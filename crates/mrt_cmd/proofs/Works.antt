@@ -2,16 +2,15 @@
 use Rattle.std.proofs.Common.{◌≡◌, ◌≤◌, ℕ, List, Option, Result, Ok, Err, length, sym, subst}
 use Rattle.std.specs.Prelude.{IfOk}
 use Rattle.mrt_io.specs.Holding.{Files}
-use Rattle.mrt_cmd.specs.declared.exit.Exit.{Exit}
+use Rattle.mrt_exit.specs.declared.exit.Exit.{Exit}
 use Rattle.mrt_cmd.specs.declared.work.Work.{Work}
 use Rattle.mrt_cmd.specs.declared.work.Work.TheVariants as works
 use Rattle.mrt_cmd.specs.Answers.{FileBytes, GivesFor, GivesOver}
 use Rattle.mrt_cmd.specs.Comes.{AreRead, Gives, IsLastRead}
-use Rattle.mrt_cmd.specs.Files.{task_file}
-use Rattle.mrt_cmd.specs.Form.{FileForm, OfFiles, Task}
+use Rattle.mrt_cmd.specs.Files.{IsReadAs, script_file, task_file}
+use Rattle.mrt_cmd.specs.Form.{FileForm, IsTaskWithin, OfFiles, Task}
 use Rattle.mrt_cmd.specs.Input.{Input, IsInput}
-use Rattle.mrt_cmd.specs.Kept.{HasScriptWithin, IsWorkFor}
-use Rattle.mrt_cmd.proofs.Refusals.{last_within}
+use Rattle.mrt_cmd.specs.Kept.{IsWorkWithin, IsWorkFor}
 
 -- what was read for a task was read for the task that was asked
 pub work_read : (held : Option Files) (task asked : Task) → asked ≡ task → (last : List ℕ) (work : Work)
@@ -21,15 +20,21 @@ work_read held task asked is last work read kept =
     subst (λ (t : Task). (bytes : List ℕ) × IsLastRead held (task_file t) bytes × IsWorkFor t bytes work) (sym is)
     (last, read, kept)
 
--- a script is within its limit
-pub script_within : (held : Option Files) (task : Task) (last : List ℕ) (work : Work)
-    → IsLastRead held (task_file task) last → IsWorkFor task last work → HasScriptWithin work
-script_within held task last (works.Check certificate) read kept = tt
-script_within held task last (works.Certify router) read kept = tt
-script_within held task last (works.Table router) read kept = tt
-script_within held task last (works.Trace trace) read kept = tt
-script_within held task last (works.Fabric script) read kept =
-    subst (λ (bytes : List ℕ). length bytes ≤ 33554432) kept.1 (last_within held task last read)
+-- a script is within its limit, and a task is as it has to be
+pub work_within : (held : Option Files) (task : Task) (last : List ℕ) (work : Work) → IsTaskWithin task
+    → IsLastRead held (task_file task) last → IsWorkFor task last work → IsWorkWithin work
+work_within held task last (works.Check certificate) within read kept = tt
+work_within held task last (works.Certify router) within read kept = tt
+work_within held task last (works.Table router) within read kept = tt
+work_within held task last (works.Trace trace) within read kept = tt
+work_within held task last (works.Upgrade certificate) within read kept = tt
+work_within held task last (works.Lfa router) within read kept = tt
+work_within held task last (works.Order router) within read kept = tt
+work_within held task last (works.Proxy router first second) within read kept =
+    subst IsTaskWithin kept within
+work_within held task last (works.Fabric script) within read kept =
+    let read_as : IsReadAs held (script_file kept.0.0) last = subst (λ (t : Task). IsLastRead held (task_file t) last) kept.0.1 read in
+    subst (λ (bytes : List ℕ). length bytes ≤ 33554432) kept.1 read_as.1
 
 -- a text for what the bytes hold is one over the bytes
 pub gives_over : {T : Type 0} (items : T → List ℕ) (answer : Result T Exit) (task : Task) (bytes : FileBytes)

@@ -1,4 +1,4 @@
--- What `certify` wrote passes `check`.
+-- What `certify` wrote passes `check` and `upgrade`.
 use Rattle.std.proofs.Common.{◌≡◌, ◌∙◌, ◌≤◌, ◌<◌, ◌+◌, ◌==◌, ◌∷◌, [], ℕ, Bool, true, false, List, Option, Some, None, length, refl, sym, ap, subst, inl, inr, arith}
 use Rattle.std.specs.Prelude.{◌&&◌, Contains, IsNone, codes, nat_lt, slice_get, if◌then◌else◌}
 use Rattle.std.specs.Option.{IsSomeAnd, option_map, option_map_or, option_or}
@@ -8,7 +8,7 @@ use Rattle.area_graph.specs.AreaInvariant.{IsArea}
 use Rattle.area_graph.specs.Nodes.{router as router_node}
 use Rattle.area_graph.specs.Parts.{AreaParts}
 use Rattle.cert_format.specs.CertText.{cert_text}
-use Rattle.cert_format.specs.Limits.{IsVersionOne}
+use Rattle.cert_format.specs.Limits.{IsCertFile}
 use Rattle.mrt_graph.specs.declared.cert.CertFile.{CertFile}
 use Rattle.mrt_graph.specs.declared.node_id.NodeId.{NodeId}
 use Rattle.mrt_graph.specs.BothThere.{are_equal}
@@ -18,20 +18,22 @@ use Rattle.mrt_graph.specs.Topology.{Topology}
 use Rattle.mrt_io.specs.Holding.{Files}
 use Rattle.mrt_island.specs.IslandOf.{IsIsland}
 use Rattle.mrt_island.specs.Policy.{Policy}
-use Rattle.mrt_cmd.specs.declared.exit.Exit.{Exit}
-use Rattle.mrt_cmd.specs.declared.exit.Exit.TheVariants as exits
+use Rattle.mrt_exit.specs.declared.exit.Exit.{Exit}
+use Rattle.mrt_exit.specs.declared.exit.Exit.TheVariants as exits
 use Rattle.mrt_cmd.specs.Answers.{FileBytes, GivesOver, IsRefusedOver}
 use Rattle.mrt_cmd.specs.Certified.{IsCertified}
 use Rattle.mrt_cmd.specs.Comes.{AreRead, Gives, GivesText, IsProfileRead, Refuses}
 use Rattle.mrt_graph.specs.Spelling.{address_in}
 use Rattle.mrt_cmd.specs.Files.{NamedFile, SaysOneOf, files_in, refusal_of}
-use Rattle.mrt_cmd.specs.Form.{FileForm, Form, OfFiles, Survey, Task, Check, Certify, Table, Trace, Fabric, IsCheck, IsCheckTask, profile_name}
+use Rattle.mrt_cmd.specs.Form.{FileForm, Form, OfFiles, Survey, Task, Check, Certify, Table, Trace, Fabric, Upgrade, Lfa, Order, Proxy, AsksVerdict, AsksVerdictTask, profile_name}
 use Rattle.mrt_cmd.specs.Headline.{ChecksWritten, IsPassed, profile_held}
-use Rattle.mrt_cmd.specs.Input.{Input, HasIsland, IsInput, area, policy}
+use Rattle.mrt_cmd.specs.Input.{Input, HasIsland, IsInput, IsSpellingOf, area, policy}
 use Rattle.mrt_cmd.specs.Run.{WritesNothing}
+use Rattle.mrt_cmd.specs.Upgraded.{upgraded}
 use Rattle.mrt_cmd.specs.Verdict.{accepted_line}
 use Rattle.mrt_cmd.proofs.OneExit.{AreaLaws, is_area}
 use Rattle.mrt_cmd.proofs.OneVerdict.{contained}
+use Rattle.mrt_cmd.proofs.Upgrades.{upgraded_accepted}
 
 -- the law of the layer below on the islands of the routers of one
 abbrev pub EachRouterLaw : Type 0
@@ -41,7 +43,7 @@ EachRouterLaw = (policy : Policy) (area : AreaParts) (router other : ℕ) (g : T
 
 -- the law of the layer below on the length of a spelling
 abbrev pub LongestLaw : Type 0
-LongestLaw = (f : CertFile) → IsVersionOne f → length (cert_text f) ≤ 21041166
+LongestLaw = (f : CertFile) → IsCertFile f → length (cert_text f) ≤ 84025358
 
 -- a form over files of these words
 abbrev form_with : List ℕ → List ℕ → Task → FileForm
@@ -53,20 +55,28 @@ record IsCertifyForm (held : Option Files) (database profile text : List ℕ) : 
   gives : Gives held (OfFiles (form_with database profile (Certify router))) text
 
 certify_form : (held : Option Files) (database profile text : List ℕ) (named : Bool) (address : Option ℕ)
-    → IsSomeAnd (option_or (option_map (λ form. OfFiles form)
+    → IsSomeAnd (option_or (option_map (λ form. OfFiles form) (option_or
     (if named then option_map (λ task. form_with database profile task) (option_map (λ router. Certify router) address)
-    else None)) None) (λ form. Gives held form text) → IsCertifyForm held database profile text
+    else None) None)) None) (λ form. Gives held form text) → IsCertifyForm held database profile text
 certify_form held database profile text true (Some router) given = record { router = router; gives = given }
 certify_form held database profile text true None given = absurd given
 certify_form held database profile text false address given = absurd given
 
--- words that check name both files, and a certificate
-check_given : (held : Option Files) (words : List (List ℕ)) (database profile certificate line : List ℕ)
-    → words ≡ codes "check" ∷ database ∷ profile ∷ certificate ∷ []
+-- words that check or upgrade name both files, and a certificate
+check_given : (held : Option Files) (words : List (List ℕ)) (command database profile certificate line : List ℕ)
+    → command ≡ codes "check" → words ≡ command ∷ database ∷ profile ∷ certificate ∷ []
     → (0 < length database) × ((0 < length profile) × (0 < length certificate))
     → Gives held (OfFiles (form_with database profile (Check certificate))) line → GivesText held words line
-check_given held words database profile certificate line is named given =
-    rw (is, lt-ltb 0 (length database) named.0, lt-ltb 0 (length profile) named.1.0, lt-ltb 0 (length certificate) named.1.1)
+check_given held words command database profile certificate line asks is named given =
+    rw (is, asks, lt-ltb 0 (length database) named.0, lt-ltb 0 (length profile) named.1.0, lt-ltb 0 (length certificate) named.1.1)
+    given
+
+upgrade_given : (held : Option Files) (words : List (List ℕ)) (command database profile certificate text : List ℕ)
+    → command ≡ codes "upgrade" → words ≡ command ∷ database ∷ profile ∷ certificate ∷ []
+    → (0 < length database) × ((0 < length profile) × (0 < length certificate))
+    → Gives held (OfFiles (form_with database profile (Upgrade certificate))) text → GivesText held words text
+upgrade_given held words command database profile certificate text asks is named given =
+    rw (is, asks, lt-ltb 0 (length database) named.0, lt-ltb 0 (length profile) named.1.0, lt-ltb 0 (length certificate) named.1.1)
     given
 
 -- what a profile was read as is what its word stands for, and it is within the limit
@@ -118,7 +128,6 @@ module _ (areas : AreaLaws) (each : EachRouterLaw) (longest : LongestLaw) where
         island = each (policy input) (area input) router taken.certificate.file.root taken.graph taken.root
             taken.island.link_of (is_area areas bytes.database input.newest given.database_is taken.island.area_within)
             taken.island.island inside;
-        within = taken.island.within;
       }
 
   -- the check of what was written says yes
@@ -147,7 +156,35 @@ module _ (areas : AreaLaws) (each : EachRouterLaw) (longest : LongestLaw) where
         },
       )
 
-  -- the words give a line
+  -- the upgrade of what was written gives it as it is: it is of version 2
+  upgrades : (bytes : FileBytes) (router : ℕ) (certificate text : List ℕ) → GivesOver (Certify router) bytes text
+      → GivesOver (Upgrade certificate) (record { database = bytes.database; profile = bytes.profile; last = text }) text
+  upgrades bytes router certificate text over =
+      let file : CertFile = over.gives.certificate.file in
+      let own = over.gives in
+      let same : file ≡ upgraded file =
+      λ i. record { version = own.certificate.computed.tells.version i; root = file.root; cert = file.cert } in
+      let accepted = upgraded_accepted own.graph own.root file own.certificate.accepted in
+      record {
+        input = over.input;
+        given = over.given;
+        gives = record {
+          file = file;
+          is = own.certificate.spelled;
+          upgrade = record {
+            graph = own.graph;
+            root = own.root;
+            island = own_island bytes over.input over.given router text own;
+            upgrade = record {
+              accepted = accepted;
+              sound = own.certificate.sound;
+              spelled = subst (λ (f : CertFile). IsSpellingOf text f) same own.certificate.spelled;
+            };
+          };
+        };
+      }
+
+  -- the words give a text
   pub written_passes : (files : Files) (words : List (List ℕ)) → ChecksWritten files words
       → (line : List ℕ) × GivesText (Some files) words line
   written_passes files words w =
@@ -159,24 +196,29 @@ module _ (areas : AreaLaws) (each : EachRouterLaw) (longest : LongestLaw) where
       let read : AreRead (Some w.written.files) (form_with w.written.database w.written.profile (Certify certify.router)) bytes =
       certify.gives.1 in
       let over : GivesOver (Certify certify.router) bytes w.written.text = certify.gives.2 in
-      let accepted = accepts bytes certify.router w.certificate w.written.text over in
-      let short : length w.written.text ≤ 33554432 =
+      let short : length w.written.text ≤ 134217728 =
       let at_most = longest over.gives.certificate.file over.gives.certificate.spelled.within in
       let same : length w.written.text ≡ length (cert_text over.gives.certificate.file) =
       ap (λ (text : List ℕ). length text) over.gives.certificate.spelled.spelled in
       omega (arith, at_most, same) in
-      let given : Gives (Some files) (OfFiles (form_with w.database w.profile (Check w.certificate))) accepted.0 = (
-        record { database = bytes.database; profile = bytes.profile; last = w.written.text },
-        record {
-          database_read = (w.same_database ∙ read.database_read.0, read.database_read.1);
-          profile_read =
-              let before = profile_was w.written.files w.written.profile bytes.profile read.profile_read in
-              profile_is files w.profile bytes.profile (w.same_profile ∙ before.0) before.1;
-          last_read = (w.held, short);
-        },
-        accepted.1,
-      ) in
-      (accepted.0, check_given (Some files) words w.database w.profile w.certificate accepted.0 w.check w.named given)
+      let kept : FileBytes = record { database = bytes.database; profile = bytes.profile; last = w.written.text } in
+      let profile_read : IsProfileRead (Some files) (profile_name w.profile) bytes.profile =
+      let before = profile_was w.written.files w.written.profile bytes.profile read.profile_read in
+      profile_is files w.profile bytes.profile (w.same_profile ∙ before.0) before.1 in
+      elim w.asks [
+        | inl asks ↦
+            let accepted = accepts bytes certify.router w.certificate w.written.text over in
+            let given : Gives (Some files) (OfFiles (form_with w.database w.profile (Check w.certificate))) accepted.0 =
+            (kept, record { database_read = (w.same_database ∙ read.database_read.0, read.database_read.1); profile_read = profile_read; last_read = (w.held, short) }, accepted.1) in
+            (accepted.0, check_given (Some files) words w.command w.database w.profile w.certificate accepted.0 asks w.words_are w.named given)
+        | inr asks ↦
+            let given : Gives (Some files) (OfFiles (form_with w.database w.profile (Upgrade w.certificate))) w.written.text = (
+              kept,
+              record { database_read = (w.same_database ∙ read.database_read.0, read.database_read.1); profile_read = profile_read; last_read = (w.held, short) },
+              upgrades bytes certify.router w.certificate w.written.text over,
+            ) in
+            (w.written.text, upgrade_given (Some files) words w.command w.database w.profile w.certificate w.written.text asks w.words_are w.named given)
+      ]
 
 -- nothing holds of a form that there is not
 pub no_form : (form : Option Form) (P : Form → Type 0) → IsNone form → IsSomeAnd form P → ⊥
@@ -217,23 +259,27 @@ unread_says_one files [] exit said = cc
 unread_says_one files (file ∷ rest) exit said =
     one_of_first file rest exit (refusal_of files rest) (files file.name) (λ onward. unread_says_one files rest exit onward) said
 
--- only a check says no
-only_check : (held : Option Files) (form : FileForm) (rule a b : ℕ) → Refuses held (OfFiles form) (exits.No rule a b)
-    → IsCheckTask form.task
-only_check None form rule a b (inl refused) = absurd (none_says_no (files_in form) rule a b refused)
-only_check (Some files) form rule a b (inl refused) =
+-- only a verdict says no
+only_verdict : (held : Option Files) (form : FileForm) (rule a b : ℕ) → Refuses held (OfFiles form) (exits.No rule a b)
+    → AsksVerdictTask form.task
+only_verdict None form rule a b (inl refused) = absurd (none_says_no (files_in form) rule a b refused)
+only_verdict (Some files) form rule a b (inl refused) =
     absurd (none_says_no (files_in form) rule a b (unread_says_one files (files_in form) (exits.No rule a b) refused))
-only_check held form rule a b (inr refused) = go form.task refused.2
+only_verdict held form rule a b (inr refused) = go form.task refused.2
   where
-    go : (task : Task) → IsRefusedOver task refused.0 (exits.No rule a b) → IsCheckTask task
+    go : (task : Task) → IsRefusedOver task refused.0 (exits.No rule a b) → AsksVerdictTask task
     go (Check certificate) said = tt
     go (Certify router) said = absurd said.2
     go (Table router) said = absurd said.2
     go (Trace trace) said = absurd said.2
     go (Fabric script) said = absurd said.2.2
+    go (Upgrade certificate) said = tt
+    go (Lfa router) said = absurd said.2
+    go (Order router) said = absurd said.2
+    go (Proxy router first second) said = absurd said.2
 
-pub only_check_words : (held : Option Files) (form : Option Form) (rule a b : ℕ)
-    → IsSomeAnd form (λ it. Refuses held it (exits.No rule a b)) → IsSomeAnd form IsCheck
-only_check_words held None rule a b refused = absurd refused
-only_check_words held (Some (OfFiles form)) rule a b refused = only_check held form rule a b refused
-only_check_words held (Some (Survey number nodes)) rule a b refused = absurd refused
+pub only_verdict_words : (held : Option Files) (form : Option Form) (rule a b : ℕ)
+    → IsSomeAnd form (λ it. Refuses held it (exits.No rule a b)) → IsSomeAnd form AsksVerdict
+only_verdict_words held None rule a b refused = absurd refused
+only_verdict_words held (Some (OfFiles form)) rule a b refused = only_verdict held form rule a b refused
+only_verdict_words held (Some (Survey number nodes)) rule a b refused = absurd refused

@@ -3,15 +3,19 @@ use Rattle.std.specs.Prelude.{ℕ, List}
 use Rattle.mrt_graph.specs.TextLines.{text_lines}
 use Rattle.mrt_island.specs.ProfileFaults.{IsFirstFault}
 use Rattle.ospf_lsa.specs.declared.lsa.Lsa.{Lsa}
-use Rattle.mrt_cmd.specs.declared.exit.Exit.{Exit}
-use Rattle.mrt_cmd.specs.declared.exit.Exit.TheVariants.{BadDatabase, BadProfile}
+use Rattle.mrt_exit.specs.declared.exit.Exit.{Exit}
+use Rattle.mrt_exit.specs.declared.exit.Exit.TheVariants.{BadDatabase, BadProfile}
+use Rattle.mrt_cmd.specs.LoopFree.{HasLoopFree}
 use Rattle.mrt_cmd.specs.Certified.{IsCertified}
 use Rattle.mrt_cmd.specs.Database.{IsDatabase, IsBadDatabase}
-use Rattle.mrt_cmd.specs.Form.{Task, Check, Certify, Table, Trace, Fabric}
+use Rattle.mrt_cmd.specs.Form.{Task, Check, Certify, Table, Trace, Fabric, Upgrade, Lfa, Order, Proxy}
 use Rattle.mrt_cmd.specs.Input.{Input, IsInput}
-use Rattle.mrt_cmd.specs.Islands.{HasNoIslandFor}
+use Rattle.mrt_cmd.specs.Islands.{HasNoIslandFor, HasNoRouterFor}
+use Rattle.mrt_cmd.specs.Ordered.{HasOrder}
 use Rattle.mrt_cmd.specs.Packets.{GivesRun, IsNoRun, IsTraceGiven}
+use Rattle.mrt_cmd.specs.Proxied.{HasNoProxy, HasProxy}
 use Rattle.mrt_cmd.specs.Tabled.{IsTabled}
+use Rattle.mrt_cmd.specs.Upgraded.{GivesUpgrade}
 use Rattle.mrt_cmd.specs.Verdict.{GivesVerdict, IsNoVerdict}
 
 -- the bytes of the files: of the database, of the profile, and of the file that the task names, if it names one
@@ -27,6 +31,10 @@ GivesFor (Certify router) input last text = IsCertified input router text
 GivesFor (Table router) input last text = IsTabled input router text
 GivesFor (Trace trace) input last text = IsTraceGiven input trace text
 GivesFor (Fabric script) input last text = GivesRun input last text
+GivesFor (Upgrade certificate) input last text = GivesUpgrade input last text
+GivesFor (Lfa router) input last text = HasLoopFree input router text
+GivesFor (Order router) input last text = HasOrder input router text
+GivesFor (Proxy router first second) input last text = HasProxy input router first second text
 
 -- what comes of a task that gives no text
 abbrev pub IsRefusedTask : Task → Input → List ℕ → Exit → Type 0
@@ -35,6 +43,10 @@ IsRefusedTask (Certify router) input last exit = HasNoIslandFor input router exi
 IsRefusedTask (Table router) input last exit = HasNoIslandFor input router exit
 IsRefusedTask (Trace trace) input last exit = HasNoIslandFor input trace.from exit
 IsRefusedTask (Fabric script) input last exit = IsNoRun input last exit
+IsRefusedTask (Upgrade certificate) input last exit = IsNoVerdict input last exit
+IsRefusedTask (Lfa router) input last exit = HasNoRouterFor input router exit
+IsRefusedTask (Order router) input last exit = HasNoIslandFor input router exit
+IsRefusedTask (Proxy router first second) input last exit = HasNoProxy input router first second exit
 
 -- the text of a task over these bytes
 pub record GivesOver (task : Task) (bytes : FileBytes) (text : List ℕ) : Type 0 where

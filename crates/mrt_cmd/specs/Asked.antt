@@ -4,8 +4,8 @@ use Rattle.mrt_cmd.specs.declared.words.FileForm.{FileForm as ReadFileForm}
 use Rattle.mrt_cmd.specs.declared.words.Form.{Form as ReadForm}
 use Rattle.mrt_cmd.specs.declared.words.Form.TheVariants.{OfFiles as ReadOfFiles, Survey as ReadSurvey}
 use Rattle.mrt_cmd.specs.declared.words.Task.{Task as ReadTask}
-use Rattle.mrt_cmd.specs.declared.words.Task.TheVariants.{Check as ReadCheck, Certify as ReadCertify, Table as ReadTable, Trace as ReadTrace, Fabric as ReadFabric}
-use Rattle.mrt_cmd.specs.Form.{FileForm, Form, OfFiles, Survey, Task, Check, Certify, Table, Trace, Fabric}
+use Rattle.mrt_cmd.specs.declared.words.Task.TheVariants.{Check as ReadCheck, Certify as ReadCertify, Table as ReadTable, Trace as ReadTrace, Fabric as ReadFabric, Upgrade as ReadUpgrade, Lfa as ReadLfa, Order as ReadOrder, Proxy as ReadProxy}
+use Rattle.mrt_cmd.specs.Form.{FileForm, Form, OfFiles, Survey, Task, Check, Certify, Table, Trace, Fabric, Upgrade, Lfa, Order, Proxy}
 
 -- the task with the name that it refers to
 abbrev pub task_asked : ReadTask → Task
@@ -14,6 +14,10 @@ task_asked (ReadCertify router) = Certify router
 task_asked (ReadTable router) = Table router
 task_asked (ReadTrace trace) = Trace trace
 task_asked (ReadFabric script) = Fabric script.now
+task_asked (ReadUpgrade certificate) = Upgrade certificate.now
+task_asked (ReadLfa router) = Lfa router
+task_asked (ReadOrder router) = Order router
+task_asked (ReadProxy router first second) = Proxy router first second
 
 -- the form over files with the names that it refers to
 abbrev pub files_asked : ReadFileForm → FileForm

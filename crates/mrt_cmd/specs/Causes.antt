@@ -4,8 +4,8 @@ use Rattle.std.specs.Option.{IsSomeAnd}
 use Rattle.mrt_io.specs.Counts.{Rose}
 use Rattle.mrt_io.specs.Holding.{Files}
 use Rattle.mrt_io.specs.Writing.{Gained}
-use Rattle.mrt_cmd.specs.declared.exit.Exit.{Exit}
-use Rattle.mrt_cmd.specs.declared.exit.Exit.TheVariants.{
+use Rattle.mrt_exit.specs.declared.exit.Exit.{Exit}
+use Rattle.mrt_exit.specs.declared.exit.Exit.TheVariants.{
   Done,
   No,
   Usage,
@@ -18,12 +18,14 @@ use Rattle.mrt_cmd.specs.declared.exit.Exit.TheVariants.{
   WriteFault,
   NoMemory,
   BadScript,
+  NoCommonBlock,
 }
-use Rattle.mrt_cmd.specs.declared.exit.What.TheVariants.{DatabaseFile, ProfileFile, CertificateFile, ScriptFile}
+use Rattle.mrt_exit.specs.declared.exit.What.TheVariants.{DatabaseFile, ProfileFile, CertificateFile, ScriptFile}
 use Rattle.mrt_cmd.specs.Comes.{Comes, FailsAt, GivesText, IsRefused, MissesAt, NamesHeld}
-use Rattle.mrt_cmd.specs.Exits.{line_of}
-use Rattle.mrt_cmd.specs.Form.{IsCheck, form_of}
-use Rattle.mrt_cmd.specs.Run.{GainedLine, IsCutShort, IsHealthyForText, IsUndisturbed, WritesNothing}
+use Rattle.mrt_exit.specs.Exits.{line_of}
+use Rattle.mrt_cmd.specs.Form.{AsksVerdict, form_of}
+use Rattle.mrt_exit.specs.Telling.{GainedLine, IsCutShort}
+use Rattle.mrt_cmd.specs.Run.{IsHealthyForText, IsUndisturbed, WritesNothing}
 
 -- a shelf over a call: what it held, if that is told; whether it was healthy; its count of faults, before and now;
 -- and whether it was left as it was
@@ -46,8 +48,8 @@ pub record SinkInCall : Type 1 where
 
 -- why the words give no text, by the exit that says so: they are no form, and nothing was read; the shelf failed at a
 -- file, after files that could be read; the refusal is what comes of the words over the files, each in its turn (a
--- file over its limit, the database, the profile, the certificate or the script, the area, the router, the island),
--- and no is so for a check alone; or memory was wanted, which may be at any place once the words are a form
+-- file over its limit, the database, the profile, the certificate or the script, the area, the router, the block of two
+-- routers), and no is so where the words ask for a verdict alone; or memory was wanted, which may be at any place once the words are a form
 abbrev pub HasNoText : List (List ℕ) → ShelfInCall → Exit → Type 0
 HasNoText words shelf Usage = IsNone (form_of words) × shelf.untouched
 HasNoText words shelf (ReadFault word) = FailsAt shelf.held words word × Rose shelf.faults shelf.faults_now
@@ -57,7 +59,8 @@ HasNoText words shelf (BadCertificate at kind) = IsRefused shelf.held words (Bad
 HasNoText words shelf (BadScript line) = IsRefused shelf.held words (BadScript line)
 HasNoText words shelf (TooLarge what size) = IsRefused shelf.held words (TooLarge what size)
 HasNoText words shelf (NotThere number) = IsRefused shelf.held words (NotThere number)
-HasNoText words shelf (No rule a b) = IsRefused shelf.held words (No rule a b) × IsSomeAnd (form_of words) IsCheck
+HasNoText words shelf NoCommonBlock = IsRefused shelf.held words NoCommonBlock
+HasNoText words shelf (No rule a b) = IsRefused shelf.held words (No rule a b) × IsSomeAnd (form_of words) AsksVerdict
 HasNoText words shelf NoMemory = IsSome (form_of words)
 HasNoText words shelf Done = ⊥
 HasNoText words shelf (WriteFault taken) = ⊥

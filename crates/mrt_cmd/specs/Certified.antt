@@ -7,14 +7,14 @@ use Rattle.mrt_graph.specs.GraphInvariant.{IsTopology}
 use Rattle.mrt_graph.specs.Sound.{Sound}
 use Rattle.mrt_graph.specs.Topology.{Topology}
 use Rattle.mrt_rows.specs.CertOf.{IsCertOf}
-use Rattle.mrt_cmd.specs.Input.{Input, IsCertFile, HasIsland}
+use Rattle.mrt_cmd.specs.Input.{Input, IsSpellingOf, HasIsland}
 
 -- the text spells the certificate that is computed for a graph and its root: it is accepted, so that its rows are sound
 pub record IsComputed (graph : Topology) (root : ℕ) (text : List ℕ) : Type 0 where
   pub kept : IsTopology graph
   pub file : CertFile
   pub computed : IsCertOf graph root file
-  pub spelled : IsCertFile text file
+  pub spelled : IsSpellingOf text file
   pub accepted : Accepted graph root file
   pub sound : Sound graph.links (length graph.ids) (row_of file.cert)
 

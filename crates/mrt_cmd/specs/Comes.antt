@@ -2,8 +2,8 @@
 use Rattle.std.specs.Prelude.{◌≡◌, ◌⊎◌, [], ℕ, List, Option, Some, None, IfSome, IsNone}
 use Rattle.std.specs.Option.{IsSomeAnd}
 use Rattle.mrt_io.specs.Holding.{Files}
-use Rattle.mrt_cmd.specs.declared.exit.Exit.{Exit}
-use Rattle.mrt_cmd.specs.declared.exit.Exit.TheVariants.{Done, Usage}
+use Rattle.mrt_exit.specs.declared.exit.Exit.{Exit}
+use Rattle.mrt_exit.specs.declared.exit.Exit.TheVariants.{Done, Usage}
 use Rattle.mrt_cmd.specs.Answers.{FileBytes, GivesOver, IsRefusedOver}
 use Rattle.mrt_cmd.specs.Files.{NamedFile, files_in, files_of, database_file, profile_file, task_file, IsFirstMissing, IsReadAs, IsRefusedBy, MayFail, AreThere}
 use Rattle.mrt_cmd.specs.Form.{FileForm, Form, OfFiles, Survey, form_of}

@@ -8,8 +8,8 @@ use Rattle.ospf_lsa.specs.declared.lsa.Lsa.{Lsa as Advertisement}
 use Rattle.ospf_lsa.specs.LsaText.{lsas_text}
 use Rattle.ospf_lsa.specs.Lsas.{AreLsas}
 use Rattle.ospf_lsa.specs.Outcome.{IsFirstFault}
-use Rattle.mrt_cmd.specs.declared.exit.DbKind.{DbKind}
-use Rattle.mrt_cmd.specs.declared.exit.DbKind.TheVariants.{Lsa, Conflict}
+use Rattle.mrt_exit.specs.declared.exit.DbKind.{DbKind}
+use Rattle.mrt_exit.specs.declared.exit.DbKind.TheVariants.{Lsa, Conflict}
 
 -- the bytes are these LSAs, each without a fault, one after another
 pub record HoldsLsas (bytes : List ℕ) (lsas : List Advertisement) : Type 0 where

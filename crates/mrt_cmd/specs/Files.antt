@@ -19,11 +19,11 @@ use Rattle.std.specs.Prelude.{
 use Rattle.std.specs.List.{AllByRecursion}
 use Rattle.std.specs.Option.{IsSomeAnd, option_map, option_map_or, option_to_list}
 use Rattle.mrt_io.specs.Holding.{Files, IsFileOf, IsKnownThere}
-use Rattle.mrt_cmd.specs.declared.exit.Exit.{Exit}
-use Rattle.mrt_cmd.specs.declared.exit.Exit.TheVariants.{TooLarge, ReadFault}
-use Rattle.mrt_cmd.specs.declared.exit.What.{What}
-use Rattle.mrt_cmd.specs.declared.exit.What.TheVariants.{DatabaseFile, ProfileFile, CertificateFile, ScriptFile}
-use Rattle.mrt_cmd.specs.Form.{FileForm, Form, OfFiles, Survey, Task, Check, Certify, Table, Trace, Fabric}
+use Rattle.mrt_exit.specs.declared.exit.Exit.{Exit}
+use Rattle.mrt_exit.specs.declared.exit.Exit.TheVariants.{TooLarge, ReadFault}
+use Rattle.mrt_exit.specs.declared.exit.What.{What}
+use Rattle.mrt_exit.specs.declared.exit.What.TheVariants.{DatabaseFile, ProfileFile, CertificateFile, ScriptFile}
+use Rattle.mrt_cmd.specs.Form.{FileForm, Form, OfFiles, Survey, Task, Check, Certify, Table, Trace, Fabric, Upgrade, Lfa, Order, Proxy}
 
 -- a file that the words name: the place of its name among them, its name, what it is, and how many bytes it may have
 pub record NamedFile : Type 0 where
@@ -40,7 +40,7 @@ abbrev pub profile_file : List ℕ → NamedFile
 profile_file name = record { place = 2; name = name; what = ProfileFile; limit = 33554432 }
 
 abbrev pub certificate_file : List ℕ → NamedFile
-certificate_file name = record { place = 3; name = name; what = CertificateFile; limit = 33554432 }
+certificate_file name = record { place = 3; name = name; what = CertificateFile; limit = 134217728 }
 
 abbrev pub script_file : List ℕ → NamedFile
 script_file name = record { place = 3; name = name; what = ScriptFile; limit = 33554432 }
@@ -52,6 +52,10 @@ task_file (Certify router) = None
 task_file (Table router) = None
 task_file (Trace trace) = None
 task_file (Fabric script) = Some (script_file script)
+task_file (Upgrade certificate) = Some (certificate_file certificate)
+task_file (Lfa router) = None
+task_file (Order router) = None
+task_file (Proxy router first second) = None
 
 -- the files that a form over files names, in the order in which they are read
 abbrev pub files_in : FileForm → List NamedFile

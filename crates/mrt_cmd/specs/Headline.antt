@@ -1,9 +1,9 @@
--- A certificate that was written is given to a check.
-use Rattle.std.specs.Prelude.{◌≡◌, ◌<◌, ℕ, List, [], ◌∷◌, Option, Some, codes, length}
+-- A certificate that was written is given to a check, or to an upgrade.
+use Rattle.std.specs.Prelude.{◌≡◌, ◌⊎◌, ◌<◌, ℕ, List, [], ◌∷◌, Option, Some, codes, length}
 use Rattle.std.specs.Option.{option_map_or}
 use Rattle.mrt_io.specs.Holding.{Files}
-use Rattle.mrt_cmd.specs.declared.exit.Exit.{Exit}
-use Rattle.mrt_cmd.specs.declared.exit.Exit.TheVariants.{Done, NoMemory, ReadFault, WriteFault}
+use Rattle.mrt_exit.specs.declared.exit.Exit.{Exit}
+use Rattle.mrt_exit.specs.declared.exit.Exit.TheVariants.{Done, NoMemory, ReadFault, WriteFault}
 use Rattle.mrt_cmd.specs.Comes.{GivesText}
 use Rattle.mrt_cmd.specs.Form.{profile_name}
 
@@ -20,13 +20,15 @@ pub record Written : Type 0 where
   pub text : List ℕ
   pub gave : GivesText (Some files) (codes "certify" ∷ database ∷ profile ∷ router ∷ []) text
 
--- these words check, over these files, a text that `certify` gave, for any router, over the same database and the same
+-- these words check or upgrade, over these files, a text that `certify` gave, for any router, over the same database and the same
 -- profile
 pub record ChecksWritten (files : Files) (words : List (List ℕ)) : Type 0 where
   pub database : List ℕ
   pub profile : List ℕ
   pub certificate : List ℕ
-  pub check : words ≡ codes "check" ∷ database ∷ profile ∷ certificate ∷ []
+  pub command : List ℕ
+  pub asks : (command ≡ codes "check") ⊎ (command ≡ codes "upgrade")
+  pub words_are : words ≡ command ∷ database ∷ profile ∷ certificate ∷ []
   pub named : (0 < length database) × ((0 < length profile) × (0 < length certificate))
   pub written : Written
   pub same_database : files database ≡ written.files written.database

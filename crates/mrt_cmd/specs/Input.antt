@@ -5,9 +5,8 @@ use Rattle.area_graph.specs.AreaSize.{IsTooLarge}
 use Rattle.area_graph.specs.Nodes.{router}
 use Rattle.area_graph.specs.Parts.{AreaParts}
 use Rattle.cert_format.specs.CertText.{cert_text}
-use Rattle.cert_format.specs.Limits.{IsVersionOne}
+use Rattle.cert_format.specs.Limits.{IsCertFile}
 use Rattle.lsdb.specs.Entries.{Entry}
-use Rattle.mrt_graph.specs.NewGraph.{IsTooLarge as IsTooLargeGraph}
 use Rattle.mrt_graph.specs.Topology.{Topology}
 use Rattle.mrt_graph.specs.declared.cert.CertFile.{CertFile}
 use Rattle.mrt_graph.specs.TextLines.{text_lines}
@@ -23,9 +22,9 @@ pub record IsProfile (bytes : List ℕ) (settings : List Setting) : Type 0 where
   pub faultless : AreFaultless (text_lines bytes)
   pub said : settings ≡ settings_of (text_lines bytes)
 
--- the bytes are the certificate file
-pub record IsCertFile (bytes : List ℕ) (file : CertFile) : Type 0 where
-  pub within : IsVersionOne file
+-- the bytes spell the certificate file, which is within the limits of its version
+pub record IsSpellingOf (bytes : List ℕ) (file : CertFile) : Type 0 where
+  pub within : IsCertFile file
   pub spelled : bytes ≡ cert_text file
 
 -- the newest LSAs, and the settings of the profile
@@ -54,13 +53,16 @@ policy input = policy_of input.settings
 abbrev pub HasAreaWithin : Input → Type 0
 HasAreaWithin input = IsTooLarge (length (area input).ids) (length (area input).arcs) → ⊥
 
+-- a router is not in an area
+abbrev pub IsAbsent : AreaParts → ℕ → Type 0
+IsAbsent area number = Contains area.ids (router number) → ⊥
+
 -- a router is not in an area, or does not support the Default MRT Profile
 abbrev pub IsMissing : Policy → AreaParts → ℕ → Type 0
-IsMissing policy area number = (Contains area.ids (router number) → ⊥) ⊎ (policy.supports number ≡ false)
+IsMissing policy area number = IsAbsent area number ⊎ (policy.supports number ≡ false)
 
--- this is the graph of a router's island, and its GADAG root; area and island are within their limits
+-- this is the graph of a router's island, and its GADAG root; the area is within its limits
 pub record HasIsland (input : Input) (number : ℕ) (graph : Topology) (root : ℕ) : Type 0 where
   pub area_within : HasAreaWithin input
   pub link_of : List (Option ℕ)
   pub island : IsIsland (policy input) (area input) number graph root link_of
-  pub within : IsTooLargeGraph (length graph.ids) (length graph.links) → ⊥

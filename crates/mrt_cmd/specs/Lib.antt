@@ -4,16 +4,17 @@ pub mod Causes
 pub mod Certified
 pub mod Comes
 pub mod Database
-pub mod Exits
-pub mod Faults
 pub mod Files
 pub mod Form
 pub mod Headline
 pub mod Input
 pub mod Islands
 pub mod Kept
+pub mod LoopFree
+pub mod Ordered
 pub mod Packets
 pub mod Pieces
+pub mod Proxied
 pub mod Reading
 pub mod Run
 pub mod SameFile
@@ -21,4 +22,5 @@ pub mod Surveyed
 pub mod TableMade
 pub mod Tabled
 pub mod TextBytes
+pub mod Upgraded
 pub mod Verdict

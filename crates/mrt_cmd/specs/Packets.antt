@@ -10,8 +10,8 @@ use Rattle.fabric_script.specs.ScriptFaults.{IsFirstFault, IsScript}
 use Rattle.mrt_graph.specs.Certificate.{Certificate}
 use Rattle.mrt_graph.specs.TextLines.{text_lines}
 use Rattle.mrt_graph.specs.Topology.{Topology}
-use Rattle.mrt_cmd.specs.declared.exit.Exit.{Exit}
-use Rattle.mrt_cmd.specs.declared.exit.Exit.TheVariants.{BadScript}
+use Rattle.mrt_exit.specs.declared.exit.Exit.{Exit}
+use Rattle.mrt_exit.specs.declared.exit.Exit.TheVariants.{BadScript}
 use Rattle.mrt_cmd.specs.Input.{Input, HasIsland, area}
 use Rattle.mrt_cmd.specs.Islands.{HasNoIslandFor}
 use Rattle.mrt_cmd.specs.Tabled.{IsComputedFile}
@@ -29,7 +29,7 @@ pub record ArePartsFor (input : Input) (number : ℕ) (parts : FabricParts) : Ty
   pub links_are : parts.link_of ≡ has.link_of
   pub fits : Fits parts.area parts.island parts.link_of
   pub root_number : ℕ
-  pub certificate : IsComputedFile parts.island root (record { root = root_number; cert = parts.cert })
+  pub certificate : IsComputedFile parts.island root (record { version = 2; root = root_number; cert = parts.cert })
 
 -- the text is that of a packet's trace, in the island of the router where it enters
 abbrev pub IsTraceGiven : Input → Trace → List ℕ → Type 0

@@ -3,8 +3,8 @@ use Rattle.std.specs.Prelude.{◌≡◌, ◌⊎◌, ◌+◌, ℕ, List, Option, 
 use Rattle.fabric_script.specs.ScriptFaults.{IsFirstFault as IsFirstFaultOfScript}
 use Rattle.mrt_io.specs.Counts.{Rose}
 use Rattle.mrt_io.specs.Holding.{Files, IsTooLong}
-use Rattle.mrt_cmd.specs.declared.exit.Exit.{Exit}
-use Rattle.mrt_cmd.specs.declared.exit.Exit.TheVariants.{No, BadDatabase, BadProfile, BadScript, TooLarge, NotThere, ReadFault, NoMemory}
+use Rattle.mrt_exit.specs.declared.exit.Exit.{Exit}
+use Rattle.mrt_exit.specs.declared.exit.Exit.TheVariants.{No, BadDatabase, BadProfile, BadScript, TooLarge, NotThere, ReadFault, NoMemory}
 use Rattle.mrt_cmd.specs.Answers.{FileBytes, IsRefusedOver, IsRefusedTask}
 use Rattle.mrt_cmd.specs.Comes.{Refuses}
 use Rattle.mrt_cmd.specs.Files.{NamedFile, IsRefusedBy, MayFail, files_in, files_of}
@@ -18,8 +18,9 @@ use Rattle.mrt_graph.specs.TextLines.{text_lines}
 use Rattle.mrt_island.specs.ProfileFaults.{IsFirstFault}
 use Rattle.mrt_cmd.specs.Database.{IsBadDatabase}
 use Rattle.mrt_cmd.specs.Input.{Input, IsMissing}
-use Rattle.mrt_cmd.specs.Islands.{HasNoIslandFor, IsLargeArea, IsLargeIsland}
+use Rattle.mrt_cmd.specs.Islands.{HasNoIslandFor, HasNoRouterFor, IsLargeArea}
 use Rattle.mrt_cmd.specs.Packets.{IsNoRun}
+use Rattle.mrt_cmd.specs.Proxied.{HasNoProxy}
 use Rattle.mrt_cmd.specs.Verdict.{IsNoVerdict, IsRefusedFor}
 
 -- the file is not held, or it is over its limit, or there was no memory
@@ -82,10 +83,9 @@ HasNoArea area (TooLarge what size) = IsLargeArea area what size
 HasNoArea area NoMemory = Unit {0}
 HasNoArea area _ = ⊥
 
--- the router is not there, or its island is too large, or there was no memory
+-- the router is not there, or there was no memory
 abbrev pub HasNoIsland : Policy → AreaParts → ℕ → Exit → Type 0
 HasNoIsland policy area router (NotThere number) = (number ≡ router) × IsMissing policy area router
-HasNoIsland policy area router (TooLarge what size) = IsLargeIsland policy area router what size
 HasNoIsland policy area router NoMemory = Unit {0}
 HasNoIsland policy area router _ = ⊥
 
@@ -97,6 +97,14 @@ IsRejected graph root file _ = ⊥
 -- what is said of a router where it has no island, or there was no memory
 abbrev pub HasNone : Input → ℕ → Exit → Type 0
 HasNone input router exit = HasNoIslandFor input router exit ⊎ (exit ≡ NoMemory)
+
+-- what is said of a router where it is not in the area, or there was no memory
+abbrev pub HasNoSuch : Input → ℕ → Exit → Type 0
+HasNoSuch input router exit = HasNoRouterFor input router exit ⊎ (exit ≡ NoMemory)
+
+-- what is said where there are no rows for a prefix of two routers, or there was no memory
+abbrev pub IsProxyRefusal : Input → ℕ → ℕ → ℕ → Exit → Type 0
+IsProxyRefusal input router first second exit = HasNoProxy input router first second exit ⊎ (exit ≡ NoMemory)
 
 -- what is said of a certificate, or there was no memory
 abbrev pub IsVerdictFor : Input → CertFile → Exit → Type 0
@@ -112,8 +120,8 @@ IsAnswerOver task bytes (ReadFault word) = ⊥
 IsAnswerOver task bytes exit = IsRefusedOver task bytes exit ⊎ (exit ≡ NoMemory)
 
 -- what is said of the bytes of a certificate, or there was no memory
-abbrev pub IsCheckRefusal : Input → List ℕ → Exit → Type 0
-IsCheckRefusal input certificate exit = IsNoVerdict input certificate exit ⊎ (exit ≡ NoMemory)
+abbrev pub IsVerdictRefusal : Input → List ℕ → Exit → Type 0
+IsVerdictRefusal input certificate exit = IsNoVerdict input certificate exit ⊎ (exit ≡ NoMemory)
 
 -- what is said of the bytes of a script, or there was no memory
 abbrev pub IsRunRefusal : Input → List ℕ → Exit → Type 0

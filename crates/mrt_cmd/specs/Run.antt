@@ -1,11 +1,10 @@
 -- What the top call says of its sinks.
-use Rattle.std.specs.Prelude.{◌⊎◌, ◌<◌, ℕ, List, Option, length, take}
+use Rattle.std.specs.Prelude.{◌⊎◌, ℕ, List, Option, length}
 use Rattle.mrt_io.specs.Counts.{Rose}
 use Rattle.mrt_io.specs.Holding.{Files}
-use Rattle.mrt_io.specs.Writing.{Gained}
 use Rattle.mrt_cmd.specs.Comes.{GivesText}
-use Rattle.mrt_cmd.specs.declared.exit.Exit.{Exit}
-use Rattle.mrt_cmd.specs.declared.exit.Exit.TheVariants.{Done, NoMemory, WriteFault}
+use Rattle.mrt_exit.specs.declared.exit.Exit.{Exit}
+use Rattle.mrt_exit.specs.declared.exit.Exit.TheVariants.{Done, NoMemory, WriteFault}
 
 -- no fault of a device decides: its count of faults did not rise in the call, or the device was healthy for it
 abbrev pub IsUndisturbed : Type 0 → ℕ → ℕ → Type 0
@@ -14,20 +13,6 @@ IsUndisturbed Healthy before now = (Rose before now → ⊥) ⊎ Healthy
 -- a sink is healthy for the text that the words give, if they give one
 abbrev pub IsHealthyForText : (ℕ → Type 0) → Option Files → List (List ℕ) → Type 0
 IsHealthyForText healthy_for held words = (text : List ℕ) → GivesText held words text → healthy_for (length text)
-
--- a sink failed after so many bytes of a text, fewer than all: it gained just these, its count of faults rose, and it was not
--- healthy for the text
-pub record IsCutShort (healthy_for : ℕ → Type 0) (before now : ℕ) (old new : Option (List ℕ)) (text : List ℕ) (taken : ℕ)
-    : Type 0 where
-  pub fewer : taken < length text
-  pub gained : Gained old (take taken text) new
-  pub rose : Rose before now
-  pub unhealthy : healthy_for (length text) → ⊥
-
--- a sink gained a line, or was cut short in it
-abbrev pub GainedLine : (ℕ → Type 0) → ℕ → ℕ → Option (List ℕ) → Option (List ℕ) → List ℕ → Type 0
-GainedLine healthy_for before now old new line =
-    Gained old line new ⊎ ((taken : ℕ) × IsCutShort healthy_for before now old new line taken)
 
 -- the exit is one on which nothing is written to the output
 abbrev pub WritesNothing : Exit → Type 0

@@ -8,9 +8,9 @@ use Rattle.mrt_graph.specs.FirstFault.{FirstFault}
 use Rattle.mrt_graph.specs.Sound.{Sound}
 use Rattle.mrt_graph.specs.Spelling.{address_text}
 use Rattle.mrt_graph.specs.Topology.{Topology}
-use Rattle.mrt_cmd.specs.declared.exit.Exit.{Exit}
-use Rattle.mrt_cmd.specs.declared.exit.Exit.TheVariants.{BadCertificate, No}
-use Rattle.mrt_cmd.specs.Input.{Input, IsCertFile, HasIsland}
+use Rattle.mrt_exit.specs.declared.exit.Exit.{Exit}
+use Rattle.mrt_exit.specs.declared.exit.Exit.TheVariants.{BadCertificate, No}
+use Rattle.mrt_cmd.specs.Input.{Input, IsSpellingOf, HasIsland}
 use Rattle.mrt_cmd.specs.Islands.{HasNoIslandFor}
 
 -- the line that says yes of a certificate: its root, and how many nodes and links its island has
@@ -35,7 +35,7 @@ pub record IsAcceptedFor (input : Input) (file : CertFile) (text : List ℕ) : T
 -- the text of a check of these bytes
 pub record GivesVerdict (input : Input) (certificate text : List ℕ) : Type 0 where
   pub file : CertFile
-  pub is : IsCertFile certificate file
+  pub is : IsSpellingOf certificate file
   pub accepted : IsAcceptedFor input file text
 
 -- what comes of a certificate but for yes: no island of its root; else the first rule that fails
@@ -47,4 +47,4 @@ IsRefusedFor input file exit = HasNoIslandFor input file.root exit
 -- what comes of a check of these bytes but for yes: the first fault of the bytes; else what is said of the certificate
 abbrev pub IsNoVerdict : Input → List ℕ → Exit → Type 0
 IsNoVerdict input certificate (BadCertificate at kind) = first_fault certificate ≡ Some (at, kind)
-IsNoVerdict input certificate exit = (file : CertFile) × IsCertFile certificate file × IsRefusedFor input file exit
+IsNoVerdict input certificate exit = (file : CertFile) × IsSpellingOf certificate file × IsRefusedFor input file exit

@@ -7,11 +7,12 @@ ghost use Rattle.mrt_cmd.specs.Certified.{IsCertified};
 ghost use Rattle.mrt_cmd.specs.Input.{input_of};
 ghost use Rattle.mrt_cmd.specs.Reading.{HasNone};
 
-use crate::exit::Exit;
 use crate::island::island_in;
-use crate::version_one::VersionOne;
+use crate::upgrade::WRITTEN;
+use crate::writable::Writable;
 use lsdb::Lsdb;
-use mrt_graph::{CertFile, accepted_implies_sound};
+use mrt_exit::Exit;
+use mrt_graph::{CertFile, accepted_files_are_foldable, accepted_implies_sound};
 use mrt_island::Profile;
 use mrt_rows::compute;
 use std::alloc::Global;
@@ -22,16 +23,20 @@ pub(crate) fn certificate(
     database: &Lsdb,
     profile: &Profile,
     router: u32,
-) -> Result<VersionOne, Exit>
+) -> Result<Writable, Exit>
     requires { least_conflict database.now.entries ≡ None }
     ensures certified { IfOk result (λ file.
         IsCertified (input_of database.now.entries profile.now) router (cert_text file)) }
     ensures refused { IfErr result (HasNone (input_of database.now.entries profile.now) router) }
 {
+    accepted_files_are_foldable();
     accepted_implies_sound();
     let island = island_in(alloc, database, profile, router)?;
     let cert = compute(alloc, &island.graph, island.root)?;
-    Ok(VersionOne::new(CertFile {
+    // what each certificate keeps is told by reading it
+    let _count = cert.node_count();
+    Ok(Writable::new(CertFile {
+        version: WRITTEN,
         root: island.graph.id(island.root).number,
         cert,
     }))

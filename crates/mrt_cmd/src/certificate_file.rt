@@ -10,9 +10,9 @@ ghost use Rattle.mrt_cmd.specs.Kept.{IsCertRead};
 ghost use Rattle.mrt_cmd.specs.Pieces.{IsFedOn};
 ghost use Rattle.mrt_cmd.specs.Reading.{IsStopped, IsUnread, IsUnreadOrFault};
 
-use crate::exit::Exit;
 use crate::named_file::NamedFile;
 use cert_format::{CertError, CertFault, CertReader, any_pieces};
+use mrt_exit::Exit;
 use mrt_graph::CertFile;
 use mrt_io::{OpenError, Shelf, ShelfFailed};
 use std::alloc::Global;

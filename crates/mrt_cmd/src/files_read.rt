@@ -9,11 +9,11 @@ ghost use Rattle.mrt_cmd.specs.Files.{AreThere, files_in};
 ghost use Rattle.mrt_cmd.specs.Kept.{AreBytesOf};
 ghost use Rattle.mrt_cmd.specs.Reading.{AreUnread, AreUnreadOrFault};
 
-use crate::exit::Exit;
 use crate::named_file::NamedFile;
 use crate::reading::{read_file, read_profile_file, read_task_file};
 use crate::words::FileForm;
 use crate::work::Work;
+use mrt_exit::Exit;
 use mrt_io::Shelf;
 use std::alloc::Global;
 

@@ -12,12 +12,12 @@ ghost use Rattle.mrt_cmd.specs.Database.{IsDatabase, entering, enters};
 ghost use Rattle.mrt_cmd.specs.Input.{IsProfile};
 ghost use Rattle.mrt_cmd.specs.Reading.{HasNoDatabase, HasNoProfile, HasNoScript};
 
-use crate::exit::Exit;
 use fabric_script::{Script, read_script};
 use lsdb::{
     Lsdb, an_lsa_without_a_fault_may_be_installed, entries_are_those_of_the_list,
     refuses_exactly_where_not_settled, tells_the_first_conflict,
 };
+use mrt_exit::Exit;
 use mrt_island::{Profile, read_profile};
 use ospf_lsa::{Lsa, NETWORK_LSA, ROUTER_LSA, read_lsas};
 use std::alloc::Global;

@@ -10,15 +10,11 @@ ghost use Rattle.mrt_island.specs.Policy.{policy_of};
 ghost use Rattle.mrt_cmd.specs.Input.{HasAreaWithin, area, input_of, policy};
 ghost use Rattle.mrt_cmd.specs.Reading.{HasNoArea, HasNoIsland, HasNone};
 
-use crate::exit::{Exit, What};
-use crate::fault::too_large;
 use area_graph::{Area, build_area};
 use lsdb::Lsdb;
+use mrt_exit::Exit;
 use mrt_island::{Island, IslandError, Profile, find_island};
 use std::alloc::Global;
-
-/// The most nodes that an island may have.
-const ISLAND_NODES: u32 = 2048;
 
 /// The island of a router under a profile.
 pub(crate) fn island_in(
@@ -63,13 +59,6 @@ pub(crate) fn island_of(
         Ok(island) => Ok(island),
         Err(IslandError::NotThere) => Err(Exit::NotThere { number: router }),
         Err(IslandError::Unsupported) => Err(Exit::NotThere { number: router }),
-        Err(IslandError::TooLarge { nodes, links }) => Err(too_large(
-            ISLAND_NODES,
-            What::IslandNodes,
-            nodes,
-            What::IslandLinks,
-            links,
-        )),
         Err(IslandError::NoMemory) => Err(Exit::NoMemory),
     }
 }

@@ -3,7 +3,7 @@
 ghost use Rattle.std.specs.Prelude.{◌≡◌};
 ghost use Rattle.mrt_cmd.specs.Files.{certificate_file, database_file, profile_file, script_file};
 
-use crate::exit::What;
+use mrt_exit::What;
 use mrt_io::Word;
 use std::marker::Model;
 
@@ -14,7 +14,7 @@ const DATABASE_LIMIT: u32 = 8_388_608;
 const PROFILE_LIMIT: u32 = 33_554_432;
 
 /// How many bytes a certificate file may have.
-const CERTIFICATE_LIMIT: u32 = 33_554_432;
+const CERTIFICATE_LIMIT: u32 = 134_217_728;
 
 /// How many bytes a script file may have.
 const SCRIPT_LIMIT: u32 = 33_554_432;

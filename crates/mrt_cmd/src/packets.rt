@@ -8,12 +8,12 @@ ghost use Rattle.mrt_cmd.specs.Input.{input_of};
 ghost use Rattle.mrt_cmd.specs.Packets.{ArePartsFor, GivesRun, IsScriptGiven, IsTraceGiven, packet_parts};
 ghost use Rattle.mrt_cmd.specs.Reading.{HasNone, IsRunRefusal};
 
-use crate::exit::Exit;
 use crate::input::script_of;
 use crate::island::{area_of, island_of};
 use area_graph::Area;
 use fabric_script::{Script, Trace, script_text, trace_text};
 use lsdb::Lsdb;
+use mrt_exit::Exit;
 use mrt_graph::{Cert, accepted_implies_sound};
 use mrt_island::{Island, Profile};
 use mrt_rows::compute;

@@ -7,20 +7,19 @@ ghost use Rattle.mrt_io.specs.Holding.{Files};
 ghost use Rattle.mrt_io.specs.Writing.{Gained};
 ghost use Rattle.cert_format.specs.declared.error.CertKind.{CertKind};
 ghost use Rattle.mrt_island.specs.declared.profile_error.ProfileKind.{ProfileKind};
-ghost use Rattle.mrt_cmd.specs.declared.exit.DbKind.{DbKind};
-ghost use Rattle.mrt_cmd.specs.declared.exit.What.{What};
+ghost use Rattle.mrt_exit.specs.declared.exit.DbKind.{DbKind};
+ghost use Rattle.mrt_exit.specs.declared.exit.What.{What};
 ghost use Rattle.mrt_cmd.specs.Asked.{asked, files_asked};
 ghost use Rattle.mrt_cmd.specs.Causes.{HasNoText, IsAnswered};
 ghost use Rattle.mrt_cmd.specs.Comes.{Comes, FailsAt, Gives, GivesText, IsRefused, MissesAt, NamesHeld};
-ghost use Rattle.mrt_cmd.specs.Exits.{line_of};
+ghost use Rattle.mrt_exit.specs.Exits.{line_of};
 ghost use Rattle.mrt_cmd.specs.Files.{AreThere, files_of};
-ghost use Rattle.mrt_cmd.specs.Form.{IsCheck, IsSurvey, IsWithin, OfFiles, form_of};
+ghost use Rattle.mrt_cmd.specs.Form.{AsksVerdict, IsSurvey, IsTaskWithin, IsWithin, OfFiles, form_of};
 ghost use Rattle.mrt_cmd.specs.Headline.{ChecksWritten, IsPassed};
 ghost use Rattle.mrt_cmd.specs.Reading.{IsRefusal, IsRefusalOrFault};
 ghost use Rattle.mrt_cmd.specs.TextBytes.{bytes_of};
+ghost use Rattle.mrt_exit.specs.Telling.{GainedLine, IsCutShort};
 ghost use Rattle.mrt_cmd.specs.Run.{
-  GainedLine,
-  IsCutShort,
   IsExitOfSurvey,
   IsHealthyForText,
   IsUndisturbed,
@@ -28,13 +27,13 @@ ghost use Rattle.mrt_cmd.specs.Run.{
 };
 
 use crate::answer::answer;
-use crate::exit::Exit;
 use crate::files_read::read_files;
-use crate::run_law::{one_exit_comes, only_a_check_says_no, what_was_written_passes};
+use crate::run_law::{one_exit_comes, only_a_verdict_says_no, what_was_written_passes};
 use crate::survey::survey;
 use crate::text::Text;
 use crate::words::{FileForm, Form, read_form};
-use mrt_io::{Shelf, Sink, Word, put_all};
+use mrt_exit::{Exit, tell};
+use mrt_io::{Shelf, Sink, Word};
 use std::alloc::Global;
 
 /// Does what the words ask for: reads the files that they name, writes the text of the answer to `out`, or else one line on
@@ -110,8 +109,8 @@ pub fn run<F: Shelf, K: Sink, E: Sink>(
         → IsRefused (F.held shelf.old) words.now (Exit.BadScript line) }
     ensures no { (rule a b : ℕ) → result ≡ Exit.No rule a b
         → IsRefused (F.held shelf.old) words.now (Exit.No rule a b) }
-    ensures no_from_check_alone { (rule a b : ℕ) → result ≡ Exit.No rule a b
-        → IsSomeAnd (form_of words.now) IsCheck }
+    ensures no_from_a_verdict_alone { (rule a b : ℕ) → result ≡ Exit.No rule a b
+        → IsSomeAnd (form_of words.now) AsksVerdict }
 
     // On `Done` the output gained just the text; on `WriteFault` it was cut short in it, and it has no fault where it is healthy for
     // the text; else nothing was written to it.
@@ -135,7 +134,7 @@ pub fn run<F: Shelf, K: Sink, E: Sink>(
         → IsSome (F.held shelf.old)
         → (result ≡ Exit.NoMemory) ⊎ ((exit : Exit) → (result ≡ exit) ↔ Comes (F.held shelf.old) words.now exit) }
 
-    // A certificate that was written passes: where the words check what `certify` gave over the same database and profile, no exit
+    // A certificate that was written passes: where the words check or upgrade what `certify` gave over the same database and profile, no exit
     // says anything against it.
     ensures written_passes { (files : Files) → F.held shelf.old ≡ Some files → ChecksWritten files words.now
         → IsPassed result }
@@ -175,7 +174,7 @@ fn text_for<F: Shelf>(alloc: Global, words: &[Word], shelf: &mut F) -> Result<Te
     ensures survey { IsSomeAnd (form_of words.now) IsSurvey → IfErr result (λ exit. exit ≡ Exit.NoMemory) }
     ensures survey_reads_nothing { IsSomeAnd (form_of words.now) IsSurvey → shelf.new ≡ shelf.old }
 {
-    only_a_check_says_no();
+    only_a_verdict_says_no();
     match read_form(words) {
         None => Err(Exit::Usage),
         Some(form) => text_of(alloc, form, shelf),
@@ -202,6 +201,7 @@ fn text_of<F: Shelf>(alloc: Global, form: Form<'_>, shelf: &mut F) -> Result<Tex
 
 /// The text that a form over files gives.
 fn text_of_files<F: Shelf>(alloc: Global, form: FileForm<'_>, shelf: &mut F) -> Result<Text, Exit>
+    requires { IsTaskWithin (files_asked form).task }
     ensures text { IfOk result (λ text. Gives (F.held shelf.old) (OfFiles (files_asked form.entry)) (bytes_of text)) }
     ensures refused { IfErr result (IsRefusalOrFault (F.held shelf.old) (OfFiles (files_asked form.entry))
         (F.faults shelf.old) (F.faults shelf.new)) }
@@ -231,17 +231,4 @@ fn put_text<K: Sink>(out: &mut K, text: &Text) -> Exit
         Ok(()) => Exit::Done,
         Err(fault) => Exit::from(fault),
     }
-}
-
-/// Writes the exit's line, as far as the sink takes it, and nothing on `Done`; and is the exit.
-fn tell<E: Sink>(err: &mut E, exit: Exit) -> Exit
-    ensures same { result ≡ exit }
-    ensures silent { exit ≡ Exit.Done → err.new ≡ err.old }
-    ensures line { (exit ≡ Exit.Done → ⊥) → GainedLine (E.healthy_for err.old) (E.faults err.old) (E.faults err.new)
-        (E.written err.old) (E.written err.new) (line_of exit) }
-{
-    if exit != Exit::Done {
-        let _ = put_all(err, exit.line().as_slice());
-    }
-    exit
 }

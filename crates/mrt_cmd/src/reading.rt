@@ -11,10 +11,10 @@ ghost use Rattle.mrt_cmd.specs.Kept.{IsWorkFor};
 ghost use Rattle.mrt_cmd.specs.Reading.{IsUnread, IsUnreadOrFault};
 
 use crate::certificate_file::read_certificate_file;
-use crate::exit::Exit;
 use crate::named_file::NamedFile;
 use crate::words::Task;
 use crate::work::Work;
+use mrt_exit::Exit;
 use mrt_io::{Shelf, ShelfError, Word};
 use std::alloc::Global;
 
@@ -98,9 +98,23 @@ pub(crate) fn read_task_file<F: Shelf>(
         Task::Check { certificate } => Ok(Work::Check {
             certificate: read_certificate_file(alloc, shelf, &NamedFile::certificate(certificate))?,
         }),
+        Task::Upgrade { certificate } => Ok(Work::Upgrade {
+            certificate: read_certificate_file(alloc, shelf, &NamedFile::certificate(certificate))?,
+        }),
         Task::Certify { router } => Ok(Work::Certify { router }),
         Task::Table { router } => Ok(Work::Table { router }),
         Task::Trace { trace } => Ok(Work::Trace { trace }),
+        Task::Lfa { router } => Ok(Work::Lfa { router }),
+        Task::Order { router } => Ok(Work::Order { router }),
+        Task::Proxy {
+            router,
+            first,
+            second,
+        } => Ok(Work::Proxy {
+            router,
+            first,
+            second,
+        }),
         Task::Fabric { script } => Ok(Work::Fabric {
             script: read_file(alloc, shelf, &NamedFile::script(script))?,
         }),

@@ -5,10 +5,10 @@ ghost use Rattle.std.specs.Option.{IsSomeAnd};
 ghost use Rattle.area_graph.specs.Nodes.{router as router_node};
 ghost use Rattle.fabric.specs.FabricParts.{AreFabricParts, FabricParts};
 ghost use Rattle.mrt_io.specs.Holding.{Files};
-ghost use Rattle.mrt_cmd.specs.declared.exit.Exit.{Exit};
+ghost use Rattle.mrt_exit.specs.declared.exit.Exit.{Exit};
 ghost use Rattle.mrt_cmd.specs.Certified.{IsCertified};
 ghost use Rattle.mrt_cmd.specs.Comes.{Comes, GivesText, IsRefused};
-ghost use Rattle.mrt_cmd.specs.Form.{IsCheck, form_of};
+ghost use Rattle.mrt_cmd.specs.Form.{AsksVerdict, form_of};
 ghost use Rattle.mrt_cmd.specs.Headline.{ChecksWritten};
 ghost use Rattle.mrt_cmd.specs.Input.{Input, IsInput};
 ghost use Rattle.mrt_cmd.specs.Packets.{ArePartsFor};
@@ -19,19 +19,20 @@ use crate::survey_law::made_networks_are_taken;
 use area_graph::the_newest_records_give_an_area;
 use cert_format::one_spelling;
 use fabric_script::{lines_are_a_script_or_have_a_fault, one_text_each};
+use lfa_alt::one_text_each as one_lfa_text_each;
 use lsdb::{
     an_lsa_without_a_fault_may_be_installed, refuses_exactly_where_not_settled,
     tells_the_first_conflict,
 };
 use mrt_graph::accepted_or_one_first_fault;
-use mrt_island::{
-    a_router_has_one_island, an_island_has_one_size, an_island_is_that_of_each_router_in_it,
-};
+use mrt_island::{a_router_has_one_island, an_island_is_that_of_each_router_in_it};
 use mrt_report::one_table_each;
 use mrt_rows::one_certificate;
 use mrt_survey::one_survey_each;
+use order_repair::one_text_each as one_order_text_each;
 use ospf_lsa::bytes_are_lsas_or_have_a_fault;
 use primary_alt::one_primary_each;
+use proxy_rows::{one_proxy_text, proxy_rows_or_no_common_block};
 
 /// Laws: over a shelf that tells what it holds, one exit comes of the words at most, and one text.
 pub fn one_exit_comes()
@@ -47,18 +48,22 @@ pub fn one_exit_comes()
     an_lsa_without_a_fault_may_be_installed();
     the_newest_records_give_an_area();
     a_router_has_one_island();
-    an_island_has_one_size();
     accepted_or_one_first_fault();
     one_certificate();
     one_table_each();
     one_primary_each();
     lines_are_a_script_or_have_a_fault();
     one_text_each();
+    one_lfa_text_each();
+    one_order_text_each();
+    one_proxy_text();
+    proxy_rows_or_no_common_block();
     one_survey_each();
     made_networks_are_taken();
 }
 
-/// A law, the headline's first half: a certificate that was written passes the check over the same database and profile.
+/// A law, the headline's first half: a certificate that was written passes, whether the words check or upgrade it, over the
+/// same database and profile.
 pub fn what_was_written_passes()
     ensures { (files : Files) (words : List (List ℕ)) → ChecksWritten files words
         → (line : List ℕ) × GivesText (Some files) words line }
@@ -99,9 +104,9 @@ pub fn what_steps_read_fits_together()
     the_newest_records_give_an_area();
 }
 
-/// A law: only a check says no.
-pub fn only_a_check_says_no()
+/// A law: only the forms that ask for a verdict on a certificate, `check` and `upgrade`, say no.
+pub fn only_a_verdict_says_no()
     ensures { (held : Option Files) (words : List (List ℕ)) (rule a b : ℕ)
         → IsRefused held words (Exit.No rule a b)
-        → IsSomeAnd (form_of words) IsCheck }
+        → IsSomeAnd (form_of words) AsksVerdict }
 {}

@@ -6,11 +6,11 @@ ghost use Rattle.mrt_survey.specs.MadeLsas.{made_lsas};
 ghost use Rattle.mrt_cmd.specs.Form.{IsNetworkSize};
 ghost use Rattle.mrt_cmd.specs.Surveyed.{IsSummedUp, IsSurveyed};
 
-use crate::exit::Exit;
 use crate::input::database_of;
 use crate::island::island_in;
 use crate::survey_law::made_networks_are_taken;
 use lsdb::Lsdb;
+use mrt_exit::Exit;
 use mrt_graph::{Graph, NoMemory, NodeNo, accepted_implies_sound};
 use mrt_island::Profile;
 use mrt_rows::compute;

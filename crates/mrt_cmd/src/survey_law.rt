@@ -6,8 +6,8 @@ ghost use Rattle.area_graph.specs.Nodes.{router as router_node};
 ghost use Rattle.mrt_survey.specs.MadeLsas.{made_lsas};
 ghost use Rattle.ospf_lsa.specs.LsaText.{lsas_text};
 ghost use Rattle.ospf_lsa.specs.declared.lsa.Lsa.{Lsa};
-ghost use Rattle.mrt_cmd.specs.declared.exit.DbKind.{DbKind};
-ghost use Rattle.mrt_cmd.specs.declared.exit.Exit.{Exit};
+ghost use Rattle.mrt_exit.specs.declared.exit.DbKind.{DbKind};
+ghost use Rattle.mrt_exit.specs.declared.exit.Exit.{Exit};
 ghost use Rattle.mrt_cmd.specs.Database.{IsBadDatabase, IsDatabase};
 ghost use Rattle.mrt_cmd.specs.Form.{IsNetworkSize};
 ghost use Rattle.mrt_cmd.specs.Input.{IsInput};
@@ -18,8 +18,8 @@ use lsdb::{
     entries_are_those_of_the_list, refuses_exactly_where_not_settled, tells_the_first_conflict,
 };
 use mrt_survey::{
-    made_areas_are_within_the_limits, made_islands_are_within_the_limits,
-    made_islands_hold_all_routers, made_lsas_may_be_installed,
+    made_areas_are_within_the_limits, made_islands_hold_all_routers, made_lsas_may_be_installed,
+    made_routers_are_in_the_area,
 };
 use ospf_lsa::bytes_are_lsas_or_have_a_fault;
 
@@ -46,6 +46,6 @@ pub fn made_networks_are_taken()
     tells_the_first_conflict();
     made_lsas_may_be_installed();
     made_areas_are_within_the_limits();
-    made_islands_are_within_the_limits();
+    made_routers_are_in_the_area();
     made_islands_hold_all_routers();
 }

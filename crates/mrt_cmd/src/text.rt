@@ -5,8 +5,8 @@ ghost use Rattle.mrt_io.specs.Counts.{Rose};
 ghost use Rattle.mrt_io.specs.Writing.{Gained, GainedPart};
 ghost use Rattle.mrt_cmd.specs.TextBytes.{bytes_of};
 
-use crate::line::Line;
-use crate::version_one::VersionOne;
+use crate::writable::Writable;
+use mrt_exit::Line;
 use mrt_io::{PutError, Sink, put_all};
 
 /// A line in a fixed array, bytes for which memory was taken, or a certificate whose bytes are still to be made.
@@ -14,7 +14,7 @@ use mrt_io::{PutError, Sink, put_all};
 pub(crate) enum Text {
     Line(Line),
     Bytes(Vec<u8>),
-    Cert(VersionOne),
+    Cert(Writable),
 }
 
 impl Text {

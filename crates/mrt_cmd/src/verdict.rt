@@ -2,17 +2,16 @@
 
 ghost use Rattle.std.specs.Prelude.{◌≡◌, ◌<◌, None, IfOk, IfErr, length};
 ghost use Rattle.lsdb.specs.Conflicts.{least_conflict};
-ghost use Rattle.mrt_graph.specs.NewGraph.{IsTooLarge as IsTooLargeGraph};
+ghost use Rattle.mrt_graph.specs.Accepted.{Accepted};
 ghost use Rattle.mrt_cmd.specs.Input.{input_of};
 ghost use Rattle.mrt_cmd.specs.Reading.{IsRejected, IsVerdictFor};
-ghost use Rattle.mrt_cmd.specs.Verdict.{IsAccepted, IsAcceptedFor, accepted_line as line_of_accepted};
+ghost use Rattle.mrt_cmd.specs.Verdict.{IsAcceptedFor, accepted_line as line_of_accepted};
 
-use crate::exit::Exit;
 use crate::island::island_in;
-use crate::line::{Line, line_of, push, push_address, push_decimal};
 use cert_checker::{Verdict, check};
 use lsdb::Lsdb;
-use mrt_graph::{CertFile, Graph, NodeNo};
+use mrt_exit::{Exit, Line, line_of, push, push_address, push_decimal};
+use mrt_graph::{CertFile, Graph, NodeNo, accepted_implies_sound};
 use mrt_island::Profile;
 use std::alloc::Global;
 
@@ -29,21 +28,21 @@ pub(crate) fn verdict(
     ensures refused { IfErr result
         (IsVerdictFor (input_of database.now.entries profile.now) file.now) }
 {
+    accepted_implies_sound();
     let island = island_in(alloc, database, profile, file.root)?;
-    judge(&island.graph, island.root, file)
+    judge(&island.graph, island.root, file)?;
+    let graph = &island.graph;
+    Ok(accepted_line(file.root, graph.node_count(), graph.link_count()))
 }
 
-/// The accepted line, where the certificate is accepted for the graph and its root.
-fn judge(graph: &Graph, root: NodeNo, file: &CertFile) -> Result<Line, Exit>
+/// Whether the certificate is accepted for the graph and its root.
+pub(crate) fn judge(graph: &Graph, root: NodeNo, file: &CertFile) -> Result<(), Exit>
     requires { root < length graph.now.ids }
-    ensures accepted { IfOk result (λ text. IsAccepted graph.now root file.now text.items) }
-    ensures within { IsTooLargeGraph (length graph.now.ids) (length graph.now.links) → ⊥ }
+    ensures accepted { IfOk result (λ _. Accepted graph.now root file.now) }
     ensures refused { IfErr result (IsRejected graph.now root file.now) }
 {
-    let nodes = graph.node_count();
-    let links = graph.link_count();
     match check(graph, root, file) {
-        Verdict::Yes => Ok(accepted_line(file.root, nodes, links)),
+        Verdict::Yes => Ok(()),
         Verdict::No { rule, a, b } => Err(Exit::No { rule, a, b }),
     }
 }

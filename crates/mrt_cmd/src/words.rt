@@ -8,9 +8,12 @@ ghost use Rattle.mrt_cmd.specs.Form.{
   file_form_of,
   file_name,
   form_of,
+  lfa_of,
   nodes_in,
+  proxy_of,
   profile_name,
   survey_of,
+  task_form_of,
   task_in,
   task_of,
   trace_of,
@@ -48,15 +51,43 @@ pub(crate) struct FileForm<'a> {
 #[derive(Clone, Copy)]
 pub(crate) enum Task<'a> {
     /// The verdict on a certificate.
-    Check { certificate: &'a Word },
+    Check {
+        certificate: &'a Word,
+    },
     /// The certificate of a router's island.
-    Certify { router: u32 },
+    Certify {
+        router: u32,
+    },
     /// The table of a router.
-    Table { router: u32 },
+    Table {
+        router: u32,
+    },
     /// The trace of a packet.
-    Trace { trace: Trace },
+    Trace {
+        trace: Trace,
+    },
     /// The answers to the events of a script.
-    Fabric { script: &'a Word },
+    Fabric {
+        script: &'a Word,
+    },
+    /// A certificate in version 2.
+    Upgrade {
+        certificate: &'a Word,
+    },
+    /// The loop-free alternates of a router.
+    Lfa {
+        router: u32,
+    },
+    /// The repairs by order of a router.
+    Order {
+        router: u32,
+    },
+    /// The rows for a prefix that is attached to two routers of a router's island.
+    Proxy {
+        router: u32,
+        first: u32,
+        second: u32,
+    },
 }
 
 /// The form of the words, if they have one.
@@ -101,6 +132,34 @@ fn read_nodes(word: &Word) -> Option<u16>
 fn read_file_form(words: &[Word]) -> Option<FileForm<'_>>
     ensures { option_map files_asked result ≡ file_form_of words.now }
 {
+    match read_task_form(words) {
+        Some(form) => Some(form),
+        None => read_lfa(words),
+    }
+}
+
+/// The loop-free alternates that the words ask for, if they do.
+fn read_lfa(words: &[Word]) -> Option<FileForm<'_>>
+    ensures { option_map files_asked result ≡ lfa_of words.now }
+{
+    match words {
+        [command, database, router]
+            if command.bytes() == b"lfa".as_slice() && !database.bytes().is_empty() => {
+            let router = read_address(router.bytes())?;
+            Some(FileForm {
+                database,
+                profile: None,
+                task: Task::Lfa { router },
+            })
+        }
+        _ => None,
+    }
+}
+
+/// The form over a database and a profile of the words, if they have one.
+fn read_task_form(words: &[Word]) -> Option<FileForm<'_>>
+    ensures { option_map files_asked result ≡ task_form_of words.now }
+{
     match words {
         [command, database, profile, words @ ..]
             if !database.bytes().is_empty() && !profile.bytes().is_empty() => {
@@ -121,7 +180,7 @@ fn read_words<'a>(command: &Word, words: &'a [Word]) -> Option<Task<'a>>
 {
     match words {
         [last] => read_task(command, last),
-        [from, to, entry] => read_trace(command, from, to, entry),
+        [from, to, entry] => read_three(command, from, to, entry),
         [from, to, entry, failed] => read_failing_trace(command, from, to, entry, failed),
         _ => None,
     }
@@ -143,6 +202,12 @@ fn read_task<'a>(command: &Word, last: &'a Word) -> Option<Task<'a>>
     if command.bytes() == b"fabric".as_slice() {
         return file_name(last).map(|script| Task::Fabric { script });
     }
+    if command.bytes() == b"upgrade".as_slice() {
+        return file_name(last).map(|certificate| Task::Upgrade { certificate });
+    }
+    if command.bytes() == b"order".as_slice() {
+        return read_address(last.bytes()).map(|router| Task::Order { router });
+    }
     None
 }
 
@@ -157,14 +222,34 @@ fn file_name(word: &Word) -> Option<&Word>
     }
 }
 
-/// A trace without a failure.
-fn read_trace<'a>(command: &Word, from: &Word, to: &Word, entry: &Word) -> Option<Task<'a>>
-    ensures { option_map task_asked result ≡ task_in command.now (from.now ∷ to.now ∷ entry.now ∷ []) }
+/// A trace without a failure, or the rows for a prefix.
+fn read_three<'a>(command: &Word, one: &Word, two: &Word, three: &Word) -> Option<Task<'a>>
+    ensures { option_map task_asked result ≡ task_in command.now (one.now ∷ two.now ∷ three.now ∷ []) }
 {
-    if command.bytes() != b"trace".as_slice() {
+    if command.bytes() == b"trace".as_slice() {
+        return trace_of(one, two, three, None);
+    }
+    if command.bytes() == b"proxy".as_slice() {
+        return proxy_of(one, two, three);
+    }
+    None
+}
+
+/// The rows for a prefix that is attached to two different routers.
+fn proxy_of<'a>(router: &Word, first: &Word, second: &Word) -> Option<Task<'a>>
+    ensures { option_map task_asked result ≡ proxy_of router.now first.now second.now }
+{
+    let router = read_address(router.bytes())?;
+    let first = read_address(first.bytes())?;
+    let second = read_address(second.bytes())?;
+    if first == second {
         return None;
     }
-    trace_of(from, to, entry, None)
+    Some(Task::Proxy {
+        router,
+        first,
+        second,
+    })
 }
 
 /// A trace through a failure.

@@ -27,4 +27,22 @@ pub(crate) enum Work {
     Fabric {
         script: Vec<u8>,
     },
+    /// A certificate in version 2, or the first fault of its file.
+    Upgrade {
+        certificate: Result<CertFile, CertFault>,
+    },
+    /// The loop-free alternates of a router.
+    Lfa {
+        router: u32,
+    },
+    /// The repairs by order of a router.
+    Order {
+        router: u32,
+    },
+    /// The rows for a prefix that is attached to two routers of a router's island.
+    Proxy {
+        router: u32,
+        first: u32,
+        second: u32,
+    },
 }

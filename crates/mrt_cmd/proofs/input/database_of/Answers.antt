@@ -1,7 +1,7 @@
 use Rattle.std.proofs.Common.{◌≡◌, ◌∙◌, Some, ap, sym}
 use Rattle.lsdb.specs.Conflicts.{least_conflict}
 use Rattle.mrt_cmd.specs.Database.{HoldsLsas, entering}
-use Rattle.mrt_cmd.specs.Faults.{conflict_exit}
+use Rattle.mrt_exit.specs.Faults.{conflict_exit}
 use Rattle.mrt_cmd.specs.Reading.{HasNoDatabase}
 use Rattle.mrt_cmd.proofs.Databases.{one_there}
 use Rattle.mrt_cmd.proofs.Refusals.{handed_on}

@@ -6,7 +6,7 @@ use Rattle.mrt_rows.specs.CertOf.{file_of}
 use Rattle.mrt_cmd.specs.Input.{Input, HasIsland, input_of, policy}
 use Rattle.mrt_cmd.specs.Reading.{HasNoIsland, HasNone}
 use Rattle.mrt_cmd.specs.Tabled.{IsComputedFile}
-use Rattle.mrt_cmd.proofs.Refusals.{few, handed_on, island_refused, root_within}
+use Rattle.mrt_cmd.proofs.Refusals.{handed_on, island_refused, root_within}
 use Rattle.mrt_cmd.proofs.packets.tables_of.Goals as goal
 
 pub returns-in_err-island-clause-refused : goal.returns-in_err-island-clause-refused
@@ -45,7 +45,6 @@ returns-clause-parts c =
       link_of = island.link_of;
       island = subst (λ (a : AreaParts). IsIsland (policy input) a c.args.router island.graph island.root island.link_of)
           c.in_ok-area.ensures.area c.in_ok-island.ensures.island;
-      within = few island.graph c.in_ok-cert.ensures.kept;
     } in
     record {
       area_is = c.in_ok-area.ensures.area;

@@ -1,6 +1,6 @@
 use Rattle.std.proofs.Common.{◌≡◌, ◌∙◌, inl, inr, refl, subst, sym}
-use Rattle.mrt_cmd.specs.declared.exit.Exit.{Exit}
-use Rattle.mrt_cmd.specs.declared.exit.Exit.TheVariants as exits
+use Rattle.mrt_exit.specs.declared.exit.Exit.{Exit}
+use Rattle.mrt_exit.specs.declared.exit.Exit.TheVariants as exits
 use Rattle.mrt_cmd.specs.Causes.{HasNoText, ShelfInCall}
 use Rattle.mrt_cmd.specs.Run.{WritesNothing}
 use Rattle.mrt_cmd.specs.TextBytes.{bytes_of}
@@ -84,8 +84,8 @@ pub returns-in-Ok-clause-no : goal.returns-in-Ok-clause-no
 returns-in-Ok-clause-no g c = λ rule a b is.
     absurd (never c.put_text.result c.tell.result (exits.No rule a b) c.put_text.ensures.kind c.tell.ensures.same is tt)
 
-pub returns-in-Ok-clause-no_from_check_alone : goal.returns-in-Ok-clause-no_from_check_alone
-returns-in-Ok-clause-no_from_check_alone g c = λ rule a b is.
+pub returns-in-Ok-clause-no_from_a_verdict_alone : goal.returns-in-Ok-clause-no_from_a_verdict_alone
+returns-in-Ok-clause-no_from_a_verdict_alone g c = λ rule a b is.
     absurd (never c.put_text.result c.tell.result (exits.No rule a b) c.put_text.ensures.kind c.tell.ensures.same is tt)
 
 pub returns-in-Ok-clause-writes_nothing : goal.returns-in-Ok-clause-writes_nothing
@@ -160,8 +160,8 @@ returns-in-Err-clause-not_there g c = λ number is. says g c (exits.NotThere num
 pub returns-in-Err-clause-no : goal.returns-in-Err-clause-no
 returns-in-Err-clause-no g c = λ rule a b is. (says g c (exits.No rule a b) is).0
 
-pub returns-in-Err-clause-no_from_check_alone : goal.returns-in-Err-clause-no_from_check_alone
-returns-in-Err-clause-no_from_check_alone g c = λ rule a b is. (says g c (exits.No rule a b) is).1
+pub returns-in-Err-clause-no_from_a_verdict_alone : goal.returns-in-Err-clause-no_from_a_verdict_alone
+returns-in-Err-clause-no_from_a_verdict_alone g c = λ rule a b is. (says g c (exits.No rule a b) is).1
 
 pub returns-in-Err-clause-done : goal.returns-in-Err-clause-done
 returns-in-Err-clause-done g c = λ is. absurd (says g c exits.Done is)

@@ -6,7 +6,7 @@ use Rattle.mrt_cmd.proofs.program.text_for.Goals as goal
 -- A refusal of the form says why the words give no text.
 pub returns-in-Some-clause-cause : goal.returns-in-Some-clause-cause
 returns-in-Some-clause-cause g c =
-    refused_over_words c.text_of.result c.only_a_check_says_no.ensures c.args.words.now
+    refused_over_words c.text_of.result c.only_a_verdict_says_no.ensures c.args.words.now
     (record {
       held = g.F.Shelf.held c.args.shelf.now;
       healthy = g.F.Shelf.healthy c.args.shelf.now;

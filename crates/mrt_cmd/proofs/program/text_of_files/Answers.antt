@@ -1,13 +1,13 @@
 use Rattle.mrt_cmd.specs.Asked.{files_asked}
 use Rattle.mrt_cmd.specs.TextBytes.{bytes_of}
 use Rattle.mrt_cmd.proofs.Refusals.{calm_over, refused_over}
-use Rattle.mrt_cmd.proofs.Works.{gives_form, script_within}
+use Rattle.mrt_cmd.proofs.Works.{gives_form, work_within}
 use Rattle.mrt_cmd.proofs.program.text_of_files.Goals as goal
 
-pub answer-requires-clause-script : goal.answer-requires-clause-script
-answer-requires-clause-script g c =
+pub answer-requires-clause-work : goal.answer-requires-clause-work
+answer-requires-clause-work g c =
     let read = c.in_ok-files.ensures.read in
-    script_within _ _ _ _ read.1.last_read read.2.work
+    work_within _ _ _ _ c.requires read.1.last_read read.2.work
 
 pub returns-clause-text : goal.returns-clause-text
 returns-clause-text g c =

@@ -23,10 +23,13 @@ laws c = record {
     only = c.tells_the_first_conflict.ensures.only;
   };
   certs = record { one = c.one_spelling.ensures.one; faultless = c.one_spelling.ensures.faultless };
-  islands = record {
-    one_island = c.a_router_has_one_island.ensures;
-    one_size = c.an_island_has_one_size.ensures.one;
-    size = c.an_island_has_one_size.ensures.graph;
+  islands = record { one_island = c.a_router_has_one_island.ensures };
+  loop_free = c.one_text_each-2.ensures;
+  orders = c.one_text_each-3.ensures.of_graph;
+  proxies = record {
+    text = c.one_proxy_text.ensures;
+    related = λ g root cert a b text kept accepted given apart.
+        c.proxy_rows_or_no_common_block.ensures.never_both g cert a b given.entries kept accepted given.entries_are apart;
   };
   rules = record {
     never_both = c.accepted_or_one_first_fault.ensures.never_both;

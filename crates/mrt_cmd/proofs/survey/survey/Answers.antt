@@ -1,11 +1,11 @@
 use Rattle.std.proofs.Common.{◌≡◌, subst, arith}
 use Rattle.mrt_island.specs.IslandOf.{IsIsland}
-use Rattle.mrt_cmd.specs.declared.exit.Exit.TheVariants.{NoMemory}
+use Rattle.mrt_exit.specs.declared.exit.Exit.TheVariants.{NoMemory}
 use Rattle.mrt_cmd.specs.Input.{Input, HasAreaWithin, HasIsland, area, policy}
 use Rattle.mrt_cmd.specs.Reading.{HasNone}
 use Rattle.mrt_cmd.specs.Surveyed.{made_input}
 use Rattle.mrt_cmd.proofs.MadeNetworks.{made_input_is, memory_of_island}
-use Rattle.mrt_cmd.proofs.Refusals.{few, handed_on, root_within}
+use Rattle.mrt_cmd.proofs.Refusals.{handed_on, root_within}
 use Rattle.mrt_cmd.proofs.survey.survey.Goals as goal
 
 pub returns-in_err-island-clause-none : goal.returns-in_err-island-clause-none
@@ -30,6 +30,5 @@ returns-clause-surveyed c =
       link_of = island.link_of;
       island = subst (λ (it : Input). IsIsland (policy it) (area it) 1 island.graph island.root island.link_of) holds
           c.in_ok-island.ensures.island;
-      within = few island.graph c.in_ok-text.ensures.certificate.kept;
     } in
     record { size = c.requires; graph = island.graph; root = island.root; island = found; survey = c.in_ok-text.ensures }

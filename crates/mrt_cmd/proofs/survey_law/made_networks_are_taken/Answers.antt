@@ -14,8 +14,7 @@ networks c = record {
   entries = c.entries_are_those_of_the_list.ensures;
   agree = c.refuses_exactly_where_not_settled.ensures.settled;
   within = c.made_areas_are_within_the_limits.ensures.within;
-  there = c.made_islands_are_within_the_limits.ensures.there;
-  few = c.made_islands_are_within_the_limits.ensures.within;
+  there = c.made_routers_are_in_the_area.ensures;
 }
 
 databases : goal.After-made_islands_hold_all_routers → DatabaseLaws

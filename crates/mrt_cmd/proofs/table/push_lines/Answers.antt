@@ -1,6 +1,6 @@
 use Rattle.std.proofs.Common.{◌≡◌, ◌≢◌, ◌∙◌, ℕ, sym, subst}
 use Rattle.primary_alt.proofs.ColorsUse.{agree, differ}
-use Rattle.mrt_report.specs.Adds.{Adds}
+use Rattle.text_parts.specs.Adds.{Adds}
 use Rattle.mrt_report.specs.ByColumn.{IsLineByColumn}
 use Rattle.mrt_rows.specs.CertOf.{IsCertOf}
 use Rattle.mrt_report.proofs.AddingLines.{line_added, line_passed}

@@ -4,7 +4,7 @@ use Rattle.mrt_island.specs.IslandOf.{IsIsland}
 use Rattle.mrt_cmd.specs.Input.{Input, HasIsland, input_of, policy, area}
 use Rattle.mrt_cmd.specs.Reading.{HasNoIsland, HasNone}
 use Rattle.mrt_cmd.specs.Tabled.{IsTableOf}
-use Rattle.mrt_cmd.proofs.Refusals.{few, handed_on, island_refused, root_within}
+use Rattle.mrt_cmd.proofs.Refusals.{handed_on, island_refused, root_within}
 use Rattle.mrt_cmd.proofs.Tables.{in_own_island, root_is_router}
 use Rattle.mrt_cmd.proofs.table.table.Goals as goal
 
@@ -41,6 +41,5 @@ returns-clause-tabled c =
       link_of = island.link_of;
       island = subst (λ (a : AreaParts). IsIsland (policy input) a c.args.router island.graph island.root island.link_of)
           c.in_ok-area.ensures.area c.in_ok-island.ensures.island;
-      within = few island.graph table.certificate.kept;
     } in
     record { graph = island.graph; root = island.root; island = found; table = table }

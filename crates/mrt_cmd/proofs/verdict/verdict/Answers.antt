@@ -1,6 +1,6 @@
-use Rattle.std.proofs.Common.{map}
+use Rattle.std.proofs.Common.{map, sym}
 use Rattle.lsdb.specs.Entries.{Entry}
-use Rattle.mrt_cmd.specs.Input.{Input}
+use Rattle.mrt_cmd.specs.Input.{HasIsland, Input, input_of}
 use Rattle.mrt_cmd.specs.Reading.{IsVerdictFor}
 use Rattle.mrt_cmd.proofs.Refusals.{handed_on, none_for, root_within}
 use Rattle.mrt_cmd.proofs.verdict.verdict.Goals as goal
@@ -17,3 +17,24 @@ returns-in_err-island-clause-refused c =
 
 pub judge-requires : goal.judge-requires
 judge-requires c = root_within _ _ _ _ _ _ c.in_ok-island.ensures.island
+
+pub returns-clause-accepted : goal.returns-clause-accepted
+returns-clause-accepted c =
+    let input : Input = input_of c.args.database.now.entries c.args.profile.now in
+    let island = c.in_ok-island.island in
+    let accepted = c.in_ok-judge.ensures.accepted in
+    let found : HasIsland input c.args.file.now.root island.graph island.root = record {
+      area_within = c.in_ok-island.ensures.area;
+      link_of = island.link_of;
+      island = c.in_ok-island.ensures.island;
+    } in
+    record {
+      graph = island.graph;
+      root = island.root;
+      island = found;
+      accepted = record {
+        accepted = accepted;
+        sound = c.accepted_implies_sound.ensures island.graph island.root c.args.file.now accepted;
+        line = rw (sym c.node_count.ensures.count, sym c.link_count.ensures.count) c.accepted_line.ensures;
+      };
+    }

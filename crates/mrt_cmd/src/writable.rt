@@ -1,43 +1,42 @@
-//! Certificate files within version 1.
+//! Certificate files that can be written.
 
 ghost use Rattle.std.specs.Prelude.{◌≡◌, ◌≤◌, ℕ, length, IsOk, IfErr, OnOk};
 ghost use Rattle.mrt_io.specs.Counts.{Rose};
 ghost use Rattle.mrt_io.specs.Writing.{Gained, GainedPart};
 ghost use Rattle.cert_format.specs.CertText.{cert_text};
-ghost use Rattle.cert_format.specs.Limits.{IsVersionOne};
+ghost use Rattle.cert_format.specs.Limits.{IsCertFile, IsOfVersion};
 
-use cert_format::{put_cert, within_version_one};
+use cert_format::{put_cert, within_limits};
 use mrt_graph::CertFile;
 use mrt_io::{PutError, Sink};
 use std::marker::Model;
 
-/// A certificate file within version 1. Its bytes are made as they are written, so none are held.
+/// A certificate file within the limits of its version. Its bytes are made as they are written, so none are held.
 #[derive(Drop)]
-pub(crate) struct VersionOne {
+pub(crate) struct Writable {
     file: CertFile,
 }
 
-impl Model for VersionOne {
+impl Model for Writable {
     ghost use Rattle.mrt_graph.specs.declared.cert.CertFile.{CertFile};
-    ghost use Rattle.cert_format.specs.Limits.{IsVersionOne};
+    ghost use Rattle.cert_format.specs.Limits.{IsCertFile};
 
     ghost Value = { CertFile };
 
     ghost view = { λ v. v.file };
 
-    ghost invariant = { λ v. IsVersionOne v.file };
+    ghost invariant = { λ v. IsCertFile v.file };
 }
 
-impl VersionOne {
-    /// A file of so many nodes and links. It takes time in proportion to the nodes.
-    pub(crate) fn new(file: CertFile) -> VersionOne
-        requires nodes { length file.cert.nodes ≤ 2048 }
-        requires links { length file.cert.links ≤ 8192 }
+impl Writable {
+    /// A file of its version. It takes time in proportion to the nodes.
+    pub(crate) fn new(file: CertFile) -> Writable
+        requires { IsOfVersion file }
         ensures file { result ≡ file }
-        ensures within { IsVersionOne file }
+        ensures within { IsCertFile file }
     {
-        within_version_one(&file);
-        VersionOne { file }
+        within_limits(&file);
+        Writable { file }
     }
 
     /// Writes the bytes to a sink, or as many as it takes. It takes time in proportion to the bytes, and no memory.

@@ -2,7 +2,7 @@ use Rattle.std.proofs.Common.{IfErr, subst}
 use Rattle.mrt_graph.specs.declared.cert.CertFile.{CertFile}
 use Rattle.mrt_io.specs.Writing.{GainedPart}
 use Rattle.cert_format.specs.CertText.{cert_text}
-use Rattle.mrt_cmd.proofs.version_one.VersionOne.put.Goals as goal
+use Rattle.mrt_cmd.proofs.writable.Writable.put.Goals as goal
 
 pub returns-clause-part : goal.returns-clause-part
 returns-clause-part g c =

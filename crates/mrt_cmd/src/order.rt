@@ -1,0 +1,50 @@
+//! `order DB PROFILE ROUTER`: a router's repairs by order.
+
+ghost use Rattle.std.specs.Prelude.{◌≡◌, ◌<◌, None, Contains, IfOk, IfErr, length};
+ghost use Rattle.area_graph.specs.Nodes.{router as router_node};
+ghost use Rattle.lsdb.specs.Conflicts.{least_conflict};
+ghost use Rattle.mrt_cmd.specs.Input.{input_of};
+ghost use Rattle.mrt_cmd.specs.Ordered.{HasOrder, IsOrderOf};
+ghost use Rattle.mrt_cmd.specs.Reading.{HasNone};
+
+use crate::island::island_in;
+use lsdb::Lsdb;
+use mrt_exit::Exit;
+use mrt_graph::{Graph, Kind, NoMemory, NodeId, NodeNo};
+use mrt_island::Profile;
+use mrt_rows::directions;
+use order_repair::order_text;
+use std::alloc::Global;
+
+/// The text on the repairs by order of a router in its island.
+pub(crate) fn order(
+    alloc: Global,
+    database: &Lsdb,
+    profile: &Profile,
+    router: u32,
+) -> Result<Vec<u8>, Exit>
+    requires { least_conflict database.now.entries ≡ None }
+    ensures ordered { IfOk result (λ text.
+        HasOrder (input_of database.now.entries profile.now) router text.items) }
+    ensures refused { IfErr result (HasNone (input_of database.now.entries profile.now) router) }
+{
+    let island = island_in(alloc, database, profile, router)?;
+    let text = order_of(alloc, &island.graph, island.root, router)?;
+    Ok(text)
+}
+
+/// The text on the repairs by order of a router of a graph.
+fn order_of(alloc: Global, graph: &Graph, root: NodeNo, router: u32) -> Result<Vec<u8>, NoMemory>
+    requires root { root < length graph.now.ids }
+    requires inside { Contains graph.now.ids (router_node router) }
+    ensures { IfOk result (λ text. IsOrderOf graph.now root router text.items) }
+{
+    let own = NodeId {
+        kind: Kind::Router,
+        number: router,
+    };
+    let source = graph.find(own).unwrap();
+    let directed = directions(alloc, graph, root)?;
+    let text = order_text(alloc, graph, root, &directed, source)?;
+    Ok(text)
+}
