@@ -78,11 +78,9 @@ fn island_counts(alloc: Global, routers: u32) -> Result<(u16, u16), IslandError>
 }
 
 #[test]
-fn islands_have_2048_nodes_at_most(rt: HostRuntime) {
-    assert!(rt; island_counts(rt.alloc(), 2048) == Ok((2048, 2048)));
-    let refusal = IslandError::TooLarge {
-        nodes: 2049,
-        links: 2049,
-    };
-    assert!(rt; island_counts(rt.alloc(), 2049) == Err(refusal));
+fn islands_are_as_large_as_areas(rt: HostRuntime) {
+    for routers in [2048, 2049, 4096] {
+        let counts = island_counts(rt.alloc(), routers);
+        assert!(rt; counts == Ok((routers as u16, routers as u16)), "{routers}");
+    }
 }

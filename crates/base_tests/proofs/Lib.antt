@@ -1,2 +1,3 @@
 pub mod ProxyFiles
+pub mod PutSteps
 pub mod RouterGraphs

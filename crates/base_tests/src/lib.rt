@@ -6,6 +6,8 @@ mod cert_files;
 #[cfg(test)]
 mod cert_pieces;
 #[cfg(test)]
+mod cert_steps;
+#[cfg(test)]
 mod cert_versions;
 #[cfg(test)]
 mod certs;

@@ -2,12 +2,14 @@
 
 use crate::calling::{Case, Devices, NEVER, calm, comes_out, front, left_on, two};
 use crate::files::{
-    CERTIFICATE, FIRST_TREE, FIVE, FIVE_COMPUTED, LAN, LAN_CERTIFICATE, LINE, LINE_CERTIFICATE,
-    RING, RING_COMPUTED, ROUTER, SAMPLE, SAMPLE_CERTIFICATE, SAMPLE_PROFILE, SECOND_TREE, STUB,
-    THREE_LINKS, THREE_LINKS_CERTIFICATE, TRIANGLE, TRIANGLE_CERTIFICATE, TRIANGLE_FROM_1,
-    TWO_TREES,
+    FIVE, LAN, LINE, RING, ROUTER, SAMPLE, SAMPLE_PROFILE, STUB, THREE_LINKS, TRIANGLE, TWO_TREES,
 };
 use crate::limits::ring;
+use crate::version_two::{
+    CERTIFICATE_2, FIRST_TREE_2, FIVE_COMPUTED_2, LAN_CERTIFICATE_2, LINE_CERTIFICATE_2,
+    RING_COMPUTED_2, SAMPLE_CERTIFICATE_2, SECOND_TREE_2, THREE_LINKS_CERTIFICATE_2,
+    TRIANGLE_CERTIFICATE_2, TRIANGLE_FROM_1_2,
+};
 use mrt_cmd::{Exit, What};
 use mrt_graph::NoMemory;
 use std::alloc::Global;
@@ -24,7 +26,7 @@ const CASES: &[Case] = &[
         profile: b"",
         certificate: b"",
         exit: Exit::Done,
-        out: CERTIFICATE,
+        out: CERTIFICATE_2,
         err: b"",
     },
     Case {
@@ -34,7 +36,7 @@ const CASES: &[Case] = &[
         profile: b"",
         certificate: b"",
         exit: Exit::Done,
-        out: CERTIFICATE,
+        out: CERTIFICATE_2,
         err: b"",
     },
     Case {
@@ -44,7 +46,7 @@ const CASES: &[Case] = &[
         profile: b"",
         certificate: b"",
         exit: Exit::Done,
-        out: TRIANGLE_CERTIFICATE,
+        out: TRIANGLE_CERTIFICATE_2,
         err: b"",
     },
     Case {
@@ -54,7 +56,7 @@ const CASES: &[Case] = &[
         profile: b"priority 1.1.1.1 10\n",
         certificate: b"",
         exit: Exit::Done,
-        out: TRIANGLE_FROM_1,
+        out: TRIANGLE_FROM_1_2,
         err: b"",
     },
     Case {
@@ -64,7 +66,7 @@ const CASES: &[Case] = &[
         profile: b"",
         certificate: b"",
         exit: Exit::Done,
-        out: LINE_CERTIFICATE,
+        out: LINE_CERTIFICATE_2,
         err: b"",
     },
     Case {
@@ -74,7 +76,7 @@ const CASES: &[Case] = &[
         profile: b"no-mrt 2.2.2.2\n",
         certificate: b"",
         exit: Exit::Done,
-        out: CERTIFICATE,
+        out: CERTIFICATE_2,
         err: b"",
     },
     Case {
@@ -84,7 +86,7 @@ const CASES: &[Case] = &[
         profile: b"",
         certificate: b"",
         exit: Exit::Done,
-        out: THREE_LINKS_CERTIFICATE,
+        out: THREE_LINKS_CERTIFICATE_2,
         err: b"",
     },
     Case {
@@ -94,7 +96,7 @@ const CASES: &[Case] = &[
         profile: b"",
         certificate: b"",
         exit: Exit::Done,
-        out: FIVE_COMPUTED,
+        out: FIVE_COMPUTED_2,
         err: b"",
     },
     Case {
@@ -104,7 +106,7 @@ const CASES: &[Case] = &[
         profile: b"",
         certificate: b"",
         exit: Exit::Done,
-        out: RING_COMPUTED,
+        out: RING_COMPUTED_2,
         err: b"",
     },
     Case {
@@ -114,7 +116,7 @@ const CASES: &[Case] = &[
         profile: b"",
         certificate: b"",
         exit: Exit::Done,
-        out: LAN_CERTIFICATE,
+        out: LAN_CERTIFICATE_2,
         err: b"",
     },
     Case {
@@ -124,7 +126,7 @@ const CASES: &[Case] = &[
         profile: SAMPLE_PROFILE,
         certificate: b"",
         exit: Exit::Done,
-        out: SAMPLE_CERTIFICATE,
+        out: SAMPLE_CERTIFICATE_2,
         err: b"",
     },
     Case {
@@ -134,7 +136,7 @@ const CASES: &[Case] = &[
         profile: b"",
         certificate: b"",
         exit: Exit::Done,
-        out: FIRST_TREE,
+        out: FIRST_TREE_2,
         err: b"",
     },
     Case {
@@ -144,7 +146,7 @@ const CASES: &[Case] = &[
         profile: b"",
         certificate: b"",
         exit: Exit::Done,
-        out: SECOND_TREE,
+        out: SECOND_TREE_2,
         err: b"",
     },
     Case {
@@ -249,7 +251,7 @@ fn takes_as_told(alloc: Global, output: &Output) -> Result<bool, NoMemory> {
         write: output.fails,
     };
     let left = left_on(alloc, OF_1, two(TRIANGLE, b""), devices)?;
-    Ok(left.exit == output.exit && left.out.bytes() == front(TRIANGLE_CERTIFICATE, output.taken))
+    Ok(left.exit == output.exit && left.out.bytes() == front(TRIANGLE_CERTIFICATE_2, output.taken))
 }
 
 #[test]
@@ -286,17 +288,21 @@ fn certificates_cut_short_at_each_call(rt: HostRuntime) {
 fn comes_of_ring(alloc: Global, routers: u32) -> Result<(Exit, usize), NoMemory> {
     let database = ring(alloc, routers, 1)?;
     let words = &["certify", "db", "-", "0.0.0.1"];
-    let left = left_on(alloc, words, two(&database, b""), calm(21_000_000))?;
+    let left = left_on(alloc, words, two(&database, b""), calm(84_000_000))?;
     Ok((left.exit, left.out.bytes().len()))
 }
 
 #[test]
 fn large_rings(rt: HostRuntime) {
     let too_large = Exit::TooLarge {
-        what: What::IslandNodes,
-        size: 2049,
+        what: What::AreaNodes,
+        size: 4097,
     };
-    for (routers, exit, length) in [(2048, Exit::Done, 20_998_158), (2049, too_large, 0)] {
+    for (routers, exit, length) in [
+        (2049, Exit::Done, 21_018_656),
+        (4096, Exit::Done, 83_939_342),
+        (4097, too_large, 0),
+    ] {
         assert_eq!(rt; comes_of_ring(rt.alloc(), routers), Ok((exit, length)));
     }
 }

@@ -2,6 +2,7 @@
 
 use crate::calling::{CHECK, comes_to, two};
 use crate::files::{BACK, FIRST, SECOND, THIRD, TRIANGLE_CERTIFICATE, WITHDRAWN};
+use crate::version_two::TRIANGLE_CERTIFICATE_2;
 use mrt_cmd::Exit;
 use mrt_graph::NoMemory;
 use std::alloc::Global;
@@ -41,7 +42,7 @@ fn is_written(alloc: Global, order: [usize; 5]) -> bool {
             &["certify", "db", "-", "1.1.1.1"],
             two(&bytes, b""),
             Exit::Done,
-            TRIANGLE_CERTIFICATE,
+            TRIANGLE_CERTIFICATE_2,
             b"",
         ),
         Err(NoMemory) => false,

@@ -8,6 +8,8 @@ mod answered;
 #[cfg(test)]
 mod bad_databases;
 #[cfg(test)]
+mod by_order;
+#[cfg(test)]
 mod calling;
 #[cfg(test)]
 mod certified;
@@ -24,7 +26,11 @@ mod files;
 #[cfg(test)]
 mod limits;
 #[cfg(test)]
+mod loop_free;
+#[cfg(test)]
 mod profiles;
+#[cfg(test)]
+mod proxied;
 #[cfg(test)]
 mod refused;
 #[cfg(test)]
@@ -39,5 +45,9 @@ mod surveyed;
 mod tabled;
 #[cfg(test)]
 mod traced;
+#[cfg(test)]
+mod upgraded;
+#[cfg(test)]
+mod version_two;
 #[cfg(test)]
 mod words;

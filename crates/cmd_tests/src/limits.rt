@@ -12,7 +12,7 @@ const SCRIPT: &[&str] = &["fabric", "db", "-", "cert"];
 /// Whether a file of this kind, of so many bytes 0, is refused as too large with this line, beside sound ones. Its first
 /// byte is a fault already.
 fn is_too_large(alloc: Global, what: What, size: u32, line: &[u8]) -> Result<bool, NoMemory> {
-    let long = vec![in alloc; 0; 33_554_433]?;
+    let long = vec![in alloc; 0; 134_217_729]?;
     let long = front(&long, size as usize);
     let exit = Exit::TooLarge { what, size };
     let (words, files) = match what {
@@ -41,8 +41,8 @@ fn files_over_their_limits(rt: HostRuntime) {
         ),
         (
             What::CertificateFile,
-            33_554_433,
-            b"mrt: too large: certificate-file 33554433\n".as_slice(),
+            134_217_729,
+            b"mrt: too large: certificate-file 134217729\n".as_slice(),
         ),
         (
             What::ProfileFile,
@@ -183,17 +183,7 @@ const LARGE: &[Large] = &[
         err: b"",
     },
     Large {
-        routers: 2049,
-        parallel: 1,
-        exit: Exit::TooLarge {
-            what: What::IslandNodes,
-            size: 2049,
-        },
-        out: b"",
-        err: b"mrt: too large: island-nodes 2049\n",
-    },
-    Large {
-        routers: 2048,
+        routers: 4096,
         parallel: 1,
         exit: Exit::No {
             rule: 1,
@@ -215,26 +205,6 @@ const LARGE: &[Large] = &[
     },
     Large {
         routers: 8,
-        parallel: 2048,
-        exit: Exit::TooLarge {
-            what: What::IslandLinks,
-            size: 16384,
-        },
-        out: b"",
-        err: b"mrt: too large: island-links 16384\n",
-    },
-    Large {
-        routers: 4,
-        parallel: 2049,
-        exit: Exit::TooLarge {
-            what: What::IslandLinks,
-            size: 8196,
-        },
-        out: b"",
-        err: b"mrt: too large: island-links 8196\n",
-    },
-    Large {
-        routers: 4,
         parallel: 2048,
         exit: Exit::No {
             rule: 1,

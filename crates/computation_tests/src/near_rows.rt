@@ -35,12 +35,7 @@ fn near_of_all(alloc: Global, g: &Graph, rows: &mut SourceRows) -> Result<Vec<Ro
 }
 
 /// Whether these have what the certificate says of nodes and links.
-fn words_agree(
-    alloc: Global,
-    g: &Graph,
-    rows: &SourceRows,
-    cert: &Cert,
-) -> Result<bool, NoMemory>
+fn words_agree(alloc: Global, g: &Graph, rows: &SourceRows, cert: &Cert) -> Result<bool, NoMemory>
     requires { MakeRows g.now rows.now }
 {
     let nodes = rows.nodes(alloc, g)?;

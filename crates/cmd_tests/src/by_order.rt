@@ -1,0 +1,84 @@
+//! Repairs by order.
+
+use crate::calling::{Case, comes_out};
+use crate::files::{LINE, ROUTER, TRIANGLE};
+use crate::words::USAGE;
+use mrt_cmd::Exit;
+
+const CASES: &[Case] = &[
+    Case {
+        name: "a triangle",
+        words: &["order", "db", "-", "2.2.2.2"],
+        database: TRIANGLE,
+        profile: b"",
+        certificate: b"",
+        exit: Exit::Done,
+        out: b"order 2.2.2.2 root 3.3.3.3\n1.1.1.1 --r brr\n3.3.3.3 b-- bbr\n",
+        err: b"",
+    },
+    Case {
+        name: "a line, of blocks of one link",
+        words: &["order", "db", "-", "1.1.1.1"],
+        database: LINE,
+        profile: b"",
+        certificate: b"",
+        exit: Exit::Done,
+        out: b"order 1.1.1.1 root 4.4.4.4\n",
+        err: b"",
+    },
+    Case {
+        name: "one router",
+        words: &["order", "db", "-", "1.1.1.1"],
+        database: ROUTER,
+        profile: b"",
+        certificate: b"",
+        exit: Exit::Done,
+        out: b"order 1.1.1.1 root 1.1.1.1\n",
+        err: b"",
+    },
+    Case {
+        name: "a router that is not there",
+        words: &["order", "db", "-", "9.9.9.9"],
+        database: TRIANGLE,
+        profile: b"",
+        certificate: b"",
+        exit: Exit::NotThere {
+            number: 0x0909_0909,
+        },
+        out: b"",
+        err: b"mrt: not there: 9.9.9.9\n",
+    },
+    Case {
+        name: "a router that does not take part",
+        words: &["order", "db", "prof", "1.1.1.1"],
+        database: TRIANGLE,
+        profile: b"no-mrt 1.1.1.1",
+        certificate: b"",
+        exit: Exit::NotThere {
+            number: 0x0101_0101,
+        },
+        out: b"",
+        err: b"mrt: not there: 1.1.1.1\n",
+    },
+    Case {
+        name: "no address",
+        words: &["order", "db", "-", "1.1.1"],
+        database: TRIANGLE,
+        profile: b"",
+        certificate: b"",
+        exit: Exit::Usage,
+        out: b"",
+        err: USAGE,
+    },
+];
+
+fn cases() -> &'static [Case] {
+    CASES
+}
+
+#[test]
+fn repairs_by_order(rt: HostRuntime) {
+    for case in cases() {
+        assert!(rt; comes_out(rt.alloc(), case), "{}", case.name);
+    }
+}

@@ -1,0 +1,124 @@
+//! Loop-free alternates.
+
+use crate::calling::{Case, comes_out};
+use crate::files::{FOUR, ONE_SIDED, ROUTER, TRIANGLE};
+use crate::words::USAGE;
+use mrt_cmd::Exit;
+
+const OF_1: &[&str] = &["lfa", "db", "1.1.1.1"];
+
+const CASES: &[Case] = &[
+    Case {
+        name: "a triangle",
+        words: OF_1,
+        database: TRIANGLE,
+        profile: b"",
+        certificate: b"",
+        exit: Exit::Done,
+        out: b"lfa 1.1.1.1 nodes 3\n2.2.2.2 primary 2.2.2.2/0.0.0.2 lfa 3.3.3.3/0.0.0.3 next 3.3.3.3 link\n3.3.3.3 primary 3.3.3.3/0.0.0.3 lfa 2.2.2.2/0.0.0.2 next 2.2.2.2 link\n",
+        err: b"",
+    },
+    Case {
+        name: "a ring of four",
+        words: OF_1,
+        database: FOUR,
+        profile: b"",
+        certificate: b"",
+        exit: Exit::Done,
+        out: b"lfa 1.1.1.1 nodes 4\n2.2.2.2 primary 2.2.2.2/0.0.0.2 lfa none\n3.3.3.3 primary 2.2.2.2/0.0.0.2 lfa 4.4.4.4/0.0.0.4 next 4.4.4.4 node\n4.4.4.4 primary 4.4.4.4/0.0.0.4 lfa none\n",
+        err: b"",
+    },
+    Case {
+        name: "one router",
+        words: OF_1,
+        database: ROUTER,
+        profile: b"",
+        certificate: b"",
+        exit: Exit::Done,
+        out: b"lfa 1.1.1.1 nodes 1\n",
+        err: b"",
+    },
+    Case {
+        name: "a link that one router lists",
+        words: OF_1,
+        database: ONE_SIDED,
+        profile: b"",
+        certificate: b"",
+        exit: Exit::Done,
+        out: b"lfa 1.1.1.1 nodes 2\n",
+        err: b"",
+    },
+    Case {
+        name: "a router that is not there",
+        words: &["lfa", "db", "9.9.9.9"],
+        database: TRIANGLE,
+        profile: b"",
+        certificate: b"",
+        exit: Exit::NotThere {
+            number: 0x0909_0909,
+        },
+        out: b"",
+        err: b"mrt: not there: 9.9.9.9\n",
+    },
+    Case {
+        name: "a profile, which is not read",
+        words: &["lfa", "db", "prof", "1.1.1.1"],
+        database: TRIANGLE,
+        profile: b"",
+        certificate: b"",
+        exit: Exit::Usage,
+        out: b"",
+        err: USAGE,
+    },
+    Case {
+        name: "no router",
+        words: &["lfa", "db"],
+        database: TRIANGLE,
+        profile: b"",
+        certificate: b"",
+        exit: Exit::Usage,
+        out: b"",
+        err: USAGE,
+    },
+    Case {
+        name: "a name that is empty",
+        words: &["lfa", "", "1.1.1.1"],
+        database: TRIANGLE,
+        profile: b"",
+        certificate: b"",
+        exit: Exit::Usage,
+        out: b"",
+        err: USAGE,
+    },
+    Case {
+        name: "a network for a router",
+        words: &["lfa", "db", "net:1.1.1.1"],
+        database: TRIANGLE,
+        profile: b"",
+        certificate: b"",
+        exit: Exit::Usage,
+        out: b"",
+        err: USAGE,
+    },
+    Case {
+        name: "no database",
+        words: &["lfa", "x", "1.1.1.1"],
+        database: TRIANGLE,
+        profile: b"",
+        certificate: b"",
+        exit: Exit::ReadFault { word: 1 },
+        out: b"",
+        err: b"mrt: read fault: word 1\n",
+    },
+];
+
+fn cases() -> &'static [Case] {
+    CASES
+}
+
+#[test]
+fn loop_free_alternates(rt: HostRuntime) {
+    for case in cases() {
+        assert!(rt; comes_out(rt.alloc(), case), "{}", case.name);
+    }
+}

@@ -1,0 +1,118 @@
+//! Prefixes that are attached to two routers.
+
+use crate::calling::{Case, comes_out};
+use crate::files::{LAN, LINE, TRIANGLE};
+use crate::words::USAGE;
+use mrt_cmd::Exit;
+
+const CASES: &[Case] = &[
+    Case {
+        name: "a triangle",
+        words: &["proxy", "db", "-", "3.3.3.3", "1.1.1.1", "2.2.2.2"],
+        database: TRIANGLE,
+        profile: b"",
+        certificate: b"",
+        exit: Exit::Done,
+        out: b"proxy 1.1.1.1 2.2.2.2 root 3.3.3.3\n1.1.1.1 blue attached red 3.3.3.3/0.0.0.3\n2.2.2.2 blue 3.3.3.3/0.0.0.3 red attached\n3.3.3.3 blue 1.1.1.1/0.0.0.1 red 2.2.2.2/0.0.0.2\n",
+        err: b"",
+    },
+    Case {
+        name: "a line",
+        words: &["proxy", "db", "-", "4.4.4.4", "1.1.1.1", "2.2.2.2"],
+        database: LINE,
+        profile: b"",
+        certificate: b"",
+        exit: Exit::Done,
+        out: b"proxy 1.1.1.1 2.2.2.2 root 4.4.4.4\n1.1.1.1 blue 2.2.2.2/0.0.0.2 red attached\n2.2.2.2 blue attached red 1.1.1.1/0.0.0.1\n3.3.3.3 blue 2.2.2.2/0.0.0.2 red 2.2.2.2/0.0.0.2\n4.4.4.4 blue 3.3.3.3/0.0.0.3 red 3.3.3.3/0.0.0.3\n",
+        err: b"",
+    },
+    Case {
+        name: "two routers without a common block",
+        words: &["proxy", "db", "-", "4.4.4.4", "1.1.1.1", "3.3.3.3"],
+        database: LINE,
+        profile: b"",
+        certificate: b"",
+        exit: Exit::NoCommonBlock,
+        out: b"",
+        err: b"mrt: no common block\n",
+    },
+    Case {
+        name: "a first router that is not there",
+        words: &["proxy", "db", "-", "3.3.3.3", "8.8.8.8", "9.9.9.9"],
+        database: TRIANGLE,
+        profile: b"",
+        certificate: b"",
+        exit: Exit::NotThere {
+            number: 0x0808_0808,
+        },
+        out: b"",
+        err: b"mrt: not there: 8.8.8.8\n",
+    },
+    Case {
+        name: "a second router that is not there",
+        words: &["proxy", "db", "-", "3.3.3.3", "1.1.1.1", "9.9.9.9"],
+        database: TRIANGLE,
+        profile: b"",
+        certificate: b"",
+        exit: Exit::NotThere {
+            number: 0x0909_0909,
+        },
+        out: b"",
+        err: b"mrt: not there: 9.9.9.9\n",
+    },
+    Case {
+        name: "a router that is not there",
+        words: &["proxy", "db", "-", "7.7.7.7", "8.8.8.8", "9.9.9.9"],
+        database: TRIANGLE,
+        profile: b"",
+        certificate: b"",
+        exit: Exit::NotThere {
+            number: 0x0707_0707,
+        },
+        out: b"",
+        err: b"mrt: not there: 7.7.7.7\n",
+    },
+    Case {
+        name: "a number that is a network's alone",
+        words: &["proxy", "db", "-", "1.1.1.1", "2.2.2.2", "10.0.0.4"],
+        database: LAN,
+        profile: b"",
+        certificate: b"",
+        exit: Exit::NotThere {
+            number: 0x0a00_0004,
+        },
+        out: b"",
+        err: b"mrt: not there: 10.0.0.4\n",
+    },
+    Case {
+        name: "one router twice",
+        words: &["proxy", "db", "-", "3.3.3.3", "1.1.1.1", "1.1.1.1"],
+        database: TRIANGLE,
+        profile: b"",
+        certificate: b"",
+        exit: Exit::Usage,
+        out: b"",
+        err: USAGE,
+    },
+    Case {
+        name: "one router",
+        words: &["proxy", "db", "-", "3.3.3.3", "1.1.1.1"],
+        database: TRIANGLE,
+        profile: b"",
+        certificate: b"",
+        exit: Exit::Usage,
+        out: b"",
+        err: USAGE,
+    },
+];
+
+fn cases() -> &'static [Case] {
+    CASES
+}
+
+#[test]
+fn prefixes_of_two_routers(rt: HostRuntime) {
+    for case in cases() {
+        assert!(rt; comes_out(rt.alloc(), case), "{}", case.name);
+    }
+}
