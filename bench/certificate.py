@@ -5,24 +5,32 @@ from collections import namedtuple
 from database import Id, Refused
 from lowpoint import ABOVE, BELOW, CARRIED, CLOSING, HEAD, PLAIN, SOLE, SOLE_LINK, TOP, UNORDERED, Cert, Row, common_block
 
-# What the bytes say: the root's router ID, identifiers, the two nodes of each link, and the certificate.
-File = namedtuple("File", "root ids pairs cert")
-NODES, LINKS = 2048, 8192
+# What the bytes say: their version, the root's router ID, identifiers, the two nodes of each link, and the certificate.
+File = namedtuple("File", "version root ids pairs cert")
+# The most nodes and links, by version.
+LIMITS = {1: (2048, 8192), 2: (4096, 16384)}
 
 
 # bytes
 
-def write(island, cert):
-    """The bytes of an island's certificate."""
-    count, links = len(island.ids), island.links
-    parts = [struct.pack(">4sHHHI", b"MRTC", 1, count, len(links), island.ids[island.root].number)]
-    for node, order, head, block in zip(island.ids, cert.order, cert.head, cert.block):
+def spelling(file):
+    """The bytes of a certificate file. In version 2 the rows with the tag Carried are left out."""
+    cert = file.cert
+    parts = [struct.pack(">4sHHHI", b"MRTC", file.version, len(file.ids), len(file.pairs), file.root)]
+    for node, order, head, block in zip(file.ids, cert.order, cert.head, cert.block):
         parts.append(struct.pack(">BIHHH", node.kind, node.number, order, head, block))
-    for link, block, role in zip(links, cert.link_block, cert.role):
-        parts.append(struct.pack(">HHHB", link.a, link.b, block, role))
-    spelling = {row: struct.pack(">HHB", *row) for row in {row for rows in cert.rows for row in rows if row}}
-    parts += (spelling[row] for rows in cert.rows for row in rows if row)
+    for (a, b), block, role in zip(file.pairs, cert.link_block, cert.role):
+        parts.append(struct.pack(">HHHB", a, b, block, role))
+    told = lambda row: row and not (file.version == 2 and row.tag == CARRIED)
+    spelled = {row: struct.pack(">HHB", *row) for row in {row for rows in cert.rows for row in rows if row}}
+    parts += (spelled[row] for rows in cert.rows for row in rows if told(row))
     return b"".join(parts)
+
+
+def write(island, cert, version=2):
+    """The bytes of an island's certificate."""
+    pairs = [(link.a, link.b) for link in island.links]
+    return spelling(File(version, island.ids[island.root].number, island.ids, pairs, cert))
 
 
 class Fields:
@@ -50,14 +58,43 @@ class Fields:
         return a, self.take(2, lambda b: a < b < count)
 
 
+def chain_end(heads, node):
+    """The node after as many steps from head to head as there are nodes."""
+    for _ in heads:
+        node = heads[node]
+    return node
+
+
+def stray_head(heads):
+    """The node whose head is at fault: the least one whose chain does not come to the least node that is its own head."""
+    tops = [node for node, head in enumerate(heads) if node == head]
+    return next((node for node in range(len(heads)) if not tops or chain_end(heads, node) != tops[0]), None)
+
+
+def carry(heads, rows):
+    """Puts the rows of unrelated nodes in: that of s for t has the links of the row of s for the head of t, or, where t is the top, of s."""
+    top = min(node for node, head in enumerate(heads) if node == head)
+
+    def row(s, t):
+        if rows[s][t] is None:
+            rows[s][t] = row(s, heads[s] if t == top else heads[t])._replace(tag=CARRIED)
+        return rows[s][t]
+
+    for s in range(len(heads)):
+        for t in range(len(heads)):
+            if s != t:
+                row(s, t)
+
+
 def read(data):
     """The certificate file that the bytes are, or the first field that is not allowed."""
     fields = Fields(data)
     any_value, below = lambda value: True, lambda limit: lambda value: value < limit
     fields.take(4, lambda value: value == int.from_bytes(b"MRTC", "big"), "magic")
-    fields.take(2, lambda value: value == 1, "magic")
-    n = fields.take(2, lambda value: 1 <= value <= NODES)
-    m = fields.take(2, lambda value: value <= LINKS)
+    version = fields.take(2, lambda value: value in LIMITS, "magic")
+    nodes, links = LIMITS[version]
+    n = fields.take(2, lambda value: 1 <= value <= nodes)
+    m = fields.take(2, lambda value: value <= links)
     root = fields.take(4, any_value)
     ids, orders, heads, blocks, pairs, link_blocks, roles = [], [], [], [], [], [], []
     for _ in range(n):
@@ -66,15 +103,22 @@ def read(data):
         orders.append(fields.take(2, lambda value: 1 <= value <= n))
         heads.append(fields.take(2, below(n)))
         blocks.append(fields.take(2, below(n)))
+    stray = stray_head(heads) if version == 2 else None
+    if stray is not None:
+        fields.refuse("heads", 14 + 11 * stray + 7)
     for _ in range(m):
         pairs.append(fields.pair(n))
         link_blocks.append(fields.take(2, below(n)))
         roles.append(fields.take(1, below(3)))
-    rows = [[Row(fields.take(2, below(m)), fields.take(2, below(m)), fields.take(1, below(7), "tag")) if s != t else None
+    told = lambda s, t: s != t and (version == 1 or common_block(heads, blocks, s, t) is not None)
+    tags = 7 if version == 1 else 6
+    rows = [[Row(fields.take(2, below(m)), fields.take(2, below(m)), fields.take(1, below(tags), "tag")) if told(s, t) else None
              for t in range(n)] for s in range(n)]
     if fields.at < len(data):
         fields.refuse("trailing", fields.at)
-    return File(root, ids, pairs, Cert(orders, heads, blocks, link_blocks, roles, rows))
+    if version == 2:
+        carry(heads, rows)
+    return File(version, root, ids, pairs, Cert(orders, heads, blocks, link_blocks, roles, rows))
 
 
 # the fourteen rules

@@ -1,6 +1,7 @@
 #!/usr/bin/env python3
 """A plain reference program: writes the certificate of a router's island, prints a router's table, steps packets through a failure, and says
-what `mrt check` is to say of a certificate.
+what `mrt check` is to say of a certificate. `upgrade` writes an accepted certificate in version 2, `lfa` prints a router's loop-free alternates, `order`
+its repairs by order, and `proxy` the rows for a prefix of two routers.
 
 usage: certify.py certify DATABASE PROFILE ROUTER CERTIFICATE
        certify.py check DATABASE PROFILE CERTIFICATE
@@ -8,6 +9,10 @@ usage: certify.py certify DATABASE PROFILE ROUTER CERTIFICATE
        certify.py trace DATABASE PROFILE FROM TO ENTRY [FAILED]
        certify.py fabric DATABASE PROFILE SCRIPT
        certify.py rows DATABASE PROFILE ROUTER
+       certify.py upgrade DATABASE PROFILE CERTIFICATE WRITTEN
+       certify.py lfa DATABASE ROUTER
+       certify.py order DATABASE PROFILE ROUTER
+       certify.py proxy DATABASE PROFILE ROUTER A B
 
 PROFILE is the name of a file, or - for the empty profile. `rows` prints the rows of a router and the order of the GADAG. A refusal is
 printed as `mrt` prints it, and its status is the same. It is slow: an island of 2,048 nodes takes a minute or two.
@@ -15,16 +20,19 @@ printed as `mrt` prints it, and its status is the same. It is slow: an island of
 import os
 import sys
 
+import alternates
+import by_order
 import certificate
 import database
 import fabric as fabrics
 import island as islands
 import lowpoint
+import proxied
 import table as tables
 from database import Id, Refused, text_of
 from lsas import address, spelled
 
-LIMITS = {"database-file": 8388608, "profile-file": 33554432, "certificate-file": 33554432, "script-file": 33554432}
+LIMITS = {"database-file": 8388608, "profile-file": 33554432, "certificate-file": 134217728, "script-file": 33554432}
 
 
 def read(name, what):
@@ -48,9 +56,7 @@ def parts_of(data, profile, router):
     """The area of a database, and the island of a router in it; what is over its limits is refused."""
     area, read_profile = area_of(data), islands.read_profile(profile)
     database.check_size(area)
-    found = islands.island_of(area, read_profile, router)
-    islands.check_size(found)
-    return area, found
+    return area, islands.island_of(area, read_profile, router)
 
 
 def island_of(data, profile, router):
@@ -64,16 +70,45 @@ def certify(data, profile, router):
     return certificate.write(found, lowpoint.compute(found))
 
 
-def check(data, profile, cert):
-    """The line of an accepted certificate; another one is refused."""
+def accepted(data, profile, cert):
+    """The island of an accepted certificate's root, and its file; another one is refused."""
     area, read_profile, file = area_of(data), islands.read_profile(profile), certificate.read(cert)
     database.check_size(area)
     found = islands.island_of(area, read_profile, file.root)
-    islands.check_size(found)
     fault = certificate.first_fault(found, file)
     if fault:
         raise Refused(1, "no: rule {} at {} {}".format(*fault))
+    return found, file
+
+
+def check(data, profile, cert):
+    """The line of an accepted certificate; another one is refused."""
+    found, file = accepted(data, profile, cert)
     return f"accepted root {spelled(file.root)} nodes {len(found.ids)} links {len(found.links)}"
+
+
+def upgrade(data, profile, cert):
+    """The bytes of an accepted certificate in version 2; another one is refused."""
+    return certificate.spelling(accepted(data, profile, cert)[1]._replace(version=2))
+
+
+def lfa(data, router):
+    """The text on the loop-free alternates of a router."""
+    area = area_of(data)
+    database.check_size(area)
+    return "\n".join(alternates.text(area, router))
+
+
+def order(data, profile, router):
+    """The text on the repairs by order of a router."""
+    return "\n".join(by_order.text(island_of(data, profile, router), router))
+
+
+def proxy(data, profile, words):
+    """The text on a prefix that two routers of a router's island reach."""
+    router, first, second = words
+    found = island_of(data, profile, router)
+    return "\n".join(proxied.text(found, lowpoint.compute(found), first, second))
 
 
 def table(data, profile, router):
@@ -126,6 +161,16 @@ def run(command, words):
         print(table(*read_parts(*words[:2]), address(words[2])))
     elif command == "trace":
         sys.stdout.buffer.write(trace(*read_parts(*words[:2]), [os.fsencode(word) for word in words[2:]]))
+    elif command == "upgrade":
+        bytes_of = upgrade(*read_parts(*words[:2]), read(words[2], "certificate-file"))
+        with open(words[3], "wb") as file:
+            file.write(bytes_of)
+    elif command == "order":
+        print(order(*read_parts(*words[:2]), address(words[2])))
+    elif command == "proxy":
+        print(proxy(*read_parts(*words[:2]), [address(word) for word in words[2:]]))
+    elif command == "lfa":
+        print(lfa(read(words[0], "database-file"), address(words[1])))
     elif command == "fabric":
         sys.stdout.buffer.write(fabric(*read_parts(*words[:2]), read(words[2], "script-file")))
     else:
@@ -133,7 +178,7 @@ def run(command, words):
 
 
 def main():
-    counts = {"certify": [4], "check": [3], "table": [3], "trace": [5, 6], "fabric": [3], "rows": [3]}
+    counts = {"certify": [4], "check": [3], "table": [3], "trace": [5, 6], "fabric": [3], "rows": [3], "upgrade": [4], "lfa": [2], "order": [3], "proxy": [5]}
     if len(sys.argv) < 2 or len(sys.argv) - 2 not in counts.get(sys.argv[1], []):
         sys.exit(__doc__)
     try:

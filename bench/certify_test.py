@@ -55,7 +55,49 @@ LINE_CERT = """4d52544300010004000304040404
 0000000000 0000000006 0000000006  0000000000 0001000100 0001000106
 0001000106 0001000100 0002000200  0002000206 0002000206 0002000200"""
 
-CERTS = [("one router", ALONE, ALONE_CERT), ("a stub link", WITH_STUB, ALONE_CERT), ("a triangle", TRIANGLE, TRIANGLE_CERT), ("a line", LINE, LINE_CERT)]
+# The same in version 2, which leaves the carried rows out.
+ALONE_CERT_2, TRIANGLE_CERT_2 = (text.replace("4d5254430001", "4d5254430002", 1) for text in (ALONE_CERT, TRIANGLE_CERT))
+LINE_CERT_2 = """4d52544300020004000304040404
+01 01010101 0004 0001 0000  01 02020202 0003 0002 0001  01 03030303 0002 0003 0002  01 04040404 0001 0003 0003
+0000 0001 0000 01  0001 0002 0001 01  0002 0003 0002 01
+0000000000  0000000000 0001000100  0001000100 0002000200  0002000200"""
+
+CERTS = [("one router", ALONE, ALONE_CERT_2), ("a stub link", WITH_STUB, ALONE_CERT_2), ("a triangle", TRIANGLE, TRIANGLE_CERT_2), ("a line", LINE, LINE_CERT_2)]
+
+# Database, certificate, and what `upgrade` writes, or says.
+UPGRADES = [
+    (TRIANGLE, TRIANGLE_CERT, TRIANGLE_CERT_2), (TRIANGLE, TRIANGLE_CERT_2, TRIANGLE_CERT_2), (LINE, LINE_CERT, LINE_CERT_2),
+    (LINE, LINE_CERT_2, LINE_CERT_2), (LINE, TRIANGLE_CERT, "no: rule 1 at 0 2"),
+]
+
+# The texts on repairs by order, or the last lines of them.
+REPAIRS = [
+    ("a triangle", TRIANGLE, 2, "order 2.2.2.2 root 3.3.3.3\n1.1.1.1 --r brr\n3.3.3.3 b-- bbr"),
+    ("an unordered pair", UNORDERED, 1, "3.3.3.3 -b-br brbbbr"),
+]
+
+# The texts on prefixes.
+PREFIXES = [
+    (TRIANGLE, (3, 1, 2), """proxy 1.1.1.1 2.2.2.2 root 3.3.3.3
+1.1.1.1 blue attached red 3.3.3.3/0.0.0.3
+2.2.2.2 blue 3.3.3.3/0.0.0.3 red attached
+3.3.3.3 blue 1.1.1.1/0.0.0.1 red 2.2.2.2/0.0.0.2"""),
+    (LINE, (4, 1, 2), """proxy 1.1.1.1 2.2.2.2 root 4.4.4.4
+1.1.1.1 blue 2.2.2.2/0.0.0.2 red attached
+2.2.2.2 blue attached red 1.1.1.1/0.0.0.1
+3.3.3.3 blue 2.2.2.2/0.0.0.2 red 2.2.2.2/0.0.0.2
+4.4.4.4 blue 3.3.3.3/0.0.0.3 red 3.3.3.3/0.0.0.3"""),
+    (LINE, (4, 1, 3), "no common block"),
+]
+
+# The texts on loop-free alternates.
+ALTERNATES = [
+    ("a triangle", TRIANGLE, "2.2.2.2 primary 2.2.2.2/0.0.0.2 lfa 3.3.3.3/0.0.0.3 next 3.3.3.3 link"),
+    ("a ring", worked([(1, 2), (2, 3), (3, 4), (1, 4)]), """lfa 1.1.1.1 nodes 4
+2.2.2.2 primary 2.2.2.2/0.0.0.2 lfa none
+3.3.3.3 primary 2.2.2.2/0.0.0.2 lfa 4.4.4.4/0.0.0.4 next 4.4.4.4 node
+4.4.4.4 primary 4.4.4.4/0.0.0.4 lfa none"""),
+]
 
 # The order of the GADAG.
 ORDERS = [
@@ -181,6 +223,10 @@ def checks():
         (router_lsa(router(1), [(router(2), 2, 1, 10), (router(3), 3, 1, 0)]) + TRIANGLE[48:], b"", triangle, "bad database: zero-metric at 0"),
         (ALONE + changed(ALONE, 20, "ff"), b"", triangle, "bad database: conflict at 24 with 0"),
         (ALONE + ALONE, b"", bytes.fromhex(ALONE_CERT), "accepted root 1.1.1.1 nodes 1 links 0"),
+        (TRIANGLE, b"", changed(triangle, 5, "02"), "accepted root 3.3.3.3 nodes 3 links 3"),
+        (TRIANGLE, b"", changed(changed(triangle, 5, "02"), 72, "06"), "bad certificate: tag at 72"),
+        (TRIANGLE, b"", changed(changed(changed(triangle, 5, "02"), 21, "0001"), 32, "0000"), "bad certificate: heads at 21"),
+        (LINE, b"", bytes.fromhex(LINE_CERT_2), "accepted root 4.4.4.4 nodes 4 links 3"),
         (OUT_AT_1, b"", triangle, "no: rule 1 at 0 2"),
         (OUT_AT_3, b"", triangle, "no: rule 1 at 0 2"),
         (NEARLY_OUT, b"", triangle, "accepted root 3.3.3.3 nodes 3 links 3"),
@@ -262,6 +308,15 @@ def main():
         expect(what, lines[-len(text.strip().split("\n")):], text.strip().split("\n"))
     for what, data, words, text in TRACES:
         expect(what, answer(certify.trace, data, b"", [word.encode() for word in words.split(" ")]), text.encode())
+    for number, (data, cert, written) in enumerate(UPGRADES):
+        given = answer(certify.upgrade, data, b"", bytes.fromhex(cert))
+        expect(f"upgrade {number}", given, written if isinstance(given, str) else bytes.fromhex(written))
+    for what, data, source, text in REPAIRS:
+        expect(what, text in answer(certify.order, data, b"", router(source)), True)
+    for data, routers, text in PREFIXES:
+        expect(f"a prefix {routers}", answer(certify.proxy, data, b"", [router(one) for one in routers]), text)
+    for what, data, text in ALTERNATES:
+        expect(what, text in answer(certify.lfa, data, router(1)), True)
     for number, (data, profile, cert, line) in enumerate(checks()):
         expect(f"check {number}", answer(certify.check, data, profile, cert), line)
     expect("survey 0 4", survey(0, 4), (4, 5, 1, 0, 12, 0, 23, 27))
@@ -271,7 +326,10 @@ def main():
         data = random_area(random)
         cert = certify.certify(data, b"", router(1))
         expect(f"area {number}", answer(certify.check, data, b"", cert).split(" ")[0], "accepted")
+        expect(f"upgrade of area {number}", certify.upgrade(data, b"", cert) == cert, True)
         file = certificate.read(cert)
+        older = certificate.spelling(file._replace(version=1))
+        expect(f"area {number} in version 1", certify.upgrade(data, b"", older) == cert, True)
         expect(f"sound {number}", is_sound(len(file.ids), file.pairs, file.cert.rows), True)
     print(f"{len(CERTS)} certificates, {len(ORDERS)} orders, {len(TABLES)} tables, {len(TRACES)} traces, {len(checks())} checks and {areas} random "
           "areas as expected")

@@ -1,6 +1,6 @@
 #!/usr/bin/env python3
-"""Compares `mrt check`, `certify`, `table`, `trace` and `fabric` with the reference program on random areas, profiles, certificates, traces and
-scripts, whole and damaged.
+"""Compares `mrt check`, `certify`, `table`, `trace`, `fabric`, `upgrade`, `lfa`, `order` and `proxy` with the reference program on random areas, profiles,
+certificates of both versions, traces and scripts, whole and damaged.
 
 usage: compare.py PROGRAM [CASES [SEED]]
 
@@ -22,14 +22,14 @@ from areas import random_area, random_ring, router, write
 from database import ROUTER, Refused, text_of
 from lsas import address, lsa, spelled
 
-COMMANDS = "check", "certify", "table", "trace", "fabric", "check of what was written"
+COMMANDS = "check", "certify", "table", "trace", "fabric", "upgrade", "lfa", "order", "proxy", "check of what was written", "upgrade of what was written"
 WRONG_NAMES = ("", "net:", "1.1.1", "1.1.1.256", "1.1.1.01", "net:1.1.1.1.1", "link:1.1.1.1", "link:1.1.1.1/", "link:/0.0.0.1",
                "link:net:1.1.1.1/0.0.0.1")
 WRONG_LINES = ("step", "step -1", "step 00", "step 65536", "step 0 0", "Step 0", "fail", "fail 1.1.1.1 2.2.2.2", "inject 1.1.1.1 2.2.2.2", "stop",
                "inject net:10.0.0.1 2.2.2.2 blue", "inject 1.1.1.1 2.2.2.2 green", "island 1.1.1.1 1", "island 1.1.1.1 0", "island 1.1.1.1 65536")
 
-# Certificate and script are the bytes of files; a router is that of `certify` and `table`; a trace is its words.
-Case = namedtuple("Case", "data profile cert router trace script")
+# Certificate and script are the bytes of files; a router is that of `certify` and `table`; a trace is its words; the ends of a prefix are two routers.
+Case = namedtuple("Case", "data profile cert router trace script ends")
 
 
 # databases
@@ -106,13 +106,13 @@ def random_certificate(random, data, profile):
         found = certify.island_of(data, profile, router(random.randint(1, 3)))
     except Refused:
         found = certify.island_of(random_area(random), b"", router(1))
-    text = certificate.write(found, lowpoint.compute(found))
+    text = certificate.write(found, lowpoint.compute(found), random.choice([1, 2]))
     if random.random() < 0.2:
         return damaged(random, text)
     if random.random() < 0.6:
         file = certificate.read(text)
         damaged_fields(random, file)
-        return certificate.write(found, file.cert)
+        return certificate.spelling(file)
     return text
 
 
@@ -229,10 +229,10 @@ def reference(function, case, last):
 def wanted(case):
     """The same for each command. What is written has to be accepted."""
     tasks = ((certify.check, case.cert), (certify.certify, case.router), (certify.table, case.router), (certify.trace, case.trace),
-             (certify.fabric, case.script))
+             (certify.fabric, case.script), (certify.upgrade, case.cert), (lambda data, profile, router: certify.lfa(data, router), case.router), (certify.order, case.router), (certify.proxy, (case.router, *case.ends)))
     answers = [reference(function, case, last) for function, last in tasks]
     status, written, _ = answers[1]
-    return answers + ([reference(certify.check, case, written)] if status == 0 else [])
+    return answers + ([reference(function, case, written) for function in (certify.check, certify.upgrade)] if status == 0 else [])
 
 
 def answered(program, folder, case):
@@ -242,16 +242,21 @@ def answered(program, folder, case):
         done = subprocess.run([program, command, database, lines if case.profile else "-", *words], capture_output=True)
         return done.returncode, done.stdout, done.stderr
 
+    def alternates():
+        done = subprocess.run([program, "lfa", database, spelled(case.router)], capture_output=True)
+        return done.returncode, done.stdout, done.stderr
+
     names = "area.lsas", "area.profile", "area.cert", "packets.script", "written.cert"
     database, lines, given, script, own = (os.path.join(folder, name) for name in names)
     for name, text in ((database, case.data), (lines, case.profile), (given, case.cert), (script, case.script)):
         write(name, text)
     answers = [answer("check", given), answer("certify", spelled(case.router)), answer("table", spelled(case.router)), answer("trace", *case.trace),
-               answer("fabric", script)]
+               answer("fabric", script), answer("upgrade", given), alternates(),
+               answer("order", spelled(case.router)), answer("proxy", spelled(case.router), *(spelled(end) for end in case.ends))]
     status, written, _ = answers[1]
     if status == 0:
         write(own, written)
-        answers.append(answer("check", own))
+        answers += [answer("check", own), answer("upgrade", own)]
     return answers
 
 
@@ -259,7 +264,8 @@ def random_case(random):
     data, profile = random_database(random), random_profile(random)
     area = named_area(data)
     cert, source = random_certificate(random, data, profile), router(random.randint(1, 7))
-    return Case(data, profile, cert, source, random_trace(random, area), random_script(random, area))
+    ends = random.sample([router(number) for number in range(1, 9)], 2)
+    return Case(data, profile, cert, source, random_trace(random, area), random_script(random, area), ends)
 
 
 def main():

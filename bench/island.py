@@ -4,7 +4,6 @@ from collections import namedtuple
 from database import NETWORK, ROUTER, Id, Refused
 from lsas import MAX_LINK_METRIC, spelled
 
-ISLAND_NODES, ISLAND_LINKS = 2048, 8192
 
 Profile = namedtuple("Profile", "priorities unsupported ineligible")
 # A link is its two nodes by number, the lower one first, and of each the metric and the link data.
@@ -130,11 +129,3 @@ def island_of(area, profile, router):
             links.append(Link(place[bond.a], place[bond.b], bond.metric_a, bond.metric_b, bond.data_a, bond.data_b))
     ids = [area.ids[node] for node in members]
     return Island(ids, links, ends_of(len(ids), links), root_of(ids, profile), link_of)
-
-
-def check_size(island):
-    """An island over its limits is refused."""
-    if len(island.ids) > ISLAND_NODES:
-        raise Refused(6, f"too large: island-nodes {len(island.ids)}")
-    if len(island.links) > ISLAND_LINKS:
-        raise Refused(6, f"too large: island-links {len(island.links)}")

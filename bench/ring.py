@@ -23,9 +23,9 @@ def link_between(low, high, n):
     return low + 1
 
 
-def certificate(n):
+def certificate(n, version=2):
     root = n - 1
-    parts = [b"MRTC", struct.pack(">HHHI", 1, n, n, n)]
+    parts = [b"MRTC", struct.pack(">HHHI", version, n, n, n)]
     for node in range(n):
         if node == root:
             order, head, block = 1, root, root

@@ -5,7 +5,7 @@ usage: tree.py star|line ROUTERS CERTIFICATE DATABASE
        tree.py sample CERTIFICATE DATABASE
 
 The root is the router of the highest ID. In a tree each link is a block of its own: a node's head is the node before it on the way from
-the root, and its block is named by itself. The rows for a neighbour are the link to it; every other row is carried.
+the root, and its block is named by itself. The rows for a neighbour are the link to it; every other row is carried, and left out in version 2.
 """
 import struct
 import sys
@@ -16,8 +16,8 @@ from lsas import POINT_TO_POINT, STUB, address, router_lsa
 SOLE_ROLE, SOLE, CARRIED = 1, 0, 6
 
 
-def certificate(ids, edges):
-    """The certificate of routers by ascending ID and of edges (lower, higher), both by number."""
+def certificate(ids, edges, version=2):
+    """The certificate of routers by ascending ID and of edges (lower, higher), both by number. Version 2 leaves the carried rows out."""
     n = len(ids)
     edges = sorted(edges)
     ends = [[] for _ in range(n)]
@@ -38,7 +38,7 @@ def certificate(ids, edges):
                 waiting.append(other)
     place = {node: at + 1 for at, node in enumerate(order)}
 
-    parts = [b"MRTC", struct.pack(">HHHI", 1, n, len(edges), ids[root])]
+    parts = [b"MRTC", struct.pack(">HHHI", version, n, len(edges), ids[root])]
     for node in range(n):
         parts.append(struct.pack(">BIHHH", 1, ids[node], place[node], head[node], node))
     for a, b in edges:
@@ -57,7 +57,7 @@ def certificate(ids, edges):
         near = {other for other, _ in ends[source]}
         row = struct.Struct(">HHB")
         parts.append(b"".join(
-            row.pack(towards[t], towards[t], SOLE if t in near else CARRIED) for t in range(n) if t != source))
+            row.pack(towards[t], towards[t], SOLE if t in near else CARRIED) for t in range(n) if t != source and (version == 1 or t in near)))
     return b"".join(parts)
 
 

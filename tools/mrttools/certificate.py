@@ -8,6 +8,7 @@ from .area import Node
 
 HEADER, NODE, LINK, ROW = 14, 11, 7, 5
 BLUE, RED = 0, 1
+CARRIED = b"\x06"
 COLORS = "blue", "red"
 
 
@@ -44,7 +45,7 @@ class Certificate(NamedTuple):
 
 def read(data: bytes) -> Certificate:
     """The certificate of bytes that were accepted."""
-    _, _, count, links, root = struct.unpack_from(">4sHHHI", data)
+    _, version, count, links, root = struct.unpack_from(">4sHHHI", data)
     at, nodes, heads, blocks, pairs = HEADER, [], [], [], []
     for kind, number, _, head, block in struct.iter_unpack(">BIHHH", data[at : at + NODE * count]):
         nodes.append(Node(number, kind))
@@ -53,4 +54,28 @@ def read(data: bytes) -> Certificate:
     at += NODE * count
     for a, b, _, _ in struct.iter_unpack(">HHHB", data[at : at + LINK * links]):
         pairs.append((a, b))
-    return Certificate(nodes, Node(root, 1), heads, blocks, pairs, data[at + LINK * links :])
+    rows = data[at + LINK * links :]
+    if version == 2:
+        rows = all_rows(nodes.index(Node(root, 1)), heads, blocks, rows)
+    return Certificate(nodes, Node(root, 1), heads, blocks, pairs, rows)
+
+
+def all_rows(root: int, heads: list[int], blocks: list[int], rows: bytes) -> bytes:
+    """The rows of all pairs, of those of nodes with a common block. The row of s for another t has the links of the row
+    of s for the head of t or, where t is the root, for the head of s."""
+    count, at, found = len(heads), 0, {}
+
+    def related(s: int, t: int) -> bool:
+        return blocks[s] == blocks[t] or t == heads[s] or s == heads[t]
+
+    def row(s: int, t: int) -> bytes:
+        while (s, t) not in found:
+            t = heads[s] if t == root else heads[t]
+        return found[s, t]
+
+    pairs = [(s, t) for s in range(count) for t in range(count) if s != t]
+    for pair in pairs:
+        if related(*pair):
+            found[pair] = rows[at : at + ROW]
+            at += ROW
+    return b"".join(found[pair] if pair in found else row(*pair)[:4] + CARRIED for pair in pairs)

@@ -1,6 +1,7 @@
 """Pictures, by the sample with a LAN. A stand-in for the program gives its certificate: nothing need be built."""
 import os
 import shutil
+import struct
 import subprocess
 import tempfile
 import unittest
@@ -37,6 +38,22 @@ def sample() -> Island:
     with open(f"{DATA}/lan.cert", "rb") as file:
         cert = certificate.read(file.read())
     return Island(whole, cert, area.island_bonds(whole, cert.nodes, kept_out))
+
+
+def in_version_two(data: bytes) -> bytes:
+    """A certificate file of version 1 in version 2: without the carried rows."""
+    _, _, count, links, _ = struct.unpack_from(">4sHHHI", data)
+    at = certificate.HEADER + certificate.NODE * count + certificate.LINK * links
+    rows = [data[row : row + certificate.ROW] for row in range(at, len(data), certificate.ROW)]
+    return data[:5] + b"\x02" + data[6:at] + b"".join(row for row in rows if row[4] != 6)
+
+
+class Certificates(unittest.TestCase):
+    def test_both_versions_say_the_same(self) -> None:
+        with open(f"{DATA}/lan.cert", "rb") as file:
+            data = file.read()
+        self.assertLess(len(in_version_two(data)), len(data))
+        self.assertEqual(certificate.read(in_version_two(data)), certificate.read(data))
 
 
 class Areas(unittest.TestCase):
