@@ -120,7 +120,7 @@ const CASES: &[Case] = &[
             b: 2,
         },
         out: b"",
-        err: b"mrt: no: rule 2 at 0 0\n",
+        err: b"mrt: no: rule 2 at 2 2\n",
     },
     Case {
         name: "no certificate",
