@@ -1,4 +1,5 @@
-//! Tests of the computation: search trees, ears, directions, paths, rows, columns and certificates by hand; repairs by order.
+//! Tests of the computation: search trees, ears, directions, paths, rows, columns and certificates by hand; repairs by
+//! order; certificates written as they are found.
 #![tactic(auto)]
 
 #[cfg(test)]
@@ -23,3 +24,5 @@ mod order_walks;
 mod paths_to_nodes;
 #[cfg(test)]
 mod search_trees;
+#[cfg(test)]
+mod streamed;

@@ -1,0 +1,2 @@
+mod Nears
+mod Whole

@@ -1,0 +1,29 @@
+-- A certificate that is found as it is written.
+use Rattle.std.specs.Prelude.{◌≡◌, ℕ, List}
+use Rattle.mrt_graph.specs.declared.cert.CertFile.{CertFile}
+use Rattle.mrt_graph.specs.declared.cert.CertLink.{CertLink}
+use Rattle.mrt_graph.specs.declared.cert.CertNode.{CertNode}
+use Rattle.mrt_graph.specs.Topology.{Topology}
+use Rattle.mrt_rows.specs.declared.source_rows.SourceRows.{SourceRows}
+use Rattle.mrt_rows.specs.CertOf.{IsCertOf}
+use Rattle.mrt_rows.specs.NearOf.{MakeRows}
+use Rattle.cert_format.specs.Limits.{IsCertFile}
+
+-- a graph and its root
+pub record Stream : Type 0 where
+  pub graph : Topology
+  pub root : ℕ
+
+-- these are the number of a file's root, its nodes and its links
+pub record AreOfFile (file : CertFile) (number : ℕ) (nodes : List CertNode) (links : List CertLink) : Type 0 where
+  pub of_root : number ≡ file.root
+  pub all_nodes : nodes ≡ file.cert.nodes
+  pub all_links : links ≡ file.cert.links
+
+-- what is held before a certificate is written: what makes its rows, and its other parts; there is such a certificate, and
+-- it is within the limits of its version
+pub record IsStream (g : Topology) (number : ℕ) (nodes : List CertNode) (links : List CertLink) (rows : SourceRows) : Type 0 where
+  pub made : MakeRows g rows
+  pub some : (file : CertFile) × IsCertOf g rows.root file
+  pub parts : (file : CertFile) → IsCertOf g rows.root file → AreOfFile file number nodes links
+  pub within : (file : CertFile) → IsCertOf g rows.root file → IsCertFile file

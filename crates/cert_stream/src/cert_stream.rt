@@ -1,0 +1,110 @@
+//! The certificate of a graph and its root, found as it is written.
+
+ghost use Rattle.std.specs.Prelude.{◌≡◌, ◌<◌, ◌≤◌, ◌-◌, ℕ, length, IsOk, IfOk, IfErr, OnOk};
+ghost use Rattle.mrt_graph.specs.declared.cert.CertFile.{CertFile};
+ghost use Rattle.mrt_graph.specs.GraphInvariant.{IsTopology};
+ghost use Rattle.mrt_io.specs.Counts.{Rose};
+ghost use Rattle.mrt_io.specs.Writing.{Gained, GainedPart};
+ghost use Rattle.mrt_rows.specs.CertOf.{IsCertOf};
+ghost use Rattle.cert_format.specs.CertText.{cert_text};
+ghost use Rattle.cert_format.specs.Limits.{IsCertFile};
+
+use crate::numbers::numbers_fit;
+use crate::parts::put_file;
+use cert_format::CertWriter;
+use mrt_graph::{CertLink, CertNode, Graph, NoMemory, NodeNo};
+use mrt_io::{PutError, Sink};
+use mrt_rows::SourceRows;
+use std::alloc::Global;
+use std::marker::Model;
+
+/// The version of the files.
+const VERSION: u16 = 2;
+
+/// The certificate of a graph and its root, the rows of which are found as they are written.
+#[derive(Drop)]
+pub struct CertStream {
+    graph: Graph,
+    number: u32,
+    nodes: Vec<CertNode>,
+    links: Vec<CertLink>,
+    rows: SourceRows,
+}
+
+impl Model for CertStream {
+    ghost use Rattle.cert_stream.specs.Stream.{IsStream, Stream};
+
+    ghost Value = { Stream };
+
+    ghost view = { λ s. record { graph = s.graph; root = s.rows.root } };
+
+    ghost invariant = { λ s. IsStream s.graph s.number s.nodes.items s.links.items s.rows };
+}
+
+impl CertStream {
+    /// The certificate of a graph from this root, which is not made yet. All memory that writing needs is taken here.
+    ///
+    /// It takes time and memory in proportion to the nodes and the links: for each node some 800 bytes.
+    ///
+    /// # Errors
+    ///
+    /// [`NoMemory`] where there was none.
+    pub fn new(alloc: Global, graph: Graph, root: NodeNo) -> Result<CertStream, NoMemory>
+        requires { root < length graph.ids }
+        ensures made { IfOk result (λ stream. stream ≡ record { graph = graph; root = root }) }
+        ensures cert { IfOk result (λ _. (file : CertFile) × IsCertOf graph root file) }
+        ensures within { IfOk result (λ _. (file : CertFile) → IsCertOf graph root file → IsCertFile file) }
+        ensures kept { IfOk result (λ _. IsTopology graph) }
+    {
+        let rows = SourceRows::new(alloc, &graph, root)?;
+        let nodes = rows.nodes(alloc, &graph)?;
+        let links = rows.links(alloc, &graph)?;
+        let number = graph.id(root).number;
+        numbers_fit(number, &nodes);
+        Ok(CertStream {
+            graph,
+            number,
+            nodes,
+            links,
+            rows,
+        })
+    }
+
+    /// Writes the bytes of the certificate's file of version 2, 65,536 at a time. The rows are found node after node:
+    /// those of a node go to the piece before those of the next one are found. It takes no memory.
+    ///
+    /// It takes time for each node in proportion to the nodes and the ends of all nodes.
+    ///
+    /// # Errors
+    ///
+    /// `Failed { taken }` where the sink failed: how many bytes it had taken, fewer than all.
+    pub fn put<K: Sink>(self, sink: &mut K) -> Result<(), PutError>
+        ensures cert { (file : CertFile) × IsCertOf self.graph self.root file }
+        ensures within { (file : CertFile) → IsCertOf self.graph self.root file → IsCertFile file }
+        ensures gained { (file : CertFile) → IsCertOf self.graph self.root file
+            → OnOk result (Gained (K.written sink.old) (cert_text file) (K.written sink.new)) }
+        ensures part { (file : CertFile) → IsCertOf self.graph self.root file
+            → IfErr result (GainedPart (K.written sink.old) (cert_text file) (K.written sink.new)) }
+        ensures cause { IfErr result (λ _. Rose (K.faults sink.old) (K.faults sink.new)) }
+        ensures count { K.faults sink.old ≤ K.faults sink.new }
+
+        // Over a sink that is healthy for the bytes.
+        ensures succeeds { (file : CertFile) → IsCertOf self.graph self.root file
+            → K.healthy_for sink.old (length (cert_text file)) → IsOk result }
+        ensures no_fault { (file : CertFile) → IsCertOf self.graph self.root file
+            → (n : ℕ) → K.healthy_for sink.old n → length (cert_text file) ≤ n → K.faults sink.new ≡ K.faults sink.old }
+        ensures stays_healthy { (file : CertFile) → IsCertOf self.graph self.root file
+            → (n : ℕ) → K.healthy_for sink.old n → length (cert_text file) ≤ n
+            → K.healthy_for sink.new (n - length (cert_text file)) }
+    {
+        let CertStream {
+            graph,
+            number,
+            nodes,
+            links,
+            mut rows,
+        } = self;
+        let writer = CertWriter::new(VERSION, graph.node_count(), graph.link_count(), number);
+        put_file(writer, sink, &graph, &nodes, &links, &mut rows)
+    }
+}

@@ -1,0 +1,9 @@
+//! Certificates written to a sink as they are found: the rows of one node after those of another, never held whole.
+#![tactic(auto)]
+
+mod cert_stream;
+mod numbers;
+mod parts;
+mod rows;
+
+pub use cert_stream::CertStream;

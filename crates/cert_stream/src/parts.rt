@@ -1,0 +1,72 @@
+//! The parts of a certificate file, of which the rows are found as they are written.
+
+ghost use Rattle.std.specs.Prelude.{◌≡◌, ◌<◌, ◌≤◌, ◌+◌, ◌-◌, ◌^◌, ◌++◌, ℕ, length, IsOk, IfErr, OnOk};
+ghost use Rattle.mrt_graph.specs.declared.cert.CertFile.{CertFile};
+ghost use Rattle.mrt_io.specs.Counts.{Rose};
+ghost use Rattle.mrt_io.specs.Writing.{Gained, GainedPart};
+ghost use Rattle.mrt_rows.specs.CertOf.{IsCertOf};
+ghost use Rattle.mrt_rows.specs.NearOf.{MakeRows};
+ghost use Rattle.cert_format.specs.Putting.{Puts, parts_text};
+
+use crate::rows::put_rows;
+use cert_format::CertWriter;
+use mrt_graph::{CertLink, CertNode, Graph};
+use mrt_io::{PutError, Sink};
+use mrt_rows::SourceRows;
+
+/// Writes a whole file, of which the writer was given the header.
+pub fn put_file<K: Sink>(
+    writer: CertWriter,
+    sink: &mut K,
+    g: &Graph,
+    nodes: &[CertNode],
+    links: &[CertLink],
+    rows: &mut SourceRows,
+) -> Result<(), PutError>
+    requires made { MakeRows g.now rows.old }
+    requires version { writer.version ≡ 2 }
+    requires none { writer.gone ≡ 0 }
+    requires cert { (file : CertFile) × IsCertOf g.now rows.old.root file
+        × (length (writer.held ++ parts_text 2 nodes.now links.now file.cert.rows) < 2 ^ 64) }
+    ensures gained { (file : CertFile) → IsCertOf g.now rows.old.root file → OnOk result (Gained (K.written sink.old)
+        (writer.held ++ parts_text 2 nodes.now links.now file.cert.rows) (K.written sink.new)) }
+    ensures part { (file : CertFile) → IsCertOf g.now rows.old.root file → IfErr result (GainedPart (K.written sink.old)
+        (writer.held ++ parts_text 2 nodes.now links.now file.cert.rows) (K.written sink.new)) }
+    ensures cause { IfErr result (λ _. Rose (K.faults sink.old) (K.faults sink.new)) }
+    ensures count { K.faults sink.old ≤ K.faults sink.new }
+    ensures succeeds { (file : CertFile) → IsCertOf g.now rows.old.root file → (n : ℕ) → K.healthy_for sink.old n
+        → length (writer.held ++ parts_text 2 nodes.now links.now file.cert.rows) ≤ n → IsOk result }
+    ensures no_fault { (file : CertFile) → IsCertOf g.now rows.old.root file → (n : ℕ) → K.healthy_for sink.old n
+        → length (writer.held ++ parts_text 2 nodes.now links.now file.cert.rows) ≤ n
+        → K.faults sink.new ≡ K.faults sink.old }
+    ensures stays_healthy { (file : CertFile) → IsCertOf g.now rows.old.root file → (n : ℕ) → K.healthy_for sink.old n
+        → length (writer.held ++ parts_text 2 nodes.now links.now file.cert.rows) ≤ n
+        → K.healthy_for sink.new (n - length (writer.held ++ parts_text 2 nodes.now links.now file.cert.rows)) }
+{
+    let mut writer = writer;
+    put_parts(&mut writer, sink, g, nodes, links, rows)?;
+    writer.finish(sink)
+}
+
+/// Writes nodes, then links and the near rows.
+fn put_parts<K: Sink>(
+    writer: &mut CertWriter,
+    sink: &mut K,
+    g: &Graph,
+    nodes: &[CertNode],
+    links: &[CertLink],
+    rows: &mut SourceRows,
+) -> Result<(), PutError>
+    requires made { MakeRows g.now rows.old }
+    requires version { writer.old.version ≡ 2 }
+    requires cert { (file : CertFile) × IsCertOf g.now rows.old.root file
+        × (writer.old.gone + length (writer.old.held ++ parts_text 2 nodes.now links.now file.cert.rows) < 2 ^ 64) }
+    ensures { (file : CertFile) → IsCertOf g.now rows.old.root file
+        → Puts (K.written sink.old) (K.written sink.new) (K.faults sink.old) (K.faults sink.new)
+        (K.healthy_for sink.old) (K.healthy_for sink.new)
+        (parts_text 2 nodes.now links.now file.cert.rows) writer.old writer.new result }
+{
+    writer.put_nodes(sink, nodes)?;
+    writer.put_links(sink, links)?;
+    put_rows(writer, sink, g, rows)
+}
