@@ -19,6 +19,7 @@ pub mod Refusals
 pub mod Roots
 pub mod SurveyExits
 pub mod Tables
+pub mod TextsHeld
 pub mod Unread
 pub mod Upgrades
 pub mod Works

@@ -1,8 +1,9 @@
 -- What is kept of the files that were read, and what comes of it.
-use Rattle.std.proofs.Common.{◌≡◌, ◌≤◌, ℕ, List, Option, Result, Ok, Err, length, sym, subst}
+use Rattle.std.proofs.Common.{◌≡◌, ◌≤◌, ℕ, List, Option, Result, length, sym, subst}
 use Rattle.std.specs.Prelude.{IfOk}
 use Rattle.mrt_io.specs.Holding.{Files}
 use Rattle.mrt_exit.specs.declared.exit.Exit.{Exit}
+use Rattle.mrt_cmd.specs.declared.text.Text.{Text}
 use Rattle.mrt_cmd.specs.declared.work.Work.{Work}
 use Rattle.mrt_cmd.specs.declared.work.Work.TheVariants as works
 use Rattle.mrt_cmd.specs.Answers.{FileBytes, GivesFor, GivesOver}
@@ -11,6 +12,8 @@ use Rattle.mrt_cmd.specs.Files.{IsReadAs, script_file, task_file}
 use Rattle.mrt_cmd.specs.Form.{FileForm, IsTaskWithin, OfFiles, Task}
 use Rattle.mrt_cmd.specs.Input.{Input, IsInput}
 use Rattle.mrt_cmd.specs.Kept.{IsWorkWithin, IsWorkFor}
+use Rattle.mrt_cmd.specs.TextBytes.{HasText}
+use Rattle.mrt_cmd.proofs.TextsHeld.{answer_has_also}
 
 -- what was read for a task was read for the task that was asked
 pub work_read : (held : Option Files) (task asked : Task) → asked ≡ task → (last : List ℕ) (work : Work)
@@ -37,16 +40,16 @@ work_within held task last (works.Fabric script) within read kept =
     subst (λ (bytes : List ℕ). length bytes ≤ 33554432) kept.1 read_as.1
 
 -- a text for what the bytes hold is one over the bytes
-pub gives_over : {T : Type 0} (items : T → List ℕ) (answer : Result T Exit) (task : Task) (bytes : FileBytes)
+pub gives_over : (answer : Result Text Exit) (task : Task) (bytes : FileBytes)
     (input : Input) → IsInput bytes.database bytes.profile input
-    → IfOk answer (λ text. GivesFor task input bytes.last (items text))
-    → IfOk answer (λ text. GivesOver task bytes (items text))
-gives_over items (Ok text) task bytes input given said = record { input = input; given = given; gives = said }
-gives_over items (Err exit) task bytes input given said = tt
+    → IfOk answer (HasText (GivesFor task input bytes.last)) → IfOk answer (HasText (GivesOver task bytes))
+gives_over answer task bytes input given said =
+    answer_has_also (GivesFor task input bytes.last) (GivesOver task bytes)
+    (λ text gives. record { input = input; given = given; gives = gives }) answer said
 
 -- a text over the bytes that were read is what the form gives
-pub gives_form : {T : Type 0} (items : T → List ℕ) (answer : Result T Exit) (held : Option Files) (form : FileForm)
-    (bytes : FileBytes) → AreRead held form bytes → IfOk answer (λ text. GivesOver form.task bytes (items text))
-    → IfOk answer (λ text. Gives held (OfFiles form) (items text))
-gives_form items (Ok text) held form bytes read said = (bytes, read, said)
-gives_form items (Err exit) held form bytes read said = tt
+pub gives_form : (answer : Result Text Exit) (held : Option Files) (form : FileForm)
+    (bytes : FileBytes) → AreRead held form bytes → IfOk answer (HasText (GivesOver form.task bytes))
+    → IfOk answer (HasText (Gives held (OfFiles form)))
+gives_form answer held form bytes read said =
+    answer_has_also (GivesOver form.task bytes) (Gives held (OfFiles form)) (λ text gives. (bytes, read, gives)) answer said

@@ -1,11 +1,19 @@
 -- The bytes of an answer's text.
-use Rattle.std.specs.Prelude.{ℕ, List}
+use Rattle.std.specs.Prelude.{◌≡◌, ℕ, List}
 use Rattle.cert_format.specs.CertText.{cert_text}
+use Rattle.mrt_graph.specs.declared.cert.CertFile.{CertFile}
+use Rattle.mrt_rows.specs.CertOf.{IsCertOf}
 use Rattle.mrt_cmd.specs.declared.text.Text.{Text}
-use Rattle.mrt_cmd.specs.declared.text.Text.TheVariants.{Line, Bytes, Cert}
+use Rattle.mrt_cmd.specs.declared.text.Text.TheVariants.{Line, Bytes, Cert, Found}
 
--- of a line, of a longer text, or of the spelling of a certificate
-abbrev pub bytes_of : Text → List ℕ
-bytes_of (Line line) = line.items
-bytes_of (Bytes bytes) = bytes.items
-bytes_of (Cert file) = cert_text file
+-- something holds of the bytes of a text: of a line, of a longer text, of the spelling of a certificate, or of that of the
+-- certificate of a graph and its root
+abbrev pub HasText : (List ℕ → Type 0) → Text → Type 0
+HasText P (Line line) = P line.items
+HasText P (Bytes bytes) = P bytes.items
+HasText P (Cert file) = P (cert_text file)
+HasText P (Found stream) = (file : CertFile) × IsCertOf stream.graph stream.root file × P (cert_text file)
+
+-- these are the bytes of a text
+abbrev pub IsTextOf : Text → List ℕ → Type 0
+IsTextOf text bytes = HasText (λ of. bytes ≡ of) text

@@ -7,7 +7,7 @@ ghost use Rattle.mrt_cmd.specs.Form.{Task};
 ghost use Rattle.mrt_cmd.specs.Input.{input_of};
 ghost use Rattle.mrt_cmd.specs.Kept.{AreBytesOf, IsWorkWithin, IsCertRead, IsWorkFor};
 ghost use Rattle.mrt_cmd.specs.Reading.{IsAnswerOver, IsVerdictRefusal, IsTaskRefusal};
-ghost use Rattle.mrt_cmd.specs.TextBytes.{bytes_of};
+ghost use Rattle.mrt_cmd.specs.TextBytes.{HasText};
 ghost use Rattle.mrt_cmd.specs.Upgraded.{GivesUpgrade};
 ghost use Rattle.mrt_cmd.specs.Verdict.{GivesVerdict};
 ghost use Rattle.cert_format.specs.CertText.{cert_text};
@@ -38,7 +38,7 @@ pub(crate) fn answer(alloc: Global, files: FilesRead) -> Result<Text, Exit>
     requires profile { vec_len files.profile ≤ 33554432 }
     requires work { IsWorkWithin files.work }
     ensures text { (task : Task) (bytes : FileBytes) → AreBytesOf task files bytes
-        → IfOk result (λ text. GivesOver task bytes (bytes_of text)) }
+        → IfOk result (HasText (GivesOver task bytes)) }
     ensures refused { (task : Task) (bytes : FileBytes) → AreBytesOf task files bytes
         → IfErr result (IsAnswerOver task bytes) }
 {
@@ -51,8 +51,8 @@ pub(crate) fn answer(alloc: Global, files: FilesRead) -> Result<Text, Exit>
 fn answer_for(alloc: Global, work: Work, database: &Lsdb, profile: &Profile) -> Result<Text, Exit>
     requires settled { least_conflict database.now.entries ≡ None }
     requires work { IsWorkWithin work }
-    ensures text { (task : Task) (last : List ℕ) → IsWorkFor task last work → IfOk result (λ text.
-        GivesFor task (input_of database.now.entries profile.now) last (bytes_of text)) }
+    ensures text { (task : Task) (last : List ℕ) → IsWorkFor task last work → IfOk result
+        (HasText (GivesFor task (input_of database.now.entries profile.now) last)) }
     ensures refused { (task : Task) (last : List ℕ) → IsWorkFor task last work → IfErr result
         (IsTaskRefusal task (input_of database.now.entries profile.now) last) }
 {
@@ -60,7 +60,7 @@ fn answer_for(alloc: Global, work: Work, database: &Lsdb, profile: &Profile) -> 
         Work::Check { certificate } => {
             Ok(Text::Line(check(alloc, database, profile, certificate)?))
         }
-        Work::Certify { router } => Ok(Text::Cert(certificate(alloc, database, profile, router)?)),
+        Work::Certify { router } => Ok(Text::Found(certificate(alloc, database, profile, router)?)),
         Work::Table { router } => Ok(Text::Bytes(table(alloc, database, profile, router)?)),
         Work::Upgrade { certificate } => {
             Ok(Text::Cert(upgraded(alloc, database, profile, certificate)?))

@@ -17,7 +17,7 @@ ghost use Rattle.mrt_cmd.specs.Files.{AreThere, files_of};
 ghost use Rattle.mrt_cmd.specs.Form.{AsksVerdict, IsSurvey, IsTaskWithin, IsWithin, OfFiles, form_of};
 ghost use Rattle.mrt_cmd.specs.Headline.{ChecksWritten, IsPassed};
 ghost use Rattle.mrt_cmd.specs.Reading.{IsRefusal, IsRefusalOrFault};
-ghost use Rattle.mrt_cmd.specs.TextBytes.{bytes_of};
+ghost use Rattle.mrt_cmd.specs.TextBytes.{HasText, IsTextOf};
 ghost use Rattle.mrt_exit.specs.Telling.{GainedLine, IsCutShort};
 ghost use Rattle.mrt_cmd.specs.Run.{
   IsExitOfSurvey,
@@ -151,14 +151,14 @@ pub fn run<F: Shelf, K: Sink, E: Sink>(
     one_exit_comes();
     what_was_written_passes();
     match text_for(alloc, words, shelf) {
-        Ok(text) => tell(err, put_text(out, &text)),
+        Ok(text) => tell(err, put_text(out, text)),
         Err(exit) => tell(err, exit),
     }
 }
 
 /// The text that the words give, or else the exit that says why they give none.
 fn text_for<F: Shelf>(alloc: Global, words: &[Word], shelf: &mut F) -> Result<Text, Exit>
-    ensures text { IfOk result (λ text. GivesText (F.held shelf.old) words.now (bytes_of text)) }
+    ensures text { IfOk result (HasText (GivesText (F.held shelf.old) words.now)) }
     ensures cause { IfErr result (HasNoText words.now
         (record {
           held = F.held shelf.old;
@@ -184,7 +184,7 @@ fn text_for<F: Shelf>(alloc: Global, words: &[Word], shelf: &mut F) -> Result<Te
 /// The text that a form gives.
 fn text_of<F: Shelf>(alloc: Global, form: Form<'_>, shelf: &mut F) -> Result<Text, Exit>
     requires { IsWithin (asked form) }
-    ensures text { IfOk result (λ text. Gives (F.held shelf.old) (asked form.entry) (bytes_of text)) }
+    ensures text { IfOk result (HasText (Gives (F.held shelf.old) (asked form.entry))) }
     ensures refused { IfErr result (IsRefusalOrFault (F.held shelf.old) (asked form.entry) (F.faults shelf.old) (F.faults shelf.new)) }
     ensures calm { (Rose (F.faults shelf.old) (F.faults shelf.new) → ⊥) → IfErr result (IsRefusal (F.held shelf.old) (asked form.entry)) }
     ensures healthy { F.healthy shelf.old → IfErr result (IsRefusal (F.held shelf.old) (asked form.entry)) }
@@ -202,7 +202,7 @@ fn text_of<F: Shelf>(alloc: Global, form: Form<'_>, shelf: &mut F) -> Result<Tex
 /// The text that a form over files gives.
 fn text_of_files<F: Shelf>(alloc: Global, form: FileForm<'_>, shelf: &mut F) -> Result<Text, Exit>
     requires { IsTaskWithin (files_asked form).task }
-    ensures text { IfOk result (λ text. Gives (F.held shelf.old) (OfFiles (files_asked form.entry)) (bytes_of text)) }
+    ensures text { IfOk result (HasText (Gives (F.held shelf.old) (OfFiles (files_asked form.entry)))) }
     ensures refused { IfErr result (IsRefusalOrFault (F.held shelf.old) (OfFiles (files_asked form.entry))
         (F.faults shelf.old) (F.faults shelf.new)) }
     ensures calm { (Rose (F.faults shelf.old) (F.faults shelf.new) → ⊥)
@@ -217,15 +217,17 @@ fn text_of_files<F: Shelf>(alloc: Global, form: FileForm<'_>, shelf: &mut F) -> 
 }
 
 /// Writes the answer's text.
-fn put_text<K: Sink>(out: &mut K, text: &Text) -> Exit
+fn put_text<K: Sink>(out: &mut K, text: Text) -> Exit
     ensures kind { WritesNothing result → ⊥ }
-    ensures done { result ≡ Exit.Done → Gained (K.written out.old) (bytes_of text.now) (K.written out.new) }
-    ensures write_fault { (taken : ℕ) → result ≡ Exit.WriteFault taken
+    ensures done { (bytes : List ℕ) → IsTextOf text bytes → result ≡ Exit.Done
+        → Gained (K.written out.old) bytes (K.written out.new) }
+    ensures write_fault { (bytes : List ℕ) → IsTextOf text bytes → (taken : ℕ) → result ≡ Exit.WriteFault taken
         → IsCutShort (K.healthy_for out.old) (K.faults out.old) (K.faults out.new)
-        (K.written out.old) (K.written out.new) (bytes_of text.now) taken }
+        (K.written out.old) (K.written out.new) bytes taken }
     ensures calm { (Rose (K.faults out.old) (K.faults out.new) → ⊥) → result ≡ Exit.Done }
-    ensures healthy { K.healthy_for out.old (length (bytes_of text.now)) → result ≡ Exit.Done }
-    ensures no_fault { K.healthy_for out.old (length (bytes_of text.now)) → K.faults out.new ≡ K.faults out.old }
+    ensures healthy { (bytes : List ℕ) → IsTextOf text bytes → K.healthy_for out.old (length bytes) → result ≡ Exit.Done }
+    ensures no_fault { (bytes : List ℕ) → IsTextOf text bytes → K.healthy_for out.old (length bytes)
+        → K.faults out.new ≡ K.faults out.old }
 {
     match text.put(out) {
         Ok(()) => Exit::Done,

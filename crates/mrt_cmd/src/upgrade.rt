@@ -16,8 +16,8 @@ use mrt_graph::{CertFile, accepted_files_are_foldable, accepted_implies_sound};
 use mrt_island::Profile;
 use std::alloc::Global;
 
-/// The version of the files that are written.
-pub(crate) const WRITTEN: u16 = 2;
+/// The version of the files that it writes.
+const WRITTEN: u16 = 2;
 
 /// The certificate in version 2, where it is accepted for the island of its root.
 pub(crate) fn upgrade(

@@ -2,7 +2,6 @@ use Rattle.std.proofs.Common.{◌∙◌, ℕ, List, map, sym, subst}
 use Rattle.lsdb.specs.Entries.{Entry}
 use Rattle.mrt_cmd.specs.Database.{IsDatabase}
 use Rattle.mrt_cmd.specs.Input.{Input, IsInput, IsProfile}
-use Rattle.mrt_cmd.specs.TextBytes.{bytes_of}
 use Rattle.mrt_cmd.proofs.Refusals.{tasks_over}
 use Rattle.mrt_cmd.proofs.Works.{gives_over}
 use Rattle.mrt_cmd.proofs.answer.answer.Goals as goal
@@ -20,7 +19,7 @@ returns-clause-text c =
       profile_is = subst (λ (b : List ℕ). IsProfile b input.settings) (c.deref-2.ensures.value ∙ sym are.profile)
           c.in_ok-profile.ensures.profile;
     } in
-    gives_over bytes_of c.answer_for.result task bytes input given (c.answer_for.ensures.text task bytes.last are.work)
+    gives_over c.answer_for.result task bytes input given (c.answer_for.ensures.text task bytes.last are.work)
 
 pub returns-clause-refused : goal.returns-clause-refused
 returns-clause-refused c =

@@ -2,35 +2,48 @@ use Rattle.std.proofs.Common.{◌≡◌, ◌∙◌, inl, inr, refl, subst, sym}
 use Rattle.mrt_exit.specs.declared.exit.Exit.{Exit}
 use Rattle.mrt_exit.specs.declared.exit.Exit.TheVariants as exits
 use Rattle.mrt_cmd.specs.Causes.{HasNoText, ShelfInCall}
+use Rattle.mrt_cmd.specs.Comes.{GivesText}
 use Rattle.mrt_cmd.specs.Run.{WritesNothing}
-use Rattle.mrt_cmd.specs.TextBytes.{bytes_of}
 use Rattle.mrt_cmd.proofs.Causes.{passed_stopped, stopped, told_of, written}
 use Rattle.mrt_cmd.proofs.SurveyExits.{memory_of_survey, written_of_survey}
+use Rattle.mrt_cmd.proofs.TextsHeld.{BytesOf, some_bytes}
 use Rattle.mrt_cmd.proofs.WrittenPasses.{passed_written}
 use Rattle.mrt_cmd.proofs.program.run.Given.{Over}
 use Rattle.mrt_cmd.proofs.program.run.Goals as goal
 
+-- the bytes of the text that the words give
+the_text : (g : Over) (c : goal.After-tell g) → BytesOf (GivesText (g.F.Shelf.held c.args.shelf.now) c.args.words.now) c.in-Ok.text
+the_text g c = some_bytes (GivesText (g.F.Shelf.held c.args.shelf.now) c.args.words.now) c.in-Ok.text c.in-Ok.ensures.text
+
 -- All causes as one, where the words give a text: the other clauses are parts of it.
 pub returns-in-Ok-clause-answered : goal.returns-in-Ok-clause-answered
 returns-in-Ok-clause-answered g c =
+    let text = the_text g c in
     rw c.tell.ensures.same
-    (written c.one_exit_comes.ensures.exit c.args.words.now _ _ _ c.put_text.result (bytes_of c.in-Ok.text) c.in-Ok.ensures.text
-    c.put_text.ensures.kind c.put_text.ensures.done
-    c.put_text.ensures.write_fault
+    (written c.one_exit_comes.ensures.exit c.args.words.now _ _ _ c.put_text.result text.bytes text.held
+    c.put_text.ensures.kind (c.put_text.ensures.done text.bytes text.are)
+    (c.put_text.ensures.write_fault text.bytes text.are)
     (told_of _ c.put_text.result c.tell.ensures.silent c.tell.ensures.line)
     (λ spared. elim spared [
       | inl calm ↦ c.put_text.ensures.calm calm
-      | inr healthy ↦ c.put_text.ensures.healthy (healthy (bytes_of c.in-Ok.text) c.in-Ok.ensures.text)
+      | inr healthy ↦ c.put_text.ensures.healthy text.bytes text.are (healthy text.bytes text.held)
     ]) c.text_for.ensures.no_fault
-    (λ healthy. c.put_text.ensures.no_fault (healthy (bytes_of c.in-Ok.text) c.in-Ok.ensures.text)))
+    (λ healthy. c.put_text.ensures.no_fault text.bytes text.are (healthy text.bytes text.held)))
 
 pub returns-in-Ok-clause-done : goal.returns-in-Ok-clause-done
-returns-in-Ok-clause-done g c = λ is.
-    (bytes_of c.in-Ok.text, c.in-Ok.ensures.text, c.put_text.ensures.done (sym c.tell.ensures.same ∙ is))
+returns-in-Ok-clause-done g c =
+    let text = the_text g c in
+    λ is. (text.bytes, text.held, c.put_text.ensures.done text.bytes text.are (sym c.tell.ensures.same ∙ is))
 
 pub returns-in-Ok-clause-write_fault : goal.returns-in-Ok-clause-write_fault
-returns-in-Ok-clause-write_fault g c = λ taken is.
-    (bytes_of c.in-Ok.text, c.in-Ok.ensures.text, c.put_text.ensures.write_fault taken (sym c.tell.ensures.same ∙ is))
+returns-in-Ok-clause-write_fault g c =
+    let text = the_text g c in
+    λ taken is. (text.bytes, text.held, c.put_text.ensures.write_fault text.bytes text.are taken (sym c.tell.ensures.same ∙ is))
+
+pub returns-in-Ok-clause-no_write_fault : goal.returns-in-Ok-clause-no_write_fault
+returns-in-Ok-clause-no_write_fault g c =
+    let text = the_text g c in
+    λ healthy. c.put_text.ensures.no_fault text.bytes text.are (healthy text.bytes text.held)
 
 pub returns-in-Ok-clause-usage : goal.returns-in-Ok-clause-usage
 returns-in-Ok-clause-usage g c = (returns-in-Ok-clause-answered g c).usage

@@ -1,5 +1,4 @@
 use Rattle.mrt_cmd.specs.Asked.{files_asked}
-use Rattle.mrt_cmd.specs.TextBytes.{bytes_of}
 use Rattle.mrt_cmd.proofs.Refusals.{calm_over, refused_over}
 use Rattle.mrt_cmd.proofs.Works.{gives_form, work_within}
 use Rattle.mrt_cmd.proofs.program.text_of_files.Goals as goal
@@ -12,7 +11,7 @@ answer-requires-clause-work g c =
 pub returns-clause-text : goal.returns-clause-text
 returns-clause-text g c =
     let read = c.in_ok-files.ensures.read in
-    gives_form bytes_of c.answer.result _ (files_asked c.args.form) read.0 read.1 (c.answer.ensures.text _ read.0 read.2)
+    gives_form c.answer.result _ (files_asked c.args.form) read.0 read.1 (c.answer.ensures.text _ read.0 read.2)
 
 pub returns-clause-refused : goal.returns-clause-refused
 returns-clause-refused g c =
