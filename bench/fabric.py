@@ -15,7 +15,7 @@ Parts = namedtuple("Parts", "area island cert")
 COLORS = "blue", "red"
 ENTRIES = "blue", "red", "repair"
 USAGE = ("usage: check DB PROFILE CERT, certify DB PROFILE ROUTER, table DB PROFILE ROUTER, trace DB PROFILE FROM TO blue/red/repair [FAIL], "
-         "fabric DB PROFILE SCRIPT, survey NUMBER NODES")
+         "fabric DB PROFILE SCRIPT, survey NUMBER NODES, upgrade DB PROFILE CERT, lfa DB ROUTER, order DB PROFILE ROUTER, proxy DB PROFILE ROUTER A B")
 
 
 # hops
