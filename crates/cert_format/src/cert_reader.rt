@@ -66,12 +66,13 @@ impl CertReader {
 
     /// Takes the next piece of the stream.
     ///
-    /// It takes time in proportion to the piece, and a constant.
+    /// It takes time in proportion to the piece, and a constant; of version 2, besides, with the last node's last byte in
+    /// proportion to all pairs of nodes.
     ///
     /// # Errors
     ///
-    /// [`CertError::Fault`] where the first field that is not allowed is whole in the stream with the piece, or a byte
-    /// stands after the last row; each later piece is answered with the same fault. [`CertError::NoMemory`] where there
+    /// [`CertError::Fault`] where the first field that is not allowed is whole in the stream with the piece, or the last
+    /// node is and the heads of version 2 do not lead to one node, or a byte stands after the last row; each later piece is answered with the same fault. [`CertError::NoMemory`] where there
     /// was none: the stream is as it was before the piece.
     pub fn feed(&mut self, piece: &[u8]) -> Result<(), CertError>
         // The stream grew by the piece, and has no certain fault.
@@ -93,7 +94,8 @@ impl CertReader {
         answer
     }
 
-    /// The certificate file that the stream spells, which ends here. It takes no memory.
+    /// The certificate file that the stream spells, which ends here. It takes no memory, and of version 2 time in proportion
+    /// to all rows, as it fills in those that the file leaves out.
     ///
     /// # Errors
     ///

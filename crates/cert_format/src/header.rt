@@ -1,4 +1,4 @@
-//! The head of a certificate file.
+//! The header of a certificate file.
 
 ghost use Rattle.std.specs.Prelude.{◌<◌, ◌^◌, ◌-◌};
 

@@ -90,7 +90,7 @@ pub fn flooding_converges()
 {}
 
 /// Laws: the first newest instances of two such lists have the same keys, and each is the same in both but for its place
-/// and, where it is not at MaxAge, its age.
+/// and its age field; both are at MaxAge, or neither is.
 pub fn newest_of_the_same_are_the_same()
     ensures keys { (its others : List Lsa) → AreNewestOfTheSame its others
         → IsPermutation (map key_of its) (map key_of others) }

@@ -6,9 +6,9 @@ use ospf_lsa::Lsa;
 /// A Link State Update packet, but for its checksum and its authentication.
 #[derive(Debug, Drop, PartialEq, Eq)]
 pub struct Update {
-    /// The place of its first byte in the file, from 0.
+    /// The place of its first byte in the file, from 0; of a packet that was sent on, that of the packet that it came in.
     pub at: u32,
-    /// The ID of the router that sent it.
+    /// The ID of the router that sent it; of a packet that was sent on, as in the packet that it came in.
     pub router: u32,
     /// The area that it is sent in.
     pub area: u32,

@@ -23,8 +23,8 @@ pub fn a_comparison_tells_of_the_deliveries_before_it<C: Compare>(_comparing: &C
         × (text ≡ front ++ (verdict_line verdict ++ rest)) }
 {}
 
-/// A law: the first newest instances of two settled lists that hold the same LSAs give one area. So do the databases of
-/// two routers to which the same LSAs were delivered, and of any two where flooding has converged.
+/// A law: the first newest instances of two settled lists that hold the same LSAs, which may stand in a database, give one
+/// area. With the laws of `flood_core` this speaks of databases after deliveries.
 pub fn newest_of_the_same_give_one_area()
     ensures { (its others : List Lsa) → AreNewestOfTheSame its others → area_of its ≡ area_of others }
 {}
