@@ -1,3 +1,4 @@
 pub mod LinesTaken
 pub mod TextsTold
 pub mod ComparedInState
+pub mod OneText

@@ -25,6 +25,11 @@ verdict_line verdicts.None = codes "none\n"
 verdict_line verdicts.Same = codes "same\n"
 verdict_line verdicts.Different = codes "different\n"
 
+-- of two databases and a router there is one verdict at most
+abbrev pub SaysOnce : (Database → Database → ℕ → Verdict → Type 0) → Type 0
+SaysOnce says = (its others : Database) (router : ℕ) (verdict other : Verdict) → says its others router verdict
+    → says its others router other → verdict ≡ other
+
 -- what two routers' databases come to in a state, where it is so told of two databases and a third router
 pub record IsCompared (says : Database → Database → ℕ → Verdict → Type 0) (state : FloodState) (one other router : ℕ)
     (verdict : Verdict) : Type 0 where

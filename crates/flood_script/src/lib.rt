@@ -20,6 +20,6 @@ pub use script::{FloodLine, FloodScript};
 pub use script_law::lines_are_a_flood_script_or_have_a_fault;
 pub use telling::flood_text;
 pub use text_law::{
-    a_comparison_tells_of_the_deliveries_before_it, newest_of_the_same_give_one_area,
+    a_comparison_tells_of_the_deliveries_before_it, newest_of_the_same_give_one_area, one_text_each,
 };
 pub use verdict::Verdict;

@@ -9,7 +9,7 @@ ghost use Rattle.flood_core.specs.Runs.{AreNewestOfTheSame, after_deliveries};
 ghost use Rattle.flood_script.specs.declared.script.FloodLine.{FloodLine};
 ghost use Rattle.flood_script.specs.declared.script.FloodLine.TheVariants as lines;
 ghost use Rattle.flood_script.specs.declared.verdict.Verdict.{Verdict};
-ghost use Rattle.flood_script.specs.FloodTexts.{IsCompared, IsFloodText, deliveries_of, verdict_line};
+ghost use Rattle.flood_script.specs.FloodTexts.{IsCompared, IsFloodText, SaysOnce, deliveries_of, verdict_line};
 
 use crate::comparing::Compare;
 
@@ -21,6 +21,14 @@ pub fn a_comparison_tells_of_the_deliveries_before_it<C: Compare>(_comparing: &C
         × IsFloodText (C.says _comparing.now) first before front
         × IsCompared (C.says _comparing.now) (after_deliveries first (deliveries_of before)) one other router verdict
         × (text ≡ front ++ (verdict_line verdict ++ rest)) }
+{}
+
+/// A law: where there is one verdict at most of two databases and a router, the lines of a script have one text at most.
+pub fn one_text_each<C: Compare>()
+    ensures { (comparing : C) → SaysOnce (C.says comparing)
+        → (state : FloodState) (lines : List FloodLine) (text other : List ℕ)
+        → IsFloodText (C.says comparing) state lines text → IsFloodText (C.says comparing) state lines other
+        → text ≡ other }
 {}
 
 /// A law: the first newest instances of two settled lists that hold the same LSAs, which may stand in a database, give one
