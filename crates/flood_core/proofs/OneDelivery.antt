@@ -1,8 +1,9 @@
 -- One delivery.
-use Rattle.std.proofs.Common.{◌≡◌, ◌∙◌, ◌<◌, ◌≤◌, ◌+◌, ◌++◌, ℕ, zero, suc, Bool, true, false, cond, List, [], ◌∷◌, Option, Some, length, set, slice_get, refl, sym, ap, subst, arith}
+use Rattle.std.proofs.Common.{◌≡◌, ◌∙◌, ◌<◌, ◌≤◌, ◌+◌, ◌++◌, ℕ, zero, suc, Bool, true, false, cond, List, [], ◌∷◌, Option, Some, length, set, slice_get, get_or, refl, sym, ap, subst, arith}
 use Rattle.std.specs.List.{AllByRecursion, filter}
 use Rattle.std.specs.Option.{option_map_or}
 use Rattle.std.proofs.lemmas.List.{length-append}
+use Rattle.std.proofs.lemmas.Option.{slice_get_read}
 use Rattle.mrt_graph.proofs.Members.{all_append, all_has, all_weaker, has_at}
 use Rattle.ospf_lsa.specs.declared.lsa.Lsa.{Lsa}
 use Rattle.lsdb.specs.Installing.{IsBehind, IsKept}
@@ -78,77 +79,29 @@ same_sent : (update : Update) (xs : List Lsa) → sent_on (record update { lsas 
 same_sent update [] = refl
 same_sent update (x ∷ xs) = refl
 
--- what the parts of a delivery gave
-pub record IsDone (state : FloodState) (p r : ℕ) (update sent : Update) (router router' : Router) (lsas new : List Lsa)
+-- what the parts of a delivery gave: the packet and the one of its new LSAs, the router before and after it, and these LSAs
+pub record IsDone (state : FloodState) (p r : ℕ) (update sent : Update) (router after : Router) (new : List Lsa)
     : Type 0 where
   pub packet : slice_get state.packets p ≡ Some update
   pub at : slice_get state.routers r ≡ Some router
-  pub lsas_are : lsas ≡ update.lsas
-  pub new_are : new ≡ news router (topology lsas)
-  pub after : router' ≡ after_all router (topology lsas)
+  pub new_are : new ≡ news router (topology update.lsas)
+  pub after_is : after ≡ after_all router (topology update.lsas)
   pub sent_is : sent ≡ record update { lsas = new }
 
-new_of : (state : FloodState) (p r : ℕ) (update sent : Update) (router router' : Router) (lsas new : List Lsa)
-    → IsDone state p r update sent router router' lsas new → new ≡ news router (topology update.lsas)
-new_of state p r update sent router router' lsas new done =
-    done.new_are ∙ ap (λ (ls : List Lsa). news router (topology ls)) done.lsas_are
-
-pub answer_told : (state self : FloodState) (p r : ℕ) (update sent : Update) (router router' : Router)
-    (lsas new : List Lsa) (answer : Answer) → state ≡ self
-    → IsDone state p r update sent router router' lsas new
-    → answer ≡ answer_of (length state.packets) sent.lsas → answer ≡ (delivered self p r).0
-answer_told state self p r update sent router router' lsas new answer view done told =
-    told ∙ ap (λ (u : Update). answer_of (length state.packets) u.lsas) done.sent_is
-    ∙ ap (answer_of (length state.packets)) (new_of state p r update sent router router' lsas new done)
-    ∙ sym (ap (λ (s : Answer × FloodState). s.0) (there state p r update router done.packet done.at))
-    ∙ ap (λ (s : FloodState). (delivered s p r).0) view
-
-pub state_told : (state self : FloodState) (p r : ℕ) (update sent : Update) (router router' : Router)
-    (lsas new : List Lsa) (packets : List Update) → state ≡ self
-    → IsDone state p r update sent router router' lsas new
-    → packets ≡ state.packets ++ sent_on sent sent.lsas
-    → record { packets = packets; routers = set state.routers r router'; changed = state.changed + 1 }
-    ≡ (delivered self p r).1
-state_told state self p r update sent router router' lsas new packets view done told =
-    let make : List Update → Router → FloodState = λ ps there. record
-    { packets = ps; routers = set state.routers r there; changed = state.changed + 1 } in
-    let sent_same : sent_on sent sent.lsas ≡ sent_on update (news router (topology update.lsas)) =
-    ap (λ (u : Update). sent_on u u.lsas) done.sent_is ∙ same_sent update new
-    ∙ ap (sent_on update) (new_of state p r update sent router router' lsas new done) in
-    ap (λ (ps : List Update). make ps router')
-    (told ∙ ap (λ (us : List Update). state.packets ++ us) sent_same)
-    ∙ ap (λ (t : Router). make (state.packets ++ sent_on update (news router (topology update.lsas))) t)
-    (done.after ∙ ap (λ (ls : List Lsa). after_all router (topology ls)) done.lsas_are)
-    ∙ sym (ap (λ (s : Answer × FloodState). s.1) (there state p r update router done.packet done.at))
-    ∙ ap (λ (s : FloodState). (delivered s p r).1) view
-
-pub may_flood_at : (state : FloodState) (p : ℕ) (update : Update) → IsFlood state
-    → slice_get state.packets p ≡ Some update → MayFlood update
-may_flood_at state p update is packet =
-    all_has MayFlood state.packets update is.packets (has_at state.packets p update packet)
-
-pub few_sent : (state : FloodState) (p r : ℕ) (update sent : Update) (router router' : Router) (lsas new : List Lsa)
-    → IsFlood state → IsDone state p r update sent router router' lsas new → length sent.lsas ≤ 65535
-few_sent state p r update sent router router' lsas new is done =
-    omega (
-      arith,
-      ap (λ (u : Update). length u.lsas) done.sent_is,
-      ap length (new_of state p r update sent router router' lsas new done),
-      few_news router (topology update.lsas),
-      few_topology update.lsas,
-      (may_flood_at state p update is done.packet).few,
-    )
-
-sent_may_flood : (state : FloodState) (p r : ℕ) (update sent : Update) (router router' : Router) (lsas new : List Lsa)
-    → IsFlood state → IsDone state p r update sent router router' lsas new → MayFlood sent
-sent_may_flood state p r update sent router router' lsas new is done = record {
-  few = few_sent state p r update sent router router' lsas new is done;
-  kept = subst (λ (u : Update). AllByRecursion IsKept (topology u.lsas)) (sym done.sent_is)
-      (subst (λ (ls : List Lsa). AllByRecursion IsKept (topology ls))
-      (sym (new_of state p r update sent router router' lsas new done))
-      (all_filter IsKept is_topology (news router (topology update.lsas))
-      (all_news IsKept router (topology update.lsas) (may_flood_at state p update is done.packet).kept)));
-}
+-- it is so where the packet and the router are there and the router received the packet's LSAs
+pub done_of : (state : FloodState) (p r : ℕ) (update sent : Update) (router after : Router) (lsas new : List Lsa)
+    → p < length state.packets → r < length state.routers
+    → update ≡ get_or state.packets p update → router ≡ get_or state.routers r router
+    → lsas ≡ update.lsas → new ≡ news router (topology lsas) → after ≡ after_all router (topology lsas)
+    → sent ≡ record update { lsas = new } → IsDone state p r update sent router after new
+done_of state p r update sent router after lsas new packet_there router_there packet at lsas_are new_are after_is sent_is =
+    record {
+      packet = slice_get_read state.packets (length state.packets) p update refl packet_there packet;
+      at = slice_get_read state.routers (length state.routers) r router refl router_there at;
+      new_are = new_are ∙ ap (λ (ls : List Lsa). news router (topology ls)) lsas_are;
+      after_is = after_is ∙ ap (λ (ls : List Lsa). after_all router (topology ls)) lsas_are;
+      sent_is = sent_is;
+    }
 
 all_sent : (sent : Update) (xs : List Lsa) → sent.lsas ≡ xs → MayFlood sent → AllByRecursion MayFlood (sent_on sent xs)
 all_sent sent [] is may = tt
@@ -166,29 +119,78 @@ router_fits changed router xs is few = record {
   few = omega (arith, arrivals_all router xs, is.few, few);
 }
 
-pub flood_kept : (state self : FloodState) (p r : ℕ) (update sent : Update) (router router' : Router)
-    (lsas new : List Lsa) (packets : List Update) → state ≡ self → self.changed < 65535 → IsFlood state
-    → IsDone state p r update sent router router' lsas new
-    → packets ≡ state.packets ++ sent_on sent sent.lsas
-    → IsFlood (record { packets = packets; routers = set state.routers r router'; changed = state.changed + 1 })
-flood_kept state self p r update sent router router' lsas new packets view room is done told = record {
-  few_packets = omega (
-    arith,
-    ap length told,
-    length-append state.packets (sent_on sent sent.lsas),
-    one_sent sent sent.lsas,
-    is.few_packets,
-  );
-  few_deliveries = omega (arith, room, ap (λ (s : FloodState). s.changed) view);
-  packets = subst (AllByRecursion MayFlood) (sym told)
-      (all_append MayFlood state.packets (sent_on sent sent.lsas) is.packets
-      (all_sent sent sent.lsas refl (sent_may_flood state p r update sent router router' lsas new is done)));
-  routers = all_set (IsRouter (state.changed + 1)) state.routers r router'
-      (all_weaker (IsRouter state.changed) (IsRouter (state.changed + 1))
-      (λ x fits. record { behind = fits.behind; few = omega (arith, fits.few) }) state.routers is.routers)
-      (subst (IsRouter (state.changed + 1)) (sym (done.after
-      ∙ ap (λ (ls : List Lsa). after_all router (topology ls)) done.lsas_are))
-      (router_fits state.changed router (topology update.lsas)
-      (all_has (IsRouter state.changed) state.routers router is.routers (has_at state.routers r router done.at))
-      (omega (arith, few_topology update.lsas, (may_flood_at state p update is done.packet).few))));
-}
+module _ {state : FloodState} {p r : ℕ} {update sent : Update} {router after : Router} {new : List Lsa}
+    (done : IsDone state p r update sent router after new) where
+  pub answer_told : (self : FloodState) (answer : Answer) → state ≡ self
+      → answer ≡ answer_of (length state.packets) sent.lsas → answer ≡ (delivered self p r).0
+  answer_told self answer view told =
+      told ∙ ap (λ (u : Update). answer_of (length state.packets) u.lsas) done.sent_is
+      ∙ ap (answer_of (length state.packets)) done.new_are
+      ∙ sym (ap (λ (s : Answer × FloodState). s.0) (there state p r update router done.packet done.at))
+      ∙ ap (λ (s : FloodState). (delivered s p r).0) view
+
+  pub state_told : (self : FloodState) (packets : List Update) → state ≡ self
+      → packets ≡ state.packets ++ sent_on sent sent.lsas
+      → record { packets = packets; routers = set state.routers r after; changed = state.changed + 1 }
+      ≡ (delivered self p r).1
+  state_told self packets view told =
+      let make : List Update → Router → FloodState = λ ps there. record
+      { packets = ps; routers = set state.routers r there; changed = state.changed + 1 } in
+      let sent_same : sent_on sent sent.lsas ≡ sent_on update (news router (topology update.lsas)) =
+      ap (λ (u : Update). sent_on u u.lsas) done.sent_is ∙ same_sent update new
+      ∙ ap (sent_on update) done.new_are in
+      ap (λ (ps : List Update). make ps after)
+      (told ∙ ap (λ (us : List Update). state.packets ++ us) sent_same)
+      ∙ ap (λ (t : Router).
+      make (state.packets ++ sent_on update (news router (topology update.lsas))) t) done.after_is
+      ∙ sym (ap (λ (s : Answer × FloodState). s.1) (there state p r update router done.packet done.at))
+      ∙ ap (λ (s : FloodState). (delivered s p r).1) view
+
+  may_flood_here : IsFlood state → MayFlood update
+  may_flood_here is =
+      all_has MayFlood state.packets update is.packets (has_at state.packets p update done.packet)
+
+  pub few_sent : IsFlood state → length sent.lsas ≤ 65535
+  few_sent is =
+      omega (
+        arith,
+        ap (λ (u : Update). length u.lsas) done.sent_is,
+        ap length done.new_are,
+        few_news router (topology update.lsas),
+        few_topology update.lsas,
+        (may_flood_here is).few,
+      )
+
+  sent_may_flood : IsFlood state → MayFlood sent
+  sent_may_flood is = record {
+    few = few_sent is;
+    kept = subst (λ (u : Update). AllByRecursion IsKept (topology u.lsas)) (sym done.sent_is)
+        (subst (λ (ls : List Lsa). AllByRecursion IsKept (topology ls)) (sym done.new_are)
+        (all_filter IsKept is_topology (news router (topology update.lsas))
+        (all_news IsKept router (topology update.lsas) (may_flood_here is).kept)));
+  }
+
+  pub flood_kept : (self : FloodState) (packets : List Update) → state ≡ self → self.changed < 65535 → IsFlood state
+      → packets ≡ state.packets ++ sent_on sent sent.lsas
+      → IsFlood (record { packets = packets; routers = set state.routers r after; changed = state.changed + 1 })
+  flood_kept self packets view room is told = record {
+    few_packets = omega (
+      arith,
+      ap length told,
+      length-append state.packets (sent_on sent sent.lsas),
+      one_sent sent sent.lsas,
+      is.few_packets,
+    );
+    few_deliveries = omega (arith, room, ap (λ (s : FloodState). s.changed) view);
+    packets = subst (AllByRecursion MayFlood) (sym told)
+        (all_append MayFlood state.packets (sent_on sent sent.lsas) is.packets
+        (all_sent sent sent.lsas refl (sent_may_flood is)));
+    routers = all_set (IsRouter (state.changed + 1)) state.routers r after
+        (all_weaker (IsRouter state.changed) (IsRouter (state.changed + 1))
+        (λ x fits. record { behind = fits.behind; few = omega (arith, fits.few) }) state.routers is.routers)
+        (subst (IsRouter (state.changed + 1)) (sym done.after_is)
+        (router_fits state.changed router (topology update.lsas)
+        (all_has (IsRouter state.changed) state.routers router is.routers
+        (has_at state.routers r router done.at))
+        (omega (arith, few_topology update.lsas, (may_flood_here is).few))));
+  }

@@ -22,8 +22,9 @@ use Rattle.lsdb.proofs.Reordered.{keys_reordered, newest_reordered}
 use Rattle.lsdb.proofs.Settling.{no_conflict_settled, settled_no_conflict}
 use Rattle.flood_core.specs.declared.router.Router.{Router}
 use Rattle.flood_core.specs.declared.update.Update.{Update}
+use Rattle.flood_core.specs.Databases.{after_installs, empty_database}
 use Rattle.flood_core.specs.FloodState.{FloodState, database_of, started}
-use Rattle.flood_core.specs.Receiving.{after_all, is_topology, new_router, news, topology, MayFlood}
+use Rattle.flood_core.specs.Receiving.{after_all, after_one, is_topology, new_router, news, topology, MayFlood}
 use Rattle.flood_core.specs.Runs.{Delivery, after_deliveries, brought, delivered_to, lsas_of, numbered, same_instance, sent, AreNewestOfTheSame, IsFlooded}
 use Rattle.flood_core.proofs.Bringing.{AreAfter, after_run, all_of_file, all_packets, brought_of_file, came, kept_topology, packet_of, router_at_start, sent_found, stays, brought_are_topology}
 use Rattle.flood_core.proofs.Converging.{IsCover, cover_settled, covers_agree, kept_numbered, numbered_has}
@@ -45,6 +46,18 @@ pub database_after : (updates : List Update) (count : ℕ) (deliveries : List De
     ≡ Some (after_all new_router (brought (started updates count) deliveries r)).database
 database_after updates count deliveries r within =
     ap (option_map (λ (t : Router). t.database)) (from_start updates count deliveries r within).router_is
+
+databases_after : (router : Router) (xs : List Lsa)
+    → (after_all router xs).database ≡ after_installs router.database (numbered router.arrivals xs)
+databases_after router [] = refl
+databases_after router (x ∷ xs) = databases_after (after_one router x) xs
+
+pub database_law : (updates : List Update) (count : ℕ) (deliveries : List Delivery) (r : ℕ) → r < count
+    → database_of (after updates count deliveries) r
+    ≡ Some (after_installs empty_database (delivered_to updates count deliveries r))
+database_law updates count deliveries r within =
+    database_after updates count deliveries r within
+    ∙ ap Some (databases_after new_router (brought (started updates count) deliveries r))
 
 entries_of_all : (updates : List Update) (count : ℕ) (deliveries : List Delivery) (r : ℕ)
     → (after_all new_router (brought (started updates count) deliveries r)).database.entries

@@ -3,6 +3,7 @@ pub mod Updates
 pub mod PacketFaults
 pub mod UpdateOutcome
 pub mod Reading
+pub mod Databases
 pub mod Receiving
 pub mod FloodState
 pub mod FloodStep

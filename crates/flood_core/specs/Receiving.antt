@@ -1,5 +1,5 @@
 -- What a router does with the LSAs that arrive (RFC 2328, section 13).
-use Rattle.std.specs.Prelude.{◌≤◌, ◌+◌, ◌||◌, ◌==◌, ℕ, Bool, true, false, List, [], ◌∷◌, Some, None, length, if◌then◌else◌}
+use Rattle.std.specs.Prelude.{◌≤◌, ◌+◌, ◌||◌, ◌==◌, ℕ, Bool, true, false, List, [], ◌∷◌, length, if◌then◌else◌}
 use Rattle.std.specs.List.{AllByRecursion, filter}
 use Rattle.ospf_lsa.specs.declared.lsa.Lsa.{Lsa}
 use Rattle.ospf_lsa.specs.Types.{router_lsa, network_lsa}
@@ -8,6 +8,7 @@ use Rattle.lsdb.specs.declared.change.Change.TheVariants.{Added, Replaced, Older
 use Rattle.lsdb.specs.Installing.{installed, IsKept}
 use Rattle.flood_core.specs.declared.router.Router.{Router}
 use Rattle.flood_core.specs.declared.update.Update.{Update}
+use Rattle.flood_core.specs.Databases.{after_install, empty_database}
 
 -- whether an LSA is a router-LSA or a network-LSA, of which the area is made
 abbrev pub is_topology : Lsa → Bool
@@ -23,15 +24,12 @@ arrived number lsa = record lsa { at = number }
 
 -- a router that no packet has reached
 abbrev pub new_router : Router
-new_router = record { database = record { entries = []; greatest = None }; arrivals = 0 }
+new_router = record { database = empty_database; arrivals = 0 }
 
 -- a router after one more LSA was installed, with the next arrival number as its place
 abbrev pub after_one : Router → Lsa → Router
 after_one router lsa = record {
-  database = record {
-    entries = (installed router.database.entries (arrived router.arrivals lsa)).0;
-    greatest = Some router.arrivals;
-  };
+  database = after_install router.database (arrived router.arrivals lsa);
   arrivals = router.arrivals + 1;
 }
 

@@ -11,15 +11,20 @@ ghost use Rattle.lsdb.specs.Installs.{all_installed, AreBehind};
 ghost use Rattle.lsdb.specs.Keys.{key_of};
 ghost use Rattle.lsdb.specs.Newest.{IsSettled};
 ghost use Rattle.lsdb.specs.Orders.{newest_in, timeless, without_place, HoldTheSame};
+ghost use Rattle.flood_core.specs.Databases.{after_installs, empty_database};
 ghost use Rattle.flood_core.specs.FloodState.{database_of, started};
 ghost use Rattle.flood_core.specs.Receiving.{MayFlood};
 ghost use Rattle.flood_core.specs.Runs.{AreNewestOfTheSame, Delivery, IsFlooded, after_deliveries, delivered_to, lsas_of, same_instance, sent};
 ghost use Rattle.flood_core.specs.declared.update.Update.{Update};
 
-/// Laws: after any deliveries a router's database is that of installing, one after another, the LSAs of types 1 and 2 of
-/// all packets that were delivered to it, with arrival numbers that rise. So what it gives as newest are the first newest
-/// instances of these, and it has no conflict exactly where the newest instances of each key agree.
+/// Laws: after any deliveries a router's database, its entries and the greatest place in it, is that of installing, one
+/// after another, the LSAs of types 1 and 2 of all packets that were delivered to it, with arrival numbers that rise. So
+/// what it gives as newest are the first newest instances of these, and it has no conflict exactly where the newest
+/// instances of each key agree.
 pub fn a_database_is_that_of_what_was_delivered()
+    ensures database { (updates : List Update) (count : ℕ) (deliveries : List Delivery) (router : ℕ) → router < count
+        → database_of (after_deliveries (started updates count) deliveries) router
+        ≡ Some (after_installs empty_database (delivered_to updates count deliveries router)) }
     ensures entries { (updates : List Update) (count : ℕ) (deliveries : List Delivery) (router : ℕ) → router < count
         → IsSomeAnd (database_of (after_deliveries (started updates count) deliveries) router) (λ database.
         database.entries ≡ all_installed [] (delivered_to updates count deliveries router)) }
