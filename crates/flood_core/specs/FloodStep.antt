@@ -1,4 +1,5 @@
--- The delivery of one packet to one router.
+-- The delivery of one packet to one router, which sends on what was new to it. Nothing else of RFC 2328, section 13.3, is
+-- here: no interfaces, no acknowledgements, no retransmissions.
 use Rattle.std.specs.Prelude.{◌+◌, ◌++◌, ℕ, List, [], ◌∷◌, Some, None, length, slice_get, slice_set}
 use Rattle.std.specs.Option.{option_map_or}
 use Rattle.ospf_lsa.specs.declared.lsa.Lsa.{Lsa}

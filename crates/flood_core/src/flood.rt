@@ -15,7 +15,8 @@ use std::alloc::Global;
 use std::marker::Model;
 
 /// Packets, and routers each with a database of its own, which packets reach in any order, any number of times, or
-/// never (RFC 2328, section 13).
+/// never. Of RFC 2328 it has which of two instances is newer (section 13.1) and that what was new is sent on (section
+/// 13.3), and nothing else of section 13.
 #[derive(Drop)]
 pub struct Flood {
     alloc: Global,

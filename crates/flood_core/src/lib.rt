@@ -1,4 +1,9 @@
-//! Link State Update packets, and the flooding of what they bring (RFC 2328, sections 13 and A.3.5).
+//! Link State Update packets (RFC 2328, section A.3.5), and the flooding of what they bring.
+//!
+//! Of flooding two things are here: which of two instances is newer (section 13.1, without its last rule on ages), and
+//! that a router sends on what was new to it (section 13.3). There are no acknowledgements and no retransmissions; ages
+//! do not grow, and nothing is refused because it came too soon (MinLSArrival); there are no interfaces and no flooding
+//! scopes, so any packet may be delivered to any router.
 #![tactic(auto)]
 
 mod answer;
