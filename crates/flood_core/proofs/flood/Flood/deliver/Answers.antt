@@ -1,4 +1,4 @@
-use Rattle.std.proofs.Common.{◌≡◌, ◌<◌, ◌+◌, length, ℕ, set, subst, ap, arith}
+use Rattle.std.proofs.Common.{◌≡◌, ◌+◌, length, ℕ, set, subst, ap, arith}
 use Rattle.flood_core.specs.FloodStep.{delivered}
 use Rattle.flood_core.specs.FloodState.{FloodState}
 use Rattle.flood_core.proofs.OneDelivery.{IsDone, answer_told, done_of, few_sent, flood_kept, state_told}
