@@ -9,7 +9,7 @@ use Rattle.mrt_graph.specs.Topology.{Topology}
 use Rattle.link_direction.specs.Directions.{Directions}
 use Rattle.inc_dec_spf.specs.LeastPath.{ShareBlock}
 use Rattle.mrt_rows.proofs.OrderedGraphs.{OrderedGraph}
-use Rattle.order_repair.specs.Failed.{IsNotSole, LiesIn}
+use Rattle.order_repair.specs.Failed.{IsBetween, IsNotSole, LiesIn}
 use Rattle.order_repair.specs.OrderChoice.{IsOrderChoice, LineFor}
 use Rattle.order_repair.specs.Tagging.{IsTagFor, NotShared, Tagged}
 use Rattle.order_repair.proofs.SharedBlock.{shared_ring}
@@ -23,13 +23,14 @@ not_sole og s t k h (elements.Link e) s_within t_within shares lies =
 not_sole og s t k h (elements.Node f) s_within t_within shares lies = tt
 
 pub chosen : (g : Topology) (root : ℕ) (w : Directions) (s t : ℕ) (x : Element) (color : Color) (o : Option Tag) (tag : Tag)
-    → IsTagFor g root w s t o → o ≡ Some tag → LineFor tag g w s t x color → IsOrderChoice g root w s t x color
-chosen g root w s t x color _ tag (Tagged k h row shares its_row) is line = record {
+    → IsTagFor g root w s t o → o ≡ Some tag → IsBetween g w s t x → LineFor tag g w s t x color → IsOrderChoice g root w s t x color
+chosen g root w s t x color _ tag (Tagged k h row shares its_row) is between line = record {
+  between = between;
   row = row;
   its_row = its_row;
   by_tag = subst (λ (a : Tag). LineFor a g w s t x color) (sym (same_Some row.tag tag is)) line;
 }
-chosen g root w s t x color _ tag (NotShared none) is line = cc
+chosen g root w s t x color _ tag (NotShared none) is between line = cc
 
 pub not_shared : (g : Topology) (root : ℕ) (w : Directions) (s t : ℕ) (o : Option Tag) → IsTagFor g root w s t o → o ≡ None
     → (k h : ℕ) → ShareBlock g w s t k h → ⊥

@@ -28,7 +28,7 @@ use Rattle.mrt_rows.proofs.OneRow.{one_row}
 use Rattle.mrt_rows.proofs.OrderedGraphs.{OrderedGraph}
 use Rattle.mrt_rows.proofs.RulesHold.{accepted}
 use Rattle.mrt_rows.proofs.WholeCert.{whole_file, whole_tells}
-use Rattle.order_repair.specs.Failed.{IsBetween, LiesIn}
+use Rattle.order_repair.specs.Failed.{LiesIn}
 use Rattle.order_repair.specs.OrderChoice.{IsOrderChoice, LineFor}
 use Rattle.order_repair.proofs.Round.{IsRound}
 use Rattle.order_repair.proofs.RoundLinks.{link_round}
@@ -60,9 +60,9 @@ module _ (og : OrderedGraph) (file : CertFile) (tells : Tells og.g og.root og.w 
       node_round og it.m it.ring rows s t tabled it.sharing.two f (node_lies og s t k h f it lies) neither.0 neither.1
       row.blue row.red ways color line
 
-  pub goes_round : (x : Element) (color : Color) → IsBetween og.g og.w s t x → IsOrderChoice og.g og.root og.w s t x color
-      → IsRound og rows s t x color
-  goes_round x color between choice =
+  pub goes_round : (x : Element) (color : Color) → IsOrderChoice og.g og.root og.w s t x color → IsRound og rows s t x color
+  goes_round x color choice =
+      let between = choice.between in
       let it = shared_ring og s t between.block between.head s_within t_within between.share in
       let row = tabled s s_within it.sharing.two in
       let same : row.row ≡ choice.row = same_Some row.row choice.row (sym row.is ∙ its_row x color it.sharing.two choice) in

@@ -15,10 +15,18 @@ pub none_separates : (og : OrderedGraph) (s t k h : ℕ) (x : Element) → s < l
     → ShareBlock og.g og.w s t k h → LiesIn og.g og.w k h x → Separates og.g.links x s t → ⊥
 none_separates og s t k h x s_within t_within shares lies separates =
     let between : IsBetween og.g og.w s t x =
-    record { block = k; head = h; share = shares; lies = lies; neither = separates.between } in
-    let choice = some_choice og s t x s_within t_within between in
+    record {
+      source = s_within;
+      target = t_within;
+      block = k;
+      head = h;
+      share = shares;
+      lies = lies;
+      neither = separates.between;
+    } in
+    let choice = some_choice og s t x between in
     let file = whole_file og in
     let tells = whole_tells og in
     let walk = arrives og file tells s t s_within t_within shares.two choice.0 in
-    goes_round og file tells s t s_within t_within x choice.0 between choice.1
+    goes_round og file tells s t s_within t_within x choice.0 choice.1
     (separates.on_every_walk (color_walk og.g.links (length og.g.ids) (row_of file.cert) choice.0 s t) walk.ends_at_t)

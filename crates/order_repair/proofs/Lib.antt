@@ -1,4 +1,3 @@
-pub mod Adding
 pub mod Arrows
 pub mod Avoiding
 pub mod ChosenBy

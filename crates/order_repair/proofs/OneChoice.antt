@@ -1,5 +1,5 @@
 -- By order there is exactly one color for each failure.
-use Rattle.std.proofs.Common.{◌≡◌, ◌≢◌, ◌⊎◌, ◌∙◌, ◌<◌, ◌≤◌, ℕ, Option, Some, None, length, refl, sym, subst, inl, inr, arith}
+use Rattle.std.proofs.Common.{◌≡◌, ◌⊎◌, ◌∙◌, ◌<◌, ◌≤◌, ℕ, Option, Some, None, length, refl, sym, subst, inl, inr, arith}
 use Rattle.std.proofs.lemmas.Bool.{cases_eq, cases_lt}
 use Rattle.std.proofs.lemmas.Option.{same_Some}
 use Rattle.mrt_graph.specs.declared.cert.Color.{Color}
@@ -130,12 +130,12 @@ module _ (og : OrderedGraph) (s t : ℕ) where
   one_line tag (elements.Link e) color other line line' = one_link tag e color other line line'
   one_line tag (elements.Node f) color other line line' = one_node tag f color other line line'
 
-  pub one_choice : (x : Element) (color other : Color) → s < length og.g.ids → t < length og.g.ids → s ≢ t
-      → IsOrderChoice og.g og.root og.w s t x color → IsOrderChoice og.g og.root og.w s t x other → color ≡ other
-  one_choice x color other s_within t_within two choice choice' =
+  pub one_choice : (x : Element) (color other : Color) → IsOrderChoice og.g og.root og.w s t x color
+      → IsOrderChoice og.g og.root og.w s t x other → color ≡ other
+  one_choice x color other choice choice' =
       let rows =
-      one_row og s s_within choice.its_row.rows choice'.its_row.rows choice.its_row.by_table choice'.its_row.by_table t t_within
-      two in
+      one_row og s choice.between.source choice.its_row.rows choice'.its_row.rows choice.its_row.by_table choice'.its_row.by_table t
+      choice.between.target choice.between.share.two in
       let same : choice.row ≡ choice'.row =
       same_Some choice.row choice'.row (sym choice.its_row.is ∙ rows ∙ choice'.its_row.is) in
       one_line choice'.row.tag x color other
@@ -197,21 +197,25 @@ module _ (og : OrderedGraph) (s t : ℕ) where
         go roles.Sole is = absurd (ring.closed.none_sole e e_within block is)
         go roles.Closing is = let it = some_closing blue red ways in (it.0, IsClosing is it.1)
 
-  pub some_choice : (x : Element) → s < length og.g.ids → t < length og.g.ids → IsBetween og.g og.w s t x
-      → (color : Color) × IsOrderChoice og.g og.root og.w s t x color
-  some_choice x s_within t_within between =
-      let it = shared_ring og s t between.block between.head s_within t_within between.share in
-      let rows = some_rows og s s_within in
-      let its = rows.1 t t_within it.sharing.two in
+  pub some_choice : (x : Element) → IsBetween og.g og.w s t x → (color : Color) × IsOrderChoice og.g og.root og.w s t x color
+  some_choice x between =
+      let it = shared_ring og s t between.block between.head between.source between.target between.share in
+      let rows = some_rows og s between.source in
+      let its = rows.1 t between.target it.sharing.two in
       let ways = row_ways og it.m it.ring s t it.sharing its.row.tag rows.0 its.row its.line in
       let line = by_element x it between.lies its.row ways in (
         line.0,
-        record { row = its.row; its_row = record { rows = rows.0; by_table = rows.1; is = its.is }; by_tag = line.1 },
+        record {
+          between = between;
+          row = its.row;
+          its_row = record { rows = rows.0; by_table = rows.1; is = its.is };
+          by_tag = line.1;
+        },
       )
     where
       by_element : (x : Element) (it : SharedRing og s t between.block between.head)
           → LiesIn og.g og.w between.block between.head x → (row : Row) → RowWays og it.m s t row.blue row.red row.tag
           → (color : Color) × LineFor row.tag og.g og.w s t x color
       by_element (elements.Link e) it lies row ways =
-          some_link it.m s_within it.ring row.blue row.red ways e lies.within (lies.in_block ∙ it.block)
-      by_element (elements.Node f) it lies row ways = some_node it.m s_within row.blue row.red ways f lies.within
+          some_link it.m between.source it.ring row.blue row.red ways e lies.within (lies.in_block ∙ it.block)
+      by_element (elements.Node f) it lies row ways = some_node it.m between.source row.blue row.red ways f lies.within

@@ -1,34 +1,28 @@
 -- There is exactly one text on the repairs by order of a router.
 use Rattle.std.proofs.Common.{◌≡◌, ◌⊎◌, ◌∙◌, ◌++◌, ◌<◌, ℕ, zero, suc, List, [], Option, Some, None, codes, length, slice_get, refl, sym, ap, subst, inl, inr, arith}
 use Rattle.std.proofs.lemmas.Bool.{cases_eq}
-use Rattle.std.proofs.lemmas.Option.{same_Some}
+use Rattle.std.proofs.lemmas.Option.{same_Some, slice_get_within}
 use Rattle.mrt_graph.specs.declared.cert.Color.{Color}
 use Rattle.mrt_graph.specs.declared.cert.Tag.{Tag}
+use Rattle.mrt_graph.specs.declared.link.Element.{Element}
 use Rattle.mrt_graph.specs.declared.link.Element.TheVariants as elements
 use Rattle.mrt_graph.specs.declared.node_id.NodeId.{NodeId}
+use Rattle.mrt_graph.specs.Separates.{IsNeitherEnd}
 use Rattle.mrt_graph.specs.Spelling.{node_text}
 use Rattle.mrt_graph.proofs.ListTests.{there}
 use Rattle.inc_dec_spf.specs.declared.reach.Dir.TheVariants.{Down, Up}
 use Rattle.inc_dec_spf.specs.LeastPath.{ShareBlock}
 use Rattle.mrt_rows.proofs.HopsExist.{has_hop}
 use Rattle.mrt_rows.proofs.OrderedGraphs.{OrderedGraph, one_common}
-use Rattle.order_repair.specs.Failed.{IsLinkOf, IsNodeOf}
-use Rattle.order_repair.specs.OrderText.{AreParts, AtEnd, ForLink, ForNode, IsHead, IsLine, IsLinkLetter, IsNodeLetter, IsOrderText, IsPartOn, Line, NoLine, NoLink, NoNode, letter_of}
+use Rattle.text_parts.specs.Parts.{AreParts}
+use Rattle.text_parts.proofs.Adding.{one_text_of_parts}
+use Rattle.order_repair.specs.Failed.{IsWithin, LiesIn}
+use Rattle.order_repair.specs.OrderText.{AtEnd, Colored, IsHead, IsLetter, IsLine, IsOrderText, IsPartOn, Line, NoLine, NotOfIt, letter_of}
 use Rattle.order_repair.specs.Tagging.{IsTagFor, NotShared, Tagged}
 use Rattle.order_repair.proofs.OneChoice.{one_choice, some_choice}
 use Rattle.order_repair.proofs.TagFound.{head_found, none_found, peer_found, top_found}
 
--- one list of parts, and some list of them
-one_parts : (IsPart : ℕ → List ℕ → Type 0) (n : ℕ) (text other : List ℕ)
-    → ((k : ℕ) (a b : List ℕ) → k < n → IsPart k a → IsPart k b → a ≡ b) → AreParts IsPart n text → AreParts IsPart n other
-    → text ≡ other
-one_parts IsPart zero text other one is is' = is ∙ sym is'
-one_parts IsPart (suc n) text other one is is' =
-    is.4
-    ∙ ap (λ (xs : List ℕ). xs ++ is.1) (one_parts IsPart n is.0 is'.0 (λ k a b below. one k a b (omega (arith, below))) is.2 is'.2)
-    ∙ ap (λ (xs : List ℕ). is'.0 ++ xs) (one n is.1 is'.1 (omega arith) is.3 is'.3)
-    ∙ sym is'.4
-
+-- some list of parts
 some_parts : (IsPart : ℕ → List ℕ → Type 0) (n : ℕ) → ((k : ℕ) → k < n → (a : List ℕ) × IsPart k a)
     → (text : List ℕ) × AreParts IsPart n text
 some_parts IsPart zero some = ([], refl)
@@ -60,34 +54,26 @@ module _ (og : OrderedGraph) (s : ℕ) (s_within : s < length og.g.ids) where
       (_, record { router = router.0; router_is = router.1; root_id = root.0; root_is = root.1; spelled = refl })
 
   module _ (t k h : ℕ) (t_within : t < n) (shares : ShareBlock og.g og.w s t k h) where
-    one_node : (f : ℕ) (text other : List ℕ) → IsNodeLetter og.g og.root og.w s t k h f text
-        → IsNodeLetter og.g og.root og.w s t k h f other → text ≡ other
-    one_node f text other (NoNode none) (NoNode none') = refl
-    one_node f text other (NoNode none) (AtEnd lies end) = absurd (none lies)
-    one_node f text other (NoNode none) (ForNode color lies not_s not_t choice) = absurd (none lies)
-    one_node f text other (AtEnd lies end) (NoNode none) = absurd (none lies)
-    one_node f text other (AtEnd lies end) (AtEnd lies' end') = refl
-    one_node f text other (AtEnd lies end) (ForNode color lies' not_s not_t choice) =
-        absurd (elim end [ inl same ↦ not_s same | inr same ↦ not_t same ])
-    one_node f text other (ForNode color lies not_s not_t choice) (NoNode none) = absurd (none lies)
-    one_node f text other (ForNode color lies not_s not_t choice) (AtEnd lies' end) =
-        absurd (elim end [ inl same ↦ not_s same | inr same ↦ not_t same ])
-    one_node f text other (ForNode color lies not_s not_t choice) (ForNode color' lies' not_s' not_t' choice') =
-        ap (λ (c : Color). letter_of c)
-        (one_choice og s t (elements.Node f) color color' s_within t_within shares.two choice choice')
+    one_letter : (x : Element) (text other : List ℕ) → IsLetter og.g og.root og.w s t k h x text
+        → IsLetter og.g og.root og.w s t k h x other → text ≡ other
+    one_letter x text other (NotOfIt none) (NotOfIt none') = refl
+    one_letter x text other (NotOfIt none) (AtEnd lies end) = absurd (none lies)
+    one_letter x text other (NotOfIt none) (Colored color lies choice) = absurd (none lies)
+    one_letter x text other (AtEnd lies end) (NotOfIt none) = absurd (none lies)
+    one_letter x text other (AtEnd lies end) (AtEnd lies' end') = refl
+    one_letter x text other (AtEnd lies end) (Colored color lies' choice) = absurd (end choice.between.neither)
+    one_letter x text other (Colored color lies choice) (NotOfIt none) = absurd (none lies)
+    one_letter x text other (Colored color lies choice) (AtEnd lies' end) = absurd (end choice.between.neither)
+    one_letter x text other (Colored color lies choice) (Colored color' lies' choice') =
+        ap (λ (c : Color). letter_of c) (one_choice og s t x color color' choice choice')
 
-    one_link : (e : ℕ) (text other : List ℕ) → IsLinkLetter og.g og.root og.w s t k h e text
-        → IsLinkLetter og.g og.root og.w s t k h e other → text ≡ other
-    one_link e text other (NoLink none) (NoLink none') = refl
-    one_link e text other (NoLink none) (ForLink color lies choice) = absurd (none lies)
-    one_link e text other (ForLink color lies choice) (NoLink none) = absurd (none lies)
-    one_link e text other (ForLink color lies choice) (ForLink color' lies' choice') =
-        ap (λ (c : Color). letter_of c)
-        (one_choice og s t (elements.Link e) color color' s_within t_within shares.two choice choice')
-
-    -- a node is of the block, or it is not
-    node_or_not : (f : ℕ) → f < n → IsNodeOf og.g og.w k h f ⊎ (IsNodeOf og.g og.w k h f → ⊥)
-    node_or_not f f_within = elim (cases_eq (og.w.block f) k) [
+    -- it is of the block, or it is not; and so for the two
+    lies_or_not : (x : Element) → IsWithin og.g x → LiesIn og.g og.w k h x ⊎ (LiesIn og.g og.w k h x → ⊥)
+    lies_or_not (elements.Link e) e_within = elim (cases_eq (og.w.lies_in e) k) [
+      | inl block ↦ inl (record { within = e_within; in_block = block })
+      | inr other ↦ inr (λ lies. other lies.in_block)
+    ]
+    lies_or_not (elements.Node f) f_within = elim (cases_eq (og.w.block f) k) [
       | inl block ↦ inl (record { within = f_within; in_block = inl block })
       | inr other ↦ elim (cases_eq f h) [
         | inl home ↦ inl (record { within = f_within; in_block = inr home })
@@ -95,38 +81,44 @@ module _ (og : OrderedGraph) (s : ℕ) (s_within : s < length og.g.ids) where
       ]
     ]
 
-    some_node : (f : ℕ) → f < n → (text : List ℕ) × IsNodeLetter og.g og.root og.w s t k h f text
-    some_node f f_within = elim (node_or_not f f_within) [
-      | inr none ↦ ([], NoNode none)
-      | inl lies ↦ elim (cases_eq f s) [
-        | inl same ↦ (codes "-", AtEnd lies (inl same))
-        | inr not_s ↦ elim (cases_eq f t) [
-          | inl same ↦ (codes "-", AtEnd lies (inr same))
-          | inr not_t ↦
-              let choice =
-              some_choice og s t (elements.Node f) s_within t_within
-              (record { block = k; head = h; share = shares; lies = lies; neither = (not_s, not_t) }) in
-              (letter_of choice.0, ForNode choice.0 lies not_s not_t choice.1)
-        ]
+    neither_or_not : (x : Element) → IsNeitherEnd x s t ⊎ (IsNeitherEnd x s t → ⊥)
+    neither_or_not (elements.Link e) = inl tt
+    neither_or_not (elements.Node f) = elim (cases_eq f s) [
+      | inl same ↦ inr (λ neither. neither.0 same)
+      | inr not_s ↦ elim (cases_eq f t) [
+        | inl same ↦ inr (λ neither. neither.1 same)
+        | inr not_t ↦ inl (not_s, not_t)
       ]
     ]
 
-    some_link : (e : ℕ) → e < length og.g.links → (text : List ℕ) × IsLinkLetter og.g og.root og.w s t k h e text
-    some_link e e_within = elim (cases_eq (og.w.lies_in e) k) [
-      | inr other ↦ ([], NoLink (λ lies. other lies.in_block))
-      | inl block ↦
-          let lies : IsLinkOf og.g og.w k e = record { within = e_within; in_block = block } in
-          let choice =
-          some_choice og s t (elements.Link e) s_within t_within
-          (record { block = k; head = h; share = shares; lies = lies; neither = tt }) in
-          (letter_of choice.0, ForLink choice.0 lies choice.1)
+    some_letter : (x : Element) → IsWithin og.g x → (text : List ℕ) × IsLetter og.g og.root og.w s t k h x text
+    some_letter x within = elim (lies_or_not x within) [
+      | inr none ↦ ([], NotOfIt none)
+      | inl lies ↦ elim (neither_or_not x) [
+        | inr end ↦ (codes "-", AtEnd lies end)
+        | inl neither ↦
+            let choice =
+            some_choice og s t x
+            (record {
+              source = s_within;
+              target = t_within;
+              block = k;
+              head = h;
+              share = shares;
+              lies = lies;
+              neither = neither;
+            }) in
+            (letter_of choice.0, Colored choice.0 lies choice.1)
+      ]
     ]
 
     some_line : (text : List ℕ) × IsLine og.g og.root og.w s t text
     some_line =
         let id = there og.g.ids t t_within in
-        let nodes = some_parts (IsNodeLetter og.g og.root og.w s t k h) n some_node in
-        let links = some_parts (IsLinkLetter og.g og.root og.w s t k h) (length og.g.links) some_link in (
+        let nodes = some_parts (λ f. IsLetter og.g og.root og.w s t k h (elements.Node f)) n (λ f. some_letter (elements.Node f)) in
+        let links =
+        some_parts (λ e. IsLetter og.g og.root og.w s t k h (elements.Link e)) (length og.g.links)
+        (λ e. some_letter (elements.Link e)) in (
           node_text id.0 ++ codes " " ++ nodes.0 ++ codes " " ++ links.0 ++ codes "\n",
           record {
             block = k;
@@ -142,24 +134,27 @@ module _ (og : OrderedGraph) (s : ℕ) (s_within : s < length og.g.ids) where
           },
         )
 
-  one_line : (t : ℕ) → t < n → (text other : List ℕ) → IsLine og.g og.root og.w s t text → IsLine og.g og.root og.w s t other
-      → text ≡ other
-  one_line t t_within text other is is' =
+  one_line : (t : ℕ) (text other : List ℕ) → IsLine og.g og.root og.w s t text → IsLine og.g og.root og.w s t other → text ≡ other
+  one_line t text other is is' =
+      let t_within = slice_get_within og.g.ids t is.id is.id_is in
       let same =
       one_common og s t is.block is.head is'.block is'.head s_within t_within is.share.two is.share.common is'.share.common in
       let nodes_are =
-      subst (λ (x : ℕ). AreParts (IsNodeLetter og.g og.root og.w s t is'.block x) n is.nodes) same.1
-      (subst (λ (x : ℕ). AreParts (IsNodeLetter og.g og.root og.w s t x is.head) n is.nodes) same.0 is.nodes_are) in
+      subst (λ (x : ℕ). AreParts (λ f. IsLetter og.g og.root og.w s t is'.block x (elements.Node f)) n is.nodes) same.1
+      (subst (λ (x : ℕ). AreParts (λ f. IsLetter og.g og.root og.w s t x is.head (elements.Node f)) n is.nodes) same.0
+      is.nodes_are) in
       let links_are =
-      subst (λ (x : ℕ). AreParts (IsLinkLetter og.g og.root og.w s t is'.block x) (length og.g.links) is.links) same.1
-      (subst (λ (x : ℕ). AreParts (IsLinkLetter og.g og.root og.w s t x is.head) (length og.g.links) is.links) same.0
-      is.links_are) in
+      subst (λ (x : ℕ). AreParts (λ e. IsLetter og.g og.root og.w s t is'.block x (elements.Link e)) (length og.g.links) is.links)
+      same.1
+      (subst (λ (x : ℕ). AreParts (λ e. IsLetter og.g og.root og.w s t x is.head (elements.Link e)) (length og.g.links) is.links)
+      same.0 is.links_are) in
       let nodes : is.nodes ≡ is'.nodes =
-      one_parts (IsNodeLetter og.g og.root og.w s t is'.block is'.head) n is.nodes is'.nodes
-      (λ f a b below. one_node t is'.block is'.head t_within is'.share f a b) nodes_are is'.nodes_are in
+      one_text_of_parts (λ f. IsLetter og.g og.root og.w s t is'.block is'.head (elements.Node f))
+      (λ f. one_letter t is'.block is'.head t_within is'.share (elements.Node f)) n is.nodes is'.nodes nodes_are is'.nodes_are in
       let links : is.links ≡ is'.links =
-      one_parts (IsLinkLetter og.g og.root og.w s t is'.block is'.head) (length og.g.links) is.links is'.links
-      (λ e a b below. one_link t is'.block is'.head t_within is'.share e a b) links_are is'.links_are in
+      one_text_of_parts (λ e. IsLetter og.g og.root og.w s t is'.block is'.head (elements.Link e))
+      (λ e. one_letter t is'.block is'.head t_within is'.share (elements.Link e)) (length og.g.links) is.links is'.links links_are
+      is'.links_are in
       is.spelled
       ∙ ap (λ (id : NodeId). node_text id ++ codes " " ++ is.nodes ++ codes " " ++ is.links ++ codes "\n")
       (one_id og.g.ids t is.id is'.id is.id_is is'.id_is)
@@ -167,12 +162,12 @@ module _ (og : OrderedGraph) (s : ℕ) (s_within : s < length og.g.ids) where
       ∙ ap (λ (xs : List ℕ). node_text is'.id ++ codes " " ++ is'.nodes ++ codes " " ++ xs ++ codes "\n") links
       ∙ sym is'.spelled
 
-  one_part : (t : ℕ) (text other : List ℕ) → t < n → IsPartOn og.g og.root og.w s t text → IsPartOn og.g og.root og.w s t other
+  one_part : (t : ℕ) (text other : List ℕ) → IsPartOn og.g og.root og.w s t text → IsPartOn og.g og.root og.w s t other
       → text ≡ other
-  one_part t text other t_within (NoLine none) (NoLine none') = refl
-  one_part t text other t_within (NoLine none) (Line x line) = absurd (none line.block line.head line.share)
-  one_part t text other t_within (Line x line) (NoLine none) = absurd (none line.block line.head line.share)
-  one_part t text other t_within (Line x line) (Line x' line') = one_line t t_within x x' line line'
+  one_part t text other (NoLine none) (NoLine none') = refl
+  one_part t text other (NoLine none) (Line x line) = absurd (none line.block line.head line.share)
+  one_part t text other (Line x line) (NoLine none) = absurd (none line.block line.head line.share)
+  one_part t text other (Line x line) (Line x' line') = one_line t x x' line line'
 
   -- they share a block of more than one link, or they do not
   some_tag : (t : ℕ) → t < n → (tag : Option Tag) × IsTagFor og.g og.root og.w s t tag
@@ -209,7 +204,7 @@ module _ (og : OrderedGraph) (s : ℕ) (s_within : s < length og.g.ids) where
       is.spelled
       ∙ ap (λ (xs : List ℕ). xs ++ is.lines) (one_head is.head is'.head is.head_is is'.head_is)
       ∙ ap (λ (xs : List ℕ). is'.head ++ xs)
-      (one_parts (IsPartOn og.g og.root og.w s) n is.lines is'.lines (λ t a b below. one_part t a b below) is.lines_are is'.lines_are)
+      (one_text_of_parts (IsPartOn og.g og.root og.w s) one_part n is.lines is'.lines is.lines_are is'.lines_are)
       ∙ sym is'.spelled
 
   pub some_text : (text : List ℕ) × IsOrderText og.g og.root og.w s text

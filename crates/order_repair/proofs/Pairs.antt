@@ -15,6 +15,7 @@ use Rattle.mrt_rows.proofs.NearRows.{place_says}
 use Rattle.mrt_rows.proofs.OrderedGraphs.{OrderedGraph}
 use Rattle.mrt_rows.proofs.Ways.{Inside, Ring, inside_head}
 use Rattle.order_repair.specs.Blocks.{IsPair}
+use Rattle.order_repair.specs.Failed.{IsBetween}
 use Rattle.order_repair.specs.OrderChoice.{IsOrderChoice, LineFor}
 use Rattle.order_repair.specs.Tagging.{IsTagFor, NotShared, Tagged}
 use Rattle.order_repair.proofs.RowWays.{AboveRow, BelowRow, HeadRow, RowWays, TopRow, UnorderedRow, row_ways}
@@ -22,8 +23,9 @@ use Rattle.order_repair.proofs.SharedBlock.{shared_ring}
 
 -- the line of a pair's tag is that of the color chosen by order
 pub choice_of : (g : Topology) (root : ℕ) (w : Directions) (s t : ℕ) (tag : Tag) (place : Place) (x : Element) (color : Color)
-    → IsPair g root w s t tag place → LineFor tag g w s t x color → IsOrderChoice g root w s t x color
-choice_of g root w s t tag place x color pair line = record {
+    → IsPair g root w s t tag place → IsBetween g w s t x → LineFor tag g w s t x color → IsOrderChoice g root w s t x color
+choice_of g root w s t tag place x color pair between line = record {
+  between = between;
   row = pair.row;
   its_row = pair.its_row;
   by_tag = subst (λ (a : Tag). LineFor a g w s t x color) (sym pair.tag_is) line;

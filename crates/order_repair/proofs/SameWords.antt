@@ -6,6 +6,7 @@ use Rattle.mrt_graph.specs.declared.cert.Row.{Row}
 use Rattle.mrt_graph.specs.declared.cert.Tag.{Tag}
 use Rattle.mrt_graph.specs.declared.cert.Tag.TheVariants as tags
 use Rattle.mrt_graph.specs.declared.link.End.{End}
+use Rattle.mrt_graph.specs.declared.link.Element.{Element}
 use Rattle.mrt_graph.specs.declared.link.Element.TheVariants as elements
 use Rattle.mrt_graph.specs.GraphInvariant.{IsTopology}
 use Rattle.mrt_graph.specs.Leads.{leads}
@@ -21,9 +22,24 @@ use Rattle.inc_dec_spf.proofs.SameDirections.{AreAlike}
 use Rattle.mrt_rows.proofs.Agreeing.{common_too, line_too, path_too}
 use Rattle.mrt_rows.proofs.HopsExist.{has_hop}
 use Rattle.mrt_rows.proofs.OrderedGraphs.{OrderedGraph, within}
-use Rattle.order_repair.specs.Failed.{IsLinkOf, IsNodeOf}
-use Rattle.order_repair.specs.OrderChoice.{Else, Holds, Is, IsClosing, IsOrderChoice, IsPlain, IsRowFor, LeadsTo, LinkLine, NodeLine, PlainLine, Where}
-use Rattle.order_repair.specs.OrderText.{AreParts, AtEnd, ForLink, ForNode, IsLinkLetter, IsNodeLetter, IsOrderText, IsPartOn, Line, NoLine, NoLink, NoNode}
+use Rattle.text_parts.specs.Parts.{AreParts}
+use Rattle.order_repair.specs.Failed.{LiesIn}
+use Rattle.order_repair.specs.OrderChoice.{Else, Holds, Is, IsClosing, IsOrderChoice, IsPlain, IsRowFor, LeadsTo, LineFor, LinkLine, NodeLine, PlainLine, Where}
+use Rattle.order_repair.specs.OrderText.{AtEnd, Colored, IsLetter, IsOrderText, IsPartOn, Line, NoLine, NotOfIt}
+
+-- the same lies in a block
+lies_on : (g : Topology) (w v : Directions) → AreAlike g w v → (k h : ℕ) (x : Element) → LiesIn g w k h x → LiesIn g v k h x
+lies_on g w v alike k h (elements.Link e) lies = record {
+  within = lies.within;
+  in_block = sym (alike.link_blocks e lies.within) ∙ lies.in_block;
+}
+lies_on g w v alike k h (elements.Node f) lies = record {
+  within = lies.within;
+  in_block = elim lies.in_block [
+    | inl block ↦ inl (sym (alike.blocks f lies.within) ∙ block)
+    | inr home ↦ inr home
+  ];
+}
 
 pub alike_back : (g : Topology) (w v : Directions) → AreAlike g w v → AreAlike g v w
 alike_back g w v alike = record {
@@ -224,59 +240,33 @@ module _ (one : OrderedGraph) (v : Directions) (ordered : IsOrderedGadag one.g o
         (plain_line_too tag (w.tail e) x color in_range.from in_range.to line))
     link_line_too tag e color e_in (IsClosing closing line) = IsClosing (sym (alike.roles e e_in) ∙ closing) line
 
-    node_choice_too : (f : ℕ) (color : Color) → f < n → IsOrderChoice g root w s t (elements.Node f) color
-        → IsOrderChoice g root v s t (elements.Node f) color
-    node_choice_too f color f_in choice = record {
-      row = choice.row;
-      its_row = row_there s t choice.row s_within choice.its_row;
-      by_tag = node_line_too choice.row.tag f color f_in choice.by_tag;
-    }
+    line_for_too : (tag : Tag) (x : Element) (color : Color) (k h : ℕ) → LiesIn g w k h x → LineFor tag g w s t x color
+        → LineFor tag g v s t x color
+    line_for_too tag (elements.Link e) color k h lies line = link_line_too tag e color lies.within line
+    line_for_too tag (elements.Node f) color k h lies line = node_line_too tag f color lies.within line
 
-    link_choice_too : (e : ℕ) (color : Color) → e < length g.links → IsOrderChoice g root w s t (elements.Link e) color
-        → IsOrderChoice g root v s t (elements.Link e) color
-    link_choice_too e color e_in choice = record {
-      row = choice.row;
-      its_row = row_there s t choice.row s_within choice.its_row;
-      by_tag = link_line_too choice.row.tag e color e_in choice.by_tag;
-    }
+    choice_too : (x : Element) (color : Color) → IsOrderChoice g root w s t x color → IsOrderChoice g root v s t x color
+    choice_too x color choice =
+        let between = choice.between in
+        record {
+          between = record {
+            source = between.source;
+            target = between.target;
+            block = between.block;
+            head = between.head;
+            share = share_there s t between.block between.head between.source between.target between.share;
+            lies = lies_on g w v alike between.block between.head x between.lies;
+            neither = between.neither;
+          };
+          row = choice.row;
+          its_row = row_there s t choice.row s_within choice.its_row;
+          by_tag = line_for_too choice.row.tag x color between.block between.head between.lies choice.by_tag;
+        }
 
-    node_there : (k h f : ℕ) → IsNodeOf g w k h f → IsNodeOf g v k h f
-    node_there k h f lies = record {
-      within = lies.within;
-      in_block = elim lies.in_block [
-        | inl block ↦ inl (sym (alike.blocks f lies.within) ∙ block)
-        | inr home ↦ inr home
-      ];
-    }
-
-    node_back : (k h f : ℕ) → IsNodeOf g v k h f → IsNodeOf g w k h f
-    node_back k h f lies = record {
-      within = lies.within;
-      in_block = elim lies.in_block [
-        | inl block ↦ inl (alike.blocks f lies.within ∙ block)
-        | inr home ↦ inr home
-      ];
-    }
-
-    link_there : (k e : ℕ) → IsLinkOf g w k e → IsLinkOf g v k e
-    link_there k e lies = record {
-      within = lies.within;
-      in_block = sym (alike.link_blocks e lies.within) ∙ lies.in_block;
-    }
-
-    link_back : (k e : ℕ) → IsLinkOf g v k e → IsLinkOf g w k e
-    link_back k e lies = record { within = lies.within; in_block = alike.link_blocks e lies.within ∙ lies.in_block }
-
-    node_letter_too : (k h f : ℕ) (text : List ℕ) → IsNodeLetter g root w s t k h f text → IsNodeLetter g root v s t k h f text
-    node_letter_too k h f text (NoNode none) = NoNode (λ lies. none (node_back k h f lies))
-    node_letter_too k h f text (AtEnd lies end) = AtEnd (node_there k h f lies) end
-    node_letter_too k h f text (ForNode color lies not_s not_t choice) =
-        ForNode color (node_there k h f lies) not_s not_t (node_choice_too f color lies.within choice)
-
-    link_letter_too : (k h e : ℕ) (text : List ℕ) → IsLinkLetter g root w s t k h e text → IsLinkLetter g root v s t k h e text
-    link_letter_too k h e text (NoLink none) = NoLink (λ lies. none (link_back k e lies))
-    link_letter_too k h e text (ForLink color lies choice) =
-        ForLink color (link_there k e lies) (link_choice_too e color lies.within choice)
+    letter_too : (k h : ℕ) (x : Element) (text : List ℕ) → IsLetter g root w s t k h x text → IsLetter g root v s t k h x text
+    letter_too k h x text (NotOfIt none) = NotOfIt (λ lies. none (lies_on g v w back k h x lies))
+    letter_too k h x text (AtEnd lies end) = AtEnd (lies_on g w v alike k h x lies) end
+    letter_too k h x text (Colored color lies choice) = Colored color (lies_on g w v alike k h x lies) (choice_too x color choice)
 
     part_too : (text : List ℕ) → IsPartOn g root w s t text → IsPartOn g root v s t text
     part_too text (NoLine none) = NoLine (λ k h shares. none k h (share_back s t k h s_within t_within shares))
@@ -287,11 +277,13 @@ module _ (one : OrderedGraph) (v : Directions) (ordered : IsOrderedGadag one.g o
       id = line.id;
       id_is = line.id_is;
       nodes = line.nodes;
-      nodes_are = parts_too (IsNodeLetter g root w s t line.block line.head) (IsNodeLetter g root v s t line.block line.head) n
-          line.nodes (λ f a below. node_letter_too line.block line.head f a) line.nodes_are;
+      nodes_are = parts_too (λ f. IsLetter g root w s t line.block line.head (elements.Node f))
+          (λ f. IsLetter g root v s t line.block line.head (elements.Node f)) n line.nodes
+          (λ f a below. letter_too line.block line.head (elements.Node f) a) line.nodes_are;
       links = line.links;
-      links_are = parts_too (IsLinkLetter g root w s t line.block line.head) (IsLinkLetter g root v s t line.block line.head)
-          (length g.links) line.links (λ e a below. link_letter_too line.block line.head e a) line.links_are;
+      links_are = parts_too (λ e. IsLetter g root w s t line.block line.head (elements.Link e))
+          (λ e. IsLetter g root v s t line.block line.head (elements.Link e)) (length g.links) line.links
+          (λ e a below. letter_too line.block line.head (elements.Link e) a) line.links_are;
       spelled = line.spelled;
     })
 

@@ -23,8 +23,10 @@ abbrev pub LiesIn : Topology → Directions → ℕ → ℕ → Element → Type
 LiesIn g w k h (elements.Link e) = IsLinkOf g w k e
 LiesIn g w k h (elements.Node x) = IsNodeOf g w k h x
 
--- s and t have a block of more than one link in common, and x is a link of it, or a node of it other than the two
+-- s and t are nodes with a block of more than one link in common, and x is a link of it, or a node of it other than the two
 pub record IsBetween (g : Topology) (w : Directions) (s t : ℕ) (x : Element) : Type 0 where
+  pub source : s < length g.ids
+  pub target : t < length g.ids
   pub block : ℕ
   pub head : ℕ
   pub share : ShareBlock g w s t block head

@@ -1,4 +1,3 @@
-pub mod Adds
 pub mod Arrow
 pub mod Blocks
 pub mod Colors

@@ -16,6 +16,7 @@ use Rattle.inc_dec_spf.specs.declared.reach.Dir.TheVariants.{Down, Up}
 use Rattle.inc_dec_spf.specs.declared.reach.Hop.{Hop}
 use Rattle.inc_dec_spf.specs.LeastPath.{IsHop}
 use Rattle.mrt_rows.specs.RowsOf.{HasRow}
+use Rattle.order_repair.specs.Failed.{IsBetween}
 
 -- a path of their block leads from s to x in this direction
 pub record LeadsTo (g : Topology) (w : Directions) (dir : Dir) (s x : ℕ) : Type 0 where
@@ -90,8 +91,10 @@ pub record IsRowFor (g : Topology) (root : ℕ) (w : Directions) (s t : ℕ) (ro
   pub by_table : (u : ℕ) → u < length g.ids → s ≢ u → HasRow g root w s rows u
   pub is : rows t ≡ Some row
 
--- the color of s for t, where x has failed: by the tag of the row of s for t
+-- the color of s for t, where x has failed: by the tag of the row of s for t. There is none where x does not lie between
+-- the two
 pub record IsOrderChoice (g : Topology) (root : ℕ) (w : Directions) (s t : ℕ) (x : Element) (color : Color) : Type 0 where
+  pub between : IsBetween g w s t x
   pub row : Row
   pub its_row : IsRowFor g root w s t row
   pub by_tag : LineFor row.tag g w s t x color

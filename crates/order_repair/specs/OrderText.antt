@@ -1,12 +1,15 @@
 -- The text on a router's repairs by order.
-use Rattle.std.specs.Prelude.{◌≡◌, ◌≢◌, ◌++◌, ◌⊎◌, ℕ, zero, suc, List, [], Some, codes, length, slice_get}
+use Rattle.std.specs.Prelude.{◌≡◌, ◌++◌, ℕ, List, [], Some, codes, length, slice_get}
 use Rattle.mrt_graph.specs.declared.cert.Color.{Color}
 use Rattle.mrt_graph.specs.declared.cert.Color.TheVariants.{Blue, Red}
+use Rattle.mrt_graph.specs.declared.link.Element.{Element}
 use Rattle.mrt_graph.specs.declared.link.Element.TheVariants as elements
 use Rattle.mrt_graph.specs.declared.node_id.NodeId.{NodeId}
 use Rattle.mrt_graph.specs.DirectedLists.{DirectedLists}
+use Rattle.mrt_graph.specs.Separates.{IsNeitherEnd}
 use Rattle.mrt_graph.specs.Spelling.{node_text}
 use Rattle.mrt_graph.specs.Topology.{Topology}
+use Rattle.text_parts.specs.Parts.{AreParts}
 use Rattle.link_direction.specs.Directions.{Directions, Says}
 use Rattle.inc_dec_spf.specs.LeastPath.{ShareBlock}
 use Rattle.mrt_rows.specs.DirectedFrom.{IsDirectedFrom}
@@ -26,25 +29,13 @@ abbrev pub letter_of : Color → List ℕ
 letter_of Blue = codes "b"
 letter_of Red = codes "r"
 
--- a letter for a node of the block of s and t: `-` for the two, else that of the color where it has failed. Nothing for
--- a node that is not of the block
-pub data IsNodeLetter (g : Topology) (root : ℕ) (w : Directions) (s t k h f : ℕ) : List ℕ → Type 0 where
-  NoNode : ¬ LiesIn g w k h (elements.Node f) → IsNodeLetter g root w s t k h f []
-  AtEnd : LiesIn g w k h (elements.Node f) → (f ≡ s) ⊎ (f ≡ t) → IsNodeLetter g root w s t k h f (codes "-")
-  ForNode : (color : Color) → LiesIn g w k h (elements.Node f) → f ≢ s → f ≢ t
-      → IsOrderChoice g root w s t (elements.Node f) color → IsNodeLetter g root w s t k h f (letter_of color)
-
--- and a letter for a link of the block. Nothing for a link of another one
-pub data IsLinkLetter (g : Topology) (root : ℕ) (w : Directions) (s t k h e : ℕ) : List ℕ → Type 0 where
-  NoLink : ¬ LiesIn g w k h (elements.Link e) → IsLinkLetter g root w s t k h e []
-  ForLink : (color : Color) → LiesIn g w k h (elements.Link e) → IsOrderChoice g root w s t (elements.Link e) color
-      → IsLinkLetter g root w s t k h e (letter_of color)
-
--- parts, one for each of the first so many numbers
-abbrev pub AreParts : (ℕ → List ℕ → Type 0) → ℕ → List ℕ → Type 0
-AreParts IsPart zero text = text ≡ []
-AreParts IsPart (suc n) text =
-    (parts : List ℕ) × (part : List ℕ) × AreParts IsPart n parts × IsPart n part × (text ≡ parts ++ part)
+-- a letter for a node or a link of the block of s and t: `-` for the two, else that of the color where it has failed.
+-- Nothing for what is not of the block
+pub data IsLetter (g : Topology) (root : ℕ) (w : Directions) (s t k h : ℕ) (x : Element) : List ℕ → Type 0 where
+  NotOfIt : ¬ LiesIn g w k h x → IsLetter g root w s t k h x []
+  AtEnd : LiesIn g w k h x → ¬ IsNeitherEnd x s t → IsLetter g root w s t k h x (codes "-")
+  Colored : (color : Color) → LiesIn g w k h x → IsOrderChoice g root w s t x color
+      → IsLetter g root w s t k h x (letter_of color)
 
 -- the line on t, with which s has a block of more than one link in common: the letters of the block's nodes, by number
 -- and so by ascending identifier, and those of its links, by number
@@ -55,9 +46,9 @@ pub record IsLine (g : Topology) (root : ℕ) (w : Directions) (s t : ℕ) (text
   pub id : NodeId
   pub id_is : slice_get g.ids t ≡ Some id
   pub nodes : List ℕ
-  pub nodes_are : AreParts (IsNodeLetter g root w s t block head) (length g.ids) nodes
+  pub nodes_are : AreParts (λ f. IsLetter g root w s t block head (elements.Node f)) (length g.ids) nodes
   pub links : List ℕ
-  pub links_are : AreParts (IsLinkLetter g root w s t block head) (length g.links) links
+  pub links_are : AreParts (λ e. IsLetter g root w s t block head (elements.Link e)) (length g.links) links
   pub spelled : text ≡ node_text id ++ codes " " ++ nodes ++ codes " " ++ links ++ codes "\n"
 
 -- one line on a node with which s has such a block in common, and none on another one

@@ -1,7 +1,8 @@
-//! One color or the other.
+//! One color or the other, and its letter.
 
 ghost use Rattle.std.specs.Prelude.{◌≡◌};
 ghost use Rattle.order_repair.specs.Colors.{blue_where, red_where};
+ghost use Rattle.order_repair.specs.OrderText.{letter_of};
 
 use mrt_graph::Color;
 
@@ -17,4 +18,14 @@ pub fn blue_where(holds: bool) -> Color
     ensures { result ≡ blue_where holds }
 {
     if holds { Color::Blue } else { Color::Red }
+}
+
+/// The letter of a color.
+pub fn letter(color: Color) -> &'static [u8]
+    ensures { result.now ≡ letter_of color }
+{
+    match color {
+        Color::Blue => b"b",
+        Color::Red => b"r",
+    }
 }

@@ -12,7 +12,6 @@ mod reached;
 mod tagging;
 mod text;
 mod text_law;
-mod words;
 
 pub use choice::order_choice;
 pub use order_law::{

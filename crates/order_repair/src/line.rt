@@ -3,20 +3,23 @@
 ghost use Rattle.std.specs.Prelude.{◌≡◌, ◌≢◌, ◌<◌, ◌↔◌, ℕ, IfOk, IsTrue, Some, length, slice_get};
 ghost use Rattle.mrt_graph.specs.declared.link.Element.TheVariants as elements;
 ghost use Rattle.mrt_graph.specs.declared.cert.Tag.TheVariants.{Top};
+ghost use Rattle.mrt_graph.specs.Separates.{IsNeitherEnd};
 ghost use Rattle.link_direction.specs.Directions.{Directions, Says};
+ghost use Rattle.inc_dec_spf.specs.HasDirections.{HasDirections};
 ghost use Rattle.mrt_rows.specs.Source.{AreHops, IsSource};
-ghost use Rattle.order_repair.specs.Adds.{Adds};
+ghost use Rattle.text_parts.specs.Adds.{Adds};
+ghost use Rattle.text_parts.specs.Parts.{AreParts};
 ghost use Rattle.order_repair.specs.Blocks.{IsPair};
-ghost use Rattle.order_repair.specs.Failed.{LiesIn};
-ghost use Rattle.order_repair.specs.OrderText.{AreParts, IsLine, IsLinkLetter, IsNodeLetter};
+ghost use Rattle.order_repair.specs.Failed.{IsWithin, LiesIn};
+ghost use Rattle.order_repair.specs.OrderText.{IsLetter, IsLine};
 ghost use Rattle.order_repair.specs.Tagging.{IsNearTag, IsTagFor};
 
-use crate::link_line::link_color;
-use crate::node_line::node_color;
+use crate::choice::color_for;
+use crate::colors::letter;
 use crate::pair::Pair;
-use crate::words::{letter, push, push_node};
 use inc_dec_spf::Reach;
-use mrt_graph::{Directed, Graph, LinkNo, NoMemory, NodeNo, Place, Tag};
+use mrt_graph::{Directed, Element, Graph, LinkNo, NoMemory, NodeNo, Place, Tag};
+use text_parts::{push, push_node};
 
 /// Puts the line on a pair's destination at the end of a text.
 pub fn push_line(
@@ -73,58 +76,24 @@ fn push_node_letters(
     requires near { IsNearTag pair.now.tag }
     ensures { (root : ℕ) (w : Directions) → AreHops g.now d.now root w pair.now.source up.now down.now
         → IsPair g.now root w pair.now.source pair.now.to pair.now.tag place.now
-        → IfOk result (λ _. Adds
-        (AreParts (IsNodeLetter g.now root w pair.now.source pair.now.to place.now.block place.now.head) (length g.now.ids))
-        text.old.items text.new.items) }
+        → IfOk result (λ _. Adds (AreParts
+        (λ f. IsLetter g.now root w pair.now.source pair.now.to place.now.block place.now.head (elements.Node f))
+        (length g.now.ids)) text.old.items text.new.items) }
 {
     let count = g.node_count();
     for f in 0..count {
-        push_node_letter(text, g, d, up, down, pair, place, NodeNo::new(f))?;
+        push_letter(
+            text,
+            g,
+            d,
+            up,
+            down,
+            pair,
+            place,
+            &Element::Node(NodeNo::new(f)),
+        )?;
     }
     Ok(())
-}
-
-/// Puts the letter of a node at the end of a text, where it is of the block.
-fn push_node_letter(
-    text: &mut Vec<u8>,
-    g: &Graph,
-    d: &Directed,
-    up: &Reach,
-    down: &Reach,
-    pair: &Pair,
-    place: &Place,
-    f: NodeNo,
-) -> Result<(), NoMemory>
-    requires source { IsSource g.now d.now pair.now.source up.now down.now }
-    requires to { pair.now.to < length g.now.ids }
-    requires near { IsNearTag pair.now.tag }
-    requires node { f < length g.now.ids }
-    ensures { (root : ℕ) (w : Directions) → AreHops g.now d.now root w pair.now.source up.now down.now
-        → IsPair g.now root w pair.now.source pair.now.to pair.now.tag place.now
-        → IfOk result (λ _. Adds
-        (IsNodeLetter g.now root w pair.now.source pair.now.to place.now.block place.now.head f)
-        text.old.items text.new.items) }
-{
-    if !is_node_of(g, d, place, f) {
-        return Ok(());
-    }
-    if f == pair.source {
-        return push(text, b"-");
-    }
-    if f == pair.to {
-        return push(text, b"-");
-    }
-    push(text, letter(node_color(g, d, up, down, pair, f)))
-}
-
-/// Whether a node is of the block, or is its head.
-fn is_node_of(g: &Graph, d: &Directed, place: &Place, f: NodeNo) -> bool
-    requires blocks { length d.now.places ≡ length g.now.ids }
-    requires node { f < length g.now.ids }
-    ensures { (w : Directions) → Says g.now d.now w
-        → IsTrue result ↔ LiesIn g.now w place.now.block place.now.head (elements.Node f) }
-{
-    f == place.head || d.place(f).block == place.block
 }
 
 /// Puts the letters of the block's links at the end of a text.
@@ -142,19 +111,28 @@ fn push_link_letters(
     requires near { IsNearTag pair.now.tag }
     ensures { (root : ℕ) (w : Directions) → AreHops g.now d.now root w pair.now.source up.now down.now
         → IsPair g.now root w pair.now.source pair.now.to pair.now.tag place.now
-        → IfOk result (λ _. Adds
-        (AreParts (IsLinkLetter g.now root w pair.now.source pair.now.to place.now.block place.now.head) (length g.now.links))
-        text.old.items text.new.items) }
+        → IfOk result (λ _. Adds (AreParts
+        (λ e. IsLetter g.now root w pair.now.source pair.now.to place.now.block place.now.head (elements.Link e))
+        (length g.now.links)) text.old.items text.new.items) }
 {
     let count = g.link_count();
     for e in 0..count {
-        push_link_letter(text, g, d, up, down, pair, place, LinkNo::new(e))?;
+        push_letter(
+            text,
+            g,
+            d,
+            up,
+            down,
+            pair,
+            place,
+            &Element::Link(LinkNo::new(e)),
+        )?;
     }
     Ok(())
 }
 
-/// Puts the letter of a link at the end of a text, where it is of the block.
-fn push_link_letter(
+/// Puts the letter of a node or a link at the end of a text, where it is of the block.
+fn push_letter(
     text: &mut Vec<u8>,
     g: &Graph,
     d: &Directed,
@@ -162,20 +140,46 @@ fn push_link_letter(
     down: &Reach,
     pair: &Pair,
     place: &Place,
-    e: LinkNo,
+    x: &Element,
 ) -> Result<(), NoMemory>
     requires source { IsSource g.now d.now pair.now.source up.now down.now }
     requires to { pair.now.to < length g.now.ids }
     requires near { IsNearTag pair.now.tag }
-    requires link { e < length g.now.links }
+    requires within { IsWithin g.now x.now }
     ensures { (root : ℕ) (w : Directions) → AreHops g.now d.now root w pair.now.source up.now down.now
         → IsPair g.now root w pair.now.source pair.now.to pair.now.tag place.now
         → IfOk result (λ _. Adds
-        (IsLinkLetter g.now root w pair.now.source pair.now.to place.now.block place.now.head e)
+        (IsLetter g.now root w pair.now.source pair.now.to place.now.block place.now.head x.now)
         text.old.items text.new.items) }
 {
-    if d.mark(e).block != place.block {
+    if !lies_in(g, d, place, x) {
         return Ok(());
     }
-    push(text, letter(link_color(g, d, up, down, pair, e)))
+    if is_neither_end(pair, x) {
+        return push(text, letter(color_for(g, d, up, down, pair, *x)));
+    }
+    push(text, b"-")
+}
+
+/// Whether a node or a link is of the block. The head of a block is of it.
+fn lies_in(g: &Graph, d: &Directed, place: &Place, x: &Element) -> bool
+    requires directed { HasDirections g.now d.now }
+    requires within { IsWithin g.now x.now }
+    ensures { (w : Directions) → Says g.now d.now w
+        → IsTrue result ↔ LiesIn g.now w place.now.block place.now.head x.now }
+{
+    match x {
+        Element::Node(f) => *f == place.head || d.place(*f).block == place.block,
+        Element::Link(e) => d.mark(*e).block == place.block,
+    }
+}
+
+/// Whether it is a link, or a node other than the two.
+fn is_neither_end(pair: &Pair, x: &Element) -> bool
+    ensures { IsTrue result ↔ IsNeitherEnd x.now pair.now.source pair.now.to }
+{
+    match x {
+        Element::Node(f) => *f != pair.source && *f != pair.to,
+        Element::Link(_) => true,
+    }
 }

@@ -1,6 +1,6 @@
 //! What holds of the color that is chosen by order.
 
-ghost use Rattle.std.specs.Prelude.{◌≡◌, ◌<◌, ℕ, length};
+ghost use Rattle.std.specs.Prelude.{◌≡◌, ◌<◌, ◌↔◌, ℕ, length};
 ghost use Rattle.mrt_graph.specs.declared.cert.CertFile.{CertFile};
 ghost use Rattle.mrt_graph.specs.declared.cert.Color.{Color};
 ghost use Rattle.mrt_graph.specs.declared.link.Element.{Element};
@@ -23,13 +23,11 @@ ghost use Rattle.order_repair.specs.OrderChoice.{IsOrderChoice};
 /// reaches its end, and does not use what has failed.
 pub fn a_chosen_color_goes_round()
     ensures arrives { (g : Topology) (root : ℕ) (w : Directions) (file : CertFile) → IsTopology g
-        → IsOrderedGadag g root w → Tells g root w file → (s t : ℕ) → s < length g.ids
-        → t < length g.ids → (x : Element) (color : Color) → IsBetween g w s t x
+        → IsOrderedGadag g root w → Tells g root w file → (s t : ℕ) (x : Element) (color : Color)
         → IsOrderChoice g root w s t x color
         → Reaches g.links (length g.ids) (row_of file.cert) color s t }
     ensures round { (g : Topology) (root : ℕ) (w : Directions) (file : CertFile) → IsTopology g
-        → IsOrderedGadag g root w → Tells g root w file → (s t : ℕ) → s < length g.ids
-        → t < length g.ids → (x : Element) (color : Color) → IsBetween g w s t x
+        → IsOrderedGadag g root w → Tells g root w file → (s t : ℕ) (x : Element) (color : Color)
         → IsOrderChoice g root w s t x color
         → ¬ UsesOn g.links (length g.ids) (row_of file.cert) s t x color }
 {}
@@ -39,24 +37,23 @@ pub fn a_chosen_color_goes_round()
 pub fn a_chosen_color_goes_round_in_the_certificate()
     ensures arrives { (g : Topology) (root : ℕ) (d : DirectedLists) (w : Directions) (file : CertFile)
         → IsTopology g → root < length g.ids → IsDirectedFrom g root d → Says g d w
-        → IsCertOf g root file → (s t : ℕ) → s < length g.ids → t < length g.ids
-        → (x : Element) (color : Color) → IsBetween g w s t x → IsOrderChoice g root w s t x color
+        → IsCertOf g root file → (s t : ℕ) (x : Element) (color : Color)
+        → IsOrderChoice g root w s t x color
         → Reaches g.links (length g.ids) (row_of file.cert) color s t }
     ensures round { (g : Topology) (root : ℕ) (d : DirectedLists) (w : Directions) (file : CertFile)
         → IsTopology g → root < length g.ids → IsDirectedFrom g root d → Says g d w
-        → IsCertOf g root file → (s t : ℕ) → s < length g.ids → t < length g.ids
-        → (x : Element) (color : Color) → IsBetween g w s t x → IsOrderChoice g root w s t x color
+        → IsCertOf g root file → (s t : ℕ) (x : Element) (color : Color)
+        → IsOrderChoice g root w s t x color
         → ¬ UsesOn g.links (length g.ids) (row_of file.cert) s t x color }
 {}
 
-/// A law: by order there is exactly one color for each failure.
+/// A law: by order there is exactly one color for each failure between two nodes, and none for another one.
 pub fn one_color_for_each_failure()
     ensures some { (g : Topology) (root : ℕ) (w : Directions) (s t : ℕ) (x : Element) → IsTopology g
-        → IsOrderedGadag g root w → s < length g.ids → t < length g.ids → IsBetween g w s t x
-        → (color : Color) × IsOrderChoice g root w s t x color }
+        → IsOrderedGadag g root w
+        → IsBetween g w s t x ↔ ((color : Color) × IsOrderChoice g root w s t x color) }
     ensures one { (g : Topology) (root : ℕ) (w : Directions) (s t : ℕ) (x : Element) (color other : Color)
-        → IsTopology g → IsOrderedGadag g root w → s < length g.ids → t < length g.ids
-        → IsBetween g w s t x → IsOrderChoice g root w s t x color
+        → IsTopology g → IsOrderedGadag g root w → IsOrderChoice g root w s t x color
         → IsOrderChoice g root w s t x other → color ≡ other }
 {}
 

@@ -6,16 +6,17 @@ ghost use Rattle.link_direction.specs.Directions.{Directions, Says};
 ghost use Rattle.link_direction.specs.OrderedGadag.{SaysOrdered};
 ghost use Rattle.mrt_rows.specs.DirectedFrom.{IsDirectedFrom};
 ghost use Rattle.mrt_rows.specs.Source.{AreHops, IsSource};
-ghost use Rattle.order_repair.specs.Adds.{Adds};
-ghost use Rattle.order_repair.specs.OrderText.{AreParts, IsHead, IsOrderText, IsPartOn, IsTextFrom};
+ghost use Rattle.text_parts.specs.Adds.{Adds};
+ghost use Rattle.text_parts.specs.Parts.{AreParts};
+ghost use Rattle.order_repair.specs.OrderText.{IsHead, IsOrderText, IsPartOn, IsTextFrom};
 
 use crate::line::push_line;
 use crate::pair::Pair;
 use crate::tagging::tag_for;
-use crate::words::{push, push_node};
 use inc_dec_spf::{Dir, Reach, spf};
 use mrt_graph::{Directed, Graph, NoMemory, NodeNo};
 use std::alloc::Global;
+use text_parts::{push, push_node};
 
 /// The text on the repairs by order of a router: a line on the router and the root, and a line on each node with which the
 /// router has a block of more than one link in common. That line has a letter for each node and each link of the block.

@@ -10,7 +10,7 @@ returns-in-Some c = λ root w hops between.
     not_sole og c.args.source c.args.to between.block between.head c.args.failed c.requires.source c.requires.to
     between.share between.lies in
     chosen g root w c.args.source c.args.to c.args.failed c.color_for.result c.tag_for.result c.in-Some.tag
-    (c.tag_for.ensures.tag root w hops) c.in-Some.is (c.color_for.ensures root w hops plain)
+    (c.tag_for.ensures.tag root w hops) c.in-Some.is between (c.color_for.ensures root w hops plain)
 
 pub returns-in-None : goal.returns-in-None
 returns-in-None c = λ root w hops between.

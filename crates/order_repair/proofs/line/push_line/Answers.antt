@@ -1,6 +1,6 @@
 use Rattle.std.proofs.Common.{refl}
 use Rattle.mrt_rows.proofs.OrderedGraphs.{graph_of}
-use Rattle.order_repair.proofs.Adding.{joined}
+use Rattle.text_parts.proofs.Adding.{joined}
 use Rattle.order_repair.proofs.Pairs.{pair_is}
 use Rattle.order_repair.proofs.line.push_line.Goals as goal
 

@@ -1,9 +1,11 @@
 use Rattle.std.proofs.Common.{◌≡◌, ℕ, length}
+use Rattle.mrt_graph.specs.declared.link.Element.TheVariants as elements
 use Rattle.link_direction.specs.Directions.{Directions}
 use Rattle.mrt_rows.specs.Source.{AreHops}
-use Rattle.order_repair.specs.Adds.{Adds}
+use Rattle.text_parts.specs.Adds.{Adds}
+use Rattle.text_parts.specs.Parts.{AreParts}
 use Rattle.order_repair.specs.Blocks.{IsPair}
-use Rattle.order_repair.specs.OrderText.{AreParts, IsLinkLetter}
+use Rattle.order_repair.specs.OrderText.{IsLetter}
 use Rattle.order_repair.proofs.line.push_link_letters.Given as goal
 
 abbrev pub invariant-loop-e : goal.invariant-loop-e
@@ -11,5 +13,6 @@ invariant-loop-e l = record {
   count : l.count ≡ length l.g.links;
   letters : (root : ℕ) (w : Directions) → AreHops l.g l.d root w l.pair.source l.up l.down
       → IsPair l.g root w l.pair.source l.pair.to l.pair.tag l.place
-      → Adds (AreParts (IsLinkLetter l.g root w l.pair.source l.pair.to l.place.block l.place.head) l.e) l.fn.text.items l.text.items;
+      → Adds (AreParts (λ e. IsLetter l.g root w l.pair.source l.pair.to l.place.block l.place.head (elements.Link e)) l.e)
+      l.fn.text.items l.text.items;
 }

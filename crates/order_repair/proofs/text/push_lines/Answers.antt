@@ -1,7 +1,7 @@
 use Rattle.std.proofs.Common.{ℕ, subst}
-use Rattle.order_repair.specs.Adds.{Adds}
+use Rattle.text_parts.specs.Adds.{Adds}
 use Rattle.order_repair.specs.OrderText.{IsPartOn}
-use Rattle.order_repair.proofs.Adding.{one_part_more}
+use Rattle.text_parts.proofs.Adding.{one_part_more}
 use Rattle.order_repair.proofs.text.push_lines.Goals as goal
 
 pub loop-t-preserved : goal.loop-t-preserved

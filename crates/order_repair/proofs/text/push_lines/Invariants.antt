@@ -1,8 +1,9 @@
 use Rattle.std.proofs.Common.{◌≡◌, ℕ, length}
 use Rattle.link_direction.specs.Directions.{Directions}
 use Rattle.mrt_rows.specs.Source.{AreHops}
-use Rattle.order_repair.specs.Adds.{Adds}
-use Rattle.order_repair.specs.OrderText.{AreParts, IsPartOn}
+use Rattle.text_parts.specs.Adds.{Adds}
+use Rattle.text_parts.specs.Parts.{AreParts}
+use Rattle.order_repair.specs.OrderText.{IsPartOn}
 use Rattle.order_repair.proofs.text.push_lines.Given as goal
 
 abbrev pub invariant-loop-t : goal.invariant-loop-t

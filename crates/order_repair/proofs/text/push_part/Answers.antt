@@ -3,7 +3,7 @@ use Rattle.std.proofs.lemmas.Result.{on_ok_weaker}
 use Rattle.mrt_graph.specs.declared.cert.Tag.{Tag}
 use Rattle.order_repair.specs.OrderText.{IsPartOn, Line, NoLine}
 use Rattle.order_repair.specs.Tagging.{IsTagFor}
-use Rattle.order_repair.proofs.Adding.{nothing}
+use Rattle.text_parts.proofs.Adding.{nothing}
 use Rattle.order_repair.proofs.ChosenBy.{not_shared}
 use Rattle.order_repair.proofs.text.push_part.Goals as goal
 
