@@ -1,4 +1,3 @@
-pub mod Adding
 pub mod Attaching
 pub mod BlockRows
 pub mod BlockSteps

@@ -1,21 +1,24 @@
 -- Two routers have one text.
-use Rattle.std.proofs.Common.{◌≡◌, ◌==◌, ◌++◌, ◌∙◌, ℕ, zero, suc, Bool, List, Some, codes, length, slice_get, refl, sym, ap, subst, arith}
+use Rattle.std.proofs.Common.{◌≡◌, ◌==◌, ◌++◌, ◌∙◌, ℕ, Bool, List, Some, codes, length, slice_get, refl, sym, ap, subst, arith}
 use Rattle.std.proofs.lemmas.Bool.{eq-eqb}
 use Rattle.std.proofs.lemmas.Option.{same_Some}
 use Rattle.mrt_graph.specs.declared.link.End.{End}
 use Rattle.mrt_graph.specs.declared.node_id.NodeId.{NodeId}
 use Rattle.mrt_graph.specs.Certificate.{Certificate}
 use Rattle.mrt_graph.specs.GraphInvariant.{IsTopology}
-use Rattle.mrt_graph.specs.Spelling.{address_text, node_text}
+use Rattle.mrt_graph.specs.Spelling.{node_text}
 use Rattle.mrt_graph.specs.Topology.{Topology}
 use Rattle.mrt_graph.proofs.EndsAt.{end_leads}
 use Rattle.mrt_graph.proofs.Members.{has_at}
 use Rattle.mrt_graph.proofs.Tallies.{count_is_tally, tally_same}
+use Rattle.text_parts.specs.Hops.{hop_text}
+use Rattle.text_parts.specs.Parts.{AreParts}
+use Rattle.text_parts.proofs.Adding.{one_text_of_parts}
 use Rattle.proxy_rows.specs.declared.proxy_row.Out.{Out}
 use Rattle.proxy_rows.specs.declared.proxy_row.Out.TheVariants as outs
 use Rattle.proxy_rows.specs.declared.proxy_row.ProxyRow.{ProxyRow}
 use Rattle.proxy_rows.specs.AcceptedFor.{IsAcceptedFor}
-use Rattle.proxy_rows.specs.ProxyText.{AreLines, IsEndOn, IsHead, IsHop, IsLine, IsOutText, IsProxyText}
+use Rattle.proxy_rows.specs.ProxyText.{IsEndOn, IsHead, IsHop, IsLine, IsOutText, IsProxyText}
 use Rattle.proxy_rows.proofs.OneAnswer.{one_answer}
 
 one_id : (ids : List NodeId) (n : ℕ) (one other : NodeId) → slice_get ids n ≡ Some one → slice_get ids n ≡ Some other → one ≡ other
@@ -46,8 +49,8 @@ one_hop g s e text other kept is is' =
     let end : is.end ≡ is'.end = one_end g s e is.end is'.end kept is.end_is is'.end_is in
     let far : is.far ≡ is'.far = one_id g.ids is'.end.to is.far is'.far (subst (λ (x : End). slice_get g.ids x.to ≡ Some is.far) end is.far_is) is'.far_is in
     is.spelled
-    ∙ ap (λ (x : End). node_text is.far ++ codes "/" ++ address_text x.link_data) end
-    ∙ ap (λ (id : NodeId). node_text id ++ codes "/" ++ address_text is'.end.link_data) far
+    ∙ ap (λ (x : End). hop_text is.far x.link_data) end
+    ∙ ap (λ (id : NodeId). hop_text id is'.end.link_data) far
     ∙ sym is'.spelled
 
 one_out : (g : Topology) (s : ℕ) (out : Out) (text other : List ℕ) → IsTopology g → IsOutText g s out text → IsOutText g s out other → text ≡ other
@@ -65,14 +68,6 @@ one_line g entries s text other kept is is' =
     ∙ ap (λ (x : List ℕ). node_text is'.id ++ codes " blue " ++ is'.blue ++ codes " red " ++ x ++ codes "\n") red
     ∙ sym is'.spelled
 
-one_lines : (g : Topology) (entries : List ProxyRow) (s : ℕ) (text other : List ℕ) → IsTopology g → AreLines g entries s text → AreLines g entries s other → text ≡ other
-one_lines g entries zero text other kept is is' = is ∙ sym is'
-one_lines g entries (suc s) text other kept is is' =
-    is.4
-    ∙ ap (λ (xs : List ℕ). xs ++ is.1) (one_lines g entries s is.0 is'.0 kept is.2 is'.2)
-    ∙ ap (λ (xs : List ℕ). is'.0 ++ xs) (one_line g entries s is.1 is'.1 kept is.3 is'.3)
-    ∙ sym is'.4
-
 pub one_text : (g : Topology) (root : ℕ) (c : Certificate) (a b : ℕ) (text other : List ℕ) → IsTopology g → IsAcceptedFor g c
     → IsProxyText g root c a b text → IsProxyText g root c a b other → text ≡ other
 one_text g root c a b text other kept accepted is is' =
@@ -80,5 +75,6 @@ one_text g root c a b text other kept accepted is is' =
     is.spelled
     ∙ ap (λ (xs : List ℕ). xs ++ is.lines) (one_head g a b root is.head is'.head is.head_is is'.head_is)
     ∙ ap (λ (xs : List ℕ). is'.head ++ xs)
-    (one_lines g is'.entries (length g.ids) is.lines is'.lines kept (subst (λ (rows : List ProxyRow). AreLines g rows (length g.ids) is.lines) entries is.lines_are) is'.lines_are)
+    (one_text_of_parts (IsLine g is'.entries) (λ s part whole. one_line g is'.entries s part whole kept) (length g.ids) is.lines is'.lines
+    (subst (λ (rows : List ProxyRow). AreParts (IsLine g rows) (length g.ids) is.lines) entries is.lines_are) is'.lines_are)
     ∙ sym is'.spelled

@@ -15,9 +15,9 @@ use Rattle.proxy_rows.specs.declared.attachment.Attachment.{Attachment}
 use Rattle.proxy_rows.specs.declared.proxy_row.Out.{Out}
 use Rattle.proxy_rows.specs.declared.proxy_row.ProxyRow.{ProxyRow}
 use Rattle.proxy_rows.specs.declared.side.Side.{Side}
-use Rattle.proxy_rows.specs.Adds.{Touches}
 use Rattle.proxy_rows.specs.Ground.{IsGround}
 use Rattle.proxy_rows.specs.ProxyRows.{IsHeadBlue, Itself, ToLow, IsHeadRed, IsProxyRow, OfHead, OfLow, OfHigh, OfOther, OfOutside, IsSideOut, Here, Over}
+use Rattle.proxy_rows.specs.Touches.{Touches}
 use Rattle.proxy_rows.proofs.Attaching.{words}
 use Rattle.proxy_rows.proofs.BlockRows.{link_is, to_high}
 use Rattle.proxy_rows.proofs.Grounds.{rows}

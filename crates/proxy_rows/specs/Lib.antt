@@ -1,5 +1,4 @@
 pub mod AcceptedFor
-pub mod Adds
 pub mod Attachment
 pub mod Ends
 pub mod GraphWith
@@ -8,3 +7,4 @@ pub mod ProxyRows
 pub mod ProxyText
 pub mod Sides
 pub mod Steps
+pub mod Touches

@@ -1,10 +1,12 @@
 -- The text on a prefix that is attached to two routers.
-use Rattle.std.specs.Prelude.{◌≡◌, ◌++◌, ℕ, zero, suc, List, [], Some, codes, length, slice_get}
+use Rattle.std.specs.Prelude.{◌≡◌, ◌++◌, ℕ, List, Some, codes, length, slice_get}
 use Rattle.mrt_graph.specs.declared.link.End.{End}
 use Rattle.mrt_graph.specs.declared.node_id.NodeId.{NodeId}
 use Rattle.mrt_graph.specs.Certificate.{Certificate}
-use Rattle.mrt_graph.specs.Spelling.{address_text, node_text}
+use Rattle.mrt_graph.specs.Spelling.{node_text}
 use Rattle.mrt_graph.specs.Topology.{Topology}
+use Rattle.text_parts.specs.Hops.{hop_text}
+use Rattle.text_parts.specs.Parts.{AreParts}
 use Rattle.proxy_rows.specs.declared.proxy_row.Out.{Out}
 use Rattle.proxy_rows.specs.declared.proxy_row.Out.TheVariants.{Attached, Link}
 use Rattle.proxy_rows.specs.declared.proxy_row.ProxyRow.{ProxyRow}
@@ -35,7 +37,7 @@ pub record IsHop (g : Topology) (s e : ℕ) (text : List ℕ) : Type 0 where
   pub end_is : IsEndOn g s e end
   pub far : NodeId
   pub far_is : slice_get g.ids end.to ≡ Some far
-  pub spelled : text ≡ node_text far ++ codes "/" ++ address_text end.link_data
+  pub spelled : text ≡ hop_text far end.link_data
 
 -- where s sends: that hop, or that the prefix is attached to s
 abbrev pub IsOutText : Topology → ℕ → Out → List ℕ → Type 0
@@ -54,18 +56,12 @@ pub record IsLine (g : Topology) (entries : List ProxyRow) (s : ℕ) (text : Lis
   pub red_is : IsOutText g s row.red red
   pub spelled : text ≡ node_text id ++ codes " blue " ++ blue ++ codes " red " ++ red ++ codes "\n"
 
--- the lines on the first so many nodes, by number, and so by ascending identifier
-abbrev pub AreLines : Topology → List ProxyRow → ℕ → List ℕ → Type 0
-AreLines g entries zero text = text ≡ []
-AreLines g entries (suc s) text =
-    (lines : List ℕ) × (line : List ℕ) × AreLines g entries s lines × IsLine g entries s line × (text ≡ lines ++ line)
-
--- the first line, and the lines on all nodes, by the proxy rows of a and b
+-- the first line, and the lines on all nodes, by number, and so by ascending identifier; by the proxy rows of a and b
 pub record IsProxyText (g : Topology) (root : ℕ) (c : Certificate) (a b : ℕ) (text : List ℕ) : Type 0 where
   pub entries : List ProxyRow
   pub entries_are : AreProxyRows g c a b entries
   pub head : List ℕ
   pub head_is : IsHead g a b root head
   pub lines : List ℕ
-  pub lines_are : AreLines g entries (length g.ids) lines
+  pub lines_are : AreParts (IsLine g entries) (length g.ids) lines
   pub spelled : text ≡ head ++ lines

@@ -12,7 +12,6 @@ mod rows;
 mod side;
 mod text;
 mod text_law;
-mod words;
 
 pub use proxy_error::ProxyError;
 pub use proxy_law::{one_list_of_proxy_rows, proxy_rows_are_sound, proxy_rows_or_no_common_block};

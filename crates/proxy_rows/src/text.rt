@@ -4,18 +4,20 @@ ghost use Rattle.std.specs.Prelude.{◌≡◌, ◌≢◌, ◌<◌, ◌↔◌, tr
 ghost use Rattle.mrt_graph.specs.CertWords.{order_of};
 ghost use Rattle.mrt_graph.specs.GraphInvariant.{IsTopology};
 ghost use Rattle.mrt_graph.specs.Related.{are_unrelated};
+ghost use Rattle.text_parts.specs.Adds.{Adds};
+ghost use Rattle.text_parts.specs.Parts.{AreParts};
 ghost use Rattle.proxy_rows.specs.AcceptedFor.{IsAcceptedFor};
-ghost use Rattle.proxy_rows.specs.Adds.{Adds, Touches};
 ghost use Rattle.proxy_rows.specs.ProxyRows.{AreProxyRows};
-ghost use Rattle.proxy_rows.specs.ProxyText.{AreLines, IsHead, IsHop, IsLine, IsOutText, IsProxyText};
+ghost use Rattle.proxy_rows.specs.ProxyText.{IsHead, IsHop, IsLine, IsOutText, IsProxyText};
+ghost use Rattle.proxy_rows.specs.Touches.{Touches};
 
 use crate::ends::end_on;
 use crate::proxy_error::ProxyError;
 use crate::proxy_row::{Out, ProxyRow};
 use crate::rows::proxy_rows;
-use crate::words::{push, push_hop, push_node};
 use mrt_graph::{Cert, Graph, LinkNo, NoMemory, NodeNo};
 use std::alloc::Global;
+use text_parts::{push, push_hop, push_node};
 
 /// The text on a prefix that two routers, `a` and `b`, are attached to: a line on these and the root, and a line on each
 /// node. The certificate is accepted for the graph, and the root is its node of order 1.
@@ -82,7 +84,7 @@ fn push_lines(
     requires accepted { IsAcceptedFor g.now c.now }
     requires rows { AreProxyRows g.now c.now a b rows.now }
     ensures { IfOk result (λ _.
-        Adds (AreLines g.now rows.now (length g.now.ids)) text.old.items text.new.items) }
+        Adds (AreParts (IsLine g.now rows.now) (length g.now.ids)) text.old.items text.new.items) }
 {
     let count = g.node_count();
     for s in 0..count {

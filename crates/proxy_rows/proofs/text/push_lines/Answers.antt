@@ -1,8 +1,8 @@
 use Rattle.std.proofs.Common.{ℕ, subst, arith}
-use Rattle.proxy_rows.specs.Adds.{Adds}
+use Rattle.text_parts.specs.Adds.{Adds}
+use Rattle.text_parts.proofs.Adding.{one_part_more}
 use Rattle.proxy_rows.specs.Ground.{IsGround}
 use Rattle.proxy_rows.specs.ProxyText.{IsLine}
-use Rattle.proxy_rows.proofs.Adding.{one_line_more}
 use Rattle.proxy_rows.proofs.Touching.{touches}
 use Rattle.proxy_rows.proofs.text.push_lines.Goals as goal
 
@@ -23,5 +23,5 @@ push_line-requires c =
 
 pub loop-s-preserved : goal.loop-s-preserved
 loop-s-preserved c =
-    one_line_more c.args.g.now c.args.rows.now c.loop-s.s c.args.text.now.items c.loop-s.text.items c.push_line.new.text.items c.loop-s.invariant
+    one_part_more (IsLine c.args.g.now c.args.rows.now) c.loop-s.s c.args.text.now.items c.loop-s.text.items c.push_line.new.text.items c.loop-s.invariant
     (subst (λ (n : ℕ). Adds (IsLine c.args.g.now c.args.rows.now n) c.loop-s.text.items c.push_line.new.text.items) c.new.ensures c.in_ok-push_line.ensures)

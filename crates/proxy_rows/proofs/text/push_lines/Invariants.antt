@@ -1,6 +1,7 @@
-use Rattle.proxy_rows.specs.Adds.{Adds}
-use Rattle.proxy_rows.specs.ProxyText.{AreLines}
+use Rattle.text_parts.specs.Adds.{Adds}
+use Rattle.text_parts.specs.Parts.{AreParts}
+use Rattle.proxy_rows.specs.ProxyText.{IsLine}
 use Rattle.proxy_rows.proofs.text.push_lines.Given as goal
 
 abbrev pub invariant-loop-s : goal.invariant-loop-s
-invariant-loop-s l = Adds (AreLines l.g l.rows l.s) l.fn.text.items l.text.items
+invariant-loop-s l = Adds (AreParts (IsLine l.g l.rows) l.s) l.fn.text.items l.text.items
