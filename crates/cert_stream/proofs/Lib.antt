@@ -1,2 +1,3 @@
 mod Nears
+mod OneFile
 mod Whole

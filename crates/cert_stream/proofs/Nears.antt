@@ -28,7 +28,7 @@ filter_twice p (row ∷ rows) = elim (cases_Bool (p row)) [
 pub near_stand : (c : Certificate) (s : ℕ) → rows_in 2 (near_rows_of c s) ≡ near_rows_of c s
 near_stand c s = filter_twice is_near (take (length c.nodes - 1) (drop (s * (length c.nodes - 1)) c.rows))
 
-near_more : (c : Certificate) (s : ℕ) → near_rows_before c s ++ near_rows_of c s ≡ near_rows_before c (s + 1)
+pub near_more : (c : Certificate) (s : ℕ) → near_rows_before c s ++ near_rows_of c s ≡ near_rows_before c (s + 1)
 near_more c s =
     let m = length c.nodes - 1 in
     let next : s * m + m ≡ (s + 1) * m = omega arith in

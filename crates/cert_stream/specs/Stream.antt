@@ -1,4 +1,4 @@
--- A certificate that is found as it is written.
+-- A certificate that is found as it is written or compared.
 use Rattle.std.specs.Prelude.{◌≡◌, ℕ, List}
 use Rattle.mrt_graph.specs.declared.cert.CertFile.{CertFile}
 use Rattle.mrt_graph.specs.declared.cert.CertLink.{CertLink}
@@ -20,8 +20,8 @@ pub record AreOfFile (file : CertFile) (number : ℕ) (nodes : List CertNode) (l
   pub all_nodes : nodes ≡ file.cert.nodes
   pub all_links : links ≡ file.cert.links
 
--- what is held before a certificate is written: what makes its rows, and its other parts; there is such a certificate, and
--- it is within the limits of its version
+-- what is held before a certificate is written or compared: what makes its rows, and its other parts; there is such a
+-- certificate, and it is within the limits of its version
 pub record IsStream (g : Topology) (number : ℕ) (nodes : List CertNode) (links : List CertLink) (rows : SourceRows) : Type 0 where
   pub made : MakeRows g rows
   pub some : (file : CertFile) × IsCertOf g rows.root file

@@ -1,6 +1,6 @@
-//! The certificate of a graph and its root, found as it is written.
+//! The certificate of a graph and its root, found as it is written or compared.
 
-ghost use Rattle.std.specs.Prelude.{◌≡◌, ◌<◌, ◌≤◌, ◌-◌, ℕ, length, IsOk, IfOk, IfErr, OnOk};
+ghost use Rattle.std.specs.Prelude.{◌≡◌, ◌<◌, ◌≤◌, ◌-◌, ◌↔◌, ℕ, length, IsTrue, IsOk, IfOk, IfErr, OnOk};
 ghost use Rattle.mrt_graph.specs.declared.cert.CertFile.{CertFile};
 ghost use Rattle.mrt_graph.specs.GraphInvariant.{IsTopology};
 ghost use Rattle.mrt_io.specs.Counts.{Rose};
@@ -8,10 +8,12 @@ ghost use Rattle.mrt_io.specs.Writing.{Gained, GainedPart};
 ghost use Rattle.mrt_rows.specs.CertOf.{IsCertOf};
 ghost use Rattle.cert_format.specs.CertText.{cert_text};
 ghost use Rattle.cert_format.specs.Limits.{IsCertFile};
+ghost use Rattle.cert_stream.specs.Same.{HaveSameParts};
 
 use crate::numbers::numbers_fit;
 use crate::parts::put_file;
-use cert_format::CertWriter;
+use crate::same::{are_links_same, are_nodes_same, are_rows_same};
+use cert_format::{CertWriter, one_spelling};
 use mrt_graph::{CertLink, CertNode, Graph, NoMemory, NodeNo};
 use mrt_io::{PutError, Sink};
 use mrt_rows::SourceRows;
@@ -21,7 +23,7 @@ use std::marker::Model;
 /// The version of the files.
 const VERSION: u16 = 2;
 
-/// The certificate of a graph and its root, the rows of which are found as they are written.
+/// The certificate of a graph and its root, the rows of which are found as they are written or compared.
 #[derive(Drop)]
 pub struct CertStream {
     graph: Graph,
@@ -42,7 +44,8 @@ impl Model for CertStream {
 }
 
 impl CertStream {
-    /// The certificate of a graph from this root, which is not made yet. All memory that writing needs is taken here.
+    /// The certificate of a graph from this root, which is not made yet. All memory that writing or comparing needs is
+    /// taken here.
     ///
     /// It takes time and memory in proportion to the nodes and the links: for each node some 800 bytes.
     ///
@@ -106,5 +109,40 @@ impl CertStream {
         } = self;
         let writer = CertWriter::new(VERSION, graph.node_count(), graph.link_count(), number);
         put_file(writer, sink, &graph, &nodes, &links, &mut rows)
+    }
+
+    /// Whether two certificates are the same. The numbers of their roots, their nodes and their links are compared
+    /// first, then their rows, which are found for one node after another: it stops at the first difference. It takes no
+    /// memory.
+    ///
+    /// It takes time in proportion to the nodes and the links; where these are the same, for each node up to the first
+    /// that differs in its rows, time in proportion to the nodes and the ends of all nodes.
+    pub fn is_same(self, other: CertStream) -> bool
+        ensures { (file second : CertFile) → IsCertOf self.graph self.root file
+            → IsCertOf other.graph other.root second → (IsTrue result ↔ (file ≡ second)) }
+    {
+        one_spelling();
+        let has_same_parts = self.has_same_parts(&other);
+        let CertStream {
+            graph,
+            mut rows,
+            ..
+        } = self;
+        let CertStream {
+            graph: other_graph,
+            rows: mut others,
+            ..
+        } = other;
+        has_same_parts && are_rows_same(&graph, &mut rows, &other_graph, &mut others)
+    }
+
+    /// Whether the numbers of the root, the nodes and the links are the same.
+    fn has_same_parts(&self, other: &CertStream) -> bool
+        ensures { (file second : CertFile) → IsCertOf self.now.graph self.now.root file
+            → IsCertOf other.now.graph other.now.root second → (IsTrue result ↔ HaveSameParts file second) }
+    {
+        self.number == other.number
+            && are_nodes_same(&self.nodes, &other.nodes)
+            && are_links_same(&self.links, &other.links)
     }
 }

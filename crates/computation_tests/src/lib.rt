@@ -1,5 +1,5 @@
 //! Tests of the computation: search trees, ears, directions, paths, rows, columns and certificates by hand; repairs by
-//! order; certificates written as they are found.
+//! order; certificates written, and compared, as they are found.
 #![tactic(auto)]
 
 #[cfg(test)]
@@ -22,6 +22,8 @@ mod near_rows;
 mod order_walks;
 #[cfg(test)]
 mod paths_to_nodes;
+#[cfg(test)]
+mod same_streams;
 #[cfg(test)]
 mod search_trees;
 #[cfg(test)]

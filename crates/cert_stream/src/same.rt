@@ -1,0 +1,81 @@
+//! The certificates of two graphs compared, the rows of which are found as they are compared.
+
+ghost use Rattle.std.specs.Prelude.{◌≡◌, ◌<◌, ◌↔◌, ℕ, IsTrue, length};
+ghost use Rattle.mrt_graph.specs.declared.cert.CertFile.{CertFile};
+ghost use Rattle.mrt_rows.specs.CertOf.{IsCertOf};
+ghost use Rattle.mrt_rows.specs.NearOf.{MakeRows, near_rows_of};
+ghost use Rattle.cert_stream.specs.Same.{HaveSameRows};
+
+use mrt_graph::{CertLink, CertNode, Graph, NodeNo, Row};
+use mrt_rows::SourceRows;
+
+/// Whether these are the same nodes.
+pub fn are_nodes_same(nodes: &[CertNode], others: &[CertNode]) -> bool
+    ensures { IsTrue result ↔ (nodes.now ≡ others.now) }
+{
+    nodes == others
+}
+
+/// Whether these are the same links.
+pub fn are_links_same(links: &[CertLink], others: &[CertLink]) -> bool
+    ensures { IsTrue result ↔ (links.now ≡ others.now) }
+{
+    links == others
+}
+
+/// Whether each node has the same near rows in the certificate of a graph as in that of another graph, which has as
+/// many nodes. It stops at the first node that has not: those of a node are found and compared before those of the next
+/// one.
+///
+/// It takes time for each node in proportion to the nodes and the ends of all nodes of both graphs.
+pub fn are_rows_same(
+    g: &Graph,
+    rows: &mut SourceRows,
+    other: &Graph,
+    others: &mut SourceRows,
+) -> bool
+    requires made { MakeRows g.now rows.old }
+    requires others_made { MakeRows other.now others.old }
+    requires count { length g.now.ids ≡ length other.now.ids }
+    ensures { (file second : CertFile) → IsCertOf g.now rows.old.root file
+        → IsCertOf other.now others.old.root second
+        → (IsTrue result ↔ HaveSameRows (length g.now.ids) file.cert second.cert) }
+{
+    for s in 0..g.node_count() {
+        if !has_same_rows(g, rows, other, others, NodeNo::new(s)) {
+            return false;
+        }
+    }
+    true
+}
+
+/// Whether node s has the same near rows in both certificates.
+fn has_same_rows(
+    g: &Graph,
+    rows: &mut SourceRows,
+    other: &Graph,
+    others: &mut SourceRows,
+    s: NodeNo,
+) -> bool
+    requires made { MakeRows g.now rows.old }
+    requires others_made { MakeRows other.now others.old }
+    requires s { s < length g.now.ids }
+    requires other_s { s < length other.now.ids }
+    ensures root { rows.new.root ≡ rows.old.root }
+    ensures others_root { others.new.root ≡ others.old.root }
+    ensures made { MakeRows g.now rows.new }
+    ensures others_made { MakeRows other.now others.new }
+    ensures same { (file second : CertFile) → IsCertOf g.now rows.old.root file
+        → IsCertOf other.now others.old.root second
+        → (IsTrue result ↔ (near_rows_of file.cert s ≡ near_rows_of second.cert s)) }
+{
+    rows.find(g, s);
+    others.find(other, s);
+    are_same(rows.rows(), others.rows())
+}
+
+fn are_same(rows: &[Row], others: &[Row]) -> bool
+    ensures { IsTrue result ↔ (rows.now ≡ others.now) }
+{
+    rows == others
+}

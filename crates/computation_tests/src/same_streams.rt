@@ -1,0 +1,234 @@
+//! Streams compared: whether the certificates of two graphs are the same.
+
+use crate::hand_graphs::{LinkTold, graph, links_of};
+use cert_stream::CertStream;
+use mrt_graph::{GraphError, NodeNo};
+use std::alloc::Global;
+use std::process::Abort;
+use std::test::Fail;
+
+/// A graph of so many nodes, the first of them routers, and its root.
+struct Side {
+    count: u16,
+    routers: u16,
+    links: &'static [LinkTold],
+    root: u16,
+}
+
+/// Two graphs with their roots, and whether their certificates are the same.
+struct Case {
+    name: &'static str,
+    one: &'static Side,
+    other: &'static Side,
+    is_same: bool,
+}
+
+const ALONE: Side = Side {
+    count: 1,
+    routers: 1,
+    links: &[],
+    root: 0,
+};
+
+const PAIR: Side = Side {
+    count: 2,
+    routers: 2,
+    links: &[(0, 1, 10, 10)],
+    root: 0,
+};
+
+const FARTHER_PAIR: Side = Side {
+    count: 2,
+    routers: 2,
+    links: &[(0, 1, 20, 7)],
+    root: 0,
+};
+
+const PAIR_WITH_TWO_LINKS: Side = Side {
+    count: 2,
+    routers: 2,
+    links: &[(0, 1, 10, 10), (0, 1, 10, 10)],
+    root: 0,
+};
+
+const TRIANGLE: Side = Side {
+    count: 3,
+    routers: 3,
+    links: &[(0, 1, 10, 10), (0, 2, 10, 10), (1, 2, 10, 10)],
+    root: 2,
+};
+
+const FROM_ROUTER_1: Side = Side {
+    count: 3,
+    routers: 3,
+    links: &[(0, 1, 10, 10), (0, 2, 10, 10), (1, 2, 10, 10)],
+    root: 0,
+};
+
+const WITH_A_NETWORK: Side = Side {
+    count: 3,
+    routers: 2,
+    links: &[(0, 1, 10, 10), (0, 2, 10, 10), (1, 2, 10, 10)],
+    root: 2,
+};
+
+const LINE: Side = Side {
+    count: 3,
+    routers: 3,
+    links: &[(0, 1, 10, 10), (1, 2, 10, 10)],
+    root: 2,
+};
+
+const LONGER_LINE: Side = Side {
+    count: 4,
+    routers: 4,
+    links: &[(0, 1, 10, 10), (1, 2, 10, 10), (2, 3, 10, 10)],
+    root: 2,
+};
+
+// Routers 1 to 3 with links to 4 and to 5. Two paths go up from router 5, the root, to router 4: over 1, with a cost of
+// 20, and over 3, with one of 30.
+const NEARER_OVER_1: Side = Side {
+    count: 5,
+    routers: 5,
+    links: &[
+        (0, 3, 10, 10),
+        (0, 4, 100, 10),
+        (1, 3, 10, 10),
+        (1, 4, 10, 10),
+        (2, 3, 20, 10),
+        (2, 4, 90, 10),
+    ],
+    root: 4,
+};
+
+// The same but for one metric, by which the path over 1 costs 25.
+const NEARER_OVER_1_YET: Side = Side {
+    count: 5,
+    routers: 5,
+    links: &[
+        (0, 3, 15, 10),
+        (0, 4, 100, 10),
+        (1, 3, 10, 10),
+        (1, 4, 10, 10),
+        (2, 3, 20, 10),
+        (2, 4, 90, 10),
+    ],
+    root: 4,
+};
+
+// The same but for this metric, by which the path over 1 costs 40. Each router has its interfaces in the same order, so
+// nodes and links of the certificate are the same, but blue of router 5 for 4 is the link to 3 in place of that to 1.
+const NEARER_OVER_3: Side = Side {
+    count: 5,
+    routers: 5,
+    links: &[
+        (0, 3, 30, 10),
+        (0, 4, 100, 10),
+        (1, 3, 10, 10),
+        (1, 4, 10, 10),
+        (2, 3, 20, 10),
+        (2, 4, 90, 10),
+    ],
+    root: 4,
+};
+
+const CASES: &[Case] = &[
+    Case {
+        name: "one node alone twice",
+        one: &ALONE,
+        other: &ALONE,
+        is_same: true,
+    },
+    Case {
+        name: "a triangle twice",
+        one: &TRIANGLE,
+        other: &TRIANGLE,
+        is_same: true,
+    },
+    Case {
+        name: "two paths up twice",
+        one: &NEARER_OVER_1,
+        other: &NEARER_OVER_1,
+        is_same: true,
+    },
+    Case {
+        name: "one node more",
+        one: &ALONE,
+        other: &PAIR,
+        is_same: false,
+    },
+    Case {
+        name: "one node less",
+        one: &LONGER_LINE,
+        other: &LINE,
+        is_same: false,
+    },
+    Case {
+        name: "a second link beside the first",
+        one: &PAIR,
+        other: &PAIR_WITH_TWO_LINKS,
+        is_same: false,
+    },
+    Case {
+        name: "a link less",
+        one: &TRIANGLE,
+        other: &LINE,
+        is_same: false,
+    },
+    Case {
+        name: "another root",
+        one: &TRIANGLE,
+        other: &FROM_ROUTER_1,
+        is_same: false,
+    },
+    Case {
+        name: "a network in place of a router",
+        one: &TRIANGLE,
+        other: &WITH_A_NETWORK,
+        is_same: false,
+    },
+    Case {
+        name: "a pair with other metrics",
+        one: &PAIR,
+        other: &FARTHER_PAIR,
+        is_same: true,
+    },
+    Case {
+        name: "a metric by which no path becomes the least",
+        one: &NEARER_OVER_1,
+        other: &NEARER_OVER_1_YET,
+        is_same: true,
+    },
+    Case {
+        name: "a metric by which the other path becomes the least",
+        one: &NEARER_OVER_1,
+        other: &NEARER_OVER_3,
+        is_same: false,
+    },
+];
+
+fn cases() -> &'static [Case] {
+    CASES
+}
+
+fn stream_of(rt: &impl Abort, alloc: Global, side: &Side) -> Result<CertStream, GraphError> {
+    let links = links_of(alloc, side.links)?;
+    let g = graph(rt, alloc, side.count, side.routers, links)?;
+    assert!(rt; side.root < g.node_count());
+    Ok(CertStream::new(alloc, g, NodeNo::new(side.root))?)
+}
+
+fn is_so(rt: &impl Abort, alloc: Global, case: &Case) -> Result<bool, GraphError> {
+    let one = stream_of(rt, alloc, case.one)?;
+    let other = stream_of(rt, alloc, case.other)?;
+    Ok(one.is_same(other) == case.is_same)
+}
+
+#[test]
+fn streams_compared(rt: HostRuntime) -> Result<(), Fail> {
+    for case in cases() {
+        assert!(rt; is_so(&rt, rt.alloc(), case)?, "{}", case.name);
+    }
+    Ok(())
+}
