@@ -1,0 +1,4 @@
+pub mod OneVerdict
+pub mod AlikeTold
+pub mod Finding
+pub mod Comparing

@@ -1,0 +1,122 @@
+//! Databases compared by the certificate of a router's island.
+
+ghost use Rattle.std.specs.Prelude.{◌≡◌, IfOk, if◌then◌else◌};
+ghost use Rattle.area_graph.specs.AreaInvariant.{IsArea};
+ghost use Rattle.flood_verdict.specs.Found.{IsFound, IsFoundIn};
+
+use area_graph::{Area, AreaError, build_area};
+use cert_stream::CertStream;
+use flood_script::{Compare, Verdict};
+use lsdb::Lsdb;
+use mrt_graph::NoMemory;
+use mrt_island::{IslandError, Profile, find_island};
+use std::alloc::Global;
+use std::marker::Model;
+
+/// Compares two databases by the certificate of a router's island in each, under a profile (RFC 7811, section 5).
+#[derive(Drop)]
+pub struct ByIsland<'a> {
+    profile: &'a Profile,
+}
+
+impl<'a> Model for ByIsland<'a> {
+    ghost use Rattle.std.specs.Prelude.{List};
+    ghost use Rattle.mrt_island.specs.declared.setting.Setting.{Setting};
+
+    ghost Value = { List Setting };
+
+    ghost view = { λ by. by.profile.now };
+}
+
+impl<'a> ByIsland<'a> {
+    /// The comparison under this profile.
+    pub fn new(profile: &'a Profile) -> ByIsland<'a>
+        ensures { result ≡ profile.now }
+    {
+        ByIsland { profile }
+    }
+}
+
+impl<'a> Compare for ByIsland<'a> {
+    ghost use Rattle.flood_verdict.specs.Says.{Says};
+
+    ghost says = { λ settings. Says settings };
+
+    /// Whether the certificates of a router's islands are the same, where both databases tell of it.
+    ///
+    /// A database tells of a router where its newest instances agree, its area is within the limits, and the router is in
+    /// it and takes part under the profile. Certificates are the same where their roots, nodes, links, roles and rows
+    /// are; metrics and link data are no part of that.
+    ///
+    /// It takes the time of both areas, islands and certificates. The rows of both are found source after source, up to
+    /// the first that differ, so no certificate is ever held whole.
+    ///
+    /// # Errors
+    ///
+    /// [`NoMemory`] where there was none for an area, an island or the parts of a certificate.
+    fn compare(
+        &self,
+        alloc: Global,
+        one: &Lsdb,
+        other: &Lsdb,
+        router: u32,
+    ) -> Result<Verdict, NoMemory> {
+        let Some(its) = found(alloc, one, self.profile, router)? else {
+            return Ok(Verdict::None);
+        };
+        let Some(others) = found(alloc, other, self.profile, router)? else {
+            return Ok(Verdict::None);
+        };
+        Ok(verdict_on(its.is_same(others)))
+    }
+}
+
+/// What two certificates come to, which are the same or are not.
+fn verdict_on(same: bool) -> Verdict
+    ensures { result ≡ (if same then Verdict.Same else Verdict.Different) }
+{
+    if same {
+        Verdict::Same
+    } else {
+        Verdict::Different
+    }
+}
+
+/// The certificate of a router's island in a database, the rows of which are not found yet; none where the database tells
+/// nothing of the router.
+fn found(
+    alloc: Global,
+    database: &Lsdb,
+    profile: &Profile,
+    router: u32,
+) -> Result<Option<CertStream>, NoMemory>
+    ensures { IfOk result (IsFound profile.now database.now router) }
+{
+    if database.settled().is_err() {
+        return Ok(None);
+    }
+    match build_area(alloc, database) {
+        Ok(area) => found_in(alloc, &area, profile, router),
+        Err(AreaError::TooLarge { .. }) => Ok(None),
+        Err(AreaError::NoMemory) => Err(NoMemory),
+    }
+}
+
+/// The certificate of a router's island in an area; none where the router is not there or takes no part.
+fn found_in(
+    alloc: Global,
+    area: &Area,
+    profile: &Profile,
+    router: u32,
+) -> Result<Option<CertStream>, NoMemory>
+    ensures found { IfOk result (IsFoundIn profile.now area.now router) }
+    ensures kept { IsArea area.now }
+{
+    let _nodes = area.count();
+    match find_island(alloc, area, profile, router) {
+        Ok(island) => Ok(Some(CertStream::new(alloc, island.graph, island.root)?)),
+        Err(IslandError::NotThere) => Ok(None),
+        Err(IslandError::Unsupported) => Ok(None),
+        Err(IslandError::NoMemory) => Err(NoMemory),
+    }
+}
