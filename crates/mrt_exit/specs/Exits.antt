@@ -2,6 +2,8 @@
 use Rattle.std.specs.Prelude.{ℕ, List, ◌++◌, codes, decimal}
 use Rattle.cert_format.specs.declared.error.CertKind.{CertKind}
 use Rattle.cert_format.specs.declared.error.CertKind.TheVariants as faults
+use Rattle.flood_core.specs.declared.error.UpdateKind.{UpdateKind}
+use Rattle.flood_core.specs.declared.error.UpdateKind.TheVariants as updates
 use Rattle.mrt_graph.specs.Spelling.{address_text}
 use Rattle.mrt_island.specs.declared.profile_error.ProfileKind.{ProfileKind}
 use Rattle.mrt_island.specs.declared.profile_error.ProfileKind.TheVariants as lines
@@ -24,10 +26,12 @@ use Rattle.mrt_exit.specs.declared.exit.Exit.TheVariants.{
   NoMemory,
   BadScript,
   NoCommonBlock,
+  BadUpdate,
 }
 use Rattle.mrt_exit.specs.declared.exit.What.{What}
 use Rattle.mrt_exit.specs.declared.exit.What.TheVariants.{
   DatabaseFile,
+  UpdatesFile,
   ProfileFile,
   CertificateFile,
   ScriptFile,
@@ -50,6 +54,7 @@ status_of (WriteFault taken) = 9
 status_of NoMemory = 10
 status_of (BadScript line) = 11
 status_of NoCommonBlock = 13
+status_of (BadUpdate at kind) = 14
 
 -- what is wrong with a record of a database, in words
 abbrev pub record_words : LsaKind → List ℕ
@@ -60,6 +65,14 @@ record_words records.ReservedSequence = codes "reserved-sequence"
 record_words records.IdMismatch = codes "id-mismatch"
 record_words records.Body = codes "body"
 record_words records.ZeroMetric = codes "zero-metric"
+
+-- what is wrong with a Link State Update packet, in words; of an LSA in it, as of a record of a database
+abbrev pub update_words : UpdateKind → List ℕ
+update_words updates.Truncated = codes "truncated"
+update_words updates.Header = codes "header"
+update_words updates.Length = codes "length"
+update_words (updates.Lsa kind) = record_words kind
+update_words updates.Count = codes "count"
 
 -- what is wrong with a line of a profile, in words
 abbrev pub line_words : ProfileKind → List ℕ
@@ -81,6 +94,7 @@ kind_words faults.Heads = codes "heads"
 -- what is too large, in words
 abbrev pub what_words : What → List ℕ
 what_words DatabaseFile = codes "database-file"
+what_words UpdatesFile = codes "updates-file"
 what_words ProfileFile = codes "profile-file"
 what_words CertificateFile = codes "certificate-file"
 what_words ScriptFile = codes "script-file"
@@ -89,7 +103,7 @@ what_words AreaArcs = codes "area-arcs"
 
 -- the line of Usage: the forms that there are
 unfoldable pub usage_line : List ℕ
-usage_line = codes "mrt: usage: check DB PROFILE CERT, certify DB PROFILE ROUTER, table DB PROFILE ROUTER, trace DB PROFILE FROM TO blue/red/repair [FAIL], fabric DB PROFILE SCRIPT, survey NUMBER NODES, upgrade DB PROFILE CERT, lfa DB ROUTER, order DB PROFILE ROUTER, proxy DB PROFILE ROUTER A B\n"
+usage_line = codes "mrt: usage: check DB PROFILE CERT, certify DB PROFILE ROUTER, table DB PROFILE ROUTER, trace DB PROFILE FROM TO blue/red/repair [FAIL], fabric DB PROFILE SCRIPT, survey NUMBER NODES, upgrade DB PROFILE CERT, lfa DB ROUTER, order DB PROFILE ROUTER, proxy DB PROFILE ROUTER A B, flood UPDATES PROFILE SCRIPT\n"
 
 -- the line of BadDatabase: a record's fault, or a conflict with the record that came first
 abbrev pub database_line : ℕ → DbKind → List ℕ
@@ -116,3 +130,5 @@ line_of (WriteFault taken) = codes "mrt: write fault after " ++ decimal taken ++
 line_of NoMemory = codes "mrt: no memory\n"
 line_of (BadScript line) = codes "mrt: bad script on line " ++ decimal line ++ codes "\n"
 line_of NoCommonBlock = codes "mrt: no common block\n"
+line_of (BadUpdate at kind) =
+    codes "mrt: bad update: " ++ update_words kind ++ codes " at " ++ decimal at ++ codes "\n"

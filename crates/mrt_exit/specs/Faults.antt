@@ -5,6 +5,10 @@ use Rattle.area_graph.specs.declared.area_error.AreaError.TheVariants as area_er
 use Rattle.cert_format.specs.declared.error.CertFault.{CertFault}
 use Rattle.fabric_script.specs.declared.script_error.ScriptError.{ScriptError}
 use Rattle.fabric_script.specs.declared.script_error.ScriptError.TheVariants as script_errors
+use Rattle.flood_core.specs.declared.error.UpdateError.{UpdateError}
+use Rattle.flood_core.specs.declared.error.UpdateError.TheVariants as update_errors
+use Rattle.flood_script.specs.declared.error.FloodScriptError.{FloodScriptError}
+use Rattle.flood_script.specs.declared.error.FloodScriptError.TheVariants as flood_script_errors
 use Rattle.lsdb.specs.declared.change.Conflict.{Conflict}
 use Rattle.mrt_io.specs.declared.device.PutError.{PutError}
 use Rattle.mrt_io.specs.declared.device.PutError.TheVariants.{Failed}
@@ -14,7 +18,7 @@ use Rattle.ospf_lsa.specs.declared.error.LsaError.{LsaError}
 use Rattle.ospf_lsa.specs.declared.error.LsaError.TheVariants as lsa_errors
 use Rattle.mrt_exit.specs.declared.exit.DbKind.TheVariants as database_kinds
 use Rattle.mrt_exit.specs.declared.exit.Exit.{Exit}
-use Rattle.mrt_exit.specs.declared.exit.Exit.TheVariants.{BadDatabase, BadProfile, BadCertificate, BadScript, TooLarge, WriteFault, NoMemory}
+use Rattle.mrt_exit.specs.declared.exit.Exit.TheVariants.{BadDatabase, BadProfile, BadCertificate, BadScript, BadUpdate, TooLarge, WriteFault, NoMemory}
 use Rattle.mrt_exit.specs.declared.exit.What.{What}
 use Rattle.mrt_exit.specs.declared.exit.What.TheVariants as whats
 
@@ -40,6 +44,16 @@ certificate_exit fault = BadCertificate fault.at fault.kind
 abbrev pub script_exit : ScriptError → Exit
 script_exit (script_errors.Fault line) = BadScript line
 script_exit script_errors.NoMemory = NoMemory
+
+-- a Link State Update packet has a fault
+abbrev pub update_exit : UpdateError → Exit
+update_exit (update_errors.Fault at kind) = BadUpdate at kind
+update_exit update_errors.NoMemory = NoMemory
+
+-- a line of a script of deliveries is not as it should be
+abbrev pub flood_script_exit : FloodScriptError → Exit
+flood_script_exit (flood_script_errors.Fault line) = BadScript line
+flood_script_exit flood_script_errors.NoMemory = NoMemory
 
 -- one count is too large, or another where the first is at most this many
 abbrev pub too_large : ℕ → What → ℕ → What → ℕ → Exit

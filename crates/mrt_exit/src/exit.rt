@@ -6,14 +6,12 @@ ghost use Rattle.mrt_exit.specs.Exits.{
   status_of,
   line_of as line_of_exit,
   database_line,
-  kind_words,
-  line_words,
-  record_words,
-  what_words,
 };
 
 use crate::line::{Line, line_of, push, push_address, push_decimal};
+use crate::words::{words_of_kind, words_of_line, words_of_record, words_of_update, words_of_what};
 use cert_format::CertKind;
+use flood_core::UpdateKind;
 use mrt_island::ProfileKind;
 use ospf_lsa::LsaKind;
 
@@ -21,6 +19,7 @@ use ospf_lsa::LsaKind;
 #[derive(Clone, Copy, Debug, PartialEq, Eq)]
 pub enum What {
     DatabaseFile,
+    UpdatesFile,
     ProfileFile,
     CertificateFile,
     ScriptFile,
@@ -66,11 +65,13 @@ pub enum Exit {
     BadScript { line: u32 },
     /// The certificate gives the two routers that a prefix is attached to no common block.
     NoCommonBlock,
+    /// The first Link State Update packet with a fault, and its first fault; of an LSA's fault `at` is the place of the LSA.
+    BadUpdate { at: u32, kind: UpdateKind },
 }
 
 /// The line of `Usage`: the forms that there are.
 const USAGE: &[u8] =
-    b"mrt: usage: check DB PROFILE CERT, certify DB PROFILE ROUTER, table DB PROFILE ROUTER, trace DB PROFILE FROM TO blue/red/repair [FAIL], fabric DB PROFILE SCRIPT, survey NUMBER NODES, upgrade DB PROFILE CERT, lfa DB ROUTER, order DB PROFILE ROUTER, proxy DB PROFILE ROUTER A B\n";
+    b"mrt: usage: check DB PROFILE CERT, certify DB PROFILE ROUTER, table DB PROFILE ROUTER, trace DB PROFILE FROM TO blue/red/repair [FAIL], fabric DB PROFILE SCRIPT, survey NUMBER NODES, upgrade DB PROFILE CERT, lfa DB ROUTER, order DB PROFILE ROUTER, proxy DB PROFILE ROUTER A B, flood UPDATES PROFILE SCRIPT\n";
 
 impl Exit {
     /// The program's exit status.
@@ -91,6 +92,7 @@ impl Exit {
             Exit::NoMemory => 10,
             Exit::BadScript { .. } => 11,
             Exit::NoCommonBlock => 13,
+            Exit::BadUpdate { .. } => 14,
         }
     }
 
@@ -135,6 +137,12 @@ impl Exit {
                 numbered(b"mrt: bad script ", b"on line", b" ", u64::from(*line))
             }
             Exit::NoCommonBlock => line_of(b"mrt: no common block\n"),
+            Exit::BadUpdate { at, kind } => numbered(
+                b"mrt: bad update: ",
+                words_of_update(*kind),
+                b" at ",
+                u64::from(*at),
+            ),
         }
     }
 }
@@ -190,62 +198,6 @@ fn conflict(at: u32, first: u32) -> Line
     push_decimal(&mut line, u64::from(first));
     push(&mut line, b"\n");
     line
-}
-
-fn words_of_record(kind: LsaKind) -> &'static [u8]
-    ensures words { result.now ≡ record_words kind }
-    ensures short { length result.now ≤ 20 }
-{
-    match kind {
-        LsaKind::Truncated => b"truncated",
-        LsaKind::Length => b"length",
-        LsaKind::Checksum => b"checksum",
-        LsaKind::ReservedSequence => b"reserved-sequence",
-        LsaKind::IdMismatch => b"id-mismatch",
-        LsaKind::Body => b"body",
-        LsaKind::ZeroMetric => b"zero-metric",
-    }
-}
-
-fn words_of_line(kind: ProfileKind) -> &'static [u8]
-    ensures words { result.now ≡ line_words kind }
-    ensures short { length result.now ≤ 20 }
-{
-    match kind {
-        ProfileKind::Bytes => b"bytes",
-        ProfileKind::Words => b"words",
-        ProfileKind::Address => b"address",
-        ProfileKind::Number => b"number",
-        ProfileKind::Repeated => b"repeated",
-    }
-}
-
-fn words_of_kind(kind: CertKind) -> &'static [u8]
-    ensures words { result.now ≡ kind_words kind }
-    ensures short { length result.now ≤ 20 }
-{
-    match kind {
-        CertKind::Magic => b"magic",
-        CertKind::Truncated => b"truncated",
-        CertKind::Range => b"range",
-        CertKind::Tag => b"tag",
-        CertKind::Trailing => b"trailing",
-        CertKind::Heads => b"heads",
-    }
-}
-
-fn words_of_what(what: What) -> &'static [u8]
-    ensures words { result.now ≡ what_words what }
-    ensures short { length result.now ≤ 20 }
-{
-    match what {
-        What::DatabaseFile => b"database-file",
-        What::ProfileFile => b"profile-file",
-        What::CertificateFile => b"certificate-file",
-        What::ScriptFile => b"script-file",
-        What::AreaNodes => b"area-nodes",
-        What::AreaArcs => b"area-arcs",
-    }
 }
 
 fn not_there(number: u32) -> Line

@@ -2,12 +2,25 @@
 
 ghost use Rattle.std.specs.Prelude.{◌≡◌};
 ghost use Rattle.mrt_exit.specs.declared.exit.Exit.TheVariants.{NoMemory as no_memory};
-ghost use Rattle.mrt_exit.specs.Faults.{area_exit, certificate_exit, conflict_exit, profile_exit, put_exit, record_exit, script_exit, too_large};
+ghost use Rattle.mrt_exit.specs.Faults.{
+  area_exit,
+  certificate_exit,
+  conflict_exit,
+  flood_script_exit,
+  profile_exit,
+  put_exit,
+  record_exit,
+  script_exit,
+  too_large,
+  update_exit,
+};
 
 use crate::exit::{DbKind, Exit, What};
 use area_graph::AreaError;
 use cert_format::CertFault;
 use fabric_script::ScriptError;
+use flood_core::UpdateError;
+use flood_script::FloodScriptError;
 use lsdb::Conflict;
 use mrt_graph::NoMemory;
 use mrt_io::PutError;
@@ -90,6 +103,28 @@ impl From<ScriptError> for Exit {
         match error {
             ScriptError::Fault { line } => Exit::BadScript { line },
             ScriptError::NoMemory => Exit::NoMemory,
+        }
+    }
+}
+
+impl From<UpdateError> for Exit {
+    ghost from_gives = { λ error exit. exit ≡ update_exit error };
+
+    fn from(error: UpdateError) -> Exit {
+        match error {
+            UpdateError::Fault { at, kind } => Exit::BadUpdate { at, kind },
+            UpdateError::NoMemory => Exit::NoMemory,
+        }
+    }
+}
+
+impl From<FloodScriptError> for Exit {
+    ghost from_gives = { λ error exit. exit ≡ flood_script_exit error };
+
+    fn from(error: FloodScriptError) -> Exit {
+        match error {
+            FloodScriptError::Fault { line } => Exit::BadScript { line },
+            FloodScriptError::NoMemory => Exit::NoMemory,
         }
     }
 }

@@ -5,6 +5,7 @@ mod exit;
 mod fault;
 mod line;
 mod telling;
+mod words;
 
 pub use exit::{DbKind, Exit, What};
 pub use line::{Line, line_of, push, push_address, push_decimal};
