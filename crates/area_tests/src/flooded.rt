@@ -1,6 +1,6 @@
 //! Packets that reach routers by a script.
 
-use crate::update_files::PACKETS;
+use crate::update_files::{OLDER_FIRST, PACKETS};
 use area_graph::build_area;
 use flood_core::read_updates;
 use flood_script::{Compare, FloodScriptError, Verdict, flood_text, read_flood_script};
@@ -43,24 +43,24 @@ fn nodes(alloc: Global, database: &Lsdb, router: u32) -> Option<u16> {
     Some(area.count())
 }
 
-/// The text of a script over the three packets.
-fn text_of(alloc: Global, script: &[u8]) -> Option<Vec<u8>> {
-    if 1000 < script.len() {
+/// The text of a script over packets.
+fn text_of(alloc: Global, packets: &[u8], script: &[u8]) -> Option<Vec<u8>> {
+    if 1000 < script.len().max(packets.len()) {
         return None;
     }
     let script = read_flood_script(alloc, script).ok()?;
-    let updates = read_updates(alloc, PACKETS.as_slice()).ok()?;
+    let updates = read_updates(alloc, packets).ok()?;
     flood_text(alloc, updates, &script, &ByNodes).ok()
 }
 
-fn gives(alloc: Global, script: &[u8], wanted: &[u8]) -> bool {
-    match text_of(alloc, script) {
+fn gives(alloc: Global, packets: &[u8], script: &[u8], wanted: &[u8]) -> bool {
+    match text_of(alloc, packets, script) {
         None => false,
         Some(text) => text.as_slice() == wanted,
     }
 }
 
-/// Scripts and their texts.
+/// Scripts over the packets of a triangle, and their texts.
 fn runs() -> &'static [(&'static [u8], &'static [u8])] {
     &[
         (
@@ -81,8 +81,25 @@ fn runs() -> &'static [(&'static [u8], &'static [u8])] {
 #[test]
 fn scripts_have_their_texts(rt: HostRuntime) {
     for (script, wanted) in runs() {
-        assert!(rt; gives(rt.alloc(), script, wanted));
+        assert!(rt; gives(rt.alloc(), PACKETS.as_slice(), script, wanted));
     }
+}
+
+/// What is new beside an older instance is sent on alone; what a router had before is not.
+#[test]
+fn what_was_new_is_sent_on_alone(rt: HostRuntime) {
+    let script =
+        b"routers 2\ndeliver 0 0\ndeliver 1 0\ndeliver 3 1\ndeliver 1 1\ndeliver 5 0\ndeliver 0 1\n";
+    let wanted =
+        b"changed 1 sent 2\nchanged 1 sent 3\nchanged 1 sent 4\nchanged 1 sent 5\nchanged 0\nchanged 1 sent 6\n";
+    assert!(rt;
+        gives(
+            rt.alloc(),
+            OLDER_FIRST.as_slice(),
+            script.as_slice(),
+            wanted.as_slice()
+        )
+    );
 }
 
 /// Scripts, and the first line of each that is not as it should be.
