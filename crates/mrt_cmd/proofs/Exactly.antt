@@ -8,7 +8,7 @@ use Rattle.mrt_exit.specs.declared.exit.Exit.TheVariants as exits
 use Rattle.mrt_cmd.specs.Answers.{FileBytes, IsRefusedOver}
 use Rattle.mrt_cmd.specs.Comes.{Comes, Gives, GivesText, MissesAt, Refuses}
 use Rattle.mrt_cmd.specs.Files.{IsFirstMissing, files_of}
-use Rattle.mrt_cmd.specs.Form.{Form, OfFiles, Survey, Task, Check, Certify, Table, Trace, Fabric, Upgrade, Lfa, Order, Proxy, form_of}
+use Rattle.mrt_cmd.specs.Form.{Form, OfFiles, Survey, Flood, Task, Check, Certify, Table, Trace, Fabric, Upgrade, Lfa, Order, Proxy, form_of}
 use Rattle.mrt_cmd.specs.Run.{WritesNothing}
 
 -- one exit comes of the words at most
@@ -53,6 +53,8 @@ missing_comes files (Some (OfFiles form)) word (inr (inr (inl missing))) = missi
 missing_comes files (Some (OfFiles form)) word (inr (inr (inr said))) =
     absurd (never_missing form.task said.0 word said.2)
 missing_comes files (Some (Survey number nodes)) word (inr (inr refused)) = absurd refused
+missing_comes files (Some (Flood form)) word (inr (inr (inl missing))) = missing
+missing_comes files (Some (Flood form)) word (inr (inr (inr said))) = absurd said.2
 
 comes_missing : (files : Files) (form : Option Form) (word : ℕ)
     → IsSomeAnd form (λ it. IsFirstMissing (Some files) (files_of it) word)
@@ -60,6 +62,7 @@ comes_missing : (files : Files) (form : Option Form) (word : ℕ)
 comes_missing files None word missing = absurd missing
 comes_missing files (Some (OfFiles form)) word missing = inl missing
 comes_missing files (Some (Survey number nodes)) word missing = absurd cc
+comes_missing files (Some (Flood form)) word missing = inl missing
 
 pub exactly_missing : (held : Option Files) (words : List (List ℕ)) (result : Exit) → ComesOnce
     → Comes held words result ⊎ (result ≡ exits.NoMemory) → IsSome held

@@ -10,15 +10,15 @@ use Rattle.mrt_exit.specs.declared.exit.What.{What}
 use Rattle.mrt_cmd.specs.Answers.{FileBytes}
 use Rattle.mrt_cmd.specs.Causes.{HasNoText, IsOfBytes, ShelfInCall}
 use Rattle.mrt_cmd.specs.Comes.{AreRead, Gives, GivesText, IsLastRead, IsProfileRead, IsRefused, NamesHeld, Refuses}
-use Rattle.mrt_cmd.specs.Files.{NamedFile, AreThere, SaysOneOf, files_in, files_of, profile_file, task_file}
-use Rattle.mrt_cmd.specs.Form.{FileForm, Form, OfFiles, Survey, Task, Check, Certify, Table, Trace, Fabric, Upgrade, Lfa, Order, Proxy, form_of}
+use Rattle.mrt_cmd.specs.Files.{NamedFile, Names, AreThere, SaysOneOf, files_in, files_of, flood_names, profile_file, task_file, task_names}
+use Rattle.mrt_cmd.specs.Form.{FileForm, FloodForm, Form, OfFiles, Survey, Flood, Task, Check, Certify, Table, Trace, Fabric, Upgrade, Lfa, Order, Proxy, form_of}
 use Rattle.mrt_cmd.proofs.WrittenPasses.{unread_says_one}
 
 -- files that were read are held
-read_held : (files : Files) (form : FileForm) (bytes : FileBytes) → AreRead (Some files) form bytes
-    → AreThere (Some files) (files_in form)
-read_held files form bytes read =
-    (ap is_some read.database_read.0, go form.profile read.profile_read (task_file form.task) read.last_read)
+read_held : (files : Files) (names : Names) (bytes : FileBytes) → AreRead (Some files) names bytes
+    → AreThere (Some files) (files_in names)
+read_held files names bytes read =
+    (ap is_some read.first_read.0, go names.profile read.profile_read names.last read.last_read)
   where
     go : (profile : Option (List ℕ)) → IsProfileRead (Some files) profile bytes.profile → (last : Option NamedFile)
         → IsLastRead (Some files) last bytes.last
@@ -31,14 +31,15 @@ read_held files form bytes read =
 text_held : (files : Files) (form : Option Form) (text : List ℕ) → IsSomeAnd form (λ f. Gives (Some files) f text)
     → IfSome form (λ f. AreThere (Some files) (files_of f))
 text_held files None text given = absurd given
-text_held files (Some (OfFiles form)) text given = read_held files form given.0 given.1
+text_held files (Some (OfFiles form)) text given = read_held files (task_names form) given.0 given.1
 text_held files (Some (Survey number nodes)) text given = tt
+text_held files (Some (Flood form)) text given = read_held files (flood_names form) given.0 given.1
 
 -- that such a thing is too large does not speak of bytes
 abbrev IsOfFile : What → Type 0
 IsOfFile what = (size : ℕ) → IsOfBytes (exits.TooLarge what size) → ⊥
 
-of_files : (form : FileForm) → AllByRecursion (λ file. IsOfFile file.what) (files_in form)
+of_files : (form : FileForm) → AllByRecursion (λ file. IsOfFile file.what) (files_in (task_names form))
 of_files form = ((λ size of. of), go form.profile form.task)
   where
     go : (profile : Option (List ℕ)) (task : Task)
@@ -63,6 +64,15 @@ of_files form = ((λ size of. of), go form.profile form.task)
     go (Some name) (Order router) = ((λ size of. of), tt)
     go (Some name) (Proxy router first second) = ((λ size of. of), tt)
 
+of_packets : (form : FloodForm) → AllByRecursion (λ file. IsOfFile file.what) (files_in (flood_names form))
+of_packets form = ((λ size of. of), go form.profile)
+  where
+    go : (profile : Option (List ℕ))
+        → AllByRecursion (λ file. IsOfFile file.what)
+        (option_to_list (option_map profile_file profile) ++ option_to_list (flood_names form).last)
+    go None = ((λ size of. of), tt)
+    go (Some name) = ((λ size of. of), ((λ size of. of), tt))
+
 not_of_bytes : (named : List NamedFile) (exit : Exit) → AllByRecursion (λ file. IsOfFile file.what) named
     → IsOfBytes exit → SaysOneOf named exit → ⊥
 not_of_bytes [] exit all of said = said
@@ -74,9 +84,14 @@ refused_form : (files : Files) (form : Option Form) (exit : Exit) → IsOfBytes 
     → IsSomeAnd form (λ f. Refuses (Some files) f exit) → IfSome form (λ f. AreThere (Some files) (files_of f))
 refused_form files None exit of refused = absurd refused
 refused_form files (Some (OfFiles form)) exit of (inl unread) =
-    absurd (not_of_bytes (files_in form) exit (of_files form) of (unread_says_one files (files_in form) exit unread))
-refused_form files (Some (OfFiles form)) exit of (inr said) = read_held files form said.0 said.1
+    absurd (not_of_bytes (files_in (task_names form)) exit (of_files form) of
+    (unread_says_one files (files_in (task_names form)) exit unread))
+refused_form files (Some (OfFiles form)) exit of (inr said) = read_held files (task_names form) said.0 said.1
 refused_form files (Some (Survey number nodes)) exit of refused = absurd refused
+refused_form files (Some (Flood form)) exit of (inl unread) =
+    absurd (not_of_bytes (files_in (flood_names form)) exit (of_packets form) of
+    (unread_says_one files (files_in (flood_names form)) exit unread))
+refused_form files (Some (Flood form)) exit of (inr said) = read_held files (flood_names form) said.0 said.1
 
 refused_held : (held : Option Files) (words : List (List ℕ)) (exit : Exit) → IsRefused held words exit
     → IsSome held → IsOfBytes exit → NamesHeld held words

@@ -2,12 +2,15 @@ pub mod Causes
 pub mod Databases
 pub mod Entering
 pub mod Exactly
+pub mod Floods
 pub mod Forms
+pub mod FromFiles
 pub mod Held
 pub mod MadeNetworks
 pub mod NeverSaid
 pub mod OneCertificate
 pub mod OneExit
+pub mod OneFlood
 pub mod OneOrder
 pub mod OneProxy
 pub mod OneReading
@@ -20,6 +23,7 @@ pub mod Roots
 pub mod SurveyExits
 pub mod Tables
 pub mod TextsHeld
+pub mod ToldAlike
 pub mod Unread
 pub mod Upgrades
 pub mod Works

@@ -5,8 +5,9 @@ use Rattle.mrt_exit.specs.declared.exit.Exit.{Exit}
 use Rattle.mrt_exit.specs.declared.exit.Exit.TheVariants as exits
 use Rattle.mrt_exit.specs.declared.exit.What.{What}
 use Rattle.mrt_cmd.specs.Answers.{FileBytes, IsRefusedOver, IsRefusedTask}
-use Rattle.mrt_cmd.specs.Files.{NamedFile, IsRefusedBy, SaysOneOf, files_in}
-use Rattle.mrt_cmd.specs.Form.{Form, OfFiles, Survey, Task, Check, Certify, Table, Trace, Fabric, Upgrade, Lfa, Order, Proxy}
+use Rattle.mrt_cmd.specs.Files.{NamedFile, IsRefusedBy, SaysOneOf, files_in, flood_names, task_names}
+use Rattle.mrt_cmd.specs.Flooded.{IsRefusedFlood}
+use Rattle.mrt_cmd.specs.Form.{Form, OfFiles, Survey, Flood, Task, Check, Certify, Table, Trace, Fabric, Upgrade, Lfa, Order, Proxy}
 use Rattle.mrt_cmd.specs.Input.{Input}
 use Rattle.mrt_cmd.specs.Islands.{HasNoneFor}
 use Rattle.mrt_cmd.specs.Packets.{IsNoRun}
@@ -86,10 +87,17 @@ not_of_bytes task bytes exit OfDone said = not_of_task task said.0 bytes.last ex
 not_of_bytes task bytes exit OfUsage said = not_of_task task said.0 bytes.last exits.Usage OfUsage said.2
 not_of_bytes task bytes exit OfOutput said = not_of_task task said.0 bytes.last _ OfOutput said.2
 
+not_of_flood : (bytes : FileBytes) (exit : Exit) → IsUnsaid exit → IsRefusedFlood bytes exit → ⊥
+not_of_flood bytes exit OfDone said = said
+not_of_flood bytes exit OfUsage said = said
+not_of_flood bytes exit OfOutput said = said
+
 not_of_refusal : (held : Option Files) (form : Form) (exit : Exit) → IsUnsaid exit → IsRefusal held form exit → ⊥
-not_of_refusal held (OfFiles form) exit unsaid (inl (inl said)) = not_of_reading held (files_in form) exit unsaid said
+not_of_refusal held (OfFiles form) exit unsaid (inl (inl said)) = not_of_reading held (files_in (task_names form)) exit unsaid said
 not_of_refusal held (OfFiles form) exit unsaid (inl (inr said)) = not_of_bytes form.task said.0 exit unsaid said.2
 not_of_refusal held (Survey number nodes) exit unsaid (inl said) = said
+not_of_refusal held (Flood form) exit unsaid (inl (inl said)) = not_of_reading held (files_in (flood_names form)) exit unsaid said
+not_of_refusal held (Flood form) exit unsaid (inl (inr said)) = not_of_flood said.0 exit unsaid said.2
 not_of_refusal held form exit unsaid (inr memory) = not_memory exit unsaid memory
 
 pub not_of_form : (held : Option Files) (form : Form) (before now : ℕ) (exit : Exit) → IsUnsaid exit

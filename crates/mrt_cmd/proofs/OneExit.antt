@@ -1,9 +1,9 @@
 -- Of the words and of what a shelf holds there comes one exit.
-use Rattle.std.proofs.Common.{◌≡◌, ◌∙◌, ◌⊎◌, ◌<◌, ◌+◌, ◌++◌, ◌==◌, ℕ, Bool, true, false, List, [], ◌∷◌, Option, Some, None, length, refl, sym, ap, subst, inl, inr}
+use Rattle.std.proofs.Common.{◌≡◌, ◌∙◌, ◌⊎◌, ◌<◌, ◌+◌, ◌==◌, ℕ, Bool, true, false, List, [], ◌∷◌, Option, Some, None, length, refl, sym, ap, subst, inl, inr}
 use Rattle.std.specs.Prelude.{IsNone}
 use Rattle.std.specs.List.{AllByRecursion}
-use Rattle.std.specs.Option.{IsSomeAnd, option_map, option_to_list}
-use Rattle.std.proofs.lemmas.Bool.{eqb-true, le-ltb, or_cases}
+use Rattle.std.specs.Option.{IsSomeAnd}
+use Rattle.std.proofs.lemmas.Bool.{eqb-true, or_cases}
 use Rattle.area_graph.specs.AreaInvariant.{IsArea}
 use Rattle.area_graph.specs.AreaOf.{area_of}
 use Rattle.area_graph.specs.AreaSize.{IsTooLarge}
@@ -40,18 +40,11 @@ use Rattle.mrt_exit.specs.declared.exit.What.{What}
 use Rattle.mrt_cmd.specs.Answers.{FileBytes, GivesFor, GivesOver, IsRefusedOver, IsRefusedTask}
 use Rattle.mrt_cmd.specs.LoopFree.{HasLoopFree}
 use Rattle.mrt_cmd.specs.Certified.{IsCertified, IsComputed}
-use Rattle.mrt_cmd.specs.Comes.{AreRead, Gives, IsLastRead, IsProfileRead, Refuses}
+use Rattle.mrt_cmd.specs.Comes.{Gives, Refuses}
 use Rattle.mrt_cmd.specs.Database.{IsBadDatabase, IsDatabase, entering, enters}
-use Rattle.mrt_cmd.specs.Files.{
-  NamedFile,
-  IsReadAs,
-  database_file,
-  profile_file,
-  task_file,
-  files_in,
-  refusal_of,
-}
-use Rattle.mrt_cmd.specs.Form.{FileForm, Form, OfFiles, Survey, IsNetworkSize, Task, Check, Certify, Table, Trace, Fabric, Upgrade, Lfa, Order, Proxy}
+use Rattle.mrt_cmd.specs.Files.{flood_names, task_names}
+use Rattle.mrt_cmd.specs.Flooded.{GivesFlood, IsRefusedFlood}
+use Rattle.mrt_cmd.specs.Form.{Form, OfFiles, Survey, Flood, IsNetworkSize, Task, Check, Certify, Table, Trace, Fabric, Upgrade, Lfa, Order, Proxy}
 use Rattle.mrt_cmd.specs.Input.{Input, HasAreaWithin, HasIsland, IsAbsent, IsSpellingOf, IsInput, IsMissing, area, policy}
 use Rattle.mrt_cmd.specs.Islands.{HasNoIslandFor, HasNoRouterFor, HasNoneFor}
 use Rattle.mrt_cmd.specs.Ordered.{HasOrder, IsOrderOf}
@@ -61,6 +54,8 @@ use Rattle.mrt_cmd.specs.Surveyed.{made_input}
 use Rattle.mrt_cmd.specs.Tabled.{IsTableOf, IsTabled}
 use Rattle.mrt_cmd.specs.Upgraded.{GivesUpgrade, IsUpgradeFor, upgraded}
 use Rattle.mrt_cmd.specs.Verdict.{GivesVerdict, IsAcceptedFor, IsNoVerdict, IsRefusedFor, accepted_line}
+use Rattle.mrt_cmd.proofs.FromFiles.{no_refusal, one_answer, one_refusal}
+use Rattle.mrt_cmd.proofs.OneFlood.{FloodLaws, no_refusal_flood, one_flood_text, one_no_flood}
 use Rattle.mrt_cmd.proofs.Refusals.{root_within}
 use Rattle.mrt_cmd.proofs.Upgrades.{read_accepted}
 use Rattle.mrt_cmd.proofs.OneReading.{
@@ -129,6 +124,7 @@ LoopFreeLaw = (area : AreaParts) (s : ℕ) (text other : List ℕ) → IsLfaText
 
 -- all of them
 pub record Laws : Type 0 where
+  pub floods : FloodLaws
   pub packets : PacketLaws
   pub surveys : SurveyLaws
   pub certificates : CertificateLaw
@@ -576,44 +572,44 @@ module _ (laws : Laws) where
   -- ---- over the bytes of the files
 
   module _ (task : Task) (bytes : FileBytes) where
-    one_input : (input other : Input) → IsInput bytes.database bytes.profile input
-        → IsInput bytes.database bytes.profile other → input ≡ other
+    one_input : (input other : Input) → IsInput bytes.first bytes.profile input
+        → IsInput bytes.first bytes.profile other → input ≡ other
     one_input input other one two =
-        let newest = one_database laws.databases bytes.database input.newest other.newest one.database_is
+        let newest = one_database laws.databases bytes.first input.newest other.newest one.database_is
         two.database_is in
         let settings = one_profile bytes.profile input.settings other.settings one.profile_is two.profile_is in
         λ i. record { newest = newest i; settings = settings i }
 
-    is_kept : (input : Input) → IsInput bytes.database bytes.profile input
+    is_kept : (input : Input) → IsInput bytes.first bytes.profile input
         → (IsTooLarge (length (area input).ids) (length (area input).arcs) → ⊥) → IsArea (area input)
-    is_kept input given = is_area laws.areas bytes.database input.newest given.database_is
+    is_kept input given = is_area laws.areas bytes.first input.newest given.database_is
 
     -- a fault of a file is the first thing that is said of the bytes
-    bad_database_first : (at : ℕ) (kind : DbKind) (other : Exit) → IsBadDatabase bytes.database at kind
+    bad_database_first : (at : ℕ) (kind : DbKind) (other : Exit) → IsBadDatabase bytes.first at kind
         → IsRefusedOver task bytes other → exits.BadDatabase at kind ≡ other
     bad_database_first at kind (exits.BadDatabase place fault) one two =
-        let same = one_bad_database laws.databases bytes.database at place kind fault one two in
+        let same = one_bad_database laws.databases bytes.first at place kind fault one two in
         λ i. exits.BadDatabase (same.0 i) (same.1 i)
     bad_database_first at kind (exits.BadProfile line fault) one two = absurd
-        (no_bad_database laws.databases bytes.database two.0.0 at kind two.0.1 one)
-    bad_database_first at kind other one two = absurd (no_bad_database laws.databases bytes.database two.0.newest at
+        (no_bad_database laws.databases bytes.first two.0.0 at kind two.0.1 one)
+    bad_database_first at kind other one two = absurd (no_bad_database laws.databases bytes.first two.0.newest at
         kind two.1.database_is one)
 
     bad_profile_first : (line : ℕ) (kind : ProfileKind) (other : Exit)
         → IsRefusedOver task bytes (exits.BadProfile line kind)
         → IsRefusedOver task bytes other → exits.BadProfile line kind ≡ other
     bad_profile_first line kind (exits.BadDatabase at fault) one two = absurd
-        (no_bad_database laws.databases bytes.database one.0.0 at fault one.0.1 two)
+        (no_bad_database laws.databases bytes.first one.0.0 at fault one.0.1 two)
     bad_profile_first line kind (exits.BadProfile number fault) one two =
         let same = one_bad_profile (text_lines bytes.profile) line number kind fault one.1 two.1 in
         λ i. exits.BadProfile (same.0 i) (same.1 i)
     bad_profile_first line kind other one two = absurd (no_bad_profile bytes.profile two.0.settings line kind
         two.1.profile_is one.1)
 
-    said_of_input : (exit other : Exit) (input : Input) → IsInput bytes.database bytes.profile input
+    said_of_input : (exit other : Exit) (input : Input) → IsInput bytes.first bytes.profile input
         → IsRefusedTask task input bytes.last exit → IsRefusedOver task bytes other → exit ≡ other
     said_of_input exit (exits.BadDatabase at kind) input given one two = absurd
-        (no_bad_database laws.databases bytes.database input.newest at kind given.database_is two)
+        (no_bad_database laws.databases bytes.first input.newest at kind given.database_is two)
     said_of_input exit (exits.BadProfile line kind) input given one two = absurd
         (no_bad_profile bytes.profile input.settings line kind given.profile_is two.1)
     said_of_input exit other input given one two =
@@ -626,7 +622,7 @@ module _ (laws : Laws) where
     one_over exit other one two = said_of_input exit other one.0 one.1 one.2 two
 
     no_refusal_over : (text : List ℕ) (exit : Exit) → GivesOver task bytes text → IsRefusedOver task bytes exit → ⊥
-    no_refusal_over text (exits.BadDatabase at kind) taken refused = no_bad_database laws.databases bytes.database
+    no_refusal_over text (exits.BadDatabase at kind) taken refused = no_bad_database laws.databases bytes.first
         taken.input.newest at kind taken.given.database_is refused
     no_refusal_over text (exits.BadProfile line kind) taken refused = no_bad_profile bytes.profile
         taken.input.settings line kind taken.given.profile_is refused.1
@@ -644,100 +640,31 @@ module _ (laws : Laws) where
   -- ---- over the files that are held
 
   module _ (files : Files) where
-    read_once : (file : NamedFile) (bytes others : List ℕ) → IsReadAs (Some files) file bytes
-        → IsReadAs (Some files) file others → bytes ≡ others
-    read_once file bytes others one two = held_once bytes others (files file.name) one.0 two.0
-
-    profile_once : (profile : Option (List ℕ)) (bytes others : List ℕ) → IsProfileRead (Some files) profile bytes
-        → IsProfileRead (Some files) profile others
-        → bytes ≡ others
-    profile_once None bytes others one two = one ∙ sym two
-    profile_once (Some name) bytes others one two = read_once (profile_file name) bytes others one two
-
-    last_once : (last : Option NamedFile) (bytes others : List ℕ) → IsLastRead (Some files) last bytes
-        → IsLastRead (Some files) last others → bytes ≡ others
-    last_once None bytes others one two = one ∙ sym two
-    last_once (Some file) bytes others one two = read_once file bytes others one two
-
-    files_once : (form : FileForm) (bytes others : FileBytes) → AreRead (Some files) form bytes
-        → AreRead (Some files) form others → bytes ≡ others
-    files_once form bytes others one two =
-        let database = read_once (database_file form.database) bytes.database others.database one.database_read
-        two.database_read in
-        let profile = profile_once form.profile bytes.profile others.profile one.profile_read two.profile_read in
-        let last = last_once (task_file form.task) bytes.last others.last one.last_read two.last_read in
-        λ i. record { database = database i; profile = profile i; last = last i }
-
-    -- a file that was read lets those after it decide
-    read_through : (file : NamedFile) (rest : List NamedFile) (bytes : List ℕ) → IsReadAs (Some files) file bytes
-        → refusal_of files (file ∷ rest) ≡ refusal_of files rest
-    read_through file rest bytes read = rw (read.0, le-ltb file.limit (length bytes) read.1) refl
-
-    last_through : (last : Option NamedFile) (bytes : List ℕ) → IsLastRead (Some files) last bytes
-        → refusal_of files (option_to_list last) ≡ None
-    last_through None bytes read = refl
-    last_through (Some file) bytes read = read_through file [] bytes read
-
-    rest_through : (profile : Option (List ℕ)) (last : Option NamedFile) (lines bytes : List ℕ)
-        → IsProfileRead (Some files) profile lines → IsLastRead (Some files) last bytes
-        → refusal_of files (option_to_list (option_map profile_file profile) ++ option_to_list last) ≡ None
-    rest_through None last lines bytes read read_too = last_through last bytes read_too
-    rest_through (Some name) last lines bytes read read_too =
-        read_through (profile_file name) (option_to_list last) lines read ∙ last_through last bytes read_too
-
-    all_read : (form : FileForm) (bytes : FileBytes) → AreRead (Some files) form bytes
-        → refusal_of files (files_in form) ≡ None
-    all_read form bytes read =
-        read_through (database_file form.database)
-        (option_to_list (option_map profile_file form.profile) ++ option_to_list (task_file form.task)) bytes.database
-        read.database_read
-        ∙ rest_through form.profile (task_file form.task) bytes.profile bytes.last read.profile_read read.last_read
-
-    module _ (form : FileForm) where
-      one_refusal : (exit other : Exit) → Refuses (Some files) (OfFiles form) exit
-          → Refuses (Some files) (OfFiles form) other → exit ≡ other
-      one_refusal exit other (inl one) (inl two) = held_once exit other (refusal_of files (files_in form)) one two
-      one_refusal exit other (inl one) (inr two) =
-          let none = all_read form two.0 two.1 in
-          absurd cc
-      one_refusal exit other (inr one) (inl two) =
-          let none = all_read form one.0 one.1 in
-          absurd cc
-      one_refusal exit other (inr one) (inr two) =
-          one_over form.task two.0 exit other
-          (subst (λ (b : FileBytes). IsRefusedOver form.task b exit) (files_once form one.0 two.0 one.1 two.1) one.2)
-          two.2
-
-      no_refusal : (text : List ℕ) (exit : Exit) → Gives (Some files) (OfFiles form) text
-          → Refuses (Some files) (OfFiles form) exit → ⊥
-      no_refusal text exit one (inl two) =
-          let none = all_read form one.0 one.1 in
-          absurd cc
-      no_refusal text exit one (inr two) =
-          no_refusal_over form.task two.0 text exit
-          (subst (λ (b : FileBytes). GivesOver form.task b text) (files_once form one.0 two.0 one.1 two.1) one.2) two.2
-
-      one_answer : (text other : List ℕ) → Gives (Some files) (OfFiles form) text
-          → Gives (Some files) (OfFiles form) other → text ≡ other
-      one_answer text other one two =
-          one_text_over form.task two.0 text other
-          (subst (λ (b : FileBytes). GivesOver form.task b text) (files_once form one.0 two.0 one.1 two.1) one.2) two.2
-
     -- ---- of a form
 
     one_refused : (form : Form) (exit other : Exit) → Refuses (Some files) form exit
         → Refuses (Some files) form other → exit ≡ other
-    one_refused (OfFiles form) exit other one two = one_refusal form exit other one two
+    one_refused (OfFiles form) exit other one two =
+        one_refusal files (task_names form) (IsRefusedOver form.task) (one_over form.task) exit other one two
     one_refused (Survey number nodes) exit other one two = absurd one
+    one_refused (Flood form) exit other one two =
+        one_refusal files (flood_names form) IsRefusedFlood (one_no_flood laws.floods) exit other one two
 
     no_refused : (form : Form) (text : List ℕ) (exit : Exit) → Gives (Some files) form text
         → Refuses (Some files) form exit → ⊥
-    no_refused (OfFiles form) text exit one two = no_refusal form text exit one two
+    no_refused (OfFiles form) text exit one two =
+        no_refusal files (task_names form) (GivesOver form.task) (IsRefusedOver form.task) (no_refusal_over form.task) text
+        exit one two
     no_refused (Survey number nodes) text exit one two = two
+    no_refused (Flood form) text exit one two =
+        no_refusal files (flood_names form) GivesFlood IsRefusedFlood (no_refusal_flood laws.floods) text exit one two
 
     one_given_text : (form : Form) (text other : List ℕ) → Gives (Some files) form text
         → Gives (Some files) form other → text ≡ other
-    one_given_text (OfFiles form) text other one two = one_answer form text other one two
+    one_given_text (OfFiles form) text other one two =
+        one_answer files (task_names form) (GivesOver form.task) (one_text_over form.task) text other one two
+    one_given_text (Flood form) text other one two =
+        one_answer files (flood_names form) GivesFlood (one_flood_text laws.floods) text other one two
     one_given_text (Survey number nodes) text other one two =
         let given = laws.surveys.input number nodes one.size in
         one_surveyed laws.islands laws.certificates laws.surveys.text number nodes

@@ -16,10 +16,11 @@ use Rattle.mrt_island.specs.Policy.{Policy}
 use Rattle.mrt_exit.specs.declared.exit.Exit.{Exit}
 use Rattle.mrt_exit.specs.declared.exit.Exit.TheVariants as exits
 use Rattle.mrt_io.specs.Holding.{Files}
-use Rattle.mrt_cmd.specs.Answers.{FileBytes, IsRefusedOver}
-use Rattle.mrt_cmd.specs.Comes.{AreRead}
+use Rattle.mrt_cmd.specs.Answers.{FileBytes}
+use Rattle.mrt_cmd.specs.Comes.{AreRead, Refuses, RefusesFrom}
+use Rattle.mrt_cmd.specs.Files.{Names, IsRefusedBy, MayFail, files_in, files_of}
 use Rattle.mrt_exit.specs.Faults.{certificate_exit}
-use Rattle.mrt_cmd.specs.Form.{FileForm, Form, OfFiles, Task, Check, Certify, Table, Trace, Fabric, Upgrade, Lfa, Order, Proxy}
+use Rattle.mrt_cmd.specs.Form.{Form, Task, Check, Certify, Table, Trace, Fabric, Upgrade, Lfa, Order, Proxy}
 use Rattle.mrt_cmd.specs.Islands.{HasNoneFor}
 use Rattle.mrt_cmd.specs.Input.{Input, HasAreaWithin, HasIsland, IsSpellingOf, IsInput, area, policy}
 use Rattle.mrt_cmd.specs.Kept.{IsCertRead}
@@ -30,6 +31,7 @@ use Rattle.mrt_cmd.specs.Reading.{
   HasNoIsland,
   HasNone,
   HasNoScript,
+  IsAnswerBy,
   IsAnswerOver,
   IsVerdictRefusal,
   IsRefusal,
@@ -138,7 +140,7 @@ root_within policy area router graph root link_of island =
     island.rooted.id) (sym island.made.same_ids) island.rooted.there)
 
 -- what is said by a task is said of the bytes
-task_over : (task : Task) (bytes : FileBytes) (input : Input) → IsInput bytes.database bytes.profile input
+task_over : (task : Task) (bytes : FileBytes) (input : Input) → IsInput bytes.first bytes.profile input
     → (exit : Exit) → IsTaskRefusal task input bytes.last exit → IsAnswerOver task bytes exit
 task_over task bytes input given exit (inr memory) = subst (IsAnswerOver task bytes) (sym memory) (inr refl)
 task_over task bytes input given (exits.BadCertificate at kind) (inl said) = inl (input, given, said)
@@ -158,53 +160,50 @@ task_over (Order router) bytes input given exit (inl said) = absurd said
 task_over (Proxy router first second) bytes input given exit (inl said) = absurd said
 
 pub tasks_over : {T : Type 0} (answer : Result T Exit) (task : Task) (bytes : FileBytes) (input : Input)
-    → IsInput bytes.database bytes.profile input
+    → IsInput bytes.first bytes.profile input
     → IfErr answer (IsTaskRefusal task input bytes.last) → IfErr answer (IsAnswerOver task bytes)
 tasks_over (Ok t) task bytes input given said = tt
 tasks_over (Err exit) task bytes input given said = task_over task bytes input given exit said
 
--- what is said of the bytes that were read is a refusal of the form
-refusal_over : (held : Option Files) (form : FileForm) (bytes : FileBytes) (exit : Exit) → AreRead held form bytes
-    → IsRefusedOver form.task bytes exit ⊎ (exit ≡ exits.NoMemory) → IsRefusal held (OfFiles form) exit
-refusal_over held form bytes exit read (inl refused) = inl (inr (bytes, read, refused))
-refusal_over held form bytes exit read (inr memory) = inr memory
+-- what is said of the bytes of a form's files that were read is a refusal of the form
+module _ (held : Option Files) (form : Form) (names : Names) (Says : FileBytes → Exit → Type 0)
+    (is : (exit : Exit) → RefusesFrom held names Says exit → Refuses held form exit) (bytes : FileBytes)
+    (read : AreRead held names bytes) where
+  refusal_over : (exit : Exit) → Says bytes exit ⊎ (exit ≡ exits.NoMemory) → IsRefusal held form exit
+  refusal_over exit (inl refused) = inl (is exit (inr (bytes, read, refused)))
+  refusal_over exit (inr memory) = inr memory
 
-calm_refusal : (held : Option Files) (form : FileForm) (bytes : FileBytes) (exit : Exit) → AreRead held form bytes
-    → IsAnswerOver form.task bytes exit → IsRefusal held (OfFiles form) exit
-calm_refusal held form bytes (exits.ReadFault word) read said = absurd said
-calm_refusal held form bytes exit read said = refusal_over held form bytes exit read said
+  calm_refusal : (exit : Exit) → IsAnswerBy Says bytes exit → IsRefusal held form exit
+  calm_refusal (exits.ReadFault word) said = absurd said
+  calm_refusal exit said = refusal_over exit said
 
--- a refusal of a form that names no file is so also where the shelf may have failed
-or_fault : (held : Option Files) (form : Form) (before now : ℕ) (exit : Exit) → ((word : ℕ)
-    → exit ≡ exits.ReadFault word → ⊥) → IsRefusal held form exit
-    → IsRefusalOrFault held form before now exit
-or_fault held form before now (exits.ReadFault word) never said = absurd (never word refl)
-or_fault held form before now exit never said = said
+  -- a refusal of a form that names no file is so also where the shelf may have failed
+  or_fault : (before now : ℕ) (exit : Exit) → IsAnswerBy Says bytes exit → IsRefusalOrFault held form before now exit
+  or_fault before now (exits.ReadFault word) said = absurd said
+  or_fault before now exit said = calm_refusal exit said
 
--- of an answer
-pub calm_over : {T : Type 0} (answer : Result T Exit) (held : Option Files) (form : FileForm) (bytes : FileBytes)
-    → AreRead held form bytes → IfErr answer (IsAnswerOver form.task bytes)
-    → IfErr answer (IsRefusal held (OfFiles form))
-calm_over (Ok t) held form bytes read said = tt
-calm_over (Err exit) held form bytes read said = calm_refusal held form bytes exit read said
+  -- of an answer
+  pub calm_over : {T : Type 0} (answer : Result T Exit) → IfErr answer (IsAnswerBy Says bytes)
+      → IfErr answer (IsRefusal held form)
+  calm_over (Ok t) said = tt
+  calm_over (Err exit) said = calm_refusal exit said
 
-pub refused_over : {T : Type 0} (answer : Result T Exit) (held : Option Files) (form : FileForm) (bytes : FileBytes)
-    (before now : ℕ) → AreRead held form bytes → IfErr answer (IsAnswerOver form.task bytes)
-    → IfErr answer (IsRefusalOrFault held (OfFiles form) before now)
-refused_over (Ok t) held form bytes before now read said = tt
-refused_over (Err exit) held form bytes before now read said =
-    or_fault held (OfFiles form) before now exit (λ word is. subst (IsAnswerOver form.task bytes) is said)
-    (calm_refusal held form bytes exit read said)
+  pub refused_over : {T : Type 0} (answer : Result T Exit) (before now : ℕ) → IfErr answer (IsAnswerBy Says bytes)
+      → IfErr answer (IsRefusalOrFault held form before now)
+  refused_over (Ok t) before now said = tt
+  refused_over (Err exit) before now said = or_fault before now exit said
 
 -- files that were not read are a refusal of the form
-pub unread_refused : (held : Option Files) (form : FileForm) (exit : Exit) → AreUnread held form exit
-    → IsRefusal held (OfFiles form) exit
-unread_refused held form exit (inl refused) = inl (inl refused)
-unread_refused held form exit (inr memory) = inr memory
+module _ (held : Option Files) (form : Form) (names : Names)
+    (is : (exit : Exit) → IsRefusedBy held (files_in names) exit → Refuses held form exit)
+    (may : (word : ℕ) → MayFail held (files_in names) word → MayFail held (files_of form) word) where
+  pub unread_refused : (exit : Exit) → AreUnread held names exit → IsRefusal held form exit
+  unread_refused exit (inl refused) = inl (is exit refused)
+  unread_refused exit (inr memory) = inr memory
 
-pub unread_or_fault : (held : Option Files) (form : FileForm) (before now : ℕ) (exit : Exit)
-    → AreUnreadOrFault held form before now exit → IsRefusalOrFault held (OfFiles form) before now exit
-unread_or_fault held form before now (exits.ReadFault word) said = said
-unread_or_fault held form before now (exits.TooLarge what size) said = unread_refused held form (exits.TooLarge what size) said
-unread_or_fault held form before now exits.NoMemory said = inr refl
-unread_or_fault held form before now exit said = unread_refused held form exit said
+  pub unread_or_fault : (before now : ℕ) (exit : Exit) → AreUnreadOrFault held names before now exit
+      → IsRefusalOrFault held form before now exit
+  unread_or_fault before now (exits.ReadFault word) said = (may word said.0, said.1)
+  unread_or_fault before now (exits.TooLarge what size) said = unread_refused (exits.TooLarge what size) said
+  unread_or_fault before now exits.NoMemory said = inr refl
+  unread_or_fault before now exit said = unread_refused exit said

@@ -1,4 +1,4 @@
--- What reading a file comes to, as a refusal of the whole form over files.
+-- What reading a file comes to, as a refusal of all files of a form.
 use Rattle.std.proofs.Common.{◌≡◌, ◌∙◌, ◌≤◌, ◌<◌, ◌⊎◌, ◌+◌, ◌++◌, ℕ, List, [], ◌∷◌, Option, Some, None, length, refl, subst, inl, inr, arith}
 use Rattle.std.specs.List.{AllByRecursion}
 use Rattle.std.specs.Option.{IsSomeAnd, option_map, option_to_list}
@@ -10,16 +10,14 @@ use Rattle.mrt_exit.specs.declared.exit.Exit.TheVariants as exits
 use Rattle.mrt_cmd.specs.Comes.{AreRead, IsLastRead, IsProfileRead}
 use Rattle.mrt_cmd.specs.Files.{
   NamedFile,
+  Names,
   IsReadAs,
   IsRefusedBy,
   MayFail,
-  database_file,
   profile_file,
-  task_file,
   files_in,
   refusal_of,
 }
-use Rattle.mrt_cmd.specs.Form.{FileForm, Task}
 use Rattle.mrt_cmd.specs.Reading.{AreUnread, AreUnreadOrFault, IsUnread, IsUnreadOrFault}
 
 -- a count that rose later in the call rose in it
@@ -76,133 +74,129 @@ may_fail_after held (one ∷ earlier) file rest word read is = inr (
       read.1 is,
 )
 
--- where a file is not read and those before it were, the form is refused so
-unread_after : (held : Option Files) (form : FileForm) (earlier : List NamedFile) (file : NamedFile)
-    (rest : List NamedFile) (before between now : ℕ) (exit : Exit) → earlier ++ file ∷ rest ≡ files_in form
+-- where a file is not read and those before it were, the files are refused so
+unread_after : (held : Option Files) (names : Names) (earlier : List NamedFile) (file : NamedFile)
+    (rest : List NamedFile) (before between now : ℕ) (exit : Exit) → earlier ++ file ∷ rest ≡ files_in names
     → AreAllRead held earlier → before ≤ between → IsUnreadOrFault held file between now exit
-    → AreUnreadOrFault held form before now exit
-unread_after held form earlier file rest before between now (exits.ReadFault word) is read le said = (
+    → AreUnreadOrFault held names before now exit
+unread_after held names earlier file rest before between now (exits.ReadFault word) is read le said = (
   subst (λ (files : List NamedFile). MayFail held files word) is (may_fail_after held earlier file rest word read
       said.0),
   rose_since before between now le said.1,
 )
-unread_after held form earlier file rest before between now (exits.TooLarge what size) is read le said =
+unread_after held names earlier file rest before between now (exits.TooLarge what size) is read le said =
     elim (stopped_after held earlier file rest (exits.TooLarge what size) read said) [
       | inl refused ↦ inl (subst (λ (files : List NamedFile). IsRefusedBy held files (exits.TooLarge what size))
           is refused)
       | inr memory ↦ inr memory
     ]
-unread_after held form earlier file rest before between now exits.NoMemory is read le said = inr refl
-unread_after held form earlier file rest before between now exit is read le said = absurd said
+unread_after held names earlier file rest before between now exits.NoMemory is read le said = inr refl
+unread_after held names earlier file rest before between now exit is read le said = absurd said
 
-calm_after : (held : Option Files) (form : FileForm) (earlier : List NamedFile) (file : NamedFile)
-    (rest : List NamedFile) (exit : Exit) → earlier ++ file ∷ rest ≡ files_in form
-    → AreAllRead held earlier → IsUnread held file exit → AreUnread held form exit
-calm_after held form earlier file rest exit is read said =
+calm_after : (held : Option Files) (names : Names) (earlier : List NamedFile) (file : NamedFile)
+    (rest : List NamedFile) (exit : Exit) → earlier ++ file ∷ rest ≡ files_in names
+    → AreAllRead held earlier → IsUnread held file exit → AreUnread held names exit
+calm_after held names earlier file rest exit is read said =
     elim (stopped_after held earlier file rest exit read said) [
       | inl refused ↦ inl (subst (λ (files : List NamedFile). IsRefusedBy held files exit) is refused)
       | inr memory ↦ inr memory
     ]
 
--- what was read of the database and of the profile
-abbrev AreBothRead : Option Files → FileForm → List ℕ → List ℕ → Type 0
-AreBothRead held form database profile =
-    IsReadAs held (database_file form.database) database × IsProfileRead held form.profile profile
+-- what was read of the first file and of the profile
+abbrev AreBothRead : Option Files → Names → List ℕ → List ℕ → Type 0
+AreBothRead held names first profile = IsReadAs held names.first first × IsProfileRead held names.profile profile
 
--- the files before that of the task
-abbrev first_files : FileForm → List NamedFile
-first_files form = database_file form.database ∷ option_to_list (option_map profile_file form.profile)
+-- the files before the last one
+abbrev first_files : Names → List NamedFile
+first_files names = names.first ∷ option_to_list (option_map profile_file names.profile)
 
-first_read : (held : Option Files) (database : List ℕ) (profile : Option (List ℕ)) (task : Task) (area lines : List ℕ)
-    → AreBothRead held (record { database = database; profile = profile; task = task }) area lines
-    → AreAllRead held (first_files (record { database = database; profile = profile; task = task }))
-first_read held database None task area lines read = ((area, read.0), tt)
-first_read held database (Some name) task area lines read = ((area, read.0), ((lines, read.1), tt))
+first_read : (held : Option Files) (one : NamedFile) (profile : Option (List ℕ)) (last : Option NamedFile)
+    (content lines : List ℕ) → AreBothRead held (record { first = one; profile = profile; last = last }) content lines
+    → AreAllRead held (first_files (record { first = one; profile = profile; last = last }))
+first_read held one None last content lines read = ((content, read.0), tt)
+first_read held one (Some name) last content lines read = ((content, read.0), ((lines, read.1), tt))
 
-task_last : (database : List ℕ) (profile : Option (List ℕ)) (task : Task) (file : NamedFile)
-    → task_file task ≡ Some file
-    → first_files (record { database = database; profile = profile; task = task }) ++ file ∷ []
-    ≡ files_in (record { database = database; profile = profile; task = task })
-task_last database None task file is = rw is refl
-task_last database (Some name) task file is = rw is refl
+file_last : (one : NamedFile) (profile : Option (List ℕ)) (last : Option NamedFile) (file : NamedFile) → last ≡ Some file
+    → first_files (record { first = one; profile = profile; last = last }) ++ file ∷ []
+    ≡ files_in (record { first = one; profile = profile; last = last })
+file_last one None last file is = rw is refl
+file_last one (Some name) last file is = rw is refl
 
--- the profile is not read, from a shelf that holds the same as when the database was read
-module _ (held told : Option Files) (form : FileForm) (same : told ≡ held) (one : NamedFile) (area : List ℕ)
-    (is : one ≡ database_file form.database) (read : IsReadAs held one area) where
-  first : IsReadAs held (database_file form.database) area
-  first = subst (λ (file : NamedFile). IsReadAs held file area) is read
+-- the profile is not read, from a shelf that holds the same as when the first file was read
+module _ (held told : Option Files) (names : Names) (same : told ≡ held) (one : NamedFile) (content : List ℕ)
+    (is : one ≡ names.first) (read : IsReadAs held one content) where
+  first : IsReadAs held names.first content
+  first = subst (λ (file : NamedFile). IsReadAs held file content) is read
 
-  profile_named : (name : List ℕ) → form.profile ≡ Some name
-      → (database_file form.database ∷ []) ++ profile_file name ∷ option_to_list (task_file form.task) ≡ files_in form
+  profile_named : (name : List ℕ) → names.profile ≡ Some name
+      → (names.first ∷ []) ++ profile_file name ∷ option_to_list names.last ≡ files_in names
   profile_named name named = rw named refl
 
   pub profile_unread : (before between now : ℕ) (exit : Exit) → before ≤ between
-      → IsSomeAnd form.profile (λ name. IsUnreadOrFault told (profile_file name) between now exit)
-      → AreUnreadOrFault held form before now exit
-  profile_unread before between now exit le said = go form.profile refl said
+      → IsSomeAnd names.profile (λ name. IsUnreadOrFault told (profile_file name) between now exit)
+      → AreUnreadOrFault held names before now exit
+  profile_unread before between now exit le said = go names.profile refl said
     where
-      go : (profile : Option (List ℕ)) → form.profile ≡ profile
+      go : (profile : Option (List ℕ)) → names.profile ≡ profile
           → IsSomeAnd profile (λ name. IsUnreadOrFault told (profile_file name) between now exit)
-          → AreUnreadOrFault held form before now exit
+          → AreUnreadOrFault held names before now exit
       go None named unread = absurd unread
       go (Some name) named unread =
-          unread_after held form (database_file form.database ∷ []) (profile_file name)
-          (option_to_list (task_file form.task)) before between now exit (profile_named name named)
-          ((area, first), tt) le
+          unread_after held names (names.first ∷ []) (profile_file name) (option_to_list names.last) before between now
+          exit (profile_named name named) ((content, first), tt) le
           (subst (λ (files : Option Files). IsUnreadOrFault files (profile_file name) between now exit) same unread)
 
-  pub profile_calm : (exit : Exit) → IsSomeAnd form.profile (λ name. IsUnread told (profile_file name) exit)
-      → AreUnread held form exit
-  profile_calm exit said = go form.profile refl said
+  pub profile_calm : (exit : Exit) → IsSomeAnd names.profile (λ name. IsUnread told (profile_file name) exit)
+      → AreUnread held names exit
+  profile_calm exit said = go names.profile refl said
     where
-      go : (profile : Option (List ℕ)) → form.profile ≡ profile
-          → IsSomeAnd profile (λ name. IsUnread told (profile_file name) exit) → AreUnread held form exit
+      go : (profile : Option (List ℕ)) → names.profile ≡ profile
+          → IsSomeAnd profile (λ name. IsUnread told (profile_file name) exit) → AreUnread held names exit
       go None named unread = absurd unread
       go (Some name) named unread =
-          calm_after held form (database_file form.database ∷ []) (profile_file name)
-          (option_to_list (task_file form.task)) exit (profile_named name named) ((area, first), tt)
+          calm_after held names (names.first ∷ []) (profile_file name) (option_to_list names.last) exit
+          (profile_named name named) ((content, first), tt)
           (subst (λ (files : Option Files). IsUnread files (profile_file name) exit) same unread)
 
-  -- the file of the task is not read, from a shelf that holds the same still
+  -- the last file is not read, from a shelf that holds the same still
   module _ (later : Option Files) (lines : List ℕ) (same_too : later ≡ told)
-      (read_too : IsProfileRead told form.profile lines) where
-    both : AreBothRead held form area lines
-    both = (first, subst (λ (files : Option Files). IsProfileRead files form.profile lines) same read_too)
+      (read_too : IsProfileRead told names.profile lines) where
+    both : AreBothRead held names content lines
+    both = (first, subst (λ (files : Option Files). IsProfileRead files names.profile lines) same read_too)
 
-    pub task_unread : (before between now : ℕ) (exit : Exit) → before ≤ between
-        → IsSomeAnd (task_file form.task) (λ file. IsUnreadOrFault later file between now exit)
-        → AreUnreadOrFault held form before now exit
-    task_unread before between now exit le said = go (task_file form.task) refl said
+    pub last_unread : (before between now : ℕ) (exit : Exit) → before ≤ between
+        → IsSomeAnd names.last (λ file. IsUnreadOrFault later file between now exit)
+        → AreUnreadOrFault held names before now exit
+    last_unread before between now exit le said = go names.last refl said
       where
-        go : (last : Option NamedFile) → task_file form.task ≡ last
+        go : (last : Option NamedFile) → names.last ≡ last
             → IsSomeAnd last (λ file. IsUnreadOrFault later file between now exit)
-            → AreUnreadOrFault held form before now exit
+            → AreUnreadOrFault held names before now exit
         go None named unread = absurd unread
         go (Some file) named unread =
-            unread_after held form (first_files form) file [] before between now exit
-            (task_last form.database form.profile form.task file named)
-            (first_read held form.database form.profile form.task area lines both) le
+            unread_after held names (first_files names) file [] before between now exit
+            (file_last names.first names.profile names.last file named)
+            (first_read held names.first names.profile names.last content lines both) le
             (subst (λ (files : Option Files). IsUnreadOrFault files file between now exit) (same_too ∙ same) unread)
 
-    pub task_calm : (exit : Exit) → IsSomeAnd (task_file form.task) (λ file. IsUnread later file exit)
-        → AreUnread held form exit
-    task_calm exit said = go (task_file form.task) refl said
+    pub last_calm : (exit : Exit) → IsSomeAnd names.last (λ file. IsUnread later file exit)
+        → AreUnread held names exit
+    last_calm exit said = go names.last refl said
       where
-        go : (last : Option NamedFile) → task_file form.task ≡ last
-            → IsSomeAnd last (λ file. IsUnread later file exit) → AreUnread held form exit
+        go : (last : Option NamedFile) → names.last ≡ last
+            → IsSomeAnd last (λ file. IsUnread later file exit) → AreUnread held names exit
         go None named unread = absurd unread
         go (Some file) named unread =
-            calm_after held form (first_files form) file [] exit
-            (task_last form.database form.profile form.task file named)
-            (first_read held form.database form.profile form.task area lines both)
+            calm_after held names (first_files names) file [] exit
+            (file_last names.first names.profile names.last file named)
+            (first_read held names.first names.profile names.last content lines both)
             (subst (λ (files : Option Files). IsUnread files file exit) (same_too ∙ same) unread)
 
     -- all were read
-    pub are_read : (last : List ℕ) → IsLastRead later (task_file form.task) last
-        → AreRead held form (record { database = area; profile = lines; last = last })
+    pub are_read : (last : List ℕ) → IsLastRead later names.last last
+        → AreRead held names (record { first = content; profile = lines; last = last })
     are_read last read_last = record {
-      database_read = first;
+      first_read = first;
       profile_read = both.1;
-      last_read = subst (λ (files : Option Files). IsLastRead files (task_file form.task) last) (same_too ∙ same)
-          read_last;
+      last_read = subst (λ (files : Option Files). IsLastRead files names.last last) (same_too ∙ same) read_last;
     }

@@ -8,7 +8,7 @@ use Rattle.mrt_cmd.specs.declared.work.Work.{Work}
 use Rattle.mrt_cmd.specs.declared.work.Work.TheVariants as works
 use Rattle.mrt_cmd.specs.Answers.{FileBytes, GivesFor, GivesOver}
 use Rattle.mrt_cmd.specs.Comes.{AreRead, Gives, IsLastRead}
-use Rattle.mrt_cmd.specs.Files.{IsReadAs, script_file, task_file}
+use Rattle.mrt_cmd.specs.Files.{IsReadAs, script_file, task_file, task_names}
 use Rattle.mrt_cmd.specs.Form.{FileForm, IsTaskWithin, OfFiles, Task}
 use Rattle.mrt_cmd.specs.Input.{Input, IsInput}
 use Rattle.mrt_cmd.specs.Kept.{IsWorkWithin, IsWorkFor}
@@ -41,7 +41,7 @@ work_within held task last (works.Fabric script) within read kept =
 
 -- a text for what the bytes hold is one over the bytes
 pub gives_over : (answer : Result Text Exit) (task : Task) (bytes : FileBytes)
-    (input : Input) → IsInput bytes.database bytes.profile input
+    (input : Input) → IsInput bytes.first bytes.profile input
     → IfOk answer (HasText (GivesFor task input bytes.last)) → IfOk answer (HasText (GivesOver task bytes))
 gives_over answer task bytes input given said =
     answer_has_also (GivesFor task input bytes.last) (GivesOver task bytes)
@@ -49,7 +49,7 @@ gives_over answer task bytes input given said =
 
 -- a text over the bytes that were read is what the form gives
 pub gives_form : (answer : Result Text Exit) (held : Option Files) (form : FileForm)
-    (bytes : FileBytes) → AreRead held form bytes → IfOk answer (HasText (GivesOver form.task bytes))
+    (bytes : FileBytes) → AreRead held (task_names form) bytes → IfOk answer (HasText (GivesOver form.task bytes))
     → IfOk answer (HasText (Gives held (OfFiles form)))
 gives_form answer held form bytes read said =
     answer_has_also (GivesOver form.task bytes) (Gives held (OfFiles form)) (λ text gives. (bytes, read, gives)) answer said

@@ -24,8 +24,8 @@ use Rattle.mrt_cmd.specs.Answers.{FileBytes, GivesOver, IsRefusedOver}
 use Rattle.mrt_cmd.specs.Certified.{IsCertified}
 use Rattle.mrt_cmd.specs.Comes.{AreRead, Gives, GivesText, IsProfileRead, Refuses}
 use Rattle.mrt_graph.specs.Spelling.{address_in}
-use Rattle.mrt_cmd.specs.Files.{NamedFile, SaysOneOf, files_in, refusal_of}
-use Rattle.mrt_cmd.specs.Form.{FileForm, Form, OfFiles, Survey, Task, Check, Certify, Table, Trace, Fabric, Upgrade, Lfa, Order, Proxy, AsksVerdict, AsksVerdictTask, profile_name}
+use Rattle.mrt_cmd.specs.Files.{NamedFile, SaysOneOf, files_in, flood_names, refusal_of, task_names}
+use Rattle.mrt_cmd.specs.Form.{FileForm, Form, OfFiles, Survey, Flood, Task, Check, Certify, Table, Trace, Fabric, Upgrade, Lfa, Order, Proxy, AsksVerdict, AsksVerdictTask, profile_name}
 use Rattle.mrt_cmd.specs.Headline.{ChecksWritten, IsPassed, profile_held}
 use Rattle.mrt_cmd.specs.Input.{Input, HasIsland, IsInput, IsSpellingOf, area, policy}
 use Rattle.mrt_cmd.specs.Run.{WritesNothing}
@@ -108,7 +108,7 @@ module _ (areas : AreaLaws) (each : EachRouterLaw) (longest : LongestLaw) where
       (rw there at (and_parts (option_map_or (λ id. id.number == file.root) (slice_get graph.ids root) false)
       (are_equal (order_of file.cert root) (Some 1)) stands).0)
 
-  own_island : (bytes : FileBytes) (input : Input) → IsInput bytes.database bytes.profile input → (router : ℕ)
+  own_island : (bytes : FileBytes) (input : Input) → IsInput bytes.first bytes.profile input → (router : ℕ)
       (text : List ℕ) (taken : IsCertified input router text)
       → HasIsland input taken.certificate.file.root taken.graph taken.root
   own_island bytes input given router text taken =
@@ -126,13 +126,13 @@ module _ (areas : AreaLaws) (each : EachRouterLaw) (longest : LongestLaw) where
         area_within = taken.island.area_within;
         link_of = taken.island.link_of;
         island = each (policy input) (area input) router taken.certificate.file.root taken.graph taken.root
-            taken.island.link_of (is_area areas bytes.database input.newest given.database_is taken.island.area_within)
+            taken.island.link_of (is_area areas bytes.first input.newest given.database_is taken.island.area_within)
             taken.island.island inside;
       }
 
   -- the check of what was written says yes
   accepts : (bytes : FileBytes) (router : ℕ) (certificate text : List ℕ) → (over : GivesOver (Certify router) bytes text)
-      → (line : List ℕ) × GivesOver (Check certificate) (record { database = bytes.database; profile = bytes.profile; last = text }) line
+      → (line : List ℕ) × GivesOver (Check certificate) (record { first = bytes.first; profile = bytes.profile; last = text }) line
   accepts bytes router certificate text over =
       let file : CertFile = over.gives.certificate.file in (
         accepted_line file.root (length over.gives.graph.ids) (length over.gives.graph.links),
@@ -158,7 +158,7 @@ module _ (areas : AreaLaws) (each : EachRouterLaw) (longest : LongestLaw) where
 
   -- the upgrade of what was written gives it as it is: it is of version 2
   upgrades : (bytes : FileBytes) (router : ℕ) (certificate text : List ℕ) → GivesOver (Certify router) bytes text
-      → GivesOver (Upgrade certificate) (record { database = bytes.database; profile = bytes.profile; last = text }) text
+      → GivesOver (Upgrade certificate) (record { first = bytes.first; profile = bytes.profile; last = text }) text
   upgrades bytes router certificate text over =
       let file : CertFile = over.gives.certificate.file in
       let own = over.gives in
@@ -193,7 +193,7 @@ module _ (areas : AreaLaws) (each : EachRouterLaw) (longest : LongestLaw) where
       (nat_lt 0 (length w.written.database) && nat_lt 0 (length w.written.profile)) (address_in w.written.router)
       w.written.gave in
       let bytes : FileBytes = certify.gives.0 in
-      let read : AreRead (Some w.written.files) (form_with w.written.database w.written.profile (Certify certify.router)) bytes =
+      let read : AreRead (Some w.written.files) (task_names (form_with w.written.database w.written.profile (Certify certify.router))) bytes =
       certify.gives.1 in
       let over : GivesOver (Certify certify.router) bytes w.written.text = certify.gives.2 in
       let short : length w.written.text ≤ 134217728 =
@@ -201,7 +201,7 @@ module _ (areas : AreaLaws) (each : EachRouterLaw) (longest : LongestLaw) where
       let same : length w.written.text ≡ length (cert_text over.gives.certificate.file) =
       ap (λ (text : List ℕ). length text) over.gives.certificate.spelled.spelled in
       omega (arith, at_most, same) in
-      let kept : FileBytes = record { database = bytes.database; profile = bytes.profile; last = w.written.text } in
+      let kept : FileBytes = record { first = bytes.first; profile = bytes.profile; last = w.written.text } in
       let profile_read : IsProfileRead (Some files) (profile_name w.profile) bytes.profile =
       let before = profile_was w.written.files w.written.profile bytes.profile read.profile_read in
       profile_is files w.profile bytes.profile (w.same_profile ∙ before.0) before.1 in
@@ -209,12 +209,12 @@ module _ (areas : AreaLaws) (each : EachRouterLaw) (longest : LongestLaw) where
         | inl asks ↦
             let accepted = accepts bytes certify.router w.certificate w.written.text over in
             let given : Gives (Some files) (OfFiles (form_with w.database w.profile (Check w.certificate))) accepted.0 =
-            (kept, record { database_read = (w.same_database ∙ read.database_read.0, read.database_read.1); profile_read = profile_read; last_read = (w.held, short) }, accepted.1) in
+            (kept, record { first_read = (w.same_database ∙ read.first_read.0, read.first_read.1); profile_read = profile_read; last_read = (w.held, short) }, accepted.1) in
             (accepted.0, check_given (Some files) words w.command w.database w.profile w.certificate accepted.0 asks w.words_are w.named given)
         | inr asks ↦
             let given : Gives (Some files) (OfFiles (form_with w.database w.profile (Upgrade w.certificate))) w.written.text = (
               kept,
-              record { database_read = (w.same_database ∙ read.database_read.0, read.database_read.1); profile_read = profile_read; last_read = (w.held, short) },
+              record { first_read = (w.same_database ∙ read.first_read.0, read.first_read.1); profile_read = profile_read; last_read = (w.held, short) },
               upgrades bytes certify.router w.certificate w.written.text over,
             ) in
             (w.written.text, upgrade_given (Some files) words w.command w.database w.profile w.certificate w.written.text asks w.words_are w.named given)
@@ -262,9 +262,10 @@ unread_says_one files (file ∷ rest) exit said =
 -- only a verdict says no
 only_verdict : (held : Option Files) (form : FileForm) (rule a b : ℕ) → Refuses held (OfFiles form) (exits.No rule a b)
     → AsksVerdictTask form.task
-only_verdict None form rule a b (inl refused) = absurd (none_says_no (files_in form) rule a b refused)
+only_verdict None form rule a b (inl refused) = absurd (none_says_no (files_in (task_names form)) rule a b refused)
 only_verdict (Some files) form rule a b (inl refused) =
-    absurd (none_says_no (files_in form) rule a b (unread_says_one files (files_in form) (exits.No rule a b) refused))
+    absurd (none_says_no (files_in (task_names form)) rule a b
+    (unread_says_one files (files_in (task_names form)) (exits.No rule a b) refused))
 only_verdict held form rule a b (inr refused) = go form.task refused.2
   where
     go : (task : Task) → IsRefusedOver task refused.0 (exits.No rule a b) → AsksVerdictTask task
@@ -283,3 +284,9 @@ pub only_verdict_words : (held : Option Files) (form : Option Form) (rule a b : 
 only_verdict_words held None rule a b refused = absurd refused
 only_verdict_words held (Some (OfFiles form)) rule a b refused = only_verdict held form rule a b refused
 only_verdict_words held (Some (Survey number nodes)) rule a b refused = absurd refused
+only_verdict_words None (Some (Flood form)) rule a b (inl refused) =
+    absurd (none_says_no (files_in (flood_names form)) rule a b refused)
+only_verdict_words (Some files) (Some (Flood form)) rule a b (inl refused) =
+    absurd (none_says_no (files_in (flood_names form)) rule a b
+    (unread_says_one files (files_in (flood_names form)) (exits.No rule a b) refused))
+only_verdict_words held (Some (Flood form)) rule a b (inr refused) = absurd refused.2

@@ -18,9 +18,10 @@ use Rattle.mrt_cmd.specs.Tabled.{IsTabled}
 use Rattle.mrt_cmd.specs.Upgraded.{GivesUpgrade}
 use Rattle.mrt_cmd.specs.Verdict.{GivesVerdict, IsNoVerdict}
 
--- the bytes of the files: of the database, of the profile, and of the file that the task names, if it names one
+-- the bytes of the files that a form names: of the first one, as the database, of the profile, and of the last one, if it names
+-- one
 pub record FileBytes : Type 0 where
-  pub database : List ℕ
+  pub first : List ℕ
   pub profile : List ℕ
   pub last : List ℕ
 
@@ -51,14 +52,14 @@ IsRefusedTask (Proxy router first second) input last exit = HasNoProxy input rou
 -- the text of a task over these bytes
 pub record GivesOver (task : Task) (bytes : FileBytes) (text : List ℕ) : Type 0 where
   pub input : Input
-  pub given : IsInput bytes.database bytes.profile input
+  pub given : IsInput bytes.first bytes.profile input
   pub gives : GivesFor task input bytes.last text
 
 -- what comes of a task over these bytes, but for a text: what is wrong with the database; else the first faulty line of
 -- the profile; else what is said by the task
 abbrev pub IsRefusedOver : Task → FileBytes → Exit → Type 0
-IsRefusedOver task bytes (BadDatabase at kind) = IsBadDatabase bytes.database at kind
+IsRefusedOver task bytes (BadDatabase at kind) = IsBadDatabase bytes.first at kind
 IsRefusedOver task bytes (BadProfile line kind) =
-    ((newest : List Lsa) × IsDatabase bytes.database newest) × IsFirstFault (text_lines bytes.profile) line kind
+    ((newest : List Lsa) × IsDatabase bytes.first newest) × IsFirstFault (text_lines bytes.profile) line kind
 IsRefusedOver task bytes exit =
-    (input : Input) × IsInput bytes.database bytes.profile input × IsRefusedTask task input bytes.last exit
+    (input : Input) × IsInput bytes.first bytes.profile input × IsRefusedTask task input bytes.last exit

@@ -1,11 +1,12 @@
 -- What a form that was read asks for.
 use Rattle.std.specs.Option.{option_map}
 use Rattle.mrt_cmd.specs.declared.words.FileForm.{FileForm as ReadFileForm}
+use Rattle.mrt_cmd.specs.declared.words.FloodForm.{FloodForm as ReadFloodForm}
 use Rattle.mrt_cmd.specs.declared.words.Form.{Form as ReadForm}
-use Rattle.mrt_cmd.specs.declared.words.Form.TheVariants.{OfFiles as ReadOfFiles, Survey as ReadSurvey}
+use Rattle.mrt_cmd.specs.declared.words.Form.TheVariants.{OfFiles as ReadOfFiles, Survey as ReadSurvey, Flood as ReadFlood}
 use Rattle.mrt_cmd.specs.declared.words.Task.{Task as ReadTask}
 use Rattle.mrt_cmd.specs.declared.words.Task.TheVariants.{Check as ReadCheck, Certify as ReadCertify, Table as ReadTable, Trace as ReadTrace, Fabric as ReadFabric, Upgrade as ReadUpgrade, Lfa as ReadLfa, Order as ReadOrder, Proxy as ReadProxy}
-use Rattle.mrt_cmd.specs.Form.{FileForm, Form, OfFiles, Survey, Task, Check, Certify, Table, Trace, Fabric, Upgrade, Lfa, Order, Proxy}
+use Rattle.mrt_cmd.specs.Form.{FileForm, FloodForm, Form, OfFiles, Survey, Flood, Task, Check, Certify, Table, Trace, Fabric, Upgrade, Lfa, Order, Proxy}
 
 -- the task with the name that it refers to
 abbrev pub task_asked : ReadTask → Task
@@ -24,7 +25,13 @@ abbrev pub files_asked : ReadFileForm → FileForm
 files_asked form =
     record { database = form.database.now; profile = option_map (λ name. name.now) form.profile; task = task_asked form.task }
 
+-- the form over packets with the names that it refers to
+abbrev pub flood_asked : ReadFloodForm → FloodForm
+flood_asked form =
+    record { updates = form.updates.now; profile = option_map (λ name. name.now) form.profile; script = form.script.now }
+
 -- the form with the names that it refers to
 abbrev pub asked : ReadForm → Form
 asked (ReadOfFiles form) = OfFiles (files_asked form)
 asked (ReadSurvey number nodes) = Survey number nodes
+asked (ReadFlood form) = Flood (flood_asked form)

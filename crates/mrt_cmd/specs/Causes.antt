@@ -19,8 +19,9 @@ use Rattle.mrt_exit.specs.declared.exit.Exit.TheVariants.{
   NoMemory,
   BadScript,
   NoCommonBlock,
+  BadUpdate,
 }
-use Rattle.mrt_exit.specs.declared.exit.What.TheVariants.{DatabaseFile, ProfileFile, CertificateFile, ScriptFile}
+use Rattle.mrt_exit.specs.declared.exit.What.TheVariants.{DatabaseFile, UpdatesFile, ProfileFile, CertificateFile, ScriptFile}
 use Rattle.mrt_cmd.specs.Comes.{Comes, FailsAt, GivesText, IsRefused, MissesAt, NamesHeld}
 use Rattle.mrt_exit.specs.Exits.{line_of}
 use Rattle.mrt_cmd.specs.Form.{AsksVerdict, form_of}
@@ -48,8 +49,9 @@ pub record SinkInCall : Type 1 where
 
 -- why the words give no text, by the exit that says so: they are no form, and nothing was read; the shelf failed at a
 -- file, after files that could be read; the refusal is what comes of the words over the files, each in its turn (a
--- file over its limit, the database, the profile, the certificate or the script, the area, the router, the block of two
--- routers), and no is so where the words ask for a verdict alone; or memory was wanted, which may be at any place once the words are a form
+-- file over its limit, the database or the packets, the profile, the certificate or the script, the area, the router, the
+-- block of two routers), and no is so where the words ask for a verdict alone; or memory was wanted, which may be at any
+-- place once the words are a form
 abbrev pub HasNoText : List (List ℕ) → ShelfInCall → Exit → Type 0
 HasNoText words shelf Usage = IsNone (form_of words) × shelf.untouched
 HasNoText words shelf (ReadFault word) = FailsAt shelf.held words word × Rose shelf.faults shelf.faults_now
@@ -60,6 +62,7 @@ HasNoText words shelf (BadScript line) = IsRefused shelf.held words (BadScript l
 HasNoText words shelf (TooLarge what size) = IsRefused shelf.held words (TooLarge what size)
 HasNoText words shelf (NotThere number) = IsRefused shelf.held words (NotThere number)
 HasNoText words shelf NoCommonBlock = IsRefused shelf.held words NoCommonBlock
+HasNoText words shelf (BadUpdate at kind) = IsRefused shelf.held words (BadUpdate at kind)
 HasNoText words shelf (No rule a b) = IsRefused shelf.held words (No rule a b) × IsSomeAnd (form_of words) AsksVerdict
 HasNoText words shelf NoMemory = IsSome (form_of words)
 HasNoText words shelf Done = ⊥
@@ -86,6 +89,7 @@ abbrev pub IsOfBytes : Exit → Type 0
 IsOfBytes Usage = ⊥
 IsOfBytes (ReadFault word) = ⊥
 IsOfBytes (TooLarge DatabaseFile size) = ⊥
+IsOfBytes (TooLarge UpdatesFile size) = ⊥
 IsOfBytes (TooLarge ProfileFile size) = ⊥
 IsOfBytes (TooLarge CertificateFile size) = ⊥
 IsOfBytes (TooLarge ScriptFile size) = ⊥

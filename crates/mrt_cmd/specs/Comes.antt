@@ -5,8 +5,9 @@ use Rattle.mrt_io.specs.Holding.{Files}
 use Rattle.mrt_exit.specs.declared.exit.Exit.{Exit}
 use Rattle.mrt_exit.specs.declared.exit.Exit.TheVariants.{Done, Usage}
 use Rattle.mrt_cmd.specs.Answers.{FileBytes, GivesOver, IsRefusedOver}
-use Rattle.mrt_cmd.specs.Files.{NamedFile, files_in, files_of, database_file, profile_file, task_file, IsFirstMissing, IsReadAs, IsRefusedBy, MayFail, AreThere}
-use Rattle.mrt_cmd.specs.Form.{FileForm, Form, OfFiles, Survey, form_of}
+use Rattle.mrt_cmd.specs.Files.{NamedFile, Names, files_in, files_of, flood_names, profile_file, task_names, IsFirstMissing, IsReadAs, IsRefusedBy, MayFail, AreThere}
+use Rattle.mrt_cmd.specs.Flooded.{GivesFlood, IsRefusedFlood}
+use Rattle.mrt_cmd.specs.Form.{Form, OfFiles, Survey, Flood, form_of}
 use Rattle.mrt_cmd.specs.Surveyed.{IsSurveyed}
 
 -- these are the bytes of the profile; without a name they are none
@@ -14,28 +15,37 @@ abbrev pub IsProfileRead : Option Files → Option (List ℕ) → List ℕ → T
 IsProfileRead held None bytes = bytes ≡ []
 IsProfileRead held (Some name) bytes = IsReadAs held (profile_file name) bytes
 
--- these are the bytes of the file that a task names; where it names none, they are none
+-- these are the bytes of the last file; where there is none, they are none
 abbrev pub IsLastRead : Option Files → Option NamedFile → List ℕ → Type 0
 IsLastRead held None bytes = bytes ≡ []
 IsLastRead held (Some file) bytes = IsReadAs held file bytes
 
--- these are the bytes of the files of a form over files
-pub record AreRead (held : Option Files) (form : FileForm) (bytes : FileBytes) : Type 0 where
-  pub database_read : IsReadAs held (database_file form.database) bytes.database
-  pub profile_read : IsProfileRead held form.profile bytes.profile
-  pub last_read : IsLastRead held (task_file form.task) bytes.last
+-- these are the bytes of the files of these names
+pub record AreRead (held : Option Files) (names : Names) (bytes : FileBytes) : Type 0 where
+  pub first_read : IsReadAs held names.first bytes.first
+  pub profile_read : IsProfileRead held names.profile bytes.profile
+  pub last_read : IsLastRead held names.last bytes.last
+
+-- the text that is said of the bytes of such files
+abbrev pub GivesFrom : Option Files → Names → (FileBytes → List ℕ → Type 0) → List ℕ → Type 0
+GivesFrom held names Says text = (bytes : FileBytes) × AreRead held names bytes × Says bytes text
+
+-- what comes of such files where there is no text: one is not read; else what is said of the bytes
+abbrev pub RefusesFrom : Option Files → Names → (FileBytes → Exit → Type 0) → Exit → Type 0
+RefusesFrom held names Says exit =
+    IsRefusedBy held (files_in names) exit ⊎ ((bytes : FileBytes) × AreRead held names bytes × Says bytes exit)
 
 -- the text that a form gives
 abbrev pub Gives : Option Files → Form → List ℕ → Type 0
-Gives held (OfFiles form) text = (bytes : FileBytes) × AreRead held form bytes × GivesOver form.task bytes text
+Gives held (OfFiles form) text = GivesFrom held (task_names form) (GivesOver form.task) text
 Gives held (Survey number nodes) text = IsSurveyed number nodes text
+Gives held (Flood form) text = GivesFrom held (flood_names form) GivesFlood text
 
--- what comes of a form that gives no text: a file is not read; else what is said of the bytes. A survey is never refused
+-- what comes of a form that gives no text. A survey is never refused
 abbrev pub Refuses : Option Files → Form → Exit → Type 0
-Refuses held (OfFiles form) exit =
-    IsRefusedBy held (files_in form) exit
-    ⊎ ((bytes : FileBytes) × AreRead held form bytes × IsRefusedOver form.task bytes exit)
+Refuses held (OfFiles form) exit = RefusesFrom held (task_names form) (IsRefusedOver form.task) exit
 Refuses held (Survey number nodes) exit = ⊥
+Refuses held (Flood form) exit = RefusesFrom held (flood_names form) IsRefusedFlood exit
 
 -- the words give this text
 abbrev pub GivesText : Option Files → List (List ℕ) → List ℕ → Type 0

@@ -22,8 +22,8 @@ use Rattle.mrt_io.specs.Holding.{Files, IsFileOf, IsKnownThere}
 use Rattle.mrt_exit.specs.declared.exit.Exit.{Exit}
 use Rattle.mrt_exit.specs.declared.exit.Exit.TheVariants.{TooLarge, ReadFault}
 use Rattle.mrt_exit.specs.declared.exit.What.{What}
-use Rattle.mrt_exit.specs.declared.exit.What.TheVariants.{DatabaseFile, ProfileFile, CertificateFile, ScriptFile}
-use Rattle.mrt_cmd.specs.Form.{FileForm, Form, OfFiles, Survey, Task, Check, Certify, Table, Trace, Fabric, Upgrade, Lfa, Order, Proxy}
+use Rattle.mrt_exit.specs.declared.exit.What.TheVariants.{DatabaseFile, UpdatesFile, ProfileFile, CertificateFile, ScriptFile}
+use Rattle.mrt_cmd.specs.Form.{FileForm, FloodForm, Form, OfFiles, Survey, Flood, Task, Check, Certify, Table, Trace, Fabric, Upgrade, Lfa, Order, Proxy}
 
 -- a file that the words name: the place of its name among them, its name, what it is, and how many bytes it may have
 pub record NamedFile : Type 0 where
@@ -32,9 +32,12 @@ pub record NamedFile : Type 0 where
   pub what : What
   pub limit : ℕ
 
--- the files of a database, of a profile, of a certificate and of a script
+-- the files of a database, of packets, of a profile, of a certificate and of a script
 abbrev pub database_file : List ℕ → NamedFile
 database_file name = record { place = 1; name = name; what = DatabaseFile; limit = 8388608 }
+
+abbrev pub updates_file : List ℕ → NamedFile
+updates_file name = record { place = 1; name = name; what = UpdatesFile; limit = 33554432 }
 
 abbrev pub profile_file : List ℕ → NamedFile
 profile_file name = record { place = 2; name = name; what = ProfileFile; limit = 33554432 }
@@ -57,16 +60,31 @@ task_file (Lfa router) = None
 task_file (Order router) = None
 task_file (Proxy router first second) = None
 
--- the files that a form over files names, in the order in which they are read
-abbrev pub files_in : FileForm → List NamedFile
-files_in form =
-    database_file form.database
-    ∷ option_to_list (option_map profile_file form.profile) ++ option_to_list (task_file form.task)
+-- the names in a form: a first file, a profile, if it names one, and a last file, if it names one
+pub record Names : Type 0 where
+  pub first : NamedFile
+  pub profile : Option (List ℕ)
+  pub last : Option NamedFile
+
+-- the files, in the order in which they are read
+abbrev pub files_in : Names → List NamedFile
+files_in names =
+    names.first ∷ option_to_list (option_map profile_file names.profile) ++ option_to_list names.last
+
+-- those of a form over files, and of one over packets
+abbrev pub task_names : FileForm → Names
+task_names form =
+    record { first = database_file form.database; profile = form.profile; last = task_file form.task }
+
+abbrev pub flood_names : FloodForm → Names
+flood_names form =
+    record { first = updates_file form.updates; profile = form.profile; last = Some (script_file form.script) }
 
 -- the files that a form names; a survey names none
 abbrev pub files_of : Form → List NamedFile
-files_of (OfFiles form) = files_in form
+files_of (OfFiles form) = files_in (task_names form)
 files_of (Survey number nodes) = []
+files_of (Flood form) = files_in (flood_names form)
 
 -- the file has these bytes, at most as many as it may have; where it is not told what is held, no claim on the name
 abbrev pub IsReadAs : Option Files → NamedFile → List ℕ → Type 0

@@ -29,11 +29,19 @@ pub record FileForm : Type 0 where
   pub profile : Option (List ℕ)
   pub task : Task
 
--- what the words ask for: something of the files that they name, or the survey of a network that is made from a number
--- and has so many routers
+-- a form over packets: what a script of deliveries comes to over the packets of a file, under a profile; without one, under
+-- the empty profile
+pub record FloodForm : Type 0 where
+  pub updates : List ℕ
+  pub profile : Option (List ℕ)
+  pub script : List ℕ
+
+-- what the words ask for: something of the files that they name, the survey of a network that is made from a number and
+-- has so many routers, or the answers to deliveries of packets
 pub data Form : Type 0 where
   OfFiles : (form : FileForm) → Form
   Survey : (number nodes : ℕ) → Form
+  Flood : (form : FloodForm) → Form
 
 -- the task asks for the verdict on a certificate
 abbrev pub AsksVerdictTask : Task → Type 0
@@ -51,11 +59,13 @@ AsksVerdictTask (Proxy router first second) = ⊥
 abbrev pub AsksVerdict : Form → Type 0
 AsksVerdict (OfFiles form) = AsksVerdictTask form.task
 AsksVerdict (Survey number nodes) = ⊥
+AsksVerdict (Flood form) = ⊥
 
 -- the form is a survey
 abbrev pub IsSurvey : Form → Type 0
 IsSurvey (OfFiles form) = ⊥
 IsSurvey (Survey number nodes) = Unit {0}
+IsSurvey (Flood form) = ⊥
 
 -- a network of so many routers can be made
 abbrev pub IsNetworkSize : ℕ → Type 0
@@ -70,6 +80,7 @@ IsTaskWithin _ = Unit {0}
 abbrev pub IsWithin : Form → Type 0
 IsWithin (OfFiles form) = IsTaskWithin form.task
 IsWithin (Survey number nodes) = IsNetworkSize nodes
+IsWithin (Flood form) = Unit {0}
 
 -- the name of a profile; `-` names none
 abbrev pub profile_name : List ℕ → Option (List ℕ)
@@ -148,6 +159,18 @@ survey_of (command ∷ number ∷ nodes ∷ []) =
     else None
 survey_of _ = None
 
--- a form over files, or a survey
+-- `flood UPDATES PROFILE SCRIPT`; no name is empty
+abbrev pub flood_of : List (List ℕ) → Option FloodForm
+flood_of (command ∷ updates ∷ profile ∷ script ∷ []) =
+    if bytes_eq command (codes "flood") && nat_lt 0 (length updates) && nat_lt 0 (length profile) && nat_lt 0 (length script)
+    then Some (record { updates = updates; profile = profile_name profile; script = script })
+    else None
+flood_of _ = None
+
+-- a form that names no database: a survey, or one over packets
+abbrev pub other_form_of : List (List ℕ) → Option Form
+other_form_of words = option_or (survey_of words) (option_map (λ form. Flood form) (flood_of words))
+
+-- a form over files, or another
 abbrev pub form_of : List (List ℕ) → Option Form
-form_of words = option_or (option_map (λ form. OfFiles form) (file_form_of words)) (survey_of words)
+form_of words = option_or (option_map (λ form. OfFiles form) (file_form_of words)) (other_form_of words)

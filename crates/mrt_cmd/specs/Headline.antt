@@ -1,11 +1,15 @@
--- A certificate that was written is given to a check, or to an upgrade.
+-- A certificate that was written is given to a check, or to an upgrade; and routers that have to tell the same are compared.
 use Rattle.std.specs.Prelude.{◌≡◌, ◌⊎◌, ◌<◌, ℕ, List, [], ◌∷◌, Option, Some, codes, length}
 use Rattle.std.specs.Option.{option_map_or}
 use Rattle.mrt_io.specs.Holding.{Files}
 use Rattle.mrt_exit.specs.declared.exit.Exit.{Exit}
 use Rattle.mrt_exit.specs.declared.exit.Exit.TheVariants.{Done, NoMemory, ReadFault, WriteFault}
-use Rattle.mrt_cmd.specs.Comes.{GivesText}
-use Rattle.mrt_cmd.specs.Form.{profile_name}
+use Rattle.flood_verdict.specs.Alike.{ComparesAlike}
+use Rattle.mrt_cmd.specs.Answers.{FileBytes}
+use Rattle.mrt_cmd.specs.Comes.{AreRead, GivesText}
+use Rattle.mrt_cmd.specs.Files.{flood_names}
+use Rattle.mrt_cmd.specs.Flooded.{HoldsFlood}
+use Rattle.mrt_cmd.specs.Form.{FloodForm, Flood, form_of, profile_name}
 
 -- what a word for a profile stands for: no bytes where it names none, else those that are held
 abbrev pub profile_held : Files → List ℕ → Option (List ℕ)
@@ -42,3 +46,13 @@ IsPassed (ReadFault word) = Unit {0}
 IsPassed (WriteFault taken) = Unit {0}
 IsPassed NoMemory = Unit {0}
 IsPassed _ = ⊥
+
+-- these words flood, over these files, packets that reach routers, and the script compares two of them to which the deliveries
+-- before brought the same LSAs, or after which flooding is done
+pub record FloodsAlike (files : Files) (words : List (List ℕ)) : Type 0 where
+  pub form : FloodForm
+  pub words_are : form_of words ≡ Some (Flood form)
+  pub bytes : FileBytes
+  pub read : AreRead (Some files) (flood_names form) bytes
+  pub held : HoldsFlood bytes
+  pub compares : ComparesAlike held.updates held.script

@@ -35,6 +35,6 @@ IsWorkWithin _ = Unit {0}
 
 -- the files of a task have these bytes, of which this is kept
 pub record AreBytesOf (task : Task) (files : FilesRead) (bytes : FileBytes) : Type 0 where
-  pub database : bytes.database ≡ files.database.items
+  pub database : bytes.first ≡ files.database.items
   pub profile : bytes.profile ≡ files.profile.items
   pub work : IsWorkFor task bytes.last files.work

@@ -5,6 +5,8 @@ pub mod Certified
 pub mod Comes
 pub mod Database
 pub mod Files
+pub mod FloodRead
+pub mod Flooded
 pub mod Form
 pub mod Headline
 pub mod Input

@@ -1,14 +1,17 @@
 -- What the steps of the top call say of their refusals.
 use Rattle.std.specs.Prelude.{◌≡◌, ◌⊎◌, ◌+◌, ℕ, List, Option, None, IfSome}
 use Rattle.fabric_script.specs.ScriptFaults.{IsFirstFault as IsFirstFaultOfScript}
+use Rattle.flood_core.specs.UpdateOutcome.{IsFirstFault as IsFirstFaultOfUpdates}
+use Rattle.flood_script.specs.FloodScripts.{IsFirstFault as IsFirstFaultOfDeliveries}
 use Rattle.mrt_io.specs.Counts.{Rose}
 use Rattle.mrt_io.specs.Holding.{Files, IsTooLong}
 use Rattle.mrt_exit.specs.declared.exit.Exit.{Exit}
-use Rattle.mrt_exit.specs.declared.exit.Exit.TheVariants.{No, BadDatabase, BadProfile, BadScript, TooLarge, NotThere, ReadFault, NoMemory}
+use Rattle.mrt_exit.specs.declared.exit.Exit.TheVariants.{No, BadDatabase, BadProfile, BadScript, BadUpdate, TooLarge, NotThere, ReadFault, NoMemory}
 use Rattle.mrt_cmd.specs.Answers.{FileBytes, IsRefusedOver, IsRefusedTask}
 use Rattle.mrt_cmd.specs.Comes.{Refuses}
-use Rattle.mrt_cmd.specs.Files.{NamedFile, IsRefusedBy, MayFail, files_in, files_of}
-use Rattle.mrt_cmd.specs.Form.{FileForm, Form, Task}
+use Rattle.mrt_cmd.specs.Flooded.{IsRefusedFlood}
+use Rattle.mrt_cmd.specs.Files.{NamedFile, Names, IsRefusedBy, MayFail, files_in, files_of}
+use Rattle.mrt_cmd.specs.Form.{Form, Task}
 use Rattle.area_graph.specs.Parts.{AreaParts}
 use Rattle.mrt_graph.specs.FirstFault.{FirstFault}
 use Rattle.mrt_graph.specs.Topology.{Topology}
@@ -41,14 +44,14 @@ IsStopped file before now (ReadFault word) = (word ≡ file.place) × Rose befor
 IsStopped file before now NoMemory = Unit {0}
 IsStopped file before now _ = ⊥
 
--- the files of a form over files were not all read, as they call for, or there was no memory
-abbrev pub AreUnread : Option Files → FileForm → Exit → Type 0
-AreUnread held form exit = IsRefusedBy held (files_in form) exit ⊎ (exit ≡ NoMemory)
+-- the files of these names were not all read, as they call for, or there was no memory
+abbrev pub AreUnread : Option Files → Names → Exit → Type 0
+AreUnread held names exit = IsRefusedBy held (files_in names) exit ⊎ (exit ≡ NoMemory)
 
 -- the same, but that a file was not read may be due to a fault of the shelf
-abbrev pub AreUnreadOrFault : Option Files → FileForm → ℕ → ℕ → Exit → Type 0
-AreUnreadOrFault held form before now (ReadFault word) = MayFail held (files_in form) word × Rose before now
-AreUnreadOrFault held form before now exit = AreUnread held form exit
+abbrev pub AreUnreadOrFault : Option Files → Names → ℕ → ℕ → Exit → Type 0
+AreUnreadOrFault held names before now (ReadFault word) = MayFail held (files_in names) word × Rose before now
+AreUnreadOrFault held names before now exit = AreUnread held names exit
 
 -- a form was refused as it calls for, or there was no memory
 abbrev pub IsRefusal : Option Files → Form → Exit → Type 0
@@ -76,6 +79,18 @@ abbrev pub HasNoScript : List ℕ → Exit → Type 0
 HasNoScript bytes (BadScript line) = IsFirstFaultOfScript (text_lines bytes) line
 HasNoScript bytes NoMemory = Unit {0}
 HasNoScript bytes _ = ⊥
+
+-- the first fault of packets' bytes, or there was no memory
+abbrev pub HasNoUpdates : List ℕ → Exit → Type 0
+HasNoUpdates bytes (BadUpdate at kind) = IsFirstFaultOfUpdates bytes at kind
+HasNoUpdates bytes NoMemory = Unit {0}
+HasNoUpdates bytes _ = ⊥
+
+-- the first line of the bytes of a script of deliveries that is not as it should be, or there was no memory
+abbrev pub HasNoFloodScript : List ℕ → Exit → Type 0
+HasNoFloodScript bytes (BadScript line) = IsFirstFaultOfDeliveries (text_lines bytes) line
+HasNoFloodScript bytes NoMemory = Unit {0}
+HasNoFloodScript bytes _ = ⊥
 
 -- the area is too large, or there was no memory
 abbrev pub HasNoArea : AreaParts → Exit → Type 0
@@ -114,10 +129,17 @@ IsVerdictFor input file exit = IsRefusedFor input file exit ⊎ (exit ≡ NoMemo
 abbrev pub IsTaskRefusal : Task → Input → List ℕ → Exit → Type 0
 IsTaskRefusal task input last exit = IsRefusedTask task input last exit ⊎ (exit ≡ NoMemory)
 
--- what is said of the bytes of the files, or there was no memory; no file is named in it
+-- what is said of the bytes of files, or there was no memory; no file is named in it
+abbrev pub IsAnswerBy : (FileBytes → Exit → Type 0) → FileBytes → Exit → Type 0
+IsAnswerBy Says bytes (ReadFault word) = ⊥
+IsAnswerBy Says bytes exit = Says bytes exit ⊎ (exit ≡ NoMemory)
+
+-- what is said by a task of the bytes of its files, or of those of a form over packets, or there was no memory
 abbrev pub IsAnswerOver : Task → FileBytes → Exit → Type 0
-IsAnswerOver task bytes (ReadFault word) = ⊥
-IsAnswerOver task bytes exit = IsRefusedOver task bytes exit ⊎ (exit ≡ NoMemory)
+IsAnswerOver task bytes exit = IsAnswerBy (IsRefusedOver task) bytes exit
+
+abbrev pub IsAnswerOfFlood : FileBytes → Exit → Type 0
+IsAnswerOfFlood bytes exit = IsAnswerBy IsRefusedFlood bytes exit
 
 -- what is said of the bytes of a certificate, or there was no memory
 abbrev pub IsVerdictRefusal : Input → List ℕ → Exit → Type 0

@@ -5,7 +5,7 @@ ghost use Rattle.mrt_io.specs.Counts.{Rose};
 ghost use Rattle.mrt_cmd.specs.Answers.{FileBytes};
 ghost use Rattle.mrt_cmd.specs.Asked.{files_asked};
 ghost use Rattle.mrt_cmd.specs.Comes.{AreRead};
-ghost use Rattle.mrt_cmd.specs.Files.{AreThere, files_in};
+ghost use Rattle.mrt_cmd.specs.Files.{AreThere, files_in, task_names};
 ghost use Rattle.mrt_cmd.specs.Kept.{AreBytesOf};
 ghost use Rattle.mrt_cmd.specs.Reading.{AreUnread, AreUnreadOrFault};
 
@@ -31,16 +31,16 @@ pub(crate) fn read_files<F: Shelf>(
     shelf: &mut F,
     form: &FileForm<'_>,
 ) -> Result<FilesRead, Exit>
-    ensures read { IfOk result (λ files. (bytes : FileBytes) × AreRead (F.held shelf.old) (files_asked form.now) bytes
+    ensures read { IfOk result (λ files. (bytes : FileBytes) × AreRead (F.held shelf.old) (task_names (files_asked form.now)) bytes
         × AreBytesOf (files_asked form.now).task files bytes) }
     ensures refused { IfErr result
-        (AreUnreadOrFault (F.held shelf.old) (files_asked form.now) (F.faults shelf.old) (F.faults shelf.new)) }
+        (AreUnreadOrFault (F.held shelf.old) (task_names (files_asked form.now)) (F.faults shelf.old) (F.faults shelf.new)) }
 
     // Where no count rose, and over a healthy shelf, a refusal is due to the files that are held.
     ensures calm { (Rose (F.faults shelf.old) (F.faults shelf.new) → ⊥)
-        → IfErr result (AreUnread (F.held shelf.old) (files_asked form.now)) }
-    ensures healthy { F.healthy shelf.old → IfErr result (AreUnread (F.held shelf.old) (files_asked form.now)) }
-    ensures no_fault { F.healthy shelf.old → AreThere (F.held shelf.old) (files_in (files_asked form.now))
+        → IfErr result (AreUnread (F.held shelf.old) (task_names (files_asked form.now))) }
+    ensures healthy { F.healthy shelf.old → IfErr result (AreUnread (F.held shelf.old) (task_names (files_asked form.now))) }
+    ensures no_fault { F.healthy shelf.old → AreThere (F.held shelf.old) (files_in (task_names (files_asked form.now)))
         → F.faults shelf.new ≡ F.faults shelf.old }
 {
     let database = read_file(alloc, shelf, &NamedFile::database(form.database))?;

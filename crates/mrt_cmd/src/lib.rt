@@ -5,6 +5,7 @@ mod answer;
 mod certificate;
 mod certificate_file;
 mod files_read;
+mod flood;
 mod input;
 mod island;
 mod loop_free;
@@ -28,7 +29,7 @@ mod writable;
 pub use mrt_exit::{DbKind, Exit, Line, What};
 pub use program::run;
 pub use run_law::{
-    one_exit_comes, only_a_verdict_says_no, tables_are_of_one_certificate,
-    what_steps_read_fits_together, what_was_written_passes,
+    alike_routers_are_told_alike, one_exit_comes, only_a_verdict_says_no,
+    tables_are_of_one_certificate, what_steps_read_fits_together, what_was_written_passes,
 };
 pub use survey_law::made_networks_are_taken;

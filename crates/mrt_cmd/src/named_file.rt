@@ -1,7 +1,7 @@
 //! The files that the words name.
 
 ghost use Rattle.std.specs.Prelude.{◌≡◌};
-ghost use Rattle.mrt_cmd.specs.Files.{certificate_file, database_file, profile_file, script_file};
+ghost use Rattle.mrt_cmd.specs.Files.{certificate_file, database_file, profile_file, script_file, updates_file};
 
 use mrt_exit::What;
 use mrt_io::Word;
@@ -9,6 +9,9 @@ use std::marker::Model;
 
 /// How many bytes a database file may have.
 const DATABASE_LIMIT: u32 = 8_388_608;
+
+/// How many bytes a file of Link State Update packets may have.
+const UPDATES_LIMIT: u32 = 33_554_432;
 
 /// How many bytes a profile file may have.
 const PROFILE_LIMIT: u32 = 33_554_432;
@@ -45,6 +48,17 @@ impl<'a> NamedFile<'a> {
             name,
             what: What::DatabaseFile,
             limit: DATABASE_LIMIT,
+        }
+    }
+
+    pub(crate) fn updates(name: &'a Word) -> NamedFile<'a>
+        ensures { result ≡ updates_file name.now }
+    {
+        NamedFile {
+            place: 1,
+            name,
+            what: What::UpdatesFile,
+            limit: UPDATES_LIMIT,
         }
     }
 

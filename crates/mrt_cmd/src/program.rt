@@ -6,6 +6,9 @@ ghost use Rattle.mrt_io.specs.Counts.{Rose};
 ghost use Rattle.mrt_io.specs.Holding.{Files};
 ghost use Rattle.mrt_io.specs.Writing.{Gained};
 ghost use Rattle.cert_format.specs.declared.error.CertKind.{CertKind};
+ghost use Rattle.flood_core.specs.declared.error.UpdateKind.{UpdateKind};
+ghost use Rattle.flood_verdict.specs.Alike.{IsToldAlike};
+ghost use Rattle.flood_verdict.specs.Says.{Says};
 ghost use Rattle.mrt_island.specs.declared.profile_error.ProfileKind.{ProfileKind};
 ghost use Rattle.mrt_exit.specs.declared.exit.DbKind.{DbKind};
 ghost use Rattle.mrt_exit.specs.declared.exit.What.{What};
@@ -15,7 +18,7 @@ ghost use Rattle.mrt_cmd.specs.Comes.{Comes, FailsAt, Gives, GivesText, IsRefuse
 ghost use Rattle.mrt_exit.specs.Exits.{line_of};
 ghost use Rattle.mrt_cmd.specs.Files.{AreThere, files_of};
 ghost use Rattle.mrt_cmd.specs.Form.{AsksVerdict, IsSurvey, IsTaskWithin, IsWithin, OfFiles, form_of};
-ghost use Rattle.mrt_cmd.specs.Headline.{ChecksWritten, IsPassed};
+ghost use Rattle.mrt_cmd.specs.Headline.{ChecksWritten, FloodsAlike, IsPassed};
 ghost use Rattle.mrt_cmd.specs.Reading.{IsRefusal, IsRefusalOrFault};
 ghost use Rattle.mrt_cmd.specs.TextBytes.{HasText, IsTextOf};
 ghost use Rattle.mrt_exit.specs.Telling.{GainedLine, IsCutShort};
@@ -28,7 +31,10 @@ ghost use Rattle.mrt_cmd.specs.Run.{
 
 use crate::answer::answer;
 use crate::files_read::read_files;
-use crate::run_law::{one_exit_comes, only_a_verdict_says_no, what_was_written_passes};
+use crate::flood::flood;
+use crate::run_law::{
+    alike_routers_are_told_alike, one_exit_comes, only_a_verdict_says_no, what_was_written_passes,
+};
 use crate::survey::survey;
 use crate::text::Text;
 use crate::words::{FileForm, Form, read_form};
@@ -46,7 +52,8 @@ use std::alloc::Global;
 /// It takes the time of reading the files, of an install for each LSA, of the area and the island, and of what is asked: of
 /// checking a certificate, of computing and writing one, of computing the rows for one node after the other and a router's
 /// primaries and writing its table, or of computing a certificate and all routers' primaries and following packets. A survey
-/// takes the time of making the network and of computing the certificate of its island.
+/// takes the time of making the network and of computing the certificate of its island; `flood` that of reading packets,
+/// profile and script, of the deliveries, and for each comparison of two areas, islands and certificates.
 pub fn run<F: Shelf, K: Sink, E: Sink>(
     alloc: Global,
     words: &[Word],
@@ -107,6 +114,8 @@ pub fn run<F: Shelf, K: Sink, E: Sink>(
         → IsRefused (F.held shelf.old) words.now (Exit.NotThere number) }
     ensures bad_script { (line : ℕ) → result ≡ Exit.BadScript line
         → IsRefused (F.held shelf.old) words.now (Exit.BadScript line) }
+    ensures bad_update { (at : ℕ) (kind : UpdateKind) → result ≡ Exit.BadUpdate at kind
+        → IsRefused (F.held shelf.old) words.now (Exit.BadUpdate at kind) }
     ensures no { (rule a b : ℕ) → result ≡ Exit.No rule a b
         → IsRefused (F.held shelf.old) words.now (Exit.No rule a b) }
     ensures no_from_a_verdict_alone { (rule a b : ℕ) → result ≡ Exit.No rule a b
@@ -139,6 +148,13 @@ pub fn run<F: Shelf, K: Sink, E: Sink>(
     ensures written_passes { (files : Files) → F.held shelf.old ≡ Some files → ChecksWritten files words.now
         → IsPassed result }
 
+    // Routers that have to tell the same are told so: no line of a script that compares two routers to which the deliveries before
+    // it brought the same LSAs, or after which flooding is done, is answered `different`.
+    ensures told_alike { (files : Files) → F.held shelf.old ≡ Some files → (alike : FloodsAlike files words.now)
+        → result ≡ Exit.Done
+        → (text : List ℕ) × Gained (K.written out.old) text (K.written out.new)
+        × IsToldAlike (Says alike.held.settings) alike.held.updates alike.held.script alike.compares text }
+
     // A survey is never refused, and it reads nothing.
     ensures survey { IsSomeAnd (form_of words.now) IsSurvey → IsExitOfSurvey result }
     ensures survey_reads_nothing { IsSomeAnd (form_of words.now) IsSurvey → shelf.new ≡ shelf.old }
@@ -150,6 +166,7 @@ pub fn run<F: Shelf, K: Sink, E: Sink>(
 {
     one_exit_comes();
     what_was_written_passes();
+    alike_routers_are_told_alike();
     match text_for(alloc, words, shelf) {
         Ok(text) => tell(err, put_text(out, text)),
         Err(exit) => tell(err, exit),
@@ -196,6 +213,7 @@ fn text_of<F: Shelf>(alloc: Global, form: Form<'_>, shelf: &mut F) -> Result<Tex
     match form {
         Form::OfFiles(form) => text_of_files(alloc, form, shelf),
         Form::Survey { number, nodes } => Ok(Text::Bytes(survey(alloc, number, nodes)?)),
+        Form::Flood(form) => Ok(Text::Bytes(flood(alloc, &form, shelf)?)),
     }
 }
 

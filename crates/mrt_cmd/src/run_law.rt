@@ -9,7 +9,9 @@ ghost use Rattle.mrt_exit.specs.declared.exit.Exit.{Exit};
 ghost use Rattle.mrt_cmd.specs.Certified.{IsCertified};
 ghost use Rattle.mrt_cmd.specs.Comes.{Comes, GivesText, IsRefused};
 ghost use Rattle.mrt_cmd.specs.Form.{AsksVerdict, form_of};
-ghost use Rattle.mrt_cmd.specs.Headline.{ChecksWritten};
+ghost use Rattle.flood_verdict.specs.Alike.{IsToldAlike};
+ghost use Rattle.flood_verdict.specs.Says.{Says};
+ghost use Rattle.mrt_cmd.specs.Headline.{ChecksWritten, FloodsAlike};
 ghost use Rattle.mrt_cmd.specs.Input.{Input, IsInput};
 ghost use Rattle.mrt_cmd.specs.Packets.{ArePartsFor};
 ghost use Rattle.mrt_cmd.specs.SameFile.{IsSameFile};
@@ -19,6 +21,11 @@ use crate::survey_law::made_networks_are_taken;
 use area_graph::the_newest_records_give_an_area;
 use cert_format::one_spelling;
 use fabric_script::{lines_are_a_script_or_have_a_fault, one_text_each};
+use flood_core::bytes_are_updates_or_have_a_fault;
+use flood_script::{
+    lines_are_a_flood_script_or_have_a_fault, one_text_each as one_flood_text_each,
+};
+use flood_verdict::{ByIsland, no_difference_is_told, one_verdict_each};
 use lfa_alt::one_text_each as one_lfa_text_each;
 use lsdb::{
     an_lsa_without_a_fault_may_be_installed, refuses_exactly_where_not_settled,
@@ -60,6 +67,10 @@ pub fn one_exit_comes()
     proxy_rows_or_no_common_block();
     one_survey_each();
     made_networks_are_taken();
+    bytes_are_updates_or_have_a_fault();
+    lines_are_a_flood_script_or_have_a_fault();
+    one_flood_text_each::<ByIsland<'_>>();
+    one_verdict_each();
 }
 
 /// A law, the headline's first half: a certificate that was written passes, whether the words check or upgrade it, over the
@@ -110,3 +121,15 @@ pub fn only_a_verdict_says_no()
         → IsRefused held words (Exit.No rule a b)
         → IsSomeAnd (form_of words) AsksVerdict }
 {}
+
+/// A law: routers that have to tell the same are told so. In the text that the words give, no line that compares two routers to
+/// which the deliveries before it brought the same LSAs, or after which flooding is done, is `different`.
+pub fn alike_routers_are_told_alike()
+    ensures { (files : Files) (words : List (List ℕ)) (text : List ℕ) → GivesText (Some files) words text
+        → (alike : FloodsAlike files words)
+        → IsToldAlike (Says alike.held.settings) alike.held.updates alike.held.script alike.compares text }
+{
+    bytes_are_updates_or_have_a_fault();
+    lines_are_a_flood_script_or_have_a_fault();
+    no_difference_is_told();
+}

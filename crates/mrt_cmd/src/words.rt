@@ -7,9 +7,11 @@ ghost use Rattle.mrt_cmd.specs.Form.{
   IsWithin,
   file_form_of,
   file_name,
+  flood_of,
   form_of,
   lfa_of,
   nodes_in,
+  other_form_of,
   proxy_of,
   profile_name,
   survey_of,
@@ -18,7 +20,7 @@ ghost use Rattle.mrt_cmd.specs.Form.{
   task_of,
   trace_of,
 };
-ghost use Rattle.mrt_cmd.specs.Asked.{asked, files_asked, task_asked};
+ghost use Rattle.mrt_cmd.specs.Asked.{asked, files_asked, flood_asked, task_asked};
 
 use fabric_script::{FailureName, Trace, read_entry, read_failure, read_node};
 use mrt_graph::{read_address, read_number};
@@ -37,6 +39,8 @@ pub(crate) enum Form<'a> {
     OfFiles(FileForm<'a>),
     /// The survey of a network that is made from a number and has so many routers.
     Survey { number: u32, nodes: u16 },
+    /// The answers to deliveries of packets.
+    Flood(FloodForm<'a>),
 }
 
 /// What is asked of a database, under a profile; without one, under the empty profile.
@@ -45,6 +49,14 @@ pub(crate) struct FileForm<'a> {
     pub(crate) database: &'a Word,
     pub(crate) profile: Option<&'a Word>,
     pub(crate) task: Task<'a>,
+}
+
+/// A script of deliveries of the packets of a file, under a profile; without one, under the empty profile.
+#[derive(Clone, Copy)]
+pub(crate) struct FloodForm<'a> {
+    pub(crate) updates: &'a Word,
+    pub(crate) profile: Option<&'a Word>,
+    pub(crate) script: &'a Word,
 }
 
 /// What is asked of a database.
@@ -97,7 +109,38 @@ pub(crate) fn read_form(words: &[Word]) -> Option<Form<'_>>
 {
     match read_file_form(words) {
         Some(form) => Some(Form::OfFiles(form)),
-        None => read_survey(words),
+        None => read_other_form(words),
+    }
+}
+
+/// The form of the words that names no database, if they have one.
+fn read_other_form(words: &[Word]) -> Option<Form<'_>>
+    ensures form { option_map asked result ≡ other_form_of words.now }
+    ensures within { IfSome result (λ form. IsWithin (asked form)) }
+{
+    match read_survey(words) {
+        Some(form) => Some(form),
+        None => read_flood(words).map(Form::Flood),
+    }
+}
+
+/// The deliveries that the words ask for, if they do.
+fn read_flood(words: &[Word]) -> Option<FloodForm<'_>>
+    ensures { option_map flood_asked result ≡ flood_of words.now }
+{
+    match words {
+        [command, updates, profile, script]
+            if command.bytes() == b"flood".as_slice()
+                && !updates.bytes().is_empty()
+                && !profile.bytes().is_empty()
+                && !script.bytes().is_empty() => {
+            Some(FloodForm {
+                updates,
+                profile: read_profile_name(profile),
+                script,
+            })
+        }
+        _ => None,
     }
 }
 

@@ -13,7 +13,7 @@ returns-clause-text c =
       settings = c.in_ok-profile.profile;
     } in
     λ task bytes are.
-    let given : IsInput bytes.database bytes.profile input = record {
+    let given : IsInput bytes.first bytes.profile input = record {
       database_is = subst (λ (b : List ℕ). IsDatabase b input.newest) (c.deref.ensures.value ∙ sym are.database)
           c.in_ok-database.ensures.newest;
       profile_is = subst (λ (b : List ℕ). IsProfile b input.settings) (c.deref-2.ensures.value ∙ sym are.profile)
@@ -28,7 +28,7 @@ returns-clause-refused c =
       settings = c.in_ok-profile.profile;
     } in
     λ task bytes are.
-    let given : IsInput bytes.database bytes.profile input = record {
+    let given : IsInput bytes.first bytes.profile input = record {
       database_is = subst (λ (b : List ℕ). IsDatabase b input.newest) (c.deref.ensures.value ∙ sym are.database)
           c.in_ok-database.ensures.newest;
       profile_is = subst (λ (b : List ℕ). IsProfile b input.settings) (c.deref-2.ensures.value ∙ sym are.profile)

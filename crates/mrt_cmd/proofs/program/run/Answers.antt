@@ -1,4 +1,5 @@
-use Rattle.std.proofs.Common.{◌≡◌, ◌∙◌, inl, inr, refl, subst, sym}
+use Rattle.std.proofs.Common.{◌≡◌, ◌∙◌, Option, Some, inl, inr, refl, subst, sym}
+use Rattle.mrt_io.specs.Holding.{Files}
 use Rattle.mrt_exit.specs.declared.exit.Exit.{Exit}
 use Rattle.mrt_exit.specs.declared.exit.Exit.TheVariants as exits
 use Rattle.mrt_cmd.specs.Causes.{HasNoText, ShelfInCall}
@@ -85,6 +86,10 @@ pub returns-in-Ok-clause-bad_certificate : goal.returns-in-Ok-clause-bad_certifi
 returns-in-Ok-clause-bad_certificate g c = λ at kind is.
     absurd (never c.put_text.result c.tell.result (exits.BadCertificate at kind) c.put_text.ensures.kind c.tell.ensures.same is tt)
 
+pub returns-in-Ok-clause-bad_update : goal.returns-in-Ok-clause-bad_update
+returns-in-Ok-clause-bad_update g c = λ at kind is.
+    absurd (never c.put_text.result c.tell.result (exits.BadUpdate at kind) c.put_text.ensures.kind c.tell.ensures.same is tt)
+
 pub returns-in-Ok-clause-bad_script : goal.returns-in-Ok-clause-bad_script
 returns-in-Ok-clause-bad_script g c = λ line is.
     absurd (never c.put_text.result c.tell.result (exits.BadScript line) c.put_text.ensures.kind c.tell.ensures.same is tt)
@@ -164,6 +169,9 @@ returns-in-Err-clause-bad_profile g c = λ line kind is. says g c (exits.BadProf
 pub returns-in-Err-clause-bad_certificate : goal.returns-in-Err-clause-bad_certificate
 returns-in-Err-clause-bad_certificate g c = λ at kind is. says g c (exits.BadCertificate at kind) is
 
+pub returns-in-Err-clause-bad_update : goal.returns-in-Err-clause-bad_update
+returns-in-Err-clause-bad_update g c = λ at kind is. says g c (exits.BadUpdate at kind) is
+
 pub returns-in-Err-clause-bad_script : goal.returns-in-Err-clause-bad_script
 returns-in-Err-clause-bad_script g c = λ line is. says g c (exits.BadScript line) is
 
@@ -199,6 +207,20 @@ returns-in-Err-clause-written_passes g c = λ files held written.
     rw c.tell-in-Err.ensures.same
     (passed_stopped c.one_exit_comes.ensures.exit files c.args.words.now (shelf_of g c) held passes.0 passes.1 c.in-Err.exit
     c.in-Err.ensures.cause)
+
+-- Routers that have to tell the same are told so.
+pub returns-in-Ok-clause-told_alike : goal.returns-in-Ok-clause-told_alike
+returns-in-Ok-clause-told_alike g c = λ files held alike is.
+    let text = the_text g c in
+    let given : GivesText (Some files) c.args.words.now text.bytes =
+    subst (λ (of : Option Files). GivesText of c.args.words.now text.bytes) held text.held in (
+      text.bytes,
+      c.put_text.ensures.done text.bytes text.are (sym c.tell.ensures.same ∙ is),
+      c.alike_routers_are_told_alike.ensures files c.args.words.now text.bytes given alike,
+    )
+
+pub returns-in-Err-clause-told_alike : goal.returns-in-Err-clause-told_alike
+returns-in-Err-clause-told_alike g c = λ files held alike is. absurd (says g c exits.Done is)
 
 -- A survey is never refused, and it reads nothing.
 pub returns-in-Ok-clause-survey : goal.returns-in-Ok-clause-survey

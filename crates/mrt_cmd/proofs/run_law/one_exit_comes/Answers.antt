@@ -3,8 +3,19 @@ use Rattle.mrt_cmd.proofs.OneExit.{Laws, one_exit, one_text}
 use Rattle.mrt_cmd.proofs.run_law.one_exit_comes.Goals as goal
 
 -- the laws of the layers below
-laws : goal.After-made_networks_are_taken → Laws
+laws : goal.After-one_verdict_each → Laws
 laws c = record {
+  floods = record {
+    never_both = c.bytes_are_updates_or_have_a_fault.ensures.never_both;
+    lists = record {
+      one_list = c.bytes_are_updates_or_have_a_fault.ensures.one_list;
+      one_script = c.lines_are_a_flood_script_or_have_a_fault.ensures.one_script;
+    };
+    one_fault = c.bytes_are_updates_or_have_a_fault.ensures.one_fault;
+    never_both_lines = c.lines_are_a_flood_script_or_have_a_fault.ensures.never_both;
+    one_line = c.lines_are_a_flood_script_or_have_a_fault.ensures.one_fault;
+    one_text = λ settings. c.one_text_each-4.ensures settings (c.one_verdict_each.ensures settings);
+  };
   surveys = record { input = c.made_networks_are_taken.ensures.input; text = c.one_survey_each.ensures };
   packets = record {
     never_both = c.lines_are_a_script_or_have_a_fault.ensures.never_both;

@@ -1,0 +1,94 @@
+-- What comes of files that are held is one.
+use Rattle.std.proofs.Common.{◌≡◌, ◌∙◌, ◌++◌, ℕ, List, [], ◌∷◌, Option, Some, None, length, refl, sym, subst, inl, inr}
+use Rattle.std.specs.Option.{option_map, option_to_list}
+use Rattle.std.proofs.lemmas.Bool.{le-ltb}
+use Rattle.mrt_io.specs.Holding.{Files}
+use Rattle.mrt_exit.specs.declared.exit.Exit.{Exit}
+use Rattle.mrt_cmd.specs.Answers.{FileBytes}
+use Rattle.mrt_cmd.specs.Comes.{AreRead, GivesFrom, IsLastRead, IsProfileRead, RefusesFrom}
+use Rattle.mrt_cmd.specs.Files.{NamedFile, Names, IsReadAs, files_in, profile_file, refusal_of}
+use Rattle.mrt_cmd.proofs.OneReading.{held_once}
+
+module _ (files : Files) where
+  read_once : (file : NamedFile) (bytes others : List ℕ) → IsReadAs (Some files) file bytes
+      → IsReadAs (Some files) file others → bytes ≡ others
+  read_once file bytes others one two = held_once bytes others (files file.name) one.0 two.0
+
+  profile_once : (profile : Option (List ℕ)) (bytes others : List ℕ) → IsProfileRead (Some files) profile bytes
+      → IsProfileRead (Some files) profile others
+      → bytes ≡ others
+  profile_once None bytes others one two = one ∙ sym two
+  profile_once (Some name) bytes others one two = read_once (profile_file name) bytes others one two
+
+  last_once : (last : Option NamedFile) (bytes others : List ℕ) → IsLastRead (Some files) last bytes
+      → IsLastRead (Some files) last others → bytes ≡ others
+  last_once None bytes others one two = one ∙ sym two
+  last_once (Some file) bytes others one two = read_once file bytes others one two
+
+  pub files_once : (names : Names) (bytes others : FileBytes) → AreRead (Some files) names bytes
+      → AreRead (Some files) names others → bytes ≡ others
+  files_once names bytes others one two =
+      let first = read_once names.first bytes.first others.first one.first_read two.first_read in
+      let profile = profile_once names.profile bytes.profile others.profile one.profile_read two.profile_read in
+      let last = last_once names.last bytes.last others.last one.last_read two.last_read in
+      λ i. record { first = first i; profile = profile i; last = last i }
+
+  -- a file that was read lets those after it decide
+  read_through : (file : NamedFile) (rest : List NamedFile) (bytes : List ℕ) → IsReadAs (Some files) file bytes
+      → refusal_of files (file ∷ rest) ≡ refusal_of files rest
+  read_through file rest bytes read = rw (read.0, le-ltb file.limit (length bytes) read.1) refl
+
+  last_through : (last : Option NamedFile) (bytes : List ℕ) → IsLastRead (Some files) last bytes
+      → refusal_of files (option_to_list last) ≡ None
+  last_through None bytes read = refl
+  last_through (Some file) bytes read = read_through file [] bytes read
+
+  rest_through : (profile : Option (List ℕ)) (last : Option NamedFile) (lines bytes : List ℕ)
+      → IsProfileRead (Some files) profile lines → IsLastRead (Some files) last bytes
+      → refusal_of files (option_to_list (option_map profile_file profile) ++ option_to_list last) ≡ None
+  rest_through None last lines bytes read read_too = last_through last bytes read_too
+  rest_through (Some name) last lines bytes read read_too =
+      read_through (profile_file name) (option_to_list last) lines read ∙ last_through last bytes read_too
+
+  all_read : (names : Names) (bytes : FileBytes) → AreRead (Some files) names bytes
+      → refusal_of files (files_in names) ≡ None
+  all_read names bytes read =
+      read_through names.first (option_to_list (option_map profile_file names.profile) ++ option_to_list names.last)
+      bytes.first read.first_read
+      ∙ rest_through names.profile names.last bytes.profile bytes.last read.profile_read read.last_read
+
+  module _ (names : Names) where
+    pub one_refusal : (Says : FileBytes → Exit → Type 0)
+        → ((bytes : FileBytes) (exit other : Exit) → Says bytes exit → Says bytes other → exit ≡ other)
+        → (exit other : Exit) → RefusesFrom (Some files) names Says exit → RefusesFrom (Some files) names Says other
+        → exit ≡ other
+    one_refusal Says once exit other (inl one) (inl two) =
+        held_once exit other (refusal_of files (files_in names)) one two
+    one_refusal Says once exit other (inl one) (inr two) =
+        let none = all_read names two.0 two.1 in
+        absurd cc
+    one_refusal Says once exit other (inr one) (inl two) =
+        let none = all_read names one.0 one.1 in
+        absurd cc
+    one_refusal Says once exit other (inr one) (inr two) =
+        once two.0 exit other
+        (subst (λ (b : FileBytes). Says b exit) (files_once names one.0 two.0 one.1 two.1) one.2) two.2
+
+    pub no_refusal : (Gives : FileBytes → List ℕ → Type 0) (Says : FileBytes → Exit → Type 0)
+        → ((bytes : FileBytes) (text : List ℕ) (exit : Exit) → Gives bytes text → Says bytes exit → ⊥)
+        → (text : List ℕ) (exit : Exit) → GivesFrom (Some files) names Gives text
+        → RefusesFrom (Some files) names Says exit → ⊥
+    no_refusal Gives Says never text exit one (inl two) =
+        let none = all_read names one.0 one.1 in
+        absurd cc
+    no_refusal Gives Says never text exit one (inr two) =
+        never two.0 text exit
+        (subst (λ (b : FileBytes). Gives b text) (files_once names one.0 two.0 one.1 two.1) one.2) two.2
+
+    pub one_answer : (Gives : FileBytes → List ℕ → Type 0)
+        → ((bytes : FileBytes) (text other : List ℕ) → Gives bytes text → Gives bytes other → text ≡ other)
+        → (text other : List ℕ) → GivesFrom (Some files) names Gives text → GivesFrom (Some files) names Gives other
+        → text ≡ other
+    one_answer Gives once text other one two =
+        once two.0 text other
+        (subst (λ (b : FileBytes). Gives b text) (files_once names one.0 two.0 one.1 two.1) one.2) two.2
