@@ -24,6 +24,8 @@ mod failures;
 #[cfg(test)]
 mod files;
 #[cfg(test)]
+mod flooded;
+#[cfg(test)]
 mod limits;
 #[cfg(test)]
 mod loop_free;

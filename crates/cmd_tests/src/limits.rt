@@ -9,6 +9,8 @@ use std::alloc::Global;
 
 const SCRIPT: &[&str] = &["fabric", "db", "-", "cert"];
 
+const FLOOD: &[&str] = &["flood", "db", "-", "cert"];
+
 /// Whether a file of this kind, of so many bytes 0, is refused as too large with this line, beside sound ones. Its first
 /// byte is a fault already.
 fn is_too_large(alloc: Global, what: What, size: u32, line: &[u8]) -> Result<bool, NoMemory> {
@@ -26,6 +28,7 @@ fn is_too_large(alloc: Global, what: What, size: u32, line: &[u8]) -> Result<boo
             },
         ),
         What::ScriptFile => (SCRIPT, two(ROUTER, long)),
+        What::UpdatesFile => (FLOOD, two(long, b"")),
         _ => (CHECK, two(ROUTER, long)),
     };
     Ok(comes_to(alloc, words, files, exit, b"", line))
@@ -53,6 +56,11 @@ fn files_over_their_limits(rt: HostRuntime) {
             What::ScriptFile,
             33_554_433,
             b"mrt: too large: script-file 33554433\n".as_slice(),
+        ),
+        (
+            What::UpdatesFile,
+            33_554_433,
+            b"mrt: too large: updates-file 33554433\n".as_slice(),
         ),
     ] {
         let is_so = is_too_large(rt.alloc(), what, size, line);

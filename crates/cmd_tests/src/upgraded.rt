@@ -1,113 +1,172 @@
-//! Certificates in version 2: upgraded, checked and refused.
+//! Certificates of both versions: checked, upgraded and refused.
 
-use crate::calling::{CHECK, Case, UNDER, comes_out};
+use crate::calling::{CHECK, Case, Files, UNDER, comes_out, comes_to};
 use crate::files::{
-    CERTIFICATE, LAN, LAN_CERTIFICATE, LINE, LINE_CERTIFICATE, RING, RING_CERTIFICATE, ROUTER,
-    SAMPLE, SAMPLE_CERTIFICATE, SAMPLE_PROFILE, THREE_LINKS, THREE_LINKS_CERTIFICATE, TRIANGLE,
-    TRIANGLE_CERTIFICATE, TRIANGLE_FROM_1, TRIANGLE_IN_CIRCLE,
+    CERTIFICATE, FIRST_TREE, FIVE, FIVE_CERTIFICATE, FIVE_COMPUTED, LAN, LAN_CERTIFICATE, LINE,
+    LINE_CERTIFICATE, OTHER, RING, RING_CERTIFICATE, RING_COMPUTED, ROUTER, SAMPLE,
+    SAMPLE_CERTIFICATE, SAMPLE_PROFILE, SECOND_TREE, THREE_LINKS, THREE_LINKS_CERTIFICATE,
+    TRIANGLE, TRIANGLE_CERTIFICATE, TRIANGLE_FROM_1, TRIANGLE_IN_CIRCLE, TWO_TREES,
 };
 use crate::version_two::{
-    CERTIFICATE_2, LAN_CERTIFICATE_2, LINE_CERTIFICATE_2, RING_CERTIFICATE_2, SAMPLE_CERTIFICATE_2,
-    THREE_LINKS_CERTIFICATE_2, TRIANGLE_CERTIFICATE_2, TRIANGLE_IN_CIRCLE_2,
+    CERTIFICATE_2, FIRST_TREE_2, FIVE_CERTIFICATE_2, FIVE_COMPUTED_2, LAN_CERTIFICATE_2,
+    LINE_CERTIFICATE_2, OTHER_2, RING_CERTIFICATE_2, RING_COMPUTED_2, SAMPLE_CERTIFICATE_2,
+    SECOND_TREE_2, THREE_LINKS_CERTIFICATE_2, TRIANGLE_CERTIFICATE_2, TRIANGLE_FROM_1_2,
+    TRIANGLE_IN_CIRCLE_2,
 };
 use cert_format::CertKind;
 use mrt_cmd::Exit;
+use std::alloc::Global;
 
 const UPGRADE: &[&str] = &["upgrade", "db", "-", "cert"];
 
 const UPGRADE_UNDER: &[&str] = &["upgrade", "db", "prof", "cert"];
 
-const CASES: &[Case] = &[
-    Case {
-        name: "a triangle",
-        words: UPGRADE,
-        database: TRIANGLE,
-        profile: b"",
-        certificate: TRIANGLE_CERTIFICATE,
-        exit: Exit::Done,
-        out: TRIANGLE_CERTIFICATE_2,
-        err: b"",
-    },
-    Case {
-        name: "a triangle that is in version 2",
-        words: UPGRADE,
-        database: TRIANGLE,
-        profile: b"",
-        certificate: TRIANGLE_CERTIFICATE_2,
-        exit: Exit::Done,
-        out: TRIANGLE_CERTIFICATE_2,
-        err: b"",
-    },
-    Case {
+/// A certificate that is accepted, in both versions, and the line that says so.
+struct Both {
+    name: &'static str,
+    database: &'static [u8],
+    profile: &'static [u8],
+    first: &'static [u8],
+    second: &'static [u8],
+    line: &'static [u8],
+}
+
+const BOTH: &[Both] = &[
+    Both {
         name: "one router",
-        words: UPGRADE,
         database: ROUTER,
         profile: b"",
-        certificate: CERTIFICATE,
-        exit: Exit::Done,
-        out: CERTIFICATE_2,
-        err: b"",
+        first: CERTIFICATE,
+        second: CERTIFICATE_2,
+        line: b"accepted root 1.1.1.1 nodes 1 links 0\n",
     },
-    Case {
+    Both {
+        name: "a triangle",
+        database: TRIANGLE,
+        profile: b"",
+        first: TRIANGLE_CERTIFICATE,
+        second: TRIANGLE_CERTIFICATE_2,
+        line: b"accepted root 3.3.3.3 nodes 3 links 3\n",
+    },
+    Both {
+        name: "a triangle from another root",
+        database: TRIANGLE,
+        profile: b"priority 1.1.1.1 10\n",
+        first: TRIANGLE_FROM_1,
+        second: TRIANGLE_FROM_1_2,
+        line: b"accepted root 1.1.1.1 nodes 3 links 3\n",
+    },
+    Both {
         name: "a line",
-        words: UPGRADE,
         database: LINE,
         profile: b"",
-        certificate: LINE_CERTIFICATE,
-        exit: Exit::Done,
-        out: LINE_CERTIFICATE_2,
-        err: b"",
+        first: LINE_CERTIFICATE,
+        second: LINE_CERTIFICATE_2,
+        line: b"accepted root 4.4.4.4 nodes 4 links 3\n",
     },
-    Case {
-        name: "a line that is in version 2",
-        words: UPGRADE,
-        database: LINE,
-        profile: b"",
-        certificate: LINE_CERTIFICATE_2,
-        exit: Exit::Done,
-        out: LINE_CERTIFICATE_2,
-        err: b"",
-    },
-    Case {
-        name: "a LAN",
-        words: UPGRADE,
-        database: LAN,
-        profile: b"",
-        certificate: LAN_CERTIFICATE,
-        exit: Exit::Done,
-        out: LAN_CERTIFICATE_2,
-        err: b"",
-    },
-    Case {
-        name: "another ear than that of `certify`",
-        words: UPGRADE,
-        database: RING,
-        profile: b"",
-        certificate: RING_CERTIFICATE,
-        exit: Exit::Done,
-        out: RING_CERTIFICATE_2,
-        err: b"",
-    },
-    Case {
+    Both {
         name: "three links",
-        words: UPGRADE,
         database: THREE_LINKS,
         profile: b"",
-        certificate: THREE_LINKS_CERTIFICATE,
-        exit: Exit::Done,
-        out: THREE_LINKS_CERTIFICATE_2,
-        err: b"",
+        first: THREE_LINKS_CERTIFICATE,
+        second: THREE_LINKS_CERTIFICATE_2,
+        line: b"accepted root 2.2.2.2 nodes 2 links 3\n",
     },
-    Case {
+    Both {
+        name: "five routers",
+        database: FIVE,
+        profile: b"",
+        first: FIVE_COMPUTED,
+        second: FIVE_COMPUTED_2,
+        line: b"accepted root 5.5.5.5 nodes 5 links 7\n",
+    },
+    Both {
+        name: "a ring",
+        database: RING,
+        profile: b"",
+        first: RING_COMPUTED,
+        second: RING_COMPUTED_2,
+        line: b"accepted root 5.5.5.5 nodes 5 links 5\n",
+    },
+    Both {
+        name: "another ear than that of `certify`",
+        database: RING,
+        profile: b"",
+        first: RING_CERTIFICATE,
+        second: RING_CERTIFICATE_2,
+        line: b"accepted root 5.5.5.5 nodes 5 links 5\n",
+    },
+    Both {
+        name: "a LAN",
+        database: LAN,
+        profile: b"",
+        first: LAN_CERTIFICATE,
+        second: LAN_CERTIFICATE_2,
+        line: b"accepted root 4.4.4.4 nodes 5 links 5\n",
+    },
+    Both {
         name: "the sample",
-        words: UPGRADE_UNDER,
         database: SAMPLE,
         profile: SAMPLE_PROFILE,
-        certificate: SAMPLE_CERTIFICATE,
-        exit: Exit::Done,
-        out: SAMPLE_CERTIFICATE_2,
-        err: b"",
+        first: SAMPLE_CERTIFICATE,
+        second: SAMPLE_CERTIFICATE_2,
+        line: b"accepted root 10.255.1.1 nodes 7 links 8\n",
     },
+    Both {
+        name: "one of two trees",
+        database: TWO_TREES,
+        profile: b"",
+        first: FIRST_TREE,
+        second: FIRST_TREE_2,
+        line: b"accepted root 2.2.2.2 nodes 2 links 1\n",
+    },
+    Both {
+        name: "the other",
+        database: TWO_TREES,
+        profile: b"",
+        first: SECOND_TREE,
+        second: SECOND_TREE_2,
+        line: b"accepted root 4.4.4.4 nodes 2 links 1\n",
+    },
+];
+
+fn all_both() -> &'static [Both] {
+    BOTH
+}
+
+/// Whether a certificate comes to this under these words, over the database and the profile of another.
+fn gives(alloc: Global, words: &[&str], both: &Both, certificate: &[u8], out: &[u8]) -> bool {
+    let files = Files {
+        database: both.database,
+        profile: both.profile,
+        certificate,
+    };
+    comes_to(alloc, words, files, Exit::Done, out, b"")
+}
+
+/// Whether both versions are accepted, and each is upgraded to the second.
+fn both_pass(alloc: Global, both: &Both) -> bool {
+    for (words, certificate, out) in [
+        (UNDER, both.first, both.line),
+        (UNDER, both.second, both.line),
+        (UPGRADE_UNDER, both.first, both.second),
+        (UPGRADE_UNDER, both.second, both.second),
+    ] {
+        if !gives(alloc, words, both, certificate, out) {
+            return false;
+        }
+    }
+    true
+}
+
+#[test]
+fn certificates_of_both_versions(rt: HostRuntime) {
+    for both in all_both() {
+        assert!(rt; both_pass(rt.alloc(), both), "{}", both.name);
+    }
+}
+
+const REFUSED: &[Case] = &[
     Case {
         name: "another root",
         words: UPGRADE,
@@ -176,54 +235,92 @@ const CASES: &[Case] = &[
         err: b"mrt: bad certificate: heads at 21\n",
     },
     Case {
-        name: "a check of a triangle",
+        name: "two closing links, checked",
         words: CHECK,
-        database: TRIANGLE,
+        database: FIVE,
         profile: b"",
-        certificate: TRIANGLE_CERTIFICATE_2,
-        exit: Exit::Done,
-        out: b"accepted root 3.3.3.3 nodes 3 links 3\n",
-        err: b"",
+        certificate: FIVE_CERTIFICATE_2,
+        exit: Exit::No {
+            rule: 6,
+            a: 0,
+            b: 0,
+        },
+        out: b"",
+        err: b"mrt: no: rule 6 at 0 0\n",
     },
     Case {
-        name: "a check of a line",
-        words: CHECK,
-        database: LINE,
+        name: "two closing links, upgraded from version 1",
+        words: UPGRADE,
+        database: FIVE,
         profile: b"",
-        certificate: LINE_CERTIFICATE_2,
-        exit: Exit::Done,
-        out: b"accepted root 4.4.4.4 nodes 4 links 3\n",
-        err: b"",
+        certificate: FIVE_CERTIFICATE,
+        exit: Exit::No {
+            rule: 6,
+            a: 0,
+            b: 0,
+        },
+        out: b"",
+        err: b"mrt: no: rule 6 at 0 0\n",
     },
     Case {
-        name: "a check of a LAN",
-        words: CHECK,
-        database: LAN,
+        name: "two closing links, upgraded from version 2",
+        words: UPGRADE,
+        database: FIVE,
         profile: b"",
-        certificate: LAN_CERTIFICATE_2,
-        exit: Exit::Done,
-        out: b"accepted root 4.4.4.4 nodes 5 links 5\n",
-        err: b"",
+        certificate: FIVE_CERTIFICATE_2,
+        exit: Exit::No {
+            rule: 6,
+            a: 0,
+            b: 0,
+        },
+        out: b"",
+        err: b"mrt: no: rule 6 at 0 0\n",
     },
     Case {
-        name: "a check of the sample",
-        words: UNDER,
-        database: SAMPLE,
-        profile: SAMPLE_PROFILE,
-        certificate: SAMPLE_CERTIFICATE_2,
-        exit: Exit::Done,
-        out: b"accepted root 10.255.1.1 nodes 7 links 8\n",
-        err: b"",
+        name: "another router, checked",
+        words: CHECK,
+        database: ROUTER,
+        profile: b"",
+        certificate: OTHER_2,
+        exit: Exit::NotThere {
+            number: 0x0202_0202,
+        },
+        out: b"",
+        err: b"mrt: not there: 2.2.2.2\n",
+    },
+    Case {
+        name: "another router, upgraded from version 1",
+        words: UPGRADE,
+        database: ROUTER,
+        profile: b"",
+        certificate: OTHER,
+        exit: Exit::NotThere {
+            number: 0x0202_0202,
+        },
+        out: b"",
+        err: b"mrt: not there: 2.2.2.2\n",
+    },
+    Case {
+        name: "another router, upgraded from version 2",
+        words: UPGRADE,
+        database: ROUTER,
+        profile: b"",
+        certificate: OTHER_2,
+        exit: Exit::NotThere {
+            number: 0x0202_0202,
+        },
+        out: b"",
+        err: b"mrt: not there: 2.2.2.2\n",
     },
 ];
 
-fn cases() -> &'static [Case] {
-    CASES
+fn refused() -> &'static [Case] {
+    REFUSED
 }
 
 #[test]
-fn certificates_in_version_two(rt: HostRuntime) {
-    for case in cases() {
+fn certificates_that_are_not_upgraded(rt: HostRuntime) {
+    for case in refused() {
         assert!(rt; comes_out(rt.alloc(), case), "{}", case.name);
     }
 }
