@@ -1,7 +1,7 @@
 #!/usr/bin/env python3
 """A plain reference program: writes the certificate of a router's island, prints a router's table, steps packets through a failure, and says
 what `mrt check` is to say of a certificate. `upgrade` writes an accepted certificate in version 2, `lfa` prints a router's loop-free alternates, `order`
-its repairs by order, and `proxy` the rows for a prefix of two routers.
+its repairs by order, `proxy` the rows for a prefix of two routers, and `flood` what comes of Link State Updates that are delivered to routers.
 
 usage: certify.py certify DATABASE PROFILE ROUTER CERTIFICATE
        certify.py check DATABASE PROFILE CERTIFICATE
@@ -13,6 +13,7 @@ usage: certify.py certify DATABASE PROFILE ROUTER CERTIFICATE
        certify.py lfa DATABASE ROUTER
        certify.py order DATABASE PROFILE ROUTER
        certify.py proxy DATABASE PROFILE ROUTER A B
+       certify.py flood UPDATES PROFILE SCRIPT
 
 PROFILE is the name of a file, or - for the empty profile. `rows` prints the rows of a router and the order of the GADAG. A refusal is
 printed as `mrt` prints it, and its status is the same. It is slow: an island of 2,048 nodes takes a minute or two.
@@ -25,6 +26,7 @@ import by_order
 import certificate
 import database
 import fabric as fabrics
+import flooding
 import island as islands
 import lowpoint
 import proxied
@@ -32,7 +34,7 @@ import table as tables
 from database import Id, Refused, text_of
 from lsas import address, spelled
 
-LIMITS = {"database-file": 8388608, "profile-file": 33554432, "certificate-file": 134217728, "script-file": 33554432}
+LIMITS = {"database-file": 8388608, "profile-file": 33554432, "certificate-file": 134217728, "script-file": 33554432, "updates-file": 33554432}
 
 
 def read(name, what):
@@ -43,9 +45,9 @@ def read(name, what):
     return data
 
 
-def read_parts(database_name, profile_name):
+def read_parts(name, profile_name, what="database-file"):
     """The bytes of both files; a profile that is not named is empty."""
-    return read(database_name, "database-file"), b"" if profile_name == "-" else read(profile_name, "profile-file")
+    return read(name, what), b"" if profile_name == "-" else read(profile_name, "profile-file")
 
 
 def area_of(data):
@@ -137,6 +139,13 @@ def fabric(data, profile, script):
     return fabrics.script_text(fabric_parts(data, profile, router), room, events).encode()
 
 
+def flood(updates, profile, script):
+    """The bytes of the answers to a script of deliveries. A fault of the packets or of the profile comes first, then one of the script."""
+    packets, read_profile = flooding.read_updates(updates), islands.read_profile(profile)
+    routers, lines = flooding.read_script(script)
+    return flooding.text(packets, read_profile, routers, lines).encode()
+
+
 def rows(data, profile, router):
     """The rows of a router and the order of the GADAG, as lines."""
     found = island_of(data, profile, router)
@@ -173,12 +182,15 @@ def run(command, words):
         print(lfa(read(words[0], "database-file"), address(words[1])))
     elif command == "fabric":
         sys.stdout.buffer.write(fabric(*read_parts(*words[:2]), read(words[2], "script-file")))
+    elif command == "flood":
+        sys.stdout.buffer.write(flood(*read_parts(*words[:2], "updates-file"), read(words[2], "script-file")))
     else:
         print("\n".join(rows(*read_parts(*words[:2]), address(words[2]))))
 
 
 def main():
-    counts = {"certify": [4], "check": [3], "table": [3], "trace": [5, 6], "fabric": [3], "rows": [3], "upgrade": [4], "lfa": [2], "order": [3], "proxy": [5]}
+    counts = {"certify": [4], "check": [3], "table": [3], "trace": [5, 6], "fabric": [3], "rows": [3], "upgrade": [4], "lfa": [2], "order": [3],
+              "proxy": [5], "flood": [3]}
     if len(sys.argv) < 2 or len(sys.argv) - 2 not in counts.get(sys.argv[1], []):
         sys.exit(__doc__)
     try:

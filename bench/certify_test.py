@@ -8,10 +8,12 @@ from random import Random
 
 import certificate
 import certify
+import flooding
+import island as islands
 import lowpoint
-from areas import random_area, router, survey_area, worked
+from areas import bundles, numbered, random_area, router, survey_area, worked
 from database import Refused
-from lsas import MAX_LINK_METRIC, POINT_TO_POINT, STUB, address, router_lsa
+from lsas import MAX_LINK_METRIC, POINT_TO_POINT, STUB, address, lsa, records_of, router_lsa, update
 
 ALONE = router_lsa(router(1), [])
 WITH_STUB = router_lsa(router(1), [(router(1), 0xFFFFFFFF, STUB, 0)])
@@ -176,6 +178,129 @@ TRACES = [
     ("where it has failed", ONE_LINK, "1.1.1.1 2.2.2.2 repair link:1.1.1.1/0.0.0.2", "failed\nentered 0\nlost outside\n"),
 ]
 
+# The bytes of three packets, by hand: the triangle whole, its first LSA, its second and third.
+PACKETS = bytes.fromhex("020400ac 01010101 00000000 000000000000000000000000 00000003") + TRIANGLE
+PACKETS += bytes.fromhex("0204004c 01010101 00000000 000000000000000000000000 00000001") + TRIANGLE[:48]
+PACKETS += bytes.fromhex("0204007c 01010101 00000000 000000000000000000000000 00000002") + TRIANGLE[48:]
+
+# The triangle with each metric twice as large, which has the same certificate.
+FARTHER = triangle_of({(one, other): 20 for one in (1, 2, 3) for other in (1, 2, 3)})
+# Instances of router 1 alone: another age, another text of the same rank, withdrawn at the same number and at a greater one, and one greater still.
+AGED, TWIN = (1000).to_bytes(2, "big") + ALONE[2:], ALONE[:20] + b"\xff" + ALONE[21:]
+GONE, WITHDRAWN, NEWER = (router_lsa(router(1), [], age, 0x80000000 + number) for age, number in ((3600, 1), (3600, 2), (1, 3)))
+EXTERNAL = lsa(5, 0, router(1), bytes(16))
+
+
+def packets(*lists):
+    """A file of packets, each of these LSAs."""
+    return b"".join(update(router(1), records) for records in lists)
+
+
+def singles(count):
+    """The LSAs of so many routers, none with a link, in eight packets."""
+    records = [router_lsa(each, []) for each in range(1, count + 1)]
+    return packets(*(records[each::8] for each in range(8)))
+
+
+def parallel(count):
+    """Eight routers in pairs, each pair with so many links, a packet for each router."""
+    links = numbered(bundles(count))
+    return packets(*([router_lsa(each, links[each])] for each in sorted(links)))
+
+
+# Packets, profile, how many routers, and lines with their answers.
+FLOODS = [
+    ("a triangle", PACKETS, b"", 2, """
+deliver 0 0: changed 3 sent 3
+deliver 0 0: changed 0
+deliver 2 1: changed 2 sent 4
+same 0 1 3.3.3.3: different
+same 0 1 1.1.1.1: none
+deliver 1 1: changed 1 sent 5
+deliver 3 1: changed 0
+same 0 1 1.1.1.1: same
+deliver 9 0: refused no-such-packet
+deliver 0 5: refused no-such-router"""),
+    ("newer and older instances", packets([ALONE], [NEWER], [WITHDRAWN], [ALONE, WITHDRAWN, NEWER]), b"", 2, """
+deliver 0 0: changed 1 sent 4
+deliver 2 0: changed 1 sent 5
+same 0 0 1.1.1.1: none
+deliver 1 0: changed 1 sent 6
+deliver 2 0: changed 0
+deliver 0 0: changed 0
+same 0 0 1.1.1.1: same
+deliver 3 1: changed 3 sent 7
+same 1 0 1.1.1.1: same
+deliver 7 0: changed 0"""),
+    ("ages", packets([ALONE], [AGED], [GONE]), b"", 2, """
+deliver 0 0: changed 1 sent 3
+deliver 1 0: changed 0
+deliver 1 1: changed 1 sent 4
+same 0 1 1.1.1.1: same
+deliver 2 0: changed 1 sent 5
+same 0 1 1.1.1.1: none
+deliver 1 0: changed 0"""),
+    ("a conflict", packets([ALONE], [TWIN], [NEWER]), b"", 2, """
+deliver 0 0: changed 1 sent 3
+deliver 0 1: changed 1 sent 4
+deliver 1 0: changed 0
+same 0 1 1.1.1.1: none
+deliver 2 0: changed 1 sent 5
+same 0 0 1.1.1.1: same"""),
+    ("LSAs of other types", packets([EXTERNAL], [EXTERNAL, ALONE, EXTERNAL], []), b"", 2, """
+deliver 0 0: changed 0
+deliver 2 0: changed 0
+deliver 1 0: changed 1 sent 3
+deliver 3 1: changed 1 sent 4
+same 0 1 1.1.1.1: same"""),
+    ("what was new is sent on", packets(records_of(TRIANGLE)[:2], records_of(TRIANGLE)[:1]), b"", 2, """
+deliver 2 0: refused no-such-packet
+deliver 1 0: changed 1 sent 2
+deliver 0 0: changed 1 sent 3
+deliver 3 1: changed 1 sent 4
+same 1 1 1.1.1.1: none
+same 1 1 2.2.2.2: same
+deliver 4294967295 65535: refused no-such-packet"""),
+    ("a router that is out", packets(records_of(TRIANGLE)), b"no-mrt 1.1.1.1", 1, """
+deliver 0 0: changed 3 sent 1
+same 0 0 1.1.1.1: none
+same 0 0 2.2.2.2: same"""),
+    ("other metrics", packets(*map(records_of, (TRIANGLE, FARTHER, OUT_AT_1))), b"", 3, """
+deliver 0 0: changed 3 sent 3
+deliver 1 1: changed 3 sent 4
+deliver 2 2: changed 3 sent 5
+same 0 1 1.1.1.1: same
+same 0 2 1.1.1.1: different
+same 0 2 4.4.4.4: none"""),
+]
+
+# Eight packets of an area, and what a comparison says after all of them.
+LARGE = [("the most nodes", singles(4096), "same"), ("too many nodes", singles(4097), "none"), ("the most arcs", parallel(4096), "same"),
+         ("too many arcs", parallel(4097), "none")]
+
+# Packets, profile, script, and its answers or the refusal.
+SCRIPTS = [
+    (b"", b"", b" \t\n#\xff\nrouters 64\r\n\tdeliver  0\t0 \r\nsame 63 63 1.1.1.1", "refused no-such-packet\nnone\n"),
+    (PACKETS, b"", b"routers 1", ""),
+    (PACKETS, b"", b"routers 1\n" + b"deliver 9 0\n" * 65535 + b"#\nsame 0 0 1.1.1.1\n", "refused no-such-packet\n" * 65535 + "none\n"),
+    (PACKETS, b"", b"routers 1\n" + b"deliver 9 0\n" * 65535 + b"#\nsame 0 0 1.1.1.1\ndeliver 9 0\nstop", "bad script on line 65539"),
+    (PACKETS, b"", b"", "bad script on line 1"),
+    (PACKETS, b"", b"#\n\n", "bad script on line 3"),
+    (PACKETS, b"", b"#\n ", "bad script on line 3"),
+    (PACKETS, b"", b"routers 0", "bad script on line 1"),
+    (PACKETS, b"", b"routers 65", "bad script on line 1"),
+    (PACKETS, b"", b"deliver 0 0", "bad script on line 1"),
+    (PACKETS, b"", b"routers 2\nrouters 2", "bad script on line 2"),
+    (PACKETS, b"", b"routers 2\ndeliver 4294967296 0", "bad script on line 2"),
+    (PACKETS, b"", b"routers 2\ndeliver 0 65536", "bad script on line 2"),
+    (PACKETS, b"", b"routers 2\ndeliver 00 0", "bad script on line 2"),
+    (PACKETS, b"", b"routers 2\ndeliver 0 0\r", "bad script on line 2"),
+    (PACKETS, b"", b"routers 2\nsame 0 2 1.1.1.1", "bad script on line 2"),
+    (PACKETS, b"", b"routers 2\nsame 0 1 net:1.1.1.1", "bad script on line 2"),
+    (PACKETS[:-1], b"weight", b"", "bad update: truncated at 248"),
+    (PACKETS, b"weight", b"", "bad profile: words on line 1"),
+]
+
 
 def answer(function, *arguments):
     """What a function gives, or the line of its refusal."""
@@ -183,6 +308,12 @@ def answer(function, *arguments):
         return function(*arguments)
     except Refused as refused:
         return refused.line
+
+
+def flooded(updates, profile, script):
+    """The lines of a script's answers, or the line of the refusal."""
+    given = answer(certify.flood, updates, profile, script)
+    return given if isinstance(given, str) else given.decode()
 
 
 def changed(cert, at, text):
@@ -230,6 +361,34 @@ def checks():
         (OUT_AT_1, b"", triangle, "no: rule 1 at 0 2"),
         (OUT_AT_3, b"", triangle, "no: rule 1 at 0 2"),
         (NEARLY_OUT, b"", triangle, "accepted root 3.3.3.3 nodes 3 links 3"),
+    ]
+
+
+def bad_updates():
+    """Packets, and their first fault."""
+    two = PACKETS[:172]
+    spoilt = two[:60] + bytes([two[60] ^ 1]) + two[61:]
+    return [
+        (PACKETS[:-1], "truncated at 248"),
+        (changed(PACKETS, 24, "00000004"), "count at 0"),
+        (changed(PACKETS, 24, "ffffffff"), "count at 0"),
+        (PACKETS + PACKETS[:27], "truncated at 372"),
+        (PACKETS + b"\0" * 28, "header at 372"),
+        (changed(PACKETS, 0, "0304ffff"), "truncated at 0"),
+        (changed(PACKETS, 172, "0304001b"), "header at 172"),
+        (changed(PACKETS, 172, "02050000"), "header at 172"),
+        (changed(PACKETS, 172, "0204001b"), "length at 172"),
+        (changed(PACKETS, 2, "001c"), "count at 0"),
+        (changed(PACKETS, 2, "00ab"), "truncated at 124"),
+        (changed(PACKETS, 2, "00ad"), "truncated at 172"),
+        (two + spoilt, "checksum at 200"),
+        (changed(two, 24, "00000004") + spoilt, "count at 0"),
+        (two + changed(spoilt, 24, "00000004"), "checksum at 200"),
+        (packets([ALONE, changed(ALONE, 18, "0013")]), "length at 52"),
+        (packets([ALONE], [router_lsa(router(1), [], 1, 0x80000000)]), "reserved-sequence at 80"),
+        (packets([lsa(1, router(1), router(2), bytes(4))]), "id-mismatch at 28"),
+        (packets([ALONE], [], [ALONE, lsa(1, router(1), router(1), bytes(3) + b"\1")]), "body at 132"),
+        (packets([router_lsa(router(1), [(router(2), 2, 1, 0)])]), "zero-metric at 28"),
     ]
 
 
@@ -293,6 +452,28 @@ def survey(number, nodes):
             sum(row.blue for row in rows), sum(row.red for row in rows))
 
 
+# what flooding promises
+
+def newer(record):
+    """The next instance of an LSA."""
+    number = lambda start, end: int.from_bytes(record[start:end], "big")
+    return lsa(number(3, 4), number(4, 8), number(8, 12), record[20:], number(0, 2), number(12, 16) + 1)
+
+
+def converges(random, data):
+    """Whether three routers come to one certificate, where each LSA of a database, and a newer instance of some, reaches one of them, and each
+    packet that is sent on all of them, in any order."""
+    records = records_of(data)
+    records += map(newer, random.sample(records, random.randint(0, len(records))))
+    flood = flooding.Flood(flooding.read_updates(packets(*([record] for record in records))), 3)
+    waiting = [(packet, random.randrange(3)) for packet in range(len(records))]
+    while waiting:
+        line = flood.deliver(*waiting.pop(random.randrange(len(waiting))))
+        if line != "changed 0":
+            waiting += [(len(flood.packets) - 1, each) for each in range(3)]
+    return all(flood.same(0, each, islands.EMPTY, router(1)) == "same" for each in range(3))
+
+
 def expect(what, got, wanted):
     if got != wanted:
         sys.exit(f"{what}: {got!r}, not {wanted!r}")
@@ -319,6 +500,17 @@ def main():
         expect(what, text in answer(certify.lfa, data, router(1)), True)
     for number, (data, profile, cert, line) in enumerate(checks()):
         expect(f"check {number}", answer(certify.check, data, profile, cert), line)
+    for what, updates, profile, routers, text in FLOODS:
+        lines, answers = zip(*(line.split(": ") for line in text.strip().split("\n")))
+        script = "\n".join([f"routers {routers}", *lines]).encode()
+        expect(what, flooded(updates, profile, script).split("\n"), [*answers, ""])
+    for what, updates, verdict in LARGE:
+        script = "\n".join(["routers 1", *(f"deliver {each} 0" for each in range(8)), "same 0 0 0.0.0.1"]).encode()
+        expect(what, flooded(updates, b"", script).split("\n")[-2], verdict)
+    for number, (updates, profile, script, text) in enumerate(SCRIPTS):
+        expect(f"script {number}", flooded(updates, profile, script), text)
+    for number, (updates, line) in enumerate(bad_updates()):
+        expect(f"packets {number}", flooded(updates, b"", b"routers 1"), f"bad update: {line}")
     expect("survey 0 4", survey(0, 4), (4, 5, 1, 0, 12, 0, 23, 27))
     expect("survey 7 300", survey(7, 300)[:6], (300, 360, 61, 60, 57480, 32220))
     areas, random = int(sys.argv[1]) if len(sys.argv) > 1 else 500, Random(1)
@@ -330,9 +522,10 @@ def main():
         file = certificate.read(cert)
         older = certificate.spelling(file._replace(version=1))
         expect(f"area {number} in version 1", certify.upgrade(data, b"", older) == cert, True)
+        expect(f"flooding of area {number}", converges(random, data), True)
         expect(f"sound {number}", is_sound(len(file.ids), file.pairs, file.cert.rows), True)
-    print(f"{len(CERTS)} certificates, {len(ORDERS)} orders, {len(TABLES)} tables, {len(TRACES)} traces, {len(checks())} checks and {areas} random "
-          "areas as expected")
+    print(f"{len(CERTS)} certificates, {len(ORDERS)} orders, {len(TABLES)} tables, {len(TRACES)} traces, {len(checks())} checks, {len(FLOODS) + len(LARGE)} floods, "
+          f"{len(SCRIPTS)} scripts of deliveries, {len(bad_updates())} files of bad packets and {areas} random areas as expected")
 
 
 if __name__ == "__main__":

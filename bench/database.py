@@ -76,8 +76,8 @@ def fault_of(record):
     return None
 
 
-def read_lsas(data):
-    """The LSAs of the bytes, or the first faulty record and its first fault."""
+def read_lsas(data, start=0, status=3, file="database"):
+    """The LSAs of the bytes, which begin at this place of a file, or the first faulty record and its first fault."""
     lsas, at = [], 0
     while at < len(data):
         left = len(data) - at
@@ -90,14 +90,19 @@ def read_lsas(data):
             record = data[at:at + length]
             fault = fault_of(record)
         if fault:
-            raise Refused(3, f"bad database: {fault} at {at}")
+            raise Refused(status, f"bad {file}: {fault} at {start + at}")
         age, kind, number, router, sequence, checksum = struct.unpack_from(">HxBIIiH", record)
-        lsas.append(Lsa(at, age, kind, number, router, sequence, checksum, record[2:], body_of(kind, record)))
+        lsas.append(Lsa(start + at, age, kind, number, router, sequence, checksum, record[2:], body_of(kind, record)))
         at += length
     return lsas
 
 
 # newest instances
+
+def key_of(lsa):
+    """What the instances of one LSA have in common."""
+    return lsa.kind, lsa.id, lsa.router
+
 
 def is_max_age(lsa):
     return lsa.age & 0x7FFF >= MAX_AGE
@@ -112,7 +117,7 @@ def newest(lsas):
     instances = {}
     for lsa in lsas:
         if lsa.kind in (ROUTER, NETWORK):
-            instances.setdefault((lsa.kind, lsa.id, lsa.router), []).append(lsa)
+            instances.setdefault(key_of(lsa), []).append(lsa)
     chosen, conflicts = [], []
     for group in instances.values():
         greatest = max(map(rank, group))

@@ -6,7 +6,7 @@ from collections import namedtuple
 
 import table as tables
 from database import NETWORK, ROUTER, Id, Refused, text_of
-from island import address_of, lines_of, number_of
+from island import address_of, lines_of, number_of, said_lines
 
 # A color is 0 or 1, and stands where the packet entered on it or was switched to it.
 Packet = namedtuple("Packet", "place to mode color state")
@@ -15,7 +15,8 @@ Parts = namedtuple("Parts", "area island cert")
 COLORS = "blue", "red"
 ENTRIES = "blue", "red", "repair"
 USAGE = ("usage: check DB PROFILE CERT, certify DB PROFILE ROUTER, table DB PROFILE ROUTER, trace DB PROFILE FROM TO blue/red/repair [FAIL], "
-         "fabric DB PROFILE SCRIPT, survey NUMBER NODES, upgrade DB PROFILE CERT, lfa DB ROUTER, order DB PROFILE ROUTER, proxy DB PROFILE ROUTER A B")
+         "fabric DB PROFILE SCRIPT, survey NUMBER NODES, upgrade DB PROFILE CERT, lfa DB ROUTER, order DB PROFILE ROUTER, proxy DB PROFILE ROUTER A B, "
+         "flood UPDATES PROFILE SCRIPT")
 
 
 # hops
@@ -200,23 +201,26 @@ def event_of(words):
     return None if event is None or None in event else event
 
 
-def read_script(data):
-    """The router, the room and the events of a script, or a refusal with the first line that is not as it should be."""
-    start, events, number = None, [], 0
-    for number, line in lines_of(data):
-        words = [word for word in line.replace(b"\t", b" ").split(b" ") if word]
-        if line[:1] == b"#" or not words:
-            continue
-        said = event_of(words) if start else start_of(words)
+def read_lines(data, read_first, read_later):
+    """What the first line of a script says, and what each later one does, by two functions of its words, of which the other one has the first
+    line's meaning too; or a refusal with the first line that is not as it should be."""
+    start, later = None, []
+    for number, _, words in said_lines(data):
+        said = read_first(words) if start is None else read_later(words, start)
         if said is None:
             raise Refused(11, f"bad script on line {number}")
-        if start:
-            events.append(said)
-        else:
+        if start is None:
             start = said
+        else:
+            later.append(said)
     if start is None:
-        raise Refused(11, f"bad script on line {number + 1}")
-    return start, events
+        raise Refused(11, f"bad script on line {len(list(lines_of(data))) + 1}")
+    return start, later
+
+
+def read_script(data):
+    """The router, the room and the events of a script, or a refusal with the first line that is not as it should be."""
+    return read_lines(data, start_of, lambda words, start: event_of(words))
 
 
 # texts

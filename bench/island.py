@@ -36,6 +36,14 @@ def lines_of(data):
     return enumerate(lines + ([last] if last else []), 1)
 
 
+def said_lines(data):
+    """The numbered lines that say something, with their words. A line of spaces and tabs alone has none."""
+    for number, line in lines_of(data):
+        words = [word for word in line.replace(b"\t", b" ").split(b" ") if word]
+        if line[:1] != b"#" and words:
+            yield number, line, words
+
+
 def fault_of(line, words, seen):
     """The first fault of a line, or nothing."""
     if any(byte != 9 and not 32 <= byte <= 126 for byte in line):
@@ -53,11 +61,7 @@ def fault_of(line, words, seen):
 def read_profile(data):
     """The profile that the lines say, or the first faulty line."""
     profile, seen = Profile({}, set(), set()), set()
-    for number, line in lines_of(data):
-        # A line of spaces and tabs alone has no words.
-        words = [word for word in line.replace(b"\t", b" ").split(b" ") if word]
-        if line[:1] == b"#" or not words:
-            continue
+    for number, line, words in said_lines(data):
         fault = fault_of(line, words, seen)
         if fault:
             raise Refused(4, f"bad profile: {fault} on line {number}")

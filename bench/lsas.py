@@ -1,4 +1,4 @@
-"""LSAs as bytes (RFC 2328, section A.4): router-LSAs, network-LSAs and any other, with their checksum."""
+"""LSAs as bytes (RFC 2328, section A.4): router-LSAs, network-LSAs and any other, with their checksum; and packets of them."""
 import struct
 
 POINT_TO_POINT, TRANSIT, STUB, VIRTUAL = 1, 2, 3, 4
@@ -36,6 +36,22 @@ def router_lsa(router, links, age=1, sequence=FIRST_SEQUENCE, flags=0):
 def network_lsa(number, router, mask, routers, age=1, sequence=FIRST_SEQUENCE):
     """A network-LSA: the designated router's interface address and router ID, the mask, and the routers attached."""
     return lsa(2, number, router, struct.pack(f">I{len(routers)}I", mask, *routers), age, sequence)
+
+
+def records_of(data):
+    """The records of LSAs that stand one after another, none of whose lengths is at fault."""
+    records, at = [], 0
+    while at < len(data):
+        size = int.from_bytes(data[at + 18:at + 20], "big")
+        records.append(data[at:at + size])
+        at += size
+    return records
+
+
+def update(router, records, area=0):
+    """A Link State Update of LSAs (RFC 2328, section A.3.5), with nothing where checksum and authentication stand."""
+    body = b"".join(records)
+    return struct.pack(">BBHII12xI", 2, 4, 28 + len(body), router, area, len(records)) + body
 
 
 def address(text):
