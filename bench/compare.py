@@ -1,6 +1,6 @@
 #!/usr/bin/env python3
-"""Compares `mrt check`, `certify`, `table`, `trace`, `fabric`, `upgrade`, `lfa`, `order` and `proxy` with the reference program on random areas, profiles,
-certificates of both versions, traces and scripts, whole and damaged.
+"""Compares `mrt check`, `certify`, `table`, `trace`, `fabric`, `upgrade`, `lfa`, `order`, `proxy` and `flood` with the reference program on random
+areas, profiles, certificates of both versions, traces, update packets and scripts, whole and damaged.
 
 usage: compare.py PROGRAM [CASES [SEED]]
 
@@ -20,25 +20,24 @@ import database
 import lowpoint
 from areas import random_area, random_ring, router, write
 from database import ROUTER, Refused, text_of
-from lsas import address, lsa, spelled
+from lsas import address, lsa, records_of, spelled, update
 
-COMMANDS = "check", "certify", "table", "trace", "fabric", "upgrade", "lfa", "order", "proxy", "check of what was written", "upgrade of what was written"
+COMMANDS = ("check", "certify", "table", "trace", "fabric", "upgrade", "lfa", "order", "proxy", "flood", "check of what was written",
+            "upgrade of what was written")
 WRONG_NAMES = ("", "net:", "1.1.1", "1.1.1.256", "1.1.1.01", "net:1.1.1.1.1", "link:1.1.1.1", "link:1.1.1.1/", "link:/0.0.0.1",
                "link:net:1.1.1.1/0.0.0.1")
 WRONG_LINES = ("step", "step -1", "step 00", "step 65536", "step 0 0", "Step 0", "fail", "fail 1.1.1.1 2.2.2.2", "inject 1.1.1.1 2.2.2.2", "stop",
                "inject net:10.0.0.1 2.2.2.2 blue", "inject 1.1.1.1 2.2.2.2 green", "island 1.1.1.1 1", "island 1.1.1.1 0", "island 1.1.1.1 65536")
+WRONG_DELIVERIES = ("routers 2", "routers 0", "routers 65", "routers", "routers 1 1", "deliver", "deliver 0", "deliver 0 0 0", "deliver -1 0", "deliver 00 0",
+                    "deliver 0 00", "deliver 4294967296 0", "deliver 0 65536", "Deliver 0 0", "same 0 0", "same 0 0 1.1.1", "same 0 0 net:1.1.1.1",
+                    "same 0 5 1.1.1.1", "same 5 0 1.1.1.1", "same 0 0 1.1.1.1 1", "stop", "island 1.1.1.1 1", "deliver 0 0\0")
 
-# Certificate and script are the bytes of files; a router is that of `certify` and `table`; a trace is its words; the ends of a prefix are two routers.
-Case = namedtuple("Case", "data profile cert router trace script ends")
+# Certificate and scripts are the bytes of files; a router is that of `certify` and `table`; a trace is its words; the ends of a prefix are two routers;
+# updates and deliveries are what `flood` reads.
+Case = namedtuple("Case", "data profile cert router trace script ends updates deliveries")
 
 
 # databases
-
-def records_of(data):
-    """The records of a database without faults."""
-    lsas = database.read_lsas(data)
-    return [data[one.at:end] for one, end in zip(lsas, [one.at for one in lsas[1:]] + [len(data)])]
-
 
 def again(random, record):
     """Another instance of an LSA: of any age and any sequence number, now and then with one byte of its body changed."""
@@ -196,10 +195,10 @@ def random_event(random, area, start, packets):
     return f"step {max(0, packets // 2 - random.randint(-1, 2))}"
 
 
-def damaged_lines(random, lines):
+def damaged_lines(random, lines, all_wrong=WRONG_LINES):
     """Lines without the first one, or with a wrong one in a place of its own or of another one; or at most two that say nothing."""
     at = random.randrange(len(lines))
-    wrong = lines[:at] + [random.choice(WRONG_LINES)] + lines[at + random.randrange(2):]
+    wrong = lines[:at] + [random.choice(all_wrong)] + lines[at + random.randrange(2):]
     return random.choice([lines[1:], wrong, wrong, ["", "# a comment"][:random.randrange(3)]])
 
 
@@ -210,9 +209,102 @@ def random_script(random, area):
     for _ in range(random.randint(1, 40)):
         lines.append(random_event(random, area, start, packets))
         packets += lines[-1].startswith("inject")
-    lines = damaged_lines(random, lines) if random.random() < 0.1 else lines
+    return script_of(random, lines, WRONG_LINES)
+
+
+def script_of(random, lines, all_wrong):
+    """The bytes of a script; now and then its lines are damaged, or its bytes."""
+    lines = damaged_lines(random, lines, all_wrong) if random.random() < 0.1 else lines
     text = "".join(line + "\n" for line in lines).encode()
     return damaged(random, text) if random.random() < 0.1 else text
+
+
+# flooding
+
+def twin(record):
+    """An LSA of the same rank that says something else: a byte of 0 is 255 in it, which are the same modulo 255."""
+    at = record.find(b"\0", 20)
+    return record if at < 0 else record[:at] + b"\xff" + record[at + 1:]
+
+
+def random_instance(random, record):
+    """A copy of an LSA, at any age, or another instance of it, mostly without a fault; seldom a twin, or one of two router IDs."""
+    chance = random.random()
+    if chance < 0.4:
+        return random.choice([1, 900, 3599]).to_bytes(2, "big") + record[2:]
+    if chance < 0.41:
+        return lsa(1, router(1), router(2), record[20:])
+    other = twin(record) if chance < 0.44 else again(random, record)
+    return record if database.fault_of(other) and random.random() < 0.8 else other
+
+
+def random_records(random):
+    """LSAs of an area, some of them several times, in any order."""
+    whole = records_of(random.choice([random_area, random_ring])(random))
+    records = whole + [random_instance(random, random.choice(whole)) for _ in range(random.choice([0, 0, 2, 6]))]
+    if random.random() < 0.2:
+        records.append(lsa(random.choice([3, 5, 10]), 1, router(1), bytes(random.randrange(20))))
+    if random.random() < 0.6:
+        random.shuffle(records)
+    return records
+
+
+def random_packets(random, records):
+    """Packets of these LSAs; now and then one of none."""
+    packets = []
+    while records or random.random() < 0.05:
+        size = random.choice([0, 1, 1, 2, 3, 8])
+        packets.append(update(router(random.randint(1, 7)), records[:size], random.randrange(3)))
+        records = records[size:]
+    return packets
+
+
+def damaged_packet(random, packet):
+    """A packet with another version, type, length or count, with a changed byte in its LSAs, or with bytes after them; or any damage."""
+    at, size = random.choice([(0, 1), (1, 1), (2, 2), (24, 4)])
+    value = random.choice([0, 1, 2, 3, 4, 5, 20, 27, 28, len(packet) - 1, len(packet) + 1]) % 256 ** size
+    field = packet[:at] + value.to_bytes(size, "big") + packet[at + size:]
+    longer = packet + bytes(random.choice([1, 19, 20, 30]))
+    longer = longer[:2] + len(longer).to_bytes(2, "big") + longer[4:]
+    place = random.randrange(28, max(29, len(packet)))
+    changed = packet[:place] + random.randbytes(1) + packet[place + 1:]
+    return random.choice([field, field, longer, changed, damaged(random, packet)])
+
+
+def random_updates(random):
+    """The bytes of a file of packets, and how many packets it has; now and then one is damaged, or the file is."""
+    packets = random_packets(random, random_records(random))
+    for at, packet in enumerate(packets):
+        if random.random() < 0.15 / len(packets):
+            packets[at] = damaged_packet(random, packet)
+    data = b"".join(packets)
+    return damaged(random, data) if random.random() < 0.05 else data, len(packets)
+
+
+def some_deliveries(random, packets, routers):
+    """Lines that deliver most packets of a file to most routers in some order, some of them twice, and packets that were sent on."""
+    share = random.choice([0.4, 0.8, 1, 1])
+    there = [(packet, each) for each in range(routers) for packet in range(packets) if random.random() < share]
+    again = random.choices(there, k=random.randrange(4)) if there else []
+    later = [(packets + random.randrange(packets * routers + 2), random.randrange(routers)) for _ in range(random.randrange(8))]
+    wrong = [(random.choice([packets, 4294967295]), 0), (0, random.choice([routers, 65535]))] if random.random() < 0.2 else []
+    deliveries = there + again
+    random.shuffle(deliveries)
+    for one in later + wrong:
+        deliveries.insert(random.randint(len(deliveries) // 2, len(deliveries)), one)
+    return [f"deliver {packet} {each}" for packet, each in deliveries]
+
+
+def random_deliveries(random, packets):
+    """A script over so many packets: deliveries, and comparisons between and after them."""
+    routers = random.randint(1, 5)
+    compared = lambda: f"same {random.randrange(routers)} {random.randrange(routers)} {spelled(router(random.choice([1, 1, 2, 2, 3, 3, 4, 8])))}"
+    lines = some_deliveries(random, packets, routers)
+    for _ in range(random.randrange(6)):
+        more = random.choice([compared(), compared(), "# a comment", "", " \t", f"\tdeliver  {random.randrange(4)} \t0 ", f"{compared()}\r"])
+        lines.insert(random.randint(0, len(lines)), more)
+    lines += [compared() for _ in range(random.randrange(4))]
+    return script_of(random, [f"routers {routers}"] + lines, WRONG_DELIVERIES)
 
 
 # comparing
@@ -228,8 +320,11 @@ def reference(function, case, last):
 
 def wanted(case):
     """The same for each command. What is written has to be accepted."""
+    lfa = lambda data, profile, router: certify.lfa(data, router)
+    flood = lambda data, profile, script: certify.flood(case.updates, profile, script)
     tasks = ((certify.check, case.cert), (certify.certify, case.router), (certify.table, case.router), (certify.trace, case.trace),
-             (certify.fabric, case.script), (certify.upgrade, case.cert), (lambda data, profile, router: certify.lfa(data, router), case.router), (certify.order, case.router), (certify.proxy, (case.router, *case.ends)))
+             (certify.fabric, case.script), (certify.upgrade, case.cert), (lfa, case.router), (certify.order, case.router),
+             (certify.proxy, (case.router, *case.ends)), (flood, case.deliveries))
     answers = [reference(function, case, last) for function, last in tasks]
     status, written, _ = answers[1]
     return answers + ([reference(function, case, written) for function in (certify.check, certify.upgrade)] if status == 0 else [])
@@ -237,22 +332,23 @@ def wanted(case):
 
 def answered(program, folder, case):
     """What it answers, from files in a folder."""
+    def run(*words):
+        done = subprocess.run([program, *words], capture_output=True)
+        return done.returncode, done.stdout, done.stderr
+
     def answer(command, *words):
-        # A profile without lines may as well not be named.
-        done = subprocess.run([program, command, database, lines if case.profile else "-", *words], capture_output=True)
-        return done.returncode, done.stdout, done.stderr
+        return run(command, database, profile, *words)
 
-    def alternates():
-        done = subprocess.run([program, "lfa", database, spelled(case.router)], capture_output=True)
-        return done.returncode, done.stdout, done.stderr
-
-    names = "area.lsas", "area.profile", "area.cert", "packets.script", "written.cert"
-    database, lines, given, script, own = (os.path.join(folder, name) for name in names)
-    for name, text in ((database, case.data), (lines, case.profile), (given, case.cert), (script, case.script)):
+    names = "area.lsas", "area.profile", "area.cert", "packets.script", "area.updates", "deliveries.script", "written.cert"
+    database, lines, given, script, updates, deliveries, own = (os.path.join(folder, name) for name in names)
+    for name, text in ((database, case.data), (lines, case.profile), (given, case.cert), (script, case.script), (updates, case.updates),
+                       (deliveries, case.deliveries)):
         write(name, text)
-    answers = [answer("check", given), answer("certify", spelled(case.router)), answer("table", spelled(case.router)), answer("trace", *case.trace),
-               answer("fabric", script), answer("upgrade", given), alternates(),
-               answer("order", spelled(case.router)), answer("proxy", spelled(case.router), *(spelled(end) for end in case.ends))]
+    # A profile without lines may as well not be named.
+    profile, router = lines if case.profile else "-", spelled(case.router)
+    answers = [answer("check", given), answer("certify", router), answer("table", router), answer("trace", *case.trace), answer("fabric", script),
+               answer("upgrade", given), run("lfa", database, router), answer("order", router),
+               answer("proxy", router, *(spelled(end) for end in case.ends)), run("flood", updates, profile, deliveries)]
     status, written, _ = answers[1]
     if status == 0:
         write(own, written)
@@ -265,7 +361,8 @@ def random_case(random):
     area = named_area(data)
     cert, source = random_certificate(random, data, profile), router(random.randint(1, 7))
     ends = random.sample([router(number) for number in range(1, 9)], 2)
-    return Case(data, profile, cert, source, random_trace(random, area), random_script(random, area), ends)
+    updates, packets = random_updates(random)
+    return Case(data, profile, cert, source, random_trace(random, area), random_script(random, area), ends, updates, random_deliveries(random, packets))
 
 
 def main():
