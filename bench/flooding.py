@@ -1,4 +1,4 @@
-"""Link State Update packets and the routers that they reach: the reference for `mrt flood` (RFC 2328, sections 13 and A.3.5).
+"""Link State Updates and the routers that they reach (RFC 2328, sections 13, A.3.5): the reference for `mrt flood`.
 
 A packet is its LSAs. What a router has is the list of all LSAs of types 1 and 2 that were delivered to it.
 """
@@ -93,7 +93,8 @@ class Flood:
 
 
 def certificate_of(lsas, profile, router):
-    """The certificate of a router's island. None where the LSAs are not settled, their area is over a limit, or the router is in no island."""
+    """The certificate of a router's island. None where the LSAs are not settled, their area is over a limit, or the
+    router is in no island."""
     try:
         area = database.area_of(database.newest(lsas))
         database.check_size(area)
@@ -122,7 +123,8 @@ def line_of(words, routers):
 
 
 def read_script(data):
-    """How many routers there are, and the later lines, or a refusal with the first line that is not as it should be."""
+    """How many routers there are, and the later lines, or a refusal with the first line that is not as it should be,
+    be it a delivery too many."""
     deliveries = 0
 
     def counted(words, routers):
