@@ -4,7 +4,7 @@
 usage: damage.py [RANDOM [SEED]]
 
 Each byte of two samples is set to 0, to 255 and off by one, each file is cut at each length, and each two of its records are exchanged. RANDOM
-files of each kind follow (100,000). Then each allocation of three commands is refused in turn, and the output is closed, full, or a pipe that
+files of each kind follow (100,000). Then each allocation of four commands is refused in turn, and the output is closed, full, or a pipe that
 goes away. Each run has to end by itself with a status of the table, with just its line on standard error, and with no byte on standard output but
 on 0. Runs for which this does not hold are printed, and there may be none.
 """
@@ -20,26 +20,29 @@ from multiprocessing import Pool
 from random import Random
 
 import timing
-from lsas import lsa
+from lsas import lsa, records_of, update
 
-KINDS = "database", "profile", "certificate", "script"
+KINDS = "database", "profile", "certificate", "script", "updates", "deliveries"
 LINES = {
     0: rb"",
     1: rb"mrt: no: rule ([1-9]|1[0-3]) at \d+ \d+\n",
     2: rb"mrt: usage: [^\n]+\n",
     3: rb"mrt: bad database: (conflict at \d+ with \d+|(truncated|length|checksum|reserved-sequence|id-mismatch|body|zero-metric) at \d+)\n",
     4: rb"mrt: bad profile: (bytes|words|address|number|repeated) on line \d+\n",
-    5: rb"mrt: bad certificate: (magic|truncated|range|tag|trailing) at \d+\n",
-    6: rb"mrt: too large: (database-file|profile-file|certificate-file|script-file|area-nodes|area-arcs|island-nodes|island-links) \d+\n",
+    5: rb"mrt: bad certificate: (magic|truncated|range|tag|trailing|heads) at \d+\n",
+    6: rb"mrt: too large: (database-file|profile-file|certificate-file|script-file|updates-file|area-nodes|area-arcs) \d+\n",
     7: rb"mrt: not there: \d+\.\d+\.\d+\.\d+\n",
     8: rb"mrt: read fault: word [1-3]\n",
     9: rb"mrt: write fault after \d+\n",
     10: rb"mrt: no memory\n",
     11: rb"mrt: bad script on line \d+\n",
+    14: rb"mrt: bad update: (truncated|header|length|count|checksum|reserved-sequence|id-mismatch|body|zero-metric) at \d+\n",
 }
 TRIANGLE_PROFILE = b"priority 3.3.3.3 128\n"
 TRIANGLE_SCRIPT = b"island 2.2.2.2 3\ninject 2.2.2.2 1.1.1.1 repair\nfail link:2.2.2.2/0.0.0.1\nstep 0\nstep 0\nstep 0\n"
 LAN_SCRIPT = b"island 10.255.1.4 2\ninject 10.255.1.4 10.255.1.1 blue\nstep 0\nfail 10.255.1.2\nstep 0\n# the end\n"
+TRIANGLE_DELIVERIES = b"routers 2\ndeliver 0 0\ndeliver 2 1\nsame 0 1 1.1.1.1\ndeliver 1 1\ndeliver 3 1\nsame 0 1 1.1.1.1\n"
+LAN_DELIVERIES = b"routers 2\ndeliver 0 0\ndeliver 1 0\ndeliver 2 0\ndeliver 2 1\ndeliver 0 1\ndeliver 4 1\n#\nsame 1 0 10.255.1.4\n"
 
 # Refuses the allocation whose number REFUSED_ALLOCATION is, from 1.
 REFUSING = """
@@ -75,25 +78,32 @@ def samples():
     """For each sample the bytes of its files by kind, and the words of a table and of a trace."""
     triangle, written = read("triangle.lsas"), timing.DATA + "/triangle.lsas"
     cert = subprocess.run([timing.PROGRAM, "certify", written, "-", "1.1.1.1"], capture_output=True, check=True).stdout
-    return [(dict(zip(KINDS, (triangle, TRIANGLE_PROFILE, cert, TRIANGLE_SCRIPT))), "2.2.2.2", "1.1.1.1"),
-            (dict(zip(KINDS, (read("lan.lsas"), read("lan.profile"), read("lan.cert"), LAN_SCRIPT))), "10.255.1.4", "10.255.1.1")]
+    lan = read("lan.lsas")
+    ones, others = records_of(triangle), records_of(lan)
+    updates, lan_updates = (b"".join(update(1, each) for each in lists) for lists in ((ones, ones[:1], ones[1:]), (others[:5], others[5:8], others[8:])))
+    return [(dict(zip(KINDS, (triangle, TRIANGLE_PROFILE, cert, TRIANGLE_SCRIPT, updates, TRIANGLE_DELIVERIES))), "2.2.2.2", "1.1.1.1"),
+            (dict(zip(KINDS, (lan, read("lan.profile"), read("lan.cert"), LAN_SCRIPT, lan_updates, LAN_DELIVERIES))), "10.255.1.4", "10.255.1.1")]
 
 
 def commands(kind, start, to):
-    """The words, after the database and the profile, of each command that reads a file of this kind; an upper-case word is a file of that kind."""
-    of_last = {"certificate": [("check", "CERTIFICATE")], "script": [("fabric", "SCRIPT")]}
-    return of_last.get(kind) or [("check", "CERTIFICATE"), ("certify", start), ("table", start), ("trace", start, to, "repair", to),
-                                 ("fabric", "SCRIPT")]
+    """The words of each command that reads a file of this kind; an upper-case word is a file of that kind."""
+    area = "DATABASE", "PROFILE"
+    check, fabric, flood = ("check", *area, "CERTIFICATE"), ("fabric", *area, "SCRIPT"), ("flood", "UPDATES", "PROFILE", "DELIVERIES")
+    of_one = {"certificate": [check], "script": [fabric], "updates": [flood], "deliveries": [flood]}
+    of_area = [check, ("certify", *area, start), ("table", *area, start), ("trace", *area, start, to, "repair", to), fabric]
+    return of_one.get(kind) or of_area + ([flood] if kind == "profile" else [])
 
 
 def records(kind, data):
-    """A file in its records: LSAs; lines; or header, nodes, links and rows."""
-    if kind in ("profile", "script"):
+    """A file in its records: LSAs; packets; lines; or header, nodes, links and rows."""
+    if kind in ("profile", "script", "deliveries"):
         return data.splitlines(keepends=True)
     if kind == "database":
+        return records_of(data)
+    if kind == "updates":
         cuts = [0]
         while cuts[-1] < len(data):
-            cuts.append(cuts[-1] + int.from_bytes(data[cuts[-1] + 18:cuts[-1] + 20], "big"))
+            cuts.append(cuts[-1] + int.from_bytes(data[cuts[-1] + 2:cuts[-1] + 4], "big"))
     else:
         nodes, links = int.from_bytes(data[6:8], "big"), int.from_bytes(data[8:10], "big")
         sizes = [14] + [11] * nodes + [7] * links + [5] * (nodes * (nodes - 1))
@@ -115,15 +125,17 @@ def damaged(kind, data):
 
 
 def random_file(random, kind, data):
-    """Any bytes; or some records of a sample, in any order; or a sample changed here and there; or each of its LSAs, with a fresh checksum."""
+    """Any bytes; or some records of a sample, in any order; or a sample changed here and there; or each of its LSAs, with a fresh checksum, in the
+    packets where they stand."""
     way, parts = random.randrange(4), records(kind, data)
     if way == 0:
         return random.randbytes(random.randrange(200))
     if way == 1:
         return b"".join(random.choices(parts, k=random.randrange(2 * len(parts))))
-    if way == 2 or kind != "database":
+    if way == 2 or kind not in ("database", "updates"):
         return changed(random, data)
-    return b"".join(renewed(record if random.random() < 0.5 else changed(random, record)) for record in parts)
+    fresh = lambda lsas: [renewed(record if random.random() < 0.5 else changed(random, record)) for record in lsas]
+    return b"".join(fresh(parts) if kind == "database" else (update(1, fresh(records_of(packet[28:]))) for packet in parts))
 
 
 def changed(random, data):
@@ -159,7 +171,7 @@ def words_over(folder, files, words):
         paths[kind.upper()] = os.path.join(folder, kind)
         with open(paths[kind.upper()], "wb") as file:
             file.write(data)
-    return [words[0], paths["DATABASE"], paths["PROFILE"], *(paths.get(word, word) for word in words[1:])]
+    return [paths.get(word, word) for word in words]
 
 
 def tried(case):
@@ -240,9 +252,10 @@ def main():
         subprocess.run(["cc", "-O1", "-shared", "-fPIC", "-x", "c", "-", "-o", library], input=REFUSING.encode(), check=True)
         (files, start, to), _ = samples()
         over = partial(words_over, folder, files)
-        cases = ("certify", over(("certify", start))), ("fabric", over(("fabric", "SCRIPT"))), ("survey", ["survey", "7", "300"])
+        all_words = commands("profile", start, to)
+        cases = [(words[0], over(words)) for words in all_words if words[0] in ("certify", "fabric", "flood")] + [("survey", ["survey", "7", "300"])]
         wrong += tell("refused allocations", (result for case in cases for result in refusals(library, *case)))
-        outputs = [(words[0], over(words)) for words in commands("database", start, to)] + [cases[2]]
+        outputs = [(words[0], over(words)) for words in all_words] + cases[-1:]
         wrong += tell("failing outputs", (result for case in outputs for result in failing_outputs(*case)))
     sys.exit(1 if wrong else 0)
 
