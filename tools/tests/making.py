@@ -13,6 +13,7 @@ from mrttools.lsas import address, sums
 
 TOOLS = os.path.dirname(os.path.dirname(os.path.abspath(__file__)))
 DATA = os.path.join(os.path.dirname(TOOLS), "crates", "mrt", "data")
+MRT = os.path.join(os.path.dirname(TOOLS), "crates", "mrt", "out", "mrt")
 ETHERNET, RAW, COOKED, COOKED_2 = 1, 101, 113, 276
 
 

@@ -6,9 +6,8 @@ import unittest
 from random import Random
 
 from tests import making
-from tests.making import Converted, network_lsa, over_ethernet, pair, router_lsa, update
+from tests.making import MRT, Converted, network_lsa, over_ethernet, pair, router_lsa, update
 
-MRT = os.path.join(os.path.dirname(making.TOOLS), "crates", "mrt", "out", "mrt")
 LINK = [("2.2.2.2", "10.0.0.1", 1, 1)]
 
 
