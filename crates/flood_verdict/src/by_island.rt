@@ -112,6 +112,7 @@ fn found_in(
     ensures found { IfOk result (IsFoundIn profile.now area.now router) }
     ensures kept { IsArea area.now }
 {
+    // what each area keeps is told by reading it
     let _nodes = area.count();
     match find_island(alloc, area, profile, router) {
         Ok(island) => Ok(Some(CertStream::new(alloc, island.graph, island.root)?)),
