@@ -54,7 +54,8 @@ pub enum Exit {
     BadCertificate { at: u32, kind: CertKind },
     /// More than there may be.
     TooLarge { what: What, size: u32 },
-    /// The area has no such router, or the profile says that it does not support the Default MRT Profile.
+    /// The area has no such router, or the profile says that it does not support the Default MRT Profile, or a prefix is
+    /// attached to it and the island has no such router.
     NotThere { number: u32 },
     /// The file that this word names could not be read; the command is word 0.
     ReadFault { word: u8 },
