@@ -44,7 +44,7 @@ abbrev pub row_text : Row → List ℕ
 row_text row = to_be_bytes w16 row.blue ++ (to_be_bytes w16 row.red ++ to_be_bytes w8 (tag_number row.tag))
 
 -- the header, then the nodes and the links by number, and those rows that stand in a file of this version, by ascending
--- source, then by ascending destination
+-- source, then by ascending destination; of a foldable file these are in version 2 the rows of related nodes
 abbrev pub cert_text : CertFile → List ℕ
 cert_text f =
     header_text f.version (length f.cert.nodes) (length f.cert.links) f.root

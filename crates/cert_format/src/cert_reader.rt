@@ -72,8 +72,9 @@ impl CertReader {
     /// # Errors
     ///
     /// [`CertError::Fault`] where the first field that is not allowed is whole in the stream with the piece, or the last
-    /// node is and the heads of version 2 do not lead to one node, or a byte stands after the last row; each later piece is answered with the same fault. [`CertError::NoMemory`] where there
-    /// was none: the stream is as it was before the piece.
+    /// node is and the heads of version 2 do not lead to one node, or a byte stands after the last row; each later piece
+    /// is answered with the same fault. [`CertError::NoMemory`] where there was none: the stream is as it was before the
+    /// piece.
     pub fn feed(&mut self, piece: &[u8]) -> Result<(), CertError>
         // The stream grew by the piece, and has no certain fault.
         ensures ok { OnOk result (IsOk self.new × (self.new ≡ fed self.old piece.now)) }

@@ -78,7 +78,7 @@ fn whole(alloc: Global, bytes: &[u8]) -> Result<CertFile, CertError>
 }
 
 /// No two certificate files have one spelling, no field of a spelling is at fault, and no spelling has more than
-/// 84,025,358 bytes, of version 1 no more than 21,041,166.
+/// 84,025,358 bytes, of version 1 at most 21,041,166.
 pub fn one_spelling()
     ensures one { (f g : CertFile) → IsCertFile f → IsCertFile g → cert_text f ≡ cert_text g → f ≡ g }
     ensures faultless { (f : CertFile) → IsCertFile f → first_fault (cert_text f) ≡ None }

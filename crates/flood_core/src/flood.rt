@@ -65,7 +65,7 @@ impl Flood {
     /// Delivers the packet of this number to the router of this number, both from 0. Fewer than 65,535 deliveries were
     /// answered [`Answer::Changed`] before.
     ///
-    /// Each LSA of type 1 or 2 is installed in turn, with the number of LSAs that arrived at that router before as its
+    /// Each LSA of type 1 or 2 is installed in turn, with the number of those that arrived at that router before as its
     /// place. Those whose install answers `Added` or `Replaced` are new, and become a packet, the last one, which the
     /// router sends on: with the place, the router and the area of the delivered one, and the LSAs as they stand there.
     ///

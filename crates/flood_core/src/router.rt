@@ -10,7 +10,7 @@ use mrt_graph::NoMemory;
 use ospf_lsa::{Lsa, NETWORK_LSA, ROUTER_LSA};
 use std::alloc::Global;
 
-/// A router's database, and how many LSAs have arrived for it.
+/// A router's database, and how many LSAs of types 1 and 2 have arrived for it.
 #[derive(Drop)]
 pub struct Router {
     pub database: Lsdb,

@@ -94,8 +94,8 @@ pub fn flooding_converges()
         → AreNewestOfTheSame (map (λ entry. entry.lsa) its.entries) (map (λ entry. entry.lsa) others.entries) }
 {}
 
-/// Laws: the first newest instances of two such lists have the same keys, and each is the same in both but for its place
-/// and its age field; both are at MaxAge, or neither is.
+/// Laws: where two settled lists hold the same LSAs, their first newest instances have the same keys, and each is the same
+/// in both but for its place and its age field; both are at MaxAge, or neither is.
 pub fn newest_of_the_same_are_the_same()
     ensures keys { (its others : List Lsa) → AreNewestOfTheSame its others
         → IsPermutation (map key_of its) (map key_of others) }

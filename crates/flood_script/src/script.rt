@@ -11,7 +11,7 @@ pub enum FloodLine {
     Same { one: u16, other: u16, router: u32 },
 }
 
-/// How many routers there are, and the later lines, in their order.
+/// How many routers there are, 1 to 64 where the script was read, and the later lines, in their order.
 #[derive(Debug, Drop, PartialEq, Eq)]
 pub struct FloodScript {
     pub routers: u16,

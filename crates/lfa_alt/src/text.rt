@@ -21,6 +21,8 @@ use text_parts::{push, push_count, push_hop, push_node};
 /// The text on the loop-free alternates of a router: a line on the router, and a line on each node that it has a primary
 /// for.
 ///
+/// It takes the time of [`loop_free`](crate::loop_free) and of the text.
+///
 /// # Errors
 ///
 /// [`NoMemory`] where there was none for the searches or the text.

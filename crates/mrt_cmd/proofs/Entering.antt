@@ -30,7 +30,7 @@ use Rattle.ospf_lsa.specs.LsaText.{lsa_length}
 use Rattle.ospf_lsa.specs.Lsas.{AreLsas, IsLsa}
 use Rattle.mrt_cmd.specs.Database.{entering, enters}
 
--- these entries come of what is installed and of the LSAs that are left, which begin at some place, behind all that is
+-- these entries come of what is installed and of the LSAs that are left, which begin at some place, after all that is
 -- installed
 pub record IsUnderWay (database : Database) (rest : List Lsa) (whole : List Entry) : Type 0 where
   pub at : ℕ
@@ -96,7 +96,7 @@ pub all_done : (database : Database) (rest : List Lsa) (whole : List Entry) → 
 all_done database rest whole none way =
     sym (ap (λ (ls : List Lsa). all_installed database.entries (entering ls)) (nothing_left rest none)) ∙ way.comes
 
--- what is behind a place is behind what that is behind
+-- what stands after a place stands after each earlier one
 pub behind_more : (greatest : Option ℕ) (at place : ℕ) → IsBehind greatest at → at < place → IsBehind greatest place
 behind_more None at place h lt = tt
 behind_more (Some g) at place h lt = omega (arith, h, lt)

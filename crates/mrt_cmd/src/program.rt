@@ -50,10 +50,12 @@ use std::alloc::Global;
 /// at any place after `Usage`.
 ///
 /// It takes the time of reading the files, of an install for each LSA, of the area and the island, and of what is asked: of
-/// checking a certificate, of computing and writing one, of computing the rows for one node after the other and a router's
-/// primaries and writing its table, or of computing a certificate and all routers' primaries and following packets. A survey
-/// takes the time of making the network and of computing the certificate of its island; `flood` that of reading packets,
-/// profile and script, of the deliveries, and for each comparison of two areas, islands and certificates.
+/// checking a certificate, and of `upgrade` writing it; of computing and writing one; of computing the rows for one node after
+/// the other and a router's primaries and writing its table; of computing a certificate and all routers' primaries and
+/// following packets; of a search from each neighbour for `lfa`, of the directions and the text for `order`, of computing a
+/// certificate for `proxy`. A survey takes the time of making the network and of computing the certificate of its island;
+/// `flood` that of reading packets, profile and script, of the deliveries, and for each comparison of two areas, islands and
+/// certificates.
 pub fn run<F: Shelf, K: Sink, E: Sink>(
     alloc: Global,
     words: &[Word],

@@ -46,21 +46,22 @@ pub enum Exit {
     /// The words are none of the forms.
     Usage,
     /// The first record of the database with a fault; where none has one, the second of two newest instances that contradict
-    /// each other.
+    /// each other. `at` is the place of its first byte.
     BadDatabase { at: u32, kind: DbKind },
     /// The first line of the profile with a fault.
     BadProfile { line: u32, kind: ProfileKind },
-    /// The first field of the certificate file that is not allowed.
+    /// The first field of the certificate file that is not allowed. `at` is the place of its first byte.
     BadCertificate { at: u32, kind: CertKind },
-    /// More than there may be.
+    /// More than there may be: of a file its limit and 1, in bytes; of an area how many nodes or arcs it has.
     TooLarge { what: What, size: u32 },
-    /// The area has no such router, or the profile says that it does not support the Default MRT Profile, or a prefix is
-    /// attached to it and the island has no such router.
+    /// The area has no such router, or the profile says that it does not support the Default MRT Profile; or a prefix is
+    /// to be attached to it, and it is no router of the island.
     NotThere { number: u32 },
     /// The file that this word names could not be read; the command is word 0.
     ReadFault { word: u8 },
     /// The output failed after so many bytes of the text.
     WriteFault { taken: u64 },
+    /// There was no memory.
     NoMemory,
     /// The first line of the script that is not as it should be.
     BadScript { line: u32 },

@@ -8,10 +8,10 @@ use arrayvec::ArrayVec;
 use itoa::Buffer;
 use mrt_graph::{Kind, NodeId, NodeText};
 
-/// One line of text, which takes no memory.
+/// One line of text of at most 512 bytes, which takes no memory.
 pub type Line = ArrayVec<u8, 512>;
 
-/// A line that begins so.
+/// A line that begins so, with at most 512 bytes.
 pub fn line_of(part: &[u8]) -> Line
     requires { length part.now ≤ 512 }
     ensures { result.items ≡ part.now }
@@ -21,7 +21,7 @@ pub fn line_of(part: &[u8]) -> Line
     line
 }
 
-/// Puts bytes at the end of a line.
+/// Puts bytes at the end of a line that has room for them.
 pub fn push(line: &mut Line, part: &[u8])
     requires { array_vec_len line.old + length part.now ≤ 512 }
     ensures items { line.new.items ≡ line.old.items ++ part.now }
@@ -30,7 +30,7 @@ pub fn push(line: &mut Line, part: &[u8])
     line.try_extend_from_slice(part).unwrap();
 }
 
-/// Puts a number at the end of a line.
+/// Puts a number at the end of a line that has room for 40 bytes.
 pub fn push_decimal(line: &mut Line, number: u64)
     requires { array_vec_len line.old + 40 ≤ 512 }
     ensures items { line.new.items ≡ line.old.items ++ decimal number }
@@ -39,7 +39,7 @@ pub fn push_decimal(line: &mut Line, number: u64)
     push(line, Buffer::new().format(number).as_bytes());
 }
 
-/// Puts an address at the end of a line.
+/// Puts an address at the end of a line that has room for 19 bytes.
 pub fn push_address(line: &mut Line, number: u32)
     requires { array_vec_len line.old + 19 ≤ 512 }
     ensures items { line.new.items ≡ line.old.items ++ address_text number }

@@ -7,7 +7,7 @@ ghost use Rattle.mrt_exit.specs.Telling.{GainedLine};
 use crate::exit::Exit;
 use mrt_io::{Sink, put_all};
 
-/// Writes the exit's line, as far as the sink takes it, and nothing on `Done`; and is the exit.
+/// Writes the exit's line, as far as the sink takes it, and nothing on `Done`. It answers the exit.
 pub fn tell<E: Sink>(err: &mut E, exit: Exit) -> Exit
     ensures same { result ≡ exit }
     ensures silent { exit ≡ Exit.Done → err.new ≡ err.old }

@@ -41,7 +41,7 @@ next_line lines number line rest left =
     let first : get_or lines number line ≡ line = cc in
     (inside, slice_get-get_or lines number line inside ∙ ap Some first, cc)
 
--- one more line behind others
+-- one more line before others
 cons_before : (said : Option Setting) (xs ys : List Setting) → cons_option said xs ++ ys ≡ cons_option said (xs ++ ys)
 cons_before None xs ys = refl
 cons_before (Some x) xs ys = refl

@@ -1,4 +1,3 @@
-pub mod Adds
 pub mod AddsLines
 pub mod ByColumn
 pub mod Letters

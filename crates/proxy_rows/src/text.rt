@@ -22,6 +22,8 @@ use text_parts::{push, push_hop, push_node};
 /// The text on a prefix that two routers, `a` and `b`, are attached to: a line on these and the root, and a line on each
 /// node. The certificate is accepted for the graph, and the root is its node of order 1.
 ///
+/// It takes time in proportion to nodes and links.
+///
 /// # Errors
 ///
 /// [`ProxyError::NoCommonBlock`] exactly where the certificate gives the two routers no common block.

@@ -5,7 +5,7 @@ use Rattle.ospf_lsa.specs.Lsas.{AreLsas, IsLsa}
 use Rattle.ospf_lsa.specs.declared.lsa.Lsa.{Lsa}
 use Rattle.lsdb.specs.Installing.{IsBehind}
 
--- LSAs one after another, each of them behind a greatest place
+-- LSAs one after another, each of them after a greatest place
 pub record AreAhead (greatest : Option ℕ) (lsas : List Lsa) : Type 0 where
   pub from : ℕ
   pub one_after_another : AreLsas from lsas
