@@ -3,8 +3,11 @@
 
 It prints the time of `sha256sum` of the database, of `mrt table` of the same router and of `mrt lfa`; its peak memory; and how the time grows for
 twice the routers. On a mesh and a ring the router is the first one or one in the middle, which has some neighbours, so that the time grows
-nearly as the area does. A star's hub searches from each other router: four times the time for twice the routers. It builds the program where need
-be; it fetches nothing.
+nearly as the area does. A star's hub searches from each other router: four times the time for twice the routers.
+
+Then it prints how many searches each neighbour of a mesh's router costs, wanted at most ten. One search is what each of many more neighbours of
+router 1 adds. The time of reading the database and building the area is left out: that of `mrt lfa` of a router that is not there. It builds the
+program where need be; it fetches nothing.
 """
 import os
 import tempfile
@@ -12,9 +15,12 @@ import tempfile
 import areas
 import timing
 from lsas import spelled
-from time_certify import SHAPES, SIZES
+from mesh import WIDE
+from time_certify import SHAPES, SIZES, told
 
 ROUNDS = 15
+MORE = 128
+ABSENT = "255.255.255.255"
 # The routers that are asked for: of a star the hub alone.
 ROUTERS = {"ring": lambda n: (1, n // 2), "mesh": lambda n: (1, n // 2), "star": lambda n: (1,)}
 
@@ -34,12 +40,33 @@ def report(shape, size, folder):
     return max(times)
 
 
+def searching(database, router):
+    """The time of the searches from a router's neighbours and of the text, in milliseconds."""
+    lfa = [timing.PROGRAM, "lfa", database]
+    return timing.best([*lfa, spelled(router)], ROUNDS) - timing.best([*lfa, ABSENT], ROUNDS, status=7)
+
+
+def report_searches(size, folder):
+    """How many searches each neighbour costs, on a mesh of one size."""
+    links = areas.grid(size, WIDE)
+    plain, more = f"{folder}/plain.lsas", f"{folder}/more.lsas"
+    areas.write(plain, areas.database(areas.numbered(links)))
+    areas.write(more, areas.database(areas.numbered(links + [(1, size - each) for each in range(MORE)])))
+    one = (searching(more, 1) - searching(plain, 1)) / MORE
+    for router in ROUTERS["mesh"](size):
+        neighbours = sum(router in link for link in links)
+        taken = searching(plain, router)
+        print(f"mesh {size}, router {router}: {neighbours} neighbours, {taken:.2f} ms past the area, one search {one:.2f} ms: "
+              f"{told(taken / neighbours / one, 10)} searches a neighbour")
+
+
 def main():
     timing.build()
     with tempfile.TemporaryDirectory() as folder:
         for shape in ROUTERS:
             half, whole = (report(shape, size, folder) for size in SIZES)
             print(f"{shape}: {whole / half:.2f} times the time for twice the routers")
+        report_searches(SIZES[-1], folder)
 
 
 if __name__ == "__main__":

@@ -15,14 +15,14 @@ def build():
     subprocess.run([os.path.join(ROOT, "mrt"), "check", f"{DATA}/router.lsas", "-", f"{DATA}/router.cert"], stdout=subprocess.DEVNULL, check=True)
 
 
-def best(command, rounds=7, answer=None):
-    """The least time of some runs, in milliseconds. Each has to succeed, and to print the answer, if one is given."""
+def best(command, rounds=7, answer=None, status=0):
+    """The least time of some runs, in milliseconds. Each has to end with the status, and to print the answer, if one is given."""
     times = []
     for _ in range(rounds):
         start = time.perf_counter()
         done = subprocess.run(command, stdout=subprocess.PIPE, stderr=subprocess.STDOUT)
         times.append((time.perf_counter() - start) * 1000)
-        if done.returncode != 0 or answer not in (None, done.stdout):
+        if done.returncode != status or answer not in (None, done.stdout):
             sys.exit(f"{' '.join(command)}: {done.stdout.decode()}")
     return min(times)
 
