@@ -1,7 +1,7 @@
 //! Repairs by order.
 
 use crate::calling::{Case, comes_out};
-use crate::files::{LINE, ROUTER, TRIANGLE};
+use crate::files::{CROSSED, LINE, ROUTER, TRIANGLE};
 use crate::words::USAGE;
 use mrt_cmd::Exit;
 
@@ -14,6 +14,16 @@ const CASES: &[Case] = &[
         certificate: b"",
         exit: Exit::Done,
         out: b"order 2.2.2.2 root 3.3.3.3\n1.1.1.1 --r brr\n3.3.3.3 b-- bbr\n",
+        err: b"",
+    },
+    Case {
+        name: "1 to 3 with links to 4 and to 5, of which 1 and 3 are unordered",
+        words: &["order", "db", "-", "1.1.1.1"],
+        database: CROSSED,
+        profile: b"",
+        certificate: b"",
+        exit: Exit::Done,
+        out: b"order 1.1.1.1 root 5.5.5.5\n2.2.2.2 --rrb rbrbrb\n3.3.3.3 -b-br brbbbr\n4.4.4.4 -br-b rbbbrb\n5.5.5.5 -rrr- rbrrrb\n",
         err: b"",
     },
     Case {

@@ -299,6 +299,7 @@ fn large_rings(rt: HostRuntime) {
         size: 4097,
     };
     for (routers, exit, length) in [
+        (2048, Exit::Done, 20_998_158),
         (2049, Exit::Done, 21_018_656),
         (4096, Exit::Done, 83_939_342),
         (4097, too_large, 0),

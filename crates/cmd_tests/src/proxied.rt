@@ -27,6 +27,16 @@ const CASES: &[Case] = &[
         err: b"",
     },
     Case {
+        name: "two routers on a network, which has a row too",
+        words: &["proxy", "db", "-", "4.4.4.4", "1.1.1.1", "2.2.2.2"],
+        database: LAN,
+        profile: b"",
+        certificate: b"",
+        exit: Exit::Done,
+        out: b"proxy 1.1.1.1 2.2.2.2 root 4.4.4.4\n1.1.1.1 blue attached red net:10.0.0.4/10.0.0.1\n2.2.2.2 blue net:10.0.0.4/10.0.0.2 red attached\n3.3.3.3 blue net:10.0.0.4/10.0.0.3 red net:10.0.0.4/10.0.0.3\n4.4.4.4 blue net:10.0.0.4/10.0.0.4 red net:10.0.0.4/10.0.0.4\nnet:10.0.0.4 blue 1.1.1.1/0.0.0.0 red 2.2.2.2/0.0.0.0\n",
+        err: b"",
+    },
+    Case {
         name: "two routers without a common block",
         words: &["proxy", "db", "-", "4.4.4.4", "1.1.1.1", "3.3.3.3"],
         database: LINE,
@@ -59,6 +69,18 @@ const CASES: &[Case] = &[
         },
         out: b"",
         err: b"mrt: not there: 9.9.9.9\n",
+    },
+    Case {
+        name: "a second router of the area that is not in the island",
+        words: &["proxy", "db", "prof", "3.3.3.3", "2.2.2.2", "1.1.1.1"],
+        database: TRIANGLE,
+        profile: b"no-mrt 1.1.1.1",
+        certificate: b"",
+        exit: Exit::NotThere {
+            number: 0x0101_0101,
+        },
+        out: b"",
+        err: b"mrt: not there: 1.1.1.1\n",
     },
     Case {
         name: "a router that is not there",

@@ -2,6 +2,7 @@
 
 use crate::calling::{CHECK, calmly, front, two};
 use crate::files::{OTHER, ROUTER, TRIANGLE, TRIANGLE_CERTIFICATE};
+use crate::version_two::TRIANGLE_CERTIFICATE_2;
 use cert_format::CertKind;
 use mrt_cmd::{DbKind, Exit};
 use mrt_graph::NoMemory;
@@ -41,6 +42,19 @@ const CASES: &[Case] = &[
         length: 98,
         at: 72,
         byte: 7,
+        exit: Exit::BadCertificate {
+            at: 72,
+            kind: CertKind::Tag,
+        },
+    },
+    // Version 2 has no Carried rows.
+    Case {
+        database: TRIANGLE,
+        kept: 144,
+        certificate: TRIANGLE_CERTIFICATE_2,
+        length: 98,
+        at: 72,
+        byte: 6,
         exit: Exit::BadCertificate {
             at: 72,
             kind: CertKind::Tag,

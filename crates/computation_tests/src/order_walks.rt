@@ -1,61 +1,48 @@
-//! The color that is chosen by order, beside the walks themselves: for each two nodes of a block, and each of its nodes and
-//! links failed.
+//! The color that is chosen by order, beside the walks that the plain program follows: for each two nodes of a block, and
+//! each of its nodes and links failed.
 
 ghost use Rattle.std.specs.Prelude.{◌≡◌, ◌<◌, length};
 ghost use Rattle.inc_dec_spf.specs.HasDirections.{HasDirections};
+ghost use Rattle.mrt_plain.specs.Within.{AreWithin};
 
 use crate::hand_graphs::{graph, links_of};
 use crate::hand_paths::{directed_of, reach_of};
 use crate::hand_rows::{Case, cases};
 use inc_dec_spf::{Dir, Reach};
-use mrt_graph::{Cert, Color, Directed, Element, Graph, GraphError, LinkNo, NodeNo};
+use mrt_graph::{Cert, Color, Directed, Element, Graph, GraphError, Link, LinkNo, NoMemory, NodeNo};
+use mrt_plain::{Course, follow, links_of as graph_links};
 use mrt_rows::compute;
 use order_repair::order_choice;
 use std::alloc::Global;
 use std::process::Abort;
 use std::test::Fail;
 
-/// The link of a color in the row of a node for another one.
-fn link_of(cert: &Cert, at: NodeNo, to: NodeNo, color: Color) -> Option<LinkNo> {
-    if at == to || at.get() >= cert.node_count() || to.get() >= cert.node_count() {
-        return None;
-    }
-    let row = cert.row(at, to);
-    match color {
-        Color::Blue => Some(row.blue),
-        Color::Red => Some(row.red),
+/// Whether a walk uses an element.
+fn is_used(course: &Course, failed: Element) -> bool {
+    match failed {
+        Element::Link(e) => course.links.contains(&e),
+        Element::Node(f) => course.nodes.contains(&f),
     }
 }
 
-/// Where a link leads from a node.
-fn far_node(g: &Graph, at: NodeNo, link: LinkNo) -> Option<NodeNo> {
-    if link.get() >= g.link_count() {
-        return None;
-    }
-    g.link(link).far_node(at)
-}
-
-/// Whether the walk on a color arrives and does not use an element.
+/// Whether the walk on a color arrives and does not use an element, which is neither end of it.
 fn goes_round(
+    alloc: Global,
     g: &Graph,
+    links: &[Link],
     cert: &Cert,
     s: NodeNo,
     t: NodeNo,
     color: Color,
     failed: Element,
-) -> Option<bool> {
-    let mut at = s;
-    for _ in 0..g.node_count() {
-        if at == t {
-            return Some(true);
-        }
-        let link = link_of(cert, at, t, color)?;
-        at = far_node(g, at, link)?;
-        if failed == Element::Link(link) || failed == Element::Node(at) {
-            return Some(false);
-        }
-    }
-    Some(at == t)
+) -> Result<bool, NoMemory>
+    requires within { AreWithin (length g.now.ids) links.now }
+    requires count { length cert.now.nodes ≡ length g.now.ids }
+    requires source { s < length g.now.ids }
+    requires to { t < length g.now.ids }
+{
+    let course = follow(alloc, links, cert, color, s, t)?;
+    Ok(course.end == t && !is_used(&course, failed))
 }
 
 /// The block that two nodes have in common.
@@ -99,7 +86,9 @@ fn is_node_of(g: &Graph, d: &Directed, block: NodeNo, f: NodeNo) -> bool
 
 /// Whether the color goes round each node of their block other than the two.
 fn rounds_nodes(
+    alloc: Global,
     g: &Graph,
+    links: &[Link],
     d: &Directed,
     cert: &Cert,
     up: &Reach,
@@ -107,7 +96,9 @@ fn rounds_nodes(
     block: NodeNo,
     s: NodeNo,
     t: NodeNo,
-) -> bool
+) -> Result<bool, NoMemory>
+    requires within { AreWithin (length g.now.ids) links.now }
+    requires count { length cert.now.nodes ≡ length g.now.ids }
     requires directed { HasDirections g.now d.now }
     requires one_up_each { length up.now ≡ length g.now.ids }
     requires one_down_each { length down.now ≡ length g.now.ids }
@@ -119,17 +110,19 @@ fn rounds_nodes(
         let f = NodeNo::new(f);
         if f != s && f != t && is_node_of(g, d, block, f) {
             let color = order_choice(g, d, up, down, s, t, Element::Node(f));
-            if goes_round(g, cert, s, t, color, Element::Node(f)) != Some(true) {
-                return false;
+            if !goes_round(alloc, g, links, cert, s, t, color, Element::Node(f))? {
+                return Ok(false);
             }
         }
     }
-    true
+    Ok(true)
 }
 
 /// Whether the color goes round each link of their block.
 fn rounds_links(
+    alloc: Global,
     g: &Graph,
+    links: &[Link],
     d: &Directed,
     cert: &Cert,
     up: &Reach,
@@ -137,7 +130,9 @@ fn rounds_links(
     block: NodeNo,
     s: NodeNo,
     t: NodeNo,
-) -> bool
+) -> Result<bool, NoMemory>
+    requires within { AreWithin (length g.now.ids) links.now }
+    requires count { length cert.now.nodes ≡ length g.now.ids }
     requires directed { HasDirections g.now d.now }
     requires one_up_each { length up.now ≡ length g.now.ids }
     requires one_down_each { length down.now ≡ length g.now.ids }
@@ -148,40 +143,44 @@ fn rounds_links(
         let e = LinkNo::new(e);
         if d.mark(e).block == block {
             let color = order_choice(g, d, up, down, s, t, Element::Link(e));
-            if goes_round(g, cert, s, t, color, Element::Link(e)) != Some(true) {
-                return false;
+            if !goes_round(alloc, g, links, cert, s, t, color, Element::Link(e))? {
+                return Ok(false);
             }
         }
     }
-    true
+    Ok(true)
 }
 
 /// Whether the colors from a node to another one go round what fails in their block.
 fn rounds_all(
+    alloc: Global,
     g: &Graph,
+    links: &[Link],
     d: &Directed,
     cert: &Cert,
     up: &Reach,
     down: &Reach,
     s: NodeNo,
     t: NodeNo,
-) -> bool
+) -> Result<bool, NoMemory>
+    requires within { AreWithin (length g.now.ids) links.now }
+    requires count { length cert.now.nodes ≡ length g.now.ids }
     requires directed { HasDirections g.now d.now }
     requires one_up_each { length up.now ≡ length g.now.ids }
     requires one_down_each { length down.now ≡ length g.now.ids }
     requires source { s < length g.now.ids }
     requires to { t < length g.now.ids }
 {
-    match common_block(g, d, s, t) {
-        Some(block) => {
-            s == t
-                || block.get() >= g.node_count()
-                || count_links(g, d, block) < 2
-                || (rounds_nodes(g, d, cert, up, down, block, s, t)
-                    && rounds_links(g, d, cert, up, down, block, s, t))
-        }
-        None => true,
+    let Some(block) = common_block(g, d, s, t) else {
+        return Ok(true);
+    };
+    if s == t || block.get() >= g.node_count() || count_links(g, d, block) < 2 {
+        return Ok(true);
     }
+    if !rounds_nodes(alloc, g, links, d, cert, up, down, block, s, t)? {
+        return Ok(false);
+    }
+    rounds_links(alloc, g, links, d, cert, up, down, block, s, t)
 }
 
 /// Whether those from a node to each other one do.
@@ -189,17 +188,20 @@ fn rounds_from(
     rt: &impl Abort,
     alloc: Global,
     g: &Graph,
+    links: &[Link],
     d: &Directed,
     cert: &Cert,
     s: u16,
 ) -> Result<bool, GraphError>
+    requires within { AreWithin (length g.now.ids) links.now }
+    requires count { length cert.now.nodes ≡ length g.now.ids }
     requires directed { HasDirections g.now d.now }
 {
     assert!(rt; s < g.node_count());
     let up = reach_of(rt, alloc, g, d, s, Dir::Up)?;
     let down = reach_of(rt, alloc, g, d, s, Dir::Down)?;
     for t in 0..g.node_count() {
-        if !rounds_all(g, d, cert, &up, &down, NodeNo::new(s), NodeNo::new(t)) {
+        if !rounds_all(alloc, g, links, d, cert, &up, &down, NodeNo::new(s), NodeNo::new(t))? {
             return Ok(false);
         }
     }
@@ -212,8 +214,9 @@ fn is_so(rt: &impl Abort, alloc: Global, case: &Case) -> Result<bool, GraphError
     let d = directed_of(rt, alloc, &g, case.root)?;
     assert!(rt; case.root < g.node_count());
     let cert = compute(alloc, &g, NodeNo::new(case.root))?;
+    let links = graph_links(alloc, &g)?;
     for s in 0..case.count {
-        if !rounds_from(rt, alloc, &g, &d, &cert, s)? {
+        if !rounds_from(rt, alloc, &g, &links, &d, &cert, s)? {
             return Ok(false);
         }
     }
