@@ -293,13 +293,17 @@ fn comes_of_ring(alloc: Global, routers: u32) -> Result<(Exit, usize), NoMemory>
 }
 
 #[test]
+fn the_largest_ring_of_version_one(rt: HostRuntime) {
+    assert_eq!(rt; comes_of_ring(rt.alloc(), 2048), Ok((Exit::Done, 20_998_158)));
+}
+
+#[test]
 fn large_rings(rt: HostRuntime) {
     let too_large = Exit::TooLarge {
         what: What::AreaNodes,
         size: 4097,
     };
     for (routers, exit, length) in [
-        (2048, Exit::Done, 20_998_158),
         (2049, Exit::Done, 21_018_656),
         (4096, Exit::Done, 83_939_342),
         (4097, too_large, 0),
