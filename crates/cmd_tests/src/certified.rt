@@ -294,7 +294,10 @@ fn comes_of_ring(alloc: Global, routers: u32) -> Result<(Exit, usize), NoMemory>
 
 #[test]
 fn the_largest_ring_of_version_one(rt: HostRuntime) {
-    assert_eq!(rt; comes_of_ring(rt.alloc(), 2048), Ok((Exit::Done, 20_998_158)));
+    assert_eq!(rt;
+        comes_of_ring(rt.alloc(), 2048),
+        Ok((Exit::Done, 20_998_158))
+    );
 }
 
 #[test]

@@ -9,7 +9,9 @@ use crate::hand_graphs::{graph, links_of};
 use crate::hand_paths::{directed_of, reach_of};
 use crate::hand_rows::{Case, cases};
 use inc_dec_spf::{Dir, Reach};
-use mrt_graph::{Cert, Color, Directed, Element, Graph, GraphError, Link, LinkNo, NoMemory, NodeNo};
+use mrt_graph::{
+    Cert, Color, Directed, Element, Graph, GraphError, Link, LinkNo, NoMemory, NodeNo,
+};
 use mrt_plain::{Course, follow, links_of as graph_links};
 use mrt_rows::compute;
 use order_repair::order_choice;
@@ -201,7 +203,17 @@ fn rounds_from(
     let up = reach_of(rt, alloc, g, d, s, Dir::Up)?;
     let down = reach_of(rt, alloc, g, d, s, Dir::Down)?;
     for t in 0..g.node_count() {
-        if !rounds_all(alloc, g, links, d, cert, &up, &down, NodeNo::new(s), NodeNo::new(t))? {
+        if !rounds_all(
+            alloc,
+            g,
+            links,
+            d,
+            cert,
+            &up,
+            &down,
+            NodeNo::new(s),
+            NodeNo::new(t),
+        )? {
             return Ok(false);
         }
     }
