@@ -2,6 +2,6 @@ use Rattle.std.proofs.Common.{length, subst, sym, ℕ}
 use Rattle.mrt_plain.specs.Within.{AreWithin}
 use Rattle.computation_tests.proofs.order_walks.goes_round.Goals as goal
 
-pub follow-requires-within : goal.follow-requires-within
-follow-requires-within c =
+pub follow-requires-clause-within : goal.follow-requires-clause-within
+follow-requires-clause-within c =
     subst (λ (n : ℕ). AreWithin n c.args.links.now) (sym c.requires.count) c.requires.within
