@@ -1,5 +1,5 @@
 /// What the checker says of a certificate file.
-#[derive(Clone, Copy, Debug, PartialEq, Eq)]
+#[derive(Clone, Copy, PartialEq, Eq)]
 pub enum Verdict {
     /// All fourteen rules hold.
     Yes,

@@ -6,14 +6,14 @@ use area_graph::{BondNo, Spot};
 use mrt_graph::Color;
 
 /// A node or a bond of the area that fails.
-#[derive(Clone, Copy, Debug, PartialEq, Eq)]
+#[derive(Clone, Copy, PartialEq, Eq)]
 pub enum Failure {
     Node(Spot),
     Bond(BondNo),
 }
 
 /// One event: a packet enters, the router where a packet is handles it once, or an element fails.
-#[derive(Clone, Copy, Debug, PartialEq, Eq)]
+#[derive(Clone, Copy, PartialEq, Eq)]
 pub enum Event {
     Inject { at: Spot, to: Spot, entry: Entry },
     Step(PacketNo),
@@ -21,7 +21,7 @@ pub enum Event {
 }
 
 /// The answer to an event that is not refused.
-#[derive(Clone, Copy, Debug, PartialEq, Eq)]
+#[derive(Clone, Copy, PartialEq, Eq)]
 pub enum Outcome {
     /// The packet got this number.
     Entered(PacketNo),

@@ -4,7 +4,7 @@ use area_graph::Spot;
 use mrt_graph::Color;
 
 /// How a packet enters: on a color, or in primary mode, to be repaired where a failure cuts its hop.
-#[derive(Clone, Copy, Debug, PartialEq, Eq)]
+#[derive(Clone, Copy, PartialEq, Eq)]
 pub enum Entry {
     Blue,
     Red,
@@ -13,7 +13,7 @@ pub enum Entry {
 
 /// By what a packet is sent: by the primaries, or by the rows of a color, on which it entered or to which it was
 /// switched.
-#[derive(Clone, Copy, Debug, PartialEq, Eq)]
+#[derive(Clone, Copy, PartialEq, Eq)]
 pub enum Mode {
     Primary,
     Entered(Color),
@@ -21,7 +21,7 @@ pub enum Mode {
 }
 
 /// Why a packet is lost.
-#[derive(Clone, Copy, Debug, PartialEq, Eq)]
+#[derive(Clone, Copy, PartialEq, Eq)]
 pub enum Loss {
     /// Its place is the failed node.
     Inside,
@@ -37,7 +37,7 @@ pub enum Loss {
     NoAlternate,
 }
 
-#[derive(Clone, Copy, Debug, PartialEq, Eq)]
+#[derive(Clone, Copy, PartialEq, Eq)]
 pub enum State {
     Going,
     Delivered,
@@ -45,7 +45,7 @@ pub enum State {
 }
 
 /// A packet: the node where it is, the node that it is for, and how it stands.
-#[derive(Clone, Copy, Debug, PartialEq, Eq)]
+#[derive(Clone, Copy, PartialEq, Eq)]
 pub struct Packet {
     pub place: Spot,
     pub to: Spot,

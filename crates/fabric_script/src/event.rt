@@ -4,14 +4,14 @@ use fabric::Entry;
 use mrt_graph::NodeId;
 
 /// What has failed, by name: a node, or the link of a router with this link data.
-#[derive(Clone, Copy, Debug, PartialEq, Eq)]
+#[derive(Clone, Copy, PartialEq, Eq)]
 pub enum FailureName {
     Node(NodeId),
     Link { router: u32, link_data: u32 },
 }
 
 /// An event, by names.
-#[derive(Clone, Copy, Debug, PartialEq, Eq)]
+#[derive(Clone, Copy, PartialEq, Eq)]
 pub enum ScriptEvent {
     /// A packet enters at a router, for a node.
     Inject {

@@ -4,7 +4,7 @@ use mrt_graph::Seq;
 use ospf_lsa::Lsa;
 
 /// A Link State Update packet, but for its checksum and its authentication.
-#[derive(Debug, Drop, PartialEq, Eq)]
+#[derive(Drop, PartialEq, Eq)]
 pub struct Update {
     /// The place of its first byte in the file, from 0; of a packet that was sent on, that of the packet that it came in.
     pub at: u32,

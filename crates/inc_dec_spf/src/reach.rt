@@ -5,7 +5,7 @@ use std::alloc::Global;
 use std::marker::Model;
 
 /// Along the directions of links, or against them.
-#[derive(Clone, Copy, Debug, PartialEq, Eq)]
+#[derive(Clone, Copy, PartialEq, Eq)]
 pub enum Dir {
     Up,
     Down,
@@ -27,7 +27,7 @@ impl Dir {
 }
 
 /// The cost of a least path, and the link of its first end.
-#[derive(Clone, Copy, Debug, PartialEq, Eq)]
+#[derive(Clone, Copy, PartialEq, Eq)]
 pub struct Hop {
     pub cost: u32,
     pub link: LinkNo,

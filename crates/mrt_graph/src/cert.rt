@@ -8,14 +8,14 @@ use crate::numbers::{LinkNo, NodeNo};
 use std::marker::Model;
 
 /// One of the two Maximally Redundant Trees (RFC 7812, section 3).
-#[derive(Clone, Copy, Debug, PartialEq, Eq)]
+#[derive(Clone, Copy, PartialEq, Eq)]
 pub enum Color {
     Blue,
     Red,
 }
 
 /// What a link is to its block: the block's one link, its closing link, or neither.
-#[derive(Clone, Copy, Debug, PartialEq, Eq)]
+#[derive(Clone, Copy, PartialEq, Eq)]
 pub enum Role {
     Plain,
     Sole,
@@ -23,7 +23,7 @@ pub enum Role {
 }
 
 /// How a row's two links were chosen, as the fourteen rules tell.
-#[derive(Clone, Copy, Debug, PartialEq, Eq)]
+#[derive(Clone, Copy, PartialEq, Eq)]
 pub enum Tag {
     Sole,
     Head,
@@ -35,7 +35,7 @@ pub enum Tag {
 }
 
 /// What a node does with a packet for one destination: the link of each color, and how they were chosen.
-#[derive(Clone, Copy, Debug, PartialEq, Eq)]
+#[derive(Clone, Copy, PartialEq, Eq)]
 pub struct Row {
     pub blue: LinkNo,
     pub red: LinkNo,
@@ -46,7 +46,7 @@ pub struct Row {
 const _: () = prove!(size_of::<Row>() == 5);
 
 /// A certificate's words on one node.
-#[derive(Clone, Copy, Debug, PartialEq, Eq)]
+#[derive(Clone, Copy, PartialEq, Eq)]
 pub struct CertNode {
     pub id: NodeId,
     pub order: u16,
@@ -55,7 +55,7 @@ pub struct CertNode {
 }
 
 /// A certificate's words on one link.
-#[derive(Clone, Copy, Debug, PartialEq, Eq)]
+#[derive(Clone, Copy, PartialEq, Eq)]
 pub struct CertLink {
     pub a: NodeNo,
     pub b: NodeNo,

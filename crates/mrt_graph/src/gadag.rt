@@ -5,7 +5,7 @@ use crate::numbers::{LinkNo, NodeNo};
 use std::marker::Model;
 
 /// The direction that an ear gave a link; unset where no ear has it.
-#[derive(Clone, Copy, Debug, PartialEq, Eq)]
+#[derive(Clone, Copy, PartialEq, Eq)]
 pub enum Way {
     Unset,
     AToB,
@@ -13,14 +13,14 @@ pub enum Way {
 }
 
 /// The head and the block of a node (RFC 7811, section 4.5). A block is named by its first node.
-#[derive(Clone, Copy, Debug, PartialEq, Eq)]
+#[derive(Clone, Copy, PartialEq, Eq)]
 pub struct Place {
     pub head: NodeNo,
     pub block: NodeNo,
 }
 
 /// What the ears say of a link: its direction, its role, and the block that it lies in.
-#[derive(Clone, Copy, Debug, PartialEq, Eq)]
+#[derive(Clone, Copy, PartialEq, Eq)]
 pub struct Mark {
     pub way: Way,
     pub role: Role,

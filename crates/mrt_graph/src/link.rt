@@ -8,7 +8,7 @@ use crate::numbers::{LinkNo, NodeNo};
 /// A link as [`Graph::new`](crate::Graph::new) takes it: its two nodes, and at each of them the metric and the link
 /// data of the interface (RFC 2328, section A.4.2). In an island's graph, a network's end has metric 0 and link
 /// data 0.
-#[derive(Clone, Copy, Debug, PartialEq, Eq)]
+#[derive(Clone, Copy, PartialEq, Eq)]
 pub struct LinkIn {
     pub a: NodeNo,
     pub b: NodeNo,
@@ -19,7 +19,7 @@ pub struct LinkIn {
 }
 
 /// A link's two nodes, the lower one first.
-#[derive(Clone, Copy, Debug, PartialEq, Eq)]
+#[derive(Clone, Copy, PartialEq, Eq)]
 pub struct Link {
     pub a: NodeNo,
     pub b: NodeNo,
@@ -42,7 +42,7 @@ impl Link {
 
 /// An interface of a node: the link it is on, the node at the link's other end, and the node's own metric and link
 /// data there.
-#[derive(Clone, Copy, Debug, Default, PartialEq, Eq)]
+#[derive(Clone, Copy, Default, PartialEq, Eq)]
 pub struct End {
     pub link: LinkNo,
     pub to: NodeNo,
@@ -51,7 +51,7 @@ pub struct End {
 }
 
 /// What can fail, and what a walk uses: a link or a node.
-#[derive(Clone, Copy, Debug, PartialEq, Eq)]
+#[derive(Clone, Copy, PartialEq, Eq)]
 pub enum Element {
     Link(LinkNo),
     Node(NodeNo),

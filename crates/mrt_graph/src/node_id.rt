@@ -6,7 +6,7 @@ ghost use Rattle.std.specs.Ordering.{as_partial_cmp};
 use std::cmp::Ordering;
 
 /// What a node of the area is: a router, or a transit network (RFC 2328, section 2.1).
-#[derive(Clone, Copy, Debug, PartialEq, Eq)]
+#[derive(Clone, Copy, PartialEq, Eq)]
 pub enum Kind {
     Router,
     Network,
@@ -16,7 +16,7 @@ pub enum Kind {
 /// (RFC 2328, section 12.1.4).
 ///
 /// Identifiers are ordered by number; at one number the router comes before the network.
-#[derive(Clone, Copy, Debug, PartialEq, Eq)]
+#[derive(Clone, Copy, PartialEq, Eq)]
 pub struct NodeId {
     pub kind: Kind,
     pub number: u32,

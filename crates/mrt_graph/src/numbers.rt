@@ -8,11 +8,10 @@ ghost use Rattle.std.specs.Ordering.{as_partial_cmp, nat_cmp};
 ghost use Rattle.std.specs.Prelude.{nat_eq};
 
 use std::cmp::Ordering;
-use std::fmt::{self, Debug, Formatter, Write};
 use std::marker::Model;
 
 /// The number of a node of a graph, from 0.
-#[derive(Clone, Copy, Debug, Default, PartialEq, Eq, PartialOrd, Ord)]
+#[derive(Clone, Copy, Default, PartialEq, Eq, PartialOrd, Ord)]
 pub struct NodeNo(u16);
 
 impl Model for NodeNo {
@@ -84,12 +83,6 @@ impl LinkNo {
         ensures small { self.now < 2 ^ 16 }
     {
         u16::from_le_bytes([self.low, self.high])
-    }
-}
-
-impl Debug for LinkNo {
-    fn fmt<W: Write>(&self, f: &mut Formatter<W>) -> Result<(), fmt::Error> {
-        self.get().fmt(f)
     }
 }
 

@@ -5,7 +5,7 @@ use std::marker::Model;
 
 /// What the search says of one node: its number, the link over which it was found, its lowpoint, and the lowpoint's
 /// link (RFC 7811, section 4.3). Where the lowpoint is the node's own number, that is the link over which it was found.
-#[derive(Clone, Copy, Debug, PartialEq, Eq)]
+#[derive(Clone, Copy, PartialEq, Eq)]
 pub struct TreeNode {
     pub number: u16,
     pub parent: Option<LinkNo>,

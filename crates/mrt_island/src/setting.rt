@@ -1,7 +1,7 @@
 //! What the lines of a profile file say.
 
 /// What a line of a profile file says of a router.
-#[derive(Clone, Copy, Debug, PartialEq, Eq)]
+#[derive(Clone, Copy, PartialEq, Eq)]
 pub enum Setting {
     /// The router's GADAG root selection priority (RFC 7812, section 8).
     Priority { router: u32, priority: u8 },
@@ -12,7 +12,7 @@ pub enum Setting {
 }
 
 /// What no two lines of a profile file may speak of.
-#[derive(Clone, Copy, Debug, PartialEq, Eq, Hash)]
+#[derive(Clone, Copy, PartialEq, Eq, Hash)]
 pub enum Subject {
     Priority { router: u32 },
     NoMrt { router: u32 },

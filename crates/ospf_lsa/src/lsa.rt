@@ -18,7 +18,7 @@ const MAX_AGE: u16 = 3600;
 const SECONDS: u16 = 0x8000;
 
 /// A link of a router-LSA (RFC 2328, section A.4.2).
-#[derive(Debug, Drop, PartialEq, Eq)]
+#[derive(Drop, PartialEq, Eq)]
 pub struct RouterLink {
     /// The neighbour's router ID, the designated router's interface address, or the IP network, by the link's type.
     pub id: u32,
@@ -32,7 +32,7 @@ pub struct RouterLink {
 }
 
 /// What stands after the header of an LSA.
-#[derive(Debug, Drop, PartialEq, Eq)]
+#[derive(Drop, PartialEq, Eq)]
 pub enum Body {
     /// Of a router-LSA: its flags, the byte after them, and its links (RFC 2328, section A.4.2).
     Router {
@@ -52,7 +52,7 @@ pub enum Body {
 }
 
 /// A link state advertisement.
-#[derive(Debug, Drop, PartialEq, Eq)]
+#[derive(Drop, PartialEq, Eq)]
 pub struct Lsa {
     /// The place of its first byte in the file, from 0.
     pub at: u32,
