@@ -1,4 +1,5 @@
-//! Tests of primaries, of loop-free alternates, of repairs by order, of routes, of repairs, of a table's line, and of packets through a failure.
+//! Tests of primaries, of loop-free alternates, of repairs by order, of routes, of repairs, of a table's line, of packets through a failure, and
+//! of networks made from a number and their surveys.
 #![tactic(auto)]
 
 #[cfg(test)]
@@ -19,5 +20,7 @@ mod order_texts;
 mod packets;
 #[cfg(test)]
 mod small_area;
+#[cfg(test)]
+mod surveys;
 #[cfg(test)]
 mod table_lines;

@@ -1,4 +1,4 @@
-use Rattle.survey_tests.proofs.surveys.is_survey.Goals as goal
+use Rattle.repair_tests.proofs.surveys.is_survey.Goals as goal
 
 pub survey_text-requires : goal.survey_text-requires
 survey_text-requires c = record {
