@@ -9,6 +9,7 @@ ghost use Rattle.mrt_graph.specs.GraphInvariant.{IsNetwork};
 ghost use Rattle.text_parts.specs.Adds.{Adds};
 ghost use Rattle.mrt_report.specs.AddsLines.{AddsLines};
 ghost use Rattle.mrt_report.specs.ByColumn.{IsLineByColumn};
+ghost use Rattle.mrt_report.specs.TableText.{IsTableText};
 ghost use Rattle.mrt_rows.specs.CertOf.{IsCertOf};
 ghost use Rattle.mrt_rows.specs.Rooted.{MakeColumns};
 ghost use Rattle.mrt_cmd.specs.Input.{input_of};
@@ -75,7 +76,6 @@ fn table_of(
 {
     certificates_are_accepted();
     accepted_implies_sound();
-    lines_make_the_table();
     let own = NodeId {
         kind: Kind::Router,
         number: router,
@@ -91,8 +91,27 @@ fn table_of(
         source,
         primaries: &primaries,
     };
-    let mut text = table_head(alloc, graph, root, source)?;
-    push_lines(alloc, &mut text, &parts, &mut columns)?;
+    let text = table_text(alloc, root, &parts, &mut columns)?;
+    Ok(text)
+}
+
+/// The text of a table: its head, and a line on each other node.
+fn table_text(
+    alloc: Global,
+    root: NodeNo,
+    parts: &Parts,
+    columns: &mut RootedColumns,
+) -> Result<Vec<u8>, NoMemory>
+    requires root { root < length parts.now.island.now.ids }
+    requires root_router { ¬ IsNetwork parts.now.island.now.ids root }
+    requires kept { AreParts parts.now }
+    requires made { MakeColumns parts.now.island.now columns.old }
+    ensures { (file : CertFile) → IsCertOf parts.now.island.now columns.old.root file
+        → IfOk result (λ text. IsTableText (with_cert parts.now file.cert) root text.items) }
+{
+    lines_make_the_table();
+    let mut text = table_head(alloc, parts.island, root, parts.source)?;
+    push_lines(alloc, &mut text, parts, columns)?;
     Ok(text)
 }
 

@@ -2,8 +2,6 @@ use Rattle.std.proofs.Common.{rules, ◌≡◌, ℕ, List, Option, Some, slice_g
 use Rattle.area_graph.specs.Nodes.{router as router_node}
 use Rattle.primary_alt.specs.declared.shortest.Primary.{Primary}
 use Rattle.primary_alt.specs.Primaries.{ArePrimaries}
-use Rattle.mrt_report.specs.TableParts.{table_parts}
-use Rattle.mrt_report.specs.TableText.{IsTableText}
 use Rattle.mrt_rows.specs.CertOf.{IsCertOf}
 use Rattle.mrt_cmd.specs.Tabled.{IsComputedFile}
 use Rattle.mrt_cmd.proofs.table.table_of.Goals as goal
@@ -24,8 +22,6 @@ returns c =
     } in
     let source : slice_get graph.ids c.unwrap-source.result ≡ Some (router_node c.args.router) = search rules in
     let spot : slice_get c.args.area.now.ids c.unwrap-spot.result ≡ Some (router_node c.args.router) = search rules in
-    let lines = c.in_ok-push_lines.ensures file (subst (λ (n : ℕ). IsCertOf graph n file) (sym c.in_ok-columns.ensures.root) computed) in
-    let parts = table_parts c.args.area.now graph c.args.link_of.now file.cert c.unwrap-source.result c.deref.result.now in
     record {
       file = file;
       certificate = certificate;
@@ -36,6 +32,5 @@ returns c =
       primaries = c.deref.result.now;
       primaries_are = subst (λ (entries : List (Option Primary)). ArePrimaries c.args.area.now c.unwrap-spot.result entries)
           (sym c.deref.ensures.value) c.in_ok-primaries.ensures;
-      spelled = subst (λ (text : List ℕ). IsTableText parts root text) (sym lines.added)
-          (c.lines_make_the_table.ensures parts root c.in_ok-text.text.items lines.lines c.in_ok-text.ensures lines.are);
+      spelled = c.in_ok-text.ensures file (subst (λ (n : ℕ). IsCertOf graph n file) (sym c.in_ok-columns.ensures.root) computed);
     }
