@@ -99,19 +99,33 @@ fn one_agrees(
     agrees(alloc, g, root, d, to, &column)
 }
 
-/// Whether the columns of all nodes do so.
-fn all_agree(alloc: Global, g: &Graph, root: NodeNo, d: &Directed) -> Result<bool, NoMemory>
+/// Whether the columns of all nodes do so, made one after another.
+fn each_agrees(
+    alloc: Global,
+    g: &Graph,
+    root: NodeNo,
+    d: &Directed,
+    columns: &mut Columns,
+) -> Result<bool, NoMemory>
     requires directed { SaysOrdered g.now root d.now }
+    requires held { (w : Directions) → Says g.now d.now w → AreHeld g.now root w columns.old }
 {
-    let mut columns = Columns::new(alloc, g, root, d)?;
     for to in 0..g.node_count() {
-        if !one_agrees(alloc, g, root, d, &mut columns, to)?
-            || !alone_agrees(alloc, g, root, d, to)?
-        {
+        if !one_agrees(alloc, g, root, d, columns, to)? {
+            return Ok(false);
+        }
+        if !alone_agrees(alloc, g, root, d, to)? {
             return Ok(false);
         }
     }
     Ok(true)
+}
+
+fn all_agree(alloc: Global, g: &Graph, root: NodeNo, d: &Directed) -> Result<bool, NoMemory>
+    requires directed { SaysOrdered g.now root d.now }
+{
+    let mut columns = Columns::new(alloc, g, root, d)?;
+    each_agrees(alloc, g, root, d, &mut columns)
 }
 
 fn are_so(rt: &impl Abort, alloc: Global, case: &Case) -> Result<bool, GraphError> {
