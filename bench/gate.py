@@ -1,0 +1,125 @@
+#!/usr/bin/env python3
+"""Runs rt ci and prints, after what rt ci prints, the processor time of each crate: its proof, its tests, its must-fail edits.
+
+    bench/gate.py [--to FILE] [--anew] [NAME..]     at the top of the repository; the words after FILE are those of rt ci
+
+The status is that of rt ci. Processor time is user and system time of each process that rt starts, as the kernel gives it when the process ends.
+FILE gets a line for each of them, with tabs between: crate, what was done, seconds of the processor, seconds on the clock, MB at most, and when it began.
+What rt ci takes from an earlier run on this machine has no time: --anew leaves nothing out."""
+import collections
+import glob
+import os
+import re
+import resource
+import runpy
+import shutil
+import subprocess
+import sys
+import threading
+import time
+
+COLUMNS = ("proof", "tests", "ground", "edits", "other")
+done, lock, begun = [], threading.Lock(), time.monotonic()
+
+
+def what_of(words, folder):
+    """Returns the crate and the kind of a command of rattle, and the name of the edit where it tries one."""
+    words = [it.decode() if isinstance(it, bytes) else str(it) for it in words]
+    if "--crate-name" not in words:
+        made = words[words.index("-o") + 1] if "-o" in words else ""
+        tests = re.fullmatch(r"out/(\w+)_tests(\.\S+)?", made)
+        # rattle-link, in the crate's folder
+        return os.path.basename(str(folder or "")), "tests" if tests else "other", ""
+    crate = words[words.index("--crate-name") + 1]
+    if not os.path.basename(str(folder or "")).startswith("rt-edit-"):
+        return crate, "tests" if "--test" in words else "proof", ""
+    kept = words[words.index("--incremental") + 1] if "--incremental" in words else ""
+    if os.path.basename(kept) == "seed":
+        return crate, "ground", ""
+    names = sorted(glob.glob(f"crates/{crate}/must-fail/*.edit", root_dir=TOP))
+    number = os.path.basename(kept)
+    return (
+        crate,
+        "edits",
+        os.path.basename(names[int(number)])[:-5]
+        if number.isdigit() and int(number) < len(names)
+        else "from nothing",
+    )
+
+
+class Timed(subprocess.Popen):
+    """A process that notes what it took when it has ended."""
+
+    def __init__(self, args, *given, **how):
+        self.at, self.what = time.monotonic(), (args, how.get("cwd"))
+        super().__init__(args, *given, **how)
+
+    def _try_wait(self, flags):
+        try:
+            found, status, used = os.wait4(self.pid, flags)
+        except ChildProcessError:
+            return self.pid, 0
+        if found == self.pid and any(str(it).endswith(("/rattle", "/rattle-link")) for it in self.what[0]):
+            crate, kind, name = what_of(*self.what)
+            row = (
+                crate,
+                kind,
+                name,
+                used.ru_utime + used.ru_stime,
+                time.monotonic() - self.at,
+                used.ru_maxrss / 1024,
+                self.at - begun,
+            )
+            with lock:
+                done.append(row)
+        return found, status
+
+
+def table():
+    """Prints the minutes of each crate, the most expensive first, and the sum."""
+    of = collections.defaultdict(lambda: collections.Counter())
+    for crate, kind, _, used, *_ in done:
+        of[crate][kind] += used / 60
+    print(f"\n{'processor minutes':<20}" + "".join(f"{it:>8}" for it in COLUMNS) + f"{'in all':>8}")
+    rows = sorted(of.items(), key=lambda it: -sum(it[1].values()))
+    for name, row in [*rows, ("in all", sum((it for _, it in rows), collections.Counter()))]:
+        print(f"{name:<20}" + "".join(f"{row[it]:8.1f}" for it in COLUMNS) + f"{sum(row.values()):8.1f}")
+    own, below = resource.getrusage(resource.RUSAGE_SELF), resource.getrusage(resource.RUSAGE_CHILDREN)
+    whole = sum(it.ru_utime + it.ru_stime for it in (own, below)) / 60
+    most = max((it[5] for it in done), default=0)
+    print(
+        f"{whole:.1f} processor minutes, {(time.monotonic() - begun) / 60:.1f} on the clock; at most {most:,.0f} MB in one process"
+    )
+
+
+def main():
+    words = sys.argv[1:]
+    to = None
+    if words[:1] == ["--to"]:
+        to, words = words[1], words[2:]
+    rt = shutil.which("rt")
+    if not rt:
+        sys.exit("gate.py: rt is not on the path")
+    subprocess.Popen, sys.argv = Timed, [rt, "ci", *words]
+    try:
+        runpy.run_path(os.path.realpath(rt), run_name="__main__")
+    finally:
+        table()
+        if to:
+            with open(to, "w", encoding="utf-8") as it:
+                for crate, kind, name, used, clock, most, at in done:
+                    print(
+                        crate,
+                        f"{kind} {name}".strip(),
+                        f"{used:.1f}",
+                        f"{clock:.1f}",
+                        f"{most:.0f}",
+                        f"{at:.0f}",
+                        sep="\t",
+                        file=it,
+                    )
+
+
+TOP = os.getcwd()
+if __name__ == "__main__":
+    main()
