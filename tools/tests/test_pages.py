@@ -127,6 +127,50 @@ class Commands(unittest.TestCase):
         self.assertEqual((told.returncode, told.stderr), (0, ""))
 
 
+class Names(unittest.TestCase):
+    """What the pages name stands in the sources."""
+
+    def setUp(self) -> None:
+        folders = [os.path.join(ROOT, "crates", crate, "src") for crate in os.listdir(os.path.join(ROOT, "crates"))]
+        files = [os.path.join(folder, name) for folder in folders for name in sorted(os.listdir(folder))]
+        self.sources = {os.path.relpath(name, ROOT): read(name) for name in files}
+
+    def stands(self, name: str) -> bool:
+        found = re.compile(rf"\b(fn|struct|enum|trait|ensures) {name.split('::')[-1]}\b")
+        return any(found.search(text) for text in self.sources.values())
+
+    def test_what_is_proved(self) -> None:
+        section = read("README.md").split("\n## What is proved\n")[1].split("**Only tested:**")[0]
+        names = set(re.findall(r"`((?:\w+::)*\w+)`", section)) - {"certify", "check"}
+        self.assertGreater(len(names), 30)
+        self.assertEqual([name for name in sorted(names) if not self.stands(name)], [])
+
+    def test_laws(self) -> None:
+        section = read("docs/AUDIT.md").split("\n## Laws that tell a definition another way\n")[1].split("\n## ")[0]
+        laws = re.findall(r"^\|[^|]*\| `(\w+)` \|", section, re.MULTILINE)
+        self.assertGreater(len(laws), 10)
+        self.assertEqual([law for law in laws if not self.stands(law)], [])
+
+    def test_wrong_lines_to_try_are_edits_of_the_gate(self) -> None:
+        section = read("docs/AUDIT.md").split("\n## Five things to try\n")[1]
+        items = re.split(r"^\d\. ", section.split("\nTo check one function")[0], flags=re.MULTILINE)[1:]
+        self.assertEqual(len(items), 5)
+        for item in items:
+            file, *spans = re.findall(r"`([^`]{13,})`", item)
+            crate, _, place = file.removeprefix("crates/").partition("/")
+            folder = os.path.join(ROOT, "crates", crate, "must-fail")
+            edits = [read(os.path.join(folder, name)) for name in os.listdir(folder)]
+            said = [
+                edit
+                for edit in edits
+                if f"file: {place}\n" in edit and any(span in edit.split("new: ")[1] for span in spans)
+            ]
+            self.assertEqual(len(said), 1, item)
+            old = re.search(r"^old: (.*)$", said[0], re.MULTILINE)
+            assert old is not None
+            self.assertEqual(self.sources[file].count(old[1]), 1, item)
+
+
 class Completion(unittest.TestCase):
     def completed(self, *words: str, folder: str = ROOT) -> set[str]:
         script = '. "$0"; COMP_WORDS=("$@") COMP_CWORD=$(($# - 1)); _mrt; printf "%s\\n" "${COMPREPLY[@]}"'
