@@ -1,4 +1,5 @@
 """The pages: what their commands print, how long they are, and what is made of them."""
+import glob
 import os
 import re
 import shutil
@@ -131,9 +132,8 @@ class Names(unittest.TestCase):
     """What the pages name stands in the sources."""
 
     def setUp(self) -> None:
-        folders = [os.path.join(ROOT, "crates", crate, "src") for crate in os.listdir(os.path.join(ROOT, "crates"))]
-        files = [os.path.join(folder, name) for folder in folders for name in sorted(os.listdir(folder))]
-        self.sources = {os.path.relpath(name, ROOT): read(name) for name in files}
+        files = glob.glob("crates/*/src/**/*.rt", root_dir=ROOT, recursive=True)
+        self.sources = {name: read(name) for name in files}
 
     def stands(self, name: str) -> bool:
         found = re.compile(rf"\b(fn|struct|enum|trait|ensures) {name.split('::')[-1]}\b")
