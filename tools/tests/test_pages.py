@@ -135,9 +135,11 @@ class Names(unittest.TestCase):
         files = glob.glob("crates/*/src/**/*.rt", root_dir=ROOT, recursive=True)
         self.sources = {name: read(name) for name in files}
 
+        found = re.compile(r"\b(?:fn|struct|enum|trait|ensures) (\w+)")
+        self.names = {name for text in self.sources.values() for name in found.findall(text)}
+
     def stands(self, name: str) -> bool:
-        found = re.compile(rf"\b(fn|struct|enum|trait|ensures) {name.split('::')[-1]}\b")
-        return any(found.search(text) for text in self.sources.values())
+        return name.split("::")[-1] in self.names
 
     def test_what_is_proved(self) -> None:
         section = read("README.md").split("\n## What is proved\n")[1].split("**Only tested:**")[0]
