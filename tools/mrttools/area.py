@@ -7,6 +7,9 @@ from typing import Iterable, Iterator, NamedTuple
 from . import lsas
 from .lsas import NETWORK, POINT_TO_POINT, ROUTER, TRANSIT, Lsa
 
+# A link with this metric is not for transit traffic, and in no island (RFC 6987; RFC 7812, section 7.3.1).
+MAX_METRIC = 0xFFFF
+
 
 class Node(NamedTuple):
     """A router by its router ID, or a network by its designated router's address. Nodes are ordered by number, then
@@ -27,16 +30,29 @@ class Arc(NamedTuple):
     to: Node
     data: int
     place: int
+    metric: int
 
 
 class Bond(NamedTuple):
-    """A link between two nodes, with the link data of both ends. Where both ends tell of it, the lesser node is
-    first. Of parallel links that only one end tells, that end is first, and the other has no data."""
+    """A link between two nodes, with the link data and the metric of both ends; a network's end has the metric 0. Where
+    both ends tell of it, the lesser node is first. Of parallel links that only one end tells, that end is first, and
+    the other has no data and no metric."""
 
     a: Node
     b: Node
     data_a: int
     data_b: int | None
+    metric_a: int
+    metric_b: int | None
+
+    @property
+    def two_way(self) -> bool:
+        return self.data_b is not None
+
+    @property
+    def transit(self) -> bool:
+        """Whether both ends tell of it and neither says that it is not for transit traffic (RFC 6987)."""
+        return self.two_way and MAX_METRIC not in (self.metric_a, self.metric_b)
 
     def is_of(self, router: int, data: int) -> bool:
         """Whether this is the link of a router with this link data."""
@@ -46,10 +62,28 @@ class Bond(NamedTuple):
     def far(self, node: Node) -> Node:
         return self.b if node == self.a else self.a
 
+    def metric_from(self, node: Node) -> int | None:
+        """The metric of the way from one of its nodes; none where that way is not told."""
+        return self.metric_a if node == self.a else self.metric_b
+
+    def data_of(self, node: Node) -> int | None:
+        return self.data_a if node == self.a else self.data_b
+
+    @property
+    def text(self) -> str:
+        """A link by a router and its link data, as `mrt` takes it. Of one that leads to a network it is the router's
+        end."""
+        if self.a.kind == ROUTER:
+            return f"link:{self.a.text}/{lsas.spelled(self.data_a)}"
+        return f"link:{self.b.text}/{lsas.spelled(self.data_b or 0)}"
+
 
 class Area(NamedTuple):
+    """Nodes, the links between them, and what one end alone tells of a link, but for its parallel links."""
+
     nodes: list[Node]
     bonds: list[Bond]
+    half: list[Arc]
 
 
 def node_of(text: str) -> Node:
@@ -70,13 +104,13 @@ def arcs_from(node: Node, lsa: Lsa) -> Iterator[Arc]:
     """The links that a node's LSA tells, to routers and to transit networks."""
     if node.kind == NETWORK:
         for place, router in enumerate(lsas.routers_of(lsa.record)):
-            yield Arc(node, Node(router, ROUTER), 0, place)
+            yield Arc(node, Node(router, ROUTER), 0, place, 0)
         return
     for place, link in enumerate(lsas.links_of(lsa.record)):
         if link.kind == POINT_TO_POINT and link.far != node.number:
-            yield Arc(node, Node(link.far, ROUTER), link.data, place)
+            yield Arc(node, Node(link.far, ROUTER), link.data, place, link.metric)
         elif link.kind == TRANSIT:
-            yield Arc(node, Node(link.far, NETWORK), link.data, place)
+            yield Arc(node, Node(link.far, NETWORK), link.data, place, link.metric)
 
 
 def bonds_of(arcs: Iterable[Arc]) -> list[Bond]:
@@ -91,34 +125,45 @@ def bonds_of(arcs: Iterable[Arc]) -> list[Bond]:
     for (a, b), there in sorted(ways.items()):
         back = ways.get((b, a), [])
         if a < b:
-            pairs += [Bond(a, b, one.data, other.data) for one, other in zip(there, back)]
+            pairs += [Bond(a, b, one.data, other.data, one.metric, other.metric) for one, other in zip(there, back)]
         if back:
-            single += [Bond(a, b, arc.data, None) for arc in there[len(back) :]]
+            single += [Bond(a, b, arc.data, None, arc.metric, None) for arc in there[len(back) :]]
     return pairs + single
 
 
 def area_of(found: Iterable[Lsa]) -> Area:
     """The area of LSAs, old instances among them."""
     speaking = speakers(found)
-    return Area(
-        sorted(speaking),
-        bonds_of(arc for node, lsa in speaking.items() for arc in arcs_from(node, lsa) if arc.to in speaking),
-    )
+    told = [arc for node, lsa in speaking.items() for arc in arcs_from(node, lsa)]
+    ways = {(arc.tail, arc.to) for arc in told}
+    half = sorted(arc for arc in told if (arc.to, arc.tail) not in ways)
+    return Area(sorted(speaking), bonds_of(arc for arc in told if arc.to in speaking), half)
+
+
+def profile_lines(profile: bytes) -> list[list[str]]:
+    """The words of each line. A line that begins with # may hold any bytes."""
+    return [line.decode("ascii").split() for line in profile.split(b"\n") if not line.startswith(b"#")]
 
 
 def ineligible(profile: bytes) -> set[tuple[int, int]]:
-    """The links that a profile keeps out, by router and link data. A line that begins with # may hold any bytes."""
-    lines = [line.decode("ascii").split() for line in profile.split(b"\n") if not line.startswith(b"#")]
+    """The links that a profile keeps out, by router and link data."""
+    lines = profile_lines(profile)
     return {(lsas.address(words[1]), lsas.address(words[2])) for words in lines if words[:1] == ["ineligible"]}
 
 
+def unsupported(profile: bytes) -> set[Node]:
+    """The routers that a profile keeps out."""
+    return {Node(lsas.address(words[1]), ROUTER) for words in profile_lines(profile) if words[:1] == ["no-mrt"]}
+
+
 def island_bonds(area: Area, members: Iterable[Node], kept_out: set[tuple[int, int]]) -> list[Bond]:
-    """The links of an island by their numbers in its certificate: both ends tell of them, and none is kept out."""
+    """The links of an island by their numbers in its certificate: both ends tell of them, they are for transit traffic,
+    and none is kept out."""
     inside = set(members)
     return [
         bond
         for bond in area.bonds
-        if bond.data_b is not None
+        if bond.transit
         and {bond.a, bond.b} <= inside
         and not any(bond.is_of(router, data) for router, data in kept_out)
     ]

@@ -1,21 +1,14 @@
-"""Pictures of the two trees to a destination, as text for graphviz."""
+"""What pictures show: the two trees to a destination, the ways after a failure, or an area with what parts it."""
 from __future__ import annotations
 
-from typing import Iterable, NamedTuple
+from typing import Collection, Iterable, NamedTuple
 
+from . import lsas
 from .area import Area, Bond, Node
 from .certificate import BLUE, COLORS, RED, Certificate
 from .lsas import NETWORK
-
-INK = {
-    "blue": "#1f5fbf",
-    "red": "#c8281e",
-    "both": "#7a2fa0",
-    "primary": "#222222",
-    "link": "#b8b8b8",
-    "failed": "#9a9a9a",
-}
-FILL = {"blue": "#cfe0f7", "red": "#f7d3d0"}
+from .names import known, spelled
+from .svg import Drawing, Mark, Stroke
 
 
 class Arrow(NamedTuple):
@@ -42,6 +35,18 @@ class Course(NamedTuple):
     color: str | None
     primary: list[Arrow]
     lost: str | None
+
+
+class Style(NamedTuple):
+    """What was asked for: names of routers, a title, and what stands at the ends of links."""
+
+    names: dict[Node, str]
+    title: str | None
+    metrics: bool
+    addresses: bool
+
+
+PLAIN = Style({}, None, False, False)
 
 
 class Failure(NamedTuple):
@@ -89,118 +94,184 @@ def failure_arrows(island: Island, failure: Failure, target: Node) -> list[Arrow
     return list(dict.fromkeys(found))
 
 
-# text
+# links
 
 
-def quoted(text: str) -> str:
-    return '"' + text.replace("\\", "\\\\").replace('"', '\\"') + '"'
+def end_text(bond: Bond, node: Node) -> str:
+    """What one end tells of a link."""
+    if bond.metric_from(node) is None:
+        return "not told"
+    address = "" if node.kind == NETWORK else f"{lsas.spelled(bond.data_of(node) or 0)}, "
+    return f"{address}metric {bond.metric_from(node)}"
 
 
-def attributes(**values: str) -> str:
-    return " [" + ", ".join(f"{name}={quoted(value)}" for name, value in values.items()) + "]"
+def link_tip(bond: Bond, style: Style) -> str:
+    ends = (f"{known(style.names, node)} ({end_text(bond, node)})" for node in (bond.a, bond.b))
+    return " \u2013 ".join(ends)
 
 
-def node_line(node: Node, island: Island, target: Node, failure: Failure | None) -> str:
-    """A node with its name and what it is. A router is an ellipse and a network a box; the destination has a second
-    border."""
-    cert = island.certificate
-    words = [node.text.removeprefix("net:")]
-    words += ["network"] if node.kind == NETWORK else []
-    words += [
-        ", ".join(
-            word for word, true in (("root", node == cert.root), ("cut node", node in cert.cut_nodes())) if true
-        )
-    ]
-    values = {
-        "label": "\\n".join(filter(None, words)),
-        "shape": "box" if node.kind == NETWORK else "ellipse",
-        "style": "filled",
-        "fillcolor": "#f2f2f2" if node.kind == NETWORK else "white",
-    }
-    if node == target:
-        values |= {"peripheries": "2", "penwidth": "1.6"}
-    if node not in cert.nodes:
-        values |= {"style": "dotted", "color": INK["link"], "fontcolor": INK["failed"]}
-    if failure:
-        values |= failure_style(node, failure)
-    return quoted(node.text) + attributes(**values).replace("\\\\n", "\\n")
+def end_label(bond: Bond, node: Node, style: Style) -> str:
+    """What stands in the picture at one end of a link, where it was asked for. A network's end has nothing to tell."""
+    if node.kind == NETWORK or bond.metric_from(node) is None:
+        return ""
+    words = [lsas.spelled(bond.data_of(node) or 0)] if style.addresses else []
+    return " ".join(words + ([str(bond.metric_from(node))] if style.metrics else []))
 
 
-def failure_style(node: Node, failure: Failure) -> dict[str, str]:
-    """How the failure shows at a node."""
-    if node == failure.element:
-        return {"style": "filled,dashed", "fillcolor": "#e0e0e0", "color": INK["failed"], "fontcolor": INK["failed"]}
-    color = next((course.color for course in failure.courses if course.router == node), None)
-    return {"fillcolor": FILL[color], "color": INK[color], "penwidth": "1.6"} if color else {}
-
-
-def arrow_line(arrow: Arrow) -> str:
-    values = {"color": INK[arrow.sort], "penwidth": {"both": "3", "primary": "1"}.get(arrow.sort, "1.8")}
-    if arrow.sort == "primary":
-        values |= {"style": "dashed"}
-    return f"{quoted(arrow.tail.text)} -> {quoted(arrow.bond.far(arrow.tail).text)}" + attributes(**values)
+def end_labels(whole: Area, style: Style) -> dict[Bond, tuple[str, str]]:
+    if not (style.metrics or style.addresses):
+        return {}
+    return {bond: (end_label(bond, bond.a, style), end_label(bond, bond.b, style)) for bond in whole.bonds}
 
 
 def is_failed(bond: Bond, failure: Failure | None) -> bool:
     return failure is not None and failure.element in (bond, bond.a, bond.b)
 
 
-def link_lines(island: Island, arrows: Iterable[Arrow], failure: Failure | None) -> list[str]:
+def plain_strokes(
+    whole: Area, inside: Collection[Bond], drawn: Collection[Bond], failure: Failure | None, style: Style
+) -> list[Stroke]:
     """The links without an arrow, so that the picture has every link."""
-    drawn, lines = {arrow.bond for arrow in arrows}, []
-    for bond in island.area.bonds:
-        if bond not in drawn:
-            style = "dashed" if is_failed(bond, failure) else "solid" if bond in island.bonds else "dotted"
-            lines.append(
-                f"{quoted(bond.a.text)} -> {quoted(bond.b.text)}"
-                + attributes(dir="none", color=INK["link"], style=style)
-            )
-    return lines
+    return [
+        Stroke(
+            bond,
+            bond.a,
+            "failed" if is_failed(bond, failure) else "link" if bond in inside else "outside",
+            link_tip(bond, style),
+        )
+        for bond in whole.bonds
+        if bond not in drawn
+    ]
 
 
-def colored(sort: str, text: str) -> str:
-    return f'<font color="{INK[sort]}">{text}</font>'
+def arrow_stroke(arrow: Arrow, style: Style) -> Stroke:
+    what = {"both": "blue and red"}.get(arrow.sort, arrow.sort)
+    head = arrow.bond.far(arrow.tail)
+    tip = f"{what}: {known(style.names, arrow.tail)} to {known(style.names, head)}; {link_tip(arrow.bond, style)}"
+    return Stroke(arrow.bond, arrow.tail, arrow.sort, tip)
 
 
-def told(failure: Failure) -> list[str]:
+# nodes
+
+
+def mark_of(node: Node, words: Iterable[str], fill: str, double: bool, style: Style) -> Mark:
+    square = node.kind == NETWORK
+    said = [*(["network"] if square else []), *words]
+    kind = "network" if square and fill == "plain" else fill
+    return Mark(
+        node,
+        spelled(style.names, node),
+        ", ".join(said),
+        kind,
+        square,
+        double,
+        ", ".join([known(style.names, node), *said]),
+    )
+
+
+def fill_of(node: Node, island: Island, failure: Failure | None) -> str:
+    """How a node is filled: by what it does after a failure."""
+    if node not in island.certificate.nodes:
+        return "outside"
+    if failure and node == failure.element:
+        return "failed"
+    for course in failure.courses if failure else []:
+        if course.router == node and (course.color or course.lost):
+            return course.color or "lost"
+    return "plain"
+
+
+def tree_marks(island: Island, target: Node, failure: Failure | None, style: Style) -> list[Mark]:
+    cert, cuts = island.certificate, island.certificate.cut_nodes()
+    marks = []
+    for node in island.area.nodes:
+        words = [word for word, true in (("root", node == cert.root), ("cut node", node in cuts)) if true]
+        marks.append(mark_of(node, words, fill_of(node, island, failure), node == target, style))
+    return marks
+
+
+# legend
+
+
+SORTS = {
+    "blue": "blue",
+    "red": "red",
+    "both": "blue and red over one link",
+    "primary": "primary",
+    "cut": "link that parts the area",
+    "link": "other link",
+    "failed": "link that has failed",
+    "outside": "link in no island",
+}
+FILLS = {
+    "double": "destination",
+    "network": "network",
+    "blue": "switches to blue",
+    "red": "switches to red",
+    "lost": "loses its packets",
+    "failed": "has failed",
+    "cut": "router or network that parts the area",
+    "outside": "in no island",
+}
+
+
+def legend_of(
+    marks: Iterable[Mark], strokes: Iterable[Stroke], sorts: dict[str, str] = SORTS
+) -> list[tuple[str, str]]:
+    """What lines and fills mean, of those that the picture has."""
+    drawn = {stroke.sort for stroke in strokes}
+    filled = {mark.fill for mark in marks} | {"double" for mark in marks if mark.double}
+    lines = [(sort, text) for sort, text in sorts.items() if sort in drawn]
+    return lines + [(f"fill {fill}", text) for fill, text in FILLS.items() if fill in filled]
+
+
+def told(failure: Failure, style: Style) -> list[str]:
     """Which routers do not go on as before, by what they do."""
     lines = []
     for color in COLORS:
-        switching = [course.router.text for course in failure.courses if course.color == color]
+        switching = [known(style.names, course.router) for course in failure.courses if course.color == color]
         if switching:
-            lines.append(colored(color, f"switching to {color}: {', '.join(switching)}"))
-    lost = [f"{course.router.text} ({course.lost})" for course in failure.courses if course.lost]
-    return lines + ([f"losing packets: {', '.join(lost)}"] if lost else [])
+            lines.append(f"Switching to {color}: {', '.join(switching)}.")
+    lost = [f"{known(style.names, course.router)} ({course.lost})" for course in failure.courses if course.lost]
+    return lines + ([f"Losing packets: {', '.join(lost)}."] if lost else [])
 
 
-def keys(island: Island, arrows: list[Arrow]) -> str:
-    """What the colors and lines say, of those that the picture has."""
-    sorts = {arrow.sort for arrow in arrows}
-    texts = {"blue": "blue", "red": "red", "both": "bold: one link for both colors", "primary": "dashed: primary"}
-    found = [colored(sort, text) for sort, text in texts.items() if sort in sorts]
-    if len(island.bonds) < len(island.area.bonds):
-        found.append(colored("failed", "dotted: not in the island"))
-    return ", ".join(found)
+# pictures
 
 
-def caption(island: Island, target: Node, arrows: list[Arrow], failure: Failure | None) -> str:
-    """The text below the picture."""
-    title = f"<b>To {target.text}</b>, root {island.certificate.root.text}"
-    if failure:
-        title += f"; failed: {failure.name}"
-    lines = [title, *(told(failure) if failure else []), keys(island, arrows)]
-    return "<" + "<br/>".join(lines) + ">"
-
-
-def dot_text(island: Island, target: Node, failure: Failure | None) -> str:
-    """The picture for graphviz."""
+def tree_drawing(island: Island, target: Node, failure: Failure | None, style: Style = PLAIN) -> Drawing:
+    """The trees to a destination, or the ways to it after a failure."""
     arrows = failure_arrows(island, failure, target) if failure else tree_arrows(island, target)
-    lines = [node_line(node, island, target, failure) for node in island.area.nodes]
-    lines += [arrow_line(arrow) for arrow in arrows] + link_lines(island, arrows, failure)
-    head = [
-        'layout=neato; overlap=false; mode=KK; sep="+18"; labelloc=b; fontname="Helvetica"; fontsize=12',
-        f"label={caption(island, target, arrows, failure)}",
-        'node [fontname="Helvetica", fontsize=11, margin="0.06,0.04"]',
-        "edge [arrowsize=0.7, len=1.5]",
-    ]
-    return "digraph {\n" + "".join(f"    {line};\n" for line in head + lines) + "}\n"
+    marks = tree_marks(island, target, failure, style)
+    strokes = [arrow_stroke(arrow, style) for arrow in arrows]
+    strokes += plain_strokes(island.area, set(island.bonds), {arrow.bond for arrow in arrows}, failure, style)
+    title = f"To {known(style.names, target)}, root {known(style.names, island.certificate.root)}"
+    title = title.replace(", root", f", after the failure of {failure.name}, root") if failure else title
+    notes = told(failure, style) if failure else []
+    legend = legend_of(marks, strokes, SORTS | {"outside": "link not in this island"})
+    return Drawing(style.title or title, marks, strokes, end_labels(island.area, style), legend, notes)
+
+
+class Parts(NamedTuple):
+    """What an area's picture marks: its islands' roots, what is in an island, and what parts the area."""
+
+    roots: Collection[Node]
+    inside: Collection[Node]
+    inside_bonds: Collection[Bond]
+    cuts: Collection[Node]
+    cut_bonds: Collection[Bond]
+
+
+def area_drawing(whole: Area, parts: Parts, style: Style = PLAIN) -> Drawing:
+    """An area, with the nodes and links that part it."""
+    marks = []
+    for node in whole.nodes:
+        fill = "cut" if node in parts.cuts else "plain" if node in parts.inside else "outside"
+        marks.append(mark_of(node, ["root"] if node in parts.roots else [], fill, False, style))
+    strokes = [Stroke(bond, bond.a, "cut", link_tip(bond, style)) for bond in whole.bonds if bond in parts.cut_bonds]
+    strokes += plain_strokes(whole, parts.inside_bonds, parts.cut_bonds, None, style)
+    routers = sum(node.kind == lsas.ROUTER for node in whole.nodes)
+    title = (
+        style.title or f"The area: {routers} routers, {len(whole.nodes) - routers} networks, {len(whole.bonds)} links"
+    )
+    return Drawing(title, marks, strokes, end_labels(whole, style), legend_of(marks, strokes), [])

@@ -1,14 +1,18 @@
 """Pictures, by the sample with a LAN. A stand-in for the program gives its certificate: nothing need be built."""
 import os
+import re
 import shutil
 import struct
 import subprocess
 import tempfile
 import unittest
+from random import Random
+from xml.etree import ElementTree
 
-from mrttools import area, certificate, layout, lsas, picture
+from mrttools import area, certificate, layout, lsas, names, picture, program, svg
 from mrttools.area import Node
-from mrttools.picture import Arrow, Course, Failure, Island
+from mrttools.layout import Size
+from mrttools.picture import Arrow, Course, Failure, Island, Style
 from tests import making
 from tests.making import DATA, TOOLS
 
@@ -16,8 +20,7 @@ STAND_IN = """#!/bin/sh
 case $1 in
 certify) cat {data}/lan.cert; exit {certify} ;;
 check) [ {check} = 0 ] || echo 'mrt: no: rule 7 at 0 1' >&2; exit {check} ;;
-table) echo head; echo '10.255.1.1 top blue 10.255.1.5/192.0.2.5 red a/b primary 10.255.1.5/192.0.2.5 repair br' ;;
-trace) printf 'failed\\nentered 0\\nswitched blue\\n' ;;
+fabric) sed -n 's/^fail .*/failed/p; s/^inject .*/entered 0/p; s/^step .*/switched blue/p' "$4" ;;
 esac
 """
 
@@ -115,12 +118,19 @@ class Arrows(unittest.TestCase):
         walk = picture.walk_arrows(self.island, router(6), "red", router(5))
         self.assertEqual(walk[-1].bond.far(walk[-1].tail), router(5))
 
-    def test_the_text_has_each_link_and_node(self) -> None:
-        text = picture.dot_text(self.island, router(1), None)
-        for node in self.island.area.nodes:
-            self.assertIn(f'"{node.text}" [', text)
-        self.assertIn('style="dotted"', text)
-        self.assertIn("198.51.100.4\\nnetwork\\ncut node", text)
+    def test_the_picture_has_each_link_and_node(self) -> None:
+        drawing = picture.tree_drawing(self.island, router(1), None)
+        self.assertEqual([mark.node for mark in drawing.marks], self.island.area.nodes)
+        self.assertEqual({stroke.bond for stroke in drawing.strokes}, set(self.island.area.bonds))
+        words = {mark.node: mark.word for mark in drawing.marks}
+        self.assertEqual((words[router(1)], words[LAN], words[router(2)]), ("root", "network, cut node", ""))
+        self.assertEqual([mark.node for mark in drawing.marks if mark.double], [router(1)])
+
+    def test_the_legend_has_what_the_picture_has(self) -> None:
+        drawing = picture.tree_drawing(self.island, router(1), None)
+        sorts = {stroke.sort for stroke in drawing.strokes}
+        self.assertEqual(sorts, {"blue", "red", "both", "link", "outside"})
+        self.assertEqual({kind for kind, _ in drawing.legend}, sorts | {"fill double", "fill network"})
 
     def test_a_failure(self) -> None:
         bond = self.island.bonds[0]
@@ -129,16 +139,96 @@ class Arrows(unittest.TestCase):
             Course(router(5), None, [Arrow(bond, bond.a, "primary")], None),
             Course(router(6), None, [], "no-alternate"),
         ]
-        text = picture.dot_text(self.island, router(1), Failure("10.255.1.3", router(3), courses))
-        for words in ("switching to blue: 10.255.1.2", "losing packets: 10.255.1.6 (no-alternate)"):
-            self.assertIn(words, text)
+        drawing = picture.tree_drawing(self.island, router(1), Failure("10.255.1.3", router(3), courses))
+        self.assertEqual(
+            drawing.notes, ["Switching to blue: 10.255.1.2.", "Losing packets: 10.255.1.6 (no-alternate)."]
+        )
+        fills = {mark.node: mark.fill for mark in drawing.marks}
+        self.assertEqual([fills[router(last)] for last in (2, 3, 5, 6)], ["blue", "failed", "plain", "lost"])
+        self.assertIn(("fill lost", "loses its packets"), drawing.legend)
+
+    def test_what_stands_at_the_ends_of_links(self) -> None:
+        bond = next(bond for bond in self.island.bonds if LAN in (bond.a, bond.b))
+        for metrics, addresses, wanted in ((True, False, "10"), (False, True, "198.51.100.1"), (False, False, None)):
+            drawing = picture.tree_drawing(self.island, router(1), None, Style({}, None, metrics, addresses))
+            self.assertEqual(drawing.ends.get(bond), wanted and (wanted, ""))
+
+
+class Texts(unittest.TestCase):
+    """Names and titles in the picture's own text."""
+
+    def text(self, style: Style) -> str:
+        return svg.svg(picture.tree_drawing(sample(), router(1), None, style))
+
+    @unittest.skipUnless(shutil.which("dot"), "graphviz is not installed")
+    def test_names_are_no_markup(self) -> None:
+        text = self.text(Style({router(3): "<b>&\\N"}, "a < b", True, True))
+        self.assertIn("&lt;b&gt;&amp;\\N", text)
+        self.assertIn(">a &lt; b</text>", text)
+        self.assertEqual(ElementTree.fromstring(text).tag, "{http://www.w3.org/2000/svg}svg")
+
+    @unittest.skipUnless(shutil.which("dot"), "graphviz is not installed")
+    def test_tooltips(self) -> None:
+        text = self.text(picture.PLAIN)
+        self.assertIn("<title>10.255.1.1, root</title>", text)
+        self.assertIn("(192.0.2.1, metric 20)", text)
+
+    def test_a_legend_stays_within_the_width(self) -> None:
+        lines, end = svg.legend_lines([("blue", "a long explanation of this line")] * 9, 400, 0)
+        places = [float(re.search(' x="([0-9.]+)"', line)[1]) for line in lines if line.startswith("<text")]
+        self.assertLess(max(places), 400)
+        self.assertGreater(end, 9 * svg.LINE_SPACE)
+
+    def test_names_of_a_file(self) -> None:
+        with tempfile.NamedTemporaryFile("wb") as file:
+            file.write(b"# names\n\n10.255.1.1  core \x07one\nnet:198.51.100.4 LAN\n")
+            file.flush()
+            self.assertEqual(names.read(file.name), {router(1): "core one", LAN: "LAN"})
+            file.write(b"10.255.1.2\n")
+            file.flush()
+            with self.assertRaisesRegex(names.BadNames, f"bad names: {file.name} on line 5"):
+                names.read(file.name)
 
 
 class Layouts(unittest.TestCase):
     def test_crossings(self) -> None:
-        corners = "node a 0 0\nnode b 1 1\nnode c 0 1\nnode d 1 0\n"
-        self.assertEqual(layout.crossings(corners + "edge a b\nedge c d\n"), 1)
-        self.assertEqual(layout.crossings(corners + "edge a c\nedge b d\nedge a b\nedge b a\nedge d b\n"), 0)
+        corners = [(0, 0), (1, 1), (0, 1), (1, 0)]
+        self.assertEqual(layout.crossings(corners, [(0, 1), (2, 3)]), 1)
+        self.assertEqual(layout.crossings(corners, [(0, 2), (1, 3), (0, 1), (1, 3)]), 0)
+
+    def test_lines_through_names(self) -> None:
+        places = [(0, 0), (100, 0), (50, 8), (50, 40)]
+        self.assertEqual(layout.through(places, [Size(20, 9)] * 4, [(0, 1)]), [(0, 2)])
+
+    def test_a_bent_line_goes_round(self) -> None:
+        places, sizes = [(0, 0), (200, 0), (100, 0)], [Size(20, 9)] * 3
+        bends = layout.bends_of(places, sizes, [(0, 1)])
+        corners = layout.curve(places[0], places[1], bends[0, 1])
+        self.assertFalse(any(layout.meets(*ends, places[2], sizes[2]) for ends in zip(corners, corners[1:])))
+
+    @unittest.skipUnless(shutil.which("dot"), "graphviz is not installed")
+    def test_no_line_goes_through_a_name(self) -> None:
+        """Forty nodes with sixty random links."""
+        random = Random(4)
+        lines = [(random.randrange(node), node) for node in range(1, 40)]
+        lines += [tuple(sorted(random.sample(range(40), 2))) for _ in range(21)]
+        found = layout.layout([Size(38, 9)] * 40, lines)
+        wrong = layout.through(found.places, [Size(38, 9)] * 40, sorted(set(lines)))
+        self.assertLessEqual(len(wrong), 1)
+
+
+class Hops(unittest.TestCase):
+    """Which links a primary takes to a router that the program names."""
+
+    def test_of_parallel_links_the_cheaper_and_then_the_lesser_data(self) -> None:
+        links = program.links_at(sample().area)
+        for tail, far in ((2, 5), (5, 2)):
+            (_, bond), *more = program.hop(links, router(tail), router(far))
+            self.assertEqual((lsas.spelled(bond.data_a), more), ("192.0.2.5", []))
+
+    def test_over_a_network(self) -> None:
+        way = program.hop(program.links_at(sample().area), router(4), router(3))
+        self.assertEqual([tail for tail, _ in way], [router(4), LAN])
 
 
 @unittest.skipUnless(shutil.which("dot"), "graphviz is not installed")
@@ -163,7 +253,17 @@ class TheTool(unittest.TestCase):
     def test_a_failed_link(self) -> None:
         done = self.run_draw("10.255.1.1", "--failed", "link:10.255.1.2/192.0.2.5")
         self.assertEqual((done.returncode, done.stderr), (0, ""))
-        self.assertIn("switching to blue", done.stdout)
+        self.assertIn("Switching to blue", done.stdout)
+
+    def test_the_area(self) -> None:
+        done = self.run_draw()
+        self.assertEqual((done.returncode, done.stderr), (0, ""))
+        self.assertIn("The area: 6 routers, 1 networks, 9 links", done.stdout)
+
+    def test_names_that_are_none(self) -> None:
+        done = self.run_draw("10.255.1.1", "--names", f"{DATA}/lan.profile")
+        self.assertEqual((done.returncode, done.stdout), (15, ""))
+        self.assertTrue(done.stderr.startswith("draw: bad names: "), done.stderr)
 
     def test_what_the_program_refuses(self) -> None:
         for statuses in ({"certify": 3}, {"check": 1}):
