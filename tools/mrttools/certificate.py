@@ -63,19 +63,27 @@ def read(data: bytes) -> Certificate:
 def all_rows(root: int, heads: list[int], blocks: list[int], rows: bytes) -> bytes:
     """The rows of all pairs, of those of nodes with a common block. The row of s for another t has the links of the row
     of s for the head of t or, where t is the root, for the head of s."""
-    count, at, found = len(heads), 0, {}
+    count, at, parts = len(heads), 0, []
+    order = by_depth(root, heads)
+    for s in range(count):
+        found: list[bytes] = [b""] * count
+        for t in range(count):
+            if t != s and (blocks[s] == blocks[t] or t == heads[s] or s == heads[t]):
+                found[t] = rows[at : at + ROW]
+                at += ROW
+        for t in order:
+            if t != s and not found[t]:
+                found[t] = found[heads[s] if t == root else heads[t]][:4] + CARRIED
+        parts += found
+    return b"".join(parts)
 
-    def related(s: int, t: int) -> bool:
-        return blocks[s] == blocks[t] or t == heads[s] or s == heads[t]
 
-    def row(s: int, t: int) -> bytes:
-        while (s, t) not in found:
-            t = heads[s] if t == root else heads[t]
-        return found[s, t]
-
-    pairs = [(s, t) for s in range(count) for t in range(count) if s != t]
-    for pair in pairs:
-        if related(*pair):
-            found[pair] = rows[at : at + ROW]
-            at += ROW
-    return b"".join(found[pair] if pair in found else row(*pair)[:4] + CARRIED for pair in pairs)
+def by_depth(root: int, heads: list[int]) -> list[int]:
+    """The nodes, each after its head."""
+    order, below = [root], {}
+    for node, head in enumerate(heads):
+        if node != root:
+            below.setdefault(head, []).append(node)
+    for node in order:
+        order += below.get(node, [])
+    return order

@@ -159,7 +159,8 @@ def cut_of(element: Node | Bond, sides: Sequence[dict[Node, int]], ways: int) ->
     farthest = [min(side, key=lambda node: (-side[node], node)) for side in routers]
     total = sum(map(len, routers))
     pairs = ways * (total * total - sum(len(side) ** 2 for side in routers)) // 2
-    return Cut(element, [sorted(side) for side in routers], pairs, [(farthest[0], far) for far in farthest[1:]])
+    mends = [(min(farthest[0], far), max(farthest[0], far)) for far in farthest[1:]]
+    return Cut(element, [sorted(side) for side in routers], pairs, mends)
 
 
 def order(cut: Cut) -> tuple[int, bool, Node, Node]:
@@ -177,10 +178,43 @@ def single_points(nodes: Sequence[Node], bonds: Sequence[Bond]) -> list[Cut]:
     return sorted((cut for cut in found if cut), key=order)
 
 
-def mending_all(cuts: Sequence[Cut]) -> list[Link]:
-    """Links that mend all cuts: those of the largest, then those of the largest that these do not mend, and so on."""
-    links: list[Link] = []
-    for cut in cuts:
-        if not cut.is_mended_by(links):
-            links += cut.mends
+# links that mend all
+
+
+def leaves(forest: Forest) -> list[Node]:
+    """A router of each block that hangs on one cut node, in the order of the search."""
+    found = []
+    for block in forest.blocks:
+        inner = [node for node in block.nodes if len(forest.of[node]) == 1 and node.kind == ROUTER]
+        if inner and len([node for node in block.nodes if len(forest.of[node]) > 1]) == 1:
+            found.append(min(inner))
+    return found
+
+
+def component_of(forest: Forest, node: Node) -> Node:
+    """The least node that is joined to a node."""
+    return min(forest.beyond([(node, 0)], Block(frozenset(), ())))
+
+
+def leaf_links(forest: Forest) -> list[Link]:
+    """Links that join the blocks at the ends, each to one that lies half of them further on (Eswaran and Tarjan)."""
+    groups: dict[Node, list[Node]] = {}
+    for leaf in leaves(forest):
+        groups.setdefault(component_of(forest, leaf), []).append(leaf)
+    links = []
+    for group in groups.values():
+        half = (len(group) + 1) // 2
+        ends = [(group[at], group[(at + half) % len(group)]) for at in range(half if len(group) > 1 else 0)]
+        links += [(min(pair), max(pair)) for pair in ends]
     return links
+
+
+def mending_all(nodes: Sequence[Node], bonds: Sequence[Bond]) -> list[Link]:
+    """Links after which nothing parts routers any more. They are few, and no promise is made that they are the fewest."""
+    links: list[Link] = []
+    while True:
+        more = [Bond(min(link), max(link), 0, 0, 1, 1) for link in links]
+        cuts = single_points(nodes, [*bonds, *more])
+        if not cuts:
+            return links
+        links += leaf_links(Forest(nodes, [*bonds, *more])) or cuts[0].mends

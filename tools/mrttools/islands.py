@@ -38,6 +38,13 @@ def islands(mrt: Program, whole: Area) -> Islands:
     return Islands(shared, alone, unsupported & set(whole.nodes), kept_out)
 
 
+def some_member(found: Islands, whole: Area) -> Node:
+    """A router that takes part, at which the program may be asked. Where there is none, it will say so of any other."""
+    routers = [island.certificate.root for island in found.shared] + found.alone
+    routers += [node for node in whole.nodes if node.kind == ROUTER] + [Node(0, ROUTER)]
+    return routers[0]
+
+
 def why_not(bond: Bond, found: Islands) -> str | None:
     """Why a link is in no island, if it is in none."""
     if not bond.two_way:

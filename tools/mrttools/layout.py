@@ -156,7 +156,7 @@ class Mover:
         places, sizes = self.places, self.sizes
         start, end = places[line[0]], places[line[1]]
         longer = max(0.1, self.length(line) / self.usual)
-        cost = 6 * (longer * longer + 1 / longer)
+        cost = 6 * (longer**3 + 1 / longer)
         for node, at in enumerate(places):
             if node not in line and meets(start, end, at, sizes[node]):
                 cost += 1000

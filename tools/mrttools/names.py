@@ -34,3 +34,8 @@ def spelled(names: dict[Node, str], node: Node) -> str:
 def known(names: dict[Node, str], node: Node) -> str:
     """A node by its address and, if it has one, its name."""
     return f"{names[node]} ({node.text})" if names.get(node) else node.text
+
+
+def count(number: int, one: str) -> str:
+    """A number of things, by the word for one of them."""
+    return f"{number:,} {one}{'' if number == 1 else 's'}"

@@ -7,7 +7,7 @@ from . import lsas
 from .area import Area, Bond, Node
 from .certificate import BLUE, COLORS, RED, Certificate
 from .lsas import NETWORK
-from .names import known, spelled
+from .names import count, known, spelled
 from .svg import Drawing, Mark, Stroke
 
 
@@ -271,7 +271,6 @@ def area_drawing(whole: Area, parts: Parts, style: Style = PLAIN) -> Drawing:
     strokes = [Stroke(bond, bond.a, "cut", link_tip(bond, style)) for bond in whole.bonds if bond in parts.cut_bonds]
     strokes += plain_strokes(whole, parts.inside_bonds, parts.cut_bonds, None, style)
     routers = sum(node.kind == lsas.ROUTER for node in whole.nodes)
-    title = (
-        style.title or f"The area: {routers} routers, {len(whole.nodes) - routers} networks, {len(whole.bonds)} links"
-    )
+    counts = count(routers, "router"), count(len(whole.nodes) - routers, "network"), count(len(whole.bonds), "link")
+    title = style.title or f"The area: {', '.join(counts)}"
     return Drawing(title, marks, strokes, end_labels(whole, style), legend_of(marks, strokes), [])

@@ -5,7 +5,7 @@ import os
 import subprocess
 import sys
 import tempfile
-from typing import Iterator, Sequence
+from typing import NamedTuple, Sequence
 
 from . import area, certificate, lsas
 from .area import Area, Bond, Node
@@ -58,9 +58,12 @@ def database(name: str) -> list[lsas.Lsa]:
 # certificates
 
 
-def checked_certificate(program: Program, router: str) -> certificate.Certificate:
-    """What mrt certify writes, if mrt check accepts it."""
+def certificate_of(program: Program, router: str, checked: bool) -> certificate.Certificate:
+    """What mrt certify writes. It passes mrt check, by a law of the program; where it is to be checked all the same, only
+    what is accepted is given."""
     data = program.run("certify", router)
+    if not checked:
+        return certificate.read(data)
     with tempfile.NamedTemporaryFile(suffix=".cert") as file:
         file.write(data)
         file.flush()
@@ -68,9 +71,9 @@ def checked_certificate(program: Program, router: str) -> certificate.Certificat
     return certificate.read(data)
 
 
-def island_of(program: Program, whole: Area, router: str) -> Island:
+def island_of(program: Program, whole: Area, router: str, checked: bool = False) -> Island:
     """A router's island, with its links by number as the area has them."""
-    cert = checked_certificate(program, router)
+    cert = certificate_of(program, router, checked)
     bonds = area.island_bonds(whole, cert.nodes, area.ineligible(program.profile_bytes()))
     if [(cert.nodes[a], cert.nodes[b]) for a, b in cert.pairs] != [(bond.a, bond.b) for bond in bonds]:
         raise ToolFault("the certificate has other links than the database", 1)
@@ -80,46 +83,58 @@ def island_of(program: Program, whole: Area, router: str) -> Island:
 # packets
 
 
-def script_text(router: Node, packets: Sequence[tuple[Node, Node]], failed: str | None, steps: int) -> str:
-    """A script in which packets enter by primaries, all of them after a failure, if there is one."""
-    lines = [f"island {router.text} {ROOM}"] + ([f"fail {failed}"] if failed else [])
-    for number, (at, to) in enumerate(packets):
-        lines += [f"inject {at.text} {to.text} repair"] + [f"step {number}"] * steps
-    return "\n".join(lines) + "\n"
+class Packet(NamedTuple):
+    """A packet that enters by primaries, and how many steps are asked for."""
+
+    at: Node
+    to: Node
+    steps: int
 
 
-def first_answers(
-    program: Program, router: Node, packets: Sequence[tuple[Node, Node]], failed: str | None = None
-) -> Iterator[str]:
-    """What happens first to each packet that enters by primaries, by one script of as many packets as one takes."""
-    for at in range(0, len(packets), ROOM):
-        with tempfile.NamedTemporaryFile(suffix=".script") as file:
-            file.write(script_text(router, packets[at : at + ROOM], failed, 1).encode())
-            file.flush()
-            lines = program.run("fabric", file.name).decode().splitlines()
-        yield from lines[1 if failed else 0 :][1::2]
+def answers(
+    program: Program, router: Node, before: Sequence[Packet], failed: str | None, after: Sequence[Packet]
+) -> list[list[str]]:
+    """What happens to each packet, by one script: some before a failure, some after it."""
+    lines = [f"island {router.text} {ROOM}"]
+    for number, packet in enumerate([*before, *after]):
+        if failed and number == len(before):
+            lines.append(f"fail {failed}")
+        lines += [f"inject {packet.at.text} {packet.to.text} repair"] + [f"step {number}"] * packet.steps
+    with tempfile.NamedTemporaryFile(suffix=".script") as file:
+        file.write("".join(line + "\n" for line in lines).encode())
+        file.flush()
+        said = iter(program.run("fabric", file.name).decode().splitlines())
+    found = []
+    for number, packet in enumerate([*before, *after]):
+        if failed and number == len(before):
+            next(said, None)
+        next(said, None)
+        found.append([next(said, "no answer") for _ in range(packet.steps)])
+    return found
 
 
 def links_at(whole: Area) -> dict[Node, list[Bond]]:
-    """The links of each node over which it can send."""
+    """The links of each node over which it can send, in the order of `mrt`: by metric, far node and link data. Of
+    several first links of shortest ways the first in this order is the primary's."""
     found: dict[Node, list[Bond]] = {node: [] for node in whole.nodes}
     for bond in whole.bonds:
         found[bond.a].append(bond)
         if bond.two_way:
             found[bond.b].append(bond)
+    for node, bonds in found.items():
+        bonds.sort(key=lambda bond: (bond.metric_from(node), bond.far(node), bond.data_of(node)))
     return found
 
 
 def hop(links: dict[Node, list[Bond]], router: Node, following: Node) -> list[tuple[Node, Bond]]:
-    """The links of a primary that leads to the next router, or to a network, each with the node that sends over it. Of
-    several ways `mrt` takes the one of least metric, and of these that of the least far node and link data."""
-    found = []
+    """The links of a primary that leads to the next router, or to a network, each with the node that sends over it: the
+    first ones that lead there, as all of them are of shortest ways or none."""
     for bond in links[router]:
         far = bond.far(router)
-        order = bond.metric_from(router), far, bond.data_of(router)
         if far == following:
-            found.append((order, [(router, bond)]))
-        elif far.kind == lsas.NETWORK:
-            over = [(far, second) for second in links[far] if second.far(far) == following]
-            found += [(order, [(router, bond), over[0]])] if over else []
-    return min(found, key=lambda each: each[0])[1]
+            return [(router, bond)]
+        if far.kind == lsas.NETWORK:
+            for second in links[far]:
+                if second.far(far) == following:
+                    return [(router, bond), (far, second)]
+    raise ValueError(f"{following.text} is not next to {router.text}")

@@ -316,6 +316,11 @@ def text_lines(texts: Sequence[str], wide: float, top: float, size: float, more:
 
 def svg(drawing: Drawing) -> str:
     """The picture."""
+    return svg_and_width(drawing)[0]
+
+
+def svg_and_width(drawing: Drawing) -> tuple[str, float]:
+    """The picture, and how wide it is where nothing is made smaller."""
     paper = Paper(drawing)
     wide = max(paper.wide, LEAST_WIDTH)
     title, top = text_lines([drawing.title], wide, 8, 15, ' font-weight="bold"')
@@ -329,7 +334,7 @@ def svg(drawing: Drawing) -> str:
         for sort, form in HEADS.items()
     )
     full = wide + 2 * EDGE, below + EDGE
-    return "\n".join(
+    text = "\n".join(
         [
             f'<svg xmlns="http://www.w3.org/2000/svg" width="{number(full[0])}" height="{number(full[1])}" '
             f'viewBox="{-EDGE} {-EDGE / 2:.0f} {number(full[0])} {number(full[1])}" font-family="{FONT}" role="img">',
@@ -349,3 +354,4 @@ def svg(drawing: Drawing) -> str:
             "",
         ]
     )
+    return text, full[0]

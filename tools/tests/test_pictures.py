@@ -258,7 +258,7 @@ class TheTool(unittest.TestCase):
     def test_the_area(self) -> None:
         done = self.run_draw()
         self.assertEqual((done.returncode, done.stderr), (0, ""))
-        self.assertIn("The area: 6 routers, 1 networks, 9 links", done.stdout)
+        self.assertIn("The area: 6 routers, 1 network, 9 links", done.stdout)
 
     def test_names_that_are_none(self) -> None:
         done = self.run_draw("10.255.1.1", "--names", f"{DATA}/lan.profile")

@@ -1,0 +1,356 @@
+"""The report: facts of the sample by hand, and those of random areas beside the program and a plain search."""
+import json
+import os
+import shutil
+import signal
+import subprocess
+import tempfile
+import unittest
+from io import StringIO
+from random import Random
+from typing import Any
+
+from mrttools import area, facts, islands, lsas, page, program, reporting
+from mrttools.area import Bond, Node
+from mrttools.paths import FAR, METRIC, Graph
+from mrttools.progress import Progress
+from mrttools.program import Program
+from tests.making import DATA, MRT, TOOLS
+from tests.test_cuts import name, records_of
+
+SCHEMA = os.path.join(os.path.dirname(TOOLS), "docs", "report.schema.json")
+
+
+def faults(value: Any, schema: Any, at: str = "") -> list[str]:
+    """Where a value is not as a schema says; of schemas what ours use."""
+    if "anyOf" in schema:
+        return min((faults(value, one, at) for one in schema["anyOf"]), key=len)
+    if "enum" in schema:
+        return [] if value in schema["enum"] else [f"{at}: {value}"]
+    kinds = {"object": dict, "array": list, "string": str, "integer": int, "number": (int, float), "boolean": bool}
+    kind = schema["type"]
+    if kind == "null" or not isinstance(value, kinds.get(kind, object)) or (kind == "integer" and value is True):
+        return [] if kind == "null" and value is None else [f"{at}: no {kind}"]
+    if kind == "array":
+        return [fault for each in value for fault in faults(each, schema["items"], f"{at}[]")]
+    if kind != "object":
+        return []
+    known = schema["properties"]
+    found = [f"{at}.{key}: missing" for key in schema["required"] if key not in value]
+    found += [f"{at}.{key}: not known" for key in value if key not in known]
+    return found + [fault for key in value if key in known for fault in faults(value[key], known[key], f"{at}.{key}")]
+
+
+def run_report(*words: str) -> subprocess.CompletedProcess[str]:
+    command = [f"{TOOLS}/report", "--mrt", MRT, *words]
+    return subprocess.run(command, stdout=subprocess.PIPE, stderr=subprocess.PIPE, text=True, check=False)
+
+
+@unittest.skipUnless(os.access(MRT, os.X_OK), "the program is not built")
+class Sample(unittest.TestCase):
+    """The sample with a LAN: 10.255.1.6 hangs on 10.255.1.3, and this on the LAN."""
+
+    @classmethod
+    def setUpClass(cls) -> None:
+        done = run_report("--json", f"{DATA}/lan.lsas", f"{DATA}/lan.profile")
+        cls.done, cls.values = done, json.loads(done.stdout or "null")
+
+    def test_it_ends_well(self) -> None:
+        self.assertEqual((self.done.returncode, self.done.stderr), (0, ""))
+
+    def test_the_schema(self) -> None:
+        with open(SCHEMA, encoding="utf-8") as file:
+            schema = json.load(file)
+        self.assertEqual(faults(self.values, schema), [])
+        del self.values["area"]["islands"][0]["root"]
+        self.assertEqual(faults(self.values, schema), [".area.islands[].root: missing"])
+        self.setUpClass()
+
+    def test_the_area(self) -> None:
+        found = self.values["area"]
+        self.assertEqual((found["routers"], found["networks"], found["links"]), (6, 1, 9))
+        self.assertEqual(found["islands"], [{"root": "10.255.1.1", "routers": 6, "networks": 1, "links": 8}])
+        (outside,) = found["links_outside"]
+        self.assertEqual(
+            (outside["element"], outside["why"]), ("link:10.255.1.4/192.0.2.13", "kept out by the profile")
+        )
+        (half,) = found["told_by_one_end"]
+        self.assertEqual((half["from"], half["to"], half["there"]), ("10.255.1.4", "10.255.1.7", False))
+
+    def test_single_points(self) -> None:
+        found = [(point["element"], point["pairs"]) for point in self.values["single_points"]]
+        self.assertEqual(
+            found,
+            [
+                ("net:198.51.100.4", 16),
+                ("link:10.255.1.3/198.51.100.3", 16),
+                ("link:10.255.1.3/192.0.2.17", 10),
+                ("10.255.1.3", 8),
+            ],
+        )
+        self.assertEqual(self.values["mend_all"], [["10.255.1.1", "10.255.1.6"]])
+
+    def test_not_repaired_though_there_is_a_way(self) -> None:
+        """10.255.1.4 has a second link, which the profile keeps out."""
+        found = {each["element"]: (each["pairs"], each["parted"]) for each in self.values["not_repaired"]}
+        self.assertEqual(found, {"link:10.255.1.4/198.51.100.4": (12, 0), "net:198.51.100.4": (22, 16)})
+
+    def test_routers(self) -> None:
+        found = {router["router"]: router for router in self.values["routers"]}
+        self.assertEqual(found["10.255.1.1"]["part"], "root")
+        # All of its packets go over its one link, which nothing replaces.
+        self.assertEqual((found["10.255.1.6"]["pairs"], found["10.255.1.6"]["first_link"]["colors"]), (5, 0))
+        self.assertEqual([name for name, router in found.items() if router["single_point"]], ["10.255.1.3"])
+
+    @unittest.skipUnless(shutil.which("dot"), "graphviz is not installed")
+    def test_the_page(self) -> None:
+        with tempfile.NamedTemporaryFile("w", suffix=".names") as file:
+            file.write("10.255.1.3 <script>alert(1)</script>\n")
+            file.flush()
+            done = run_report("--names", file.name, "--title", "a & b", f"{DATA}/lan.lsas", f"{DATA}/lan.profile")
+        self.assertEqual((done.returncode, done.stderr), (0, ""))
+        self.assertNotIn("<script", done.stdout)
+        self.assertIn("&lt;script&gt;alert(1)&lt;/script&gt; (10.255.1.3)", done.stdout)
+        self.assertIn("<title>a &amp; b</title>", done.stdout)
+        for word in ("src=", "http://", "https://", "@import"):
+            self.assertNotIn(word, done.stdout.replace('xmlns="http://www.w3.org/2000/svg"', ""))
+
+
+class Written:
+    """A random area in files, and what the report finds of it."""
+
+    def __init__(self, random: Random, folder: str) -> None:
+        self.database, profile = os.path.join(folder, "area.lsas"), os.path.join(folder, "area.profile")
+        count = random.randint(3, 7)
+        routers = range(1, count + 1)
+        links = [(each, random.randint(1, each - 1)) for each in range(2, count + 1)]
+        links += [tuple(random.sample(routers, 2)) for _ in range(random.randint(0, count))]
+        lans = [random.sample(routers, random.randint(2, count)) for _ in range(random.choice([0, 1, 1, 2]))]
+        metrics = [random.choice([1, 2, 2, 3, 5]) for _ in range(2 * len(links))]
+        if random.random() < 0.4:
+            metrics[0] = area.MAX_METRIC
+        with open(self.database, "wb") as file:
+            file.write(b"".join(records_of(links, lans, metrics)))
+        with open(profile, "w", encoding="ascii") as file:
+            file.write(random.choice(["", "", f"no-mrt {name(count)}\n", f"ineligible {name(2)} 10.0.0.2\n"]))
+        self.mrt = Program(MRT, self.database, profile)
+        self.found = reporting.find(self.mrt, program.database(self.database), lambda *_: None)
+        self.facts, self.graph = self.found.facts, self.found.facts.graph
+
+    def lines(self, *words: str) -> list[list[str]]:
+        done = subprocess.run(
+            [MRT, *words], stdout=subprocess.PIPE, stderr=subprocess.DEVNULL, text=True, check=False
+        )
+        return [line.split(" ") for line in done.stdout.splitlines()[1:]]
+
+    def is_router(self, word: str) -> bool:
+        return not word.startswith("net:")
+
+
+def written(seed: int, check: Any, times: int) -> None:
+    random = Random(seed)
+    for _ in range(times):
+        with tempfile.TemporaryDirectory() as folder:
+            check(Written(random, folder))
+
+
+@unittest.skipUnless(os.access(MRT, os.X_OK), "the program is not built")
+class BesideTheProgram(unittest.TestCase):
+    def test_alternates_and_repairs(self) -> None:
+        written(1, self.check_coverage, 7)
+
+    def check_coverage(self, one: Written) -> None:
+        for router in one.graph.routers:
+            text, own = one.graph.nodes[router].text, one.facts.coverage[router]
+            told = [line for line in one.lines("lfa", one.database, text) if one.is_router(line[0])]
+            self.assertEqual(own.pairs, len(told))
+            self.assertEqual(own.lfa_link, sum(line[4] != "none" for line in told))
+            self.assertEqual(own.lfa_node, sum(line[-1] == "node" for line in told))
+            table = [
+                line for line in one.lines("table", one.database, one.mrt.profile, text) if one.is_router(line[0])
+            ]
+            self.assertEqual(own.colors_link, sum(line[-1][0] != "-" for line in table))
+            self.assertEqual(own.colors_node, sum(line[-1][-1] != "-" for line in table))
+            for line in table:
+                hop = one.facts.hops[router][one.graph.number[area.node_of(line[0])]]
+                bond = one.graph.bonds[hop.bonds[0]]
+                wanted = (
+                    f"{bond.far(one.graph.nodes[router]).text}/{lsas.spelled(bond.data_of(one.graph.nodes[router]))}"
+                )
+                self.assertEqual(line[line.index("primary") + 1], wanted)
+
+    def test_traces(self) -> None:
+        random = Random(2)
+
+        def check(one: Written) -> None:
+            pairs = [(router, target) for router in one.graph.routers for target, _ in one.facts.hops_of(router)]
+            for router, target in random.sample(pairs, min(4, len(pairs))):
+                failed = random.choice(one.facts.hops[router][target].elements)
+                texts = [one.graph.nodes[each].text for each in (router, target)]
+                words = [*texts, "repair", facts.name_of(one.graph, failed)]
+                told = one.lines("trace", one.database, one.mrt.profile, *words)[1:]
+                own = facts.trace(one.facts, router, target, failed)
+                self.assertEqual([" ".join(line) for line in told], own)
+
+        written(3, check, 8)
+
+
+@unittest.skipUnless(os.access(MRT, os.X_OK), "the program is not built")
+class BesideAPlainSearch(unittest.TestCase):
+    """Each packet is followed on its own, link by link."""
+
+    def test_loads_and_losses(self) -> None:
+        written(4, self.check_loads, 12)
+
+    def check_loads(self, one: Written) -> None:
+        elements = [None, *range(len(one.graph.bonds) + len(one.graph.nodes))]
+        loads = {failed: self.loads_after(one, failed) for failed in elements}
+        for place, own in enumerate(reporting.load_values(one.facts)):
+            self.assertEqual(own["primaries"], loads[None][0][place])
+            others = [load[place] for failed, (load, _) in loads.items() if failed not in (None, place)]
+            self.assertEqual(own["most"], max(others))
+        for failed in elements[1:]:
+            self.assertEqual(one.facts.lost.get(failed, 0), loads[failed][1])
+
+    def loads_after(self, one: Written, failed: int | None) -> tuple[list[int], int]:
+        """The load of each link after a failure, and how many pairs lose packets but for those whose end has failed."""
+        loads, lost = [0] * len(one.graph.bonds), 0
+        gone = None if failed is None else one.graph.of_element(failed)
+        for router in one.graph.routers:
+            for target, _ in one.facts.hops_of(router):
+                if one.graph.nodes[router] == gone:
+                    continue
+                bonds, arrived = self.follow(one, router, target, gone)
+                for bond in bonds:
+                    loads[one.graph.place[bond]] += 1
+                lost += not arrived and one.graph.nodes[target] != gone
+        return loads, lost
+
+    def follow(self, one: Written, router: int, target: int, gone: Node | Bond | None) -> tuple[list[Bond], bool]:
+        """The links that a packet goes over, and whether it arrives."""
+        nodes, bonds, at = one.graph.nodes, [], router
+        while at != target:
+            hop = one.facts.hops[at][target]
+            if gone is not None and one.graph.element(gone) in hop.elements:
+                for color in (0, 1):
+                    way = self.color_way(one, nodes[at], nodes[target], color, gone)
+                    if way is not None:
+                        return bonds + way, True
+                return bonds, False
+            bonds += [one.graph.bonds[bond] for bond in hop.bonds]
+            at = hop.following
+        return bonds, True
+
+    def color_way(self, one: Written, at: Node, to: Node, color: int, gone: Node | Bond) -> list[Bond] | None:
+        island = next((each for each in one.found.islands.shared if to in each.certificate.nodes), None)
+        if island is None or at not in island.certificate.nodes or gone == to:
+            return None
+        cert, way = island.certificate, []
+        while at != to:
+            bond = island.bonds[cert.link(color, cert.nodes.index(at), cert.nodes.index(to))]
+            at = bond.far(at)
+            if gone in (bond, at):
+                return None
+            way.append(bond)
+        return way
+
+    def test_the_least_ways(self) -> None:
+        written(5, self.check_least, 12)
+
+    def check_least(self, one: Written) -> None:
+        """By trying all links again and again, with and without an element."""
+        for failed in [-1, *range(len(one.graph.bonds) + len(one.graph.nodes))]:
+            gone = None if failed < 0 else one.graph.of_element(failed)
+            for router in one.graph.routers[:3]:
+                if one.graph.nodes[router] != gone:
+                    self.assertEqual(one.graph.shortest(router, failed), plain_costs(one.graph, router, gone))
+
+
+def plain_costs(graph: Graph, router: int, gone: Node | Bond | None) -> list[int]:
+    found = [FAR] * len(graph.nodes)
+    found[router] = 0
+    for _ in graph.nodes:
+        for bond in graph.bonds:
+            for tail in (bond.a, bond.b):
+                metric, far = bond.metric_from(tail), bond.far(tail)
+                if metric is not None and gone not in (bond, tail, far) and found[graph.number[tail]] < FAR:
+                    cost = found[graph.number[tail]] + metric * METRIC + (far.kind == lsas.ROUTER)
+                    found[graph.number[far]] = min(found[graph.number[far]], cost)
+    return found
+
+
+class Parts(unittest.TestCase):
+    def test_quartiles(self) -> None:
+        self.assertEqual(facts.quartiles([]), None)
+        self.assertEqual(facts.quartiles([5, 1, 4, 2, 3]), [1, 2, 3, 4, 5])
+        self.assertEqual(facts.quartiles([7]), [7] * 5)
+
+    def test_a_share_that_is_not_all_is_not_told_as_all(self) -> None:
+        self.assertEqual(
+            [page.percent(*each) for each in ((9999, 10000), (1, 10000), (3, 3), (0, 3), (0, 0))],
+            ["99.9 %", "0.1 %", "100 %", "0 %", "\u2013"],
+        )
+
+    def test_a_link_of_the_greatest_metric_is_in_no_island(self) -> None:
+        records = records_of([(1, 2), (1, 2)], [], [area.MAX_METRIC, 10, 10, 10])
+        whole = area.area_of(map(lsas.lsa_of, records))
+        inside = area.island_bonds(whole, whole.nodes, set())
+        self.assertEqual([bond.metric_a for bond in inside], [10])
+        found = islands.Islands([], [], set(), set())
+        self.assertEqual([islands.why_not(bond, found) for bond in whole.bonds], ["metric 65535", None])
+
+    def test_the_bar_is_for_terminals(self) -> None:
+        class Terminal(StringIO):
+            def isatty(self) -> bool:
+                return True
+
+        for to, wanted in ((StringIO(), ""), (Terminal(), "50 % work")):
+            bar = Progress("report", to)
+            bar.tell("work", 1, 2)
+            bar.end()
+            self.assertIn(wanted, to.getvalue())
+            self.assertEqual(bool(to.getvalue()), bool(wanted))
+
+
+class TheTool(unittest.TestCase):
+    """The script with a stand-in for the program."""
+
+    def run_with(self, script: str, *words: str) -> subprocess.Popen[str]:
+        self.folder = tempfile.TemporaryDirectory()
+        self.addCleanup(self.folder.cleanup)
+        path = os.path.join(self.folder.name, "mrt")
+        with open(path, "w", encoding="ascii") as file:
+            file.write("#!/bin/sh\n" + script)
+        os.chmod(path, 0o755)
+        command = [f"{TOOLS}/report", "--mrt", path, *words, f"{DATA}/lan.lsas", f"{DATA}/lan.profile"]
+        return subprocess.Popen(
+            command, stdout=subprocess.PIPE, stderr=subprocess.PIPE, text=True, start_new_session=True
+        )
+
+    def test_what_the_program_refuses(self) -> None:
+        done = self.run_with("echo 'mrt: bad database: length at 0' >&2; exit 3\n")
+        self.assertEqual(done.communicate(), ("", "mrt: bad database: length at 0\n"))
+        self.assertEqual(done.returncode, 3)
+
+    def test_a_program_that_says_otherwise(self) -> None:
+        script = f"case $1 in certify) cat {DATA}/lan.cert ;; *) sed -n 's/^step.*/lost inside/p; s/^inject.*/entered/p; s/^fail.*/failed/p' $4;; esac\n"
+        done = self.run_with(script, "--json")
+        output, told = done.communicate()
+        self.assertEqual((done.returncode, output), (1, ""))
+        self.assertTrue(
+            told.startswith("report: mrt sends from 10.255.1.1 to 10.255.1.2 another way: lost inside"), told
+        )
+
+    def test_it_can_be_interrupted(self) -> None:
+        done = self.run_with("touch $(dirname $0)/started; exec sleep 20\n")
+        while not os.path.exists(os.path.join(self.folder.name, "started")):
+            pass
+        os.killpg(done.pid, signal.SIGINT)
+        self.assertEqual(done.communicate(), ("", "report: interrupted\n"))
+        self.assertEqual(done.returncode, 130)
+
+    def test_names_that_are_none(self) -> None:
+        done = self.run_with("exit 3\n", "--names", f"{DATA}/lan.profile")
+        output, told = done.communicate()
+        self.assertEqual((done.returncode, output), (15, ""))
+        self.assertTrue(told.startswith("report: bad names: "), told)
