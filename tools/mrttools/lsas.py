@@ -101,6 +101,17 @@ def sums(data: bytes) -> tuple[int, int]:
     return sum(data) % 255, sum(accumulate(data)) % 255
 
 
+def sealed(lsa: Lsa, sequence: int, body: bytes) -> bytes:
+    """The bytes of an LSA with another sequence number and body, and the checksum that these have (RFC 2328, section
+    12.1.7)."""
+    head = lsa.record[:12] + struct.pack(">i", sequence)
+    tail = struct.pack(">H", HEADER + len(body)) + body
+    covered = head[2:] + bytes(2) + tail
+    first, second = sums(covered)
+    check = ((len(covered) - 15) * first - second) % 255, (second - (len(covered) - 14) * first) % 255
+    return head + bytes(value or 255 for value in check) + tail
+
+
 def lsa_of(record: bytes) -> Lsa:
     """The fields of an LSA's bytes, which are at least a header."""
     age, kind, number, router, sequence, checksum = struct.unpack_from(">HxBIIiH", record)

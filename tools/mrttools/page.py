@@ -33,11 +33,11 @@ td.n, th.n { padding-right: 1.3rem; } .columns { columns: 17rem auto; font-size:
   -webkit-print-color-adjust: exact; }
 .bar.lfa i { background: repeating-linear-gradient(135deg, #6b6b6b 0 2px, #c4c4c4 2px 4px); }
 .key { display: inline-block; width: 2rem; vertical-align: middle; margin: 0 .3rem 0 0; }
-pre { margin: .2rem 0; font-size: .82rem; white-space: pre-wrap; } .picture { overflow: auto; border: 1px solid var(--rule); }
+pre { margin: .2rem 0; font-size: .82rem; white-space: pre-wrap; } .picture { overflow: auto; max-height: 94vh; border: 1px solid var(--rule); }
 .picture svg { display: block; width: 100%; height: auto; }
 @media (max-width: 640px) { table { min-width: 40rem; } body { padding: .8rem .7rem 2rem; font-size: 14px; } .tile { min-width: 7.5rem; }
   h1 { font-size: 1.25rem; } th, td { padding-right: .45rem; } .bars { min-width: 6rem; } }
-@media print { body { max-width: none; padding: 0; font-size: 10pt; } nav { display: none; } .picture, .wide { overflow: visible; }
+@media print { body { max-width: none; padding: 0; font-size: 10pt; } nav { display: none; } .picture, .wide { overflow: visible; max-height: none; }
   .picture svg { min-width: 0 !important; } h2 { break-after: avoid; } @page { margin: 14mm; } }
 """
 SHOWN = 8

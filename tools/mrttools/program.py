@@ -55,6 +55,17 @@ def database(name: str) -> list[lsas.Lsa]:
     return list(lsas.split(read_file(name)))
 
 
+def area_of(program: Program) -> Area:
+    """The area of a program's database. Where it, or the profile, cannot be read here, mrt says why."""
+    try:
+        profile = program.profile_bytes()
+        area.ineligible(profile), area.unsupported(profile)
+        return area.area_of(database(program.database))
+    except (ValueError, IndexError) as fault:
+        program.run("certify", "0.0.0.0")
+        raise ToolFault(f"{program.database} or {program.profile}: {fault}", 1) from None
+
+
 # certificates
 
 

@@ -3,7 +3,7 @@ from __future__ import annotations
 
 from typing import Any, NamedTuple, Sequence
 
-from . import area, cuts, facts, islands, lsas
+from . import cuts, facts, islands, lsas, program
 from .area import Area, Bond, Node
 from .certificate import COLORS
 from .cuts import Cut
@@ -219,9 +219,9 @@ def report_values(found: Found) -> Values:
     }
 
 
-def find(mrt: Program, found: list[lsas.Lsa], tell: facts.Tell) -> Found:
-    """All that a report stands on, of a database."""
-    whole = area.area_of(found)
+def find(mrt: Program, tell: facts.Tell) -> Found:
+    """All that a report stands on."""
+    whole = program.area_of(mrt)
     tell("certificate", 0, 1)
     parts = islands.islands(mrt, whole)
     graph = Graph(whole)

@@ -10,7 +10,7 @@ from io import StringIO
 from random import Random
 from typing import Any
 
-from mrttools import area, facts, islands, lsas, page, program, reporting
+from mrttools import area, facts, islands, lsas, page, reporting
 from mrttools.area import Bond, Node
 from mrttools.paths import FAR, METRIC, Graph
 from mrttools.progress import Progress
@@ -134,7 +134,7 @@ class Written:
         with open(profile, "w", encoding="ascii") as file:
             file.write(random.choice(["", "", f"no-mrt {name(count)}\n", f"ineligible {name(2)} 10.0.0.2\n"]))
         self.mrt = Program(MRT, self.database, profile)
-        self.found = reporting.find(self.mrt, program.database(self.database), lambda *_: None)
+        self.found = reporting.find(self.mrt, lambda *_: None)
         self.facts, self.graph = self.found.facts, self.found.facts.graph
 
     def lines(self, *words: str) -> list[list[str]]:
