@@ -16,6 +16,29 @@ class NoChange(Exception):
     """Why a change cannot be made."""
 
 
+class BadDatabase(Exception):
+    """Why a database has no change: `mrt` would not take it either."""
+
+
+def whole_database(data: bytes) -> list[Lsa]:
+    """All LSAs of a database without a fault."""
+    found, at = list(lsas.split(data)), 0
+    for lsa in found:
+        fault = lsas.damage(lsa) or ("a link with metric 0" if lsas.has_zero_metric(lsa) else None)
+        if fault:
+            raise BadDatabase(f"{fault} at {at}")
+        at += len(lsa.record)
+    if at != len(data):
+        raise BadDatabase(f"truncated at {at}")
+    for key, group in lsas.by_key(found).items():
+        if (
+            key.kind in (ROUTER, NETWORK)
+            and len({lsa.text for lsa in group if lsas.rank(lsa) == max(map(lsas.rank, group))}) > 1
+        ):
+            raise BadDatabase(f"two newest instances of the {lsas.key_text(key)} say different things")
+    return found
+
+
 class Entry(NamedTuple):
     """A link of a router-LSA, with the bytes that stand after its metric."""
 

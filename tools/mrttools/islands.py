@@ -21,7 +21,8 @@ class Islands(NamedTuple):
 
 
 def islands(mrt: Program, whole: Area) -> Islands:
-    """The islands of an area: one certificate for each that has more than one node."""
+    """The islands of an area: one certificate for each that has more than one node. Where there is none, mrt still has
+    to take the database and the profile."""
     profile = mrt.profile_bytes()
     unsupported, kept_out = area.unsupported(profile), area.ineligible(profile)
     members = [node for node in whole.nodes if node not in unsupported]
@@ -35,7 +36,10 @@ def islands(mrt: Program, whole: Area) -> Islands:
             seen |= set(shared[-1].certificate.nodes)
     shared.sort(key=lambda island: -len(island.certificate.nodes))
     alone = [node for node in members if node.kind == ROUTER and node not in joined]
-    return Islands(shared, alone, unsupported & set(whole.nodes), kept_out)
+    found = Islands(shared, alone, unsupported & set(whole.nodes), kept_out)
+    if not shared:
+        mrt.run("certify", some_member(found, whole).text)
+    return found
 
 
 def some_member(found: Islands, whole: Area) -> Node:

@@ -5,9 +5,9 @@ import tempfile
 import unittest
 from random import Random
 
-from mrttools import area, changes, lsas, program
+from mrttools import area, changes, editing, lsas, program
 from mrttools.area import Area
-from mrttools.editing import Draft, NoChange
+from mrttools.editing import BadDatabase, Draft, NoChange
 from mrttools.program import Program
 from tests.making import DATA, MRT, TOOLS
 from tests.test_cuts import name, node, records_of
@@ -86,6 +86,14 @@ class Edits(unittest.TestCase):
         ):
             with self.assertRaises(NoChange):
                 wrong(draft())
+
+    def test_a_database_with_a_fault(self) -> None:
+        data = draft().data()
+        zero = records_of([(1, 2)], [], [0])[0]
+        for wrong in (data[:-1], data + b"x", data[:30] + b"x" + data[31:], zero):
+            with self.assertRaises(BadDatabase):
+                editing.whole_database(wrong)
+        self.assertEqual(len(editing.whole_database(data)), 4)
 
     def test_the_tool(self) -> None:
         for words, status in (
