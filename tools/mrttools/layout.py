@@ -16,8 +16,8 @@ LAYOUTS = 6
 ROUNDS = 5
 WIDENINGS, WIDENING = 4, 1.12
 TRIES, ALL_TRIES = 9, 1000
-MARGIN = 3.0
-SPACE = 22.0
+MARGIN, INFINITE = 3.0, float("inf")
+SPACE, SPACE_ABOVE = 22.0, 36.0
 BENDS = 0.0, 0.12, -0.12, 0.22, -0.22, 0.34, -0.34
 POINTS_IN_INCH = 72.0
 
@@ -64,8 +64,10 @@ def meets(a: Point, b: Point, at: Point, size: Size) -> bool:
 
 
 def overlap(a: Point, size_a: Size, b: Point, size_b: Size, space: float) -> bool:
-    """Whether two names come nearer to each other than the space that a line needs between them."""
-    return abs(a[0] - b[0]) < size_a.x + size_b.x + space and abs(a[1] - b[1]) < size_a.y + size_b.y + space
+    """Whether two names come nearer to each other than the space that a line needs between them: words at its ends need
+    more beside each other than above each other."""
+    above = min(space, SPACE_ABOVE)
+    return abs(a[0] - b[0]) < size_a.x + size_b.x + space and abs(a[1] - b[1]) < size_a.y + size_b.y + above
 
 
 def through(places: Sequence[Point], sizes: Sequence[Size], lines: Sequence[Line]) -> list[tuple[int, int]]:
@@ -136,19 +138,22 @@ class Mover:
         (x, y), (z, w) = self.places[line[0]], self.places[line[1]]
         return ((x - z) ** 2 + (y - w) ** 2) ** 0.5
 
-    def cost(self, node: int, at: Point) -> float:
-        """What is wrong about a node at a place: names over names, lines through names, crossings, long lines."""
-        places, sizes, lines = self.places, self.sizes, self.lines
+    def cost(self, node: int, at: Point, limit: float) -> float:
+        """What is wrong about a node at a place: names over names, lines through names, crossings, long lines. Above a
+        limit it is not counted to its end."""
+        places, sizes = self.places, self.sizes
         old, places[node] = places[node], at
-        cost = 0.0
+        cost, size = 0.0, sizes[node]
         for other, place in enumerate(places):
-            if other != node and overlap(at, sizes[node], place, sizes[other], self.space):
+            if other != node and overlap(at, size, place, sizes[other], self.space):
                 cost += 3000
-        for number, (a, b) in enumerate(lines):
-            if node not in (a, b) and meets(places[a], places[b], at, sizes[node]):
-                cost += 1000
+        if cost < limit:
+            for line in self.lines:
+                if node not in line and meets(places[line[0]], places[line[1]], at, size):
+                    cost += 1000
         for number in self.own[node]:
-            cost += self.line_cost(lines[number])
+            if cost < limit:
+                cost += self.line_cost(self.lines[number])
         places[node] = old
         return cost
 
@@ -172,10 +177,10 @@ class Mover:
     def better_place(self, node: int, spread: float, tries: int) -> None:
         """Moves a node where one of some places near it is better."""
         x, y = self.places[node]
-        best, least = (x, y), self.cost(node, (x, y))
+        best, least = (x, y), self.cost(node, (x, y), INFINITE)
         for _ in range(tries):
             at = x + self.random.gauss(0, spread), y + self.random.gauss(0, spread * 0.7)
-            cost = self.cost(node, at)
+            cost = self.cost(node, at, least)
             if cost < least - 1e-6:
                 best, least = at, cost
         self.places[node] = best

@@ -26,7 +26,7 @@ th, td { text-align: left; vertical-align: top; padding: .22rem .6rem .22rem 0; 
 th { border-bottom: 1px solid var(--ink); font-weight: bold; vertical-align: bottom; }
 .n { text-align: right; white-space: nowrap; font-variant-numeric: tabular-nums; } .k { white-space: nowrap; }
 td.n, th.n { padding-right: 1.3rem; } .columns { columns: 17rem auto; font-size: .9rem; }
-.bars { width: 14rem; min-width: 9rem; } tr { break-inside: avoid; }
+.trace { min-width: 22rem; } .bars { width: 14rem; min-width: 9rem; } tr { break-inside: avoid; }
 .bar { display: block; height: .5rem; margin: .16rem 0; background: #ececec; print-color-adjust: exact;
   -webkit-print-color-adjust: exact; }
 .bar i { display: block; height: 100%; background: var(--colors); print-color-adjust: exact;
@@ -281,7 +281,7 @@ def worst_row(each: Values, words: Words) -> str:
         + cell(f"{each['ratio']:.2f}", "n")
         + cell(f"{each['metric']:,} for {each['least_metric']:,}", "n")
         + cell(f"{each['hops']:,} for {each['least_hops']:,}", "n")
-        + cell(f"<pre>{escape('; '.join(each['trace'][2:]))}</pre>")
+        + cell(f"<pre>{escape('; '.join(each['trace'][2:]))}</pre>", "trace")
     )
 
 
@@ -377,7 +377,8 @@ def routers_section(values: Values, words: Words) -> str:
 
 def picture_style(width: float) -> str:
     """A picture is made smaller only as far as its names can be read, and not much larger; else the reader moves it."""
-    return f".picture svg {{ min-width: {min(width, width * 0.6 + 150):.0f}px; max-width: {1.25 * width:.0f}px; margin: auto; }}\n"
+    least = min(width, 0.55 * width + max(0, 0.2 * (width - 800)))
+    return f".picture svg {{ min-width: {least:.0f}px; max-width: {1.25 * width:.0f}px; margin: auto; }}\n"
 
 
 def page(values: Values, picture: str, width: float, title: str, names: dict[Node, str]) -> str:
@@ -386,7 +387,7 @@ def page(values: Values, picture: str, width: float, title: str, names: dict[Nod
     places = ["points", "picture", "coverage", "stretch", "load", "routers", "links"]
     parts = [
         f"<h1>{escape(title)}</h1>",
-        "<nav>" + "".join(f'<a href="#{place}">{place}</a>' for place in places) + "</nav>",
+        "<nav>" + " ".join(f'<a href="#{place}">{place}</a>' for place in places) + "</nav>",
         tiles(values),
         area_text(values, words),
         outside_text(values, words),

@@ -16,8 +16,8 @@ EDGE = 24
 LEAST_WIDTH = 560
 BETWEEN_LINES = 6.5
 HEAD = 7.0
-# The space between names where something stands at the ends of links.
-SPACE_OF_LABELS = 64.0
+# The size of what stands at the ends of links.
+TINY = 8
 INK = {
     "blue": "#1f5fbf",
     "red": "#c8281e",
@@ -143,7 +143,8 @@ class Paper:
         self.place = {mark.node: number for number, mark in enumerate(drawing.marks)}
         self.sizes = [size_of(mark) for mark in drawing.marks]
         lines = [(self.place[stroke.bond.a], self.place[stroke.bond.b]) for stroke in drawing.strokes]
-        space = SPACE_OF_LABELS if drawing.ends else layout.SPACE
+        widest = max((width(text, TINY) for texts in drawing.ends.values() for text in texts), default=0)
+        space = layout.SPACE + 2 * widest
         self.layout: Layout = layout.layout(self.sizes, lines, space)
         self.shift_to_corner()
 
@@ -207,7 +208,7 @@ class Paper:
                 for text, way in zip(texts if stroke.tail == stroke.bond.a else texts[::-1], (points, points[::-1])):
                     if text:
                         x, y = label_place(text, way, taken)
-                        yield label(x, y + 3, text, 8, ' text-anchor="middle" fill="#333" class="halo"')
+                        yield label(x, y + 3, text, TINY, ' text-anchor="middle" fill="#333" class="halo"')
 
     def mark_lines(self) -> Iterator[str]:
         for mark, size, at in zip(self.drawing.marks, self.sizes, self.layout.places):
@@ -241,7 +242,7 @@ def label_place(text: str, points: Sequence[Point], taken: list[tuple[Point, Siz
     """Where a word stands near the beginning of a line: past the border, and past other words if it can."""
     wide, high = abs(points[2][0] - points[0][0]), abs(points[2][1] - points[0][1])
     length = max(1.0, (wide * wide + high * high) ** 0.5)
-    size = Size(width(text, 8) / 2, 5)
+    size = Size(width(text, TINY) / 2, 5)
     part = min(0.45, ((size.x * wide + 7 * high) / length + 3) / length)
     while part < 0.45 and any(layout.overlap(point_at(points, part), size, *other, 0) for other in taken):
         part = min(0.45, part + 6 / length)
