@@ -145,7 +145,7 @@ class Facts:
         """Primaries, repairs and loads, destination by destination."""
         graph = self.graph
         for done, router in enumerate(graph.routers):
-            self.least[router] = graph.shortest(router)
+            self.least[router] = graph.shortest(router).costs
             tell("shortest ways", done + 1, len(graph.routers))
         for done, target in enumerate(graph.routers):
             island = self.island_of.get(graph.nodes[target])
@@ -231,12 +231,13 @@ class Facts:
     def put_stretches(self, router: int) -> None:
         """Repairs beside the least ways without what has failed."""
         least: dict[int, list[int]] = {}
+        tree = self.graph.shortest(router)
         for target, hop in self.hops_of(router):
             for which, failed in enumerate((hop.elements[0], hop.elements[-1])):
                 cost = self.costs[router][which][target]
                 if cost != NONE:
                     if failed not in least:
-                        least[failed] = self.graph.shortest(router, failed)
+                        least[failed] = self.graph.without(tree, failed)
                     self.put_stretch(router, target, failed, self.colors[router][which][target], cost, least[failed])
 
     def put_stretch(self, router: int, target: int, failed: int, color: int, cost: int, least: list[int]) -> None:

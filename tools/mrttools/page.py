@@ -25,7 +25,7 @@ nav { font-size: .9rem; margin: .6rem 0; } nav a { margin-right: 1rem; white-spa
 th, td { text-align: left; vertical-align: top; padding: .22rem .6rem .22rem 0; border-bottom: 1px solid #e6e6e6; }
 th { border-bottom: 1px solid var(--ink); font-weight: bold; vertical-align: bottom; }
 .n { text-align: right; white-space: nowrap; font-variant-numeric: tabular-nums; } .k { white-space: nowrap; }
-td.n, th.n { padding-right: 1.3rem; } .columns { columns: 17rem auto; font-size: .9rem; }
+td.n, th.n { padding-right: 1.3rem; } .columns { columns: 14rem auto; font-size: .9rem; }
 .trace { min-width: 22rem; } .bars { width: 14rem; min-width: 9rem; } tr { break-inside: avoid; }
 .bar { display: block; height: .5rem; margin: .16rem 0; background: #ececec; print-color-adjust: exact;
   -webkit-print-color-adjust: exact; }
@@ -35,9 +35,10 @@ td.n, th.n { padding-right: 1.3rem; } .columns { columns: 17rem auto; font-size:
 .key { display: inline-block; width: 2rem; vertical-align: middle; margin: 0 .3rem 0 0; }
 pre { margin: .2rem 0; font-size: .82rem; white-space: pre-wrap; } .picture { overflow: auto; max-height: 94vh; border: 1px solid var(--rule); }
 .picture svg { display: block; width: 100%; height: auto; }
-@media (max-width: 640px) { table { min-width: 40rem; } body { padding: .8rem .7rem 2rem; font-size: 14px; } .tile { min-width: 7.5rem; }
+#whole:checked ~ .picture svg { min-width: 0 !important; } label { font-size: .9rem; }
+@media (max-width: 640px) { .picture svg { min-width: 0 !important; } .choice { display: none; } table { min-width: 40rem; } body { padding: .8rem .7rem 2rem; font-size: 14px; } .tile { min-width: 7.5rem; }
   h1 { font-size: 1.25rem; } th, td { padding-right: .45rem; } .bars { min-width: 6rem; } }
-@media print { body { max-width: none; padding: 0; font-size: 10pt; } nav { display: none; } .picture, .wide { overflow: visible; max-height: none; }
+@media print { body { max-width: none; padding: 0; font-size: 10pt; } nav, .choice { display: none; } .picture, .wide { overflow: visible; max-height: none; }
   .picture svg { min-width: 0 !important; } h2 { break-after: avoid; } @page { margin: 14mm; } }
 """
 SHOWN = 8
@@ -175,7 +176,7 @@ def point_row(point: Values, words: Words) -> str:
         cell(escape(words.element(point)))
         + cell(f"{point['pairs']:,}", "n")
         + cell(sides)
-        + cell(mends_text(point["mend"], words))
+        + cell(mends_text(point["mend"], words), "k")
         + cell(also, "n")
     )
 
@@ -394,6 +395,7 @@ def page(values: Values, picture: str, width: float, title: str, names: dict[Nod
         points_section(values, words),
         not_repaired_section(values, words),
         '<h2 id="picture">The area</h2>',
+        '<input type="checkbox" id="whole" class="choice"><label for="whole" class="choice"> the whole picture at once</label>',
         f'<div class="picture">{picture}</div>',
         coverage_section(values, words),
         stretch_section(values, words),

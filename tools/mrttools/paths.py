@@ -1,8 +1,8 @@
 """An area by numbers, for what is asked of all pairs: least costs, and the hops of primaries."""
 from __future__ import annotations
 
-from heapq import heappop, heappush
-from typing import Iterator
+from heapq import heapify, heappop, heappush
+from typing import Iterator, NamedTuple
 
 from . import program
 from .area import Area, Bond, Node
@@ -22,6 +22,16 @@ class Hop:
         self.elements = [element for bond, node in zip(bonds, nodes) for element in (bond, links + node)]
 
 
+class Tree(NamedTuple):
+    """Least ways from a node: the cost to each node, the node and the link before it, and the nodes in the order of
+    their costs."""
+
+    costs: list[int]
+    before: list[int]
+    over: list[int]
+    order: list[int]
+
+
 class Graph:
     """The nodes and links of an area by number. An element is a link, or the number of links and that of a node."""
 
@@ -32,6 +42,10 @@ class Graph:
         self.place = {bond: place for place, bond in enumerate(whole.bonds)}
         self.routers = [place for place, node in enumerate(whole.nodes) if node.kind == ROUTER]
         self.near = [list(self.arcs(node)) for node in whole.nodes]
+        self.into: list[list[tuple[int, int, int]]] = [[] for _ in whole.nodes]
+        for node, arcs in enumerate(self.near):
+            for cost, far, bond in arcs:
+                self.into[far].append((cost, node, bond))
         self.hops: dict[tuple[int, ...], Hop] = {}
 
     def arcs(self, node: Node) -> Iterator[tuple[int, int, int]]:
@@ -50,23 +64,57 @@ class Graph:
         count = len(self.bonds)
         return self.bonds[element] if element < count else self.nodes[element - count]
 
-    def shortest(self, source: int, failed: int = -1) -> list[int]:
-        """The least cost from a node to each, where an element has failed; FAR where no way leads there."""
+    def shortest(self, source: int) -> Tree:
+        """The least ways from a node to each."""
         count, near = len(self.nodes), self.near
-        failed_node = failed - len(self.bonds)
-        found = [FAR] * count
-        found[source] = 0
+        tree = Tree([FAR] * count, [-1] * count, [-1] * count, [])
+        costs, before, over, order = tree.costs, tree.before, tree.over, tree.order
+        costs[source] = 0
         waiting = [source]
         while waiting:
             cost, node = divmod(heappop(waiting), count)
-            if cost > found[node]:
+            if cost > costs[node]:
                 continue
+            order.append(node)
             for more, far, bond in near[node]:
                 reached = cost + more
-                if reached < found[far] and bond != failed and far != failed_node:
-                    found[far] = reached
+                if reached < costs[far]:
+                    costs[far], before[far], over[far] = reached, node, bond
                     heappush(waiting, reached * count + far)
-        return found
+        return tree
+
+    def without(self, tree: Tree, failed: int) -> list[int]:
+        """The least costs where an element other than the source has failed; FAR where no way leads. Only the nodes to
+        which the tree leads over it are looked at anew."""
+        count, node = len(self.nodes), failed - len(self.bonds)
+        costs, lost = tree.costs[:], [False] * count
+        for far in tree.order[1:]:
+            if far == node or tree.over[far] == failed or lost[tree.before[far]]:
+                lost[far], costs[far] = True, FAR
+        waiting = []
+        for far in tree.order:
+            if lost[far] and far != node:
+                for more, near, bond in self.into[far]:
+                    if not lost[near] and bond != failed and costs[near] + more < costs[far]:
+                        costs[far] = costs[near] + more
+                if costs[far] != FAR:
+                    waiting.append(costs[far] * count + far)
+        self.settle(costs, waiting, failed)
+        return costs
+
+    def settle(self, costs: list[int], waiting: list[int], failed: int) -> None:
+        """Goes on from nodes whose cost is known, past what has failed."""
+        count, gone = len(self.nodes), failed - len(self.bonds)
+        heapify(waiting)
+        while waiting:
+            cost, node = divmod(heappop(waiting), count)
+            if cost > costs[node]:
+                continue
+            for more, far, bond in self.near[node]:
+                reached = cost + more
+                if reached < costs[far] and bond != failed and far != gone:
+                    costs[far] = reached
+                    heappush(waiting, reached * count + far)
 
     def primaries(self, target: int, least: dict[int, list[int]]) -> dict[int, Hop]:
         """The primary of each router to a destination, from the least costs of all routers: the first link in order that

@@ -161,7 +161,7 @@ class Differences(unittest.TestCase):
     def test_random_changes_beside_tables(self) -> None:
         """The counts of changed rows and of repairs, by the tables of both."""
         random = Random(7)
-        for _ in range(5):
+        for _ in range(4):
             with tempfile.TemporaryDirectory() as folder:
                 one = Written(random, folder)
                 edited = Draft(program.database(one.database))
