@@ -7,8 +7,8 @@ from typing import Iterable, Iterator, NamedTuple
 from . import lsas
 from .lsas import NETWORK, POINT_TO_POINT, ROUTER, TRANSIT, Lsa
 
-# A link with this metric is not for transit traffic, and in no island (RFC 6987; RFC 7812, section 7.3.1).
-MAX_METRIC = 0xFFFF
+# A link of this metric is that of a router in maintenance (RFC 6987), and in no island.
+MAINTENANCE = 65535
 
 
 class Node(NamedTuple):
@@ -30,20 +30,20 @@ class Arc(NamedTuple):
     to: Node
     data: int
     place: int
-    metric: int
+    metric: int = 0
 
 
 class Bond(NamedTuple):
     """A link between two nodes, with the link data and the metric of both ends; a network's end has the metric 0. Where
     both ends tell of it, the lesser node is first. Of parallel links that only one end tells, that end is first, and
-    the other has no data and no metric."""
+    the other has no data."""
 
     a: Node
     b: Node
     data_a: int
     data_b: int | None
-    metric_a: int
-    metric_b: int | None
+    metric_a: int = 0
+    metric_b: int = 0
 
     @property
     def two_way(self) -> bool:
@@ -52,7 +52,7 @@ class Bond(NamedTuple):
     @property
     def transit(self) -> bool:
         """Whether both ends tell of it and neither says that it is not for transit traffic (RFC 6987)."""
-        return self.two_way and MAX_METRIC not in (self.metric_a, self.metric_b)
+        return self.two_way and MAINTENANCE not in (self.metric_a, self.metric_b)
 
     def is_of(self, router: int, data: int) -> bool:
         """Whether this is the link of a router with this link data."""
@@ -64,7 +64,7 @@ class Bond(NamedTuple):
 
     def metric_from(self, node: Node) -> int | None:
         """The metric of the way from one of its nodes; none where that way is not told."""
-        return self.metric_a if node == self.a else self.metric_b
+        return self.metric_a if node == self.a else self.metric_b if self.two_way else None
 
     def data_of(self, node: Node) -> int | None:
         return self.data_a if node == self.a else self.data_b
@@ -104,7 +104,7 @@ def arcs_from(node: Node, lsa: Lsa) -> Iterator[Arc]:
     """The links that a node's LSA tells, to routers and to transit networks."""
     if node.kind == NETWORK:
         for place, router in enumerate(lsas.routers_of(lsa.record)):
-            yield Arc(node, Node(router, ROUTER), 0, place, 0)
+            yield Arc(node, Node(router, ROUTER), 0, place)
         return
     for place, link in enumerate(lsas.links_of(lsa.record)):
         if link.kind == POINT_TO_POINT and link.far != node.number:
@@ -127,7 +127,7 @@ def bonds_of(arcs: Iterable[Arc]) -> list[Bond]:
         if a < b:
             pairs += [Bond(a, b, one.data, other.data, one.metric, other.metric) for one, other in zip(there, back)]
         if back:
-            single += [Bond(a, b, arc.data, None, arc.metric, None) for arc in there[len(back) :]]
+            single += [Bond(a, b, arc.data, None, arc.metric) for arc in there[len(back) :]]
     return pairs + single
 
 

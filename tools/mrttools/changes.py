@@ -3,7 +3,7 @@ from __future__ import annotations
 
 from typing import Iterable, Iterator, NamedTuple
 
-from . import cuts, facts, islands, lsas, names, program
+from . import asking, cuts, facts, islands, lsas, names
 from .area import Area, Bond, Node
 from .certificate import COLORS
 from .cuts import Cut
@@ -28,7 +28,7 @@ class Side(NamedTuple):
 
 
 def side_of(mrt: Program, tell: facts.Tell) -> Side:
-    whole = program.area_of(mrt)
+    whole = asking.area_of(mrt)
     tell("certificate", 0, 1)
     parts = islands.islands(mrt, whole)
     found = Facts(Graph(whole), parts.shared)

@@ -6,18 +6,22 @@ from typing import NamedTuple
 
 from . import area, lsas
 from .area import Area, Bond, Node
+from .ending import NOT_THERE, ToolFault
 from .lsas import NETWORK, POINT_TO_POINT, ROUTER, TRANSIT, Lsa
+
+BAD_DATABASE = 3
 
 MAX_SEQUENCE = 0x7FFFFFFF
 LINK = ">IIBBH"
 
 
-class NoChange(Exception):
-    """Why a change cannot be made."""
+def no_change(line: str) -> ToolFault:
+    return ToolFault(line, NOT_THERE)
 
 
-class BadDatabase(Exception):
-    """Why a database has no change: `mrt` would not take it either."""
+def bad_database(line: str) -> ToolFault:
+    """A fault for which `mrt` would not take the database either."""
+    return ToolFault(f"bad database: {line}", BAD_DATABASE)
 
 
 def whole_database(data: bytes) -> list[Lsa]:
@@ -26,16 +30,16 @@ def whole_database(data: bytes) -> list[Lsa]:
     for lsa in found:
         fault = lsas.damage(lsa) or ("a link with metric 0" if lsas.has_zero_metric(lsa) else None)
         if fault:
-            raise BadDatabase(f"{fault} at {at}")
+            raise bad_database(f"{fault} at {at}")
         at += len(lsa.record)
     if at != len(data):
-        raise BadDatabase(f"truncated at {at}")
+        raise bad_database(f"truncated at {at}")
     for key, group in lsas.by_key(found).items():
         if (
             key.kind in (ROUTER, NETWORK)
             and len({lsa.text for lsa in group if lsas.rank(lsa) == max(map(lsas.rank, group))}) > 1
         ):
-            raise BadDatabase(f"two newest instances of the {lsas.key_text(key)} say different things")
+            raise bad_database(f"two newest instances of the {lsas.key_text(key)} say different things")
     return found
 
 
@@ -85,7 +89,7 @@ class Draft:
                 return node
         except ValueError:
             pass
-        raise NoChange(f"not there: {text}")
+        raise no_change(f"not there: {text}")
 
     def bond(self, text: str) -> Bond:
         """The link that a router and its link data name."""
@@ -93,14 +97,14 @@ class Draft:
             router, data = map(lsas.address, text.removeprefix("link:").split("/"))
             return next(bond for bond in self.whole.bonds if bond.is_of(router, data) and bond.two_way)
         except (ValueError, StopIteration):
-            raise NoChange(f"not there: {text}") from None
+            raise no_change(f"not there: {text}") from None
 
     # changes
 
     def add(self, one: Node, other: Node, metric: int) -> None:
         """A link between two routers, which has no addresses: its link data are the least numbers that are free."""
         if one == other:
-            raise NoChange(f"no link of a router to itself: {one.text}")
+            raise no_change(f"no link of a router to itself: {one.text}")
         for here, far in ((one, other), (other, one)):
             taken = {entry.link.data for entry in self.links[here]}
             data = next(number for number in range(1, len(taken) + 2) if number not in taken)
@@ -141,7 +145,7 @@ class Draft:
             try:
                 self.remove_node(area.node_of(text))
             except (ValueError, KeyError):
-                raise NoChange(f"not there: {text}") from None
+                raise no_change(f"not there: {text}") from None
 
     def set_metric(self, text: str, metric: int) -> None:
         """The metric of a link at the router that names it."""

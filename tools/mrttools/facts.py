@@ -5,13 +5,15 @@ from __future__ import annotations
 from array import array
 from typing import Callable, Iterator, NamedTuple
 
-from . import program
+from . import asking
 from .area import Bond, Node
 from .certificate import COLORS
 from .lsas import ROUTER
 from .paths import METRIC, Graph, Hop
 from .picture import Island
-from .program import Packet, Program, ToolFault
+from .asking import Packet
+from .ending import REFUSED, ToolFault
+from .program import Program
 
 Tell = Callable[[str, int, int], None]
 # How many primaries the program is asked for.
@@ -302,10 +304,12 @@ def agree(mrt: Program, found: Facts, start: Node) -> int:
         failed = name_of(graph, each.failed)
         wanted.append(trace(found, each.router, each.target, each.failed))
         after = [Packet(graph.nodes[each.router], graph.nodes[each.target], len(wanted[-1]))]
-    said = program.answers(mrt, start, before, failed, after)
+    said = asking.answers(mrt, start, before, failed, after)
     for packet, own, told in zip([*before, *after], wanted, said):
         if own != told:
-            raise ToolFault(f"mrt sends from {packet.at.text} to {packet.to.text} another way: {', '.join(told)}", 1)
+            raise ToolFault(
+                f"mrt sends from {packet.at.text} to {packet.to.text} another way: {', '.join(told)}", REFUSED
+            )
     return len(said)
 
 

@@ -3,7 +3,7 @@ from __future__ import annotations
 
 from typing import NamedTuple, Sequence
 
-from . import area, program
+from . import area, asking
 from .area import Area, Bond, Node
 from .cuts import Cut
 from .lsas import ROUTER
@@ -23,7 +23,7 @@ class Islands(NamedTuple):
 def islands(mrt: Program, whole: Area) -> Islands:
     """The islands of an area: one certificate for each that has more than one node. Where there is none, mrt still has
     to take the database and the profile."""
-    profile = mrt.profile_bytes()
+    profile = asking.profile(mrt)
     unsupported, kept_out = area.unsupported(profile), area.ineligible(profile)
     members = [node for node in whole.nodes if node not in unsupported]
     eligible = area.island_bonds(whole, members, kept_out)
@@ -32,7 +32,7 @@ def islands(mrt: Program, whole: Area) -> Islands:
     seen: set[Node] = set()
     for node in members:
         if node.kind == ROUTER and node in joined and node not in seen:
-            shared.append(program.island_of(mrt, whole, node.text))
+            shared.append(asking.island_of(mrt, whole, node.text))
             seen |= set(shared[-1].certificate.nodes)
     shared.sort(key=lambda island: -len(island.certificate.nodes))
     alone = [node for node in members if node.kind == ROUTER and node not in joined]

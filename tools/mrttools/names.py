@@ -3,10 +3,9 @@ from __future__ import annotations
 
 from . import area
 from .area import Node
+from .ending import ToolFault
 
-
-class BadNames(Exception):
-    """Which line of a file of names is none."""
+BAD_NAMES = 15
 
 
 def read(name: str) -> dict[Node, str]:
@@ -22,7 +21,7 @@ def read(name: str) -> dict[Node, str]:
                 node = area.node_of(words[0])
                 found[node] = "".join(letter for letter in words[1].strip() if letter.isprintable())
             except (ValueError, IndexError):
-                raise BadNames(f"bad names: {name} on line {number}") from None
+                raise ToolFault(f"bad names: {name} on line {number}", BAD_NAMES) from None
     return found
 
 

@@ -4,7 +4,7 @@ from __future__ import annotations
 from heapq import heapify, heappop, heappush
 from typing import Iterator, NamedTuple
 
-from . import program
+from . import asking
 from .area import Area, Bond, Node
 from .lsas import NETWORK, ROUTER
 
@@ -38,7 +38,7 @@ class Graph:
     def __init__(self, whole: Area) -> None:
         self.area, self.nodes, self.bonds = whole, whole.nodes, whole.bonds
         self.number = {node: place for place, node in enumerate(whole.nodes)}
-        self.links = program.links_at(whole)
+        self.links = asking.links_at(whole)
         self.place = {bond: place for place, bond in enumerate(whole.bonds)}
         self.routers = [place for place, node in enumerate(whole.nodes) if node.kind == ROUTER]
         self.near = [list(self.arcs(node)) for node in whole.nodes]

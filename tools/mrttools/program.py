@@ -1,151 +1,47 @@
-"""The program `mrt` over one database and one profile, as the tools run it."""
+"""The program `mrt`, as the tools run it."""
 from __future__ import annotations
 
+import argparse
 import os
+import shutil
 import subprocess
 import sys
-import tempfile
-from typing import NamedTuple, Sequence
 
-from . import area, certificate, lsas
-from .area import Area, Bond, Node
-from .picture import Island
+from .ending import READ_FAULT, ToolFault
 
-ROOT = os.path.dirname(os.path.dirname(os.path.dirname(os.path.abspath(__file__))))
+ROOT = os.path.dirname(os.path.dirname(os.path.dirname(os.path.realpath(__file__))))
 MRT = os.path.join(ROOT, "mrt")
-NOT_THERE = 7
-# A script's greatest number of packets.
-ROOM = 65535
 
 
-class ToolFault(Exception):
-    """Why a tool stops, by its line and its status."""
+def add_option(parser: argparse.ArgumentParser, default: str = MRT) -> None:
+    parser.add_argument("--mrt", default=default, help="the program, if not ./mrt")
 
-    def __init__(self, line: str, status: int) -> None:
-        super().__init__(line)
-        self.status = status
+
+def refuse_without(path: str) -> None:
+    """Says before anything is done that there is no such program."""
+    if not shutil.which(path):
+        raise ToolFault(f"{path}: there is no such program", READ_FAULT)
 
 
 class Program:
     """mrt over one database and one profile."""
 
     def __init__(self, path: str, database: str, profile: str) -> None:
+        refuse_without(path)
         self.path, self.database, self.profile = path, database, profile
 
-    def run(self, command: str, *words: str) -> bytes:
-        """What a command writes. Where it refuses, its line is on standard error already, and this program ends with
-        its status."""
+    def run(self, command: str, *words: str, untold: int = 0) -> bytes:
+        """What a command writes. Where it refuses, its line is told, but for one status, and the tool ends with the
+        status."""
+        words = (self.database, *words) if command == "lfa" else (self.database, self.profile, *words)
         done = subprocess.run(
-            [self.path, command, self.database, self.profile, *words], stdout=subprocess.PIPE, check=False
+            [self.path, command, *words], stdout=subprocess.PIPE, stderr=subprocess.PIPE, check=False
         )
+        if done.returncode != untold:
+            sys.stderr.buffer.write(done.stderr)
         if done.returncode != 0:
-            sys.exit(done.returncode)
+            raise ToolFault("", done.returncode)
         return done.stdout
 
-    def profile_bytes(self) -> bytes:
-        return b"" if self.profile == "-" else read_file(self.profile)
-
-
-def read_file(name: str) -> bytes:
-    with open(name, "rb") as file:
-        return file.read()
-
-
-def database(name: str) -> list[lsas.Lsa]:
-    return list(lsas.split(read_file(name)))
-
-
-def area_of(program: Program) -> Area:
-    """The area of a program's database. Where it, or the profile, cannot be read here, mrt says why."""
-    try:
-        profile = program.profile_bytes()
-        area.ineligible(profile), area.unsupported(profile)
-        return area.area_of(database(program.database))
-    except (ValueError, IndexError) as fault:
-        program.run("certify", "0.0.0.0")
-        raise ToolFault(f"{program.database} or {program.profile}: {fault}", 1) from None
-
-
-# certificates
-
-
-def certificate_of(program: Program, router: str, checked: bool) -> certificate.Certificate:
-    """What mrt certify writes. It passes mrt check, by a law of the program; where it is to be checked all the same, only
-    what is accepted is given."""
-    data = program.run("certify", router)
-    if not checked:
-        return certificate.read(data)
-    with tempfile.NamedTemporaryFile(suffix=".cert") as file:
-        file.write(data)
-        file.flush()
-        program.run("check", file.name)
-    return certificate.read(data)
-
-
-def island_of(program: Program, whole: Area, router: str, checked: bool = False) -> Island:
-    """A router's island, with its links by number as the area has them."""
-    cert = certificate_of(program, router, checked)
-    bonds = area.island_bonds(whole, cert.nodes, area.ineligible(program.profile_bytes()))
-    if [(cert.nodes[a], cert.nodes[b]) for a, b in cert.pairs] != [(bond.a, bond.b) for bond in bonds]:
-        raise ToolFault("the certificate has other links than the database", 1)
-    return Island(whole, cert, bonds)
-
-
-# packets
-
-
-class Packet(NamedTuple):
-    """A packet that enters by primaries, and how many steps are asked for."""
-
-    at: Node
-    to: Node
-    steps: int
-
-
-def answers(
-    program: Program, router: Node, before: Sequence[Packet], failed: str | None, after: Sequence[Packet]
-) -> list[list[str]]:
-    """What happens to each packet, by one script: some before a failure, some after it."""
-    lines = [f"island {router.text} {ROOM}"]
-    for number, packet in enumerate([*before, *after]):
-        if failed and number == len(before):
-            lines.append(f"fail {failed}")
-        lines += [f"inject {packet.at.text} {packet.to.text} repair"] + [f"step {number}"] * packet.steps
-    with tempfile.NamedTemporaryFile(suffix=".script") as file:
-        file.write("".join(line + "\n" for line in lines).encode())
-        file.flush()
-        said = iter(program.run("fabric", file.name).decode().splitlines())
-    found = []
-    for number, packet in enumerate([*before, *after]):
-        if failed and number == len(before):
-            next(said, None)
-        next(said, None)
-        found.append([next(said, "no answer") for _ in range(packet.steps)])
-    return found
-
-
-def links_at(whole: Area) -> dict[Node, list[Bond]]:
-    """The links of each node over which it can send, in the order of `mrt`: by metric, far node and link data. Of
-    several first links of shortest ways the first in this order is the primary's."""
-    found: dict[Node, list[Bond]] = {node: [] for node in whole.nodes}
-    for bond in whole.bonds:
-        found[bond.a].append(bond)
-        if bond.two_way:
-            found[bond.b].append(bond)
-    for node, bonds in found.items():
-        bonds.sort(key=lambda bond: (bond.metric_from(node), bond.far(node), bond.data_of(node)))
-    return found
-
-
-def hop(links: dict[Node, list[Bond]], router: Node, following: Node) -> list[tuple[Node, Bond]]:
-    """The links of a primary that leads to the next router, or to a network, each with the node that sends over it: the
-    first ones that lead there, as all of them are of shortest ways or none."""
-    for bond in links[router]:
-        far = bond.far(router)
-        if far == following:
-            return [(router, bond)]
-        if far.kind == lsas.NETWORK:
-            for second in links[far]:
-                if second.far(far) == following:
-                    return [(router, bond), (far, second)]
-    raise ValueError(f"{following.text} is not next to {router.text}")
+    def lines(self, command: str, *words: str, untold: int = 0) -> list[str]:
+        return self.run(command, *words, untold=untold).decode("ascii").splitlines()

@@ -3,9 +3,12 @@ from __future__ import annotations
 
 import sys
 import time
-from typing import TextIO
+from typing import Callable, TextIO
+
+from .ending import ToolFault
 
 WIDE = 30
+INTERRUPTED = 130
 
 
 class Progress:
@@ -32,3 +35,14 @@ class Progress:
         if self.shown and self.what:
             self.to.write("\r\x1b[K")
             self.to.flush()
+
+
+def shown(program: str, work: Callable[[Progress], str]) -> str:
+    """What a long run gives; the bar is gone when it has ended, and Ctrl-C ends it with a status of its own."""
+    bar = Progress(program)
+    try:
+        return work(bar)
+    except KeyboardInterrupt:
+        raise ToolFault("interrupted", INTERRUPTED) from None
+    finally:
+        bar.end()

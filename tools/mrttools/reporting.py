@@ -3,7 +3,7 @@ from __future__ import annotations
 
 from typing import Any, NamedTuple, Sequence
 
-from . import cuts, facts, islands, lsas, program
+from . import asking, cuts, facts, islands, lsas
 from .area import Area, Bond, Node
 from .certificate import COLORS
 from .cuts import Cut
@@ -221,7 +221,7 @@ def report_values(found: Found) -> Values:
 
 def find(mrt: Program, tell: facts.Tell) -> Found:
     """All that a report stands on."""
-    whole = program.area_of(mrt)
+    whole = asking.area_of(mrt)
     tell("certificate", 0, 1)
     parts = islands.islands(mrt, whole)
     graph = Graph(whole)

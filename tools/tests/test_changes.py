@@ -5,9 +5,10 @@ import tempfile
 import unittest
 from random import Random
 
-from mrttools import area, changes, editing, lsas, program
+from mrttools import area, asking, changes, editing, lsas
 from mrttools.area import Area
-from mrttools.editing import BadDatabase, Draft, NoChange
+from mrttools.editing import Draft
+from mrttools.ending import ToolFault
 from mrttools.program import Program
 from tests.making import DATA, MRT, TOOLS
 from tests.test_cuts import name, node, records_of
@@ -84,14 +85,14 @@ class Edits(unittest.TestCase):
             lambda edited: edited.router("1.2.3"),
             lambda edited: edited.add(node(1), node(1), 3),
         ):
-            with self.assertRaises(NoChange):
+            with self.assertRaises(ToolFault):
                 wrong(draft())
 
     def test_a_database_with_a_fault(self) -> None:
         data = draft().data()
         zero = records_of([(1, 2)], [], [0])[0]
         for wrong in (data[:-1], data + b"x", data[:30] + b"x" + data[31:], zero):
-            with self.assertRaises(BadDatabase):
+            with self.assertRaises(ToolFault):
                 editing.whole_database(wrong)
         self.assertEqual(len(editing.whole_database(data)), 4)
 
@@ -164,7 +165,7 @@ class Differences(unittest.TestCase):
         for _ in range(4):
             with tempfile.TemporaryDirectory() as folder:
                 one = Written(random, folder)
-                edited = Draft(program.database(one.database))
+                edited = Draft(asking.database(one.database))
                 edited.remove_link(random.choice([bond for bond in edited.whole.bonds if bond.two_way]))
                 other = os.path.join(folder, "other.lsas")
                 with open(other, "wb") as file:

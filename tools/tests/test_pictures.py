@@ -9,8 +9,9 @@ import unittest
 from random import Random
 from xml.etree import ElementTree
 
-from mrttools import area, certificate, layout, lsas, names, picture, program, svg
+from mrttools import area, asking, certificate, layout, lsas, names, picture, svg
 from mrttools.area import Node
+from mrttools.ending import ToolFault
 from mrttools.layout import Size
 from mrttools.picture import Arrow, Course, Failure, Island, Style
 from tests import making
@@ -186,7 +187,7 @@ class Texts(unittest.TestCase):
             self.assertEqual(names.read(file.name), {router(1): "core one", LAN: "LAN"})
             file.write(b"10.255.1.2\n")
             file.flush()
-            with self.assertRaisesRegex(names.BadNames, f"bad names: {file.name} on line 5"):
+            with self.assertRaisesRegex(ToolFault, f"bad names: {file.name} on line 5"):
                 names.read(file.name)
 
 
@@ -221,13 +222,13 @@ class Hops(unittest.TestCase):
     """Which links a primary takes to a router that the program names."""
 
     def test_of_parallel_links_the_cheaper_and_then_the_lesser_data(self) -> None:
-        links = program.links_at(sample().area)
+        links = asking.links_at(sample().area)
         for tail, far in ((2, 5), (5, 2)):
-            (_, bond), *more = program.hop(links, router(tail), router(far))
+            (_, bond), *more = asking.hop(links, router(tail), router(far))
             self.assertEqual((lsas.spelled(bond.data_a), more), ("192.0.2.5", []))
 
     def test_over_a_network(self) -> None:
-        way = program.hop(program.links_at(sample().area), router(4), router(3))
+        way = asking.hop(asking.links_at(sample().area), router(4), router(3))
         self.assertEqual([tail for tail, _ in way], [router(4), LAN])
 
 

@@ -128,7 +128,7 @@ class Written:
         lans = [random.sample(routers, random.randint(2, count)) for _ in range(random.choice([0, 1, 1, 2]))]
         metrics = [random.choice([1, 2, 2, 3, 5]) for _ in range(2 * len(links))]
         if random.random() < 0.4:
-            metrics[0] = area.MAX_METRIC
+            metrics[0] = area.MAINTENANCE
         with open(self.database, "wb") as file:
             file.write(b"".join(records_of(links, lans, metrics)))
         with open(profile, "w", encoding="ascii") as file:
@@ -294,7 +294,7 @@ class Parts(unittest.TestCase):
         )
 
     def test_a_link_of_the_greatest_metric_is_in_no_island(self) -> None:
-        records = records_of([(1, 2), (1, 2)], [], [area.MAX_METRIC, 10, 10, 10])
+        records = records_of([(1, 2), (1, 2)], [], [area.MAINTENANCE, 10, 10, 10])
         whole = area.area_of(map(lsas.lsa_of, records))
         inside = area.island_bonds(whole, whole.nodes, set())
         self.assertEqual([bond.metric_a for bond in inside], [10])
