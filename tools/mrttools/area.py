@@ -113,14 +113,19 @@ def arcs_from(node: Node, lsa: Lsa) -> Iterator[Arc]:
             yield Arc(node, Node(link.far, NETWORK), link.data, place, link.metric)
 
 
-def bonds_of(arcs: Iterable[Arc]) -> list[Bond]:
-    """The links of arcs between nodes that tell of each other. The k-th arcs of both ways, by link data and by place,
-    are one link; then come the arcs that are left over."""
+def ways_of(arcs: Iterable[Arc]) -> dict[tuple[Node, Node], list[Arc]]:
+    """The arcs from each node to each other one, by link data and by place."""
 
     def way(arc: Arc) -> tuple[Node, Node]:
         return arc.tail, arc.to
 
-    ways = {ends: list(group) for ends, group in groupby(sorted(arcs), key=way)}
+    return {ends: list(group) for ends, group in groupby(sorted(arcs), key=way)}
+
+
+def bonds_of(arcs: Iterable[Arc]) -> list[Bond]:
+    """The links of arcs between nodes that tell of each other. The k-th arcs of both ways, by link data and by place,
+    are one link; then come the arcs that are left over."""
+    ways = ways_of(arcs)
     pairs, single = [], []
     for (a, b), there in sorted(ways.items()):
         back = ways.get((b, a), [])
@@ -129,6 +134,11 @@ def bonds_of(arcs: Iterable[Arc]) -> list[Bond]:
         if back:
             single += [Bond(a, b, arc.data, None, arc.metric) for arc in there[len(back) :]]
     return pairs + single
+
+
+def arcs_of(speaking: dict[Node, Lsa]) -> list[Arc]:
+    """All arcs between nodes that are there."""
+    return [arc for node, lsa in speaking.items() for arc in arcs_from(node, lsa) if arc.to in speaking]
 
 
 def area_of(found: Iterable[Lsa]) -> Area:
@@ -143,6 +153,30 @@ def area_of(found: Iterable[Lsa]) -> Area:
 def profile_lines(profile: bytes) -> list[list[str]]:
     """The words of each line. A line that begins with # may hold any bytes."""
     return [line.decode("ascii").split() for line in profile.split(b"\n") if not line.startswith(b"#")]
+
+
+# what an operator should look at
+
+
+def one_way(found: Iterable[Lsa]) -> list[Arc]:
+    """The links that one end tells, and the other, which is there, does not."""
+    ways = ways_of(arcs_of(speakers(found)))
+    return [arc for (a, b), there in sorted(ways.items()) for arc in there[len(ways.get((b, a), [])) :]]
+
+
+def one_way_lines(found: Iterable[Lsa]) -> list[str]:
+    lines = []
+    for arc in one_way(found):
+        data = f" with link data {lsas.spelled(arc.data)}" if arc.tail.kind == ROUTER else ""
+        lines.append(f"told by one end: the link of {arc.tail.text} to {arc.to.text}{data}")
+    return lines
+
+
+def no_link_lines(found: Iterable[Lsa]) -> list[str]:
+    """A line on each router without a link that both ends tell."""
+    whole = area_of(found)
+    linked = {node for bond in whole.bonds if bond.data_b is not None for node in (bond.a, bond.b)}
+    return [f"without a link: {node.text}" for node in whole.nodes if node.kind == ROUTER and node not in linked]
 
 
 def ineligible(profile: bytes) -> set[tuple[int, int]]:

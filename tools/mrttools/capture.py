@@ -1,20 +1,31 @@
 """Frames of capture files, and the IP datagrams in them."""
 from __future__ import annotations
 
+import gzip
 import struct
+import sys
+import zlib
 from typing import BinaryIO, Callable, Iterator, NamedTuple
 
-import dpkt
-
+# The byte order of a pcap file, and what stands in a frame's head after its two lengths.
 PCAP_MAGICS = {
-    bytes.fromhex(text) for text in ("a1b2c3d4", "d4c3b2a1", "a1b23c4d", "4d3cb2a1", "a1b2cd34", "34cdb2a1")
+    bytes.fromhex("a1b2c3d4"): (">", 0),
+    bytes.fromhex("d4c3b2a1"): ("<", 0),
+    bytes.fromhex("a1b23c4d"): (">", 0),
+    bytes.fromhex("4d3cb2a1"): ("<", 0),
+    bytes.fromhex("a1b2cd34"): (">", 8),
+    bytes.fromhex("34cdb2a1"): ("<", 8),
 }
+GZIP = b"\x1f\x8b"
+# No capture has frames of that size; the length of a damaged one may be any number.
+LONGEST = 1 << 24
 SECTION, INTERFACE, OLD_PACKET, SIMPLE_PACKET, PACKET = 0x0A0D0D0A, 1, 2, 3, 6
 BYTE_ORDERS = {bytes.fromhex("1a2b3c4d"): ">", bytes.fromhex("4d3c2b1a"): "<"}
 
 ETHERNET, LINUX_COOKED, LINUX_COOKED_2 = 1, 113, 276
 # The numbers for raw IP differ by system and by age.
 RAW_IP = {12, 14, 101, 228}
+CUT = "cut by the capture (tcpdump -s 0 takes whole frames)"
 IP_TYPE, VLAN_TYPES = 0x0800, {0x8100, 0x88A8, 0x9100}
 
 
@@ -56,35 +67,57 @@ def exactly(file: BinaryIO, size: int) -> bytes:
     return data
 
 
+def opened(name: str) -> BinaryIO:
+    """The file of a name, or standard input for `-`, with its first bytes still to be read."""
+    return sys.stdin.buffer if name == "-" else open(name, "rb")
+
+
 def frames(name: str, tell: Callable[[str], None]) -> Iterator[Frame]:
-    """The frames of a pcap or pcapng file. A file that ends within a frame is told, and its whole frames are given."""
-    with open(name, "rb") as file:
-        magic = file.read(4)
-        file.seek(0)
-        if magic in PCAP_MAGICS:
-            found = pcap_frames(file)
-        elif magic == struct.pack(">I", SECTION):
-            found = pcapng_frames(file)
-        else:
-            raise CaptureError("it is neither a pcap nor a pcapng file")
+    """The frames of a pcap or pcapng file, also of a compressed one. A file that ends within a frame is told, and its
+    whole frames are given."""
+    with opened(name) as file:
         try:
-            yield from found
-        except (EOFError, dpkt.NeedData):
-            tell("the capture ends within a frame")
+            if file.peek(2)[:2] == GZIP:
+                yield from frames_of(gzip.GzipFile(fileobj=file))
+            else:
+                yield from frames_of(file)
+        except EOFError:
+            tell("the capture ends within a frame: it was cut, or is still being written")
+        except (gzip.BadGzipFile, zlib.error) as fault:
+            raise CaptureError(f"it is damaged gzip: {fault}") from fault
 
 
-def pcap_frames(file: BinaryIO) -> Iterator[Frame]:
-    reader = dpkt.pcap.Reader(file)
-    # The upper bits can say how long a checksum of the link is.
-    link = reader.datalink() & 0xFFFF
-    for _, data in reader:
-        yield Frame(link, data)
+def frames_of(file: BinaryIO) -> Iterator[Frame]:
+    magic = file.read(4)
+    if magic in PCAP_MAGICS:
+        return pcap_frames(file, *PCAP_MAGICS[magic])
+    if magic == struct.pack(">I", SECTION):
+        return pcapng_frames(file, magic)
+    raise CaptureError("it is neither a pcap nor a pcapng file")
 
 
-def pcapng_frames(file: BinaryIO) -> Iterator[Frame]:
-    """Frames by the kind of link of their own interface; dpkt's reader takes that of the first one for all."""
+def pcap_frames(file: BinaryIO, order: str, more: int) -> Iterator[Frame]:
+    """Frames of a pcap file after its magic number."""
+    # The upper bits of the kind of link can say how long a checksum of the link is.
+    link = struct.unpack_from(order + "I", exactly(file, 20), 16)[0] & 0xFFFF
+    while head := file.read(16 + more):
+        if len(head) < 16 + more:
+            raise EOFError
+        (size,) = struct.unpack_from(order + "I", head, 8)
+        yield Frame(link, exactly(file, checked(size)))
+
+
+def checked(size: int) -> int:
+    """A length that a capture gives, if frames have such lengths."""
+    if size > LONGEST:
+        raise CaptureError(f"a frame or block of it has the length {size}")
+    return size
+
+
+def pcapng_frames(file: BinaryIO, start: bytes) -> Iterator[Frame]:
+    """Frames by the kind of link of their own interface, of a pcapng file after its first bytes."""
     links: list[int] = []
-    for kind, order, body in pcapng_blocks(file):
+    for kind, order, body in pcapng_blocks(file, start):
         if kind == SECTION:
             links = []
         elif kind == INTERFACE and len(body) >= 8:
@@ -103,10 +136,10 @@ def frame_of_packet(kind: int, order: str, body: bytes, links: list[int]) -> Fra
     return Frame(links[number], body[20 : 20 + size])
 
 
-def pcapng_blocks(file: BinaryIO) -> Iterator[tuple[int, str, bytes]]:
-    """The blocks of a pcapng file: kind, byte order and body."""
+def pcapng_blocks(file: BinaryIO, start: bytes) -> Iterator[tuple[int, str, bytes]]:
+    """The blocks of a pcapng file after its first bytes: kind, byte order and body."""
     order = "<"
-    while start := file.read(8):
+    while start := start + file.read(8 - len(start)):
         if len(start) < 8:
             raise EOFError
         if start[:4] == struct.pack(">I", SECTION):
@@ -117,8 +150,9 @@ def pcapng_blocks(file: BinaryIO) -> Iterator[tuple[int, str, bytes]]:
         kind, size = struct.unpack_from(order + "II", start)
         if size % 4 or size < len(start) + 4:
             raise CaptureError(f"a block of the pcapng file has the length {size}")
-        body = start[8:] + exactly(file, size - len(start))
+        body = start[8:] + exactly(file, checked(size) - len(start))
         yield kind, order, body[:-4]
+        start = b""
 
 
 # datagrams
@@ -149,7 +183,7 @@ def datagram_of(data: bytes) -> Datagram:
     if head >> 4 != 4 or start < 20 or total < start:
         raise BadDatagram("a wrong IP header")
     if len(data) < total:
-        raise BadDatagram("cut by the capture")
+        raise BadDatagram(CUT)
     return Datagram(source, target, protocol, number, 8 * (place & 0x1FFF), bool(place & 0x2000), data[start:total])
 
 

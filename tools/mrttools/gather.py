@@ -4,11 +4,12 @@ from __future__ import annotations
 from collections import Counter
 from typing import Callable, NamedTuple
 
-from . import capture, lsas, updates
+from . import area as areas, capture, lsas, updates
 from .capture import BadDatagram, Fragments, Frame
 from .lsas import NETWORK, POINT_TO_POINT, ROUTER, TRANSIT, Key, Lsa
 from .updates import BadPacket, Packet
 
+CUT = f"OSPF packet: {capture.CUT}"
 FILE_LIMIT = 8388608
 PACKETS_LIMIT = 33554432
 
@@ -23,7 +24,7 @@ class Gathered(NamedTuple):
 
     counts: Counter[str]
     areas: dict[int, list[Lsa]]
-    packets: dict[int, list[bytes]]
+    packets: dict[int, list[Packet]]
     dropped: Counter[str]
 
 
@@ -33,7 +34,7 @@ class Gathering:
     def __init__(self) -> None:
         self.counts: Counter[str] = Counter()
         self.areas: dict[int, list[Lsa]] = {}
-        self.packets: dict[int, list[bytes]] = {}
+        self.packets: dict[int, list[Packet]] = {}
         self.dropped: Counter[str] = Counter()
         self.fragments = Fragments()
 
@@ -59,7 +60,7 @@ class Gathering:
         if packet.kind != updates.UPDATE:
             return
         self.counts["updates"] += 1
-        self.packets.setdefault(packet.area, []).append(packet.data)
+        self.packets.setdefault(packet.area, []).append(packet)
         found = self.areas.setdefault(packet.area, [])
         for lsa in updates.records_of(packet):
             fault = lsas.damage(lsa)
@@ -86,13 +87,17 @@ def gather(name: str, tell: Callable[[str], None]) -> Gathered:
 # what is written
 
 
-def chosen_area(areas: dict[int, list[Lsa]], wanted: int | None) -> int:
+def chosen_area(gathered: Gathered, wanted: int | None) -> int:
     """The wanted area, or the only one."""
+    areas = gathered.areas
     names = ", ".join(map(lsas.spelled, sorted(areas)))
     if wanted is None and len(areas) > 1:
         raise NoDatabase(f"it has Link State Updates of the areas {names}; choose one with --area")
     if not areas:
-        raise NoDatabase("it has no Link State Update")
+        cut = gathered.dropped[CUT]
+        raise NoDatabase(
+            "it has no Link State Update" + (f" that is whole, and {cut} OSPF packets are cut" if cut else "")
+        )
     area = next(iter(areas)) if wanted is None else wanted
     if not areas.get(area):
         raise NoDatabase(f"it has no LSA of area {lsas.spelled(area)}; its areas are {names}")
@@ -154,9 +159,9 @@ def database_of(found: list[Lsa], only_newest: bool) -> list[Lsa]:
     return written
 
 
-def packets_of(packets: list[bytes]) -> list[bytes]:
+def packets_of(packets: list[Packet]) -> list[Packet]:
     """The Link State Updates to write: all, as they stand."""
-    size = sum(map(len, packets))
+    size = sum(len(packet.data) for packet in packets)
     if size > PACKETS_LIMIT:
         raise NoDatabase(f"the file would have {size:,} bytes, and mrt takes {PACKETS_LIMIT:,}")
     return packets
@@ -202,24 +207,37 @@ def outranked(instances: dict[Key, list[Lsa]]) -> list[str]:
 def counted(gathered: Gathered) -> list[str]:
     """What the capture held, and what was dropped."""
     counts = gathered.counts
+    if not counts["frames"]:
+        return []
     lines = [f"frames {counts['frames']}, OSPF packets {counts['packets']}, Link State Updates {counts['updates']}"]
     return lines + [f"dropped {number} {reason}" for reason, number in sorted(gathered.dropped.items())]
 
 
-def packets_summary(gathered: Gathered, written: list[bytes]) -> list[str]:
-    """What an operator should know of the capture and of the file of packets."""
-    return counted(gathered) + [f"written: {len(written)} Link State Updates, {sum(map(len, written))} bytes"]
+def packet_line(number: int, packet: Packet) -> str:
+    """A packet with its number in the file, the router that sent it, and its LSAs."""
+    names = []
+    try:
+        names += [lsas.key_text(lsa.key) for lsa in updates.records_of(packet)]
+    except BadPacket as fault:
+        names.append(str(fault))
+    return f"packet {number}, sent by {lsas.spelled(packet.router)}: " + (", ".join(names) or "no LSA")
+
+
+def packets_summary(written: list[Packet]) -> list[str]:
+    """A line on each packet of the file, and one on the file."""
+    size = sum(len(packet.data) for packet in written)
+    lines = [packet_line(number, packet) for number, packet in enumerate(written)]
+    return lines + [f"written: {len(written)} Link State Updates, {size} bytes"]
 
 
 def summary(gathered: Gathered, area: int, written: list[Lsa]) -> list[str]:
-    """What an operator should know of the capture and of the file."""
+    """What an operator should know of the area and of the file."""
     found = gathered.areas[area]
     instances = lsas.by_key(found)
     live = [lsa for lsa in newest_of_each(instances) if not lsa.withdrawn]
     kinds = Counter(key.kind for key in instances)
     routers, networks = (sum(lsa.kind == kind for lsa in live) for kind in (ROUTER, NETWORK))
-    lines = counted(gathered)
-    lines += [
+    lines = [
         f"not taken: {len(gathered.areas[other])} LSAs of area {lsas.spelled(other)}"
         for other in sorted(gathered.areas)
         if other != area
@@ -230,6 +248,7 @@ def summary(gathered: Gathered, area: int, written: list[Lsa]) -> list[str]:
     )
     lines.append(f"live: routers {routers}, networks {networks}")
     lines += [f"named, but not there: {name}" for name in missing(live)]
+    lines += areas.one_way_lines(live) + areas.no_link_lines(live)
     lines += [
         f"withdrawn by an older copy that outranks a later live one: {name}; capture anew"
         for name in outranked(instances)

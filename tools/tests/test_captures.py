@@ -1,9 +1,12 @@
 """Captures of every kind that the converter reads."""
+import gzip
+import os
 import tempfile
 import unittest
 
 import dpkt
 
+from mrttools import capture
 from tests import making
 from tests.making import Converted, datagram, ethernet, over_ethernet, pair, pcap, pcapng, update
 
@@ -15,8 +18,8 @@ class Links(unittest.TestCase):
         self.wanted = b"".join(pair())
         self.ip = datagram(update(pair()))
 
-    def check(self, capture: bytes) -> None:
-        done = Converted(capture)
+    def check(self, data: bytes) -> None:
+        done = Converted(data)
         self.assertEqual((done.status, done.output, done.file), (0, "", self.wanted), done.lines)
 
     def test_ethernet(self) -> None:
@@ -87,6 +90,16 @@ class Packets(unittest.TestCase):
         updates = [update(pair()), update(pair(), "0.0.0.1")]
         done = Converted(over_ethernet(*updates), "--packets", "--area", "0.0.0.1")
         self.assertEqual((done.status, done.file), (0, updates[1]), done.lines)
+
+    def test_a_line_on_each(self) -> None:
+        one, other = pair()
+        lan = making.network_lsa("10.0.0.1", "1.1.1.1", ["1.1.1.1"])
+        done = Converted(over_ethernet(update([other, lan]), update([one])), "--packets")
+        for line in (
+            "packet 0, sent by 9.9.9.9: router-LSA of 2.2.2.2, network-LSA 10.0.0.1 of 1.1.1.1",
+            "packet 1, sent by 9.9.9.9: router-LSA of 1.1.1.1",
+        ):
+            self.assertIn(f"lsdb-from-pcap: {line}", done.lines)
 
     def test_a_spoilt_lsa_stays(self) -> None:
         one, other = pair()
@@ -200,9 +213,52 @@ class Damage(unittest.TestCase):
         self.assertEqual((done.status, done.file), (0, b"".join(pair())))
         self.assertTrue(done.says("the capture ends within a frame"), done.lines)
 
+    def test_a_capture_cut_anywhere_is_told(self) -> None:
+        frame = ethernet(datagram(update(pair())))
+        for whole in (pcap([frame, frame]), pcapng([(0, frame), (0, frame)], [1])):
+            with tempfile.NamedTemporaryFile() as file:
+                for cut in range(len(whole) - len(frame) - 14, len(whole)):
+                    file.truncate(0)
+                    os.pwrite(file.fileno(), whole[:cut], 0)
+                    told: list[str] = []
+                    self.assertEqual([found.data for found in capture.frames(file.name, told.append)], [frame], cut)
+                    self.assertEqual(len(told), 1, cut)
+
+    def test_a_cut_is_told_with_status_0(self) -> None:
+        frame = ethernet(datagram(update(pair())))
+        done = Converted(pcap([frame, frame])[:-1])
+        self.assertEqual((done.status, done.file), (0, b"".join(pair())))
+        self.assertTrue(done.says("the capture ends within a frame"), done.lines)
+
+    def test_whole_captures_do_not_end_within_a_frame(self) -> None:
+        frame = ethernet(datagram(update(pair())))
+        for whole in (pcap([frame]), pcapng([(0, frame)], [1])):
+            self.assertFalse(Converted(whole).says("within a frame"))
+
+    def test_frames_of_any_length_are_no_memory(self) -> None:
+        head = pcap([])
+        for frame in (bytes(8) + b"\xff" * 8, bytes(8) + b"\0\0\0\x7f" * 2):
+            done = Converted(head + frame)
+            self.assertEqual((done.status, done.file, len(done.lines)), (1, None, 1), done.lines)
+
+    def test_a_capture_of_cut_frames_says_so(self) -> None:
+        frame = ethernet(datagram(update(pair())))[:100]
+        done = Converted(pcap([frame, frame]))
+        self.assertEqual((done.status, done.file), (1, None))
+        self.assertTrue(done.says("no Link State Update that is whole, and 2 OSPF packets are cut"), done.lines)
+        self.assertTrue(done.says("tcpdump -s 0"), done.lines)
+
+    def test_compressed_captures(self) -> None:
+        whole = gzip.compress(over_ethernet(update(pair())))
+        done = Converted(whole)
+        self.assertEqual((done.status, done.file), (0, b"".join(pair())), done.lines)
+        self.assertTrue(Converted(whole[:-9]).says("the capture ends within a frame"))
+        spoilt = whole[:20] + bytes(30) + whole[50:]
+        self.assertEqual((Converted(spoilt).status, Converted(spoilt).file), (1, None))
+
     def test_files_that_are_no_captures(self) -> None:
-        for capture in (b"", b"LSAs", bytes(100), pcapng([], [])[:20] + b"\xff" * 8, pcapng([(3, bytes(20))], [1])):
-            done = Converted(capture)
+        for data in (b"", b"LSAs", bytes(100), pcapng([], [])[:20] + b"\xff" * 8, pcapng([(3, bytes(20))], [1])):
+            done = Converted(data)
             self.assertEqual((done.status, done.file, len(done.lines)), (1, None, 1), done.lines)
 
     def test_a_capture_that_is_not_there(self) -> None:

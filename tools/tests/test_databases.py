@@ -155,10 +155,23 @@ class Summary(unittest.TestCase):
                     "area 0.0.0.0: 4 copies of 4 LSAs: 2 router, 1 network, 1 AS-external",
                     "live: routers 2, networks 1",
                     "named, but not there: router 3.3.3.3",
+                    "told by one end: the link of net:10.0.0.1 to 1.1.1.1",
                     f"written: 4 LSAs, {len(done.file)} bytes",
                 )
             ],
         )
+
+    def test_links_that_one_end_tells_and_routers_without_a_link(self) -> None:
+        one, other = router_lsa("1.1.1.1", LINK), router_lsa("2.2.2.2", [("10.0.0.0", "255.0.0.0", 3, 1)])
+        done = Converted(over_ethernet(update([one, other])))
+        self.assertEqual(done.status, 0)
+        self.assertTrue(
+            done.says("told by one end: the link of 1.1.1.1 to 2.2.2.2 with link data 10.0.0.1"), done.lines
+        )
+        for router in ("1.1.1.1", "2.2.2.2"):
+            self.assertTrue(done.says(f"without a link: {router}"), done.lines)
+        done = Converted(over_ethernet(update(pair())))
+        self.assertFalse(done.says("one end") or done.says("without"), done.lines)
 
 
 @unittest.skipUnless(os.path.exists(MRT), "the program is not built")
