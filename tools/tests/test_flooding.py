@@ -6,7 +6,7 @@ import unittest
 from random import Random
 from typing import NamedTuple
 
-from mrttools import lsas
+from mrttools import flooding, lsas
 from mrttools.lsas import ROUTER, Key, address
 from tests import making
 from tests.making import (
@@ -193,3 +193,29 @@ class TakenByMrt(unittest.TestCase):
             done = Converted(over_ethernet(update([one]), update([other, record])), "--packets")
             place = 28 + len(one) + 28 + len(other)
             self.assertEqual(flooded(done.file, ["routers 1"]), (14, [], f"mrt: bad update: {kind} at {place}\n"))
+
+
+class Scripts(unittest.TestCase):
+    """The lab's script, by packets of which two tell of one link."""
+
+    def setUp(self) -> None:
+        one, other = pair()
+        bare = router_lsa("1.1.1.1", [], sequence=0x80000000 + 2)
+        again = router_lsa("1.1.1.1", [("2.2.2.2", "10.0.0.1", 1, 1)], sequence=0x80000000 + 3)
+        self.updates = [update([bare, other]), update([again]), update([other]), update([other, again])]
+        self.one, self.other = address("1.1.1.1"), address("2.2.2.2")
+
+    def test_what_is_held_back(self) -> None:
+        packets = flooding.packets_in(b"".join(self.updates))
+        self.assertEqual([packet.data for packet in packets], self.updates)
+        self.assertEqual(flooding.telling(packets, self.one, self.other), [1, 3])
+        lines = flooding.script(packets, self.one, self.other, self.one)
+        self.assertEqual(
+            lines[6:], ["deliver 2 1", "deliver 0 1", "same 0 1 1.1.1.1", "deliver 3 1", "same 0 1 1.1.1.1"]
+        )
+
+    @unittest.skipUnless(os.path.exists(MRT), "the program is not built")
+    def test_the_program_says_different_and_then_same(self) -> None:
+        data = b"".join(self.updates)
+        result = flooded(data, flooding.script(flooding.packets_in(data), self.one, self.other, self.one))
+        self.assertEqual((result.status, result.answers[-3], result.answers[-1]), (0, "different", "same"))
