@@ -8,7 +8,7 @@ import subprocess
 from typing import NamedTuple
 
 from .lsas import Key, address
-from .network import DESIGNATED, LAN, Interface, Network, interfaces, router_id
+from .network import LAN, Interface, Network, Plan, router_id
 
 # What two routers with one database agree on: each LSA's sequence number and checksum.
 Database = dict[Key, tuple[int, int]]
@@ -50,7 +50,7 @@ class Frr:
         # The daemons give up root's rights for those of the user frr.
         shutil.chown(folder, "frr", "frr")
         write(f"{folder}/zebra.conf", f"hostname r{router}\n")
-        write(f"{folder}/ospfd.conf", self.configuration(router))
+        write(f"{folder}/ospfd.conf", self.configuration(network.plan, router))
         processes = []
         for name in ("zebra", "ospfd"):
             files = ["-f", f"{folder}/{name}.conf", "-i", f"{folder}/{name}.pid", "-z", f"{folder}/zserv.api"]
@@ -58,9 +58,9 @@ class Frr:
             processes.append(run_in(network.of(router), f"{folder}/log", *words))
         return Running(processes, folder)
 
-    def configuration(self, router: int) -> str:
+    def configuration(self, plan: Plan, router: int) -> str:
         lines = [f"hostname r{router}", "interface lo", " ip ospf area 0"]
-        for interface in interfaces(router):
+        for interface in plan.interfaces(router):
             lines += [
                 f"interface {interface.name}",
                 " ip ospf area 0",
@@ -68,9 +68,11 @@ class Frr:
                 " ip ospf hello-interval 1",
                 " ip ospf dead-interval 4",
             ]
-            on_lan, between_two = f" ip ospf priority {int(router == DESIGNATED)}", " ip ospf network point-to-point"
+            on_lan, between_two = f" ip ospf priority {int(interface.designated)}", " ip ospf network point-to-point"
             lines.append(on_lan if interface.far == LAN else between_two)
-        return "\n".join(lines + ["router ospf", f" ospf router-id {router_id(router)}", ""])
+        lines += ["router ospf", f" ospf router-id {router_id(router)}"]
+        lines += [" max-metric router-lsa administrative"] if router in plan.maintenance else []
+        return "\n".join(lines + [""])
 
     def ask(self, running: Running, question: str) -> str:
         return answer("vtysh", "--vty_socket", running.folder, "-d", "ospfd", "-c", question)
@@ -106,23 +108,24 @@ class Bird:
         return subprocess.run(["bird", "--version"], stderr=subprocess.PIPE, text=True, check=False).stderr.strip()
 
     def start(self, network: Network, router: int, folder: str) -> Running:
-        write(f"{folder}/bird.conf", self.configuration(router))
+        write(f"{folder}/bird.conf", self.configuration(network.plan, router))
         files = ["-c", f"{folder}/bird.conf", "-s", f"{folder}/bird.ctl", "-P", f"{folder}/bird.pid"]
         return Running([run_in(network.of(router), f"{folder}/log", "bird", "-f", *files)], folder)
 
-    def configuration(self, router: int) -> str:
+    def configuration(self, plan: Plan, router: int) -> str:
         lines = [
             f"router id {router_id(router)};",
             "protocol device { }",
             "protocol ospf v2 lab {",
+            *(["    stub router yes;"] if router in plan.maintenance else []),
             "    area 0 {",
             f"        stubnet {router_id(router)}/32;",
         ]
-        lines += [self.interface(router, interface) for interface in interfaces(router)]
+        lines += [self.interface(interface) for interface in plan.interfaces(router)]
         return "\n".join(lines + ["    };", "}", ""])
 
-    def interface(self, router: int, interface: Interface) -> str:
-        kind = f"broadcast; priority {int(router == DESIGNATED)}" if interface.far == LAN else "ptp"
+    def interface(self, interface: Interface) -> str:
+        kind = f"broadcast; priority {int(interface.designated)}" if interface.far == LAN else "ptp"
         return f'        interface "{interface.name}" {{ type {kind}; cost {interface.metric}; hello 1; dead 4; }};'
 
     def ask(self, running: Running, question: str) -> str:

@@ -7,9 +7,6 @@ from . import area, gather, lsas
 from .area import Area, Node
 from .lsas import ROUTER, Lsa
 
-# A link of this metric is that of a router in maintenance (RFC 6987), and in no island.
-MAINTENANCE = 65535
-
 
 class ProfileLine(NamedTuple):
     """A line of a profile that is no comment: its number, its first word, the router, and the word after it."""
@@ -61,7 +58,7 @@ def maintenance_lines(found: Iterable[Lsa]) -> list[str]:
     lines = []
     for node, lsa in sorted(area.speakers(found).items()):
         links = [link for link in lsas.links_of(lsa.record) if link.kind in (1, 2)] if node.kind == ROUTER else []
-        if links and all(link.metric == MAINTENANCE for link in links):
+        if links and all(link.metric == area.MAINTENANCE for link in links):
             lines.append(f"in maintenance, and in no island: {node.text}")
     return lines
 

@@ -7,7 +7,7 @@ from itertools import accumulate
 from typing import Iterable, Iterator, NamedTuple
 
 ROUTER, NETWORK = 1, 2
-POINT_TO_POINT, TRANSIT = 1, 2
+POINT_TO_POINT, TRANSIT, STUB = 1, 2, 3
 HEADER = 20
 MAX_AGE, MAX_AGE_DIFF = 3600, 900
 RESERVED_SEQUENCE = -0x80000000

@@ -1,4 +1,4 @@
-"""The lab's network: routers in network namespaces, joined by virtual links and one LAN.
+"""Networks for the lab: routers in network namespaces, joined by virtual links and LANs.
 
     r1 --- r2 --- r3 --+-- r7 --- r9 --- r1
     |      |           |
@@ -6,8 +6,8 @@
            |
            r8
 
-A ring goes r1, r2, r3, the LAN, r4, r5, r6; r2 and r5 are joined by a chord; r8 is a stub; r9 joins when the others
-have settled.
+This is the lab's own: a ring goes r1, r2, r3, the LAN, r4, r5, r6; r2 and r5 are joined by a chord; r8 is a stub; r9
+joins when the others have settled. `plans.py` has others.
 """
 from __future__ import annotations
 
@@ -15,26 +15,81 @@ import os
 import signal
 import subprocess
 import time
-from typing import NamedTuple
+from itertools import count
+from typing import Iterable, NamedTuple
 
 LAN = 0
-LAN_METRIC = {3: 10, 4: 10, 7: 5}
-# The others may not become one, so that the LAN has the same name in each run.
-DESIGNATED = 7
-# Point-to-point links with their metric, which is the same both ways.
-LINKS = {(1, 2): 10, (2, 3): 10, (4, 5): 10, (5, 6): 10, (1, 6): 10, (2, 5): 10, (5, 8): 10, (1, 9): 10, (7, 9): 10}
-ROUTERS = list(range(1, 10))
-JOINER = 9
 
 
 class Interface(NamedTuple):
-    """A router's end of a link, or its place on the LAN."""
+    """A router's end of a link, or its place on a LAN, by the number of the link or LAN in its plan. A LAN's far end is
+    0."""
 
     name: str
     address: str
     prefix: str
     metric: int
     far: int
+    wire: int = 0
+    designated: bool = False
+
+
+class Wire(NamedTuple):
+    """A link of two routers or a LAN, with the first three numbers of its addresses and the metric at each router. On a
+    LAN the designated router is given; others may not become one, so that it has the same name in each run."""
+
+    net: str
+    metrics: dict[int, int]
+    designated: int = 0
+
+    @property
+    def is_lan(self) -> bool:
+        return self.designated != 0
+
+    @property
+    def prefix(self) -> str:
+        return f"{self.net}.0/24"
+
+
+class Plan(NamedTuple):
+    """A network to build: its name, its routers, links and LANs, which router joins when the others have settled, and
+    which ones are in maintenance."""
+
+    name: str
+    routers: list[int]
+    wires: list[Wire]
+    joiner: int
+    maintenance: tuple[int, ...] = ()
+
+    def interfaces(self, router: int) -> list[Interface]:
+        """The interfaces of a router, but for its loopback."""
+        found: list[Interface] = []
+        for number, wire in enumerate(self.wires):
+            if router in wire.metrics:
+                far = LAN if wire.is_lan else next(each for each in wire.metrics if each != router)
+                name = "to-lan" if wire.is_lan else f"to-r{far}"
+                # Of parallel links, and of two LANs, the later ones have a letter.
+                same = sum(each.name.split(".")[0] == name for each in found)
+                name += f".{'abcdefgh'[same]}" if same else ""
+                place, here = f"{wire.net}.{router}", wire.metrics[router]
+                found.append(Interface(name, place, wire.prefix, here, far, number, router == wire.designated))
+        return found
+
+
+def link(one: int, other: int, metric: int, net: str) -> Wire:
+    return Wire(net, {one: metric, other: metric})
+
+
+LINKS = {(1, 2): 10, (2, 3): 10, (4, 5): 10, (5, 6): 10, (1, 6): 10, (2, 5): 10, (5, 8): 10, (1, 9): 10, (7, 9): 10}
+PLAN = Plan(
+    "lab",
+    list(range(1, 10)),
+    [link(one, other, metric, f"10.0.{one}{other}") for (one, other), metric in LINKS.items()]
+    + [Wire("198.51.100", {3: 10, 4: 10, 7: 5}, 7)],
+    joiner=9,
+)
+ROUTERS, JOINER = PLAN.routers, PLAN.joiner
+LAN_PREFIX = "198.51.100.0/24"
 
 
 def router_id(router: int) -> str:
@@ -46,25 +101,9 @@ def loopback(router: int) -> str:
     return f"{router_id(router)}/32"
 
 
-def lan_address(router: int) -> str:
-    return f"198.51.100.{router}"
-
-
-LAN_PREFIX = "198.51.100.0/24"
-
-
 def interfaces(router: int) -> list[Interface]:
-    """The interfaces of a router, but for its loopback."""
-    found = []
-    for (one, other), metric in LINKS.items():
-        if router in (one, other):
-            far = other if router == one else one
-            found.append(
-                Interface(f"to-r{far}", f"10.0.{one}{other}.{router}", f"10.0.{one}{other}.0/24", metric, far)
-            )
-    if router in LAN_METRIC:
-        found.append(Interface("to-lan", lan_address(router), LAN_PREFIX, LAN_METRIC[router], LAN))
-    return found
+    """The interfaces of a router of the lab's own network."""
+    return PLAN.interfaces(router)
 
 
 def owner(address: str) -> int:
@@ -96,9 +135,11 @@ def end_programs(space: str) -> None:
 
 
 class Network:
-    """The namespaces of one lab, which are taken away at the end whatever happened."""
+    """The namespaces of one lab, which are taken away at the end whatever happened. Each link is a bridge in a namespace
+    of its own with a wire to each router, so that both routers lose the carrier when their wires are taken down."""
 
-    def __init__(self) -> None:
+    def __init__(self, plan: Plan = PLAN) -> None:
+        self.plan = plan
         self.made: list[str] = []
 
     def space(self, name: str) -> str:
@@ -106,6 +147,10 @@ class Network:
 
     def of(self, router: int) -> str:
         return self.space(f"r{router}")
+
+    @property
+    def wires(self) -> str:
+        return self.space("wires")
 
     def __enter__(self) -> Network:
         try:
@@ -121,54 +166,43 @@ class Network:
             subprocess.run(["ip", "netns", "del", space], stderr=subprocess.DEVNULL, check=False)
 
     def make(self) -> None:
-        for space in [self.of(router) for router in ROUTERS] + [self.space("lan")]:
+        for space in [self.of(router) for router in self.plan.routers] + [self.wires]:
             # Before it is there, so that no signal comes in between.
             self.made.append(space)
             ip("netns", "add", space)
-        for one, other in LINKS:
-            ip(
-                "link",
-                "add",
-                f"to-r{other}",
-                "netns",
-                self.of(one),
-                "type",
-                "veth",
-                "peer",
-                "name",
-                f"to-r{one}",
-                "netns",
-                self.of(other),
-            )
-        self.make_lan()
-        for router in ROUTERS:
+        # The kernel tells the loss of a carrier at once only where both ends of a wire have numbers of their own.
+        numbers = count(1001)
+        for number in range(len(self.plan.wires)):
+            ip("-n", self.wires, "link", "add", f"b{number}", "type", "bridge", "mcast_snooping", "0")
+            ip("-n", self.wires, "link", "set", f"b{number}", "up")
+        for router in self.plan.routers:
+            for interface in self.plan.interfaces(router):
+                self.make_wire(router, interface, next(numbers), next(numbers))
             self.set_up(router)
 
-    def make_lan(self) -> None:
-        space = self.space("lan")
-        ip("-n", space, "link", "add", "lan", "type", "bridge")
-        ip("-n", space, "link", "set", "lan", "up")
-        for router in LAN_METRIC:
-            ip(
-                "link",
-                "add",
-                "to-lan",
-                "netns",
-                self.of(router),
-                "type",
-                "veth",
-                "peer",
-                "name",
-                f"r{router}",
-                "netns",
-                space,
-            )
-            ip("-n", space, "link", "set", f"r{router}", "master", "lan", "up")
+    def make_wire(self, router: int, interface: Interface, one: int, other: int) -> None:
+        here, there = self.of(router), port(interface.wire, router)
+        own = ["link", "add", interface.name, "index", str(one), "netns", here, "type", "veth"]
+        ip(*own, "peer", "name", there, "index", str(other), "netns", self.wires)
+        ip("-n", self.wires, "link", "set", there, "master", f"b{interface.wire}", "up")
 
     def set_up(self, router: int) -> None:
         space = self.of(router)
         ip("-n", space, "link", "set", "lo", "up")
         ip("-n", space, "addr", "add", loopback(router), "dev", "lo")
-        for interface in interfaces(router):
+        for interface in self.plan.interfaces(router):
             ip("-n", space, "addr", "add", f"{interface.address}/24", "dev", interface.name)
             ip("-n", space, "link", "set", interface.name, "up")
+
+    def group(self, ports: Iterable[str], number: int) -> None:
+        """Puts wires into a group, so that one command takes them down at once."""
+        for name in ports:
+            ip("-n", self.wires, "link", "set", name, "group", str(number))
+
+    def set_group(self, number: int, state: str) -> None:
+        ip("-n", self.wires, "link", "set", "group", str(number), state)
+
+
+def port(wire: int, router: int) -> str:
+    """The far end of a router's wire."""
+    return f"p{wire}-{router}"

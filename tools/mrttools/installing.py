@@ -1,0 +1,58 @@
+"""Which prefixes a router installs, and with which next hops."""
+from __future__ import annotations
+
+from typing import Iterator
+
+from . import lsas
+from .area import Node
+from .kernel import FOR_PORT, FOR_WORD, Entry
+from .lsas import ROUTER, STUB
+from .nexthops import Route, Ways
+
+HOST = 0xFFFFFFFF
+
+
+def host_prefixes(ways: Ways) -> dict[Node, list[int]]:
+    """The host prefixes that each router tells of, as a rule that of its loopback; its router ID where it tells of
+    none."""
+    found = {}
+    for lsa in ways.found:
+        if lsa.kind == ROUTER:
+            links = lsas.links_of(lsa.record)
+            own = sorted({link.far for link in links if link.kind == STUB and link.data == HOST})
+            found[Node(lsa.number, ROUTER)] = own or [lsa.number]
+    return found
+
+
+def of_one_router(prefixes: dict[Node, list[int]]) -> dict[Node, list[int]]:
+    """The prefixes that no second router has."""
+    every = [prefix for own in prefixes.values() for prefix in own]
+    return {node: [prefix for prefix in own if every.count(prefix) == 1] for node, own in prefixes.items()}
+
+
+def repairs(route: Route) -> Iterator[tuple[int, int]]:
+    """Metric and color of each repair of a route. One that the other stands for is left out."""
+    if route.for_word is not None:
+        yield FOR_WORD, route.for_word
+    if route.for_port is not None and route.for_port != route.for_word:
+        yield FOR_PORT, route.for_port
+
+
+def entries(ways: Ways) -> list[Entry]:
+    """What is installed for each prefix of the other routers of the island."""
+    prefixes, found = of_one_router(host_prefixes(ways)), []
+    for route in ways.routes():
+        repaired = [(metric, color, route.rows[color]) for metric, color in repairs(route)]
+        for prefix in prefixes.get(route.to, []):
+            found.append(Entry(f"{lsas.spelled(prefix)}/32", route.primary, repaired, list(route.rows)))
+    return found
+
+
+def summary(ways: Ways, found: list[Entry]) -> list[str]:
+    """How much there is, and what has no repair."""
+    repaired = sum(bool(entry.repairs) for entry in found)
+    lines = [f"router {ways.router.text}: {len(found)} prefixes, {repaired} of them with a repair"]
+    several = {prefix for own in host_prefixes(ways).values() for prefix in own} - {
+        prefix for own in of_one_router(host_prefixes(ways)).values() for prefix in own
+    }
+    return lines + [f"left out, as several routers have it: {lsas.spelled(prefix)}/32" for prefix in sorted(several)]

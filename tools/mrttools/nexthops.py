@@ -1,0 +1,147 @@
+"""A router's next hops as addresses: its primaries, their repairs, and the rows of both colors, by what `mrt` says."""
+from __future__ import annotations
+
+import tempfile
+from typing import Iterator, NamedTuple
+
+from . import area, certificate, lsas
+from .area import Area, Bond, Node
+from .certificate import Certificate
+from .ending import REFUSED, ToolFault
+from .lsas import NETWORK, ROUTER, Lsa
+from .program import Program
+
+NO_REPAIR = "-"
+COLOR_OF = {"b": 0, "r": 1}
+
+
+class Hop(NamedTuple):
+    """The router's own address on the link that a packet takes, and the address that it goes to; none where the
+    destination is the network of this link."""
+
+    own: int
+    gateway: int | None
+
+
+class Route(NamedTuple):
+    """What a router has for a destination: the primary; the color that repairs it where the router after a LAN is told to
+    be gone, if the primary goes over a LAN; the color that repairs it where its own port is; and both rows."""
+
+    to: Node
+    primary: Hop
+    for_word: int | None
+    for_port: int | None
+    rows: tuple[Hop, Hop]
+
+
+class Line(NamedTuple):
+    """A line of `mrt table`."""
+
+    to: Node
+    primary_far: Node
+    primary_data: int
+    letters: str
+
+
+def line_of(text: str) -> Line:
+    words = text.split(" ")
+    far, data = words[words.index("primary") + 1].split("/")
+    return Line(area.node_of(words[0]), area.node_of(far), lsas.address(data), words[-1])
+
+
+class Ways:
+    """The area and the certificate of a router's island, and its links as addresses."""
+
+    def __init__(self, mrt: Program, found: list[Lsa], router: int) -> None:
+        self.mrt, self.router = mrt, Node(router, ROUTER)
+        self.lines = [line_of(text) for text in mrt.lines("table", lsas.spelled(router))[1:]]
+        self.certificate = certificate.read(mrt.run("certify", lsas.spelled(router)))
+        self.found = list(area.speakers(found).values())
+        self.area = area.area_of(found)
+        self.bonds = island_of(mrt, self.area, self.certificate)
+        self.after = self.routers_after_networks()
+
+    # links as addresses
+
+    def address_on(self, bond: Bond, node: Node) -> int:
+        """The address of a router's end of a link."""
+        data = bond.data_a if node == bond.a else bond.data_b
+        if data is None or data < 1 << 24:
+            raise ToolFault(
+                f"the link of {bond.a.text} and {bond.b.text} has no address at {node.text}: "
+                "links without addresses are not taken",
+                REFUSED,
+            )
+        return data
+
+    def bond_to(self, network: Node, router: Node) -> Bond:
+        """The link by which a router is on a network; of several the first."""
+        found = (bond for bond in self.area.bonds if {bond.a, bond.b} == {network, router})
+        return next(found)
+
+    def row(self, color: int, to: Node) -> Hop:
+        """The next hop of a color, by the rows of the router and, where the link leads to a network, of that."""
+        nodes, cert = self.certificate.nodes, self.certificate
+        source, target = nodes.index(self.router), nodes.index(to)
+        link = cert.link(color, source, target)
+        own, far = self.address_on(self.bonds[link], self.router), cert.far(link, source)
+        if far == target and to.kind == NETWORK:
+            return Hop(own, None)
+        if nodes[far].kind == ROUTER:
+            return Hop(own, self.address_on(self.bonds[link], nodes[far]))
+        second = cert.link(color, far, target)
+        return Hop(own, self.address_on(self.bonds[second], nodes[cert.far(second, far)]))
+
+    # primaries
+
+    def routers_after_networks(self) -> dict[Node, Node]:
+        """The router that a primary over a network leads to, by what `mrt fabric` says of a packet's first step."""
+        to = [line.to for line in self.lines if line.primary_far.kind == NETWORK and line.to != line.primary_far]
+        if not to:
+            return {}
+        events = [f"island {self.router.text} {len(to)}"]
+        for number, node in enumerate(to):
+            events += [f"inject {self.router.text} {node.text} repair", f"step {number}"]
+        with tempfile.NamedTemporaryFile("w", suffix=".script") as script:
+            script.write("".join(f"{event}\n" for event in events))
+            script.flush()
+            answers = self.mrt.lines("fabric", script.name)
+        return {node: area.node_of(answers[2 * number + 1].split(" ")[1]) for number, node in enumerate(to)}
+
+    def primary(self, line: Line) -> Hop:
+        if line.primary_far.kind == NETWORK:
+            if line.to == line.primary_far:
+                return Hop(line.primary_data, None)
+            after = self.after[line.to]
+            return Hop(line.primary_data, self.address_on(self.bond_to(line.primary_far, after), after))
+        bond = next(bond for bond in self.area.bonds if bond.is_of(self.router.number, line.primary_data))
+        return Hop(self.address_on(bond, self.router), self.address_on(bond, line.primary_far))
+
+    def routes(self) -> Iterator[Route]:
+        """A route for each line of the router's table."""
+        for line in self.lines:
+            for_word, for_port = repairs(line.letters)
+            yield Route(line.to, self.primary(line), for_word, for_port, (self.row(0, line.to), self.row(1, line.to)))
+
+
+def repairs(letters: str) -> tuple[int | None, int | None]:
+    """The colors that repair a primary, by the letters of its table's line: after a LAN, where the router there is gone,
+    else its port; and that of the next node, else of the link to it. Of one repair a way past the node is one past the
+    link as well, and who sees a link fail cannot tell which of both it was."""
+
+    def first(wanted: str) -> int | None:
+        return next((COLOR_OF[letter] for letter in wanted if letter != NO_REPAIR), None)
+
+    return first(letters[:1:-1]), first(letters[1::-1])
+
+
+def island_of(mrt: Program, whole: Area, cert: Certificate) -> list[Bond]:
+    """The links of the certificate, by number, as the area has them."""
+    kept_out = set()
+    if mrt.profile != "-":
+        with open(mrt.profile, "rb") as file:
+            kept_out = area.ineligible(file.read())
+    bonds = area.island_bonds(whole, cert.nodes, kept_out)
+    if [(cert.nodes[a], cert.nodes[b]) for a, b in cert.pairs] != [(bond.a, bond.b) for bond in bonds]:
+        raise ToolFault("the certificate has other links than the database", REFUSED)
+    return bonds
