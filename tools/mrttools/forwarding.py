@@ -1,0 +1,196 @@
+"""The lab's failures: what `tools/fib` prints is put into the routers' kernels, each link, router and port on a LAN fails in
+turn, and pings of all pairs are counted, with repairs and without."""
+from __future__ import annotations
+
+import os
+import re
+import subprocess
+import time
+from typing import Callable, Iterable, NamedTuple
+
+from .failing import FAILING, STANDING, Failure, Pair, failures, lost_by_mrt, pairs
+from .kernel import PRIMARY
+from .network import Network, Plan, router_id
+from .pinging import Counted, Pinging
+from .program import ROOT, Program
+
+# Pings of each pair in one failure, how long they run before it, and how long the network rests after it, in seconds.
+PINGS, BEFORE, REST = 150, 0.5, 0.4
+HEAD = ("failed", "pings", "lost: with", "without", "parted pairs", "took a repair")
+
+
+class Row(NamedTuple):
+    """What one failure cost with repairs and without: the pings sent, and lost; the pairs that `mrt` says are parted; the
+    pairs that lost more than one ping and are not, or none and are; the packets that took a repair."""
+
+    failure: Failure
+    sent: int
+    lost: int
+    without: int
+    parted: set[Pair]
+    wrong: set[Pair]
+    taken: int
+    kernel: tuple[int, int]
+
+    @property
+    def cells(self) -> tuple[str, ...]:
+        numbers = self.sent, self.lost, self.without, len(self.parted), self.taken
+        return self.failure.name, *(f"{number:,}" for number in numbers)
+
+
+class Installed:
+    """What the routers of a network have in their kernels."""
+
+    def __init__(self, network: Network, mrt: Program, folder: str) -> None:
+        self.network, self.mrt, self.folder = network, mrt, folder
+        self.routers = [router for router in network.plan.routers if router not in network.plan.maintenance]
+        self.scripts: dict[int, str] = {}
+
+    def inside(self, router: int, *words: str, text: str = "", check: bool = True) -> str:
+        """What a program prints in a router's namespace."""
+        command = ["ip", "netns", "exec", self.network.of(router), *words]
+        done = subprocess.run(command, input=text, stdout=subprocess.PIPE, text=True, check=check)
+        return done.stdout
+
+    def make(self, *options: str) -> None:
+        """Has tools/fib print the script of each router, by the addresses that the router itself has."""
+        os.makedirs(self.folder, exist_ok=True)
+        for router in self.routers:
+            addresses = os.path.join(self.folder, f"r{router}.json")
+            with open(addresses, "w", encoding="utf-8") as file:
+                file.write(self.inside(router, "ip", "-j", "-4", "address"))
+            fib = [os.path.join(ROOT, "tools", "fib"), "--mrt", self.mrt.path, "--addresses", addresses, *options]
+            words = [*fib, self.mrt.database, self.mrt.profile, router_id(router)]
+            done = subprocess.run(words, stdout=subprocess.PIPE, stderr=subprocess.PIPE, text=True, check=True)
+            self.scripts[router] = done.stdout
+            with open(os.path.join(self.folder, f"r{router}.sh"), "w", encoding="ascii") as file:
+                file.write(done.stdout)
+
+    def install(self) -> None:
+        for router, script in self.scripts.items():
+            self.inside(router, "sh", text=script)
+
+    def remove(self) -> None:
+        removal = subprocess.run(
+            [os.path.join(ROOT, "tools", "fib"), "--remove"], stdout=subprocess.PIPE, text=True, check=True
+        ).stdout
+        for router in self.routers:
+            self.inside(router, "sh", text=removal)
+
+    def primaries_by(self, gone: Iterable[str]) -> dict[int, list[str]]:
+        """The primaries of each router whose next hop is one of the addresses."""
+        wanted = [f" via {address} " for address in gone]
+        return {
+            router: [
+                line.removeprefix("route replace ")
+                for line in script.splitlines()
+                if f" metric {PRIMARY} " in line and any(word in line for word in wanted)
+            ]
+            for router, script in self.scripts.items()
+        }
+
+    def change(self, verb: str, routes: dict[int, list[str]]) -> None:
+        """Takes routes away or puts them back, in all routers at once."""
+        running = []
+        for router, lines in routes.items():
+            if lines:
+                words = ["ip", "-n", self.network.of(router), "-batch", "-"]
+                running.append((subprocess.Popen(words, stdin=subprocess.PIPE, text=True), lines))
+        for process, lines in running:
+            process.communicate("".join(f"route {verb} {line}\n" for line in lines))
+
+    def taken(self) -> int:
+        """How many packets took a repair so far, by the counters of nft."""
+        said = (self.inside(router, "nft", "list", "chain", "ip", "mrt", "write") for router in self.routers)
+        return sum(int(number) for text in said for number in re.findall(r"counter packets (\d+)", text))
+
+
+def lose(installed: Installed, failure: Failure, tell_lan: bool) -> Counted:
+    """Has something fail while all pairs are pinged, and mends it. Routers on a LAN are told, where no daemon tells
+    them, as BFD would tell them, that the next hop is gone."""
+    network = installed.network
+    network.group(failure.ports, FAILING)
+    gone = installed.primaries_by(failure.gone if tell_lan else [])
+    gone.pop(failure.router, None)
+    wanted = [pair for pair in pairs(network.plan) if failure.router not in pair]
+    pinging = Pinging(network, wanted, PINGS)
+    time.sleep(BEFORE)
+    network.set_group(FAILING, "down")
+    installed.change("del", gone)
+    counted = pinging.end()
+    network.set_group(FAILING, "up")
+    network.group(failure.ports, STANDING)
+    installed.change("replace", gone)
+    time.sleep(REST)
+    return counted
+
+
+def parted_pairs(mrt: Program, plan: Plan, failure: Failure) -> set[Pair]:
+    """The pairs whose ping or its answer is lost, by `mrt`."""
+    lost = lost_by_mrt(mrt, plan, failure)
+    return {(one, other) for one, other in pairs(plan) if {(one, other), (other, one)} & lost}
+
+
+def row_of(mrt: Program, plan: Plan, failure: Failure, counts: tuple[Counted, Counted], taken: int) -> Row:
+    """What came of one failure."""
+    repaired, bare = counts
+    parted = parted_pairs(mrt, plan, failure)
+    wrong = {pair for pair, lost in repaired.lost.items() if (lost > 1) != (pair in parted)}
+    kernel = repaired.echoes, repaired.replies
+    sums = (sum(counted.lost.values()) for counted in counts)
+    return Row(failure, repaired.sent, *sums, parted, wrong, taken, kernel)
+
+
+def without_routing(installed: Installed, say: Callable[[str], None]) -> list[Row]:
+    """Each failure with primaries and repairs by tools/fib and no daemon, and then with the primaries alone."""
+    plan, mrt = installed.network.plan, installed.mrt
+    with_repairs: list[tuple[Failure, Counted, int]] = []
+    installed.make()
+    installed.install()
+    for failure in failures(plan):
+        before = installed.taken()
+        counted = lose(installed, failure, tell_lan=True)
+        with_repairs.append((failure, counted, installed.taken() - before))
+    installed.remove()
+    installed.make("--no-repairs")
+    installed.install()
+    rows = []
+    say(line_of(HEAD))
+    for failure, counted, taken in with_repairs:
+        bare = lose(installed, failure, tell_lan=False)
+        rows.append(row_of(mrt, plan, failure, (counted, bare), taken))
+        say(line_of(rows[-1].cells))
+    installed.remove()
+    return rows
+
+
+# what is told
+
+
+def line_of(cells: tuple[str, ...]) -> str:
+    widths = 34, 7, 11, 8, 13, 14
+    first, *others = (
+        cell.ljust(width) if not at else cell.rjust(width) for at, (cell, width) in enumerate(zip(cells, widths))
+    )
+    return first + "".join(others)
+
+
+def sums(plan: Plan, rows: list[Row]) -> list[str]:
+    """The sums of a network's failures, and what is wrong in them."""
+    whole = sum(row.lost for row in rows if not row.parted)
+    lines = [
+        line_of(
+            ("sum", *(f"{sum(values):,}" for values in zip(*((row.sent, row.lost, row.without) for row in rows))))
+        ),
+        f"forward: {plan.name}: {len(rows)} failures; {sum(not row.parted for row in rows)} part no pair, and with repairs "
+        f"{whole} pings were lost in these",
+        f"forward: {plan.name}: with repairs the kernels counted {sum(row.kernel[0] for row in rows):,} echoes sent and "
+        f"{sum(row.kernel[1] for row in rows):,} replies",
+    ]
+    for row in rows:
+        for one, other in sorted(row.wrong):
+            said = "is parted by mrt, and lost none" if (one, other) in row.parted else "lost more than one ping"
+            lines.append(f"wrong: {row.failure.name}: r{one} to r{other} {said}")
+    if not any(row.wrong for row in rows):
+        lines.append(f"forward: {plan.name}: a pair lost more than one ping exactly where mrt says lost")
+    return lines

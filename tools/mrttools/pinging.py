@@ -1,0 +1,69 @@
+"""Pings from each router of the lab to each other one, while something fails."""
+from __future__ import annotations
+
+import re
+import subprocess
+from typing import NamedTuple
+
+from .failing import Pair
+from .network import Network, owner, router_id
+
+# Milliseconds between two pings of one pair.
+EVERY = 10
+
+
+class Counted(NamedTuple):
+    """How many pings of each pair had no answer, how many were sent, and what the kernels counted: echoes that were sent,
+    and replies that came."""
+
+    lost: dict[Pair, int]
+    sent: int
+    echoes: int
+    replies: int
+
+
+class Pinging:
+    """The pings of all routers, which run until their number is reached."""
+
+    def __init__(self, network: Network, pairs: list[Pair], number: int) -> None:
+        self.network, self.pairs, self.number = network, pairs, number
+        self.sources = sorted({source for source, _ in pairs})
+        self.before = self.counters()
+        self.running = {source: self.start(source) for source in self.sources}
+
+    def start(self, source: int) -> subprocess.Popen[str]:
+        """One process pings all of a router's destinations in turn. Rounds never take less than the pings in them."""
+        targets = [router_id(target) for one, target in self.pairs if one == source]
+        gap = max(1, min(5, EVERY // len(targets)))
+        words = ["fping", "-q", "-C", str(self.number), "-p", str(EVERY), "-i", str(gap), "-B", "1", "-r", "0"]
+        return subprocess.Popen(
+            ["ip", "netns", "exec", self.network.of(source), *words, "-S", router_id(source), *targets],
+            stdout=subprocess.DEVNULL,
+            stderr=subprocess.PIPE,
+            text=True,
+        )
+
+    def counters(self) -> tuple[int, int]:
+        """Echoes that were sent and replies that came, by the kernels' own counts."""
+        sums = [0, 0]
+        for source in self.sources:
+            words = ["ip", "netns", "exec", self.network.of(source), "cat", "/proc/net/snmp"]
+            said = subprocess.run(words, stdout=subprocess.PIPE, text=True, check=True).stdout
+            names, values = (line.split() for line in said.splitlines() if line.startswith("Icmp:"))
+            count = dict(zip(names, values))
+            sums[0] += int(count["OutEchos"])
+            sums[1] += int(count["InEchoReps"])
+        return sums[0], sums[1]
+
+    def end(self) -> Counted:
+        """Waits for the last answers."""
+        lost, sent = {}, 0
+        for source, process in self.running.items():
+            for line in process.communicate()[1].splitlines():
+                said = re.fullmatch(r"(\d+\.\d+\.\d+\.\d+)\s+: (.*)", line)
+                if said:
+                    answers = said[2].split()
+                    sent += len(answers)
+                    lost[source, owner(said[1])] = answers.count("-")
+        echoes, replies = (after - before for after, before in zip(self.counters(), self.before))
+        return Counted(lost, sent, echoes, replies)

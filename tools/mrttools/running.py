@@ -1,0 +1,118 @@
+"""A running network of the lab: its daemons, until they have one database, and a capture of the router that joins."""
+from __future__ import annotations
+
+import os
+import subprocess
+import time
+from contextlib import contextmanager
+from typing import Callable, Iterator
+
+from . import lsas
+from .daemons import Bird, Database, Frr, Running, run_in
+from .network import Network
+
+PATIENCE = 90
+QUIET = 7
+
+
+class LabFault(Exception):
+    """Why the lab stops."""
+
+
+class Lab:
+    """A running network with its daemons."""
+
+    def __init__(self, daemon: Frr | Bird, spaces: Network, folder: str) -> None:
+        self.daemon, self.spaces, self.folder = daemon, spaces, folder
+        self.running: dict[int, Running] = {}
+
+    def start(self, router: int) -> None:
+        own = os.path.join(self.folder, f"r{router}")
+        os.mkdir(own, mode=0o755)
+        self.running[router] = self.daemon.start(self.spaces, router, own)
+
+    def stop(self) -> None:
+        """Ends the daemons, with the routes that they keep."""
+        for router in list(self.running):
+            for process in reversed(self.running.pop(router).processes):
+                process.terminate()
+                process.wait()
+            for protocol in ("ospf", "bird"):
+                words = ["ip", "-n", self.spaces.of(router), "route", "flush", "proto", protocol]
+                subprocess.run(words, stderr=subprocess.DEVNULL, check=False)
+
+    def databases(self) -> list[Database]:
+        return [self.daemon.database(running) for running in self.running.values()]
+
+    def wait(self) -> Database:
+        """Waits until all routers have had one and the same database, with all of them in it, for some seconds."""
+        end, since, last = time.monotonic() + PATIENCE, time.monotonic(), None
+        while time.monotonic() < end:
+            self.look_after()
+            first, *others = self.databases()
+            routers = sum(key.kind == lsas.ROUTER for key in first)
+            if first != last or routers < len(self.running) or any(other != first for other in others):
+                since = time.monotonic()
+            if time.monotonic() - since >= QUIET:
+                return first
+            last = first
+            time.sleep(1)
+        raise LabFault(f"the routers did not settle in {PATIENCE} seconds")
+
+    def look_after(self) -> None:
+        """A daemon that ended is a fault, with the last lines that it wrote."""
+        for router, running in self.running.items():
+            for process in running.processes:
+                if process.poll() is not None:
+                    with open(os.path.join(running.folder, "log"), encoding="utf-8", errors="replace") as log:
+                        raise LabFault(f"a daemon of r{router} ended:\n" + "".join(log.readlines()[-5:]))
+
+
+@contextmanager
+def capturing(spaces: Network, folder: str, name: str) -> Iterator[None]:
+    """Captures OSPF on all interfaces of the router that joins."""
+    log = os.path.join(folder, "tcpdump.log")
+    process = run_in(
+        spaces.of(spaces.plan.joiner),
+        log,
+        "tcpdump",
+        "-Z",
+        "root",
+        "-U",
+        "-i",
+        "any",
+        "-w",
+        name,
+        "ip",
+        "proto",
+        "89",
+    )
+    try:
+        for _ in range(50):
+            with open(log, encoding="utf-8") as file:
+                if "listening" in file.read():
+                    break
+            time.sleep(0.1)
+        else:
+            raise LabFault("tcpdump does not listen")
+        yield
+    finally:
+        process.terminate()
+        process.wait()
+
+
+def captured(lab: Lab, name: str, say: Callable[[str], None]) -> Database:
+    """Starts the routers, and the one that joins last under a capture; gives the routers' database."""
+    joiner, started = lab.spaces.plan.joiner, time.monotonic()
+    for router in lab.spaces.plan.routers:
+        if router != joiner:
+            lab.start(router)
+    lab.wait()
+    say(f"lab: {len(lab.running)} routers have one database, after {time.monotonic() - started:.0f} seconds")
+    say(f"r{joiner}$ tcpdump -i any -w {name} ip proto 89")
+    with capturing(lab.spaces, lab.folder, name):
+        lab.start(joiner)
+        database = lab.wait()
+    after = time.monotonic() - started
+    say(f"lab: r{joiner} has joined; {len(lab.running)} routers have one database, after {after:.0f} seconds")
+    return database
