@@ -63,7 +63,7 @@ def pairs(plan: Plan) -> list[Pair]:
 def lost_by_mrt(mrt: Program, plan: Plan, failure: Failure) -> set[Pair]:
     """The pairs whose packet does not arrive, by one run of `mrt fabric` with a packet for each."""
     wanted = [pair for pair in pairs(plan) if failure.router not in pair]
-    steps = 2 * len(plan.routers) + 2 * len(plan.wires)
+    steps = 2 * (len(plan.routers) + sum(wire.is_lan for wire in plan.wires))
     events = [f"island {router_id(wanted[0][0])} {len(wanted)}", f"fail {failure.element}"]
     for source, target in wanted:
         events.append(f"inject {router_id(source)} {router_id(target)} repair")

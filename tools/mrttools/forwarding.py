@@ -13,6 +13,7 @@ from .kernel import PRIMARY
 from .network import Network, Plan, router_id
 from .pinging import Counted, Pinging
 from .program import ROOT, Program
+from .running import Lab
 
 # Pings of each pair in one failure, how long they run before it, and how long the network rests after it, in seconds.
 PINGS, BEFORE, REST = 150, 0.5, 0.4
@@ -164,6 +165,31 @@ def without_routing(installed: Installed, say: Callable[[str], None]) -> list[Ro
     return rows
 
 
+def beside_routing(installed: Installed, lab: Lab, say: Callable[[str], None]) -> list[Row]:
+    """Each link of two routers with the daemons' own routes, with the repairs of tools/fib behind them and without. The
+    network rests until the daemons have the routes that they had before."""
+    plan, mrt, before = installed.network.plan, installed.mrt, lab.routes()
+    chosen = [failure for failure in failures(plan) if not failure.router and not failure.gone]
+    counts: list[list[Counted]] = []
+    takens: list[int] = []
+    for options in (["--daemon"], ["--daemon", "--no-repairs"]):
+        installed.make(*options)
+        installed.install()
+        counts.append([])
+        for failure in chosen:
+            taken = installed.taken()
+            counts[-1].append(lose(installed, failure, tell_lan=False))
+            takens.append(installed.taken() - taken)
+            lab.wait_for_routes(before)
+        installed.remove()
+    say(line_of(HEAD))
+    rows = []
+    for failure, repaired, bare, taken in zip(chosen, *counts, takens):
+        rows.append(row_of(mrt, plan, failure, (repaired, bare), taken))
+        say(line_of(rows[-1].cells))
+    return rows
+
+
 # what is told
 
 
@@ -175,7 +201,7 @@ def line_of(cells: tuple[str, ...]) -> str:
     return first + "".join(others)
 
 
-def sums(plan: Plan, rows: list[Row]) -> list[str]:
+def sums(plan: Plan, rows: list[Row], beside: bool) -> list[str]:
     """The sums of a network's failures, and what is wrong in them."""
     whole = sum(row.lost for row in rows if not row.parted)
     lines = [
@@ -187,6 +213,8 @@ def sums(plan: Plan, rows: list[Row]) -> list[str]:
         f"forward: {plan.name}: with repairs the kernels counted {sum(row.kernel[0] for row in rows):,} echoes sent and "
         f"{sum(row.kernel[1] for row in rows):,} replies",
     ]
+    if beside:
+        return lines
     for row in rows:
         for one, other in sorted(row.wrong):
             said = "is parted by mrt, and lost none" if (one, other) in row.parted else "lost more than one ping"

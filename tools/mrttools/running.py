@@ -8,7 +8,7 @@ from contextlib import contextmanager
 from typing import Callable, Iterator
 
 from . import lsas
-from .daemons import Bird, Database, Frr, Running, run_in
+from .daemons import Bird, Database, Frr, Routes, Running, run_in
 from .network import Network
 
 PATIENCE = 90
@@ -58,6 +58,18 @@ class Lab:
             last = first
             time.sleep(1)
         raise LabFault(f"the routers did not settle in {PATIENCE} seconds")
+
+    def routes(self) -> dict[int, Routes]:
+        return {router: self.daemon.routes(running) for router, running in self.running.items()}
+
+    def wait_for_routes(self, wanted: dict[int, Routes]) -> None:
+        """Waits until the daemons have these routes again."""
+        end = time.monotonic() + PATIENCE
+        while self.routes() != wanted:
+            self.look_after()
+            if time.monotonic() > end:
+                raise LabFault(f"the routes did not come back in {PATIENCE} seconds")
+            time.sleep(1)
 
     def look_after(self) -> None:
         """A daemon that ended is a fault, with the last lines that it wrote."""

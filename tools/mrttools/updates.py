@@ -4,8 +4,6 @@ from __future__ import annotations
 import struct
 from typing import Iterator, NamedTuple
 
-import dpkt
-
 from . import lsas
 from .lsas import Lsa
 
@@ -27,6 +25,15 @@ class Packet(NamedTuple):
     data: bytes
 
 
+def internet_sum(data: bytes) -> int:
+    """The sum of a packet's words by the internet checksum (RFC 1071): all ones where its checksum is right."""
+    data += bytes(len(data) % 2)
+    total = sum(struct.unpack(f">{len(data) // 2}H", data))
+    while total >> 16:
+        total = (total & 0xFFFF) + (total >> 16)
+    return total
+
+
 def packet_of(payload: bytes) -> Packet:
     """The OSPF packet of an IP payload; one that a router would drop is a BadPacket."""
     if len(payload) < 24:
@@ -39,7 +46,7 @@ def packet_of(payload: bytes) -> Packet:
     data = payload[:size]
     if authentication in (NO_AUTHENTICATION, PASSWORD):
         # The checksum does not cover the password.
-        if dpkt.in_cksum(data[:16] + data[24:]) != 0:
+        if internet_sum(data[:16] + data[24:]) != 0xFFFF:
             raise BadPacket("a wrong OSPF checksum")
     elif authentication != CRYPTOGRAPHIC:
         raise BadPacket(f"authentication of type {authentication}")

@@ -1,0 +1,310 @@
+"""What a router installs: that packets over the printed routes arrive wherever `mrt` says so, in a model of the kernels and
+over random networks; and the words of the script."""
+import json
+import os
+import re
+import subprocess
+import tempfile
+import unittest
+from collections import defaultdict
+from random import Random
+from typing import NamedTuple
+
+from mrttools import area, failing, installing, kernel, lsas, nexthops
+from mrttools.ending import ToolFault
+from mrttools.failing import Failure
+from mrttools.kernel import TABLES, Interfaces
+from mrttools.network import Plan, Wire, link, owner, router_id
+from mrttools.nexthops import Ways
+from mrttools.plans import PLANS
+from mrttools.program import Program
+from tests.making import DATA, MRT, TOOLS, network_lsa, router_lsa
+
+ROUTE = re.compile(r"(\S+)/32 via (\S+)(?: metric (\d+))?(?: realm (\d+))?(?: table (\d+))? proto 78")
+
+
+# networks
+
+
+def lsas_of(plan: Plan) -> bytes:
+    """The LSAs that the routers of a network would have."""
+    records = []
+    for router in plan.routers:
+        links = [(router_id(router), "255.255.255.255", 3, 0)]
+        for each in plan.interfaces(router):
+            wire = plan.wires[each.wire]
+            metric = 65535 if router in plan.maintenance else each.metric
+            if wire.is_lan:
+                links.append((f"{wire.net}.{wire.designated}", each.address, 2, metric))
+            else:
+                links += [
+                    (router_id(each.far), each.address, 1, metric),
+                    (f"{wire.net}.0", "255.255.255.0", 3, metric),
+                ]
+        records.append(router_lsa(router_id(router), links))
+    for wire in plan.wires:
+        if wire.is_lan:
+            head = wire.designated
+            records.append(network_lsa(f"{wire.net}.{head}", router_id(head), map(router_id, wire.metrics)))
+    return b"".join(records)
+
+
+def random_plan(random: Random) -> Plan:
+    """Up to seven routers that hang together, with parallel links and LANs."""
+    routers = list(range(1, random.randint(4, 8)))
+    ends = [(router, random.randint(1, router - 1)) for router in routers[1:]]
+    ends += [tuple(random.sample(routers, 2)) for _ in range(random.randint(2, 6))]
+    wires = [link(one, other, random.randint(1, 4), f"10.1.{number}") for number, (one, other) in enumerate(ends)]
+    for number in range(random.randrange(3)):
+        attached = random.sample(routers, random.randint(2, 4))
+        metrics = {router: random.randint(1, 4) for router in attached}
+        wires.append(Wire(f"198.51.{number}", metrics, random.choice(attached)))
+    return Plan("random", routers, wires, joiner=1)
+
+
+# kernels
+
+
+class Route(NamedTuple):
+    metric: int
+    gateway: str
+    color: int | None
+
+
+class Kernels:
+    """The routes of all routers, and what they do with a packet."""
+
+    def __init__(self, plan: Plan, mrt: Program, found: list[lsas.Lsa], daemon: bool = False) -> None:
+        self.plan = plan
+        self.main: dict[tuple[int, str], list[Route]] = defaultdict(list)
+        self.colored: dict[tuple[int, int, str], str] = {}
+        for router in plan.routers:
+            if router not in plan.maintenance:
+                ways = Ways(mrt, found, lsas.address(router_id(router)))
+                for entry in installing.entries(ways):
+                    for text in kernel.routes_of(entry, Interfaces(None), daemon):
+                        self.put(router, text)
+
+    def put(self, router: int, text: str) -> None:
+        prefix, gateway, metric, realm, table = ROUTE.fullmatch(text).groups()
+        if table:
+            self.colored[router, TABLES.index(int(table)), prefix] = gateway
+        else:
+            color = kernel.REALMS.index(int(realm)) if realm else None
+            self.main[router, prefix].append(Route(int(metric), gateway, color))
+
+    def wire_to(self, router: int, gateway: str) -> int:
+        """The wire over which a router sees an address."""
+        net = gateway.rsplit(".", 1)[0]
+        return next(
+            number for number, wire in enumerate(self.plan.wires) if wire.net == net and router in wire.metrics
+        )
+
+    def arrives(self, source: int, target: int, failure: Failure) -> bool:
+        """Whether a packet comes to a router, by the routers' ports that are down and the words on LANs."""
+        at, color, to = source, None, router_id(target)
+        for _ in range(4 * len(self.plan.routers)):
+            if at == target:
+                return True
+            step = self.step(at, to, color, failure)
+            if step is None:
+                return False
+            color, gateway = step
+            at = owner(gateway)
+            if at == failure.router or failing.port(self.wire_to(at, gateway), at) in failure.ports:
+                return False
+        return False
+
+    def step(self, at: int, to: str, color: int | None, failure: Failure) -> tuple[int | None, str] | None:
+        """The color after a router and the next hop, if there is one."""
+
+        def up(gateway: str) -> bool:
+            return failing.port(self.wire_to(at, gateway), at) not in failure.ports
+
+        if color is not None:
+            gateway = self.colored[at, color, to]
+            return (color, gateway) if up(gateway) else None
+        for route in sorted(self.main[at, to]):
+            if up(route.gateway) and not (route.metric == kernel.PRIMARY and route.gateway in failure.gone):
+                return route.color, route.gateway
+        return None
+
+
+@unittest.skipUnless(os.path.exists(MRT), "the program is not built")
+class Arrival(unittest.TestCase):
+    """A packet over the kernels arrives exactly where mrt fabric delivers it."""
+
+    def check(self, plan: Plan) -> int:
+        """How many packets took a repair or were lost."""
+        touched = 0
+        with tempfile.NamedTemporaryFile() as file:
+            file.write(lsas_of(plan))
+            file.flush()
+            mrt = Program(MRT, file.name, "-")
+            kernels = Kernels(plan, mrt, list(map(lsas.lsa_of, split(lsas_of(plan)))))
+            for failure in failing.failures(plan):
+                lost = failing.lost_by_mrt(mrt, plan, failure)
+                for source, target in failing.pairs(plan):
+                    if failure.router not in (source, target):
+                        arrived = kernels.arrives(source, target, failure)
+                        self.assertEqual(arrived, (source, target) not in lost, (plan, failure, source, target))
+                touched += len(lost)
+        return touched
+
+    def test_the_networks_of_the_lab(self) -> None:
+        for name in ("lans", "stubs"):
+            self.check(PLANS[name])
+
+    def test_random_networks(self) -> None:
+        random = Random(54)
+        self.assertGreater(sum(self.check(random_plan(random)) for _ in range(8)), 20)
+
+
+def split(data: bytes) -> list[bytes]:
+    return [lsa.record for lsa in lsas.split(data)]
+
+
+class Letters(unittest.TestCase):
+    """Which repair is for which failure."""
+
+    def test_over_a_link(self) -> None:
+        wanted = {"br": 1, "b-": 0, "-r": 1, "--": None, "rb": 0}
+        for letters, color in wanted.items():
+            self.assertEqual(nexthops.repairs(letters), (None, color), letters)
+
+    def test_over_a_lan(self) -> None:
+        wanted = {"brrb": (0, 1), "b---": (None, 0), "--r-": (1, None), "----": (None, None), "bbr-": (1, 0)}
+        for letters, colors in wanted.items():
+            self.assertEqual(nexthops.repairs(letters), colors, letters)
+
+
+class Stand:
+    """A stand-in for the program over the sample with a LAN."""
+
+    database, profile, path = f"{DATA}/lan.lsas", f"{DATA}/lan.profile", ""
+
+    def run(self, command: str, *_: str) -> bytes:
+        with open(f"{DATA}/lan.cert", "rb") as file:
+            return file.read()
+
+    def lines(self, command: str, *_: str) -> list[str]:
+        if command == "fabric":
+            return ["entered 0", "moved 10.255.1.3", "entered 1", "moved 10.255.1.3"]
+        row = "carried blue net:198.51.100.4/198.51.100.4 red net:198.51.100.4/198.51.100.4"
+        return [
+            "router 10.255.1.4 root 10.255.1.1 nodes 7 links 8",
+            f"10.255.1.1 {row} primary net:198.51.100.4/198.51.100.4 repair --b-",
+            f"10.255.1.5 {row} primary 10.255.1.5/192.0.2.13 repair b-",
+            f"10.255.1.6 {row} primary net:198.51.100.4/198.51.100.4 repair ----",
+        ]
+
+
+class Sample(unittest.TestCase):
+    """The routes of 10.255.1.4 in the sample, with a link that the profile keeps out of the island."""
+
+    def setUp(self) -> None:
+        with open(Stand.database, "rb") as file:
+            self.ways = Ways(Stand(), list(lsas.split(file.read())), lsas.address("10.255.1.4"))
+
+    def routes(self, daemon: bool, names: dict[int, str] | None = None) -> list[str]:
+        found = installing.entries(self.ways)
+        return [text for entry in found for text in kernel.routes_of(entry, Interfaces(names), daemon)]
+
+    def test_next_hops_are_addresses(self) -> None:
+        self.assertEqual(
+            self.routes(daemon=False)[:4],
+            [
+                "10.255.1.1/32 via 198.51.100.3 metric 20 proto 78",
+                "10.255.1.1/32 via 198.51.100.2 metric 25 realm 101 proto 78",
+                "10.255.1.1/32 via 198.51.100.2 table 7811 proto 78",
+                "10.255.1.1/32 via 198.51.100.1 table 7812 proto 78",
+            ],
+        )
+
+    def test_beside_a_daemon(self) -> None:
+        routes = self.routes(daemon=True)
+        self.assertFalse(any("metric 20 " in text for text in routes))
+        self.assertIn(f"10.255.1.5/32 via 198.51.100.2 metric {200 * 2**24 + 30} realm 101 proto 78", routes)
+
+    def test_devices(self) -> None:
+        names = {lsas.address("198.51.100.4"): "lan0", lsas.address("192.0.2.13"): "eth1"}
+        self.assertIn("10.255.1.5/32 via 192.0.2.14 dev eth1 metric 20 proto 78", self.routes(False, names))
+        self.assertIn('iifname != { "eth1", "lan0" }', kernel.marking((3, 7), Interfaces(names)))
+        with self.assertRaises(ToolFault):
+            self.routes(False, {})
+
+    def test_names_that_a_script_would_read_otherwise(self) -> None:
+        for name in ("a b", "a;b", "$(x)", '"', "a\nb", "'", ""):
+            with self.assertRaises(ToolFault):
+                Interfaces({1: name})
+
+    def test_prefixes_that_several_routers_have_are_left_out(self) -> None:
+        one, other = area.node_of("1.1.1.1"), area.node_of("2.2.2.2")
+        self.assertEqual(installing.of_one_router({one: [1, 2], other: [2, 3]}), {one: [1], other: [3]})
+
+
+class Maintenance(unittest.TestCase):
+    def test_a_link_of_the_greatest_metric_is_in_no_island(self) -> None:
+        ends = [("2.2.2.2", "10.0.0.1", 1, 65535), ("2.2.2.2", "10.0.1.1", 1, 1)]
+        back = [("1.1.1.1", "10.0.0.2", 1, 1), ("1.1.1.1", "10.0.1.2", 1, 1)]
+        whole = area.area_of(map(lsas.lsa_of, [router_lsa("1.1.1.1", ends), router_lsa("2.2.2.2", back)]))
+        self.assertEqual(area.island_bonds(whole, whole.nodes, set()), whole.bonds[1:])
+
+
+class TheTool(unittest.TestCase):
+    def run_fib(self, *words: str) -> subprocess.CompletedProcess[str]:
+        command = [os.path.join(TOOLS, "fib"), *words]
+        return subprocess.run(command, stdout=subprocess.PIPE, stderr=subprocess.PIPE, text=True, check=False)
+
+    def test_words(self) -> None:
+        for words in (
+            (),
+            ("a", "b"),
+            ("--remove", "a", "b", "1.1.1.1"),
+            ("--dscp", "3", "3", "a", "b", "1.1.1.1"),
+            ("--dscp", "1", "3", "a", "b", "1.1.1.1"),
+            ("--dscp", "3", "67", "a", "b", "1.1.1.1"),
+            ("a", "b", "1.1.1"),
+        ):
+            self.assertEqual(self.run_fib(*words).returncode, 2, words)
+
+    def test_remove(self) -> None:
+        done = self.run_fib("--remove")
+        self.assertEqual((done.returncode, done.stderr), (0, ""))
+        self.assertIn("ip route flush table 7812 proto 78", done.stdout)
+
+    @unittest.skipUnless(os.path.exists(MRT), "the program is not built")
+    def test_links_without_addresses(self) -> None:
+        done = self.run_fib("--mrt", MRT, f"{DATA}/triangle.lsas", "-", "2.2.2.2")
+        self.assertEqual((done.returncode, done.stdout), (1, ""))
+        self.assertIn("links without addresses are not taken", done.stderr)
+
+    @unittest.skipUnless(os.path.exists(MRT), "the program is not built")
+    def test_the_script(self) -> None:
+        sample = [f"{DATA}/lan.lsas", f"{DATA}/lan.profile"]
+        done = self.run_fib("--mrt", MRT, "--dscp", "11", "15", *sample, "10.255.1.4")
+        self.assertEqual(done.returncode, 0, done.stderr)
+        for words in ("ip dscp 11 meta mark set 7811", "rt classid 102 counter ip dscp set 15", "lookup 7812"):
+            self.assertIn(words, done.stdout)
+        self.assertEqual(subprocess.run(["sh", "-n"], input=done.stdout, text=True, check=False).returncode, 0)
+        self.assertEqual(self.run_fib("--mrt", MRT, *sample, "9.9.9.9").returncode, 7)
+
+    @unittest.skipUnless(os.path.exists(MRT), "the program is not built")
+    def test_addresses(self) -> None:
+        with tempfile.NamedTemporaryFile("w") as file:
+            words = ["--mrt", MRT, "--addresses", file.name, f"{DATA}/lan.lsas", f"{DATA}/lan.profile", "10.255.1.4"]
+            for said in ("", "{}", "[1]", '[{"addr_info": [{"local": "x"}], "ifname": "e"}]'):
+                file.truncate(0)
+                os.pwrite(file.fileno(), said.encode(), 0)
+                done = self.run_fib(*words)
+                self.assertEqual((done.returncode, done.stdout), (8, ""), said)
+                self.assertIn(file.name, done.stderr)
+            file.truncate(0)
+            names = {"198.51.100.4": "lan0", "192.0.2.13": "eth1"}
+            said = json.dumps([{"ifname": name, "addr_info": [{"local": one}]} for one, name in names.items()])
+            os.pwrite(file.fileno(), said.encode(), 0)
+            self.assertIn("via 192.0.2.14 dev eth1 metric 20", self.run_fib(*words).stdout)
+
+
+if __name__ == "__main__":
+    unittest.main()
