@@ -39,6 +39,23 @@ class Row(NamedTuple):
         return self.failure.name, *(f"{number:,}" for number in numbers)
 
 
+class Batch:
+    """Commands of ip in a namespace, by a process that waits for them: they are done at once where the network fails."""
+
+    def __init__(self, space: str, lines: list[str]) -> None:
+        self.text = "".join(f"{line}\n" for line in lines)
+        words = ["ip", "-n", space, "-batch", "-"]
+        self.process = subprocess.Popen(words, stdin=subprocess.PIPE, text=True)
+
+    def send(self) -> None:
+        self.process.stdin.write(self.text)
+        self.process.stdin.close()
+
+    def end(self) -> None:
+        if self.process.wait() != 0:
+            raise ValueError(f"ip ended with status {self.process.returncode}")
+
+
 class Installed:
     """What the routers of a network have in their kernels."""
 
@@ -90,20 +107,25 @@ class Installed:
             for router, script in self.scripts.items()
         }
 
-    def change(self, verb: str, routes: dict[int, list[str]]) -> None:
-        """Takes routes away or puts them back, in all routers at once."""
-        running = []
-        for router, lines in routes.items():
-            if lines:
-                words = ["ip", "-n", self.network.of(router), "-batch", "-"]
-                running.append((subprocess.Popen(words, stdin=subprocess.PIPE, text=True), lines))
-        for process, lines in running:
-            process.communicate("".join(f"route {verb} {line}\n" for line in lines))
+    def ready(self, verb: str, routes: dict[int, list[str]]) -> list[Batch]:
+        """What takes routes away or puts them back, in all routers at once."""
+        return [
+            Batch(self.network.of(router), [f"route {verb} {line}" for line in lines])
+            for router, lines in routes.items()
+            if lines
+        ]
 
     def taken(self) -> int:
         """How many packets took a repair so far, by the counters of nft."""
         said = (self.inside(router, "nft", "list", "chain", "ip", "mrt", "write") for router in self.routers)
         return sum(int(number) for text in said for number in re.findall(r"counter packets (\d+)", text))
+
+
+def do_at_once(batches: list[Batch]) -> None:
+    for batch in batches:
+        batch.send()
+    for batch in batches:
+        batch.end()
 
 
 def lose(installed: Installed, failure: Failure, tell_lan: bool) -> Counted:
@@ -113,15 +135,14 @@ def lose(installed: Installed, failure: Failure, tell_lan: bool) -> Counted:
     network.group(failure.ports, FAILING)
     gone = installed.primaries_by(failure.gone if tell_lan else [])
     gone.pop(failure.router, None)
+    down = [Batch(network.wires, [f"link set group {FAILING} down"])] + installed.ready("del", gone)
     wanted = [pair for pair in pairs(network.plan) if failure.router not in pair]
     pinging = Pinging(network, wanted, PINGS)
     time.sleep(BEFORE)
-    network.set_group(FAILING, "down")
-    installed.change("del", gone)
+    do_at_once(down)
     counted = pinging.end()
-    network.set_group(FAILING, "up")
+    do_at_once([Batch(network.wires, [f"link set group {FAILING} up"])] + installed.ready("replace", gone))
     network.group(failure.ports, STANDING)
-    installed.change("replace", gone)
     time.sleep(REST)
     return counted
 

@@ -5,7 +5,7 @@ from typing import Iterator
 
 from . import lsas
 from .area import Node
-from .kernel import FOR_PORT, FOR_WORD, Entry
+from .kernel import FOR_PORT, FOR_WORD, LAST, PRIMARY, Entry
 from .lsas import ROUTER, STUB
 from .nexthops import Route, Ways
 
@@ -38,13 +38,24 @@ def repairs(route: Route) -> Iterator[tuple[int, int]]:
         yield FOR_PORT, route.for_port
 
 
+def after_daemon(route: Route) -> int | None:
+    """The place of the primary after a daemon's route, where other links begin ways of the same cost. Of these the daemon
+    may have lost the primary's, after it had no carrier for a while, and a repair of the primary may go over the one that
+    is left. On a LAN the primary comes last: it is gone where the daemon withdraws it."""
+    if not route.one_of_several:
+        return None
+    return LAST if route.over_lan else PRIMARY
+
+
 def entries(ways: Ways) -> list[Entry]:
     """What is installed for each prefix of the other routers of the island."""
     prefixes, found = of_one_router(host_prefixes(ways)), []
     for route in ways.routes():
         repaired = [(metric, color, route.rows[color]) for metric, color in repairs(route)]
         for prefix in prefixes.get(route.to, []):
-            found.append(Entry(f"{lsas.spelled(prefix)}/32", route.primary, repaired, list(route.rows)))
+            found.append(
+                Entry(f"{lsas.spelled(prefix)}/32", route.primary, after_daemon(route), repaired, list(route.rows))
+            )
     return found
 
 

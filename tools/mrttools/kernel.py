@@ -13,7 +13,7 @@ from .nexthops import Hop
 TABLES = 7811, 7812
 REALMS = 101, 102
 PROTOCOL = 78
-PRIMARY, FOR_WORD, FOR_PORT = 20, 25, 30
+PRIMARY, FOR_WORD, FOR_PORT, LAST = 20, 25, 30, 35
 # zebra takes the first byte of a kernel route's metric as its distance: this one is after each of the daemon's own.
 AFTER_DAEMON = 200 << 24
 
@@ -48,11 +48,13 @@ class Interfaces:
 
 
 class Entry(NamedTuple):
-    """What is installed for a prefix: the primary, or none where it is attached or a daemon keeps it; the repairs, each
-    with its metric, color and next hop; and the next hops of both colors, or none where the prefix is attached."""
+    """What is installed for a prefix: the primary, and its metric after those of a daemon that keeps primaries, or none;
+    the repairs, each with its metric, color and next hop; and the next hops of both colors, or none where the prefix is
+    attached."""
 
     prefix: str
-    primary: Hop | None
+    primary: Hop
+    after_daemon: int | None
     repairs: list[tuple[int, int, Hop]]
     rows: list[Hop | None]
 
@@ -67,8 +69,9 @@ def words_of(hop: Hop, interfaces: Interfaces) -> str:
 
 def routes_of(entry: Entry, interfaces: Interfaces, daemon: bool) -> Iterable[str]:
     """The routes of a prefix, in the words of `ip route`."""
-    if entry.primary is not None and not daemon:
-        yield f"{entry.prefix} {words_of(entry.primary, interfaces)} metric {PRIMARY} proto {PROTOCOL}"
+    metric = (entry.after_daemon and AFTER_DAEMON + entry.after_daemon) if daemon else PRIMARY
+    if metric is not None:
+        yield f"{entry.prefix} {words_of(entry.primary, interfaces)} metric {metric} proto {PROTOCOL}"
     for metric, color, hop in entry.repairs:
         metric += AFTER_DAEMON if daemon else 0
         yield f"{entry.prefix} {words_of(hop, interfaces)} metric {metric} realm {REALMS[color]} proto {PROTOCOL}"

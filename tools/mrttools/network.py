@@ -199,9 +199,6 @@ class Network:
         for name in ports:
             ip("-n", self.wires, "link", "set", name, "group", str(number))
 
-    def set_group(self, number: int, state: str) -> None:
-        ip("-n", self.wires, "link", "set", "group", str(number), state)
-
 
 def port(wire: int, router: int) -> str:
     """The far end of a router's wire."""

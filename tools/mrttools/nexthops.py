@@ -10,6 +10,7 @@ from .certificate import Certificate
 from .ending import REFUSED, ToolFault
 from .lsas import NETWORK, ROUTER, Lsa
 from .program import Program
+from .shortest import Paths
 
 NO_REPAIR = "-"
 COLOR_OF = {"b": 0, "r": 1}
@@ -24,11 +25,14 @@ class Hop(NamedTuple):
 
 
 class Route(NamedTuple):
-    """What a router has for a destination: the primary; the color that repairs it where the router after a LAN is told to
-    be gone, if the primary goes over a LAN; the color that repairs it where its own port is; and both rows."""
+    """What a router has for a destination: the primary, whether it goes over a LAN, and whether other links begin ways of
+    the same cost; the color that repairs it where the router after a LAN is told to be gone; the color that repairs it
+    where its own port is; and both rows."""
 
     to: Node
     primary: Hop
+    over_lan: bool
+    one_of_several: bool
     for_word: int | None
     for_port: int | None
     rows: tuple[Hop, Hop]
@@ -119,9 +123,12 @@ class Ways:
 
     def routes(self) -> Iterator[Route]:
         """A route for each line of the router's table."""
+        paths = Paths(self.area)
         for line in self.lines:
-            for_word, for_port = repairs(line.letters)
-            yield Route(line.to, self.primary(line), for_word, for_port, (self.row(0, line.to), self.row(1, line.to)))
+            several = len(paths.beginnings(self.router, line.to)) > 1
+            rows = self.row(0, line.to), self.row(1, line.to)
+            over_lan = line.primary_far.kind == NETWORK
+            yield Route(line.to, self.primary(line), over_lan, several, *repairs(line.letters), rows)
 
 
 def repairs(letters: str) -> tuple[int | None, int | None]:

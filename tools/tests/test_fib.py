@@ -18,6 +18,7 @@ from mrttools.network import Plan, Wire, link, owner, router_id
 from mrttools.nexthops import Ways
 from mrttools.plans import PLANS
 from mrttools.program import Program
+from mrttools.shortest import Paths
 from tests.making import DATA, MRT, TOOLS, network_lsa, router_lsa
 
 ROUTE = re.compile(r"(\S+)/32 via (\S+)(?: metric (\d+))?(?: realm (\d+))?(?: table (\d+))? proto 78")
@@ -49,13 +50,13 @@ def lsas_of(plan: Plan) -> bytes:
     return b"".join(records)
 
 
-def random_plan(random: Random) -> Plan:
-    """Up to seven routers that hang together, with parallel links and LANs."""
+def random_plan(random: Random, lans: int) -> Plan:
+    """Up to seven routers that hang together, with parallel links and less than so many LANs."""
     routers = list(range(1, random.randint(4, 8)))
     ends = [(router, random.randint(1, router - 1)) for router in routers[1:]]
     ends += [tuple(random.sample(routers, 2)) for _ in range(random.randint(2, 6))]
     wires = [link(one, other, random.randint(1, 4), f"10.1.{number}") for number, (one, other) in enumerate(ends)]
-    for number in range(random.randrange(3)):
+    for number in range(random.randrange(lans)):
         attached = random.sample(routers, random.randint(2, 4))
         metrics = {router: random.randint(1, 4) for router in attached}
         wires.append(Wire(f"198.51.{number}", metrics, random.choice(attached)))
@@ -74,7 +75,7 @@ class Route(NamedTuple):
 class Kernels:
     """The routes of all routers, and what they do with a packet."""
 
-    def __init__(self, plan: Plan, mrt: Program, found: list[lsas.Lsa], daemon: bool = False) -> None:
+    def __init__(self, plan: Plan, mrt: Program, found: list[lsas.Lsa], daemon: Random | None = None) -> None:
         self.plan = plan
         self.main: dict[tuple[int, str], list[Route]] = defaultdict(list)
         self.colored: dict[tuple[int, int, str], str] = {}
@@ -82,8 +83,18 @@ class Kernels:
             if router not in plan.maintenance:
                 ways = Ways(mrt, found, lsas.address(router_id(router)))
                 for entry in installing.entries(ways):
-                    for text in kernel.routes_of(entry, Interfaces(None), daemon):
+                    for text in kernel.routes_of(entry, Interfaces(None), daemon is not None):
                         self.put(router, text)
+                if daemon:
+                    self.put_one_of_several(router, ways, daemon)
+
+    def put_one_of_several(self, router: int, ways: Ways, random: Random) -> None:
+        """The routes of a daemon that has lost all next hops of equal cost but one."""
+        paths = Paths(ways.area)
+        for line in ways.lines:
+            way = random.choice(paths.beginnings(ways.router, line.to))
+            gateway = lsas.spelled(ways.address_on(way.bond, way.to))
+            self.main[router, line.to.text].append(Route(0, gateway, None))
 
     def put(self, router: int, text: str) -> None:
         prefix, gateway, metric, realm, table = ROUTE.fullmatch(text).groups()
@@ -134,20 +145,21 @@ class Kernels:
 class Arrival(unittest.TestCase):
     """A packet over the kernels arrives exactly where mrt fabric delivers it."""
 
-    def check(self, plan: Plan) -> int:
-        """How many packets took a repair or were lost."""
+    def check(self, plan: Plan, daemon: Random | None = None) -> int:
+        """How many packets were lost. Where the kernels have other primaries than mrt, some of those arrive."""
         touched = 0
         with tempfile.NamedTemporaryFile() as file:
             file.write(lsas_of(plan))
             file.flush()
             mrt = Program(MRT, file.name, "-")
-            kernels = Kernels(plan, mrt, list(map(lsas.lsa_of, split(lsas_of(plan)))))
+            kernels = Kernels(plan, mrt, list(lsas.split(lsas_of(plan))), daemon)
             for failure in failing.failures(plan):
                 lost = failing.lost_by_mrt(mrt, plan, failure)
                 for source, target in failing.pairs(plan):
                     if failure.router not in (source, target):
                         arrived = kernels.arrives(source, target, failure)
-                        self.assertEqual(arrived, (source, target) not in lost, (plan, failure, source, target))
+                        fits = arrived == ((source, target) not in lost) or (daemon and arrived)
+                        self.assertTrue(fits, (plan, failure, source, target))
                 touched += len(lost)
         return touched
 
@@ -157,11 +169,12 @@ class Arrival(unittest.TestCase):
 
     def test_random_networks(self) -> None:
         random = Random(54)
-        self.assertGreater(sum(self.check(random_plan(random)) for _ in range(8)), 20)
+        self.assertGreater(sum(self.check(random_plan(random, 3)) for _ in range(8)), 20)
 
-
-def split(data: bytes) -> list[bytes]:
-    return [lsa.record for lsa in lsas.split(data)]
+    def test_beside_daemons_that_lost_next_hops_of_equal_cost(self) -> None:
+        random = Random(64)
+        for _ in range(8):
+            self.check(random_plan(random, 1), random)
 
 
 class Letters(unittest.TestCase):

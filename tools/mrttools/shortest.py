@@ -1,0 +1,49 @@
+"""Shortest paths in an area (RFC 2328, section 16.1): distances, and all links that begin one."""
+from __future__ import annotations
+
+import heapq
+from collections import defaultdict
+from typing import NamedTuple
+
+from .area import Area, Bond, Node
+
+
+class Way(NamedTuple):
+    """One direction of a link, with its cost."""
+
+    tail: Node
+    to: Node
+    cost: int
+    bond: Bond
+
+
+class Paths:
+    """The shortest paths of one area."""
+
+    def __init__(self, area: Area) -> None:
+        self.into: dict[Node, list[Way]] = defaultdict(list)
+        self.out: dict[Node, list[Way]] = defaultdict(list)
+        for bond in area.bonds:
+            ways = [Way(bond.a, bond.b, bond.metric_a, bond)]
+            if bond.data_b is not None:
+                ways.append(Way(bond.b, bond.a, bond.metric_b, bond))
+            for way in ways:
+                self.out[way.tail].append(way)
+                self.into[way.to].append(way)
+
+    def distances(self, to: Node) -> dict[Node, int]:
+        """The distance from each node that has a way to one."""
+        found: dict[Node, int] = {}
+        waiting = [(0, to)]
+        while waiting:
+            cost, node = heapq.heappop(waiting)
+            if node not in found:
+                found[node] = cost
+                for way in self.into[node]:
+                    heapq.heappush(waiting, (cost + way.cost, way.tail))
+        return found
+
+    def beginnings(self, source: Node, to: Node) -> list[Way]:
+        """The links of a node that begin a shortest path."""
+        far = self.distances(to)
+        return [way for way in self.out[source] if way.to in far and way.cost + far[way.to] == far[source]]
