@@ -47,16 +47,21 @@ def after_daemon(route: Route) -> int | None:
     return LAST if route.over_lan else PRIMARY
 
 
+def entry_of(prefix: str, route: Route) -> Entry:
+    """What is installed for a prefix that hangs on one node. Where this is a network of the router, the kernel has it."""
+    primary = route.primary if route.primary.gateway is not None else None
+    repaired = [(metric, color, route.rows[color]) for metric, color in repairs(route)]
+    return Entry(prefix, primary, after_daemon(route), repaired, list(route.rows))
+
+
 def entries(ways: Ways) -> list[Entry]:
-    """What is installed for each prefix of the other routers of the island."""
-    prefixes, found = of_one_router(host_prefixes(ways)), []
-    for route in ways.routes():
-        repaired = [(metric, color, route.rows[color]) for metric, color in repairs(route)]
-        for prefix in prefixes.get(route.to, []):
-            found.append(
-                Entry(f"{lsas.spelled(prefix)}/32", route.primary, after_daemon(route), repaired, list(route.rows))
-            )
-    return found
+    """What is installed for each host prefix of the other routers of the island."""
+    prefixes = of_one_router(host_prefixes(ways))
+    return [
+        entry_of(f"{lsas.spelled(prefix)}/32", route)
+        for route in ways.routes()
+        for prefix in prefixes.get(route.to, [])
+    ]
 
 
 def summary(ways: Ways, found: list[Entry]) -> list[str]:

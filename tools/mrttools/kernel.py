@@ -29,14 +29,22 @@ done
 
 
 class Interfaces:
-    """The names of the interfaces by their addresses, where they are known."""
+    """The names of the interfaces by their addresses, where they are known, and the addresses by their prefixes."""
 
-    def __init__(self, names: dict[int, str] | None) -> None:
+    def __init__(self, names: dict[int, str] | None, prefixes: dict[str, int] | None = None) -> None:
         for name in (names or {}).values():
             # The kernel allows nearly any byte in a name; one that a script could take for something else is refused.
             if not re.fullmatch(r"[A-Za-z0-9_.:@-]{1,15}", name):
                 raise ToolFault(f"an interface has the name {name!r}, which is not taken", REFUSED)
-        self.names = names
+        self.names, self.prefixes = names, prefixes or {}
+
+    def attached(self, prefix: str) -> Hop | None:
+        """The interface that has a prefix."""
+        return Hop(self.prefixes[prefix], None) if prefix in self.prefixes else None
+
+    def of(self, addresses: set[int]) -> set[str]:
+        """The names of interfaces by some of their addresses."""
+        return {name for own, name in (self.names or {}).items() if own in addresses}
 
     def device(self, own: int) -> str:
         """The words that name the interface of an address, or none."""
@@ -48,12 +56,12 @@ class Interfaces:
 
 
 class Entry(NamedTuple):
-    """What is installed for a prefix: the primary, and its metric after those of a daemon that keeps primaries, or none;
-    the repairs, each with its metric, color and next hop; and the next hops of both colors, or none where the prefix is
-    attached."""
+    """What is installed for a prefix: the primary, or none where the kernel has the prefix itself; its metric after those
+    of a daemon that keeps primaries, or none; the repairs, each with its metric, color and next hop; and the next hops of
+    both colors, or none where the prefix hangs on the router on that color."""
 
     prefix: str
-    primary: Hop
+    primary: Hop | None
     after_daemon: int | None
     repairs: list[tuple[int, int, Hop]]
     rows: list[Hop | None]
@@ -70,16 +78,15 @@ def words_of(hop: Hop, interfaces: Interfaces) -> str:
 def routes_of(entry: Entry, interfaces: Interfaces, daemon: bool) -> Iterable[str]:
     """The routes of a prefix, in the words of `ip route`."""
     metric = (entry.after_daemon and AFTER_DAEMON + entry.after_daemon) if daemon else PRIMARY
-    if metric is not None:
+    if entry.primary is not None and metric is not None:
         yield f"{entry.prefix} {words_of(entry.primary, interfaces)} metric {metric} proto {PROTOCOL}"
     for metric, color, hop in entry.repairs:
         metric += AFTER_DAEMON if daemon else 0
         yield f"{entry.prefix} {words_of(hop, interfaces)} metric {metric} realm {REALMS[color]} proto {PROTOCOL}"
     for color, hop in enumerate(entry.rows):
-        if hop is None:
-            # The main table has the prefix itself, as it is attached.
-            yield f"throw {entry.prefix} table {TABLES[color]} proto {PROTOCOL}"
-        else:
+        # Where no interface has the prefix, a packet on this color ends here, and never goes on by a primary.
+        hop = hop or interfaces.attached(entry.prefix)
+        if hop is not None:
             yield f"{entry.prefix} {words_of(hop, interfaces)} table {TABLES[color]} proto {PROTOCOL}"
 
 
@@ -88,18 +95,19 @@ def last_routes() -> list[str]:
     return [f"unreachable default table {table} metric 4294967295 proto {PROTOCOL}" for table in TABLES]
 
 
-def marking(dscp: tuple[int, int], interfaces: Interfaces) -> str:
-    """The tables of nft, which replace what was there in one step."""
+def marking(dscp: tuple[int, int], inside: set[str]) -> str:
+    """The tables of nft, which replace what was there in one step. `inside` are the names of the router's interfaces in
+    the area, where they are known."""
     both = ", ".join(map(str, dscp))
     read = [f"        ip dscp {point} meta mark set {table}" for point, table in zip(dscp, TABLES)]
     write = [
         f'        rt classid {realm} counter ip dscp set {point} comment "{color}"'
         for point, realm, color in zip(dscp, REALMS, COLORS)
     ]
-    if interfaces.names:
+    if inside:
         # From outside the area no packet comes on a color.
-        inside = ", ".join(f'"{name}"' for name in sorted(set(interfaces.names.values())))
-        read.insert(0, f"        iifname != {{ {inside} }} ip dscp {{ {both} }} ip dscp set 0")
+        names = ", ".join(f'"{name}"' for name in sorted(inside))
+        read.insert(0, f"        iifname != {{ {names} }} ip dscp {{ {both} }} ip dscp set 0")
     return "\n".join(
         ["table ip mrt", "delete table ip mrt", "table ip mrt {"]
         + ["    chain read {", "        type filter hook prerouting priority mangle; policy accept;", *read, "    }"]

@@ -78,6 +78,13 @@ class Ways:
             )
         return data
 
+    def own_addresses(self) -> set[int]:
+        """The addresses of the router's links in the area."""
+        ends = [(bond.a, bond.data_a) for bond in self.area.bonds] + [
+            (bond.b, bond.data_b) for bond in self.area.bonds
+        ]
+        return {data for node, data in ends if node == self.router and data is not None}
+
     def bond_to(self, network: Node, router: Node) -> Bond:
         """The link by which a router is on a network; of several the first."""
         found = (bond for bond in self.area.bonds if {bond.a, bond.b} == {network, router})

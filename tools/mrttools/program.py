@@ -5,6 +5,7 @@ import argparse
 import os
 import shutil
 import subprocess
+import sys
 
 from .ending import READ_FAULT, ToolFault
 
@@ -29,14 +30,18 @@ class Program:
         refuse_without(path)
         self.path, self.database, self.profile = path, database, profile
 
-    def run(self, command: str, *words: str) -> bytes:
-        """What a command writes. Where it refuses, its line is on standard error already, and the tool ends with its
+    def run(self, command: str, *words: str, untold: int = 0) -> bytes:
+        """What a command writes. Where it refuses, its line is told, but for one status, and the tool ends with the
         status."""
         words = (self.database, *words) if command == "lfa" else (self.database, self.profile, *words)
-        done = subprocess.run([self.path, command, *words], stdout=subprocess.PIPE, check=False)
+        done = subprocess.run(
+            [self.path, command, *words], stdout=subprocess.PIPE, stderr=subprocess.PIPE, check=False
+        )
+        if done.returncode != untold:
+            sys.stderr.buffer.write(done.stderr)
         if done.returncode != 0:
             raise ToolFault("", done.returncode)
         return done.stdout
 
-    def lines(self, command: str, *words: str) -> list[str]:
-        return self.run(command, *words).decode("ascii").splitlines()
+    def lines(self, command: str, *words: str, untold: int = 0) -> list[str]:
+        return self.run(command, *words, untold=untold).decode("ascii").splitlines()

@@ -17,6 +17,7 @@ from mrttools.kernel import TABLES, Interfaces
 from mrttools.network import Plan, Wire, link, owner, router_id
 from mrttools.nexthops import Ways
 from mrttools.plans import PLANS
+from mrttools.prefixes import Prefixes, is_prefix
 from mrttools.program import Program
 from mrttools.shortest import Paths
 from tests.making import DATA, MRT, TOOLS, network_lsa, router_lsa
@@ -27,11 +28,11 @@ ROUTE = re.compile(r"(\S+)/32 via (\S+)(?: metric (\d+))?(?: realm (\d+))?(?: ta
 # networks
 
 
-def lsas_of(plan: Plan) -> bytes:
-    """The LSAs that the routers of a network would have."""
+def lsas_of(plan: Plan, stubs: dict[int, list[tuple[str, str, int, int]]] | None = None) -> bytes:
+    """The LSAs that the routers of a network would have, with more stub links."""
     records = []
     for router in plan.routers:
-        links = [(router_id(router), "255.255.255.255", 3, 0)]
+        links = [(router_id(router), "255.255.255.255", 3, 0), *(stubs or {}).get(router, [])]
         for each in plan.interfaces(router):
             wire = plan.wires[each.wire]
             metric = 65535 if router in plan.maintenance else each.metric
@@ -177,6 +178,108 @@ class Arrival(unittest.TestCase):
             self.check(random_plan(random, 1), random)
 
 
+CUSTOMER = "203.0.113.0/24"
+
+
+class Customer:
+    """A prefix that hangs on some routers of a network, and the kernels' routes to it."""
+
+    def __init__(self, plan: Plan, owners: list[int], mrt: Program, found: list[lsas.Lsa]) -> None:
+        self.plan, self.owners = plan, owners
+        self.main: dict[int, list[Route]] = {router: [] for router in plan.routers}
+        self.colored: dict[tuple[int, int], str] = {}
+        self.told: set[str] = set()
+        for router in plan.routers:
+            whole = Prefixes(Ways(mrt, found, lsas.address(router_id(router))))
+            attached = {CUSTOMER: 1} if router in owners else {}
+            for entry in whole.entries():
+                if entry.prefix == CUSTOMER:
+                    for text in kernel.routes_of(entry, Interfaces(None, attached), False):
+                        self.put(router, text)
+            self.told |= {line for line in whole.told if line.startswith(CUSTOMER)}
+
+    def put(self, router: int, text: str) -> None:
+        words = text.split()
+        gateway = words[words.index("via") + 1] if "via" in words else ""
+        if "table" in words:
+            self.colored[router, TABLES.index(int(words[words.index("table") + 1]))] = gateway
+        else:
+            color = kernel.REALMS.index(int(words[words.index("realm") + 1])) if "realm" in words else None
+            self.main[router].append(Route(int(words[words.index("metric") + 1]), gateway, color))
+
+    def step(self, at: int, color: int | None, down: set[str], cut: int) -> tuple[int | None, str] | None:
+        """The color and the next hop after a router; an empty one is the customer. `cut` has no port to it."""
+
+        def up(gateway: str) -> bool:
+            net = gateway.rsplit(".", 1)[0]
+            return at != cut if not gateway else not any(net == self.plan.wires[int(one)].net for one in down)
+
+        if color is not None:
+            gateway = self.colored.get((at, color))
+            return None if gateway is None or not up(gateway) else (color, gateway)
+        if at in self.owners and at != cut:
+            return None, ""
+        return next(((each.color, each.gateway) for each in sorted(self.main[at]) if up(each.gateway)), None)
+
+    def arrives(self, source: int, failure: Failure, cut: int) -> bool:
+        at, color, down = source, None, {name.split("-")[0][1:] for name in failure.ports}
+        for _ in range(4 * len(self.plan.routers)):
+            step = self.step(at, color, down, cut)
+            if step is None or step[1] == "":
+                return step is not None
+            color, at = step[0], owner(step[1])
+            if at == failure.router:
+                return False
+        return False
+
+    def reaches(self, source: int, failure: Failure, cut: int) -> bool:
+        """Whether there is any way."""
+        down = {int(name.split("-")[0][1:]) for name in failure.ports}
+        found, waiting = {source}, [source]
+        while waiting:
+            at = waiting.pop()
+            for number, wire in enumerate(self.plan.wires):
+                if at in wire.metrics and number not in down:
+                    waiting += [one for one in wire.metrics if one not in found]
+                    found |= set(wire.metrics)
+        return any(one in found and one not in (cut, failure.router) for one in self.owners)
+
+
+@unittest.skipUnless(os.path.exists(MRT), "the program is not built")
+class CustomersOfTwoRouters(unittest.TestCase):
+    """A packet to a prefix of two routers of one block arrives wherever there is a way, whatever one thing failed."""
+
+    def test_random_networks(self) -> None:
+        random, seen = Random(7), 0
+        while seen < 3:
+            plan = random_plan(random, 1)
+            owners = random.sample(plan.routers, 2)
+            stubs = {router: [("203.0.113.0", "255.255.255.0", 3, random.randint(1, 9))] for router in owners}
+            with tempfile.NamedTemporaryFile() as file:
+                file.write(lsas_of(plan, stubs))
+                file.flush()
+                mrt = Program(MRT, file.name, "-")
+                customer = Customer(plan, owners, mrt, list(lsas.split(lsas_of(plan, stubs))))
+            if any(" and " not in line for line in customer.told):
+                continue
+            seen += 1
+            self.assertEqual({len(customer.told)}, {1}, customer.told)
+            none = Failure("none", "", [], 0, [])
+            for failure, cut in [(each, 0) for each in failing.failures(plan)] + [(none, one) for one in owners]:
+                for source in set(plan.routers) - {failure.router}:
+                    wanted = customer.reaches(source, failure, cut)
+                    self.assertEqual(
+                        customer.arrives(source, failure, cut), wanted, (plan, owners, failure, cut, source)
+                    )
+
+
+class Owners(unittest.TestCase):
+    def test_masks(self) -> None:
+        good = [(0, 0), (0x0A000000, 0xFF000000), (0x0A000001, 0xFFFFFFFF)]
+        bad = [(0x0A000001, 0xFF000000), (0x0A000000, 0xFF00FF00), (1, 0)]
+        self.assertEqual([is_prefix(*each) for each in good + bad], [True] * 3 + [False] * 3)
+
+
 class Letters(unittest.TestCase):
     """Which repair is for which failure."""
 
@@ -242,7 +345,8 @@ class Sample(unittest.TestCase):
     def test_devices(self) -> None:
         names = {lsas.address("198.51.100.4"): "lan0", lsas.address("192.0.2.13"): "eth1"}
         self.assertIn("10.255.1.5/32 via 192.0.2.14 dev eth1 metric 20 proto 78", self.routes(False, names))
-        self.assertIn('iifname != { "eth1", "lan0" }', kernel.marking((3, 7), Interfaces(names)))
+        inside = Interfaces(names | {1: "customer"}).of(self.ways.own_addresses())
+        self.assertIn('iifname != { "eth1", "lan0" }', kernel.marking((3, 7), inside))
         with self.assertRaises(ToolFault):
             self.routes(False, {})
 
