@@ -8,6 +8,7 @@ import subprocess
 import time
 from typing import Callable, Iterable, NamedTuple
 
+from .bars import Bar
 from .failing import FAILING, STANDING, Failure, Pair, failures, lost_by_mrt, pairs
 from .kernel import PRIMARY
 from .network import Network, Plan, router_id
@@ -236,6 +237,10 @@ def beside_routing(installed: Installed, lab: Lab, say: Callable[[str], None]) -
 
 
 # what is told
+
+
+def bars_of(rows: list[Row]) -> list[Bar]:
+    return [Bar(row.failure.name, row.lost, row.without, len(row.parted)) for row in rows]
 
 
 def line_of(cells: tuple[str, ...]) -> str:

@@ -250,7 +250,7 @@ def summary(gathered: Gathered, area: int, written: list[Lsa]) -> list[str]:
     lines += [f"named, but not there: {name}" for name in missing(live)]
     lines += areas.one_way_lines(live) + areas.no_link_lines(live)
     lines += [
-        f"withdrawn by an older copy that outranks a later live one: {name}; capture anew"
+        f"flushed by an older copy that outranks a later live one: {name}; capture anew"
         for name in outranked(instances)
     ]
     lines.append(f"written: {len(written)} LSAs, {sum(len(lsa.record) for lsa in written)} bytes")

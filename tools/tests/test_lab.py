@@ -1,10 +1,13 @@
 """What the lab reads from daemons, and how it compares. The lab itself is run by hand."""
 import unittest
 from functools import partial
+from xml.etree import ElementTree
 
-from mrttools import comparing, network
+from mrttools import bars, comparing, failing, forwarding, network
 from mrttools.daemons import Bird, Frr, Running
 from mrttools.lsas import Key, address
+from mrttools.pinging import Counted
+from mrttools.plans import PLANS
 
 NOTHING = Running([], "")
 
@@ -127,3 +130,44 @@ class TheNetwork(unittest.TestCase):
 
     def test_names_fit_the_kernel(self) -> None:
         self.assertTrue(all(len(each.name) < 16 for router in network.ROUTERS for each in network.interfaces(router)))
+
+
+class Failures(unittest.TestCase):
+    """What fails in the lab, and the picture of it."""
+
+    def test_each_link_router_and_port(self) -> None:
+        found = list(failing.failures(network.PLAN))
+        self.assertEqual(len({failure.name for failure in found}), len(found))
+        self.assertEqual(sum(bool(failure.router) for failure in found), 9)
+        ports = next(failure.ports for failure in found if failure.element == "10.255.0.7")
+        self.assertEqual(len(ports), 3)
+        for plan in PLANS.values():
+            for failure in failing.failures(plan):
+                self.assertTrue(failure.ports and failure.router not in plan.maintenance)
+
+    def test_networks_hang_together_without_the_router_that_joins(self) -> None:
+        for plan in PLANS.values():
+            found = {next(router for router in plan.routers if router != plan.joiner)}
+            for _ in plan.routers:
+                found |= {one for wire in plan.wires if found & set(wire.metrics) for one in wire.metrics}
+                found.discard(plan.joiner)
+            self.assertEqual(found | {plan.joiner}, set(plan.routers), plan.name)
+
+    def test_names_and_addresses_are_one_each(self) -> None:
+        for plan in PLANS.values():
+            for router in plan.routers:
+                found = plan.interfaces(router)
+                self.assertEqual(len({each.name for each in found}), len(found))
+                self.assertTrue(all(len(each.name) < 16 for each in found))
+            self.assertEqual(len({wire.net for wire in plan.wires}), len(plan.wires))
+
+    def test_what_is_wrong(self) -> None:
+        counted = Counted({(1, 2): 0, (1, 3): 1, (2, 1): 2, (2, 3): 9, (3, 1): 0}, 5, 5, 5)
+        self.assertEqual(forwarding.wrong_pairs(counted, {(2, 3), (3, 1)}), {(2, 1), (3, 1)})
+
+    def test_the_picture(self) -> None:
+        picture = bars.svg("<lab>", [bars.Bar("link r1-r2", 0, 1500, 0), bars.Bar("router r5", 9, 10, 4)])
+        root = ElementTree.fromstring(picture)
+        self.assertIn("0 of 1,500", picture)
+        self.assertEqual(len(root.findall(".//{http://www.w3.org/2000/svg}rect")), 5)
+        ElementTree.fromstring(bars.svg("none", []))
