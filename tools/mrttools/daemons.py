@@ -41,6 +41,8 @@ class Frr:
     """zebra and ospfd for each router."""
 
     name = "FRR"
+    # Milliseconds from a change to the shortest paths; none where FRR has its own timers, which grow from change to change.
+    spf_delay: int | None = None
     needs = ["/usr/lib/frr/zebra", "/usr/lib/frr/ospfd", "vtysh"]
 
     def version(self) -> str:
@@ -71,6 +73,8 @@ class Frr:
             on_lan, between_two = f" ip ospf priority {int(interface.designated)}", " ip ospf network point-to-point"
             lines.append(on_lan if interface.far == LAN else between_two)
         lines += ["router ospf", f" ospf router-id {router_id(router)}"]
+        if self.spf_delay is not None:
+            lines.append(f" timers throttle spf {self.spf_delay} {self.spf_delay} {self.spf_delay}")
         lines += [" max-metric router-lsa administrative"] if router in plan.maintenance else []
         return "\n".join(lines + [""])
 

@@ -1,6 +1,7 @@
 """Where the converter writes: what is no regular file stays what it is, and the capture is never written over. Tools
 run through a symbolic link."""
 import os
+import shutil
 import stat
 import subprocess
 import tempfile
@@ -36,10 +37,12 @@ class Targets(unittest.TestCase):
     def test_a_pipe_stays_a_pipe(self) -> None:
         pipe = self.name("pipe")
         os.mkfifo(pipe)
-        with subprocess.Popen(["cat", pipe], stdout=subprocess.PIPE) as reader:
-            done = run("lsdb-from-pcap", self.capture, pipe)
-            self.assertEqual((done.returncode, reader.communicate(timeout=9)[0]), (0, WANTED), done.stderr)
+        reader = subprocess.Popen(["timeout", "20", "cat", pipe], stdout=subprocess.PIPE)
+        self.addCleanup(reader.stdout.close)
+        self.addCleanup(reader.kill)
+        done = run("lsdb-from-pcap", self.capture, pipe)
         self.assertTrue(stat.S_ISFIFO(os.stat(pipe).st_mode))
+        self.assertEqual((done.returncode, reader.communicate(timeout=9)[0]), (0, WANTED), done.stderr)
 
     def test_a_device_stays_a_device(self) -> None:
         device = self.name("null")
@@ -108,13 +111,21 @@ class Links(unittest.TestCase):
 
     def test_the_program_is_beside_the_tool(self) -> None:
         with tempfile.TemporaryDirectory() as folder:
-            tools = os.path.join(folder, "there", "tools")
-            os.makedirs(os.path.dirname(tools))
-            os.symlink(TOOLS, tools)
-            os.symlink(os.path.join(TOOLS, "lint"), os.path.join(folder, "lint"))
-            for name in (os.path.join(folder, "lint"), os.path.join(tools, "lint")):
-                done = subprocess.run([name, "--help"], stdout=subprocess.PIPE, text=True, check=False)
-                self.assertEqual(done.returncode, 0)
+            there = os.path.join(folder, "there")
+            shutil.copytree(TOOLS, os.path.join(there, "tools"))
+            with open(os.path.join(there, "mrt"), "w", encoding="ascii") as file:
+                file.write("#!/bin/sh\necho this one >&2; exit 5\n")
+            os.chmod(file.name, 0o755)
+            for tool, words in (("draw", ["1.1.1.1"]), ("lint", []), ("trace", ["1.1.1.1", "2.2.2.2", "blue"])):
+                os.symlink(os.path.join(there, "tools", tool), os.path.join(folder, tool))
+                command = [os.path.join(folder, tool), "/dev/null", "-", *words]
+                done = subprocess.run(command, stderr=subprocess.PIPE, text=True, check=False)
+                self.assertEqual((done.returncode, done.stderr), (5, "this one\n"), tool)
+
+    def test_the_lab_says_at_once_that_there_is_no_program(self) -> None:
+        done = run("lab", "frr", "/nonexistent/folder", "--mrt", "/nonexistent/mrt")
+        self.assertEqual((done.returncode, done.stdout), (1, b""))
+        self.assertEqual(done.stderr.decode(), "lab: /nonexistent/mrt: there is no such program\n")
 
     def test_the_tests(self) -> None:
         with tempfile.TemporaryDirectory() as folder:
