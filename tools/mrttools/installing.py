@@ -1,6 +1,7 @@
 """Which prefixes a router installs, and with which next hops."""
 from __future__ import annotations
 
+from collections import Counter
 from typing import Iterator
 
 from . import lsas
@@ -26,8 +27,8 @@ def host_prefixes(ways: Ways) -> dict[Node, list[int]]:
 
 def of_one_router(prefixes: dict[Node, list[int]]) -> dict[Node, list[int]]:
     """The prefixes that no second router has."""
-    every = [prefix for own in prefixes.values() for prefix in own]
-    return {node: [prefix for prefix in own if every.count(prefix) == 1] for node, own in prefixes.items()}
+    counts = Counter(prefix for own in prefixes.values() for prefix in own)
+    return {node: [prefix for prefix in own if counts[prefix] == 1] for node, own in prefixes.items()}
 
 
 def repairs(route: Route) -> Iterator[tuple[int, int]]:
@@ -66,9 +67,9 @@ def entries(ways: Ways) -> list[Entry]:
 
 def summary(ways: Ways, found: list[Entry]) -> list[str]:
     """How much there is, and what has no repair."""
-    repaired = sum(bool(entry.repairs) for entry in found)
+    repaired, prefixes = sum(bool(entry.repairs) for entry in found), host_prefixes(ways)
+    every, single = (
+        {prefix for own in each.values() for prefix in own} for each in (prefixes, of_one_router(prefixes))
+    )
     lines = [f"router {ways.router.text}: {len(found)} prefixes, {repaired} of them with a repair"]
-    several = {prefix for own in host_prefixes(ways).values() for prefix in own} - {
-        prefix for own in of_one_router(host_prefixes(ways)).values() for prefix in own
-    }
-    return lines + [f"left out, as several routers have it: {lsas.spelled(prefix)}/32" for prefix in sorted(several)]
+    return lines + [f"left out, as several routers have it: {lsas.spelled(one)}/32" for one in sorted(every - single)]

@@ -130,9 +130,9 @@ class Ways:
 
     def routes(self) -> Iterator[Route]:
         """A route for each line of the router's table."""
-        paths = Paths(self.area)
+        beginnings = Paths(self.area).beginnings(self.router)
         for line in self.lines:
-            several = len(paths.beginnings(self.router, line.to)) > 1
+            several = len(beginnings[line.to]) > 1
             rows = self.row(0, line.to), self.row(1, line.to)
             over_lan = line.primary_far.kind == NETWORK
             yield Route(line.to, self.primary(line), over_lan, several, *repairs(line.letters), rows)

@@ -6,6 +6,7 @@ from collections import defaultdict
 from typing import NamedTuple
 
 from .area import Area, Bond, Node
+from .lsas import ROUTER
 
 
 class Way(NamedTuple):
@@ -43,7 +44,22 @@ class Paths:
                     heapq.heappush(waiting, (cost + way.cost, way.tail))
         return found
 
-    def beginnings(self, source: Node, to: Node) -> list[Way]:
-        """The links of a node that begin a shortest path."""
-        far = self.distances(to)
-        return [way for way in self.out[source] if way.to in far and way.cost + far[way.to] == far[source]]
+    def beginnings(self, source: Node) -> dict[Node, set[Way]]:
+        """For each other node that a node has a way to, the links of the node that begin a shortest path there."""
+        far, found, done = {source: 0}, {source: set[Way]()}, set[Node]()
+        # A way out of a network costs nothing, so that at one distance networks come before routers.
+        waiting = [(0, False, source)]
+        while waiting:
+            cost, _, node = heapq.heappop(waiting)
+            if node in done:
+                continue
+            done.add(node)
+            for way in self.out[node]:
+                first, reached = ({way} if node == source else found[node]), cost + way.cost
+                if way.to not in far or reached < far[way.to]:
+                    far[way.to], found[way.to] = reached, set(first)
+                    heapq.heappush(waiting, (reached, way.to.kind == ROUTER, way.to))
+                elif reached == far[way.to]:
+                    found[way.to] |= first
+        del found[source]
+        return found

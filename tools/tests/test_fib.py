@@ -91,9 +91,9 @@ class Kernels:
 
     def put_one_of_several(self, router: int, ways: Ways, random: Random) -> None:
         """The routes of a daemon that has lost all next hops of equal cost but one."""
-        paths = Paths(ways.area)
+        beginnings = Paths(ways.area).beginnings(ways.router)
         for line in ways.lines:
-            way = random.choice(paths.beginnings(ways.router, line.to))
+            way = random.choice(sorted(beginnings[line.to]))
             gateway = lsas.spelled(ways.address_on(way.bond, way.to))
             self.main[router, line.to.text].append(Route(0, gateway, None))
 
@@ -278,6 +278,22 @@ class Owners(unittest.TestCase):
         good = [(0, 0), (0x0A000000, 0xFF000000), (0x0A000001, 0xFFFFFFFF)]
         bad = [(0x0A000001, 0xFF000000), (0x0A000000, 0xFF00FF00), (1, 0)]
         self.assertEqual([is_prefix(*each) for each in good + bad], [True] * 3 + [False] * 3)
+
+
+class ShortestPaths(unittest.TestCase):
+    def test_beginnings_are_those_of_distances(self) -> None:
+        """A link begins a shortest path where its cost and the distance of its far end make up the distance."""
+        random = Random(5)
+        for _ in range(20):
+            whole = area.area_of(lsas.split(lsas_of(random_plan(random, 3))))
+            paths = Paths(whole)
+            for source in whole.nodes:
+                found = paths.beginnings(source)
+                self.assertEqual(set(found), set(whole.nodes) - {source})
+                for to in found:
+                    far = paths.distances(to)
+                    wanted = {way for way in paths.out[source] if way.cost + far[way.to] == far[source]}
+                    self.assertEqual(found[to], wanted)
 
 
 class Letters(unittest.TestCase):

@@ -171,3 +171,22 @@ class Failures(unittest.TestCase):
         self.assertIn("0 of 1,500", picture)
         self.assertEqual(len(root.findall(".//{http://www.w3.org/2000/svg}rect")), 5)
         ElementTree.fromstring(bars.svg("none", []))
+
+
+class Configurations(unittest.TestCase):
+    def test_a_router_in_maintenance(self) -> None:
+        plan = PLANS["stubs"]
+        for daemon, words in ((Frr(), " max-metric router-lsa administrative"), (Bird(), "    stub router yes;")):
+            self.assertIn(words, daemon.configuration(plan, 10).splitlines())
+            self.assertNotIn(words, daemon.configuration(plan, 1).splitlines())
+
+    def test_one_delay_in_all_routers(self) -> None:
+        daemon = Frr()
+        self.assertNotIn("throttle", daemon.configuration(network.PLAN, 1))
+        daemon.spf_delay = 500
+        self.assertIn(" timers throttle spf 500 500 500", daemon.configuration(network.PLAN, 1).splitlines())
+
+    def test_on_a_lan_one_router_may_be_designated(self) -> None:
+        for router, priority in ((7, 1), (3, 0)):
+            self.assertIn(f" ip ospf priority {priority}", Frr().configuration(network.PLAN, router).splitlines())
+            self.assertIn(f"broadcast; priority {priority};", Bird().configuration(network.PLAN, router))
