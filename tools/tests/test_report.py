@@ -10,7 +10,7 @@ from io import StringIO
 from random import Random
 from typing import Any
 
-from mrttools import area, facts, islands, lsas, page, reporting
+from mrttools import area, facts, islands, lsas, markup, reporting
 from mrttools.area import Bond, Node
 from mrttools.paths import FAR, METRIC, Graph
 from mrttools.progress import Progress
@@ -289,7 +289,7 @@ class Parts(unittest.TestCase):
 
     def test_a_share_that_is_not_all_is_not_told_as_all(self) -> None:
         self.assertEqual(
-            [page.percent(*each) for each in ((9999, 10000), (1, 10000), (3, 3), (0, 3), (0, 0))],
+            [markup.percent(*each) for each in ((9999, 10000), (1, 10000), (3, 3), (0, 3), (0, 0))],
             ["99.9 %", "0.1 %", "100 %", "0 %", "\u2013"],
         )
 
