@@ -44,6 +44,6 @@ def svg(title: str, bars: list[Bar]) -> str:
     parts = [text(10, 18, title, 'font-weight="bold"'), text(10, 36, keys)]
     for number, bar in enumerate(bars):
         parts += row(bar, TOP + STEP * number, BARS / greatest)
-    head = f'<svg xmlns="http://www.w3.org/2000/svg" width="{width}" height="{height}" font-family="Helvetica, sans-serif"'
+    head = f'<svg xmlns="http://www.w3.org/2000/svg" width="{width}" height="{height}" font-family="Helvetica"'
     body = "\n".join([f'<rect width="{width}" height="{height}" fill="white"/>', *parts])
     return f'{head} font-size="12">\n{body}\n</svg>\n'

@@ -41,7 +41,7 @@ class Frr:
     """zebra and ospfd for each router."""
 
     name = "FRR"
-    # Milliseconds from a change to the shortest paths; none where FRR has its own timers, which grow from change to change.
+    # Milliseconds from a change to the shortest paths; none for FRR's own timers, which grow from change to change.
     spf_delay: int | None = None
     needs = ["/usr/lib/frr/zebra", "/usr/lib/frr/ospfd", "vtysh"]
 

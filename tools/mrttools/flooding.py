@@ -1,5 +1,5 @@
-"""A script for `mrt flood` over the packets of a capture: one router hears all of them, another one not what tells of one
-link, until it does."""
+"""A script for `mrt flood` over the packets of a capture: one router hears all of them, another one not what tells of
+one link, until it does."""
 from __future__ import annotations
 
 from . import lsas, updates
@@ -39,8 +39,8 @@ def telling(packets: list[Packet], router: int, neighbour: int) -> list[int]:
 
 
 def script(packets: list[Packet], router: int, neighbour: int, of: int) -> list[str]:
-    """Router 0 hears every packet in the order of the capture, router 1 the newest first and none that has the link, and
-    in the end one that has it. Both are compared before and after, by the island of the router `of`."""
+    """Router 0 hears every packet in the order of the capture, router 1 the newest first and none that has the link,
+    and in the end one that has it. Both are compared before and after, by the island of the router `of`."""
     held_back = telling(packets, router, neighbour)
     compared = f"same 0 1 {lsas.spelled(of)}"
     lines = ["routers 2"] + [f"deliver {number} 0" for number in range(len(packets))]

@@ -1,5 +1,5 @@
-"""The lab's failures: what `tools/fib` prints is put into the routers' kernels, each link, router and port on a LAN fails in
-turn, and pings of all pairs are counted, with repairs and without."""
+"""The lab's failures: what `tools/fib` prints is put into the routers' kernels, each link, router and port on a LAN
+fails in turn, and pings of all pairs are counted, with repairs and without."""
 from __future__ import annotations
 
 import os
@@ -23,8 +23,8 @@ HEAD = ("failed", "pings", "lost: with", "without", "parted pairs", "took a repa
 
 
 class Row(NamedTuple):
-    """What one failure cost with repairs and without: the pings sent, and lost; the pairs that `mrt` says are parted; the
-    pairs that lost more than one ping and are not, or none and are; the packets that took a repair."""
+    """What one failure cost with repairs and without: the pings sent, and lost; the pairs that `mrt` says are parted;
+    the pairs that lost more than one ping and are not, or none and are; the packets that took a repair."""
 
     failure: Failure
     sent: int
@@ -42,7 +42,8 @@ class Row(NamedTuple):
 
 
 class Batch:
-    """Commands of ip in a namespace, by a process that waits for them: they are done at once where the network fails."""
+    """Commands of ip in a namespace, by a process that waits for them: they are done at once where the network
+    fails."""
 
     def __init__(self, space: str, lines: list[str]) -> None:
         self.text = "".join(f"{line}\n" for line in lines)
@@ -174,8 +175,8 @@ class Trial(NamedTuple):
 
 
 def tried(installed: Installed, failure: Failure, say: Callable[[str], None]) -> Trial:
-    """A failure with repairs. Where more was lost than mrt says, it is tried again, and told: a machine that has other
-    work too may tell the loss of a carrier late. A wrong route would lose as much each time."""
+    """A failure with repairs. Where more was lost than mrt says, it is tried again, and told: a machine that has
+    other work too may tell the loss of a carrier late. A wrong route would lose as much each time."""
     parted = parted_pairs(installed.mrt, installed.network.plan, failure)
     for number in range(TRIES):
         before = installed.taken()
@@ -212,8 +213,8 @@ def without_routing(installed: Installed, say: Callable[[str], None]) -> list[Ro
 
 
 def beside_routing(installed: Installed, lab: Lab, say: Callable[[str], None]) -> list[Row]:
-    """Each link of two routers with the daemons' own routes, with the repairs of tools/fib behind them and without. The
-    network rests until the daemons have the routes that they had before."""
+    """Each link of two routers with the daemons' own routes, with the repairs of tools/fib behind them and without.
+    The network rests until the daemons have the routes that they had before."""
     plan, before = installed.network.plan, lab.routes()
     chosen = [failure for failure in failures(plan) if not failure.router and not failure.gone]
     trials, bare = [], []
@@ -258,10 +259,10 @@ def sums(plan: Plan, rows: list[Row], beside: bool) -> list[str]:
         line_of(
             ("sum", *(f"{sum(values):,}" for values in zip(*((row.sent, row.lost, row.without) for row in rows))))
         ),
-        f"forward: {plan.name}: {len(rows)} failures; {sum(not row.parted for row in rows)} part no pair, and with repairs "
-        f"{whole} pings were lost in these",
-        f"forward: {plan.name}: with repairs the kernels counted {sum(row.kernel[0] for row in rows):,} echoes sent and "
-        f"{sum(row.kernel[1] for row in rows):,} replies",
+        f"forward: {plan.name}: {len(rows)} failures; {sum(not row.parted for row in rows)} part no pair, and with "
+        f"repairs {whole} pings were lost in these",
+        f"forward: {plan.name}: with repairs the kernels counted {sum(row.kernel[0] for row in rows):,} echoes sent "
+        f"and {sum(row.kernel[1] for row in rows):,} replies",
     ]
     if beside:
         return lines

@@ -40,16 +40,17 @@ def repairs(route: Route) -> Iterator[tuple[int, int]]:
 
 
 def after_daemon(route: Route) -> int | None:
-    """The place of the primary after a daemon's route, where other links begin ways of the same cost. Of these the daemon
-    may have lost the primary's, after it had no carrier for a while, and a repair of the primary may go over the one that
-    is left. On a LAN the primary comes last: it is gone where the daemon withdraws it."""
+    """The place of the primary after a daemon's route, where other links begin ways of the same cost. Of these the
+    daemon may have lost the primary's, after it had no carrier for a while, and a repair of the primary may go over
+    the one that is left. On a LAN the primary comes last: it is gone where the daemon withdraws it."""
     if not route.one_of_several:
         return None
     return LAST if route.over_lan else PRIMARY
 
 
 def entry_of(prefix: str, route: Route) -> Entry:
-    """What is installed for a prefix that hangs on one node. Where this is a network of the router, the kernel has it."""
+    """What is installed for a prefix that hangs on one node. Where this is a network of the router, the kernel has
+    it."""
     primary = route.primary if route.primary.gateway is not None else None
     repaired = [(metric, color, route.rows[color]) for metric, color in repairs(route)]
     return Entry(prefix, primary, after_daemon(route), repaired, list(route.rows))

@@ -1,4 +1,5 @@
-"""What a Linux router gets of its primaries and repairs: routes, rules, and what marks a packet that is on a color."""
+"""What a Linux router gets of its primaries and repairs: routes, rules, and what marks a packet that is on a
+color."""
 from __future__ import annotations
 
 import re
@@ -17,7 +18,7 @@ PRIMARY, FOR_WORD, FOR_PORT, LAST = 20, 25, 30, 35
 # zebra takes the first byte of a kernel route's metric as its distance: this one is after each of the daemon's own.
 AFTER_DAEMON = 200 << 24
 
-SETTINGS = """# A next hop without a carrier is passed over at once; packets may come back past their sender, by any way.
+SETTINGS = """# A next hop without a carrier is passed over at once; a packet may come back past its sender.
 echo 1 > /proc/sys/net/ipv4/ip_forward
 for each in /proc/sys/net/ipv4/conf/*; do
     echo 1 > "$each/ignore_routes_with_linkdown"
@@ -56,9 +57,9 @@ class Interfaces:
 
 
 class Entry(NamedTuple):
-    """What is installed for a prefix: the primary, or none where the kernel has the prefix itself; its metric after those
-    of a daemon that keeps primaries, or none; the repairs, each with its metric, color and next hop; and the next hops of
-    both colors, or none where the prefix hangs on the router on that color."""
+    """What is installed for a prefix: the primary, or none where the kernel has the prefix itself; its metric after
+    those of a daemon that keeps primaries, or none; the repairs, each with its metric, color and next hop; and the
+    next hops of both colors, or none where the prefix hangs on the router on that color."""
 
     prefix: str
     primary: Hop | None
@@ -96,8 +97,8 @@ def last_routes() -> list[str]:
 
 
 def marking(dscp: tuple[int, int], inside: set[str]) -> str:
-    """The tables of nft, which replace what was there in one step. `inside` are the names of the router's interfaces in
-    the area, where they are known."""
+    """The tables of nft, which replace what was there in one step. `inside` are the names of the router's interfaces
+    in the area, where they are known."""
     both = ", ".join(map(str, dscp))
     read = [f"        ip dscp {point} meta mark set {table}" for point, table in zip(dscp, TABLES)]
     write = [

@@ -22,8 +22,8 @@ LAN = 0
 
 
 class Interface(NamedTuple):
-    """A router's end of a link, or its place on a LAN, by the number of the link or LAN in its plan. A LAN's far end is
-    0."""
+    """A router's end of a link, or its place on a LAN, by the number of the link or LAN in its plan. A LAN's far end
+    is 0."""
 
     name: str
     address: str
@@ -35,8 +35,8 @@ class Interface(NamedTuple):
 
 
 class Wire(NamedTuple):
-    """A link of two routers or a LAN, with the first three numbers of its addresses and the metric at each router. On a
-    LAN the designated router is given; others may not become one, so that it has the same name in each run."""
+    """A link of two routers or a LAN, with the first three numbers of its addresses and the metric at each router. On
+    a LAN the designated router is given; others may not become one, so that it has the same name in each run."""
 
     net: str
     metrics: dict[int, int]
@@ -135,8 +135,9 @@ def end_programs(space: str) -> None:
 
 
 class Network:
-    """The namespaces of one lab, which are taken away at the end whatever happened. Each link is a bridge in a namespace
-    of its own with a wire to each router, so that both routers lose the carrier when their wires are taken down."""
+    """The namespaces of one lab, which are taken away at the end whatever happened. Each link is a bridge in a
+    namespace of its own with a wire to each router, so that both routers lose the carrier when their wires are taken
+    down."""
 
     def __init__(self, plan: Plan = PLAN) -> None:
         self.plan = plan

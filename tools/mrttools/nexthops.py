@@ -1,4 +1,5 @@
-"""A router's next hops as addresses: its primaries, their repairs, and the rows of both colors, by what `mrt` says."""
+"""A router's next hops as addresses: its primaries, their repairs, and the rows of both colors, by what `mrt`
+says."""
 from __future__ import annotations
 
 import tempfile
@@ -25,9 +26,9 @@ class Hop(NamedTuple):
 
 
 class Route(NamedTuple):
-    """What a router has for a destination: the primary, whether it goes over a LAN, and whether other links begin ways of
-    the same cost; the color that repairs it where the router after a LAN is told to be gone; the color that repairs it
-    where its own port is; and both rows."""
+    """What a router has for a destination: the primary, whether it goes over a LAN, and whether other links begin
+    ways of the same cost; the color that repairs it where the router after a LAN is told to be gone; the color that
+    repairs it where its own port is; and both rows."""
 
     to: Node
     primary: Hop
@@ -139,9 +140,9 @@ class Ways:
 
 
 def repairs(letters: str) -> tuple[int | None, int | None]:
-    """The colors that repair a primary, by the letters of its table's line: after a LAN, where the router there is gone,
-    else its port; and that of the next node, else of the link to it. Of one repair a way past the node is one past the
-    link as well, and who sees a link fail cannot tell which of both it was."""
+    """The colors that repair a primary, by the letters of its table's line: after a LAN, where the router there is
+    gone, else its port; and that of the next node, else of the link to it. Of one repair a way past the node is one
+    past the link as well, and who sees a link fail cannot tell which of both it was."""
 
     def first(wanted: str) -> int | None:
         return next((COLOR_OF[letter] for letter in wanted if letter != NO_REPAIR), None)

@@ -13,8 +13,8 @@ EVERY = 10
 
 
 class Counted(NamedTuple):
-    """How many pings of each pair had no answer, how many were sent, and what the kernels counted: echoes that were sent,
-    and replies that came."""
+    """How many pings of each pair had no answer, how many were sent, and what the kernels counted: echoes that were
+    sent, and replies that came."""
 
     lost: dict[Pair, int]
     sent: int

@@ -33,7 +33,7 @@ LANS = Plan(
     + [Wire("198.51.100", {1: 10, 2: 10, 3: 5}, 2), Wire("198.51.101", {5: 10, 6: 10, 7: 5}, 6)],
     joiner=8,
 )
-# Two routers hang on one link each, one of them after another, one on two parallel links; the last one is in maintenance.
+# Routers that hang on one link, one after another, or on two parallel links; the last one is in maintenance.
 STUBS = Plan(
     "stubs",
     list(range(1, 11)),

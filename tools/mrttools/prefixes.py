@@ -1,4 +1,5 @@
-"""The prefixes of an area beyond loopbacks: stub networks of one router, of two, of more, and the networks themselves."""
+"""The prefixes of an area beyond loopbacks: stub networks of one router, of two, of more, and the networks
+themselves."""
 from __future__ import annotations
 
 from collections import defaultdict
@@ -172,7 +173,8 @@ class Prefixes:
         return entry_of(prefix.text, self.routes[inside[0]]), f"by {inside[0].text}"
 
     def of_two(self, prefix: Prefix, nearest: Node, proxied: Proxied) -> Entry:
-        """By the rows for a prefix of two routers. Where the router itself has it, a repair is for its own port to it."""
+        """By the rows for a prefix of two routers. Where the router itself has it, a repair is for its own port to
+        it."""
         rows = [proxied.hop(0), proxied.hop(1)]
         if nearest == self.ways.router or None in rows:
             others = [(FOR_PORT, color, hop) for color, hop in enumerate(rows) if hop is not None]
@@ -184,7 +186,8 @@ class Prefixes:
         return Entry(prefix.text, route.primary, after_daemon(route), repairs, rows)
 
     def elements(self, to: Node) -> list[Bond | Node]:
-        """The links and nodes of the primary's hop to a router: the link, its far node and, after a LAN, both again."""
+        """The links and nodes of the primary's hop to a router: the link, its far node and, after a LAN, both
+        again."""
         line, ways = self.lines[to], self.ways
         first = next(
             bond

@@ -1,5 +1,5 @@
-"""What a router installs: that packets over the printed routes arrive wherever `mrt` says so, in a model of the kernels and
-over random networks; and the words of the script."""
+"""What a router installs: that packets over the printed routes arrive wherever `mrt` says so, in a model of the
+kernels and over random networks; and the words of the script."""
 import json
 import os
 import re
@@ -170,11 +170,11 @@ class Arrival(unittest.TestCase):
 
     def test_random_networks(self) -> None:
         random = Random(54)
-        self.assertGreater(sum(self.check(random_plan(random, 3)) for _ in range(5)), 10)
+        self.assertGreater(sum(self.check(random_plan(random, 3)) for _ in range(4)), 8)
 
     def test_beside_daemons_that_lost_next_hops_of_equal_cost(self) -> None:
         random = Random(64)
-        for _ in range(4):
+        for _ in range(3):
             self.check(random_plan(random, 1), random)
 
 
@@ -251,7 +251,7 @@ class CustomersOfTwoRouters(unittest.TestCase):
 
     def test_random_networks(self) -> None:
         random, seen = Random(7), 0
-        while seen < 3:
+        while seen < 2:
             plan = random_plan(random, 1)
             owners = random.sample(plan.routers, 2)
             stubs = {router: [("203.0.113.0", "255.255.255.0", 3, random.randint(1, 9))] for router in owners}
