@@ -155,10 +155,6 @@ class Prefixes:
         inside = [node for node in self.nearest(self.ways.certificate.root, owners) if node in self.members]
         if not near or not inside:
             return None, "left out, no router of the island has it"
-        if owners.keys() == {self.ways.router}:
-            return None, "its own"
-        if near[0] not in self.members:
-            return None, f"left out, its nearest router {near[0].text} is outside the island"
         if len(inside) > 1:
             try:
                 proxied = Proxied(self.ways, (inside[0], inside[1]))
@@ -166,11 +162,18 @@ class Prefixes:
             except ToolFault as fault:
                 if fault.status != NO_COMMON_BLOCK:
                     raise
-        if inside[0] == self.ways.router:
-            return None, "its own"
-        if near[0] != inside[0]:
-            return None, f"left out, {inside[0].text} has it on colors and {near[0].text} is nearer"
-        return entry_of(prefix.text, self.routes[inside[0]]), f"by {inside[0].text}"
+        return self.of_one(prefix, near[0], inside[0])
+
+    def of_one(self, prefix: Prefix, nearest: Node, owner: Node) -> tuple[Entry, str]:
+        """By the rows for one router. Where another one is nearer, packets on a color still go on to this one."""
+        if owner == self.ways.router:
+            return Entry(prefix.text, None, None, [], [None, None]), "its own"
+        if nearest == owner:
+            return entry_of(prefix.text, self.routes[owner]), f"by {owner.text}"
+        primary = self.routes[nearest].primary if nearest in self.routes else None
+        rows = list(self.routes[owner].rows)
+        told = f"by {owner.text} on colors, without a repair, as {nearest.text} is nearer"
+        return Entry(prefix.text, primary, None, [], rows), told
 
     def of_two(self, prefix: Prefix, nearest: Node, proxied: Proxied) -> Entry:
         """By the rows for a prefix of two routers. Where the router itself has it, a repair is for its own port to
@@ -179,6 +182,8 @@ class Prefixes:
         if nearest == self.ways.router or None in rows:
             others = [(FOR_PORT, color, hop) for color, hop in enumerate(rows) if hop is not None]
             return Entry(prefix.text, None, None, others[:1], rows)
+        if nearest not in self.routes:
+            return Entry(prefix.text, None, None, [], rows)
         route = self.routes[nearest]
         elements = self.elements(nearest)
         colors = [(FOR_WORD, proxied.color_past(elements[:1:-1])), (FOR_PORT, proxied.color_past(elements[1::-1]))]

@@ -246,31 +246,43 @@ class Customer:
 
 
 @unittest.skipUnless(os.path.exists(MRT), "the program is not built")
-class CustomersOfTwoRouters(unittest.TestCase):
-    """A packet to a prefix of two routers of one block arrives wherever there is a way, whatever one thing failed."""
+class Customers(unittest.TestCase):
+    """A packet to a prefix of one router, or of two of one block, arrives wherever there is a way, whatever one thing
+    failed."""
 
-    def test_random_networks(self) -> None:
+    def customer(self, plan: Plan, owners: list[int], random: Random) -> Customer:
+        stubs = {router: [("203.0.113.0", "255.255.255.0", 3, random.randint(1, 9))] for router in owners}
+        with tempfile.NamedTemporaryFile() as file:
+            file.write(lsas_of(plan, stubs))
+            file.flush()
+            mrt = Program(MRT, file.name, "-")
+            return Customer(plan, owners, mrt, list(lsas.split(lsas_of(plan, stubs))))
+
+    def check(self, plan: Plan, customer: Customer) -> None:
+        none = Failure("none", "", [], 0, [])
+        cuts = [(none, one) for one in customer.owners]
+        for failure, cut in [(each, 0) for each in failing.failures(plan)] + cuts:
+            for source in set(plan.routers) - {failure.router}:
+                wanted = customer.reaches(source, failure, cut)
+                self.assertEqual(
+                    customer.arrives(source, failure, cut), wanted, (plan, customer.owners, failure, cut)
+                )
+
+    def test_of_one_router(self) -> None:
+        random = Random(8)
+        for _ in range(2):
+            plan = random_plan(random, 1)
+            self.check(plan, self.customer(plan, [random.choice(plan.routers)], random))
+
+    def test_of_two_routers(self) -> None:
         random, seen = Random(7), 0
         while seen < 2:
             plan = random_plan(random, 1)
-            owners = random.sample(plan.routers, 2)
-            stubs = {router: [("203.0.113.0", "255.255.255.0", 3, random.randint(1, 9))] for router in owners}
-            with tempfile.NamedTemporaryFile() as file:
-                file.write(lsas_of(plan, stubs))
-                file.flush()
-                mrt = Program(MRT, file.name, "-")
-                customer = Customer(plan, owners, mrt, list(lsas.split(lsas_of(plan, stubs))))
-            if any(" and " not in line for line in customer.told):
-                continue
-            seen += 1
-            self.assertEqual({len(customer.told)}, {1}, customer.told)
-            none = Failure("none", "", [], 0, [])
-            for failure, cut in [(each, 0) for each in failing.failures(plan)] + [(none, one) for one in owners]:
-                for source in set(plan.routers) - {failure.router}:
-                    wanted = customer.reaches(source, failure, cut)
-                    self.assertEqual(
-                        customer.arrives(source, failure, cut), wanted, (plan, owners, failure, cut, source)
-                    )
+            customer = self.customer(plan, random.sample(plan.routers, 2), random)
+            if all(" and " in line for line in customer.told):
+                self.assertEqual(len(customer.told), 1)
+                self.check(plan, customer)
+                seen += 1
 
 
 class Owners(unittest.TestCase):
