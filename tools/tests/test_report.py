@@ -15,7 +15,7 @@ from mrttools.area import Bond, Node
 from mrttools.paths import FAR, METRIC, Graph
 from mrttools.progress import Progress
 from mrttools.program import Program
-from tests.making import DATA, MRT, TOOLS
+from tests.making import DATA, MRT, TOOLS, router_lsa
 from tests.test_cuts import name, records_of
 
 SCHEMA = os.path.join(os.path.dirname(TOOLS), "docs", "report.schema.json")
@@ -114,6 +114,30 @@ class Sample(unittest.TestCase):
         self.assertIn("<title>a &amp; b</title>", done.stdout)
         for word in ("src=", "http://", "https://", "@import"):
             self.assertNotIn(word, done.stdout.replace('xmlns="http://www.w3.org/2000/svg"', ""))
+
+
+@unittest.skipUnless(os.access(MRT, os.X_OK), "the program is not built")
+class SmallAreas(unittest.TestCase):
+    """Areas of which some part of the report has nothing to say."""
+
+    def values_of(self, records: list[bytes]) -> Any:
+        with tempfile.NamedTemporaryFile(suffix=".lsas") as file:
+            file.write(b"".join(records))
+            file.flush()
+            if shutil.which("dot"):
+                self.assertIn("</html>", run_report(file.name, "-").stdout)
+            return json.loads(run_report("--json", file.name, "-").stdout)
+
+    def test_one_router(self) -> None:
+        values = self.values_of([router_lsa(name(1), [])])
+        self.assertEqual((values["area"]["alone"], values["coverage"]["pairs"]), ([name(1)], 0))
+        self.assertEqual((values["stretch"]["metric"], values["stretch"]["worst"]), (None, []))
+
+    def test_two_islands(self) -> None:
+        values = self.values_of(records_of([(1, 2), (3, 4)], [], [10]))
+        self.assertEqual([island["root"] for island in values["area"]["islands"]], [name(2), name(4)])
+        self.assertEqual((values["area"]["pairs"], values["area"]["pairs_without_way"]), (4, 8))
+        self.assertEqual(values["mend_all"], [[name(1), name(2)], [name(3), name(4)]])
 
 
 class Written:
