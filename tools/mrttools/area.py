@@ -83,7 +83,7 @@ class Area(NamedTuple):
 
     nodes: list[Node]
     bonds: list[Bond]
-    half: list[Arc]
+    half: tuple[Arc, ...] = ()
 
 
 def node_of(text: str) -> Node:
@@ -146,7 +146,7 @@ def area_of(found: Iterable[Lsa]) -> Area:
     speaking = speakers(found)
     told = [arc for node, lsa in speaking.items() for arc in arcs_from(node, lsa)]
     ways = {(arc.tail, arc.to) for arc in told}
-    half = sorted(arc for arc in told if (arc.to, arc.tail) not in ways)
+    half = tuple(sorted(arc for arc in told if (arc.to, arc.tail) not in ways))
     return Area(sorted(speaking), bonds_of(arc for arc in told if arc.to in speaking), half)
 
 

@@ -51,14 +51,14 @@ class Edits(unittest.TestCase):
         edited.remove(f"link:{name(2)}/10.0.1.2")
         edited.remove(f"link:{name(1)}/198.51.0.1")
         found = written(edited)
-        self.assertEqual((len(found.bonds), found.half), (5, []))
+        self.assertEqual((len(found.bonds), found.half), (5, ()))
 
     def test_a_router_and_a_network_that_go(self) -> None:
         edited = draft(RING, [[1, 2, 3]])
         edited.remove(name(1))
         edited.remove("net:198.51.0.1")
         found = written(edited)
-        self.assertEqual((found.nodes, len(found.bonds), found.half), ([node(2), node(3), node(4)], 2, []))
+        self.assertEqual((found.nodes, len(found.bonds), found.half), ([node(2), node(3), node(4)], 2, ()))
 
     def test_a_metric_at_one_end(self) -> None:
         edited = draft()

@@ -144,7 +144,7 @@ class BesideAPlainSearch(unittest.TestCase):
             whole = random_area(random)
             links = cuts.mending_all(whole.nodes, whole.bonds)
             more = [Bond(min(link), max(link), 0, 0, 1, 1) for link in links]
-            mended = Area(whole.nodes, [*whole.bonds, *more], [])
+            mended = Area(whole.nodes, [*whole.bonds, *more])
             self.assertEqual(points(mended), [])
             self.assertEqual(connected(mended, None), connected(whole, None))
 
