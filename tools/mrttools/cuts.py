@@ -28,13 +28,26 @@ class Cut(NamedTuple):
 
     def is_mended_by(self, links: Iterable[Link]) -> bool:
         """Whether new links join all sides. One at the node itself does not help."""
-        side = {router: number for number, routers in enumerate(self.sides) for router in routers}
-        joined = list(range(len(self.sides)))
-        for a, b in links:
-            if a in side and b in side:
-                old, new = joined[side[a]], joined[side[b]]
-                joined = [new if each == old else each for each in joined]
-        return len(set(joined)) == 1
+        return are_joined(self.side_of(), len(self.sides), links)
+
+    def side_of(self) -> dict[Node, int]:
+        return {router: number for number, routers in enumerate(self.sides) for router in routers}
+
+
+def are_joined(side: dict[Node, int], count: int, links: Iterable[Link]) -> bool:
+    """Whether links join all of so many sides, each router's being told."""
+    joined = list(range(count))
+    for a, b in links:
+        if a in side and b in side:
+            old, new = joined[side[a]], joined[side[b]]
+            joined = [new if each == old else each for each in joined]
+    return len(set(joined)) == 1
+
+
+def also_mended(cuts: Sequence[Cut]) -> list[int]:
+    """How many other cuts the links that mend each cut mend too."""
+    sides = [(cut.side_of(), len(cut.sides)) for cut in cuts]
+    return [sum(are_joined(*each, cut.mends) for each in sides) - 1 for cut in cuts]
 
 
 # blocks

@@ -81,8 +81,7 @@ def area_values(found: Found) -> Values:
     }
 
 
-def cut_values(cut: Cut, all_cuts: Sequence[Cut]) -> Values:
-    also = sum(other is not cut and other.is_mended_by(cut.mends) for other in all_cuts)
+def cut_values(cut: Cut, also: int) -> Values:
     return element_values(cut.element) | {
         "pairs": cut.pairs,
         "sides": [[node.text for node in side] for side in cut.sides],
@@ -205,7 +204,7 @@ def report_values(found: Found) -> Values:
         "format": "semborui-report",
         "version": VERSION,
         "area": area_values(found),
-        "single_points": [cut_values(cut, found.cuts) for cut in found.cuts],
+        "single_points": [cut_values(*each) for each in zip(found.cuts, cuts.also_mended(found.cuts))],
         "mend_all": by_names(cuts.mending_all(found.area.nodes, found.area.bonds)),
         "not_repaired": not_repaired(found),
         "coverage": all_coverage(found.facts),

@@ -153,7 +153,8 @@ class BesideAPlainSearch(unittest.TestCase):
         for _ in range(60):
             whole = random_area(random)
             found = points(whole)
-            for cut in found[:3]:
+            for cut, also in list(zip(found, cuts.also_mended(found)))[:3]:
+                self.assertEqual(also, sum(other.is_mended_by(cut.mends) for other in found) - 1)
                 for other in found:
                     parted = {pair for pair in connected(whole, None) if other.element not in pair}
                     mended = parted <= connected(whole, other.element, cut.mends)
