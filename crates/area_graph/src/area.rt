@@ -74,6 +74,7 @@ impl Area {
         self.ids.len() as u16
     }
 
+    /// The identifier of a node.
     pub fn id(&self, s: Spot) -> NodeId
         requires { s < length self.now.ids }
         ensures { slice_get self.now.ids s ≡ Some result }
@@ -102,6 +103,7 @@ impl Area {
         row(&self.arcs, &self.starts, self.ids.len(), s)
     }
 
+    /// An arc, by its number.
     pub fn arc(&self, a: ArcNo) -> Arc
         requires { a < length self.now.arcs }
         ensures value { slice_get self.now.arcs a ≡ Some result }
@@ -110,6 +112,7 @@ impl Area {
         self.arcs[a.get() as usize]
     }
 
+    /// The bonds, by number.
     pub fn bonds(&self) -> &[Bond]
         ensures value { result.now ≡ self.now.bonds }
         ensures kept { IsArea self.now }

@@ -28,6 +28,9 @@ use std::marker::Model;
 ///
 /// The file is the one that [`read_cert`](crate::read_cert) reads from the whole stream, and the fault is the same,
 /// however the stream is cut.
+///
+/// It keeps room for all nodes once the header is there, and for all links and rows once all nodes are: with other pieces no
+/// memory is taken. No clause says with which piece `NoMemory` can come.
 #[derive(Drop)]
 pub struct CertReader {
     kept: Kept,

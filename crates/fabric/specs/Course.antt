@@ -38,6 +38,7 @@ steps_of p (event ∷ events) (answer ∷ answers) =
     if handles p event answer then steps_of p events answers + 1 else steps_of p events answers
 steps_of p events answers = 0
 
+-- whether a packet is in primary mode, whether it is on a color, whether it was lost
 abbrev pub is_primary : Mode → Bool
 is_primary Primary = true
 is_primary (Entered color) = false

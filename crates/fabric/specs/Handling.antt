@@ -1,4 +1,5 @@
--- What happens to a packet where it is handled once.
+-- What happens to a packet where it is handled once (RFC 7812, section 5, for the switch to a color; the causes of loss are
+-- this project's).
 use Rattle.std.specs.Prelude.{◌≡◌, ◌≢◌, ◌⊎◌, ℕ, List, Option, Some, None, length}
 use Rattle.area_graph.specs.Parts.{AreaParts}
 use Rattle.area_graph.specs.declared.area_types.Arc.{Arc}

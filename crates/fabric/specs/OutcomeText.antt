@@ -13,6 +13,7 @@ use Rattle.mrt_graph.specs.declared.cert.Color.{Color}
 use Rattle.mrt_graph.specs.declared.cert.Color.TheVariants.{Blue, Red}
 use Rattle.mrt_graph.specs.declared.node_id.NodeId.{NodeId}
 
+-- a color, a cause of loss, a refusal
 abbrev pub color_text : Color → List ℕ
 color_text Blue = codes "blue"
 color_text Red = codes "red"

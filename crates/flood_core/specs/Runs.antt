@@ -1,4 +1,5 @@
--- Runs of deliveries, and what they bring to a router.
+-- Runs of deliveries, and what they bring to a router. A packet that is sent on may be delivered to any router, at any
+-- time, or never.
 use Rattle.std.specs.Prelude.{◌≡◌, ◌<◌, ◌≤◌, ◌+◌, ◌++◌, ◌==◌, ◌&&◌, ◌⊎◌, ℕ, Bool, List, [], ◌∷◌, Some, None, length, slice_get, if◌then◌else◌}
 use Rattle.std.specs.List.{AllByRecursion, flat_map}
 use Rattle.std.specs.Option.{option_map_or}

@@ -1,4 +1,4 @@
--- Link State Update packets without a fault.
+-- Link State Update packets without a fault (RFC 2328, section A.3.5).
 use Rattle.std.specs.Prelude.{◌≡◌, ◌≤◌, ◌+◌, ℕ, List, [], ◌∷◌, length, map, drop}
 use Rattle.ospf_lsa.specs.declared.lsa.Lsa.{Lsa}
 use Rattle.ospf_lsa.specs.Lsas.{AreLsas}

@@ -1,4 +1,4 @@
--- The common block of two nodes.
+-- The common block of two nodes (RFC 7811, section 4.4).
 use Rattle.std.specs.Prelude.{◌≡◌, ℕ, List, Some}
 use Rattle.mrt_graph.specs.declared.gadag.Place.{Place}
 use Rattle.mrt_graph.specs.GadagWords.{block_at, head_at}

@@ -1,4 +1,4 @@
--- Ears.
+-- Ears (RFC 7811, sections 4.2 and 5.5).
 use Rattle.std.specs.Prelude.{◌≡◌, ℕ, List, [], ◌∷◌, Option, Some, Contains}
 use Rattle.std.specs.Option.{option_and_then}
 use Rattle.mrt_graph.specs.declared.link.End.{End}
@@ -21,6 +21,7 @@ pub record Ear : Type 0 where
   pub others : List ℕ
   pub stop : ℕ
 
+-- its new nodes
 abbrev pub new_nodes : Ear → List ℕ
 new_nodes ear = ear.first ∷ ear.others
 

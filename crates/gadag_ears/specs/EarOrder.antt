@@ -1,4 +1,4 @@
--- The order of the ears' nodes.
+-- The order of the ears' nodes (RFC 7811, section 5.5).
 use Rattle.std.specs.Prelude.{◌≡◌, ◌++◌, ℕ, List, [], ◌∷◌}
 use Rattle.mrt_graph.specs.declared.tree.TreeNode.{TreeNode}
 use Rattle.mrt_graph.specs.Topology.{Topology}

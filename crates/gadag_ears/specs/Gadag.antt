@@ -1,4 +1,4 @@
--- The GADAG of a graph.
+-- The GADAG of a graph (RFC 7811, section 5.5).
 use Rattle.std.specs.Prelude.{◌≡◌, ℕ, List, length}
 use Rattle.mrt_graph.specs.declared.tree.TreeNode.{TreeNode}
 use Rattle.mrt_graph.specs.GadagLists.{GadagLists}

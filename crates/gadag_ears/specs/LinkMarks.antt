@@ -1,4 +1,4 @@
--- Directions, roles and blocks of links, read off the ears.
+-- Directions (RFC 7811, section 5.5), roles and blocks (section 4.4) of links, read off the ears.
 use Rattle.std.specs.Prelude.{◌≡◌, ◌≢◌, ◌<◌, ℕ, List, Some, Contains, length}
 use Rattle.mrt_graph.specs.declared.cert.Role.TheVariants.{Plain, Sole, Closing}
 use Rattle.mrt_graph.specs.declared.gadag.Mark.{Mark}

@@ -1,4 +1,4 @@
--- The block that two nodes have in common.
+-- The block that two nodes have in common (RFC 7811, section 4.4).
 use Rattle.std.specs.Prelude.{◌≡◌, ℕ}
 use Rattle.link_direction.specs.Directions.{Directions}
 

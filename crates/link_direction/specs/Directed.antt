@@ -1,4 +1,4 @@
--- The order of a GADAG and the direction of every link.
+-- The order of a GADAG and the direction of every link (RFC 7811, section 5.6).
 use Rattle.std.specs.Prelude.{◌≡◌, ◌<◌, ◌+◌, ℕ, List, Some, length, slice_get}
 use Rattle.mrt_graph.specs.declared.gadag.Mark.{Mark}
 use Rattle.mrt_graph.specs.declared.gadag.Way.TheVariants.{Unset}

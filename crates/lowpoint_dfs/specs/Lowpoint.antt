@@ -1,4 +1,4 @@
--- Lowpoints.
+-- Lowpoints (RFC 7811, section 4.3) and their links (section 5.5).
 use Rattle.std.specs.Prelude.{◌≡◌, ◌<◌, ◌≤◌, ◌⊎◌, ◌==◌, ℕ, Bool, false, List, Option, Some, None, slice_get, if◌then◌else◌}
 use Rattle.std.specs.Option.{option_map_or}
 use Rattle.mrt_graph.specs.declared.link.End.{End}

@@ -1,4 +1,5 @@
--- The order of a depth-first search: in which order it finds the nodes, and over which links.
+-- The order of a depth-first search: in which order it finds the nodes, and over which links (RFC 7811, sections 4.3 and
+-- 5.5).
 use Rattle.std.specs.Prelude.{◌≡◌, ◌<◌, ◌+◌, ◌++◌, ℕ, List, [], ◌∷◌, Some, None, Contains, length, slice_get}
 use Rattle.mrt_graph.specs.declared.link.End.{End}
 use Rattle.mrt_graph.specs.declared.tree.TreeNode.{TreeNode}

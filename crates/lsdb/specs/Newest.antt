@@ -1,4 +1,4 @@
--- The newest instances of an LSA, and whether they agree.
+-- The newest instances of an LSA (RFC 2328, section 13.1), and whether they agree.
 use Rattle.std.specs.Prelude.{◌≡◌, Bool, true, false, not, ◌&&◌, ◌==◌, List, nat_eq}
 use Rattle.std.specs.Cmp.Lexicographic.{pointwise}
 use Rattle.std.specs.Ordering.{int_eq}

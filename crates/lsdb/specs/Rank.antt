@@ -1,4 +1,6 @@
--- Which of two instances of an LSA is newer (RFC 2328, section 13.1).
+-- Which of two instances of an LSA is newer (RFC 2328, section 13.1, without its last rule: of two whose ages are more than
+-- 15 minutes apart the younger would be newer. A file has no time at which its ages were read, so here the two are of one
+-- rank, and are alike or in conflict).
 use Rattle.std.specs.Prelude.{Bool}
 use Rattle.std.specs.Ordering.{int_cmp, nat_cmp, bool_cmp, ordering_then, is_gt}
 use Rattle.std.specs.declared.cmp.Ordering.{Ordering}

@@ -14,6 +14,7 @@ pub struct Key {
 }
 
 impl Key {
+    /// The key of an LSA.
     pub fn of(lsa: &Lsa) -> Key
         ensures { result ≡ key_of lsa.now }
     {

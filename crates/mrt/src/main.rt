@@ -1,4 +1,5 @@
-//! The program: the machine's files and streams, the arguments as words, and the exit's status.
+//! The program: the machine's files and streams, the arguments as words, and the exit's status. `main` has no contract:
+//! one stored run tests it.
 #![tactic(auto)]
 
 ghost use Rattle.std.specs.Prelude.{◌≡◌, Err, IfErr, IfOk};

@@ -1,4 +1,4 @@
--- Tests of two things that hold only where both are there.
+-- Tests of two things that hold only where both are there: what is missing or out of range fails a rule, and never passes it.
 use Rattle.std.specs.Prelude.{◌==◌, ℕ, Bool, false, Option, not, nat_lt}
 use Rattle.std.specs.Option.{option_map_or}
 

@@ -14,6 +14,7 @@ links_followed next t (suc most) s =
     if s == t then [] else option_map_or (λ hop. hop.link ∷ links_followed next t most hop.to) (next s) []
 
 -- the color walk from s to t among n nodes: the links that it goes over, each from the row, for t, of the node where
--- the packet is; it stops at t, at a node that the link of its row does not touch, or after n links
+-- the packet is; it stops at t, at a node that the link of its row does not touch, or after n links;
+-- so it need not arrive
 abbrev pub color_walk : List Link → ℕ → Rows → Color → ℕ → ℕ → List ℕ
 color_walk links n rows color s t = links_followed (color_hop links rows color t) t n s

@@ -78,7 +78,8 @@ above_row c s t row blue_to red_to =
     && ((red_to == t) || lower_tagged c s t Above red_to)))
 
 -- Unordered: s and t have one block; blue leads to a node of smaller order whose row for t is Unordered or Below, or is
--- plain and leads to the head of s; red leads to a node of greater order whose row for t is Unordered or Above
+-- plain and leads to the head of s; red leads to a node of greater order whose row for t is Unordered or Above; t has no
+-- row for itself, so neither leads straight to t
 abbrev pub unordered_row : Certificate → ℕ → ℕ → Row → ℕ → ℕ → Bool
 unordered_row c s t row blue_to red_to =
     are_equal (block_of c s) (block_of c t)
@@ -128,7 +129,7 @@ lies_in_block c s t row =
     is_common_block c s t (link_block c row.blue) && is_common_block c s t (link_block c row.red)
 
 -- the fourteenth rule, at s and t: s has a row for t, unless it is t, and unless it is Carried, both its links lie in
--- the common block of s and t
+-- the common block of s and t. It follows from rules 1, 3, 4 and 7 to 13, so it is never the first to fail
 abbrev pub rows_in_block : Certificate → ℕ → ℕ → Bool
 rows_in_block c s t =
     (s == t)

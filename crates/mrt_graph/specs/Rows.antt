@@ -4,7 +4,8 @@ use Rattle.mrt_graph.specs.declared.cert.Color.{Color}
 use Rattle.mrt_graph.specs.declared.cert.Color.TheVariants.{Blue, Red}
 use Rattle.mrt_graph.specs.declared.cert.Row.{Row}
 
--- rows: for a node and a destination other than it, the row of the one for the other
+-- rows: for a node and a destination other than it, the row of the one for the other, if there is one; those of a
+-- certificate or any others
 abbrev pub Rows : Type 0
 Rows = ℕ → ℕ → Option Row
 

@@ -12,6 +12,6 @@ pub record SoundFor (links : List Link) (n : ℕ) (rows : Rows) (s t : ℕ) : Ty
   pub red : Reaches links n rows Red s t
   pub apart : Apart links n rows s t
 
--- the rows of n nodes on these links are sound: they are so for each two different nodes
+-- the rows of n nodes on these links, whoever made them, are sound: they are so for each two different nodes
 abbrev pub Sound : List Link → ℕ → Rows → Type 0
 Sound links n rows = (s t : ℕ) → s < n → t < n → s ≢ t → SoundFor links n rows s t

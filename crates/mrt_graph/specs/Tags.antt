@@ -1,4 +1,4 @@
--- Which tag a row has.
+-- Which tag a row has. The tags are this project's; the next hops that they stand for are those of RFC 7811, section 5.7.
 use Rattle.std.specs.Prelude.{◌==◌, ℕ, Bool}
 use Rattle.mrt_graph.specs.declared.cert.Tag.{Tag}
 use Rattle.mrt_graph.specs.declared.cert.Tag.TheVariants.{Sole, Head, Top, Below, Above, Unordered, Carried}

@@ -1,4 +1,4 @@
--- What a graph holds.
+-- What a graph holds (RFC 2328, section 2.1).
 use Rattle.std.specs.Prelude.{List}
 use Rattle.mrt_graph.specs.declared.link.End.{End}
 use Rattle.mrt_graph.specs.declared.link.Link.{Link}

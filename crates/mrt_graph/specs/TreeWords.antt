@@ -1,4 +1,4 @@
--- What a search tree says of a node. A node that is not there has number 0, which is no node's number.
+-- What a search tree says of a node (RFC 7811, section 4.3). A node that is not there has number 0, which is no node's number.
 use Rattle.std.specs.Prelude.{ℕ, List, Option, slice_get}
 use Rattle.std.specs.Option.{option_and_then, option_map_or}
 use Rattle.mrt_graph.specs.declared.tree.TreeNode.{TreeNode}

@@ -110,6 +110,7 @@ impl Cert {
         Cert { nodes, links, rows }
     }
 
+    /// How many nodes it has.
     pub fn node_count(&self) -> u16
         ensures count { result ≡ length self.now.nodes }
         ensures kept { IsCertificate self.now }
@@ -117,6 +118,7 @@ impl Cert {
         self.nodes.len() as u16
     }
 
+    /// How many links it has.
     pub fn link_count(&self) -> u16
         ensures count { result ≡ length self.now.links }
         ensures kept { IsCertificate self.now }
@@ -145,6 +147,7 @@ impl Cert {
         &self.rows
     }
 
+    /// What it says of a node.
     pub fn node(&self, n: NodeNo) -> CertNode
         requires { n < length self.now.nodes }
         ensures value { slice_get self.now.nodes n ≡ Some result }
@@ -153,6 +156,7 @@ impl Cert {
         self.nodes[n.get() as usize]
     }
 
+    /// What it says of a link.
     pub fn link(&self, e: LinkNo) -> CertLink
         requires { e < length self.now.links }
         ensures value { slice_get self.now.links e ≡ Some result }

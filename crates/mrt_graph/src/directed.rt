@@ -36,6 +36,7 @@ impl Directed {
         }
     }
 
+    /// A node's order number.
     pub fn order(&self, n: NodeNo) -> u16
         requires { n < length self.now.orders }
         ensures { slice_get self.now.orders n ≡ Some result }
@@ -43,6 +44,7 @@ impl Directed {
         self.orders[n.get() as usize]
     }
 
+    /// A node's head and block.
     pub fn place(&self, n: NodeNo) -> Place
         requires { n < length self.now.places }
         ensures { slice_get self.now.places n ≡ Some result }
@@ -50,6 +52,7 @@ impl Directed {
         self.places[n.get() as usize]
     }
 
+    /// A link's direction, role and block.
     pub fn mark(&self, e: LinkNo) -> Mark
         requires { e < length self.now.marks }
         ensures { slice_get self.now.marks e ≡ Some result }

@@ -65,6 +65,7 @@ impl Gadag {
         &self.order
     }
 
+    /// A node's head and block.
     pub fn place(&self, n: NodeNo) -> Place
         requires { n < length self.now.places }
         ensures { slice_get self.now.places n ≡ Some result }
@@ -72,6 +73,7 @@ impl Gadag {
         self.places[n.get() as usize]
     }
 
+    /// A link's direction, role and block.
     pub fn mark(&self, e: LinkNo) -> Mark
         requires { e < length self.now.marks }
         ensures { slice_get self.now.marks e ≡ Some result }

@@ -92,6 +92,7 @@ impl Graph {
         Ok(Graph { ids, links, ends })
     }
 
+    /// How many nodes it has. What each graph keeps is told with it.
     pub fn node_count(&self) -> u16
         ensures count { result ≡ length self.now.ids }
         ensures kept { IsTopology self.now }
@@ -99,6 +100,7 @@ impl Graph {
         self.ids.len() as u16
     }
 
+    /// How many links it has.
     pub fn link_count(&self) -> u16
         ensures count { result ≡ length self.now.links }
         ensures kept { IsTopology self.now }
@@ -106,6 +108,7 @@ impl Graph {
         self.links.len() as u16
     }
 
+    /// The identifier of a node.
     pub fn id(&self, n: NodeNo) -> NodeId
         requires { n < length self.now.ids }
         ensures { slice_get self.now.ids n ≡ Some result }
@@ -113,6 +116,7 @@ impl Graph {
         self.ids[n.get() as usize]
     }
 
+    /// The two nodes of a link.
     pub fn link(&self, e: LinkNo) -> Link
         requires { e < length self.now.links }
         ensures value { slice_get self.now.links e ≡ Some result }

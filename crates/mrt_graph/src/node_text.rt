@@ -25,6 +25,7 @@ impl Model for NodeText {
 impl NodeText {
     ghost use Rattle.mrt_graph.specs.Spelling.{node_text};
 
+    /// The name of a node.
     pub fn new(id: NodeId) -> NodeText
         ensures { result ≡ node_text id }
     {
@@ -33,6 +34,7 @@ impl NodeText {
         NodeText { text }
     }
 
+    /// Its bytes, at most 19.
     pub fn bytes(&self) -> &[u8]
         ensures value { result.now ≡ self.now }
         ensures short { length result.now ≤ 19 }

@@ -35,6 +35,7 @@ impl<T> Seq<T> {
         self.items
     }
 
+    /// The elements.
     pub fn as_slice(&self) -> &[T]
         ensures { result.now ≡ self.now }
     {

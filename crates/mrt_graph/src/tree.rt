@@ -38,6 +38,7 @@ impl Tree {
         Tree { nodes }
     }
 
+    /// What it says of a node.
     pub fn node(&self, n: NodeNo) -> TreeNode
         requires { n < length self.now }
         ensures { slice_get self.now n ≡ Some result }

@@ -11,7 +11,8 @@ use std::{fs, io, str};
 /// How many bytes one call of the system asks for at most.
 const PIECE: usize = 65536;
 
-/// The machine's files. A name is a path, and what it holds is not told.
+/// The machine's files. A name is a path, and what it holds is not told; it counts as never healthy. So no clause says
+/// what is read: tests do.
 #[derive(Drop)]
 pub struct FileShelf<'a, R: Files> {
     rt: &'a R,

@@ -61,6 +61,7 @@ impl MemSink {
         })
     }
 
+    /// The bytes that were put.
     pub fn bytes(&self) -> &[u8]
         ensures { result.now ≡ self.now.bytes }
     {

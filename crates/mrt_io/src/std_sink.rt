@@ -3,7 +3,8 @@ ghost use Rattle.std.specs.Prelude.{◌≤◌, ◌<◌, ◌^◌, IfOk, length};
 use crate::device::{PutFailed, Sink};
 use std::io::{ErrorKind, Write};
 
-/// A stream of the machine, as standard output or standard error. What was written to it is not told.
+/// A stream of the machine, as standard output or standard error. What was written to it is not told, and it counts as
+/// never healthy. So no clause says what is written: tests do.
 #[derive(Drop)]
 pub struct StdSink<W: Write + Drop> {
     writer: W,

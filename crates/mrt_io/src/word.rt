@@ -30,6 +30,7 @@ impl Word {
         })
     }
 
+    /// Its bytes.
     pub fn bytes(&self) -> &[u8]
         ensures { result.now ≡ self.now }
     {

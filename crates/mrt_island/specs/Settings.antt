@@ -1,4 +1,4 @@
--- What the settings of a profile say of a router.
+-- What the settings of a profile say of a router (RFC 7812, section 8).
 use Rattle.std.specs.Prelude.{ℕ, Bool, false, not, ◌==◌, ◌&&◌, List, [], ◌∷◌, Option, Some, None, if◌then◌else◌}
 use Rattle.std.specs.List.{list_any}
 use Rattle.std.specs.Option.{unwrap_or}

@@ -1,4 +1,5 @@
--- The color that repairs a failure, by the order of the GADAG and the paths of the source alone.
+-- The color that repairs a failure, by the order of the GADAG and the paths of the source alone. The rules are this
+-- project's.
 use Rattle.std.specs.Prelude.{◌≡◌, ◌≢◌, ◌<◌, ◌≤◌, ◌⊎◌, ℕ, Option, Some, length}
 use Rattle.mrt_graph.specs.declared.cert.Color.{Color}
 use Rattle.mrt_graph.specs.declared.cert.Color.TheVariants.{Blue, Red}

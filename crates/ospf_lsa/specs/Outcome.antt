@@ -1,4 +1,4 @@
--- What reading a database comes to.
+-- What reading a database comes to. One record with a fault refuses all of it: no part is used without the rest.
 use Rattle.std.specs.Prelude.{◌≡◌, ◌⊎◌, ◌<◌, ℕ, List, length, take, drop, Result, Ok, Err}
 use Rattle.std.specs.declared.alloc.Global.{Global}
 use Rattle.std.specs.declared.vec.Vec.{Vec}

@@ -1,4 +1,4 @@
--- LSAs as they are written.
+-- LSAs as they are written, with a fresh checksum (RFC 905, annex B).
 use Rattle.std.specs.Prelude.{◌≡◌, ◌≢◌, ◌≤◌, ◌^◌, ℕ, length}
 use Rattle.std.specs.Int.{w32, cast_signed}
 use Rattle.std.specs.List.{AllByRecursion}

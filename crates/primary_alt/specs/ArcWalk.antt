@@ -1,4 +1,4 @@
--- Walks along the arcs of an area.
+-- Walks along the arcs of an area (RFC 2328, section 16.1).
 use Rattle.std.specs.Prelude.{◌≡◌, ◌+◌, ℕ, List, [], ◌∷◌, Contains}
 use Rattle.area_graph.specs.declared.area_types.Arc.{Arc}
 

@@ -1,4 +1,4 @@
--- Distances in an area.
+-- Distances in an area (RFC 2328, section 16.1).
 use Rattle.std.specs.Prelude.{◌≡◌, ◌≤◌, ℕ, List}
 use Rattle.area_graph.specs.declared.area_types.Arc.{Arc}
 use Rattle.primary_alt.specs.ArcWalk.{ArcWalk, cost_of}

@@ -24,13 +24,14 @@ abbrev pub link_out : Topology → Attachment → ℕ → Out → ℕ
 link_out g at s (outs.Link e) = e
 link_out g at s outs.Attached = if s == at.lower then length g.links else length g.links + 1
 
--- rows in the graph with the new node that give each node of the graph these rows for it
+-- rows in the graph with the new node give node s this row for it
 pub record IsRowWith (g : Topology) (at : Attachment) (rows : Rows) (s : ℕ) (entry : ProxyRow) : Type 0 where
   pub row : Row
   pub there : rows s (new_node g) ≡ Some row
   pub blue : row.blue ≡ link_out g at s entry.blue
   pub red : row.red ≡ link_out g at s entry.red
 
+-- and each node of the graph these
 abbrev pub AreRowsWith : Topology → Attachment → List ProxyRow → Rows → Type 0
 AreRowsWith g at entries rows =
     (s : ℕ) (entry : ProxyRow) → slice_get entries s ≡ Some entry → IsRowWith g at rows s entry
