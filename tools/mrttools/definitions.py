@@ -9,13 +9,14 @@ from __future__ import annotations
 import os
 import re
 from dataclasses import dataclass, field
-from typing import Iterable, NamedTuple
+from typing import Dict, Iterable, Iterator, NamedTuple, Tuple
 
 HEAD = re.compile(r"^(?:abbrev pub|unfoldable pub|pub record|pub data|abbrev|record|data) ([^\s:({]+)")
 USE = re.compile(r"^use Rattle\.(\w+)\.specs\.([\w.]+?)(?:\.\{([^}]*)\}| as (\w+))$")
 MEMBER = re.compile(r"^  (?:pub )?([^\s:]+) :")
 TYPE = re.compile(r"^(?:pub(?:\(crate\))? )?(?:struct|enum) (\w+)")
-WORD = re.compile(r"[A-Za-z_][\w']*")
+Used = Dict[str, Tuple[str, str, str]]
+WORD = re.compile(r"(?:([A-Za-z_][\w']*)\.)?([A-Za-z_][\w']*)")
 
 
 class Name(NamedTuple):
@@ -31,42 +32,68 @@ class Name(NamedTuple):
 
 @dataclass
 class Module:
-    """The definitions of a file by name, with the number of the first line and the lines; what each other word names."""
+    """The definitions of a file by name, with the number of the first line, the lines without comments, the comment over
+    each and the whole text; what each other word names; and the comment at the top."""
 
     lines: dict[str, list[str]] = field(default_factory=dict)
     first: dict[str, int] = field(default_factory=dict)
     owner: dict[str, str] = field(default_factory=dict)
-    used: dict[str, tuple[str, str, str]] = field(default_factory=dict)
+    used: Used = field(default_factory=dict)
+    about: dict[str, list[str]] = field(default_factory=dict)
+    whole: dict[str, list[str]] = field(default_factory=dict)
+    head: list[str] = field(default_factory=list)
 
 
 class Missing(Exception):
     """A definition that is not there."""
 
 
-def uses(line: str) -> dict[str, tuple[str, str, str]]:
-    """What the words of a `use` name: a crate, a module, and a name there."""
+def uses(line: str) -> Used:
+    """What the words of a `use` name: a crate, a module, and a name there, none where the module itself is named."""
     said = USE.match(line)
     if said is None or said[1] == "std":
         return {}
     crate, module, names, alias = said.groups()
     if alias is not None:
-        return {alias: (crate, module, module.split(".")[-1])}
+        return {alias: (crate, module, module.split(".")[-1] if module.startswith("declared.") else "")}
     pairs = [name.strip().split(" as ") for name in names.split(",") if name.strip()]
     return {pair[-1].strip(): (crate, module, pair[0].strip()) for pair in pairs}
 
 
+def joined(lines: Iterable[str]) -> Iterator[str]:
+    """Lines, of which those that name things in braces over several lines are made one."""
+    said = ""
+    for line in lines:
+        said = f"{said}{line.strip()} " if said else line
+        if "use Rattle." not in said or "{" not in said or "}" in said:
+            yield said.rstrip()
+            said = ""
+
+
+def comment_over(lines: list[str], number: int, mark: str) -> list[str]:
+    """The comment that ends right above the line of this number, without attributes."""
+    top = number - 1
+    while top and lines[top - 1].lstrip().startswith((mark, "#[")):
+        top -= 1
+    return [line.strip()[len(mark) :].strip() for line in lines[top : number - 1] if mark in line]
+
+
 def read_specs(text: str) -> Module:
     """A file of specs."""
-    module, name = Module(), ""
-    for number, line in enumerate(text.splitlines(), 1):
+    module, name, lines = Module(), "", text.splitlines()
+    module.head = comment_over(lines, next(n for n, line in enumerate(lines, 1) if not line.startswith("--")), "--")
+    for line in joined(lines):
+        module.used.update(uses(line))
+    for number, line in enumerate(lines, 1):
         head = HEAD.match(line)
-        if line.startswith("use "):
-            module.used.update(uses(line))
-        elif head is not None:
+        if head is not None:
             name = head[1]
             module.lines[name], module.first[name], module.owner[name] = [line], number, name
-        elif name and line.strip() and not line.lstrip().startswith("--"):
-            module.lines[name].append(line)
+            module.about[name], module.whole[name] = comment_over(lines, number, "--"), [line]
+        elif name and line.strip() and not line.startswith(("--", "use ")):
+            module.whole[name].append(line)
+            if not line.lstrip().startswith("--"):
+                module.lines[name].append(line)
             member = MEMBER.match(line)
             if member is not None and not module.lines[name][0].startswith(("abbrev", "unfoldable")):
                 module.owner.setdefault(member[1], name)
@@ -75,13 +102,15 @@ def read_specs(text: str) -> Module:
 
 def read_types(text: str) -> Module:
     """The types of a file of a crate's text, without the comments and attributes of their members."""
-    module, name = Module(), ""
-    for number, line in enumerate(text.splitlines(), 1):
+    module, name, lines = Module(), "", text.splitlines()
+    for number, line in enumerate(lines, 1):
         head = TYPE.match(line)
         if head is not None:
             name = head[1]
             module.lines[name], module.first[name], module.owner[name] = [], number, name
+            module.about[name], module.whole[name] = comment_over(lines, number, "///"), []
         if name:
+            module.whole[name].append(line)
             if not line.lstrip().startswith(("//", "#")):
                 module.lines[name].append(line)
             if line.startswith("}") or line.endswith(";") and len(module.lines[name]) == 1:
@@ -124,24 +153,29 @@ class Library:
         owner = found.owner.get(name) if found is not None else None
         return Name(crate, module, owner) if owner is not None else None
 
-    def named(self, name: Name, word: str) -> Name | None:
-        """What a word in the text of a definition names, if anything of the crates."""
-        module = self.module(name)
-        if name.module.startswith("src/"):
-            return self.types[name.crate].get(word) or self.types["mrt_graph"].get(word)
-        if word in module.used:
-            crate, place, there = module.used[word]
-            found = self.find(crate, place, there)
-            if found is None and crate in self.types:
-                raise Missing(f"{name}: no {crate} {place} {there}")
-            return found
-        owner = module.lines.get(word)
-        return Name(name.crate, name.module, word) if owner is not None else None
+    def given(self, used: Used, text: str) -> Iterator[tuple[str, Name | None]]:
+        """The words of a text, each with what it names by a `use`, also as a member of a module that is named."""
+        for before, word in WORD.findall(text):
+            crate, place, there = used.get(before, ("", "", "none"))
+            if not there:
+                yield "", self.sure(crate, place, word)
+                continue
+            for each in (before, word):
+                yield each, self.sure(*used[each]) if each in used and used[each][2] else None
+
+    def sure(self, crate: str, module: str, name: str) -> Name | None:
+        found = self.find(crate, module, name)
+        if found is None and crate in self.types:
+            raise Missing(f"no {crate} {module} {name}")
+        return found
 
     def under(self, name: Name) -> list[Name]:
         """What a definition stands on, in the order in which it names it."""
-        text = "\n".join(self.module(name).lines[name.name])
-        found = [self.named(name, word) for word in WORD.findall(text)]
+        module, found = self.module(name), []
+        types = self.types["mrt_graph"] | self.types[name.crate] if name.module.startswith("src/") else {}
+        for word, given in self.given(module.used, "\n".join(module.lines[name.name])):
+            own = Name(name.crate, name.module, word) if word in module.lines else None
+            found.append(given or types.get(word) or own)
         return list(dict.fromkeys(each for each in found if each is not None and each != name))
 
     def length(self, name: Name) -> int:
