@@ -2,6 +2,7 @@
 contracts stand on."""
 from __future__ import annotations
 
+import itertools
 import os
 import re
 import textwrap
@@ -63,7 +64,8 @@ def filled(text: str, indent: str = "") -> str:
 
 def summary(part: Part) -> str:
     """The first paragraph of its comment, without the links that `rustdoc` knows."""
-    return re.sub(r"\[(`[^`]*`)\](\([^)]*\))?", r"\1", part.summary)
+    lines = itertools.takewhile(bool, part.about)
+    return re.sub(r"\[(`[^`]*`)\](\([^)]*\))?", r"\1", " ".join(lines))
 
 
 def contents(root: str, crates: set[str]) -> Iterator[str]:
@@ -78,36 +80,38 @@ def link(part: Part) -> str:
     return f"[`{part.name}`](../crates/{part.crate}/src/{part.file}.rt)"
 
 
-def entry(part: Part) -> str:
-    """A function, or what an impl gives to its trait, as its source says it."""
-    said = filled(f"**{link(part)}** {summary(part)}".rstrip())
-    lines = "\n".join(part.lines).removesuffix(" {")
+def entry(parts: list[Part]) -> str:
+    """A function, or what a trait asks for or impls give, as the source says it."""
+    said = filled(f"**{link(parts[0])}** {summary(parts[0])}".rstrip())
+    lines = "\n".join(line for part in parts for line in part.lines).removesuffix(" {")
     return f"{said}\n\n```rust\n{lines}\n```\n"
 
 
 def types(crate: Crate) -> Iterator[str]:
-    """The types and traits of a crate, with what contracts see of each."""
-    for part in crate.types:
+    """The types of a crate, with what contracts see of each."""
+    traits = traits_of([crate])
+    for part in (part for part in crate.types if part.name not in traits):
         seen = f" Seen as `{crate.seen[part.name]}`." if part.name in crate.seen else ""
         yield filled(f"- {link(part)}: {summary(part)}{seen}", "  ")
 
 
 def is_told(part: Part, traits: set[str], library: Library) -> bool:
     """Whether an impl tells more than that a type is compared, or stands for want of memory."""
-    trait = part.name.split(": ")[-1]
-    return trait in traits or any(not name.module.startswith("src/") for name in part.under(library))
+    own = not part.trait or part.trait in traits
+    return own or any(not name.module.startswith("src/") for name in part.under(library))
 
 
 def clauses_of(crate: Crate, traits: set[str], library: Library) -> str:
     """The section of a crate: its types, its functions, its laws."""
     impls = [part for part in crate.impls if is_told(part, traits, library)]
     parts = sorted(impls + crate.functions, key=lambda part: (part.file, part.first))
+    alike = itertools.groupby(parts, lambda part: (part.file, part.name))
     section = [f"## {crate.name}\n", filled(" ".join(crate.about)) + "\n"]
     if crate.types:
         section.append("\n".join(types(crate)) + "\n")
-    section += [entry(part) for part in parts]
+    section += [entry(list(group)) for _, group in alike]
     if crate.laws:
-        section += ["### Laws\n"] + [entry(part) for part in crate.laws]
+        section += ["### Laws\n"] + [entry([part]) for part in crate.laws]
     return "\n".join(section)
 
 
@@ -118,7 +122,7 @@ def public(root: str) -> list[Crate]:
 
 
 def traits_of(crates: Iterable[Crate]) -> set[str]:
-    return {part.name for crate in crates for part in crate.impls if ":" not in part.name}
+    return {part.name for crate in crates for part in crate.impls if not part.trait}
 
 
 def clauses(root: str, library: Library) -> str:

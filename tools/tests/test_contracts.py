@@ -161,25 +161,22 @@ class Contracts(unittest.TestCase):
         self.assertEqual([part.name for part in self.crate.types], ["Shape"])
         self.assertEqual([part.name for part in self.crate.functions], ["Shape::count", "area"])
         self.assertEqual([part.name for part in self.crate.laws], ["one_area"])
-        self.assertEqual(
-            [(part.name, part.lines) for part in self.crate.impls], [("Shape: Far", ["ghost far = { IsArea };"])]
-        )
+        impls = [(part.name, part.trait, part.lines) for part in self.crate.impls]
+        self.assertEqual(impls, [("Shape", "Far", ["impl Far for Shape", "    ghost far = { IsArea };"])])
 
     def test_a_type_with_what_contracts_see(self) -> None:
-        self.assertEqual(self.crate.types[0].summary, "A shape. It has an area.")
+        self.assertEqual(self.crate.types[0].about, ["A shape. It has", "an area.", "", "More of it."])
         self.assertEqual(self.crate.types[0].place, "crates/one/src/shape.rt:14")
         self.assertEqual(self.crate.seen, {"Shape": "List ℕ"})
 
-    def test_clauses_with_the_comment_over_them(self) -> None:
-        said = [(each.kind, each.name, each.formula, each.comment) for each in self.crate.functions[0].clauses]
-        comment = "The count; and what it is."
+    def test_clauses(self) -> None:
         self.assertEqual(
-            said,
+            self.crate.functions[0].clauses,
             [
-                ("requires", "", "N ≡ 3", ""),
-                ("ensures", "count", "result ≡ length self.now", comment),
-                ("ensures", "kept", "IsArea (record { a = 1 }) (sides_of self.now)", comment),
-                ("ensures", "few", "Small result", ""),
+                ("", "N ≡ 3"),
+                ("count", "result ≡ length self.now"),
+                ("kept", "IsArea (record { a = 1 }) (sides_of self.now)"),
+                ("few", "Small result"),
             ],
         )
 
@@ -265,8 +262,8 @@ class Printed(unittest.TestCase):
 
     def test_no_such_name(self) -> None:
         done = told("nothing")
-        self.assertEqual(done.returncode, 1)
-        self.assertEqual(done.stderr, "clauses: no crate, public function or definition nothing\n")
+        self.assertEqual((done.returncode, done.stdout), (7, ""))
+        self.assertEqual(done.stderr, "clauses: no crate, type, public function or definition nothing\n")
 
 
 if __name__ == "__main__":

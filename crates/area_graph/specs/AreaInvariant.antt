@@ -65,7 +65,8 @@ pub record HasArcs (arcs : List Arc) (number : ℕ) (bond : Bond) : Type 0 where
   pub there : arcs_over arcs number bond.a ≡ 1
   pub back : arcs_over arcs number bond.b ≡ (if bond.paired then 1 else 0)
 
--- what each area keeps
+-- what each area keeps: at most 4,096 nodes by ascending identifier and 32,768 arcs in order; each arc is of one bond; the
+-- pairs stand first, with one arc each way, and any other bond has one arc
 pub record IsArea (area : AreaParts) : Type 0 where
   pub few_nodes : length area.ids ≤ 4096
   pub few_arcs : length area.arcs ≤ 32768

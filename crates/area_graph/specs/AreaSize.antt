@@ -3,7 +3,7 @@ use Rattle.std.specs.Prelude.{◌≡◌, ◌<◌, ◌-◌, ◌^◌, ◌⊎◌, �
 use Rattle.area_graph.specs.declared.area_error.AreaError.{AreaError}
 use Rattle.area_graph.specs.declared.area_error.AreaError.TheVariants.{TooLarge}
 
--- more nodes or arcs than an area holds
+-- more nodes or arcs than an area holds: 4,096 and 32,768
 abbrev pub IsTooLarge : ℕ → ℕ → Type 0
 IsTooLarge nodes arcs = (4096 < nodes) ⊎ (32768 < arcs)
 

@@ -10,13 +10,13 @@ use Rattle.mrt_graph.specs.declared.cert.CertFile.{CertFile}
 abbrev pub HasNumber : CertNode → Type 0
 HasNumber node = node.id.number < 2 ^ 32
 
--- of version 1: not too many nodes and links
+-- of version 1: at most 2,048 nodes and 8,192 links
 pub record IsVersionOne (f : CertFile) : Type 0 where
   pub version : f.version ≡ 1
   pub nodes : length f.cert.nodes ≤ 2048
   pub links : length f.cert.links ≤ 8192
 
--- of version 2: not too many nodes and links, and the rows that it leaves out follow from its other ones
+-- of version 2: at most 4,096 nodes and 16,384 links, and the rows that it leaves out follow from its other ones
 pub record IsVersionTwo (f : CertFile) : Type 0 where
   pub version : f.version ≡ 2
   pub nodes : length f.cert.nodes ≤ 4096

@@ -50,7 +50,11 @@ pub record IsOnWalk (parts : FabricParts) (failure : Option Failure) (packet : P
   pub failed : IsElement parts failure x
   pub uses : UsesOn parts.island.links (length parts.island.ids) (row_of parts.cert) at to x color
 
--- each loss of a packet has its cause, and comes exactly where this stands
+-- each loss of a packet has its cause, and comes exactly where this stands. Inside: its place has failed. NoRoute: in
+-- primary mode, its place has not failed, and no walk leads to its destination. IsDestination: its hop is cut, and its
+-- destination has failed. The others: its hop is cut by another element than its destination; it entered on a color, which is
+-- ColorCut; or it is in primary mode, and its place or its destination is outside the island, which is Outside; or both are
+-- inside, and the failed element separates them there, which is NoAlternate
 pub record LossCauses (parts : FabricParts) (failure : Option Failure) (packet : Packet) (outcome : Outcome) : Type 0 where
   pub inside : (outcome ≡ Lost Inside) ↔ (failure ≡ Some (Node packet.place))
   pub no_route : (outcome ≡ Lost NoRoute)

@@ -35,7 +35,8 @@ abbrev pub last_node : ℕ → List ℕ → ℕ
 last_node v [] = v
 last_node v (u ∷ us) = last_node u us
 
--- the link over which an ear goes on from one of its new nodes
+-- the link over which an ear goes on from one of its new nodes: a child ear over the node's lowpoint link, a neighbour ear
+-- over its parent link
 abbrev pub onward_link : EarKind → List TreeNode → ℕ → Option ℕ
 onward_link Child tree v = low_link tree v
 onward_link Neighbour tree v = parent_link tree v

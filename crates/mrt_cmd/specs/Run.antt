@@ -20,7 +20,7 @@ WritesNothing Done = ⊥
 WritesNothing (WriteFault taken) = ⊥
 WritesNothing _ = Unit {0}
 
--- the exit is one of those of a survey
+-- the exit is one of those of a survey: done, a fault of the output, want of memory
 abbrev pub IsExitOfSurvey : Exit → Type 0
 IsExitOfSurvey Done = Unit {0}
 IsExitOfSurvey (WriteFault taken) = Unit {0}

@@ -103,7 +103,7 @@ pub fn run<F: Shelf, K: Sink, E: Sink>(
     ensures no_read_fault { F.healthy shelf.old → NamesHeld (F.held shelf.old) words.now
         → F.faults shelf.new ≡ F.faults shelf.old }
 
-    // Each of the other refusals comes only where it is what comes of the files.
+    // Each of the other refusals comes only where it is what comes of the files. `answered` says so of `NoCommonBlock`.
     ensures too_large { (what : What) (size : ℕ) → result ≡ Exit.TooLarge what size
         → IsRefused (F.held shelf.old) words.now (Exit.TooLarge what size) }
     ensures bad_database { (at : ℕ) (kind : DbKind) → result ≡ Exit.BadDatabase at kind

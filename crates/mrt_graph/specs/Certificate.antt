@@ -28,12 +28,13 @@ pub record IsCertLink (n : ℕ) (link : CertLink) : Type 0 where
   pub upper : link.b < n
   pub block : link.block < n
 
--- of m links, a row
+-- of m links, a row: blue and red are links
 pub record IsCertRow (m : ℕ) (row : Row) : Type 0 where
   pub blue : row.blue < m
   pub red : row.red < m
 
--- what each certificate keeps
+-- what each certificate keeps: 1 to 65,535 nodes, at most 65,535 links, a row for each node and each other one, every
+-- number in range
 pub record IsCertificate (c : Certificate) : Type 0 where
   pub some_node : 1 ≤ length c.nodes
   pub few_nodes : length c.nodes ≤ 65535

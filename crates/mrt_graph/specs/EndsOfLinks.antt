@@ -8,11 +8,11 @@ use Rattle.mrt_graph.specs.declared.link.LinkIn.{LinkIn}
 abbrev pub pair_of : LinkIn → Link
 pair_of link = record { a = link.a; b = link.b }
 
--- the link's end at its node a, where the link has that number
+-- the link's end at its node a, where the link has that number: with the metric and the link data at a
 abbrev pub end_at_a : ℕ → LinkIn → End
 end_at_a number link = record { link = number; to = link.b; metric = link.metric_a; link_data = link.data_a }
 
--- its end at its node b
+-- its end at its node b: with those at b
 abbrev pub end_at_b : ℕ → LinkIn → End
 end_at_b number link = record { link = number; to = link.a; metric = link.metric_b; link_data = link.data_b }
 

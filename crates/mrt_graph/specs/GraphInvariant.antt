@@ -40,7 +40,8 @@ pub record AreEnds (count : ℕ) (links : List Link) (n : ℕ) (ends : List End)
   pub ordered : IsSorted interface_cmp ends
   pub few : length ends ≤ length links
 
--- what each graph keeps
+-- what each graph keeps: 1 to 4,096 nodes by ascending identifier, at most 16,384 links, the ends of each node; it is
+-- connected
 pub record IsTopology (graph : Topology) : Type 0 where
   pub some_node : 1 ≤ length graph.ids
   pub few_nodes : length graph.ids ≤ 4096

@@ -21,7 +21,8 @@ use Rattle.mrt_graph.specs.Topology.{Topology}
 abbrev pub pair_cmp : Link → Link → Ordering
 pair_cmp = then_cmp (on (λ link. link.a) nat_cmp) (on (λ link. link.b) nat_cmp)
 
--- identifiers and links of which a graph can be made
+-- identifiers and links of which a graph can be made: identifiers ascend, and there is one; each link has its lower node
+-- first, in range, and joins no two networks; links ascend, and connect all nodes
 pub record AreGraphParts (ids : List NodeId) (links : List LinkIn) : Type 0 where
   pub some_node : 1 ≤ length ids
   pub ids_ascend : IsStrictlySortedBy node_id_cmp ids
@@ -29,7 +30,7 @@ pub record AreGraphParts (ids : List NodeId) (links : List LinkIn) : Type 0 wher
   pub links_ascend : IsSorted pair_cmp (map pair_of links)
   pub connected : IsConnected (length ids) (map pair_of links)
 
--- more nodes or links than a graph holds
+-- more nodes or links than a graph holds: 4,096 and 16,384
 abbrev pub IsTooLarge : ℕ → ℕ → Type 0
 IsTooLarge nodes links = (4096 < nodes) ⊎ (16384 < links)
 

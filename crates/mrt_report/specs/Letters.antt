@@ -11,7 +11,8 @@ use Rattle.primary_alt.specs.declared.shortest.Primary.{Primary}
 use Rattle.mrt_report.specs.LineParts.{LineParts}
 use Rattle.mrt_report.specs.TableWords.{letter_text}
 
--- the island link that a bond of the area is; none where its entry names no link
+-- the island link that a bond of the area is; none where its entry names no link. Without an entry there is no element, and
+-- so no letter
 abbrev pub IsLinkElement : List (Option ℕ) → ℕ → Option Element → Type 0
 IsLinkElement link_of bond element = option_map (option_map (λ e. elements.Link e)) (slice_get link_of bond) ≡ Some element
 

@@ -4,7 +4,7 @@ use Rattle.std.specs.List.{range_with_len}
 use Rattle.mrt_survey.specs.declared.made_link.MadeLink.{MadeLink}
 use Rattle.mrt_survey.specs.Draws.{draw_after}
 
--- of so many routers, how many are spurs: each is joined with one router of the ring alone
+-- of so many routers, how many are spurs, a fifth: each is joined with one router of the ring alone
 abbrev pub spur_count : ℕ → ℕ
 spur_count nodes = nodes / 5
 
@@ -12,7 +12,7 @@ spur_count nodes = nodes / 5
 abbrev pub ring_count : ℕ → ℕ
 ring_count nodes = nodes - spur_count nodes
 
--- how many chords the ring has
+-- how many chords the ring has: one for each four of its routers
 abbrev pub chord_count : ℕ → ℕ
 chord_count nodes = ring_count nodes / 4
 
