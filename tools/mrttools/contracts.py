@@ -18,8 +18,9 @@ FUNCTION = re.compile(r"^( *)(pub(?:\(crate\))? )?(?:const )?fn (\w+)")
 TYPE = re.compile(r"^pub (?:struct|enum|trait|type) (\w+)")
 CLAUSE = re.compile(r"^ *(requires|ensures|ghost)(?: (\w+))?(?: =|:)? \{")
 GHOST = re.compile(r"^    ghost (\w+)(?: =|:) \{")
-# What an impl gives to the traits of the library beside their values.
-PROOFS = {"laws", "total", "matches_partial_cmp", "matches_eq", "healthy_below"}
+# What an impl gives to a trait of the library beside the values that callers see.
+INNER = {"laws", "total", "matches_partial_cmp", "matches_eq", "healthy_below"}
+INNER |= {"view", "inverse", "inverse_ok", "invariant"}
 
 
 class Clause(NamedTuple):
@@ -109,7 +110,7 @@ class Text:
         for number in range(first, last):
             self.function(number, f"{owner}::", bool(trait or head[1]))
             ghost = GHOST.match(self.lines[number])
-            if ghost is not None and not (trait and ghost[1] in PROOFS):
+            if ghost is not None and not (trait and ghost[1] in INNER):
                 lines += self.ghost(number)
         if len(lines) > 1:
             self.impls.append(self.part(first, owner, lines, trait))
@@ -160,7 +161,7 @@ class Crate:
         read = [Text(name, file, text) for file, text in texts.items()]
         self.types = [part for text in read for part in text.types if part.name in public]
         impls = [part for text in read for part in text.impls if part.name in public]
-        self.seen = {part.name: dict(part.clauses)["Value"] for part in impls if part.trait == "Model"}
+        self.models = [part for part in impls if part.trait == "Model"]
         self.impls = [part for part in impls if part.trait != "Model"]
         parts = [part for text in read for part in text.functions if part.name.split("::")[0] in public]
         self.functions = [part for part in parts if not part.is_law and (part.about or part.clauses)]

@@ -23,9 +23,10 @@ function, a definition or a crate with the definitions that it names, and with `
 - A law does nothing for its caller: its clauses speak of the definitions alone.
 - `x.now` is what a borrowed `x` is, `x.old` and `x.new` what it is before and after the call, `x.items` the elements of
   a vector.
-- `IfOk`, `IfErr`, `IfSome` say what holds of such a result, `OnOk`, `OnErr`, `IfNone` what holds where it is one, `IsOk`,
-  `IsErrOf`, `IsSome`, `IsNone` that it is one. `×` is and, `⊎` or, `→` if, `↔` exactly where; `(x : T) →` is for each,
-  `(x : T) ×` for some.
+- `IfOk`, `IfErr` and `IfSome` say what holds of the value or the error, if there is one; `OnOk`, `OnErr` and `IfNone`
+  what holds if the result is such a one. `IsOk`, `IsErrOf`, `IsSome` and `IsNone` say that it is; `IsSomeAnd` that there
+  is a value of which this holds. `×` is and, `⊎` or, `→` if, `↔` exactly where; `(x : T) →` is for each, `(x : T) ×` for
+  some.
 - A call that can answer `NoMemory` may do so at any time, unless a clause says otherwise. That it succeeds where there
   is memory is tested, once for each call.
 - What a comment says of time, of memory and of the order of the work is not proved.
@@ -89,9 +90,9 @@ def entry(parts: list[Part]) -> str:
 
 def types(crate: Crate) -> Iterator[str]:
     """The types of a crate, with what contracts see of each."""
-    traits = traits_of([crate])
+    traits, values = traits_of([crate]), {part.name: part.clauses[0].formula for part in crate.models}
     for part in (part for part in crate.types if part.name not in traits):
-        seen = f" Seen as `{crate.seen[part.name]}`." if part.name in crate.seen else ""
+        seen = f" Seen as `{values[part.name]}`." if part.name in values else ""
         yield filled(f"- {link(part)}: {summary(part)}{seen}", "  ")
 
 
@@ -140,7 +141,7 @@ def stood_on(root: str, library: Library) -> list[Name]:
     traits = traits_of(crates)
     for crate in crates:
         told = [part for part in crate.impls if is_told(part, traits, library)]
-        for part in told + crate.functions + crate.laws:
+        for part in told + crate.models + crate.functions + crate.laws:
             tops.update(dict.fromkeys(part.under(library)))
     return [name for name in library.chain(tops, set(), set()) if not name.module.startswith("src/")]
 

@@ -167,7 +167,9 @@ class Contracts(unittest.TestCase):
     def test_a_type_with_what_contracts_see(self) -> None:
         self.assertEqual(self.crate.types[0].about, ["A shape. It has", "an area.", "", "More of it."])
         self.assertEqual(self.crate.types[0].place, "crates/one/src/shape.rt:14")
-        self.assertEqual(self.crate.seen, {"Shape": "List ℕ"})
+        self.assertEqual(
+            [(part.name, part.clauses) for part in self.crate.models], [("Shape", [("Value", "List ℕ")])]
+        )
 
     def test_clauses(self) -> None:
         self.assertEqual(

@@ -76,8 +76,7 @@ pub fn one_exit_comes()
 /// A law, the headline's first half: a certificate that was written passes, whether the words check or upgrade it, over the
 /// same database and profile.
 ///
-/// It rests on the clause `accepted` of `compute`, and on the laws that an island is that of each router in it, and that bytes
-/// spell one certificate file at most. What a yes is worth, whoever wrote the certificate, is `accepted_implies_sound`.
+/// What a yes is worth, whoever wrote the certificate, `accepted_implies_sound` says.
 pub fn what_was_written_passes()
     ensures { (files : Files) (words : List (List ℕ)) → ChecksWritten files words
         → (line : List ℕ) × GivesText (Some files) words line }
