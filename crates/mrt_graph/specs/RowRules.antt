@@ -1,4 +1,5 @@
--- Rules seven to fourteen: what each row keeps, by its tag.
+-- Rules seven to fourteen: what each row keeps, by its tag. The two links of a row of s for t that is not Carried, blue and
+-- red, lead from s to the nodes blue_to and red_to.
 use Rattle.std.specs.Prelude.{◌==◌, ◌&&◌, ◌||◌, ℕ, Bool, false, List, Option, Some, not, if◌then◌else◌}
 use Rattle.std.specs.Option.{option_and_then, option_map_or}
 use Rattle.mrt_graph.specs.declared.cert.Row.{Row}
@@ -36,9 +37,6 @@ plain_to_head c e s v = has_role is_plain c e && are_equal (head_of c s) (Some v
 -- the link is closing, and v is the head of s
 abbrev pub closing_to_head : Certificate → ℕ → ℕ → ℕ → Bool
 closing_to_head c e s v = has_role is_closing c e && are_equal (head_of c s) (Some v)
-
--- A row of s for t that is not Carried has two links, blue and red: row.blue and row.red. They lead from s to the nodes
--- blue_to and red_to.
 
 -- Sole: blue and red are one link, its role is sole, and it leads to t
 abbrev pub sole_row : Certificate → ℕ → Row → ℕ → Bool

@@ -1,4 +1,4 @@
--- The graph with one more node, which is attached to two routers.
+-- The graph with one more node, which is attached to two routers. It is a destination alone: no packet passes through it.
 use Rattle.std.specs.Prelude.{◌≡◌, ◌==◌, ◌+◌, ◌++◌, ℕ, List, [], ◌∷◌, Some, length, slice_get, if◌then◌else◌}
 use Rattle.mrt_graph.specs.declared.cert.Row.{Row}
 use Rattle.mrt_graph.specs.declared.link.Link.{Link}
