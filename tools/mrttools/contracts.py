@@ -10,7 +10,7 @@ import re
 from dataclasses import dataclass
 from typing import NamedTuple
 
-from mrttools.definitions import Library, Name, Used, comment_over, files, joined, uses
+from mrttools.definitions import Library, Missing, Name, Used, comment_over, files, joined, uses
 
 HANDED = re.compile(r"^pub use (\w+)::(\{[^}]*\}|\w+);", re.MULTILINE)
 BLOCK = re.compile(r"^(?:pub )?(?:(trait) (\w+)|impl(?:<.*?>)? (?:(\w+)(<.*>)? for )?(\w+)(?:<.*>)?) \{$")
@@ -90,6 +90,8 @@ class Text:
         first = 0
         while first < len(self.lines):
             block, kind = BLOCK.match(self.lines[first]), TYPE.match(self.lines[first])
+            if block is None and re.match(r"(pub )?(impl|trait)\b", self.lines[first]):
+                raise Missing(f"crates/{crate}/src/{file}.rt:{first + 1}: not read: {self.lines[first]}")
             if kind is not None:
                 self.types.append(self.part(first, kind[1], self.lines[first : first + 1]))
             if block is not None:

@@ -7,7 +7,7 @@ import unittest
 
 from mrttools import reference
 from mrttools.contracts import Crate
-from mrttools.definitions import Library, Name
+from mrttools.definitions import Library, Missing, Name
 from tests.making import TOOLS
 
 ROOT = os.path.dirname(TOOLS)
@@ -170,6 +170,11 @@ class Contracts(unittest.TestCase):
         self.assertEqual(
             [(part.name, part.clauses) for part in self.crate.models], [("Shape", [("Value", "List ℕ")])]
         )
+
+    def test_a_block_that_is_not_understood(self) -> None:
+        self.write("crates/one/src/shape.rt", SHAPE.replace("impl Far for Shape {", "impl Far\n    for Shape\n{"))
+        with self.assertRaisesRegex(Missing, "^crates/one/src/shape.rt:50: not read: impl Far$"):
+            Crate(self.root, "one")
 
     def test_clauses(self) -> None:
         self.assertEqual(
