@@ -5,7 +5,7 @@
 
 The status is that of rt ci. Processor time is user and system time of each process that rt starts, as the kernel gives it when the process ends.
 FILE gets a line for each of them, with tabs between: crate, what was done, seconds of the processor, seconds on the clock, MB at most, and when it began.
-What rt ci takes from an earlier run on this machine has no time: --anew leaves nothing out."""
+What rt ci takes from an earlier run on this machine has no time: --anew leaves nothing out. (Kit 13b keeps nothing, and its rt ci knows no words.)"""
 import collections
 import glob
 import os
@@ -20,6 +20,7 @@ import time
 
 COLUMNS = ("proof", "tests", "ground", "edits", "other")
 done, lock, begun = [], threading.Lock(), time.monotonic()
+tried = collections.Counter()
 
 
 def what_of(words, folder):
@@ -33,25 +34,29 @@ def what_of(words, folder):
     crate = words[words.index("--crate-name") + 1]
     if not os.path.basename(str(folder or "")).startswith("rt-edit-"):
         return crate, "tests" if "--test" in words else "proof", ""
-    kept = words[words.index("--incremental") + 1] if "--incremental" in words else ""
-    if os.path.basename(kept) == "seed":
-        return crate, "ground", ""
+    kept = os.path.basename(words[words.index("--incremental") + 1]) if "--incremental" in words else ""
     names = sorted(glob.glob(f"crates/{crate}/must-fail/*.edit", root_dir=TOP))
-    number = os.path.basename(kept)
-    return (
-        crate,
-        "edits",
-        os.path.basename(names[int(number)])[:-5]
-        if number.isdigit() and int(number) < len(names)
-        else "from nothing",
-    )
+    if kept.startswith("rt-edits-"):
+        # kit 13b: the edits in turn over one folder, the first from nothing, and after them the crate itself
+        number = tried[kept]
+        tried[kept] += 1
+        if number == 0 or number == len(names):
+            return crate, "ground", os.path.basename(names[0])[:-5] if number == 0 else ""
+    elif kept == "seed":
+        return crate, "ground", ""
+    else:
+        number = int(kept) if kept.isdigit() else len(names)
+    return crate, "edits", os.path.basename(names[number])[:-5] if number < len(names) else "from nothing"
 
 
 class Timed(subprocess.Popen):
     """A process that notes what it took when it has ended."""
 
     def __init__(self, args, *given, **how):
-        self.at, self.what = time.monotonic(), (args, how.get("cwd"))
+        self.at = time.monotonic()
+        is_ours = any(str(it).endswith(("/rattle", "/rattle-link")) for it in args)
+        with lock:
+            self.what = what_of(args, how.get("cwd")) if is_ours else None
         super().__init__(args, *given, **how)
 
     def _try_wait(self, flags):
@@ -59,8 +64,8 @@ class Timed(subprocess.Popen):
             found, status, used = os.wait4(self.pid, flags)
         except ChildProcessError:
             return self.pid, 0
-        if found == self.pid and any(str(it).endswith(("/rattle", "/rattle-link")) for it in self.what[0]):
-            crate, kind, name = what_of(*self.what)
+        if found == self.pid and self.what:
+            crate, kind, name = self.what
             row = (
                 crate,
                 kind,
@@ -100,6 +105,8 @@ def main():
     rt = shutil.which("rt")
     if not rt:
         sys.exit("gate.py: rt is not on the path")
+    if words == ["--anew"] and "kit-13b" in subprocess.run([rt, "version"], capture_output=True, text=True).stdout:
+        words = []
     subprocess.Popen, sys.argv = Timed, [rt, "ci", *words]
     try:
         runpy.run_path(os.path.realpath(rt), run_name="__main__")
