@@ -13,6 +13,8 @@ Routers 10.255.1.1 to 10.255.1.4 are on the LAN 198.51.100.0/29, with 10.255.1.4
 """
 import sys
 
+import folders
+
 import areas
 import certify
 from lsas import POINT_TO_POINT, STUB, TRANSIT, address, lsa, network_lsa, router_lsa

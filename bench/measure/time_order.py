@@ -7,6 +7,8 @@ and how both grow for twice the routers: the time at most a fifth more than the 
 import os
 import tempfile
 
+import folders
+
 import areas
 import timing
 from lsas import spelled

@@ -1,7 +1,7 @@
 #!/usr/bin/env python3
 """Checks a crate from nothing at one job and prints which functions take longest.
 
-    bench/slow.py CRATE [NUMBER]      in any folder; the first NUMBER functions, 20 if left out
+    bench/measure/slow.py CRATE [NUMBER]      in any folder; the first NUMBER functions, 20 if left out
 
 Seconds are those between the times at which the prover wrote what it had checked, so run nothing beside it. `proof` is where goals that have no
 answer are searched: if it is large, mostly one goal of the function is found at length, and an answer for it takes a tenth of a second. `code` is
@@ -13,6 +13,8 @@ import re
 import shutil
 import subprocess
 import sys
+
+import timing
 
 KINDS = {
     "Proof": "proof",
@@ -30,7 +32,7 @@ KINDS = {
 def main():
     if not 2 <= len(sys.argv) <= 3:
         sys.exit(__doc__)
-    folder = os.path.join(os.path.dirname(os.path.dirname(os.path.abspath(__file__))), "crates", sys.argv[1])
+    folder = os.path.join(timing.ROOT, "crates", sys.argv[1])
     kept = os.path.join(folder, "out", "incremental")
     subprocess.run(["rt", "check", "--only", ""], cwd=folder, stdout=subprocess.DEVNULL, check=True)
     shutil.rmtree(kept, ignore_errors=True)

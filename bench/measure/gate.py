@@ -1,7 +1,7 @@
 #!/usr/bin/env python3
 """Runs rt ci and prints, after what rt ci prints, the processor time of each crate: its proof, its tests, its must-fail edits.
 
-    bench/gate.py [--to FILE] [--anew] [NAME..]     at the top of the repository; the words after FILE are those of rt ci
+    bench/measure/gate.py [--to FILE] [--anew] [NAME..]     at the top of the repository; the words after FILE are those of rt ci
 
 The status is that of rt ci. Processor time is user and system time of each process that rt starts, as the kernel gives it when the process ends.
 FILE gets a line for each of them, with tabs between: crate, what was done, seconds of the processor, seconds on the clock, MB at most, and when it began.

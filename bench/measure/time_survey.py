@@ -10,6 +10,8 @@ import subprocess
 import sys
 import tempfile
 
+import folders
+
 import areas
 import mesh
 import timing

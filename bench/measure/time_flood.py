@@ -11,6 +11,8 @@ import os
 import sys
 import tempfile
 
+import folders
+
 import areas
 import ring
 import timing

@@ -5,6 +5,8 @@ import os
 import subprocess
 import tempfile
 
+import folders
+
 import beside
 import lsas
 import timing

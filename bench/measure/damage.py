@@ -19,6 +19,8 @@ from itertools import combinations
 from multiprocessing import Pool
 from random import Random
 
+import folders
+
 import timing
 from lsas import lsa, records_of, update
 

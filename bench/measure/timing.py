@@ -5,13 +5,13 @@ import sys
 import tempfile
 import time
 
-ROOT = os.path.dirname(os.path.dirname(os.path.abspath(__file__)))
+ROOT = os.path.dirname(os.path.dirname(os.path.dirname(os.path.abspath(__file__))))
 DATA = os.path.join(ROOT, "crates", "mrt", "data")
 PROGRAM = os.path.join(ROOT, "crates", "mrt", "out", "mrt")
 
 
 def build():
-    """Builds the program, where it is missing or older than a source."""
+    """Builds the program, where it is missing or of other sources."""
     subprocess.run([os.path.join(ROOT, "mrt"), "check", f"{DATA}/router.lsas", "-", f"{DATA}/router.cert"], stdout=subprocess.DEVNULL, check=True)
 
 

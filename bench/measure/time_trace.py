@@ -8,6 +8,8 @@ program where need be; it fetches nothing.
 """
 import tempfile
 
+import folders
+
 import areas
 import certify
 import table

@@ -6,6 +6,8 @@ import os
 import subprocess
 import tempfile
 
+import folders
+
 import beside
 import ring
 import timing

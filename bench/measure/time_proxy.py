@@ -7,6 +7,8 @@ the length of the certificate, which `proxy` holds. It builds the program where 
 import os
 import tempfile
 
+import folders
+
 import areas
 import timing
 from lsas import spelled

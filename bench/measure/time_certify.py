@@ -11,6 +11,8 @@ import sys
 import tempfile
 from math import inf
 
+import folders
+
 import areas
 import mesh
 import ring

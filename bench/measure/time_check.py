@@ -5,6 +5,8 @@ import os
 import tempfile
 from functools import partial
 
+import folders
+
 import mesh
 import ring
 import timing

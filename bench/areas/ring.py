@@ -9,6 +9,8 @@ ring, so that router i has order i + 1, and the link of routers n - 1 and n clos
 import struct
 import sys
 
+import folders
+
 import areas
 from lsas import POINT_TO_POINT, router_lsa
 

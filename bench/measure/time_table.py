@@ -8,6 +8,8 @@ need be; it fetches nothing.
 import os
 import tempfile
 
+import folders
+
 import areas
 import timing
 from lsas import spelled

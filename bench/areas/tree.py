@@ -10,6 +10,8 @@ the root, and its block is named by itself. The rows for a neighbour are the lin
 import struct
 import sys
 
+import folders
+
 import areas
 from lsas import POINT_TO_POINT, STUB, address, router_lsa
 

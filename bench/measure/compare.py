@@ -14,6 +14,8 @@ import tempfile
 from collections import namedtuple
 from random import Random
 
+import folders
+
 import certificate
 import certify
 import database

@@ -12,6 +12,8 @@ program where need be; it fetches nothing.
 import os
 import tempfile
 
+import folders
+
 import areas
 import timing
 from lsas import spelled

@@ -9,6 +9,8 @@ in its row and to the one below it. The metric of each link is 1; with a seed th
 import sys
 from random import Random
 
+import folders
+
 import areas
 import certificate
 import certify

@@ -11,6 +11,8 @@ The profile takes the neighbours of router 1 out of the island, so that the cert
 import sys
 from random import Random
 
+import folders
+
 import areas
 import certificate
 import certify

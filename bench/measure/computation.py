@@ -13,6 +13,8 @@ import subprocess
 import sys
 import tempfile
 
+import folders
+
 import areas
 import beside
 import timing

@@ -6,6 +6,8 @@ usage: certify_test.py [AREAS]
 import sys
 from random import Random
 
+import folders
+
 import certificate
 import certify
 import flooding

@@ -8,6 +8,8 @@ time of a start taken off: below 2.4 means that the time grows as the area does.
 import os
 import tempfile
 
+import folders
+
 import area
 import timing
 
