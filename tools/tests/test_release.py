@@ -1,0 +1,195 @@
+"""The script mrt: when it builds, what it says of the program, what it installs."""
+from __future__ import annotations
+
+import os
+import shutil
+import subprocess
+import tempfile
+import unittest
+
+from tests.making import TOOLS
+
+ROOT = os.path.dirname(TOOLS)
+DATABASE = "crates/mrt/data/lan.lsas"
+COPIED = ["README.md", "CHANGELOG.md", "LICENSE-APACHE", "LICENSE-MIT", "NOTICE", "mrt", "tools"]
+FILES = {
+    "HANDLES": "Handles allowed: none.\n",
+    "crates.txt": "# the crates\nlow: arrayvec\nmrt: low\nlow_tests: low\n",
+    "crates/low/src/lib.rt": "low\n",
+    "crates/low/proofs/Lib.antt": "proof\n",
+    "crates/mrt/src/main.rt": "main\n",
+    "crates/low_tests/src/lib.rt": "tests\n",
+    ".gitignore": "out/\n__pycache__/\n",
+}
+
+# A toolchain that proves all and builds a program, which is a true one, since a package is made of it.
+RT = """#!/bin/sh
+[ "$1" = ci ] || { echo "test-kit logic 0"; exit; }
+mkdir -p crates/mrt/out && cp /bin/echo crates/mrt/out/mrt && echo built >>"$BUILT" && echo "rt: low proved"
+echo "5 passed, 0 failed"
+"""
+
+
+def write(path: str, text: str, mode: int = 0o644) -> None:
+    os.makedirs(os.path.dirname(path), exist_ok=True)
+    with open(path, "w", encoding="utf-8") as file:
+        file.write(text)
+    os.chmod(path, mode)
+
+
+class Checkout(unittest.TestCase):
+    """A small checkout with the script and the tools that are here, and a toolchain of its own."""
+
+    def setUp(self) -> None:
+        holder = tempfile.TemporaryDirectory()
+        self.addCleanup(holder.cleanup)
+        self.top = holder.name
+        self.folder = self.path("checkout")
+        for name, text in FILES.items():
+            write(self.at(name), text)
+        for name in COPIED:
+            copy = shutil.copytree if os.path.isdir(os.path.join(ROOT, name)) else shutil.copy
+            copy(os.path.join(ROOT, name), self.at(name))
+        shutil.copytree(os.path.join(ROOT, "crates", "mrt", "data"), self.at("crates/mrt/data"))
+        os.mkdir(self.at("docs"))
+        for name in ("COMMANDS.md", "mrt.1"):
+            shutil.copy(os.path.join(ROOT, "docs", name), self.at("docs"))
+        write(self.path("bin", "rt"), RT, 0o755)
+
+    def path(self, *names: str) -> str:
+        return os.path.join(self.top, *names)
+
+    def at(self, name: str) -> str:
+        return os.path.join(self.folder, name)
+
+    def run_in(self, folder: str, *words: str) -> subprocess.CompletedProcess[str]:
+        env = {**os.environ, "PATH": f"{self.path('bin')}:{os.environ['PATH']}", "BUILT": self.path("built")}
+        return subprocess.run(words, cwd=folder, env=env, capture_output=True, text=True, check=False)
+
+    def said(self, *words: str, folder: str | None = None) -> str:
+        """What a command prints, which has to end with status 0."""
+        done = self.run_in(folder or self.folder, *words)
+        self.assertEqual(done.returncode, 0, done.stderr)
+        return done.stdout
+
+    def builds(self) -> int:
+        """How often the program was built."""
+        if not os.path.exists(self.path("built")):
+            return 0
+        with open(self.path("built"), encoding="utf-8") as file:
+            return len(file.readlines())
+
+
+class Building(Checkout):
+    """When ./mrt builds."""
+
+    def test_it_builds_once(self) -> None:
+        self.assertEqual(self.said("./mrt", "a", "b"), "a b\n")
+        self.assertEqual(self.said("./mrt", "c"), "c\n")
+        self.assertEqual(self.builds(), 1)
+
+    def test_times_are_no_change(self) -> None:
+        self.said("./mrt")
+        os.utime(self.at("crates/low/src/lib.rt"), (2**32, 2**32))
+        self.said("./mrt")
+        os.utime(self.at("crates/mrt/out/mrt"), (1, 1))
+        self.said("./mrt")
+        self.assertEqual(self.builds(), 1)
+
+    def test_each_source_that_the_program_stands_on(self) -> None:
+        self.said("./mrt")
+        write(self.at("crates/low_tests/src/lib.rt"), "other tests\n")
+        self.said("./mrt")
+        self.assertEqual(self.builds(), 1)
+        for count, name in enumerate(
+            ["crates/low/src/lib.rt", "crates/low/proofs/Lib.antt", "crates/mrt/src/new.rt"], 2
+        ):
+            write(self.at(name), "changed\n")
+            os.utime(self.at(name), (1, 1))
+            self.said("./mrt")
+            self.assertEqual(self.builds(), count, name)
+        os.remove(self.at("crates/mrt/src/new.rt"))
+        self.said("./mrt")
+        self.assertEqual(self.builds(), 5)
+
+    def test_a_program_that_comes_with_what_it_was_built_from(self) -> None:
+        self.said("./mrt")
+        other = self.path("other")
+        shutil.copytree(self.folder, other, ignore=shutil.ignore_patterns("out"))
+        shutil.copytree(self.at("crates/mrt/out"), os.path.join(other, "crates/mrt/out"))
+        os.utime(os.path.join(other, "crates/mrt/out/mrt"), (1, 1))
+        self.said("./mrt", folder=other)
+        self.assertEqual(self.builds(), 1)
+        self.assertIn(
+            f"proved at {os.uname().nodename}:{self.folder}, not here\n",
+            self.said("./mrt", "--version", folder=other),
+        )
+        write(os.path.join(other, "crates/low/src/lib.rt"), "other\n")
+        self.assertIn("the sources here are others", self.said("./mrt", "--version", folder=other))
+        self.said("./mrt", folder=other)
+        self.assertEqual(self.builds(), 2)
+
+    def test_a_program_alone_goes_by_its_time(self) -> None:
+        os.makedirs(self.at("crates/mrt/out"))
+        shutil.copy("/bin/echo", self.at("crates/mrt/out/mrt"))
+        self.said("./mrt")
+        self.assertEqual(self.builds(), 0)
+        self.assertIn("is not known", self.said("./mrt", "--version"))
+        os.utime(self.at("crates/mrt/out/mrt"), (1, 1))
+        self.said("./mrt")
+        self.assertEqual(self.builds(), 1)
+
+    def test_what_is_kept_of_another_program_is_not_believed(self) -> None:
+        self.said("./mrt")
+        shutil.copy("/bin/true", self.at("crates/mrt/out/mrt"))
+        self.assertIn("is not known", self.said("./mrt", "--version"))
+        self.assertEqual(self.run_in(self.folder, "./mrt", "--kept").returncode, 1)
+
+    def test_version(self) -> None:
+        self.assertRegex(self.said("./mrt", "--version"), r"^Semborui \d+\.\d\S*\nnot built\n$")
+        self.said("./mrt")
+        version = r"^Semborui \d+\.\d\S*\ncommit not known\nkit test-kit logic 0\nproved here\n$"
+        self.assertRegex(self.said("./mrt", "--version"), version)
+
+
+class Installing(Checkout):
+    def setUp(self) -> None:
+        super().setUp()
+        self.said("./mrt", "--install", self.path("usr"))
+        os.rename(self.folder, self.path("gone"))
+
+    def test_the_program_runs_and_is_not_built(self) -> None:
+        done = self.run_in(self.path("gone"), "./mrt", "--install")
+        self.assertEqual((done.returncode, done.stdout), (2, ""))
+        done = self.run_in(self.top, "usr/bin/mrt", "--install", self.path("usr"))
+        self.assertEqual((done.returncode, done.stderr), (2, "mrt: this is what is installed there\n"))
+        os.remove(self.path("bin", "rt"))
+        self.assertEqual(self.said("usr/bin/mrt", "a", "b", folder=self.top), "a b\n")
+        self.assertIn("not here\n", self.said("usr/bin/mrt", "--version", folder=self.top))
+        self.assertEqual(self.builds(), 1)
+        os.remove(self.path("usr/libexec/semborui/mrt"))
+        done = self.run_in(self.top, "usr/bin/mrt", "a")
+        self.assertEqual((done.returncode, done.stdout), (70, ""))
+        self.assertIn("there is no program in", done.stderr)
+
+    def test_it_is_installed_over_an_older_one(self) -> None:
+        write(self.path("usr/share/semborui/tools/mrttools/old.py"), "")
+        self.said("./mrt", "--install", self.path("usr"), folder=self.path("gone"))
+        self.assertFalse(os.path.exists(self.path("usr/share/semborui/tools/mrttools/old.py")))
+        self.assertEqual(self.said("usr/bin/mrt", "a", folder=self.top), "a\n")
+        self.look_at_help_and_tools()
+
+    def look_at_help_and_tools(self) -> None:
+        self.assertIn("mrt survey NUMBER NODES", self.said("usr/bin/mrt", "help", "survey", folder=self.top))
+        links = sorted(name for name in os.listdir(self.path("usr/bin")) if name != "mrt")
+        self.assertEqual(len(links), 9)
+        for link in links:
+            self.assertTrue(self.said(f"usr/bin/{link}", "--help", folder=self.top).startswith(f"usage: {link} "))
+            self.assertTrue(os.path.exists(self.path(f"usr/share/man/man1/{link}.1")))
+        share = self.path("usr/share/semborui")
+        self.assertEqual(self.said("./mrt", DATABASE, folder=share), f"{DATABASE}\n")
+        self.assertTrue(os.path.exists(os.path.join(share, DATABASE)))
+
+
+if __name__ == "__main__":
+    unittest.main()
