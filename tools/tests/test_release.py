@@ -1,6 +1,7 @@
-"""The script mrt: when it builds, what it says of the program, what it installs."""
+"""The script mrt: when it builds, what it says of the program, what it installs; and what tools/release makes."""
 from __future__ import annotations
 
+import hashlib
 import os
 import shutil
 import subprocess
@@ -11,7 +12,17 @@ from tests.making import TOOLS
 
 ROOT = os.path.dirname(TOOLS)
 DATABASE = "crates/mrt/data/lan.lsas"
-COPIED = ["README.md", "CHANGELOG.md", "LICENSE-APACHE", "LICENSE-MIT", "NOTICE", "mrt", "tools"]
+COPIED = [
+    "README.md",
+    "CHANGELOG.md",
+    "SECURITY.md",
+    "LICENSE-APACHE",
+    "LICENSE-MIT",
+    "NOTICE",
+    "mrt",
+    ".ci",
+    "tools",
+]
 FILES = {
     "HANDLES": "Handles allowed: none.\n",
     "crates.txt": "# the crates\nlow: arrayvec\nmrt: low\nlow_tests: low\n",
@@ -28,6 +39,14 @@ RT = """#!/bin/sh
 mkdir -p crates/mrt/out && cp /bin/echo crates/mrt/out/mrt && echo built >>"$BUILT" && echo "rt: low proved"
 echo "5 passed, 0 failed"
 """
+# The tests of the tools.
+TEST = """#!/bin/sh
+echo "Ran 7 tests in 1.234s" && echo && echo OK
+"""
+FAILED = """#!/bin/sh
+echo "FAILED"
+exit 1
+"""
 
 
 def write(path: str, text: str, mode: int = 0o644) -> None:
@@ -35,6 +54,11 @@ def write(path: str, text: str, mode: int = 0o644) -> None:
     with open(path, "w", encoding="utf-8") as file:
         file.write(text)
     os.chmod(path, mode)
+
+
+def summed(path: str) -> str:
+    with open(path, "rb") as file:
+        return hashlib.sha256(file.read()).hexdigest()
 
 
 class Checkout(unittest.TestCase):
@@ -189,6 +213,101 @@ class Installing(Checkout):
         share = self.path("usr/share/semborui")
         self.assertEqual(self.said("./mrt", DATABASE, folder=share), f"{DATABASE}\n")
         self.assertTrue(os.path.exists(os.path.join(share, DATABASE)))
+
+
+@unittest.skipUnless(shutil.which("dpkg-shlibdeps") and shutil.which("git"), "needs git and dpkg-dev")
+class Releasing(Checkout):
+    def setUp(self) -> None:
+        super().setUp()
+        write(self.at("tools/test"), TEST, 0o755)
+        self.said("git", "init", "-q")
+        self.said("git", "config", "user.name", "One")
+        self.said("git", "config", "user.email", "one@example.org")
+        self.commit()
+
+    def commit(self) -> None:
+        self.said("git", "add", "-A")
+        self.said("git", "commit", "-qm", "A step")
+
+    def refused(self, *options: str) -> str:
+        done = self.run_in(self.folder, "tools/release", *options, self.path("refused"))
+        self.assertEqual((done.returncode, os.listdir(self.path("refused"))), (1, []), done.stdout)
+        return done.stderr.splitlines()[-1]
+
+    def test_refused_without_a_gate_that_passed(self) -> None:
+        self.assertIn("run .ci/run", self.refused())
+        self.said("./mrt")
+        self.assertIn("the gate has not passed", self.refused())
+        self.said(".ci/run")
+        write(self.at("crates/low/src/lib.rt"), "changed\n")
+        self.assertIn("not committed", self.refused())
+        self.commit()
+        self.assertIn("not built from the sources", self.refused())
+        write(self.at("crates/low/src/lib.rt"), FILES["crates/low/src/lib.rt"])
+        self.commit()
+        self.assertIn("was built from commit", self.refused())
+
+    def test_refused_where_the_gate_failed(self) -> None:
+        self.said(".ci/run")
+        write(self.at("tools/test"), FAILED, 0o755)
+        self.commit()
+        self.assertEqual(self.run_in(self.folder, ".ci/run").returncode, 1)
+        self.assertIn("the gate has not passed", self.refused())
+        self.assertIn("the gate has not passed", self.refused("--gate"))
+        write(self.path("bin", "rt"), FAILED, 0o755)
+        done = self.run_in(self.folder, ".ci/run")
+        self.assertEqual((done.returncode, done.stdout), (1, "FAILED\n"))
+        self.assertIn("left no program", self.refused())
+
+    def release(self, name: str, *options: str) -> dict[str, str]:
+        """Makes a release in a folder; the checksums of what it made."""
+        lines = self.said("tools/release", *options, self.path(name)).splitlines()[-2:]
+        sums = {file: checksum for checksum, file in (line.split("  ") for line in lines)}
+        for file, checksum in sums.items():
+            self.assertEqual(summed(self.path(name, file)), checksum)
+        return sums
+
+    def test_the_gate_is_run_for_it(self) -> None:
+        self.release("one", "--gate")
+        self.assertEqual(self.builds(), 1)
+
+    def test_twice_the_same_bytes(self) -> None:
+        self.said(".ci/run")
+        sums = self.release("one")
+        self.assertEqual(self.release("two"), sums)
+        archive, package = (self.path("one", name) for name in sums)
+        self.look_at_the_archive(archive)
+        self.look_at_the_package(package)
+        self.assertEqual(self.builds(), 1)
+
+    def look_at_the_archive(self, archive: str) -> None:
+        self.said("tar", "-xf", archive, "-C", self.top)
+        folder = self.path(os.path.basename(archive).removesuffix(".tar.xz"))
+        self.said("sha256sum", "--check", "--quiet", "SHA256SUMS", folder=folder)
+        with open(os.path.join(folder, "PROVED"), encoding="utf-8") as file:
+            proved = file.read()
+        for line in (
+            f"commit {self.said('git', 'rev-parse', 'HEAD').strip()}",
+            "kit test-kit logic 0",
+            f"sha256 of the program {summed(os.path.join(folder, 'crates/mrt/out/mrt'))}",
+            "    rt ci: 5 passed, 0 failed",
+            "    tools/test: Ran 7 tests, OK",
+        ):
+            self.assertIn(f"\n{line}\n", proved)
+        self.assertEqual(self.said("./mrt", "a", folder=folder), "a\n")
+        version = self.said("./mrt", "--version", folder=folder)
+        self.assertIn("\nproved before the release (see PROVED), not here\n", version)
+        self.said("./mrt", "--install", self.path("usr"), folder=folder)
+        self.assertEqual(self.said("usr/bin/mrt", "a", folder=self.top), "a\n")
+
+    def look_at_the_package(self, package: str) -> None:
+        root = self.path("root")
+        self.assertRegex(self.said("dpkg-deb", "--field", package, "Depends"), r"^libc6 \(.*\), python3 \(")
+        self.said("dpkg-deb", "--extract", package, root)
+        self.assertEqual(self.said(os.path.join(root, "usr/bin/mrt"), "a"), "a\n")
+        for path, _, names in os.walk(root):
+            for name in names:
+                self.assertTrue(os.path.exists(os.path.join(path, name)), name)
 
 
 if __name__ == "__main__":
