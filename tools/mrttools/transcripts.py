@@ -8,7 +8,6 @@ from __future__ import annotations
 
 import os
 import re
-import shutil
 import subprocess
 from dataclasses import dataclass, field
 
@@ -69,21 +68,11 @@ def why_not_run(commands: list[Command]) -> str | None:
 
 
 def repository(root: str, folder: str) -> None:
-    """Makes the folder one like the repository, in which commands may write, and in which the program is newer than
-    its sources, so that nothing is built."""
+    """Makes the folder one like the repository, in which commands may write. Its ./mrt is a link, and so runs what is
+    built in the repository."""
     for name in os.listdir(root):
-        if name not in (".git", "crates"):
+        if name != ".git":
             os.symlink(os.path.join(root, name), os.path.join(folder, name))
-    crates = os.path.join(root, "crates")
-    os.makedirs(os.path.join(folder, "crates", "mrt", "out"))
-    for name in os.listdir(crates):
-        if name != "mrt":
-            os.symlink(os.path.join(crates, name), os.path.join(folder, "crates", name))
-    for name in os.listdir(os.path.join(crates, "mrt")):
-        if name != "out":
-            os.symlink(os.path.join(crates, "mrt", name), os.path.join(folder, "crates", "mrt", name))
-    program = os.path.join("crates", "mrt", "out", "mrt")
-    shutil.copy(os.path.join(root, program), os.path.join(folder, program))
 
 
 def outputs(commands: list[Command], folder: str) -> list[list[str]]:
