@@ -1,7 +1,7 @@
-use Rattle.std.proofs.Common.{◌≡◌, ◌∙◌, ◌<◌, ◌+◌, ◌++◌, ℕ, cond, if◌then◌else◌, List, [], ◌∷◌, Option, Some, None, length, map, take, get_or, refl, sym, ap, arith}
-use Rattle.std.specs.List.{AllByRecursion, Contains, position}
+use Rattle.std.proofs.Common.{◌≡◌, ◌∙◌, ◌<◌, ◌≤◌, ◌+◌, ◌++◌, ℕ, cond, if◌then◌else◌, List, [], ◌∷◌, Option, Some, None, length, map, take, get_or, refl, sym, ap, arith}
+use Rattle.std.specs.List.{AllByRecursion, Contains, filter, position}
 use Rattle.std.specs.Option.{is_none, unwrap_or}
-use Rattle.std.proofs.lemmas.List.{get_or-map, get_or_default, length-map, map-append, map_more}
+use Rattle.std.proofs.lemmas.List.{append-nil, get_or-map, get_or_default, length-map, map-append, map_more, take_all}
 use Rattle.std.proofs.lemmas.List.Elements.{All-from_recursion, Contains-get_or}
 use Rattle.mrt_graph.specs.InOrder.{in_order}
 use Rattle.mrt_graph.proofs.Members.{has_from_contains}
@@ -133,3 +133,24 @@ loop-x-preserved c =
           ∙ sym (map_more (with_bond arcs) (ordered_arcs arcs) place nothing at.within);
       bonds = bonds_made arcs c.requires.ordered x place c.loop-x.bonds.items c.bond_number.new.bonds.items at c.loop-x.invariant.bonds c.in_ok-number.ensures.bonds;
     }
+
+pub loop-x-init : goal.loop-x-init
+loop-x-init c = record {
+  arcs = c.in_ok-all.ensures.items;
+  bonds = c.requires.pairs ∙ ap (map (bond_from c.args.arcs.now)) (sym (append-nil (pairs c.args.arcs.now)));
+}
+
+-- the loop has gone over all arcs
+all_over : (arcs : List Entry) (numbered : List Numbered) (place : ℕ) → numbered ≡ map (with_pair arcs) (in_order arc_cmp arcs) → length numbered ≤ place
+    → take place (ordered_arcs arcs) ≡ ordered_arcs arcs
+all_over arcs numbered place is over = take_all place (ordered_arcs arcs) (omega (arith, ap length is, length-map (ordered_arcs arcs) (with_pair arcs), over))
+
+pub returns-clause-arcs : goal.returns-clause-arcs
+returns-clause-arcs c =
+    c.loop-x.invariant.arcs ∙ ap (map (with_bond c.args.arcs.now)) (all_over c.args.arcs.now c.args.numbered.now c.loop-x.x-index c.requires.numbered c.loop-x-test.false)
+
+pub returns-clause-bonds : goal.returns-clause-bonds
+returns-clause-bonds c =
+    let arcs = c.args.arcs.now in
+    c.loop-x.invariant.bonds
+    ∙ ap (λ (xs : List Entry). map (bond_from arcs) (pairs arcs ++ filter (is_single arcs) xs)) (all_over arcs c.args.numbered.now c.loop-x.x-index c.requires.numbered c.loop-x-test.false)

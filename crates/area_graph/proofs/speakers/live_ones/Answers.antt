@@ -1,6 +1,8 @@
-use Rattle.std.proofs.Common.{◌∙◌, ap, sym, subst, arith, take, vec_len, Vec, Global}
+use Rattle.std.proofs.Common.{List, ◌∙◌, ap, sym, subst, arith, take, vec_len, Vec, Global}
 use Rattle.std.specs.Prelude.{vec_capacity}
 use Rattle.std.specs.List.{AllZip}
+use Rattle.std.proofs.lemmas.List.{take_all}
+use Rattle.ospf_lsa.specs.declared.lsa.Lsa.{Lsa}
 use Rattle.area_graph.specs.Nodes.{live}
 use Rattle.area_graph.specs.Speaking.{IsSpeakerOf}
 use Rattle.area_graph.specs.declared.speaker.Speaker.{Speaker}
@@ -29,3 +31,10 @@ loop-at-preserved c =
         room = ap (λ (v : Speakers). vec_capacity v) w.found-is ∙ c.loop-at.invariant.room;
       }
     ]
+
+pub push_reserved-requires : goal.push_reserved-requires
+push_reserved-requires c = omega (arith, c.loop-at.invariant.many, c.loop-at.invariant.room, c.loop-at-test.true)
+
+pub returns-clause-speak : goal.returns-clause-speak
+returns-clause-speak c =
+    subst (λ (lsas : List Lsa). AllZip (IsSpeakerOf c.args.lsas.now) c.loop-at.found.items (live lsas)) (take_all c.loop-at.at c.args.lsas.now c.loop-at-test.false) c.loop-at.invariant.speak
