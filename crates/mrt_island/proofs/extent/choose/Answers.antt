@@ -1,4 +1,6 @@
-use Rattle.std.proofs.Common.{arith}
+use Rattle.std.proofs.Common.{◌<◌, length, sym, subst, arith}
+use Rattle.std.proofs.lemmas.List.Elements.{All-from_recursion}
+use Rattle.area_graph.specs.declared.area_types.Bond.{Bond}
 use Rattle.mrt_island.proofs.Choosing.{chosen_more}
 use Rattle.mrt_island.proofs.extent.choose.Goals as goal
 
@@ -9,3 +11,17 @@ loop-k-preserved c = record {
   so_far = chosen_more c.args.flags.now c.args.inside.now c.args.bonds.now c.loop-k.k c.index-bonds-k.result c.is_between.result _ _ _ (omega arith) (omega arith) c.index-bonds-k.is
       c.is_between.ensures c.push_reserved.ensures.items c.loop-k.invariant.so_far;
 }
+
+pub is_between-requires-clause-a : goal.is_between-requires-clause-a
+is_between-requires-clause-a c =
+    let bonds = c.args.bonds.now in
+    let many = length c.args.inside.now in
+    subst (λ (bond : Bond). bond.a < many) (sym c.index-bonds-k.is)
+    (All-from_recursion (λ (bond : Bond). (bond.a < many) × (bond.b < many)) bonds c.requires.within c.loop-k.k c.index-bonds-k.result c.loop-k-test.true).0
+
+pub is_between-requires-clause-b : goal.is_between-requires-clause-b
+is_between-requires-clause-b c =
+    let bonds = c.args.bonds.now in
+    let many = length c.args.inside.now in
+    subst (λ (bond : Bond). bond.b < many) (sym c.index-bonds-k.is)
+    (All-from_recursion (λ (bond : Bond). (bond.a < many) × (bond.b < many)) bonds c.requires.within c.loop-k.k c.index-bonds-k.result c.loop-k-test.true).1

@@ -1,5 +1,7 @@
-use Rattle.std.proofs.Common.{◌∙◌, ◌++◌, ◌∷◌, [], length, refl, ap, arith}
+use Rattle.std.proofs.Common.{◌∙◌, ◌<◌, ◌++◌, ◌∷◌, [], length, refl, sym, ap, subst, arith}
+use Rattle.std.proofs.lemmas.List.Elements.{All-from_recursion}
 use Rattle.std.proofs.lemmas.Option.{slice_get_read}
+use Rattle.area_graph.specs.declared.area_types.Bond.{Bond}
 use Rattle.mrt_graph.specs.declared.link.LinkIn.{LinkIn}
 use Rattle.mrt_island.specs.Numbering.{link_by}
 use Rattle.mrt_island.proofs.Flagging.{made_here, unmade_here}
@@ -23,3 +25,17 @@ loop-k-preserved c = elim c.if-flags-k.branch [
         (ap (λ v. v.items) w.links-is) c.loop-k.invariant.so_far;
   }
 ]
+
+pub link-requires-clause-a : goal.link-requires-clause-a
+link-requires-clause-a c =
+    let bonds = c.args.bonds.now in
+    let many = length c.args.inside.now in
+    subst (λ (bond : Bond). bond.a < many) (sym c.index-bonds-k.is)
+    (All-from_recursion (λ (bond : Bond). (bond.a < many) × (bond.b < many)) bonds c.requires.within c.loop-k.k c.index-bonds-k.result (omega arith)).0
+
+pub link-requires-clause-b : goal.link-requires-clause-b
+link-requires-clause-b c =
+    let bonds = c.args.bonds.now in
+    let many = length c.args.inside.now in
+    subst (λ (bond : Bond). bond.b < many) (sym c.index-bonds-k.is)
+    (All-from_recursion (λ (bond : Bond). (bond.a < many) × (bond.b < many)) bonds c.requires.within c.loop-k.k c.index-bonds-k.result (omega arith)).1

@@ -1,9 +1,18 @@
 use Rattle.std.proofs.Common.{◌∙◌, ◌↔◌, ℕ, List, Bool, length, ap, subst, sym}
 use Rattle.mrt_graph.specs.Reachable.{Reachable}
-use Rattle.mrt_graph.specs.Search.{Enters, IsMarked, SearchState}
-use Rattle.mrt_graph.proofs.Searching.{Searches, searches_ended, searches_onward}
+use Rattle.mrt_graph.specs.Search.{Enters, IsBegun, IsMarked, SearchState}
+use Rattle.mrt_graph.proofs.Searching.{Searches, searches_begun, searches_ended, searches_onward}
 use Rattle.mrt_island.specs.Searching.{LeadsOver}
 use Rattle.mrt_island.proofs.settling.settle.Goals as goal
+
+pub loop-at-init : goal.loop-at-init
+loop-at-init c =
+    let begun : IsBegun c.count.result c.get.result c.in_ok-search.search = c.in_ok-search.ensures in
+    record {
+      count = begun.one_each ∙ c.count.ensures.count;
+      search = subst (λ (s : ℕ). Searches (LeadsOver c.args.area.now.bonds c.args.flags.now) s c.in_ok-search.search) c.get.ensures.value
+          (searches_begun _ c.count.result c.get.result c.in_ok-search.search begun);
+    }
 
 pub loop-at-preserved : goal.loop-at-preserved
 loop-at-preserved c =
