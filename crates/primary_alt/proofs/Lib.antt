@@ -15,6 +15,7 @@ pub mod FirstsFound
 pub mod HopsArrive
 pub mod IslandNumbers
 pub mod NearerHops
+pub mod NumbersRead
 pub mod OfferMade
 pub mod PrimariesExist
 pub mod PrimariesLead
