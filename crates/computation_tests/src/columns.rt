@@ -1,31 +1,18 @@
 //! Columns beside the rows of each source.
 
-ghost use Rattle.std.specs.Prelude.{◌≡◌, ◌<◌, IfOk, length};
+ghost use Rattle.std.specs.Prelude.{◌≡◌, ◌<◌, length};
 ghost use Rattle.link_direction.specs.Directions.{Directions, Says};
 ghost use Rattle.link_direction.specs.OrderedGadag.{SaysOrdered};
 ghost use Rattle.mrt_rows.specs.Held.{AreHeld};
 
-use crate::hand_graphs::{graph, links_of};
+use crate::hand_graphs::graph_told;
+use crate::hand_paths::directed_of;
 use crate::hand_rows::{Case, cases, row_in};
-use gadag_ears::ears;
-use link_direction::direct;
-use lowpoint_dfs::search;
 use mrt_graph::{Column, Directed, Graph, GraphError, NoMemory, NodeNo, Row};
 use mrt_rows::{Columns, column_of, rows_of};
 use std::alloc::Global;
 use std::process::Abort;
 use std::test::Fail;
-
-/// The GADAG of a graph with its order.
-fn directed_from(rt: &impl Abort, alloc: Global, g: &Graph, root: u16) -> Result<Directed, NoMemory>
-    ensures { IfOk result (λ d. SaysOrdered g.now root d) }
-{
-    assert!(rt; root < g.node_count());
-    let root = NodeNo::new(root);
-    let tree = search(alloc, g, root)?;
-    let gadag = ears(alloc, g, root, &tree)?;
-    direct(alloc, g, root, gadag)
-}
 
 /// The row of `s` for `to`, by the rows of `s`.
 fn row_by_source(
@@ -129,9 +116,8 @@ fn all_agree(alloc: Global, g: &Graph, root: NodeNo, d: &Directed) -> Result<boo
 }
 
 fn are_so(rt: &impl Abort, alloc: Global, case: &Case) -> Result<bool, GraphError> {
-    let links = links_of(alloc, case.links)?;
-    let g = graph(rt, alloc, case.count, case.routers, links)?;
-    let d = directed_from(rt, alloc, &g, case.root)?;
+    let g = graph_told(rt, alloc, case.count, case.routers, case.links)?;
+    let d = directed_of(rt, alloc, &g, case.root)?;
     Ok(all_agree(alloc, &g, NodeNo::new(case.root), &d)?)
 }
 

@@ -1,6 +1,6 @@
 //! Certificates by hand: what they say of nodes and links. Their rows are in `hand_rows`.
 
-use crate::hand_graphs::{LinkTold, graph, links_of};
+use crate::hand_graphs::{LinkTold, graph_told};
 use mrt_graph::{Cert, CertLink, CertNode, Graph, GraphError, NoMemory, NodeNo, Role};
 use mrt_rows::compute;
 use std::alloc::Global;
@@ -127,8 +127,7 @@ fn says_of_links(links: &[CertLink], said: &[LinkSaid]) -> bool {
 }
 
 fn is_so(rt: &impl Abort, alloc: Global, case: &Case) -> Result<bool, GraphError> {
-    let links = links_of(alloc, case.links)?;
-    let g = graph(rt, alloc, case.count, case.routers, links)?;
+    let g = graph_told(rt, alloc, case.count, case.routers, case.links)?;
     let cert = cert_of(rt, alloc, &g, case.root)?;
     Ok(says_of_nodes(cert.nodes(), case.nodes_said) && says_of_links(cert.links(), case.links_said))
 }

@@ -1,12 +1,10 @@
 //! Directions by hand: the order of the nodes, and the direction of each link.
 
-ghost use Rattle.std.specs.Prelude.{◌≡◌, ◌<◌, IfOk, length};
+ghost use Rattle.std.specs.Prelude.{◌≡◌, length};
 
-use crate::hand_graphs::{LinkTold, graph, links_of};
-use gadag_ears::ears;
-use link_direction::direct;
-use lowpoint_dfs::search;
-use mrt_graph::{Directed, Graph, GraphError, LinkNo, NoMemory, NodeNo, Way};
+use crate::hand_graphs::{LinkTold, graph_told};
+use crate::hand_paths::directed_of;
+use mrt_graph::{Directed, GraphError, LinkNo, NodeNo, Way};
 use std::alloc::Global;
 use std::process::Abort;
 use std::test::Fail;
@@ -22,196 +20,200 @@ struct Case {
     ways: &'static [Way],
 }
 
-const CASES: &[Case] = &[
-    Case {
-        name: "one node alone",
-        count: 1,
-        routers: 1,
-        links: &[],
-        root: 0,
-        order: &[0],
-        ways: &[],
-    },
-    Case {
-        name: "a triangle",
-        count: 3,
-        routers: 3,
-        links: &[(0, 1, 10, 10), (0, 2, 10, 10), (1, 2, 10, 10)],
-        root: 2,
-        order: &[2, 0, 1],
-        ways: &[Way::AToB, Way::BToA, Way::AToB],
-    },
-    Case {
-        name: "two triangles at router 3, so that two nodes are ready after it",
-        count: 5,
-        routers: 5,
-        links: &[
-            (0, 1, 10, 10),
-            (0, 2, 10, 10),
-            (1, 2, 10, 10),
-            (2, 3, 10, 10),
-            (2, 4, 10, 10),
-            (3, 4, 10, 10),
-        ],
-        root: 4,
-        order: &[4, 2, 0, 3, 1],
-        ways: &[
-            Way::AToB,
-            Way::BToA,
-            Way::AToB,
-            Way::AToB,
-            Way::BToA,
-            Way::AToB,
-        ],
-    },
-    Case {
-        name: "a ring with a chord each way",
-        count: 5,
-        routers: 5,
-        links: &[
-            (0, 1, 10, 10),
-            (0, 3, 10, 10),
-            (0, 4, 10, 10),
-            (1, 2, 10, 10),
-            (1, 4, 10, 10),
-            (2, 4, 10, 10),
-            (3, 4, 10, 10),
-        ],
-        root: 4,
-        order: &[4, 3, 0, 1, 2],
-        ways: &[
-            Way::AToB,
-            Way::BToA,
-            Way::BToA,
-            Way::AToB,
-            Way::BToA,
-            Way::AToB,
-            Way::BToA,
-        ],
-    },
-    Case {
-        name: "routers 1 to 3 with links to 4 and to 5",
-        count: 5,
-        routers: 5,
-        links: &[
-            (0, 3, 10, 10),
-            (0, 4, 10, 10),
-            (1, 3, 10, 10),
-            (1, 4, 10, 10),
-            (2, 3, 10, 10),
-            (2, 4, 10, 10),
-        ],
-        root: 4,
-        order: &[4, 0, 2, 3, 1],
-        ways: &[
-            Way::AToB,
-            Way::BToA,
-            Way::BToA,
-            Way::AToB,
-            Way::AToB,
-            Way::BToA,
-        ],
-    },
-    Case {
-        name: "a network in a ring, and a far link over it",
-        count: 5,
-        routers: 4,
-        links: &[
-            (0, 3, 100, 100),
-            (0, 4, 10, 0),
-            (1, 3, 10, 10),
-            (1, 4, 10, 0),
-            (2, 3, 10, 10),
-            (2, 4, 10, 0),
-        ],
-        root: 3,
-        order: &[3, 1, 2, 4, 0],
-        ways: &[
-            Way::AToB,
-            Way::BToA,
-            Way::BToA,
-            Way::AToB,
-            Way::BToA,
-            Way::AToB,
-        ],
-    },
-    Case {
-        name: "a ring of 8 routers",
-        count: 8,
-        routers: 8,
-        links: &[
-            (0, 1, 10, 10),
-            (0, 7, 10, 10),
-            (1, 2, 10, 10),
-            (2, 3, 10, 10),
-            (3, 4, 10, 10),
-            (4, 5, 10, 10),
-            (5, 6, 10, 10),
-            (6, 7, 10, 10),
-        ],
-        root: 7,
-        order: &[7, 0, 1, 2, 3, 4, 5, 6],
-        ways: &[
-            Way::AToB,
-            Way::BToA,
-            Way::AToB,
-            Way::AToB,
-            Way::AToB,
-            Way::AToB,
-            Way::AToB,
-            Way::AToB,
-        ],
-    },
-    Case {
-        name: "a node that counted links of three ears enter",
-        count: 5,
-        routers: 5,
-        links: &[
-            (0, 1, 10, 10),
-            (0, 2, 10, 10),
-            (0, 4, 10, 10),
-            (1, 2, 10, 10),
-            (1, 3, 10, 10),
-            (1, 4, 10, 10),
-            (2, 3, 10, 10),
-        ],
-        root: 4,
-        order: &[4, 0, 2, 3, 1],
-        ways: &[
-            Way::AToB,
-            Way::AToB,
-            Way::BToA,
-            Way::BToA,
-            Way::BToA,
-            Way::AToB,
-            Way::AToB,
-        ],
-    },
-    Case {
-        name: "two nodes that are ready after one, the nearer one first",
-        count: 3,
-        routers: 3,
-        links: &[(0, 1, 20, 20), (0, 2, 10, 10)],
-        root: 0,
-        order: &[0, 2, 1],
-        ways: &[Way::AToB, Way::AToB],
-    },
-];
+const ALONE: &Case = &Case {
+    name: "one node alone",
+    count: 1,
+    routers: 1,
+    links: &[],
+    root: 0,
+    order: &[0],
+    ways: &[],
+};
 
-fn cases() -> &'static [Case] {
-    CASES
-}
+const TRIANGLE: &Case = &Case {
+    name: "a triangle",
+    count: 3,
+    routers: 3,
+    links: &[(0, 1, 10, 10), (0, 2, 10, 10), (1, 2, 10, 10)],
+    root: 2,
+    order: &[2, 0, 1],
+    ways: &[Way::AToB, Way::BToA, Way::AToB],
+};
 
-/// The directions of a graph from a root.
-fn directed_of(rt: &impl Abort, alloc: Global, g: &Graph, root: u16) -> Result<Directed, NoMemory>
-    ensures orders { IfOk result (λ d. length d.orders ≡ length g.now.ids) }
-    ensures marks { IfOk result (λ d. length d.marks ≡ length g.now.links) }
-{
-    assert!(rt; root < g.node_count());
-    let root = NodeNo::new(root);
-    let tree = search(alloc, g, root)?;
-    let gadag = ears(alloc, g, root, &tree)?;
-    direct(alloc, g, root, gadag)
+const TWO_TRIANGLES: &Case = &Case {
+    name: "two triangles at router 3, so that two nodes are ready after it",
+    count: 5,
+    routers: 5,
+    links: &[
+        (0, 1, 10, 10),
+        (0, 2, 10, 10),
+        (1, 2, 10, 10),
+        (2, 3, 10, 10),
+        (2, 4, 10, 10),
+        (3, 4, 10, 10),
+    ],
+    root: 4,
+    order: &[4, 2, 0, 3, 1],
+    ways: &[
+        Way::AToB,
+        Way::BToA,
+        Way::AToB,
+        Way::AToB,
+        Way::BToA,
+        Way::AToB,
+    ],
+};
+
+const RING_WITH_CHORDS: &Case = &Case {
+    name: "a ring with a chord each way",
+    count: 5,
+    routers: 5,
+    links: &[
+        (0, 1, 10, 10),
+        (0, 3, 10, 10),
+        (0, 4, 10, 10),
+        (1, 2, 10, 10),
+        (1, 4, 10, 10),
+        (2, 4, 10, 10),
+        (3, 4, 10, 10),
+    ],
+    root: 4,
+    order: &[4, 3, 0, 1, 2],
+    ways: &[
+        Way::AToB,
+        Way::BToA,
+        Way::BToA,
+        Way::AToB,
+        Way::BToA,
+        Way::AToB,
+        Way::BToA,
+    ],
+};
+
+const THREE_BETWEEN_TWO: &Case = &Case {
+    name: "routers 1 to 3 with links to 4 and to 5",
+    count: 5,
+    routers: 5,
+    links: &[
+        (0, 3, 10, 10),
+        (0, 4, 10, 10),
+        (1, 3, 10, 10),
+        (1, 4, 10, 10),
+        (2, 3, 10, 10),
+        (2, 4, 10, 10),
+    ],
+    root: 4,
+    order: &[4, 0, 2, 3, 1],
+    ways: &[
+        Way::AToB,
+        Way::BToA,
+        Way::BToA,
+        Way::AToB,
+        Way::AToB,
+        Way::BToA,
+    ],
+};
+
+const NETWORK: &Case = &Case {
+    name: "a network in a ring, and a far link over it",
+    count: 5,
+    routers: 4,
+    links: &[
+        (0, 3, 100, 100),
+        (0, 4, 10, 0),
+        (1, 3, 10, 10),
+        (1, 4, 10, 0),
+        (2, 3, 10, 10),
+        (2, 4, 10, 0),
+    ],
+    root: 3,
+    order: &[3, 1, 2, 4, 0],
+    ways: &[
+        Way::AToB,
+        Way::BToA,
+        Way::BToA,
+        Way::AToB,
+        Way::BToA,
+        Way::AToB,
+    ],
+};
+
+const RING_OF_EIGHT: &Case = &Case {
+    name: "a ring of 8 routers",
+    count: 8,
+    routers: 8,
+    links: &[
+        (0, 1, 10, 10),
+        (0, 7, 10, 10),
+        (1, 2, 10, 10),
+        (2, 3, 10, 10),
+        (3, 4, 10, 10),
+        (4, 5, 10, 10),
+        (5, 6, 10, 10),
+        (6, 7, 10, 10),
+    ],
+    root: 7,
+    order: &[7, 0, 1, 2, 3, 4, 5, 6],
+    ways: &[
+        Way::AToB,
+        Way::BToA,
+        Way::AToB,
+        Way::AToB,
+        Way::AToB,
+        Way::AToB,
+        Way::AToB,
+        Way::AToB,
+    ],
+};
+
+const THREE_EARS: &Case = &Case {
+    name: "a node that counted links of three ears enter",
+    count: 5,
+    routers: 5,
+    links: &[
+        (0, 1, 10, 10),
+        (0, 2, 10, 10),
+        (0, 4, 10, 10),
+        (1, 2, 10, 10),
+        (1, 3, 10, 10),
+        (1, 4, 10, 10),
+        (2, 3, 10, 10),
+    ],
+    root: 4,
+    order: &[4, 0, 2, 3, 1],
+    ways: &[
+        Way::AToB,
+        Way::AToB,
+        Way::BToA,
+        Way::BToA,
+        Way::BToA,
+        Way::AToB,
+        Way::AToB,
+    ],
+};
+
+const TWO_READY: &Case = &Case {
+    name: "two nodes that are ready after one, the nearer one first",
+    count: 3,
+    routers: 3,
+    links: &[(0, 1, 20, 20), (0, 2, 10, 10)],
+    root: 0,
+    order: &[0, 2, 1],
+    ways: &[Way::AToB, Way::AToB],
+};
+
+fn cases() -> [&'static Case; 9] {
+    [
+        ALONE,
+        TRIANGLE,
+        TWO_TRIANGLES,
+        RING_WITH_CHORDS,
+        THREE_BETWEEN_TWO,
+        NETWORK,
+        RING_OF_EIGHT,
+        THREE_EARS,
+        TWO_READY,
+    ]
 }
 
 fn has_order(d: &Directed, count: u16, told: &[u16]) -> bool
@@ -244,8 +246,7 @@ fn has_ways(d: &Directed, count: u16, told: &[Way]) -> bool
 }
 
 fn is_so(rt: &impl Abort, alloc: Global, case: &Case) -> Result<bool, GraphError> {
-    let links = links_of(alloc, case.links)?;
-    let g = graph(rt, alloc, case.count, case.routers, links)?;
+    let g = graph_told(rt, alloc, case.count, case.routers, case.links)?;
     let d = directed_of(rt, alloc, &g, case.root)?;
     Ok(has_order(&d, g.node_count(), case.order) && has_ways(&d, g.link_count(), case.ways))
 }

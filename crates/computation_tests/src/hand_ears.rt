@@ -2,7 +2,7 @@
 
 ghost use Rattle.std.specs.Prelude.{◌≡◌, ◌<◌, IfOk, length};
 
-use crate::hand_graphs::{LinkTold, graph, links_of};
+use crate::hand_graphs::{LinkTold, graph_told};
 use gadag_ears::ears;
 use lowpoint_dfs::search;
 use mrt_graph::{Gadag, Graph, GraphError, LinkNo, Mark, NoMemory, NodeNo, Place, Role, Way};
@@ -28,215 +28,233 @@ struct Case {
     marks: &'static [MarkTold],
 }
 
-const CASES: &[Case] = &[
-    Case {
-        name: "one node alone",
-        count: 1,
-        routers: 1,
-        links: &[],
-        root: 0,
-        order: &[0],
-        places: &[(0, 0)],
-        marks: &[],
-    },
-    Case {
-        name: "a triangle",
-        count: 3,
-        routers: 3,
-        links: &[(0, 1, 10, 10), (0, 2, 10, 10), (1, 2, 10, 10)],
-        root: 2,
-        order: &[2, 0, 1],
-        places: &[(2, 0), (2, 0), (2, 2)],
-        marks: &[
-            (Way::AToB, Role::Plain, 0),
-            (Way::BToA, Role::Plain, 0),
-            (Way::AToB, Role::Closing, 0),
-        ],
-    },
-    Case {
-        name: "three parallel links between two routers",
-        count: 2,
-        routers: 2,
-        links: &[(0, 1, 10, 10), (0, 1, 10, 10), (0, 1, 10, 10)],
-        root: 1,
-        order: &[1, 0],
-        places: &[(1, 0), (1, 1)],
-        marks: &[
-            (Way::BToA, Role::Plain, 0),
-            (Way::AToB, Role::Closing, 0),
-            (Way::Unset, Role::Plain, 0),
-        ],
-    },
-    Case {
-        name: "two triangles at router 3",
-        count: 5,
-        routers: 5,
-        links: &[
-            (0, 1, 10, 10),
-            (0, 2, 10, 10),
-            (1, 2, 10, 10),
-            (2, 3, 10, 10),
-            (2, 4, 10, 10),
-            (3, 4, 10, 10),
-        ],
-        root: 4,
-        order: &[4, 2, 0, 1, 3],
-        places: &[(2, 0), (2, 0), (4, 2), (4, 2), (4, 4)],
-        marks: &[
-            (Way::AToB, Role::Plain, 0),
-            (Way::BToA, Role::Plain, 0),
-            (Way::AToB, Role::Closing, 0),
-            (Way::AToB, Role::Plain, 2),
-            (Way::BToA, Role::Plain, 2),
-            (Way::AToB, Role::Closing, 2),
-        ],
-    },
-    Case {
-        name: "three links in a star, and one more from its last router: a tree",
-        count: 5,
-        routers: 5,
-        links: &[
-            (0, 1, 10, 10),
-            (0, 2, 10, 10),
-            (0, 3, 10, 10),
-            (3, 4, 10, 10),
-        ],
-        root: 0,
-        order: &[0, 3, 4, 2, 1],
-        places: &[(0, 0), (0, 1), (0, 2), (0, 3), (3, 4)],
-        marks: &[
-            (Way::AToB, Role::Sole, 1),
-            (Way::AToB, Role::Sole, 2),
-            (Way::AToB, Role::Sole, 3),
-            (Way::AToB, Role::Sole, 4),
-        ],
-    },
-    Case {
-        name: "a ring with a chord each way",
-        count: 5,
-        routers: 5,
-        links: &[
-            (0, 1, 10, 10),
-            (0, 3, 10, 10),
-            (0, 4, 10, 10),
-            (1, 2, 10, 10),
-            (1, 4, 10, 10),
-            (2, 4, 10, 10),
-            (3, 4, 10, 10),
-        ],
-        root: 4,
-        order: &[4, 3, 0, 1, 2],
-        places: &[(4, 0), (4, 0), (4, 0), (4, 0), (4, 4)],
-        marks: &[
-            (Way::AToB, Role::Plain, 0),
-            (Way::BToA, Role::Plain, 0),
-            (Way::BToA, Role::Plain, 0),
-            (Way::AToB, Role::Plain, 0),
-            (Way::Unset, Role::Plain, 0),
-            (Way::AToB, Role::Closing, 0),
-            (Way::BToA, Role::Plain, 0),
-        ],
-    },
-    Case {
-        name: "routers 2 to 4 with links to 1 and to 5",
-        count: 5,
-        routers: 5,
-        links: &[
-            (0, 1, 10, 10),
-            (0, 2, 10, 10),
-            (0, 3, 10, 10),
-            (1, 4, 10, 10),
-            (2, 4, 10, 10),
-            (3, 4, 10, 10),
-        ],
-        root: 4,
-        order: &[4, 3, 1, 0, 2],
-        places: &[(4, 1), (4, 1), (4, 1), (4, 1), (4, 4)],
-        marks: &[
-            (Way::BToA, Role::Plain, 1),
-            (Way::AToB, Role::Plain, 1),
-            (Way::BToA, Role::Plain, 1),
-            (Way::BToA, Role::Plain, 1),
-            (Way::AToB, Role::Closing, 1),
-            (Way::BToA, Role::Plain, 1),
-        ],
-    },
-    Case {
-        name: "an ear that stops above its start",
-        count: 5,
-        routers: 5,
-        links: &[
-            (0, 1, 10, 10),
-            (0, 2, 10, 10),
-            (0, 4, 10, 10),
-            (1, 2, 10, 10),
-            (1, 3, 10, 10),
-            (1, 4, 10, 10),
-            (2, 3, 10, 10),
-        ],
-        root: 4,
-        order: &[4, 0, 2, 3, 1],
-        places: &[(4, 0), (4, 0), (4, 0), (4, 0), (4, 4)],
-        marks: &[
-            (Way::AToB, Role::Plain, 0),
-            (Way::AToB, Role::Plain, 0),
-            (Way::BToA, Role::Plain, 0),
-            (Way::BToA, Role::Plain, 0),
-            (Way::BToA, Role::Plain, 0),
-            (Way::AToB, Role::Closing, 0),
-            (Way::AToB, Role::Plain, 0),
-        ],
-    },
-    Case {
-        name: "two blocks at one cut router",
-        count: 4,
-        routers: 4,
-        links: &[
-            (0, 1, 10, 10),
-            (0, 2, 10, 10),
-            (1, 2, 10, 10),
-            (2, 3, 10, 10),
-        ],
-        root: 2,
-        order: &[2, 3, 0, 1],
-        places: &[(2, 0), (2, 0), (2, 2), (2, 3)],
-        marks: &[
-            (Way::AToB, Role::Plain, 0),
-            (Way::BToA, Role::Plain, 0),
-            (Way::AToB, Role::Closing, 0),
-            (Way::AToB, Role::Sole, 3),
-        ],
-    },
-    Case {
-        name: "a network as a cut node",
-        count: 6,
-        routers: 5,
-        links: &[
-            (0, 1, 10, 10),
-            (0, 5, 10, 0),
-            (1, 5, 10, 0),
-            (2, 3, 10, 10),
-            (2, 5, 10, 0),
-            (3, 5, 10, 0),
-            (4, 5, 10, 0),
-        ],
-        root: 4,
-        order: &[4, 5, 2, 3, 0, 1],
-        places: &[(5, 0), (5, 0), (5, 2), (5, 2), (4, 4), (4, 5)],
-        marks: &[
-            (Way::AToB, Role::Plain, 0),
-            (Way::BToA, Role::Plain, 0),
-            (Way::AToB, Role::Closing, 0),
-            (Way::AToB, Role::Plain, 2),
-            (Way::BToA, Role::Plain, 2),
-            (Way::AToB, Role::Closing, 2),
-            (Way::AToB, Role::Sole, 5),
-        ],
-    },
-];
+const ALONE: &Case = &Case {
+    name: "one node alone",
+    count: 1,
+    routers: 1,
+    links: &[],
+    root: 0,
+    order: &[0],
+    places: &[(0, 0)],
+    marks: &[],
+};
 
-fn cases() -> &'static [Case] {
-    CASES
+const TRIANGLE: &Case = &Case {
+    name: "a triangle",
+    count: 3,
+    routers: 3,
+    links: &[(0, 1, 10, 10), (0, 2, 10, 10), (1, 2, 10, 10)],
+    root: 2,
+    order: &[2, 0, 1],
+    places: &[(2, 0), (2, 0), (2, 2)],
+    marks: &[
+        (Way::AToB, Role::Plain, 0),
+        (Way::BToA, Role::Plain, 0),
+        (Way::AToB, Role::Closing, 0),
+    ],
+};
+
+const PARALLEL_LINKS: &Case = &Case {
+    name: "three parallel links between two routers",
+    count: 2,
+    routers: 2,
+    links: &[(0, 1, 10, 10), (0, 1, 10, 10), (0, 1, 10, 10)],
+    root: 1,
+    order: &[1, 0],
+    places: &[(1, 0), (1, 1)],
+    marks: &[
+        (Way::BToA, Role::Plain, 0),
+        (Way::AToB, Role::Closing, 0),
+        (Way::Unset, Role::Plain, 0),
+    ],
+};
+
+const TWO_TRIANGLES: &Case = &Case {
+    name: "two triangles at router 3",
+    count: 5,
+    routers: 5,
+    links: &[
+        (0, 1, 10, 10),
+        (0, 2, 10, 10),
+        (1, 2, 10, 10),
+        (2, 3, 10, 10),
+        (2, 4, 10, 10),
+        (3, 4, 10, 10),
+    ],
+    root: 4,
+    order: &[4, 2, 0, 1, 3],
+    places: &[(2, 0), (2, 0), (4, 2), (4, 2), (4, 4)],
+    marks: &[
+        (Way::AToB, Role::Plain, 0),
+        (Way::BToA, Role::Plain, 0),
+        (Way::AToB, Role::Closing, 0),
+        (Way::AToB, Role::Plain, 2),
+        (Way::BToA, Role::Plain, 2),
+        (Way::AToB, Role::Closing, 2),
+    ],
+};
+
+const STAR: &Case = &Case {
+    name: "three links in a star, and one more from its last router: a tree",
+    count: 5,
+    routers: 5,
+    links: &[
+        (0, 1, 10, 10),
+        (0, 2, 10, 10),
+        (0, 3, 10, 10),
+        (3, 4, 10, 10),
+    ],
+    root: 0,
+    order: &[0, 3, 4, 2, 1],
+    places: &[(0, 0), (0, 1), (0, 2), (0, 3), (3, 4)],
+    marks: &[
+        (Way::AToB, Role::Sole, 1),
+        (Way::AToB, Role::Sole, 2),
+        (Way::AToB, Role::Sole, 3),
+        (Way::AToB, Role::Sole, 4),
+    ],
+};
+
+const RING_WITH_CHORDS: &Case = &Case {
+    name: "a ring with a chord each way",
+    count: 5,
+    routers: 5,
+    links: &[
+        (0, 1, 10, 10),
+        (0, 3, 10, 10),
+        (0, 4, 10, 10),
+        (1, 2, 10, 10),
+        (1, 4, 10, 10),
+        (2, 4, 10, 10),
+        (3, 4, 10, 10),
+    ],
+    root: 4,
+    order: &[4, 3, 0, 1, 2],
+    places: &[(4, 0), (4, 0), (4, 0), (4, 0), (4, 4)],
+    marks: &[
+        (Way::AToB, Role::Plain, 0),
+        (Way::BToA, Role::Plain, 0),
+        (Way::BToA, Role::Plain, 0),
+        (Way::AToB, Role::Plain, 0),
+        (Way::Unset, Role::Plain, 0),
+        (Way::AToB, Role::Closing, 0),
+        (Way::BToA, Role::Plain, 0),
+    ],
+};
+
+const THREE_BETWEEN_TWO: &Case = &Case {
+    name: "routers 2 to 4 with links to 1 and to 5",
+    count: 5,
+    routers: 5,
+    links: &[
+        (0, 1, 10, 10),
+        (0, 2, 10, 10),
+        (0, 3, 10, 10),
+        (1, 4, 10, 10),
+        (2, 4, 10, 10),
+        (3, 4, 10, 10),
+    ],
+    root: 4,
+    order: &[4, 3, 1, 0, 2],
+    places: &[(4, 1), (4, 1), (4, 1), (4, 1), (4, 4)],
+    marks: &[
+        (Way::BToA, Role::Plain, 1),
+        (Way::AToB, Role::Plain, 1),
+        (Way::BToA, Role::Plain, 1),
+        (Way::BToA, Role::Plain, 1),
+        (Way::AToB, Role::Closing, 1),
+        (Way::BToA, Role::Plain, 1),
+    ],
+};
+
+const EAR_ABOVE_ITS_START: &Case = &Case {
+    name: "an ear that stops above its start",
+    count: 5,
+    routers: 5,
+    links: &[
+        (0, 1, 10, 10),
+        (0, 2, 10, 10),
+        (0, 4, 10, 10),
+        (1, 2, 10, 10),
+        (1, 3, 10, 10),
+        (1, 4, 10, 10),
+        (2, 3, 10, 10),
+    ],
+    root: 4,
+    order: &[4, 0, 2, 3, 1],
+    places: &[(4, 0), (4, 0), (4, 0), (4, 0), (4, 4)],
+    marks: &[
+        (Way::AToB, Role::Plain, 0),
+        (Way::AToB, Role::Plain, 0),
+        (Way::BToA, Role::Plain, 0),
+        (Way::BToA, Role::Plain, 0),
+        (Way::BToA, Role::Plain, 0),
+        (Way::AToB, Role::Closing, 0),
+        (Way::AToB, Role::Plain, 0),
+    ],
+};
+
+const TWO_BLOCKS: &Case = &Case {
+    name: "two blocks at one cut router",
+    count: 4,
+    routers: 4,
+    links: &[
+        (0, 1, 10, 10),
+        (0, 2, 10, 10),
+        (1, 2, 10, 10),
+        (2, 3, 10, 10),
+    ],
+    root: 2,
+    order: &[2, 3, 0, 1],
+    places: &[(2, 0), (2, 0), (2, 2), (2, 3)],
+    marks: &[
+        (Way::AToB, Role::Plain, 0),
+        (Way::BToA, Role::Plain, 0),
+        (Way::AToB, Role::Closing, 0),
+        (Way::AToB, Role::Sole, 3),
+    ],
+};
+
+const NETWORK: &Case = &Case {
+    name: "a network as a cut node",
+    count: 6,
+    routers: 5,
+    links: &[
+        (0, 1, 10, 10),
+        (0, 5, 10, 0),
+        (1, 5, 10, 0),
+        (2, 3, 10, 10),
+        (2, 5, 10, 0),
+        (3, 5, 10, 0),
+        (4, 5, 10, 0),
+    ],
+    root: 4,
+    order: &[4, 5, 2, 3, 0, 1],
+    places: &[(5, 0), (5, 0), (5, 2), (5, 2), (4, 4), (4, 5)],
+    marks: &[
+        (Way::AToB, Role::Plain, 0),
+        (Way::BToA, Role::Plain, 0),
+        (Way::AToB, Role::Closing, 0),
+        (Way::AToB, Role::Plain, 2),
+        (Way::BToA, Role::Plain, 2),
+        (Way::AToB, Role::Closing, 2),
+        (Way::AToB, Role::Sole, 5),
+    ],
+};
+
+fn cases() -> [&'static Case; 10] {
+    [
+        ALONE,
+        TRIANGLE,
+        PARALLEL_LINKS,
+        TWO_TRIANGLES,
+        STAR,
+        RING_WITH_CHORDS,
+        THREE_BETWEEN_TWO,
+        EAR_ABOVE_ITS_START,
+        TWO_BLOCKS,
+        NETWORK,
+    ]
 }
 
 /// The GADAG of a graph from a root, and how many nodes and links it has.
@@ -306,8 +324,7 @@ fn has_marks(gadag: &Gadag, count: u16, told: &[MarkTold]) -> bool
 }
 
 fn is_so(rt: &impl Abort, alloc: Global, case: &Case) -> Result<bool, GraphError> {
-    let links = links_of(alloc, case.links)?;
-    let g = graph(rt, alloc, case.count, case.routers, links)?;
+    let g = graph_told(rt, alloc, case.count, case.routers, case.links)?;
     let gadag = gadag_of(rt, alloc, &g, case.root)?;
     Ok(
         has_order(&gadag, case.order)

@@ -173,10 +173,41 @@ pub fn link(a: u16, b: u16, metric_a: u16, metric_b: u16) -> LinkIn {
 pub type LinkTold = (u16, u16, u16, u16);
 
 /// The links that these tell.
-pub fn links_of(alloc: Global, told: &[LinkTold]) -> Result<Vec<LinkIn>, NoMemory> {
+fn links_of(alloc: Global, told: &[LinkTold]) -> Result<Vec<LinkIn>, NoMemory> {
     let mut links = Vec::new(alloc);
     for (a, b, metric_a, metric_b) in told {
         links.push(link(*a, *b, *metric_a, *metric_b))?;
     }
     Ok(links)
+}
+
+/// A graph of so many nodes, the first of them routers, with the links that these tell.
+pub fn graph_told(
+    rt: &impl Abort,
+    alloc: Global,
+    count: u16,
+    routers: u16,
+    told: &[LinkTold],
+) -> Result<Graph, GraphError> {
+    let links = links_of(alloc, told)?;
+    graph(rt, alloc, count, routers, links)
+}
+
+/// The links of a ring of so many routers.
+fn ring_links(alloc: Global, count: u16) -> Result<Vec<LinkIn>, NoMemory> {
+    let mut links = Vec::new(alloc);
+    for a in 1..count {
+        links.push(link(a - 1, a, 10, 20))?;
+        if a == 1 {
+            links.push(link(0, count - 1, 5, 5))?;
+        }
+    }
+    Ok(links)
+}
+
+/// The graph of a ring of so many routers.
+pub fn ring(rt: &impl Abort, alloc: Global, count: u16) -> Result<Graph, GraphError> {
+    assert!(rt; count > 2);
+    let links = ring_links(alloc, count)?;
+    graph(rt, alloc, count, count, links)
 }

@@ -2,10 +2,8 @@
 
 ghost use Rattle.std.specs.Prelude.{◌≢◌, ◌<◌, length};
 
-use crate::hand_graphs::{LinkTold, graph, links_of};
-use gadag_ears::ears;
-use link_direction::direct;
-use lowpoint_dfs::search;
+use crate::hand_graphs::{LinkTold, graph_told};
+use crate::hand_paths::directed_of;
 use mrt_graph::{Graph, GraphError, LinkNo, NoMemory, NodeNo, Row, Tag};
 use mrt_rows::{compute, rows_of};
 use std::alloc::Global;
@@ -166,13 +164,9 @@ fn rows_from(
     root: u16,
     source: u16,
 ) -> Result<Vec<Row>, NoMemory> {
-    assert!(rt; root < g.node_count());
+    let d = directed_of(rt, alloc, g, root)?;
     assert!(rt; source < g.node_count());
-    let root = NodeNo::new(root);
-    let tree = search(alloc, g, root)?;
-    let gadag = ears(alloc, g, root, &tree)?;
-    let d = direct(alloc, g, root, gadag)?;
-    rows_of(alloc, g, root, &d, NodeNo::new(source))
+    rows_of(alloc, g, NodeNo::new(root), &d, NodeNo::new(source))
 }
 
 /// The row for t among those of s.
@@ -220,8 +214,7 @@ fn is_so(
 }
 
 fn are_so(rt: &impl Abort, alloc: Global, case: &Case) -> Result<bool, GraphError> {
-    let links = links_of(alloc, case.links)?;
-    let g = graph(rt, alloc, case.count, case.routers, links)?;
+    let g = graph_told(rt, alloc, case.count, case.routers, case.links)?;
     for told in case.rows {
         if !is_so(rt, alloc, &g, case.root, *told)? {
             return Ok(false);

@@ -2,9 +2,9 @@
 
 ghost use Rattle.mrt_rows.specs.NearOf.{MakeRows};
 
-use crate::hand_graphs::{graph, link, links_of};
+use crate::hand_graphs::{graph_told, ring};
 use crate::hand_rows::{Case, cases};
-use mrt_graph::{Cert, Graph, GraphError, LinkIn, NoMemory, NodeNo, Row, Tag};
+use mrt_graph::{Cert, Graph, GraphError, NoMemory, NodeNo, Row, Tag};
 use mrt_rows::{SourceRows, compute};
 use std::alloc::Global;
 use std::process::Abort;
@@ -67,8 +67,7 @@ fn agrees(rt: &impl Abort, alloc: Global, g: &Graph, root: u16) -> Result<bool, 
 }
 
 fn is_so(rt: &impl Abort, alloc: Global, case: &Case) -> Result<bool, GraphError> {
-    let links = links_of(alloc, case.links)?;
-    let g = graph(rt, alloc, case.count, case.routers, links)?;
+    let g = graph_told(rt, alloc, case.count, case.routers, case.links)?;
     Ok(agrees(rt, alloc, &g, case.root)?)
 }
 
@@ -80,22 +79,8 @@ fn near_rows_beside_certificates(rt: HostRuntime) -> Result<(), Fail> {
     Ok(())
 }
 
-/// The links of a ring of so many routers.
-fn ring(alloc: Global, count: u16) -> Result<Vec<LinkIn>, NoMemory> {
-    let mut links = Vec::new(alloc);
-    for a in 1..count {
-        links.push(link(a - 1, a, 10, 20))?;
-        if a == 1 {
-            links.push(link(0, count - 1, 5, 5))?;
-        }
-    }
-    Ok(links)
-}
-
 fn ring_agrees(rt: &impl Abort, alloc: Global, count: u16, root: u16) -> Result<bool, GraphError> {
-    assert!(rt; count > 2);
-    let links = ring(alloc, count)?;
-    let g = graph(rt, alloc, count, count, links)?;
+    let g = ring(rt, alloc, count)?;
     Ok(agrees(rt, alloc, &g, root)?)
 }
 

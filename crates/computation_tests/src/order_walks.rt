@@ -5,7 +5,7 @@ ghost use Rattle.std.specs.Prelude.{◌≡◌, ◌<◌, length};
 ghost use Rattle.inc_dec_spf.specs.HasDirections.{HasDirections};
 ghost use Rattle.mrt_plain.specs.Within.{AreWithin};
 
-use crate::hand_graphs::{graph, links_of};
+use crate::hand_graphs::graph_told;
 use crate::hand_paths::{directed_of, reach_of};
 use crate::hand_rows::{Case, cases};
 use inc_dec_spf::{Dir, Reach};
@@ -220,19 +220,34 @@ fn rounds_from(
     Ok(true)
 }
 
-fn is_so(rt: &impl Abort, alloc: Global, case: &Case) -> Result<bool, GraphError> {
-    let links = links_of(alloc, case.links)?;
-    let g = graph(rt, alloc, case.count, case.routers, links)?;
-    let d = directed_of(rt, alloc, &g, case.root)?;
-    assert!(rt; case.root < g.node_count());
-    let cert = compute(alloc, &g, NodeNo::new(case.root))?;
-    let links = graph_links(alloc, &g)?;
-    for s in 0..case.count {
-        if !rounds_from(rt, alloc, &g, &links, &d, &cert, s)? {
+/// Whether those from each node do.
+fn rounds_each(
+    rt: &impl Abort,
+    alloc: Global,
+    g: &Graph,
+    links: &[Link],
+    d: &Directed,
+    cert: &Cert,
+) -> Result<bool, GraphError>
+    requires within { AreWithin (length g.now.ids) links.now }
+    requires count { length cert.now.nodes ≡ length g.now.ids }
+    requires directed { HasDirections g.now d.now }
+{
+    for s in 0..g.node_count() {
+        if !rounds_from(rt, alloc, g, links, d, cert, s)? {
             return Ok(false);
         }
     }
     Ok(true)
+}
+
+fn is_so(rt: &impl Abort, alloc: Global, case: &Case) -> Result<bool, GraphError> {
+    let g = graph_told(rt, alloc, case.count, case.routers, case.links)?;
+    let d = directed_of(rt, alloc, &g, case.root)?;
+    assert!(rt; case.root < g.node_count());
+    let cert = compute(alloc, &g, NodeNo::new(case.root))?;
+    let links = graph_links(alloc, &g)?;
+    rounds_each(rt, alloc, &g, &links, &d, &cert)
 }
 
 #[test]

@@ -1,6 +1,6 @@
 //! Streams compared: whether the certificates of two graphs are the same.
 
-use crate::hand_graphs::{LinkTold, graph, links_of};
+use crate::hand_graphs::{LinkTold, graph_told};
 use cert_stream::CertStream;
 use mrt_graph::{GraphError, NodeNo};
 use std::alloc::Global;
@@ -213,8 +213,7 @@ fn cases() -> &'static [Case] {
 }
 
 fn stream_of(rt: &impl Abort, alloc: Global, side: &Side) -> Result<CertStream, GraphError> {
-    let links = links_of(alloc, side.links)?;
-    let g = graph(rt, alloc, side.count, side.routers, links)?;
+    let g = graph_told(rt, alloc, side.count, side.routers, side.links)?;
     assert!(rt; side.root < g.node_count());
     Ok(CertStream::new(alloc, g, NodeNo::new(side.root))?)
 }

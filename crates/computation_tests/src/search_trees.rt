@@ -2,7 +2,7 @@
 
 ghost use Rattle.std.specs.Prelude.{◌≡◌, ◌<◌, IfOk, length};
 
-use crate::hand_graphs::{LinkTold, graph, link, links_of};
+use crate::hand_graphs::{LinkTold, graph, graph_told, link};
 use lowpoint_dfs::search;
 use mrt_graph::{Graph, GraphError, LinkIn, LinkNo, NoMemory, NodeNo, Tree, TreeNode};
 use std::alloc::Global;
@@ -22,133 +22,151 @@ struct Case {
     tree: &'static [Told],
 }
 
-const CASES: &[Case] = &[
-    Case {
-        name: "parallel links with other metrics at their other ends",
-        count: 2,
-        routers: 2,
-        links: &[(0, 1, 10, 1), (0, 1, 1, 10)],
-        root: 0,
-        tree: &[(1, None, 1, None), (2, Some(1), 1, Some(0))],
-    },
-    Case {
-        name: "a triangle on a bridge",
-        count: 4,
-        routers: 4,
-        links: &[(0, 1, 1, 1), (1, 2, 1, 1), (1, 3, 1, 1), (2, 3, 1, 1)],
-        root: 0,
-        tree: &[
-            (1, None, 1, None),
-            (2, Some(0), 2, Some(0)),
-            (3, Some(1), 2, Some(3)),
-            (4, Some(3), 2, Some(2)),
-        ],
-    },
-    Case {
-        name: "one node alone",
-        count: 1,
-        routers: 1,
-        links: &[],
-        root: 0,
-        tree: &[(1, None, 1, None)],
-    },
-    Case {
-        name: "a triangle, all metrics equal",
-        count: 3,
-        routers: 3,
-        links: &[(0, 1, 10, 10), (0, 2, 10, 10), (1, 2, 10, 10)],
-        root: 2,
-        tree: &[
-            (2, Some(1), 1, Some(0)),
-            (3, Some(0), 1, Some(2)),
-            (1, None, 1, None),
-        ],
-    },
-    Case {
-        name: "a triangle, the root's lower metric towards node 1",
-        count: 3,
-        routers: 3,
-        links: &[(0, 1, 10, 10), (0, 2, 10, 20), (1, 2, 10, 10)],
-        root: 2,
-        tree: &[
-            (3, Some(0), 1, Some(1)),
-            (2, Some(2), 1, Some(0)),
-            (1, None, 1, None),
-        ],
-    },
-    Case {
-        name: "three parallel links: the second one is an offer",
-        count: 2,
-        routers: 2,
-        links: &[(0, 1, 10, 10), (0, 1, 10, 10), (0, 1, 10, 10)],
-        root: 1,
-        tree: &[(2, Some(0), 1, Some(1)), (1, None, 1, None)],
-    },
-    Case {
-        name: "a star from its hub",
-        count: 4,
-        routers: 4,
-        links: &[(0, 1, 10, 10), (0, 2, 5, 10), (0, 3, 10, 10)],
-        root: 0,
-        tree: &[
-            (1, None, 1, None),
-            (3, Some(0), 3, Some(0)),
-            (2, Some(1), 2, Some(1)),
-            (4, Some(2), 4, Some(2)),
-        ],
-    },
-    Case {
-        name: "a star from a leaf",
-        count: 4,
-        routers: 4,
-        links: &[(0, 1, 10, 10), (0, 2, 10, 10), (0, 3, 10, 10)],
-        root: 2,
-        tree: &[
-            (2, Some(1), 2, Some(1)),
-            (3, Some(0), 3, Some(0)),
-            (1, None, 1, None),
-            (4, Some(2), 4, Some(2)),
-        ],
-    },
-    Case {
-        name: "a ring of three routers and a network, the root's lower metric towards the network",
-        count: 4,
-        routers: 3,
-        links: &[(0, 1, 10, 10), (0, 3, 10, 0), (1, 2, 10, 10), (2, 3, 5, 0)],
-        root: 2,
-        tree: &[
-            (3, Some(1), 1, Some(0)),
-            (4, Some(0), 1, Some(2)),
-            (1, None, 1, None),
-            (2, Some(3), 1, Some(1)),
-        ],
-    },
-    // Node 3 is found at node 2, the latest with an end outside, and not at the root.
-    Case {
-        name: "two triangles at node 2",
-        count: 5,
-        routers: 5,
-        links: &[
-            (0, 1, 10, 10),
-            (0, 2, 10, 10),
-            (1, 2, 10, 10),
-            (2, 3, 10, 10),
-            (2, 4, 10, 10),
-            (3, 4, 10, 10),
-        ],
-        root: 4,
-        tree: &[
-            (3, Some(1), 2, Some(0)),
-            (4, Some(0), 2, Some(2)),
-            (2, Some(4), 1, Some(3)),
-            (5, Some(3), 1, Some(5)),
-            (1, None, 1, None),
-        ],
-    },
-];
+const PARALLEL_LINKS: &Case = &Case {
+    name: "parallel links with other metrics at their other ends",
+    count: 2,
+    routers: 2,
+    links: &[(0, 1, 10, 1), (0, 1, 1, 10)],
+    root: 0,
+    tree: &[(1, None, 1, None), (2, Some(1), 1, Some(0))],
+};
 
-fn cases() -> &'static [Case] {
-    CASES
+const TRIANGLE_ON_A_BRIDGE: &Case = &Case {
+    name: "a triangle on a bridge",
+    count: 4,
+    routers: 4,
+    links: &[(0, 1, 1, 1), (1, 2, 1, 1), (1, 3, 1, 1), (2, 3, 1, 1)],
+    root: 0,
+    tree: &[
+        (1, None, 1, None),
+        (2, Some(0), 2, Some(0)),
+        (3, Some(1), 2, Some(3)),
+        (4, Some(3), 2, Some(2)),
+    ],
+};
+
+const ALONE: &Case = &Case {
+    name: "one node alone",
+    count: 1,
+    routers: 1,
+    links: &[],
+    root: 0,
+    tree: &[(1, None, 1, None)],
+};
+
+const TRIANGLE: &Case = &Case {
+    name: "a triangle, all metrics equal",
+    count: 3,
+    routers: 3,
+    links: &[(0, 1, 10, 10), (0, 2, 10, 10), (1, 2, 10, 10)],
+    root: 2,
+    tree: &[
+        (2, Some(1), 1, Some(0)),
+        (3, Some(0), 1, Some(2)),
+        (1, None, 1, None),
+    ],
+};
+
+const TRIANGLE_WITH_METRICS: &Case = &Case {
+    name: "a triangle, the root's lower metric towards node 1",
+    count: 3,
+    routers: 3,
+    links: &[(0, 1, 10, 10), (0, 2, 10, 20), (1, 2, 10, 10)],
+    root: 2,
+    tree: &[
+        (3, Some(0), 1, Some(1)),
+        (2, Some(2), 1, Some(0)),
+        (1, None, 1, None),
+    ],
+};
+
+const THREE_PARALLEL_LINKS: &Case = &Case {
+    name: "three parallel links: the second one is an offer",
+    count: 2,
+    routers: 2,
+    links: &[(0, 1, 10, 10), (0, 1, 10, 10), (0, 1, 10, 10)],
+    root: 1,
+    tree: &[(2, Some(0), 1, Some(1)), (1, None, 1, None)],
+};
+
+const STAR_FROM_ITS_HUB: &Case = &Case {
+    name: "a star from its hub",
+    count: 4,
+    routers: 4,
+    links: &[(0, 1, 10, 10), (0, 2, 5, 10), (0, 3, 10, 10)],
+    root: 0,
+    tree: &[
+        (1, None, 1, None),
+        (3, Some(0), 3, Some(0)),
+        (2, Some(1), 2, Some(1)),
+        (4, Some(2), 4, Some(2)),
+    ],
+};
+
+const STAR_FROM_A_LEAF: &Case = &Case {
+    name: "a star from a leaf",
+    count: 4,
+    routers: 4,
+    links: &[(0, 1, 10, 10), (0, 2, 10, 10), (0, 3, 10, 10)],
+    root: 2,
+    tree: &[
+        (2, Some(1), 2, Some(1)),
+        (3, Some(0), 3, Some(0)),
+        (1, None, 1, None),
+        (4, Some(2), 4, Some(2)),
+    ],
+};
+
+const RING_WITH_A_NETWORK: &Case = &Case {
+    name: "a ring of three routers and a network, the root's lower metric towards the network",
+    count: 4,
+    routers: 3,
+    links: &[(0, 1, 10, 10), (0, 3, 10, 0), (1, 2, 10, 10), (2, 3, 5, 0)],
+    root: 2,
+    tree: &[
+        (3, Some(1), 1, Some(0)),
+        (4, Some(0), 1, Some(2)),
+        (1, None, 1, None),
+        (2, Some(3), 1, Some(1)),
+    ],
+};
+
+/// Node 3 is found at node 2, the latest with an end outside, and not at the root.
+const TWO_TRIANGLES: &Case = &Case {
+    name: "two triangles at node 2",
+    count: 5,
+    routers: 5,
+    links: &[
+        (0, 1, 10, 10),
+        (0, 2, 10, 10),
+        (1, 2, 10, 10),
+        (2, 3, 10, 10),
+        (2, 4, 10, 10),
+        (3, 4, 10, 10),
+    ],
+    root: 4,
+    tree: &[
+        (3, Some(1), 2, Some(0)),
+        (4, Some(0), 2, Some(2)),
+        (2, Some(4), 1, Some(3)),
+        (5, Some(3), 1, Some(5)),
+        (1, None, 1, None),
+    ],
+};
+
+fn cases() -> [&'static Case; 10] {
+    [
+        PARALLEL_LINKS,
+        TRIANGLE_ON_A_BRIDGE,
+        ALONE,
+        TRIANGLE,
+        TRIANGLE_WITH_METRICS,
+        THREE_PARALLEL_LINKS,
+        STAR_FROM_ITS_HUB,
+        STAR_FROM_A_LEAF,
+        RING_WITH_A_NETWORK,
+        TWO_TRIANGLES,
+    ]
 }
 
 fn node_of(told: &Told) -> TreeNode {
@@ -183,8 +201,7 @@ fn tells(tree: &Tree, count: u16, told: &[Told]) -> bool
 }
 
 fn is_so(rt: &impl Abort, alloc: Global, case: &Case) -> Result<bool, GraphError> {
-    let links = links_of(alloc, case.links)?;
-    let g = graph(rt, alloc, case.count, case.routers, links)?;
+    let g = graph_told(rt, alloc, case.count, case.routers, case.links)?;
     let tree = tree_of(rt, alloc, &g, case.root)?;
     Ok(tells(&tree, g.node_count(), case.tree))
 }

@@ -2,11 +2,11 @@
 
 ghost use Rattle.std.specs.Prelude.{◌<◌, length};
 
-use crate::hand_graphs::{graph, link, links_of};
+use crate::hand_graphs::{graph_told, ring};
 use crate::hand_rows::{Case, cases};
 use cert_format::read_cert;
 use cert_stream::CertStream;
-use mrt_graph::{CertFile, Graph, GraphError, LinkIn, NoMemory, NodeNo};
+use mrt_graph::{CertFile, Graph, GraphError, NoMemory, NodeNo};
 use mrt_io::MemSink;
 use mrt_rows::compute;
 use std::alloc::Global;
@@ -61,8 +61,7 @@ fn put_of(
 }
 
 fn case_graph(rt: &impl Abort, alloc: Global, case: &Case) -> Result<Graph, GraphError> {
-    let links = links_of(alloc, case.links)?;
-    graph(rt, alloc, case.count, case.routers, links)
+    graph_told(rt, alloc, case.count, case.routers, case.links)
 }
 
 fn is_so(rt: &impl Abort, alloc: Global, case: &Case) -> Result<bool, GraphError> {
@@ -80,24 +79,6 @@ fn streams_beside_computed_certificates(rt: HostRuntime) -> Result<(), Fail> {
         assert!(rt; is_so(&rt, rt.alloc(), case)?, "{}", case.name);
     }
     Ok(())
-}
-
-/// The links of a ring of so many routers.
-fn ring_links(alloc: Global, count: u16) -> Result<Vec<LinkIn>, NoMemory> {
-    let mut links = Vec::new(alloc);
-    for a in 1..count {
-        links.push(link(a - 1, a, 10, 20))?;
-        if a == 1 {
-            links.push(link(0, count - 1, 5, 5))?;
-        }
-    }
-    Ok(links)
-}
-
-fn ring(rt: &impl Abort, alloc: Global, count: u16) -> Result<Graph, GraphError> {
-    assert!(rt; count > 2);
-    let links = ring_links(alloc, count)?;
-    graph(rt, alloc, count, count, links)
 }
 
 fn is_ring_so(rt: &impl Abort, alloc: Global, count: u16, root: u16) -> Result<bool, GraphError> {
