@@ -9,9 +9,9 @@ pub struct Answered {
     pub name: &'static str,
     pub words: &'static [&'static str],
     pub database: &'static [u8],
-    pub profile: &'static [u8],
-    pub script: &'static [u8],
-    pub answers: &'static [u8],
+    pub profile: &'static str,
+    pub script: &'static str,
+    pub answers: &'static str,
 }
 
 pub const FABRIC: &[&str] = &["fabric", "db", "-", "cert"];
@@ -20,8 +20,15 @@ pub const FABRIC: &[&str] = &["fabric", "db", "-", "cert"];
 pub fn is_answered(alloc: Global, case: &Answered) -> bool {
     let files = Files {
         database: case.database,
-        profile: case.profile,
-        certificate: case.script,
+        profile: case.profile.as_bytes(),
+        certificate: case.script.as_bytes(),
     };
-    comes_to(alloc, case.words, files, Exit::Done, case.answers, b"")
+    comes_to(
+        alloc,
+        case.words,
+        files,
+        Exit::Done,
+        case.answers.as_bytes(),
+        b"",
+    )
 }

@@ -14,11 +14,11 @@ pub struct Case {
     pub name: &'static str,
     pub words: &'static [&'static str],
     pub database: &'static [u8],
-    pub profile: &'static [u8],
+    pub profile: &'static str,
     pub certificate: &'static [u8],
     pub exit: Exit,
-    pub out: &'static [u8],
-    pub err: &'static [u8],
+    pub out: &'static str,
+    pub err: &'static str,
 }
 
 pub const CHECK: &[&str] = &["check", "db", "-", "cert"];
@@ -171,10 +171,17 @@ pub fn comes_to(
 pub fn comes_out(alloc: Global, case: &Case) -> bool {
     let files = Files {
         database: case.database,
-        profile: case.profile,
+        profile: case.profile.as_bytes(),
         certificate: case.certificate,
     };
-    comes_to(alloc, case.words, files, case.exit, case.out, case.err)
+    comes_to(
+        alloc,
+        case.words,
+        files,
+        case.exit,
+        case.out.as_bytes(),
+        case.err.as_bytes(),
+    )
 }
 
 /// The first bytes, as many as that.

@@ -1,6 +1,6 @@
 //! Certificates that are written.
 
-use crate::calling::{Case, Devices, NEVER, calm, comes_out, front, left_on, two};
+use crate::calling::{Case, Devices, Files, NEVER, calm, comes_out, comes_to, front, left_on, two};
 use crate::files::{
     FIVE, LAN, LINE, RING, ROUTER, SAMPLE, SAMPLE_PROFILE, STUB, THREE_LINKS, TRIANGLE, TWO_TREES,
 };
@@ -18,180 +18,173 @@ const OF_1: &[&str] = &["certify", "db", "-", "1.1.1.1"];
 
 const OF_1_UNDER: &[&str] = &["certify", "db", "prof", "1.1.1.1"];
 
-const CASES: &[Case] = &[
-    Case {
+/// Words, the files that they name, and the certificate that is to be written.
+struct Written {
+    name: &'static str,
+    words: &'static [&'static str],
+    database: &'static [u8],
+    profile: &'static str,
+    certificate: &'static [u8],
+}
+
+const WRITTEN: &[Written] = &[
+    Written {
         name: "one router",
         words: OF_1,
         database: ROUTER,
-        profile: b"",
-        certificate: b"",
-        exit: Exit::Done,
-        out: CERTIFICATE_2,
-        err: b"",
+        profile: "",
+        certificate: CERTIFICATE_2,
     },
-    Case {
+    Written {
         name: "a stub link",
         words: OF_1,
         database: STUB,
-        profile: b"",
-        certificate: b"",
-        exit: Exit::Done,
-        out: CERTIFICATE_2,
-        err: b"",
+        profile: "",
+        certificate: CERTIFICATE_2,
     },
-    Case {
+    Written {
         name: "a triangle",
         words: OF_1,
         database: TRIANGLE,
-        profile: b"",
-        certificate: b"",
-        exit: Exit::Done,
-        out: TRIANGLE_CERTIFICATE_2,
-        err: b"",
+        profile: "",
+        certificate: TRIANGLE_CERTIFICATE_2,
     },
-    Case {
+    Written {
         name: "another root",
         words: OF_1_UNDER,
         database: TRIANGLE,
-        profile: b"priority 1.1.1.1 10\n",
-        certificate: b"",
-        exit: Exit::Done,
-        out: TRIANGLE_FROM_1_2,
-        err: b"",
+        profile: "priority 1.1.1.1 10\n",
+        certificate: TRIANGLE_FROM_1_2,
     },
-    Case {
+    Written {
         name: "a line",
         words: OF_1,
         database: LINE,
-        profile: b"",
-        certificate: b"",
-        exit: Exit::Done,
-        out: LINE_CERTIFICATE_2,
-        err: b"",
+        profile: "",
+        certificate: LINE_CERTIFICATE_2,
     },
-    Case {
+    Written {
         name: "a router without its neighbour",
         words: OF_1_UNDER,
         database: LINE,
-        profile: b"no-mrt 2.2.2.2\n",
-        certificate: b"",
-        exit: Exit::Done,
-        out: CERTIFICATE_2,
-        err: b"",
+        profile: "no-mrt 2.2.2.2\n",
+        certificate: CERTIFICATE_2,
     },
-    Case {
+    Written {
         name: "three links",
         words: OF_1,
         database: THREE_LINKS,
-        profile: b"",
-        certificate: b"",
-        exit: Exit::Done,
-        out: THREE_LINKS_CERTIFICATE_2,
-        err: b"",
+        profile: "",
+        certificate: THREE_LINKS_CERTIFICATE_2,
     },
-    Case {
+    Written {
         name: "five routers, the last of the block joined to the root",
         words: OF_1,
         database: FIVE,
-        profile: b"",
-        certificate: b"",
-        exit: Exit::Done,
-        out: FIVE_COMPUTED_2,
-        err: b"",
+        profile: "",
+        certificate: FIVE_COMPUTED_2,
     },
-    Case {
+    Written {
         name: "a ring",
         words: OF_1,
         database: RING,
-        profile: b"",
-        certificate: b"",
-        exit: Exit::Done,
-        out: RING_COMPUTED_2,
-        err: b"",
+        profile: "",
+        certificate: RING_COMPUTED_2,
     },
-    Case {
+    Written {
         name: "a LAN",
         words: OF_1,
         database: LAN,
-        profile: b"",
-        certificate: b"",
-        exit: Exit::Done,
-        out: LAN_CERTIFICATE_2,
-        err: b"",
+        profile: "",
+        certificate: LAN_CERTIFICATE_2,
     },
-    Case {
+    Written {
         name: "the sample",
         words: &["certify", "db", "prof", "10.255.1.4"],
         database: SAMPLE,
         profile: SAMPLE_PROFILE,
-        certificate: b"",
-        exit: Exit::Done,
-        out: SAMPLE_CERTIFICATE_2,
-        err: b"",
+        certificate: SAMPLE_CERTIFICATE_2,
     },
-    Case {
+    Written {
         name: "the first of two islands",
         words: OF_1,
         database: TWO_TREES,
-        profile: b"",
-        certificate: b"",
-        exit: Exit::Done,
-        out: FIRST_TREE_2,
-        err: b"",
+        profile: "",
+        certificate: FIRST_TREE_2,
     },
-    Case {
+    Written {
         name: "the second of two islands",
         words: &["certify", "db", "-", "3.3.3.3"],
         database: TWO_TREES,
-        profile: b"",
-        certificate: b"",
-        exit: Exit::Done,
-        out: SECOND_TREE_2,
-        err: b"",
+        profile: "",
+        certificate: SECOND_TREE_2,
     },
+];
+
+const REFUSED: &[Case] = &[
     Case {
         name: "a router that is not there",
         words: &["certify", "db", "-", "9.9.9.9"],
         database: TRIANGLE,
-        profile: b"",
+        profile: "",
         certificate: b"",
         exit: Exit::NotThere {
             number: 0x0909_0909,
         },
-        out: b"",
-        err: b"mrt: not there: 9.9.9.9\n",
+        out: "",
+        err: "mrt: not there: 9.9.9.9\n",
     },
     Case {
         name: "a router that does not take part",
         words: OF_1_UNDER,
         database: TRIANGLE,
-        profile: b"no-mrt 1.1.1.1",
+        profile: "no-mrt 1.1.1.1",
         certificate: b"",
         exit: Exit::NotThere {
             number: 0x0101_0101,
         },
-        out: b"",
-        err: b"mrt: not there: 1.1.1.1\n",
+        out: "",
+        err: "mrt: not there: 1.1.1.1\n",
     },
     Case {
         name: "no database",
         words: &["certify", "x", "-", "1.1.1.1"],
         database: TRIANGLE,
-        profile: b"",
+        profile: "",
         certificate: b"",
         exit: Exit::ReadFault { word: 1 },
-        out: b"",
-        err: b"mrt: read fault: word 1\n",
+        out: "",
+        err: "mrt: read fault: word 1\n",
     },
 ];
 
-fn cases() -> &'static [Case] {
-    CASES
+fn written_ones() -> &'static [Written] {
+    WRITTEN
+}
+
+fn is_written(alloc: Global, case: &Written) -> bool {
+    let files = Files {
+        database: case.database,
+        profile: case.profile.as_bytes(),
+        certificate: b"",
+    };
+    comes_to(alloc, case.words, files, Exit::Done, case.certificate, b"")
 }
 
 #[test]
 fn written_certificates(rt: HostRuntime) {
-    for case in cases() {
+    for case in written_ones() {
+        assert!(rt; is_written(rt.alloc(), case), "{}", case.name);
+    }
+}
+
+fn refused() -> &'static [Case] {
+    REFUSED
+}
+
+#[test]
+fn routers_without_a_certificate(rt: HostRuntime) {
+    for case in refused() {
         assert!(rt; comes_out(rt.alloc(), case), "{}", case.name);
     }
 }

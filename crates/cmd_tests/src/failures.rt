@@ -9,7 +9,7 @@ use std::alloc::Global;
 /// A script over the triangle, and the answers that are to be written.
 struct Script {
     script: &'static str,
-    answers: &'static [u8],
+    answers: &'static str,
 }
 
 const FAILURES: &[Script] = &[
@@ -20,7 +20,7 @@ fail 1.1.1.1\n\
 inject 1.1.1.1 3.3.3.3 repair\n\
 step 0\n\
 step 0\n",
-        answers: b"\
+        answers: "\
 failed\n\
 entered 0\n\
 lost inside\n\
@@ -33,7 +33,7 @@ inject 1.1.1.1 3.3.3.3 repair\n\
 fail 1.1.1.1\n\
 step 0\n\
 step 0\n",
-        answers: b"\
+        answers: "\
 entered 0\n\
 failed\n\
 lost inside\n\
@@ -46,7 +46,7 @@ fail 2.2.2.2\n\
 inject 1.1.1.1 3.3.3.3 repair\n\
 step 0\n\
 step 0\n",
-        answers: b"\
+        answers: "\
 failed\n\
 entered 0\n\
 delivered 3.3.3.3\n\
@@ -59,7 +59,7 @@ inject 1.1.1.1 3.3.3.3 repair\n\
 fail 2.2.2.2\n\
 step 0\n\
 step 0\n",
-        answers: b"\
+        answers: "\
 entered 0\n\
 failed\n\
 delivered 3.3.3.3\n\
@@ -72,7 +72,7 @@ fail 3.3.3.3\n\
 inject 1.1.1.1 3.3.3.3 repair\n\
 step 0\n\
 step 0\n",
-        answers: b"\
+        answers: "\
 failed\n\
 entered 0\n\
 lost is-destination\n\
@@ -85,7 +85,7 @@ inject 1.1.1.1 3.3.3.3 repair\n\
 fail 3.3.3.3\n\
 step 0\n\
 step 0\n",
-        answers: b"\
+        answers: "\
 entered 0\n\
 failed\n\
 lost is-destination\n\
@@ -98,7 +98,7 @@ fail link:1.1.1.1/0.0.0.2\n\
 inject 1.1.1.1 3.3.3.3 repair\n\
 step 0\n\
 step 0\n",
-        answers: b"\
+        answers: "\
 failed\n\
 entered 0\n\
 delivered 3.3.3.3\n\
@@ -111,7 +111,7 @@ inject 1.1.1.1 3.3.3.3 repair\n\
 fail link:1.1.1.1/0.0.0.2\n\
 step 0\n\
 step 0\n",
-        answers: b"\
+        answers: "\
 entered 0\n\
 failed\n\
 delivered 3.3.3.3\n\
@@ -124,7 +124,7 @@ fail link:1.1.1.1/0.0.0.3\n\
 inject 1.1.1.1 3.3.3.3 repair\n\
 step 0\n\
 step 0\n",
-        answers: b"\
+        answers: "\
 failed\n\
 entered 0\n\
 switched blue\n\
@@ -137,7 +137,7 @@ inject 1.1.1.1 3.3.3.3 repair\n\
 fail link:1.1.1.1/0.0.0.3\n\
 step 0\n\
 step 0\n",
-        answers: b"\
+        answers: "\
 entered 0\n\
 failed\n\
 switched blue\n\
@@ -150,7 +150,7 @@ fail link:2.2.2.2/0.0.0.3\n\
 inject 1.1.1.1 3.3.3.3 repair\n\
 step 0\n\
 step 0\n",
-        answers: b"\
+        answers: "\
 failed\n\
 entered 0\n\
 delivered 3.3.3.3\n\
@@ -163,7 +163,7 @@ inject 1.1.1.1 3.3.3.3 repair\n\
 fail link:2.2.2.2/0.0.0.3\n\
 step 0\n\
 step 0\n",
-        answers: b"\
+        answers: "\
 entered 0\n\
 failed\n\
 delivered 3.3.3.3\n\
@@ -176,7 +176,7 @@ fail 1.1.1.1\n\
 inject 3.3.3.3 2.2.2.2 blue\n\
 step 0\n\
 step 0\n",
-        answers: b"\
+        answers: "\
 failed\n\
 entered 0\n\
 lost color-cut\n\
@@ -189,7 +189,7 @@ inject 3.3.3.3 2.2.2.2 blue\n\
 fail 1.1.1.1\n\
 step 0\n\
 step 0\n",
-        answers: b"\
+        answers: "\
 entered 0\n\
 failed\n\
 lost color-cut\n\
@@ -202,7 +202,7 @@ inject 3.3.3.3 2.2.2.2 blue\n\
 step 0\n\
 fail 1.1.1.1\n\
 step 0\n",
-        answers: b"\
+        answers: "\
 entered 0\n\
 moved 1.1.1.1\n\
 failed\n\
@@ -215,7 +215,7 @@ fail 2.2.2.2\n\
 inject 3.3.3.3 2.2.2.2 blue\n\
 step 0\n\
 step 0\n",
-        answers: b"\
+        answers: "\
 failed\n\
 entered 0\n\
 moved 1.1.1.1\n\
@@ -228,7 +228,7 @@ inject 3.3.3.3 2.2.2.2 blue\n\
 fail 2.2.2.2\n\
 step 0\n\
 step 0\n",
-        answers: b"\
+        answers: "\
 entered 0\n\
 failed\n\
 moved 1.1.1.1\n\
@@ -241,7 +241,7 @@ inject 3.3.3.3 2.2.2.2 blue\n\
 step 0\n\
 fail 2.2.2.2\n\
 step 0\n",
-        answers: b"\
+        answers: "\
 entered 0\n\
 moved 1.1.1.1\n\
 failed\n\
@@ -254,7 +254,7 @@ fail 3.3.3.3\n\
 inject 3.3.3.3 2.2.2.2 blue\n\
 step 0\n\
 step 0\n",
-        answers: b"\
+        answers: "\
 failed\n\
 entered 0\n\
 lost inside\n\
@@ -267,7 +267,7 @@ inject 3.3.3.3 2.2.2.2 blue\n\
 fail 3.3.3.3\n\
 step 0\n\
 step 0\n",
-        answers: b"\
+        answers: "\
 entered 0\n\
 failed\n\
 lost inside\n\
@@ -280,7 +280,7 @@ inject 3.3.3.3 2.2.2.2 blue\n\
 step 0\n\
 fail 3.3.3.3\n\
 step 0\n",
-        answers: b"\
+        answers: "\
 entered 0\n\
 moved 1.1.1.1\n\
 failed\n\
@@ -293,7 +293,7 @@ fail link:1.1.1.1/0.0.0.2\n\
 inject 3.3.3.3 2.2.2.2 blue\n\
 step 0\n\
 step 0\n",
-        answers: b"\
+        answers: "\
 failed\n\
 entered 0\n\
 moved 1.1.1.1\n\
@@ -306,7 +306,7 @@ inject 3.3.3.3 2.2.2.2 blue\n\
 fail link:1.1.1.1/0.0.0.2\n\
 step 0\n\
 step 0\n",
-        answers: b"\
+        answers: "\
 entered 0\n\
 failed\n\
 moved 1.1.1.1\n\
@@ -319,7 +319,7 @@ inject 3.3.3.3 2.2.2.2 blue\n\
 step 0\n\
 fail link:1.1.1.1/0.0.0.2\n\
 step 0\n",
-        answers: b"\
+        answers: "\
 entered 0\n\
 moved 1.1.1.1\n\
 failed\n\
@@ -332,7 +332,7 @@ fail link:1.1.1.1/0.0.0.3\n\
 inject 3.3.3.3 2.2.2.2 blue\n\
 step 0\n\
 step 0\n",
-        answers: b"\
+        answers: "\
 failed\n\
 entered 0\n\
 lost color-cut\n\
@@ -345,7 +345,7 @@ inject 3.3.3.3 2.2.2.2 blue\n\
 fail link:1.1.1.1/0.0.0.3\n\
 step 0\n\
 step 0\n",
-        answers: b"\
+        answers: "\
 entered 0\n\
 failed\n\
 lost color-cut\n\
@@ -358,7 +358,7 @@ inject 3.3.3.3 2.2.2.2 blue\n\
 step 0\n\
 fail link:1.1.1.1/0.0.0.3\n\
 step 0\n",
-        answers: b"\
+        answers: "\
 entered 0\n\
 moved 1.1.1.1\n\
 failed\n\
@@ -371,7 +371,7 @@ fail link:2.2.2.2/0.0.0.3\n\
 inject 3.3.3.3 2.2.2.2 blue\n\
 step 0\n\
 step 0\n",
-        answers: b"\
+        answers: "\
 failed\n\
 entered 0\n\
 moved 1.1.1.1\n\
@@ -384,7 +384,7 @@ inject 3.3.3.3 2.2.2.2 blue\n\
 fail link:2.2.2.2/0.0.0.3\n\
 step 0\n\
 step 0\n",
-        answers: b"\
+        answers: "\
 entered 0\n\
 failed\n\
 moved 1.1.1.1\n\
@@ -397,7 +397,7 @@ inject 3.3.3.3 2.2.2.2 blue\n\
 step 0\n\
 fail link:2.2.2.2/0.0.0.3\n\
 step 0\n",
-        answers: b"\
+        answers: "\
 entered 0\n\
 moved 1.1.1.1\n\
 failed\n\
@@ -416,7 +416,8 @@ fn gives(alloc: Global, case: &Script) -> bool {
         profile: b"",
         certificate: case.script.as_bytes(),
     };
-    comes_to(alloc, FABRIC, files, Exit::Done, case.answers, b"")
+    let answers = case.answers.as_bytes();
+    comes_to(alloc, FABRIC, files, Exit::Done, answers, b"")
 }
 
 #[test]

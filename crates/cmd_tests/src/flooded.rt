@@ -44,18 +44,18 @@ const DAMAGED: &[u8] =
 struct Flood {
     name: &'static str,
     updates: &'static [u8],
-    profile: &'static [u8],
+    profile: &'static str,
     script: &'static str,
     exit: Exit,
-    out: &'static [u8],
-    err: &'static [u8],
+    out: &'static str,
+    err: &'static str,
 }
 
 const RUNS: &[Flood] = &[
     Flood {
         name: "any order, and packets sent on",
         updates: TRIANGLE_UPDATES,
-        profile: b"",
+        profile: "",
         script: "\
 routers 2\n\
 deliver 0 0\n\
@@ -69,7 +69,7 @@ same 0 1 1.1.1.1\n\
 deliver 9 0\n\
 deliver 0 5",
         exit: Exit::Done,
-        out: b"\
+        out: "\
 changed 3 sent 3\n\
 changed 0\n\
 changed 2 sent 4\n\
@@ -80,12 +80,12 @@ changed 0\n\
 same\n\
 refused no-such-packet\n\
 refused no-such-router\n",
-        err: b"",
+        err: "",
     },
     Flood {
         name: "flooding until all have all",
         updates: TRIANGLE_UPDATES,
-        profile: b"",
+        profile: "",
         script: "\
 routers 3\n\
 deliver 0 0\n\
@@ -101,7 +101,7 @@ deliver 4 2\n\
 same 2 0 3.3.3.3\n\
 same 2 2 3.3.3.3",
         exit: Exit::Done,
-        out: b"\
+        out: "\
 changed 3 sent 3\n\
 changed 1 sent 4\n\
 changed 2 sent 5\n\
@@ -114,28 +114,28 @@ different\n\
 changed 1 sent 7\n\
 same\n\
 same\n",
-        err: b"",
+        err: "",
     },
     Flood {
         name: "no packets",
         updates: b"",
-        profile: b"",
+        profile: "",
         script: "\
 routers 1\n\
 deliver 0 0\n\
 deliver 0 1\n\
 same 0 0 1.1.1.1",
         exit: Exit::Done,
-        out: b"\
+        out: "\
 refused no-such-packet\n\
 refused no-such-packet\n\
 none\n",
-        err: b"",
+        err: "",
     },
     Flood {
         name: "two instances that contradict each other",
         updates: CONFLICT_UPDATES,
-        profile: b"",
+        profile: "",
         script: "\
 routers 2\n\
 deliver 0 0\n\
@@ -147,7 +147,7 @@ same 0 1 1.1.1.1\n\
 same 1 0 1.1.1.1\n\
 same 1 1 1.1.1.1",
         exit: Exit::Done,
-        out: b"\
+        out: "\
 changed 1 sent 2\n\
 same\n\
 changed 1 sent 3\n\
@@ -156,12 +156,12 @@ changed 0\n\
 none\n\
 none\n\
 same\n",
-        err: b"",
+        err: "",
     },
     Flood {
         name: "newer instances, and an older one that comes late",
         updates: NEWER_UPDATES,
-        profile: b"",
+        profile: "",
         script: "\
 routers 2\n\
 deliver 0 0\n\
@@ -175,7 +175,7 @@ deliver 5 0\n\
 deliver 4 1\n\
 same 0 1 2.2.2.2",
         exit: Exit::Done,
-        out: b"\
+        out: "\
 changed 3 sent 3\n\
 changed 1 sent 4\n\
 none\n\
@@ -186,28 +186,28 @@ different\n\
 changed 1 sent 7\n\
 changed 0\n\
 same\n",
-        err: b"",
+        err: "",
     },
     Flood {
         name: "a router that does not take part",
         updates: TRIANGLE_UPDATES,
-        profile: b"no-mrt 1.1.1.1",
+        profile: "no-mrt 1.1.1.1",
         script: "\
 routers 1\n\
 deliver 0 0\n\
 same 0 0 1.1.1.1\n\
 same 0 0 2.2.2.2",
         exit: Exit::Done,
-        out: b"\
+        out: "\
 changed 3 sent 3\n\
 none\n\
 same\n",
-        err: b"",
+        err: "",
     },
     Flood {
         name: "lines that are passed over",
         updates: TRIANGLE_UPDATES,
-        profile: b"",
+        profile: "",
         script: "\
 # deliveries\n\n\
 \x20routers\t1 \r\n\
@@ -215,9 +215,9 @@ same\n",
 deliver  1 0\r\n\
 # the end",
         exit: Exit::Done,
-        out: b"\
+        out: "\
 changed 1 sent 3\n",
-        err: b"",
+        err: "",
     },
 ];
 
@@ -225,125 +225,125 @@ const FAULTS: &[Flood] = &[
     Flood {
         name: "a packet that is cut",
         updates: b"\x02\x04\x00\xac\x01\x01\x01\x01\x00\x00\x00\x00\x00\x00\x00\x00\x00\x00\x00\x00\x00\x00\x00\x00\x00\x00\x00\x03\x00\x01\x02\x01\x01\x01\x01\x01\x01\x01\x01\x01\x80\x00\x00\x01\x21\xf0\x00\x30\x00\x00\x00\x02\x02\x02\x02\x02\x00\x00\x00\x02\x01\x00\x00\x0a\x03\x03\x03\x03\x00\x00\x00\x03\x01\x00\x00\x0a\x00\x01\x02\x01\x02\x02\x02\x02\x02\x02\x02\x02\x80\x00\x00\x01\xa4\x6a\x00\x30\x00\x00\x00\x02\x01\x01\x01\x01\x00\x00\x00\x01\x01\x00\x00\x0a\x03\x03\x03\x03\x00\x00\x00\x03\x01\x00\x00\x0a\x00\x01\x02\x01\x03\x03\x03\x03\x03\x03\x03\x03\x80\x00\x00\x01\xeb\x20\x00\x30\x00\x00\x00\x02\x01\x01\x01\x01\x00\x00\x00\x01\x01\x00\x00\x0a\x02\x02\x02\x02\x00\x00\x00\x02\x01\x00\x00\x0a\x02\x04\x00\x4c\x01\x01\x01\x01\x00\x00\x00\x00\x00\x00\x00\x00\x00\x00\x00\x00\x00\x00\x00\x00\x00\x00\x00\x01\x00\x01\x02\x01\x01\x01\x01\x01\x01\x01\x01\x01\x80\x00\x00\x01\x21\xf0\x00\x30\x00\x00\x00\x02\x02\x02\x02\x02\x00\x00\x00\x02\x01\x00\x00\x0a\x03\x03\x03\x03\x00\x00\x00\x03\x01\x00\x00\x0a\x02\x04\x00\x7c\x01\x01\x01\x01\x00\x00\x00\x00\x00\x00\x00\x00\x00\x00\x00\x00\x00\x00\x00\x00\x00\x00\x00\x02\x00\x01\x02\x01\x02\x02\x02\x02\x02\x02\x02\x02\x80\x00\x00\x01\xa4\x6a\x00\x30\x00\x00\x00\x02\x01\x01\x01\x01\x00\x00\x00\x01\x01\x00\x00\x0a\x03\x03\x03\x03\x00\x00\x00\x03\x01\x00\x00\x0a\x00\x01\x02\x01\x03\x03\x03\x03\x03\x03\x03\x03\x80\x00\x00\x01\xeb\x20\x00\x30\x00\x00\x00\x02\x01\x01\x01\x01\x00\x00\x00\x01\x01\x00\x00\x0a\x02\x02\x02\x02\x00\x00\x00\x02\x01\x00\x00",
-        profile: b"",
+        profile: "",
         script: "routers 1",
         exit: Exit::BadUpdate {
             at: 248,
             kind: UpdateKind::Truncated,
         },
-        out: b"",
-        err: b"mrt: bad update: truncated at 248\n",
+        out: "",
+        err: "mrt: bad update: truncated at 248\n",
     },
     Flood {
         name: "one LSA fewer than the count",
         updates: MISCOUNTED,
-        profile: b"",
+        profile: "",
         script: "routers 1",
         exit: Exit::BadUpdate {
             at: 0,
             kind: UpdateKind::Count,
         },
-        out: b"",
-        err: b"mrt: bad update: count at 0\n",
+        out: "",
+        err: "mrt: bad update: count at 0\n",
     },
     Flood {
         name: "another version",
         updates: OF_VERSION_3,
-        profile: b"",
+        profile: "",
         script: "routers 1",
         exit: Exit::BadUpdate {
             at: 0,
             kind: UpdateKind::Header,
         },
-        out: b"",
-        err: b"mrt: bad update: header at 0\n",
+        out: "",
+        err: "mrt: bad update: header at 0\n",
     },
     Flood {
         name: "another packet type",
         updates: OF_TYPE_1,
-        profile: b"",
+        profile: "",
         script: "routers 1",
         exit: Exit::BadUpdate {
             at: 0,
             kind: UpdateKind::Header,
         },
-        out: b"",
-        err: b"mrt: bad update: header at 0\n",
+        out: "",
+        err: "mrt: bad update: header at 0\n",
     },
     Flood {
         name: "too small a length",
         updates: OF_LENGTH_27,
-        profile: b"",
+        profile: "",
         script: "routers 1",
         exit: Exit::BadUpdate {
             at: 0,
             kind: UpdateKind::Length,
         },
-        out: b"",
-        err: b"mrt: bad update: length at 0\n",
+        out: "",
+        err: "mrt: bad update: length at 0\n",
     },
     Flood {
         name: "an LSA with a fault, before the count",
         updates: DAMAGED,
-        profile: b"",
+        profile: "",
         script: "routers 1",
         exit: Exit::BadUpdate {
             at: 28,
             kind: UpdateKind::Lsa(LsaKind::Checksum),
         },
-        out: b"",
-        err: b"mrt: bad update: checksum at 28\n",
+        out: "",
+        err: "mrt: bad update: checksum at 28\n",
     },
     Flood {
         name: "packets before the profile",
         updates: MISCOUNTED,
-        profile: b"no-mrt",
+        profile: "no-mrt",
         script: "",
         exit: Exit::BadUpdate {
             at: 0,
             kind: UpdateKind::Count,
         },
-        out: b"",
-        err: b"mrt: bad update: count at 0\n",
+        out: "",
+        err: "mrt: bad update: count at 0\n",
     },
     Flood {
         name: "the profile before the script",
         updates: TRIANGLE_UPDATES,
-        profile: b"no-mrt",
+        profile: "no-mrt",
         script: "",
         exit: Exit::BadProfile {
             line: 1,
             kind: ProfileKind::Words,
         },
-        out: b"",
-        err: b"mrt: bad profile: words on line 1\n",
+        out: "",
+        err: "mrt: bad profile: words on line 1\n",
     },
     Flood {
         name: "no first line",
         updates: TRIANGLE_UPDATES,
-        profile: b"",
+        profile: "",
         script: "# routers 1",
         exit: Exit::BadScript { line: 2 },
-        out: b"",
-        err: b"mrt: bad script on line 2\n",
+        out: "",
+        err: "mrt: bad script on line 2\n",
     },
     Flood {
         name: "a router that there is not",
         updates: TRIANGLE_UPDATES,
-        profile: b"",
+        profile: "",
         script: "routers 2\nsame 0 1 1.1.1.1\nsame 0 2 1.1.1.1",
         exit: Exit::BadScript { line: 3 },
-        out: b"",
-        err: b"mrt: bad script on line 3\n",
+        out: "",
+        err: "mrt: bad script on line 3\n",
     },
     Flood {
         name: "sixty-five routers",
         updates: TRIANGLE_UPDATES,
-        profile: b"",
+        profile: "",
         script: "routers 65",
         exit: Exit::BadScript { line: 1 },
-        out: b"",
-        err: b"mrt: bad script on line 1\n",
+        out: "",
+        err: "mrt: bad script on line 1\n",
     },
 ];
 
@@ -358,10 +358,11 @@ fn faults() -> &'static [Flood] {
 fn comes_out(alloc: Global, flood: &Flood) -> bool {
     let files = Files {
         database: flood.updates,
-        profile: flood.profile,
+        profile: flood.profile.as_bytes(),
         certificate: flood.script.as_bytes(),
     };
-    comes_to(alloc, FLOOD, files, flood.exit, flood.out, flood.err)
+    let (out, err) = (flood.out.as_bytes(), flood.err.as_bytes());
+    comes_to(alloc, FLOOD, files, flood.exit, out, err)
 }
 
 #[test]
@@ -382,29 +383,29 @@ fn packets_profiles_and_scripts_with_faults(rt: HostRuntime) {
 struct Words {
     words: &'static [&'static str],
     exit: Exit,
-    err: &'static [u8],
+    err: &'static str,
 }
 
 const WORDS: &[Words] = &[
     Words {
         words: &["flood", "db", "-", "cert"],
         exit: Exit::Done,
-        err: b"",
+        err: "",
     },
     Words {
         words: &["flood", "x", "y", "z"],
         exit: Exit::ReadFault { word: 1 },
-        err: b"mrt: read fault: word 1\n",
+        err: "mrt: read fault: word 1\n",
     },
     Words {
         words: &["flood", "db", "y", "z"],
         exit: Exit::ReadFault { word: 2 },
-        err: b"mrt: read fault: word 2\n",
+        err: "mrt: read fault: word 2\n",
     },
     Words {
         words: &["flood", "db", "-", "z"],
         exit: Exit::ReadFault { word: 3 },
-        err: b"mrt: read fault: word 3\n",
+        err: "mrt: read fault: word 3\n",
     },
     Words {
         words: &["flood", "db", "-"],
@@ -443,7 +444,8 @@ fn come_out(alloc: Global, words: &Words) -> bool {
         profile: b"",
         certificate: b"routers 64\n",
     };
-    comes_to(alloc, words.words, files, words.exit, b"", words.err)
+    let err = words.err.as_bytes();
+    comes_to(alloc, words.words, files, words.exit, b"", err)
 }
 
 #[test]

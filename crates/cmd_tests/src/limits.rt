@@ -168,8 +168,8 @@ struct Large {
     routers: u32,
     parallel: u32,
     exit: Exit,
-    out: &'static [u8],
-    err: &'static [u8],
+    out: &'static str,
+    err: &'static str,
 }
 
 const LARGE: &[Large] = &[
@@ -180,15 +180,15 @@ const LARGE: &[Large] = &[
             what: What::AreaNodes,
             size: 4097,
         },
-        out: b"",
-        err: b"mrt: too large: area-nodes 4097\n",
+        out: "",
+        err: "mrt: too large: area-nodes 4097\n",
     },
     Large {
         routers: 4096,
         parallel: 0,
         exit: Exit::Done,
-        out: b"accepted root 0.0.0.1 nodes 1 links 0\n",
-        err: b"",
+        out: "accepted root 0.0.0.1 nodes 1 links 0\n",
+        err: "",
     },
     Large {
         routers: 4096,
@@ -198,8 +198,8 @@ const LARGE: &[Large] = &[
             a: 0,
             b: 2,
         },
-        out: b"",
-        err: b"mrt: no: rule 1 at 0 2\n",
+        out: "",
+        err: "mrt: no: rule 1 at 0 2\n",
     },
     Large {
         routers: 8,
@@ -208,8 +208,8 @@ const LARGE: &[Large] = &[
             what: What::AreaArcs,
             size: 32784,
         },
-        out: b"",
-        err: b"mrt: too large: area-arcs 32784\n",
+        out: "",
+        err: "mrt: too large: area-arcs 32784\n",
     },
     Large {
         routers: 8,
@@ -219,8 +219,8 @@ const LARGE: &[Large] = &[
             a: 0,
             b: 2,
         },
-        out: b"",
-        err: b"mrt: no: rule 1 at 0 2\n",
+        out: "",
+        err: "mrt: no: rule 1 at 0 2\n",
     },
 ];
 
@@ -235,8 +235,8 @@ fn comes_out(alloc: Global, large: &Large) -> bool {
             CHECK,
             two(&file, FIRST_CERTIFICATE),
             large.exit,
-            large.out,
-            large.err,
+            large.out.as_bytes(),
+            large.err.as_bytes(),
         ),
         Err(NoMemory) => false,
     }

@@ -10,8 +10,8 @@ const SCRIPTS: &[Answered] = &[
         name: "two packets, and a failure between their steps",
         words: FABRIC,
         database: TRIANGLE,
-        profile: b"",
-        script: b"\
+        profile: "",
+        script: "\
 island 1.1.1.1 2\n\
 inject 2.2.2.2 1.1.1.1 repair\n\
 inject 1.1.1.1 3.3.3.3 blue\n\
@@ -25,7 +25,7 @@ step 1\n\
 step 1\n\
 inject 1.1.1.1 2.2.2.2 red\n\
 step 9\n",
-        answers: b"\
+        answers: "\
 entered 0\n\
 entered 1\n\
 moved 2.2.2.2\n\
@@ -43,10 +43,10 @@ refused no-such-packet\n",
         name: "no events",
         words: FABRIC,
         database: TRIANGLE,
-        profile: b"",
-        script: b"\
+        profile: "",
+        script: "\
 island 1.1.1.1 1\n",
-        answers: b"",
+        answers: "",
     },
 ];
 
@@ -55,83 +55,83 @@ const REFUSED: &[Case] = &[
         name: "no first line",
         words: FABRIC,
         database: TRIANGLE,
-        profile: b"",
+        profile: "",
         certificate: b"# a remark\n",
         exit: Exit::BadScript { line: 2 },
-        out: b"",
-        err: b"mrt: bad script on line 2\n",
+        out: "",
+        err: "mrt: bad script on line 2\n",
     },
     Case {
         name: "a word too many",
         words: FABRIC,
         database: TRIANGLE,
-        profile: b"",
+        profile: "",
         certificate: b"island 1.1.1.1 1\nstep 0 0\n",
         exit: Exit::BadScript { line: 2 },
-        out: b"",
-        err: b"mrt: bad script on line 2\n",
+        out: "",
+        err: "mrt: bad script on line 2\n",
     },
     Case {
         name: "no bytes",
         words: FABRIC,
         database: TRIANGLE,
-        profile: b"",
+        profile: "",
         certificate: b"",
         exit: Exit::BadScript { line: 1 },
-        out: b"",
-        err: b"mrt: bad script on line 1\n",
+        out: "",
+        err: "mrt: bad script on line 1\n",
     },
     Case {
         name: "room for none",
         words: FABRIC,
         database: TRIANGLE,
-        profile: b"",
+        profile: "",
         certificate: b"island 1.1.1.1 0\n",
         exit: Exit::BadScript { line: 1 },
-        out: b"",
-        err: b"mrt: bad script on line 1\n",
+        out: "",
+        err: "mrt: bad script on line 1\n",
     },
     Case {
         name: "a word that is none",
         words: FABRIC,
         database: TRIANGLE,
-        profile: b"",
+        profile: "",
         certificate: b"island 1.1.1.1 1\nstep 0\nstop 0\n",
         exit: Exit::BadScript { line: 3 },
-        out: b"",
-        err: b"mrt: bad script on line 3\n",
+        out: "",
+        err: "mrt: bad script on line 3\n",
     },
     Case {
         name: "a number of too many digits",
         words: FABRIC,
         database: TRIANGLE,
-        profile: b"",
+        profile: "",
         certificate: b"island 1.1.1.1 1\nstep 99999999999\n",
         exit: Exit::BadScript { line: 2 },
-        out: b"",
-        err: b"mrt: bad script on line 2\n",
+        out: "",
+        err: "mrt: bad script on line 2\n",
     },
     Case {
         name: "a router that is not there",
         words: FABRIC,
         database: TRIANGLE,
-        profile: b"",
+        profile: "",
         certificate: b"island 9.9.9.9 1\n",
         exit: Exit::NotThere {
             number: 0x0909_0909,
         },
-        out: b"",
-        err: b"mrt: not there: 9.9.9.9\n",
+        out: "",
+        err: "mrt: not there: 9.9.9.9\n",
     },
     Case {
         name: "no script",
         words: &["fabric", "db", "-", "x"],
         database: TRIANGLE,
-        profile: b"",
+        profile: "",
         certificate: b"",
         exit: Exit::ReadFault { word: 3 },
-        out: b"",
-        err: b"mrt: read fault: word 3\n",
+        out: "",
+        err: "mrt: read fault: word 3\n",
     },
 ];
 

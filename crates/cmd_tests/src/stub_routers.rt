@@ -42,139 +42,139 @@ const CASES: &[Case] = &[
         name: "the link is out",
         words: &["table", "db", "-", "1.1.1.1"],
         database: AT_1,
-        profile: b"",
+        profile: "",
         certificate: b"",
         exit: Exit::Done,
-        out: b"\
+        out: "\
 router 1.1.1.1 root 3.3.3.3 nodes 3 links 2\n\
 2.2.2.2 sole blue 2.2.2.2/0.0.0.2 red 2.2.2.2/0.0.0.2 primary 2.2.2.2/0.0.0.2 repair --\n\
 3.3.3.3 carried blue 2.2.2.2/0.0.0.2 red 2.2.2.2/0.0.0.2 primary 2.2.2.2/0.0.0.2 repair --\n",
-        err: b"",
+        err: "",
     },
     Case {
         name: "it is out by its other end, and a primary goes over it",
         words: &["table", "db", "-", "1.1.1.1"],
         database: AT_3,
-        profile: b"",
+        profile: "",
         certificate: b"",
         exit: Exit::Done,
-        out: b"\
+        out: "\
 router 1.1.1.1 root 3.3.3.3 nodes 3 links 2\n\
 2.2.2.2 sole blue 2.2.2.2/0.0.0.2 red 2.2.2.2/0.0.0.2 primary 2.2.2.2/0.0.0.2 repair --\n\
 3.3.3.3 carried blue 2.2.2.2/0.0.0.2 red 2.2.2.2/0.0.0.2 primary 3.3.3.3/0.0.0.3 repair b-\n",
-        err: b"",
+        err: "",
     },
     Case {
         name: "a primary goes over it at its metric, since a detour costs more",
         words: &["table", "db", "-", "1.1.1.1"],
         database: AT_BOTH,
-        profile: b"",
+        profile: "",
         certificate: b"",
         exit: Exit::Done,
-        out: b"\
+        out: "\
 router 1.1.1.1 root 3.3.3.3 nodes 3 links 2\n\
 2.2.2.2 sole blue 2.2.2.2/0.0.0.2 red 2.2.2.2/0.0.0.2 primary 2.2.2.2/0.0.0.2 repair --\n\
 3.3.3.3 carried blue 2.2.2.2/0.0.0.2 red 2.2.2.2/0.0.0.2 primary 3.3.3.3/0.0.0.3 repair b-\n",
-        err: b"",
+        err: "",
     },
     Case {
         name: "a metric below it",
         words: &["table", "db", "-", "1.1.1.1"],
         database: BELOW,
-        profile: b"",
+        profile: "",
         certificate: b"",
         exit: Exit::Done,
-        out: b"\
+        out: "\
 router 1.1.1.1 root 3.3.3.3 nodes 3 links 3\n\
 2.2.2.2 above blue 3.3.3.3/0.0.0.3 red 2.2.2.2/0.0.0.2 primary 2.2.2.2/0.0.0.2 repair b-\n\
 3.3.3.3 head blue 3.3.3.3/0.0.0.3 red 2.2.2.2/0.0.0.2 primary 2.2.2.2/0.0.0.2 repair bb\n",
-        err: b"",
+        err: "",
     },
     Case {
         name: "a router in maintenance",
         words: &["table", "db", "-", "2.2.2.2"],
         database: MAINTAINED,
-        profile: b"",
+        profile: "",
         certificate: b"",
         exit: Exit::Done,
-        out: b"\
+        out: "\
 router 2.2.2.2 root 2.2.2.2 nodes 1 links 0\n",
-        err: b"",
+        err: "",
     },
     Case {
         name: "its neighbours",
         words: &["table", "db", "-", "1.1.1.1"],
         database: MAINTAINED,
-        profile: b"",
+        profile: "",
         certificate: b"",
         exit: Exit::Done,
-        out: b"\
+        out: "\
 router 1.1.1.1 root 3.3.3.3 nodes 2 links 1\n\
 3.3.3.3 sole blue 3.3.3.3/0.0.0.3 red 3.3.3.3/0.0.0.3 primary 3.3.3.3/0.0.0.3 repair --\n",
-        err: b"",
+        err: "",
     },
     Case {
         name: "a router on a LAN is out",
         words: &["table", "db", "-", "1.1.1.1"],
         database: ON_LAN,
-        profile: b"",
+        profile: "",
         certificate: b"",
         exit: Exit::Done,
-        out: b"\
+        out: "\
 router 1.1.1.1 root 4.4.4.4 nodes 4 links 4\n\
 2.2.2.2 below blue 2.2.2.2/0.0.0.2 red net:10.0.0.4/10.0.0.1 primary 2.2.2.2/0.0.0.2 repair r-\n\
 4.4.4.4 carried blue 2.2.2.2/0.0.0.2 red net:10.0.0.4/10.0.0.1 primary net:10.0.0.4/10.0.0.1 repair b---\n\
 net:10.0.0.4 head blue 2.2.2.2/0.0.0.2 red net:10.0.0.4/10.0.0.1 primary net:10.0.0.4/10.0.0.1 repair b-\n",
-        err: b"",
+        err: "",
     },
     Case {
         name: "the router that is out of the LAN",
         words: &["table", "db", "-", "3.3.3.3"],
         database: ON_LAN,
-        profile: b"",
+        profile: "",
         certificate: b"",
         exit: Exit::Done,
-        out: b"\
+        out: "\
 router 3.3.3.3 root 3.3.3.3 nodes 1 links 0\n",
-        err: b"",
+        err: "",
     },
     Case {
         name: "the certificate from before",
         words: CHECK,
         database: AT_1,
-        profile: b"",
+        profile: "",
         certificate: TRIANGLE_CERTIFICATE,
         exit: Exit::No {
             rule: 1,
             a: 0,
             b: 2,
         },
-        out: b"",
-        err: b"mrt: no: rule 1 at 0 2\n",
+        out: "",
+        err: "mrt: no: rule 1 at 0 2\n",
     },
     Case {
         name: "the certificate from before, by the other end",
         words: CHECK,
         database: AT_3,
-        profile: b"",
+        profile: "",
         certificate: TRIANGLE_CERTIFICATE,
         exit: Exit::No {
             rule: 1,
             a: 0,
             b: 2,
         },
-        out: b"",
-        err: b"mrt: no: rule 1 at 0 2\n",
+        out: "",
+        err: "mrt: no: rule 1 at 0 2\n",
     },
     Case {
         name: "the certificate from before, by a metric below it",
         words: CHECK,
         database: BELOW,
-        profile: b"",
+        profile: "",
         certificate: TRIANGLE_CERTIFICATE,
         exit: Exit::Done,
-        out: b"accepted root 3.3.3.3 nodes 3 links 3\n",
-        err: b"",
+        out: "accepted root 3.3.3.3 nodes 3 links 3\n",
+        err: "",
     },
 ];
 
@@ -183,9 +183,9 @@ const TRACES: &[Answered] = &[
         name: "over the link",
         words: &["trace", "db", "-", "1.1.1.1", "2.2.2.2", "repair"],
         database: TWO,
-        profile: b"",
-        script: b"",
-        answers: b"\
+        profile: "",
+        script: "",
+        answers: "\
 entered 0\n\
 delivered 2.2.2.2\n",
     },
@@ -201,9 +201,9 @@ delivered 2.2.2.2\n",
             "link:1.1.1.1/0.0.0.2",
         ],
         database: TWO,
-        profile: b"",
-        script: b"",
-        answers: b"\
+        profile: "",
+        script: "",
+        answers: "\
 failed\n\
 entered 0\n\
 lost outside\n",
@@ -212,9 +212,9 @@ lost outside\n",
         name: "from a router in maintenance",
         words: &["trace", "db", "-", "2.2.2.2", "3.3.3.3", "repair"],
         database: MAINTAINED,
-        profile: b"",
-        script: b"",
-        answers: b"\
+        profile: "",
+        script: "",
+        answers: "\
 entered 0\n\
 delivered 3.3.3.3\n",
     },
@@ -222,9 +222,9 @@ delivered 3.3.3.3\n",
         name: "to it",
         words: &["trace", "db", "-", "1.1.1.1", "2.2.2.2", "repair"],
         database: MAINTAINED,
-        profile: b"",
-        script: b"",
-        answers: b"\
+        profile: "",
+        script: "",
+        answers: "\
 entered 0\n\
 delivered 2.2.2.2\n",
     },
@@ -232,9 +232,9 @@ delivered 2.2.2.2\n",
         name: "through it, where there is no other way",
         words: &["trace", "db", "-", "1.1.1.1", "3.3.3.3", "repair"],
         database: PASSED,
-        profile: b"",
-        script: b"",
-        answers: b"\
+        profile: "",
+        script: "",
+        answers: "\
 entered 0\n\
 moved 2.2.2.2\n\
 delivered 3.3.3.3\n",
@@ -251,9 +251,9 @@ delivered 3.3.3.3\n",
             "link:1.1.1.1/0.0.0.3",
         ],
         database: MAINTAINED,
-        profile: b"",
-        script: b"",
-        answers: b"\
+        profile: "",
+        script: "",
+        answers: "\
 failed\n\
 entered 0\n\
 lost no-alternate\n",
@@ -262,9 +262,9 @@ lost no-alternate\n",
         name: "it is in no other island",
         words: &["trace", "db", "-", "1.1.1.1", "2.2.2.2", "blue"],
         database: MAINTAINED,
-        profile: b"",
-        script: b"",
-        answers: b"\
+        profile: "",
+        script: "",
+        answers: "\
 refused no-such-place\n",
     },
     Answered {
@@ -279,9 +279,9 @@ refused no-such-place\n",
             "link:1.1.1.1/0.0.0.3",
         ],
         database: AT_3,
-        profile: b"",
-        script: b"",
-        answers: b"\
+        profile: "",
+        script: "",
+        answers: "\
 failed\n\
 entered 0\n\
 switched blue\n\

@@ -10,13 +10,13 @@ use std::alloc::Global;
 struct Survey {
     name: &'static str,
     words: &'static [&'static str],
-    text: &'static [u8],
+    text: &'static str,
 }
 
 const FOUR: &[&str] = &["survey", "0", "4"];
 
-const FOUR_TEXT: &[u8] =
-    b"survey 0 nodes 4 links 5 root 0.0.0.4\nblocks 1 sole 0 separating 0\ncommon 12 carried 0\nsums blue 23 red 27\n";
+const FOUR_TEXT: &str =
+    "survey 0 nodes 4 links 5 root 0.0.0.4\nblocks 1 sole 0 separating 0\ncommon 12 carried 0\nsums blue 23 red 27\n";
 
 const SURVEYS: &[Survey] = &[
     Survey {
@@ -32,17 +32,17 @@ const SURVEYS: &[Survey] = &[
     Survey {
         name: "the greatest number",
         words: &["survey", "4294967295", "4"],
-        text: b"survey 4294967295 nodes 4 links 5 root 0.0.0.4\nblocks 1 sole 0 separating 0\ncommon 12 carried 0\nsums blue 23 red 29\n",
+        text: "survey 4294967295 nodes 4 links 5 root 0.0.0.4\nblocks 1 sole 0 separating 0\ncommon 12 carried 0\nsums blue 23 red 29\n",
     },
     Survey {
         name: "300 routers",
         words: &["survey", "7", "300"],
-        text: b"survey 7 nodes 300 links 360 root 0.0.1.44\nblocks 61 sole 60 separating 60\ncommon 57480 carried 32220\nsums blue 16308801 red 16228075\n",
+        text: "survey 7 nodes 300 links 360 root 0.0.1.44\nblocks 61 sole 60 separating 60\ncommon 57480 carried 32220\nsums blue 16308801 red 16228075\n",
     },
     Survey {
         name: "the largest network",
         words: &["survey", "7", "2048"],
-        text: b"survey 7 nodes 2048 links 2457 root 0.0.8.0\nblocks 410 sole 409 separating 409\ncommon 2685500 carried 1506756\nsums blue 5185914333 red 5184171262\n",
+        text: "survey 7 nodes 2048 links 2457 root 0.0.8.0\nblocks 410 sole 409 separating 409\ncommon 2685500 carried 1506756\nsums blue 5185914333 red 5184171262\n",
     },
 ];
 
@@ -63,7 +63,7 @@ fn surveys_of_networks(rt: HostRuntime) {
             survey.words,
             no_files(),
             Exit::Done,
-            survey.text,
+            survey.text.as_bytes(),
             b"",
         );
         assert!(rt; is_so, "{}", survey.name);
@@ -93,7 +93,14 @@ fn no_forms() -> &'static [&'static [&'static str]] {
 #[test]
 fn words_that_ask_for_no_survey(rt: HostRuntime) {
     for words in no_forms() {
-        let is_so = comes_to(rt.alloc(), words, no_files(), Exit::Usage, b"", USAGE);
+        let is_so = comes_to(
+            rt.alloc(),
+            words,
+            no_files(),
+            Exit::Usage,
+            b"",
+            USAGE.as_bytes(),
+        );
         assert!(rt; is_so, "{}", words.len());
     }
 }
@@ -138,7 +145,7 @@ fn takes_as_told(alloc: Global, output: &Output) -> Result<bool, NoMemory> {
         write: output.fails,
     };
     let left = left_on(alloc, FOUR, no_files(), devices)?;
-    Ok(left.exit == output.exit && left.out.bytes() == front(FOUR_TEXT, output.taken))
+    Ok(left.exit == output.exit && left.out.bytes() == front(FOUR_TEXT.as_bytes(), output.taken))
 }
 
 #[test]

@@ -16,8 +16,8 @@ struct Example {
     name: &'static str,
     words: &'static [&'static str],
     database: &'static [u8],
-    profile: &'static [u8],
-    table: &'static [u8],
+    profile: &'static str,
+    table: &'static str,
 }
 
 const EXAMPLES: &[Example] = &[
@@ -25,8 +25,8 @@ const EXAMPLES: &[Example] = &[
         name: "a triangle",
         words: &["table", "db", "-", "2.2.2.2"],
         database: TRIANGLE,
-        profile: b"",
-        table: b"\
+        profile: "",
+        table: "\
 router 2.2.2.2 root 3.3.3.3 nodes 3 links 3\n\
 1.1.1.1 above blue 3.3.3.3/0.0.0.3 red 1.1.1.1/0.0.0.1 primary 1.1.1.1/0.0.0.1 repair b-\n\
 3.3.3.3 head blue 3.3.3.3/0.0.0.3 red 1.1.1.1/0.0.0.1 primary 3.3.3.3/0.0.0.3 repair r-\n",
@@ -35,8 +35,8 @@ router 2.2.2.2 root 3.3.3.3 nodes 3 links 3\n\
         name: "a line",
         words: &["table", "db", "-", "1.1.1.1"],
         database: LINE,
-        profile: b"",
-        table: b"\
+        profile: "",
+        table: "\
 router 1.1.1.1 root 4.4.4.4 nodes 4 links 3\n\
 2.2.2.2 sole blue 2.2.2.2/0.0.0.2 red 2.2.2.2/0.0.0.2 primary 2.2.2.2/0.0.0.2 repair --\n\
 3.3.3.3 carried blue 2.2.2.2/0.0.0.2 red 2.2.2.2/0.0.0.2 primary 2.2.2.2/0.0.0.2 repair --\n\
@@ -46,8 +46,8 @@ router 1.1.1.1 root 4.4.4.4 nodes 4 links 3\n\
         name: "three links",
         words: &["table", "db", "-", "1.1.1.1"],
         database: THREE_LINKS,
-        profile: b"",
-        table: b"\
+        profile: "",
+        table: "\
 router 1.1.1.1 root 2.2.2.2 nodes 2 links 3\n\
 2.2.2.2 head blue 2.2.2.2/0.0.0.2 red 2.2.2.2/0.0.0.1 primary 2.2.2.2/0.0.0.1 repair b-\n",
     },
@@ -55,8 +55,8 @@ router 1.1.1.1 root 2.2.2.2 nodes 2 links 3\n\
         name: "two triangles",
         words: &["table", "db", "-", "1.1.1.1"],
         database: TWO_TRIANGLES,
-        profile: b"",
-        table: b"\
+        profile: "",
+        table: "\
 router 1.1.1.1 root 5.5.5.5 nodes 5 links 6\n\
 2.2.2.2 below blue 2.2.2.2/0.0.0.2 red 3.3.3.3/0.0.0.3 primary 2.2.2.2/0.0.0.2 repair r-\n\
 3.3.3.3 head blue 2.2.2.2/0.0.0.2 red 3.3.3.3/0.0.0.3 primary 3.3.3.3/0.0.0.3 repair b-\n\
@@ -67,8 +67,8 @@ router 1.1.1.1 root 5.5.5.5 nodes 5 links 6\n\
         name: "an unordered pair, and two shortest paths of one cost",
         words: &["table", "db", "-", "1.1.1.1"],
         database: CROSSED,
-        profile: b"",
-        table: b"\
+        profile: "",
+        table: "\
 router 1.1.1.1 root 5.5.5.5 nodes 5 links 6\n\
 2.2.2.2 below blue 4.4.4.4/0.0.0.4 red 5.5.5.5/0.0.0.5 primary 4.4.4.4/0.0.0.4 repair rr\n\
 3.3.3.3 unordered blue 5.5.5.5/0.0.0.5 red 4.4.4.4/0.0.0.4 primary 4.4.4.4/0.0.0.4 repair bb\n\
@@ -79,8 +79,8 @@ router 1.1.1.1 root 5.5.5.5 nodes 5 links 6\n\
         name: "a LAN, with second arcs",
         words: &["table", "db", "-", "1.1.1.1"],
         database: LAN,
-        profile: b"",
-        table: b"\
+        profile: "",
+        table: "\
 router 1.1.1.1 root 4.4.4.4 nodes 5 links 5\n\
 2.2.2.2 below blue 2.2.2.2/0.0.0.2 red net:10.0.0.4/10.0.0.1 primary 2.2.2.2/0.0.0.2 repair r-\n\
 3.3.3.3 carried blue 2.2.2.2/0.0.0.2 red net:10.0.0.4/10.0.0.1 primary net:10.0.0.4/10.0.0.1 repair b---\n\
@@ -91,8 +91,8 @@ net:10.0.0.4 head blue 2.2.2.2/0.0.0.2 red net:10.0.0.4/10.0.0.1 primary net:10.
         name: "a LAN in a ring",
         words: &["table", "db", "-", "2.2.2.2"],
         database: LAN_IN_RING,
-        profile: b"",
-        table: b"\
+        profile: "",
+        table: "\
 router 2.2.2.2 root 4.4.4.4 nodes 5 links 6\n\
 1.1.1.1 below blue net:10.0.0.3/10.0.0.2 red 4.4.4.4/0.0.0.4 primary net:10.0.0.3/10.0.0.2 repair rrr-\n\
 3.3.3.3 unordered blue 4.4.4.4/0.0.0.4 red net:10.0.0.3/10.0.0.2 primary net:10.0.0.3/10.0.0.2 repair bbb-\n\
@@ -103,16 +103,16 @@ net:10.0.0.3 below blue net:10.0.0.3/10.0.0.2 red 4.4.4.4/0.0.0.4 primary net:10
         name: "a link that one side alone lists",
         words: &["table", "db", "-", "1.1.1.1"],
         database: ONE_SIDED,
-        profile: b"",
-        table: b"\
+        profile: "",
+        table: "\
 router 1.1.1.1 root 1.1.1.1 nodes 1 links 0\n",
     },
     Example {
         name: "another root",
         words: &["table", "db", "prof", "1.1.1.1"],
         database: TRIANGLE,
-        profile: b"priority 1.1.1.1 10",
-        table: b"\
+        profile: "priority 1.1.1.1 10",
+        table: "\
 router 1.1.1.1 root 1.1.1.1 nodes 3 links 3\n\
 2.2.2.2 top blue 2.2.2.2/0.0.0.2 red 3.3.3.3/0.0.0.3 primary 2.2.2.2/0.0.0.2 repair r-\n\
 3.3.3.3 top blue 2.2.2.2/0.0.0.2 red 3.3.3.3/0.0.0.3 primary 3.3.3.3/0.0.0.3 repair b-\n",
@@ -121,16 +121,16 @@ router 1.1.1.1 root 1.1.1.1 nodes 3 links 3\n\
         name: "a router without its neighbour",
         words: &["table", "db", "prof", "1.1.1.1"],
         database: LINE,
-        profile: b"no-mrt 2.2.2.2",
-        table: b"\
+        profile: "no-mrt 2.2.2.2",
+        table: "\
 router 1.1.1.1 root 1.1.1.1 nodes 1 links 0\n",
     },
     Example {
         name: "a primary outside the island",
         words: &["table", "db", "prof", "1.1.1.1"],
         database: SQUARE,
-        profile: b"ineligible 1.1.1.1 0.0.0.9",
-        table: b"\
+        profile: "ineligible 1.1.1.1 0.0.0.9",
+        table: "\
 router 1.1.1.1 root 4.4.4.4 nodes 4 links 4\n\
 2.2.2.2 above blue 3.3.3.3/0.0.0.3 red 2.2.2.2/0.0.0.2 primary 2.2.2.2/0.0.0.2 repair b-\n\
 3.3.3.3 below blue 3.3.3.3/0.0.0.3 red 2.2.2.2/0.0.0.2 primary 3.3.3.3/0.0.0.9 repair b-\n\
@@ -145,7 +145,7 @@ const OF_SAMPLE: &[Example] = &[
         words: &["table", "db", "prof", "10.255.1.1"],
         database: SAMPLE,
         profile: SAMPLE_PROFILE,
-        table: b"\
+        table: "\
 router 10.255.1.1 root 10.255.1.1 nodes 7 links 8\n\
 10.255.1.2 top blue net:198.51.100.4/198.51.100.1 red 10.255.1.5/192.0.2.1 primary net:198.51.100.4/198.51.100.1 repair rrr-\n\
 10.255.1.3 carried blue net:198.51.100.4/198.51.100.1 red 10.255.1.5/192.0.2.1 primary net:198.51.100.4/198.51.100.1 repair r---\n\
@@ -159,7 +159,7 @@ net:198.51.100.4 top blue net:198.51.100.4/198.51.100.1 red 10.255.1.5/192.0.2.1
         words: &["table", "db", "prof", "10.255.1.2"],
         database: SAMPLE,
         profile: SAMPLE_PROFILE,
-        table: b"\
+        table: "\
 router 10.255.1.2 root 10.255.1.1 nodes 7 links 8\n\
 10.255.1.1 head blue 10.255.1.5/192.0.2.5 red net:198.51.100.4/198.51.100.2 primary net:198.51.100.4/198.51.100.2 repair bbb-\n\
 10.255.1.3 carried blue 10.255.1.5/192.0.2.5 red net:198.51.100.4/198.51.100.2 primary net:198.51.100.4/198.51.100.2 repair b---\n\
@@ -173,7 +173,7 @@ net:198.51.100.4 above blue 10.255.1.5/192.0.2.5 red net:198.51.100.4/198.51.100
         words: &["table", "db", "prof", "10.255.1.3"],
         database: SAMPLE,
         profile: SAMPLE_PROFILE,
-        table: b"\
+        table: "\
 router 10.255.1.3 root 10.255.1.1 nodes 7 links 8\n\
 10.255.1.1 carried blue net:198.51.100.4/198.51.100.3 red net:198.51.100.4/198.51.100.3 primary net:198.51.100.4/198.51.100.3 repair --b-\n\
 10.255.1.2 carried blue net:198.51.100.4/198.51.100.3 red net:198.51.100.4/198.51.100.3 primary net:198.51.100.4/198.51.100.3 repair --r-\n\
@@ -187,7 +187,7 @@ net:198.51.100.4 sole blue net:198.51.100.4/198.51.100.3 red net:198.51.100.4/19
         words: &["table", "db", "prof", "10.255.1.4"],
         database: SAMPLE,
         profile: SAMPLE_PROFILE,
-        table: b"\
+        table: "\
 router 10.255.1.4 root 10.255.1.1 nodes 7 links 8\n\
 10.255.1.1 carried blue net:198.51.100.4/198.51.100.4 red net:198.51.100.4/198.51.100.4 primary net:198.51.100.4/198.51.100.4 repair --b-\n\
 10.255.1.2 carried blue net:198.51.100.4/198.51.100.4 red net:198.51.100.4/198.51.100.4 primary net:198.51.100.4/198.51.100.4 repair --r-\n\
@@ -201,7 +201,7 @@ net:198.51.100.4 sole blue net:198.51.100.4/198.51.100.4 red net:198.51.100.4/19
         words: &["table", "db", "prof", "10.255.1.5"],
         database: SAMPLE,
         profile: SAMPLE_PROFILE,
-        table: b"\
+        table: "\
 router 10.255.1.5 root 10.255.1.1 nodes 7 links 8\n\
 10.255.1.1 head blue 10.255.1.1/192.0.2.2 red 10.255.1.2/192.0.2.6 primary 10.255.1.4/192.0.2.14 repair bb\n\
 10.255.1.2 above blue 10.255.1.1/192.0.2.2 red 10.255.1.2/192.0.2.6 primary 10.255.1.4/192.0.2.14 repair bb\n\
@@ -215,7 +215,7 @@ net:198.51.100.4 above blue 10.255.1.1/192.0.2.2 red 10.255.1.2/192.0.2.6 primar
         words: &["table", "db", "prof", "10.255.1.6"],
         database: SAMPLE,
         profile: SAMPLE_PROFILE,
-        table: b"\
+        table: "\
 router 10.255.1.6 root 10.255.1.1 nodes 7 links 8\n\
 10.255.1.1 carried blue 10.255.1.3/192.0.2.18 red 10.255.1.3/192.0.2.18 primary 10.255.1.3/192.0.2.18 repair --\n\
 10.255.1.2 carried blue 10.255.1.3/192.0.2.18 red 10.255.1.3/192.0.2.18 primary 10.255.1.3/192.0.2.18 repair --\n\
@@ -231,44 +231,44 @@ const REFUSED: &[Case] = &[
         name: "a router that is not there",
         words: &["table", "db", "-", "9.9.9.9"],
         database: TRIANGLE,
-        profile: b"",
+        profile: "",
         certificate: b"",
         exit: Exit::NotThere {
             number: 0x0909_0909,
         },
-        out: b"",
-        err: b"mrt: not there: 9.9.9.9\n",
+        out: "",
+        err: "mrt: not there: 9.9.9.9\n",
     },
     Case {
         name: "a router that does not take part",
         words: &["table", "db", "prof", "2.2.2.2"],
         database: LINE,
-        profile: b"no-mrt 2.2.2.2",
+        profile: "no-mrt 2.2.2.2",
         certificate: b"",
         exit: Exit::NotThere {
             number: 0x0202_0202,
         },
-        out: b"",
-        err: b"mrt: not there: 2.2.2.2\n",
+        out: "",
+        err: "mrt: not there: 2.2.2.2\n",
     },
     Case {
         name: "no router",
         words: &["table", "db", "-"],
         database: TRIANGLE,
-        profile: b"",
+        profile: "",
         certificate: b"",
         exit: Exit::Usage,
-        out: b"",
+        out: "",
         err: USAGE,
     },
     Case {
         name: "no address",
         words: &["table", "db", "-", "2.2.2"],
         database: TRIANGLE,
-        profile: b"",
+        profile: "",
         certificate: b"",
         exit: Exit::Usage,
-        out: b"",
+        out: "",
         err: USAGE,
     },
 ];
@@ -289,10 +289,11 @@ fn refused() -> &'static [Case] {
 fn is_given(alloc: Global, case: &Example) -> bool {
     let files = Files {
         database: case.database,
-        profile: case.profile,
+        profile: case.profile.as_bytes(),
         certificate: b"",
     };
-    comes_to(alloc, case.words, files, Exit::Done, case.table, b"")
+    let table = case.table.as_bytes();
+    comes_to(alloc, case.words, files, Exit::Done, table, b"")
 }
 
 #[test]

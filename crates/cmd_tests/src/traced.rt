@@ -14,9 +14,9 @@ const TRACES: &[Answered] = &[
         name: "blue around a triangle",
         words: &["trace", "db", "-", "3.3.3.3", "2.2.2.2", "blue"],
         database: TRIANGLE,
-        profile: b"",
-        script: b"",
-        answers: b"\
+        profile: "",
+        script: "",
+        answers: "\
 entered 0\n\
 moved 1.1.1.1\n\
 delivered 2.2.2.2\n",
@@ -25,9 +25,9 @@ delivered 2.2.2.2\n",
         name: "red, one hop",
         words: &["trace", "db", "-", "3.3.3.3", "2.2.2.2", "red"],
         database: TRIANGLE,
-        profile: b"",
-        script: b"",
-        answers: b"\
+        profile: "",
+        script: "",
+        answers: "\
 entered 0\n\
 delivered 2.2.2.2\n",
     },
@@ -37,9 +37,9 @@ delivered 2.2.2.2\n",
             "trace", "db", "-", "1.1.1.1", "4.4.4.4", "repair", "2.2.2.2",
         ],
         database: LINE,
-        profile: b"",
-        script: b"",
-        answers: b"\
+        profile: "",
+        script: "",
+        answers: "\
 failed\n\
 entered 0\n\
 lost no-alternate\n",
@@ -50,9 +50,9 @@ lost no-alternate\n",
             "trace", "db", "-", "1.1.1.1", "4.4.4.4", "repair", "4.4.4.4",
         ],
         database: LINE,
-        profile: b"",
-        script: b"",
-        answers: b"\
+        profile: "",
+        script: "",
+        answers: "\
 failed\n\
 entered 0\n\
 moved 2.2.2.2\n\
@@ -63,9 +63,9 @@ lost is-destination\n",
         name: "a color is cut",
         words: &["trace", "db", "-", "1.1.1.1", "4.4.4.4", "blue", "3.3.3.3"],
         database: LINE,
-        profile: b"",
-        script: b"",
-        answers: b"\
+        profile: "",
+        script: "",
+        answers: "\
 failed\n\
 entered 0\n\
 moved 2.2.2.2\n\
@@ -83,9 +83,9 @@ lost color-cut\n",
             "link:3.3.3.3/0.0.0.4",
         ],
         database: LINE,
-        profile: b"no-mrt 3.3.3.3\n",
-        script: b"",
-        answers: b"\
+        profile: "no-mrt 3.3.3.3\n",
+        script: "",
+        answers: "\
 failed\n\
 entered 0\n\
 moved 2.2.2.2\n\
@@ -104,9 +104,9 @@ lost outside\n",
             "link:1.1.1.1/10.0.0.1",
         ],
         database: LAN_IN_RING,
-        profile: b"",
-        script: b"",
-        answers: b"\
+        profile: "",
+        script: "",
+        answers: "\
 failed\n\
 entered 0\n\
 switched blue\n\
@@ -124,9 +124,9 @@ delivered 4.4.4.4\n",
             "net:10.0.0.3",
         ],
         database: LAN_IN_RING,
-        profile: b"",
-        script: b"",
-        answers: b"\
+        profile: "",
+        script: "",
+        answers: "\
 failed\n\
 entered 0\n\
 switched blue\n\
@@ -144,9 +144,9 @@ delivered 4.4.4.4\n",
             "link:2.2.2.2/10.0.0.2",
         ],
         database: LAN_IN_RING,
-        profile: b"",
-        script: b"",
-        answers: b"\
+        profile: "",
+        script: "",
+        answers: "\
 failed\n\
 entered 0\n\
 switched blue\n\
@@ -158,9 +158,9 @@ delivered 4.4.4.4\n",
             "trace", "db", "-", "1.1.1.1", "4.4.4.4", "repair", "2.2.2.2",
         ],
         database: LAN_IN_RING,
-        profile: b"",
-        script: b"",
-        answers: b"\
+        profile: "",
+        script: "",
+        answers: "\
 failed\n\
 entered 0\n\
 switched blue\n\
@@ -170,9 +170,9 @@ delivered 4.4.4.4\n",
         name: "a failure that the area does not have",
         words: &["trace", "db", "-", "3.3.3.3", "2.2.2.2", "blue", "9.9.9.9"],
         database: TRIANGLE,
-        profile: b"",
-        script: b"",
-        answers: b"\
+        profile: "",
+        script: "",
+        answers: "\
 refused no-such-place\n\
 entered 0\n\
 moved 1.1.1.1\n\
@@ -182,9 +182,9 @@ delivered 2.2.2.2\n",
         name: "past a node that cuts",
         words: &["trace", "db", "-", "1.1.1.1", "3.3.3.3", "blue"],
         database: CUT,
-        profile: b"",
-        script: b"",
-        answers: b"\
+        profile: "",
+        script: "",
+        answers: "\
 entered 0\n\
 moved 2.2.2.2\n\
 moved 9.9.9.9\n\
@@ -194,9 +194,9 @@ delivered 3.3.3.3\n",
         name: "no walk",
         words: &["trace", "db", "-", "1.1.1.1", "2.2.2.2", "repair"],
         database: ONE_SIDED,
-        profile: b"",
-        script: b"",
-        answers: b"\
+        profile: "",
+        script: "",
+        answers: "\
 entered 0\n\
 lost no-route\n",
     },
@@ -204,9 +204,9 @@ lost no-route\n",
         name: "a color outside the island",
         words: &["trace", "db", "-", "1.1.1.1", "2.2.2.2", "blue"],
         database: ONE_SIDED,
-        profile: b"",
-        script: b"",
-        answers: b"\
+        profile: "",
+        script: "",
+        answers: "\
 refused no-such-place\n",
     },
 ];
@@ -216,32 +216,32 @@ const REFUSED: &[Case] = &[
         name: "a router that is not there",
         words: &["trace", "db", "-", "9.9.9.9", "2.2.2.2", "blue"],
         database: TRIANGLE,
-        profile: b"",
+        profile: "",
         certificate: b"",
         exit: Exit::NotThere {
             number: 0x0909_0909,
         },
-        out: b"",
-        err: b"mrt: not there: 9.9.9.9\n",
+        out: "",
+        err: "mrt: not there: 9.9.9.9\n",
     },
     Case {
         name: "a color that is none",
         words: &["trace", "db", "-", "1.1.1.1", "2.2.2.2", "green"],
         database: TRIANGLE,
-        profile: b"",
+        profile: "",
         certificate: b"",
         exit: Exit::Usage,
-        out: b"",
+        out: "",
         err: USAGE,
     },
     Case {
         name: "a failure that is no name",
         words: &["trace", "db", "-", "1.1.1.1", "2.2.2.2", "blue", "3.3.3"],
         database: TRIANGLE,
-        profile: b"",
+        profile: "",
         certificate: b"",
         exit: Exit::Usage,
-        out: b"",
+        out: "",
         err: USAGE,
     },
     Case {
@@ -250,10 +250,10 @@ const REFUSED: &[Case] = &[
             "trace", "db", "-", "1.1.1.1", "2.2.2.2", "blue", "3.3.3.3", "x",
         ],
         database: TRIANGLE,
-        profile: b"",
+        profile: "",
         certificate: b"",
         exit: Exit::Usage,
-        out: b"",
+        out: "",
         err: USAGE,
     },
 ];

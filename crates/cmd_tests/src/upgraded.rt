@@ -25,120 +25,142 @@ const UPGRADE_UNDER: &[&str] = &["upgrade", "db", "prof", "cert"];
 struct Both {
     name: &'static str,
     database: &'static [u8],
-    profile: &'static [u8],
+    profile: &'static str,
     first: &'static [u8],
     second: &'static [u8],
-    line: &'static [u8],
+    line: &'static str,
 }
 
-const BOTH: &[Both] = &[
-    Both {
-        name: "one router",
-        database: ROUTER,
-        profile: b"",
-        first: CERTIFICATE,
-        second: CERTIFICATE_2,
-        line: b"accepted root 1.1.1.1 nodes 1 links 0\n",
-    },
-    Both {
-        name: "a triangle",
-        database: TRIANGLE,
-        profile: b"",
-        first: TRIANGLE_CERTIFICATE,
-        second: TRIANGLE_CERTIFICATE_2,
-        line: b"accepted root 3.3.3.3 nodes 3 links 3\n",
-    },
-    Both {
-        name: "a triangle from another root",
-        database: TRIANGLE,
-        profile: b"priority 1.1.1.1 10\n",
-        first: TRIANGLE_FROM_1,
-        second: TRIANGLE_FROM_1_2,
-        line: b"accepted root 1.1.1.1 nodes 3 links 3\n",
-    },
-    Both {
-        name: "a line",
-        database: LINE,
-        profile: b"",
-        first: LINE_CERTIFICATE,
-        second: LINE_CERTIFICATE_2,
-        line: b"accepted root 4.4.4.4 nodes 4 links 3\n",
-    },
-    Both {
-        name: "three links",
-        database: THREE_LINKS,
-        profile: b"",
-        first: THREE_LINKS_CERTIFICATE,
-        second: THREE_LINKS_CERTIFICATE_2,
-        line: b"accepted root 2.2.2.2 nodes 2 links 3\n",
-    },
-    Both {
-        name: "five routers",
-        database: FIVE,
-        profile: b"",
-        first: FIVE_COMPUTED,
-        second: FIVE_COMPUTED_2,
-        line: b"accepted root 5.5.5.5 nodes 5 links 7\n",
-    },
-    Both {
-        name: "a ring",
-        database: RING,
-        profile: b"",
-        first: RING_COMPUTED,
-        second: RING_COMPUTED_2,
-        line: b"accepted root 5.5.5.5 nodes 5 links 5\n",
-    },
-    Both {
-        name: "another ear than that of `certify`",
-        database: RING,
-        profile: b"",
-        first: RING_CERTIFICATE,
-        second: RING_CERTIFICATE_2,
-        line: b"accepted root 5.5.5.5 nodes 5 links 5\n",
-    },
-    Both {
-        name: "a LAN",
-        database: LAN,
-        profile: b"",
-        first: LAN_CERTIFICATE,
-        second: LAN_CERTIFICATE_2,
-        line: b"accepted root 4.4.4.4 nodes 5 links 5\n",
-    },
-    Both {
-        name: "the sample",
-        database: SAMPLE,
-        profile: SAMPLE_PROFILE,
-        first: SAMPLE_CERTIFICATE,
-        second: SAMPLE_CERTIFICATE_2,
-        line: b"accepted root 10.255.1.1 nodes 7 links 8\n",
-    },
-    Both {
-        name: "one of two trees",
-        database: TWO_TREES,
-        profile: b"",
-        first: FIRST_TREE,
-        second: FIRST_TREE_2,
-        line: b"accepted root 2.2.2.2 nodes 2 links 1\n",
-    },
-    Both {
-        name: "the other",
-        database: TWO_TREES,
-        profile: b"",
-        first: SECOND_TREE,
-        second: SECOND_TREE_2,
-        line: b"accepted root 4.4.4.4 nodes 2 links 1\n",
-    },
-];
+const BOTH_OF_ONE_ROUTER: &Both = &Both {
+    name: "one router",
+    database: ROUTER,
+    profile: "",
+    first: CERTIFICATE,
+    second: CERTIFICATE_2,
+    line: "accepted root 1.1.1.1 nodes 1 links 0\n",
+};
 
-fn all_both() -> &'static [Both] {
-    BOTH
+const BOTH_OF_A_TRIANGLE: &Both = &Both {
+    name: "a triangle",
+    database: TRIANGLE,
+    profile: "",
+    first: TRIANGLE_CERTIFICATE,
+    second: TRIANGLE_CERTIFICATE_2,
+    line: "accepted root 3.3.3.3 nodes 3 links 3\n",
+};
+
+const BOTH_FROM_ANOTHER_ROOT: &Both = &Both {
+    name: "a triangle from another root",
+    database: TRIANGLE,
+    profile: "priority 1.1.1.1 10\n",
+    first: TRIANGLE_FROM_1,
+    second: TRIANGLE_FROM_1_2,
+    line: "accepted root 1.1.1.1 nodes 3 links 3\n",
+};
+
+const BOTH_OF_A_LINE: &Both = &Both {
+    name: "a line",
+    database: LINE,
+    profile: "",
+    first: LINE_CERTIFICATE,
+    second: LINE_CERTIFICATE_2,
+    line: "accepted root 4.4.4.4 nodes 4 links 3\n",
+};
+
+const BOTH_OF_THREE_LINKS: &Both = &Both {
+    name: "three links",
+    database: THREE_LINKS,
+    profile: "",
+    first: THREE_LINKS_CERTIFICATE,
+    second: THREE_LINKS_CERTIFICATE_2,
+    line: "accepted root 2.2.2.2 nodes 2 links 3\n",
+};
+
+const BOTH_OF_FIVE: &Both = &Both {
+    name: "five routers",
+    database: FIVE,
+    profile: "",
+    first: FIVE_COMPUTED,
+    second: FIVE_COMPUTED_2,
+    line: "accepted root 5.5.5.5 nodes 5 links 7\n",
+};
+
+const BOTH_OF_A_RING: &Both = &Both {
+    name: "a ring",
+    database: RING,
+    profile: "",
+    first: RING_COMPUTED,
+    second: RING_COMPUTED_2,
+    line: "accepted root 5.5.5.5 nodes 5 links 5\n",
+};
+
+const BOTH_OF_ANOTHER_EAR: &Both = &Both {
+    name: "another ear than that of `certify`",
+    database: RING,
+    profile: "",
+    first: RING_CERTIFICATE,
+    second: RING_CERTIFICATE_2,
+    line: "accepted root 5.5.5.5 nodes 5 links 5\n",
+};
+
+const BOTH_OF_A_LAN: &Both = &Both {
+    name: "a LAN",
+    database: LAN,
+    profile: "",
+    first: LAN_CERTIFICATE,
+    second: LAN_CERTIFICATE_2,
+    line: "accepted root 4.4.4.4 nodes 5 links 5\n",
+};
+
+const BOTH_OF_THE_SAMPLE: &Both = &Both {
+    name: "the sample",
+    database: SAMPLE,
+    profile: SAMPLE_PROFILE,
+    first: SAMPLE_CERTIFICATE,
+    second: SAMPLE_CERTIFICATE_2,
+    line: "accepted root 10.255.1.1 nodes 7 links 8\n",
+};
+
+const BOTH_OF_ONE_TREE: &Both = &Both {
+    name: "one of two trees",
+    database: TWO_TREES,
+    profile: "",
+    first: FIRST_TREE,
+    second: FIRST_TREE_2,
+    line: "accepted root 2.2.2.2 nodes 2 links 1\n",
+};
+
+const BOTH_OF_THE_OTHER_TREE: &Both = &Both {
+    name: "the other",
+    database: TWO_TREES,
+    profile: "",
+    first: SECOND_TREE,
+    second: SECOND_TREE_2,
+    line: "accepted root 4.4.4.4 nodes 2 links 1\n",
+};
+
+fn all_both() -> [&'static Both; 12] {
+    [
+        BOTH_OF_ONE_ROUTER,
+        BOTH_OF_A_TRIANGLE,
+        BOTH_FROM_ANOTHER_ROOT,
+        BOTH_OF_A_LINE,
+        BOTH_OF_THREE_LINKS,
+        BOTH_OF_FIVE,
+        BOTH_OF_A_RING,
+        BOTH_OF_ANOTHER_EAR,
+        BOTH_OF_A_LAN,
+        BOTH_OF_THE_SAMPLE,
+        BOTH_OF_ONE_TREE,
+        BOTH_OF_THE_OTHER_TREE,
+    ]
 }
 
 /// Whether a certificate comes to this under these words, over the database and the profile of another.
 fn gives(alloc: Global, words: &[&str], both: &Both, certificate: &[u8], out: &[u8]) -> bool {
     let files = Files {
         database: both.database,
-        profile: both.profile,
+        profile: both.profile.as_bytes(),
         certificate,
     };
     comes_to(alloc, words, files, Exit::Done, out, b"")
@@ -147,8 +169,8 @@ fn gives(alloc: Global, words: &[&str], both: &Both, certificate: &[u8], out: &[
 /// Whether both versions are accepted, and each is upgraded to the second.
 fn both_pass(alloc: Global, both: &Both) -> bool {
     for (words, certificate, out) in [
-        (UNDER, both.first, both.line),
-        (UNDER, both.second, both.line),
+        (UNDER, both.first, both.line.as_bytes()),
+        (UNDER, both.second, both.line.as_bytes()),
         (UPGRADE_UNDER, both.first, both.second),
         (UPGRADE_UNDER, both.second, both.second),
     ] {
@@ -171,146 +193,146 @@ const REFUSED: &[Case] = &[
         name: "another root",
         words: UPGRADE,
         database: TRIANGLE,
-        profile: b"",
+        profile: "",
         certificate: TRIANGLE_FROM_1,
         exit: Exit::No {
             rule: 2,
             a: 2,
             b: 2,
         },
-        out: b"",
-        err: b"mrt: no: rule 2 at 2 2\n",
+        out: "",
+        err: "mrt: no: rule 2 at 2 2\n",
     },
     Case {
         name: "no certificate",
         words: UPGRADE,
         database: TRIANGLE,
-        profile: b"",
+        profile: "",
         certificate: b"",
         exit: Exit::BadCertificate {
             at: 0,
             kind: CertKind::Truncated,
         },
-        out: b"",
-        err: b"mrt: bad certificate: truncated at 0\n",
+        out: "",
+        err: "mrt: bad certificate: truncated at 0\n",
     },
     Case {
         name: "heads in a circle in version 1",
         words: UPGRADE,
         database: TRIANGLE,
-        profile: b"",
+        profile: "",
         certificate: TRIANGLE_IN_CIRCLE,
         exit: Exit::No {
             rule: 3,
             a: 0,
             b: 0,
         },
-        out: b"",
-        err: b"mrt: no: rule 3 at 0 0\n",
+        out: "",
+        err: "mrt: no: rule 3 at 0 0\n",
     },
     Case {
         name: "heads in a circle in version 2",
         words: UPGRADE,
         database: TRIANGLE,
-        profile: b"",
+        profile: "",
         certificate: TRIANGLE_IN_CIRCLE_2,
         exit: Exit::BadCertificate {
             at: 21,
             kind: CertKind::Heads,
         },
-        out: b"",
-        err: b"mrt: bad certificate: heads at 21\n",
+        out: "",
+        err: "mrt: bad certificate: heads at 21\n",
     },
     Case {
         name: "a check of heads in a circle",
         words: CHECK,
         database: TRIANGLE,
-        profile: b"",
+        profile: "",
         certificate: TRIANGLE_IN_CIRCLE_2,
         exit: Exit::BadCertificate {
             at: 21,
             kind: CertKind::Heads,
         },
-        out: b"",
-        err: b"mrt: bad certificate: heads at 21\n",
+        out: "",
+        err: "mrt: bad certificate: heads at 21\n",
     },
     Case {
         name: "two closing links, checked",
         words: CHECK,
         database: FIVE,
-        profile: b"",
+        profile: "",
         certificate: FIVE_CERTIFICATE_2,
         exit: Exit::No {
             rule: 6,
             a: 0,
             b: 0,
         },
-        out: b"",
-        err: b"mrt: no: rule 6 at 0 0\n",
+        out: "",
+        err: "mrt: no: rule 6 at 0 0\n",
     },
     Case {
         name: "two closing links, upgraded from version 1",
         words: UPGRADE,
         database: FIVE,
-        profile: b"",
+        profile: "",
         certificate: FIVE_CERTIFICATE,
         exit: Exit::No {
             rule: 6,
             a: 0,
             b: 0,
         },
-        out: b"",
-        err: b"mrt: no: rule 6 at 0 0\n",
+        out: "",
+        err: "mrt: no: rule 6 at 0 0\n",
     },
     Case {
         name: "two closing links, upgraded from version 2",
         words: UPGRADE,
         database: FIVE,
-        profile: b"",
+        profile: "",
         certificate: FIVE_CERTIFICATE_2,
         exit: Exit::No {
             rule: 6,
             a: 0,
             b: 0,
         },
-        out: b"",
-        err: b"mrt: no: rule 6 at 0 0\n",
+        out: "",
+        err: "mrt: no: rule 6 at 0 0\n",
     },
     Case {
         name: "another router, checked",
         words: CHECK,
         database: ROUTER,
-        profile: b"",
+        profile: "",
         certificate: OTHER_2,
         exit: Exit::NotThere {
             number: 0x0202_0202,
         },
-        out: b"",
-        err: b"mrt: not there: 2.2.2.2\n",
+        out: "",
+        err: "mrt: not there: 2.2.2.2\n",
     },
     Case {
         name: "another router, upgraded from version 1",
         words: UPGRADE,
         database: ROUTER,
-        profile: b"",
+        profile: "",
         certificate: OTHER,
         exit: Exit::NotThere {
             number: 0x0202_0202,
         },
-        out: b"",
-        err: b"mrt: not there: 2.2.2.2\n",
+        out: "",
+        err: "mrt: not there: 2.2.2.2\n",
     },
     Case {
         name: "another router, upgraded from version 2",
         words: UPGRADE,
         database: ROUTER,
-        profile: b"",
+        profile: "",
         certificate: OTHER_2,
         exit: Exit::NotThere {
             number: 0x0202_0202,
         },
-        out: b"",
-        err: b"mrt: not there: 2.2.2.2\n",
+        out: "",
+        err: "mrt: not there: 2.2.2.2\n",
     },
 ];
 
