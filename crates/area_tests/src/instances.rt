@@ -126,12 +126,15 @@ fn conflicts_of_two_routers(rt: HostRuntime) {
 
 /// Whether the newest instances are those of these routers from these places.
 fn are_newest(lsas: &[Lsa], told: &[(u32, u32)]) -> bool {
-    for (lsa, (router, at)) in lsas.iter().zip(told) {
-        if lsa.router != *router || lsa.at != *at {
+    if lsas.len() != told.len() {
+        return false;
+    }
+    for k in 0..told.len() {
+        if lsas[k].router != told[k].0 || lsas[k].at != told[k].1 {
             return false;
         }
     }
-    lsas.len() == told.len()
+    true
 }
 
 fn has_newest(alloc: Global, count: u32, told: &[(u32, u32)]) -> Result<bool, NoMemory> {

@@ -59,20 +59,16 @@ fn is_router_of_triangle(lsa: &Lsa, at: u32, id: u32, checksum: u16) -> bool {
         && are_two_of_triangle(links(lsa))
 }
 
-/// Place, router and checksum of each LSA of the triangle.
-const ROUTERS: &[(u32, u32, u16)] = &[
-    (0, 0x01010101, 0x21f0),
-    (48, 0x02020202, 0xa46a),
-    (96, 0x03030303, 0xeb20),
-];
-
+/// Whether these are the triangle's, each at its place with its checksum.
 fn are_of_triangle(lsas: &[Lsa]) -> bool {
-    for (lsa, &(at, id, checksum)) in lsas.iter().zip(ROUTERS) {
-        if !is_router_of_triangle(lsa, at, id, checksum) {
-            return false;
+    match lsas {
+        [first, second, third] => {
+            is_router_of_triangle(first, 0, 0x01010101, 0x21f0)
+                && is_router_of_triangle(second, 48, 0x02020202, 0xa46a)
+                && is_router_of_triangle(third, 96, 0x03030303, 0xeb20)
         }
+        _ => false,
     }
-    lsas.len() == ROUTERS.len()
 }
 
 fn is_read_as_triangle(alloc: Global, bytes: &[u8; 144]) -> Option<bool> {

@@ -136,12 +136,15 @@ fn is_number(found: Option<LinkNo>, told: Option<u16>) -> bool {
 
 /// Whether these are the numbers of the links that the bonds of an area are.
 fn are_numbers(found: &[Option<LinkNo>], told: &[Option<u16>]) -> bool {
-    for (&link, &number) in found.iter().zip(told) {
-        if !is_number(link, number) {
+    if found.len() != told.len() {
+        return false;
+    }
+    for k in 0..told.len() {
+        if !is_number(found[k], told[k]) {
             return false;
         }
     }
-    found.len() == told.len()
+    true
 }
 
 fn is_as_told(island: &Island, case: &Case) -> bool {
