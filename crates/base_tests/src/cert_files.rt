@@ -77,22 +77,28 @@ fn what_is_read_is_written_again(rt: HostRuntime) {
 
 /// Whether the orders of the nodes are these.
 fn has_orders(nodes: &[CertNode], orders: &[u16]) -> bool {
-    for (node, order) in nodes.iter().zip(orders) {
-        if node.order != *order {
+    if nodes.len() != orders.len() {
+        return false;
+    }
+    for k in 0..orders.len() {
+        if nodes[k].order != orders[k] {
             return false;
         }
     }
-    nodes.len() == orders.len()
+    true
 }
 
 /// Whether the tags of the rows are these.
 fn has_tags(rows: &[Row], tags: &[Tag]) -> bool {
-    for (row, tag) in rows.iter().zip(tags) {
-        if row.tag != *tag {
+    if rows.len() != tags.len() {
+        return false;
+    }
+    for k in 0..tags.len() {
+        if rows[k].tag != tags[k] {
             return false;
         }
     }
-    rows.len() == tags.len()
+    true
 }
 
 /// Whether this is the file of the triangle.

@@ -141,18 +141,22 @@ fn has_links(graph: &Graph, told: &[LinkTold]) -> bool {
 }
 
 fn are_ends(ends: &[End], told: &[EndTold]) -> bool {
-    for (end, &(link, to, metric, link_data)) in ends.iter().zip(told) {
+    if ends.len() != told.len() {
+        return false;
+    }
+    for k in 0..told.len() {
+        let (link, to, metric, link_data) = told[k];
         let expected = End {
             link: LinkNo::new(link),
             to: NodeNo::new(to),
             metric,
             link_data,
         };
-        if *end != expected {
+        if ends[k] != expected {
             return false;
         }
     }
-    ends.len() == told.len()
+    true
 }
 
 /// Whether these are the ends, node by node.

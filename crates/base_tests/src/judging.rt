@@ -49,7 +49,7 @@ pub enum Edit {
 }
 
 /// The nodes with the numbers from 1 on.
-fn nodes(alloc: Global, told: &[NodeTold]) -> Result<Vec<CertNode>, NoMemory> {
+pub fn nodes(alloc: Global, told: &[NodeTold]) -> Result<Vec<CertNode>, NoMemory> {
     let mut nodes = Vec::new(alloc);
     let mut number: u32 = 0;
     for &(order, head, block) in told {
@@ -84,7 +84,7 @@ fn link_told((a, b, block, role): LinkTold) -> CertLink {
     }
 }
 
-fn rows(alloc: Global, told: &[RowTold]) -> Result<Vec<Row>, NoMemory> {
+pub fn rows(alloc: Global, told: &[RowTold]) -> Result<Vec<Row>, NoMemory> {
     let mut rows = Vec::new(alloc);
     for &row in told {
         rows.push(row_told(row))?;

@@ -2,13 +2,14 @@
 //! by their two links. Routers 1, 2, 3 and so on are nodes 0, 1, 2. Of a certificate's words on nodes and links, and of
 //! tags, those programs read nothing, so they are the same for all.
 
-ghost use Rattle.std.specs.Prelude.{◌≡◌, IfOk, length};
+ghost use Rattle.std.specs.Prelude.{◌≡◌, ◌<◌, IfOk, length};
 ghost use Rattle.mrt_plain.specs.Within.{AreWithin};
 
 use crate::certs::cert;
 use mrt_graph::{
-    Cert, CertLink, CertNode, Kind, Link, LinkNo, NoMemory, NodeId, NodeNo, Role, Row, Tag,
+    Cert, CertLink, CertNode, Color, Kind, Link, LinkNo, NoMemory, NodeId, NodeNo, Role, Row, Tag,
 };
+use mrt_plain::{apart, reaches};
 use std::alloc::Global;
 use std::process::Abort;
 
@@ -76,10 +77,44 @@ pub fn any_link() -> CertLink {
 }
 
 /// The certificate of an island.
-pub fn cert_of(rt: &impl Abort, alloc: Global, island: &Island) -> Result<Cert, NoMemory>
+fn cert_of(rt: &impl Abort, alloc: Global, island: &Island) -> Result<Cert, NoMemory>
     ensures { IfOk result (λ cert. length cert.nodes ≡ island.now.routers) }
 {
     let nodes = vec![in alloc; any_node(); island.routers as usize]?;
     let links = vec![in alloc; any_link(); island.pairs.len()]?;
     Ok(cert(rt, nodes, links, rows(alloc, island.rows)?))
+}
+
+/// The links and the certificate of an island.
+#[derive(Drop)]
+pub struct Parts {
+    pub links: Vec<Link>,
+    pub cert: Cert,
+}
+
+pub fn parts_of(rt: &impl Abort, alloc: Global, island: &Island) -> Result<Parts, NoMemory>
+    ensures count { IfOk result (λ parts. length parts.cert.nodes ≡ island.now.routers) }
+    ensures within { IfOk result (λ parts. AreWithin (length parts.cert.nodes) parts.links.items) }
+{
+    let links = links_between(rt, alloc, island.routers, island.pairs)?;
+    let cert = cert_of(rt, alloc, island)?;
+    Ok(Parts { links, cert })
+}
+
+/// Whether blue goes from `s` to `t`, whether red does, and whether they share only what separates the two.
+pub fn told_of(
+    alloc: Global,
+    links: &[Link],
+    c: &Cert,
+    s: NodeNo,
+    t: NodeNo,
+) -> Result<(bool, bool, bool), NoMemory>
+    requires within { AreWithin (length c.now.nodes) links.now }
+    requires source { s < length c.now.nodes }
+    requires target { t < length c.now.nodes }
+{
+    let blue = reaches(alloc, links, c, Color::Blue, s, t)?;
+    let red = reaches(alloc, links, c, Color::Red, s, t)?;
+    let apart = apart(alloc, links, c, s, t)?;
+    Ok((blue, red, apart))
 }

@@ -1,9 +1,9 @@
 //! The plain programs on small islands by hand.
 
-use crate::plain_islands::{Island, cert_of, links_between};
+use crate::plain_islands::{Island, links_between, parts_of, told_of};
 use crate::router_graphs::plain_graph;
 use mrt_graph::{Color, Element, GraphError, Link, LinkNo, NoMemory, NodeNo};
-use mrt_plain::{apart, follow, links_of, reaches, separates, sound};
+use mrt_plain::{follow, links_of, separates, sound};
 use std::alloc::Global;
 use std::process::Abort;
 
@@ -182,9 +182,8 @@ fn soundness() -> &'static [(Island, bool)] {
 }
 
 fn is_sound(rt: &impl Abort, alloc: Global, island: &Island) -> Result<bool, NoMemory> {
-    let links = links_between(rt, alloc, island.routers, island.pairs)?;
-    let cert = cert_of(rt, alloc, island)?;
-    sound(alloc, &links, &cert)
+    let parts = parts_of(rt, alloc, island)?;
+    sound(alloc, &parts.links, &parts.cert)
 }
 
 #[test]
@@ -286,31 +285,36 @@ fn walks() -> &'static [Walk] {
 
 /// Whether the numbers of links are these.
 fn are_links(links: &[LinkNo], wanted: &[u16]) -> bool {
-    for (link, number) in links.iter().zip(wanted) {
-        if link.get() != *number {
+    if links.len() != wanted.len() {
+        return false;
+    }
+    for k in 0..wanted.len() {
+        if links[k].get() != wanted[k] {
             return false;
         }
     }
-    links.len() == wanted.len()
+    true
 }
 
 /// Whether the numbers of nodes are these.
 fn are_nodes(nodes: &[NodeNo], wanted: &[u16]) -> bool {
-    for (node, number) in nodes.iter().zip(wanted) {
-        if node.get() != *number {
+    if nodes.len() != wanted.len() {
+        return false;
+    }
+    for k in 0..wanted.len() {
+        if nodes[k].get() != wanted[k] {
             return false;
         }
     }
-    nodes.len() == wanted.len()
+    true
 }
 
 fn goes_as_told(rt: &impl Abort, alloc: Global, walk: &Walk) -> Result<bool, NoMemory> {
     let island = &walk.island;
     assert!(rt; walk.from < island.routers && walk.to < island.routers);
-    let links = links_between(rt, alloc, island.routers, island.pairs)?;
-    let cert = cert_of(rt, alloc, island)?;
+    let parts = parts_of(rt, alloc, island)?;
     let (s, t) = (NodeNo::new(walk.from), NodeNo::new(walk.to));
-    let course = follow(alloc, &links, &cert, walk.color, s, t)?;
+    let course = follow(alloc, &parts.links, &parts.cert, walk.color, s, t)?;
     Ok(are_links(&course.links, walk.links) && are_nodes(&course.nodes, walk.nodes))
 }
 
@@ -403,33 +407,24 @@ fn pairs() -> &'static [Pair] {
     PAIRS
 }
 
-fn arrives(rt: &impl Abort, alloc: Global, pair: &Pair, color: Color) -> Result<bool, NoMemory> {
+/// Whether blue arrives, whether red does, and whether the two are apart.
+fn found_of(rt: &impl Abort, alloc: Global, pair: &Pair) -> Result<(bool, bool, bool), NoMemory> {
     let island = &pair.island;
     assert!(rt; pair.from < island.routers && pair.to < island.routers);
-    let links = links_between(rt, alloc, island.routers, island.pairs)?;
-    let cert = cert_of(rt, alloc, island)?;
+    let parts = parts_of(rt, alloc, island)?;
     let (s, t) = (NodeNo::new(pair.from), NodeNo::new(pair.to));
-    reaches(alloc, &links, &cert, color, s, t)
-}
-
-fn are_apart(rt: &impl Abort, alloc: Global, pair: &Pair) -> Result<bool, NoMemory> {
-    let island = &pair.island;
-    assert!(rt; pair.from < island.routers && pair.to < island.routers);
-    let links = links_between(rt, alloc, island.routers, island.pairs)?;
-    let cert = cert_of(rt, alloc, island)?;
-    let (s, t) = (NodeNo::new(pair.from), NodeNo::new(pair.to));
-    apart(alloc, &links, &cert, s, t)
+    told_of(alloc, &parts.links, &parts.cert, s, t)
 }
 
 #[test]
 fn arrives_and_apart(rt: HostRuntime) {
     for (place, pair) in pairs().iter().enumerate() {
-        let blue = arrives(&rt, rt.alloc(), pair, Color::Blue);
-        assert!(rt; blue == Ok(pair.blue), "blue of {place}");
-        let red = arrives(&rt, rt.alloc(), pair, Color::Red);
-        assert!(rt; red == Ok(pair.red), "red of {place}");
-        let is_so = are_apart(&rt, rt.alloc(), pair);
-        assert!(rt; is_so == Ok(pair.apart), "apart of {place}");
+        let found = found_of(&rt, rt.alloc(), pair);
+        assert_eq!(rt;
+            found,
+            Ok((pair.blue, pair.red, pair.apart)),
+            "case {place}"
+        );
     }
 }
 
@@ -671,12 +666,15 @@ fn separating(rt: HostRuntime) {
 
 /// Whether these are the links, by their two nodes.
 fn are_between(links: &[Link], pairs: &[(u16, u16)]) -> bool {
-    for (link, (a, b)) in links.iter().zip(pairs) {
-        if link.a.get() != *a || link.b.get() != *b {
+    if links.len() != pairs.len() {
+        return false;
+    }
+    for k in 0..pairs.len() {
+        if links[k].a.get() != pairs[k].0 || links[k].b.get() != pairs[k].1 {
             return false;
         }
     }
-    links.len() == pairs.len()
+    true
 }
 
 fn has_its_links(

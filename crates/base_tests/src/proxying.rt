@@ -6,40 +6,23 @@ ghost use Rattle.mrt_plain.specs.Within.{AreWithin};
 ghost use Rattle.proxy_rows.specs.AcceptedFor.{IsAcceptedFor};
 
 use crate::certs::cert;
-use crate::plain_islands::{any_link, any_node, links_between};
+use crate::judging::{nodes, rows};
+use crate::plain_islands::{any_link, any_node, links_between, told_of};
 use crate::proxy_islands::{ALL_PLACES, Island, LINE, TRIANGLE};
 use crate::router_graphs::graph;
 use cert_checker::{Verdict, check};
 use mrt_graph::{
-    Cert, CertFile, CertLink, CertNode, Color, Graph, GraphError, Kind, Link, LinkIn, LinkNo,
-    NoMemory, NodeId, NodeNo, Role, Row, Tag,
+    Cert, CertFile, CertLink, Graph, GraphError, Link, LinkIn, LinkNo, NoMemory, NodeNo, Row, Tag,
 };
-use mrt_plain::{apart, reaches};
 use proxy_rows::{Out, ProxyError, ProxyRow, proxy_rows, proxy_text};
 use std::alloc::Global;
 use std::process::Abort;
 
-fn nodes(alloc: Global, told: &[(u16, u16, u16)]) -> Result<Vec<CertNode>, NoMemory> {
-    let mut nodes = Vec::new(alloc);
-    let mut number: u32 = 0;
-    for &(order, head, block) in told {
-        number = number.wrapping_add(1);
-        nodes.push(CertNode {
-            id: NodeId {
-                kind: Kind::Router,
-                number,
-            },
-            order,
-            head: NodeNo::new(head),
-            block: NodeNo::new(block),
-        })?;
-    }
-    Ok(nodes)
-}
-
 fn links(alloc: Global, island: &Island) -> Result<Vec<CertLink>, NoMemory> {
     let mut links = Vec::new(alloc);
-    for (&(a, b, _), &(block, role)) in island.joined.iter().zip(island.links) {
+    for k in 0..island.joined.len().min(island.links.len()) {
+        let (a, b, _) = island.joined[k];
+        let (block, role) = island.links[k];
         links.push(CertLink {
             a: NodeNo::new(a),
             b: NodeNo::new(b),
@@ -48,18 +31,6 @@ fn links(alloc: Global, island: &Island) -> Result<Vec<CertLink>, NoMemory> {
         })?;
     }
     Ok(links)
-}
-
-fn rows(alloc: Global, told: &[(u16, u16, Tag)]) -> Result<Vec<Row>, NoMemory> {
-    let mut rows = Vec::new(alloc);
-    for &(blue, red, tag) in told {
-        rows.push(Row {
-            blue: LinkNo::new(blue),
-            red: LinkNo::new(red),
-            tag,
-        })?;
-    }
-    Ok(rows)
 }
 
 fn links_in(alloc: Global, joined: &[(u16, u16, u32)]) -> Result<Vec<LinkIn>, NoMemory> {
@@ -75,6 +46,12 @@ fn links_in(alloc: Global, joined: &[(u16, u16, u32)]) -> Result<Vec<LinkIn>, No
         })?;
     }
     Ok(links)
+}
+
+/// The graph of an island.
+fn graph_of(rt: &impl Abort, alloc: Global, island: &Island) -> Result<Graph, GraphError> {
+    let links = links_in(alloc, island.joined)?;
+    graph(rt, alloc, island.routers, links)
 }
 
 /// The certificate file of an island.
@@ -134,17 +111,25 @@ fn first_other(
     alloc: Global,
     island: &Island,
 ) -> Result<Option<usize>, GraphError> {
-    let graph = graph(rt, alloc, island.routers, links_in(alloc, island.joined)?)?;
+    let graph = graph_of(rt, alloc, island)?;
     let file = file(rt, alloc, island)?;
+    Ok(first_other_text(rt, alloc, island, &graph, &file))
+}
+
+fn first_other_text(
+    rt: &impl Abort,
+    alloc: Global,
+    island: &Island,
+    g: &Graph,
+    file: &CertFile,
+) -> Option<usize> {
     for (number, &(a, b, wanted)) in island.texts.iter().enumerate() {
-        if !is_text(
-            &text_of(rt, alloc, &graph, island.root, &file, a, b),
-            wanted,
-        ) {
-            return Ok(Some(number));
+        let text = text_of(rt, alloc, g, island.root, file, a, b);
+        if !is_text(&text, wanted) {
+            return Some(number);
         }
     }
-    Ok(None)
+    None
 }
 
 #[test]
@@ -257,19 +242,17 @@ fn pairs_with(
     Ok(pairs)
 }
 
-/// Whether both colors reach `t` from `s`, and share only what separates the two.
-fn is_sound(alloc: Global, links: &[Link], c: &Cert, s: NodeNo, t: NodeNo) -> Result<bool, NoMemory>
+/// Whether both colors reach `t` from each node below it, and share only what separates the two.
+fn is_sound_from_each(alloc: Global, links: &[Link], c: &Cert, t: u16) -> Result<bool, NoMemory>
     requires within { AreWithin (length c.now.nodes) links.now }
-    requires source { s < length c.now.nodes }
     requires target { t < length c.now.nodes }
 {
-    if !reaches(alloc, links, c, Color::Blue, s, t)? {
-        return Ok(false);
+    for s in 0..t {
+        if told_of(alloc, links, c, NodeNo::new(s), NodeNo::new(t))? != (true, true, true) {
+            return Ok(false);
+        }
     }
-    if !reaches(alloc, links, c, Color::Red, s, t)? {
-        return Ok(false);
-    }
-    apart(alloc, links, c, s, t)
+    Ok(true)
 }
 
 /// Whether the rows are sound for the new node, by the plain programs.
@@ -284,18 +267,7 @@ fn are_sound(
     let cert = cert_with(rt, alloc, island, lower, entries)?;
     let pairs = pairs_with(alloc, island, lower, upper)?;
     let links = links_between(rt, alloc, cert.node_count(), &pairs)?;
-    for s in 0..island.routers {
-        if !is_sound(
-            alloc,
-            &links,
-            &cert,
-            NodeNo::new(s),
-            NodeNo::new(island.routers),
-        )? {
-            return Ok(false);
-        }
-    }
-    Ok(true)
+    is_sound_from_each(alloc, &links, &cert, island.routers)
 }
 
 /// Whether `a` has the lower order.
@@ -329,17 +301,27 @@ fn pair_is_sound(
 }
 
 /// Whether the rows for each two routers are sound.
-fn all_are_sound(rt: &impl Abort, alloc: Global, island: &Island) -> Result<bool, GraphError> {
-    let graph = graph(rt, alloc, island.routers, links_in(alloc, island.joined)?)?;
-    let file = file(rt, alloc, island)?;
+fn pairs_are_sound(
+    rt: &impl Abort,
+    alloc: Global,
+    island: &Island,
+    g: &Graph,
+    file: &CertFile,
+) -> Result<bool, NoMemory> {
     for a in 0..island.routers {
         for b in 0..island.routers {
-            if a != b && !pair_is_sound(rt, alloc, island, &graph, &file, a, b)? {
+            if a != b && !pair_is_sound(rt, alloc, island, g, file, a, b)? {
                 return Ok(false);
             }
         }
     }
     Ok(true)
+}
+
+fn all_are_sound(rt: &impl Abort, alloc: Global, island: &Island) -> Result<bool, GraphError> {
+    let graph = graph_of(rt, alloc, island)?;
+    let file = file(rt, alloc, island)?;
+    Ok(pairs_are_sound(rt, alloc, island, &graph, &file)?)
 }
 
 #[test]

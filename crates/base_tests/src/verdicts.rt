@@ -5,7 +5,7 @@ use crate::judging::{Edit, Island, first_other};
 use mrt_graph::{Role, Tag};
 
 /// Routers 1, 2 and 3, each two of them joined; the root is router 3, and the closing link joins 2 and 3.
-const TRIANGLE: Island = Island {
+const TRIANGLE: &Island = &Island {
     name: "a triangle",
     routers: 3,
     pairs: &[(0, 1), (0, 2), (1, 2)],
@@ -179,7 +179,7 @@ const TRIANGLE: Island = Island {
 };
 
 /// Routers 1 to 4 in a line; the root is router 4, and each link is sole.
-const LINE: Island = Island {
+const LINE: &Island = &Island {
     name: "a line",
     routers: 4,
     pairs: &[(0, 1), (1, 2), (2, 3)],
@@ -264,7 +264,7 @@ const LINE: Island = Island {
 };
 
 /// Routers 2, 3 and 4, each joined to routers 1 and 5; the root is router 1, and 2 and 4 are unordered.
-const UNORDERED: Island = Island {
+const UNORDERED: &Island = &Island {
     name: "unordered routers",
     routers: 5,
     pairs: &[(0, 1), (0, 2), (0, 3), (1, 4), (2, 4), (3, 4)],
@@ -325,7 +325,7 @@ const UNORDERED: Island = Island {
 
 /// A ring of routers 1, 2, 3, 5 and 4; the root is router 6, joined to 1 and 5. Router 4 is unordered with 2 and 3: for
 /// it, blue leads from 3 to 2 and then to 1, and red from 2 to 3 and then to 5.
-const CHAINS: Island = Island {
+const CHAINS: &Island = &Island {
     name: "unordered routers in a row",
     routers: 6,
     pairs: &[(0, 1), (0, 3), (0, 5), (1, 2), (2, 4), (3, 4), (4, 5)],
@@ -408,7 +408,7 @@ const CHAINS: Island = Island {
 };
 
 /// A triangle with two links of routers 1 and 2 and two of 2 and 3, one of these closing; the root is router 3.
-const PARALLEL: Island = Island {
+const PARALLEL: &Island = &Island {
     name: "parallel links",
     routers: 3,
     pairs: &[(0, 1), (0, 1), (0, 2), (1, 2), (1, 2)],
@@ -460,7 +460,7 @@ const PARALLEL: Island = Island {
 };
 
 /// Two routers and their two links.
-const DOUBLE: Island = Island {
+const DOUBLE: &Island = &Island {
     name: "a pair with two links",
     routers: 2,
     pairs: &[(0, 1), (0, 1)],
@@ -486,7 +486,7 @@ const DOUBLE: Island = Island {
 };
 
 /// Five routers whose one block has two closing links, in a certificate where each row is Sole.
-const TWO_CLOSING_LINKS: Island = Island {
+const TWO_CLOSING_LINKS: &Island = &Island {
     name: "two closing links",
     routers: 5,
     pairs: &[(0, 1), (0, 3), (0, 4), (1, 2), (1, 4), (2, 4), (3, 4)],
@@ -508,7 +508,7 @@ const TWO_CLOSING_LINKS: Island = Island {
 
 /// A node above the root in the root's block: with another head it is a fault of the root and that node, with the root
 /// as head one of that node alone.
-const STRAY_MEMBER: Island = Island {
+const STRAY_MEMBER: &Island = &Island {
     name: "a stray member",
     routers: 3,
     pairs: &[(0, 1), (0, 2), (1, 2)],
@@ -528,7 +528,7 @@ const STRAY_MEMBER: Island = Island {
 };
 
 /// A router alone.
-const ALONE: Island = Island {
+const ALONE: &Island = &Island {
     name: "a router alone",
     routers: 1,
     pairs: &[],
@@ -541,7 +541,7 @@ const ALONE: Island = Island {
 };
 
 /// Two routers and their link.
-const PAIR: Island = Island {
+const PAIR: &Island = &Island {
     name: "a pair",
     routers: 2,
     pairs: &[(0, 1)],
@@ -554,7 +554,7 @@ const PAIR: Island = Island {
 };
 
 /// The certificate of one router for two.
-const ONE_FOR_TWO: Island = Island {
+const ONE_FOR_TWO: &Island = &Island {
     name: "the certificate of one for two",
     routers: 2,
     pairs: &[(0, 1)],
@@ -567,7 +567,7 @@ const ONE_FOR_TWO: Island = Island {
 };
 
 /// The certificate of two routers for one.
-const TWO_FOR_ONE: Island = Island {
+const TWO_FOR_ONE: &Island = &Island {
     name: "the certificate of two for one",
     routers: 1,
     pairs: &[],
@@ -580,7 +580,7 @@ const TWO_FOR_ONE: Island = Island {
 };
 
 /// The certificate of two routers and their link for two with two links.
-const LINKS_FOR_ONE: Island = Island {
+const LINKS_FOR_ONE: &Island = &Island {
     name: "one link for two",
     routers: 2,
     pairs: &[(0, 1), (0, 1)],
@@ -592,24 +592,22 @@ const LINKS_FOR_ONE: Island = Island {
     cases: &[(Edit::Nothing, Edit::Nothing, Some((1, 0, 2)))],
 };
 
-const ISLANDS: &[Island] = &[
-    TRIANGLE,
-    LINE,
-    UNORDERED,
-    CHAINS,
-    PARALLEL,
-    DOUBLE,
-    TWO_CLOSING_LINKS,
-    STRAY_MEMBER,
-    ALONE,
-    PAIR,
-    ONE_FOR_TWO,
-    TWO_FOR_ONE,
-    LINKS_FOR_ONE,
-];
-
-fn islands() -> &'static [Island] {
-    ISLANDS
+fn islands() -> [&'static Island; 13] {
+    [
+        TRIANGLE,
+        LINE,
+        UNORDERED,
+        CHAINS,
+        PARALLEL,
+        DOUBLE,
+        TWO_CLOSING_LINKS,
+        STRAY_MEMBER,
+        ALONE,
+        PAIR,
+        ONE_FOR_TWO,
+        TWO_FOR_ONE,
+        LINKS_FOR_ONE,
+    ]
 }
 
 #[test]
