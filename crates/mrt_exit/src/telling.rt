@@ -14,8 +14,17 @@ pub fn tell<E: Sink>(err: &mut E, exit: Exit) -> Exit
     ensures line { (exit ≡ Exit.Done → ⊥) → GainedLine (E.healthy_for err.old) (E.faults err.old) (E.faults err.new)
         (E.written err.old) (E.written err.new) (line_of exit) }
 {
+    write_line(err, exit);
+    exit
+}
+
+/// Writes the exit's line, as far as the sink takes it, and nothing on `Done`.
+fn write_line<E: Sink>(err: &mut E, exit: Exit)
+    ensures silent { exit ≡ Exit.Done → err.new ≡ err.old }
+    ensures line { (exit ≡ Exit.Done → ⊥) → GainedLine (E.healthy_for err.old) (E.faults err.old) (E.faults err.new)
+        (E.written err.old) (E.written err.new) (line_of exit) }
+{
     if exit != Exit::Done {
         let _ = put_all(err, exit.line().as_slice());
     }
-    exit
 }
