@@ -1,9 +1,18 @@
 use Rattle.std.proofs.Common.{◌∙◌, ◌↔◌, ℕ, List, Bool, length, ap, subst, sym}
 use Rattle.mrt_graph.specs.Reachable.{Reachable}
-use Rattle.mrt_graph.specs.Search.{Enters, IsMarked, SearchState}
-use Rattle.mrt_graph.proofs.Searching.{Searches, searches_ended, searches_onward}
+use Rattle.mrt_graph.specs.Search.{Enters, IsBegun, IsMarked, SearchState}
+use Rattle.mrt_graph.proofs.Searching.{Searches, searches_begun, searches_ended, searches_onward}
 use Rattle.mrt_plain.specs.Without.{StepsWithout}
 use Rattle.mrt_plain.proofs.settling.settle.Goals as goal
+
+pub loop-at-init : goal.loop-at-init
+loop-at-init c =
+    let begun : IsBegun c.args.count c.get.result c.in_ok-search.search = c.in_ok-search.ensures in
+    record {
+      count = begun.one_each;
+      search = subst (λ (s : ℕ). Searches (StepsWithout c.args.links.now c.args.x.now) s c.in_ok-search.search) c.get.ensures.value
+          (searches_begun _ c.args.count c.get.result c.in_ok-search.search begun);
+    }
 
 pub loop-at-preserved : goal.loop-at-preserved
 loop-at-preserved c =
