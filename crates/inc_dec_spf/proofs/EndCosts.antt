@@ -1,5 +1,5 @@
 -- The cost of the ways that begin with one end (the first end, then what is left), and the least over the ends.
-use Rattle.std.proofs.Common.{◌≡◌, ◌≢◌, ◌∙◌, ◌<◌, ◌≤◌, ◌+◌, ◌^◌, ℕ, Bool, true, List, [], ◌∷◌, Some, nat_lt, length, slice_get, inl, inr, refl, sym, ap, subst, arith}
+use Rattle.std.proofs.Common.{◌≡◌, ◌≢◌, ◌∙◌, ◌<◌, ◌≤◌, ◌+◌, ◌^◌, ℕ, Bool, true, false, List, [], ◌∷◌, Some, nat_lt, length, slice_get, inl, inr, refl, sym, ap, subst, arith}
 use Rattle.std.proofs.lemmas.Bool.{cases_Bool, cases_eq, eq-eqb, ltb-false, ltb-true, ne_eqb}
 use Rattle.std.proofs.lemmas.Option.{same_Some, slice_get-get_or, slice_get_within}
 use Rattle.std.proofs.Common.{get_or}
@@ -7,12 +7,13 @@ use Rattle.mrt_graph.specs.declared.link.End.{End}
 use Rattle.mrt_graph.specs.Topology.{Topology}
 use Rattle.link_direction.specs.Directions.{Directions}
 use Rattle.inc_dec_spf.specs.declared.reach.Dir.{Dir}
+use Rattle.inc_dec_spf.specs.BlockAims.{aim_at}
 use Rattle.inc_dec_spf.specs.FirstLink.{no_link}
 use Rattle.inc_dec_spf.specs.LeastPath.{HasMoreLinks}
 use Rattle.inc_dec_spf.specs.Path.{LeadsOn, cost_of}
 use Rattle.inc_dec_spf.specs.Rest.{IsRestCost, Rest, far}
 use Rattle.inc_dec_spf.specs.Side.{AreTaken, IsLeastWay, cost_at, lesser, link_of_lesser}
-use Rattle.inc_dec_spf.specs.Ways.{AreLeast, AreReady, AtHead, BeginsAt, HasHeadBy, Home, Inside, IsLeftAt, IsReadyFrom, Onward}
+use Rattle.inc_dec_spf.specs.Ways.{AreLeast, AreReady, AtHead, Back, BeginsAt, HasHeadBy, Home, Inside, IsLeftAt, IsReadyFrom, Onward}
 
 -- what is known of the ways that begin with one end, when `left` is left after it
 pub record IsEndCost (Begins : ℕ → ℕ → Type 0) (place left metric bound : ℕ) : Type 0 where
@@ -114,37 +115,56 @@ rest_at_head g w dir k y t = elim (cases_eq y t) [
     none other (end ∷ ends) is = absurd (is.0 refl)
 
 -- what is left after an end, in the words of what is known
-pub record IsLeftCost (g : Topology) (w : Directions) (dir : Dir) (k h y t left bound : ℕ) : Type 0 where
+pub record IsLeftCost (g : Topology) (w : Directions) (dir : Dir) (own : Bool) (x : ℕ) (aim : ℕ → ℕ) (k h y left bound : ℕ) : Type 0 where
   pub head : HasHeadBy w k h y
   pub small : left < far → left ≤ bound
-  pub rest : IsRestCost g w dir k h y t left
+  pub onward : left < far → own ≡ false → aim k ≢ x
+  pub rest : (own ≡ false → aim k ≢ x) → IsRestCost g w dir k h y (aim k) left
 
-pub left_cost : (g : Topology) (w : Directions) (dir : Dir) (width : ℕ) (all : List ℕ) (k first y j left bound : ℕ) → HasMoreLinks g w k → j < width
-    → (w.block y ≡ k → IsReadyFrom g w dir first width bound all y) → IsLeftAt w width all k first y j left
-    → (h : ℕ) × IsLeftCost g w dir k h y (first + j) left bound
-left_cost g w dir width all k first y j left bound more within ready (Onward inside at) =
+pub left_cost : (g : Topology) (w : Directions) (dir : Dir) (own : Bool) (x : ℕ) (aims : List ℕ) (width : ℕ) (all : List ℕ) (k y j left bound : ℕ)
+    → HasMoreLinks g w k → x ≢ y → j < width → (w.block y ≡ k → IsReadyFrom g w dir aims width bound all y)
+    → IsLeftAt w own x aims width all k y j left → (h : ℕ) × IsLeftCost g w dir own x (aim_at aims width j) k h y left bound
+left_cost g w dir own x aims width all k y j left bound more apart within ready (Onward inside on at) =
     let from = ready inside in (
       w.head y,
       record {
         head = Inside inside refl;
         small = from.small j left within at;
-        rest = subst (λ (b : ℕ). IsRestCost g w dir b (w.head y) y (first + j) left) inside
+        onward = λ below. on;
+        rest = λ _. subst (λ (b : ℕ). IsRestCost g w dir b (w.head y) y (aim_at aims width j b) left) inside
             (from.each j left within at (subst (λ (b : ℕ). HasMoreLinks g w b) (sym inside) more));
       },
     )
-left_cost g w dir width all k first y j left bound more within ready (Home other is) = (
+left_cost g w dir own x aims width all k y j left bound more apart within ready (Home other is) = (
   y,
   record {
     head = AtHead other refl;
-    small = small left is;
-    rest = subst (λ (c : ℕ). IsRestCost g w dir k y y (first + j) c) (sym is) (rest_at_head g w dir k y (first + j));
+    small = λ below. omega (arith, (at_end left is below).1);
+    onward = λ below _ same. apart (sym same ∙ sym (at_end left is below).0);
+    rest = λ _. subst (λ (c : ℕ). IsRestCost g w dir k y y (aim_at aims width j k) c) (sym is) (rest_at_head g w dir k y (aim_at aims width j k));
   },
 )
   where
-    small : (c : ℕ) → c ≡ cost_at y (first + j) → c < far → c ≤ bound
-    small c is below = elim (cases_eq y (first + j)) [
-      | inl same ↦ let zero_is : c ≡ 0 = rw (eq-eqb y (first + j) same) at is in omega (arith, zero_is)
-      | inr apart ↦ let far_is : c ≡ far = rw (ne_eqb y (first + j) apart) at is in absurd (omega (arith, far_is, below))
+    at_end : (c : ℕ) → c ≡ cost_at y (aim_at aims width j k) → c < far → (y ≡ aim_at aims width j k) × (c ≡ 0)
+    at_end c is below = elim (cases_eq y (aim_at aims width j k)) [
+      | inl same ↦ let zero_is : c ≡ 0 = rw (eq-eqb y (aim_at aims width j k) same) at is in (same, zero_is)
+      | inr differ ↦ let far_is : c ≡ far = rw (ne_eqb y (aim_at aims width j k) differ) at is in absurd (omega (arith, far_is, below))
+    ]
+left_cost g w dir own x aims width all k y j left bound more apart within ready (Back all_blocks same is) =
+    let head = head_of (w.block y) refl in (
+      head.0,
+      record {
+        head = head.1;
+        small = λ below. absurd (omega (arith, is, below));
+        onward = λ below. absurd (omega (arith, is, below));
+        rest = λ on. absurd (on all_blocks same);
+      },
+    )
+  where
+    head_of : (b : ℕ) → w.block y ≡ b → (h : ℕ) × HasHeadBy w k h y
+    head_of b at = elim (cases_eq b k) [
+      | inl inside ↦ (w.head y, Inside (at ∙ inside) refl)
+      | inr outside ↦ (y, AtHead (λ inside. outside (sym at ∙ inside)) refl)
     ]
 
 -- the head of a block, by a node of it, is one
@@ -161,14 +181,15 @@ pub record IsWayOn (g : Topology) (w : Directions) (dir : Dir) (own : Bool) (x p
   pub leads_on : LeadsOn w dir x end
   pub more : HasMoreLinks g w (w.lies_in end.link)
   pub kept_to : own ≡ true → w.lies_in end.link ≡ w.block x
+  pub elsewhere : x ≢ end.to
 
-pub end_cost : (g : Topology) (w : Directions) (dir : Dir) (own : Bool) (x t place left h bound : ℕ) (ends : List End) (end : End)
-    → IsWayOn g w dir own x place ends end → IsLeftCost g w dir (w.lies_in end.link) h end.to t left bound
-    → IsEndCost (BeginsAt g w dir own x t) place left end.metric bound
-end_cost g w dir own x t place left h bound ends end on is = record {
+pub end_cost : (g : Topology) (w : Directions) (dir : Dir) (own : Bool) (x : ℕ) (aim : ℕ → ℕ) (place left h bound : ℕ) (ends : List End) (end : End)
+    → IsWayOn g w dir own x place ends end → IsLeftCost g w dir own x aim (w.lies_in end.link) h end.to left bound
+    → IsEndCost (BeginsAt g w dir own x aim) place left end.metric bound
+end_cost g w dir own x aim place left h bound ends end on is = record {
   small = is.small;
   reached = λ below.
-      let it = is.rest.reached below in
+      let it = (is.rest (is.onward below)).reached below in
       record {
         ends = ends;
         list = on.list;
@@ -180,6 +201,7 @@ end_cost g w dir own x t place left h bound ends end on is = record {
         leads_on = on.leads_on;
         more = on.more;
         kept_to = on.kept_to;
+        onward = is.onward below;
         head = is.head;
         others = it.0;
         rest = it.1;
@@ -193,23 +215,24 @@ end_cost g w dir own x t place left h bound ends end on is = record {
       let head_there : HasHeadBy w (w.lies_in end.link) begins.h end.to =
       subst (λ (e : End). HasHeadBy w (w.lies_in end.link) begins.h e.to) same (subst (λ (b : ℕ). HasHeadBy w b begins.h begins.end.to) k_is begins.head) in
       let h_is = one_head_by w (w.lies_in end.link) begins.h h end.to head_there is.head in
-      let rest_a : Rest g w dir begins.k begins.h end.to begins.others t =
-      subst (λ (e : End). Rest g w dir begins.k begins.h e.to begins.others t) same begins.rest in
-      let rest_b : Rest g w dir (w.lies_in end.link) h end.to begins.others t =
-      subst (λ (b : ℕ). Rest g w dir b h end.to begins.others t) k_is
-      (subst (λ (top : ℕ). Rest g w dir begins.k top end.to begins.others t) h_is rest_a) in
-      let it = is.rest.least begins.others rest_b in
+      let rest_a : Rest g w dir begins.k begins.h end.to begins.others (aim begins.k) =
+      subst (λ (e : End). Rest g w dir begins.k begins.h e.to begins.others (aim begins.k)) same begins.rest in
+      let rest_b : Rest g w dir (w.lies_in end.link) h end.to begins.others (aim (w.lies_in end.link)) =
+      subst (λ (b : ℕ). Rest g w dir b h end.to begins.others (aim b)) k_is
+      (subst (λ (top : ℕ). Rest g w dir begins.k top end.to begins.others (aim begins.k)) h_is rest_a) in
+      let onward : own ≡ false → aim (w.lies_in end.link) ≢ x = subst (λ (b : ℕ). own ≡ false → aim b ≢ x) k_is begins.onward in
+      let it = (is.rest onward).least begins.others rest_b in
       let metric : begins.end.metric ≡ end.metric = ap (λ (e : End). e.metric) same in
       (omega (arith, it.0, begins.costs, metric), it.1);
 }
 
 -- the step for all places
-pub all_taken_over : (g : Topology) (w : Directions) (dir : Dir) (own : Bool) (width : ℕ) (all : List ℕ) (first bound x count : ℕ) (ends : List End) (end : End)
+pub all_taken_over : (g : Topology) (w : Directions) (dir : Dir) (own : Bool) (aims : List ℕ) (width : ℕ) (all : List ℕ) (bound x count : ℕ) (ends : List End) (end : End)
     (costs links costs' links' : List ℕ) → bound < 2 ^ 30 → end.metric < 65536 → length costs ≡ width → length links ≡ width → IsWayOn g w dir own x count ends end
-    → (w.block end.to ≡ w.lies_in end.link → IsReadyFrom g w dir first width bound all end.to)
-    → AreTaken (IsLeftAt w width all (w.lies_in end.link) first end.to) end.metric end.link costs links costs' links'
-    → AreLeast g w dir own first bound x ends count costs links → AreLeast g w dir own first bound x ends (count + 1) costs' links'
-all_taken_over g w dir own width all first bound x count ends end costs links costs' links' low_bound fits one_each one_link_each on ready taken so_far = record {
+    → (w.block end.to ≡ w.lies_in end.link → IsReadyFrom g w dir aims width bound all end.to)
+    → AreTaken (IsLeftAt w own x aims width all (w.lies_in end.link) end.to) end.metric end.link costs links costs' links'
+    → AreLeast g w dir own aims width bound x ends count costs links → AreLeast g w dir own aims width bound x ends (count + 1) costs' links'
+all_taken_over g w dir own aims width all bound x count ends end costs links costs' links' low_bound fits one_each one_link_each on ready taken so_far = record {
   each = λ j cost' link' at' at_link'.
       let within : j < length costs = omega (arith, slice_get_within costs' j cost' at', taken.one_cost_each) in
       let within_links : j < length links = omega (arith, within, one_each, one_link_each) in
@@ -220,10 +243,10 @@ all_taken_over g w dir own width all first bound x count ends end costs links co
       let it = taken.each j old old_link at at_link in
       let cost_is = same_Some cost' (lesser (it.0 + end.metric) old) (sym at' ∙ it.2) in
       let link_is = same_Some link' (link_of_lesser (it.0 + end.metric) old end.link old_link) (sym at_link' ∙ it.3) in
-      let left = left_cost g w dir width all (w.lies_in end.link) first end.to j it.0 bound on.more (omega (arith, within, one_each)) ready it.1 in
+      let left = left_cost g w dir own x aims width all (w.lies_in end.link) end.to j it.0 bound on.more on.elsewhere (omega (arith, within, one_each)) ready it.1 in
       rw (cost_is, link_is)
-      (way_taken (BeginsAt g w dir own x (first + j)) ends count old old_link it.0 bound end low_bound fits on.there
-      (end_cost g w dir own x (first + j) count it.0 left.0 bound ends end on left.1) (so_far.each j old old_link at at_link));
+      (way_taken (BeginsAt g w dir own x (aim_at aims width j)) ends count old old_link it.0 bound end low_bound fits on.there
+      (end_cost g w dir own x (aim_at aims width j) count it.0 left.0 bound ends end on left.1) (so_far.each j old old_link at at_link));
   small = λ j cost' at' below.
       let within : j < length costs = omega (arith, slice_get_within costs' j cost' at', taken.one_cost_each) in
       let within_links : j < length links = omega (arith, within, one_each, one_link_each) in
@@ -231,7 +254,7 @@ all_taken_over g w dir own width all first bound x count ends end costs links co
       let at = slice_get-get_or costs j 0 within in
       let it = taken.each j old (get_or links j 0) at (slice_get-get_or links j 0 within_links) in
       let cost_is = same_Some cost' (lesser (it.0 + end.metric) old) (sym at' ∙ it.2) in
-      let left = left_cost g w dir width all (w.lies_in end.link) first end.to j it.0 bound on.more (omega (arith, within, one_each)) ready it.1 in
+      let left = left_cost g w dir own x aims width all (w.lies_in end.link) end.to j it.0 bound on.more on.elsewhere (omega (arith, within, one_each)) ready it.1 in
       small_lesser (it.0 + end.metric) old cost' cost_is (λ low. let small = left.1.small (omega (arith, low)) in omega (arith, small, fits)) (so_far.small j old at)
       below;
 }
@@ -242,19 +265,19 @@ all_taken_over g w dir own width all first bound x count ends end costs links co
       | inr is_not ↦ let one : c ≡ b = rw is_not at is in omega (arith, one, other_small (omega (arith, one, below)))
     ]
 
-pub all_passed : (g : Topology) (w : Directions) (dir : Dir) (own : Bool) (first bound x count : ℕ) (ends : List End) (costs links : List ℕ)
-    → ((t other : ℕ) → BeginsAt g w dir own x t count other → ⊥) → AreLeast g w dir own first bound x ends count costs links
-    → AreLeast g w dir own first bound x ends (count + 1) costs links
-all_passed g w dir own first bound x count ends costs links none so_far = record {
+pub all_passed : (g : Topology) (w : Directions) (dir : Dir) (own : Bool) (aims : List ℕ) (width bound x count : ℕ) (ends : List End) (costs links : List ℕ)
+    → ((aim : ℕ → ℕ) (other : ℕ) → BeginsAt g w dir own x aim count other → ⊥) → AreLeast g w dir own aims width bound x ends count costs links
+    → AreLeast g w dir own aims width bound x ends (count + 1) costs links
+all_passed g w dir own aims width bound x count ends costs links none so_far = record {
   each = λ j cost link at at_link.
-      way_passed (BeginsAt g w dir own x (first + j)) ends count cost link (none (first + j)) (so_far.each j cost link at at_link);
+      way_passed (BeginsAt g w dir own x (aim_at aims width j)) ends count cost link (none (aim_at aims width j)) (so_far.each j cost link at at_link);
   small = so_far.small;
 }
 
 -- what the end leads to in its block is known
-pub step_ready : (g : Topology) (w : Directions) (dir : Dir) (own : Bool) (width : ℕ) (all : List ℕ) (first bound x place : ℕ) (ends : List End) (end : End)
-    → AreReady g w dir own first width bound all x → IsWayOn g w dir own x place ends end → w.block end.to ≡ w.lies_in end.link
-    → IsReadyFrom g w dir first width bound all end.to
-step_ready g w dir own width all first bound x place ends end ready on inside =
+pub step_ready : (g : Topology) (w : Directions) (dir : Dir) (own : Bool) (aims : List ℕ) (width : ℕ) (all : List ℕ) (bound x place : ℕ) (ends : List End) (end : End)
+    → AreReady g w dir own aims width bound all x → IsWayOn g w dir own x place ends end → w.block end.to ≡ w.lies_in end.link
+    → IsReadyFrom g w dir aims width bound all end.to
+step_ready g w dir own aims width all bound x place ends end ready on inside =
     ready.each (w.lies_in end.link) end on.more
     (record { ends = ends; list = on.list; place = place; there = on.there; in_block = refl; leads_on = on.leads_on }) on.kept_to inside

@@ -1,13 +1,15 @@
 -- The link of a least way is the first link of the least path.
-use Rattle.std.proofs.Common.{◌≡◌, ◌≢◌, ◌⊎◌, ◌∙◌, ◌<◌, ◌≤◌, ◌+◌, ◌*◌, ℕ, Bool, true, List, Some, nat_lt, get_or, length, slice_get, inl, inr, refl, sym, subst, arith}
+use Rattle.std.proofs.Common.{◌≡◌, ◌≢◌, ◌⊎◌, ◌∙◌, ◌<◌, ◌≤◌, ◌+◌, ◌*◌, ℕ, Bool, true, false, List, Some, nat_lt, get_or, length, slice_get, inl, inr, refl, sym, ap, subst, arith}
 use Rattle.std.proofs.lemmas.Bool.{cases_Bool, cases_eq, cases_lt, ltb-false, ltb-true}
 use Rattle.std.proofs.lemmas.Option.{same_Some, slice_get-get_or}
 use Rattle.mrt_graph.specs.declared.link.End.{End}
 use Rattle.mrt_graph.specs.Topology.{Topology}
 use Rattle.mrt_graph.proofs.EndsAt.{end_leads}
+use Rattle.link_direction.specs.BlockOfTwo.{HaveInCommon}
 use Rattle.link_direction.specs.Directions.{Directions}
 use Rattle.inc_dec_spf.specs.declared.reach.Dir.{Dir}
 use Rattle.inc_dec_spf.specs.Against.{against}
+use Rattle.inc_dec_spf.specs.BlockAims.{IsAimOf, aim_at}
 use Rattle.inc_dec_spf.specs.FirstLink.{Begins, BeginsNone, HasLinksAt, IsFirstLink, LiesInOneBlock}
 use Rattle.inc_dec_spf.specs.LeastPath.{IsHop, ShareBlock}
 use Rattle.inc_dec_spf.specs.Rest.{far}
@@ -16,14 +18,15 @@ use Rattle.inc_dec_spf.specs.Turns.{AreTurns, turn_of}
 use Rattle.inc_dec_spf.specs.Ways.{AreLeast, BeginsAt}
 use Rattle.inc_dec_spf.proofs.InBlocks.{IsOrdered}
 use Rattle.inc_dec_spf.proofs.Marks.{link_within}
+use Rattle.inc_dec_spf.proofs.OneHop.{one_block}
 use Rattle.inc_dec_spf.proofs.SideBySide.{row_within}
 use Rattle.inc_dec_spf.proofs.WaysArePaths.{least_hop}
 
 module _ (g : Topology) (root : ℕ) (w : Directions) (is : IsOrdered g root w) where
-  pub first_link : (dir : Dir) (own : Bool) (s t cost link : ℕ) (ends : List End) → s < length g.ids → slice_get g.ends s ≡ Some ends → s ≢ t
-      → ((k h : ℕ) → ShareBlock g w s t k h → own ≡ true → k ≡ w.block s) → IsLeastWay (BeginsAt g w dir own s t) ends (length ends) cost link
-      → IsFirstLink g w dir s t link
-  first_link dir own s t cost link ends within list two kept_to least = elim (cases_Bool (nat_lt cost far)) [
+  pub first_link : (dir : Dir) (own : Bool) (s t k h : ℕ) (aim : ℕ → ℕ) (cost link : ℕ) (ends : List End) → s < length g.ids → t < length g.ids
+      → slice_get g.ends s ≡ Some ends → ShareBlock g w s t k h → (own ≡ true → k ≡ w.block s) → IsAimOf g w aim s t
+      → IsLeastWay (BeginsAt g w dir own s aim) ends (length ends) cost link → IsFirstLink g w dir s t link
+  first_link dir own s t k h aim cost link ends within t_within list share kept_to it_aims least = elim (cases_Bool (nat_lt cost far)) [
     | inl is_less ↦
         let it = least.reached (ltb-true cost far is_less) in
         let few = link_within g it.end.link s it.end.to is.kept (end_leads g s it.place ends it.end is.kept list it.there) in
@@ -31,18 +34,30 @@ module _ (g : Topology) (root : ℕ) (w : Directions) (is : IsOrdered g root w) 
     | inr is_not ↦ BeginsNone (rw is_not at hop) (least.unreached (ltb-false cost far is_not))
   ]
     where
+      same_block : (k' h' : ℕ) → ShareBlock g w s t k' h' → k' ≡ k
+      same_block k' h' other = (one_block g root w s t k' h' k h is within t_within share.two other.common share.common).0
+
+      alone : (u k' h' : ℕ) → u < length g.ids → s ≢ u → HaveInCommon w s u k' h' → (own ≡ true → k' ≡ w.block s) → (own ≡ false → aim k' ≢ s)
+          → aim k' ≡ t
+      alone u k' h' u_within apart common own_only onward = elim (cases_Bool own) [
+        | inl is_own ↦ ap aim (own_only is_own ∙ sym (kept_to is_own)) ∙ it_aims.aimed k h share.common
+        | inr all ↦ it_aims.alone u k' h' u_within apart common (onward all)
+      ]
+
       hop : IsHop g w dir s t (hop_by cost link)
-      hop = least_hop g root w is dir own s t cost link ends within list two kept_to least
+      hop =
+          least_hop g root w is dir own s t aim cost link ends within list share.two (λ k' h' other own_only. same_block k' h' other ∙ kept_to own_only)
+          (λ k' h' other. it_aims.aimed k' h' other.common) alone least
 
   -- the links of a node, kept from its place on
-  pub links_kept : (dir : Dir) (own : Bool) (s first width bound : ℕ) (ends : List End) (costs links all : List ℕ) → s < length g.ids
+  pub links_kept : (dir : Dir) (own : Bool) (s : ℕ) (aims : List ℕ) (width bound : ℕ) (ends : List End) (costs links all : List ℕ) → s < length g.ids
       → slice_get g.ends s ≡ Some ends → length costs ≡ width → length links ≡ width
       → ((t k h : ℕ) → t < length g.ids → ShareBlock g w s t k h → own ≡ true → k ≡ w.block s)
-      → AreLeast g w dir own first bound s ends (length ends) costs links
-      → ((j : ℕ) → j < length links → slice_get all (s * width + j) ≡ slice_get links j) → HasLinksAt g w dir first width all s
-  links_kept dir own s first width bound ends costs links all within list one_cost_each one_link_each kept_to least there = record {
-    each = λ j link below inside at two.
-        first_link dir own s (first + j) (get_or costs j 0) link ends within list two (λ k h. kept_to (first + j) k h inside)
+      → AreLeast g w dir own aims width bound s ends (length ends) costs links
+      → ((j : ℕ) → j < length links → slice_get all (s * width + j) ≡ slice_get links j) → HasLinksAt g w dir aims width all s
+  links_kept dir own s aims width bound ends costs links all within list one_cost_each one_link_each kept_to least there = record {
+    each = λ j t k h link below inside share it_aims at.
+        first_link dir own s t k h (aim_at aims width j) (get_or costs j 0) link ends within inside list share (kept_to t k h inside share) it_aims
         (least.each j (get_or costs j 0) link (slice_get-get_or costs j 0 (omega (arith, below, one_cost_each)))
         (sym (there j (omega (arith, below, one_link_each))) ∙ at));
   }
@@ -55,35 +70,35 @@ places_apart y x width j other within = elim (cases_lt y x) [
 ]
 
 -- the links of the other nodes stay
-pub links_stay : (g : Topology) (w : Directions) (dir : Dir) (first width y x many : ℕ) (all after : List ℕ) → y ≢ x → many ≡ width
-    → ((i : ℕ) → (i < x * width) ⊎ (x * width + many ≤ i) → slice_get after i ≡ slice_get all i) → HasLinksAt g w dir first width all y
-    → HasLinksAt g w dir first width after y
-links_stay g w dir first width y x many all after other same elsewhere has = record {
-  each = λ j link below inside at two.
-      has.each j link below inside
+pub links_stay : (g : Topology) (w : Directions) (dir : Dir) (aims : List ℕ) (width y x many : ℕ) (all after : List ℕ) → y ≢ x → many ≡ width
+    → ((i : ℕ) → (i < x * width) ⊎ (x * width + many ≤ i) → slice_get after i ≡ slice_get all i) → HasLinksAt g w dir aims width all y
+    → HasLinksAt g w dir aims width after y
+links_stay g w dir aims width y x many all after other same elsewhere has = record {
+  each = λ j t k h link below inside share it_aims at.
+      has.each j t k h link below inside share it_aims
       (sym (elsewhere (y * width + j) (subst (λ (n : ℕ). (y * width + j < x * width) ⊎ (x * width + n ≤ y * width + j)) (sym same)
-      (places_apart y x width j other below))) ∙ at) two;
+      (places_apart y x width j other below))) ∙ at);
 }
 
 -- the links of the nodes that had their turns are there
-pub record AreLinked (g : Topology) (w : Directions) (dir : Dir) (first width i : ℕ) (all : List ℕ) : Type 0 where
-  pub each : (y : ℕ) → y < length g.ids → turn_of (against dir) (length g.ids) w y < i → LiesInOneBlock g w y → HasLinksAt g w dir first width all y
+pub record AreLinked (g : Topology) (w : Directions) (dir : Dir) (aims : List ℕ) (width i : ℕ) (all : List ℕ) : Type 0 where
+  pub each : (y : ℕ) → y < length g.ids → turn_of (against dir) (length g.ids) w y < i → LiesInOneBlock g w y → HasLinksAt g w dir aims width all y
 
 -- those of the node at turn i too
 pub one_linked : (g : Topology) (root : ℕ) (w : Directions) (dir : Dir) → IsOrdered g root w → (turns : List ℕ) → AreTurns g w (against dir) turns
-    → (first width i x : ℕ) → slice_get turns i ≡ Some x → (bound : ℕ) (ends : List End) (costs links all after : List ℕ) → slice_get g.ends x ≡ Some ends
-    → length costs ≡ width → length links ≡ width → AreLeast g w dir true first bound x ends (length ends) costs links
+    → (aims : List ℕ) (width i x : ℕ) → slice_get turns i ≡ Some x → (bound : ℕ) (ends : List End) (costs links all after : List ℕ) → slice_get g.ends x ≡ Some ends
+    → length costs ≡ width → length links ≡ width → AreLeast g w dir true aims width bound x ends (length ends) costs links
     → ((j : ℕ) → j < length links → slice_get after (x * width + j) ≡ slice_get links j)
-    → ((p : ℕ) → (p < x * width) ⊎ (x * width + length links ≤ p) → slice_get after p ≡ slice_get all p) → AreLinked g w dir first width i all
-    → AreLinked g w dir first width (i + 1) after
-one_linked g root w dir is turns are first width i x at bound ends costs links all after list one_cost_each one_link_each least there elsewhere linked = record {
+    → ((p : ℕ) → (p < x * width) ⊎ (x * width + length links ≤ p) → slice_get after p ≡ slice_get all p) → AreLinked g w dir aims width i all
+    → AreLinked g w dir aims width (i + 1) after
+one_linked g root w dir is turns are aims width i x at bound ends costs links all after list one_cost_each one_link_each least there elsewhere linked = record {
   each = λ y within early one. elim (cases_eq y x) [
     | inl same ↦
-        subst (λ (v : ℕ). HasLinksAt g w dir first width after v) (sym same)
-        (links_kept g root w is dir true x first width bound ends costs links after (are.within i x at) list one_cost_each one_link_each
+        subst (λ (v : ℕ). HasLinksAt g w dir aims width after v) (sym same)
+        (links_kept g root w is dir true x aims width bound ends costs links after (are.within i x at) list one_cost_each one_link_each
         (λ t k h inside share own. subst (λ (v : ℕ). k ≡ w.block v) same (one.only t k h inside (subst (λ (v : ℕ). ShareBlock g w v t k h) (sym same) share))) least there)
     | inr other ↦
-        links_stay g w dir first width y x (length links) all after other one_link_each elsewhere
+        links_stay g w dir aims width y x (length links) all after other one_link_each elsewhere
         (linked.each y within (omega (arith, early, not_now y within other)) one)
   ];
 }

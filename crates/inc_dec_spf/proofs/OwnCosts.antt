@@ -8,6 +8,7 @@ use Rattle.link_direction.specs.Directions.{Directions}
 use Rattle.inc_dec_spf.specs.declared.reach.Dir.{Dir}
 use Rattle.inc_dec_spf.specs.declared.reach.Dir.TheVariants.{Down, Up}
 use Rattle.inc_dec_spf.specs.Against.{against}
+use Rattle.inc_dec_spf.specs.BlockAims.{aim_at}
 use Rattle.inc_dec_spf.specs.Path.{IsStep}
 use Rattle.inc_dec_spf.specs.Rest.{IsRestCost, far}
 use Rattle.inc_dec_spf.specs.Turns.{AreTurns, turn_at, turn_of}
@@ -19,8 +20,8 @@ use Rattle.inc_dec_spf.proofs.SideBySide.{row_within}
 use Rattle.inc_dec_spf.proofs.WaysArePaths.{own_rest}
 
 -- the nodes that had their turns are ready
-pub record AreTurned (g : Topology) (w : Directions) (dir : Dir) (first width i : ℕ) (all : List ℕ) : Type 0 where
-  pub each : (y : ℕ) → y < length g.ids → turn_of (against dir) (length g.ids) w y < i → IsReadyFrom g w dir first width (65536 * i) all y
+pub record AreTurned (g : Topology) (w : Directions) (dir : Dir) (aims : List ℕ) (width i : ℕ) (all : List ℕ) : Type 0 where
+  pub each : (y : ℕ) → y < length g.ids → turn_of (against dir) (length g.ids) w y < i → IsReadyFrom g w dir aims width (65536 * i) all y
 
 -- what has a later turn in one direction has an earlier one in the other
 pub earlier : (dir : Dir) (n a b : ℕ) → 1 ≤ a → a ≤ n → 1 ≤ b → b ≤ n → turn_at dir n a < turn_at dir n b
@@ -29,7 +30,7 @@ earlier Up n a b low_a high_a low_b high_b less = omega (arith, low_a, high_a, l
 earlier Down n a b low_a high_a low_b high_b less = omega (arith, low_a, high_a, low_b, high_b, less)
 
 module _ (g : Topology) (root : ℕ) (w : Directions) (dir : Dir) (is : IsOrdered g root w) (turns : List ℕ)
-    (are : AreTurns g w (against dir) turns) (first width : ℕ) where
+    (are : AreTurns g w (against dir) turns) (aims : List ℕ) (width : ℕ) where
   n : ℕ
   n = length g.ids
 
@@ -40,8 +41,8 @@ module _ (g : Topology) (root : ℕ) (w : Directions) (dir : Dir) (is : IsOrdere
       (is.ordered.orders.from_one y y_within) (is.ordered.orders.to_n y y_within) less
 
   -- what the node at turn i leads to is ready
-  pub ready_for : (i x : ℕ) (all : List ℕ) → slice_get turns i ≡ Some x → AreTurned g w dir first width i all
-      → AreReady g w dir true first width (65536 * i) all x
+  pub ready_for : (i x : ℕ) (all : List ℕ) → slice_get turns i ≡ Some x → AreTurned g w dir aims width i all
+      → AreReady g w dir true aims width (65536 * i) all x
   ready_for i x all at turned = record {
     each = λ k end more step kept_to inside.
         let move = move_of g w dir k x end is.kept step in
@@ -60,26 +61,26 @@ module _ (g : Topology) (root : ℕ) (w : Directions) (dir : Dir) (is : IsOrdere
   -- the node at turn i gets its costs
   module _ (i x : ℕ) (at : slice_get turns i ≡ Some x) (all after costs arrived links : List ℕ) (ends : List End)
       (list : slice_get g.ends x ≡ Some ends) (one_each : length arrived ≡ width) (one_link_each : length links ≡ width)
-      (least : AreLeast g w dir true first (65536 * i) x ends (length ends) costs links)
-      (at_x : (j cost : ℕ) → slice_get arrived j ≡ Some cost → first + j ≡ x → cost ≡ 0)
-      (not_at_x : (j : ℕ) → first + j ≢ x → slice_get arrived j ≡ slice_get costs j)
+      (least : AreLeast g w dir true aims width (65536 * i) x ends (length ends) costs links)
+      (at_x : (j cost : ℕ) → slice_get arrived j ≡ Some cost → aim_at aims width j (w.block x) ≡ x → cost ≡ 0)
+      (not_at_x : (j : ℕ) → aim_at aims width j (w.block x) ≢ x → slice_get arrived j ≡ slice_get costs j)
       (there : (j : ℕ) → j < length arrived → slice_get after (x * width + j) ≡ slice_get arrived j)
       (elsewhere : (place : ℕ) → (place < x * width) ⊎ (x * width + length arrived ≤ place) → slice_get after place ≡ slice_get all place) where
     arrived_at : (j left : ℕ) → j < width → slice_get after (x * width + j) ≡ Some left → slice_get arrived j ≡ Some left
     arrived_at j left within at_j = sym (there j (omega (arith, within, one_each))) ∙ at_j
 
-    x_ready : IsReadyFrom g w dir first width (65536 * (i + 1)) after x
+    x_ready : IsReadyFrom g w dir aims width (65536 * (i + 1)) after x
     x_ready = record {
-      each = λ j left within at_j more. elim (cases_eq (first + j) x) [
+      each = λ j left within at_j more. elim (cases_eq (aim_at aims width j (w.block x)) x) [
         | inl same ↦
-            subst (λ (c : ℕ). IsRestCost g w dir (w.block x) (w.head x) x (first + j) c) (sym (at_x j left (arrived_at j left within at_j) same))
+            subst (λ (c : ℕ). IsRestCost g w dir (w.block x) (w.head x) x (aim_at aims width j (w.block x)) c) (sym (at_x j left (arrived_at j left within at_j) same))
             (record { reached = λ below. ([], sym same, refl); least = λ rest is_rest. (omega arith, omega arith) })
         | inr other ↦
-            own_rest g root w is dir x (first + j) left (get_or links j 0) ends (are.within i x at) list (λ same. other (sym same)) more
+            own_rest g root w is dir x (aim_at aims width j) left (get_or links j 0) ends (are.within i x at) list (λ same. other (sym same)) more
             (least.each j left (get_or links j 0) (sym (not_at_x j other) ∙ arrived_at j left within at_j)
             (slice_get-get_or links j 0 (omega (arith, within, one_link_each))))
       ];
-      small = λ j left within at_j below. elim (cases_eq (first + j) x) [
+      small = λ j left within at_j below. elim (cases_eq (aim_at aims width j (w.block x)) x) [
         | inl same ↦ omega (arith, at_x j left (arrived_at j left within at_j) same)
         | inr other ↦ omega (arith, least.small j left (sym (not_at_x j other) ∙ arrived_at j left within at_j) below)
       ];
@@ -91,10 +92,10 @@ module _ (g : Topology) (root : ℕ) (w : Directions) (dir : Dir) (is : IsOrdere
       | inr above ↦ inr (omega (arith, row_within x y width (y * width) refl (omega (arith, above, other)), one_each))
     ]
 
-    pub one_turned : AreTurned g w dir first width i all → AreTurned g w dir first width (i + 1) after
+    pub one_turned : AreTurned g w dir aims width i all → AreTurned g w dir aims width (i + 1) after
     one_turned turned = record {
       each = λ y within early. elim (cases_eq y x) [
-        | inl same ↦ subst (λ (v : ℕ). IsReadyFrom g w dir first width (65536 * (i + 1)) after v) (sym same) x_ready
+        | inl same ↦ subst (λ (v : ℕ). IsReadyFrom g w dir aims width (65536 * (i + 1)) after v) (sym same) x_ready
         | inr other ↦
             let before = turned.each y within (omega (arith, early, not_now y within other)) in
             record {
@@ -110,10 +111,10 @@ module _ (g : Topology) (root : ℕ) (w : Directions) (dir : Dir) (is : IsOrdere
         not_now y within other same =
             other (same_Some y x (sym (are.of_each y within) ∙ subst (λ (t : ℕ). slice_get turns t ≡ Some x) (sym same) at))
 
-  pub all_turned : (count y : ℕ) (all : List ℕ) → count ≡ length g.ids → AreTurned g w dir first width count all → y < length g.ids
-      → IsReadyFrom g w dir first width (65536 * length g.ids) all y
+  pub all_turned : (count y : ℕ) (all : List ℕ) → count ≡ length g.ids → AreTurned g w dir aims width count all → y < length g.ids
+      → IsReadyFrom g w dir aims width (65536 * length g.ids) all y
   all_turned count y all same turned within =
-      subst (λ (c : ℕ). IsReadyFrom g w dir first width (65536 * c) all y) same
+      subst (λ (c : ℕ). IsReadyFrom g w dir aims width (65536 * c) all y) same
       (turned.each y within (omega (
         arith,
         same,
@@ -122,10 +123,10 @@ module _ (g : Topology) (root : ℕ) (w : Directions) (dir : Dir) (is : IsOrdere
       )))
 
 -- all costs stay at most far
-pub arrived_most : (first x : ℕ) (costs arrived : List ℕ) → ((j cost : ℕ) → slice_get costs j ≡ Some cost → cost ≤ far)
-    → ((j cost : ℕ) → slice_get arrived j ≡ Some cost → first + j ≡ x → cost ≡ 0)
-    → ((j : ℕ) → first + j ≢ x → slice_get arrived j ≡ slice_get costs j) → (j cost : ℕ) → slice_get arrived j ≡ Some cost → cost ≤ far
-arrived_most first x costs arrived most at_x elsewhere j cost at = elim (cases_eq (first + j) x) [
+pub arrived_most : (aim : ℕ → ℕ) (x : ℕ) (costs arrived : List ℕ) → ((j cost : ℕ) → slice_get costs j ≡ Some cost → cost ≤ far)
+    → ((j cost : ℕ) → slice_get arrived j ≡ Some cost → aim j ≡ x → cost ≡ 0)
+    → ((j : ℕ) → aim j ≢ x → slice_get arrived j ≡ slice_get costs j) → (j cost : ℕ) → slice_get arrived j ≡ Some cost → cost ≤ far
+arrived_most aim x costs arrived most at_x elsewhere j cost at = elim (cases_eq (aim j) x) [
   | inl same ↦ omega (arith, at_x j cost at same)
   | inr other ↦ most j cost (sym (elsewhere j other) ∙ at)
 ]
@@ -144,7 +145,7 @@ kept_most at costs all after most most_all there elsewhere i cost is = elim (cas
 ]
 
 -- of one width as of another that is equal
-pub ready_in_width : (g : Topology) (w : Directions) (dir : Dir) (own : Bool) (first width same : ℕ) (bound : ℕ) (all : List ℕ) (x : ℕ) → same ≡ width
-    → AreReady g w dir own first width bound all x → AreReady g w dir own first same bound all x
-ready_in_width g w dir own first width same bound all x is ready =
-    subst (λ (n : ℕ). AreReady g w dir own first n bound all x) (sym is) ready
+pub ready_in_width : (g : Topology) (w : Directions) (dir : Dir) (own : Bool) (aims : List ℕ) (width same : ℕ) (bound : ℕ) (all : List ℕ) (x : ℕ) → same ≡ width
+    → AreReady g w dir own aims width bound all x → AreReady g w dir own aims same bound all x
+ready_in_width g w dir own aims width same bound all x is ready =
+    subst (λ (n : ℕ). AreReady g w dir own aims n bound all x) (sym is) ready

@@ -1,5 +1,5 @@
 -- Costs side by side, place after place.
-use Rattle.std.proofs.Common.{◌≡◌, ◌≢◌, ◌∙◌, ◌<◌, ◌≤◌, ◌+◌, ◌*◌, ℕ, List, Some, nat_lt, length, set, slice_get, inl, inr, refl, sym, ap, subst, arith}
+use Rattle.std.proofs.Common.{◌≡◌, ◌≢◌, ◌⊎◌, ◌∙◌, ◌<◌, ◌≤◌, ◌+◌, ◌*◌, ℕ, List, Some, nat_lt, length, set, slice_get, slice_index, inl, inr, refl, sym, ap, subst, arith}
 use Rattle.std.proofs.Math.Nat.{mul-le-mul_left, mul_comm}
 use Rattle.std.proofs.lemmas.Bool.{cases_Bool, cases_eq, eq-eqb, ltb-true, ne_eqb}
 use Rattle.std.proofs.lemmas.List.{get_or-drop, get_or-take, length-drop, length-set, length-take}
@@ -8,7 +8,7 @@ use Rattle.std.proofs.Common.{get_or}
 use Rattle.std.proofs.lemmas.Option.{get_or_from_slice_get, same_Some, slice_get-get_or, slice_get_within}
 use Rattle.mrt_graph.proofs.ListPlaces.{set_elsewhere, set_there}
 use Rattle.inc_dec_spf.specs.Rest.{far}
-use Rattle.inc_dec_spf.specs.Side.{AreTaken, cost_at, lesser, link_of_lesser}
+use Rattle.inc_dec_spf.specs.Side.{AreTaken, left_onward, lesser, link_of_lesser}
 
 pub lesser_old : (cost old : ℕ) → old ≤ cost → lesser cost old ≡ old
 lesser_old cost old less = elim (cases_Bool (nat_lt cost old)) [
@@ -78,71 +78,23 @@ one_taken Left metric link costs links count costs' links' left old old_link so_
     new_link : ℕ
     new_link = link_of_lesser (left + metric) old link old_link
 
--- the cost after the last end
-at_itself : (to t : ℕ) → t ≡ to → 0 ≡ cost_at to t
-at_itself to t same = rw (eq-eqb to t (sym same)) refl
-
-elsewhere : (to t : ℕ) → t ≢ to → far ≡ cost_at to t
-elsewhere to t other = rw (ne_eqb to t (λ same. other (sym same))) refl
-
--- nothing is taken where the way leads to none of the nodes
-pub none_reached : (to first metric link : ℕ) (costs links : List ℕ) → ((j cost : ℕ) → slice_get costs j ≡ Some cost → (cost ≤ far) × (first + j ≢ to))
-    → AreTaken (λ j cost. cost ≡ cost_at to (first + j)) metric link costs links costs links
-none_reached to first metric link costs links apart = record {
-  one_cost_each = refl;
-  one_link_each = refl;
-  each = λ j old old_link at at_link.
-      let it = apart j old at in (
-        far,
-        elsewhere to (first + j) it.1,
-        at ∙ ap (λ (x : ℕ). Some x) (sym (lesser_old (far + metric) old (omega (arith, it.0)))),
-        at_link ∙ ap (λ (x : ℕ). Some x) (sym (link_old (far + metric) old link old_link (omega (arith, it.0)))),
-      );
-}
-
-pub one_reached : (to first metric link place old old_link : ℕ) (costs links : List ℕ) → first + place ≡ to
-    → ((j cost : ℕ) → slice_get costs j ≡ Some cost → cost ≤ far) → slice_get costs place ≡ Some old → slice_get links place ≡ Some old_link
-    → AreTaken (λ j cost. cost ≡ cost_at to (first + j)) metric link costs links (set costs place (lesser metric old))
-    (set links place (link_of_lesser metric old link old_link))
-one_reached to first metric link place old old_link costs links is most at at_link = record {
-  one_cost_each = length-set costs place new;
-  one_link_each = length-set links place new_link;
-  each = λ j was was_link at_j at_j_link. elim (cases_eq j place) [
-    | inl same ↦
-        let was_is : was ≡ old = same_Some was old (sym at_j ∙ subst (λ (x : ℕ). slice_get costs x ≡ Some old) (sym same) at) in
-        let link_is : was_link ≡ old_link =
-        same_Some was_link old_link (sym at_j_link ∙ subst (λ (x : ℕ). slice_get links x ≡ Some old_link) (sym same) at_link) in
-        let plain : 0 + metric ≡ metric = omega arith in (
-          0,
-          at_itself to (first + j) (omega (arith, is, same)),
-          rw (same, was_is, plain) (set_there costs place new (slice_get_within costs place old at)),
-          rw (same, was_is, link_is, plain) (set_there links place new_link (slice_get_within links place old_link at_link)),
-        )
-    | inr other ↦ (
-      far,
-      elsewhere to (first + j) (λ same. other (omega (arith, is, same))),
-      set_elsewhere costs place j new other ∙ at_j ∙ ap (λ (x : ℕ). Some x) (sym (lesser_old (far + metric) was (omega (arith, most j was at_j)))),
-      set_elsewhere links place j new_link other ∙ at_j_link
-          ∙ ap (λ (x : ℕ). Some x) (sym (link_old (far + metric) was link was_link (omega (arith, most j was at_j)))),
-    )
-  ];
-}
-  where
-    new : ℕ
-    new = lesser metric old
-
-    new_link : ℕ
-    new_link = link_of_lesser metric old link old_link
-
 -- what is left may be said in other words
-pub taken_by : (Left Left' : ℕ → ℕ → Type 0) (metric link : ℕ) (costs links costs' links' : List ℕ) → ((j left : ℕ) → Left j left → Left' j left)
-    → AreTaken Left metric link costs links costs' links' → AreTaken Left' metric link costs links costs' links'
+pub taken_by : (Left Left' : ℕ → ℕ → Type 0) (metric link : ℕ) (costs links costs' links' : List ℕ)
+    → ((j left : ℕ) → j < length costs → Left j left → Left' j left) → AreTaken Left metric link costs links costs' links'
+    → AreTaken Left' metric link costs links costs' links'
 taken_by Left Left' metric link costs links costs' links' says taken = record {
   one_cost_each = taken.one_cost_each;
   one_link_each = taken.one_link_each;
   each = λ j old old_link at at_link.
-      let it = taken.each j old old_link at at_link in (it.0, says j it.0 it.1, it.2, it.3);
+      let it = taken.each j old old_link at at_link in (it.0, says j it.0 (slice_get_within costs j old at) it.1, it.2, it.3);
 }
+
+-- what is left from x on: none on the way back to x itself
+pub onward_or_back : (x aim left cost : ℕ) → cost ≡ left_onward x aim left → ((aim ≡ x) × (cost ≡ far)) ⊎ ((aim ≢ x) × (cost ≡ left))
+onward_or_back x aim left cost is = elim (cases_eq aim x) [
+  | inl same ↦ inl (same, rw (eq-eqb aim x same) at is)
+  | inr other ↦ inr (other, rw (ne_eqb aim x other) at is)
+]
 
 -- costs stay at most far
 pub most_kept : (Left : ℕ → ℕ → Type 0) (metric link : ℕ) (costs links costs' links' : List ℕ) → length links ≡ length costs
@@ -169,6 +121,9 @@ range_get xs at n j x room within is =
     let same : get_or (slice_range xs at (at + n)) j 0 ≡ get_or xs (at + j) 0 = grind (arith, get_or-take, get_or-drop) in
     slice_get-get_or xs (at + j) 0 (omega (arith, room, within))
     ∙ ap (λ (y : ℕ). Some y) (sym same ∙ get_or_from_slice_get (slice_range xs at (at + n)) j x 0 is)
+
+pub range_index : (xs : List ℕ) (at n j : ℕ) → at + n ≤ length xs → j < n → slice_index (slice_range xs at (at + n)) j ≡ slice_index xs (at + j)
+range_index xs at n j room within = grind (arith, get_or-take, get_or-drop)
 
 pub range_most : (xs : List ℕ) (at n j x : ℕ) → at + n ≤ length xs → slice_get (slice_range xs at (at + n)) j ≡ Some x
     → (j < n) × (slice_get xs (at + j) ≡ Some x)

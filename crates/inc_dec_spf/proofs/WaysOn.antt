@@ -14,7 +14,7 @@ use Rattle.inc_dec_spf.specs.Path.{LeadsOn}
 use Rattle.inc_dec_spf.specs.Ways.{BeginsAt}
 use Rattle.inc_dec_spf.proofs.EndCosts.{IsWayOn}
 use Rattle.inc_dec_spf.proofs.InBlocks.{IsOrdered, closed_of_link}
-use Rattle.inc_dec_spf.proofs.Marks.{IsMarkedEnd, link_within, marked_block, marked_role, test_leads_back, test_leads_on}
+use Rattle.inc_dec_spf.proofs.Marks.{IsMarkedEnd, leads_elsewhere, link_within, marked_block, marked_role, test_leads_back, test_leads_on}
 use Rattle.inc_dec_spf.proofs.Reached.{closed_of_more, more_links}
 
 pub way_on : (g : Topology) (d : DirectedLists) (root : ℕ) (w : Directions) (dir : Dir) (own : Bool) (x place block : ℕ) (ends : List End) (end : End)
@@ -30,13 +30,14 @@ way_on g d root w dir own x place block ends end mark is says marked block_is no
       leads_on = test_leads_on g d w dir x place ends end mark is.kept says marked goes;
       more = more_links g root w (w.lies_in end.link) closed.0 is closed.1;
       kept_to = λ kept. sym (marked_block g d w x place ends end mark is.kept says marked) ∙ kept_to kept ∙ block_is;
+      elsewhere = leads_elsewhere g end.link x end.to is.kept onward;
     }
 
 pub no_way_on : (g : Topology) (d : DirectedLists) (root : ℕ) (w : Directions) (dir : Dir) (own : Bool) (x place block : ℕ) (ends : List End) (end : End)
     (mark : Mark) → IsOrdered g root w → Says g d w → IsMarkedEnd g d x place ends end mark → block ≡ w.block x
     → (mark.role ≢ Sole → (own ≡ true → mark.block ≡ block) → ⊥) ⊎ (goes_on dir mark.way x end.to ≡ false)
-    → (t other : ℕ) → BeginsAt g w dir own x t place other → ⊥
-no_way_on g d root w dir own x place block ends end mark is says marked block_is fails t other begins =
+    → (aim : ℕ → ℕ) (other : ℕ) → BeginsAt g w dir own x aim place other → ⊥
+no_way_on g d root w dir own x place block ends end mark is says marked block_is fails aim other begins =
     let same_list = same_Some ends begins.ends (sym marked.list ∙ begins.list) in
     let same : begins.end ≡ end =
     same_Some begins.end end (sym begins.there ∙ subst (λ (es : List End). slice_get es place ≡ Some end) same_list marked.there) in

@@ -4,6 +4,7 @@ use Rattle.link_direction.specs.Directions.{Directions}
 use Rattle.mrt_graph.specs.Topology.{Topology}
 use Rattle.inc_dec_spf.specs.declared.reach.Dir.{Dir}
 use Rattle.inc_dec_spf.specs.declared.reach.Hop.{Hop}
+use Rattle.inc_dec_spf.specs.BlockAims.{IsAimOf, aim_at}
 use Rattle.inc_dec_spf.specs.LeastPath.{IsHop, ShareBlock}
 
 -- a number that stands for no link: no graph has so many
@@ -24,7 +25,7 @@ pub record LiesInOneBlock (g : Topology) (w : Directions) (v : ℕ) : Type 0 whe
 pub record AreOthersInOneBlock (g : Topology) (w : Directions) (marks : List Bool) : Type 0 where
   pub each : (v : ℕ) → v < length g.ids → slice_get marks v ≡ Some false → LiesInOneBlock g w v
 
--- the links of node s are there, for so many nodes from number `first` on
-pub record HasLinksAt (g : Topology) (w : Directions) (dir : Dir) (first width : ℕ) (links : List ℕ) (s : ℕ) : Type 0 where
-  pub each : (j link : ℕ) → j < width → first + j < length g.ids → slice_get links (s * width + j) ≡ Some link → s ≢ first + j
-      → IsFirstLink g w dir s (first + j) link
+-- the links of node s are there, at so many places, for what it aims at over a block of more than one link
+pub record HasLinksAt (g : Topology) (w : Directions) (dir : Dir) (aims : List ℕ) (width : ℕ) (links : List ℕ) (s : ℕ) : Type 0 where
+  pub each : (j t k h link : ℕ) → j < width → t < length g.ids → ShareBlock g w s t k h → IsAimOf g w (aim_at aims width j) s t
+      → slice_get links (s * width + j) ≡ Some link → IsFirstLink g w dir s t link

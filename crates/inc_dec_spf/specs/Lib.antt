@@ -1,5 +1,6 @@
 pub mod Against
 pub mod Aims
+pub mod BlockAims
 pub mod Fan
 pub mod FirstLink
 pub mod HasDirections

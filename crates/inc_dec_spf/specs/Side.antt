@@ -17,6 +17,10 @@ link_of_lesser cost old link old_link = if nat_lt cost old then link else old_li
 abbrev pub cost_at : ℕ → ℕ → ℕ
 cost_at y t = if y == t then 0 else far
 
+-- what is left after an end of x, where this is left at the node that it leads to: none, where the aim is x itself
+abbrev pub left_onward : ℕ → ℕ → ℕ → ℕ
+left_onward x aim left = if aim == x then far else left
+
 -- each cost was replaced where the way over an end is less: Left says what is left after the end
 pub record AreTaken (Left : ℕ → ℕ → Type 0) (metric link : ℕ) (costs links costs' links' : List ℕ) : Type 0 where
   pub one_cost_each : length costs' ≡ length costs

@@ -1,6 +1,6 @@
 //! The least ways within the blocks of all nodes, to some nodes side by side.
 
-ghost use Rattle.std.specs.Prelude.{◌≡◌, ◌≢◌, ◌<◌, ◌≤◌, ◌+◌, ◌*◌, ◌⊎◌, ℕ, Some, false, length, slice_get, true};
+ghost use Rattle.std.specs.Prelude.{◌≡◌, ◌≢◌, ◌<◌, ◌≤◌, ◌+◌, ◌*◌, ◌⊎◌, ℕ, Some, false, length, slice_get, slice_index, true};
 ghost use Rattle.mrt_graph.specs.GraphInvariant.{IsTopology};
 ghost use Rattle.link_direction.specs.Directions.{Directions};
 ghost use Rattle.inc_dec_spf.specs.Against.{against};
@@ -15,8 +15,8 @@ use crate::side::{FAR, NO_LINK};
 use crate::ways::take_ways;
 use mrt_graph::{Directed, Graph, LinkNo, NodeNo};
 
-/// Takes the least costs of each node, in its own block, to the nodes side by side, which begin with `first`, and the
-/// links by which it begins the ways of these costs.
+/// Takes the least costs of each node, in its own block, to the aims of its block, side by side, and the links by
+/// which it begins the ways of these costs.
 ///
 /// The turns are those of the other direction, so whatever a node leads to has its turn before it.
 fn take_own_ways(
@@ -24,7 +24,7 @@ fn take_own_ways(
     d: &Directed,
     dir: Dir,
     turns: &[NodeNo],
-    first: NodeNo,
+    aims: &[NodeNo],
     all_costs: &mut [u32],
     all_links: &mut [LinkNo],
     costs: &mut [u32],
@@ -34,6 +34,7 @@ fn take_own_ways(
     requires directed { HasDirections g.now d.now }
     requires turns { (root : ℕ) (w : Directions) → AreDirections g.now d.now root w
         → AreTurns g.now w (against dir) turns.now }
+    requires aims { length aims.now ≡ length g.now.ids * length costs.old }
     requires one_link_each { length links.old ≡ length costs.old }
     requires all_costs { length all_costs.old ≡ length g.now.ids * length costs.old }
     requires all_links { length all_links.old ≡ length g.now.ids * length costs.old }
@@ -44,14 +45,15 @@ fn take_own_ways(
     ensures all_links { length all_links.new ≡ length all_links.old }
     ensures most { (i cost : ℕ) → slice_get all_costs.new i ≡ Some cost → cost ≤ far }
     ensures ready { (root y : ℕ) (w : Directions) → AreDirections g.now d.now root w → y < length g.now.ids
-        → IsReadyFrom g.now w dir first (length costs.old) (65536 * length g.now.ids) all_costs.new y }
+        → IsReadyFrom g.now w dir aims.now (length costs.old) (65536 * length g.now.ids) all_costs.new y }
     ensures links { (root y : ℕ) (w : Directions) → AreDirections g.now d.now root w → y < length g.now.ids
-        → LiesInOneBlock g.now w y → HasLinksAt g.now w dir first (length costs.old) all_links.new y }
+        → LiesInOneBlock g.now w y → HasLinksAt g.now w dir aims.now (length costs.old) all_links.new y }
 {
     for x in turns {
         forget(costs, links);
-        take_ways(g, d, *x, dir, true, first, all_costs, costs, links);
-        arrive(*x, first, costs);
+        take_ways(g, d, *x, dir, true, aims, all_costs, costs, links);
+        let block = d.place(*x).block.get() as usize;
+        arrive(block * costs.len(), *x, aims, costs);
         let at = x.get() as usize * costs.len();
         keep(at, costs, all_costs);
         keep(at, links, all_links);
@@ -64,7 +66,7 @@ fn take_all_ways(
     d: &Directed,
     s: NodeNo,
     dir: Dir,
-    first: NodeNo,
+    aims: &[NodeNo],
     all_costs: &[u32],
     all_links: &mut [LinkNo],
     costs: &mut [u32],
@@ -73,6 +75,7 @@ fn take_all_ways(
     requires kept { IsTopology g.now }
     requires directed { HasDirections g.now d.now }
     requires node { s < length g.now.ids }
+    requires aims { length aims.now ≡ length g.now.ids * length costs.old }
     requires one_link_each { length links.old ≡ length costs.old }
     requires all_costs { length all_costs.now ≡ length g.now.ids * length costs.old }
     requires all_links { length all_links.old ≡ length g.now.ids * length costs.old }
@@ -82,14 +85,14 @@ fn take_all_ways(
     ensures all_links { length all_links.new ≡ length all_links.old }
     ensures links { (root : ℕ) (w : Directions) → AreDirections g.now d.now root w
         → ((y : ℕ) → y < length g.now.ids
-        → IsReadyFrom g.now w dir first (length costs.old) (65536 * length g.now.ids) all_costs.now y)
-        → HasLinksAt g.now w dir first (length costs.old) all_links.new s }
+        → IsReadyFrom g.now w dir aims.now (length costs.old) (65536 * length g.now.ids) all_costs.now y)
+        → HasLinksAt g.now w dir aims.now (length costs.old) all_links.new s }
     ensures kept { (y : ℕ) (w : Directions) → y ≢ s
-        → HasLinksAt g.now w dir first (length costs.old) all_links.old y
-        → HasLinksAt g.now w dir first (length costs.old) all_links.new y }
+        → HasLinksAt g.now w dir aims.now (length costs.old) all_links.old y
+        → HasLinksAt g.now w dir aims.now (length costs.old) all_links.new y }
 {
     forget(costs, links);
-    take_ways(g, d, s, dir, false, first, all_costs, costs, links);
+    take_ways(g, d, s, dir, false, aims, all_costs, costs, links);
     keep(s.get() as usize * links.len(), links, all_links);
 }
 
@@ -99,7 +102,7 @@ fn take_marked_ways(
     d: &Directed,
     dir: Dir,
     heads: &[bool],
-    first: NodeNo,
+    aims: &[NodeNo],
     all_costs: &[u32],
     all_links: &mut [LinkNo],
     costs: &mut [u32],
@@ -108,6 +111,7 @@ fn take_marked_ways(
     requires kept { IsTopology g.now }
     requires directed { HasDirections g.now d.now }
     requires heads { length heads.now ≡ length g.now.ids }
+    requires aims { length aims.now ≡ length g.now.ids * length costs.old }
     requires one_link_each { length links.old ≡ length costs.old }
     requires all_costs { length all_costs.now ≡ length g.now.ids * length costs.old }
     requires all_links { length all_links.old ≡ length g.now.ids * length costs.old }
@@ -117,17 +121,17 @@ fn take_marked_ways(
     ensures all_links { length all_links.new ≡ length all_links.old }
     ensures marked { (root s : ℕ) (w : Directions) → AreDirections g.now d.now root w
         → ((y : ℕ) → y < length g.now.ids
-        → IsReadyFrom g.now w dir first (length costs.old) (65536 * length g.now.ids) all_costs.now y)
+        → IsReadyFrom g.now w dir aims.now (length costs.old) (65536 * length g.now.ids) all_costs.now y)
         → slice_get heads.now s ≡ Some true
-        → HasLinksAt g.now w dir first (length costs.old) all_links.new s }
+        → HasLinksAt g.now w dir aims.now (length costs.old) all_links.new s }
     ensures kept { (y : ℕ) (w : Directions) → slice_get heads.now y ≡ Some false
-        → HasLinksAt g.now w dir first (length costs.old) all_links.old y
-        → HasLinksAt g.now w dir first (length costs.old) all_links.new y }
+        → HasLinksAt g.now w dir aims.now (length costs.old) all_links.old y
+        → HasLinksAt g.now w dir aims.now (length costs.old) all_links.new y }
 {
     for n in 0..g.node_count() {
         if heads[n as usize] {
             let s = NodeNo::new(n);
-            take_all_ways(g, d, s, dir, first, all_costs, all_links, costs, links);
+            take_all_ways(g, d, s, dir, aims, all_costs, all_links, costs, links);
         }
     }
 }
@@ -140,7 +144,7 @@ pub fn take_links(
     dir: Dir,
     turns: &[NodeNo],
     heads: &[bool],
-    first: NodeNo,
+    aims: &[NodeNo],
     all_costs: &mut [u32],
     all_links: &mut [LinkNo],
     costs: &mut [u32],
@@ -151,6 +155,7 @@ pub fn take_links(
     requires turns { (root : ℕ) (w : Directions) → AreDirections g.now d.now root w
         → AreTurns g.now w (against dir) turns.now }
     requires heads { length heads.now ≡ length g.now.ids }
+    requires aims { length aims.now ≡ length g.now.ids * length costs.old }
     requires one_link_each { length links.old ≡ length costs.old }
     requires all_costs { length all_costs.old ≡ length g.now.ids * length costs.old }
     requires all_links { length all_links.old ≡ length g.now.ids * length costs.old }
@@ -162,10 +167,10 @@ pub fn take_links(
     ensures most { (i cost : ℕ) → slice_get all_costs.new i ≡ Some cost → cost ≤ far }
     ensures links { (root : ℕ) (w : Directions) → AreDirections g.now d.now root w
         → AreOthersInOneBlock g.now w heads.now
-        → (s : ℕ) → s < length g.now.ids → HasLinksAt g.now w dir first (length costs.old) all_links.new s }
+        → (s : ℕ) → s < length g.now.ids → HasLinksAt g.now w dir aims.now (length costs.old) all_links.new s }
 {
-    take_own_ways(g, d, dir, turns, first, all_costs, all_links, costs, links);
-    take_marked_ways(g, d, dir, heads, first, all_costs, all_links, costs, links);
+    take_own_ways(g, d, dir, turns, aims, all_costs, all_links, costs, links);
+    take_marked_ways(g, d, dir, heads, aims, all_costs, all_links, costs, links);
 }
 
 /// No way is known.
@@ -180,18 +185,17 @@ fn forget(costs: &mut [u32], links: &mut [LinkNo])
     links.fill(LinkNo::new(NO_LINK));
 }
 
-/// At node x itself, where it is one of those side by side, nothing is left.
-fn arrive(x: NodeNo, first: NodeNo, costs: &mut [u32])
+/// At node x itself, where its block, whose aims begin at place `at`, aims at it, nothing is left.
+fn arrive(at: usize, x: NodeNo, aims: &[NodeNo], costs: &mut [u32])
+    requires { at + length costs.old ≤ length aims.now }
     ensures one_each { length costs.new ≡ length costs.old }
-    ensures at_x { (j cost : ℕ) → slice_get costs.new j ≡ Some cost → first + j ≡ x → cost ≡ 0 }
-    ensures elsewhere { (j : ℕ) → first + j ≢ x → slice_get costs.new j ≡ slice_get costs.old j }
+    ensures at_x { (j cost : ℕ) → slice_get costs.new j ≡ Some cost → slice_index aims.now (at + j) ≡ x → cost ≡ 0 }
+    ensures elsewhere { (j : ℕ) → slice_index aims.now (at + j) ≢ x → slice_get costs.new j ≡ slice_get costs.old j }
 {
-    if x.get() < first.get() {
-        return;
-    }
-    let j = (x.get() - first.get()) as usize;
-    if j < costs.len() {
-        costs[j] = 0;
+    for j in 0..costs.len() {
+        if aims[at + j] == x {
+            costs[j] = 0;
+        }
     }
 }
 

@@ -1,8 +1,8 @@
 //! Least costs to some nodes side by side.
 
-ghost use Rattle.std.specs.Prelude.{◌≡◌, ◌<◌, ◌≤◌, ◌+◌, ◌^◌, ℕ, Some, length, slice_get};
+ghost use Rattle.std.specs.Prelude.{◌≡◌, ◌<◌, ◌≤◌, ◌+◌, ◌^◌, ℕ, Some, length, slice_get, slice_index};
 ghost use Rattle.inc_dec_spf.specs.Rest.{far};
-ghost use Rattle.inc_dec_spf.specs.Side.{AreTaken, cost_at, lesser, link_of_lesser};
+ghost use Rattle.inc_dec_spf.specs.Side.{AreTaken, cost_at, left_onward, lesser, link_of_lesser};
 
 use mrt_graph::{LinkNo, NodeNo};
 
@@ -41,29 +41,65 @@ fn link_of_lesser(cost: u32, old: u32, link: LinkNo, old_link: LinkNo) -> LinkNo
     if cost < old { link } else { old_link }
 }
 
-/// Takes the way that ends with an end to node `to`, where it is less. The nodes side by side begin with `first`.
-pub fn take_last(
-    to: NodeNo,
-    first: NodeNo,
+/// Takes the ways over an end like this, but for those whose aim is x itself.
+pub fn take_onward(
+    x: NodeNo,
+    aims: &[NodeNo],
+    left: &[u32],
     metric: u16,
     link: LinkNo,
     costs: &mut [u32],
     links: &mut [LinkNo],
 )
+    requires one_aim_each { length aims.now ≡ length costs.old }
+    requires one_left_each { length left.now ≡ length costs.old }
     requires one_link_each { length links.old ≡ length costs.old }
-    requires most { (j cost : ℕ) → slice_get costs.old j ≡ Some cost → cost ≤ far }
+    requires most { (j cost : ℕ) → slice_get left.now j ≡ Some cost → cost ≤ far }
     ensures small { metric < 2 ^ 16 }
-    ensures taken { AreTaken (λ j cost. cost ≡ cost_at to (first + j)) metric link costs.old links.old costs.new
-        links.new }
+    ensures taken { AreTaken (λ j cost. cost ≡ left_onward x (slice_index aims.now j) (slice_index left.now j)) metric link
+        costs.old links.old costs.new links.new }
 {
-    if to.get() < first.get() {
-        return;
-    }
-    let j = (to.get() - first.get()) as usize;
-    if j < costs.len() {
-        let cost = metric as u32;
+    for j in 0..costs.len() {
+        let cost = left_onward(x, aims[j], left[j]) + metric as u32;
         let old = costs[j];
         costs[j] = lesser(cost, old);
         links[j] = link_of_lesser(cost, old, link, links[j]);
     }
+}
+
+/// What is left from x on: the way back to x itself is none.
+fn left_onward(x: NodeNo, aim: NodeNo, left: u32) -> u32
+    ensures { result ≡ left_onward x aim left }
+{
+    if aim == x { FAR } else { left }
+}
+
+/// Takes the ways that end with an end to node `to`, where they are less: those whose aim it is.
+pub fn take_last(
+    to: NodeNo,
+    aims: &[NodeNo],
+    metric: u16,
+    link: LinkNo,
+    costs: &mut [u32],
+    links: &mut [LinkNo],
+)
+    requires one_aim_each { length aims.now ≡ length costs.old }
+    requires one_link_each { length links.old ≡ length costs.old }
+    ensures small { metric < 2 ^ 16 }
+    ensures taken { AreTaken (λ j cost. cost ≡ cost_at to (slice_index aims.now j)) metric link costs.old links.old
+        costs.new links.new }
+{
+    for j in 0..costs.len() {
+        let cost = cost_at(to, aims[j]) + metric as u32;
+        let old = costs[j];
+        costs[j] = lesser(cost, old);
+        links[j] = link_of_lesser(cost, old, link, links[j]);
+    }
+}
+
+/// What is left at node y where no end is left: nothing at its aim.
+fn cost_at(y: NodeNo, aim: NodeNo) -> u32
+    ensures { result ≡ cost_at y aim }
+{
+    if y == aim { 0 } else { FAR }
 }

@@ -45,8 +45,8 @@ impl Tile {
         })
     }
 
-    /// Aims it at the nodes from `first` on. Each node that is not marked in `heads` lies in one block. The turns are those
-    /// of the other direction.
+    /// Aims each block, at each place, at one node: `aims` has those of block k from k times the width on. Each node that is
+    /// not marked in `heads` lies in one block. The turns are those of the other direction.
     ///
     /// It takes time in proportion to the ends of all nodes times the width.
     pub fn aim(
@@ -56,7 +56,7 @@ impl Tile {
         dir: Dir,
         turns: &[NodeNo],
         heads: &[bool],
-        first: NodeNo,
+        aims: &[NodeNo],
     )
         ghost width: { ℕ }
         requires kept { IsTopology g.now }
@@ -64,11 +64,12 @@ impl Tile {
         requires turns { (root : ℕ) (w : Directions) → AreDirections g.now d.now root w
             → AreTurns g.now w (against dir) turns.now }
         requires heads { length heads.now ≡ length g.now.ids }
+        requires aims { length aims.now ≡ length g.now.ids * width }
         requires tile { IsTile g.now width self.old }
         ensures tile { IsTile g.now width self.new }
         ensures aimed { (root : ℕ) (w : Directions) → AreDirections g.now d.now root w
             → AreOthersInOneBlock g.now w heads.now
-            → IsAimed g.now w dir first width self.new }
+            → IsAimed g.now w dir aims.now width self.new }
     {
         take_links(
             g,
@@ -76,7 +77,7 @@ impl Tile {
             dir,
             turns,
             heads,
-            first,
+            aims,
             &mut self.all_costs,
             &mut self.all_links,
             &mut self.costs,

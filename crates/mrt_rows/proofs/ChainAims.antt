@@ -1,15 +1,13 @@
 -- The aims along the heads above a destination are where its rows are carried from.
 use Rattle.std.proofs.Common.{◌≡◌, ◌≢◌, ◌⊎◌, ◌∙◌, ◌<◌, ◌≤◌, ℕ, List, Option, Some, None, length, slice_get, inl, inr, refl, sym, ap, subst, arith}
 use Rattle.std.proofs.lemmas.Bool.{cases_eq}
-use Rattle.std.proofs.lemmas.Option.{same_Some, slice_get_within}
+use Rattle.std.proofs.lemmas.Option.{same_Some}
 use Rattle.link_direction.specs.BlockOfTwo as two
 use Rattle.link_direction.specs.BlockOfTwo.{HaveInCommon, Peers, ToHead}
 use Rattle.link_direction.specs.Directions.{Directions}
-use Rattle.inc_dec_spf.specs.Aims.{AreAims}
-use Rattle.inc_dec_spf.proofs.OneHop.{one_block}
-use Rattle.mrt_rows.specs.Chain.{AreBelow, AreRowAims, AtHome, Beside, ByHead, Climbs, IsRowAim, There, Under}
+use Rattle.mrt_rows.specs.Chain.{AreBelow, AtHome, Beside, ByHead, Climbs, IsRowAim, There, Under}
 use Rattle.mrt_rows.proofs.CarriedRows.{FromHead, FromOwnHead, IsCarriedTo, Near}
-use Rattle.mrt_rows.proofs.OrderedGraphs.{OrderedGraph, is_ordered}
+use Rattle.mrt_rows.proofs.OrderedGraphs.{OrderedGraph}
 
 -- one head further
 pub climb_on : (root : ℕ) (w : Directions) (t c : ℕ) → Climbs root w t c → c ≢ root → Climbs root w t (w.head c)
@@ -236,64 +234,3 @@ module _ (og : OrderedGraph) where
     aim_within s aim within (Under at) = (climb_low t aim t_within (are.is_below s aim at).0).0
     aim_within s aim within (Beside none at peers) = (climb_low t aim t_within (are.is_below (w.head s) aim at).0).0
     aim_within s aim within (AtHome none no_peer same) = subst (λ (a : ℕ). a < n) (sym same) (og.ordered.heads.head_within s within)
-
-    -- nodes of one block that are not on the way aim at one node
-    peers_aim : (s y aim of_y : ℕ) → s < n → y < n → w.block y ≡ w.block s → slice_get below (w.head s) ≡ Some (Some aim) → w.block aim ≡ w.block s
-        → y ≢ aim → IsRowAim w below y of_y → of_y ≡ aim
-    peers_aim s y aim of_y s_within y_within inside at peers differ (Under at_y) =
-        let it = are.is_below y of_y at_y in
-        let to_y = subst (λ (v : ℕ). Climbs og.root w t v) it.2 (climb_on og.root w t of_y it.0 it.1) in
-        absurd (differ (one_in_block y aim to_y (are.is_below (w.head s) aim at).0 (inside ∙ sym peers)))
-    peers_aim s y aim of_y s_within y_within inside at peers differ (Beside none at_y of_peers) =
-        let head = og.ordered.heads.one_head y s y_within s_within inside in
-        same_Some of_y aim (same_Some (Some of_y) (Some aim) (sym at_y ∙ ap (λ (v : ℕ). slice_get below v) head ∙ at))
-    peers_aim s y aim of_y s_within y_within inside at peers differ (AtHome none no_peer same) =
-        let head = og.ordered.heads.one_head y s y_within s_within inside in
-        absurd (no_peer aim (ap (λ (v : ℕ). slice_get below v) head ∙ at) (peers ∙ sym inside))
-
-    home_aim : (s y of_y : ℕ) → s < n → y < n → s ≢ og.root → w.block y ≡ w.block s
-        → ((c : ℕ) → slice_get below (w.head s) ≡ Some (Some c) → w.block c ≢ w.block s) → IsRowAim w below y of_y → of_y ≡ w.head s
-    home_aim s y of_y s_within y_within other inside no_peer (Under at_y) =
-        let it = are.is_below y of_y at_y in
-        let to_y = subst (λ (v : ℕ). Climbs og.root w t v) it.2 (climb_on og.root w t of_y it.0 it.1) in
-        let y_other : y ≢ og.root = λ y_root.
-        og.ordered.heads.alone s s_within other (sym inside ∙ ap w.block y_root ∙ og.ordered.heads.root_block) in
-        let head = og.ordered.heads.one_head y s y_within s_within inside in
-        absurd (no_peer y (ap (λ (v : ℕ). slice_get below v) (sym head) ∙ are.all y to_y y_other) inside)
-    home_aim s y of_y s_within y_within other inside no_peer (Beside none at_y of_peers) =
-        let head = og.ordered.heads.one_head y s y_within s_within inside in
-        absurd (no_peer of_y (ap (λ (v : ℕ). slice_get below v) (sym head) ∙ at_y) (of_peers ∙ inside))
-    home_aim s y of_y s_within y_within other inside no_peer (AtHome none none_peer same) =
-        same ∙ og.ordered.heads.one_head y s y_within s_within inside
-
-    -- all nodes of a block aim alike
-    all_alike : (s aim y of_y k h : ℕ) → s < n → y < n → aim ≢ s → IsRowAim w below s aim → HaveInCommon w s aim k h → IsRowAim w below y of_y
-        → w.block y ≡ k → y ≢ aim → of_y ≡ aim
-    all_alike s aim y of_y k h s_within y_within apart (Under at) common of_aim inside differ =
-        let it = are.is_below s aim at in
-        let aim_in = (climb_low t aim t_within it.0).0 in
-        let one = one_block og.g og.root w s aim k h (w.block aim) s (is_ordered og) s_within aim_in (λ same. apart (sym same)) common
-        (two.FromHead refl it.2 refl) in
-        peers_aim aim y aim of_y aim_in y_within (inside ∙ one.0) (are.all aim it.0 it.1) refl differ of_aim
-    all_alike s aim y of_y k h s_within y_within apart (Beside none at peers) common of_aim inside differ =
-        let one = one_block og.g og.root w s aim k h (w.block s) (w.head s) (is_ordered og) s_within
-        (climb_low t aim t_within (are.is_below (w.head s) aim at).0).0 (λ same. apart (sym same)) common (Peers refl peers refl) in
-        peers_aim s y aim of_y s_within y_within (inside ∙ one.0) at peers differ of_aim
-    all_alike s aim y of_y k h s_within y_within apart (AtHome none no_peer same) common of_aim inside differ =
-        let other : s ≢ og.root = λ s_root. apart (same ∙ ap w.head s_root ∙ og.ordered.heads.root_head ∙ sym s_root) in
-        let one = one_block og.g og.root w s aim k h (w.block s) (w.head s) (is_ordered og) s_within
-        (subst (λ (a : ℕ). a < n) (sym same) (og.ordered.heads.head_within s s_within)) (λ back. apart (sym back)) common
-        (subst (λ (a : ℕ). HaveInCommon w s a (w.block s) (w.head s)) (sym same) (ToHead refl refl refl)) in
-        home_aim s y of_y s_within y_within other (inside ∙ one.0) no_peer of_aim ∙ sym same
-
-    pub are_aims : (aims : List ℕ) → AreRowAims og.g w below aims → AreAims og.g w aims
-    are_aims aims are_row = record {
-      one_each = are_row.one_each;
-      within = λ s aim at. aim_within s aim (inside s aim at) (are_row.each s aim at);
-      near = λ s aim at apart. aim_near s aim (are_row.each s aim at);
-      together = λ s aim y of_y k h at apart common at_y in_block differ.
-          all_alike s aim y of_y k h (inside s aim at) (inside y of_y at_y) apart (are_row.each s aim at) common (are_row.each y of_y at_y) in_block differ;
-    }
-      where
-        inside : (s aim : ℕ) → slice_get aims s ≡ Some aim → s < n
-        inside s aim at = omega (arith, slice_get_within aims s aim at, are_row.one_each)

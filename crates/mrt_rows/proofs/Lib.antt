@@ -1,5 +1,5 @@
 pub mod Agreeing
-pub mod AimedRows
+pub mod AimsOfRows
 pub mod AllRows
 pub mod BlocksHold
 pub mod CarriedRows
@@ -12,7 +12,6 @@ pub mod Climbing
 pub mod ColumnPut
 pub mod ColumnRows
 pub mod Counting
-pub mod FarRows
 pub mod Filling
 pub mod HeadWays
 pub mod HopsExist
@@ -23,8 +22,6 @@ pub mod MemberRows
 pub mod NearFound
 pub mod NearRows
 pub mod NearSection
-pub mod OneBlock
-pub mod OneBlockRows
 pub mod OneCert
 pub mod OneColumn
 pub mod OneHop
@@ -35,6 +32,7 @@ pub mod PushedWords
 pub mod RowOver
 pub mod RowTags
 pub mod RowsExist
+pub mod RowsOfColumns
 pub mod RowsPut
 pub mod RulesHold
 pub mod Sharing
@@ -44,8 +42,7 @@ pub mod SoundColumns
 pub mod SourceCert
 pub mod TableRows
 pub mod Tables
-pub mod TileLinks
-pub mod TopRows
+pub mod WayAims
 pub mod Ways
 pub mod WaysBegun
 pub mod WholeCert

@@ -1,14 +1,11 @@
 -- Rows put at their places, one after another.
-use Rattle.std.proofs.Common.{◌≡◌, ◌≢◌, ◌⊎◌, ◌∙◌, ◌<◌, ◌≤◌, ◌+◌, ◌-◌, ◌*◌, ◌==◌, ℕ, List, Some, if◌then◌else◌, nat_lt, length, set, refl, sym, ap, subst, inl, inr, arith}
+use Rattle.std.proofs.Common.{◌≡◌, ◌≢◌, ◌⊎◌, ◌∙◌, ◌<◌, ◌≤◌, ◌+◌, ◌-◌, ◌*◌, ◌==◌, ℕ, List, Some, nat_lt, length, set, refl, sym, subst, inl, inr, arith}
 use Rattle.std.proofs.Math.Nat.{mul-le-mul_left, mul_comm}
-use Rattle.std.proofs.lemmas.Bool.{and_parts, cases_Bool, cases_eq, cases_lt, eqb-false, le-ltb, lt-ltb, ltb-true, not-true}
+use Rattle.std.proofs.lemmas.Bool.{and_parts, cases_Bool, cases_eq, cases_lt, eqb-false, ltb-true, not-true}
 use Rattle.mrt_graph.specs.declared.cert.Row.{Row}
 use Rattle.mrt_graph.specs.Certificate.{are_two}
 use Rattle.mrt_graph.specs.RowPlace.{place_of_row}
-use Rattle.mrt_graph.specs.Topology.{Topology}
 use Rattle.mrt_graph.proofs.ListPlaces.{set_elsewhere, set_there}
-use Rattle.link_direction.specs.Directions.{Directions}
-use Rattle.mrt_rows.specs.Put.{ArePut}
 use Rattle.mrt_rows.specs.RowsOf.{row_among}
 use Rattle.mrt_rows.proofs.AllRows.{row_is}
 use Rattle.mrt_graph.proofs.RowPlaces.{column, column_above, column_below}
@@ -98,59 +95,3 @@ module _ (n s t : ℕ) (row : Row) (rows : List Row) (s_within : s < n) (t_withi
         ∙ sym (row_is n rows u v u_within v_within uv_two)
     | inr not_two ↦ rw not_two refl
   ]
-
--- whichever the row is, the others are kept
-pub put_kept : (n s t : ℕ) (row : Row) (rows after : List Row) → s < n → t < n → s ≢ t → after ≡ set rows (place_of_row n s t) row
-    → (u v : ℕ) → (u ≢ s) ⊎ (v ≢ t) → row_among n after u v ≡ row_among n rows u v
-put_kept n s t row rows after s_within t_within two is u v differ =
-    ap (λ (xs : List Row). row_among n xs u v) is ∙ put_elsewhere n s t row rows s_within t_within two u v differ
-
--- where the row for a node of a run stands, to which s does not belong
-pub run_place : (count s first from to j skipped : ℕ) → skipped ≡ (if nat_lt s (first + from) then 1 else 0)
-    → (s < first + from) ⊎ (first + to ≤ s) → from ≤ j → j < to
-    → (s * (count - 1) + first + j - skipped ≡ place_of_row count s (first + j)) × (s ≢ first + j) × (skipped ≤ s * (count - 1) + first + j)
-run_place count s first from to j skipped is apart low high = elim apart [
-  | inl above ↦
-      let one : skipped ≡ 1 = rw (lt-ltb s (first + from) above) at is in
-      let later : s < first + j = omega (arith, above, low) in
-      let place = column_above s (first + j) later in (
-        omega (arith, one, place, later),
-        (λ same. omega (arith, later, same)),
-        omega (arith, one, later),
-      )
-  | inr below ↦
-      let none : skipped ≡ 0 = rw (le-ltb s (first + from) (omega (arith, below, low, high))) at is in
-      let earlier : first + j < s = omega (arith, below, high) in
-      let place = column_below s (first + j) earlier in (
-        omega (arith, none, place),
-        (λ same. omega (arith, earlier, same)),
-        omega (arith, none),
-      )
-]
-
--- the rows of one node more
-pub one_node_put : (g : Topology) (root : ℕ) (w : Directions) (Wanted : ℕ → ℕ → Type 0) (s first : ℕ) (rows after : List Row)
-    → ((u v : ℕ) → (u ≢ s) ⊎ ((v < first) ⊎ (first + 64 ≤ v)) → row_among (length g.ids) after u v ≡ row_among (length g.ids) rows u v)
-    → ArePut g root w (λ u t. (u ≡ s) × (first ≤ t) × (t < first + 64) × Wanted u t) after
-    → ArePut g root w (λ u t. (u < s) × (first ≤ t) × (t < first + 64) × Wanted u t) rows
-    → ArePut g root w (λ u t. (u < s + 1) × (first ≤ t) × (t < first + 64) × Wanted u t) after
-one_node_put g root w Wanted s first rows after kept put so_far = record {
-  each = λ u v other u_within v_within two done at. elim (cases_eq u s) [
-    | inl same ↦ put.each u v other u_within v_within two (same, done.1, done.2, done.3) at
-    | inr apart ↦
-        so_far.each u v other u_within v_within two (omega (arith, done.0, apart), done.1, done.2, done.3)
-        (sym (kept u v (inl apart)) ∙ at)
-  ];
-}
-
--- the rows of one tile more
-pub one_tile_put : (g : Topology) (root : ℕ) (w : Directions) (Wanted : ℕ → ℕ → Type 0) (first : ℕ) (rows after : List Row)
-    → ((u v : ℕ) → (v < first) ⊎ (first + 64 ≤ v) → row_among (length g.ids) after u v ≡ row_among (length g.ids) rows u v)
-    → ArePut g root w (λ u t. (first ≤ t) × (t < first + 64) × Wanted u t) after → ArePut g root w (λ u t. (t < first) × Wanted u t) rows
-    → ArePut g root w (λ u t. (t < first + 64) × Wanted u t) after
-one_tile_put g root w Wanted first rows after kept put so_far = record {
-  each = λ u v other u_within v_within two done at. elim (cases_lt v first) [
-    | inl below ↦ so_far.each u v other u_within v_within two (below, done.1) (sym (kept u v (inl below)) ∙ at)
-    | inr above ↦ put.each u v other u_within v_within two (above, done.0, done.1) at
-  ];
-}

@@ -1,14 +1,11 @@
 -- What nodes with a block in common share.
-use Rattle.std.proofs.Common.{◌≡◌, ◌≢◌, ◌∙◌, ◌⊎◌, ◌<◌, ℕ, Bool, false, true, List, Some, length, slice_get, refl, sym, ap, subst, inl, inr}
-use Rattle.std.proofs.lemmas.Bool.{cases_eq}
+use Rattle.std.proofs.Common.{◌≡◌, ◌≢◌, ◌∙◌, ◌<◌, ℕ, Bool, false, true, List, Some, length, slice_get, refl, sym, ap, subst, inl, inr}
 use Rattle.std.proofs.lemmas.Option.{same_Some}
 use Rattle.link_direction.specs.BlockOfTwo.{FromHead, HaveInCommon, Peers, ToHead}
-use Rattle.link_direction.specs.Directions.{Directions}
 use Rattle.inc_dec_spf.specs.FirstLink.{AreOthersInOneBlock}
 use Rattle.inc_dec_spf.specs.LeastPath.{HasMoreLinks, ShareBlock}
-use Rattle.mrt_rows.specs.Put.{AreHeadsMarked, ShareABlock}
+use Rattle.mrt_rows.specs.Put.{AreHeadsMarked}
 use Rattle.mrt_rows.specs.Source.{NoneOfOneLink}
-use Rattle.mrt_rows.proofs.NearRows.{none_common}
 use Rattle.mrt_rows.proofs.OrderedGraphs.{OrderedGraph, not_root_of_peers, one_common, within}
 
 module _ (og : OrderedGraph) (s t : ℕ) (s_within : s < length og.g.ids) (t_within : t < length og.g.ids) (two : s ≢ t) where
@@ -32,19 +29,6 @@ module _ (og : OrderedGraph) (s t : ℕ) (s_within : s < length og.g.ids) (t_wit
       let more = share.more in
       more.differ (one.no_other more.one more.one_within (more.one_in_block ∙ same)
       ∙ sym (one.no_other more.other more.other_within (more.other_in_block ∙ same)))
-
--- two nodes have a block in common, or none
-pub shares_or_not : (w : Directions) (s t : ℕ) → ShareABlock w s t ⊎ (ShareABlock w s t → ⊥)
-shares_or_not w s t = elim (cases_eq (w.block s) (w.block t)) [
-  | inl same ↦ inl (record { block = w.block s; head = w.head s; common = Peers refl (sym same) refl })
-  | inr differ ↦ elim (cases_eq (w.head s) t) [
-    | inl head ↦ inl (record { block = w.block s; head = t; common = ToHead refl head refl })
-    | inr not_head ↦ elim (cases_eq (w.head t) s) [
-      | inl top ↦ inl (record { block = w.block t; head = s; common = FromHead refl top refl })
-      | inr not_top ↦ inr (λ it. none_common w s t not_head not_top differ it.block it.head it.common)
-    ]
-  ]
-]
 
 -- a node that heads no block of more than one link lies in one block
 pub others_in_one_block : (og : OrderedGraph) (marks : List Bool) → AreHeadsMarked og.g og.w marks → AreOthersInOneBlock og.g og.w marks

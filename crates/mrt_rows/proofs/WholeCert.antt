@@ -57,7 +57,7 @@ module _ (og : OrderedGraph) where
   links_moved s u rows after row within two same links =
       record { other = links.other; is = same u within two ∙ links.is; blue = links.blue; red = links.red }
 
-  line_moved : (tag : Tag) (s t : ℕ) (rows after : ℕ → Option Row) (row : Row) → s < n → t < n → s ≢ t
+  pub line_moved : (tag : Tag) (s t : ℕ) (rows after : ℕ → Option Row) (row : Row) → s < n → t < n → s ≢ t
       → ((v : ℕ) → v < n → s ≢ v → after v ≡ rows v) → LineOf tag og.g og.root og.w s rows t row
       → LineOf tag og.g og.root og.w s after t row
   line_moved tags.Sole s t rows after row s_within t_within two same line = line

@@ -1,7 +1,8 @@
 -- The heads above a destination, and what the nodes aim at.
-use Rattle.std.specs.Prelude.{◌≡◌, ◌≢◌, ℕ, List, Option, Some, None, length, slice_get}
+use Rattle.std.specs.Prelude.{◌≡◌, ◌≢◌, ◌<◌, ◌⊎◌, ◌+◌, ℕ, List, Option, Some, None, length, slice_get}
 use Rattle.mrt_graph.specs.Topology.{Topology}
 use Rattle.link_direction.specs.Directions.{Directions}
+use Rattle.inc_dec_spf.specs.BlockAims.{aim_at}
 
 -- from node c, head by head, one comes to node b
 pub data Climbs (root : ℕ) (w : Directions) : ℕ → ℕ → Type 0 where
@@ -24,7 +25,25 @@ pub data IsRowAim (w : Directions) (below : List (Option ℕ)) (s aim : ℕ) : T
       → ((c : ℕ) → slice_get below (w.head s) ≡ Some (Some c) → w.block c ≢ w.block s) → aim ≡ w.head s
       → IsRowAim w below s aim
 
--- so for all nodes
-pub record AreRowAims (g : Topology) (w : Directions) (below : List (Option ℕ)) (aims : List ℕ) : Type 0 where
-  pub one_each : length aims ≡ length g.ids
-  pub each : (s aim : ℕ) → slice_get aims s ≡ Some aim → IsRowAim w below s aim
+-- c is the node of y's block on the way from t to the root
+pub record IsOnWay (root : ℕ) (w : Directions) (t y c : ℕ) : Type 0 where
+  pub climbs : Climbs root w t c
+  pub not_root : c ≢ root
+  pub in_block : w.block c ≡ w.block y
+
+-- each block aims at its node on the way from t to the root, or at its head where it has none
+pub record AreWayAims (g : Topology) (root : ℕ) (w : Directions) (t : ℕ) (aim : ℕ → ℕ) : Type 0 where
+  pub on : (c : ℕ) → Climbs root w t c → c ≢ root → aim (w.block c) ≡ c
+  pub off : (y : ℕ) → y < length g.ids → (aim (w.block y) ≡ w.head y) ⊎ IsOnWay root w t y (aim (w.block y))
+
+-- each block aims at its head, at each of so many places
+pub record AreHeadAims (g : Topology) (w : Directions) (width : ℕ) (aims : List ℕ) : Type 0 where
+  pub each : (j y : ℕ) → j < width → y < length g.ids → aim_at aims width j (w.block y) ≡ w.head y
+
+-- so many destinations are taken side by side
+abbrev pub tile_width : ℕ
+tile_width = 64
+
+-- at each place, the blocks aim so for the destination there: these begin with number `first`
+pub record AreBlockAims (g : Topology) (root : ℕ) (w : Directions) (first : ℕ) (aims : List ℕ) : Type 0 where
+  pub each : (j : ℕ) → j < tile_width → first + j < length g.ids → AreWayAims g root w (first + j) (aim_at aims tile_width j)

@@ -5,10 +5,7 @@ use Rattle.mrt_graph.specs.Certificate.{Certificate, row_of}
 use Rattle.mrt_graph.specs.Column.{rows_of_column}
 use Rattle.mrt_graph.specs.Topology.{Topology}
 use Rattle.link_direction.specs.Directions.{Directions}
-use Rattle.mrt_graph.specs.declared.cert.Tag.TheVariants as tags
-use Rattle.mrt_rows.specs.RowLines.{SoleLine}
 use Rattle.mrt_rows.specs.RowsOf.{HasRow}
-use Rattle.mrt_rows.specs.Source.{NoneOfOneLink}
 
 -- at the place of s stands its row for t: that for t among rows of s that are as the table says
 pub record HasItsRow (g : Topology) (root : ℕ) (w : Directions) (t : ℕ) (column : List (Option Row)) (s : ℕ) : Type 0 where
@@ -31,18 +28,8 @@ pub record HasColumns (g : Topology) (root : ℕ) (w : Directions) (cert : Certi
   pub each : (t : ℕ) (column : List (Option Row)) → t < length g.ids → IsColumnOf g root w t column
       → HasRowsFor cert t column
 
--- the row of s for t over a sole link, if there is one
-pub data IsSoleRow (g : Topology) (w : Directions) (s t : ℕ) : Option Row → Type 0 where
-  OverSole : (row : Row) → row.tag ≡ tags.Sole → SoleLine g w s t row → IsSoleRow g w s t (Some row)
-  NotSole : NoneOfOneLink g w s t → IsSoleRow g w s t None
-
 -- the row of s for t that is among its rows by the table
 pub record IsRowIn (g : Topology) (root : ℕ) (w : Directions) (s t : ℕ) (found : Option Row) : Type 0 where
   pub row : Row
   pub is : found ≡ Some row
   pub each : (rows : ℕ → Option Row) → ((u : ℕ) → u < length g.ids → s ≢ u → HasRow g root w s rows u) → rows t ≡ Some row
-
--- the heads of all nodes
-pub record AreHeadsOf (g : Topology) (w : Directions) (heads : List ℕ) : Type 0 where
-  pub one_each : length heads ≡ length g.ids
-  pub each : (s head : ℕ) → slice_get heads s ≡ Some head → head ≡ w.head s

@@ -1,22 +1,17 @@
 //! The rows of all nodes.
 
-ghost use Rattle.std.specs.Prelude.{◌≡◌, ◌-◌, ◌*◌, ℕ, IfOk, length};
+ghost use Rattle.std.specs.Prelude.{◌≡◌, ◌≢◌, ◌<◌, ◌-◌, ◌*◌, ℕ, IfOk, None, Some, length, slice_get};
+ghost use Rattle.mrt_graph.specs.declared.cert.Row.{Row};
 ghost use Rattle.link_direction.specs.Directions.{Directions, Says};
 ghost use Rattle.link_direction.specs.OrderedGadag.{SaysOrdered};
-ghost use Rattle.inc_dec_spf.specs.HasDirections.{AreDirections, HasDirections};
-ghost use Rattle.mrt_rows.specs.Put.{ArePut, ShareMoreLinks};
-ghost use Rattle.mrt_rows.specs.RowsOf.{AreAllRows};
+ghost use Rattle.mrt_rows.specs.RowsOf.{AreAllRows, row_among};
 
-use crate::by_tiles::ByTiles;
-use crate::far_rows::put_far_rows;
-use crate::one_block::is_one_block;
-use crate::tiles::put_tiles;
-use inc_dec_spf::{Dir, nodes_by_turn};
-use mrt_graph::{Directed, Graph, LinkNo, NoMemory, NodeNo, Row, Tag};
+use crate::column::Columns;
+use crate::places::put;
+use mrt_graph::{Column, Directed, Graph, LinkNo, NoMemory, NodeNo, Row, Tag};
 use std::alloc::Global;
 
-/// The rows of all nodes, by ascending source, then by ascending destination: first those of two nodes that have a block
-/// of more than one link in common, then the others. In a graph of one block there are no others.
+/// The rows of all nodes, by ascending source, then by ascending destination: column after column.
 ///
 /// It takes time in proportion to the nodes times the links.
 pub fn all_rows(alloc: Global, g: &Graph, root: NodeNo, d: &Directed) -> Result<Vec<Row>, NoMemory>
@@ -24,24 +19,9 @@ pub fn all_rows(alloc: Global, g: &Graph, root: NodeNo, d: &Directed) -> Result<
     ensures { (w : Directions) → Says g.now d.now w
         → IfOk result (λ rows. AreAllRows g.now root w rows.items) }
 {
-    let nodes = nodes_by_turn(alloc, g, d, Dir::Up)?;
-    let mut rows = near_rows(alloc, g, d)?;
-    if !is_one_block(g, d, root) {
-        put_far_rows(g, root, d, &nodes, &mut rows);
-    }
-    Ok(rows)
-}
-
-/// The rows of all nodes that have a block of more than one link in common, at their places, for several destinations
-/// side by side. What stands at the other places means nothing.
-fn near_rows(alloc: Global, g: &Graph, d: &Directed) -> Result<Vec<Row>, NoMemory>
-    requires { HasDirections g.now d.now }
-    ensures room { IfOk result (λ rows. length rows.items ≡ length g.now.ids * (length g.now.ids - 1)) }
-    ensures put { (root : ℕ) (w : Directions) → AreDirections g.now d.now root w
-        → IfOk result (λ rows. ArePut g.now root w (ShareMoreLinks g.now w) rows.items) }
-{
-    let size = g.node_count() as usize;
-    let mut tiles = ByTiles::aimed_at_none(alloc, g, d)?;
+    let count = g.node_count();
+    let size = count as usize;
+    let mut columns = Columns::new(alloc, g, root, d)?;
     let link = LinkNo::new(0);
     let none_yet = Row {
         blue: link,
@@ -49,16 +29,29 @@ fn near_rows(alloc: Global, g: &Graph, d: &Directed) -> Result<Vec<Row>, NoMemor
         tag: Tag::Carried,
     };
     let mut rows = vec![in alloc; none_yet; size * (size - 1)]?;
-    put_tiles(
-        g,
-        d,
-        &tiles.by_order,
-        &tiles.against_order,
-        &tiles.heads,
-        &tiles.homes,
-        &mut tiles.up,
-        &mut tiles.down,
-        &mut rows,
-    );
+    for n in 0..count {
+        let to = NodeNo::new(n);
+        let column = columns.to(alloc, g, root, d, to)?;
+        put_column(count, to, &column, &mut rows);
+    }
     Ok(rows)
+}
+
+/// Puts the rows of a column at their places.
+fn put_column(count: u16, to: NodeNo, column: &Column, rows: &mut [Row])
+    requires to { to < count }
+    requires one_each { length column.now ≡ count }
+    requires none { slice_get column.now to ≡ Some None }
+    requires room { length rows.old ≡ count * (count - 1) }
+    ensures room { length rows.new ≡ length rows.old }
+    ensures there { (s : ℕ) (row : Row) → s < count → s ≢ to → slice_get column.now s ≡ Some (Some row)
+        → row_among count rows.new s to ≡ Some row }
+    ensures elsewhere { (u v : ℕ) → v ≢ to → row_among count rows.new u v ≡ row_among count rows.old u v }
+{
+    for n in 0..count {
+        let s = NodeNo::new(n);
+        if let Some(row) = column.row(s) {
+            put(count, s, to, row, rows);
+        }
+    }
 }

@@ -1,24 +1,43 @@
 //! The columns of destinations.
 
-ghost use Rattle.std.specs.Prelude.{◌≡◌, ◌<◌, ℕ, IfOk, length};
+ghost use Rattle.std.specs.Prelude.{◌≡◌, ◌≢◌, ◌<◌, ◌≤◌, ◌+◌, ℕ, IfOk, None, Some, length, slice_get};
 ghost use Rattle.mrt_graph.specs.Column.{ColumnSound};
+ghost use Rattle.mrt_graph.specs.GraphInvariant.{IsTopology};
 ghost use Rattle.link_direction.specs.Directions.{Directions, Says};
 ghost use Rattle.link_direction.specs.OrderedGadag.{SaysOrdered};
-ghost use Rattle.mrt_rows.specs.ColumnOf.{IsColumnOf};
+ghost use Rattle.inc_dec_spf.specs.declared.reach.Dir.TheVariants.{Down, Up};
+ghost use Rattle.inc_dec_spf.specs.BlockAims.{IsAimOf, aim_at};
+ghost use Rattle.inc_dec_spf.specs.Tile.{IsAimed};
+ghost use Rattle.mrt_rows.specs.Chain.{AreBelow, IsRowAim};
+ghost use Rattle.mrt_rows.specs.ColumnOf.{IsColumnOf, IsRowIn};
 ghost use Rattle.mrt_rows.specs.Held.{AreHeld};
+ghost use Rattle.mrt_rows.specs.NearOf.{IsNearRow};
 
-use crate::by_sweeps::BySweeps;
-use crate::by_tiles::ByTiles;
-use crate::one_block::is_one_block;
-use mrt_graph::{Column, Directed, Graph, NoMemory, NodeNo};
+use crate::block_aims::{WIDTH, put_block_aims};
+use crate::chain::put_below;
+use crate::heads::mark_heads;
+use crate::homes::homes_of;
+use crate::members::Home;
+use crate::row_over::row_over;
+use crate::soles::take_soles;
+use inc_dec_spf::{Dir, NO_LINK, Tile, nodes_by_turn};
+use mrt_graph::{Column, Directed, Graph, LinkNo, NoMemory, NodeNo, Row, Tag};
 use std::alloc::Global;
 
-/// What the columns of all destinations have in common, and the room in which they are made: for several destinations
-/// side by side where the graph is one block, else one after another.
+/// What the columns of all destinations have in common, and the room in which they are made: what the blocks aim at, for
+/// the destinations from number `first` on, for none where there is no such node, and tiles that are aimed so.
 #[derive(Drop)]
-pub enum Columns {
-    Sweeps(BySweeps),
-    Tiles(ByTiles),
+pub struct Columns {
+    pub by_order: Vec<NodeNo>,
+    pub against_order: Vec<NodeNo>,
+    pub heads: Vec<bool>,
+    pub soles: Vec<LinkNo>,
+    pub homes: Vec<Home>,
+    pub below: Vec<Option<NodeNo>>,
+    pub first: u16,
+    pub aims: Vec<NodeNo>,
+    pub up: Tile,
+    pub down: Tile,
 }
 
 impl Columns {
@@ -29,19 +48,36 @@ impl Columns {
         requires { SaysOrdered g.now root d.now }
         ensures { (w : Directions) → Says g.now d.now w → IfOk result (AreHeld g.now root w) }
     {
-        if is_one_block(g, d, root) {
-            let tiles = ByTiles::new(alloc, g, root, d)?;
-            return Ok(Columns::Tiles(tiles));
-        }
-        let sweeps = BySweeps::new(alloc, g, d)?;
-        Ok(Columns::Sweeps(sweeps))
+        let count = g.node_count();
+        let by_order = nodes_by_turn(alloc, g, d, Dir::Up)?;
+        let against_order = nodes_by_turn(alloc, g, d, Dir::Down)?;
+        let mut heads = vec![in alloc; false; count as usize]?;
+        mark_heads(g, d, &mut heads);
+        let mut soles = vec![in alloc; LinkNo::new(NO_LINK); count as usize]?;
+        take_soles(g, d, &mut soles);
+        let homes = homes_of(alloc, g, d, &by_order, &against_order, &heads)?;
+        let below = vec![in alloc; None; count as usize]?;
+        let aims = vec![in alloc; root; count as usize * WIDTH as usize]?;
+        let up = Tile::new(alloc, g, WIDTH)?;
+        let down = Tile::new(alloc, g, WIDTH)?;
+        Ok(Columns {
+            by_order,
+            against_order,
+            heads,
+            soles,
+            homes,
+            below,
+            first: count,
+            aims,
+            up,
+            down,
+        })
     }
 
     /// The rows of all nodes for `to`.
     ///
-    /// It takes time in proportion to the nodes and the links. In a graph of one block it takes this time only where
-    /// `to` is none of the 64 nodes for which it did so last, else in proportion to the nodes; these nodes begin with a
-    /// multiple of 64. It takes memory for the column alone.
+    /// It takes time in proportion to the nodes. Where `to` is none of the 64 nodes for which it did so last, it takes time
+    /// in proportion to the links times 64; these nodes begin with a multiple of 64. It takes memory for the column alone.
     pub fn to(
         &mut self,
         alloc: Global,
@@ -58,10 +94,151 @@ impl Columns {
             → IfOk result (λ column. IsColumnOf g.now root w to column) }
         ensures sound { IfOk result (λ column. ColumnSound g.now.links (length g.now.ids) column to) }
     {
-        match self {
-            Columns::Sweeps(sweeps) => sweeps.to(alloc, g, root, d, to),
-            Columns::Tiles(tiles) => tiles.to(alloc, g, root, d, to),
+        let mut rows = vec![in alloc; None; g.node_count() as usize]?;
+        self.aim(g, root, d, to);
+        self.climb(g, root, d, to);
+        self.put_rows(g, root, d, to, &mut rows);
+        Ok(Column::new(rows))
+    }
+
+    /// Aims the tiles at as many destinations as they have places for, `to` among them, unless they are aimed so.
+    fn aim(&mut self, g: &Graph, root: NodeNo, d: &Directed, to: NodeNo)
+        requires kept { IsTopology g.now }
+        requires directed { SaysOrdered g.now root d.now }
+        requires to { to < length g.now.ids }
+        requires held { (w : Directions) → Says g.now d.now w → AreHeld g.now root w self.old }
+        ensures held { (w : Directions) → Says g.now d.now w → AreHeld g.now root w self.new }
+        ensures from { self.new.first ≤ to }
+        ensures among { to < self.new.first + WIDTH }
+    {
+        if self.first <= to.get() && to.get() - self.first < WIDTH {
+            return;
         }
+        let first = to.get() / WIDTH * WIDTH;
+        put_block_aims(g, root, d, first, &mut self.aims);
+        self.up.aim(g, d, Dir::Up, &self.against_order, &self.heads, &self.aims);
+        self.down
+            .aim(g, d, Dir::Down, &self.by_order, &self.heads, &self.aims);
+        self.first = first;
+    }
+
+    /// Puts the nodes below others on the way from `to` to the root.
+    fn climb(&mut self, g: &Graph, root: NodeNo, d: &Directed, to: NodeNo)
+        requires kept { IsTopology g.now }
+        requires directed { SaysOrdered g.now root d.now }
+        requires to { to < length g.now.ids }
+        requires held { (w : Directions) → Says g.now d.now w → AreHeld g.now root w self.old }
+        ensures held { (w : Directions) → Says g.now d.now w → AreHeld g.now root w self.new }
+        ensures first { self.new.first ≡ self.old.first }
+        ensures below { (w : Directions) → Says g.now d.now w
+            → AreBelow g.now root w to self.new.below.items }
+    {
+        put_below(g, root, d, to, &mut self.below);
+    }
+
+    /// Puts the rows of all nodes for `to`, which is among the destinations that the tiles are aimed at.
+    fn put_rows(&self, g: &Graph, root: NodeNo, d: &Directed, to: NodeNo, rows: &mut [Option<Row>])
+        requires kept { IsTopology g.now }
+        requires directed { SaysOrdered g.now root d.now }
+        requires to { to < length g.now.ids }
+        requires held { (w : Directions) → Says g.now d.now w → AreHeld g.now root w self.now }
+        requires below { (w : Directions) → Says g.now d.now w
+            → AreBelow g.now root w to self.now.below.items }
+        requires from { self.now.first ≤ to }
+        requires among { to < self.now.first + WIDTH }
+        requires one_each { length rows.old ≡ length g.now.ids }
+        requires none { slice_get rows.old to ≡ Some None }
+        ensures { (w : Directions) → Says g.now d.now w → IsColumnOf g.now root w to rows.new }
+    {
+        for n in 0..g.node_count() {
+            let s = NodeNo::new(n);
+            if s != to {
+                rows[n as usize] = self.row(g, root, d, s, to);
+            }
+        }
+    }
+
+    /// The row of `s` for `to`, by its row for what it aims at.
+    fn row(&self, g: &Graph, root: NodeNo, d: &Directed, s: NodeNo, to: NodeNo) -> Option<Row>
+        requires kept { IsTopology g.now }
+        requires directed { SaysOrdered g.now root d.now }
+        requires source { s < length g.now.ids }
+        requires to { to < length g.now.ids }
+        requires two { s ≢ to }
+        requires held { (w : Directions) → Says g.now d.now w → AreHeld g.now root w self.now }
+        requires below { (w : Directions) → Says g.now d.now w
+            → AreBelow g.now root w to self.now.below.items }
+        requires from { self.now.first ≤ to }
+        requires among { to < self.now.first + WIDTH }
+        ensures { (w : Directions) → Says g.now d.now w → IsRowIn g.now root w s to result }
+    {
+        let j = (to.get() - self.first) as usize;
+        let aim = self.aim_of(g, root, d, s, to);
+        let row = self.aimed_row(g, root, d, s, aim, j)?;
+        if aim == to {
+            return Some(row);
+        }
+        Some(Row {
+            blue: row.blue,
+            red: row.red,
+            tag: Tag::Carried,
+        })
+    }
+
+    /// What s aims at: the node below it on the way from `to` to the root, or what its block aims at.
+    fn aim_of(&self, g: &Graph, root: NodeNo, d: &Directed, s: NodeNo, to: NodeNo) -> NodeNo
+        requires kept { IsTopology g.now }
+        requires directed { SaysOrdered g.now root d.now }
+        requires source { s < length g.now.ids }
+        requires to { to < length g.now.ids }
+        requires held { (w : Directions) → Says g.now d.now w → AreHeld g.now root w self.now }
+        requires below { (w : Directions) → Says g.now d.now w
+            → AreBelow g.now root w to self.now.below.items }
+        requires from { self.now.first ≤ to }
+        requires among { to < self.now.first + WIDTH }
+        ensures { (w : Directions) → Says g.now d.now w → IsRowAim w self.now.below.items s result }
+    {
+        if let Some(under) = self.below[s.get() as usize] {
+            return under;
+        }
+        let at = d.place(s).block.get() as usize * WIDTH as usize;
+        self.aims[at + (to.get() - self.first) as usize]
+    }
+
+    /// The row of `s` for what it aims at, at place j.
+    fn aimed_row(
+        &self,
+        g: &Graph,
+        root: NodeNo,
+        d: &Directed,
+        s: NodeNo,
+        aim: NodeNo,
+        j: usize,
+    ) -> Option<Row>
+        requires kept { IsTopology g.now }
+        requires directed { SaysOrdered g.now root d.now }
+        requires source { s < length g.now.ids }
+        requires aim { aim < length g.now.ids }
+        requires two { s ≢ aim }
+        requires place { j < WIDTH }
+        requires held { (w : Directions) → Says g.now d.now w → AreHeld g.now root w self.now }
+        ensures { (w : Directions) → Says g.now d.now w
+            → IsAimed g.now w Up self.now.aims.items WIDTH self.now.up
+            → IsAimed g.now w Down self.now.aims.items WIDTH self.now.down
+            → IsAimOf g.now w (aim_at self.now.aims.items WIDTH j) s aim → IsNearRow g.now root w s aim result }
+    {
+        let at = s.get() as usize;
+        row_over(
+            s,
+            aim,
+            &d.place(s),
+            &d.place(aim),
+            self.soles[at],
+            self.soles[aim.get() as usize],
+            self.up.links_of(s)[j],
+            self.down.links_of(s)[j],
+            &self.homes[at],
+        )
     }
 }
 
@@ -81,7 +258,7 @@ pub fn column_of(
         → IfOk result (λ column. IsColumnOf g.now root w to column) }
     ensures sound { IfOk result (λ column. ColumnSound g.now.links (length g.now.ids) column to) }
 {
-    let mut sweeps = BySweeps::new(alloc, g, d)?;
-    let column = sweeps.to(alloc, g, root, d, to)?;
+    let mut columns = Columns::new(alloc, g, root, d)?;
+    let column = columns.to(alloc, g, root, d, to)?;
     Ok(column)
 }

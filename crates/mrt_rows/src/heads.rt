@@ -1,6 +1,6 @@
 //! Marks on the heads of blocks.
 
-ghost use Rattle.std.specs.Prelude.{◌≡◌, ◌<◌, ◌≤◌, ◌+◌, ℕ, IsTrue, Some, length, slice_get, true};
+ghost use Rattle.std.specs.Prelude.{◌≡◌, ◌<◌, ℕ, Some, length, slice_get, true};
 ghost use Rattle.mrt_graph.specs.GraphInvariant.{IsTopology};
 ghost use Rattle.link_direction.specs.Directions.{Directions};
 ghost use Rattle.inc_dec_spf.specs.HasDirections.{AreDirections, HasDirections};
@@ -41,18 +41,4 @@ fn mark_head(g: &Graph, d: &Directed, v: NodeNo, marks: &mut [bool])
     ensures stay { (i : ℕ) → slice_get marks.old i ≡ Some true → slice_get marks.new i ≡ Some true }
 {
     marks[d.place(v).head.get() as usize] = true;
-}
-
-/// Whether one of so many nodes from number `first` on is marked.
-pub fn is_one_marked(marks: &[bool], first: u16, width: u16) -> bool
-    ensures { (n : ℕ) → first ≤ n → n < first + width → slice_get marks.now n ≡ Some true
-        → IsTrue result }
-{
-    let end = marks.len().min(first as usize + width as usize);
-    for n in first as usize..end {
-        if marks[n] {
-            return true;
-        }
-    }
-    false
 }

@@ -2,20 +2,16 @@
 #![tactic(auto)]
 
 mod all_rows;
-mod by_sweeps;
-mod by_tiles;
+mod block_aims;
 mod certificate;
 mod chain;
 mod column;
-mod column_row;
 mod directed;
-mod far_rows;
 mod heads;
 mod homes;
 mod members;
 mod near;
 mod of_source;
-mod one_block;
 mod places;
 mod rooted;
 mod row_over;
@@ -23,9 +19,6 @@ mod rows_law;
 mod soles;
 mod source_rows;
 mod table;
-mod tile_rows;
-mod tiles;
-mod top_rows;
 mod words;
 
 pub use certificate::compute;

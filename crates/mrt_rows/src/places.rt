@@ -1,6 +1,6 @@
 //! The places of rows among those of all nodes.
 
-ghost use Rattle.std.specs.Prelude.{◌≡◌, ◌≢◌, ◌<◌, ◌-◌, ◌*◌, Some, length, slice_get, slice_set};
+ghost use Rattle.std.specs.Prelude.{◌≡◌, ◌≢◌, ◌<◌, ◌-◌, ◌*◌, length, slice_set};
 ghost use Rattle.mrt_graph.specs.RowPlace.{place_of_row};
 
 use mrt_graph::{NodeNo, Row};
@@ -19,22 +19,5 @@ pub fn put(count: u16, s: NodeNo, t: NodeNo, row: Row, rows: &mut [Row])
         rows[start + column] = row;
     } else {
         rows[start + column - 1] = row;
-    }
-}
-
-/// The row of s for t among those of `count` nodes.
-pub fn row_at(count: u16, s: NodeNo, t: NodeNo, rows: &[Row]) -> Row
-    requires source { s < count }
-    requires target { t < count }
-    requires two { s ≢ t }
-    requires room { length rows.now ≡ count * (count - 1) }
-    ensures { slice_get rows.now (place_of_row count s t) ≡ Some result }
-{
-    let start = s.get() as usize * (count as usize - 1);
-    let column = t.get() as usize;
-    if t.get() < s.get() {
-        rows[start + column]
-    } else {
-        rows[start + column - 1]
     }
 }

@@ -20,7 +20,7 @@ use mrt_graph::{Directed, Graph, LinkNo, NodeNo, Place, Row, Tag};
 
 /// The row of s for t, by their places and the sole links of their blocks, and by the first links of s up and down to t
 /// and home. `None` where they have no block in common.
-fn row_over(
+pub fn row_over(
     s: NodeNo,
     t: NodeNo,
     here: &Place,

@@ -26,15 +26,15 @@ loop-n-preserved c =
             marked = λ root s w are ready below is. elim (cases_eq s n) [
               | inl last ↦
                   let ready_here : (y : ℕ) → y < length g.ids
-                  → IsReadyFrom g w c.args.dir c.args.first (length c.loop-n.costs) bound c.args.all_costs.now y =
-                  λ y within. subst (λ (m : ℕ). IsReadyFrom g w c.args.dir c.args.first m bound c.args.all_costs.now y) (sym same) (ready y within) in
+                  → IsReadyFrom g w c.args.dir c.args.aims.now (length c.loop-n.costs) bound c.args.all_costs.now y =
+                  λ y within. subst (λ (m : ℕ). IsReadyFrom g w c.args.dir c.args.aims.now m bound c.args.all_costs.now y) (sym same) (ready y within) in
                   let has = t.take_all_ways.ensures.links root w are ready_here in
-                  subst (λ (v : ℕ). HasLinksAt g w c.args.dir c.args.first width t.take_all_ways.new.all_links v) (at ∙ sym last)
-                  (subst (λ (m : ℕ). HasLinksAt g w c.args.dir c.args.first m t.take_all_ways.new.all_links t.new-s.result) same has)
+                  subst (λ (v : ℕ). HasLinksAt g w c.args.dir c.args.aims.now width t.take_all_ways.new.all_links v) (at ∙ sym last)
+                  (subst (λ (m : ℕ). HasLinksAt g w c.args.dir c.args.aims.now m t.take_all_ways.new.all_links t.new-s.result) same has)
               | inr other ↦
-                  subst (λ (m : ℕ). HasLinksAt g w c.args.dir c.args.first m t.take_all_ways.new.all_links s) same
+                  subst (λ (m : ℕ). HasLinksAt g w c.args.dir c.args.aims.now m t.take_all_ways.new.all_links s) same
                   (t.take_all_ways.ensures.kept s w (λ back. other (back ∙ at))
-                  (subst (λ (m : ℕ). HasLinksAt g w c.args.dir c.args.first m c.loop-n.all_links s) (sym same)
+                  (subst (λ (m : ℕ). HasLinksAt g w c.args.dir c.args.aims.now m c.loop-n.all_links s) (sym same)
                   (c.loop-n.invariant.marked root s w are ready (omega (arith, below, other)) is)))
             ];
             kept = λ y w unmarked has.
@@ -42,9 +42,9 @@ loop-n-preserved c =
                 let no : false ≡ true =
                 same_Some false true (sym unmarked ∙ ap (λ (x : ℕ). slice_get c.args.heads.now x) back ∙ marked) in
                 (cc) in
-                subst (λ (m : ℕ). HasLinksAt g w c.args.dir c.args.first m t.take_all_ways.new.all_links y) same
+                subst (λ (m : ℕ). HasLinksAt g w c.args.dir c.args.aims.now m t.take_all_ways.new.all_links y) same
                 (t.take_all_ways.ensures.kept y w (λ back. apart (back ∙ at))
-                (subst (λ (m : ℕ). HasLinksAt g w c.args.dir c.args.first m c.loop-n.all_links y) (sym same)
+                (subst (λ (m : ℕ). HasLinksAt g w c.args.dir c.args.aims.now m c.loop-n.all_links y) (sym same)
                 (c.loop-n.invariant.kept y w unmarked has)));
           })
       | else-heads-n t ↦

@@ -11,9 +11,9 @@ invariant-loop-n l = record {
   one_link_each : length l.links ≡ length l.initial.costs;
   all_links : length l.all_links ≡ length l.initial.all_links;
   marked : (root s : ℕ) (w : Directions) → AreDirections l.g l.d root w
-      → ((y : ℕ) → y < length l.g.ids → IsReadyFrom l.g w l.dir l.first (length l.initial.costs) (65536 * length l.g.ids) l.all_costs y)
-      → s < l.n → slice_get l.heads s ≡ Some true → HasLinksAt l.g w l.dir l.first (length l.initial.costs) l.all_links s;
+      → ((y : ℕ) → y < length l.g.ids → IsReadyFrom l.g w l.dir l.aims (length l.initial.costs) (65536 * length l.g.ids) l.all_costs y)
+      → s < l.n → slice_get l.heads s ≡ Some true → HasLinksAt l.g w l.dir l.aims (length l.initial.costs) l.all_links s;
   kept : (y : ℕ) (w : Directions) → slice_get l.heads y ≡ Some false
-      → HasLinksAt l.g w l.dir l.first (length l.initial.costs) l.initial.all_links y
-      → HasLinksAt l.g w l.dir l.first (length l.initial.costs) l.all_links y;
+      → HasLinksAt l.g w l.dir l.aims (length l.initial.costs) l.initial.all_links y
+      → HasLinksAt l.g w l.dir l.aims (length l.initial.costs) l.all_links y;
 }

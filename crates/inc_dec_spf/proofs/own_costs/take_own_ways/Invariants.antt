@@ -14,7 +14,7 @@ invariant-loop-x l = record {
   all_links : length l.all_links ≡ length l.g.ids * length l.initial.costs;
   most : (i cost : ℕ) → slice_get l.all_costs i ≡ Some cost → cost ≤ far;
   turned : (root : ℕ) (w : Directions) → AreDirections l.g l.d root w
-      → AreTurned l.g w l.dir l.first (length l.initial.costs) l.x-index l.all_costs;
+      → AreTurned l.g w l.dir l.aims (length l.initial.costs) l.x-index l.all_costs;
   linked : (root : ℕ) (w : Directions) → AreDirections l.g l.d root w
-      → AreLinked l.g w l.dir l.first (length l.initial.costs) l.x-index l.all_links;
+      → AreLinked l.g w l.dir l.aims (length l.initial.costs) l.x-index l.all_links;
 }

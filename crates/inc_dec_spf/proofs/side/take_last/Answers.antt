@@ -1,25 +1,22 @@
-use Rattle.std.proofs.Common.{◌-◌, ◌<◌, length, get_or, refl, arith}
-use Rattle.std.proofs.lemmas.Option.{slice_get_read, slice_get-get_or, slice_get_within}
-use Rattle.inc_dec_spf.proofs.SideBySide.{none_reached, one_reached}
+use Rattle.std.proofs.Common.{◌≡◌, ◌∙◌, ◌<◌, ℕ, get_or, length, slice_index, refl, sym, ap, arith}
+use Rattle.std.proofs.lemmas.Option.{get_or_from_slice_get, slice_get-get_or, slice_get_read}
+use Rattle.inc_dec_spf.specs.Side.{cost_at}
+use Rattle.inc_dec_spf.proofs.SideBySide.{one_taken}
 use Rattle.inc_dec_spf.proofs.side.take_last.Goals as goal
 
-pub returns-then-j-costs-clause-taken : goal.returns-then-j-costs-clause-taken
-returns-then-j-costs-clause-taken c =
-    let costs = c.args.costs.now in
-    let links = c.args.links.now in
-    let j = c.get-3.result - c.get-4.result in
-    let within : j < length links = omega (arith, c.if-j-costs.true, c.requires.one_link_each) in
+pub loop-j-preserved : goal.loop-j-preserved
+loop-j-preserved c =
+    let costs = c.loop-j.costs in
+    let links = c.loop-j.links in
+    let j = c.loop-j.j in
+    let old = get_or costs j 0 in
+    let within : j < length costs = omega (arith, c.loop-j-test.true, c.loop-j.invariant.one_cost_each) in
+    let within_links : j < length links = omega (arith, c.loop-j-test.true, c.loop-j.invariant.one_link_each, c.requires.one_link_each) in
+    let within_aims : j < length c.args.aims.now = omega (arith, within, c.loop-j.invariant.one_cost_each, c.requires.one_aim_each) in
+    let aim_is : get_or c.args.aims.now j 0 ≡ c.index-aims-j.result =
+    get_or_from_slice_get c.args.aims.now j c.index-aims-j.result 0
+    (slice_get_read c.args.aims.now (length c.args.aims.now) j c.index-aims-j.result refl within_aims c.index-aims-j.is) in
     rw (c.lesser.ensures, c.link_of_lesser.ensures)
-    (one_reached c.args.to c.args.first c.args.metric c.args.link j (get_or costs j 0) c.index-links-j.result costs links
-    (omega (arith, c.get-3.ensures.value, c.get-4.ensures.value, c.get.ensures.value, c.get-2.ensures.value, c.if-get.false))
-    c.requires.most (slice_get-get_or costs j 0 c.if-j-costs.true)
-    (slice_get_read links (length links) j c.index-links-j.result refl within c.index-links-j.is))
-
-pub returns-else-j-costs-clause-taken : goal.returns-else-j-costs-clause-taken
-returns-else-j-costs-clause-taken c =
-    none_reached c.args.to c.args.first c.args.metric c.args.link c.args.costs.now c.args.links.now
-    (λ j cost at. (
-      c.requires.most j cost at,
-      λ same.
-          omega (arith, same, slice_get_within c.args.costs.now j cost at, c.get-3.ensures.value, c.get-4.ensures.value, c.if-j-costs.false),
-    ))
+    (one_taken (λ i cost. cost ≡ cost_at c.args.to (slice_index c.args.aims.now i)) c.args.metric c.args.link
+    c.args.costs.now c.args.links.now j costs links c.cost_at.result old c.index-links-j.result c.loop-j.invariant (c.cost_at.ensures ∙ ap (λ (t : ℕ). cost_at c.args.to t) (sym aim_is)) (slice_get-get_or costs j 0 within)
+    (slice_get_read links (length links) j c.index-links-j.result refl within_links c.index-links-j.is))

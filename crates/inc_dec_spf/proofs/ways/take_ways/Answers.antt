@@ -1,15 +1,37 @@
-use Rattle.std.proofs.Common.{◌≡◌, ◌∙◌, ℕ, List, length, inl, inr, refl, sym, subst, arith}
+use Rattle.std.proofs.Common.{◌≡◌, ◌∙◌, ◌<◌, ℕ, List, length, inl, inr, refl, sym, subst, arith}
 use Rattle.std.proofs.lemmas.Option.{same_Some, slice_get_read}
 use Rattle.mrt_graph.specs.declared.link.End.{End}
+use Rattle.mrt_graph.proofs.EndsAt.{end_leads}
 use Rattle.inc_dec_spf.specs.Side.{AreTaken}
 use Rattle.inc_dec_spf.specs.Ways.{AreLeast, IsLeftAt}
 use Rattle.inc_dec_spf.proofs.EndCosts.{all_passed, all_taken_over, step_ready}
 use Rattle.inc_dec_spf.proofs.EndsOffered.{block_of_node}
+use Rattle.inc_dec_spf.proofs.InBlocks.{inside_of_link}
 use Rattle.inc_dec_spf.proofs.Marks.{IsMarkedEnd, marked_block}
 use Rattle.inc_dec_spf.proofs.SideBySide.{most_kept}
 use Rattle.inc_dec_spf.proofs.WaysOn.{no_way_on, way_on}
 use Rattle.inc_dec_spf.proofs.ways.take_ways.Goals as goal
 use Rattle.inc_dec_spf.proofs.ways.take_ways.Goals.{then-is_wanted+then-leads_on, else-is_wanted, else-is_wanted-via-then-is_wanted+else-leads_on, else-is_wanted-via-else-is_wanted}
+
+pub take_end-requires-clause-block : goal.take_end-requires-clause-block
+take_end-requires-clause-block c =
+    let g = c.args.g.now in
+    let d = c.args.d.now in
+    let w = c.requires.directed.directions in
+    let are = c.requires.directed.are in
+    let place = c.loop-end.end-index in
+    let ends = c.ends-end-items.result.now in
+    let end = c.end-item.result in
+    let marked : IsMarkedEnd g d c.args.x place ends end c.mark-mark.result = record {
+      list = c.ends-end-items.ensures.value;
+      there = slice_get_read ends (length ends) place end refl c.loop-end-test.true c.end-item.is;
+      marked = c.mark-mark.ensures;
+    } in
+    let onward = end_leads g c.args.x place ends end c.requires.kept marked.list marked.there in
+    let it = inside_of_link g c.requires.directed.root w end.link c.args.x end.to (record { kept = c.requires.kept; ordered = are.ordered }) onward in
+    subst (λ (b : ℕ). b < length g.ids)
+    (it.in_block ∙ sym (marked_block g d w c.args.x place ends end c.mark-mark.result c.requires.kept are.says marked))
+    (are.ordered.heads.block_within it.m it.within)
 
 pub loop-end-preserved : goal.loop-end-preserved
 loop-end-preserved c =
@@ -40,12 +62,12 @@ loop-end-preserved c =
             (c.is_wanted.ensures.kept_to t.if-is_wanted.true) (sym t.leads_on.ensures ∙ t.if-leads_on.true) in
             let width = length c.args.costs.now in
             let inside = marked_block g d w c.args.x place ends end mark c.requires.kept are.says marked in
-            all_taken_over g w c.args.dir c.args.own width c.args.all.now c.args.first bound c.args.x place ends end c.loop-end.costs c.loop-end.links
+            all_taken_over g w c.args.dir c.args.own c.args.aims.now width c.args.all.now bound c.args.x place ends end c.loop-end.costs c.loop-end.links
             t.take_end.new.costs t.take_end.new.links low_bound t.take_end.ensures.small c.loop-end.invariant.one_each c.loop-end.invariant.one_link_each on
-            (step_ready g w c.args.dir c.args.own width c.args.all.now c.args.first bound c.args.x place ends end ready on)
-            (subst (λ (b : ℕ). AreTaken (IsLeftAt w width c.args.all.now b c.args.first end.to) end.metric end.link c.loop-end.costs c.loop-end.links
+            (step_ready g w c.args.dir c.args.own c.args.aims.now width c.args.all.now bound c.args.x place ends end ready on)
+            (subst (λ (b : ℕ). AreTaken (IsLeftAt w c.args.own c.args.x c.args.aims.now width c.args.all.now b end.to) end.metric end.link c.loop-end.costs c.loop-end.links
             t.take_end.new.costs t.take_end.new.links) inside
-            (subst (λ (n : ℕ). AreTaken (IsLeftAt w n c.args.all.now mark.block c.args.first end.to) end.metric end.link c.loop-end.costs
+            (subst (λ (n : ℕ). AreTaken (IsLeftAt w c.args.own c.args.x c.args.aims.now n c.args.all.now mark.block end.to) end.metric end.link c.loop-end.costs
             c.loop-end.links t.take_end.new.costs t.take_end.new.links) c.loop-end.invariant.one_each (t.take_end.ensures.taken w are.says)))
             (c.loop-end.invariant.least root bound w are low_bound ready);
       })
@@ -54,7 +76,7 @@ loop-end-preserved c =
         one_link_each = c.loop-end.invariant.one_link_each;
         most = c.loop-end.invariant.most;
         least = λ root bound w are low_bound ready.
-            all_passed g w c.args.dir c.args.own c.args.first bound c.args.x place ends c.loop-end.costs c.loop-end.links
+            all_passed g w c.args.dir c.args.own c.args.aims.now (length c.args.costs.now) bound c.args.x place ends c.loop-end.costs c.loop-end.links
             (no_way_on g d root w c.args.dir c.args.own c.args.x place block ends end mark (record { kept = c.requires.kept; ordered = are.ordered }) are.says
             marked (block_of_node g d w c.args.x c.place.result are.says c.requires.node c.place.ensures)
             (elim t.else-is_wanted.branch [
@@ -70,6 +92,6 @@ pub returns-clause-least : goal.returns-clause-least
 returns-clause-least c = λ root bound w ends are low_bound ready list.
     let same : c.ends-end-items.result.now ≡ ends = same_Some c.ends-end-items.result.now ends (sym c.ends-end-items.ensures.value ∙ list) in
     let all : c.loop-end.end-index ≡ length c.ends-end-items.result.now = omega (arith, c.loop-end-test.false, c.loop-end.auto.end-index-end) in
-    subst (λ (es : List End). AreLeast c.args.g.now w c.args.dir c.args.own c.args.first bound c.args.x es (length es) c.loop-end.costs c.loop-end.links) same
-    (subst (λ (n : ℕ). AreLeast c.args.g.now w c.args.dir c.args.own c.args.first bound c.args.x c.ends-end-items.result.now n c.loop-end.costs c.loop-end.links)
+    subst (λ (es : List End). AreLeast c.args.g.now w c.args.dir c.args.own c.args.aims.now (length c.args.costs.now) bound c.args.x es (length es) c.loop-end.costs c.loop-end.links) same
+    (subst (λ (n : ℕ). AreLeast c.args.g.now w c.args.dir c.args.own c.args.aims.now (length c.args.costs.now) bound c.args.x c.ends-end-items.result.now n c.loop-end.costs c.loop-end.links)
     all (c.loop-end.invariant.least root bound w are low_bound ready))

@@ -11,6 +11,6 @@ invariant-loop-end l = record {
   one_link_each : length l.links ≡ length l.initial.costs;
   most : (j cost : ℕ) → slice_get l.costs j ≡ Some cost → cost ≤ far;
   least : (root bound : ℕ) (w : Directions) → AreDirections l.g l.d root w → bound < 2 ^ 30
-      → AreReady l.g w l.dir l.own l.first (length l.initial.costs) bound l.all l.x
-      → AreLeast l.g w l.dir l.own l.first bound l.x l.end-items l.end-index l.costs l.links;
+      → AreReady l.g w l.dir l.own l.aims (length l.initial.costs) bound l.all l.x
+      → AreLeast l.g w l.dir l.own l.aims (length l.initial.costs) bound l.x l.end-items l.end-index l.costs l.links;
 }

@@ -1,33 +1,66 @@
-use Rattle.std.proofs.Common.{◌∙◌, List, sym, subst}
+use Rattle.std.proofs.Common.{rules, ◌≡◌, ◌≢◌, ◌∙◌, ◌<◌, ◌-◌, ◌*◌, ℕ, List, Option, Some, length, inl, inr, sym, ap, subst, arith}
+use Rattle.std.proofs.lemmas.Bool.{cases_eq}
 use Rattle.std.proofs.lemmas.List.{with_items_is}
 use Rattle.mrt_graph.specs.declared.cert.Row.{Row}
-use Rattle.inc_dec_spf.proofs.InBlocks.{IsOrdered}
-use Rattle.inc_dec_spf.proofs.SameDirections.{directions_are}
-use Rattle.mrt_rows.specs.Put.{ArePut, ShareMoreLinks}
-use Rattle.mrt_rows.specs.RowsOf.{AreAllRows}
-use Rattle.mrt_rows.proofs.OneBlock.{rows_put}
+use Rattle.mrt_rows.specs.ColumnOf.{IsRowIn}
+use Rattle.mrt_rows.specs.RowsOf.{row_among}
+use Rattle.mrt_rows.proofs.Climbing.{graph_by}
+use Rattle.mrt_rows.proofs.RowsOfColumns.{all_of_columns, row_in_column}
 use Rattle.mrt_rows.proofs.all_rows.all_rows.Goals as goal
-use Rattle.mrt_rows.proofs.all_rows.all_rows.Goals.{then-not-is_one_block, else-not-is_one_block}
+
+pub loop-n-init : goal.loop-n-init
+loop-n-init c =
+    let count = c.node_count-count.result in
+    let made : length c.in_ok-rows.rows.items ≡ count * (count - 1) = search rules in
+    record {
+      room = made ∙ ap (λ (n : ℕ). n * (n - 1)) c.node_count-count.ensures.count;
+      held = c.in_ok-columns.ensures;
+      done = λ w says s t s_within t_within below. absurd (omega (arith, below));
+    }
+
+pub loop-n-preserved : goal.loop-n-preserved
+loop-n-preserved c =
+    let g = c.args.g.now in
+    let root = c.args.root in
+    let count = c.node_count-count.result in
+    let count_is : count ≡ length g.ids = c.node_count-count.ensures.count in
+    let n = c.loop-n.n in
+    let to = c.new-to.result in
+    let named : to ≡ n = c.new-to.ensures in
+    let before = c.loop-n.rows.items in
+    let put = c.put_column.new.rows in
+    let read : c.deref_mut.result.now ≡ before = c.deref_mut.ensures.value in
+    let same = with_items_is c.loop-n.rows put (c.put_column.ensures.room ∙ c.deref_mut.ensures.len) in
+    record {
+      room = ap (λ (xs : List Row). length xs) same ∙ c.put_column.ensures.room ∙ ap (λ (xs : List Row). length xs) read ∙ c.loop-n.invariant.room;
+      held = c.in_ok-column.ensures.held;
+      done = λ w says s t s_within t_within below two.
+          let og = graph_by g root c.args.d.now w c.node_count-count.ensures.kept c.requires says in
+          subst (λ (xs : List Row). IsRowIn g root w s t (row_among (length g.ids) xs s t)) (sym same)
+          (elim (cases_eq t n) [
+            | inl here ↦
+                let t_is : to ≡ t = named ∙ sym here in
+                let two_to : s ≢ to = λ back. two (back ∙ t_is) in
+                let it = row_in_column og s to _ s_within (subst (λ (v : ℕ). v < length g.ids) (sym t_is) t_within) two_to
+                (c.in_ok-column.ensures.rows w says) in
+                let found : row_among (length g.ids) put s to ≡ Some it.row =
+                subst (λ (k : ℕ). row_among k put s to ≡ Some it.row) count_is
+                (c.put_column.ensures.there s it.row (omega (arith, s_within, count_is)) two_to it.there) in
+                subst (λ (v : ℕ). IsRowIn g root w s v (row_among (length g.ids) put s v)) t_is
+                (record { row = it.row; is = found; each = it.each })
+            | inr other ↦
+                let kept : row_among (length g.ids) put s t ≡ row_among (length g.ids) before s t =
+                subst (λ (k : ℕ). row_among k put s t ≡ row_among k c.deref_mut.result.now s t) count_is
+                (c.put_column.ensures.elsewhere s t (λ back. other (back ∙ named)))
+                ∙ ap (λ (xs : List Row). row_among (length g.ids) xs s t) read in
+                subst (λ (o : Option Row). IsRowIn g root w s t o) (sym kept)
+                (c.loop-n.invariant.done w says s t s_within t_within (omega (arith, below, other)) two)
+          ]);
+    }
 
 pub returns : goal.returns
 returns c = λ w says.
-    let g = c.args.g.now in
-    let root = c.args.root in
-    let kept = c.is_one_block.ensures.kept in
-    let are = directions_are g c.args.d.now w kept
-    (record {
-      root = root;
-      directions = c.requires.directions;
-      are = (record { says = c.requires.says; ordered = c.requires.ordered });
-    }) says in
-    let near = c.in_ok-rows.ensures.put root w are in
-    elim c.if-not-is_one_block.branch [
-      | then-not-is_one_block t ↦
-          let rows_same = with_items_is c.in_ok-rows.rows t.put_far_rows.new.rows (t.put_far_rows.ensures.room ∙ t.deref_mut.ensures.len) in
-          let near_here : ArePut g root w (ShareMoreLinks g w) t.deref_mut.result.now =
-          subst (λ (rs : List Row). ArePut g root w (ShareMoreLinks g w) rs) (sym t.deref_mut.ensures.value) near in
-          rw t.rows-is (subst (λ (rs : List Row). AreAllRows g root w rs) (sym rows_same) (t.put_far_rows.ensures.all w says near_here))
-      | else-not-is_one_block t ↦
-          let is : IsOrdered g root w = record { kept = kept; ordered = are.ordered } in
-          rw t.rows-is (rows_put g root w is (c.is_one_block.ensures.one t.if-not-is_one_block.false w are) c.in_ok-rows.rows.items c.in_ok-rows.ensures.room near)
-    ]
+    all_of_columns (graph_by c.args.g.now c.args.root c.args.d.now w c.node_count-count.ensures.kept c.requires says) c.loop-n.rows.items
+    c.loop-n.invariant.room
+    (λ s t s_within t_within two.
+    c.loop-n.invariant.done w says s t s_within t_within (omega (arith, t_within, c.node_count-count.ensures.count, c.loop-n-test.false)) two)

@@ -1,63 +1,72 @@
-use Rattle.std.proofs.Common.{◌∙◌, ◌<◌, ◌*◌, ℕ, length, sym, subst, inl, inr, arith}
-use Rattle.std.proofs.lemmas.Bool.{cases_lt}
-use Rattle.std.proofs.lemmas.Option.{slice_get_within}
+use Rattle.std.proofs.Common.{◌≡◌, ◌∙◌, ◌<◌, ◌+◌, ◌*◌, ℕ, List, Some, length, set, slice_get, refl, sym, subst, inl, inr, arith}
+use Rattle.std.proofs.lemmas.Bool.{cases_eq}
+use Rattle.std.proofs.lemmas.List.{length-set}
+use Rattle.std.proofs.lemmas.Option.{same_Some, slice_get_read, slice_get_within}
+use Rattle.mrt_graph.proofs.ListPlaces.{set_elsewhere, set_there}
+use Rattle.link_direction.specs.BlockOfTwo.{ToHead}
+use Rattle.inc_dec_spf.specs.declared.reach.Dir.{Dir}
 use Rattle.inc_dec_spf.specs.declared.reach.Dir.TheVariants.{Down, Up}
+use Rattle.inc_dec_spf.specs.declared.tile.Tile.{Tile}
+use Rattle.inc_dec_spf.specs.BlockAims.{aim_at}
+use Rattle.inc_dec_spf.specs.FirstLink.{IsFirstLink}
+use Rattle.inc_dec_spf.specs.LeastPath.{HasMoreLinks}
 use Rattle.inc_dec_spf.specs.Tile.{IsAimed}
-use Rattle.mrt_rows.proofs.OrderedGraphs.{graph_of}
-use Rattle.mrt_rows.proofs.Sharing.{others_in_one_block}
+use Rattle.mrt_rows.specs.declared.members.Home.{Home}
+use Rattle.mrt_rows.specs.Chain.{AreHeadAims}
+use Rattle.mrt_rows.specs.Put.{IsHome}
+use Rattle.mrt_rows.proofs.AimsOfRows.{home_aim}
+use Rattle.mrt_rows.proofs.MarkedHeads.{not_own_head}
+use Rattle.mrt_rows.proofs.OrderedGraphs.{OrderedGraph}
 use Rattle.mrt_rows.proofs.homes.take_homes.Goals as goal
-use Rattle.mrt_rows.proofs.homes.take_homes.Goals.{then-is_one_marked, else-is_one_marked}
 
-pub loop-tile-preserved : goal.loop-tile-preserved
-loop-tile-preserved c =
+home_link : (og : OrderedGraph) (dir : Dir) (tile : Tile) (aims links : List ℕ) (s n link : ℕ) → s ≡ n → n < length og.g.ids
+    → AreHeadAims og.g og.w 1 aims → IsAimed og.g og.w dir aims 1 tile → length tile.links.items ≡ 1 → slice_get links 0 ≡ Some link
+    → ((j x : ℕ) → slice_get links j ≡ Some x → slice_get tile.all_links.items (s * length tile.links.items + j) ≡ Some x)
+    → HasMoreLinks og.g og.w (og.w.block n) → IsFirstLink og.g og.w dir n (og.w.head n) link
+home_link og dir tile aims links s n link named within heads aimed wide at there more =
+    let two = not_own_head og n within more in
+    (aimed.each n within).each 0 (og.w.head n) (og.w.block n) (og.w.head n) link (omega arith) (og.ordered.heads.head_within n within)
+    (record { two = two; common = ToHead refl refl refl; more = more })
+    (home_aim og n (aim_at aims 1 0) within two (λ y y_within. heads.each 0 y (omega arith) y_within))
+    (subst (λ (v : ℕ). slice_get tile.all_links.items (v * 1 + 0) ≡ Some link) named
+    (subst (λ (k : ℕ). slice_get tile.all_links.items (s * k + 0) ≡ Some link) wide (there 0 link at)))
+
+pub loop-n-preserved : goal.loop-n-preserved
+loop-n-preserved c =
     let g = c.args.g.now in
-    let d = c.args.d.now in
-    let first = c.loop-tile.tile * 64 in
-    elim c.if-is_one_marked.branch [
-      | then-is_one_marked t ↦ rw (t.up-is, t.down-is, t.homes-is) (record {
-        up = t.aim.ensures.tile;
-        down = t.aim-then-is_one_marked.ensures.tile;
-        one_each = t.take_homes_in.ensures.one_each;
-        homes = λ root w are heads v home below more at.
-            let v_within : v < length g.ids = omega (arith, slice_get_within t.take_homes_in.new.homes v home at, t.take_homes_in.ensures.one_each) in
-            elim (cases_lt (w.head v) first) [
-              | inl before ↦
-                  c.loop-tile.invariant.homes root w are heads v home before more
-                  (sym (t.take_homes_in.ensures.kept root v w are v_within (inl before)) ∙ at)
-              | inr low ↦
-                  let others = others_in_one_block (graph_of g root w d c.requires.kept are) c.args.heads.now heads in
-                  t.take_homes_in.ensures.taken root v w home are
-                  (subst (λ (f : ℕ). IsAimed g w Up f 64 t.aim.new.self) t.new-at.ensures (t.aim.ensures.aimed root w are others))
-                  (subst (λ (f : ℕ). IsAimed g w Down f 64 t.aim-then-is_one_marked.new.self) t.new-at.ensures
-                  (t.aim-then-is_one_marked.ensures.aimed root w are others))
-                  low (omega (arith, below)) at
-            ];
-      })
-      | else-is_one_marked t ↦ rw (t.up-is, t.down-is, t.homes-is) (record {
-        up = c.loop-tile.invariant.up;
-        down = c.loop-tile.invariant.down;
-        one_each = c.loop-tile.invariant.one_each;
-        homes = λ root w are heads v home below more at. elim (cases_lt (w.head v) first) [
-          | inl before ↦ c.loop-tile.invariant.homes root w are heads v home before more at
-          | inr low ↦
-              let v_within : v < length g.ids = omega (arith, slice_get_within c.loop-tile.homes v home at, c.loop-tile.invariant.one_each) in
-              let marked = c.is_one_marked.ensures (w.head v) low (omega (arith, below)) (heads.each v v_within more) in
-              let none = t.if-is_one_marked.false in
-              absurd (cc)
-        ];
-      })
-    ]
+    let n = c.loop-n.n in
+    let homes = c.loop-n.homes in
+    let ups = c.links_of.result.now in
+    let downs = c.links_of-in-loop-n.result.now in
+    let new : Home = record { up = c.index-links_of-0.result; down = c.index-links_of-0-in-loop-n.result } in
+    let within : n < length g.ids = omega (arith, c.loop-n-test.true, c.node_count-n-end.ensures.count) in
+    let at_up = slice_get_read ups (length ups) 0 c.index-links_of-0.result refl (omega (arith, c.links_of.ensures.one_each, c.requires.up.links))
+    c.index-links_of-0.is in
+    let at_down = slice_get_read downs (length downs) 0 c.index-links_of-0-in-loop-n.result refl
+    (omega (arith, c.links_of-in-loop-n.ensures.one_each, c.requires.down.links)) c.index-links_of-0-in-loop-n.is in
+    record {
+      one_each = length-set homes n new ∙ c.loop-n.invariant.one_each;
+      homes = λ root v w aims home ordered heads up down below at. elim (cases_eq v n) [
+        | inl same ↦
+            let og : OrderedGraph = record { g = g; root = root; w = w; kept = c.requires.kept; ordered = ordered } in
+            let at_n : slice_get (set homes n new) n ≡ Some home = subst (λ (x : ℕ). slice_get (set homes n new) x ≡ Some home) same at in
+            let new_is : new ≡ home = same_Some new home (sym (set_there homes n new (omega (arith, within, c.loop-n.invariant.one_each))) ∙ at_n) in
+            subst (λ (x : ℕ). IsHome g w x home) (sym same) (subst (λ (h : Home). IsHome g w n h) new_is (record {
+              up = λ more.
+                  home_link og Up c.args.up.now aims ups c.new-s.result n c.index-links_of-0.result c.new-s.ensures within heads up c.requires.up.links at_up
+                  c.links_of.ensures.there more;
+              down = λ more.
+                  home_link og Down c.args.down.now aims downs c.new-s.result n c.index-links_of-0-in-loop-n.result c.new-s.ensures within heads down
+                  c.requires.down.links at_down c.links_of-in-loop-n.ensures.there more;
+            }))
+        | inr other ↦
+            c.loop-n.invariant.homes root v w aims home ordered heads up down (omega (arith, below, other)) (sym (set_elsewhere homes n v new other) ∙ at)
+      ];
+    }
 
 pub returns-clause-homes : goal.returns-clause-homes
-returns-clause-homes c = λ root w are heads. record {
+returns-clause-homes c = λ root w aims ordered heads up down. record {
   each = λ v home at.
-      let v_within : v < length c.args.g.now.ids =
-      omega (arith, slice_get_within c.loop-tile.homes v home at, c.loop-tile.invariant.one_each) in
-      let head = are.ordered.heads.head_within v v_within in
-      let all : w.head v < c.loop-tile.tile * 64 =
-      omega (arith, head, c.tile_count-tile-end.ensures.many, c.loop-tile-test.false) in
-      record {
-        up = λ more. (c.loop-tile.invariant.homes root w are heads v home all more at).up more;
-        down = λ more. (c.loop-tile.invariant.homes root w are heads v home all more at).down more;
-      };
+      c.loop-n.invariant.homes root v w aims home ordered heads up down
+      (omega (arith, slice_get_within c.loop-n.homes v home at, c.loop-n.invariant.one_each, c.node_count-n-end.ensures.count, c.loop-n-test.false)) at;
 }

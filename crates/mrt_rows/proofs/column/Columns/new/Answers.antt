@@ -1,9 +1,35 @@
+use Rattle.std.proofs.Common.{rules, ◌∙◌, ◌≤◌, ℕ, Bool, List, length, sym, ap, subst, arith}
+use Rattle.std.proofs.lemmas.List.{with_items_is}
 use Rattle.inc_dec_spf.specs.HasDirections.{AreDirections}
+use Rattle.mrt_rows.specs.NearOf.{AreSoles}
+use Rattle.mrt_rows.specs.Put.{AreHeadsMarked}
 use Rattle.mrt_rows.proofs.Climbing.{graph_by}
 use Rattle.mrt_rows.proofs.column.Columns.new.Goals as goal
 
-pub new-requires-clause-one : goal.new-requires-clause-one
-new-requires-clause-one c = λ w says.
-    let og = graph_by c.args.g.now c.args.root c.args.d.now w c.is_one_block.ensures.kept c.requires says in
-    let are : AreDirections c.args.g.now c.args.d.now c.args.root w = record { says = says; ordered = og.ordered } in
-    c.is_one_block.ensures.one c.if-is_one_block.true w are
+pub returns : goal.returns
+returns c = λ w says.
+    let g = c.args.g.now in
+    let root = c.args.root in
+    let kept = c.node_count-count.ensures.kept in
+    let og = graph_by g root c.args.d.now w kept c.requires says in
+    let are : AreDirections g c.args.d.now root w = record { says = says; ordered = og.ordered } in
+    let heads_same = with_items_is c.in_ok-heads.heads c.mark_heads.new.marks (c.mark_heads.auto.marks ∙ c.deref_mut.ensures.len) in
+    let marked = c.mark_heads.ensures.heads root w are in
+    let soles_same = with_items_is c.in_ok-soles.soles c.take_soles.new.soles (c.take_soles.auto.soles ∙ c.deref_mut-2.ensures.len) in
+    let past : length g.ids ≤ c.node_count-count.result = omega (arith, c.node_count-count.ensures.count) in
+    let marked_read : AreHeadsMarked g w c.deref-3.result.now =
+    subst (λ (hs : List Bool). AreHeadsMarked g w hs) (sym (c.deref-3.ensures.value ∙ heads_same)) marked in
+    record {
+      by_order = c.in_ok-by_order.ensures root w are;
+      against_order = c.in_ok-against_order.ensures root w are;
+      a_mark_each = ap (λ (hs : List Bool). length hs) heads_same ∙ c.mark_heads.ensures.one_each;
+      marked = subst (λ (hs : List Bool). AreHeadsMarked g w hs) (sym heads_same) marked;
+      soles = subst (λ (xs : List ℕ). AreSoles g w xs) (sym soles_same) (c.take_soles.ensures root w are);
+      a_home_each = c.in_ok-homes.ensures.one_each;
+      homes = c.in_ok-homes.ensures.homes root w are marked_read;
+      one_below_each = search rules;
+      places = search rules;
+      up = c.in_ok-up.ensures;
+      down = c.in_ok-down.ensures;
+      aimed = λ inside. absurd (omega (arith, past, inside));
+    }

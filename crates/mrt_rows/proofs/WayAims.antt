@@ -1,0 +1,83 @@
+-- What the blocks aim at, as the way to the root is gone head by head.
+use Rattle.std.proofs.Common.{◌≡◌, ◌≢◌, ◌⊎◌, ◌∙◌, ◌<◌, ◌≤◌, ◌+◌, ◌*◌, ℕ, List, length, set, inl, inr, refl, sym, ap, subst, arith}
+use Rattle.std.proofs.lemmas.Bool.{cases_eq}
+use Rattle.std.proofs.lemmas.List.{get_or-set_other, get_or-set_same}
+use Rattle.mrt_graph.specs.Topology.{Topology}
+use Rattle.link_direction.specs.Directions.{Directions}
+use Rattle.inc_dec_spf.specs.BlockAims.{aim_at}
+use Rattle.mrt_rows.specs.Chain.{AreWayAims, Climbs, IsOnWay, There}
+use Rattle.mrt_rows.proofs.ChainAims.{climb_low, climb_on, further, root_alone}
+use Rattle.mrt_rows.proofs.OrderedGraphs.{OrderedGraph}
+
+-- where the way from t has come to c, the nodes that it has passed are aimed at by their blocks
+pub record IsGone (g : Topology) (root : ℕ) (w : Directions) (t c : ℕ) (aim : ℕ → ℕ) : Type 0 where
+  pub to_c : Climbs root w t c
+  pub on : (b : ℕ) → Climbs root w t b → b ≢ root → ((aim (w.block b) ≡ b) × (w.order c ≤ w.order (w.head b))) ⊎ Climbs root w c b
+  pub off : (y : ℕ) → y < length g.ids → (aim (w.block y) ≡ w.head y) ⊎ IsOnWay root w t y (aim (w.block y))
+
+pub none_gone : (g : Topology) (root : ℕ) (w : Directions) (t : ℕ) (aim : ℕ → ℕ) → ((y : ℕ) → y < length g.ids → aim (w.block y) ≡ w.head y)
+    → IsGone g root w t t aim
+none_gone g root w t aim heads = record { to_c = There refl; on = λ b to_b other. inr to_b; off = λ y within. inl (heads y within) }
+
+module _ (og : OrderedGraph) (t c : ℕ) (t_within : t < length og.g.ids) (aim : ℕ → ℕ) (so_far : IsGone og.g og.root og.w t c aim) where
+  pub one_gone : c < length og.g.ids → c ≢ og.root → (after : ℕ → ℕ) → after (og.w.block c) ≡ c
+      → ((k : ℕ) → k ≢ og.w.block c → after k ≡ aim k) → IsGone og.g og.root og.w t (og.w.head c) after
+  one_gone within other after there elsewhere = record {
+    to_c = climb_on og.root og.w t c so_far.to_c other;
+    on = λ b to_b b_other. elim (so_far.on b to_b b_other) [
+      | inl it ↦ elim (cases_eq (og.w.block b) (og.w.block c)) [
+        | inl same ↦
+            let head = og.ordered.heads.one_head b c (climb_low og t b t_within to_b).0 within same in
+            absurd (omega (arith, it.1, ap og.w.order head, lower))
+        | inr apart ↦ inl (elsewhere (og.w.block b) apart ∙ it.0, omega (arith, it.1, lower))
+      ]
+      | inr ahead ↦ elim (cases_eq b c) [
+        | inl same ↦
+            inl (ap after (ap og.w.block same) ∙ there ∙ sym same, omega (arith, ap og.w.order (ap og.w.head same)))
+        | inr differ ↦ inr (further og c b differ ahead).1
+      ]
+    ];
+    off = λ y y_within. elim (cases_eq (og.w.block y) (og.w.block c)) [
+      | inl same ↦
+          inr (subst (λ (a : ℕ). IsOnWay og.root og.w t y a) (sym (ap after same ∙ there))
+          (record { climbs = so_far.to_c; not_root = other; in_block = sym same }))
+      | inr apart ↦ elim (so_far.off y y_within) [
+        | inl home ↦ inl (elsewhere (og.w.block y) apart ∙ home)
+        | inr it ↦ inr (subst (λ (a : ℕ). IsOnWay og.root og.w t y a) (sym (elsewhere (og.w.block y) apart)) it)
+      ]
+    ];
+  }
+    where
+      lower : og.w.order (og.w.head c) < og.w.order c
+      lower = og.ordered.heads.lower c within other
+
+  pub all_gone : c ≡ og.root → AreWayAims og.g og.root og.w t aim
+  all_gone at_root = record {
+    on = λ b to_b b_other. elim (so_far.on b to_b b_other) [
+      | inl it ↦ it.0
+      | inr ahead ↦ absurd (b_other (root_alone og.root og.w c b at_root ahead))
+    ];
+    off = so_far.off;
+  }
+
+-- aims that are the same
+pub way_aims_too : (g : Topology) (root : ℕ) (w : Directions) (t : ℕ) (aim after : ℕ → ℕ) → ((k : ℕ) → after k ≡ aim k)
+    → AreWayAims g root w t aim → AreWayAims g root w t after
+way_aims_too g root w t aim after same are = record {
+  on = λ c to_c other. same (w.block c) ∙ are.on c to_c other;
+  off = λ y within. elim (are.off y within) [
+    | inl home ↦ inl (same (w.block y) ∙ home)
+    | inr it ↦ inr (subst (λ (a : ℕ). IsOnWay root w t y a) (sym (same (w.block y))) it)
+  ];
+}
+
+-- one aim is put
+module _ (aims : List ℕ) (b j c : ℕ) (j_below : j < 64) (room : b * 64 + j < length aims) where
+  pub aim_there : aim_at (set aims (b * 64 + j) c) 64 j b ≡ c
+  aim_there = get_or-set_same aims (b * 64 + j) c 0 room
+
+  pub aim_elsewhere : (k : ℕ) → k ≢ b → aim_at (set aims (b * 64 + j) c) 64 j k ≡ aim_at aims 64 j k
+  aim_elsewhere k other = get_or-set_other aims (b * 64 + j) (k * 64 + j) c 0 (λ same. other (omega (arith, same)))
+
+  pub aim_beside : (i k : ℕ) → i < 64 → i ≢ j → aim_at (set aims (b * 64 + j) c) 64 i k ≡ aim_at aims 64 i k
+  aim_beside i k below other = get_or-set_other aims (b * 64 + j) (k * 64 + i) c 0 (λ same. other (omega (arith, same, below, j_below)))

@@ -1,0 +1,104 @@
+use Rattle.std.proofs.Common.{◌≡◌, ℕ, Bool, List, length, sym, subst, ap, ◌∙◌}
+use Rattle.std.proofs.lemmas.List.{with_items_is}
+use Rattle.mrt_graph.specs.Topology.{Topology}
+use Rattle.link_direction.specs.Directions.{Directions}
+use Rattle.inc_dec_spf.specs.declared.reach.Dir.TheVariants.{Down, Up}
+use Rattle.inc_dec_spf.specs.FirstLink.{AreOthersInOneBlock}
+use Rattle.inc_dec_spf.specs.HasDirections.{AreDirections}
+use Rattle.inc_dec_spf.specs.Tile.{IsAimed}
+use Rattle.inc_dec_spf.specs.Turns.{AreTurns}
+use Rattle.mrt_rows.specs.Chain.{AreBlockAims}
+use Rattle.mrt_rows.proofs.Climbing.{graph_by}
+use Rattle.mrt_rows.proofs.Sharing.{others_in_one_block}
+use Rattle.mrt_rows.proofs.column.Columns.aim.Goals as goal
+
+aims_moved : (g : Topology) (root : ℕ) (w : Directions) (first : ℕ) (aims after : List ℕ) → after ≡ aims → AreBlockAims g root w first aims
+    → AreBlockAims g root w first after
+aims_moved g root w first aims after same are = subst (λ (xs : List ℕ). AreBlockAims g root w first xs) (sym same) are
+
+pub put_block_aims-requires-clause-room : goal.put_block_aims-requires-clause-room
+put_block_aims-requires-clause-room c =
+    let held = c.requires.held c.requires.directed.directions c.requires.directed.says in
+    ap (λ (xs : List ℕ). length xs) c.deref_mut.ensures.value ∙ held.places
+
+pub aim-requires : goal.aim-requires
+aim-requires c =
+    let g = c.args.g.now in
+    let says = c.requires.directed.says in
+    let w = c.requires.directed.directions in
+    let put = c.put_block_aims.new.aims in
+    let same = c.deref-3.ensures.value ∙ with_items_is c.args.self.now.aims put (c.put_block_aims.ensures.room ∙ c.deref_mut.ensures.len) in (
+      c.requires.kept,
+      (
+        record { root = c.args.root; directions = w; are = record { says = says; ordered = c.requires.directed.ordered } },
+        (
+          (λ root w are. subst (λ (turns : List ℕ). AreTurns g w Down turns) (sym c.deref.ensures.value) (c.requires.held w are.says).against_order),
+          (
+            ap (λ (marks : List Bool). length marks) c.deref-2.ensures.value ∙ (c.requires.held w says).a_mark_each,
+            (
+              ap (λ (xs : List ℕ). length xs) same ∙ c.put_block_aims.ensures.room ∙ ap (λ (xs : List ℕ). length xs) c.deref_mut.ensures.value
+                  ∙ (c.requires.held w says).places,
+              (c.requires.held w says).up,
+            ),
+          ),
+        ),
+      ),
+    )
+
+pub aim-requires-2 : goal.aim-requires-2
+aim-requires-2 c =
+    let g = c.args.g.now in
+    let says = c.requires.directed.says in
+    let w = c.requires.directed.directions in
+    let put = c.put_block_aims.new.aims in
+    let same = c.deref-6.ensures.value ∙ with_items_is c.args.self.now.aims put (c.put_block_aims.ensures.room ∙ c.deref_mut.ensures.len) in (
+      c.requires.kept,
+      (
+        record { root = c.args.root; directions = w; are = record { says = says; ordered = c.requires.directed.ordered } },
+        (
+          (λ root w are. subst (λ (turns : List ℕ). AreTurns g w Up turns) (sym c.deref-4.ensures.value) (c.requires.held w are.says).by_order),
+          (
+            ap (λ (marks : List Bool). length marks) c.deref-5.ensures.value ∙ (c.requires.held w says).a_mark_each,
+            (
+              ap (λ (xs : List ℕ). length xs) same ∙ c.put_block_aims.ensures.room ∙ ap (λ (xs : List ℕ). length xs) c.deref_mut.ensures.value
+                  ∙ (c.requires.held w says).places,
+              (c.requires.held w says).down,
+            ),
+          ),
+        ),
+      ),
+    )
+
+pub returns-clause-held : goal.returns-clause-held
+returns-clause-held c = λ w says.
+    let g = c.args.g.now in
+    let root = c.args.root in
+    let og = graph_by g root c.args.d.now w c.requires.kept c.requires.directed says in
+    let are : AreDirections g c.args.d.now root w = record { says = says; ordered = og.ordered } in
+    let held = c.requires.held w says in
+    let put = c.put_block_aims.new.aims in
+    let same = with_items_is c.args.self.now.aims put (c.put_block_aims.ensures.room ∙ c.deref_mut.ensures.len) in
+    let others : AreOthersInOneBlock g w c.deref-2.result.now =
+    subst (λ (marks : List Bool). AreOthersInOneBlock g w marks) (sym c.deref-2.ensures.value)
+    (others_in_one_block og c.args.self.now.heads.items held.marked) in
+    let others_down : AreOthersInOneBlock g w c.deref-5.result.now =
+    subst (λ (marks : List Bool). AreOthersInOneBlock g w marks) (sym c.deref-5.ensures.value)
+    (others_in_one_block og c.args.self.now.heads.items held.marked) in
+    record {
+      by_order = held.by_order;
+      against_order = held.against_order;
+      a_mark_each = held.a_mark_each;
+      marked = held.marked;
+      soles = held.soles;
+      a_home_each = held.a_home_each;
+      homes = held.homes;
+      one_below_each = held.one_below_each;
+      places = ap (λ (xs : List ℕ). length xs) same ∙ c.put_block_aims.ensures.room ∙ ap (λ (xs : List ℕ). length xs) c.deref_mut.ensures.value ∙ held.places;
+      up = c.aim.ensures.tile;
+      down = c.aim-2.ensures.tile;
+      aimed = λ inside. record {
+        aims = aims_moved g root w _ put _ same (c.put_block_aims.ensures.aims w says);
+        up = subst (λ (xs : List ℕ). IsAimed g w Up xs 64 c.aim.new.self) c.deref-3.ensures.value (c.aim.ensures.aimed root w are others);
+        down = subst (λ (xs : List ℕ). IsAimed g w Down xs 64 c.aim-2.new.self) c.deref-6.ensures.value (c.aim-2.ensures.aimed root w are others_down);
+      };
+    }

@@ -1,0 +1,104 @@
+use Rattle.std.proofs.Common.{◌≡◌, ◌∙◌, ◌<◌, ◌+◌, ◌*◌, ℕ, List, Some, get_or, length, slice_get, refl, sym, ap, subst, arith}
+use Rattle.std.proofs.lemmas.Option.{slice_get-get_or, slice_get_read}
+use Rattle.link_direction.specs.Directions.{Directions, Says}
+use Rattle.mrt_graph.specs.declared.gadag.Place.{Place}
+use Rattle.mrt_graph.specs.DirectedLists.{DirectedLists}
+use Rattle.mrt_graph.specs.Topology.{Topology}
+use Rattle.inc_dec_spf.specs.declared.reach.Dir.{Dir}
+use Rattle.inc_dec_spf.specs.declared.tile.Tile.{Tile}
+use Rattle.inc_dec_spf.specs.BlockAims.{IsAimOf, aim_at}
+use Rattle.inc_dec_spf.specs.FirstLink.{IsFirstLink}
+use Rattle.inc_dec_spf.specs.Tile.{IsAimed}
+use Rattle.mrt_rows.specs.declared.members.Home.{Home}
+use Rattle.mrt_rows.specs.NearOf.{AreSoles, IsPlaceOf, IsSoleOf}
+use Rattle.mrt_rows.specs.Put.{AreHomes, IsHome, ShareMoreLinks}
+use Rattle.mrt_rows.proofs.Climbing.{graph_by}
+use Rattle.mrt_rows.proofs.NearRows.{place_says}
+use Rattle.mrt_rows.proofs.column.Columns.aimed_row.Goals as goal
+
+place_is : (g : Topology) (d : DirectedLists) (w : Directions) (s : ℕ) (place : Place) → Says g d w → s < length g.ids → slice_get d.places s ≡ Some place
+    → IsPlaceOf w s place
+place_is g d w s place says within at = let it = place_says g d w s place says within at in record { head = it.0; block = it.1 }
+
+sole_at : (g : Topology) (w : Directions) (soles : List ℕ) (i v link : ℕ) → AreSoles g w soles → i ≡ v → v < length g.ids → link ≡ get_or soles i link
+    → IsSoleOf g w v link
+sole_at g w soles i v link are named within is =
+    are.each v link (subst (λ (x : ℕ). slice_get soles x ≡ Some link) named
+    (slice_get-get_or soles i link (omega (arith, named, within, are.one_each)) ∙ ap (λ (x : ℕ). Some x) (sym is)))
+
+home_at : (g : Topology) (w : Directions) (homes : List Home) (i v : ℕ) (home : Home) → AreHomes g w homes → length homes ≡ length g.ids → i ≡ v
+    → v < length g.ids → home ≡ get_or homes i home → IsHome g w v home
+home_at g w homes i v home are one_each named within is =
+    are.each v home (subst (λ (x : ℕ). slice_get homes x ≡ Some home) named
+    (slice_get-get_or homes i home (omega (arith, named, within, one_each)) ∙ ap (λ (x : Home). Some x) (sym is)))
+
+first_link : (g : Topology) (w : Directions) (dir : Dir) (tile : Tile) (aims links : List ℕ) (s t j link : ℕ) → IsAimed g w dir aims 64 tile
+    → IsAimOf g w (aim_at aims 64 j) s t → s < length g.ids → t < length g.ids → j < 64 → length tile.links.items ≡ 64 → slice_get links j ≡ Some link
+    → ((i x : ℕ) → slice_get links i ≡ Some x → slice_get tile.all_links.items (s * length tile.links.items + i) ≡ Some x)
+    → ShareMoreLinks g w s t → IsFirstLink g w dir s t link
+first_link g w dir tile aims links s t j link aimed aim s_within t_within below wide at there shares =
+    (aimed.each s s_within).each j t shares.block shares.head link below t_within shares.share aim
+    (subst (λ (k : ℕ). slice_get tile.all_links.items (s * k + j) ≡ Some link) wide (there j link at))
+
+pub index-requires : goal.index-requires
+index-requires c =
+    let held = c.requires.held c.requires.directed.directions c.requires.directed.says in
+    omega (arith, c.args.self.now.soles.small, c.get-at.ensures.value, c.requires.source, held.soles.one_each)
+
+pub index-requires-2 : goal.index-requires-2
+index-requires-2 c =
+    let held = c.requires.held c.requires.directed.directions c.requires.directed.says in
+    omega (arith, c.args.self.now.soles.small, c.get.ensures.value, c.requires.aim, held.soles.one_each)
+
+pub links_of-requires : goal.links_of-requires
+links_of-requires c =
+    let held = c.requires.held c.requires.directed.directions c.requires.directed.says in
+    rw (held.up.links, held.up.all_links) (omega (arith, c.requires.source))
+
+pub bounds-links_of-j : goal.bounds-links_of-j
+bounds-links_of-j c =
+    let held = c.requires.held c.requires.directed.directions c.requires.directed.says in
+    omega (arith, c.links_of.ensures.one_each, held.up.links, c.requires.place)
+
+pub links_of-requires-2 : goal.links_of-requires-2
+links_of-requires-2 c =
+    let held = c.requires.held c.requires.directed.directions c.requires.directed.says in
+    rw (held.down.links, held.down.all_links) (omega (arith, c.requires.source))
+
+pub bounds-links_of-j-2 : goal.bounds-links_of-j-2
+bounds-links_of-j-2 c =
+    let held = c.requires.held c.requires.directed.directions c.requires.directed.says in
+    omega (arith, c.links_of-2.ensures.one_each, held.down.links, c.requires.place)
+
+pub index-requires-3 : goal.index-requires-3
+index-requires-3 c =
+    let held = c.requires.held c.requires.directed.directions c.requires.directed.says in
+    omega (arith, c.args.self.now.homes.small, c.get-at.ensures.value, c.requires.source, held.a_home_each)
+
+pub returns : goal.returns
+returns c = λ w says up down aimed.
+    let g = c.args.g.now in
+    let d = c.args.d.now in
+    let s = c.args.s in
+    let aim = c.args.aim in
+    let j = c.args.j in
+    let columns = c.args.self.now in
+    let held = c.requires.held w says in
+    let og = graph_by g c.args.root d w c.requires.kept c.requires.directed says in
+    let below : j < 64 = omega (arith, c.requires.place) in
+    let ups = c.links_of.result.now in
+    let downs = c.links_of-2.result.now in
+    let at_up = slice_get_read ups (length ups) j c.index-links_of-j.result refl (omega (arith, c.links_of.ensures.one_each, held.up.links, below))
+    c.index-links_of-j.is in
+    let at_down = slice_get_read downs (length downs) j c.index-links_of-j-2.result refl
+    (omega (arith, c.links_of-2.ensures.one_each, held.down.links, below)) c.index-links_of-j-2.is in
+    c.row_over.ensures g c.args.root w c.requires.kept og.ordered c.requires.source c.requires.aim
+    (place_is g d w s c.place.result says c.requires.source c.place.ensures) (place_is g d w aim c.place-2.result says c.requires.aim c.place-2.ensures)
+    (sole_at g w columns.soles.items c.get-at.result s c.index.result.now held.soles c.get-at.ensures.value c.requires.source c.index.ensures)
+    (sole_at g w columns.soles.items c.get.result aim c.index-2.result.now held.soles c.get.ensures.value c.requires.aim c.index-2.ensures)
+    (first_link g w _ columns.up columns.aims.items ups s aim j c.index-links_of-j.result up aimed c.requires.source c.requires.aim below held.up.links at_up
+    c.links_of.ensures.there)
+    (first_link g w _ columns.down columns.aims.items downs s aim j c.index-links_of-j-2.result down aimed c.requires.source c.requires.aim below held.down.links
+    at_down c.links_of-2.ensures.there)
+    (home_at g w columns.homes.items c.get-at.result s c.index-3.result.now held.homes held.a_home_each c.get-at.ensures.value c.requires.source
+    c.index-3.ensures)

@@ -1,0 +1,95 @@
+use Rattle.std.proofs.Common.{◌≡◌, ◌≢◌, ◌∙◌, ◌+◌, ◌-◌, ℕ, Option, sym, subst, arith}
+use Rattle.std.proofs.lemmas.Bool.{eqb-false, eqb-true}
+use Rattle.mrt_graph.specs.declared.cert.Row.{Row}
+use Rattle.inc_dec_spf.specs.BlockAims.{aim_at}
+use Rattle.mrt_rows.specs.Chain.{AreWayAims}
+use Rattle.mrt_rows.specs.Source.{IsNear}
+use Rattle.mrt_rows.proofs.AimsOfRows.{aim_of_blocks}
+use Rattle.mrt_rows.proofs.ChainAims.{aim_apart, aim_within}
+use Rattle.mrt_rows.proofs.Climbing.{graph_by}
+use Rattle.mrt_rows.proofs.ColumnRows.{near_of, row_at_aim, row_from_aim, some_near}
+use Rattle.mrt_rows.proofs.column.Columns.row.Goals as goal
+
+pub aimed_row-requires-clause-aim : goal.aimed_row-requires-clause-aim
+aimed_row-requires-clause-aim c =
+    let w = c.requires.directed.directions in
+    let says = c.requires.directed.says in
+    let og = graph_by c.args.g.now c.args.root c.args.d.now w c.requires.kept c.requires.directed says in
+    aim_within og c.args.to c.requires.to c.args.self.now.below.items (c.requires.below w says) c.args.s c.aim_of-aim.result c.requires.source
+    (c.aim_of-aim.ensures w says)
+
+pub aimed_row-requires-clause-two : goal.aimed_row-requires-clause-two
+aimed_row-requires-clause-two c = λ same.
+    let w = c.requires.directed.directions in
+    let says = c.requires.directed.says in
+    let og = graph_by c.args.g.now c.args.root c.args.d.now w c.requires.kept c.requires.directed says in
+    aim_apart og c.args.to c.requires.to c.args.self.now.below.items (c.requires.below w says) c.args.s c.aim_of-aim.result c.requires.source c.requires.two
+    (c.aim_of-aim.ensures w says) (sym same)
+
+pub returns-in_err-row : goal.returns-in_err-row
+returns-in_err-row c = λ w says.
+    let g = c.args.g.now in
+    let held = c.args.self.now in
+    let j = c.get.result - held.first in
+    let s = c.args.s in
+    let aim = c.aim_of-aim.result in
+    let below = held.below.items in
+    let og = graph_by g c.args.root c.args.d.now w c.requires.kept c.requires.directed says in
+    let are_below = c.requires.below w says in
+    let is = c.aim_of-aim.ensures w says in
+    let apart : s ≢ aim = λ same. aim_apart og c.args.to c.requires.to below are_below s aim c.requires.source c.requires.two is (sym same) in
+    let place : held.first + j ≡ c.args.to = omega (arith, c.get.ensures.value, c.requires.from) in
+    let aimed = (c.requires.held w says).aimed (omega (arith, c.requires.from, c.requires.to)) in
+    let ways : AreWayAims g c.args.root w c.args.to (aim_at held.aims.items 64 j) =
+    subst (λ (t : ℕ). AreWayAims g c.args.root w t (aim_at held.aims.items 64 j)) place
+    (aimed.aims.each j (omega (arith, place, c.requires.among)) (omega (arith, place, c.requires.to))) in
+    let it = aim_of_blocks og c.args.to c.requires.to below are_below (aim_at held.aims.items 64 j) ways s aim c.requires.source c.requires.two is in
+    let near = near_of g c.args.root w s aim c.aimed_row.result (c.aimed_row.ensures w says aimed.up aimed.down it) in
+    absurd (some_near og c.args.to c.requires.to below are_below s aim c.requires.source c.requires.two apart is
+    (subst (λ (o : Option Row). IsNear g c.args.root w s aim o) c.in_err-row.was near))
+
+pub returns-then-eq : goal.returns-then-eq
+returns-then-eq c = λ w says.
+    let g = c.args.g.now in
+    let held = c.args.self.now in
+    let j = c.get.result - held.first in
+    let s = c.args.s in
+    let aim = c.aim_of-aim.result in
+    let below = held.below.items in
+    let og = graph_by g c.args.root c.args.d.now w c.requires.kept c.requires.directed says in
+    let are_below = c.requires.below w says in
+    let is = c.aim_of-aim.ensures w says in
+    let apart : s ≢ aim = λ same. aim_apart og c.args.to c.requires.to below are_below s aim c.requires.source c.requires.two is (sym same) in
+    let place : held.first + j ≡ c.args.to = omega (arith, c.get.ensures.value, c.requires.from) in
+    let aimed = (c.requires.held w says).aimed (omega (arith, c.requires.from, c.requires.to)) in
+    let ways : AreWayAims g c.args.root w c.args.to (aim_at held.aims.items 64 j) =
+    subst (λ (t : ℕ). AreWayAims g c.args.root w t (aim_at held.aims.items 64 j)) place
+    (aimed.aims.each j (omega (arith, place, c.requires.among)) (omega (arith, place, c.requires.to))) in
+    let it = aim_of_blocks og c.args.to c.requires.to below are_below (aim_at held.aims.items 64 j) ways s aim c.requires.source c.requires.two is in
+    let near = near_of g c.args.root w s aim c.aimed_row.result (c.aimed_row.ensures w says aimed.up aimed.down it) in
+    row_at_aim og c.args.to c.requires.to below are_below s aim c.requires.source c.requires.two apart is c.in_ok-row.row
+    (eqb-true aim c.args.to (sym c.eq.ensures ∙ c.if-eq.true))
+    (subst (λ (o : Option Row). IsNear g c.args.root w s aim o) c.in_ok-row.was near)
+
+pub returns : goal.returns
+returns c = λ w says.
+    let g = c.args.g.now in
+    let held = c.args.self.now in
+    let j = c.get.result - held.first in
+    let s = c.args.s in
+    let aim = c.aim_of-aim.result in
+    let below = held.below.items in
+    let og = graph_by g c.args.root c.args.d.now w c.requires.kept c.requires.directed says in
+    let are_below = c.requires.below w says in
+    let is = c.aim_of-aim.ensures w says in
+    let apart : s ≢ aim = λ same. aim_apart og c.args.to c.requires.to below are_below s aim c.requires.source c.requires.two is (sym same) in
+    let place : held.first + j ≡ c.args.to = omega (arith, c.get.ensures.value, c.requires.from) in
+    let aimed = (c.requires.held w says).aimed (omega (arith, c.requires.from, c.requires.to)) in
+    let ways : AreWayAims g c.args.root w c.args.to (aim_at held.aims.items 64 j) =
+    subst (λ (t : ℕ). AreWayAims g c.args.root w t (aim_at held.aims.items 64 j)) place
+    (aimed.aims.each j (omega (arith, place, c.requires.among)) (omega (arith, place, c.requires.to))) in
+    let it = aim_of_blocks og c.args.to c.requires.to below are_below (aim_at held.aims.items 64 j) ways s aim c.requires.source c.requires.two is in
+    let near = near_of g c.args.root w s aim c.aimed_row.result (c.aimed_row.ensures w says aimed.up aimed.down it) in
+    row_from_aim og c.args.to c.requires.to below are_below s aim c.requires.source c.requires.two apart is c.in_ok-row.row
+    (eqb-false aim c.args.to (sym c.eq.ensures ∙ c.if-eq.false))
+    (subst (λ (o : Option Row). IsNear g c.args.root w s aim o) c.in_ok-row.was near)

@@ -1,0 +1,21 @@
+use Rattle.std.proofs.Common.{◌∙◌, ℕ, List, sym, subst}
+use Rattle.std.proofs.lemmas.List.{with_items_is}
+use Rattle.inc_dec_spf.specs.declared.reach.Dir.TheVariants.{Down, Up}
+use Rattle.inc_dec_spf.specs.Tile.{IsAimed}
+use Rattle.mrt_rows.specs.declared.members.Home.{Home}
+use Rattle.mrt_rows.specs.Put.{AreHomes}
+use Rattle.mrt_rows.proofs.OrderedGraphs.{graph_of}
+use Rattle.mrt_rows.proofs.Sharing.{others_in_one_block}
+use Rattle.mrt_rows.proofs.homes.homes_of.Goals as goal
+
+pub returns-clause-homes : goal.returns-clause-homes
+returns-clause-homes c = λ root w are marked.
+    let g = c.args.g.now in
+    let others = others_in_one_block (graph_of g root w c.args.d.now c.requires.kept are) c.args.heads.now marked in
+    let put = c.put_heads.new.aims in
+    let aims_same = with_items_is c.in_ok-aims.aims put (c.put_heads.ensures.room ∙ c.deref_mut.ensures.len) in
+    let up = subst (λ (xs : List ℕ). IsAimed g w Up xs 1 c.aim.new.self) (c.deref.ensures.value ∙ aims_same) (c.aim.ensures.aimed root w are others) in
+    let down = subst (λ (xs : List ℕ). IsAimed g w Down xs 1 c.aim-2.new.self) (c.deref-2.ensures.value ∙ aims_same) (c.aim-2.ensures.aimed root w are others) in
+    let same = with_items_is c.in_ok-homes.homes c.take_homes.new.homes (c.take_homes.auto.homes ∙ c.deref_mut-2.ensures.len) in
+    subst (λ (homes : List Home). AreHomes g w homes) (sym same)
+    (c.take_homes.ensures.homes root w put are.ordered (c.put_heads.ensures.heads root w are) up down)
