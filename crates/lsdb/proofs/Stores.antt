@@ -1,22 +1,19 @@
 -- The database's parts and its entries.
-use Rattle.std.proofs.Common.{◌≡◌, ◌∙◌, ◌<◌, ◌+◌, ◌++◌, ◌||◌, ℕ, zero, suc, Bool, true, false, List, [], ◌∷◌, Option, Some, None, length, map, get_or, set, slice_get, if◌then◌else◌, refl, sym, ap, subst, inl, inr, arith}
-use Rattle.std.specs.List.{list_any, position, AllByRecursion, IsDistinct}
-use Rattle.std.specs.Cmp.{IsEquivalence, and_equiv, on_equiv}
-use Rattle.std.proofs.lemmas.Cmp.{nat_eq_equiv}
-use Rattle.std.proofs.lemmas.Map.Keys.{IsDistinct-push}
+use Rattle.std.proofs.Common.{◌≡◌, ◌∙◌, ◌<◌, ◌++◌, ◌||◌, ℕ, zero, suc, Bool, true, false, not, cond, List, [], ◌∷◌, Option, Some, None, length, map, get_or, set, slice_get, if◌then◌else◌, refl, sym, ap, subst, inl, inr, arith}
+use Rattle.std.specs.List.{list_any, position, position_or_len}
 use Rattle.std.specs.Option.{is_some, option_map}
 use Rattle.std.proofs.lemmas.Option.{get_or_from_slice_get, same_Some, slice_get-map, slice_get_cases}
-use Rattle.std.proofs.lemmas.List.{set-get_or, length-map, map-append, length-append}
+use Rattle.std.proofs.lemmas.List.{set-get_or, length-map}
 use Rattle.std.proofs.lemmas.List.Quantifiers.{position-Some}
-use Rattle.std.proofs.lemmas.Bool.{and_parts, or_parts, eqb-true}
+use Rattle.std.proofs.lemmas.Bool.{and_parts, cases_Bool, eqb-true, lt-ltb, not-false, or_parts}
 use Rattle.ospf_lsa.specs.declared.lsa.Lsa.{Lsa}
 use Rattle.lsdb.specs.declared.change.Change.{Change}
 use Rattle.lsdb.specs.declared.change.Change.TheVariants.{Added}
 use Rattle.lsdb.specs.declared.key.Key.{Key}
 use Rattle.lsdb.specs.Entries.{Entry, Database}
-use Rattle.lsdb.specs.Installing.{change_of, changed, installed, noted, IsKept}
+use Rattle.lsdb.specs.Installing.{change_of, changed, installed, noted}
 use Rattle.lsdb.specs.Keys.{key_of, same_key}
-use Rattle.lsdb.specs.Store.{entries_of, IsStore, IsEntryOf, is_entry_of}
+use Rattle.lsdb.specs.Store.{entries_of, IsStore, is_entry_of}
 
 pub lsas_of_entries : (lsas : List Lsa) (places : List (Option ℕ)) → length places ≡ length lsas
     → map (λ (entry : Entry). entry.lsa) (entries_of lsas places) ≡ lsas
@@ -101,40 +98,12 @@ keys_set (x ∷ lsas) zero lsa there =
     ap (λ (key : Key). key ∷ map key_of lsas) (sym (same_Some (key_of x) (key_of lsa) there))
 keys_set (x ∷ lsas) (suc i) lsa there = ap (λ (rest : List Key). key_of x ∷ rest) (keys_set lsas i lsa there)
 
--- an instance of the key stands at the place
-pub record Standing (lsas : List Lsa) (key : Key) (i : ℕ) : Type 0 where
-  pub inside : i < length lsas
-  pub keyed : slice_get (map key_of lsas) i ≡ Some key
-
-pub standing : (lsas : List Lsa) (places : List (Option ℕ)) (key : Key) (i : ℕ)
-    → IsEntryOf key (slice_get (entries_of lsas places) i) → Standing lsas key i
-standing [] places key i there = absurd there
-standing (x ∷ lsas) [] key i there = absurd there
-standing (x ∷ lsas) (p ∷ places) key zero there =
-    record { inside = omega arith; keyed = ap (λ (k : Key). Some k) there }
-standing (x ∷ lsas) (p ∷ places) key (suc i) there =
-    let rest = standing lsas places key i there in record { inside = omega (arith, rest.inside); keyed = rest.keyed }
-
 -- the instance that an index gives is that of the entry
 pub instance_of : (lsas : List Lsa) (places : List (Option ℕ)) (i : ℕ) (entry : Entry) (found : Lsa)
     → found ≡ get_or lsas i found
     → slice_get (entries_of lsas places) i ≡ Some entry → found ≡ entry.lsa
 instance_of lsas places i entry found is there = is
     ∙ get_or_from_slice_get lsas i entry.lsa found (parts_of lsas places i entry there).lsa
-
--- a database of these entries, to which this place was the last
-abbrev pub holding : List Entry → ℕ → Database
-holding es at = record { entries = es; greatest = Some at }
-
--- the database after an instance met the entry of its key
-pub met_database : (db : Database) (es new : List Entry) (i : ℕ) (entry : Entry) (lsa : Lsa)
-    (change change' : Change) → es ≡ db.entries → change ≡ change'
-    → new ≡ set es i (changed entry lsa change)
-    → holding new lsa.at ≡ holding (set db.entries i (changed entry lsa change')) lsa.at
-met_database db es new i entry lsa change change' same same_change is =
-    ap (λ (n : List Entry). holding n lsa.at) is
-    ∙ ap (λ (c : Change). holding (set es i (changed entry lsa c)) lsa.at) same_change
-    ∙ ap (λ (e : List Entry). holding (set e i (changed entry lsa change')) lsa.at) same
 
 -- keys that are told to be one are equal
 pub key_is : (one other : Key) → same_key one other ≡ true → other ≡ one
@@ -194,9 +163,24 @@ found_at key keys lsas places i db lsa is store same at =
     (found_in key (entries_of lsas places) i
     (ap (position (same_key key)) (keys_of_entries lsas places store.noted ∙ sym store.keyed) ∙ sym at)))
 
-pub found_is_of : (key : Key) (es : List Entry) (i : ℕ) → Found key es i → IsEntryOf key (slice_get es i)
-found_is_of key es i found = subst (λ (o : Option Entry). IsEntryOf key o) (sym found.there)
-    (key_is key (key_of found.entry.lsa) found.same)
+-- a key that is there stands where an insert finds it
+stands_at : (test : Key → Bool) (keys : List Key) → list_any test keys ≡ true → position_or_len test keys < length keys
+stands_at test [] there = absurd cc
+stands_at test (key ∷ keys) there = elim (cases_Bool (test key)) [
+  | inl is ↦ rw is (omega arith)
+  | inr other ↦ rw other (omega (arith, stands_at test keys (rw other at there)))
+]
+
+pub found_by_insert : (key : Key) (keys : List Key) (lsas : List Lsa) (places : List (Option ℕ)) (i : ℕ) (is_new : Bool)
+    (db : Database) (lsa : Lsa) → key ≡ key_of lsa → IsStore keys lsas places → entries_of lsas places ≡ db.entries
+    → is_new ≡ not (list_any (same_key key) keys) → is_new ≡ false → i ≡ position_or_len (same_key key) keys
+    → Found (key_of lsa) db.entries i
+found_by_insert key keys lsas places i is_new db lsa is store same told old at =
+    let there : list_any (same_key key) keys ≡ true = not-false _ (sym told ∙ old) in
+    found_at key keys lsas places i db lsa is store same
+    (ap (λ (n : ℕ). Some n) at
+    ∙ sym (ap (λ (b : Bool). cond b (Some (position_or_len (same_key key) keys)) None)
+    (lt-ltb _ _ (stands_at (same_key key) keys there))))
 
 any_of_keys : (key : Key) (es : List Entry)
     → list_any (is_entry_of key) es ≡ list_any (same_key key) (map (λ (e : Entry). key_of e.lsa) es)
@@ -240,32 +224,3 @@ installed_there (e ∷ es) lsa (suc i) entry there same first =
     unchosen (same_key (key_of lsa) (key_of e.lsa)) _ _ (first 0 e (omega arith) refl)
     ∙ ap (λ (r : List Entry × Change). (e ∷ r.0, r.1))
     (installed_there es lsa i entry there same (λ k other lt at. first (suc k) other (omega (arith, lt)) at))
-
-kept_more : (lsas : List Lsa) (lsa : Lsa) → AllByRecursion IsKept lsas → IsKept lsa
-    → AllByRecursion IsKept (lsas ++ lsa ∷ [])
-kept_more [] lsa kept more = (more, tt)
-kept_more (x ∷ lsas) lsa kept more = (kept.0, kept_more lsas lsa kept.1 more)
-
-key_equiv : IsEquivalence same_key
-key_equiv =
-    and_equiv (on_equiv (λ (k : Key). k.kind) nat_eq_equiv)
-    (and_equiv (on_equiv (λ (k : Key). k.id) nat_eq_equiv) (on_equiv (λ (k : Key). k.router) nat_eq_equiv))
-
--- the parts after an instance of a new key
-pub store_added : (keys keys' : List Key) (lsas lsas' : List Lsa) (places places' : List (Option ℕ)) (key : Key)
-    (lsa : Lsa) → IsStore keys lsas places
-    → keys' ≡ (if list_any (same_key key) keys then keys else keys ++ key ∷ [])
-    → list_any (same_key key) keys ≡ false → key ≡ key_of lsa
-    → lsas' ≡ lsas ++ lsa ∷ [] → places' ≡ places ++ None ∷ [] → IsKept lsa → IsStore keys' lsas' places'
-store_added keys keys' lsas lsas' places places' key lsa store inserted none is added noted_none kept = record {
-  distinct = subst (IsDistinct same_key) (sym (ap (map key_of) added ∙ map-append key_of lsas (lsa ∷ [])))
-      (IsDistinct-push key_equiv (map key_of lsas) (key_of lsa) store.distinct
-      (ap (list_any (same_key (key_of lsa))) (sym store.keyed)
-      ∙ ap (λ (k : Key). list_any (same_key k) keys) (sym is) ∙ none));
-  keyed = inserted ∙ unchosen (list_any (same_key key) keys) _ _ none ∙ ap (λ (k : Key). keys ++ k ∷ []) is
-      ∙ ap (λ (ks : List Key). ks ++ key_of lsa ∷ []) store.keyed ∙ sym (map-append key_of lsas (lsa ∷ []))
-      ∙ ap (map key_of) (sym added);
-  noted = ap length noted_none ∙ length-append places (None ∷ []) ∙ ap (λ (n : ℕ). n + 1) store.noted
-      ∙ sym (length-append lsas (lsa ∷ [])) ∙ ap length (sym added);
-  kept = subst (AllByRecursion IsKept) (sym added) (kept_more lsas lsa store.kept kept);
-}

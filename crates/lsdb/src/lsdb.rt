@@ -1,18 +1,18 @@
 //! The database.
 
-ghost use Rattle.std.specs.Prelude.{◌≡◌, ◌↔◌, ◌<◌, ◌∷◌, ◌++◌, false, [], None, Some, IfOk, OnOk, OnErr, IfErr, Ok, Err, Contains, length, map, slice_get, slice_set};
-ghost use Rattle.std.specs.List.{list_any, AllByRecursion};
+ghost use Rattle.std.specs.Prelude.{◌≡◌, ◌↔◌, [], None, Some, IfOk, OnOk, OnErr, Ok, Err, Contains, map};
+ghost use Rattle.std.specs.List.{AllByRecursion};
 ghost use Rattle.lsdb.specs.Conflicts.{least_conflict, settled_by};
 ghost use Rattle.lsdb.specs.Disagreements.{IsFirstConflict};
 ghost use Rattle.lsdb.specs.Entries.{Entry};
-ghost use Rattle.lsdb.specs.Installing.{installed, change_of, changed, IsKept, IsBehind};
-ghost use Rattle.lsdb.specs.Keys.{key_of, AreDistinct};
-ghost use Rattle.lsdb.specs.Store.{is_entry_of, IsEntryOf};
+ghost use Rattle.lsdb.specs.Installing.{installed, IsKept, IsBehind};
+ghost use Rattle.lsdb.specs.Keys.{AreDistinct};
 
 use crate::change::{Change, Conflict};
 use crate::conflicts::least;
 use crate::key::Key;
 use crate::meet::meet;
+use file_key::FileKey;
 use indexmap::IndexSet;
 use mrt_graph::NoMemory;
 use ospf_lsa::Lsa;
@@ -22,7 +22,7 @@ use std::marker::Model;
 /// A database of LSAs, which keeps of each key the first newest instance.
 #[derive(Drop)]
 pub struct Lsdb {
-    keys: IndexSet<Key>,
+    keys: IndexSet<Key, FileKey>,
     lsas: Vec<Lsa>,
     differing: Vec<Option<u32>>,
     greatest: Option<u32>,
@@ -40,13 +40,21 @@ impl Model for Lsdb {
 }
 
 impl Lsdb {
-    /// A database without LSAs.
+    /// A database without LSAs. Where others chose the LSAs, take [`keyed`](Lsdb::keyed).
     pub fn new(alloc: Global) -> Lsdb
         ensures entries { result.entries ≡ [] }
         ensures greatest { result.greatest ≡ None }
     {
+        Lsdb::keyed(alloc, FileKey::of(b""))
+    }
+
+    /// A database without LSAs, with its keys hashed by what the file of its LSAs gives.
+    pub fn keyed(alloc: Global, file: FileKey) -> Lsdb
+        ensures entries { result.entries ≡ [] }
+        ensures greatest { result.greatest ≡ None }
+    {
         Lsdb {
-            keys: IndexSet::new(alloc),
+            keys: IndexSet::with_hasher(alloc, file),
             lsas: Vec::new(alloc),
             differing: Vec::new(alloc),
             greatest: None,
@@ -64,7 +72,7 @@ impl Lsdb {
 
     /// Installs an instance, and tells what it changed. After a refusal nothing has changed.
     ///
-    /// It takes, over many installs, the time of two look-ups by key, and where there is an instance of the same rank,
+    /// It takes, over many installs, the time of a look-up by key, and where there is an instance of the same rank,
     /// that of comparing the two bodies.
     pub fn install(&mut self, lsa: Lsa) -> Result<Change, NoMemory>
         requires kept { IsKept lsa }
@@ -74,11 +82,16 @@ impl Lsdb {
         ensures greatest { OnOk result (self.new.greatest ≡ Some lsa.at) }
         ensures err { OnErr result (self.new ≡ self.old) }
     {
-        let key = Key::of(&lsa);
-        match self.keys.get_index_of(&key) {
-            None => self.add(key, lsa),
-            Some(place) => Ok(self.meet(place, lsa)),
+        self.lsas.reserve(1)?;
+        self.differing.reserve(1)?;
+        let (place, is_new) = self.keys.insert_full(Key::of(&lsa))?;
+        self.greatest = Some(lsa.at);
+        if is_new {
+            self.lsas.push_reserved(lsa);
+            self.differing.push_reserved(None);
+            return Ok(Change::Added);
         }
+        Ok(meet(&mut self.lsas, &mut self.differing, place, lsa))
     }
 
     /// A refusal where two newest instances of one key differ in more than their places and ages; of several such
@@ -96,40 +109,5 @@ impl Lsdb {
             None => Ok(()),
             Some(conflict) => Err(conflict),
         }
-    }
-
-    /// Puts an instance of a new key at the end.
-    fn add(&mut self, key: Key, lsa: Lsa) -> Result<Change, NoMemory>
-        requires kept { IsKept lsa }
-        requires key { key ≡ key_of lsa }
-        requires absent { list_any (is_entry_of key) self.old.entries ≡ false }
-        ensures change { IfOk result (λ change. change ≡ Change.Added) }
-        ensures entries { OnOk result
-            (self.new.entries ≡ self.old.entries ++ record { lsa = lsa; differing = None } ∷ []) }
-        ensures greatest { OnOk result (self.new.greatest ≡ Some lsa.at) }
-        ensures err { OnErr result (self.new ≡ self.old) }
-    {
-        self.lsas.reserve(1)?;
-        self.differing.reserve(1)?;
-        self.keys.insert(key)?;
-        self.greatest = Some(lsa.at);
-        self.lsas.push_reserved(lsa);
-        self.differing.push_reserved(None);
-        Ok(Change::Added)
-    }
-
-    /// Lets an instance meet the entry of its key.
-    fn meet(&mut self, place: usize, lsa: Lsa) -> Change
-        requires kept { IsKept lsa }
-        requires there { IsEntryOf (key_of lsa) (slice_get self.old.entries place) }
-        ensures { (entry : Entry) → slice_get self.old.entries place ≡ Some entry
-            → (self.new ≡ record {
-              entries = slice_set self.old.entries place (changed entry lsa (change_of entry.lsa lsa));
-              greatest = Some lsa.at;
-            })
-            × (result ≡ change_of entry.lsa lsa) }
-    {
-        self.greatest = Some(lsa.at);
-        meet(&mut self.lsas, &mut self.differing, place, lsa)
     }
 }

@@ -6,6 +6,7 @@ ghost use Rattle.mrt_island.specs.ProfileStore.{parts_of};
 ghost use Rattle.mrt_island.specs.Settings.{is_eligible, priority_of, same_subject, supports};
 
 use crate::setting::{Setting, Subject};
+use file_key::FileKey;
 use indexmap::IndexMap;
 use mrt_graph::NoMemory;
 use std::alloc::Global;
@@ -15,7 +16,7 @@ use std::marker::Model;
 #[derive(Drop)]
 pub struct Profile {
     /// Each setting by its subject, with the priority where the subject is one.
-    settings: IndexMap<Subject, u8>,
+    settings: IndexMap<Subject, u8, FileKey>,
 }
 
 impl Model for Profile {
@@ -36,8 +37,15 @@ impl Profile {
     pub fn empty(alloc: Global) -> Profile
         ensures { result ≡ [] }
     {
+        Profile::keyed(alloc, FileKey::of(b""))
+    }
+
+    /// A profile without settings, for those of the file that gives this key.
+    pub(crate) fn keyed(alloc: Global, file: FileKey) -> Profile
+        ensures { result ≡ [] }
+    {
         Profile {
-            settings: IndexMap::new(alloc),
+            settings: IndexMap::with_hasher(alloc, file),
         }
     }
 

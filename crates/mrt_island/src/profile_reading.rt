@@ -9,6 +9,7 @@ ghost use Rattle.mrt_island.specs.ProfileFaults.{AreFaultless, IsFirstFault, OrN
 use crate::profile::Profile;
 use crate::profile_error::{ProfileError, ProfileKind};
 use crate::profile_line::read_setting;
+use file_key::FileKey;
 use mrt_graph::{NoMemory, first_line, is_passed_over};
 use std::alloc::Global;
 
@@ -45,7 +46,7 @@ fn read_lines(alloc: Global, bytes: &[u8]) -> Result<Profile, ProfileError>
     requires { length bytes.now ≤ 33554432 }
     ensures { ReadsLines (text_lines bytes.now) result }
 {
-    let mut profile = Profile::empty(alloc);
+    let mut profile = Profile::keyed(alloc, FileKey::of(bytes));
     let mut rest = bytes;
     let mut number = 0;
     while let Some((line, behind)) = first_line(rest) {
