@@ -2,6 +2,7 @@
 
 use crate::update_files::{OLDER_FIRST, PACKETS};
 use area_graph::build_area;
+use file_key::FileKey;
 use flood_core::read_updates;
 use flood_script::{Compare, FloodScriptError, Verdict, flood_text, read_flood_script};
 use lsdb::Lsdb;
@@ -50,7 +51,7 @@ fn text_of(alloc: Global, packets: &[u8], script: &[u8]) -> Option<Vec<u8>> {
     }
     let script = read_flood_script(alloc, script).ok()?;
     let updates = read_updates(alloc, packets).ok()?;
-    flood_text(alloc, updates, &script, &ByNodes).ok()
+    flood_text(alloc, FileKey::of(packets), updates, &script, &ByNodes).ok()
 }
 
 fn gives(alloc: Global, packets: &[u8], script: &[u8], wanted: &[u8]) -> bool {

@@ -8,6 +8,7 @@ ghost use Rattle.flood_core.specs.Receiving.{new_router};
 use crate::answer::Answer;
 use crate::router::Router;
 use crate::update::Update;
+use file_key::FileKey;
 use lsdb::Lsdb;
 use mrt_graph::{NoMemory, Seq};
 use ospf_lsa::Lsa;
@@ -41,13 +42,18 @@ impl Flood {
     ghost use Rattle.flood_core.specs.FloodStep.{delivered};
     ghost use Rattle.flood_core.specs.Receiving.{MayFlood};
 
-    /// The packets of a file, and so many routers with empty databases. There are 1 to 64 routers, at most
+    /// The packets of a file and the key that its bytes give, and so many routers with empty databases. There are 1 to 64 routers, at most
     /// 4,294,000,000 packets, and at most 65,535 LSAs in each; those of types 1 and 2 may stand in a database.
     ///
     /// # Errors
     ///
     /// [`NoMemory`] where there was none for the list of the routers.
-    pub fn new(alloc: Global, updates: Vec<Update>, routers: u16) -> Result<Flood, NoMemory>
+    pub fn new(
+        alloc: Global,
+        file: FileKey,
+        updates: Vec<Update>,
+        routers: u16,
+    ) -> Result<Flood, NoMemory>
         requires some { 1 ≤ routers }
         requires few { routers ≤ 64 }
         requires few_updates { length updates.items ≤ 4294000000 }
@@ -57,7 +63,7 @@ impl Flood {
         Ok(Flood {
             alloc,
             packets: updates,
-            routers: new_routers(alloc, routers)?,
+            routers: new_routers(alloc, file, routers)?,
             changed: 0,
         })
     }
@@ -132,12 +138,12 @@ impl Update {
 }
 
 /// So many routers with empty databases.
-fn new_routers(alloc: Global, count: u16) -> Result<Vec<Router>, NoMemory>
+fn new_routers(alloc: Global, file: FileKey, count: u16) -> Result<Vec<Router>, NoMemory>
     ensures { IfOk result (λ routers. routers.items ≡ replicate count new_router) }
 {
     let mut routers = Vec::with_capacity(alloc, usize::from(count))?;
     for _number in 0..count {
-        routers.push(Router::new(alloc))?;
+        routers.push(Router::new(alloc, file))?;
     }
     Ok(routers)
 }

@@ -5,6 +5,7 @@ ghost use Rattle.std.specs.List.{AllByRecursion};
 ghost use Rattle.lsdb.specs.Installing.{IsBehind, IsKept};
 ghost use Rattle.flood_core.specs.Receiving.{after_all, after_one, is_news, is_topology, new_router, news, topology};
 
+use file_key::FileKey;
 use lsdb::{Change, Lsdb};
 use mrt_graph::NoMemory;
 use ospf_lsa::{Lsa, NETWORK_LSA, ROUTER_LSA};
@@ -18,12 +19,12 @@ pub struct Router {
 }
 
 impl Router {
-    /// A router that no packet has reached.
-    pub fn new(alloc: Global) -> Router
+    /// A router that no packet of the file that gives this key has reached.
+    pub fn new(alloc: Global, file: FileKey) -> Router
         ensures { result ≡ new_router }
     {
         Router {
-            database: Lsdb::new(alloc),
+            database: Lsdb::keyed(alloc, file),
             arrivals: 0,
         }
     }

@@ -11,12 +11,13 @@ ghost use Rattle.flood_script.specs.FloodTexts.{IsFloodText, IsLineText, after_l
 use crate::comparing::Compare;
 use crate::lines::{push_answer, push_verdict};
 use crate::script::{FloodLine, FloodScript};
+use file_key::FileKey;
 use flood_core::{Flood, Update};
 use mrt_graph::NoMemory;
 use std::alloc::Global;
 
 /// The lines of the answers to the lines of a script, one for each, where its deliveries begin with the packets of a file
-/// and with empty databases. The packets may be flooded, and the script is one that was read.
+/// and with empty databases; the file gives a key. The packets may be flooded, and the script is one that was read.
 ///
 /// It takes the time of the deliveries and of the comparisons.
 ///
@@ -25,6 +26,7 @@ use std::alloc::Global;
 /// [`NoMemory`] where there was none for a database, a packet, a comparison or the text.
 pub fn flood_text<C: Compare>(
     alloc: Global,
+    file: FileKey,
     updates: Vec<Update>,
     script: &FloodScript,
     comparing: &C,
@@ -38,7 +40,7 @@ pub fn flood_text<C: Compare>(
     ensures { IfOk result (λ text. IsFloodText (C.says comparing.now) (started updates.items script.now.routers)
         script.now.lines text.items) }
 {
-    let flood = Flood::new(alloc, updates, script.routers)?;
+    let flood = Flood::new(alloc, file, updates, script.routers)?;
     tell_all(alloc, flood, script.lines.as_slice(), comparing)
 }
 

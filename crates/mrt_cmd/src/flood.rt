@@ -27,6 +27,7 @@ use crate::input::profile_of;
 use crate::named_file::NamedFile;
 use crate::reading::{read_file, read_profile_file};
 use crate::words::FloodForm;
+use file_key::FileKey;
 use flood_core::{Update, read_updates};
 use flood_script::{FloodScript, flood_text, read_flood_script};
 use flood_verdict::ByIsland;
@@ -108,7 +109,8 @@ fn answers_of(alloc: Global, files: &FloodRead) -> Result<Vec<u8>, Exit>
     let profile = profile_of(alloc, &files.profile)?;
     let script = script_of(alloc, &files.script)?;
     let comparing = ByIsland::new(&profile);
-    Ok(flood_text(alloc, updates, &script, &comparing)?)
+    let key = FileKey::of(&files.updates);
+    Ok(flood_text(alloc, key, updates, &script, &comparing)?)
 }
 
 /// The packets that the bytes are.

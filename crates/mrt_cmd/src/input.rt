@@ -13,6 +13,7 @@ ghost use Rattle.mrt_cmd.specs.Input.{IsProfile};
 ghost use Rattle.mrt_cmd.specs.Reading.{HasNoDatabase, HasNoProfile, HasNoScript};
 
 use fabric_script::{Script, read_script};
+use file_key::FileKey;
 use lsdb::{
     Lsdb, an_lsa_without_a_fault_may_be_installed, entries_are_those_of_the_list,
     refuses_exactly_where_not_settled, tells_the_first_conflict,
@@ -32,19 +33,19 @@ pub(crate) fn database_of(alloc: Global, bytes: &[u8]) -> Result<Lsdb, Exit>
     refuses_exactly_where_not_settled();
     tells_the_first_conflict();
     let lsas = read_lsas(alloc, bytes)?;
-    let database = installed(alloc, lsas)?;
+    let database = installed(alloc, FileKey::of(bytes), lsas)?;
     database.settled()?;
     Ok(database)
 }
 
-/// A database in which the router-LSAs and network-LSAs among these were installed, one after another.
-fn installed(alloc: Global, lsas: Vec<Lsa>) -> Result<Lsdb, Exit>
+/// A database in which the router-LSAs and network-LSAs among these of a file were installed, one after another.
+fn installed(alloc: Global, file: FileKey, lsas: Vec<Lsa>) -> Result<Lsdb, Exit>
     requires { AreLsas 0 lsas.items }
     ensures entries { IfOk result (λ database. database.entries ≡ entries_in (entering lsas.items)) }
     ensures none { IfErr result (λ exit. exit ≡ Exit.NoMemory) }
 {
     entries_are_those_of_the_list();
-    let mut database = Lsdb::new(alloc);
+    let mut database = Lsdb::keyed(alloc, file);
     for lsa in lsas {
         enter(&mut database, lsa)?;
     }
