@@ -17,7 +17,7 @@ PROGRAM = """\
 #![tactic(auto)]
 
 use anyhow::{Result, bail};
-use cert_format::{CertError, CertReader, put_cert, read_cert, write_cert};
+use cert_format::{CertError, CertReader, WritableCert, read_cert, write_cert};
 use mrt_io::MemSink;
 use std::alloc::Global;
 use std::fs;
@@ -67,8 +67,11 @@ fn main(rt: HostRuntime) -> Result<()> {
         let Ok(mut sink) = MemSink::new(rt.alloc(), 84025358, 65536, Vec::new(rt.alloc())) else {
             bail!("no sink");
         };
+        let Ok(writable) = WritableCert::new(rt.alloc(), file) else {
+            bail!("no memory");
+        };
         let start = Instant::now(&rt)?;
-        let done = put_cert(&mut sink, &file);
+        let done = writable.put(&mut sink);
         let put = start.elapsed(&rt)?.as_micros();
         println!(rt; "put {put}")?;
         if done != Ok(()) || sink.bytes() != bytes.as_slice() {
@@ -79,7 +82,7 @@ fn main(rt: HostRuntime) -> Result<()> {
 }
 """
 
-CALLS = (("CertReader::feed", "feed"), ("CertReader::finish", "finish"), ("read_cert", "read"), ("write_cert", "write"), ("put_cert", "put"))
+CALLS = (("CertReader::feed", "feed"), ("CertReader::finish", "finish"), ("read_cert", "read"), ("write_cert", "write"), ("WritableCert::put", "put"))
 
 
 def of_version(version, data):

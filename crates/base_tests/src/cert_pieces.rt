@@ -1,7 +1,9 @@
 //! The certificate of a triangle, read in pieces and put to a sink.
 
 use crate::cert_files::TRIANGLE;
-use cert_format::{CertError, CertFault, CertKind, CertReader, put_cert, read_cert, write_cert};
+use cert_format::{
+    CertError, CertFault, CertKind, CertReader, WritableCert, read_cert, write_cert,
+};
 use mrt_graph::NoMemory;
 use mrt_io::{MemSink, PutError};
 use std::alloc::Global;
@@ -80,7 +82,10 @@ fn put_failing(alloc: Global, fails: u32, taken: usize) -> Result<bool, CertErro
     let Ok(mut sink) = sink_failing(alloc, fails) else {
         return Err(CertError::NoMemory);
     };
-    let answer = put_cert(&mut sink, &file);
+    let Ok(writable) = WritableCert::new(alloc, file) else {
+        return Err(CertError::NoMemory);
+    };
+    let answer = writable.put(&mut sink);
     Ok(is_put(answer, taken) && sink.bytes() == front(whole(), taken))
 }
 

@@ -1,6 +1,6 @@
 //! Certificates of version 2, put to a sink in steps, the rows in two.
 
-ghost use Rattle.std.specs.Prelude.{◌≤◌, length};
+ghost use Rattle.std.specs.Prelude.{◌≤◌, ◌+◌, length};
 
 use crate::cert_files::{LINE, TRIANGLE};
 use crate::cert_versions::{LINE_TWO, TRIANGLE_TWO};
@@ -11,16 +11,32 @@ use std::alloc::Global;
 
 /// Puts a certificate in version 2.
 fn put_in_steps(
+    alloc: Global,
     sink: &mut MemSink,
     cert: &Cert,
     root: u32,
     first: &[Row],
     rest: &[Row],
-) -> Result<(), PutError>
+) -> Result<Result<(), PutError>, NoMemory>
     requires first { length first.now ≤ 100 }
     requires rest { length rest.now ≤ 100 }
 {
-    let mut writer = CertWriter::new(2, cert.node_count(), cert.link_count(), root);
+    let writer = CertWriter::new(alloc, 2, cert.node_count(), cert.link_count(), root)?;
+    Ok(put_parts(writer, sink, cert, first, rest))
+}
+
+fn put_parts(
+    writer: CertWriter,
+    sink: &mut MemSink,
+    cert: &Cert,
+    first: &[Row],
+    rest: &[Row],
+) -> Result<(), PutError>
+    requires header { writer.gone + length writer.held ≤ 100 }
+    requires first { length first.now ≤ 100 }
+    requires rest { length rest.now ≤ 100 }
+{
+    let mut writer = writer;
     writer.put_nodes(sink, cert.nodes())?;
     writer.put_links(sink, cert.links())?;
     writer.put_rows(sink, first)?;
@@ -48,8 +64,10 @@ fn put_cut_at(
     let rows = file.cert.rows();
     let rows = &rows[..rows.len().min(100)];
     let (first, rest) = rows.split_at(rows.len().min(at));
-    let answer = put_in_steps(&mut sink, &file.cert, file.root, first, rest);
-    Ok((answer, sink))
+    match put_in_steps(alloc, &mut sink, &file.cert, file.root, first, rest) {
+        Ok(answer) => Ok((answer, sink)),
+        Err(NoMemory) => Err(CertError::NoMemory),
+    }
 }
 
 /// Whether all bytes of version 2 went out.

@@ -1,5 +1,5 @@
 -- Bytes that go out, and bytes that stay.
-use Rattle.std.proofs.Common.{◌≡◌, ◌+◌, ◌-◌, ◌≤◌, ℕ, List, [], ◌∷◌, ◌++◌, length, take, drop, min, Option, inl, inr, refl, sym, ap, subst, ◌∙◌, arith, append_assoc, length-append, length-take, length-drop}
+use Rattle.std.proofs.Common.{◌≡◌, ◌+◌, ◌-◌, ◌≤◌, ℕ, List, [], ◌∷◌, ◌++◌, length, take, drop, min, Option, inl, inr, refl, sym, ap, subst, ◌∙◌, arith, append_assoc, length-append, length-drop}
 use Rattle.mrt_io.proofs.Gaining.{Gained-append}
 use Rattle.mrt_io.specs.Writing.{Gained, GainedPart}
 use Rattle.mrt_io.specs.declared.device.PutError.{PutError}
@@ -9,7 +9,7 @@ use Rattle.cert_format.specs.Putting.{later_error}
 use Rattle.std.specs.List.{copy_within, flat_map}
 use Rattle.std.proofs.lemmas.Bool.{cases_lt}
 use Rattle.std.proofs.Math.Seq.{take-add}
-use Rattle.std.proofs.lemmas.List.{append-nil, take-append-le, take-take, take_all, take_at, drop_all, drop-take}
+use Rattle.std.proofs.lemmas.List.{append-nil, take-append-le, take_all, take_at, drop_all}
 
 -- nothing came yet
 pub filled_none : (there come : List ℕ) → IsFilled there there come come
@@ -30,26 +30,24 @@ filled_part text there mid now come piece x xs rest is now_is xs_is piece_is =
     filled_more there mid now come (flat_map text xs) piece (flat_map text rest) is now_is
     (ap (flat_map text) xs_is ∙ ap (λ (it : List ℕ). it ++ flat_map text rest) (sym piece_is))
 
-pub take_of_take : (m n : ℕ) (bytes : List ℕ) → take m (take n bytes) ≡ take (min n m) bytes
-take_of_take m n bytes = elim (cases_lt m n) [
-  | inl lt ↦ let least : min n m ≡ m = omega (arith, lt) in take-take m n bytes (omega (arith, lt)) ∙ ap (λ (k : ℕ). take k bytes) (sym least)
-  | inr le ↦ let least : min n m ≡ n = omega (arith, le) in take_all m (take n bytes) (omega (arith, le, length-take n bytes)) ∙ ap (λ (k : ℕ). take k bytes) (sym least)
+-- the first bytes, or all where there are fewer
+pub front_of : (bytes : List ℕ) (front n : ℕ) → front ≡ min (length bytes) n → take front bytes ≡ take n bytes
+front_of bytes front n is = elim (cases_lt (length bytes) n) [
+  | inl lt ↦ take_all front bytes (omega (arith, is, lt)) ∙ sym (take_all n bytes (omega (arith, lt)))
+  | inr le ↦ let same : front ≡ n = omega (arith, is, le) in ap (λ (k : ℕ). take k bytes) same
 ]
 
 -- the bytes after the first ones, when they were moved to the front
-pub moved : (bytes : List ℕ) (n len kept : ℕ) → kept ≡ len - n → n + kept ≤ length bytes → take kept (copy_within bytes n (n + kept) 0) ≡ drop n (take len bytes)
-moved bytes n len kept is within =
-    let count : n + kept - n ≡ kept = omega arith in
-    let size : length (take kept (drop n bytes)) ≡ kept = omega (arith, within, length-take kept (drop n bytes), length-drop n bytes) in
-    ap (λ (k : ℕ). take kept (take k (drop n bytes) ++ drop (0 + k) bytes)) count
-    ∙ take_at (take kept (drop n bytes)) (drop (0 + kept) bytes) kept size
-    ∙ elim (cases_lt len n) [
-      | inl lt ↦
-          let none : kept ≡ 0 = omega (arith, is, lt) in
-          ap (λ (k : ℕ). take k (drop n bytes)) none ∙ sym (drop_all n (take len bytes) (omega (arith, lt, length-take len bytes)))
-      | inr le ↦
-          let all : len ≡ n + kept = omega (arith, is, le) in
-          sym (ap (λ (k : ℕ). drop n (take k bytes)) all ∙ drop-take n kept bytes)
+pub moved : (bytes : List ℕ) (gone kept end n : ℕ) → gone ≡ min (length bytes) n → kept ≡ length bytes - gone → end ≡ length bytes → take kept (copy_within bytes gone end 0) ≡ drop n bytes
+moved bytes gone kept end n is left all =
+    let count : end - gone ≡ kept = omega (arith, left, all) in
+    let size : length (drop gone bytes) ≡ kept = length-drop gone bytes ∙ sym left in
+    let front : take kept (drop gone bytes) ≡ drop gone bytes = take_all kept (drop gone bytes) (omega (arith, size)) in
+    ap (λ (k : ℕ). take kept (take k (drop gone bytes) ++ drop (0 + k) bytes)) count
+    ∙ take_at (take kept (drop gone bytes)) (drop (0 + kept) bytes) kept (ap length front ∙ size) ∙ front
+    ∙ elim (cases_lt (length bytes) n) [
+      | inl lt ↦ drop_all gone bytes (omega (arith, is, lt)) ∙ sym (drop_all n bytes (omega (arith, lt)))
+      | inr le ↦ let same : gone ≡ n = omega (arith, is, le) in ap (λ (k : ℕ). drop k bytes) same
     ]
 
 -- the sink gained the first i bytes, and then a part of the next ones

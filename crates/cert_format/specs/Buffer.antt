@@ -1,5 +1,5 @@
 -- Bytes on their way to a sink.
-use Rattle.std.specs.Prelude.{◌≡◌, ◌+◌, ◌++◌, ◌≤◌, ℕ, List, length, take}
+use Rattle.std.specs.Prelude.{◌≡◌, ◌+◌, ◌++◌, ◌≤◌, ℕ, List, length, vec_capacity}
 use Rattle.cert_format.specs.declared.buffer.Buffer.{Buffer}
 
 -- how many bytes go out at once
@@ -12,12 +12,12 @@ room_length = piece_length + 14
 
 -- the bytes that are there
 abbrev pub buffer_of : Buffer → List ℕ
-buffer_of buffer = take buffer.len buffer.bytes
+buffer_of buffer = buffer.bytes.items
 
--- as many as it says, and there is room for them
+-- no more than there is room for, and that room was taken
 pub record IsBuffer (buffer : Buffer) : Type 0 where
-  pub small : buffer.len ≤ room_length
-  pub many : length (buffer_of buffer) ≡ buffer.len
+  pub small : length (buffer_of buffer) ≤ room_length
+  pub taken : room_length ≤ vec_capacity buffer.bytes
 
 -- the first of the bytes that were to come are there now, after those that were there; the others are left
 pub record IsFilled (there now come left : List ℕ) : Type 0 where

@@ -1,6 +1,7 @@
 -- What a writer to a sink has done.
 use Rattle.std.specs.Prelude.{◌≡◌, ◌<◌, ◌≤◌, ◌+◌, ◌-◌, ◌^◌, ◌++◌, ℕ, List, Option, Result, length, IsOk, IfErr, OnOk}
 use Rattle.std.specs.List.{flat_map}
+use Rattle.mrt_graph.specs.declared.cert.CertFile.{CertFile}
 use Rattle.mrt_graph.specs.declared.cert.CertNode.{CertNode}
 use Rattle.mrt_graph.specs.declared.cert.CertLink.{CertLink}
 use Rattle.mrt_graph.specs.declared.cert.Row.{Row}
@@ -8,7 +9,8 @@ use Rattle.mrt_io.specs.Counts.{Rose}
 use Rattle.mrt_io.specs.Writing.{Gained, GainedPart}
 use Rattle.mrt_io.specs.declared.device.PutError.{PutError}
 use Rattle.mrt_io.specs.declared.device.PutError.TheVariants.{Failed}
-use Rattle.cert_format.specs.CertText.{link_text, node_text, row_text}
+use Rattle.cert_format.specs.CertText.{header_text, link_text, node_text, row_text}
+use Rattle.cert_format.specs.Limits.{IsCertFile}
 use Rattle.cert_format.specs.Versions.{rows_in}
 
 -- a writer: the version of the file, how many bytes went out, and those that it holds
@@ -16,6 +18,19 @@ pub record Writer : Type 0 where
   pub version : ℕ
   pub gone : ℕ
   pub held : List ℕ
+
+-- what was given the header of a file alone
+abbrev pub begun : CertFile → Writer
+begun f = record {
+  version = f.version;
+  gone = 0;
+  held = header_text f.version (length f.cert.nodes) (length f.cert.links) f.root;
+}
+
+-- a file within the limits of its version, and a writer that was given its header alone
+pub record IsWritable (f : CertFile) (writer : Writer) : Type 0 where
+  pub within : IsCertFile f
+  pub header : writer ≡ begun f
 
 -- of all the bytes that the writer was given, the sink gained the first ones since it told `before`, and the others are
 -- held

@@ -1,6 +1,6 @@
 //! Bytes of a certificate file on their way to a sink.
 
-ghost use Rattle.std.specs.Prelude.{◌≡◌, ◌≢◌, ◌≤◌, ◌↔◌, IsTrue, ◌<◌, ◌+◌, ◌*◌, ◌++◌, [], length, take, drop};
+ghost use Rattle.std.specs.Prelude.{◌≡◌, ◌≢◌, ◌≤◌, ◌↔◌, IsTrue, IfOk, ◌<◌, ◌+◌, ◌*◌, ◌++◌, [], length, take, drop};
 ghost use Rattle.std.specs.List.{flat_map};
 ghost use Rattle.cert_format.specs.CertText.{link_text, node_text, row_text};
 ghost use Rattle.cert_format.specs.Buffer.{IsBuffer, IsFilled, buffer_of, piece_length, room_length};
@@ -8,7 +8,8 @@ ghost use Rattle.cert_format.specs.Versions.{rows_in};
 
 use crate::versions::stands_in;
 use crate::writing::{link_bytes, node_bytes, row_bytes};
-use mrt_graph::{CertLink, CertNode, Row};
+use mrt_graph::{CertLink, CertNode, NoMemory, Row};
+use std::alloc::Global;
 
 /// How many bytes go out at once.
 const PIECE: usize = 65536;
@@ -19,31 +20,28 @@ const ROOM: usize = PIECE + 14;
 /// The bytes of a piece, and what the last part has beyond them.
 #[derive(Drop)]
 pub struct Buffer {
-    bytes: [u8; ROOM],
-    len: usize,
+    bytes: Vec<u8>,
 }
 
 impl Buffer {
-    pub fn new() -> Buffer
-        ensures none { result.len ≡ 0 }
-        ensures kept { IsBuffer result }
+    /// All room is taken here.
+    pub fn new(alloc: Global) -> Result<Buffer, NoMemory>
+        ensures none { IfOk result (λ buffer. buffer_of buffer ≡ []) }
+        ensures kept { IfOk result IsBuffer }
     {
-        Buffer {
-            bytes: [0; ROOM],
-            len: 0,
-        }
+        Ok(Buffer {
+            bytes: Vec::with_capacity(alloc, ROOM)?,
+        })
     }
 
     /// The next part of the file, of at most 14 bytes.
     pub fn push(&mut self, part: &[u8])
-        requires room { self.old.len + length part.now ≤ room_length }
+        requires kept { IsBuffer self.old }
+        requires room { length (buffer_of self.old) + length part.now ≤ room_length }
         ensures bytes { buffer_of self.new ≡ buffer_of self.old ++ part.now }
         ensures kept { IsBuffer self.new }
-        ensures len { self.new.len ≡ self.old.len + length part.now }
     {
-        let end = self.len + part.len();
-        self.bytes[self.len..end].copy_from_slice(part);
-        self.len = end;
+        self.bytes.extend_from_slice(part).unwrap();
     }
 
     /// Nodes, until a piece is there, and the nodes that are left.
@@ -55,7 +53,7 @@ impl Buffer {
         ensures kept { IsBuffer self.new }
     {
         let mut nodes = nodes;
-        while self.len < PIECE {
+        while self.bytes.len() < PIECE {
             let Some((node, rest)) = nodes.split_first() else {
                 return nodes;
             };
@@ -74,7 +72,7 @@ impl Buffer {
         ensures kept { IsBuffer self.new }
     {
         let mut links = links;
-        while self.len < PIECE {
+        while self.bytes.len() < PIECE {
             let Some((link, rest)) = links.split_first() else {
                 return links;
             };
@@ -93,8 +91,8 @@ impl Buffer {
         ensures kept { IsBuffer self.new }
     {
         let mut rows = rows;
-        while self.len < PIECE && !rows.is_empty() {
-            let missing = PIECE - self.len;
+        while self.bytes.len() < PIECE && !rows.is_empty() {
+            let missing = PIECE - self.bytes.len();
             let (front, rest) = rows.split_at(missing.div_ceil(5).min(rows.len()));
             self.push_rows(version, front);
             rows = rest;
@@ -105,18 +103,15 @@ impl Buffer {
     /// Rows that have room.
     fn push_rows(&mut self, version: u16, rows: &[Row])
         requires kept { IsBuffer self.old }
-        requires room { self.old.len + 5 * length rows.now ≤ room_length }
+        requires room { length (buffer_of self.old) + 5 * length rows.now ≤ room_length }
         ensures bytes { buffer_of self.new ≡ buffer_of self.old ++ flat_map row_text (rows_in version rows.now) }
         ensures kept { IsBuffer self.new }
     {
-        let mut len = self.len;
         for row in rows {
             if stands_in(version, row) {
-                self.bytes[len..len + 5].copy_from_slice(&row_bytes(row));
-                len += 5;
+                self.bytes.extend_from_slice(&row_bytes(row)).unwrap();
             }
         }
-        self.len = len;
     }
 
     /// Whether a piece is there.
@@ -124,7 +119,7 @@ impl Buffer {
         requires { IsBuffer self.now }
         ensures { IsTrue result ↔ (piece_length ≤ length (buffer_of self.now)) }
     {
-        PIECE <= self.len
+        PIECE <= self.bytes.len()
     }
 
     /// The first piece, or all where there are fewer bytes.
@@ -132,7 +127,7 @@ impl Buffer {
         requires { IsBuffer self.now }
         ensures bytes { result.now ≡ take piece_length (buffer_of self.now) }
     {
-        &self.bytes[..self.len.min(PIECE)]
+        &self.bytes[..self.bytes.len().min(PIECE)]
     }
 
     /// Forgets these.
@@ -141,8 +136,9 @@ impl Buffer {
         ensures bytes { buffer_of self.new ≡ drop piece_length (buffer_of self.old) }
         ensures kept { IsBuffer self.new }
     {
-        let kept = self.len.saturating_sub(PIECE);
-        self.bytes.copy_within(PIECE..PIECE + kept, 0);
-        self.len = kept;
+        let gone = self.bytes.len().min(PIECE);
+        let kept = self.bytes.len() - gone;
+        self.bytes.copy_within(gone.., 0);
+        self.bytes.truncate(kept);
     }
 }

@@ -1,6 +1,6 @@
 //! Certificate files written to a sink in steps.
 
-ghost use Rattle.std.specs.Prelude.{◌≡◌, ◌<◌, ◌≤◌, ◌+◌, ◌-◌, ◌^◌, ◌++◌, ℕ, List, [], Option, drop, length, IsOk, IfErr, OnOk};
+ghost use Rattle.std.specs.Prelude.{◌≡◌, ◌<◌, ◌≤◌, ◌+◌, ◌-◌, ◌^◌, ◌++◌, ℕ, List, [], Option, drop, length, IsOk, IfOk, IfErr, OnOk};
 ghost use Rattle.std.specs.List.{flat_map};
 ghost use Rattle.mrt_io.specs.Counts.{Rose};
 ghost use Rattle.mrt_io.specs.Writing.{Gained, GainedPart};
@@ -11,14 +11,15 @@ ghost use Rattle.cert_format.specs.Versions.{rows_in};
 
 use crate::buffer::Buffer;
 use crate::writing::header_bytes;
-use mrt_graph::{CertLink, CertNode, Row};
+use mrt_graph::{CertLink, CertNode, NoMemory, Row};
 use mrt_io::{PutError, Sink, put_all};
+use std::alloc::Global;
 use std::marker::Model;
 
 /// Writes a certificate file to a sink, 65,536 bytes at a time: its header, then its nodes, its links and its rows, each as
-/// they come. What is fewer is held for the next piece. It takes no memory.
+/// they come. What is fewer is held for the next piece. Writing takes no memory: the room for a piece is there before.
 ///
-/// The bytes are those that [`put_cert`](crate::put_cert) writes, where the header announces the nodes and the links that
+/// The bytes are those that a [`WritableCert`](crate::WritableCert) puts, where the header announces the nodes and the links that
 /// are put, and the rows that are put stand by ascending source, then by ascending destination.
 ///
 /// After an error it is to be given up.
@@ -42,16 +43,28 @@ impl Model for CertWriter {
 
 impl CertWriter {
     /// A writer that was given the header of a file of this version, of so many nodes and links, with this root.
-    pub fn new(version: u16, nodes: u16, links: u16, root: u32) -> CertWriter
-        ensures { result ≡ record { version = version; gone = 0; held = header_text version nodes links root } }
+    /// The room for a piece is taken here.
+    ///
+    /// # Errors
+    ///
+    /// [`NoMemory`] where there was none.
+    pub fn new(
+        alloc: Global,
+        version: u16,
+        nodes: u16,
+        links: u16,
+        root: u32,
+    ) -> Result<CertWriter, NoMemory>
+        ensures { IfOk result (λ writer.
+            writer ≡ record { version = version; gone = 0; held = header_text version nodes links root }) }
     {
-        let mut buffer = Buffer::new();
+        let mut buffer = Buffer::new(alloc)?;
         buffer.push(&header_bytes(version, nodes, links, root));
-        CertWriter {
+        Ok(CertWriter {
             buffer,
             version,
             gone: 0,
-        }
+        })
     }
 
     /// Writes nodes.

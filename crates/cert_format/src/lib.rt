@@ -29,6 +29,6 @@ pub use cert_reader::CertReader;
 pub use cert_writer::CertWriter;
 pub use error::{CertError, CertFault, CertKind};
 pub use limits::within_limits;
-pub use putting::put_cert;
+pub use putting::WritableCert;
 pub use reading::{any_pieces, one_spelling, read_cert};
 pub use writing::write_cert;

@@ -1,6 +1,6 @@
-//! Certificate files written to a sink.
+//! Certificate files that can be written to a sink.
 
-ghost use Rattle.std.specs.Prelude.{◌≡◌, ◌-◌, ◌≤◌, ℕ, length, IsOk, IfErr, OnOk};
+ghost use Rattle.std.specs.Prelude.{◌≡◌, ◌-◌, ◌≤◌, ℕ, length, IsOk, IfOk, IfErr, OnOk};
 ghost use Rattle.mrt_io.specs.Counts.{Rose};
 ghost use Rattle.mrt_io.specs.Writing.{Gained, GainedPart};
 ghost use Rattle.cert_format.specs.CertText.{cert_text};
@@ -8,34 +8,79 @@ ghost use Rattle.cert_format.specs.Limits.{IsCertFile, IsOfVersion};
 
 use crate::cert_writer::CertWriter;
 use crate::limits::within_limits;
-use mrt_graph::CertFile;
+use mrt_graph::{CertFile, NoMemory};
 use mrt_io::{PutError, Sink};
+use std::alloc::Global;
+use std::marker::Model;
 
-/// Writes the bytes of a certificate file, 65,536 at a time, as [`write_cert`](crate::write_cert) gives them.
-/// It takes no memory.
-///
-/// It takes time in proportion to the rows and to the bytes.
-///
-/// # Errors
-///
-/// `Failed { taken }` where the sink failed: how many bytes it had taken, fewer than all.
-pub fn put_cert<K: Sink>(sink: &mut K, f: &CertFile) -> Result<(), PutError>
-    requires { IsOfVersion f.now }
-    ensures gained { OnOk result (Gained (K.written sink.old) (cert_text f.now) (K.written sink.new)) }
-    ensures within { IsCertFile f.now }
-    ensures part { IfErr result (GainedPart (K.written sink.old) (cert_text f.now) (K.written sink.new)) }
-    ensures cause { IfErr result (λ _. Rose (K.faults sink.old) (K.faults sink.new)) }
-    ensures count { K.faults sink.old ≤ K.faults sink.new }
+/// A certificate file within the limits of its version, and the room that writing it takes. Its bytes are made as they
+/// are written, so none are held.
+#[derive(Drop)]
+pub struct WritableCert {
+    file: CertFile,
+    writer: CertWriter,
+}
 
-    // Over a sink that is healthy for the bytes.
-    ensures succeeds { K.healthy_for sink.old (length (cert_text f.now)) → IsOk result }
-    ensures no_fault { (n : ℕ) → K.healthy_for sink.old n → length (cert_text f.now) ≤ n
-        → K.faults sink.new ≡ K.faults sink.old }
-    ensures stays_healthy { (n : ℕ) → K.healthy_for sink.old n → length (cert_text f.now) ≤ n
-        → K.healthy_for sink.new (n - length (cert_text f.now)) }
-{
-    within_limits(f);
-    let cert = &f.cert;
-    let writer = CertWriter::new(f.version, cert.node_count(), cert.link_count(), f.root);
-    writer.put_file(sink, cert.nodes(), cert.links(), cert.rows())
+impl Model for WritableCert {
+    ghost use Rattle.mrt_graph.specs.declared.cert.CertFile.{CertFile};
+    ghost use Rattle.cert_format.specs.Putting.{IsWritable};
+
+    ghost Value = { CertFile };
+
+    ghost view = { λ w. w.file };
+
+    ghost invariant = { λ w. IsWritable w.file w.writer };
+}
+
+impl WritableCert {
+    /// A file of its version. All memory that writing takes is taken here.
+    ///
+    /// It takes time in proportion to the nodes.
+    ///
+    /// # Errors
+    ///
+    /// [`NoMemory`] where there was none.
+    pub fn new(alloc: Global, file: CertFile) -> Result<WritableCert, NoMemory>
+        requires { IsOfVersion file }
+        ensures file { IfOk result (λ writable. writable ≡ file) }
+        ensures within { IfOk result (λ _. IsCertFile file) }
+    {
+        within_limits(&file);
+        let cert = &file.cert;
+        let writer = CertWriter::new(
+            alloc,
+            file.version,
+            cert.node_count(),
+            cert.link_count(),
+            file.root,
+        )?;
+        Ok(WritableCert { file, writer })
+    }
+
+    /// Writes the bytes of the file, 65,536 at a time, as [`write_cert`](crate::write_cert) gives them. It takes no
+    /// memory.
+    ///
+    /// It takes time in proportion to the rows and to the bytes.
+    ///
+    /// # Errors
+    ///
+    /// `Failed { taken }` where the sink failed: how many bytes it had taken, fewer than all.
+    pub fn put<K: Sink>(self, sink: &mut K) -> Result<(), PutError>
+        ensures gained { OnOk result (Gained (K.written sink.old) (cert_text self) (K.written sink.new)) }
+        ensures within { IsCertFile self }
+        ensures part { IfErr result (GainedPart (K.written sink.old) (cert_text self) (K.written sink.new)) }
+        ensures cause { IfErr result (λ _. Rose (K.faults sink.old) (K.faults sink.new)) }
+        ensures count { K.faults sink.old ≤ K.faults sink.new }
+
+        // Over a sink that is healthy for the bytes.
+        ensures succeeds { K.healthy_for sink.old (length (cert_text self)) → IsOk result }
+        ensures no_fault { (n : ℕ) → K.healthy_for sink.old n → length (cert_text self) ≤ n
+            → K.faults sink.new ≡ K.faults sink.old }
+        ensures stays_healthy { (n : ℕ) → K.healthy_for sink.old n → length (cert_text self) ≤ n
+            → K.healthy_for sink.new (n - length (cert_text self)) }
+    {
+        let WritableCert { file, writer } = self;
+        let cert = &file.cert;
+        writer.put_file(sink, cert.nodes(), cert.links(), cert.rows())
+    }
 }

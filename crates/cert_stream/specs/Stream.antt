@@ -1,5 +1,5 @@
 -- A certificate that is found as it is written or compared.
-use Rattle.std.specs.Prelude.{◌≡◌, ℕ, List}
+use Rattle.std.specs.Prelude.{◌≡◌, ℕ, List, length}
 use Rattle.mrt_graph.specs.declared.cert.CertFile.{CertFile}
 use Rattle.mrt_graph.specs.declared.cert.CertLink.{CertLink}
 use Rattle.mrt_graph.specs.declared.cert.CertNode.{CertNode}
@@ -7,7 +7,9 @@ use Rattle.mrt_graph.specs.Topology.{Topology}
 use Rattle.mrt_rows.specs.declared.source_rows.SourceRows.{SourceRows}
 use Rattle.mrt_rows.specs.CertOf.{IsCertOf}
 use Rattle.mrt_rows.specs.NearOf.{MakeRows}
+use Rattle.cert_format.specs.CertText.{header_text}
 use Rattle.cert_format.specs.Limits.{IsCertFile}
+use Rattle.cert_format.specs.Putting.{Writer}
 
 -- a graph and its root
 pub record Stream : Type 0 where
@@ -20,10 +22,12 @@ pub record AreOfFile (file : CertFile) (number : ℕ) (nodes : List CertNode) (l
   pub all_nodes : nodes ≡ file.cert.nodes
   pub all_links : links ≡ file.cert.links
 
--- what is held before a certificate is written or compared: what makes its rows, and its other parts; there is such a
--- certificate, and it is within the limits of its version
-pub record IsStream (g : Topology) (number : ℕ) (nodes : List CertNode) (links : List CertLink) (rows : SourceRows) : Type 0 where
+-- what is held before a certificate is written or compared: what makes its rows, its other parts, and a writer that was given
+-- its header alone; there is such a certificate, and it is within the limits of its version
+pub record IsStream (g : Topology) (number : ℕ) (nodes : List CertNode) (links : List CertLink) (rows : SourceRows)
+    (writer : Writer) : Type 0 where
   pub made : MakeRows g rows
   pub some : (file : CertFile) × IsCertOf g rows.root file
   pub parts : (file : CertFile) → IsCertOf g rows.root file → AreOfFile file number nodes links
   pub within : (file : CertFile) → IsCertOf g rows.root file → IsCertFile file
+  pub header : writer ≡ record { version = 2; gone = 0; held = header_text 2 (length g.ids) (length g.links) number }

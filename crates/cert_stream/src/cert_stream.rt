@@ -31,6 +31,7 @@ pub struct CertStream {
     nodes: Vec<CertNode>,
     links: Vec<CertLink>,
     rows: SourceRows,
+    writer: CertWriter,
 }
 
 impl Model for CertStream {
@@ -40,14 +41,15 @@ impl Model for CertStream {
 
     ghost view = { λ s. record { graph = s.graph; root = s.rows.root } };
 
-    ghost invariant = { λ s. IsStream s.graph s.number s.nodes.items s.links.items s.rows };
+    ghost invariant = { λ s. IsStream s.graph s.number s.nodes.items s.links.items s.rows s.writer };
 }
 
 impl CertStream {
     /// The certificate of a graph from this root, which is not made yet. All memory that writing or comparing needs is
     /// taken here.
     ///
-    /// It takes time and memory in proportion to the nodes and the links: for each node some 800 bytes.
+    /// It takes time and memory in proportion to the nodes and the links: for each node some 800 bytes, and 65,536 at
+    /// once.
     ///
     /// # Errors
     ///
@@ -64,12 +66,20 @@ impl CertStream {
         let links = rows.links(alloc, &graph)?;
         let number = graph.id(root).number;
         numbers_fit(number, &nodes);
+        let writer = CertWriter::new(
+            alloc,
+            VERSION,
+            graph.node_count(),
+            graph.link_count(),
+            number,
+        )?;
         Ok(CertStream {
             graph,
             number,
             nodes,
             links,
             rows,
+            writer,
         })
     }
 
@@ -102,12 +112,14 @@ impl CertStream {
     {
         let CertStream {
             graph,
-            number,
             nodes,
             links,
             mut rows,
+            writer,
+            ..
         } = self;
-        let writer = CertWriter::new(VERSION, graph.node_count(), graph.link_count(), number);
+        // what each graph keeps is told by reading it
+        let _count = graph.node_count();
         put_file(writer, sink, &graph, &nodes, &links, &mut rows)
     }
 

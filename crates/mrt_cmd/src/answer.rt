@@ -24,8 +24,7 @@ use crate::text::Text;
 use crate::upgrade::upgrade;
 use crate::verdict::verdict;
 use crate::work::Work;
-use crate::writable::Writable;
-use cert_format::CertFault;
+use cert_format::{CertFault, WritableCert};
 use lsdb::Lsdb;
 use mrt_exit::{Exit, Line};
 use mrt_graph::CertFile;
@@ -102,7 +101,7 @@ fn upgraded(
     database: &Lsdb,
     profile: &Profile,
     certificate: Result<CertFile, CertFault>,
-) -> Result<Writable, Exit>
+) -> Result<WritableCert, Exit>
     requires settled { least_conflict database.now.entries ≡ None }
     ensures text { (bytes : List ℕ) → IsCertRead bytes certificate → IfOk result (λ file.
         GivesUpgrade (input_of database.now.entries profile.now) bytes (cert_text file)) }

@@ -14,7 +14,7 @@ use crate::named_file::NamedFile;
 use cert_format::{CertError, CertFault, CertReader, any_pieces};
 use mrt_exit::Exit;
 use mrt_graph::CertFile;
-use mrt_io::{OpenError, Shelf, ShelfFailed};
+use mrt_io::{OpenError, Shelf, ShelfFailed, zeros};
 use std::alloc::Global;
 
 /// How many bytes are asked for at a time.
@@ -86,7 +86,7 @@ fn read_to_end<F: Shelf>(
 {
     any_pieces();
     let mut reader = CertReader::new(alloc);
-    let mut piece = [0; PIECE];
+    let mut piece = zeros(alloc, PIECE)?;
     let mut room = file.limit + 1;
     while room > 0 {
         let wanted = PIECE.min(room as usize);

@@ -24,7 +24,6 @@ mod upgrade;
 mod verdict;
 mod words;
 mod work;
-mod writable;
 
 pub use mrt_exit::{DbKind, Exit, Line, What};
 pub use program::run;

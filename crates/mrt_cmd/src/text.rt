@@ -5,7 +5,7 @@ ghost use Rattle.mrt_io.specs.Counts.{Rose};
 ghost use Rattle.mrt_io.specs.Writing.{Gained, GainedPart};
 ghost use Rattle.mrt_cmd.specs.TextBytes.{IsTextOf};
 
-use crate::writable::Writable;
+use cert_format::WritableCert;
 use cert_stream::CertStream;
 use mrt_exit::Line;
 use mrt_io::{PutError, Sink, put_all};
@@ -16,7 +16,7 @@ use mrt_io::{PutError, Sink, put_all};
 pub(crate) enum Text {
     Line(Line),
     Bytes(Vec<u8>),
-    Cert(Writable),
+    Cert(WritableCert),
     Found(CertStream),
 }
 

@@ -9,7 +9,7 @@ ghost use Rattle.mrt_cmd.specs.Upgraded.{IsUpgradeFor};
 
 use crate::island::island_in;
 use crate::verdict::judge;
-use crate::writable::Writable;
+use cert_format::WritableCert;
 use lsdb::Lsdb;
 use mrt_exit::Exit;
 use mrt_graph::{CertFile, accepted_files_are_foldable, accepted_implies_sound};
@@ -25,7 +25,7 @@ pub(crate) fn upgrade(
     database: &Lsdb,
     profile: &Profile,
     file: CertFile,
-) -> Result<Writable, Exit>
+) -> Result<WritableCert, Exit>
     requires { least_conflict database.now.entries ≡ None }
     ensures upgraded { IfOk result (λ upgrade.
         IsUpgradeFor (input_of database.now.entries profile.now) file (cert_text upgrade)) }
@@ -38,9 +38,10 @@ pub(crate) fn upgrade(
     // what each graph and each certificate keeps is told by reading it
     let _nodes = island.graph.node_count();
     let _count = file.cert.node_count();
-    Ok(Writable::new(CertFile {
+    let upgraded = CertFile {
         version: WRITTEN,
         root: file.root,
         cert: file.cert,
-    }))
+    };
+    Ok(WritableCert::new(alloc, upgraded)?)
 }

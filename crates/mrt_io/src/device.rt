@@ -26,6 +26,7 @@ ghost use Rattle.mrt_io.specs.Left.{IsLeftOf, IsTakenOff};
 ghost use Rattle.mrt_io.specs.Writing.{Gained};
 
 use crate::word::Word;
+use mrt_graph::NoMemory;
 use std::alloc::{AllocError, AllocFailed, Global};
 
 /// Why a read gave no bytes: the shelf failed, the file has more bytes than the limit, or there was no memory.
@@ -172,6 +173,12 @@ impl From<OpenError> for ShelfError {
             OpenError::Failed => ShelfError::Failed,
             OpenError::NoMemory => ShelfError::NoMemory,
         }
+    }
+}
+
+impl From<NoMemory> for ShelfError {
+    fn from(_: NoMemory) -> ShelfError {
+        ShelfError::NoMemory
     }
 }
 

@@ -2,6 +2,7 @@ ghost use Rattle.std.specs.Prelude.{◌≡◌, ◌≤◌, ◌<◌, ◌^◌, IfOk
 ghost use Rattle.mrt_io.specs.Memory.{counted as fault_counted};
 
 use crate::device::{OpenError, Shelf, ShelfError, ShelfFailed};
+use crate::piece::zeros;
 use crate::word::Word;
 use std::alloc::Global;
 use std::io::{ErrorKind, Read};
@@ -134,7 +135,7 @@ fn read_file<R: Files>(
 {
     let mut file = open_file(rt, name)?;
     let mut bytes = Vec::new(alloc);
-    let mut piece = [0; PIECE];
+    let mut piece = zeros(alloc, PIECE)?;
     for _ in 0..u64::MAX {
         let wanted = (limit as usize + 1 - bytes.len()).min(PIECE);
         match file.read(&mut piece[..wanted]) {

@@ -6,6 +6,7 @@ mod device;
 mod file_shelf;
 mod mem_shelf;
 mod mem_sink;
+mod piece;
 mod put;
 mod std_sink;
 mod word;
@@ -14,6 +15,7 @@ pub use device::{OpenError, PutError, PutFailed, Shelf, ShelfError, ShelfFailed,
 pub use file_shelf::FileShelf;
 pub use mem_shelf::MemShelf;
 pub use mem_sink::MemSink;
+pub use piece::zeros;
 pub use put::put_all;
 pub use std_sink::StdSink;
 pub use word::Word;

@@ -37,10 +37,10 @@ returns-clause-upgraded c =
       link_of = island.link_of;
       island = c.in_ok-island.ensures.island;
     } in
-    let upgrade : IsUpgrade island.graph island.root file (cert_text c.new.result) = record {
+    let upgrade : IsUpgrade island.graph island.root file (cert_text c.in_ok-new.field-0) = record {
       accepted = accepted;
       sound = c.accepted_implies_sound.ensures island.graph island.root (upgraded file) accepted;
-      spelled = record { within = c.new.ensures.within; spelled = ap cert_text c.new.ensures.file };
+      spelled = record { within = c.in_ok-new.ensures.within; spelled = ap cert_text c.in_ok-new.ensures.file };
     } in
     record { graph = island.graph; root = island.root; island = found; upgrade = upgrade }
 

@@ -9,7 +9,7 @@ abbrev pub invariant-loop-self : goal.invariant-loop-self
 invariant-loop-self l = record {
   text : IsFilled (buffer_of l.fn.self) (buffer_of l.self) (flat_map row_text (rows_in l.version l.fn.rows)) (flat_map row_text (rows_in l.version l.rows));
   kept : IsBuffer l.self;
-  fewer : ((l.self.len ≡ l.fn.self.len) × (length l.rows ≡ length l.fn.rows)) ⊎ (length l.rows < length l.fn.rows);
+  fewer : ((length (buffer_of l.self) ≡ length (buffer_of l.fn.self)) × (length l.rows ≡ length l.fn.rows)) ⊎ (length l.rows < length l.fn.rows);
 }
 
 abbrev pub decreases-loop-self : goal.decreases-loop-self

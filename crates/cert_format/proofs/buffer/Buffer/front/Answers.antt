@@ -1,7 +1,7 @@
-use Rattle.std.proofs.Common.{sym}
-use Rattle.cert_format.specs.Buffer.{piece_length}
-use Rattle.cert_format.proofs.Buffers.{take_of_take}
+use Rattle.std.proofs.Common.{◌∙◌, ap, take, arith}
+use Rattle.cert_format.specs.Buffer.{buffer_of, piece_length}
+use Rattle.cert_format.proofs.Buffers.{front_of}
 use Rattle.cert_format.proofs.buffer.Buffer.front.Goals as goal
 
 pub returns : goal.returns
-returns c = rw c.min.ensures (record { bytes = sym (take_of_take piece_length c.args.self.now.len c.args.self.now.bytes) })
+returns c = record { bytes = ap (take c.min.result) c.deref.ensures.value ∙ front_of (buffer_of c.args.self.now) c.min.result piece_length (omega (arith, c.min.ensures, c.len.ensures)) }

@@ -1,4 +1,4 @@
-use Rattle.std.proofs.Common.{◌≡◌, ◌≤◌, ◌+◌, ◌*◌, ◌++◌, length, take}
+use Rattle.std.proofs.Common.{◌≡◌, ◌≤◌, ◌+◌, ◌*◌, ◌++◌, length, take, vec_capacity}
 use Rattle.std.specs.List.{flat_map}
 use Rattle.cert_format.specs.Buffer.{buffer_of}
 use Rattle.cert_format.specs.CertText.{row_text}
@@ -7,7 +7,7 @@ use Rattle.cert_format.proofs.buffer.Buffer.push_rows.Given as goal
 
 abbrev pub invariant-loop-row : goal.invariant-loop-row
 invariant-loop-row l = record {
-  text : take l.len l.self.bytes ≡ buffer_of l.fn.self ++ flat_map row_text (rows_in l.version (take l.row-index l.rows));
-  many : length (take l.len l.self.bytes) ≡ l.len;
-  len : l.len ≤ l.fn.self.len + 5 * l.row-index;
+  text : buffer_of l.self ≡ buffer_of l.fn.self ++ flat_map row_text (rows_in l.version (take l.row-index l.rows));
+  len : length (buffer_of l.self) ≤ length (buffer_of l.fn.self) + 5 * l.row-index;
+  capacity : vec_capacity l.fn.self.bytes ≤ vec_capacity l.self.bytes;
 }

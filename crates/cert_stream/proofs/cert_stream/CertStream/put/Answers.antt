@@ -1,11 +1,18 @@
 use Rattle.std.specs.Prelude.{IfErr, OnOk}
-use Rattle.std.proofs.Common.{◌∙◌, ◌-◌, ℕ, List, length, sym, ap, subst, arith}
+use Rattle.std.proofs.Common.{◌∙◌, ◌-◌, ℕ, List, length, refl, sym, ap, subst, arith}
 use Rattle.mrt_io.specs.Writing.{Gained, GainedPart}
 use Rattle.mrt_rows.specs.CertOf.{IsCertOf}
 use Rattle.cert_format.specs.CertText.{cert_text}
+use Rattle.cert_format.specs.Putting.{Writer}
 use Rattle.cert_stream.specs.Stream.{AreOfFile, Stream}
 use Rattle.cert_stream.proofs.Whole.{few_bytes, whole_file}
 use Rattle.cert_stream.proofs.cert_stream.CertStream.put.Goals as goal
+
+pub put_file-requires-clause-version : goal.put_file-requires-clause-version
+put_file-requires-clause-version g c = ap (λ (writer : Writer). writer.version) c.self.invariant.header
+
+pub put_file-requires-clause-none : goal.put_file-requires-clause-none
+put_file-requires-clause-none g c = ap (λ (writer : Writer). writer.gone) c.self.invariant.header
 
 pub put_file-requires-clause-cert : goal.put_file-requires-clause-cert
 put_file-requires-clause-cert g c =
@@ -14,8 +21,8 @@ put_file-requires-clause-cert g c =
     let told = c.self.invariant.parts file now in
     let are : AreOfFile file c.self.inside.number c.deref.result.now c.deref-2.result.now =
     record { of_root = told.of_root; all_nodes = c.deref.ensures.value ∙ told.all_nodes; all_links = c.deref-2.ensures.value ∙ told.all_links } in
-    let all = whole_file c.self.inside.graph c.self.inside.rows.root file c.node_count.result c.link_count.result c.self.inside.number c.new-writer.result c.deref.result.now c.deref-2.result.now now c.node_count.ensures.count c.link_count.ensures.count c.new-writer.ensures are in
-    (file, now, omega (arith, ap length all, few_bytes c.self.inside.graph c.self.inside.rows.root file c.node_count.ensures.kept now))
+    let all = whole_file c.self.inside.graph c.self.inside.rows.root file _ _ c.self.inside.number c.self.inside.writer c.deref.result.now c.deref-2.result.now now refl refl c.self.invariant.header are in
+    (file, now, omega (arith, ap length all, few_bytes c.self.inside.graph c.self.inside.rows.root file c.node_count-count.ensures.kept now))
 
 pub returns-clause-gained : goal.returns-clause-gained
 returns-clause-gained g c = λ file is.
@@ -23,7 +30,7 @@ returns-clause-gained g c = λ file is.
     let told = c.self.invariant.parts file now in
     let are : AreOfFile file c.self.inside.number c.deref.result.now c.deref-2.result.now =
     record { of_root = told.of_root; all_nodes = c.deref.ensures.value ∙ told.all_nodes; all_links = c.deref-2.ensures.value ∙ told.all_links } in
-    let all = whole_file c.self.inside.graph c.self.inside.rows.root file c.node_count.result c.link_count.result c.self.inside.number c.new-writer.result c.deref.result.now c.deref-2.result.now now c.node_count.ensures.count c.link_count.ensures.count c.new-writer.ensures are in
+    let all = whole_file c.self.inside.graph c.self.inside.rows.root file _ _ c.self.inside.number c.self.inside.writer c.deref.result.now c.deref-2.result.now now refl refl c.self.invariant.header are in
     subst (λ (it : List ℕ). OnOk c.put_file.result (Gained (g.K.Sink.written c.args.sink.now) it (g.K.Sink.written c.put_file.new.sink))) all (c.put_file.ensures.gained file now)
 
 pub returns-clause-part : goal.returns-clause-part
@@ -32,7 +39,7 @@ returns-clause-part g c = λ file is.
     let told = c.self.invariant.parts file now in
     let are : AreOfFile file c.self.inside.number c.deref.result.now c.deref-2.result.now =
     record { of_root = told.of_root; all_nodes = c.deref.ensures.value ∙ told.all_nodes; all_links = c.deref-2.ensures.value ∙ told.all_links } in
-    let all = whole_file c.self.inside.graph c.self.inside.rows.root file c.node_count.result c.link_count.result c.self.inside.number c.new-writer.result c.deref.result.now c.deref-2.result.now now c.node_count.ensures.count c.link_count.ensures.count c.new-writer.ensures are in
+    let all = whole_file c.self.inside.graph c.self.inside.rows.root file _ _ c.self.inside.number c.self.inside.writer c.deref.result.now c.deref-2.result.now now refl refl c.self.invariant.header are in
     subst (λ (it : List ℕ). IfErr c.put_file.result (GainedPart (g.K.Sink.written c.args.sink.now) it (g.K.Sink.written c.put_file.new.sink))) all (c.put_file.ensures.part file now)
 
 pub returns-clause-succeeds : goal.returns-clause-succeeds
@@ -41,7 +48,7 @@ returns-clause-succeeds g c = λ file is healthy.
     let told = c.self.invariant.parts file now in
     let are : AreOfFile file c.self.inside.number c.deref.result.now c.deref-2.result.now =
     record { of_root = told.of_root; all_nodes = c.deref.ensures.value ∙ told.all_nodes; all_links = c.deref-2.ensures.value ∙ told.all_links } in
-    let all = whole_file c.self.inside.graph c.self.inside.rows.root file c.node_count.result c.link_count.result c.self.inside.number c.new-writer.result c.deref.result.now c.deref-2.result.now now c.node_count.ensures.count c.link_count.ensures.count c.new-writer.ensures are in
+    let all = whole_file c.self.inside.graph c.self.inside.rows.root file _ _ c.self.inside.number c.self.inside.writer c.deref.result.now c.deref-2.result.now now refl refl c.self.invariant.header are in
     c.put_file.ensures.succeeds file now (length (cert_text file)) healthy (omega (arith, ap length all))
 
 pub returns-clause-no_fault : goal.returns-clause-no_fault
@@ -50,7 +57,7 @@ returns-clause-no_fault g c = λ file is n healthy enough.
     let told = c.self.invariant.parts file now in
     let are : AreOfFile file c.self.inside.number c.deref.result.now c.deref-2.result.now =
     record { of_root = told.of_root; all_nodes = c.deref.ensures.value ∙ told.all_nodes; all_links = c.deref-2.ensures.value ∙ told.all_links } in
-    let all = whole_file c.self.inside.graph c.self.inside.rows.root file c.node_count.result c.link_count.result c.self.inside.number c.new-writer.result c.deref.result.now c.deref-2.result.now now c.node_count.ensures.count c.link_count.ensures.count c.new-writer.ensures are in
+    let all = whole_file c.self.inside.graph c.self.inside.rows.root file _ _ c.self.inside.number c.self.inside.writer c.deref.result.now c.deref-2.result.now now refl refl c.self.invariant.header are in
     c.put_file.ensures.no_fault file now n healthy (omega (arith, ap length all, enough))
 
 pub returns-clause-stays_healthy : goal.returns-clause-stays_healthy
@@ -59,7 +66,7 @@ returns-clause-stays_healthy g c = λ file is n healthy enough.
     let told = c.self.invariant.parts file now in
     let are : AreOfFile file c.self.inside.number c.deref.result.now c.deref-2.result.now =
     record { of_root = told.of_root; all_nodes = c.deref.ensures.value ∙ told.all_nodes; all_links = c.deref-2.ensures.value ∙ told.all_links } in
-    let all = whole_file c.self.inside.graph c.self.inside.rows.root file c.node_count.result c.link_count.result c.self.inside.number c.new-writer.result c.deref.result.now c.deref-2.result.now now c.node_count.ensures.count c.link_count.ensures.count c.new-writer.ensures are in
+    let all = whole_file c.self.inside.graph c.self.inside.rows.root file _ _ c.self.inside.number c.self.inside.writer c.deref.result.now c.deref-2.result.now now refl refl c.self.invariant.header are in
     subst (λ (it : List ℕ). g.K.Sink.healthy_for c.put_file.new.sink (n - length it)) all (c.put_file.ensures.stays_healthy file now n healthy (omega (arith, ap length all, enough)))
 
 pub returns-clause-within : goal.returns-clause-within
