@@ -43,8 +43,11 @@ def sha256sum(path, rounds=7):
     return best(["sha256sum", path], rounds)
 
 
-def peak(command):
-    """The most memory that a command had, in bytes. `time` starts it, since a child of this program begins with the memory of this program."""
+def peak(command, status=0):
+    """The most memory that a command had, in bytes. It has to end with the status. `time` starts it, since a child of this program begins with the memory of this program."""
     with tempfile.NamedTemporaryFile("r") as told:
-        subprocess.run(["time", "-f", "%M", "-o", told.name, *command], stdout=subprocess.DEVNULL, check=True)
-        return int(told.read()) * 1024
+        timed = ["time", "-f", "%M", "-o", told.name, *command]
+        done = subprocess.run(timed, stdout=subprocess.DEVNULL, stderr=subprocess.DEVNULL if status else None)
+        if done.returncode != status:
+            sys.exit(f"{' '.join(command)}: status {done.returncode}")
+        return int(told.read().split()[-1]) * 1024
