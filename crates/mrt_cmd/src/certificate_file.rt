@@ -84,9 +84,31 @@ fn read_to_end<F: Shelf>(
     ensures count { F.faults shelf.old ≤ F.faults shelf.new }
     ensures no_fault { F.healthy shelf.old → IsSome (F.left shelf.old) → F.faults shelf.new ≡ F.faults shelf.old }
 {
+    let mut piece = zeros(alloc, PIECE)?;
+    read_in_pieces(alloc, shelf, file, piece.as_mut_slice())
+}
+
+/// Feeds what is left of the open file to a reader, as many bytes at a time as there are in the piece.
+fn read_in_pieces<F: Shelf>(
+    alloc: Global,
+    shelf: &mut F,
+    file: &NamedFile<'_>,
+    piece: &mut [u8],
+) -> Result<CertReader, Exit>
+    requires limit { file.now.limit < 2 ^ 32 - 1 }
+    requires piece { length piece.old ≡ 65536 }
+    requires open { F.is_open shelf.old }
+    requires left { IsLeftOf (F.held shelf.old) file.now.name (F.left shelf.old) }
+    ensures read { IfOk result (λ reader. (bytes : List ℕ) × IsReadAs (F.held shelf.old) file.now bytes
+        × (reader ≡ fed (Ok []) bytes)) }
+    ensures refused { IfErr result (IsUnreadOrFault (F.held shelf.old) file.now (F.faults shelf.old) (F.faults shelf.new)) }
+    ensures calm { (Rose (F.faults shelf.old) (F.faults shelf.new) → ⊥) → IfErr result (IsUnread (F.held shelf.old) file.now) }
+    ensures healthy { F.healthy shelf.old → IfErr result (IsUnread (F.held shelf.old) file.now) }
+    ensures count { F.faults shelf.old ≤ F.faults shelf.new }
+    ensures no_fault { F.healthy shelf.old → IsSome (F.left shelf.old) → F.faults shelf.new ≡ F.faults shelf.old }
+{
     any_pieces();
     let mut reader = CertReader::new(alloc);
-    let mut piece = zeros(alloc, PIECE)?;
     let mut room = file.limit + 1;
     while room > 0 {
         let wanted = PIECE.min(room as usize);

@@ -2,7 +2,7 @@ use Rattle.std.proofs.Common.{◌∙◌, ◌+◌, ap, arith}
 use Rattle.std.proofs.lemmas.Grind.{common_steps}
 use Rattle.mrt_cmd.specs.Files.{NamedFile}
 use Rattle.mrt_cmd.proofs.Pieces.{fed_more, fed_too_long, still_told}
-use Rattle.mrt_cmd.proofs.certificate_file.read_to_end.Goals as goal
+use Rattle.mrt_cmd.proofs.certificate_file.read_in_pieces.Goals as goal
 
 pub loop-room-preserved : goal.loop-room-preserved
 loop-room-preserved g c =

@@ -1,7 +1,7 @@
 use Rattle.std.proofs.Common.{◌≡◌, ◌≤◌}
 use Rattle.std.specs.Prelude.{IsSome}
 use Rattle.mrt_cmd.specs.Pieces.{IsFedSoFar}
-use Rattle.mrt_cmd.proofs.certificate_file.read_to_end.Given as goal
+use Rattle.mrt_cmd.proofs.certificate_file.read_in_pieces.Given as goal
 
 -- The bytes so far were fed to the reader, without a fault where the shelf is healthy.
 abbrev pub invariant-loop-room : goal.invariant-loop-room
