@@ -3,6 +3,7 @@ pub mod Alike
 pub mod Arrivals
 pub mod Conflicting
 pub mod Entered
+pub mod Entering
 pub mod Lists
 pub mod NewestInEveryOrder
 pub mod Orders

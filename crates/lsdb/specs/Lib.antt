@@ -9,3 +9,4 @@ pub mod Installs
 pub mod Orders
 pub mod Changes
 pub mod Disagreements
+pub mod Database

@@ -8,6 +8,7 @@ mod key;
 mod laws;
 mod lsdb;
 mod meet;
+mod whole;
 
 pub use change::{Change, Conflict};
 pub use key::Key;
@@ -18,3 +19,4 @@ pub use laws::{
     tells_the_first_conflict, the_same_lsas_give_the_same_database,
 };
 pub use lsdb::Lsdb;
+pub use whole::database_of;

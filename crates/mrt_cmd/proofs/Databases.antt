@@ -5,7 +5,7 @@ use Rattle.lsdb.specs.Entries.{Entry, entries_in}
 use Rattle.lsdb.specs.Newest.{IsSettled}
 use Rattle.lsdb.specs.declared.change.Conflict.{Conflict}
 use Rattle.ospf_lsa.specs.declared.lsa.Lsa.{Lsa}
-use Rattle.mrt_cmd.specs.Database.{HoldsLsas, IsDatabase, entering}
+use Rattle.lsdb.specs.Database.{HoldsLsas, IsDatabase, entering}
 
 pub none_there : (conflict : Option Conflict) (answer : Result (Unit {0}) Conflict) (done : Unit {0})
     → answer ≡ settled_by conflict → answer ≡ Ok done → conflict ≡ None

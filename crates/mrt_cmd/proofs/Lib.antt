@@ -1,6 +1,5 @@
 pub mod Causes
 pub mod Databases
-pub mod Entering
 pub mod Exactly
 pub mod Floods
 pub mod Forms

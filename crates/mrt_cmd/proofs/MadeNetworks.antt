@@ -22,7 +22,8 @@ use Rattle.mrt_survey.specs.SurveyText.{IsSurveyText}
 use Rattle.mrt_exit.specs.declared.exit.DbKind.{DbKind}
 use Rattle.mrt_exit.specs.declared.exit.Exit.{Exit}
 use Rattle.mrt_exit.specs.declared.exit.Exit.TheVariants as exits
-use Rattle.mrt_cmd.specs.Database.{IsBadDatabase, IsDatabase, entering, enters}
+use Rattle.lsdb.specs.Database.{IsDatabase, entering, enters}
+use Rattle.mrt_cmd.specs.Database.{IsBadDatabase}
 use Rattle.mrt_cmd.specs.Form.{IsNetworkSize}
 use Rattle.mrt_cmd.specs.Input.{Input, IsInput, area, input_of}
 use Rattle.mrt_cmd.specs.Islands.{HasNoIslandFor}

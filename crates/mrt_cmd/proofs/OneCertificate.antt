@@ -10,7 +10,7 @@ use Rattle.mrt_graph.specs.Topology.{Topology}
 use Rattle.mrt_island.specs.IslandOf.{IsIsland}
 use Rattle.mrt_island.specs.Policy.{Policy}
 use Rattle.mrt_rows.specs.CertOf.{IsCertOf}
-use Rattle.mrt_cmd.specs.Database.{IsDatabase}
+use Rattle.lsdb.specs.Database.{IsDatabase}
 use Rattle.mrt_cmd.specs.Input.{Input, HasIsland, area, policy}
 use Rattle.mrt_cmd.specs.SameFile.{IsSameFile}
 use Rattle.mrt_cmd.proofs.OneExit.{AreaLaws, is_area}

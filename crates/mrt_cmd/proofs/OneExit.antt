@@ -41,7 +41,8 @@ use Rattle.mrt_cmd.specs.Answers.{FileBytes, GivesFor, GivesOver, IsRefusedOver,
 use Rattle.mrt_cmd.specs.LoopFree.{HasLoopFree}
 use Rattle.mrt_cmd.specs.Certified.{IsCertified, IsComputed}
 use Rattle.mrt_cmd.specs.Comes.{Gives, Refuses}
-use Rattle.mrt_cmd.specs.Database.{IsBadDatabase, IsDatabase, entering, enters}
+use Rattle.lsdb.specs.Database.{IsDatabase, entering, enters}
+use Rattle.mrt_cmd.specs.Database.{IsBadDatabase}
 use Rattle.mrt_cmd.specs.Files.{flood_names, task_names}
 use Rattle.mrt_cmd.specs.Flooded.{GivesFlood, IsRefusedFlood}
 use Rattle.mrt_cmd.specs.Form.{Form, OfFiles, Survey, Flood, IsNetworkSize, Task, Check, Certify, Table, Trace, Fabric, Upgrade, Lfa, Order, Proxy}

@@ -24,7 +24,8 @@ use Rattle.ospf_lsa.specs.Lsas.{AreLsas}
 use Rattle.ospf_lsa.specs.Outcome.{IsFirstFault}
 use Rattle.ospf_lsa.specs.declared.error.LsaKind.{LsaKind}
 use Rattle.ospf_lsa.specs.declared.lsa.Lsa.{Lsa as Advertisement}
-use Rattle.mrt_cmd.specs.Database.{HoldsLsas, IsBadDatabase, IsDatabase, entering, enters}
+use Rattle.lsdb.specs.Database.{HoldsLsas, IsDatabase, entering, enters}
+use Rattle.mrt_cmd.specs.Database.{IsBadDatabase}
 use Rattle.mrt_cmd.specs.Input.{IsSpellingOf, IsProfile}
 use Rattle.mrt_exit.specs.declared.exit.DbKind.{DbKind}
 use Rattle.mrt_exit.specs.declared.exit.DbKind.TheVariants.{Lsa, Conflict}

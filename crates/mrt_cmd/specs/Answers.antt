@@ -7,7 +7,8 @@ use Rattle.mrt_exit.specs.declared.exit.Exit.{Exit}
 use Rattle.mrt_exit.specs.declared.exit.Exit.TheVariants.{BadDatabase, BadProfile}
 use Rattle.mrt_cmd.specs.LoopFree.{HasLoopFree}
 use Rattle.mrt_cmd.specs.Certified.{IsCertified}
-use Rattle.mrt_cmd.specs.Database.{IsDatabase, IsBadDatabase}
+use Rattle.lsdb.specs.Database.{IsDatabase}
+use Rattle.mrt_cmd.specs.Database.{IsBadDatabase}
 use Rattle.mrt_cmd.specs.Form.{Task, Check, Certify, Table, Trace, Fabric, Upgrade, Lfa, Order, Proxy}
 use Rattle.mrt_cmd.specs.Input.{Input, IsInput}
 use Rattle.mrt_cmd.specs.Islands.{HasNoIslandFor, HasNoRouterFor}

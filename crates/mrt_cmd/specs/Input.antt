@@ -15,7 +15,7 @@ use Rattle.mrt_island.specs.IslandOf.{IsIsland}
 use Rattle.mrt_island.specs.Policy.{Policy, policy_of}
 use Rattle.mrt_island.specs.declared.setting.Setting.{Setting}
 use Rattle.ospf_lsa.specs.declared.lsa.Lsa.{Lsa}
-use Rattle.mrt_cmd.specs.Database.{IsDatabase}
+use Rattle.lsdb.specs.Database.{IsDatabase}
 
 -- the bytes are a profile, no line of which has a fault, and this is what its lines say
 pub record IsProfile (bytes : List ℕ) (settings : List Setting) : Type 0 where

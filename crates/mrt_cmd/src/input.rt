@@ -1,26 +1,19 @@
 //! What the bytes of the files are.
 
-ghost use Rattle.std.specs.Prelude.{◌≡◌, ◌≤◌, ◌<◌, ◌∷◌, [], ℕ, None, IfOk, IfErr, OnOk, length, map};
+ghost use Rattle.std.specs.Prelude.{◌≡◌, ◌≤◌, None, IfOk, IfErr, length, map};
 ghost use Rattle.lsdb.specs.Conflicts.{least_conflict};
-ghost use Rattle.lsdb.specs.Entries.{entries_in};
-ghost use Rattle.lsdb.specs.Installing.{IsBehind};
-ghost use Rattle.lsdb.specs.Installs.{all_installed};
+ghost use Rattle.lsdb.specs.Database.{IsDatabase};
 ghost use Rattle.fabric_script.specs.ScriptFaults.{IsScript};
 ghost use Rattle.mrt_graph.specs.TextLines.{text_lines};
-ghost use Rattle.ospf_lsa.specs.Lsas.{AreLsas, IsLsa};
-ghost use Rattle.mrt_cmd.specs.Database.{IsDatabase, entering, enters};
 ghost use Rattle.mrt_cmd.specs.Input.{IsProfile};
 ghost use Rattle.mrt_cmd.specs.Reading.{HasNoDatabase, HasNoProfile, HasNoScript};
 
 use fabric_script::{Script, read_script};
 use file_key::FileKey;
-use lsdb::{
-    Lsdb, an_lsa_without_a_fault_may_be_installed, entries_are_those_of_the_list,
-    refuses_exactly_where_not_settled, tells_the_first_conflict,
-};
+use lsdb::{Lsdb, refuses_exactly_where_not_settled, tells_the_first_conflict};
 use mrt_exit::Exit;
 use mrt_island::{Profile, read_profile};
-use ospf_lsa::{Lsa, NETWORK_LSA, ROUTER_LSA, read_lsas};
+use ospf_lsa::read_lsas;
 use std::alloc::Global;
 
 /// The database of the router-LSAs and network-LSAs that the bytes are.
@@ -33,46 +26,9 @@ pub(crate) fn database_of(alloc: Global, bytes: &[u8]) -> Result<Lsdb, Exit>
     refuses_exactly_where_not_settled();
     tells_the_first_conflict();
     let lsas = read_lsas(alloc, bytes)?;
-    let database = installed(alloc, FileKey::of(bytes), lsas)?;
+    let database = lsdb::database_of(alloc, FileKey::of(bytes), lsas)?;
     database.settled()?;
     Ok(database)
-}
-
-/// A database in which the router-LSAs and network-LSAs among these of a file were installed, one after another.
-fn installed(alloc: Global, file: FileKey, lsas: Vec<Lsa>) -> Result<Lsdb, Exit>
-    requires { AreLsas 0 lsas.items }
-    ensures entries { IfOk result (λ database. database.entries ≡ entries_in (entering lsas.items)) }
-    ensures none { IfErr result (λ exit. exit ≡ Exit.NoMemory) }
-{
-    entries_are_those_of_the_list();
-    let mut database = Lsdb::keyed(alloc, file);
-    for lsa in lsas {
-        enter(&mut database, lsa)?;
-    }
-    Ok(database)
-}
-
-/// Installs an LSA, if it is one that enters the database.
-fn enter(database: &mut Lsdb, lsa: Lsa) -> Result<(), Exit>
-    requires faultless { IsLsa lsa }
-    requires behind { IsBehind database.old.greatest lsa.at }
-    ensures entries { OnOk result (database.new.entries ≡ all_installed database.old.entries (entering (lsa ∷ []))) }
-    ensures behind { OnOk result ((at : ℕ) → lsa.at < at → IsBehind database.new.greatest at) }
-    ensures none { IfErr result (λ exit. exit ≡ Exit.NoMemory) }
-{
-    an_lsa_without_a_fault_may_be_installed();
-    if !enters(&lsa) {
-        return Ok(());
-    }
-    database.install(lsa)?;
-    Ok(())
-}
-
-/// Whether an LSA is one that enters the database.
-fn enters(lsa: &Lsa) -> bool
-    ensures { result ≡ enters lsa.now }
-{
-    lsa.kind == ROUTER_LSA || lsa.kind == NETWORK_LSA
 }
 
 /// The profile that the bytes are.

@@ -1,6 +1,6 @@
 use Rattle.std.proofs.Common.{◌∙◌, ℕ, List, map, sym, subst}
 use Rattle.lsdb.specs.Entries.{Entry}
-use Rattle.mrt_cmd.specs.Database.{IsDatabase}
+use Rattle.lsdb.specs.Database.{IsDatabase}
 use Rattle.mrt_cmd.specs.Input.{Input, IsInput, IsProfile}
 use Rattle.mrt_cmd.proofs.Refusals.{tasks_over}
 use Rattle.mrt_cmd.proofs.Works.{gives_over}

@@ -1,6 +1,6 @@
 use Rattle.std.proofs.Common.{◌≡◌, ◌∙◌, Some, ap, sym}
 use Rattle.lsdb.specs.Conflicts.{least_conflict}
-use Rattle.mrt_cmd.specs.Database.{HoldsLsas, entering}
+use Rattle.lsdb.specs.Database.{HoldsLsas, entering}
 use Rattle.mrt_exit.specs.Faults.{conflict_exit}
 use Rattle.mrt_cmd.specs.Reading.{HasNoDatabase}
 use Rattle.mrt_cmd.proofs.Databases.{one_there}

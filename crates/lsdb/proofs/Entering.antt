@@ -28,7 +28,7 @@ use Rattle.lsdb.specs.Installs.{all_installed}
 use Rattle.ospf_lsa.specs.declared.lsa.Lsa.{Lsa}
 use Rattle.ospf_lsa.specs.LsaText.{lsa_length}
 use Rattle.ospf_lsa.specs.Lsas.{AreLsas, IsLsa}
-use Rattle.mrt_cmd.specs.Database.{entering, enters}
+use Rattle.lsdb.specs.Database.{entering, enters}
 
 -- these entries come of what is installed and of the LSAs that are left, which begin at some place, after all that is
 -- installed

@@ -1,0 +1,30 @@
+use Rattle.mrt_graph.specs.declared.cert.Color.TheVariants.{Blue, Red}
+use Rattle.mrt_graph.specs.Column.{rows_of_column}
+use Rattle.next_hops.proofs.Leading.{goes_on}
+use Rattle.next_hops.proofs.next_hops.next_hops_in.Goals as goal
+
+pub next_hop-blue-requires : goal.next_hop-blue-requires
+next_hop-blue-requires c = goes_on c.args.graph.now c.args.root c.in_ok-columns.columns.root c.in_ok-from.from
+    c.in_ok-to.to c.args.router c.args.to c.in_ok-column.column c.in_ok-columns.ensures.kept c.requires.root
+    c.in_ok-columns.ensures.root c.in_ok-columns.ensures.cert c.in_ok-column.ensures.rows c.certificates_are_accepted.ensures
+    c.accepted_rows_lead_on.ensures c.in_ok-from.ensures.within c.in_ok-to.ensures.within c.in_ok-from.ensures.named
+    c.in_ok-to.ensures.named c.requires.different Blue
+
+pub next_hop-red-requires : goal.next_hop-red-requires
+next_hop-red-requires c = goes_on c.args.graph.now c.args.root c.in_ok-columns.columns.root c.in_ok-from.from
+    c.in_ok-to.to c.args.router c.args.to c.in_ok-column.column c.in_ok-columns.ensures.kept c.requires.root
+    c.in_ok-columns.ensures.root c.in_ok-columns.ensures.cert c.in_ok-column.ensures.rows c.certificates_are_accepted.ensures
+    c.accepted_rows_lead_on.ensures c.in_ok-from.ensures.within c.in_ok-to.ensures.within c.in_ok-from.ensures.named
+    c.in_ok-to.ensures.named c.requires.different Red
+
+pub returns : goal.returns
+returns c = record {
+  s = c.in_ok-from.from;
+  source = c.in_ok-from.ensures.named;
+  t = c.in_ok-to.to;
+  target = c.in_ok-to.ensures.named;
+  rows = rows_of_column c.in_ok-column.column;
+  sound = c.in_ok-column.ensures.sound.sound;
+  blue = record { hop = record { link = c.next_hop-blue.result.link; to = c.next_hop-blue.result.to }; next = c.next_hop-blue.ensures.hop; named = c.id.ensures };
+  red = record { hop = record { link = c.next_hop-red.result.link; to = c.next_hop-red.result.to }; next = c.next_hop-red.ensures.hop; named = c.id-2.ensures };
+}
