@@ -14,6 +14,8 @@ import sys
 import tempfile
 from itertools import count, islice
 
+import folders
+
 import areas
 import timing
 from lsas import lsa, router_lsa, spelled, update
