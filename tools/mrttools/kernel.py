@@ -2,6 +2,7 @@
 color."""
 from __future__ import annotations
 
+import argparse
 import re
 from typing import Iterable, NamedTuple
 
@@ -18,6 +19,8 @@ PRIMARY, FOR_WORD, FOR_PORT, LAST = 20, 25, 30, 35
 # zebra takes the first byte of a kernel route's metric as its distance: this one is after each of the daemon's own.
 AFTER_DAEMON = 200 << 24
 
+# Takes the tables of nft away, whether they are there or not.
+NO_MARKING = "table ip mrt\ndelete table ip mrt\n"
 SETTINGS = """# A next hop without a carrier is passed over at once; a packet may come back past its sender.
 echo 1 > /proc/sys/net/ipv4/ip_forward
 for each in /proc/sys/net/ipv4/conf/*; do
@@ -29,6 +32,24 @@ done
 """
 
 
+def code_point(text: str) -> int:
+    """A code point of the pool for local use (RFC 2474, section 6)."""
+    if not text.isdecimal() or int(text) > 63 or int(text) % 4 != 3:
+        raise ValueError(text)
+    return int(text)
+
+
+def add_dscp(parser: argparse.ArgumentParser) -> None:
+    parser.add_argument(
+        "--dscp",
+        nargs=2,
+        type=code_point,
+        metavar=("BLUE", "RED"),
+        default=(3, 7),
+        help="two code points of the pool for local use, 3, 7, 11 to 63 (default 3 7)",
+    )
+
+
 class Interfaces:
     """The names of the interfaces by their addresses, where they are known, and the addresses by their prefixes."""
 
@@ -38,6 +59,9 @@ class Interfaces:
             if not re.fullmatch(r"[A-Za-z0-9_.:@-]{1,15}", name):
                 raise ToolFault(f"an interface has the name {name!r}, which is not taken", REFUSED)
         self.names, self.prefixes = names, prefixes or {}
+
+    def __eq__(self, other: object) -> bool:
+        return isinstance(other, Interfaces) and (self.names, self.prefixes) == (other.names, other.prefixes)
 
     def attached(self, prefix: str) -> Hop | None:
         """The interface that has a prefix."""
@@ -109,8 +133,8 @@ def marking(dscp: tuple[int, int], inside: set[str]) -> str:
         # From outside the area no packet comes on a color.
         names = ", ".join(f'"{name}"' for name in sorted(inside))
         read.insert(0, f"        iifname != {{ {names} }} ip dscp {{ {both} }} ip dscp set 0")
-    return "\n".join(
-        ["table ip mrt", "delete table ip mrt", "table ip mrt {"]
+    return NO_MARKING + "\n".join(
+        ["table ip mrt {"]
         + ["    chain read {", "        type filter hook prerouting priority mangle; policy accept;", *read, "    }"]
         + ["    chain own {", "        type filter hook output priority mangle; policy accept;"]
         + [f"        ip dscp {{ {both} }} ip dscp set 0", "    }"]

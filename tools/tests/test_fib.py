@@ -10,7 +10,7 @@ from collections import defaultdict
 from random import Random
 from typing import NamedTuple
 
-from mrttools import area, failing, installing, kernel, lsas, nexthops
+from mrttools import area, failing, frr, installing, kernel, lsas, nexthops
 from mrttools.ending import ToolFault
 from mrttools.failing import Failure
 from mrttools.kernel import TABLES, Interfaces
@@ -433,6 +433,43 @@ class TheTool(unittest.TestCase):
             self.assertIn(words, done.stdout)
         self.assertEqual(subprocess.run(["sh", "-n"], input=done.stdout, text=True, check=False).returncode, 0)
         self.assertEqual(self.run_fib("--mrt", MRT, *sample, "9.9.9.9").returncode, 7)
+
+    @unittest.skipUnless(os.path.exists(MRT), "the program is not built")
+    def test_frr_and_what_comes_beside(self) -> None:
+        """Together they have what the script of ip has: rows and primaries as static routes, repairs beside."""
+        words = ["--mrt", MRT, f"{DATA}/lan.lsas", f"{DATA}/lan.profile", "10.255.1.4"]
+        script, static_routes, beside = (
+            self.run_fib("--format", each, *words).stdout for each in ("ip", "frr", "beside")
+        )
+        routes = [line for line in script.splitlines() if line.startswith("route ")]
+        static = set()
+        for prefix, gateway, table in re.findall(
+            r"route replace (\S+) via (\S+) (metric 20|table \d+) proto", script
+        ):
+            static.add(f"ip route {prefix} {gateway}" + ("" if "metric" in table else f" {table}"))
+        static |= {f"ip route 0.0.0.0/0 reject table {table}" for table in TABLES}
+        self.assertEqual(set(static_routes.splitlines()), static)
+        repairs = [line for line in beside.splitlines() if line.startswith("route ")]
+        self.assertEqual(len(static) + len(repairs), len(routes))
+        self.assertTrue(
+            all(" realm " in line and int(line.split(" metric ")[1].split()[0]) > 200 << 24 for line in repairs)
+        )
+        for line in script.splitlines():
+            self.assertTrue(line.startswith("route ") or line in beside, line)
+
+    def test_frr_with_another_daemon(self) -> None:
+        """The primaries are the daemon's, and those that are after it come beside."""
+        hop, row = (nexthops.Hop(number, lsas.address(f"192.0.2.{number}")) for number in (1, 2))
+        entry = kernel.Entry("10.0.0.1/32", hop, 20, [(30, 1, row)], [None, row])
+        names = Interfaces({1: "a", 2: "b", 3: "c"}, {"10.0.0.1/32": 3})
+        wanted = [
+            "ip route 10.0.0.1/32 192.0.2.1 a",
+            "ip route 10.0.0.1/32 c table 7811",
+            "ip route 10.0.0.1/32 192.0.2.2 b table 7812",
+        ]
+        self.assertEqual(frr.configuration([entry], names, False).splitlines()[:3], wanted)
+        self.assertEqual(frr.configuration([entry], names, True).splitlines()[:2], wanted[1:])
+        self.assertEqual([len(frr.beside([entry], names, daemon)) for daemon in (False, True)], [1, 2])
 
     @unittest.skipUnless(os.path.exists(MRT), "the program is not built")
     def test_addresses(self) -> None:
