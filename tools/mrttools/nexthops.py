@@ -60,7 +60,8 @@ class Ways:
     def __init__(self, mrt: Program, found: list[Lsa], router: int) -> None:
         self.mrt, self.router = mrt, Node(router, ROUTER)
         self.lines = [line_of(text) for text in mrt.lines("table", lsas.spelled(router))[1:]]
-        self.certificate = certificate.read(mrt.run("certify", lsas.spelled(router)))
+        self.certified = mrt.run("certify", lsas.spelled(router))
+        self.certificate = certificate.read(self.certified)
         self.found = list(area.speakers(found).values())
         self.area = area.area_of(found)
         self.bonds = island_of(mrt, self.area, self.certificate)

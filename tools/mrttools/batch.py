@@ -1,0 +1,162 @@
+"""The routes and rules that a kernel has of `tools/fib`, and how they become others: in one batch, whole or not at
+all."""
+from __future__ import annotations
+
+import json
+import subprocess
+import tempfile
+from typing import Iterable, Protocol
+
+from . import kernel
+from .ending import REFUSED, ToolFault
+from .kernel import PROTOCOL, TABLES
+
+# Lines of `ip -batch` without their verb, as `route 10.0.0.1/32 via ..` and `rule pref ..`.
+State = frozenset[str]
+NOTHING: State = frozenset()
+# The kernel's number of a kind of route, as `ip -N` has it.
+KINDS = {"7": "unreachable"}
+RULES = [f"rule pref {table} fwmark {table} lookup {table}" for table in TABLES]
+
+
+def state_of(routes: Iterable[str]) -> State:
+    """What a kernel is to have."""
+    return frozenset(f"route {route}" for route in routes) | frozenset(RULES)
+
+
+def bare() -> State:
+    """No repair, and no way for a packet that is on a color."""
+    return state_of(kernel.last_routes())
+
+
+# what changes
+
+
+def place(line: str) -> str:
+    """The words of a line by which the kernel tells rules and routes apart: of a route its kind, prefix, table and
+    metric."""
+    words = line.split(" ")
+    if words[0] == "rule":
+        return line
+    found = words[: 3 if words[1] == "unreachable" else 2]
+    for name in ("table", "metric"):
+        found += [name, words[words.index(name) + 1]] if name in words else []
+    return " ".join([*found, "proto", str(PROTOCOL)])
+
+
+def is_repair(line: str) -> bool:
+    return line.startswith("route ") and " table " not in line
+
+
+def said(line: str, verb: str) -> str:
+    kind, rest = line.split(" ", 1)
+    return f"{kind} {verb} {rest}"
+
+
+def changes(have: State, wanted: State) -> list[str]:
+    """The batch that makes one state of another. Repairs that go are first, then come rows of colors, then repairs, and
+    rows that go are last, so that no packet is put on a color that has no way."""
+    gone, come = {place(line) for line in have} - {place(line) for line in wanted}, wanted - have
+    verbs = [(line, "del") for line in gone] + [(line, "add" if line in RULES else "replace") for line in come]
+    order = [(True, "del"), (False, "add"), (False, "replace"), (True, "replace"), (False, "del")]
+    verbs.sort(key=lambda each: (order.index((is_repair(each[0]), each[1])), each[0]))
+    return [said(line, verb) for line, verb in verbs]
+
+
+# the kernel
+
+
+class Kernel(Protocol):
+    """A kernel that is asked, and changed."""
+
+    def state(self) -> State:
+        ...
+
+    def batch(self, lines: list[str]) -> None:
+        ...
+
+
+def put(router: Kernel, wanted: State) -> list[str]:
+    """Brings a kernel to what is wanted; the lines of what changed. Where the batch fails in its middle the kernel gets
+    back what it had, and where it does not take that, nothing of it is left."""
+    have = router.state()
+    lines = changes(have, wanted)
+    if not lines:
+        return []
+    try:
+        router.batch(lines)
+    except ToolFault as fault:
+        raise ToolFault(f"{fault}; {taken_back(router, have)}", fault.status) from None
+    return lines
+
+
+def taken_back(router: Kernel, had: State) -> str:
+    """Undoes the half of a batch; what is told of it."""
+    for state, told in ((had, "the routes are as they were before"), (NOTHING, "all routes are taken away")):
+        try:
+            router.batch(changes(router.state(), state))
+        except ToolFault:
+            pass
+        if router.state() == state:
+            return told
+    return "ROUTES ARE LEFT: run tools/fib --remove | sh"
+
+
+class Linux:
+    """The kernel of this machine, by ip and nft."""
+
+    def run(self, *words: str, text: str = "") -> str:
+        """What a program prints. It is given a file, which it reads to its end even where this process is gone."""
+        with tempfile.TemporaryFile("w+") as given:
+            given.write(text)
+            given.seek(0)
+            done = subprocess.run(words, stdin=given, stdout=subprocess.PIPE, stderr=subprocess.PIPE, text=True)
+        if done.returncode != 0:
+            why = " ".join(done.stderr.split())
+            raise ToolFault(f"{' '.join(words)}: status {done.returncode}: {why}", REFUSED)
+        return done.stdout
+
+    def told(self, *words: str) -> list[dict[str, object]]:
+        """What ip says, with numbers for what has names too."""
+        return json.loads(self.run("ip", "-N", "-j", "-4", *words) or "[]")
+
+    def state(self) -> State:
+        routes = self.told("route", "show", "table", "all", "proto", str(PROTOCOL))
+        rules = self.told("rule", "show")
+        return frozenset(f"route {route_of(each)}" for each in routes) | {
+            RULES[TABLES.index(each["priority"])] for each in rules if is_ours(each)
+        }
+
+    def batch(self, lines: list[str]) -> None:
+        if lines:
+            self.run("ip", "-batch", "-", text="".join(f"{line}\n" for line in lines))
+
+    def addresses(self) -> object:
+        """The interfaces that are up, with their addresses."""
+        return self.told("address", "show", "up")
+
+    def mark(self, nft: str) -> None:
+        """Puts the tables of nft in the place of those that were there, in one step."""
+        self.run("nft", "-f", "-", text=nft)
+
+
+def route_of(found: dict[str, object]) -> str:
+    """A route of `ip -j`, in the words of `kernel.routes_of`."""
+    kind, prefix = KINDS.get(found.get("type"), "unicast"), str(found["dst"])
+    if "/" not in prefix and prefix != "default":
+        prefix += "/32"
+    words = [prefix] if kind == "unicast" else [kind, prefix]
+    if kind == "unicast":
+        words += ["via", found["gateway"]] if "gateway" in found else []
+        words += ["dev", found["dev"]] if "dev" in found else []
+        words += [] if "gateway" in found else ["scope", "link"]
+    for name in ("table", "metric"):
+        words += [name, found[name]] if name in found else []
+    words += ["realm", found["flow"]["to"]] if "flow" in found else []
+    return " ".join(map(str, [*words, "proto", PROTOCOL]))
+
+
+def is_ours(rule: dict[str, object]) -> bool:
+    """Whether a rule of `ip -j` is one of these."""
+    said = rule.get("priority"), rule.get("fwmark"), rule.get("table")
+    return said in [(table, hex(table), str(table)) for table in TABLES]

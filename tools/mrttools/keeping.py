@@ -1,0 +1,174 @@
+"""What the agent does: it looks at the area, and where that has settled it makes the router's table and puts what
+changed into the kernel."""
+from __future__ import annotations
+
+import argparse
+import os
+import sys
+import time
+from typing import Callable, Iterator, NamedTuple, Protocol
+
+from . import batch, files, kernel, lsas, settling, table
+from .batch import State
+from .hearing import Database, Heard
+from .kernel import Interfaces
+from .lsas import POINT_TO_POINT, ROUTER, TRANSIT, Lsa
+from .nexthops import Ways
+from .program import Program
+from .settling import Seen, Settling
+from .table import Table, Wanted
+
+EVERY = 1
+SILENT = "the daemon does not answer"
+KINDS = "lsas", "profile", "cert"
+
+
+class Router(batch.Kernel, Protocol):
+    """The kernel of the router."""
+
+    def mark(self, nft: str) -> None:
+        ...
+
+    def addresses(self) -> object:
+        ...
+
+
+class Around(NamedTuple):
+    """What the agent has to do with: the kernel, the daemon's list, the packets that wait, and how it waits, which is
+    where a signal ends it."""
+
+    kernel: Router
+    listed: Callable[[], Database | None]
+    packets: Callable[[], Iterator[bytes]]
+    pause: Callable[[float], None]
+
+
+def tell(line: str) -> None:
+    print(f"agent: {line}", file=sys.stderr, flush=True)
+
+
+class Agent:
+    """What the agent knows, and what it has put into the kernel."""
+
+    def __init__(self, said: argparse.Namespace, around: Around) -> None:
+        self.said, self.around, self.kernel = said, around, around.kernel
+        self.settling = Settling(said.quiet)
+        self.heard = Heard(said.area, lsas.split(self.kept("lsas")), time.monotonic())
+        self.certificate, self.nft = self.kept("cert"), ""
+
+    def name(self, kind: str, stem: str = "area") -> str:
+        return os.path.join(self.said.folder, f"{stem}.{kind}")
+
+    def kept(self, kind: str) -> bytes:
+        """A file of the table that is in the kernel, if there is one."""
+        if not os.path.exists(self.name(kind)):
+            return b""
+        with open(self.name(kind), "rb") as file:
+            return file.read()
+
+    # what is there
+
+    def look(self) -> tuple[Seen, list[Lsa]]:
+        """What a table would be made of now, and the LSAs. The list comes first, so that what is in it was heard."""
+        listed, now = self.around.listed(), time.monotonic()
+        self.heard.put(self.around.packets(), now)
+        found, lacks = ([], [SILENT]) if listed is None else self.heard.of(listed, now)
+        interfaces = table.interfaces_of(self.kernel.addresses(), "ip")
+        lacks = lacks or self.own_lacks(found, interfaces)
+        return Seen(tuple(lacks), settling.bodies(found), self.profile(), interfaces), found
+
+    def profile(self) -> bytes:
+        if self.said.profile == "-":
+            return b""
+        with open(self.said.profile, "rb") as file:
+            return file.read()
+
+    def own_lacks(self, found: list[Lsa], interfaces: Interfaces) -> list[str]:
+        """Whether the daemon has no LSA of the router itself, or that tells of addresses that no interface has: it will
+        soon tell otherwise."""
+        own = [lsa for lsa in found if lsa.kind == ROUTER and lsa.number == self.said.router]
+        if not own:
+            return [f"no router-LSA of {lsas.spelled(self.said.router)}"]
+        links = [link for link in lsas.links_of(own[0].record) if link.kind in (POINT_TO_POINT, TRANSIT)]
+        gone = sorted({link.data for link in links} - set(interfaces.names or {}))
+        return [f"no interface is up with the address {lsas.spelled(address)}" for address in gone]
+
+    # tables
+
+    def made(self, seen: Seen, found: list[Lsa]) -> tuple[Table, bytes]:
+        """The router's table, and the certificate, which mrt has checked. The files are those of the next table."""
+        files.replace(self.name("lsas", "next"), b"".join(lsa.record for lsa in found))
+        files.replace(self.name("profile", "next"), seen.profile)
+        mrt = Program(self.said.mrt, self.name("lsas", "next"), self.name("profile", "next"))
+        ways = Ways(mrt, found, self.said.router)
+        files.replace(self.name("cert", "next"), ways.certified)
+        tell(mrt.lines("check", self.name("cert", "next"))[0])
+        wanted = Wanted(True, self.said.prefixes, True, tuple(self.said.dscp))
+        return table.table_of(ways, seen.interfaces, wanted), ways.certified
+
+    def put(self, wanted: State) -> None:
+        """Changes the routes and rules of the kernel."""
+        lines = batch.put(self.kernel, wanted)
+        for line in lines:
+            print(line, flush=True)
+        if lines:
+            tell(f"changed: {len(lines)}")
+
+    def install(self, seen: Seen, found: list[Lsa]) -> None:
+        """Makes the table and puts it into the kernel."""
+        made, certificate = self.made(seen, found)
+        wanted = batch.state_of(made.routes)
+        if self.said.dry_run:
+            print(*batch.changes(self.kernel.state(), wanted), sep="\n")
+            return
+        if certificate != self.certificate and self.kernel.state() - batch.bare():
+            self.take_back()
+            self.around.pause(self.said.hold)
+            if self.look()[0] != seen:
+                self.settling.forget()
+                return
+        if made.nft != self.nft:
+            self.kernel.mark(made.nft)
+            self.nft = made.nft
+            print("nft table ip mrt", flush=True)
+        self.put(wanted)
+        for kind in KINDS:
+            os.replace(self.name(kind, "next"), self.name(kind))
+        self.certificate = certificate
+
+    def take_back(self) -> None:
+        """Takes the repairs away, whose certificate is not the area's any more."""
+        self.put(batch.bare())
+        self.certificate = b""
+        files.replace(self.name("cert"), b"")
+
+    def take_away(self) -> None:
+        """Takes away all that the agent has put into the kernel, but the settings."""
+        self.put(batch.NOTHING)
+        self.kernel.mark(kernel.NO_MARKING)
+        self.nft = ""
+
+    # the work
+
+    def lacking(self, seen: Seen) -> None:
+        """Says what lacks, if that has been so for a while."""
+        first, *others = seen.lacks
+        tell(f"waits: {first}" + (f", and {len(others)} more" if others else ""))
+        if first == SILENT and self.said.strict:
+            self.take_away()
+
+    def step(self) -> bool:
+        """Looks once, and does what is to be done; whether that was a table."""
+        seen, found = self.look()
+        if not self.settling.settled(seen, time.monotonic()):
+            return False
+        if seen.lacks:
+            self.lacking(seen)
+            return False
+        self.install(seen, found)
+        return True
+
+    def work(self) -> None:
+        """Looks every second, until a signal comes or a status is not 0; with --dry-run until there is a table."""
+        while not (self.step() and self.said.dry_run):
+            self.around.pause(EVERY)
