@@ -123,7 +123,7 @@ class Bird:
             "protocol ospf v2 lab {",
             *(["    stub router yes;"] if router in plan.maintenance else []),
             "    area 0 {",
-            f"        stubnet {router_id(router)}/32;",
+            *(f"        stubnet {prefix};" for prefix in plan.loopbacks(router)),
         ]
         lines += [self.interface(interface) for interface in plan.interfaces(router)]
         return "\n".join(lines + ["    };", "}", ""])

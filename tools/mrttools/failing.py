@@ -5,7 +5,7 @@ import tempfile
 from itertools import permutations
 from typing import Iterator, NamedTuple
 
-from .network import Network, Plan, port, router_id
+from .network import SHARED, Network, Plan, port, router_id
 from .program import Program
 
 # The failing wires' group, and that of all others.
@@ -58,6 +58,13 @@ def failed_router(plan: Plan, router: int) -> Failure:
 def pairs(plan: Plan) -> list[Pair]:
     """The routers between which packets go; those in maintenance have no repairs."""
     return list(permutations([router for router in plan.routers if router not in plan.maintenance], 2))
+
+
+def pinged(plan: Plan, failed: int) -> list[Pair]:
+    """The pairs that are pinged while something fails, also those with the address that several routers have."""
+    others = [router for router in plan.routers if router not in (*plan.maintenance, *plan.shared)]
+    found = pairs(plan) + ([(router, SHARED) for router in others] if plan.shared else [])
+    return [pair for pair in found if failed not in pair]
 
 
 def lost_by_mrt(mrt: Program, plan: Plan, failure: Failure) -> set[Pair]:

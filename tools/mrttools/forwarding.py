@@ -9,9 +9,9 @@ import time
 from typing import Callable, Iterable, NamedTuple
 
 from .bars import Bar
-from .failing import FAILING, STANDING, Failure, Pair, failures, lost_by_mrt, pairs
+from .failing import FAILING, STANDING, Failure, Pair, failures, lost_by_mrt, pairs, pinged
 from .kernel import PRIMARY
-from .network import Network, Plan, router_id
+from .network import SHARED, Network, Plan, router_id
 from .pinging import Counted, Pinging
 from .program import ROOT, Program
 from .running import Lab
@@ -62,8 +62,8 @@ class Batch:
 class Installed:
     """What the routers of a network have in their kernels."""
 
-    def __init__(self, network: Network, mrt: Program, folder: str) -> None:
-        self.network, self.mrt, self.folder = network, mrt, folder
+    def __init__(self, network: Network, mrt: Program, folder: str, options: list[str]) -> None:
+        self.network, self.mrt, self.folder, self.options = network, mrt, folder, options
         self.routers = [router for router in network.plan.routers if router not in network.plan.maintenance]
         self.scripts: dict[int, str] = {}
 
@@ -80,7 +80,15 @@ class Installed:
             addresses = os.path.join(self.folder, f"r{router}.json")
             with open(addresses, "w", encoding="utf-8") as file:
                 file.write(self.inside(router, "ip", "-j", "-4", "address"))
-            fib = [os.path.join(ROOT, "tools", "fib"), "--mrt", self.mrt.path, "--addresses", addresses, *options]
+            fib = [
+                os.path.join(ROOT, "tools", "fib"),
+                "--mrt",
+                self.mrt.path,
+                "--addresses",
+                addresses,
+                *self.options,
+                *options,
+            ]
             words = [*fib, self.mrt.database, self.mrt.profile, router_id(router)]
             done = subprocess.run(words, stdout=subprocess.PIPE, stderr=subprocess.PIPE, text=True, check=True)
             self.scripts[router] = done.stdout
@@ -139,8 +147,7 @@ def lose(installed: Installed, failure: Failure, tell_lan: bool) -> Counted:
     gone = installed.primaries_by(failure.gone if tell_lan else [])
     gone.pop(failure.router, None)
     down = [Batch(network.wires, [f"link set group {FAILING} down"])] + installed.ready("del", gone)
-    wanted = [pair for pair in pairs(network.plan) if failure.router not in pair]
-    pinging = Pinging(network, wanted, PINGS)
+    pinging = Pinging(network, pinged(network.plan, failure.router), PINGS)
     time.sleep(BEFORE)
     do_at_once(down)
     counted = pinging.end()
@@ -153,7 +160,13 @@ def lose(installed: Installed, failure: Failure, tell_lan: bool) -> Counted:
 def parted_pairs(mrt: Program, plan: Plan, failure: Failure) -> set[Pair]:
     """The pairs whose ping or its answer is lost, by `mrt`."""
     lost = lost_by_mrt(mrt, plan, failure)
-    return {(one, other) for one, other in pairs(plan) if {(one, other), (other, one)} & lost}
+    parted = {(one, other) for one, other in pairs(plan) if {(one, other), (other, one)} & lost}
+    left = [router for router in plan.shared if router != failure.router]
+    return parted | {
+        (router, SHARED)
+        for router, to in pinged(plan, failure.router)
+        if to == SHARED and all((router, each) in parted for each in left)
+    }
 
 
 def wrong_pairs(counted: Counted, parted: set[Pair]) -> set[Pair]:

@@ -19,6 +19,8 @@ from itertools import count
 from typing import Iterable, NamedTuple
 
 LAN = 0
+# What stands for the routers that have an address in common.
+SHARED = 254
 
 
 class Interface(NamedTuple):
@@ -52,14 +54,15 @@ class Wire(NamedTuple):
 
 
 class Plan(NamedTuple):
-    """A network to build: its name, its routers, links and LANs, which router joins when the others have settled, and
-    which ones are in maintenance."""
+    """A network to build: its name, its routers, links and LANs, which router joins when the others have settled, which
+    ones are in maintenance, and which ones have an address in common."""
 
     name: str
     routers: list[int]
     wires: list[Wire]
     joiner: int
     maintenance: tuple[int, ...] = ()
+    shared: tuple[int, ...] = ()
 
     def interfaces(self, router: int) -> list[Interface]:
         """The interfaces of a router, but for its loopback."""
@@ -74,6 +77,10 @@ class Plan(NamedTuple):
                 place, here = f"{wire.net}.{router}", wire.metrics[router]
                 found.append(Interface(name, place, wire.prefix, here, far, number, router == wire.designated))
         return found
+
+    def loopbacks(self, router: int) -> list[str]:
+        """The prefixes on a router's loopback."""
+        return [loopback(each) for each in (router, SHARED) if each == router or router in self.shared]
 
 
 def link(one: int, other: int, metric: int, net: str) -> Wire:
@@ -190,7 +197,8 @@ class Network:
     def set_up(self, router: int) -> None:
         space = self.of(router)
         ip("-n", space, "link", "set", "lo", "up")
-        ip("-n", space, "addr", "add", loopback(router), "dev", "lo")
+        for prefix in self.plan.loopbacks(router):
+            ip("-n", space, "addr", "add", prefix, "dev", "lo")
         for interface in self.plan.interfaces(router):
             ip("-n", space, "addr", "add", f"{interface.address}/24", "dev", interface.name)
             ip("-n", space, "link", "set", interface.name, "up")

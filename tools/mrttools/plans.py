@@ -45,3 +45,5 @@ STUBS = Plan(
     maintenance=(10,),
 )
 PLANS = {plan.name: plan for plan in (PLAN, grid(4), ring(10, [(1, 5, 10), (3, 8, 10), (6, 9, 12)]), LANS, STUBS)}
+# The routers that have an address in common, of one block each.
+SHARED_BY = {"lab": (3, 6), "grid": (6, 11), "ring": (3, 8), "lans": (1, 6), "stubs": (1, 3)}

@@ -1,13 +1,14 @@
 """What the lab reads from daemons, and how it compares. The lab itself is run by hand."""
 import unittest
 from functools import partial
+from unittest import mock
 from xml.etree import ElementTree
 
 from mrttools import bars, comparing, failing, forwarding, network
 from mrttools.daemons import Bird, Frr, Running
 from mrttools.lsas import Key, address
 from mrttools.pinging import Counted
-from mrttools.plans import PLANS
+from mrttools.plans import PLANS, SHARED_BY
 
 NOTHING = Running([], "")
 
@@ -165,6 +166,16 @@ class Failures(unittest.TestCase):
         counted = Counted({(1, 2): 0, (1, 3): 1, (2, 1): 2, (2, 3): 9, (3, 1): 0}, 5, 5, 5)
         self.assertEqual(forwarding.wrong_pairs(counted, {(2, 3), (3, 1)}), {(2, 1), (3, 1)})
 
+    def test_pings_to_an_address_that_two_routers_have(self) -> None:
+        """It is lost where both are parted."""
+        plan = network.PLAN._replace(shared=(3, 8))
+        failure = next(failure for failure in failing.failures(plan) if failure.element == "10.255.0.5")
+        self.assertEqual(len(failing.pinged(plan, 5)), 56 + 6)
+        self.assertEqual(len(failing.pinged(plan, 3)), 56 + 7)
+        with mock.patch.object(forwarding, "lost_by_mrt", lambda *_: {(1, 8), (2, 8), (2, 3)}):
+            parted = forwarding.parted_pairs(None, plan, failure)
+            self.assertEqual(parted, {(1, 8), (8, 1), (2, 8), (8, 2), (2, 3), (3, 2), (2, network.SHARED)})
+
     def test_the_picture(self) -> None:
         picture = bars.svg("<lab>", [bars.Bar("link r1-r2", 0, 1500, 0), bars.Bar("router r5", 9, 10, 4)])
         root = ElementTree.fromstring(picture)
@@ -179,6 +190,14 @@ class Configurations(unittest.TestCase):
         for daemon, words in ((Frr(), " max-metric router-lsa administrative"), (Bird(), "    stub router yes;")):
             self.assertIn(words, daemon.configuration(plan, 10).splitlines())
             self.assertNotIn(words, daemon.configuration(plan, 1).splitlines())
+
+    def test_an_address_that_two_routers_have(self) -> None:
+        plan = PLANS["grid"]._replace(shared=SHARED_BY["grid"])
+        for router in (6, 7):
+            wanted = ["10.255.0.254/32"] if router in plan.shared else []
+            self.assertEqual(plan.loopbacks(router), [f"10.255.0.{router}/32", *wanted])
+            stubs = [line for line in Bird().configuration(plan, router).splitlines() if "stubnet" in line]
+            self.assertEqual(len(stubs), 1 + len(wanted))
 
     def test_one_delay_in_all_routers(self) -> None:
         daemon = Frr()
