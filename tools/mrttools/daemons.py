@@ -7,11 +7,8 @@ import shutil
 import subprocess
 from typing import NamedTuple
 
-from .lsas import Key, address
 from .network import LAN, Interface, Network, Plan, router_id
 
-# What two routers with one database agree on: each LSA's sequence number and checksum.
-Database = dict[Key, tuple[int, int]]
 # The next hops to each prefix: interface and gateway, which is empty where the prefix is attached.
 Routes = dict[str, set[tuple[str, str]]]
 
@@ -79,18 +76,11 @@ class Frr:
         return "\n".join(lines + [""])
 
     def ask(self, running: Running, question: str) -> str:
-        return answer("vtysh", "--vty_socket", running.folder, "-d", "ospfd", "-c", question)
+        return answer("vtysh", "--vty_socket", self.socket(running.folder), "-d", "ospfd", "-c", question)
 
-    def database(self, running: Running) -> Database:
-        found: Database = {}
-        kind = 0
-        for line in self.ask(running, "show ip ospf database").splitlines():
-            if "Link States" in line:
-                kind = {"Router": 1, "Net": 2}.get(line.split()[0], 0)
-            fields = re.match(r"(\S+)\s+(\S+)\s+\d+ 0x([0-9a-f]{8}) 0x([0-9a-f]{4})", line)
-            if fields and kind:
-                found[Key(kind, address(fields[1]), address(fields[2]))] = int(fields[3], 16), int(fields[4], 16)
-        return found
+    def socket(self, folder: str) -> str:
+        """Where a client reaches the daemon."""
+        return folder
 
     def routes(self, running: Running) -> Routes:
         said = json.loads(self.ask(running, "show ip ospf route json") or "{}")
@@ -133,16 +123,11 @@ class Bird:
         return f'        interface "{interface.name}" {{ type {kind}; cost {interface.metric}; hello 1; dead 4; }};'
 
     def ask(self, running: Running, question: str) -> str:
-        return answer("birdc", "-s", f"{running.folder}/bird.ctl", question)
+        return answer("birdc", "-s", self.socket(running.folder), question)
 
-    def database(self, running: Running) -> Database:
-        found: Database = {}
-        for line in self.ask(running, "show ospf lsadb").splitlines():
-            fields = re.match(r"\s*(000[12])\s+(\S+)\s+(\S+)\s+([0-9a-f]{8})\s+\d+\s+([0-9a-f]{4})", line)
-            if fields:
-                key = Key(int(fields[1]), address(fields[2]), address(fields[3]))
-                found[key] = int(fields[4], 16), int(fields[5], 16)
-        return found
+    def socket(self, folder: str) -> str:
+        """Where a client reaches the daemon."""
+        return f"{folder}/bird.ctl"
 
     def routes(self, running: Running) -> Routes:
         found: Routes = {}

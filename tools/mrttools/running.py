@@ -8,7 +8,9 @@ from contextlib import contextmanager
 from typing import Callable, Iterator
 
 from . import lsas
-from .daemons import Bird, Database, Frr, Routes, Running, run_in
+from .daemons import Bird, Frr, Routes, Running, run_in
+from .hearing import Database
+from .listing import Client
 from .network import Network
 
 PATIENCE = 90
@@ -28,7 +30,7 @@ class Lab:
 
     def start(self, router: int) -> None:
         own = os.path.join(self.folder, f"r{router}")
-        os.mkdir(own, mode=0o755)
+        os.makedirs(own, mode=0o755, exist_ok=True)
         self.running[router] = self.daemon.start(self.spaces, router, own)
 
     def stop(self) -> None:
@@ -41,17 +43,26 @@ class Lab:
                 words = ["ip", "-n", self.spaces.of(router), "route", "flush", "proto", protocol]
                 subprocess.run(words, stderr=subprocess.DEVNULL, check=False)
 
-    def databases(self) -> list[Database]:
-        return [self.daemon.database(running) for running in self.running.values()]
+    def kill(self, router: int) -> None:
+        """Has a router's daemon die."""
+        for process in self.running.pop(router).processes:
+            process.kill()
+            process.wait()
 
-    def wait(self) -> Database:
-        """Waits until all routers have had one and the same database, with all of them in it, for some seconds."""
+    def databases(self, without: tuple[int, ...]) -> list[Database]:
+        folders = [running.folder for router, running in self.running.items() if router not in without]
+        clients = [Client(self.daemon.name.lower(), self.daemon.socket(folder), 0) for folder in folders]
+        return [client.database() or {} for client in clients]
+
+    def wait(self, without: tuple[int, ...] = ()) -> Database:
+        """Waits until all routers, but for some, have had one and the same database, with all of them in it, for some
+        seconds."""
         end, since, last = time.monotonic() + PATIENCE, time.monotonic(), None
         while time.monotonic() < end:
             self.look_after()
-            first, *others = self.databases()
+            first, *others = self.databases(without)
             routers = sum(key.kind == lsas.ROUTER for key in first)
-            if first != last or routers < len(self.running) or any(other != first for other in others):
+            if first != last or routers < len(others) + 1 or any(other != first for other in others):
                 since = time.monotonic()
             if time.monotonic() - since >= QUIET:
                 return first

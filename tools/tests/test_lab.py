@@ -6,40 +6,10 @@ from xml.etree import ElementTree
 
 from mrttools import bars, comparing, failing, forwarding, network
 from mrttools.daemons import Bird, Frr, Running
-from mrttools.lsas import Key, address
 from mrttools.pinging import Counted
 from mrttools.plans import PLANS, SHARED_BY
 
 NOTHING = Running([], "")
-
-FRR_DATABASE = """
-       OSPF Router with ID (10.255.0.1)
-
-                Router Link States (Area 0.0.0.0)
-
-Link ID         ADV Router      Age  Seq#       CkSum  Link count
-10.255.0.1     10.255.0.1       12 0x80000007 0x2e04 7
-
-                Net Link States (Area 0.0.0.0)
-
-Link ID         ADV Router      Age  Seq#       CkSum
-198.51.100.7   10.255.0.7       33 0x80000001 0xf00d
-
-                AS External Link States
-
-Link ID         ADV Router      Age  Seq#       CkSum  Route
-0.0.0.0        10.255.0.1       12 0x80000001 0xbeef E2 0.0.0.0/0 [0x0]
-"""
-
-BIRD_DATABASE = """BIRD 2.0.12 ready.
-
-Area 0.0.0.0
-
- Type   LS ID           Router          Sequence   Age  Checksum
- 0001  10.255.0.1      10.255.0.1      80000007    12    2e04
- 0002  198.51.100.7    10.255.0.7      80000001    33    f00d
- 0005  0.0.0.0         10.255.0.1      80000001    12    beef
-"""
 
 FRR_ROUTES = """{"10.255.0.2/32": {"routeType": "N", "cost": 10, "area": "0.0.0.0",
   "nexthops": [{"ip": "10.0.12.2", "via": "to-r2"}, {"ip": "10.0.16.6", "via": "to-r6"}]},
@@ -55,10 +25,6 @@ Table master4:
 \tdev to-lan
 """
 
-DATABASE = {
-    Key(1, address("10.255.0.1"), address("10.255.0.1")): (0x80000007, 0x2E04),
-    Key(2, address("198.51.100.7"), address("10.255.0.7")): (0x80000001, 0xF00D),
-}
 ROUTES = {"10.255.0.2/32": {("to-r2", "10.0.12.2"), ("to-r6", "10.0.16.6")}, "198.51.100.0/24": {("to-lan", "")}}
 
 TABLE = """router 10.255.0.1 root 10.255.0.2 nodes 10 links 12
@@ -78,17 +44,13 @@ class Daemons(unittest.TestCase):
         daemon.ask = lambda running, question: text
         return daemon
 
-    def test_databases(self) -> None:
-        self.assertEqual(self.asked(Frr, FRR_DATABASE).database(NOTHING), DATABASE)
-        self.assertEqual(self.asked(Bird, BIRD_DATABASE).database(NOTHING), DATABASE)
-
     def test_routes(self) -> None:
         self.assertEqual(self.asked(Frr, FRR_ROUTES).routes(NOTHING), ROUTES)
         self.assertEqual(self.asked(Bird, BIRD_ROUTES).routes(NOTHING), ROUTES)
 
     def test_no_answer(self) -> None:
         for kind in (Frr, Bird):
-            self.assertEqual((self.asked(kind, "").database(NOTHING), self.asked(kind, "").routes(NOTHING)), ({}, {}))
+            self.assertEqual(self.asked(kind, "").routes(NOTHING), {})
 
 
 class Comparing(unittest.TestCase):

@@ -1,0 +1,267 @@
+"""The lab's agents: one in each router, and what they make of a link that comes, a router that goes, another profile,
+two changes within a second, and daemons that die."""
+from __future__ import annotations
+
+import json
+import os
+import subprocess
+import time
+from typing import Callable, NamedTuple
+
+from . import batch, lsas
+from .batch import NOTHING, Linux, State
+from .ending import ToolFault
+from .failing import FAILING, STANDING
+from .forwarding import Batch, do_at_once, line_of
+from .keeping import SILENT
+from .network import Network, port, router_id
+from .program import ROOT
+from .running import Lab, LabFault
+
+# Seconds that the agents are asked to wait, and within which all are to have their tables.
+QUIET, HOLD, PATIENCE = 5, 2, 90
+HEAD = ("change", "routers", "changes", "batches", "seconds")
+# Whose daemons die: the first one's agent leaves its table, the second one's takes it away.
+LEFT, STRICT = 6, 9
+
+
+class Inside(Linux):
+    """The kernel of a router of the lab."""
+
+    def __init__(self, space: str) -> None:
+        self.space = space
+
+    def run(self, *words: str, text: str = "") -> str:
+        return super().run("ip", "netns", "exec", self.space, *words, text=text)
+
+
+class Agents:
+    """The agents of a network, their files and what they say."""
+
+    def __init__(self, lab: Lab, mrt: str, folder: str) -> None:
+        self.lab, self.mrt, self.folder, self.network = lab, mrt, folder, lab.spaces
+        self.running: dict[int, subprocess.Popen[bytes]] = {}
+        os.makedirs(folder, exist_ok=True)
+        self.profile = self.name("profile")
+
+    def name(self, last: str) -> str:
+        return os.path.join(self.folder, last)
+
+    def start(self, router: int) -> None:
+        """Starts an agent before its daemon."""
+        options = ["--mrt", self.mrt, "--quiet", str(QUIET), "--hold", str(HOLD)]
+        options += ["--strict"] if router == STRICT else []
+        options += ["--socket", self.lab.daemon.socket(os.path.join(self.lab.folder, f"r{router}"))]
+        given = [self.lab.daemon.name.lower(), self.profile, router_id(router), self.name(f"r{router}")]
+        words = ["ip", "netns", "exec", self.network.of(router), os.path.join(ROOT, "tools", "agent")]
+        with open(self.name(f"r{router}.out"), "wb") as out, open(self.name(f"r{router}.err"), "wb") as err:
+            self.running[router] = subprocess.Popen([*words, *options, *given], stdout=out, stderr=err)
+
+    def stop(self) -> None:
+        for process in self.running.values():
+            process.terminate()
+        for process in self.running.values():
+            process.wait()
+
+    def said(self, router: int, kind: str) -> list[str]:
+        """The lines of an agent so far: `out` are its changes, `err` what it tells."""
+        with open(self.name(f"r{router}.{kind}"), encoding="utf-8") as file:
+            return file.read().splitlines()
+
+    def state(self, router: int) -> State:
+        return Inside(self.network.of(router)).state()
+
+    def wanted(self, router: int, database: str) -> State:
+        """What tools/fib has for a router."""
+        addresses = self.name("addresses")
+        with open(addresses, "w", encoding="utf-8") as file:
+            json.dump(Inside(self.network.of(router)).addresses(), file)
+        words = ["--mrt", self.mrt, "--daemon", "--addresses", addresses, database, self.profile, router_id(router)]
+        fib = [os.path.join(ROOT, "tools", "fib"), *words]
+        done = subprocess.run(fib, stdout=subprocess.PIPE, stderr=subprocess.DEVNULL, text=True, check=True)
+        lines = (line.removeprefix("route replace ") for line in done.stdout.splitlines())
+        return batch.state_of(line for line in lines if line.endswith(f"proto {batch.PROTOCOL}"))
+
+    def wait(self, without: tuple[int, ...] = ()) -> None:
+        """Waits until the routers, but for some, have the tables of one database, which is that of their daemons."""
+        listed = self.lab.wait(without)
+        routers = [router for router in self.running if router not in without]
+        database = self.name(f"r{routers[0]}/area.lsas")
+        end = time.monotonic() + PATIENCE
+        while True:
+            self.look_after()
+            if self.is_of(database, listed):
+                wrong = [router for router in routers if self.state(router) != self.wanted(router, database)]
+                if not wrong:
+                    return
+            if time.monotonic() > end:
+                raise LabFault(f"the agents did not have their tables in {PATIENCE} seconds")
+            time.sleep(1)
+
+    def is_of(self, name: str, listed: dict[lsas.Key, tuple[int, int]]) -> bool:
+        """Whether a file has the LSAs that the daemons have, be they older instances that say the same."""
+        if not os.path.exists(name):
+            return False
+        with open(name, "rb") as file:
+            return {lsa.key for lsa in lsas.split(file.read())} == set(listed)
+
+    def look_after(self) -> None:
+        for router, process in self.running.items():
+            if process.poll() is not None:
+                told = "\n".join(self.said(router, "err")[-5:])
+                raise LabFault(f"the agent of r{router} ended with status {process.returncode}:\n{told}")
+
+
+# changes
+
+
+class Change(NamedTuple):
+    """What happens: its name, how it is done, and the routers that have no table of the area after it."""
+
+    name: str
+    do: Callable[[], None]
+    out: tuple[int, ...] = ()
+
+
+def wires(network: Network, ports: list[str], verb: str) -> None:
+    """Takes wires down or up at once."""
+    network.group(ports, FAILING)
+    do_at_once([Batch(network.wires, [f"link set group {FAILING} {verb}"])])
+    network.group(ports, STANDING)
+
+
+def ends(network: Network, one: int, other: int) -> list[str]:
+    """Both wires of a link of two routers."""
+    number = next(
+        number
+        for number, wire in enumerate(network.plan.wires)
+        if not wire.is_lan and set(wire.metrics) == {one, other}
+    )
+    return [port(number, one), port(number, other)]
+
+
+def all_ends(network: Network, router: int) -> list[str]:
+    """All wires of a router's links and LANs, the far ends of the links too."""
+    found = []
+    for number, wire in enumerate(network.plan.wires):
+        if router in wire.metrics:
+            found += [port(number, end) for end in ([router] if wire.is_lan else wire.metrics)]
+    return found
+
+
+def write_profile(agents: Agents, root: int) -> None:
+    with open(agents.profile, "w", encoding="ascii") as file:
+        file.write(f"priority {router_id(root)} 10\n")
+
+
+def changes(agents: Agents) -> list[Change]:
+    network, lab = agents.network, agents.lab
+
+    def two() -> None:
+        wires(network, ends(network, 1, 2), "down")
+        time.sleep(0.5)
+        wires(network, ends(network, 5, 6), "down")
+
+    def mend() -> None:
+        wires(network, ends(network, 1, 2) + ends(network, 5, 6), "up")
+
+    def die() -> None:
+        for router in (LEFT, STRICT):
+            lab.kill(router)
+
+    def again() -> None:
+        for router in (LEFT, STRICT):
+            lab.start(router)
+
+    return [
+        Change("link r4-r5 comes", lambda: wires(network, ends(network, 4, 5), "up")),
+        Change("router r6 goes", lambda: wires(network, all_ends(network, 6), "down"), (6,)),
+        Change("router r6 comes back", lambda: wires(network, all_ends(network, 6), "up")),
+        Change("the profile has another root", lambda: write_profile(agents, 5)),
+        Change("two links go, half a second apart", two),
+        Change("both come back", mend),
+        Change(f"daemons of r{LEFT} and r{STRICT} die", die, (LEFT, STRICT)),
+        Change("both are started again", again),
+    ]
+
+
+class Row(NamedTuple):
+    """What came of a change: how many routers had other tables, their changes, the most batches of one, and the seconds
+    until the last one had its table."""
+
+    name: str
+    routers: int
+    changes: int
+    batches: int
+    seconds: float
+
+    @property
+    def cells(self) -> tuple[str, ...]:
+        return self.name, f"{self.routers:,}", f"{self.changes:,}", f"{self.batches:,}", f"{self.seconds:.0f}"
+
+
+def tried(agents: Agents, change: Change) -> Row:
+    """Has something change, and waits until all agents have put it into their kernels."""
+    routers = list(agents.running)
+    before = {router: (len(agents.said(router, "out")), len(agents.said(router, "err"))) for router in routers}
+    began = time.time()
+    change.do()
+    agents.wait(change.out)
+    lines = {router: len(agents.said(router, "out")) - before[router][0] for router in routers}
+    batches = {
+        router: sum(line.startswith("agent: changed:") for line in agents.said(router, "err")[before[router][1] :])
+        for router in routers
+    }
+    last = max(os.stat(agents.name(f"r{router}.out")).st_mtime for router in routers)
+    return Row(change.name, sum(map(bool, lines.values())), sum(lines.values()), max(batches.values()), last - began)
+
+
+def silent_as_asked(agents: Agents, before: State) -> bool:
+    """Where daemons died: one agent has left its table, the other one has taken it away, and both have said why."""
+    for router in (LEFT, STRICT):
+        if not agents.said(router, "err")[-2:] or not any(SILENT in line for line in agents.said(router, "err")):
+            return False
+    return agents.state(LEFT) == before and agents.state(STRICT) == NOTHING
+
+
+def refused(agents: Agents, router: int) -> str:
+    """What is told of a batch that a kernel refuses in its middle, after it has lost all repairs and before it gets
+    others; empty where the kernel has not the table that it had."""
+    here = Inside(agents.network.of(router))
+    before = here.state()
+    lost = {line for line in before if batch.is_repair(line)}
+    nowhere = f"route 10.255.0.99/32 via 192.0.2.99 table {batch.TABLES[0]} proto {batch.PROTOCOL}"
+    try:
+        batch.put(here, before - lost | {nowhere})
+    except ToolFault as fault:
+        return str(fault) if lost and here.state() == before else ""
+    return ""
+
+
+def run(agents: Agents, say: Callable[[str], None]) -> bool:
+    """All changes, one after another; whether each router had the table that tools/fib has, and those whose daemons
+    died what was asked, and whether a batch that failed was undone."""
+    write_profile(agents, 2)
+    wires(agents.network, ends(agents.network, 4, 5), "down")
+    for router in agents.network.plan.routers:
+        agents.start(router)
+    for router in agents.network.plan.routers:
+        agents.lab.start(router)
+    agents.wait()
+    say(f"agent: {len(agents.running)} routers have the tables of tools/fib: {total(agents):,} routes and rules")
+    undone = refused(agents, 1)
+    say(f"agent: r1 is given a batch that fails in its middle: {undone or 'IT IS NOT UNDONE'}")
+    say(line_of(HEAD))
+    agreed = bool(undone)
+    for change in changes(agents):
+        before = agents.state(LEFT)
+        row = tried(agents, change)
+        say(line_of(row.cells))
+        if STRICT in change.out:
+            agreed = silent_as_asked(agents, before) and agreed
+    agents.stop()
+    return agreed
+
+
+def total(agents: Agents) -> int:
+    return sum(len(agents.state(router)) for router in agents.running)
