@@ -55,6 +55,7 @@ class Agent:
         self.settling = Settling(said.quiet)
         self.heard = Heard(said.area, lsas.split(self.kept("lsas")), time.monotonic())
         self.certificate, self.nft = self.kept("cert"), ""
+        self.installed: Seen | None = None
 
     def name(self, kind: str, stem: str = "area") -> str:
         return os.path.join(self.said.folder, f"{stem}.{kind}")
@@ -134,7 +135,7 @@ class Agent:
         self.put(wanted)
         for kind in KINDS:
             os.replace(self.name(kind, "next"), self.name(kind))
-        self.certificate = certificate
+        self.certificate, self.installed = certificate, seen
 
     def take_back(self) -> None:
         """Takes the repairs away, whose certificate is not the area's any more."""
@@ -148,6 +149,12 @@ class Agent:
         self.kernel.mark(kernel.NO_MARKING)
         self.nft = ""
 
+    def keep(self, found: list[Lsa]) -> None:
+        """Keeps newer instances that say the same, with which an agent that is started again begins."""
+        data = b"".join(lsa.record for lsa in found)
+        if data != self.kept("lsas"):
+            files.replace(self.name("lsas"), data)
+
     # the work
 
     def lacking(self, seen: Seen) -> None:
@@ -160,6 +167,8 @@ class Agent:
     def step(self) -> bool:
         """Looks once, and does what is to be done; whether that was a table."""
         seen, found = self.look()
+        if seen == self.installed:
+            self.keep(found)
         if not self.settling.settled(seen, time.monotonic()):
             return False
         if seen.lacks:

@@ -16,7 +16,7 @@ from mrttools.ending import REFUSED, ToolFault
 from mrttools.hearing import AT_ONCE, KEPT, Database, Heard, instance_of
 from mrttools.kernel import TABLES, Interfaces
 from mrttools.keeping import Agent, Around
-from mrttools.lsas import Key, address, lsa_of, split
+from mrttools.lsas import Key, address, lsa_of, sealed, split
 from mrttools.network import Plan, link
 from mrttools.settling import Seen, Settling
 from tests.making import MRT, TOOLS, datagram, fragments, ospf, pair, router_lsa, update
@@ -494,6 +494,15 @@ class TheAgent(unittest.TestCase):
         agent = self.agent(heard=False)
         self.step(agent)
         self.assertEqual(self.router.state(), self.by_fib())
+
+    def test_newer_instances_that_say_the_same(self) -> None:
+        """They change nothing, and a new start has them."""
+        agent = self.agent()
+        self.step(agent)
+        self.records = list(map(lsa_of, (sealed(lsa, lsa.sequence + 1, lsa.record[20:]) for lsa in self.records)))
+        self.assertEqual((self.step(agent), self.router.batches), ([], 1))
+        self.step(self.agent(heard=False))
+        self.assertFalse(any("not heard" in line for line in self.told))
 
     def test_a_dry_run(self) -> None:
         lines = self.step(self.agent(dry_run=True))
