@@ -79,7 +79,7 @@ class Bond(NamedTuple):
 
 
 class Area(NamedTuple):
-    """Nodes, the links between them, and what one end alone tells of a link, but for its parallel links."""
+    """Nodes, the links between them, and what one end alone tells of a link to a node that tells of none back."""
 
     nodes: list[Node]
     bonds: list[Bond]
@@ -136,11 +136,6 @@ def bonds_of(arcs: Iterable[Arc]) -> list[Bond]:
     return pairs + single
 
 
-def arcs_of(speaking: dict[Node, Lsa]) -> list[Arc]:
-    """All arcs between nodes that are there."""
-    return [arc for node, lsa in speaking.items() for arc in arcs_from(node, lsa) if arc.to in speaking]
-
-
 def area_of(found: Iterable[Lsa]) -> Area:
     """The area of LSAs, old instances among them."""
     speaking = speakers(found)
@@ -158,24 +153,20 @@ def profile_lines(profile: bytes) -> list[list[str]]:
 # what an operator should look at
 
 
-def one_way(found: Iterable[Lsa]) -> list[Arc]:
-    """The links that one end tells, and the other, which is there, does not."""
-    ways = ways_of(arcs_of(speakers(found)))
-    return [arc for (a, b), there in sorted(ways.items()) for arc in there[len(ways.get((b, a), [])) :]]
-
-
-def one_way_lines(found: Iterable[Lsa]) -> list[str]:
+def one_way_lines(whole: Area) -> list[str]:
+    """A line on each link that one end tells, and the other, which is there, does not."""
+    arcs = [arc for arc in whole.half if arc.to in whole.nodes]
+    arcs += [Arc(bond.a, bond.b, bond.data_a, 0, bond.metric_a) for bond in whole.bonds if not bond.two_way]
     lines = []
-    for arc in one_way(found):
+    for arc in sorted(arcs):
         data = f" with link data {lsas.spelled(arc.data)}" if arc.tail.kind == ROUTER else ""
         lines.append(f"told by one end: the link of {arc.tail.text} to {arc.to.text}{data}")
     return lines
 
 
-def no_link_lines(found: Iterable[Lsa]) -> list[str]:
+def no_link_lines(whole: Area) -> list[str]:
     """A line on each router without a link that both ends tell."""
-    whole = area_of(found)
-    linked = {node for bond in whole.bonds if bond.data_b is not None for node in (bond.a, bond.b)}
+    linked = {node for bond in whole.bonds if bond.two_way for node in (bond.a, bond.b)}
     return [f"without a link: {node.text}" for node in whole.nodes if node.kind == ROUTER and node not in linked]
 
 

@@ -248,7 +248,8 @@ def summary(gathered: Gathered, area: int, written: list[Lsa]) -> list[str]:
     )
     lines.append(f"live: routers {routers}, networks {networks}")
     lines += [f"named, but not there: {name}" for name in missing(live)]
-    lines += areas.one_way_lines(live) + areas.no_link_lines(live)
+    whole = areas.area_of(live)
+    lines += areas.one_way_lines(whole) + areas.no_link_lines(whole)
     lines += [
         f"flushed by an older copy that outranks a later live one: {name}; capture anew"
         for name in outranked(instances)

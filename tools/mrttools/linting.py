@@ -67,7 +67,7 @@ def findings(found: list[Lsa], whole: Area, profile: Profile) -> list[str]:
     """All lines on what should be looked at."""
     live = list(area.speakers(found).values())
     lines = profile_lines(profile, whole)
-    lines += area.no_link_lines(found) + area.one_way_lines(found)
+    lines += area.no_link_lines(whole) + area.one_way_lines(whole)
     lines += [f"named, but not there: {name}" for name in gather.missing(live)]
     return lines + maintenance_lines(found)
 
