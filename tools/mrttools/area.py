@@ -145,6 +145,19 @@ def area_of(found: Iterable[Lsa]) -> Area:
     return Area(sorted(speaking), bonds_of(arc for arc in told if arc.to in speaking), half)
 
 
+def links_at(whole: Area) -> dict[Node, list[Bond]]:
+    """The links of each node over which it can send, in the order of `mrt`: by metric, far node and link data. Of
+    several first links of shortest ways the first in this order is the primary's."""
+    found: dict[Node, list[Bond]] = {node: [] for node in whole.nodes}
+    for bond in whole.bonds:
+        found[bond.a].append(bond)
+        if bond.two_way:
+            found[bond.b].append(bond)
+    for node, bonds in found.items():
+        bonds.sort(key=lambda bond: (bond.metric_from(node), bond.far(node), bond.data_of(node)))
+    return found
+
+
 def profile_lines(profile: bytes) -> list[list[str]]:
     """The words of each line. A line that begins with # may hold any bytes."""
     return [line.decode("ascii").split() for line in profile.split(b"\n") if not line.startswith(b"#")]

@@ -99,19 +99,6 @@ def answers(
     return found
 
 
-def links_at(whole: Area) -> dict[Node, list[Bond]]:
-    """The links of each node over which it can send, in the order of `mrt`: by metric, far node and link data. Of
-    several first links of shortest ways the first in this order is the primary's."""
-    found: dict[Node, list[Bond]] = {node: [] for node in whole.nodes}
-    for bond in whole.bonds:
-        found[bond.a].append(bond)
-        if bond.two_way:
-            found[bond.b].append(bond)
-    for node, bonds in found.items():
-        bonds.sort(key=lambda bond: (bond.metric_from(node), bond.far(node), bond.data_of(node)))
-    return found
-
-
 def hop(links: dict[Node, list[Bond]], router: Node, following: Node) -> list[tuple[Node, Bond]]:
     """The links of a primary that leads to the next router, or to a network, each with the node that sends over it: the
     first ones that lead there, as all of them are of shortest ways or none."""

@@ -5,7 +5,7 @@ import tempfile
 from itertools import permutations
 from typing import Iterator, NamedTuple
 
-from .network import SHARED, Network, Plan, port, router_id
+from .network import SHARED, Plan, port, router_id
 from .program import Program
 
 # The failing wires' group, and that of all others.

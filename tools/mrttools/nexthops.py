@@ -10,8 +10,8 @@ from .area import Area, Bond, Node
 from .certificate import Certificate
 from .ending import REFUSED, ToolFault
 from .lsas import NETWORK, ROUTER, Lsa
+from .paths import Graph
 from .program import Program
-from .shortest import Paths
 
 NO_REPAIR = "-"
 COLOR_OF = {"b": 0, "r": 1}
@@ -132,7 +132,7 @@ class Ways:
 
     def routes(self) -> Iterator[Route]:
         """A route for each line of the router's table."""
-        beginnings = Paths(self.area).beginnings(self.router)
+        beginnings = Graph(self.area).beginnings(self.router)
         for line in self.lines:
             several = len(beginnings[line.to]) > 1
             rows = self.row(0, line.to), self.row(1, line.to)

@@ -4,8 +4,7 @@ from __future__ import annotations
 from heapq import heapify, heappop, heappush
 from typing import Iterator, NamedTuple
 
-from . import asking
-from .area import Area, Bond, Node
+from .area import Area, Bond, Node, links_at
 from .lsas import NETWORK, ROUTER
 
 # A cost is so many times a sum of metrics, plus the number of routers that are entered: of least ways that with the
@@ -38,7 +37,7 @@ class Graph:
     def __init__(self, whole: Area) -> None:
         self.area, self.nodes, self.bonds = whole, whole.nodes, whole.bonds
         self.number = {node: place for place, node in enumerate(whole.nodes)}
-        self.links = asking.links_at(whole)
+        self.links = links_at(whole)
         self.place = {bond: place for place, bond in enumerate(whole.bonds)}
         self.routers = [place for place, node in enumerate(whole.nodes) if node.kind == ROUTER]
         self.near = [list(self.arcs(node)) for node in whole.nodes]
@@ -82,6 +81,24 @@ class Graph:
                     costs[far], before[far], over[far] = reached, node, bond
                     heappush(waiting, reached * count + far)
         return tree
+
+    def distances(self, source: Node) -> dict[Node, int]:
+        """The sums of metrics of the least ways from a node, to each node that there is one to."""
+        costs = self.shortest(self.number[source]).costs
+        return {node: cost // METRIC for node, cost in zip(self.nodes, costs) if cost != FAR}
+
+    def beginnings(self, source: Node) -> dict[Node, set[Bond]]:
+        """For each other node that a node has a way to, the links of the node that begin a shortest path there. This
+        takes as many searches as the node has links."""
+        least = self.distances(source)
+        found: dict[Node, set[Bond]] = {node: set() for node in least}
+        for bond in self.links[source]:
+            cost = bond.metric_from(source) or 0
+            for node, more in self.distances(bond.far(source)).items():
+                if cost + more == least[node]:
+                    found[node].add(bond)
+        del found[source]
+        return found
 
     def without(self, tree: Tree, failed: int) -> list[int]:
         """The least costs where an element other than the source has failed; FAR where no way leads. Only the nodes to

@@ -12,7 +12,7 @@ from .installing import after_daemon, entry_of
 from .kernel import FOR_PORT, FOR_WORD, Entry
 from .lsas import NETWORK, ROUTER, STUB
 from .nexthops import Hop, Ways
-from .shortest import Paths
+from .paths import Graph
 
 NO_COMMON_BLOCK = 13
 
@@ -122,7 +122,7 @@ class Prefixes:
     """What a router installs for each prefix that is not its own host prefix."""
 
     def __init__(self, ways: Ways) -> None:
-        self.ways, self.paths = ways, Paths(ways.area)
+        self.ways, self.graph = ways, Graph(ways.area)
         self.routes = {route.to: route for route in ways.routes()}
         self.lines = {line.to: line for line in ways.lines}
         self.owners = owners_of(ways)
@@ -131,9 +131,9 @@ class Prefixes:
         self.told: list[str] = []
 
     def distance(self, source: Node, to: Node) -> int | None:
-        if to not in self.far:
-            self.far[to] = self.paths.distances(to)
-        return self.far[to].get(source)
+        if source not in self.far:
+            self.far[source] = self.graph.distances(source)
+        return self.far[source].get(to)
 
     def nearest(self, source: Node, owners: Owners) -> list[Node]:
         """The owners by their distance, with the metric at them, and by identifier."""

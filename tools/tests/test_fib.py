@@ -8,18 +8,19 @@ import tempfile
 import unittest
 from collections import defaultdict
 from random import Random
-from typing import NamedTuple
+from typing import Iterator, NamedTuple
 
 from mrttools import area, failing, frr, installing, kernel, lsas, nexthops
+from mrttools.area import Bond, Node
 from mrttools.ending import ToolFault
 from mrttools.failing import Failure
 from mrttools.kernel import TABLES, Interfaces
 from mrttools.network import Plan, Wire, link, owner, router_id
 from mrttools.nexthops import Ways
+from mrttools.paths import Graph
 from mrttools.plans import PLANS
 from mrttools.prefixes import Prefixes, is_prefix
 from mrttools.program import Program
-from mrttools.shortest import Paths
 from tests.making import DATA, MRT, TOOLS, network_lsa, router_lsa
 
 ROUTE = re.compile(r"(\S+)/32 via (\S+)(?: metric (\d+))?(?: realm (\d+))?(?: table (\d+))? proto 78")
@@ -91,10 +92,10 @@ class Kernels:
 
     def put_one_of_several(self, router: int, ways: Ways, random: Random) -> None:
         """The routes of a daemon that has lost all next hops of equal cost but one."""
-        beginnings = Paths(ways.area).beginnings(ways.router)
+        beginnings = Graph(ways.area).beginnings(ways.router)
         for line in ways.lines:
-            way = random.choice(sorted(beginnings[line.to]))
-            gateway = lsas.spelled(ways.address_on(way.bond, way.to))
+            bond = random.choice(sorted(beginnings[line.to]))
+            gateway = lsas.spelled(ways.address_on(bond, bond.far(ways.router)))
             self.main[router, line.to.text].append(Route(0, gateway, None))
 
     def put(self, router: int, text: str) -> None:
@@ -293,19 +294,27 @@ class Owners(unittest.TestCase):
 
 
 class ShortestPaths(unittest.TestCase):
-    def test_beginnings_are_those_of_distances(self) -> None:
-        """A link begins a shortest path where its cost and the distance of its far end make up the distance."""
+    def ways(self, links: dict[Node, list[Bond]], to: list[Node]) -> Iterator[tuple[int, list[Node]]]:
+        """The ways that go on from one, and meet no node twice, with their costs."""
+        yield 0, to
+        for bond in links[to[-1]]:
+            if bond.far(to[-1]) not in to:
+                for cost, way in self.ways(links, [*to, bond.far(to[-1])]):
+                    yield cost + (bond.metric_from(to[-1]) or 0), way
+
+    def test_beginnings_are_those_of_all_ways(self) -> None:
         random = Random(5)
-        for _ in range(20):
-            whole = area.area_of(lsas.split(lsas_of(random_plan(random, 3))))
-            paths = Paths(whole)
+        for _ in range(9):
+            whole = area.area_of(lsas.split(lsas_of(random_plan(random, 2))))
+            graph, links = Graph(whole), area.links_at(whole)
             for source in whole.nodes:
-                found = paths.beginnings(source)
+                found = graph.beginnings(source)
                 self.assertEqual(set(found), set(whole.nodes) - {source})
-                for to in found:
-                    far = paths.distances(to)
-                    wanted = {way for way in paths.out[source] if way.cost + far[way.to] == far[source]}
-                    self.assertEqual(found[to], wanted)
+                wanted: dict[Node, dict[int, set[Bond]]] = defaultdict(lambda: defaultdict(set))
+                for bond in links[source]:
+                    for cost, way in self.ways(links, [source, bond.far(source)]):
+                        wanted[way[-1]][cost + (bond.metric_from(source) or 0)].add(bond)
+                self.assertEqual(found, {node: costs[min(costs)] for node, costs in wanted.items()})
 
 
 class Letters(unittest.TestCase):

@@ -222,13 +222,13 @@ class Hops(unittest.TestCase):
     """Which links a primary takes to a router that the program names."""
 
     def test_of_parallel_links_the_cheaper_and_then_the_lesser_data(self) -> None:
-        links = asking.links_at(sample().area)
+        links = area.links_at(sample().area)
         for tail, far in ((2, 5), (5, 2)):
             (_, bond), *more = asking.hop(links, router(tail), router(far))
             self.assertEqual((lsas.spelled(bond.data_a), more), ("192.0.2.5", []))
 
     def test_over_a_network(self) -> None:
-        way = asking.hop(asking.links_at(sample().area), router(4), router(3))
+        way = asking.hop(area.links_at(sample().area), router(4), router(3))
         self.assertEqual([tail for tail, _ in way], [router(4), LAN])
 
 
