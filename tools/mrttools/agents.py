@@ -11,10 +11,11 @@ from typing import Callable, NamedTuple
 from . import batch, lsas
 from .batch import NOTHING, Linux, State
 from .ending import ToolFault
-from .failing import FAILING, STANDING
+from .failing import FAILING, STANDING, failures
 from .forwarding import Batch, do_at_once, line_of
+from .hearing import Database, instance_of
 from .keeping import SILENT
-from .network import Network, port, router_id
+from .network import Network, router_id
 from .program import ROOT
 from .running import Lab, LabFault
 
@@ -98,12 +99,12 @@ class Agents:
                 raise LabFault(f"the agents did not have their tables in {PATIENCE} seconds")
             time.sleep(1)
 
-    def is_of(self, name: str, listed: dict[lsas.Key, tuple[int, int]]) -> bool:
-        """Whether a file has the LSAs that the daemons have, be they older instances that say the same."""
+    def is_of(self, name: str, listed: Database) -> bool:
+        """Whether a file has the instances that the daemons have."""
         if not os.path.exists(name):
             return False
         with open(name, "rb") as file:
-            return {lsa.key for lsa in lsas.split(file.read())} == set(listed)
+            return {lsa.key: instance_of(lsa) for lsa in lsas.split(file.read())} == listed
 
     def look_after(self) -> None:
         for router, process in self.running.items():
@@ -123,30 +124,13 @@ class Change(NamedTuple):
     out: tuple[int, ...] = ()
 
 
-def wires(network: Network, ports: list[str], verb: str) -> None:
-    """Takes wires down or up at once."""
+def wires(network: Network, verb: str, *names: str) -> None:
+    """Takes the wires of links and routers down or up at once."""
+    found = failures(network.plan)
+    ports = [port for failure in found if failure.name.split(" on ")[0] in names for port in failure.ports]
     network.group(ports, FAILING)
     do_at_once([Batch(network.wires, [f"link set group {FAILING} {verb}"])])
     network.group(ports, STANDING)
-
-
-def ends(network: Network, one: int, other: int) -> list[str]:
-    """Both wires of a link of two routers."""
-    number = next(
-        number
-        for number, wire in enumerate(network.plan.wires)
-        if not wire.is_lan and set(wire.metrics) == {one, other}
-    )
-    return [port(number, one), port(number, other)]
-
-
-def all_ends(network: Network, router: int) -> list[str]:
-    """All wires of a router's links and LANs, the far ends of the links too."""
-    found = []
-    for number, wire in enumerate(network.plan.wires):
-        if router in wire.metrics:
-            found += [port(number, end) for end in ([router] if wire.is_lan else wire.metrics)]
-    return found
 
 
 def write_profile(agents: Agents, root: int) -> None:
@@ -158,12 +142,9 @@ def changes(agents: Agents) -> list[Change]:
     network, lab = agents.network, agents.lab
 
     def two() -> None:
-        wires(network, ends(network, 1, 2), "down")
+        wires(network, "down", "link r1-r2")
         time.sleep(0.5)
-        wires(network, ends(network, 5, 6), "down")
-
-    def mend() -> None:
-        wires(network, ends(network, 1, 2) + ends(network, 5, 6), "up")
+        wires(network, "down", "link r5-r6")
 
     def die() -> None:
         for router in (LEFT, STRICT):
@@ -174,12 +155,12 @@ def changes(agents: Agents) -> list[Change]:
             lab.start(router)
 
     return [
-        Change("link r4-r5 comes", lambda: wires(network, ends(network, 4, 5), "up")),
-        Change("router r6 goes", lambda: wires(network, all_ends(network, 6), "down"), (6,)),
-        Change("router r6 comes back", lambda: wires(network, all_ends(network, 6), "up")),
+        Change("link r4-r5 comes", lambda: wires(network, "up", "link r4-r5")),
+        Change("router r6 goes", lambda: wires(network, "down", "router r6"), (6,)),
+        Change("router r6 comes back", lambda: wires(network, "up", "router r6")),
         Change("the profile has another root", lambda: write_profile(agents, 5)),
         Change("two links go, half a second apart", two),
-        Change("both come back", mend),
+        Change("both come back", lambda: wires(network, "up", "link r1-r2", "link r5-r6")),
         Change(f"daemons of r{LEFT} and r{STRICT} die", die, (LEFT, STRICT)),
         Change("both are started again", again),
     ]
@@ -218,10 +199,8 @@ def tried(agents: Agents, change: Change) -> Row:
 
 def silent_as_asked(agents: Agents, before: State) -> bool:
     """Where daemons died: one agent has left its table, the other one has taken it away, and both have said why."""
-    for router in (LEFT, STRICT):
-        if not agents.said(router, "err")[-2:] or not any(SILENT in line for line in agents.said(router, "err")):
-            return False
-    return agents.state(LEFT) == before and agents.state(STRICT) == NOTHING
+    told = [any(SILENT in line for line in agents.said(router, "err")[-2:]) for router in (LEFT, STRICT)]
+    return all(told) and agents.state(LEFT) == before and agents.state(STRICT) == NOTHING
 
 
 def refused(agents: Agents, router: int) -> str:
@@ -242,7 +221,7 @@ def run(agents: Agents, say: Callable[[str], None]) -> bool:
     """All changes, one after another; whether each router had the table that tools/fib has, and those whose daemons
     died what was asked, and whether a batch that failed was undone."""
     write_profile(agents, 2)
-    wires(agents.network, ends(agents.network, 4, 5), "down")
+    wires(agents.network, "down", "link r4-r5")
     for router in agents.network.plan.routers:
         agents.start(router)
     for router in agents.network.plan.routers:

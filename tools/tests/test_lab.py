@@ -4,7 +4,7 @@ from functools import partial
 from unittest import mock
 from xml.etree import ElementTree
 
-from mrttools import bars, comparing, failing, forwarding, network
+from mrttools import agents, bars, comparing, failing, forwarding, network
 from mrttools.daemons import Bird, Frr, Running
 from mrttools.pinging import Counted
 from mrttools.plans import PLANS, SHARED_BY
@@ -144,6 +144,18 @@ class Failures(unittest.TestCase):
         self.assertIn("0 of 1,500", picture)
         self.assertEqual(len(root.findall(".//{http://www.w3.org/2000/svg}rect")), 5)
         ElementTree.fromstring(bars.svg("none", []))
+
+
+class Changes(unittest.TestCase):
+    def test_the_wires_of_a_change(self) -> None:
+        """Those of a link of two routers, and of a router with the far ends of its links."""
+        spaces = mock.Mock(plan=network.PLAN)
+        with mock.patch.object(agents, "do_at_once"), mock.patch.object(agents, "Batch") as batch:
+            agents.wires(spaces, "down", "link r4-r5", "router r6")
+        ports = spaces.group.call_args_list[0].args[0]
+        self.assertEqual(sorted(ports), ["p2-4", "p2-5", "p3-5", "p3-6", "p4-1", "p4-6"])
+        self.assertEqual(batch.call_args.args[1], ["link set group 99 down"])
+        self.assertEqual(spaces.group.call_args_list[1].args, (ports, 0))
 
 
 class Configurations(unittest.TestCase):
