@@ -110,6 +110,7 @@ class Bird:
         lines = [
             f"router id {router_id(router)};",
             "protocol device { }",
+            "protocol kernel { ipv4 { export all; }; }",
             "protocol ospf v2 lab {",
             *(["    stub router yes;"] if router in plan.maintenance else []),
             "    area 0 {",

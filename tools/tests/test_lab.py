@@ -165,6 +165,10 @@ class Configurations(unittest.TestCase):
             self.assertIn(words, daemon.configuration(plan, 10).splitlines())
             self.assertNotIn(words, daemon.configuration(plan, 1).splitlines())
 
+    def test_bird_puts_its_routes_into_the_kernel(self) -> None:
+        lines = Bird().configuration(network.PLAN, 1).splitlines()
+        self.assertIn("protocol kernel { ipv4 { export all; }; }", lines)
+
     def test_an_address_that_two_routers_have(self) -> None:
         plan = PLANS["grid"]._replace(shared=SHARED_BY["grid"])
         for router in (6, 7):
