@@ -11,7 +11,7 @@ from .nexthops import Hop
 
 def words_of(hop: Hop, interfaces: Interfaces) -> str:
     """The next hop in the words of FRR."""
-    device = interfaces.device(hop.own).replace(" dev", "")
+    device = interfaces.device(hop.own).removeprefix(" dev")
     return device.lstrip() if hop.gateway is None else spelled(hop.gateway) + device
 
 

@@ -470,9 +470,9 @@ class TheTool(unittest.TestCase):
         """The primaries are the daemon's, and those that are after it come beside."""
         hop, row = (nexthops.Hop(number, lsas.address(f"192.0.2.{number}")) for number in (1, 2))
         entry = kernel.Entry("10.0.0.1/32", hop, 20, [(30, 1, row)], [None, row])
-        names = Interfaces({1: "a", 2: "b", 3: "c"}, {"10.0.0.1/32": 3})
+        names = Interfaces({1: "dev0", 2: "b", 3: "c"}, {"10.0.0.1/32": 3})
         wanted = [
-            "ip route 10.0.0.1/32 192.0.2.1 a",
+            "ip route 10.0.0.1/32 192.0.2.1 dev0",
             "ip route 10.0.0.1/32 c table 7811",
             "ip route 10.0.0.1/32 192.0.2.2 b table 7812",
         ]
