@@ -5,12 +5,13 @@ import contextlib
 import io
 import json
 import os
+import socket
 import subprocess
 import tempfile
 import unittest
 from unittest import mock
 
-from mrttools import batch, hearing, kernel, listing, settling
+from mrttools import batch, capture, hearing, kernel, listing, settling, updates
 from mrttools.batch import NOTHING, State
 from mrttools.ending import REFUSED, ToolFault
 from mrttools.hearing import AT_ONCE, KEPT, Database, Heard, instance_of
@@ -145,6 +146,22 @@ class Hearing(unittest.TestCase):
         self.assertEqual(len(heard.found), 2)
         self.assertEqual(self.of(heard, listed(one), KEPT + 1), ([one], []))
         self.assertEqual((len(heard.found), len(heard.times), heard.size), (1, 1, len(one) - 2))
+
+    def test_the_socket_hears_ospf_alone(self) -> None:
+        try:
+            source, out = hearing.ears(), socket.socket(socket.AF_INET, socket.SOCK_RAW, updates.PROTOCOL)
+        except PermissionError:
+            self.skipTest("packets of an interface need root")
+        other = socket.socket(socket.AF_INET, socket.SOCK_DGRAM)
+        for each in (source, out, other):
+            self.addCleanup(each.close)
+        # What came before the filter.
+        list(hearing.packets(source))
+        other.sendto(update(pair()), ("127.0.0.1", 9))
+        out.sendto(update(pair()), ("127.0.0.1", 0))
+        heard = self.heard(*(found := list(hearing.packets(source))))
+        self.assertTrue(all(capture.is_protocol(data, updates.PROTOCOL) for data in found))
+        self.assertEqual(self.of(heard, listed(*pair())), (pair(), []))
 
     def test_no_more_than_there_is_room_for(self) -> None:
         """Whatever somebody sends, and in how many ways."""
