@@ -33,7 +33,7 @@ class Row(NamedTuple):
     parted: set[Pair]
     wrong: set[Pair]
     taken: int
-    kernel: tuple[int, int]
+    kernel: tuple[int, int, int]
 
     @property
     def cells(self) -> tuple[str, ...]:
@@ -203,7 +203,7 @@ def tried(installed: Installed, failure: Failure, say: Callable[[str], None]) ->
 
 def row_of(trial: Trial, bare: Counted) -> Row:
     """What came of one failure."""
-    counted, kernel = trial.counted, (trial.counted.echoes, trial.counted.replies)
+    counted, kernel = trial.counted, (trial.counted.echoes, trial.counted.replies, trial.counted.circled)
     lost, wrong = lost_by(counted), wrong_pairs(counted, trial.parted)
     return Row(trial.failure, counted.sent, lost, lost_by(bare), trial.parted, wrong, trial.taken, kernel)
 
@@ -278,7 +278,10 @@ def sums(plan: Plan, rows: list[Row], beside: bool) -> list[str]:
         f"and {sum(row.kernel[1] for row in rows):,} replies",
     ]
     if beside:
-        return lines
+        circled = sum(row.kernel[2] for row in rows if not row.parted)
+        return lines + [
+            f"forward: {plan.name}: where no pair is parted {circled} packets circled by the daemons' routes"
+        ]
     for row in rows:
         for one, other in sorted(row.wrong):
             said = "is parted by mrt, and lost none" if (one, other) in row.parted else "lost more than one ping"

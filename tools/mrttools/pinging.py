@@ -3,6 +3,7 @@ from __future__ import annotations
 
 import re
 import subprocess
+from collections import Counter
 from typing import NamedTuple
 
 from .failing import Pair
@@ -14,12 +15,13 @@ EVERY = 10
 
 class Counted(NamedTuple):
     """How many pings of each pair had no answer, how many were sent, and what the kernels counted: echoes that were
-    sent, and replies that came."""
+    sent, replies that came, and packets that went in circles until their time to live was over."""
 
     lost: dict[Pair, int]
     sent: int
     echoes: int
     replies: int
+    circled: int
 
 
 class Pinging:
@@ -43,17 +45,16 @@ class Pinging:
             text=True,
         )
 
-    def counters(self) -> tuple[int, int]:
-        """Echoes that were sent and replies that came, by the kernels' own counts."""
-        sums = [0, 0]
+    def counters(self) -> tuple[int, ...]:
+        """Echoes that were sent, replies that came and packets that circled, by the kernels' own counts."""
+        sums = Counter[str]()
         for source in self.sources:
             words = ["ip", "netns", "exec", self.network.of(source), "cat", "/proc/net/snmp"]
             said = subprocess.run(words, stdout=subprocess.PIPE, text=True, check=True).stdout
-            names, values = (line.split() for line in said.splitlines() if line.startswith("Icmp:"))
-            count = dict(zip(names, values))
-            sums[0] += int(count["OutEchos"])
-            sums[1] += int(count["InEchoReps"])
-        return sums[0], sums[1]
+            for kind in ("Icmp:", "Ip:"):
+                names, values = (line.split()[1:] for line in said.splitlines() if line.startswith(kind))
+                sums.update(dict(zip(names, map(int, values))))
+        return sums["OutEchos"], sums["InEchoReps"], sums["InHdrErrors"]
 
     def end(self) -> Counted:
         """Waits for the last answers."""
@@ -65,5 +66,4 @@ class Pinging:
                     answers = said[2].split()
                     sent += len(answers)
                     lost[source, owner(said[1])] = answers.count("-")
-        echoes, replies = (after - before for after, before in zip(self.counters(), self.before))
-        return Counted(lost, sent, echoes, replies)
+        return Counted(lost, sent, *(after - before for after, before in zip(self.counters(), self.before)))

@@ -125,7 +125,7 @@ class Failures(unittest.TestCase):
             self.assertEqual(len({wire.net for wire in plan.wires}), len(plan.wires))
 
     def test_what_is_wrong(self) -> None:
-        counted = Counted({(1, 2): 0, (1, 3): 1, (2, 1): 2, (2, 3): 9, (3, 1): 0}, 5, 5, 5)
+        counted = Counted({(1, 2): 0, (1, 3): 1, (2, 1): 2, (2, 3): 9, (3, 1): 0}, 5, 5, 5, 0)
         self.assertEqual(forwarding.wrong_pairs(counted, {(2, 3), (3, 1)}), {(2, 1), (3, 1)})
 
     def test_pings_to_an_address_that_two_routers_have(self) -> None:
