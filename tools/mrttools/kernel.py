@@ -125,8 +125,9 @@ def marking(dscp: tuple[int, int], inside: set[str]) -> str:
     in the area, where they are known."""
     both = ", ".join(map(str, dscp))
     read = [f"        ip dscp {point} meta mark set {table}" for point, table in zip(dscp, TABLES)]
+    # Where the way back to a packet's source is a repair too, the upper half of its class has the realm of that.
     write = [
-        f'        rt classid {realm} counter ip dscp set {point} comment "{color}"'
+        f'        rt classid & 0xffff == {realm} counter ip dscp set {point} comment "{color}"'
         for point, realm, color in zip(dscp, REALMS, COLORS)
     ]
     if inside:
