@@ -1,0 +1,73 @@
+"""The marks of tools/fib in a real kernel, in namespaces. This needs root, iproute2 and nftables."""
+import os
+import re
+import shutil
+import subprocess
+import time
+import unittest
+
+from mrttools import kernel
+
+SEND = "import socket; s = socket.socket(type=socket.SOCK_DGRAM); s.bind(('10.0.0.1', 0)); s.sendto(b'x', ('10.0.0.2', 9))"
+
+
+def run(*words: str, text: str = "") -> str:
+    done = subprocess.run(words, input=text, stdout=subprocess.PIPE, stderr=subprocess.PIPE, text=True, check=True)
+    return done.stdout
+
+
+class Marks(unittest.TestCase):
+    """A packet from a to b, over r."""
+
+    def setUp(self) -> None:
+        if os.geteuid() != 0 or not (shutil.which("ip") and shutil.which("nft")):
+            self.skipTest("namespaces need root, ip and nft")
+        for name in "abr":
+            self.addCleanup(subprocess.run, ["ip", "netns", "del", self.space(name)], stderr=subprocess.DEVNULL)
+            try:
+                run("ip", "netns", "add", self.space(name))
+            except subprocess.CalledProcessError as fault:
+                self.skipTest(f"no namespaces: {fault.stderr}")
+        for name, net, own in (("a", "192.0.2", "10.0.0.1"), ("b", "198.51.100", "10.0.0.2")):
+            far = ["peer", "name", "to-r", "netns", self.space(name)]
+            self.ip("r", "link", "add", f"to-{name}", "type", "veth", *far)
+            for space, device, address in (("r", f"to-{name}", f"{net}.2/30"), (name, "to-r", f"{net}.1/30")):
+                self.ip(space, "address", "add", address, "dev", device)
+                self.ip(space, "link", "set", device, "up")
+            self.ip(name, "link", "set", "lo", "up")
+            self.ip(name, "address", "add", f"{own}/32", "dev", "lo")
+            self.ip(name, "route", "add", "default", "via", f"{net}.2")
+        self.inside("r", "sh", text=kernel.SETTINGS)
+        self.inside("r", "nft", "-f", "-", text=kernel.marking((3, 7), set()))
+
+    def space(self, name: str) -> str:
+        return f"mrt-test-{os.getpid()}-{name}"
+
+    def ip(self, name: str, *words: str) -> None:
+        run("ip", "-n", self.space(name), *words)
+
+    def inside(self, name: str, *words: str, text: str = "") -> str:
+        return run("ip", "netns", "exec", self.space(name), *words, text=text)
+
+    def marked(self, back: list[str]) -> int:
+        """How many packets got the mark of blue, where the way on is a repair on blue."""
+        self.ip("r", "route", "add", "10.0.0.2/32", "via", "198.51.100.1", "realm", str(kernel.REALMS[0]))
+        self.ip("r", "route", "add", "10.0.0.1/32", "via", "192.0.2.1", *back)
+        self.inside("a", "/usr/bin/python3", "-c", SEND)
+        for _ in range(20):
+            said = self.inside("r", "nft", "list", "chain", "ip", "mrt", "write")
+            found = int(re.search(r"counter packets (\d+)", said)[1])
+            if found:
+                break
+            time.sleep(0.05)
+        return found
+
+    def test_a_repair(self) -> None:
+        self.assertEqual(self.marked([]), 1)
+
+    def test_the_way_back_is_a_repair_too(self) -> None:
+        self.assertEqual(self.marked(["realm", str(kernel.REALMS[1])]), 1)
+
+
+if __name__ == "__main__":
+    unittest.main()
