@@ -438,7 +438,11 @@ class TheTool(unittest.TestCase):
         sample = [f"{DATA}/lan.lsas", f"{DATA}/lan.profile"]
         done = self.run_fib("--mrt", MRT, "--dscp", "11", "15", *sample, "10.255.1.4")
         self.assertEqual(done.returncode, 0, done.stderr)
-        for words in ("ip dscp 11 meta mark set 7811", "rt classid & 0xffff == 102 counter ip dscp set 15", "lookup 7812"):
+        for words in (
+            "ip dscp 11 meta mark set 7811",
+            "rt classid & 0xffff == 102 counter ip dscp set 15",
+            "lookup 7812",
+        ):
             self.assertIn(words, done.stdout)
         self.assertEqual(subprocess.run(["sh", "-n"], input=done.stdout, text=True, check=False).returncode, 0)
         self.assertEqual(self.run_fib("--mrt", MRT, *sample, "9.9.9.9").returncode, 7)
