@@ -21,7 +21,7 @@ use Rattle.mrt_cmd.specs.Files.{
 use Rattle.mrt_cmd.specs.Reading.{AreUnread, AreUnreadOrFault, IsUnread, IsUnreadOrFault}
 
 -- a count that rose later in the call rose in it
-rose_since : (before between now : ℕ) → before ≤ between → Rose between now → Rose before now
+pub rose_since : (before between now : ℕ) → before ≤ between → Rose between now → Rose before now
 rose_since before between now le rose = omega (arith, le, rose)
 
 -- the files after one that was read are refused, and so are all
@@ -101,6 +101,20 @@ calm_after held names earlier file rest exit is read said =
       | inl refused ↦ inl (subst (λ (files : List NamedFile). IsRefusedBy held files exit) is refused)
       | inr memory ↦ inr memory
     ]
+
+-- the first file is not read
+module _ (held : Option Files) (names : Names) (one : NamedFile) (is : one ≡ names.first) where
+  abbrev rest : List NamedFile
+  rest = option_to_list (option_map profile_file names.profile) ++ option_to_list names.last
+
+  pub first_unread : (before now : ℕ) (exit : Exit) → IsUnreadOrFault held one before now exit
+      → AreUnreadOrFault held names before now exit
+  first_unread before now exit said = unread_after held names [] names.first rest before before now exit refl tt
+      (omega arith) (subst (λ (file : NamedFile). IsUnreadOrFault held file before now exit) is said)
+
+  pub first_calm : (exit : Exit) → IsUnread held one exit → AreUnread held names exit
+  first_calm exit said = calm_after held names [] names.first rest exit refl tt
+      (subst (λ (file : NamedFile). IsUnread held file exit) is said)
 
 -- what was read of the first file and of the profile
 abbrev AreBothRead : Option Files → Names → List ℕ → List ℕ → Type 0
