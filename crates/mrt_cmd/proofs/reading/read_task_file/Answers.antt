@@ -1,8 +1,11 @@
-use Rattle.std.proofs.Common.{refl, ap, subst}
+use Rattle.std.proofs.Common.{refl, ap, subst, sym}
+use Rattle.std.specs.Option.{IsSomeAnd}
 use Rattle.mrt_cmd.specs.declared.work.Work.TheVariants as works
 use Rattle.mrt_cmd.specs.Asked.{task_asked}
-use Rattle.mrt_cmd.specs.Files.{NamedFile, IsReadAs}
-use Rattle.mrt_cmd.specs.Form.{Check, Fabric, Upgrade}
+use Rattle.mrt_cmd.specs.Files.{NamedFile, IsReadAs, task_file}
+use Rattle.mrt_cmd.specs.Form.{Check, Fabric, Task as Asked, Upgrade}
+use Rattle.mrt_cmd.specs.Reading.{IsUnread, IsUnreadOrFault}
+use Rattle.mrt_cmd.proofs.Refusals.{handed_on}
 use Rattle.mrt_cmd.proofs.Works.{work_read}
 use Rattle.mrt_cmd.proofs.reading.read_task_file.Goals as goal
 
@@ -32,3 +35,33 @@ returns-in_ok-read_file-in-Fabric-clause-read g c =
     work_read held (Fabric name) (task_asked c.args.task) (ap task_asked c.in-Fabric.is) script.items (works.Fabric script)
     (subst (λ (file : NamedFile). IsReadAs held file script.items) c.script.ensures c.in_ok-read_file-in-Fabric.ensures.read)
     ((name, refl), refl)
+
+pub returns-in_err-read_certificate_file-in-Check-clause-refused : goal.returns-in_err-read_certificate_file-in-Check-clause-refused
+returns-in_err-read_certificate_file-in-Check-clause-refused g c =
+    let held = g.F.Shelf.held c.args.shelf.now in
+    let exit = c.in_err-read_certificate_file-in-Check.field-0.0 in
+    let asked = sym (ap task_asked c.in-Check.is) in
+    handed_on c.from_residual.result exit c.from_residual.ensures.1
+    (λ exit. IsSomeAnd (task_file (task_asked c.args.task)) (λ file. IsUnreadOrFault held file (g.F.Shelf.faults c.args.shelf.now) (g.F.Shelf.faults c.read_certificate_file.new.shelf) exit))
+    (subst (λ (task : Asked). IsSomeAnd (task_file task) (λ file. IsUnreadOrFault held file (g.F.Shelf.faults c.args.shelf.now) (g.F.Shelf.faults c.read_certificate_file.new.shelf) exit)) asked
+    (subst (λ (file : NamedFile). IsUnreadOrFault held file (g.F.Shelf.faults c.args.shelf.now) (g.F.Shelf.faults c.read_certificate_file.new.shelf) exit) c.certificate.ensures c.in_err-read_certificate_file-in-Check.ensures.refused))
+
+pub returns-in_err-read_certificate_file-in-Check-clause-calm : goal.returns-in_err-read_certificate_file-in-Check-clause-calm
+returns-in_err-read_certificate_file-in-Check-clause-calm g c =
+    let held = g.F.Shelf.held c.args.shelf.now in
+    let exit = c.in_err-read_certificate_file-in-Check.field-0.0 in
+    let asked = sym (ap task_asked c.in-Check.is) in
+    λ calm. handed_on c.from_residual.result exit c.from_residual.ensures.1
+    (λ exit. IsSomeAnd (task_file (task_asked c.args.task)) (λ file. IsUnread held file exit))
+    (subst (λ (task : Asked). IsSomeAnd (task_file task) (λ file. IsUnread held file exit)) asked
+    (subst (λ (file : NamedFile). IsUnread held file exit) c.certificate.ensures (c.in_err-read_certificate_file-in-Check.ensures.calm calm)))
+
+pub returns-in_err-read_certificate_file-in-Check-clause-healthy : goal.returns-in_err-read_certificate_file-in-Check-clause-healthy
+returns-in_err-read_certificate_file-in-Check-clause-healthy g c =
+    let held = g.F.Shelf.held c.args.shelf.now in
+    let exit = c.in_err-read_certificate_file-in-Check.field-0.0 in
+    let asked = sym (ap task_asked c.in-Check.is) in
+    λ healthy. handed_on c.from_residual.result exit c.from_residual.ensures.1
+    (λ exit. IsSomeAnd (task_file (task_asked c.args.task)) (λ file. IsUnread held file exit))
+    (subst (λ (task : Asked). IsSomeAnd (task_file task) (λ file. IsUnread held file exit)) asked
+    (subst (λ (file : NamedFile). IsUnread held file exit) c.certificate.ensures (c.in_err-read_certificate_file-in-Check.ensures.healthy healthy)))
