@@ -49,6 +49,11 @@ pub handed_on : {T : Type 0} (result : Result T Exit) (exit : Exit) → IsErrAnd
 handed_on (Ok t) exit is P held = tt
 handed_on (Err told) exit is P held = subst P (sym is) held
 
+-- what follows from what is said of a value
+pub if_ok : {T E : Type 0} (result : Result T E) (P Q : T → Type 0) → IfOk result P → ((t : T) → P t → Q t) → IfOk result Q
+if_ok (Ok t) P Q held follows = follows t held
+if_ok (Err error) P Q held follows = tt
+
 pub area_refused : (Missing : Type 0) (input : Input) (router : ℕ) (exit : Exit) → HasNoArea (area input) exit
     → HasNoneFor Missing input router exit ⊎ (exit ≡ exits.NoMemory)
 area_refused Missing input router (exits.TooLarge what size) said = inl said

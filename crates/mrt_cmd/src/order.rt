@@ -45,6 +45,5 @@ fn order_of(alloc: Global, graph: &Graph, root: NodeNo, router: u32) -> Result<V
     };
     let source = graph.find(own).unwrap();
     let directed = directions(alloc, graph, root)?;
-    let text = order_text(alloc, graph, root, &directed, source)?;
-    Ok(text)
+    order_text(alloc, graph, root, &directed, source)
 }

@@ -82,8 +82,8 @@ fn table_of(
     };
     let source = graph.find(own).unwrap();
     let spot = area.find(own).unwrap();
-    let mut columns = RootedColumns::new(alloc, graph, root)?;
     let primaries = primaries(alloc, area, spot)?;
+    let mut columns = RootedColumns::new(alloc, graph, root)?;
     let parts = Parts {
         area,
         island: graph,
@@ -91,8 +91,7 @@ fn table_of(
         source,
         primaries: &primaries,
     };
-    let text = table_text(alloc, root, &parts, &mut columns)?;
-    Ok(text)
+    table_text(alloc, root, &parts, &mut columns)
 }
 
 /// The text of a table: its head, and a line on each other node.
