@@ -40,6 +40,7 @@ use Rattle.mrt_cmd.specs.Reading.{
   IsRunRefusal,
   IsTaskRefusal,
   IsVerdictFor,
+  IsProxyRefusal,
 }
 use Rattle.mrt_cmd.specs.Verdict.{GivesVerdict, IsAcceptedFor}
 
@@ -78,6 +79,14 @@ none_for input file exit (inr memory) = inr memory
 none_for input file (exits.TooLarge what size) (inl said) = inl said
 none_for input file (exits.NotThere number) (inl said) = inl said
 none_for input file exit (inl said) = absurd said
+
+-- where a router has no island, there are no rows for a prefix of two routers
+pub no_proxy : (input : Input) (router first second : ℕ) (exit : Exit) → HasNone input router exit
+    → IsProxyRefusal input router first second exit
+no_proxy input router first second exit (inr memory) = inr memory
+no_proxy input router first second (exits.TooLarge what size) (inl said) = inl said
+no_proxy input router first second (exits.NotThere number) (inl said) = inl (inl said)
+no_proxy input router first second exit (inl said) = absurd said
 
 rejected : (input : Input) (file : CertFile) (graph : Topology) (root : ℕ) → HasIsland input file.root graph root
     → (exit : Exit) → IsRejected graph root file exit → IsVerdictFor input file exit

@@ -6,8 +6,9 @@ use Rattle.proxy_rows.specs.declared.proxy_error.ProxyError.{ProxyError}
 use Rattle.mrt_rows.specs.CertOf.{file_of}
 use Rattle.mrt_cmd.specs.Input.{HasIsland, Input, input_of}
 use Rattle.mrt_cmd.specs.Proxied.{HasBoth}
+use Rattle.mrt_cmd.specs.Reading.{IsProxyRefusal}
 use Rattle.mrt_cmd.proofs.OneVerdict.{contained}
-use Rattle.mrt_cmd.proofs.Refusals.{root_within}
+use Rattle.mrt_cmd.proofs.Refusals.{handed_on, no_proxy, root_within}
 use Rattle.mrt_cmd.proofs.Roots.{root_has_order_one, root_there}
 use Rattle.mrt_cmd.proofs.proxy.proxy.Goals as goal
 
@@ -117,3 +118,31 @@ returns-in-Err-NoCommonBlock-clause-refused c =
       second_is = c.in-Some-router_in.ensures.there;
     } in
     inl (both, c.in-Err-NoCommonBlock.ensures.no_common_block.0 (ap (λ (e : ProxyError). Err e) c.in-Err-NoCommonBlock.field-0-is))
+
+pub returns-in_default-clause-refused : goal.returns-in_default-clause-refused
+returns-in_default-clause-refused c =
+    let input : Input = input_of c.args.database.now.entries c.args.profile.now in
+    let island = c.in_ok-island.island in
+    let found : HasIsland input c.args.router island.graph island.root = record {
+      area_within = c.in_ok-island.ensures.area;
+      link_of = island.link_of;
+      island = c.in_ok-island.ensures.island;
+    } in
+    inl (inr (record {
+      graph = island.graph;
+      root = island.root;
+      island = found;
+      absent = c.in_default.ensures.absent;
+      one = inl refl;
+    }))
+
+pub returns-in_err-island-clause-refused : goal.returns-in_err-island-clause-refused
+returns-in_err-island-clause-refused c =
+    let input : Input = input_of c.args.database.now.entries c.args.profile.now in
+    let exit = c.in_err-island.field-0.0 in
+    handed_on c.from_residual.result exit c.from_residual.ensures.1
+    (IsProxyRefusal input c.args.router c.args.first c.args.second)
+    (no_proxy input c.args.router c.args.first c.args.second exit c.in_err-island.ensures.refused)
+
+pub returns-clause-refused : goal.returns-clause-refused
+returns-clause-refused c = inr refl
