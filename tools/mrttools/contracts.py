@@ -1,7 +1,7 @@
 """The contracts of the crates' public functions and laws, read from their texts: comments, conditions and clauses.
 
-A text is read as `rt fmt` lays it out, by lines and their indentation. A function is public where the crate's lib.rt hands
-it on, or the type or trait that it belongs to.
+A text is read as `rt fmt` lays it out, by lines and their indentation. A function is public where the crate's lib.rt, or
+the main.rt of a program, has it or hands it on, or the type or trait that it belongs to.
 """
 from __future__ import annotations
 
@@ -13,6 +13,7 @@ from typing import NamedTuple
 from mrttools.definitions import Library, Missing, Name, Used, comment_over, files, joined, uses
 
 HANDED = re.compile(r"^pub use (\w+)::(\{[^}]*\}|\w+);", re.MULTILINE)
+OWN = re.compile(r"^pub (?:struct|enum|trait|type|fn) (\w+)", re.MULTILINE)
 BLOCK = re.compile(r"^(?:pub )?(?:(trait) (\w+)|impl(?:<.*?>)? (?:(\w+)(<.*>)? for )?(\w+)(?:<.*>)?) \{$")
 FUNCTION = re.compile(r"^( *)(pub(?:\(crate\))? )?(?:const )?fn (\w+)")
 TYPE = re.compile(r"^pub (?:struct|enum|trait|type) (\w+)")
@@ -157,9 +158,12 @@ class Crate:
     def __init__(self, root: str, name: str) -> None:
         self.name = name
         texts = dict(files(os.path.join(root, "crates", name, "src"), ".rt"))
-        lib = texts.get("lib", "")
-        self.about = [line[3:].strip() for line in lib.splitlines() if line.startswith("//!")]
-        public = {word for _, names in HANDED.findall(lib) for word in re.findall(r"\w+", names)}
+        top = texts.get("lib") or texts.get("main", "")
+        said = [line[3:] for line in top.splitlines() if line.startswith("//!")]
+        self.about = [line.strip() for line in said if not line.startswith("     ")]
+        public = {word for _, names in HANDED.findall(top) for word in re.findall(r"\w+", names)} | set(
+            OWN.findall(top)
+        )
         read = [Text(name, file, text) for file, text in texts.items()]
         self.types = [part for text in read for part in text.types if part.name in public]
         impls = [part for text in read for part in text.impls if part.name in public]

@@ -74,7 +74,7 @@ def contents(root: str, crates: set[str]) -> Iterator[str]:
     for title, names in layers(root):
         there = [f"[{name}](#{name})" for name in names if name in crates]
         if there:
-            yield filled(f"- {title}: {', '.join(there)}", "  ")
+            yield filled(f"- {title.partition(':')[0]}: {', '.join(there)}", "  ")
 
 
 def link(part: Part) -> str:
@@ -107,7 +107,7 @@ def clauses_of(crate: Crate, traits: set[str], library: Library) -> str:
     impls = [part for part in crate.impls if is_told(part, traits, library)]
     parts = sorted(impls + crate.functions, key=lambda part: (part.file, part.first))
     alike = itertools.groupby(parts, lambda part: (part.file, part.name))
-    section = [f"## {crate.name}\n", filled(" ".join(crate.about)) + "\n"]
+    section = [f"## {crate.name}\n", filled(" ".join(filter(None, crate.about))) + "\n"]
     if crate.types:
         section.append("\n".join(types(crate)) + "\n")
     section += [entry(list(group)) for _, group in alike]

@@ -171,6 +171,13 @@ class Contracts(unittest.TestCase):
             [(part.name, part.clauses) for part in self.crate.models], [("Shape", [("Value", "List ℕ")])]
         )
 
+    def test_a_program_with_a_function_of_its_own(self) -> None:
+        self.write(
+            "crates/two/src/main.rt", "//! A program.\n//!\n//!     two WORD\n\n/// Its own.\npub fn own() {}\n"
+        )
+        crate = Crate(self.root, "two")
+        self.assertEqual((crate.about, [part.name for part in crate.functions]), (["A program.", ""], ["own"]))
+
     def test_a_block_that_is_not_understood(self) -> None:
         self.write("crates/one/src/shape.rt", SHAPE.replace("impl Far for Shape {", "impl Far\n    for Shape\n{"))
         with self.assertRaisesRegex(Missing, "^crates/one/src/shape.rt:50: not read: impl Far$"):
@@ -230,7 +237,8 @@ class Pages(unittest.TestCase):
         sections = {text.split("\n")[0]: text for text in self.read("docs/CLAUSES.md").split("\n## ")[1:]}
         count = 0
         for crate in os.listdir(os.path.join(ROOT, "crates")):
-            text = self.read(f"crates/{crate}/src/main.rt" if crate == "mrt" else f"crates/{crate}/src/lib.rt")
+            names = os.listdir(os.path.join(ROOT, "crates", crate, "src"))
+            text = self.read(f"crates/{crate}/src/{'lib.rt' if 'lib.rt' in names else 'main.rt'}")
             for module, names in re.findall(r"^pub use (\w+)::([^;]*);", text, re.MULTILINE):
                 for name in re.findall(r"\w+", names):
                     if module != "mrt_exit" and not name.isupper():
