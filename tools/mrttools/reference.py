@@ -19,14 +19,18 @@ function, a definition or a crate with the definitions that it names, and with `
 [DEFINITIONS.md](DEFINITIONS.md) has the definitions in words.
 
 - `requires` is a condition: what the caller owes. `ensures` is a clause: what is proved of each call that keeps the
-  conditions. Such a call is safe and returns: this is proved of all, and has no clause.
+  conditions. A word after it is its name. Such a call is safe and, given stack enough, returns: this is proved of all,
+  and has no clause.
 - A law does nothing for its caller: its clauses speak of the definitions alone.
 - `x.now` is what a borrowed `x` is, `x.old` and `x.new` what it is before and after the call, `x.items` the elements of
-  a vector.
+  a vector. A type that is seen as another stands for that in clauses. What is `ghost` is there for clauses alone.
+- `×` is and, `⊎` or, `→` if, `↔` exactly where; `¬ P` and `P → ⊥` say that P does not hold. `(x : T) →` is for each,
+  `(x : T) ×` for some, `λ x. P` what is said of x. `∷` and `++` put lists together; `slice_get` is the element at a
+  place, from 0, if there is one; `.0` and `.1` are the parts of a pair. Numbers are natural: `a - b` is never below 0.
 - `IfOk`, `IfErr` and `IfSome` say what holds of the value or the error, if there is one; `OnOk`, `OnErr` and `IfNone`
   what holds if the result is such a one. `IsOk`, `IsErrOf`, `IsSome` and `IsNone` say that it is; `IsSomeAnd` that there
-  is a value of which this holds. `×` is and, `⊎` or, `→` if, `↔` exactly where; `(x : T) →` is for each, `(x : T) ×` for
-  some.
+  is a value of which this holds. These and other names of the library stand in `core/specs` and `std/specs` of the
+  kit's folder `rattle`.
 - A call that can answer `NoMemory` may do so at any time, unless a clause says otherwise. That it succeeds where there
   is memory is tested, once for each call.
 - What a comment says of time, of memory and of the order of the work is not proved.
