@@ -10,7 +10,7 @@ use Rattle.mrt_graph.specs.Accepted.{Accepted}
 use Rattle.mrt_graph.specs.Certificate.{row_of}
 use Rattle.mrt_graph.specs.GraphInvariant.{IsTopology}
 use Rattle.mrt_graph.specs.Column.{rows_of_column}
-use Rattle.mrt_graph.specs.Hop.{color_hop, hop_over}
+use Rattle.mrt_graph.specs.Hop.{Hop, color_hop, hop_over}
 use Rattle.mrt_graph.specs.Rows.{link_of_color}
 use Rattle.mrt_graph.specs.Topology.{Topology}
 use Rattle.mrt_rows.specs.CertOf.{IsCertOf}
@@ -36,6 +36,15 @@ goes_on g root own s t a b column kept within same cert rows accepted leads lt l
     subst (λ (row : Option Row). IsSome (option_and_then (λ (r : Row). hop_over g.links s (link_of_color color r)) row))
     ((rows cert.0 (subst (λ (r : ℕ). IsCertOf g r cert.0) (sym same) cert.1)).same s)
     (leads g root cert.0 (accepted g root cert.0 kept within cert.1) color s t lt lt' (two_nodes g.ids s t a b source target different))
+
+-- what the column says of a color the certificate says
+pub in_certificate : (g : Topology) (root own s t : ℕ) (column : List (Option Row)) → own ≡ root
+    → (cert : (file : CertFile) × IsCertOf g root file)
+    → ((file : CertFile) → IsCertOf g own file → HasRowsFor file.cert t column) → (color : Color) (hop : Hop)
+    → color_hop g.links (rows_of_column column) color t s ≡ Some hop → color_hop g.links (row_of cert.0.cert) color t s ≡ Some hop
+in_certificate g root own s t column same cert rows color hop is =
+    ap (λ (row : Option Row). option_and_then (λ (r : Row). hop_over g.links s (link_of_color color r)) row)
+    ((rows cert.0 (subst (λ (r : ℕ). IsCertOf g r cert.0) (sym same) cert.1)).same s) ∙ is
 
 -- what holds of the answer of a call holds of it in the words of its caller
 pub in_words : (A B : Type 0) (P Q : A → Type 0) (result : Result A B) → ((x : A) → P x → Q x) → IfOk result P → IfOk result Q

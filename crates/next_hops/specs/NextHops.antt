@@ -1,18 +1,21 @@
 -- The two next hops of a router for another one.
-use Rattle.std.specs.Prelude.{◌≡◌, ◌≢◌, ◌<◌, ℕ, List, [], Option, Some, length, slice_get}
+use Rattle.std.specs.Prelude.{◌≡◌, ℕ, List, [], Option, Some, length, slice_get}
 use Rattle.area_graph.specs.AreaOf.{area_of}
 use Rattle.area_graph.specs.Nodes.{router}
 use Rattle.lsdb.specs.Database.{IsDatabase}
+use Rattle.mrt_graph.specs.declared.cert.CertFile.{CertFile}
 use Rattle.mrt_graph.specs.declared.cert.Color.{Color}
 use Rattle.mrt_graph.specs.declared.cert.Color.TheVariants.{Blue, Red}
 use Rattle.mrt_graph.specs.declared.node_id.NodeId.{NodeId}
 use Rattle.mrt_graph.specs.Hop.{Hop, color_hop}
 use Rattle.mrt_graph.specs.Rows.{Rows}
-use Rattle.mrt_graph.specs.Sound.{SoundFor}
+use Rattle.mrt_graph.specs.Certificate.{row_of}
+use Rattle.mrt_graph.specs.Sound.{Sound}
 use Rattle.mrt_graph.specs.Topology.{Topology}
 use Rattle.mrt_island.specs.IslandOf.{IsIsland}
 use Rattle.mrt_island.specs.Policy.{policy_of}
 use Rattle.ospf_lsa.specs.declared.lsa.Lsa.{Lsa as Advertisement}
+use Rattle.mrt_rows.specs.CertOf.{IsCertOf}
 use Rattle.next_hops.specs.declared.next_hops.NextHops.{NextHops}
 
 -- by these rows a packet for t on this color goes from s to the node of this identifier
@@ -21,17 +24,17 @@ pub record IsNextHop (g : Topology) (rows : Rows) (color : Color) (s t : ℕ) (i
   pub next : color_hop g.links rows color t s ≡ Some hop
   pub named : slice_get g.ids hop.to ≡ Some id
 
--- the next hops of a router for another one in a graph, by rows on which from every node both walks arrive there and
--- share only what they must
-pub record AreNextHopsIn (g : Topology) (number other : ℕ) (hops : NextHops) : Type 0 where
+-- the next hops of a router for another one in a graph, by the rows of the graph's certificate from the root, which are sound
+pub record AreNextHopsIn (g : Topology) (root number other : ℕ) (hops : NextHops) : Type 0 where
+  pub file : CertFile
+  pub certificate : IsCertOf g root file
+  pub sound : Sound g.links (length g.ids) (row_of file.cert)
   pub s : ℕ
   pub source : slice_get g.ids s ≡ Some (router number)
   pub t : ℕ
   pub target : slice_get g.ids t ≡ Some (router other)
-  pub rows : Rows
-  pub sound : (v : ℕ) → v < length g.ids → v ≢ t → SoundFor g.links (length g.ids) rows v t
-  pub blue : IsNextHop g rows Blue s t hops.blue
-  pub red : IsNextHop g rows Red s t hops.red
+  pub blue : IsNextHop g (row_of file.cert) Blue s t hops.blue
+  pub red : IsNextHop g (row_of file.cert) Red s t hops.red
 
 -- the bytes are a database, and the next hops are those in the router's island
 pub record AreNextHops (bytes : List ℕ) (number other : ℕ) (hops : NextHops) : Type 0 where
@@ -41,4 +44,4 @@ pub record AreNextHops (bytes : List ℕ) (number other : ℕ) (hops : NextHops)
   pub root : ℕ
   pub link_of : List (Option ℕ)
   pub island : IsIsland (policy_of []) (area_of newest) number graph root link_of
-  pub there : AreNextHopsIn graph number other hops
+  pub there : AreNextHopsIn graph root number other hops

@@ -10,7 +10,9 @@ use crate::failure::Failure;
 use area_graph::build_area;
 use file_key::FileKey;
 use lsdb::{Lsdb, database_of, refuses_exactly_where_not_settled};
-use mrt_graph::{Color, Graph, Kind, NodeId, NodeNo, accepted_rows_lead_on};
+use mrt_graph::{
+    Color, Graph, Kind, NodeId, NodeNo, accepted_implies_sound, accepted_rows_lead_on,
+};
 use mrt_island::{Profile, find_island};
 use mrt_rows::{RootedColumns, certificates_are_accepted};
 use ospf_lsa::read_lsas;
@@ -60,10 +62,11 @@ fn next_hops_in(
 ) -> Result<NextHops, Failure>
     requires root { root < length graph.now.ids }
     requires different { router ≢ to }
-    ensures { IfOk result (AreNextHopsIn graph.now router to) }
+    ensures { IfOk result (AreNextHopsIn graph.now root router to) }
 {
     certificates_are_accepted();
     accepted_rows_lead_on();
+    accepted_implies_sound();
     let from = number_of(graph, router)?;
     let to = number_of(graph, to)?;
     let mut columns = RootedColumns::new(alloc, graph, root)?;

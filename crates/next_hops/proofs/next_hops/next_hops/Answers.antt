@@ -11,7 +11,7 @@ use Rattle.next_hops.proofs.Leading.{in_words}
 use Rattle.next_hops.proofs.next_hops.next_hops.Goals as goal
 
 pub returns : goal.returns
-returns c = in_words NextHops Failure (AreNextHopsIn c.in_ok-island.island.graph c.args.router c.args.to)
+returns c = in_words NextHops Failure (AreNextHopsIn c.in_ok-island.island.graph c.in_ok-island.island.root c.args.router c.args.to)
     (AreNextHops c.args.bytes.now c.args.router c.args.to) c.next_hops_in.result (λ hops there. record {
       newest = map (λ entry. entry.lsa) c.in_ok-database.database.entries;
       database = c.in_ok-database.ensures.newest;

@@ -1,6 +1,5 @@
 use Rattle.mrt_graph.specs.declared.cert.Color.TheVariants.{Blue, Red}
-use Rattle.mrt_graph.specs.Column.{rows_of_column}
-use Rattle.next_hops.proofs.Leading.{goes_on}
+use Rattle.next_hops.proofs.Leading.{goes_on, in_certificate}
 use Rattle.next_hops.proofs.next_hops.next_hops_in.Goals as goal
 
 pub next_hop-blue-requires : goal.next_hop-blue-requires
@@ -19,12 +18,27 @@ next_hop-red-requires c = goes_on c.args.graph.now c.args.root c.in_ok-columns.c
 
 pub returns : goal.returns
 returns c = record {
+  file = c.in_ok-columns.ensures.cert.0;
+  certificate = c.in_ok-columns.ensures.cert.1;
+  sound = c.accepted_implies_sound.ensures c.args.graph.now c.args.root c.in_ok-columns.ensures.cert.0
+      (c.certificates_are_accepted.ensures c.args.graph.now c.args.root c.in_ok-columns.ensures.cert.0
+      c.in_ok-columns.ensures.kept c.requires.root c.in_ok-columns.ensures.cert.1);
   s = c.in_ok-from.from;
   source = c.in_ok-from.ensures.named;
   t = c.in_ok-to.to;
   target = c.in_ok-to.ensures.named;
-  rows = rows_of_column c.in_ok-column.column;
-  sound = c.in_ok-column.ensures.sound.sound;
-  blue = record { hop = record { link = c.next_hop-blue.result.link; to = c.next_hop-blue.result.to }; next = c.next_hop-blue.ensures.hop; named = c.id.ensures };
-  red = record { hop = record { link = c.next_hop-red.result.link; to = c.next_hop-red.result.to }; next = c.next_hop-red.ensures.hop; named = c.id-2.ensures };
+  blue = record {
+    hop = record { link = c.next_hop-blue.result.link; to = c.next_hop-blue.result.to };
+    next = in_certificate c.args.graph.now c.args.root c.in_ok-columns.columns.root c.in_ok-from.from c.in_ok-to.to
+        c.in_ok-column.column c.in_ok-columns.ensures.root c.in_ok-columns.ensures.cert c.in_ok-column.ensures.rows Blue
+        (record { link = c.next_hop-blue.result.link; to = c.next_hop-blue.result.to }) c.next_hop-blue.ensures.hop;
+    named = c.id.ensures;
+  };
+  red = record {
+    hop = record { link = c.next_hop-red.result.link; to = c.next_hop-red.result.to };
+    next = in_certificate c.args.graph.now c.args.root c.in_ok-columns.columns.root c.in_ok-from.from c.in_ok-to.to
+        c.in_ok-column.column c.in_ok-columns.ensures.root c.in_ok-columns.ensures.cert c.in_ok-column.ensures.rows Red
+        (record { link = c.next_hop-red.result.link; to = c.next_hop-red.result.to }) c.next_hop-red.ensures.hop;
+    named = c.id-2.ensures;
+  };
 }
