@@ -19,5 +19,5 @@ returns-in_err-settled-clause-none c =
       c.in_ok-lsas.lsas.items,
       held,
       c.tells_the_first_conflict.ensures.told (entering c.in_ok-lsas.lsas.items) c.in_err-settled.field-0.0
-          (sym (ap least_conflict c.in_ok-database.ensures.entries) ∙ one),
+          (sym (ap least_conflict c.in_ok-database.ensures) ∙ one),
     )
