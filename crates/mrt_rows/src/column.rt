@@ -76,8 +76,8 @@ impl Columns {
 
     /// The rows of all nodes for `to`.
     ///
-    /// It takes time in proportion to the nodes. Where `to` is none of the 64 nodes for which it did so last, it takes time
-    /// in proportion to the links times 64; these nodes begin with a multiple of 64. It takes memory for the column alone.
+    /// It takes time in proportion to the nodes. Where `to` is none of the 64 nodes for which tiles were aimed last, it takes
+    /// time in proportion to the links times 64; these nodes begin with a multiple of 64. It takes memory for the column alone.
     pub fn to(
         &mut self,
         alloc: Global,
@@ -244,7 +244,7 @@ impl Columns {
 
 /// The rows of all nodes for `to`.
 ///
-/// It takes time in proportion to the nodes and the links. For the columns of several destinations make `Columns` once.
+/// It takes the time and the room of 64 columns. For those of several destinations make `Columns` once.
 pub fn column_of(
     alloc: Global,
     g: &Graph,
