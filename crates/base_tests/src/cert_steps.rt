@@ -1,6 +1,6 @@
 //! Certificates of version 2, put to a sink in steps, the rows in two.
 
-ghost use Rattle.std.specs.Prelude.{◌≤◌, ◌+◌, length};
+ghost use Rattle.std.specs.Prelude.{◌≡◌, ◌≤◌, ◌+◌, length};
 
 use crate::cert_files::{LINE, TRIANGLE};
 use crate::cert_versions::{LINE_TWO, TRIANGLE_TWO};
@@ -25,6 +25,7 @@ fn put_in_steps(
     Ok(put_parts(writer, sink, cert, first, rest))
 }
 
+/// Puts the parts of a certificate after the header.
 fn put_parts(
     writer: CertWriter,
     sink: &mut MemSink,
@@ -32,10 +33,12 @@ fn put_parts(
     first: &[Row],
     rest: &[Row],
 ) -> Result<(), PutError>
-    requires header { writer.gone + length writer.held ≤ 100 }
+    requires header { writer.gone + length writer.held ≡ 14 }
     requires first { length first.now ≤ 100 }
     requires rest { length rest.now ≤ 100 }
 {
+    // what each certificate keeps is told by reading it
+    let _count = cert.node_count();
     let mut writer = writer;
     writer.put_nodes(sink, cert.nodes())?;
     writer.put_links(sink, cert.links())?;
