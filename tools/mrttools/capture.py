@@ -27,6 +27,8 @@ ETHERNET, LINUX_COOKED, LINUX_COOKED_2 = 1, 113, 276
 RAW_IP = {12, 14, 101, 228}
 CUT = "cut by the capture (tcpdump -s 0 takes whole frames)"
 IP_TYPE, VLAN_TYPES = 0x0800, {0x8100, 0x88A8, 0x9100}
+# 64 KiB over an MTU of 576 come in 119 fragments; more are not from a router.
+MOST_PARTS = 128
 
 
 class CaptureError(Exception):
@@ -193,10 +195,11 @@ def is_protocol(data: bytes, protocol: int) -> bool:
 
 
 class Fragments:
-    """Datagrams that came in part so far."""
+    """Datagrams that came in part so far, and how many parts they have."""
 
     def __init__(self) -> None:
         self.waiting: dict[tuple[bytes, bytes, int], dict[int, Datagram]] = {}
+        self.count = 0
 
     def put(self, part: Datagram) -> bytes | None:
         """The payload of the datagram that this fragment completes, if it completes one."""
@@ -204,20 +207,25 @@ class Fragments:
             return part.payload
         key = part.source, part.target, part.number
         parts = self.waiting.setdefault(key, {})
+        self.count += part.offset not in parts
         parts[part.offset] = part
         payload = joined(parts)
-        if payload is not None:
-            del self.waiting[key]
+        if payload is None and len(parts) <= MOST_PARTS:
+            return None
+        del self.waiting[key]
+        self.count -= len(parts)
+        if payload is None:
+            raise BadDatagram(f"more than {MOST_PARTS} fragments")
         return payload
 
 
 def joined(parts: dict[int, Datagram]) -> bytes | None:
-    """The payload that fragments cover without a gap, up to the last of them."""
-    payload = b""
-    while (part := parts.get(len(payload))) is not None:
-        payload += part.payload
+    """The payload that fragments cover without a gap, up to the last of them. Nothing is copied before all are
+    there."""
+    payloads, end = [], 0
+    while (part := parts.get(end)) is not None and (part.payload or not part.more):
+        payloads.append(part.payload)
+        end += len(part.payload)
         if not part.more:
-            return payload
-        if not part.payload:
-            break
+            return b"".join(payloads)
     return None

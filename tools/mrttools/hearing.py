@@ -26,6 +26,8 @@ ATTACH_FILTER, RECEIVE_ROOM, ALL_FRAMES = 26, 33, 3
 # How many packets are taken at once, how many fragments and how many bytes of instances are kept, and for how many
 # seconds those that the daemon does not have: nobody who sends packets fills the memory or takes all the time.
 AT_ONCE, PARTS, ROOM, KEPT = 10000, 4096, 1 << 26, 60
+# AllSPFRouters and AllDRouters, to which nothing is sent from another link.
+TO_ALL = {bytes([224, 0, 0, 5]), bytes([224, 0, 0, 6])}
 
 # What tells the instances of an LSA apart: the sequence number and the checksum.
 Instance = tuple[int, int]
@@ -62,28 +64,36 @@ class Heard:
     def __init__(self, area: int, known: Iterable[Lsa], now: float) -> None:
         self.area = area
         self.fragments = Fragments()
+        self.own: set[bytes] = set()
         self.found: dict[tuple[Key, Instance], dict[bytes, Lsa]] = {}
         self.times: dict[tuple[Key, Instance], float] = {}
         self.size = 0
         for lsa in known:
             self.put_lsa(lsa, now)
 
-    def put(self, waiting: Iterator[bytes], now: float) -> None:
-        """Takes the LSAs of packets, and passes over what a router would drop."""
+    def put(self, waiting: Iterator[bytes], own: Iterable[int], now: float) -> None:
+        """Takes the LSAs of packets, and passes over what a router would drop, and what only goes through it, which
+        may come from anywhere. `own` are the router's addresses; those that it had count too, for packets that waited
+        while an interface went down."""
+        self.own |= {address.to_bytes(4, "big") for address in own}
         for data in islice(waiting, AT_ONCE):
+            if self.fragments.count >= PARTS:
+                self.fragments = Fragments()
             # What came before the filter may be anything.
             if not capture.is_protocol(data, updates.PROTOCOL):
                 continue
             try:
-                payload = self.fragments.put(capture.datagram_of(data))
+                part = capture.datagram_of(data)
+                # (what the router itself sends may go to one neighbor alone)
+                if part.target not in TO_ALL and not self.own & {part.source, part.target}:
+                    continue
+                payload = self.fragments.put(part)
                 packet = payload and updates.packet_of(payload)
                 if packet and packet.kind == updates.UPDATE and packet.area == self.area:
                     for lsa in updates.records_of(packet):
                         self.put_lsa(lsa, now)
             except (BadDatagram, BadPacket):
                 continue
-        if sum(map(len, self.fragments.waiting.values())) > PARTS:
-            self.fragments.waiting.clear()
 
     def put_lsa(self, lsa: Lsa, now: float) -> None:
         if lsa.kind not in (ROUTER, NETWORK) or lsa.withdrawn or lsas.damage(lsa):

@@ -72,9 +72,9 @@ class Agent:
     def look(self) -> tuple[Seen, list[Lsa]]:
         """What a table would be made of now, and the LSAs. The list comes first, so that what is in it was heard."""
         listed, now = self.around.listed(), time.monotonic()
-        self.heard.put(self.around.packets(), now)
-        found, lacks = ([], [SILENT]) if listed is None else self.heard.of(listed, now)
         interfaces = table.interfaces_of(self.kernel.addresses(), "ip")
+        self.heard.put(self.around.packets(), interfaces.names or {}, now)
+        found, lacks = ([], [SILENT]) if listed is None else self.heard.of(listed, now)
         lacks = lacks or self.own_lacks(found, interfaces)
         return Seen(tuple(lacks), settling.bodies(found), self.profile(), interfaces), found
 

@@ -75,9 +75,17 @@ def update(lsas: Iterable[bytes], area: str = "0.0.0.0", authentication: int = 0
     return ospf(4, struct.pack(">I", len(records)) + b"".join(records), area, authentication)
 
 
-def datagram(payload: bytes, number: int = 1, offset: int = 0, more: bool = False, protocol: int = 89) -> bytes:
-    """An IP datagram, or a fragment of one."""
-    ip = dpkt.ip.IP(src=bytes([10, 0, 0, 1]), dst=bytes([224, 0, 0, 5]), p=protocol, id=number, data=payload)
+def datagram(
+    payload: bytes,
+    number: int = 1,
+    offset: int = 0,
+    more: bool = False,
+    protocol: int = 89,
+    ends: tuple[str, str] = ("10.0.0.1", "224.0.0.5"),
+) -> bytes:
+    """An IP datagram, or a fragment of one, from one address to another."""
+    source, target = (struct.pack(">I", address(end)) for end in ends)
+    ip = dpkt.ip.IP(src=source, dst=target, p=protocol, id=number, data=payload)
     ip.offset, ip.mf = offset // 8, int(more)
     return bytes(ip)
 

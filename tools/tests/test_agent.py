@@ -9,6 +9,7 @@ import socket
 import subprocess
 import tempfile
 import unittest
+from typing import Iterator
 from unittest import mock
 
 from mrttools import batch, capture, hearing, kernel, listing, settling, updates
@@ -92,9 +93,9 @@ def listed(*records: bytes) -> Database:
 
 
 class Hearing(unittest.TestCase):
-    def heard(self, *packets: bytes, area: int = 0) -> Heard:
-        found = Heard(area, [], 0)
-        found.put(iter(packets), 0)
+    def heard(self, *packets: bytes, own: str = "127.0.0.1") -> Heard:
+        found = Heard(0, [], 0)
+        found.put(iter(packets), [address(own)], 0)
         return found
 
     def of(self, heard: Heard, wanted: Database, now: float = 0) -> tuple[list[bytes], list[str]]:
@@ -112,7 +113,7 @@ class Hearing(unittest.TestCase):
         newer = router_lsa("2.2.2.2", [("1.1.1.1", "10.0.0.2", 1, 9)], sequence=0x80000002)
         heard = self.heard(datagram(update([one, other])))
         self.assertEqual(self.of(heard, listed(one, newer)), ([one], ["not heard: router-LSA of 2.2.2.2"]))
-        heard.put(iter([datagram(update([newer]))]), 0)
+        heard.put(iter([datagram(update([newer]))]), [], 0)
         self.assertEqual(self.of(heard, listed(one, newer)), ([one, newer], []))
 
     def test_two_of_one_checksum(self) -> None:
@@ -138,6 +139,17 @@ class Hearing(unittest.TestCase):
             datagram(ospf(1, update([one])[24:])),
         ):
             self.assertEqual(self.of(self.heard(packet, datagram(update([other]))), listed(one, other))[0], [other])
+
+    def test_what_only_goes_through_the_router(self) -> None:
+        far, near, own = "203.0.113.1", "192.0.2.2", "192.0.2.1"
+        for ends in ((far, "224.0.0.5"), (far, "224.0.0.6"), (near, own), (own, near), (far, near), (near, far)):
+            heard = self.heard(datagram(update(pair()), ends=ends), own=own)
+            taken = own in ends or ends[1].startswith("224.")
+            self.assertEqual(self.of(heard, listed(*pair()))[0], pair() if taken else [], ends)
+        # An address goes with its interface; what came to it before still waits.
+        heard = self.heard(own=own)
+        heard.put(iter([datagram(update(pair()), ends=(near, own))]), [], 0)
+        self.assertEqual(self.of(heard, listed(*pair())), (pair(), []))
 
     def test_what_the_daemon_does_not_list_is_forgotten(self) -> None:
         one, other = pair()
@@ -169,14 +181,18 @@ class Hearing(unittest.TestCase):
         with mock.patch.object(hearing, "ROOM", 2 * len(records[0])), mock.patch.object(hearing, "PARTS", 3):
             heard = self.heard(*[datagram(update([record])) for record in records])
             self.assertEqual((len(heard.found), len(heard.times)), (2, 2))
-            heard.put(iter(fragments(update(pair()), 8)[:3]), 0)
-            self.assertTrue(heard.fragments.waiting)
-            heard.put(iter(fragments(update(pair()), 8)[3:5]), 0)
-            self.assertFalse(heard.fragments.waiting)
+            heard.put(self.lost(heard, 9), [], 0)
+            self.assertEqual(sum(map(len, heard.fragments.waiting.values())), 3)
+
+    def lost(self, heard: Heard, count: int) -> Iterator[bytes]:
+        """First fragments whose others do not come, while no more than 3 are kept."""
+        for number in range(count):
+            yield fragments(update(pair()), 32, number)[0]
+            self.assertLessEqual(sum(map(len, heard.fragments.waiting.values())), 3)
 
     def test_no_more_at_once_than_one_can_take(self) -> None:
         waiting = iter([b""] * (AT_ONCE + 5))
-        Heard(0, [], 0).put(waiting, 0)
+        Heard(0, [], 0).put(waiting, [], 0)
         self.assertEqual(len(list(waiting)), 5)
 
 

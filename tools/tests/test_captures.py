@@ -135,6 +135,18 @@ class Fragments(unittest.TestCase):
         self.assertEqual((done.status, done.file), (0, pair()[0]))
         self.assertTrue(done.says("dropped 1 OSPF packet: fragments are missing"), done.lines)
 
+    def test_as_many_as_a_link_makes(self) -> None:
+        long = making.router_lsa("1.1.1.1", [("2.2.2.2", "10.0.0.1", 1, 1)] * 5400)
+        parts = making.fragments(update([long]), 552)
+        self.assertEqual(len(parts), 118)
+        self.assertEqual(Converted(pcap(map(ethernet, parts))).file, long)
+
+    def test_more_than_any_link_makes(self) -> None:
+        frames = [ethernet(datagram(bytes(8), 1, at, True)) for at in range(0, 65528, 8)]
+        done = Converted(pcap([*frames, *map(ethernet, self.parts)]))
+        self.assertEqual((done.status, done.file), (0, self.wanted), done.lines)
+        self.assertTrue(done.says("dropped 63 OSPF packet: more than 128 fragments"), done.lines)
+
 
 class Damage(unittest.TestCase):
     """Captures and packets that are cut or changed. A good update stands beside each."""
