@@ -23,6 +23,20 @@ def refuse_without(path: str) -> None:
         raise ToolFault(f"{path}: there is no such program", READ_FAULT)
 
 
+def built(path: str) -> str:
+    """The program itself where a path is that of the script, which proves and builds where its sources are newer: no
+    router is to do that while it runs."""
+    refuse_without(path)
+    root = os.path.dirname(os.path.realpath(shutil.which(path) or path))
+    if not os.path.isdir(os.path.join(root, "crates", "mrt")):
+        return path
+    found = os.path.join(root, "crates", "mrt", "out", "mrt")
+    if not os.path.exists(found) and not os.path.exists(os.path.join(root, "crates.txt")):
+        found = os.path.realpath(os.path.join(root, "..", "..", "libexec", "semborui", "mrt"))
+    refuse_without(found)
+    return found
+
+
 class Program:
     """mrt over one database and one profile."""
 

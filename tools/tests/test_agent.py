@@ -12,9 +12,9 @@ import unittest
 from typing import Iterator
 from unittest import mock
 
-from mrttools import batch, capture, hearing, kernel, listing, settling, updates
+from mrttools import batch, capture, hearing, kernel, listing, program, settling, updates
 from mrttools.batch import NOTHING, State
-from mrttools.ending import REFUSED, ToolFault
+from mrttools.ending import READ_FAULT, REFUSED, ToolFault
 from mrttools.hearing import AT_ONCE, KEPT, Database, Heard, instance_of
 from mrttools.kernel import TABLES, Interfaces
 from mrttools.keeping import Agent, Around
@@ -548,6 +548,52 @@ class TheAgent(unittest.TestCase):
         with self.assertRaises(ToolFault):
             self.step(agent)
         self.assertEqual((self.router.state(), os.path.exists(self.name("area.cert"))), (NOTHING, False))
+
+
+class TheProgram(unittest.TestCase):
+    """Which program the agent runs, where it is given the script of a checkout, of an archive, of what is installed."""
+
+    def setUp(self) -> None:
+        place = tempfile.TemporaryDirectory()
+        self.addCleanup(place.cleanup)
+        self.folder = os.path.realpath(place.name)
+        self.script = self.made("share/semborui/mrt")
+        self.inside = os.path.join(self.folder, "share/semborui/crates/mrt/out/mrt")
+        os.makedirs(os.path.join(self.folder, "share/semborui/crates/mrt/data"))
+
+    def made(self, name: str) -> str:
+        path = os.path.join(self.folder, name)
+        os.makedirs(os.path.dirname(path), exist_ok=True)
+        with open(path, "w", encoding="ascii") as file:
+            file.write("#!/bin/sh\nexit 70\n")
+        os.chmod(path, 0o755)
+        return path
+
+    def refused(self) -> None:
+        words = ["--dry-run", "--mrt", self.script, "bird", "-", "1.1.1.1", os.path.join(self.folder, "x")]
+        done = subprocess.run([f"{TOOLS}/agent", *words], capture_output=True, text=True, timeout=9, check=False)
+        self.assertEqual(done.returncode, READ_FAULT)
+        self.assertEqual(done.stderr, f"agent: {self.inside}: there is no such program\n")
+
+    def test_the_script_of_a_checkout(self) -> None:
+        self.made("libexec/semborui/mrt")
+        self.made("share/semborui/crates.txt")
+        self.refused()
+        self.made("share/semborui/crates/mrt/out/mrt")
+        self.assertEqual(program.built(self.script), self.inside)
+
+    def test_the_script_of_an_archive(self) -> None:
+        self.made("share/semborui/crates/mrt/out/mrt")
+        self.assertEqual(program.built(self.script), self.inside)
+
+    def test_what_is_installed(self) -> None:
+        installed = self.made("libexec/semborui/mrt")
+        link = os.path.join(self.folder, "mrt")
+        os.symlink("share/semborui/mrt", link)
+        self.assertEqual(program.built(link), installed)
+
+    def test_a_program(self) -> None:
+        self.assertEqual(program.built(self.made("other/mrt")), os.path.join(self.folder, "other/mrt"))
 
 
 class TheTool(unittest.TestCase):
