@@ -76,6 +76,13 @@ class Kernel(Protocol):
         ...
 
 
+class Refusal(ToolFault):
+    """A change that the kernel does not take."""
+
+    def __init__(self, line: str) -> None:
+        super().__init__(line, REFUSED)
+
+
 def put(router: Kernel, wanted: State) -> list[str]:
     """Brings a kernel to what is wanted; the lines of what changed. Where the batch fails in its middle the kernel gets
     back what it had, and where it does not take that, nothing of it is left."""
@@ -85,8 +92,8 @@ def put(router: Kernel, wanted: State) -> list[str]:
         return []
     try:
         router.batch(lines)
-    except ToolFault as fault:
-        raise ToolFault(f"{fault}; {taken_back(router, have)}", fault.status) from None
+    except Refusal as fault:
+        raise Refusal(f"{fault}; {taken_back(router, have)}") from None
     return lines
 
 
@@ -95,7 +102,7 @@ def taken_back(router: Kernel, had: State) -> str:
     for state, told in ((had, "the routes are as they were before"), (NOTHING, "all routes are taken away")):
         try:
             router.batch(changes(router.state(), state))
-        except ToolFault:
+        except Refusal:
             pass
         if router.state() == state:
             return told
@@ -113,7 +120,7 @@ class Linux:
             done = subprocess.run(words, stdin=given, stdout=subprocess.PIPE, stderr=subprocess.PIPE, text=True)
         if done.returncode != 0:
             why = " ".join(done.stderr.split())
-            raise ToolFault(f"{' '.join(words)}: status {done.returncode}: {why}", REFUSED)
+            raise Refusal(f"{' '.join(words)}: status {done.returncode}: {why}")
         return done.stdout
 
     def told(self, *words: str) -> list[dict[str, object]]:

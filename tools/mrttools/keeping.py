@@ -9,7 +9,8 @@ import time
 from typing import Callable, Iterator, NamedTuple, Protocol
 
 from . import batch, files, kernel, lsas, settling, table
-from .batch import State
+from .batch import Refusal, State
+from .ending import system_line
 from .hearing import Database, Heard
 from .kernel import Interfaces
 from .lsas import POINT_TO_POINT, ROUTER, TRANSIT, Lsa
@@ -19,6 +20,8 @@ from .settling import Seen, Settling
 from .table import Table, Wanted
 
 EVERY = 1
+# Seconds for which a profile may be away, as while it is written anew.
+PATIENCE = 60
 SILENT = "the daemon does not answer"
 KINDS = "lsas", "profile", "cert"
 
@@ -55,7 +58,9 @@ class Agent:
         self.settling = Settling(said.quiet)
         self.heard = Heard(said.area, lsas.split(self.kept("lsas")), time.monotonic())
         self.certificate, self.nft = self.kept("cert"), ""
+        self.profile_read = time.monotonic()
         self.installed: Seen | None = None
+        self.refused: Seen | None = None
 
     def name(self, kind: str, stem: str = "area") -> str:
         return os.path.join(self.said.folder, f"{stem}.{kind}")
@@ -75,14 +80,23 @@ class Agent:
         interfaces = table.interfaces_of(self.kernel.addresses(), "ip")
         self.heard.put(self.around.packets(), interfaces.names or {}, now)
         found, lacks = ([], [SILENT]) if listed is None else self.heard.of(listed, now)
-        lacks = lacks or self.own_lacks(found, interfaces)
-        return Seen(tuple(lacks), settling.bodies(found), self.profile(), interfaces), found
+        profile, unread = self.profile(now)
+        lacks = lacks or unread or self.own_lacks(found, interfaces)
+        return Seen(tuple(lacks), settling.bodies(found), profile, interfaces), found
 
-    def profile(self) -> bytes:
+    def profile(self, now: float) -> tuple[bytes, list[str]]:
+        """The profile, or why it cannot be read. Where that lasts it is the end."""
         if self.said.profile == "-":
-            return b""
-        with open(self.said.profile, "rb") as file:
-            return file.read()
+            return b"", []
+        try:
+            with open(self.said.profile, "rb") as file:
+                data = file.read()
+        except OSError as fault:
+            if now - self.profile_read > PATIENCE:
+                raise
+            return b"", [system_line(fault)]
+        self.profile_read = now
+        return data, []
 
     def own_lacks(self, found: list[Lsa], interfaces: Interfaces) -> list[str]:
         """Whether the daemon has no LSA of the router itself, or that tells of addresses that no interface has: it will
@@ -135,7 +149,7 @@ class Agent:
         self.put(wanted)
         for kind in KINDS:
             os.replace(self.name(kind, "next"), self.name(kind))
-        self.certificate, self.installed = certificate, seen
+        self.certificate, self.installed, self.refused = certificate, seen, None
 
     def take_back(self) -> None:
         """Takes the repairs away, whose certificate is not the area's any more."""
@@ -169,13 +183,26 @@ class Agent:
         seen, found = self.look()
         if seen == self.installed:
             self.keep(found)
+        if seen != self.refused:
+            self.refused = None
         if not self.settling.settled(seen, time.monotonic()):
             return False
-        if seen.lacks:
+        try:
+            if not seen.lacks:
+                self.install(seen, found)
+                return True
             self.lacking(seen)
-            return False
-        self.install(seen, found)
-        return True
+        except Refusal as fault:
+            self.try_again(seen, fault)
+        return False
+
+    def try_again(self, seen: Seen, fault: Refusal) -> None:
+        """A link may have gone after the look, so that the area settles anew. What is refused twice is the end."""
+        if seen == self.refused:
+            raise fault
+        tell(f"{fault}; tries again")
+        self.refused = seen
+        self.settling.forget()
 
     def work(self) -> None:
         """Looks every second, until a signal comes or a status is not 0; with --dry-run until there is a table."""

@@ -12,9 +12,9 @@ import unittest
 from typing import Iterator
 from unittest import mock
 
-from mrttools import batch, capture, hearing, kernel, listing, program, settling, updates
-from mrttools.batch import NOTHING, State
-from mrttools.ending import READ_FAULT, REFUSED, ToolFault
+from mrttools import batch, capture, hearing, keeping, kernel, listing, program, settling, updates
+from mrttools.batch import NOTHING, Refusal, State
+from mrttools.ending import READ_FAULT, ToolFault
 from mrttools.hearing import AT_ONCE, KEPT, Database, Heard, instance_of
 from mrttools.kernel import TABLES, Interfaces
 from mrttools.keeping import Agent, Around
@@ -256,7 +256,7 @@ class ModelKernel:
         for line in lines:
             if self.left == 0:
                 self.left = None if self.mends else 0
-                raise ToolFault("ip: refused", REFUSED)
+                raise Refusal("ip: refused")
             self.left = self.left and self.left - 1
             kind, verb, rest = line.split(" ", 2)
             place = batch.place(f"{kind} {rest}")
@@ -325,7 +325,7 @@ class Batches(unittest.TestCase):
             def batch(self, lines: list[str]) -> None:
                 if any(line.startswith("route replace") for line in lines) and self.batches:
                     self.batches += 1
-                    raise ToolFault("ip: refused", REFUSED)
+                    raise Refusal("ip: refused")
                 super().batch(lines)
 
         have, wanted = batch.state_of(ROUTES), batch.state_of(OTHERS)
@@ -542,12 +542,42 @@ class TheAgent(unittest.TestCase):
         self.assertEqual((self.router.state(), self.router.marks), (NOTHING, []))
         self.assertEqual(lines, self.step(self.agent())[1:])
 
-    def test_the_kernel_refuses(self) -> None:
+    def test_the_kernel_refuses_twice(self) -> None:
         agent = self.agent()
         self.router.left = 4
-        with self.assertRaises(ToolFault):
+        self.step(agent)
+        self.assertIn("agent: ip: refused; the routes are as they were before; tries again", self.told)
+        self.router.left = 4
+        with self.assertRaises(Refusal):
             self.step(agent)
         self.assertEqual((self.router.state(), os.path.exists(self.name("area.cert"))), (NOTHING, False))
+
+    def test_a_link_goes_between_the_look_and_the_batch(self) -> None:
+        agent, addresses = self.agent(), self.router.addresses
+        self.step(agent)
+        self.without_link(2, 3)
+        for _ in range(3):
+            self.router.left = 4
+            self.step(agent)
+            self.router.addresses = lambda: addresses()[1:]
+            self.step(agent)
+            self.assertEqual(self.told[-1], "agent: waits: no interface is up with the address 10.0.12.1")
+            self.router.addresses = addresses
+        self.step(agent)
+        self.assertEqual(self.router.state(), self.by_fib())
+
+    def test_a_profile_that_is_away(self) -> None:
+        """For a while it lacks, and then it is the end."""
+        agent = self.agent()
+        self.step(agent)
+        before = self.router.state()
+        os.rename(self.name("profile"), self.name("away"))
+        self.assertEqual((self.step(agent), self.router.state()), ([], before))
+        self.assertIn(f"agent: waits: {self.name('profile')}: No such file or directory", self.told)
+        with mock.patch.object(keeping, "PATIENCE", -1), self.assertRaises(FileNotFoundError):
+            self.step(agent)
+        os.rename(self.name("away"), self.name("profile"))
+        self.assertEqual((self.step(agent), self.router.state(), self.paused), ([], before, []))
 
 
 class TheProgram(unittest.TestCase):
