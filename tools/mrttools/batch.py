@@ -146,6 +146,13 @@ class Linux:
         """Puts the tables of nft in the place of those that were there, in one step."""
         self.run("nft", "-f", "-", text=nft)
 
+    def marks(self) -> str:
+        """The tables of nft as it lists them, without what they counted; empty where there are none."""
+        try:
+            return self.run("nft", "-s", "list", "table", "ip", "mrt")
+        except Refusal:
+            return ""
+
 
 def route_of(found: dict[str, object]) -> str:
     """A route of `ip -j`, in the words of `kernel.routes_of`."""

@@ -9,7 +9,7 @@ import time
 from typing import Callable, Iterator, NamedTuple, Protocol
 
 from . import batch, files, kernel, lsas, settling, table
-from .batch import Refusal, State
+from .batch import NOTHING, Refusal, State
 from .ending import system_line
 from .hearing import Database, Heard
 from .kernel import Interfaces
@@ -19,9 +19,9 @@ from .program import Program
 from .settling import Seen, Settling
 from .table import Table, Wanted
 
-EVERY = 1
-# Seconds for which a profile may be away, as while it is written anew.
-PATIENCE = 60
+# Seconds between two looks, and between two at the kernel, and those for which a profile may be away, as while it is
+# written anew.
+EVERY, KERNEL_EVERY, PATIENCE = 1, 5, 60
 SILENT = "the daemon does not answer"
 KINDS = "lsas", "profile", "cert"
 
@@ -30,6 +30,9 @@ class Router(batch.Kernel, Protocol):
     """The kernel of the router."""
 
     def mark(self, nft: str) -> None:
+        ...
+
+    def marks(self) -> str:
         ...
 
     def addresses(self) -> object:
@@ -57,8 +60,11 @@ class Agent:
         self.said, self.around, self.kernel = said, around, around.kernel
         self.settling = Settling(said.quiet)
         self.heard = Heard(said.area, lsas.split(self.kept("lsas")), time.monotonic())
-        self.certificate, self.nft = self.kept("cert"), ""
-        self.profile_read = time.monotonic()
+        self.certificate = self.kept("cert")
+        # What was put last, routes with rules and marks, and how the kernel lists it.
+        self.wanted, self.state = NOTHING, NOTHING
+        self.nft, self.marks = "", ""
+        self.kernel_seen = self.profile_read = time.monotonic()
         self.installed: Seen | None = None
         self.refused: Seen | None = None
 
@@ -128,6 +134,26 @@ class Agent:
             print(line, flush=True)
         if lines:
             tell(f"changed: {len(lines)}")
+        self.wanted, self.state = wanted, self.kernel.state()
+
+    def mark(self, nft: str) -> bool:
+        """Puts the marks into the kernel, if it has not these: what is put anew counts anew."""
+        if self.marks and (nft, self.kernel.marks()) == (self.nft, self.marks):
+            return False
+        self.kernel.mark(nft)
+        self.nft, self.marks = nft, self.kernel.marks()
+        print("nft table ip mrt", flush=True)
+        return True
+
+    def put_back(self, seen: Seen) -> None:
+        """Puts back what the kernel has lost since. Where a firewall took the marks, packets on repairs may circle, so
+        that these come back whatever is seen; the routes only where all has been the same."""
+        marked = bool(self.marks) and self.mark(self.nft)
+        lost = seen == self.installed and self.settling.told and self.kernel.state() != self.state
+        if lost:
+            self.put(self.wanted)
+        if marked or lost:
+            tell("put back what the kernel had lost")
 
     def install(self, seen: Seen, found: list[Lsa]) -> None:
         """Makes the table and puts it into the kernel."""
@@ -142,10 +168,7 @@ class Agent:
             if self.look()[0] != seen:
                 self.settling.forget()
                 return
-        if made.nft != self.nft:
-            self.kernel.mark(made.nft)
-            self.nft = made.nft
-            print("nft table ip mrt", flush=True)
+        self.mark(made.nft)
         self.put(wanted)
         for kind in KINDS:
             os.replace(self.name(kind, "next"), self.name(kind))
@@ -159,9 +182,9 @@ class Agent:
 
     def take_away(self) -> None:
         """Takes away all that the agent has put into the kernel, but the settings."""
-        self.put(batch.NOTHING)
+        self.put(NOTHING)
         self.kernel.mark(kernel.NO_MARKING)
-        self.nft = ""
+        self.marks = ""
 
     def keep(self, found: list[Lsa]) -> None:
         """Keeps newer instances that say the same, with which an agent that is started again begins."""
@@ -185,13 +208,16 @@ class Agent:
             self.keep(found)
         if seen != self.refused:
             self.refused = None
-        if not self.settling.settled(seen, time.monotonic()):
-            return False
+        now = time.monotonic()
         try:
-            if not seen.lacks:
-                self.install(seen, found)
-                return True
-            self.lacking(seen)
+            if self.settling.settled(seen, now):
+                if not seen.lacks:
+                    self.install(seen, found)
+                    return True
+                self.lacking(seen)
+            elif now - self.kernel_seen >= KERNEL_EVERY:
+                self.kernel_seen = now
+                self.put_back(seen)
         except Refusal as fault:
             self.try_again(seen, fault)
         return False

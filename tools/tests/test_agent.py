@@ -246,7 +246,8 @@ class ModelKernel:
     def __init__(self, state: State) -> None:
         self.lines = {batch.place(line): line for line in state}
         self.left: int | None = None
-        self.mends, self.marks, self.batches = True, [], 0
+        self.mends, self.batches = True, 0
+        self.nft, self.marked = "", 0
 
     def state(self) -> State:
         return frozenset(self.lines.values())
@@ -266,7 +267,10 @@ class ModelKernel:
                 self.lines[place] = f"{kind} {rest}"
 
     def mark(self, nft: str) -> None:
-        self.marks.append(nft)
+        self.nft, self.marked = nft.removeprefix(kernel.NO_MARKING), self.marked + 1
+
+    def marks(self) -> str:
+        return self.nft
 
     def addresses(self) -> object:
         """Those of router 1."""
@@ -437,7 +441,7 @@ class TheAgent(unittest.TestCase):
         lines = self.step(self.agent())
         self.assertEqual(self.router.state(), self.by_fib())
         self.assertEqual(len(lines), 1 + len(self.router.state()))
-        self.assertEqual((self.paused, self.router.batches, len(self.router.marks)), ([], 1, 1))
+        self.assertEqual((self.paused, self.router.batches, self.router.marked), ([], 1, 1))
         self.assertIn("agent: accepted root 10.255.0.4 nodes 4 links 5", self.told)
 
     def test_a_link_goes(self) -> None:
@@ -447,7 +451,7 @@ class TheAgent(unittest.TestCase):
         self.without_link(2, 3)
         self.assertTrue(self.step(agent))
         self.assertEqual((self.router.state(), self.paused), (self.by_fib(), [5]))
-        self.assertEqual((self.router.batches, len(self.router.marks)), (3, 1))
+        self.assertEqual((self.router.batches, self.router.marked), (3, 1))
         self.assertEqual(self.step(agent), [])
 
     def test_two_changes(self) -> None:
@@ -539,8 +543,57 @@ class TheAgent(unittest.TestCase):
 
     def test_a_dry_run(self) -> None:
         lines = self.step(self.agent(dry_run=True))
-        self.assertEqual((self.router.state(), self.router.marks), (NOTHING, []))
+        self.assertEqual((self.router.state(), self.router.nft), (NOTHING, ""))
         self.assertEqual(lines, self.step(self.agent())[1:])
+
+    def test_the_marks_are_lost(self) -> None:
+        """They come back within seconds, be the daemon there or not, and with a new table."""
+        agent = self.agent()
+        self.step(agent)
+        marks, before = self.router.nft, self.router.state()
+        self.assertIn("chain write", marks)
+        for self.listed in (True, False):
+            self.step(agent)
+            with mock.patch.object(keeping, "KERNEL_EVERY", 0):
+                self.assertEqual(self.step(agent), [])
+                self.router.nft = ""
+                self.assertEqual(self.step(agent), ["nft table ip mrt"])
+            self.assertEqual((self.router.nft, self.router.state()), (marks, before))
+            self.assertEqual(self.told[-1], "agent: put back what the kernel had lost")
+        self.listed, self.router.nft = True, ""
+        self.without_link(2, 3)
+        self.assertIn("nft table ip mrt", self.step(agent))
+        self.assertEqual((self.router.nft, self.router.state()), (marks, self.by_fib()))
+
+    def test_routes_and_rules_are_lost(self) -> None:
+        agent = self.agent()
+        self.step(agent)
+        before = self.router.state()
+        lost = [line for line in sorted(before) if batch.is_repair(line) or line in batch.RULES][-3:]
+        for line in lost:
+            del self.router.lines[batch.place(line)]
+        self.assertEqual(self.step(agent), [])
+        with mock.patch.object(keeping, "KERNEL_EVERY", 0):
+            self.assertEqual(len(self.step(agent)), 3)
+            self.assertEqual((self.router.state(), self.step(agent)), (before, []))
+        self.assertEqual(self.told[-2:], ["agent: changed: 3", "agent: put back what the kernel had lost"])
+
+    def test_a_kernel_that_lists_a_route_in_other_words(self) -> None:
+        agent, state = self.agent(), self.router.state
+        self.router.state = lambda: frozenset(line.replace("10.255.0.3/32", "10.255.0.3") for line in state())
+        self.assertTrue(self.step(agent))
+        with mock.patch.object(keeping, "KERNEL_EVERY", 0):
+            self.assertEqual(self.step(agent), [])
+
+    def test_nothing_is_put_back_while_something_changes(self) -> None:
+        agent = self.agent()
+        self.step(agent)
+        self.router.lines.clear()
+        self.listed, before = False, self.router.batches
+        with mock.patch.object(keeping, "KERNEL_EVERY", 0):
+            self.step(agent)
+            self.step(agent)
+        self.assertEqual(self.router.batches, before)
 
     def test_the_kernel_refuses_twice(self) -> None:
         agent = self.agent()

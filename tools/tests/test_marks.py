@@ -7,6 +7,7 @@ import time
 import unittest
 
 from mrttools import kernel
+from mrttools.agents import Inside
 
 SEND = "import socket; s = socket.socket(type=socket.SOCK_DGRAM); s.bind(('10.0.0.1', 0)); s.sendto(b'x', ('10.0.0.2', 9))"
 
@@ -67,6 +68,15 @@ class Marks(unittest.TestCase):
 
     def test_the_way_back_is_a_repair_too(self) -> None:
         self.assertEqual(self.marked(["realm", str(kernel.REALMS[1])]), 1)
+
+    def test_whether_they_are_there(self) -> None:
+        """What they counted is no difference."""
+        here = Inside(self.space("r"))
+        before = here.marks()
+        self.assertIn("chain write", before)
+        self.assertEqual((self.marked([]), here.marks()), (1, before))
+        self.inside("r", "nft", "flush", "ruleset")
+        self.assertEqual(here.marks(), "")
 
 
 if __name__ == "__main__":
