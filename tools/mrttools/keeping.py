@@ -116,16 +116,20 @@ class Agent:
 
     # tables
 
-    def made(self, seen: Seen, found: list[Lsa]) -> tuple[Table, bytes]:
-        """The router's table, and the certificate, which mrt has checked. The files are those of the next table."""
+    def certified(self, seen: Seen, found: list[Lsa]) -> tuple[Program, bytes]:
+        """mrt over the files of the next table, and the certificate."""
         files.replace(self.name("lsas", "next"), b"".join(lsa.record for lsa in found))
         files.replace(self.name("profile", "next"), seen.profile)
         mrt = Program(self.said.mrt, self.name("lsas", "next"), self.name("profile", "next"))
-        ways = Ways(mrt, found, self.said.router)
-        files.replace(self.name("cert", "next"), ways.certified)
+        certificate = mrt.run("certify", lsas.spelled(self.said.router))
+        files.replace(self.name("cert", "next"), certificate)
+        return mrt, certificate
+
+    def made(self, mrt: Program, certificate: bytes, seen: Seen, found: list[Lsa]) -> Table:
+        """The router's table by a certificate, which mrt checks."""
         tell(mrt.lines("check", self.name("cert", "next"))[0])
-        wanted = Wanted(True, self.said.prefixes, True, tuple(self.said.dscp))
-        return table.table_of(ways, seen.interfaces, wanted), ways.certified
+        ways = Ways(mrt, found, self.said.router, certificate)
+        return table.table_of(ways, seen.interfaces, Wanted(True, self.said.prefixes, True, tuple(self.said.dscp)))
 
     def put(self, wanted: State) -> None:
         """Changes the routes and rules of the kernel."""
@@ -157,13 +161,18 @@ class Agent:
 
     def install(self, seen: Seen, found: list[Lsa]) -> None:
         """Makes the table and puts it into the kernel."""
-        made, certificate = self.made(seen, found)
+        mrt, certificate = self.certified(seen, found)
+        stale = certificate != self.certificate and bool(self.kernel.state() - batch.bare())
+        if stale and not self.said.dry_run:
+            # Before the rest is computed: then only what certify takes on a slow router counts against --hold. Between
+            # old repairs and new ones packets may circle; where there are none they are dropped.
+            self.take_back()
+        made = self.made(mrt, certificate, seen, found)
         wanted = batch.state_of(made.routes)
         if self.said.dry_run:
             print(*batch.changes(self.kernel.state(), wanted), sep="\n")
             return
-        if certificate != self.certificate and self.kernel.state() - batch.bare():
-            self.take_back()
+        if stale:
             self.around.pause(self.said.hold)
             if self.look()[0] != seen:
                 self.settling.forget()

@@ -57,11 +57,10 @@ def line_of(text: str) -> Line:
 class Ways:
     """The area and the certificate of a router's island, and its links as addresses."""
 
-    def __init__(self, mrt: Program, found: list[Lsa], router: int) -> None:
+    def __init__(self, mrt: Program, found: list[Lsa], router: int, certified: bytes = b"") -> None:
         self.mrt, self.router = mrt, Node(router, ROUTER)
         self.lines = [line_of(text) for text in mrt.lines("table", lsas.spelled(router))[1:]]
-        self.certified = mrt.run("certify", lsas.spelled(router))
-        self.certificate = certificate.read(self.certified)
+        self.certificate = certificate.read(certified or mrt.run("certify", lsas.spelled(router)))
         self.found = list(area.speakers(found).values())
         self.area = area.area_of(found)
         self.bonds = island_of(mrt, self.area, self.certificate)

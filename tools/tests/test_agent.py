@@ -12,7 +12,7 @@ import unittest
 from typing import Iterator
 from unittest import mock
 
-from mrttools import batch, capture, hearing, keeping, kernel, listing, program, settling, updates
+from mrttools import batch, capture, hearing, keeping, kernel, listing, program, settling, table, updates
 from mrttools.batch import NOTHING, Refusal, State
 from mrttools.ending import READ_FAULT, ToolFault
 from mrttools.hearing import AT_ONCE, KEPT, Database, Heard, instance_of
@@ -453,6 +453,15 @@ class TheAgent(unittest.TestCase):
         self.assertEqual((self.router.state(), self.paused), (self.by_fib(), [5]))
         self.assertEqual((self.router.batches, self.router.marked), (3, 1))
         self.assertEqual(self.step(agent), [])
+
+    def test_repairs_go_before_the_rest_is_computed(self) -> None:
+        agent = self.agent()
+        self.step(agent)
+        self.without_link(2, 3)
+        states, made = [], table.table_of
+        with mock.patch.object(table, "table_of", lambda *all: states.append(self.router.state()) or made(*all)):
+            self.step(agent)
+        self.assertEqual((states, self.router.state()), ([batch.bare()], self.by_fib()))
 
     def test_two_changes(self) -> None:
         """What changes while there are no repairs is in the next table."""
