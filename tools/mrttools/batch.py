@@ -157,6 +157,8 @@ class Linux:
 def route_of(found: dict[str, object]) -> str:
     """A route of `ip -j`, in the words of `kernel.routes_of`."""
     kind, prefix = KINDS.get(found.get("type"), "unicast"), str(found["dst"])
+    if prefix == "default" and kind == "unicast":
+        prefix = "0.0.0.0/0"
     if "/" not in prefix and prefix != "default":
         prefix += "/32"
     words = [prefix] if kind == "unicast" else [kind, prefix]

@@ -362,8 +362,10 @@ class Words(unittest.TestCase):
             {"dst":"10.0.0.1","gateway":"192.0.2.1","dev":"a","table":"7811","flags":[]},
             {"dst":"10.0.0.1","gateway":"192.0.2.2","dev":"b","metric":3355443230,"flags":["linkdown"],"flow":{"to":"102"}},
             {"type":"7","dst":"default","dev":"lo","table":"7812","metric":4294967295,"flags":[]},
-            {"dst":"203.0.113.0/24","dev":"c","table":"7812","scope":"253","flags":[]}]"""
+            {"dst":"203.0.113.0/24","dev":"c","table":"7812","scope":"253","flags":[]},
+            {"dst":"default","dev":"c","table":"7812","scope":"253","flags":[]}]"""
         wanted = [ROUTES[1], OTHERS[0], kernel.last_routes()[1], OTHERS[2]]
+        wanted.append(f"0.0.0.0/0 dev c scope link table {RED} proto 78")
         self.assertEqual([batch.route_of(each) for each in json.loads(said)], wanted)
 
     def test_rules(self) -> None:
