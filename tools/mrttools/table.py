@@ -36,7 +36,8 @@ def interfaces_of(said: object, source: str) -> Interfaces:
     try:
         if not isinstance(said, list):
             raise TypeError
-        found = [(each["ifname"], one) for each in said for one in each["addr_info"] if "local" in one]
+        # (of an interface that is left out, as it is down, nothing is said but that there is one)
+        found = [(each["ifname"], one) for each in said if each for one in each["addr_info"] if "local" in one]
         names = {lsas.address(one["local"]): device for device, one in found}
         prefixes = {
             str(ipaddress.ip_network(f"{one['local']}/{one['prefixlen']}", strict=False)): lsas.address(one["local"])

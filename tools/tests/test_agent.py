@@ -529,7 +529,7 @@ class TheAgent(unittest.TestCase):
 
     def test_an_interface_that_is_down(self) -> None:
         addresses = self.router.addresses
-        self.router.addresses = lambda: addresses()[1:]
+        self.router.addresses = lambda: [{}, *addresses()[1:]]
         self.assertEqual(self.step(self.agent()), [])
         self.assertIn("agent: waits: no interface is up with the address 10.0.12.1", self.told)
 
@@ -623,7 +623,7 @@ class TheAgent(unittest.TestCase):
         for _ in range(3):
             self.router.left = 4
             self.step(agent)
-            self.router.addresses = lambda: addresses()[1:]
+            self.router.addresses = lambda: [{}, *addresses()[1:]]
             self.step(agent)
             self.assertEqual(self.told[-1], "agent: waits: no interface is up with the address 10.0.12.1")
             self.router.addresses = addresses
