@@ -206,7 +206,7 @@ class Installing(Checkout):
     def look_at_help_and_tools(self) -> None:
         self.assertIn("mrt survey NUMBER NODES", self.said("usr/bin/mrt", "help", "survey", folder=self.top))
         links = sorted(name for name in os.listdir(self.path("usr/bin")) if name != "mrt")
-        self.assertEqual(len(links), 9)
+        self.assertEqual(len(links), 10)
         for link in links:
             self.assertTrue(self.said(f"usr/bin/{link}", "--help", folder=self.top).startswith(f"usage: {link} "))
             self.assertTrue(os.path.exists(self.path(f"usr/share/man/man1/{link}.1")))

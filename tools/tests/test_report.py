@@ -349,8 +349,14 @@ class TheTool(unittest.TestCase):
             file.write("#!/bin/sh\n" + script)
         os.chmod(path, 0o755)
         command = [f"{TOOLS}/report", "--mrt", path, *words, f"{DATA}/lan.lsas", f"{DATA}/lan.profile"]
+        # (a shell has what it runs in the background ignore SIGINT, and so all below it)
         return subprocess.Popen(
-            command, stdout=subprocess.PIPE, stderr=subprocess.PIPE, text=True, start_new_session=True
+            command,
+            stdout=subprocess.PIPE,
+            stderr=subprocess.PIPE,
+            text=True,
+            start_new_session=True,
+            preexec_fn=lambda: signal.signal(signal.SIGINT, signal.SIG_DFL),
         )
 
     def test_what_the_program_refuses(self) -> None:
