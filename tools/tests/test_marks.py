@@ -25,10 +25,14 @@ class Marks(unittest.TestCase):
             self.skipTest("namespaces need root, ip and nft")
         for name in "abr":
             self.addCleanup(subprocess.run, ["ip", "netns", "del", self.space(name)], stderr=subprocess.DEVNULL)
-            try:
-                run("ip", "netns", "add", self.space(name))
-            except subprocess.CalledProcessError as fault:
-                self.skipTest(f"no namespaces: {fault.stderr}")
+        try:
+            self.join()
+        except subprocess.CalledProcessError as fault:
+            self.skipTest(f"no such namespaces here: {fault.stderr}")
+
+    def join(self) -> None:
+        for name in "abr":
+            run("ip", "netns", "add", self.space(name))
         for name, net, own in (("a", "192.0.2", "10.0.0.1"), ("b", "198.51.100", "10.0.0.2")):
             far = ["peer", "name", "to-r", "netns", self.space(name)]
             self.ip("r", "link", "add", f"to-{name}", "type", "veth", *far)
