@@ -125,7 +125,7 @@ def forms():
         ["lfa", lan[0], "10.255.1.4"],
         ["order", *lan, "10.255.1.4"],
         ["proxy", *lan, "10.255.1.4", "10.255.1.1", "10.255.1.2"],
-        ["trace", *lan, "10.255.1.4", "10.255.1.1", "10.255.1.2", "blue"],
+        ["trace", *lan, "10.255.1.4", "10.255.1.1", "repair", "10.255.1.2"],
         ["fabric", *lan, "events"],
         ["flood", at("triangle.updates"), "-", at("triangle.deliveries")],
         ["survey", "1", "64"],
