@@ -1,8 +1,9 @@
 -- Offers of ways from some sources side by side, told of each of them.
 use Rattle.std.proofs.Common.{◌≡◌, ◌≢◌, ◌==◌, ◌⊎◌, ◌<◌, ◌≤◌, ◌+◌, ◌*◌, ◌∙◌, ℕ, Bool, true, false, List, Option, Some, None, get_or, length, nat_lt, set, slice_get, inl, inr, refl, sym, ap, subst, arith}
+use Rattle.std.specs.List.{slice_range}
 use Rattle.std.specs.Option.{unwrap_or}
 use Rattle.std.proofs.lemmas.Bool.{cases_Bool, cases_eq, cases_lt, eqb-true, lt-ltb, ltb-false, ltb-true, and_parts}
-use Rattle.std.proofs.lemmas.List.{get_or-set_other, get_or-set_same, length-set, same_lists}
+use Rattle.std.proofs.lemmas.List.{get_or-set_other, get_or-set_same, length-drop, length-set, length-take, same_lists}
 use Rattle.std.proofs.lemmas.List.FromFn.{get_or-map-range_with_len, length-map-range_with_len}
 use Rattle.std.proofs.lemmas.Option.{slice_get-get_or, slice_get_past, unwrap_or-slice_get}
 use Rattle.mrt_graph.specs.declared.link.End.{End}
@@ -253,6 +254,9 @@ read_set xs i x within = get_or-set_same xs i x 0 within
 
 pub read_other : (xs : List ℕ) (i j x : ℕ) → j ≢ i → get_or (set xs i x) j 0 ≡ get_or xs j 0
 read_other xs i j x other = get_or-set_other xs i j x 0 other
+
+pub range_length : (xs : List ℕ) (at n : ℕ) → at + n ≤ length xs → length (slice_range xs at (at + n)) ≡ n
+range_length xs at n room = grind (arith, length-take, length-drop)
 
 -- the first places were offered, and the others are as they were
 pub record AreOverTo (from_costs from_places : List ℕ) (metric at count : ℕ) (costs places costs' places' : List ℕ) : Type 0 where

@@ -37,6 +37,17 @@ entry_of : (ends : List End) (n width : ℕ) (costs places : List ℕ) (j x : �
 entry_of ends n width costs places j x way within at =
     same_Some (known_at ends width costs places j x) (Some way) (sym (lane_at ends n width costs places j x within) ∙ at)
 
+-- the turn of x, in one lane where no way to x is known
+pub idle_turn : (g : Topology) (w : Directions) (dir : Dir) (s x width : ℕ) (ends : List End) (costs places : List ℕ) (j : ℕ) → x < length g.ids
+    → far ≤ get_or costs (x * width + j) 0
+    → AreOffered (IsTurnOffer g w dir s x (lane ends (length g.ids) width costs places j)) (lane ends (length g.ids) width costs places j)
+    (lane ends (length g.ids) width costs places j)
+idle_turn g w dir s x width ends costs places j within all =
+    none_from g w dir s x (lane ends (length g.ids) width costs places j) (λ on way at.
+    let known = entry_of ends (length g.ids) width costs places j x way within at in
+    let none = far_none ends (get_or costs (x * width + j) 0) (get_or places (x * width + j) 0) all in
+    absurd (cc (known, none)))
+
 -- the turn of x, in one lane: where a path that comes to x goes on, x offers what is known of it; else nothing
 pub lane_turn : (g : Topology) (w : Directions) (dir : Dir) (s x width : ℕ) (ends : List End) (costs places from_costs from_places costs' places' : List ℕ) (j : ℕ)
     → x < length g.ids → IsFromAt w s x width costs places from_costs from_places j

@@ -52,7 +52,8 @@ impl Fan {
 
     /// Opens it from the nodes from `first` on: one sweep over all nodes in the order of their turns.
     ///
-    /// It takes time in proportion to the ends of all nodes times the width.
+    /// It takes time in proportion to the nodes, and to the ends of those that one of the sources reaches, times the
+    /// width.
     pub fn open(&mut self, g: &Graph, d: &Directed, dir: Dir, turns: &[NodeNo], first: NodeNo)
         ghost width: { ℕ }
         requires kept { IsTopology g.now }
@@ -239,7 +240,7 @@ fn mark(marks: &mut [bool], v: NodeNo)
     marks[v.get() as usize] = true;
 }
 
-/// Gives each node its turn.
+/// Gives each node its turn, where a way to it is known.
 fn sweep_beside(
     g: &Graph,
     d: &Directed,
@@ -278,19 +279,34 @@ fn sweep_beside(
         (lane ends (length g.now.ids) (length from_costs.old) costs.new places.new j) }
 {
     for x in turns {
-        take_from(
-            g,
-            d,
-            *x,
-            first,
-            stops,
-            costs,
-            places,
-            from_costs,
-            from_places,
-        );
-        offer_on(g, d, *x, dir, from_costs, from_places, costs, places);
+        if is_reached(*x, from_costs.len(), costs) {
+            take_from(
+                g,
+                d,
+                *x,
+                first,
+                stops,
+                costs,
+                places,
+                from_costs,
+                from_places,
+            );
+            offer_on(g, d, *x, dir, from_costs, from_places, costs, places);
+        }
     }
+}
+
+/// Whether a way to x is known, from one of so many sources. Most sources reach the nodes of few blocks alone.
+fn is_reached(x: NodeNo, width: usize, costs: &[u32]) -> bool
+    requires { x * width + width ≤ length costs.now }
+    ensures { result ≡ false → (j : ℕ) → j < width → far ≤ slice_index costs.now (x * width + j) }
+{
+    let at = x.get() as usize * width;
+    let mut least = FAR;
+    for cost in &costs[at..at + width] {
+        least = least.min(*cost);
+    }
+    least < FAR
 }
 
 /// Takes what is known of x, for the sources whose paths that come to x go on.

@@ -1,20 +1,15 @@
 use Rattle.std.proofs.Common.{◌≡◌, ◌<◌, ◌≤◌, ◌+◌, ◌*◌, ◌∙◌, ℕ, Bool, false, true, List, Some, get_or, length, slice_get, sym, ap, subst, inl, inr, arith}
 use Rattle.std.specs.List.{slice_range}
 use Rattle.std.proofs.lemmas.Bool.{cases_lt}
-use Rattle.std.proofs.lemmas.List.{get_or-drop, get_or-take, get_or_past, length-drop, length-take}
+use Rattle.std.proofs.lemmas.List.{get_or_past}
 use Rattle.std.proofs.lemmas.Option.{same_Some, slice_get-get_or}
 use Rattle.mrt_graph.specs.Topology.{Topology}
 use Rattle.link_direction.specs.Directions.{Directions}
 use Rattle.inc_dec_spf.specs.Fan.{AreCosts, AreStops}
 use Rattle.inc_dec_spf.specs.Offers.{GoesOn}
-use Rattle.inc_dec_spf.proofs.SideBySide.{row_within}
+use Rattle.inc_dec_spf.proofs.Lanes.{range_length}
+use Rattle.inc_dec_spf.proofs.SideBySide.{range_index, row_within}
 use Rattle.inc_dec_spf.proofs.fan.take_from.Goals as goal
-
-range_read : (xs : List ℕ) (at n j : ℕ) → at + n ≤ length xs → j < n → get_or (slice_range xs at (at + n)) j 0 ≡ get_or xs (at + j) 0
-range_read xs at n j room within = grind (arith, get_or-take, get_or-drop)
-
-range_length : (xs : List ℕ) (at n : ℕ) → at + n ≤ length xs → length (slice_range xs at (at + n)) ≡ n
-range_length xs at n room = grind (arith, length-take, length-drop)
 
 -- a copy of the entries of one node
 copied : (costs places from_costs from_places : List ℕ) (at n : ℕ) → at + n ≤ length costs → from_costs ≡ slice_range costs at (at + n)
@@ -45,15 +40,15 @@ copied costs places from_costs from_places at n room made made_places are = reco
     long_places = ap (λ (xs : List ℕ). length xs) made_places ∙ range_length places at n room_places
 
     cost_at : (i : ℕ) → i < n → get_or from_costs i 0 ≡ get_or costs (at + i) 0
-    cost_at i inside = ap (λ (xs : List ℕ). get_or xs i 0) made ∙ range_read costs at n i room inside
+    cost_at i inside = ap (λ (xs : List ℕ). get_or xs i 0) made ∙ range_index costs at n i room inside
 
     place_at : (i : ℕ) → i < n → get_or from_places i 0 ≡ get_or places (at + i) 0
-    place_at i inside = ap (λ (xs : List ℕ). get_or xs i 0) made_places ∙ range_read places at n i room_places inside
+    place_at i inside = ap (λ (xs : List ℕ). get_or xs i 0) made_places ∙ range_index places at n i room_places inside
 
 read_at : (xs own : List ℕ) (y x n j : ℕ) → y ≡ x → y * n + n ≤ length xs → own ≡ slice_range xs (y * n) (y * n + n) → j < n
     → get_or own j 0 ≡ get_or xs (x * n + j) 0
 read_at xs own y x n j same room made below =
-    ap (λ (ys : List ℕ). get_or ys j 0) made ∙ range_read xs (y * n) n j room below ∙ ap (λ (v : ℕ). get_or xs (v * n + j) 0) same
+    ap (λ (ys : List ℕ). get_or ys j 0) made ∙ range_index xs (y * n) n j room below ∙ ap (λ (v : ℕ). get_or xs (v * n + j) 0) same
 
 -- a path goes on from a node that is not marked
 not_stopped : (g : Topology) (w : Directions) (first width x j : ℕ) (stops : List Bool) → AreStops g w first width stops → slice_get stops x ≡ Some false
