@@ -6,22 +6,16 @@ use Rattle.mrt_graph.specs.declared.cert.Row.{Row}
 use Rattle.link_direction.specs.BlockOfTwo.{FromHead, ToHead}
 use Rattle.inc_dec_spf.specs.declared.reach.Dir.TheVariants.{Up}
 use Rattle.inc_dec_spf.specs.Turns.{AreTurns}
-use Rattle.mrt_rows.specs.Table.{HasSoleRows, IsIn, IsReady, IsTable, StayIn}
+use Rattle.mrt_rows.specs.Table.{IsIn, IsReady, IsTable, StayIn}
 use Rattle.mrt_rows.proofs.OrderedGraphs.{OrderedGraph}
 
 pub stays_in : (table after : List (Option Row)) (t : ℕ) → StayIn table after → IsIn table t → IsIn after t
 stays_in table after t stay it = record { row = it.row; is = stay t it.row it.is }
 
 module _ (og : OrderedGraph) (s : ℕ) (s_within : s < length og.g.ids) where
-  soles_stay : (table after : List (Option Row)) → StayIn table after → HasSoleRows og.g og.w s table
-      → HasSoleRows og.g og.w s after
-  soles_stay table after stay soles t k h link t_within two common one =
-      stays_in table after t stay (soles t k h link t_within two common one)
-
   -- the table once so many nodes have had their turns
   pub record IsFilling (nodes : List ℕ) (count : ℕ) (table : List (Option Row)) : Type 0 where
     pub table_is : IsTable og.g og.root og.w s table
-    pub soles : HasSoleRows og.g og.w s table
     pub home : s ≢ og.root → IsIn table (og.w.head s)
     pub over : (j v : ℕ) → j < count → slice_get nodes j ≡ Some v → s ≢ v → IsIn table v
 
@@ -39,10 +33,9 @@ module _ (og : OrderedGraph) (s : ℕ) (s_within : s < length og.g.ids) where
   }
 
   pub filling_begun : (nodes : List ℕ) (table after : List (Option Row)) → IsTable og.g og.root og.w s table
-      → HasSoleRows og.g og.w s table → Put (og.w.head s) table after → IsFilling nodes 0 after
-  filling_begun nodes table after was soles put = record {
+      → Put (og.w.head s) table after → IsFilling nodes 0 after
+  filling_begun nodes table after was put = record {
     table_is = put.table_is was;
-    soles = soles_stay table after put.stay soles;
     home = λ other.
         let lower = og.ordered.heads.lower s s_within other in
         put.there (home_ready table) (λ same. omega (arith, lower, ap og.w.order same));
@@ -70,7 +63,6 @@ module _ (og : OrderedGraph) (s : ℕ) (s_within : s < length og.g.ids) where
         → Put v table after → IsFilling nodes (i + 1) after
     filling_on i v table after at filling put = record {
       table_is = put.table_is filling.table_is;
-      soles = soles_stay table after put.stay filling.soles;
       home = λ other. stays_in table after (og.w.head s) put.stay (filling.home other);
       over = λ j u below at_j two. elim (cases_eq j i) [
         | inl same ↦

@@ -1,19 +1,20 @@
--- Each node has a hop for each other one, or none leads there; and so it has a row.
+-- Each node has a hop for each other one, or none leads there.
 use Rattle.std.proofs.Common.{◌≡◌, ◌≢◌, ◌∙◌, ◌<◌, ◌≤◌, ◌+◌, ℕ, zero, suc, List, Option, Some, None, length, refl, sym, ap, subst, inl, inr, arith}
 use Rattle.std.proofs.lemmas.Bool.{cases_eq}
 use Rattle.mrt_graph.specs.declared.link.End.{End}
-use Rattle.mrt_graph.proofs.EndsAt.{list_of_ends}
+use Rattle.mrt_graph.proofs.EndsAt.{end_leads, list_of_ends}
 use Rattle.link_direction.specs.BlockOfTwo.{FromHead, HaveInCommon, Peers, ToHead}
 use Rattle.inc_dec_spf.specs.declared.reach.Dir.{Dir}
 use Rattle.inc_dec_spf.specs.declared.reach.Dir.TheVariants.{Down, Up}
 use Rattle.inc_dec_spf.specs.declared.reach.Hop.{Hop}
+use Rattle.inc_dec_spf.specs.FirstLink.{Begins, BeginsNone, IsFirstLink, no_link}
 use Rattle.inc_dec_spf.specs.LeastPath.{IsHop, NotReached, Reached}
 use Rattle.inc_dec_spf.specs.Path.{IsStep, Path}
 use Rattle.mrt_rows.specs.RowLines.{HasOneLink}
 use Rattle.mrt_rows.proofs.LeastExists.{Found, Least, NoPath, least_on}
 use Rattle.mrt_rows.proofs.LinesHold.{has_head}
 use Rattle.mrt_rows.proofs.NearRows.{none_common}
-use Rattle.mrt_rows.proofs.OrderedGraphs.{OrderedGraph, not_root_of_peers, one_common}
+use Rattle.mrt_rows.proofs.OrderedGraphs.{OrderedGraph, not_root_of_peers, one_common, within}
 use Rattle.mrt_rows.proofs.Ways.{Inside, Ring, down_falls, down_from, down_from_head, not_head, top_inside, up_from, up_from_head, up_rises}
 use Rattle.mrt_rows.proofs.WaysBegun.{more_of}
 
@@ -151,3 +152,17 @@ module _ (og : OrderedGraph) (dir : Dir) (s t : ℕ) (s_within : s < length og.g
     | inl same ↦ (None, NotReached (λ k h path shares is. shares.two same))
     | inr two ↦ of_two two
   ]
+
+  -- and so a first link
+  pub has_link : (link : ℕ) × IsFirstLink og.g og.w dir s t link
+  has_link = go has_hop.0 has_hop.1
+    where
+      go : (hop : Option Hop) → IsHop og.g og.w dir s t hop → (link : ℕ) × IsFirstLink og.g og.w dir s t link
+      go None is = (no_link, BeginsNone is refl)
+      go (Some hop) is = (hop.link, Begins hop is refl (λ same. few hop is same))
+        where
+          few : (h : Hop) → IsHop og.g og.w dir s t (Some h) → h.link ≡ no_link → ⊥
+          few h (Reached k top h' share least) same =
+              let onward = end_leads og.g s least.first.place least.first.ends least.end og.kept least.first.list least.first.there in
+              let e_within = (within og.g least.end.link s least.end.to og.kept onward).link in
+              omega (arith, e_within, least.over, same, og.kept.few_links)

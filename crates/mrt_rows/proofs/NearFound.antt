@@ -1,19 +1,25 @@
 -- The near rows of a source, one destination after another.
-use Rattle.std.proofs.Common.{◌≡◌, ◌≢◌, ◌∙◌, ◌<◌, ◌+◌, ◌++◌, ℕ, zero, suc, true, List, [], ◌∷◌, Option, Some, None, length, not, set, slice_get, take, refl, sym, ap, subst, arith, append-nil}
+use Rattle.std.proofs.Common.{◌≡◌, ◌≢◌, ◌∙◌, ◌<◌, ◌+◌, ◌++◌, ℕ, zero, suc, true, List, [], ◌∷◌, Option, Some, None, length, not, set, slice_get, take, get_or, refl, sym, ap, subst, arith, append-nil}
+use Rattle.std.proofs.lemmas.Option.{slice_get_read}
 use Rattle.mrt_graph.specs.declared.cert.Row.{Row}
 use Rattle.mrt_graph.specs.declared.cert.Tag.{Tag}
 use Rattle.mrt_graph.specs.declared.cert.Tag.TheVariants as tags
+use Rattle.mrt_graph.specs.declared.gadag.Place.{Place}
+use Rattle.mrt_graph.specs.DirectedLists.{DirectedLists}
 use Rattle.mrt_graph.specs.Tags.{same_tag}
+use Rattle.mrt_graph.specs.Topology.{Topology}
 use Rattle.link_direction.specs.BlockOfTwo.{ToHead}
+use Rattle.link_direction.specs.Directions.{Directions, Says}
 use Rattle.inc_dec_spf.specs.declared.reach.Dir.TheVariants.{Down, Up}
 use Rattle.inc_dec_spf.specs.LeastPath.{HasMoreLinks}
 use Rattle.mrt_rows.specs.declared.members.Home.{Home}
-use Rattle.mrt_rows.specs.NearOf.{Apart, AreLinked, InCommon, IsNearRow, is_near, near_first, near_in}
+use Rattle.mrt_rows.specs.NearOf.{Apart, AreLinked, InCommon, IsNearRow, IsPlaceOf, is_near, near_first, near_in}
 use Rattle.mrt_rows.specs.Put.{IsHome, ShareMoreLinks}
 use Rattle.mrt_rows.specs.RowLines.{LineOf}
 use Rattle.mrt_rows.specs.RowsOf.{HasRow}
 use Rattle.mrt_rows.proofs.CarriedRows.{carried_tag, row_near}
 use Rattle.mrt_rows.proofs.MarkedHeads.{not_own_head}
+use Rattle.mrt_rows.proofs.NearRows.{place_says}
 use Rattle.mrt_rows.proofs.OrderedGraphs.{OrderedGraph}
 
 -- a row that is not carried is near
@@ -78,6 +84,15 @@ own_found s rows room found t same none so_far =
     let next : suc t ≡ t + 1 = omega arith in
     so_far ∙ sym (append-nil (near_first rows t)) ∙ ap (λ (xs : List Row). near_first rows t ++ xs) (sym (ap near_in (ap rows same ∙ none)))
     ∙ ap (near_first rows) next
+
+-- what was read at a place
+pub read_at : (xs : List ℕ) (i at x : ℕ) → i < length xs → at ≡ i → x ≡ get_or xs at x → slice_get xs i ≡ Some x
+read_at xs i at x within same read = slice_get_read xs (length xs) i x refl within (subst (λ (k : ℕ). x ≡ get_or xs k x) same read)
+
+-- a place that was read is as the directions say
+pub place_of : (g : Topology) (d : DirectedLists) (w : Directions) (v : ℕ) (place : Place) → Says g d w → v < length g.ids → slice_get d.places v ≡ Some place
+    → IsPlaceOf w v place
+place_of g d w v place says within at = let it = place_says g d w v place says within at in record { head = it.0; block = it.1 }
 
 -- the links home are those for the head
 pub home_linked : (og : OrderedGraph) (s : ℕ) (up down : List ℕ) (home : Home) → s < length og.g.ids → AreLinked og.g og.w Up s up

@@ -7,12 +7,17 @@ use Rattle.mrt_graph.specs.declared.cert.Tag.TheVariants as tags
 use Rattle.link_direction.specs.BlockOfTwo.{FromHead, HaveInCommon, Peers, ToHead}
 use Rattle.link_direction.specs.OrderedGadag.{HasClosingLink, HasSoleLink}
 use Rattle.inc_dec_spf.specs.declared.reach.Dir.TheVariants.{Down, Up}
+use Rattle.inc_dec_spf.specs.FirstLink.{IsFirstLink, no_link}
+use Rattle.mrt_rows.specs.declared.members.Home.{Home}
+use Rattle.mrt_rows.specs.NearOf.{Apart, InCommon, IsNearRow}
+use Rattle.mrt_rows.specs.Put.{IsHome, IsOwnRow}
 use Rattle.mrt_rows.specs.RowLines.{LineOf}
 use Rattle.mrt_rows.specs.RowsOf.{HasRow}
-use Rattle.mrt_rows.specs.Source.{Far, IsNear, Near, NoneOfOneLink}
-use Rattle.mrt_rows.proofs.HopsExist.{has_hop}
+use Rattle.mrt_rows.specs.Source.{NoneOfOneLink}
+use Rattle.mrt_rows.proofs.HopsExist.{has_link}
 use Rattle.mrt_rows.proofs.LinesHold.{has_head}
-use Rattle.mrt_rows.proofs.NearRows.{head_near, member_near, none_common, top_near}
+use Rattle.mrt_rows.proofs.MemberRows.{above_row, below_row, head_row, top_row, unordered_row}
+use Rattle.mrt_rows.proofs.NearRows.{none_common}
 use Rattle.mrt_rows.proofs.OneRow.{near_lines}
 use Rattle.mrt_rows.proofs.OrderedGraphs.{OrderedGraph, not_root_of_peers, one_common, within}
 
@@ -23,7 +28,7 @@ module _ (og : OrderedGraph) (s : ℕ) (s_within : s < length og.g.ids) where
   -- where they have a block in common
   module _ (t : ℕ) (t_within : t < n) (two : s ≢ t) where
     abbrev HasNear : Type 0
-    HasNear = (near : Option Row) × IsNear og.g og.root og.w s t near
+    HasNear = (near : Option Row) × IsNearRow og.g og.root og.w s t near
 
     -- a block with more than one link has no one link
     more_than_one : (m h : ℕ) → HasClosingLink og.g og.w m → HaveInCommon og.w s t (og.w.block m) h
@@ -41,12 +46,14 @@ module _ (og : OrderedGraph) (s : ℕ) (s_within : s < length og.g.ids) where
     sole_near m h sole common =
         let row : Row = record { blue = sole.link; red = sole.link; tag = tags.Sole } in (
           Some row,
-          Near row (λ same. cc) (λ rows. record {
-            block = og.w.block m;
-            head = h;
-            common = common;
-            one_link = record { within = sole.within; in_block = sole.in_block; no_other = sole.no_other_link };
-            red = refl;
+          InCommon row (og.w.block m) h common (record {
+            line = λ rows. record {
+              block = og.w.block m;
+              head = h;
+              common = common;
+              one_link = record { within = sole.within; in_block = sole.in_block; no_other = sole.no_other_link };
+              red = refl;
+            };
           }),
         )
 
@@ -57,33 +64,49 @@ module _ (og : OrderedGraph) (s : ℕ) (s_within : s < length og.g.ids) where
       | inr closed ↦ closed_near (more_than_one m h closed common)
     ]
 
+    -- another node of the block
+    peer_near : (home : Home) (up down : ℕ) → og.w.block s ≡ og.w.block t → IsFirstLink og.g og.w Up s t up
+        → IsFirstLink og.g og.w Down s t down → IsHome og.g og.w s home → (row : Row) × IsOwnRow og.g og.root og.w s t row
+    peer_near home up down same is_up is_down is_home = elim (cases_eq up no_link) [
+      | inl none_up ↦ elim (cases_eq down no_link) [
+        | inl none_down ↦ (_, unordered_row og s t s_within t_within two same up down home none_up none_down is_up is_down is_home)
+        | inr other ↦ (_, above_row og s t s_within t_within two same up down home none_up other is_up is_down is_home)
+      ]
+      | inr other ↦ (_, below_row og s t s_within t_within two same up home other is_up is_home)
+    ]
+
     has_near : HasNear
     has_near =
-        let up = has_hop og Up s t s_within t_within in
-        let down = has_hop og Down s t s_within t_within in
+        let up = has_link og Up s t s_within t_within in
+        let down = has_link og Down s t s_within t_within in
         elim (cases_eq (og.w.head s) t) [
           | inl head ↦
-              in_block_of s t s_within (has_head og s t two head) (ToHead refl head refl)
-              (λ more. (_, head_near og s t s_within t_within two more up.0 down.0 up.1 down.1 head))
+              let common = ToHead refl head refl in
+              in_block_of s t s_within (has_head og s t two head) common
+              (λ more. (
+                _,
+                InCommon (record { blue = up.0; red = down.0; tag = tags.Head }) (og.w.block s) t common
+                    (head_row og s t s_within t_within two more up.0 down.0 up.1 down.1 head),
+              ))
           | inr not_head ↦ elim (cases_eq (og.w.head t) s) [
             | inl top ↦
-                in_block_of t s t_within (has_head og t s (λ back. two (sym back)) top) (FromHead refl top refl)
-                (λ more. (_, top_near og s t s_within t_within two more up.0 down.0 up.1 down.1 top))
+                let common = FromHead refl top refl in
+                in_block_of t s t_within (has_head og t s (λ back. two (sym back)) top) common
+                (λ more. (
+                  _,
+                  InCommon (record { blue = up.0; red = down.0; tag = tags.Top }) (og.w.block t) s common
+                      (top_row og s t s_within t_within two more up.0 down.0 up.1 down.1 top),
+                ))
             | inr not_top ↦ elim (cases_eq (og.w.block s) (og.w.block t)) [
               | inl same ↦
                   let head_within = og.ordered.heads.head_within s s_within in
-                  let up_home = has_hop og Up s (og.w.head s) s_within head_within in
-                  let down_home = has_hop og Down s (og.w.head s) s_within head_within in
-                  in_block_of s (og.w.head s) s_within
-                  (not_root_of_peers og t s t_within s_within (λ back. two (sym back)) (sym same))
-                  (Peers refl (sym same) refl)
-                  (λ more. (
-                    _,
-                    member_near og s t s_within t_within two more same up.0 down.0 up_home.0 down_home.0 up.1 down.1
-                        up_home.1
-                        down_home.1,
-                  ))
-              | inr apart ↦ (None, Far (none_common og.w s t not_head not_top apart))
+                  let up_home = has_link og Up s (og.w.head s) s_within head_within in
+                  let down_home = has_link og Down s (og.w.head s) s_within head_within in
+                  let row =
+                  peer_near (record { up = up_home.0; down = down_home.0 }) up.0 down.0 same up.1 down.1
+                  (record { up = λ more. up_home.1; down = λ more. down_home.1 }) in
+                  (Some row.0, InCommon row.0 (og.w.block s) (og.w.head s) (Peers refl (sym same) refl) row.1)
+              | inr apart ↦ (None, Apart (none_common og.w s t not_head not_top apart))
             ]
           ]
         ]
@@ -159,12 +182,17 @@ module _ (og : OrderedGraph) (s : ℕ) (s_within : s < length og.g.ids) where
   abbrev HasIs : ℕ → Type 0
   HasIs t = (row : Row) × RowIs t row
 
-  by_near : (t : ℕ) (near : Option Row) → t < n → s ≢ t → IsNear og.g og.root og.w s t near
+  by_near : (t : ℕ) (near : Option Row) → t < n → s ≢ t → IsNearRow og.g og.root og.w s t near
       → (((k h : ℕ) → ¬ HaveInCommon og.w s t k h) → (t ≢ og.root → HasIs (og.w.head t)) × (t ≡ og.root
       → HasIs (og.w.head s)))
       → HasIs t
-  by_near t (Some row) t_within two (Near row' near line) far = (row, OfBlock near line)
-  by_near t None t_within two (Far apart) far = elim (cases_eq t og.root) [
+  by_near t (Some row) t_within two (InCommon row' k h common own) far = (
+    row,
+    OfBlock
+        (λ same. (subst (λ (tag : Tag). LineOf tag og.g og.root og.w s no_rows t row) same (own.line no_rows)).apart k h common)
+        own.line,
+  )
+  by_near t None t_within two (Apart apart) far = elim (cases_eq t og.root) [
     | inl at_root ↦
         let other = (far apart).1 at_root in (
           record { blue = other.0.blue; red = other.0.red; tag = tags.Carried },

@@ -10,9 +10,9 @@ use Rattle.mrt_graph.specs.Topology.{Topology}
 use Rattle.mrt_graph.proofs.ListPlaces.{set_elsewhere, set_there}
 use Rattle.link_direction.specs.BlockOfTwo.{HaveInCommon}
 use Rattle.link_direction.specs.Directions.{Directions}
+use Rattle.mrt_rows.specs.NearOf.{Apart, InCommon, IsNearRow}
 use Rattle.mrt_rows.specs.RowLines.{HasLinksFor, LineOf}
-use Rattle.mrt_rows.specs.Source.{Far, IsNear, Near, NoneOfOneLink}
-use Rattle.mrt_rows.specs.Table.{HasSoleRows, IsIn, IsReady, IsRowFor, IsTable, StayIn, carried, in_table}
+use Rattle.mrt_rows.specs.Table.{IsIn, IsReady, IsRowFor, IsTable, StayIn, carried, in_table}
 
 pub in_set_same : (table : List (Option Row)) (i : ℕ) (o : Option Row) → i < length table
     → in_table (set table i o) i ≡ o
@@ -94,10 +94,10 @@ pub record IsCarrier (root : ℕ) (w : Directions) (s t from : ℕ) : Type 0 whe
 
 module _ (g : Topology) (root : ℕ) (w : Directions) (s t : ℕ) (table : List (Option Row)) where
   -- a near row is the row
-  pub near_is : (row : Row) → IsNear g root w s t (Some row) → IsRowFor g root w s t table (Some row)
-  near_is row (Near row' not_carried line) = record {
+  pub near_is : (row : Row) → IsNearRow g root w s t (Some row) → IsRowFor g root w s t table (Some row)
+  near_is row (InCommon row' k h common own) = record {
     line = λ rows other stay made. subst (λ (r : Row). LineOf r.tag g root w s rows t r) (same_Some row other made)
-        (line rows);
+        (own.line rows);
     there = λ ready. (row, refl);
   }
 
@@ -133,9 +133,9 @@ module _ (g : Topology) (root : ℕ) (w : Directions) (s t : ℕ) (table : List 
     | inr other ↦ subst (λ (x : ℕ). IsIn table x) (sym (carrier.to_other other)) (ready.to_other other apart)
   ]
 
-  pub carried_is : (from : ℕ) → IsCarrier root w s t from → IsNear g root w s t None
+  pub carried_is : (from : ℕ) → IsCarrier root w s t from → IsNearRow g root w s t None
       → IsRowFor g root w s t table (carried (in_table table from))
-  carried_is from carrier (Far apart) = record {
+  carried_is from carrier (Apart apart) = record {
     line = λ rows row stay made. carried_line from (in_table table from) rows row carrier apart refl stay made;
     there = λ ready.
         let there = carried_from from carrier apart ready in
@@ -165,9 +165,3 @@ module _ (g : Topology) (root : ℕ) (w : Directions) (s t : ℕ) (table : List 
     -- and has it, where the row that it may be carried from is there
     pub put_in : IsReady root w s t table → IsIn (set table t found) t
     put_in ready = let new = is.there ready in record { row = new.0; is = in_set_same table t found within ∙ new.1 }
-
--- a block with one link would have its row in the table
-pub none_of_one : (g : Topology) (w : Directions) (s t : ℕ) (table : List (Option Row)) → HasSoleRows g w s table
-    → t < length g.ids → s ≢ t → in_table table t ≡ None → NoneOfOneLink g w s t
-none_of_one g w s t table soles within two none k h link common = λ one.
-    let there = soles t k h link within two common one in some_or_none (in_table table t) there.row none there.is

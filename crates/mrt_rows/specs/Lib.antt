@@ -2,8 +2,8 @@ pub mod CertOf
 pub mod Chain
 pub mod ColumnOf
 pub mod DirectedFrom
+pub mod FirstLinks
 pub mod Held
-pub mod HopRows
 pub mod NearOf
 pub mod Put
 pub mod Rooted

@@ -1,12 +1,12 @@
 -- The rows of a source by destination, as they come about.
-use Rattle.std.specs.Prelude.{◌≡◌, ◌≢◌, ◌<◌, ℕ, List, [], ◌∷◌, Option, Some, None, length, slice_get}
+use Rattle.std.specs.Prelude.{◌≡◌, ◌≢◌, ℕ, List, [], ◌∷◌, Option, Some, None, length, slice_get}
 use Rattle.std.specs.Option.{option_and_then}
 use Rattle.mrt_graph.specs.declared.cert.Row.{Row}
 use Rattle.mrt_graph.specs.declared.cert.Tag.TheVariants.{Carried}
 use Rattle.mrt_graph.specs.Topology.{Topology}
 use Rattle.link_direction.specs.BlockOfTwo.{HaveInCommon}
 use Rattle.link_direction.specs.Directions.{Directions}
-use Rattle.mrt_rows.specs.RowLines.{HasOneLink, LineOf}
+use Rattle.mrt_rows.specs.RowLines.{LineOf}
 
 -- the row for t that is in a table
 abbrev pub in_table : List (Option Row) → ℕ → Option Row
@@ -25,11 +25,6 @@ StayIn table after = (t : ℕ) (row : Row) → in_table table t ≡ Some row →
 pub record IsTable (g : Topology) (root : ℕ) (w : Directions) (s : ℕ) (table : List (Option Row)) : Type 0 where
   pub own : in_table table s ≡ None
   pub lines : (t : ℕ) (row : Row) → in_table table t ≡ Some row → LineOf row.tag g root w s (in_table table) t row
-
--- the rows of all blocks with one link are in the table
-abbrev pub HasSoleRows : Topology → Directions → ℕ → List (Option Row) → Type 0
-HasSoleRows g w s table = (t k h link : ℕ) → t < length g.ids → s ≢ t → HaveInCommon w s t k h → HasOneLink g w k link
-    → IsIn table t
 
 -- where the row for t is carried, that row is in the table which it is carried from
 pub record IsReady (root : ℕ) (w : Directions) (s t : ℕ) (table : List (Option Row)) : Type 0 where

@@ -6,8 +6,9 @@ ghost use Rattle.link_direction.specs.OrderedGadag.{SaysOrdered};
 ghost use Rattle.mrt_rows.specs.RowsOf.{AreRowsOf};
 ghost use Rattle.mrt_rows.specs.Table.{rows_in};
 
+use crate::first_links::first_links;
 use crate::table::fill;
-use inc_dec_spf::{Dir, nodes_by_turn, spf};
+use inc_dec_spf::{Dir, nodes_by_turn};
 use mrt_graph::{Directed, Graph, NoMemory, NodeNo, Row};
 use std::alloc::Global;
 
@@ -27,10 +28,9 @@ pub fn rows_of(
         → IfOk result (λ rows. AreRowsOf g.now root w source rows.items) }
 {
     let nodes = nodes_by_turn(alloc, g, d, Dir::Up)?;
-    let up = spf(alloc, g, d, source, Dir::Up)?;
-    let down = spf(alloc, g, d, source, Dir::Down)?;
+    let links = first_links(alloc, g, d, source)?;
     let mut table = vec![in alloc; None; g.node_count() as usize]?;
-    fill(g, root, d, &nodes, source, &up, &down, &mut table);
+    fill(g, root, d, &nodes, &links, &mut table);
     let rows = rows_in(alloc, &table)?;
     Ok(rows)
 }

@@ -13,7 +13,9 @@ ghost use Rattle.inc_dec_spf.specs.HasDirections.{AreDirections, HasDirections};
 ghost use Rattle.mrt_rows.specs.NearOf.{AreLinked, AreSoles, IsNearRow, IsPlaceOf, IsSoleOf, near_first};
 ghost use Rattle.mrt_rows.specs.Put.{IsHome, ShareMoreLinks};
 ghost use Rattle.mrt_rows.specs.RowsOf.{HasRow};
+ghost use Rattle.mrt_rows.specs.FirstLinks.{AreFirstLinks};
 
+use crate::first_links::FirstLinks;
 use crate::members::{Home, member_row};
 use inc_dec_spf::NO_LINK;
 use mrt_graph::{Directed, Graph, LinkNo, NodeNo, Place, Row, Tag};
@@ -64,6 +66,35 @@ fn end_row(sole: LinkNo, blue: LinkNo, red: LinkNo, tag: Tag) -> Row
         };
     }
     Row { blue, red, tag }
+}
+
+/// The row of a source for t, by its links. `None` where they have no block in common.
+pub fn near_row(g: &Graph, d: &Directed, links: &FirstLinks, t: NodeNo) -> Option<Row>
+    requires links { AreFirstLinks g.now d.now links.now }
+    requires target { t < length g.now.ids }
+    requires two { links.now.source ≢ t }
+    ensures { (root : ℕ) (w : Directions) → AreDirections g.now d.now root w
+        → IsNearRow g.now root w links.now.source t result }
+{
+    let here = d.place(links.source);
+    let sole = links.soles[links.source.get() as usize];
+    let head = here.head.get() as usize;
+    let home = Home {
+        up: links.up[head],
+        down: links.down[head],
+    };
+    let at = t.get() as usize;
+    row_over(
+        links.source,
+        t,
+        &here,
+        &d.place(t),
+        sole,
+        links.soles[at],
+        links.up[at],
+        links.down[at],
+        &home,
+    )
 }
 
 /// Puts the rows of s for the nodes with which it has a block in common, by ascending destination, from the first place

@@ -3,69 +3,41 @@
 ghost use Rattle.std.specs.Prelude.{◌≡◌, ◌≢◌, ◌<◌, ℕ, None, length};
 ghost use Rattle.link_direction.specs.Directions.{Directions};
 ghost use Rattle.inc_dec_spf.specs.HasDirections.{AreDirections, HasDirections};
-ghost use Rattle.mrt_rows.specs.Source.{AreHops, IsSource, NoneOfOneLink};
-ghost use Rattle.mrt_rows.specs.Table.{HasSoleRows, IsIn, IsReady, IsRowFor, IsTable, StayIn, carried, in_table};
+ghost use Rattle.mrt_rows.specs.FirstLinks.{AreFirstLinks};
+ghost use Rattle.mrt_rows.specs.Table.{IsIn, IsReady, IsRowFor, IsTable, StayIn, carried, in_table};
 ghost use Rattle.inc_dec_spf.specs.declared.reach.Dir.TheVariants.{Up};
 ghost use Rattle.inc_dec_spf.specs.Turns.{AreTurns};
-ghost use Rattle.mrt_graph.specs.GraphInvariant.{IsTopology};
 
-use crate::near::near_row;
-use inc_dec_spf::{Reach, is_sole};
+use crate::first_links::FirstLinks;
+use crate::row_over::near_row;
 use mrt_graph::{Directed, Graph, NodeNo, Row, Tag};
 
-/// Fills an empty table with the rows of `s` for all other nodes.
+/// Fills an empty table with the rows of a source for all other nodes.
 ///
 /// A row may be carried from the row for its destination's head, which has a lower order; and the row for the root from
-/// that for the head of `s`, which is put first.
+/// that for the head of the source, which is put first.
 pub fn fill(
     g: &Graph,
     root: NodeNo,
     d: &Directed,
     nodes: &[NodeNo],
-    s: NodeNo,
-    up: &Reach,
-    down: &Reach,
+    links: &FirstLinks,
     table: &mut Vec<Option<Row>>,
 )
-    requires source { IsSource g.now d.now s up.now down.now }
+    requires links { AreFirstLinks g.now d.now links.now }
     requires nodes { (from : ℕ) (w : Directions) → AreDirections g.now d.now from w
         → AreTurns g.now w Up nodes.now }
     requires one_each { length table.old.items ≡ length g.now.ids }
     requires empty { (t : ℕ) → in_table table.old.items t ≡ None }
     ensures one_each { length table.new.items ≡ length g.now.ids }
-    ensures table { (w : Directions) → AreHops g.now d.now root w s up.now down.now
-        → IsTable g.now root w s table.new.items }
-    ensures all { (w : Directions) → AreHops g.now d.now root w s up.now down.now
-        → (t : ℕ) → t < length g.now.ids → s ≢ t → IsIn table.new.items t }
+    ensures table { (w : Directions) → AreDirections g.now d.now root w
+        → IsTable g.now root w links.now.source table.new.items }
+    ensures all { (w : Directions) → AreDirections g.now d.now root w
+        → (t : ℕ) → t < length g.now.ids → links.now.source ≢ t → IsIn table.new.items t }
 {
-    put_sole_rows(g, d, s, table);
-    put_row(g, root, d, s, d.place(s).head, up, down, table);
+    put_row(g, root, d, links, d.place(links.source).head, table);
     for t in nodes {
-        put_row(g, root, d, s, *t, up, down, table);
-    }
-}
-
-/// Puts the rows over the sole links of `s`.
-fn put_sole_rows(g: &Graph, d: &Directed, s: NodeNo, table: &mut Vec<Option<Row>>)
-    requires kept { IsTopology g.now }
-    requires directed { HasDirections g.now d.now }
-    requires source { s < length g.now.ids }
-    requires one_each { length table.old.items ≡ length g.now.ids }
-    requires empty { (t : ℕ) → in_table table.old.items t ≡ None }
-    ensures one_each { length table.new.items ≡ length g.now.ids }
-    ensures table { (root : ℕ) (w : Directions) → AreDirections g.now d.now root w
-        → IsTable g.now root w s table.new.items }
-    ensures soles { (root : ℕ) (w : Directions) → AreDirections g.now d.now root w
-        → HasSoleRows g.now w s table.new.items }
-{
-    for end in g.ends(s) {
-        if is_sole(d.mark(end.link).role) {
-            table[end.to.get() as usize] = Some(Row {
-                blue: end.link,
-                red: end.link,
-                tag: Tag::Sole,
-            });
-        }
+        put_row(g, root, d, links, *t, table);
     }
 }
 
@@ -74,32 +46,30 @@ fn put_row(
     g: &Graph,
     root: NodeNo,
     d: &Directed,
-    s: NodeNo,
+    links: &FirstLinks,
     t: NodeNo,
-    up: &Reach,
-    down: &Reach,
     table: &mut Vec<Option<Row>>,
 )
-    requires source { IsSource g.now d.now s up.now down.now }
+    requires links { AreFirstLinks g.now d.now links.now }
     requires target { t < length g.now.ids }
     requires one_each { length table.old.items ≡ length g.now.ids }
     ensures one_each { length table.new.items ≡ length g.now.ids }
     ensures stay { StayIn table.old.items table.new.items }
-    ensures table { (w : Directions) → AreHops g.now d.now root w s up.now down.now
-        → HasSoleRows g.now w s table.old.items → IsTable g.now root w s table.old.items
-        → IsTable g.now root w s table.new.items }
-    ensures put { (w : Directions) → AreHops g.now d.now root w s up.now down.now
-        → HasSoleRows g.now w s table.old.items → IsReady root w s t table.old.items → s ≢ t
+    ensures table { (w : Directions) → AreDirections g.now d.now root w
+        → IsTable g.now root w links.now.source table.old.items
+        → IsTable g.now root w links.now.source table.new.items }
+    ensures put { (w : Directions) → AreDirections g.now d.now root w
+        → IsReady root w links.now.source t table.old.items → links.now.source ≢ t
         → IsIn table.new.items t }
 {
-    if t == s {
+    if t == links.source {
         return;
     }
     let place = t.get() as usize;
     if table[place].is_some() {
         return;
     }
-    let row = row_for(g, root, d, s, t, up, down, table);
+    let row = row_for(g, root, d, links, t, table);
     table[place] = row;
 }
 
@@ -108,22 +78,21 @@ fn row_for(
     g: &Graph,
     root: NodeNo,
     d: &Directed,
-    s: NodeNo,
+    links: &FirstLinks,
     t: NodeNo,
-    up: &Reach,
-    down: &Reach,
     table: &[Option<Row>],
 ) -> Option<Row>
-    requires source { IsSource g.now d.now s up.now down.now }
+    requires links { AreFirstLinks g.now d.now links.now }
     requires target { t < length g.now.ids }
+    requires two { links.now.source ≢ t }
     requires one_each { length table.now ≡ length g.now.ids }
-    ensures { (w : Directions) → AreHops g.now d.now root w s up.now down.now → s ≢ t
-        → NoneOfOneLink g.now w s t → IsRowFor g.now root w s t table.now result }
+    ensures { (w : Directions) → AreDirections g.now d.now root w
+        → IsRowFor g.now root w links.now.source t table.now result }
 {
-    if let Some(row) = near_row(g, d, s, t, up, down) {
+    if let Some(row) = near_row(g, d, links, t) {
         return Some(row);
     }
-    carried_row(table, carrier(g, root, d, s, t))
+    carried_row(table, carrier(g, root, d, links.source, t))
 }
 
 /// The node for which `s` has the links that it has for `t`, where they have no block in common.

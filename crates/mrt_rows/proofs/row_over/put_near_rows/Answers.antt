@@ -1,25 +1,13 @@
 use Rattle.std.proofs.Common.{◌≡◌, ◌≢◌, ◌∙◌, ◌==◌, ◌<◌, ◌+◌, ℕ, Bool, true, false, List, Option, Some, get_or, length, length-set, not, set, slice_get, take, refl, sym, subst, inl, inr, arith}
 use Rattle.std.proofs.lemmas.Bool.{cases_eq, eqb-false, ne_eqb}
-use Rattle.std.proofs.lemmas.Option.{slice_get_read}
 use Rattle.mrt_graph.specs.declared.cert.Row.{Row}
-use Rattle.mrt_graph.specs.declared.gadag.Place.{Place}
-use Rattle.mrt_graph.specs.DirectedLists.{DirectedLists}
-use Rattle.mrt_graph.specs.Topology.{Topology}
-use Rattle.link_direction.specs.Directions.{Directions, Says}
 use Rattle.mrt_rows.specs.declared.members.Home.{Home}
-use Rattle.mrt_rows.specs.NearOf.{IsNearRow, IsPlaceOf, near_first}
-use Rattle.mrt_rows.proofs.NearFound.{home_linked, none_found, own_found, some_found}
+use Rattle.mrt_rows.specs.NearOf.{IsNearRow, near_first}
+use Rattle.mrt_rows.proofs.NearFound.{home_linked, none_found, own_found, place_of, read_at, some_found}
 use Rattle.mrt_rows.proofs.NearRows.{place_says}
 use Rattle.mrt_rows.proofs.OrderedGraphs.{graph_of}
 use Rattle.mrt_rows.proofs.row_over.put_near_rows.Goals as goal
 use Rattle.mrt_rows.proofs.row_over.put_near_rows.Goals.{then-ne+in-Some, then-ne+in_default, else-ne}
-
-read_at : (xs : List ℕ) (i at x : ℕ) → i < length xs → at ≡ i → x ≡ get_or xs at x → slice_get xs i ≡ Some x
-read_at xs i at x within same read = slice_get_read xs (length xs) i x refl within (subst (λ (k : ℕ). x ≡ get_or xs k x) same read)
-
-place_of : (g : Topology) (d : DirectedLists) (w : Directions) (v : ℕ) (place : Place) → Says g d w → v < length g.ids → slice_get d.places v ≡ Some place
-    → IsPlaceOf w v place
-place_of g d w v place says within at = let it = place_says g d w v place says within at in record { head = it.0; block = it.1 }
 
 not-true : (b : Bool) → not b ≡ true → b ≡ false
 not-true true is = cc

@@ -1,21 +1,20 @@
 use Rattle.std.proofs.Common.{Option, subst}
 use Rattle.mrt_graph.specs.declared.cert.Row.{Row}
-use Rattle.mrt_rows.specs.Source.{IsNear}
+use Rattle.mrt_rows.specs.NearOf.{IsNearRow}
 use Rattle.mrt_rows.proofs.Tables.{carried_is, near_is}
 use Rattle.mrt_rows.proofs.table.row_for.Goals as goal
 
 pub returns-in-Some : goal.returns-in-Some
-returns-in-Some c = λ w hops two more.
-    near_is c.args.g.now c.args.root w c.args.s c.args.t c.args.table.now c.in-Some.row
-    (c.in-Some.ensures c.args.root w hops two more)
+returns-in-Some c = λ w are.
+    near_is c.args.g.now c.args.root w c.args.links.now.source c.args.t c.args.table.now c.in-Some.row (c.in-Some.ensures c.args.root w are)
 
 pub returns : goal.returns
-returns c = λ w hops two more.
+returns c = λ w are.
     rw c.carried_row.ensures
-    (carried_is c.args.g.now c.args.root w c.args.s c.args.t c.args.table.now c.carrier.result
+    (carried_is c.args.g.now c.args.root w c.args.links.now.source c.args.t c.args.table.now c.carrier.result
     (record {
-      to_other = λ other. c.carrier.ensures.other c.args.root w hops.are other;
-      to_root = λ at_root. c.carrier.ensures.at_root c.args.root w hops.are at_root;
+      to_other = λ other. c.carrier.ensures.other c.args.root w are other;
+      to_root = λ at_root. c.carrier.ensures.at_root c.args.root w are at_root;
     })
-    (subst (λ (o : Option Row). IsNear c.args.g.now c.args.root w c.args.s c.args.t o) c.in_default.is
-    (c.near_row.ensures c.args.root w hops two more)))
+    (subst (λ (o : Option Row). IsNearRow c.args.g.now c.args.root w c.args.links.now.source c.args.t o) c.in_default.is
+    (c.near_row.ensures c.args.root w are)))
