@@ -1,42 +1,31 @@
 -- The rows of a column.
-use Rattle.std.proofs.Common.{◌≡◌, ◌≢◌, ◌∙◌, ◌<◌, ℕ, List, Option, Some, None, length, refl, sym, ap, subst}
+use Rattle.std.proofs.Common.{◌≡◌, ◌≢◌, ◌∙◌, ◌<◌, ℕ, List, Option, Some, None, length, refl, sym, ap}
 use Rattle.mrt_graph.specs.declared.cert.Row.{Row}
 use Rattle.mrt_graph.specs.declared.cert.Tag.TheVariants as tags
-use Rattle.mrt_graph.specs.Topology.{Topology}
-use Rattle.link_direction.specs.Directions.{Directions}
-use Rattle.mrt_graph.specs.declared.cert.Tag.{Tag}
 use Rattle.mrt_rows.specs.NearOf.{Apart, InCommon, IsNearRow}
-use Rattle.mrt_rows.specs.RowLines.{LineOf}
 use Rattle.mrt_rows.specs.Chain.{AreBelow, IsRowAim}
 use Rattle.mrt_rows.specs.ColumnOf.{IsRowIn}
 use Rattle.mrt_rows.specs.RowsOf.{HasRow}
-use Rattle.mrt_rows.specs.Source.{Far, IsNear, Near}
 use Rattle.mrt_rows.specs.Table.{carried}
 use Rattle.mrt_rows.proofs.CarriedRows.{row_carried, row_near}
 use Rattle.mrt_rows.proofs.ChainAims.{aim_near, aim_within, carried_to}
 use Rattle.mrt_rows.proofs.OrderedGraphs.{OrderedGraph}
 
--- a row by first links is near
-pub near_of : (g : Topology) (root : ℕ) (w : Directions) (s t : ℕ) (o : Option Row) → IsNearRow g root w s t o → IsNear g root w s t o
-near_of g root w s t (Some row) (InCommon row' k h common own) =
-    Near row (λ same. (subst (λ (T : Tag). LineOf T g root w s (λ u. None) t row) same (own.line (λ u. None))).apart k h common) own.line
-near_of g root w s t None (Apart none) = Far none
-
 module _ (og : OrderedGraph) (t : ℕ) (t_within : t < length og.g.ids) (below : List (Option ℕ)) (are : AreBelow og.g og.root og.w t below)
     (s aim : ℕ) (s_within : s < length og.g.ids) (two : s ≢ t) (apart : s ≢ aim) (it : IsRowAim og.w below s aim) where
-  near_is : (row : Row) → IsNear og.g og.root og.w s aim (Some row) → (rows : ℕ → Option Row)
+  near_is : (row : Row) → IsNearRow og.g og.root og.w s aim (Some row) → (rows : ℕ → Option Row)
       → ((u : ℕ) → u < length og.g.ids → s ≢ u → HasRow og.g og.root og.w s rows u) → rows aim ≡ Some row
-  near_is row (Near row' not_carried line) rows has =
+  near_is row (InCommon row' k h in_block own) rows has =
       let common = aim_near og t t_within below are s aim it in
-      row_near og s s_within rows has aim common.0 common.1 row (aim_within og t t_within below are s aim s_within it) apart common.2 (line rows)
+      row_near og s s_within rows has aim common.0 common.1 row (aim_within og t t_within below are s aim s_within it) apart common.2 (own.line rows)
 
   -- the row for the aim is that for t, where t is the aim
-  pub row_at_aim : (row : Row) → aim ≡ t → IsNear og.g og.root og.w s aim (Some row) → IsRowIn og.g og.root og.w s t (Some row)
+  pub row_at_aim : (row : Row) → aim ≡ t → IsNearRow og.g og.root og.w s aim (Some row) → IsRowIn og.g og.root og.w s t (Some row)
   row_at_aim row same near =
       record { row = row; is = refl; each = λ rows has. ap rows (sym same) ∙ near_is row near rows has }
 
   -- else it is carried
-  pub row_from_aim : (row : Row) → aim ≢ t → IsNear og.g og.root og.w s aim (Some row) → IsRowIn og.g og.root og.w s t (carried (Some row))
+  pub row_from_aim : (row : Row) → aim ≢ t → IsNearRow og.g og.root og.w s aim (Some row) → IsRowIn og.g og.root og.w s t (carried (Some row))
   row_from_aim row differ near = record {
     row = record { blue = row.blue; red = row.red; tag = tags.Carried };
     is = refl;
@@ -44,5 +33,5 @@ module _ (og : OrderedGraph) (t : ℕ) (t_within : t < length og.g.ids) (below :
         row_carried og s s_within rows has t aim row t_within two differ (carried_to og t t_within below are s aim s_within two it) (near_is row near rows has);
   }
 
-  pub some_near : IsNear og.g og.root og.w s aim None → ⊥
-  some_near (Far none) = let common = aim_near og t t_within below are s aim it in none common.0 common.1 common.2
+  pub some_near : IsNearRow og.g og.root og.w s aim None → ⊥
+  some_near (Apart none) = let common = aim_near og t t_within below are s aim it in none common.0 common.1 common.2

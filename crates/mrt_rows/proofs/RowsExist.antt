@@ -19,7 +19,7 @@ use Rattle.mrt_rows.proofs.LinesHold.{has_head}
 use Rattle.mrt_rows.proofs.MemberRows.{above_row, below_row, head_row, top_row, unordered_row}
 use Rattle.mrt_rows.proofs.NearRows.{none_common}
 use Rattle.mrt_rows.proofs.OneRow.{near_lines}
-use Rattle.mrt_rows.proofs.OrderedGraphs.{OrderedGraph, not_root_of_peers, one_common, within}
+use Rattle.mrt_rows.proofs.OrderedGraphs.{OrderedGraph, one_common, within}
 
 module _ (og : OrderedGraph) (s : ℕ) (s_within : s < length og.g.ids) where
   abbrev n : ℕ

@@ -73,13 +73,13 @@ fan_width = 64
 pub record AreFans (g : Topology) (w : Directions) (held : SourceRows) : Type 0 where
   pub by_order : AreTurns g w Up held.by_order.items
   pub against_order : AreTurns g w Down held.against_order.items
-  pub soles : AreSoles g w held.soles.items
+  pub soles : AreSoles g w held.links.soles.items
   pub up : IsFan g fan_width held.up
   pub down : IsFan g fan_width held.down
   pub open_up : IsOpen g w Up held.first fan_width held.up
   pub open_down : IsOpen g w Down held.first fan_width held.down
-  pub one_up_each : length held.up_links.items ≡ length g.ids
-  pub one_down_each : length held.down_links.items ≡ length g.ids
+  pub one_up_each : length held.links.up.items ≡ length g.ids
+  pub one_down_each : length held.links.down.items ≡ length g.ids
   pub room : length held.room.items ≡ length g.ids
 
 -- these make the rows of the graph from their root: by its directions, and by what is held between sources

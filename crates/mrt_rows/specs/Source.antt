@@ -1,7 +1,5 @@
--- A source, its hops, and the rows that it has for nodes of its blocks.
-use Rattle.std.specs.Prelude.{◌≡◌, ◌≢◌, ◌<◌, ℕ, List, Option, Some, None, length}
-use Rattle.mrt_graph.specs.declared.cert.Row.{Row}
-use Rattle.mrt_graph.specs.declared.cert.Tag.TheVariants.{Carried}
+-- A source and its hops.
+use Rattle.std.specs.Prelude.{◌≡◌, ◌<◌, ℕ, List, Option, length}
 use Rattle.mrt_graph.specs.DirectedLists.{DirectedLists}
 use Rattle.mrt_graph.specs.GraphInvariant.{IsTopology}
 use Rattle.mrt_graph.specs.Topology.{Topology}
@@ -11,7 +9,7 @@ use Rattle.inc_dec_spf.specs.declared.reach.Dir.TheVariants.{Down, Up}
 use Rattle.inc_dec_spf.specs.declared.reach.Hop.{Hop}
 use Rattle.inc_dec_spf.specs.HasDirections.{AreDirections, HasDirections}
 use Rattle.inc_dec_spf.specs.LeastPath.{IsReach}
-use Rattle.mrt_rows.specs.RowLines.{HasOneLink, LineOf}
+use Rattle.mrt_rows.specs.RowLines.{HasOneLink}
 
 -- s is a node of a graph with its directions, and there are hops up and down for each node
 pub record IsSource (g : Topology) (d : DirectedLists) (s : ℕ) (up down : List (Option Hop)) : Type 0 where
@@ -31,9 +29,3 @@ pub record AreHops (g : Topology) (d : DirectedLists) (root : ℕ) (w : Directio
 -- the common block of s and t, if they have one, has more than one link
 abbrev pub NoneOfOneLink : Topology → Directions → ℕ → ℕ → Type 0
 NoneOfOneLink g w s t = (k h link : ℕ) → HaveInCommon w s t k h → ¬ HasOneLink g w k link
-
--- the row of s for t, where they have a block in common
-pub data IsNear (g : Topology) (root : ℕ) (w : Directions) (s t : ℕ) : Option Row → Type 0 where
-  Near : (row : Row) → row.tag ≢ Carried → ((rows : ℕ → Option Row) → LineOf row.tag g root w s rows t row)
-      → IsNear g root w s t (Some row)
-  Far : ((k h : ℕ) → ¬ HaveInCommon w s t k h) → IsNear g root w s t None

@@ -14,7 +14,7 @@ use std::alloc::Global;
 
 /// The rows of `source` for all other nodes, by ascending destination.
 ///
-/// It takes time in proportion to the nodes, and to the ends of those that are in the source's blocks.
+/// It takes time in proportion to the nodes and the links.
 pub fn rows_of(
     alloc: Global,
     g: &Graph,

@@ -10,7 +10,7 @@ ghost use Rattle.link_direction.specs.OrderedGadag.{IsOrderedGadag};
 ghost use Rattle.inc_dec_spf.specs.declared.reach.Dir.TheVariants.{Down, Up};
 ghost use Rattle.inc_dec_spf.specs.FirstLink.{IsFirstLink, no_link};
 ghost use Rattle.inc_dec_spf.specs.HasDirections.{AreDirections, HasDirections};
-ghost use Rattle.mrt_rows.specs.NearOf.{AreLinked, AreSoles, IsNearRow, IsPlaceOf, IsSoleOf, near_first};
+ghost use Rattle.mrt_rows.specs.NearOf.{IsNearRow, IsPlaceOf, IsSoleOf, near_first};
 ghost use Rattle.mrt_rows.specs.Put.{IsHome, ShareMoreLinks};
 ghost use Rattle.mrt_rows.specs.RowsOf.{HasRow};
 ghost use Rattle.mrt_rows.specs.FirstLinks.{AreFirstLinks};
@@ -97,32 +97,22 @@ pub fn near_row(g: &Graph, d: &Directed, links: &FirstLinks, t: NodeNo) -> Optio
     )
 }
 
-/// Puts the rows of s for the nodes with which it has a block in common, by ascending destination, from the first place
-/// on, and tells how many there are.
-pub fn put_near_rows(
-    g: &Graph,
-    d: &Directed,
-    s: NodeNo,
-    soles: &[LinkNo],
-    up: &[LinkNo],
-    down: &[LinkNo],
-    room: &mut [Row],
-) -> usize
-    requires kept { IsTopology g.now }
-    requires directed { HasDirections g.now d.now }
-    requires source { s < length g.now.ids }
-    requires soles { length soles.now ≡ length g.now.ids }
-    requires ups { length up.now ≡ length g.now.ids }
-    requires downs { length down.now ≡ length g.now.ids }
+/// Puts the rows of a source for the nodes with which it has a block in common, by ascending destination, from the first
+/// place on, and tells how many there are.
+pub fn put_near_rows(g: &Graph, d: &Directed, links: &FirstLinks, room: &mut [Row]) -> usize
+    requires links { AreFirstLinks g.now d.now links.now }
     requires room { length room.old ≡ length g.now.ids }
     ensures room { length room.new ≡ length room.old }
     ensures within { result ≤ length room.new }
     ensures rows { (root : ℕ) (w : Directions) (rows : ℕ → Option Row) → AreDirections g.now d.now root w
-        → AreSoles g.now w soles.now → AreLinked g.now w Up s up.now → AreLinked g.now w Down s down.now
-        → ((t : ℕ) → t < length g.now.ids → s ≢ t → HasRow g.now root w s rows t) → rows s ≡ None
-        → take result room.new ≡ near_first rows (length g.now.ids) }
+        → ((t : ℕ) → t < length g.now.ids → links.now.source ≢ t → HasRow g.now root w links.now.source rows t)
+        → rows links.now.source ≡ None → take result room.new ≡ near_first rows (length g.now.ids) }
 {
+    let s = links.source;
     let here = d.place(s);
+    let soles = links.soles.as_slice();
+    let up = links.up.as_slice();
+    let down = links.down.as_slice();
     let sole = soles[s.get() as usize];
     let head = here.head.get() as usize;
     let home = Home {

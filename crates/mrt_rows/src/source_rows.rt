@@ -8,10 +8,12 @@ ghost use Rattle.link_direction.specs.OrderedGadag.{SaysOrdered};
 ghost use Rattle.inc_dec_spf.specs.declared.reach.Dir.TheVariants.{Down, Up};
 ghost use Rattle.inc_dec_spf.specs.HasDirections.{AreDirections, HasDirections};
 ghost use Rattle.mrt_rows.specs.CertOf.{IsCertOf};
-ghost use Rattle.mrt_rows.specs.NearOf.{AreFans, AreLinked, MakeRows, near_rows_of};
+ghost use Rattle.mrt_rows.specs.FirstLinks.{AreFirstLinks};
+ghost use Rattle.mrt_rows.specs.NearOf.{AreFans, MakeRows, near_rows_of};
 ghost use Rattle.mrt_rows.specs.Put.{ShareMoreLinks};
 
 use crate::directed::directions;
+use crate::first_links::FirstLinks;
 use crate::row_over::put_near_rows;
 use crate::rows_law::columns_are_of_one_certificate;
 use crate::soles::take_soles;
@@ -32,12 +34,10 @@ pub struct SourceRows {
     pub directed: Directed,
     pub by_order: Vec<NodeNo>,
     pub against_order: Vec<NodeNo>,
-    pub soles: Vec<LinkNo>,
     pub first: u16,
     pub up: Fan,
     pub down: Fan,
-    pub up_links: Vec<LinkNo>,
-    pub down_links: Vec<LinkNo>,
+    pub links: FirstLinks,
     pub room: Vec<Row>,
     pub count: usize,
 }
@@ -76,12 +76,15 @@ impl SourceRows {
             directed,
             by_order,
             against_order,
-            soles,
             first: count,
             up,
             down,
-            up_links,
-            down_links,
+            links: FirstLinks {
+                source: root,
+                up: up_links,
+                down: down_links,
+                soles,
+            },
             room,
             count: 0,
         })
@@ -91,8 +94,8 @@ impl SourceRows {
     /// has them then.
     ///
     /// It takes time in proportion to the nodes. Where s is none of the 64 nodes for which it did so last, and lies in a
-    /// block of more than one link, it takes time in proportion to the ends of all nodes times 64; these nodes begin with
-    /// a multiple of 64. It takes no memory.
+    /// block of more than one link, it takes time in proportion to the nodes, and to the ends of those in the blocks of
+    /// the 64, times 64; these begin with a multiple of 64. It takes no memory.
     pub fn find(&mut self, g: &Graph, s: NodeNo)
         requires made { MakeRows g.now self.old }
         requires s { s < length g.now.ids }
@@ -105,15 +108,7 @@ impl SourceRows {
         // what each graph keeps is told by reading it
         let _count = g.node_count();
         self.take_links(g, s);
-        self.count = put_near_rows(
-            g,
-            &self.directed,
-            s,
-            &self.soles,
-            &self.up_links,
-            &self.down_links,
-            &mut self.room,
-        );
+        self.count = put_near_rows(g, &self.directed, &self.links, &mut self.room);
     }
 
     /// Takes the links by which s begins the least paths up and down to all nodes, where it lies in a block of more than one
@@ -126,17 +121,16 @@ impl SourceRows {
         ensures root { self.new.root ≡ self.old.root }
         ensures directed { self.new.directed ≡ self.old.directed }
         ensures made { MakeRows g.now self.new }
-        ensures up { (w : Directions) → Says g.now self.old.directed w
-            → AreLinked g.now w Up s self.new.up_links.items }
-        ensures down { (w : Directions) → Says g.now self.old.directed w
-            → AreLinked g.now w Down s self.new.down_links.items }
+        ensures source { self.new.links.source ≡ s }
+        ensures links { AreFirstLinks g.now self.new.directed self.new.links }
     {
+        self.links.source = s;
         if has_more_links(g, &self.directed, s) {
             self.open(g, s);
             let first = NodeNo::new(self.first);
-            self.up.put_links(g, Dir::Up, first, s, &mut self.up_links);
+            self.up.put_links(g, Dir::Up, first, s, &mut self.links.up);
             self.down
-                .put_links(g, Dir::Down, first, s, &mut self.down_links);
+                .put_links(g, Dir::Down, first, s, &mut self.links.down);
         }
     }
 
@@ -149,6 +143,7 @@ impl SourceRows {
         ensures root { self.new.root ≡ self.old.root }
         ensures directed { self.new.directed ≡ self.old.directed }
         ensures made { MakeRows g.now self.new }
+        ensures source { self.new.links.source ≡ self.old.links.source }
         ensures from { self.new.first ≤ s }
         ensures among { s < self.new.first + SOURCES }
     {

@@ -3,11 +3,11 @@ use Rattle.std.proofs.lemmas.Bool.{eqb-false, eqb-true}
 use Rattle.mrt_graph.specs.declared.cert.Row.{Row}
 use Rattle.inc_dec_spf.specs.BlockAims.{aim_at}
 use Rattle.mrt_rows.specs.Chain.{AreWayAims}
-use Rattle.mrt_rows.specs.Source.{IsNear}
+use Rattle.mrt_rows.specs.NearOf.{IsNearRow}
 use Rattle.mrt_rows.proofs.AimsOfRows.{aim_of_blocks}
 use Rattle.mrt_rows.proofs.ChainAims.{aim_apart, aim_within}
 use Rattle.mrt_rows.proofs.Climbing.{graph_by}
-use Rattle.mrt_rows.proofs.ColumnRows.{near_of, row_at_aim, row_from_aim, some_near}
+use Rattle.mrt_rows.proofs.ColumnRows.{row_at_aim, row_from_aim, some_near}
 use Rattle.mrt_rows.proofs.column.Columns.row.Goals as goal
 
 pub aimed_row-requires-clause-aim : goal.aimed_row-requires-clause-aim
@@ -44,9 +44,9 @@ returns-in_err-row c = λ w says.
     subst (λ (t : ℕ). AreWayAims g c.args.root w t (aim_at held.aims.items 64 j)) place
     (aimed.aims.each j (omega (arith, place, c.requires.among)) (omega (arith, place, c.requires.to))) in
     let it = aim_of_blocks og c.args.to c.requires.to below are_below (aim_at held.aims.items 64 j) ways s aim c.requires.source c.requires.two is in
-    let near = near_of g c.args.root w s aim c.aimed_row.result (c.aimed_row.ensures w says aimed.up aimed.down it) in
+    let near = c.aimed_row.ensures w says aimed.up aimed.down it in
     absurd (some_near og c.args.to c.requires.to below are_below s aim c.requires.source c.requires.two apart is
-    (subst (λ (o : Option Row). IsNear g c.args.root w s aim o) c.in_err-row.was near))
+    (subst (λ (o : Option Row). IsNearRow g c.args.root w s aim o) c.in_err-row.was near))
 
 pub returns-then-eq : goal.returns-then-eq
 returns-then-eq c = λ w says.
@@ -66,10 +66,10 @@ returns-then-eq c = λ w says.
     subst (λ (t : ℕ). AreWayAims g c.args.root w t (aim_at held.aims.items 64 j)) place
     (aimed.aims.each j (omega (arith, place, c.requires.among)) (omega (arith, place, c.requires.to))) in
     let it = aim_of_blocks og c.args.to c.requires.to below are_below (aim_at held.aims.items 64 j) ways s aim c.requires.source c.requires.two is in
-    let near = near_of g c.args.root w s aim c.aimed_row.result (c.aimed_row.ensures w says aimed.up aimed.down it) in
+    let near = c.aimed_row.ensures w says aimed.up aimed.down it in
     row_at_aim og c.args.to c.requires.to below are_below s aim c.requires.source c.requires.two apart is c.in_ok-row.row
     (eqb-true aim c.args.to (sym c.eq.ensures ∙ c.if-eq.true))
-    (subst (λ (o : Option Row). IsNear g c.args.root w s aim o) c.in_ok-row.was near)
+    (subst (λ (o : Option Row). IsNearRow g c.args.root w s aim o) c.in_ok-row.was near)
 
 pub returns : goal.returns
 returns c = λ w says.
@@ -89,7 +89,7 @@ returns c = λ w says.
     subst (λ (t : ℕ). AreWayAims g c.args.root w t (aim_at held.aims.items 64 j)) place
     (aimed.aims.each j (omega (arith, place, c.requires.among)) (omega (arith, place, c.requires.to))) in
     let it = aim_of_blocks og c.args.to c.requires.to below are_below (aim_at held.aims.items 64 j) ways s aim c.requires.source c.requires.two is in
-    let near = near_of g c.args.root w s aim c.aimed_row.result (c.aimed_row.ensures w says aimed.up aimed.down it) in
+    let near = c.aimed_row.ensures w says aimed.up aimed.down it in
     row_from_aim og c.args.to c.requires.to below are_below s aim c.requires.source c.requires.two apart is c.in_ok-row.row
     (eqb-false aim c.args.to (sym c.eq.ensures ∙ c.if-eq.false))
-    (subst (λ (o : Option Row). IsNear g c.args.root w s aim o) c.in_ok-row.was near)
+    (subst (λ (o : Option Row). IsNearRow g c.args.root w s aim o) c.in_ok-row.was near)

@@ -1,12 +1,10 @@
-use Rattle.std.proofs.Common.{◌∙◌, ◌<◌, ℕ, List, length, take, sym, ap, subst, arith}
+use Rattle.std.proofs.Common.{◌≡◌, ◌≢◌, ◌∙◌, ◌<◌, ℕ, List, length, take, sym, ap, subst, arith}
 use Rattle.std.proofs.lemmas.List.{with_items_is}
 use Rattle.mrt_graph.specs.declared.cert.Row.{Row}
 use Rattle.mrt_graph.specs.Certificate.{row_of}
-use Rattle.mrt_graph.specs.DirectedLists.{DirectedLists}
-use Rattle.link_direction.specs.Directions.{Says}
-use Rattle.inc_dec_spf.specs.declared.reach.Dir.TheVariants.{Down, Up}
 use Rattle.mrt_rows.specs.CertOf.{IsCertOf}
-use Rattle.mrt_rows.specs.NearOf.{AreLinked, AreSoles, near_first}
+use Rattle.mrt_rows.specs.NearOf.{near_first}
+use Rattle.mrt_rows.specs.RowsOf.{HasRow}
 use Rattle.mrt_rows.proofs.NearSection.{all_near, none_for_itself}
 use Rattle.mrt_rows.proofs.SourceCert.{are_from, directions_from, ordered_from, told_by}
 use Rattle.mrt_rows.proofs.source_rows.SourceRows.find.Goals as goal
@@ -14,33 +12,6 @@ use Rattle.mrt_rows.proofs.source_rows.SourceRows.find.Goals as goal
 pub take_links-requires-clause-directed : goal.take_links-requires-clause-directed
 take_links-requires-clause-directed c =
     directions_from c.args.g.now c.args.self.now.root c.args.self.now.directed c.node_count-count.ensures.kept c.requires.made.root_within c.requires.made.directed
-
-pub put_near_rows-self-requires-clause-directed : goal.put_near_rows-self-requires-clause-directed
-put_near_rows-self-requires-clause-directed c =
-    let self = c.take_links.new.self in
-    let made = c.take_links.ensures.made in
-    directions_from c.args.g.now self.root self.directed c.node_count-count.ensures.kept made.root_within made.directed
-
-pub put_near_rows-self-requires-clause-soles : goal.put_near_rows-self-requires-clause-soles
-put_near_rows-self-requires-clause-soles c =
-    let self = c.take_links.new.self in
-    let made = c.take_links.ensures.made in
-    let ordered = ordered_from c.args.g.now self.root self.directed c.node_count-count.ensures.kept made.root_within made.directed in
-    ap (λ (xs : List ℕ). length xs) c.deref.ensures.value ∙ (made.fans ordered.directions ordered.says).soles.one_each
-
-pub put_near_rows-self-requires-clause-ups : goal.put_near_rows-self-requires-clause-ups
-put_near_rows-self-requires-clause-ups c =
-    let self = c.take_links.new.self in
-    let made = c.take_links.ensures.made in
-    let ordered = ordered_from c.args.g.now self.root self.directed c.node_count-count.ensures.kept made.root_within made.directed in
-    ap (λ (xs : List ℕ). length xs) c.deref-2.ensures.value ∙ (made.fans ordered.directions ordered.says).one_up_each
-
-pub put_near_rows-self-requires-clause-downs : goal.put_near_rows-self-requires-clause-downs
-put_near_rows-self-requires-clause-downs c =
-    let self = c.take_links.new.self in
-    let made = c.take_links.ensures.made in
-    let ordered = ordered_from c.args.g.now self.root self.directed c.node_count-count.ensures.kept made.root_within made.directed in
-    ap (λ (xs : List ℕ). length xs) c.deref-3.ensures.value ∙ (made.fans ordered.directions ordered.says).one_down_each
 
 pub put_near_rows-self-requires-clause-room : goal.put_near_rows-self-requires-clause-room
 put_near_rows-self-requires-clause-room c =
@@ -83,16 +54,14 @@ returns-clause-rows c = λ file is.
     let w = ordered.directions in
     let says = ordered.says in
     let are = are_from g self.root self.directed kept made.root_within made.directed w says in
-    let own = subst (λ (d : DirectedLists). Says g d w) c.take_links.ensures.directed says in
     let cert = subst (λ (r : ℕ). IsCertOf g r file) (sym c.take_links.ensures.root) is in
     let tells = told_by g self.root self.directed kept made.root_within made.directed w says file cert in
-    let held = made.fans w says in
+    let from : self.links.source ≡ s = c.take_links.ensures.source in
     let same = with_items_is self.room c.put_near_rows-self.new.room (c.put_near_rows-self.auto.room ∙ c.deref_mut.ensures.len) in
     let found = c.put_near_rows-self.ensures.rows self.root w (row_of file.cert s) are
-    (subst (λ (xs : List ℕ). AreSoles g w xs) (sym c.deref.ensures.value) held.soles)
-    (subst (λ (xs : List ℕ). AreLinked g w Up s xs) (sym c.deref-2.ensures.value) (c.take_links.ensures.up w own))
-    (subst (λ (xs : List ℕ). AreLinked g w Down s xs) (sym c.deref-3.ensures.value) (c.take_links.ensures.down w own))
-    (λ t t_within two. tells.rows s t c.requires.s t_within two) (none_for_itself file.cert s) in
+    (subst (λ (v : ℕ). (t : ℕ) → t < length g.ids → v ≢ t → HasRow g self.root w v (row_of file.cert s) t) (sym from)
+    (λ t t_within two. tells.rows s t c.requires.s t_within two))
+    (ap (row_of file.cert s) from ∙ none_for_itself file.cert s) in
     let s_within : s < length file.cert.nodes = omega (arith, c.requires.s, tells.nodes.one_each) in
     ap (λ (xs : List Row). take c.put_near_rows-self.result xs) same ∙ found ∙ ap (near_first (row_of file.cert s)) (sym tells.nodes.one_each)
     ∙ all_near file.cert s s_within

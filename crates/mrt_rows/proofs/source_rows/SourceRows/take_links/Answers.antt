@@ -1,4 +1,4 @@
-use Rattle.std.proofs.Common.{◌≡◌, ◌∙◌, ℕ, List, length, sym, ap, subst, arith}
+use Rattle.std.proofs.Common.{◌≡◌, ◌<◌, ◌∙◌, ℕ, List, length, sym, ap, subst, arith}
 use Rattle.std.proofs.lemmas.List.{with_items_is}
 use Rattle.std.proofs.lemmas.Option.{slice_get_within}
 use Rattle.mrt_graph.specs.DirectedLists.{DirectedLists}
@@ -7,13 +7,15 @@ use Rattle.link_direction.specs.Directions.{Directions, Says}
 use Rattle.inc_dec_spf.specs.declared.reach.Dir.{Dir}
 use Rattle.inc_dec_spf.specs.declared.reach.Dir.TheVariants.{Down, Up}
 use Rattle.inc_dec_spf.specs.Fan.{HasFirstLinks, IsOpen}
-use Rattle.inc_dec_spf.proofs.SameDirections.{directions_are}
+use Rattle.inc_dec_spf.specs.HasDirections.{HasDirections}
 use Rattle.mrt_rows.specs.NearOf.{AreLinked}
 use Rattle.mrt_rows.proofs.source_rows.SourceRows.take_links.Goals as goal
 
-linked : (g : Topology) (w : Directions) (dir : Dir) (s : ℕ) (links after : List ℕ) → after ≡ links → HasFirstLinks g w dir s links → AreLinked g w dir s after
-linked g w dir s links after same has =
-    subst (λ (xs : List ℕ). AreLinked g w dir s xs) (sym same) (record { each = λ t link at shares. has.each t link at shares.share.two })
+linked : (g : Topology) (w : Directions) (dir : Dir) (s source : ℕ) (links after : List ℕ) → after ≡ links → source ≡ s → HasFirstLinks g w dir s links
+    → AreLinked g w dir source after
+linked g w dir s source links after same from has =
+    subst (λ (v : ℕ). AreLinked g w dir v after) (sym from)
+    (subst (λ (xs : List ℕ). AreLinked g w dir s xs) (sym same) (record { each = λ t link at shares. has.each t link at shares.share.two }))
 
 pub put_links-requires : goal.put_links-requires
 put_links-requires c =
@@ -59,8 +61,8 @@ put_links-requires-then-has_more_links c =
 
 pub returns-then-has_more_links-clause-made : goal.returns-then-has_more_links-clause-made
 returns-then-has_more_links-clause-made c =
-    let up_same = with_items_is c.open.new.self.up_links c.put_links.new.links (c.put_links.auto.links ∙ c.deref_mut.ensures.len) in
-    let down_same = with_items_is c.open.new.self.down_links c.put_links-then-has_more_links.new.links
+    let up_same = with_items_is c.open.new.self.links.up c.put_links.new.links (c.put_links.auto.links ∙ c.deref_mut.ensures.len) in
+    let down_same = with_items_is c.open.new.self.links.down c.put_links-then-has_more_links.new.links
     (c.put_links-then-has_more_links.auto.links ∙ c.deref_mut-then-has_more_links.ensures.len) in
     record {
       root_within = c.open.ensures.made.root_within;
@@ -82,40 +84,102 @@ returns-then-has_more_links-clause-made c =
           };
     }
 
-pub returns-then-has_more_links-clause-up : goal.returns-then-has_more_links-clause-up
-returns-then-has_more_links-clause-up c = λ w own.
-    let g = c.args.g.now in
-    let says = subst (λ (d : DirectedLists). Says g d w) (sym c.open.ensures.directed) own in
-    let held = c.open.ensures.made.fans w says in
-    linked g w Up c.args.s c.put_links.new.links _
-    (with_items_is c.open.new.self.up_links c.put_links.new.links (c.put_links.auto.links ∙ c.deref_mut.ensures.len))
-    (c.put_links.ensures w (subst (λ (first : ℕ). IsOpen g w Up first 64 c.open.new.self.up) (sym c.new-first.ensures) held.open_up))
+pub returns-then-has_more_links-clause-source : goal.returns-then-has_more_links-clause-source
+returns-then-has_more_links-clause-source c = c.open.ensures.source
 
-pub returns-then-has_more_links-clause-down : goal.returns-then-has_more_links-clause-down
-returns-then-has_more_links-clause-down c = λ w own.
+pub returns-then-has_more_links-clause-links : goal.returns-then-has_more_links-clause-links
+returns-then-has_more_links-clause-links c =
     let g = c.args.g.now in
-    let says = subst (λ (d : DirectedLists). Says g d w) (sym c.open.ensures.directed) own in
-    let held = c.open.ensures.made.fans w says in
-    linked g w Down c.args.s c.put_links-then-has_more_links.new.links _
-    (with_items_is c.open.new.self.down_links c.put_links-then-has_more_links.new.links
-    (c.put_links-then-has_more_links.auto.links ∙ c.deref_mut-then-has_more_links.ensures.len))
-    (c.put_links-then-has_more_links.ensures w
-    (subst (λ (first : ℕ). IsOpen g w Down first 64 c.open.new.self.down) (sym c.new-first.ensures) held.open_down))
+    let has : HasDirections g c.open.new.self.directed =
+    subst (λ (d : DirectedLists). HasDirections g d) (sym c.open.ensures.directed) c.requires.directed in
+    let own = c.open.ensures.made.fans has.directions has.are.says in
+    let up_same = with_items_is c.open.new.self.links.up c.put_links.new.links (c.put_links.auto.links ∙ c.deref_mut.ensures.len) in
+    let down_same = with_items_is c.open.new.self.links.down c.put_links-then-has_more_links.new.links
+    (c.put_links-then-has_more_links.auto.links ∙ c.deref_mut-then-has_more_links.ensures.len) in
+    record {
+      kept = c.requires.kept;
+      directed = has;
+      within = subst (λ (v : ℕ). v < length g.ids) (sym c.open.ensures.source) c.requires.s;
+      one_up_each = ap (λ (xs : List ℕ). length xs) up_same ∙ c.put_links.auto.links ∙ ap (λ (xs : List ℕ). length xs) c.deref_mut.ensures.value ∙ own.one_up_each;
+      one_down_each = ap (λ (xs : List ℕ). length xs) down_same ∙ c.put_links-then-has_more_links.auto.links
+          ∙ ap (λ (xs : List ℕ). length xs) c.deref_mut-then-has_more_links.ensures.value ∙ own.one_down_each;
+      one_sole_each = own.soles.one_each;
+      are = λ root w are.
+          let held = c.open.ensures.made.fans w are.says in
+          record {
+            up = linked g w Up c.args.s _ c.put_links.new.links _ up_same c.open.ensures.source
+                (c.put_links.ensures w (subst (λ (first : ℕ). IsOpen g w Up first 64 c.open.new.self.up) (sym c.new-first.ensures) held.open_up));
+            down = linked g w Down c.args.s _ c.put_links-then-has_more_links.new.links _ down_same c.open.ensures.source
+                (c.put_links-then-has_more_links.ensures w
+                (subst (λ (first : ℕ). IsOpen g w Down first 64 c.open.new.self.down) (sym c.new-first.ensures) held.open_down));
+            soles = held.soles;
+          };
+    }
 
-pub returns-else-has_more_links-clause-up : goal.returns-else-has_more_links-clause-up
-returns-else-has_more_links-clause-up c = λ w says. record {
-  each = λ t link at shares.
+-- what makes rows, for this source
+pub open-requires-clause-made : goal.open-requires-clause-made
+open-requires-clause-made c = record {
+  root_within = c.requires.made.root_within;
+  directed = c.requires.made.directed;
+  fans = λ w says.
       let held = c.requires.made.fans w says in
-      let are = directions_are c.args.g.now c.args.self.now.directed w c.requires.kept c.requires.directed says in
-      absurd (c.has_more_links.ensures c.if-has_more_links.false c.requires.directed.root t w are
-      (omega (arith, slice_get_within c.args.self.now.up_links.items t link at, held.one_up_each)) shares);
+      record {
+        by_order = held.by_order;
+        against_order = held.against_order;
+        soles = held.soles;
+        up = held.up;
+        down = held.down;
+        open_up = held.open_up;
+        open_down = held.open_down;
+        one_up_each = held.one_up_each;
+        one_down_each = held.one_down_each;
+        room = held.room;
+      };
 }
 
-pub returns-else-has_more_links-clause-down : goal.returns-else-has_more_links-clause-down
-returns-else-has_more_links-clause-down c = λ w says. record {
-  each = λ t link at shares.
+pub returns-else-has_more_links-clause-made : goal.returns-else-has_more_links-clause-made
+returns-else-has_more_links-clause-made c = record {
+  root_within = c.requires.made.root_within;
+  directed = c.requires.made.directed;
+  fans = λ w says.
       let held = c.requires.made.fans w says in
-      let are = directions_are c.args.g.now c.args.self.now.directed w c.requires.kept c.requires.directed says in
-      absurd (c.has_more_links.ensures c.if-has_more_links.false c.requires.directed.root t w are
-      (omega (arith, slice_get_within c.args.self.now.down_links.items t link at, held.one_down_each)) shares);
+      record {
+        by_order = held.by_order;
+        against_order = held.against_order;
+        soles = held.soles;
+        up = held.up;
+        down = held.down;
+        open_up = held.open_up;
+        open_down = held.open_down;
+        one_up_each = held.one_up_each;
+        one_down_each = held.one_down_each;
+        room = held.room;
+      };
 }
+
+pub returns-else-has_more_links-clause-links : goal.returns-else-has_more_links-clause-links
+returns-else-has_more_links-clause-links c =
+    let g = c.args.g.now in
+    let has = c.requires.directed in
+    let own = c.requires.made.fans has.directions has.are.says in
+    record {
+      kept = c.requires.kept;
+      directed = has;
+      within = c.requires.s;
+      one_up_each = own.one_up_each;
+      one_down_each = own.one_down_each;
+      one_sole_each = own.soles.one_each;
+      are = λ root w are. record {
+        up = record {
+          each = λ t link at shares.
+              absurd (c.has_more_links.ensures c.if-has_more_links.false root t w are
+              (omega (arith, slice_get_within c.args.self.now.links.up.items t link at, own.one_up_each)) shares);
+        };
+        down = record {
+          each = λ t link at shares.
+              absurd (c.has_more_links.ensures c.if-has_more_links.false root t w are
+              (omega (arith, slice_get_within c.args.self.now.links.down.items t link at, own.one_down_each)) shares);
+        };
+        soles = (c.requires.made.fans w are.says).soles;
+      };
+    }
