@@ -71,10 +71,6 @@ pub turn_within : (dir : Dir) (n a : ℕ) → 1 ≤ a → a ≤ n → turn_at di
 turn_within Up n a low high = omega (arith, low, high)
 turn_within Down n a low high = omega (arith, low, high)
 
-pub turns_differ : (dir : Dir) (n a b : ℕ) → 1 ≤ a → a ≤ n → 1 ≤ b → b ≤ n → turn_at dir n a ≡ turn_at dir n b → a ≡ b
-turns_differ Up n a b low_a high_a low_b high_b same = omega (arith, low_a, low_b, same)
-turns_differ Down n a b low_a high_a low_b high_b same = omega (arith, high_a, high_b, same)
-
 -- some node has each turn
 order_at : Dir → ℕ → ℕ → ℕ
 order_at Up n i = i + 1

@@ -1,8 +1,8 @@
 -- What the sweep has found for one of some sources.
-use Rattle.std.proofs.Common.{◌≡◌, ◌<◌, ◌≤◌, ◌+◌, ◌*◌, ◌∙◌, ℕ, List, Option, Some, None, get_or, length, slice_get, inl, inr, refl, sym, ap, arith}
-use Rattle.std.specs.Option.{option_map_or}
+use Rattle.std.proofs.Common.{◌≡◌, ◌≢◌, ◌<◌, ◌≤◌, ◌+◌, ◌*◌, ◌∙◌, ℕ, List, Option, Some, None, get_or, length, slice_get, inl, inr, refl, sym, ap, arith}
+use Rattle.std.specs.Option.{option_map, option_map_or}
 use Rattle.std.proofs.lemmas.Bool.{cases_lt}
-use Rattle.std.proofs.lemmas.Option.{same_Some, slice_get_past, slice_get_within}
+use Rattle.std.proofs.lemmas.Option.{slice_get_past}
 use Rattle.mrt_graph.specs.declared.link.End.{End}
 use Rattle.mrt_graph.specs.Topology.{Topology}
 use Rattle.mrt_graph.proofs.EndsAt.{end_leads}
@@ -12,6 +12,7 @@ use Rattle.inc_dec_spf.specs.declared.reach.Known.{Known}
 use Rattle.inc_dec_spf.specs.Fan.{AreCosts, IsFirstPlace, known_by, lane, link_at}
 use Rattle.inc_dec_spf.specs.FirstLink.{Begins, BeginsNone, no_link}
 use Rattle.inc_dec_spf.specs.Known.{hop_of}
+use Rattle.inc_dec_spf.specs.LeastPath.{IsHop}
 use Rattle.inc_dec_spf.specs.Rest.{far}
 use Rattle.inc_dec_spf.specs.Sweep.{IsSwept}
 use Rattle.inc_dec_spf.proofs.InBlocks.{IsOrdered}
@@ -31,7 +32,7 @@ no_end ends place past = ap (λ (o : Option End). option_map_or (λ e. e.link) o
 pub place_reached : (g : Topology) (root : ℕ) (w : Directions) (dir : Dir) (s t width j : ℕ) (ends : List End) (costs places : List ℕ) → IsOrdered g root w
     → s < length g.ids → t < length g.ids → slice_get g.ends s ≡ Some ends → AreCosts costs places
     → IsSwept g w dir s (length g.ids) (lane ends (length g.ids) width costs places j)
-    → IsFirstPlace g w dir s t ends (get_or places (t * width + j) 0)
+    → IsFirstPlace g w dir s t ends (get_or costs (t * width + j) 0) (get_or places (t * width + j) 0)
 place_reached g root w dir s t width j ends costs places is s_within t_within list are swept = elim (cases_lt cost far) [
   | inl less ↦ reached less
   | inr all ↦ not_reached all
@@ -49,26 +50,26 @@ place_reached g root w dir s t width j ends costs places is s_within t_within li
     entry : slice_get known t ≡ Some (known_by ends cost place)
     entry = lane_at ends (length g.ids) width costs places j t t_within
 
-    not_reached : far ≤ cost → IsFirstPlace g w dir s t ends place
+    hop : s ≢ t → IsHop g w dir s t (option_map hop_of (known_by ends cost place))
+    hop two = hop_for g root w dir s t known (known_by ends cost place) is swept s_within two entry
+
+    not_reached : far ≤ cost → IsFirstPlace g w dir s t ends cost place
     not_reached all = record {
-      within = λ other. absurd (other (are.none (t * width + j) all));
+      hop = hop;
       link = λ two.
-          let none : slice_get known t ≡ Some None = entry ∙ ap (λ (o : Option Known). Some o) (far_none ends cost place all) in
+          let none : IsHop g w dir s t None = rw (far_none ends cost place all) at (hop two) in
           let is_place = are.none (t * width + j) all in
-          BeginsNone (hop_for g root w dir s t known None is swept s_within two none)
-          (no_end ends place (omega (arith, is_place, few_ends g root w s ends is list)));
+          BeginsNone none (no_end ends place (omega (arith, is_place, few_ends g root w s ends is list)));
     }
 
-    reached : cost < far → IsFirstPlace g w dir s t ends place
+    reached : cost < far → IsFirstPlace g w dir s t ends cost place
     reached less =
         let way : Known = record { cost = cost; place = place; link = link_at ends place } in
         let at : slice_get known t ≡ Some (Some way) = entry ∙ ap (λ (o : Option Known). Some o) (known_less ends cost place less) in
         let it : HasPath g root w dir s t way = path_of_way g root w dir s t way is (swept.sound t way at) in
-        let same : it.ends ≡ ends = same_Some it.ends ends (sym it.list ∙ list) in
-        let long = slice_get_within it.ends place it.end it.there in
         let few = link_within g it.end.link s it.end.to is.kept (end_leads g s place it.ends it.end is.kept it.list it.there) in
         record {
-          within = λ other. omega (arith, long, ap (λ (es : List End). length es) same);
+          hop = hop;
           link = λ two.
               Begins (hop_of way) (hop_for g root w dir s t known (Some way) is swept s_within two at) refl
               (λ none. omega (arith, few, none, it.over, is.kept.few_links));

@@ -7,6 +7,7 @@ pub mod LanesSwept
 pub mod ByTurn
 pub mod EndCosts
 pub mod EndsOffered
+pub mod EntryRead
 pub mod FirstLinks
 pub mod HomePaths
 pub mod InBlocks

@@ -162,27 +162,14 @@ hop_for g root w dir s t known (Some way) is swept s_within two at =
           | inr tie ↦ omega (arith, tie.0)
         ]
 
--- what the sweep has found, the source's own entry left out
-pub reach_of : (g : Topology) (root : ℕ) (w : Directions) (dir : Dir) (s : ℕ) (known after : List (Option Known)) → IsOrdered g root w
-    → IsSwept g w dir s (length g.ids) known → s < length g.ids → after ≡ set known s None → IsReach g w dir s (hops_of after)
-reach_of g root w dir s known after is swept s_within made = record {
-  one_each = length-map after (option_map hop_of) ∙ ap (λ (xs : List (Option Known)). length xs) made ∙ length-set known s None ∙ swept.one_each;
-  each = λ t hop at. go t hop (slice_get after t) refl (sym (slice_get-map (option_map hop_of) after t) ∙ at);
+-- the hops of what is known of each node
+pub reach_of : (g : Topology) (w : Directions) (dir : Dir) (s : ℕ) (known : List (Option Known)) → length known ≡ length g.ids
+    → ((t : ℕ) (way : Option Known) → slice_get known t ≡ Some way → IsHop g w dir s t (option_map hop_of way)) → IsReach g w dir s (hops_of known)
+reach_of g w dir s known one_each is = record {
+  one_each = length-map known (option_map hop_of) ∙ one_each;
+  each = λ t hop at. go t hop (slice_get known t) refl (sym (slice_get-map (option_map hop_of) known t) ∙ at);
 }
   where
-    of_other : (t : ℕ) (o : Option Known) → slice_get after t ≡ Some o → IsHop g w dir s t (option_map hop_of o)
-    of_other t o at = elim (cases_eq s t) [
-      | inl same ↦
-          let now : slice_get after t ≡ Some None =
-          ap (λ (xs : List (Option Known)). slice_get xs t) made ∙ ap (λ (x : ℕ). slice_get (set known s None) x) (sym same)
-          ∙ set_there known s None (omega (arith, s_within, swept.one_each)) in
-          subst (λ (x : Option Known). IsHop g w dir s t (option_map hop_of x)) (same_Some None o (sym now ∙ at))
-          (NotReached (λ k h path share. absurd (share.two same)))
-      | inr other ↦
-          hop_for g root w dir s t known o is swept s_within other
-          (sym (ap (λ (xs : List (Option Known)). slice_get xs t) made ∙ set_elsewhere known s t None (λ same. other (sym same))) ∙ at)
-    ]
-
-    go : (t : ℕ) (hop : Option Hop) (o : Option (Option Known)) → slice_get after t ≡ o → option_map (option_map hop_of) o ≡ Some hop → IsHop g w dir s t hop
+    go : (t : ℕ) (hop : Option Hop) (o : Option (Option Known)) → slice_get known t ≡ o → option_map (option_map hop_of) o ≡ Some hop → IsHop g w dir s t hop
     go t hop None at is_hop = cc
-    go t hop (Some o) at is_hop = subst (λ (x : Option Hop). IsHop g w dir s t x) (same_Some (option_map hop_of o) hop is_hop) (of_other t o at)
+    go t hop (Some o) at is_hop = subst (λ (x : Option Hop). IsHop g w dir s t x) (same_Some (option_map hop_of o) hop is_hop) (is t o at)

@@ -1,7 +1,7 @@
 -- Fans: the ends by which some sources side by side begin the least paths to all nodes.
 use Rattle.std.specs.Prelude.{◌≡◌, ◌≢◌, ◌==◌, ◌<◌, ◌≤◌, ◌⊎◌, ◌+◌, ◌*◌, ◌&&◌, ◌||◌, ℕ, Bool, true, List, Option, Some, None, length, map, nat_lt, slice_get, slice_index, if◌then◌else◌}
 use Rattle.std.specs.List.{range_with_len}
-use Rattle.std.specs.Option.{option_map_or}
+use Rattle.std.specs.Option.{option_map, option_map_or}
 use Rattle.mrt_graph.specs.declared.link.End.{End}
 use Rattle.mrt_graph.specs.Topology.{Topology}
 use Rattle.link_direction.specs.Directions.{Directions}
@@ -9,7 +9,8 @@ use Rattle.inc_dec_spf.specs.declared.fan.Fan.{Fan}
 use Rattle.inc_dec_spf.specs.declared.reach.Dir.{Dir}
 use Rattle.inc_dec_spf.specs.declared.reach.Known.{Known}
 use Rattle.inc_dec_spf.specs.FirstLink.{IsFirstLink, no_link}
-use Rattle.inc_dec_spf.specs.Known.{AreOffered}
+use Rattle.inc_dec_spf.specs.Known.{AreOffered, hop_of}
+use Rattle.inc_dec_spf.specs.LeastPath.{IsHop}
 use Rattle.inc_dec_spf.specs.Offers.{GoesOn, IsFurtherOffer}
 use Rattle.inc_dec_spf.specs.Rest.{far}
 
@@ -84,9 +85,10 @@ pub record IsFromAt (w : Directions) (s x width : ℕ) (costs places from_costs 
   pub place : GoesOn w s x → slice_index from_places j ≡ slice_index places (x * width + j)
   pub stays : ¬ GoesOn w s x → slice_index from_costs j ≡ far
 
--- for node t, the end of s at this place begins the least path; there is none where no path leads to t
-pub record IsFirstPlace (g : Topology) (w : Directions) (dir : Dir) (s t : ℕ) (ends : List End) (place : ℕ) : Type 0 where
-  pub within : place ≢ no_place → place < length ends
+-- what s has for node t by a cost and the place of an end: the end begins the least path, which has this cost; there is
+-- none where no path leads to t
+pub record IsFirstPlace (g : Topology) (w : Directions) (dir : Dir) (s t : ℕ) (ends : List End) (cost place : ℕ) : Type 0 where
+  pub hop : s ≢ t → IsHop g w dir s t (option_map hop_of (known_by ends cost place))
   pub link : s ≢ t → IsFirstLink g w dir s t (link_at ends place)
 
 -- it has so many places for each node of the graph
@@ -97,11 +99,11 @@ pub record IsFan (g : Topology) (width : ℕ) (fan : Fan) : Type 0 where
   pub from_places : length fan.from_places.items ≡ width
   pub stops : length fan.stops.items ≡ length g.ids
 
--- it is open from the nodes from number `first` on: it has the places of their ends, for all nodes
+-- it is open from the nodes from number `first` on: it has what they have for all nodes
 pub record IsOpen (g : Topology) (w : Directions) (dir : Dir) (first width : ℕ) (fan : Fan) : Type 0 where
   pub each : (j t : ℕ) (ends : List End) → j < width → first + j < length g.ids → t < length g.ids
       → slice_get g.ends (first + j) ≡ Some ends
-      → IsFirstPlace g w dir (first + j) t ends (slice_index fan.places.items (t * width + j))
+      → IsFirstPlace g w dir (first + j) t ends (slice_index fan.costs.items (t * width + j)) (slice_index fan.places.items (t * width + j))
 
 -- the links by which node s begins the least paths to all nodes
 pub record HasFirstLinks (g : Topology) (w : Directions) (dir : Dir) (s : ℕ) (links : List ℕ) : Type 0 where

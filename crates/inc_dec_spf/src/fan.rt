@@ -1,18 +1,21 @@
 //! Fans: the links by which some nodes side by side begin the least paths to all nodes.
 
 ghost use Rattle.std.specs.Prelude.{◌≡◌, ◌≢◌, ◌<◌, ◌≤◌, ◌+◌, ◌*◌, ℕ, List, IfOk, Some, length, slice_get, slice_index, false, true};
+ghost use Rattle.std.specs.Option.{option_map};
 ghost use Rattle.mrt_graph.specs.declared.link.End.{End};
 ghost use Rattle.mrt_graph.specs.GraphInvariant.{IsTopology};
 ghost use Rattle.link_direction.specs.Directions.{Directions};
-ghost use Rattle.inc_dec_spf.specs.Fan.{AreCosts, AreLow, AreStops, HasFirstLinks, IsFan, IsFirstPlace, IsFromAt, IsOpen, lane, link_at, no_place};
+ghost use Rattle.inc_dec_spf.specs.Fan.{AreCosts, AreLow, AreStops, HasFirstLinks, IsFan, IsFirstPlace, IsFromAt, IsOpen, known_by, lane, link_at, no_place};
 ghost use Rattle.inc_dec_spf.specs.HasDirections.{AreDirections, HasDirections};
+ghost use Rattle.inc_dec_spf.specs.Known.{hop_of};
+ghost use Rattle.inc_dec_spf.specs.LeastPath.{IsHop};
 ghost use Rattle.inc_dec_spf.specs.Offers.{GoesOn};
 ghost use Rattle.inc_dec_spf.specs.Rest.{far};
 ghost use Rattle.inc_dec_spf.specs.Sweep.{IsSwept};
 ghost use Rattle.inc_dec_spf.specs.Turns.{AreTurns};
 
 use crate::beside::{NO_PLACE, offer_begun, offer_on};
-use crate::reach::Dir;
+use crate::reach::{Dir, Known};
 use crate::side::{FAR, NO_LINK};
 use mrt_graph::{Directed, End, Graph, LinkNo, NoMemory, NodeNo};
 use std::alloc::Global;
@@ -89,7 +92,6 @@ impl Fan {
         requires among { s < first + width }
         requires one_each { length links.old ≡ length g.now.ids }
         requires fan { IsFan g.now width self.now }
-        requires open { (w : Directions) × IsOpen g.now w dir first width self.now }
         ensures { (v : Directions) → IsOpen g.now v dir first width self.now
             → HasFirstLinks g.now v dir s links.new }
     {
@@ -100,18 +102,46 @@ impl Fan {
             links[n] = link_at(ends, self.places[n * width + j]);
         }
     }
+
+    /// The way of source s to node t: the least path, where there is one. It is open from the nodes from `first` on.
+    pub(crate) fn way(&self, g: &Graph, first: NodeNo, s: NodeNo, t: NodeNo) -> Option<Known>
+        ghost width: { ℕ }
+        requires kept { IsTopology g.now }
+        requires source { s < length g.now.ids }
+        requires target { t < length g.now.ids }
+        requires from { first ≤ s }
+        requires among { s < first + width }
+        requires fan { IsFan g.now width self.now }
+        ensures { (w : Directions) (dir : Dir) → IsOpen g.now w dir first width self.now
+            → IsHop g.now w dir s t (option_map hop_of result) }
+    {
+        if t == s {
+            return None;
+        }
+        let at = t.get() as usize * self.from_costs.len() + (s.get() - first.get()) as usize;
+        known_by(g.ends(s), self.costs[at], self.places[at])
+    }
+}
+
+/// What is known by a cost and the place of an end of the source.
+fn known_by(ends: &[End], cost: u32, place: u16) -> Option<Known>
+    ensures { result ≡ known_by ends.now cost place }
+{
+    if cost < FAR {
+        let link = link_at(ends, place);
+        return Some(Known { cost, place, link });
+    }
+    None
 }
 
 /// The link of the end at a place; no link where there is none.
 fn link_at(ends: &[End], place: u16) -> LinkNo
-    requires few { length ends.now ≤ no_place }
-    requires within { place ≢ no_place → place < length ends.now }
     ensures { result ≡ link_at ends.now place }
 {
-    if place == NO_PLACE {
-        return LinkNo::new(NO_LINK);
+    match ends.get(place as usize) {
+        Some(end) => end.link,
+        None => LinkNo::new(NO_LINK),
     }
-    ends[place as usize].link
 }
 
 /// How many of the nodes from `first` on there are, at most as many as the width.
@@ -155,7 +185,8 @@ fn open_from(
     ensures open { (root j t : ℕ) (w : Directions) (ends : List End) → AreDirections g.now d.now root w
         → j < length from_costs.old → first + j < length g.now.ids → t < length g.now.ids
         → slice_get g.now.ends (first + j) ≡ Some ends
-        → IsFirstPlace g.now w dir (first + j) t ends (slice_index places.new (t * length from_costs.old + j)) }
+        → IsFirstPlace g.now w dir (first + j) t ends (slice_index costs.new (t * length from_costs.old + j))
+        (slice_index places.new (t * length from_costs.old + j)) }
 {
     begin(g, d, dir, first, from_costs.len(), costs, places);
     mark_stops(g, d, first, from_costs.len(), stops);

@@ -11,7 +11,6 @@ mod own_costs;
 mod path_law;
 mod reach;
 mod side;
-mod sweeping;
 mod tile;
 mod to_target;
 mod turns;

@@ -6,7 +6,6 @@ use Rattle.mrt_rows.proofs.first_links.links_onward.Goals as goal
 
 pub put_links-requires : goal.put_links-requires
 put_links-requires c =
-    let has = c.requires.directed in
     let long : length c.in_ok-links.links.items ≡ length c.args.g.now.ids = search rules in (
       c.requires.kept,
       (
@@ -17,7 +16,7 @@ put_links-requires c =
             omega arith,
             (
               ap (λ (xs : List ℕ). length xs) c.deref_mut.ensures.value ∙ long,
-              (c.open.ensures.fan, (has.directions, c.open.ensures.open has.root has.directions has.are)),
+              c.open.ensures.fan,
             ),
           ),
         ),

@@ -2,36 +2,10 @@ use Rattle.std.proofs.Common.{◌≡◌, ◌<◌, ◌+◌, ◌-◌, ◌*◌, ◌
 use Rattle.std.proofs.lemmas.Bool.{cases_eq}
 use Rattle.std.proofs.lemmas.Option.{same_Some, slice_get_within}
 use Rattle.mrt_graph.proofs.ListPlaces.{set_elsewhere, set_there}
-use Rattle.inc_dec_spf.specs.Fan.{IsFirstPlace, link_at}
+use Rattle.inc_dec_spf.specs.Fan.{link_at}
 use Rattle.inc_dec_spf.specs.FirstLink.{IsFirstLink}
-use Rattle.std.proofs.lemmas.Grind.{get_or_default_zero}
-use Rattle.inc_dec_spf.proofs.SideBySide.{row_within}
+use Rattle.inc_dec_spf.proofs.EntryRead.{entry_read}
 use Rattle.inc_dec_spf.proofs.fan.Fan.put_links.Goals as goal
-
--- an entry that is read
-entry : (places : List ℕ) (n width j t x : ℕ) → length places ≡ n * width → t < n → j < width → x ≡ get_or places (t * width + j) x
-    → x ≡ get_or places (t * width + j) 0
-entry places n width j t x long within below read =
-    read ∙ get_or_default_zero places (t * width + j) x (omega (arith, row_within t n width (length places) long within, below))
-
-pub link_at-requires-clause-within : goal.link_at-requires-clause-within
-link_at-requires-clause-within g c = λ other.
-    let req = c.requires in
-    let fan = req.1.1.1.1.1.0 in
-    let open_by = req.1.1.1.1.1.1 in
-    let places = c.args.self.now.places.items in
-    let j = c.get.result - c.get-2.result in
-    let width_is : c.len-width.result ≡ g.width = omega (arith, c.len-width.ensures, fan.from_costs, c.args.self.now.from_costs.ok.0) in
-    let is_s : c.args.first + j ≡ c.args.s = omega (arith, c.get.ensures.value, c.get-2.ensures.value, req.1.1.0) in
-    let below : j < g.width = omega (arith, is_s, req.1.1.1.0) in
-    let t_within : c.loop-n.n < length c.args.g.now.ids = omega (arith, c.loop-n-test.true, c.node_count-n-end.ensures.count) in
-    let it = open_by.1.each j c.loop-n.n c.ends-ends.result.now below (omega (arith, is_s, req.1.0)) t_within
-    (subst (λ (v : ℕ). slice_get c.args.g.now.ends v ≡ Some c.ends-ends.result.now) (sym is_s) c.ends-ends.ensures.value) in
-    let place : get_or places (c.loop-n.n * g.width + j) 0 ≡ c.index.result.now =
-    sym (entry places (length c.args.g.now.ids) g.width j c.loop-n.n c.index.result.now fan.places t_within below
-    (c.index.ensures ∙ ap (λ (m : ℕ). get_or places (c.loop-n.n * m + j) c.index.result.now) width_is)) in
-    let low = it.within (λ none. other (sym place ∙ none)) in
-    omega (arith, low, place)
 
 pub loop-n-preserved : goal.loop-n-preserved
 loop-n-preserved g c =
@@ -43,11 +17,11 @@ loop-n-preserved g c =
     let long : n < length c.loop-n.links =
     omega (arith, c.loop-n-test.true, c.node_count-n-end.ensures.count, c.loop-n.invariant.one_each, c.requires.1.1.1.1.0) in
     let req = c.requires in
-    let fan = req.1.1.1.1.1.0 in
+    let fan = req.1.1.1.1.1 in
     let width_is : width ≡ g.width = omega (arith, c.len-width.ensures, fan.from_costs, c.args.self.now.from_costs.ok.0) in
     let below : j < width = omega (arith, width_is, c.get.ensures.value, c.get-2.ensures.value, req.1.1.0, req.1.1.1.0) in
     let t_within : n < length c.args.g.now.ids = omega (arith, c.loop-n-test.true, c.node_count-n-end.ensures.count) in
-    let read = entry places (length c.args.g.now.ids) width j n c.index.result.now
+    let read = entry_read places (length c.args.g.now.ids) width j n c.index.result.now
     (fan.places ∙ ap (λ (m : ℕ). length c.args.g.now.ids * m) (sym width_is)) t_within below c.index.ensures in
     record {
       one_each = length-set c.loop-n.links n c.link_at.result ∙ c.loop-n.invariant.one_each;
@@ -63,7 +37,7 @@ loop-n-preserved g c =
 pub returns : goal.returns
 returns g c = λ v opened.
     let req = c.requires in
-    let fan = req.1.1.1.1.1.0 in
+    let fan = req.1.1.1.1.1 in
     let places = c.args.self.now.places.items in
     let j = c.get.result - c.get-2.result in
     let ends = c.ends-ends.result.now in
@@ -75,8 +49,7 @@ returns g c = λ v opened.
       one_each = count;
       each = λ t link at two.
           let t_within : t < length c.args.g.now.ids = omega (arith, slice_get_within c.loop-n.links t link at, count) in
-          let it : IsFirstPlace c.args.g.now v c.args.dir (c.args.first + j) t ends (get_or places (t * g.width + j) 0) =
-          opened.each j t ends below (omega (arith, is_s, req.1.0)) t_within
+          let it = opened.each j t ends below (omega (arith, is_s, req.1.0)) t_within
           (subst (λ (x : ℕ). slice_get c.args.g.now.ends x ≡ Some ends) (sym is_s) c.ends-ends.ensures.value) in
           let put = c.loop-n.invariant.put t (omega (arith, t_within, c.loop-n-test.false, c.node_count-n-end.ensures.count)) in
           let link_is : link ≡ link_at ends (get_or places (t * g.width + j) 0) =

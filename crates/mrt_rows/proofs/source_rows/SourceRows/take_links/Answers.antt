@@ -31,7 +31,7 @@ put_links-requires c =
             omega (arith, c.new-first.ensures, c.open.ensures.among),
             (
               ap (λ (xs : List ℕ). length xs) c.deref_mut.ensures.value ∙ held.one_up_each,
-              (held.up, (w, subst (λ (first : ℕ). IsOpen c.args.g.now w Up first 64 c.open.new.self.up) (sym c.new-first.ensures) held.open_up)),
+              held.up,
             ),
           ),
         ),
@@ -52,7 +52,7 @@ put_links-requires-then-has_more_links c =
             omega (arith, c.new-first.ensures, c.open.ensures.among),
             (
               ap (λ (xs : List ℕ). length xs) c.deref_mut-then-has_more_links.ensures.value ∙ held.one_down_each,
-              (held.down, (w, subst (λ (first : ℕ). IsOpen c.args.g.now w Down first 64 c.open.new.self.down) (sym c.new-first.ensures) held.open_down)),
+              held.down,
             ),
           ),
         ),
