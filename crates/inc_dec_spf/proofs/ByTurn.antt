@@ -66,7 +66,7 @@ node_of_order g d root w k are low high =
     let within : at.0 < length g.ids = omega (arith, slice_get_within d.orders at.0 k at.1, are.says.one_order_each) in
     (at.0, within, same_Some (w.order at.0) k (sym (are.says.orders at.0 within) ∙ at.1))
 
--- turns lie below the count of nodes, and two nodes have two turns
+-- turns lie below the count of nodes
 pub turn_within : (dir : Dir) (n a : ℕ) → 1 ≤ a → a ≤ n → turn_at dir n a < n
 turn_within Up n a low high = omega (arith, low, high)
 turn_within Down n a low high = omega (arith, low, high)

@@ -5,9 +5,9 @@ use Rattle.std.specs.Option.{option_map, option_map_or}
 use Rattle.mrt_graph.specs.declared.link.End.{End}
 use Rattle.mrt_graph.specs.Topology.{Topology}
 use Rattle.link_direction.specs.Directions.{Directions}
-use Rattle.inc_dec_spf.specs.declared.fan.Fan.{Fan}
 use Rattle.inc_dec_spf.specs.declared.reach.Dir.{Dir}
 use Rattle.inc_dec_spf.specs.declared.reach.Known.{Known}
+use Rattle.inc_dec_spf.specs.FanEntries.{FanEntries}
 use Rattle.inc_dec_spf.specs.FirstLink.{IsFirstLink, no_link}
 use Rattle.inc_dec_spf.specs.Known.{AreOffered, hop_of}
 use Rattle.inc_dec_spf.specs.LeastPath.{IsHop}
@@ -91,19 +91,11 @@ pub record IsFirstPlace (g : Topology) (w : Directions) (dir : Dir) (s t : ℕ) 
   pub hop : s ≢ t → IsHop g w dir s t (option_map hop_of (known_by ends cost place))
   pub link : s ≢ t → IsFirstLink g w dir s t (link_at ends place)
 
--- it has so many places for each node of the graph
-pub record IsFan (g : Topology) (width : ℕ) (fan : Fan) : Type 0 where
-  pub costs : length fan.costs.items ≡ length g.ids * width
-  pub places : length fan.places.items ≡ length g.ids * width
-  pub from_costs : length fan.from_costs.items ≡ width
-  pub from_places : length fan.from_places.items ≡ width
-  pub stops : length fan.stops.items ≡ length g.ids
-
--- it is open from the nodes from number `first` on: it has what they have for all nodes
-pub record IsOpen (g : Topology) (w : Directions) (dir : Dir) (first width : ℕ) (fan : Fan) : Type 0 where
-  pub each : (j t : ℕ) (ends : List End) → j < width → first + j < length g.ids → t < length g.ids
+-- a fan is open from the nodes from number `first` on: it has what they have for all nodes
+pub record IsOpen (g : Topology) (w : Directions) (dir : Dir) (first : ℕ) (fan : FanEntries) : Type 0 where
+  pub each : (j t : ℕ) (ends : List End) → j < fan.width → first + j < length g.ids → t < length g.ids
       → slice_get g.ends (first + j) ≡ Some ends
-      → IsFirstPlace g w dir (first + j) t ends (slice_index fan.costs.items (t * width + j)) (slice_index fan.places.items (t * width + j))
+      → IsFirstPlace g w dir (first + j) t ends (slice_index fan.costs (t * fan.width + j)) (slice_index fan.places (t * fan.width + j))
 
 -- the links by which node s begins the least paths to all nodes
 pub record HasFirstLinks (g : Topology) (w : Directions) (dir : Dir) (s : ℕ) (links : List ℕ) : Type 0 where

@@ -2,12 +2,14 @@ pub mod Against
 pub mod Aims
 pub mod BlockAims
 pub mod Fan
+pub mod FanEntries
 pub mod FirstLink
 pub mod HasDirections
 pub mod Known
 pub mod LeastPath
 pub mod Offers
 pub mod OneWay
+pub mod Opening
 pub mod Path
 pub mod Rest
 pub mod Side

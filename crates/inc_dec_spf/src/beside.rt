@@ -2,17 +2,17 @@
 
 ghost use Rattle.std.specs.Prelude.{◌≡◌, ◌<◌, ◌≤◌, ◌+◌, ◌*◌, ◌⊎◌, ◌^◌, ◌≢◌, ℕ, List, length, slice_get, slice_index, slice_set, Some};
 ghost use Rattle.mrt_graph.specs.declared.link.End.{End};
-ghost use Rattle.mrt_graph.specs.GraphInvariant.{IsTopology};
 ghost use Rattle.link_direction.specs.Directions.{Directions};
 ghost use Rattle.inc_dec_spf.specs.Fan.{AreCosts, AreLow, AreOver, HasOffered, comes_before, first_cost, first_place, known_by, lane};
-ghost use Rattle.inc_dec_spf.specs.HasDirections.{AreDirections, HasDirections};
+ghost use Rattle.inc_dec_spf.specs.HasDirections.{AreDirections};
 ghost use Rattle.inc_dec_spf.specs.Known.{AreOffered};
 ghost use Rattle.inc_dec_spf.specs.Offers.{IsFirstOffer};
+ghost use Rattle.inc_dec_spf.specs.Opening.{IsOpening};
 ghost use Rattle.inc_dec_spf.specs.Rest.{far};
 
+use crate::fan::Opening;
 use crate::offers::{is_sole, leads_on};
-use crate::reach::Dir;
-use mrt_graph::{Directed, Graph, NodeNo};
+use mrt_graph::NodeNo;
 
 /// Stands for no end: no node has so many.
 pub const NO_PLACE: u16 = 65535;
@@ -86,37 +86,35 @@ fn offer_over(
 
 /// Offers each node to which an end of x leads on in its block, for each source at its place.
 pub fn offer_on(
-    g: &Graph,
-    d: &Directed,
+    opening: &Opening,
     x: NodeNo,
-    dir: Dir,
     from_costs: &[u32],
     from_places: &[u16],
     costs: &mut [u32],
     places: &mut [u16],
 )
-    requires kept { IsTopology g.now }
-    requires directed { HasDirections g.now d.now }
-    requires node { x < length g.now.ids }
+    requires opening { IsOpening opening.now }
+    requires node { x < length opening.now.graph.now.ids }
     requires from { AreCosts from_costs.now from_places.now }
     requires small { (j : ℕ) → slice_index from_costs.now j < far → slice_index from_costs.now j + 65536 ≤ far }
-    requires room { length costs.old ≡ length g.now.ids * length from_costs.now }
+    requires room { length costs.old ≡ length opening.now.graph.now.ids * length from_costs.now }
     requires costs { AreCosts costs.old places.old }
     ensures room { length costs.new ≡ length costs.old }
     ensures costs { AreCosts costs.new places.new }
     ensures low { (bound : ℕ) → AreLow bound from_costs.now → AreLow (bound + 65535) costs.old
         → AreLow (bound + 65535) costs.new }
-    ensures offered { (root j : ℕ) (w : Directions) (ends : List End) → AreDirections g.now d.now root w
-        → j < length from_costs.now
-        → HasOffered g.now w dir x (known_by ends (slice_index from_costs.now j) (slice_index from_places.now j))
-        (lane ends (length g.now.ids) (length from_costs.now) costs.old places.old j)
-        (lane ends (length g.now.ids) (length from_costs.now) costs.new places.new j) }
+    ensures offered { (root j : ℕ) (w : Directions) (ends : List End)
+        → AreDirections opening.now.graph.now opening.now.directed.now root w → j < length from_costs.now
+        → HasOffered opening.now.graph.now w opening.now.dir x
+        (known_by ends (slice_index from_costs.now j) (slice_index from_places.now j))
+        (lane ends (length opening.now.graph.now.ids) (length from_costs.now) costs.old places.old j)
+        (lane ends (length opening.now.graph.now.ids) (length from_costs.now) costs.new places.new j) }
 {
-    let block = d.place(x).block;
+    let block = opening.directed.place(x).block;
     let width = from_costs.len();
-    for end in g.ends(x) {
-        let mark = d.mark(end.link);
-        if mark.block == block && leads_on(dir, mark.way, x, end.to) {
+    for end in opening.graph.ends(x) {
+        let mark = opening.directed.mark(end.link);
+        if mark.block == block && leads_on(opening.dir, mark.way, x, end.to) {
             let at = end.to.get() as usize * width;
             offer_over(from_costs, from_places, end.metric, at, costs, places);
         }
@@ -126,35 +124,34 @@ pub fn offer_on(
 /// Offers each node to which an end of the source leads on, but over sole links. The source is the one at place j of so
 /// many.
 pub fn offer_begun(
-    g: &Graph,
-    d: &Directed,
+    opening: &Opening,
     source: NodeNo,
-    dir: Dir,
     j: usize,
     width: usize,
     costs: &mut [u32],
     places: &mut [u16],
 )
-    requires kept { IsTopology g.now }
-    requires directed { HasDirections g.now d.now }
-    requires source { source < length g.now.ids }
+    requires opening { IsOpening opening.now }
+    requires source { source < length opening.now.graph.now.ids }
     requires place { j < width }
-    requires room { length costs.old ≡ length g.now.ids * width }
+    requires room { length costs.old ≡ length opening.now.graph.now.ids * width }
     requires costs { AreCosts costs.old places.old }
     ensures room { length costs.new ≡ length costs.old }
     ensures costs { AreCosts costs.new places.new }
     ensures low { AreLow 65535 costs.old → AreLow 65535 costs.new }
-    ensures offered { (root : ℕ) (w : Directions) (ends : List End) → AreDirections g.now d.now root w
-        → slice_get g.now.ends source ≡ Some ends
-        → AreOffered (IsFirstOffer g.now w dir source) (lane ends (length g.now.ids) width costs.old places.old j)
-        (lane ends (length g.now.ids) width costs.new places.new j) }
+    ensures offered { (root : ℕ) (w : Directions) (ends : List End)
+        → AreDirections opening.now.graph.now opening.now.directed.now root w
+        → slice_get opening.now.graph.now.ends source ≡ Some ends
+        → AreOffered (IsFirstOffer opening.now.graph.now w opening.now.dir source)
+        (lane ends (length opening.now.graph.now.ids) width costs.old places.old j)
+        (lane ends (length opening.now.graph.now.ids) width costs.new places.new j) }
     ensures others { (k : ℕ) (ends : List End) → k < width → k ≢ j
-        → lane ends (length g.now.ids) width costs.new places.new k
-        ≡ lane ends (length g.now.ids) width costs.old places.old k }
+        → lane ends (length opening.now.graph.now.ids) width costs.new places.new k
+        ≡ lane ends (length opening.now.graph.now.ids) width costs.old places.old k }
 {
-    for (place, end) in g.ends(source).iter().enumerate() {
-        let mark = d.mark(end.link);
-        if !is_sole(mark.role) && leads_on(dir, mark.way, source, end.to) {
+    for (place, end) in opening.graph.ends(source).iter().enumerate() {
+        let mark = opening.directed.mark(end.link);
+        if !is_sole(mark.role) && leads_on(opening.dir, mark.way, source, end.to) {
             let at = end.to.get() as usize * width + j;
             offer_at(at, end.metric as u32, place as u16, costs, places);
         }

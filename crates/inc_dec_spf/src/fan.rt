@@ -1,17 +1,17 @@
 //! Fans: the links by which some nodes side by side begin the least paths to all nodes.
 
-ghost use Rattle.std.specs.Prelude.{◌≡◌, ◌≢◌, ◌<◌, ◌≤◌, ◌+◌, ◌*◌, ℕ, List, IfOk, Some, length, slice_get, slice_index, false, true};
+ghost use Rattle.std.specs.Prelude.{◌≡◌, ◌≢◌, ◌<◌, ◌≤◌, ◌+◌, ◌*◌, ℕ, IfOk, Some, length, slice_get, slice_index, false, true};
 ghost use Rattle.std.specs.Option.{option_map};
-ghost use Rattle.mrt_graph.specs.declared.link.End.{End};
 ghost use Rattle.mrt_graph.specs.GraphInvariant.{IsTopology};
 ghost use Rattle.link_direction.specs.Directions.{Directions};
-ghost use Rattle.inc_dec_spf.specs.Fan.{AreCosts, AreLow, AreStops, HasFirstLinks, IsFan, IsFirstPlace, IsFromAt, IsOpen, known_by, lane, link_at, no_place};
+ghost use Rattle.inc_dec_spf.specs.Fan.{AreCosts, AreLow, AreStops, HasFirstLinks, IsOpen, known_by, link_at, no_place};
+ghost use Rattle.inc_dec_spf.specs.FanEntries.{FanEntries, fan_entries};
+ghost use Rattle.inc_dec_spf.specs.Opening.{AreKeptOnward, AreSweptTo, IsOpening};
 ghost use Rattle.inc_dec_spf.specs.HasDirections.{AreDirections, HasDirections};
 ghost use Rattle.inc_dec_spf.specs.Known.{hop_of};
 ghost use Rattle.inc_dec_spf.specs.LeastPath.{IsHop};
 ghost use Rattle.inc_dec_spf.specs.Offers.{GoesOn};
 ghost use Rattle.inc_dec_spf.specs.Rest.{far};
-ghost use Rattle.inc_dec_spf.specs.Sweep.{IsSwept};
 ghost use Rattle.inc_dec_spf.specs.Turns.{AreTurns};
 
 use crate::beside::{NO_PLACE, offer_begun, offer_on};
@@ -19,16 +19,29 @@ use crate::reach::{Dir, Known};
 use crate::side::{FAR, NO_LINK};
 use mrt_graph::{Directed, End, Graph, LinkNo, NoMemory, NodeNo};
 use std::alloc::Global;
+use std::marker::Model;
 
 /// For each node, and each of the sources side by side, the least cost and the place of the source's end that begins the
 /// least path; the same of the node that has its turn; and marks on the sources and on their heads.
 #[derive(Drop)]
 pub struct Fan {
-    pub costs: Vec<u32>,
-    pub places: Vec<u16>,
-    pub from_costs: Vec<u32>,
-    pub from_places: Vec<u16>,
-    pub stops: Vec<bool>,
+    costs: Vec<u32>,
+    places: Vec<u16>,
+    from_costs: Vec<u32>,
+    from_places: Vec<u16>,
+    stops: Vec<bool>,
+}
+
+impl Model for Fan {
+    ghost use Rattle.std.specs.Prelude.{length};
+    ghost use Rattle.inc_dec_spf.specs.FanEntries.{AreEntries, FanEntries, fan_entries};
+
+    ghost Value = { FanEntries };
+
+    ghost view = { λ fan. fan_entries (length fan.stops.items) (length fan.from_costs.items) fan.costs.items fan.places.items };
+
+    ghost invariant = { λ fan. AreEntries (length fan.stops.items) (length fan.from_costs.items) (length fan.from_places.items)
+        fan.costs.items fan.places.items };
 }
 
 impl Fan {
@@ -36,7 +49,8 @@ impl Fan {
     ///
     /// It takes time and memory in proportion to the nodes times the width.
     pub fn new(alloc: Global, g: &Graph, width: u16) -> Result<Fan, NoMemory>
-        ensures { IfOk result (IsFan g.now width) }
+        ensures nodes { IfOk result (λ fan. fan.nodes ≡ length g.now.ids) }
+        ensures width { IfOk result (λ fan. fan.width ≡ width) }
     {
         let count = g.node_count() as usize;
         let costs = vec![in alloc; FAR; count * width as usize]?;
@@ -58,23 +72,26 @@ impl Fan {
     /// It takes time in proportion to the nodes, and to the ends of those that one of the sources reaches, times the
     /// width.
     pub fn open(&mut self, g: &Graph, d: &Directed, dir: Dir, turns: &[NodeNo], first: NodeNo)
-        ghost width: { ℕ }
         requires kept { IsTopology g.now }
         requires directed { HasDirections g.now d.now }
         requires turns { (root : ℕ) (w : Directions) → AreDirections g.now d.now root w
             → AreTurns g.now w dir turns.now }
         requires first { first ≤ length g.now.ids }
-        requires fan { IsFan g.now width self.old }
-        ensures fan { IsFan g.now width self.new }
+        requires nodes { self.old.nodes ≡ length g.now.ids }
+        ensures nodes { self.new.nodes ≡ self.old.nodes }
+        ensures width { self.new.width ≡ self.old.width }
         ensures open { (root : ℕ) (w : Directions) → AreDirections g.now d.now root w
-            → IsOpen g.now w dir first width self.new }
+            → IsOpen g.now w dir first self.new }
     {
-        open_from(
-            g,
-            d,
+        let opening = Opening {
+            graph: g,
+            directed: d,
             dir,
             turns,
             first,
+        };
+        open_from(
+            &opening,
             &mut self.costs,
             &mut self.places,
             &mut self.from_costs,
@@ -84,16 +101,15 @@ impl Fan {
     }
 
     /// Puts the links by which source s begins the least paths to all nodes. It is open from the nodes from `first` on.
-    pub fn put_links(&self, g: &Graph, dir: Dir, first: NodeNo, s: NodeNo, links: &mut [LinkNo])
-        ghost width: { ℕ }
+    pub fn put_links(&self, g: &Graph, first: NodeNo, s: NodeNo, links: &mut [LinkNo])
         requires kept { IsTopology g.now }
         requires source { s < length g.now.ids }
         requires from { first ≤ s }
-        requires among { s < first + width }
+        requires among { s < first + self.now.width }
         requires one_each { length links.old ≡ length g.now.ids }
-        requires fan { IsFan g.now width self.now }
-        ensures { (v : Directions) → IsOpen g.now v dir first width self.now
-            → HasFirstLinks g.now v dir s links.new }
+        requires nodes { self.now.nodes ≡ length g.now.ids }
+        ensures { (w : Directions) (dir : Dir) → IsOpen g.now w dir first self.now
+            → HasFirstLinks g.now w dir s links.new }
     {
         let width = self.from_costs.len();
         let j = (s.get() - first.get()) as usize;
@@ -105,14 +121,13 @@ impl Fan {
 
     /// The way of source s to node t: the least path, where there is one. It is open from the nodes from `first` on.
     pub(crate) fn way(&self, g: &Graph, first: NodeNo, s: NodeNo, t: NodeNo) -> Option<Known>
-        ghost width: { ℕ }
         requires kept { IsTopology g.now }
         requires source { s < length g.now.ids }
         requires target { t < length g.now.ids }
         requires from { first ≤ s }
-        requires among { s < first + width }
-        requires fan { IsFan g.now width self.now }
-        ensures { (w : Directions) (dir : Dir) → IsOpen g.now w dir first width self.now
+        requires among { s < first + self.now.width }
+        requires nodes { self.now.nodes ≡ length g.now.ids }
+        ensures { (w : Directions) (dir : Dir) → IsOpen g.now w dir first self.now
             → IsHop g.now w dir s t (option_map hop_of result) }
     {
         if t == s {
@@ -121,6 +136,17 @@ impl Fan {
         let at = t.get() as usize * self.from_costs.len() + (s.get() - first.get()) as usize;
         known_by(g.ends(s), self.costs[at], self.places[at])
     }
+}
+
+/// What a fan is opened from: a graph with its directions; up or down; the nodes by their turns; and the first of the
+/// sources.
+#[derive(Clone, Copy)]
+pub struct Opening<'a> {
+    pub graph: &'a Graph,
+    pub directed: &'a Directed,
+    pub dir: Dir,
+    pub turns: &'a [NodeNo],
+    pub first: NodeNo,
 }
 
 /// What is known by a cost and the place of an end of the source.
@@ -144,92 +170,58 @@ fn link_at(ends: &[End], place: u16) -> LinkNo
     }
 }
 
-/// How many of the nodes from `first` on there are, at most as many as the width.
-fn source_count(g: &Graph, first: NodeNo, width: usize) -> usize
-    requires { first ≤ length g.now.ids }
+/// How many of the nodes from the first source on there are, at most as many as the width.
+fn source_count(opening: &Opening, width: usize) -> usize
+    requires { opening.now.first ≤ length opening.now.graph.now.ids }
     ensures most { result ≤ width }
-    ensures within { first + result ≤ length g.now.ids }
-    ensures all { (j : ℕ) → j < width → first + j < length g.now.ids → j < result }
-    ensures kept { IsTopology g.now }
+    ensures within { opening.now.first + result ≤ length opening.now.graph.now.ids }
+    ensures all { (j : ℕ) → j < width → opening.now.first + j < length opening.now.graph.now.ids → j < result }
 {
-    width.min((g.node_count() - first.get()) as usize)
+    width.min((opening.graph.node_count() - opening.first.get()) as usize)
 }
 
 /// Opens a fan, by all its parts.
 fn open_from(
-    g: &Graph,
-    d: &Directed,
-    dir: Dir,
-    turns: &[NodeNo],
-    first: NodeNo,
+    opening: &Opening,
     costs: &mut [u32],
     places: &mut [u16],
     from_costs: &mut [u32],
     from_places: &mut [u16],
     stops: &mut [bool],
 )
-    requires kept { IsTopology g.now }
-    requires directed { HasDirections g.now d.now }
-    requires turns { (root : ℕ) (w : Directions) → AreDirections g.now d.now root w
-        → AreTurns g.now w dir turns.now }
-    requires first { first ≤ length g.now.ids }
-    requires costs { length costs.old ≡ length g.now.ids * length from_costs.old }
-    requires places { length places.old ≡ length g.now.ids * length from_costs.old }
+    requires opening { IsOpening opening.now }
+    requires costs { length costs.old ≡ length opening.now.graph.now.ids * length from_costs.old }
+    requires places { length places.old ≡ length opening.now.graph.now.ids * length from_costs.old }
     requires from_places { length from_places.old ≡ length from_costs.old }
-    requires stops { length stops.old ≡ length g.now.ids }
+    requires stops { length stops.old ≡ length opening.now.graph.now.ids }
     ensures costs { length costs.new ≡ length costs.old }
     ensures places { length places.new ≡ length places.old }
     ensures from_costs { length from_costs.new ≡ length from_costs.old }
     ensures from_places { length from_places.new ≡ length from_places.old }
     ensures stops { length stops.new ≡ length stops.old }
-    ensures open { (root j t : ℕ) (w : Directions) (ends : List End) → AreDirections g.now d.now root w
-        → j < length from_costs.old → first + j < length g.now.ids → t < length g.now.ids
-        → slice_get g.now.ends (first + j) ≡ Some ends
-        → IsFirstPlace g.now w dir (first + j) t ends (slice_index costs.new (t * length from_costs.old + j))
-        (slice_index places.new (t * length from_costs.old + j)) }
+    ensures open { (root : ℕ) (w : Directions) → AreDirections opening.now.graph.now opening.now.directed.now root w
+        → IsOpen opening.now.graph.now w opening.now.dir opening.now.first
+        (fan_entries (length stops.old) (length from_costs.old) costs.new places.new) }
 {
-    begin(g, d, dir, first, from_costs.len(), costs, places);
-    mark_stops(g, d, first, from_costs.len(), stops);
-    sweep_beside(
-        g,
-        d,
-        dir,
-        turns,
-        first,
-        stops,
-        costs,
-        places,
-        from_costs,
-        from_places,
-    );
+    begin(opening, from_costs.len(), costs, places);
+    mark_stops(opening, from_costs.len(), stops);
+    sweep_beside(opening, stops, costs, places, from_costs, from_places);
 }
 
 /// Offers each node to which the ends of the sources lead on, where nothing was known.
-fn begin(
-    g: &Graph,
-    d: &Directed,
-    dir: Dir,
-    first: NodeNo,
-    width: usize,
-    costs: &mut [u32],
-    places: &mut [u16],
-)
-    requires kept { IsTopology g.now }
-    requires directed { HasDirections g.now d.now }
-    requires first { first ≤ length g.now.ids }
-    requires costs { length costs.old ≡ length g.now.ids * width }
-    requires places { length places.old ≡ length g.now.ids * width }
+fn begin(opening: &Opening, width: usize, costs: &mut [u32], places: &mut [u16])
+    requires opening { IsOpening opening.now }
+    requires costs { length costs.old ≡ length opening.now.graph.now.ids * width }
+    requires places { length places.old ≡ length opening.now.graph.now.ids * width }
     ensures room { length costs.new ≡ length costs.old }
     ensures costs { AreCosts costs.new places.new }
     ensures low { AreLow 65535 costs.new }
-    ensures begun { (root j : ℕ) (w : Directions) (ends : List End) → AreDirections g.now d.now root w
-        → j < width → first + j < length g.now.ids → slice_get g.now.ends (first + j) ≡ Some ends
-        → IsSwept g.now w dir (first + j) 0 (lane ends (length g.now.ids) width costs.new places.new j) }
+    ensures begun { AreSweptTo opening.now 0 width costs.new places.new }
 {
     forget(costs, places);
-    for j in 0..source_count(g, first, width) {
-        let source = NodeNo::new(first.get() + j as u16);
-        offer_begun(g, d, source, dir, j, width, costs, places);
+    for j in 0..source_count(opening, width) {
+        let source = NodeNo::new(opening.first.get() + j as u16);
+        offer_begun(opening, source, j, width, costs, places);
     }
 }
 
@@ -245,19 +237,18 @@ fn forget(costs: &mut [u32], places: &mut [u16])
 }
 
 /// Marks the sources and their heads, and no others.
-fn mark_stops(g: &Graph, d: &Directed, first: NodeNo, width: usize, stops: &mut [bool])
-    requires directed { HasDirections g.now d.now }
-    requires first { first ≤ length g.now.ids }
-    requires stops { length stops.old ≡ length g.now.ids }
+fn mark_stops(opening: &Opening, width: usize, stops: &mut [bool])
+    requires opening { IsOpening opening.now }
+    requires stops { length stops.old ≡ length opening.now.graph.now.ids }
     ensures stops { length stops.new ≡ length stops.old }
-    ensures marked { (root : ℕ) (w : Directions) → AreDirections g.now d.now root w
-        → AreStops g.now w first width stops.new }
+    ensures marked { (root : ℕ) (w : Directions) → AreDirections opening.now.graph.now opening.now.directed.now root w
+        → AreStops opening.now.graph.now w opening.now.first width stops.new }
 {
     stops.fill(false);
-    for j in 0..source_count(g, first, width) {
-        let source = NodeNo::new(first.get() + j as u16);
+    for j in 0..source_count(opening, width) {
+        let source = NodeNo::new(opening.first.get() + j as u16);
         mark(stops, source);
-        mark(stops, d.place(source).head);
+        mark(stops, opening.directed.place(source).head);
     }
 }
 
@@ -273,56 +264,33 @@ fn mark(marks: &mut [bool], v: NodeNo)
 
 /// Gives each node its turn, where a way to it is known.
 fn sweep_beside(
-    g: &Graph,
-    d: &Directed,
-    dir: Dir,
-    turns: &[NodeNo],
-    first: NodeNo,
+    opening: &Opening,
     stops: &[bool],
     costs: &mut [u32],
     places: &mut [u16],
     from_costs: &mut [u32],
     from_places: &mut [u16],
 )
-    requires kept { IsTopology g.now }
-    requires directed { HasDirections g.now d.now }
-    requires turns { (root : ℕ) (w : Directions) → AreDirections g.now d.now root w
-        → AreTurns g.now w dir turns.now }
-    requires first { first ≤ length g.now.ids }
-    requires one_stop_each { length stops.now ≡ length g.now.ids }
-    requires stops { (root : ℕ) (w : Directions) → AreDirections g.now d.now root w
-        → AreStops g.now w first (length from_costs.old) stops.now }
-    requires room { length costs.old ≡ length g.now.ids * length from_costs.old }
+    requires opening { IsOpening opening.now }
+    requires one_stop_each { length stops.now ≡ length opening.now.graph.now.ids }
+    requires stops { (root : ℕ) (w : Directions) → AreDirections opening.now.graph.now opening.now.directed.now root w
+        → AreStops opening.now.graph.now w opening.now.first (length from_costs.old) stops.now }
+    requires room { length costs.old ≡ length opening.now.graph.now.ids * length from_costs.old }
     requires from_places { length from_places.old ≡ length from_costs.old }
     requires costs { AreCosts costs.old places.old }
     requires low { AreLow 65535 costs.old }
-    requires begun { (root j : ℕ) (w : Directions) (ends : List End) → AreDirections g.now d.now root w
-        → j < length from_costs.old → first + j < length g.now.ids → slice_get g.now.ends (first + j) ≡ Some ends
-        → IsSwept g.now w dir (first + j) 0
-        (lane ends (length g.now.ids) (length from_costs.old) costs.old places.old j) }
+    requires begun { AreSweptTo opening.now 0 (length from_costs.old) costs.old places.old }
     ensures room { length costs.new ≡ length costs.old }
     ensures from_costs { length from_costs.new ≡ length from_costs.old }
     ensures from_places { length from_places.new ≡ length from_places.old }
     ensures costs { AreCosts costs.new places.new }
-    ensures swept { (root j : ℕ) (w : Directions) (ends : List End) → AreDirections g.now d.now root w
-        → j < length from_costs.old → first + j < length g.now.ids → slice_get g.now.ends (first + j) ≡ Some ends
-        → IsSwept g.now w dir (first + j) (length g.now.ids)
-        (lane ends (length g.now.ids) (length from_costs.old) costs.new places.new j) }
+    ensures swept { AreSweptTo opening.now (length opening.now.graph.now.ids) (length from_costs.old) costs.new places.new }
 {
-    for x in turns {
+    for x in opening.turns {
         if is_reached(*x, from_costs.len(), costs) {
-            take_from(
-                g,
-                d,
-                *x,
-                first,
-                stops,
-                costs,
-                places,
-                from_costs,
-                from_places,
-            );
-            offer_on(g, d, *x, dir, from_costs, from_places, costs, places);
+            take_from(*x, costs, places, from_costs, from_places);
+            keep_onward(opening, *x, stops, from_costs, from_places);
+            offer_on(opening, *x, from_costs, from_places, costs, places);
         }
     }
 }
@@ -340,72 +308,71 @@ fn is_reached(x: NodeNo, width: usize, costs: &[u32]) -> bool
     least < FAR
 }
 
-/// Takes what is known of x, for the sources whose paths that come to x go on.
+/// Takes what is known of x.
 fn take_from(
-    g: &Graph,
-    d: &Directed,
     x: NodeNo,
-    first: NodeNo,
-    stops: &[bool],
     costs: &[u32],
     places: &[u16],
     from_costs: &mut [u32],
     from_places: &mut [u16],
 )
-    requires directed { HasDirections g.now d.now }
-    requires node { x < length g.now.ids }
-    requires first { first ≤ length g.now.ids }
-    requires one_stop_each { length stops.now ≡ length g.now.ids }
-    requires stops { (root : ℕ) (w : Directions) → AreDirections g.now d.now root w
-        → AreStops g.now w first (length from_costs.old) stops.now }
-    requires room { length costs.now ≡ length g.now.ids * length from_costs.old }
+    requires room { x * length from_costs.old + length from_costs.old ≤ length costs.now }
     requires from_places { length from_places.old ≡ length from_costs.old }
     requires costs { AreCosts costs.now places.now }
     ensures from_costs { length from_costs.new ≡ length from_costs.old }
     ensures from_places { length from_places.new ≡ length from_places.old }
     ensures costs { AreCosts from_costs.new from_places.new }
     ensures low { (bound : ℕ) → AreLow bound costs.now → AreLow bound from_costs.new }
-    ensures from { (root j : ℕ) (w : Directions) → AreDirections g.now d.now root w
-        → j < length from_costs.old → first + j < length g.now.ids
-        → IsFromAt w (first + j) x (length from_costs.old) costs.now places.now from_costs.new from_places.new j }
+    ensures taken_costs { (j : ℕ) → j < length from_costs.old
+        → slice_index from_costs.new j ≡ slice_index costs.now (x * length from_costs.old + j) }
+    ensures taken_places { (j : ℕ) → j < length from_costs.old
+        → slice_index from_places.new j ≡ slice_index places.now (x * length from_costs.old + j) }
 {
     let width = from_costs.len();
     let at = x.get() as usize * width;
     from_costs.copy_from_slice(&costs[at..at + width]);
     from_places.copy_from_slice(&places[at..at + width]);
+}
+
+/// Keeps what is known of x for the sources whose paths that come to x go on.
+fn keep_onward(
+    opening: &Opening,
+    x: NodeNo,
+    stops: &[bool],
+    from_costs: &mut [u32],
+    from_places: &mut [u16],
+)
+    requires opening { IsOpening opening.now }
+    requires node { x < length stops.now }
+    requires stops { (root : ℕ) (w : Directions) → AreDirections opening.now.graph.now opening.now.directed.now root w
+        → AreStops opening.now.graph.now w opening.now.first (length from_costs.old) stops.now }
+    requires from_places { length from_places.old ≡ length from_costs.old }
+    requires costs { AreCosts from_costs.old from_places.old }
+    ensures from_costs { length from_costs.new ≡ length from_costs.old }
+    ensures from_places { length from_places.new ≡ length from_places.old }
+    ensures costs { AreCosts from_costs.new from_places.new }
+    ensures low { (bound : ℕ) → AreLow bound from_costs.old → AreLow bound from_costs.new }
+    ensures onward { AreKeptOnward opening.now x from_costs.old from_places.old from_costs.new from_places.new }
+{
     if stops[x.get() as usize] {
-        forget_stopped(g, d, x, first, from_costs, from_places);
+        forget_stopped(opening, x, from_costs, from_places);
     }
 }
 
 /// Forgets what is known for the sources whose paths that come to x do not go on: x is the source, or the head of its
 /// block.
-fn forget_stopped(
-    g: &Graph,
-    d: &Directed,
-    x: NodeNo,
-    first: NodeNo,
-    from_costs: &mut [u32],
-    from_places: &mut [u16],
-)
-    requires directed { HasDirections g.now d.now }
-    requires first { first ≤ length g.now.ids }
+fn forget_stopped(opening: &Opening, x: NodeNo, from_costs: &mut [u32], from_places: &mut [u16])
+    requires opening { IsOpening opening.now }
     requires from_places { length from_places.old ≡ length from_costs.old }
     requires costs { AreCosts from_costs.old from_places.old }
     ensures from_costs { length from_costs.new ≡ length from_costs.old }
     ensures costs { AreCosts from_costs.new from_places.new }
     ensures low { (bound : ℕ) → AreLow bound from_costs.old → AreLow bound from_costs.new }
-    ensures stays { (root j : ℕ) (w : Directions) → AreDirections g.now d.now root w
-        → j < length from_costs.old → first + j < length g.now.ids → ¬ GoesOn w (first + j) x
-        → slice_index from_costs.new j ≡ far }
-    ensures goes { (root j : ℕ) (w : Directions) → AreDirections g.now d.now root w
-        → j < length from_costs.old → first + j < length g.now.ids → GoesOn w (first + j) x
-        → (slice_index from_costs.new j ≡ slice_index from_costs.old j)
-        × (slice_index from_places.new j ≡ slice_index from_places.old j) }
+    ensures onward { AreKeptOnward opening.now x from_costs.old from_places.old from_costs.new from_places.new }
 {
-    for j in 0..source_count(g, first, from_costs.len()) {
-        let source = NodeNo::new(first.get() + j as u16);
-        if is_stop(g, d, source, x) {
+    for j in 0..source_count(opening, from_costs.len()) {
+        let source = NodeNo::new(opening.first.get() + j as u16);
+        if is_stop(opening, source, x) {
             from_costs[j] = FAR;
             from_places[j] = NO_PLACE;
         }
@@ -413,13 +380,13 @@ fn forget_stopped(
 }
 
 /// Whether a path from the source that comes to x does not go on: x is the source, or the head of its block.
-fn is_stop(g: &Graph, d: &Directed, source: NodeNo, x: NodeNo) -> bool
-    requires directed { HasDirections g.now d.now }
-    requires source { source < length g.now.ids }
-    ensures goes { result ≡ false → (root : ℕ) (w : Directions) → AreDirections g.now d.now root w
-        → GoesOn w source x }
-    ensures stops { result ≡ true → (root : ℕ) (w : Directions) → AreDirections g.now d.now root w
-        → ¬ GoesOn w source x }
+fn is_stop(opening: &Opening, source: NodeNo, x: NodeNo) -> bool
+    requires opening { IsOpening opening.now }
+    requires source { source < length opening.now.graph.now.ids }
+    ensures goes { result ≡ false → (root : ℕ) (w : Directions)
+        → AreDirections opening.now.graph.now opening.now.directed.now root w → GoesOn w source x }
+    ensures stops { result ≡ true → (root : ℕ) (w : Directions)
+        → AreDirections opening.now.graph.now opening.now.directed.now root w → ¬ GoesOn w source x }
 {
-    source == x || d.place(source).head == x
+    source == x || opening.directed.place(source).head == x
 }

@@ -13,8 +13,8 @@ use Rattle.inc_dec_spf.proofs.beside.offer_begun.Goals.{then-not-is_sole+then-le
 
 pub loop-place-preserved : goal.loop-place-preserved
 loop-place-preserved c =
-    let g = c.args.g.now in
-    let d = c.args.d.now in
+    let g = c.args.opening.now.graph.now in
+    let d = c.args.opening.now.directed.now in
     let n = length g.ids in
     let width = c.args.width in
     let j = c.args.j in
@@ -29,7 +29,7 @@ loop-place-preserved c =
     record { list = c.ends-end-items.ensures.value; there = there; marked = c.mark-mark.ensures } in
     let is_end : IsEnd n g.links c.args.source end = all_at (IsEnd n g.links c.args.source) ends place end c.ends-end-items.ensures.kept.kept there in
     let small : end.metric ≤ 65535 = omega (arith, is_end.metric) in
-    let few : place ≤ no_place = omega (arith, c.loop-place-test.true, c.ends-end-items.ensures.kept.few, c.requires.kept.few_links) in
+    let few : place ≤ no_place = omega (arith, c.loop-place-test.true, c.ends-end-items.ensures.kept.few, c.requires.opening.kept.few_links) in
     let long : length costs ≡ n * width = c.loop-place.invariant.room ∙ c.requires.room in
     elim c.if-not-is_sole.branch [
       | then-not-is_sole+then-leads_on t ↦
@@ -45,8 +45,8 @@ loop-place-preserved c =
             offered = λ root w own are list.
                 let same : ends ≡ own = same_Some ends own (sym c.ends-end-items.ensures.value ∙ list) in
                 let own_there = subst (λ (es : List End). slice_get es place ≡ Some end) same there in
-                first_taken g d w c.args.dir c.args.source place ends end mark (lane own n width c.args.costs.now c.args.places.now j)
-                (lane own n width costs places j) _ c.requires.kept are.says is
+                first_taken g d w c.args.opening.now.dir c.args.source place ends end mark (lane own n width c.args.costs.now c.args.places.now j)
+                (lane own n width costs places j) _ c.requires.opening.kept are.says is
                 (λ sole. let yes = c.is_sole.ensures.1 sole in let no = t.if-not-is_sole.true in (cc)) (sym t.leads_on.ensures ∙ t.if-leads_on.true)
                 (c.loop-place.invariant.offered root w own are list)
                 (begun_by n width end.to j end.metric place at costs places is_at is_end.to c.requires.place room c.loop-place.invariant.costs small few own end
@@ -61,8 +61,8 @@ loop-place-preserved c =
         costs = c.loop-place.invariant.costs;
         low = c.loop-place.invariant.low;
         offered = λ root w own are list.
-            first_left g d w c.args.dir c.args.source place ends end mark (lane own n width c.args.costs.now c.args.places.now j) (lane own n width costs places j)
-            c.requires.kept are.says is
+            first_left g d w c.args.opening.now.dir c.args.source place ends end mark (lane own n width c.args.costs.now c.args.places.now j) (lane own n width costs places j)
+            c.requires.opening.kept are.says is
             (elim t.else-not-is_sole.branch [
               | else-not-is_sole-via-then-not-is_sole+else-leads_on t' ↦ inr (sym t'.leads_on.ensures ∙ t'.if-leads_on.false)
               | else-not-is_sole-via-else-not-is_sole t' ↦ inl (c.is_sole.ensures.0 t'.if-not-is_sole.false)
@@ -75,7 +75,7 @@ loop-place-preserved c =
 pub returns-clause-offered : goal.returns-clause-offered
 returns-clause-offered c = λ root w own are list.
     let same : c.ends-end-items.result.now ≡ own = same_Some c.ends-end-items.result.now own (sym c.ends-end-items.ensures.value ∙ list) in
-    first_all c.args.g.now w c.args.dir c.args.source c.ends-end-items.result.now c.loop-place.place
-    (lane own (length c.args.g.now.ids) c.args.width c.args.costs.now c.args.places.now c.args.j)
-    (lane own (length c.args.g.now.ids) c.args.width c.loop-place.costs c.loop-place.places c.args.j)
+    first_all c.args.opening.now.graph.now w c.args.opening.now.dir c.args.source c.ends-end-items.result.now c.loop-place.place
+    (lane own (length c.args.opening.now.graph.now.ids) c.args.width c.args.costs.now c.args.places.now c.args.j)
+    (lane own (length c.args.opening.now.graph.now.ids) c.args.width c.loop-place.costs c.loop-place.places c.args.j)
     c.ends-end-items.ensures.value c.loop-place-test.false (c.loop-place.invariant.offered root w own are list)

@@ -13,9 +13,9 @@ invariant-loop-place l = record {
   room : length l.costs ≡ length l.initial.costs;
   costs : AreCosts l.costs l.places;
   low : AreLow 65535 l.initial.costs → AreLow 65535 l.costs;
-  offered : (root : ℕ) (w : Directions) (ends : List End) → AreDirections l.g l.d root w → slice_get l.g.ends l.source ≡ Some ends
-      → AreOffered (IsBelow (IsFirstAt l.g w l.dir l.source) l.place) (lane ends (length l.g.ids) l.width l.initial.costs l.initial.places l.j)
-      (lane ends (length l.g.ids) l.width l.costs l.places l.j);
+  offered : (root : ℕ) (w : Directions) (ends : List End) → AreDirections l.opening.graph.now l.opening.directed.now root w → slice_get l.opening.graph.now.ends l.source ≡ Some ends
+      → AreOffered (IsBelow (IsFirstAt l.opening.graph.now w l.opening.dir l.source) l.place) (lane ends (length l.opening.graph.now.ids) l.width l.initial.costs l.initial.places l.j)
+      (lane ends (length l.opening.graph.now.ids) l.width l.costs l.places l.j);
   others : (k : ℕ) (ends : List End) → k < l.width → k ≢ l.j
-      → lane ends (length l.g.ids) l.width l.costs l.places k ≡ lane ends (length l.g.ids) l.width l.initial.costs l.initial.places k;
+      → lane ends (length l.opening.graph.now.ids) l.width l.costs l.places k ≡ lane ends (length l.opening.graph.now.ids) l.width l.initial.costs l.initial.places k;
 }

@@ -13,8 +13,8 @@ use Rattle.inc_dec_spf.proofs.beside.offer_on.Goals.{then-eq+then-leads_on, else
 
 pub loop-end-preserved : goal.loop-end-preserved
 loop-end-preserved c =
-    let g = c.args.g.now in
-    let d = c.args.d.now in
+    let g = c.args.opening.now.graph.now in
+    let d = c.args.opening.now.directed.now in
     let n = length g.ids in
     let from_costs = c.args.from_costs.now in
     let from_places = c.args.from_places.now in
@@ -42,9 +42,9 @@ loop-end-preserved c =
                 (omega (arith, t.offer_over.ensures.small)) from_low (c.loop-end.invariant.low bound from_low low);
             offered = λ root j w own are below.
                 end_taken from_costs from_places end.metric end.to (t.get.result * length from_costs) n c.loop-end.costs c.loop-end.places
-                t.offer_over.new.costs t.offer_over.new.places at is_end.to over c.requires.from c.loop-end.invariant.costs g d w c.args.dir c.args.x place
+                t.offer_over.new.costs t.offer_over.new.places at is_end.to over c.requires.from c.loop-end.invariant.costs g d w c.args.opening.now.dir c.args.x place
                 c.place-block.result.block ends end mark own j (known_by own (get_or from_costs j 0) (get_or from_places j 0))
-                (lane own n (length from_costs) c.args.costs.now c.args.places.now j) c.requires.kept are.says is
+                (lane own n (length from_costs) c.args.costs.now c.args.places.now j) c.requires.opening.kept are.says is
                 (block_of_node g d w c.args.x c.place-block.result are.says c.requires.node c.place-block.ensures)
                 (eqb-true mark.block c.place-block.result.block (sym c.eq.ensures ∙ t.if-eq.true)) (sym t.leads_on.ensures ∙ t.if-leads_on.true) refl refl below
                 (on j) refl (c.loop-end.invariant.offered root j w own are below);
@@ -54,9 +54,9 @@ loop-end-preserved c =
         costs = c.loop-end.invariant.costs;
         low = c.loop-end.invariant.low;
         offered = λ root j w own are below.
-            end_left g d w c.args.dir c.args.x place c.place-block.result.block ends end mark (known_by own (get_or from_costs j 0) (get_or from_places j 0))
+            end_left g d w c.args.opening.now.dir c.args.x place c.place-block.result.block ends end mark (known_by own (get_or from_costs j 0) (get_or from_places j 0))
             (lane own n (length from_costs) c.args.costs.now c.args.places.now j) (lane own n (length from_costs) c.loop-end.costs c.loop-end.places j)
-            c.requires.kept are.says is (block_of_node g d w c.args.x c.place-block.result are.says c.requires.node c.place-block.ensures)
+            c.requires.opening.kept are.says is (block_of_node g d w c.args.x c.place-block.result are.says c.requires.node c.place-block.ensures)
             (elim t.else-eq.branch [
               | else-eq-via-then-eq+else-leads_on t' ↦ inr (sym t'.leads_on.ensures ∙ t'.if-leads_on.false)
               | else-eq-via-else-eq t' ↦ inl (eqb-false mark.block c.place-block.result.block (sym c.eq.ensures ∙ t'.if-eq.false))
@@ -67,7 +67,7 @@ loop-end-preserved c =
 
 pub returns-clause-offered : goal.returns-clause-offered
 returns-clause-offered c = λ root j w own are below.
-    all_ends c.args.g.now w c.args.dir c.args.x (known_by own (get_or c.args.from_costs.now j 0) (get_or c.args.from_places.now j 0)) c.ends-end-items.result.now
-    c.loop-end.end-index (lane own (length c.args.g.now.ids) (length c.args.from_costs.now) c.args.costs.now c.args.places.now j)
-    (lane own (length c.args.g.now.ids) (length c.args.from_costs.now) c.loop-end.costs c.loop-end.places j) c.ends-end-items.ensures.value c.loop-end-test.false
+    all_ends c.args.opening.now.graph.now w c.args.opening.now.dir c.args.x (known_by own (get_or c.args.from_costs.now j 0) (get_or c.args.from_places.now j 0)) c.ends-end-items.result.now
+    c.loop-end.end-index (lane own (length c.args.opening.now.graph.now.ids) (length c.args.from_costs.now) c.args.costs.now c.args.places.now j)
+    (lane own (length c.args.opening.now.graph.now.ids) (length c.args.from_costs.now) c.loop-end.costs c.loop-end.places j) c.ends-end-items.ensures.value c.loop-end-test.false
     (c.loop-end.invariant.offered root j w own are below)

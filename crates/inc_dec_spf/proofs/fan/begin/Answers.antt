@@ -41,7 +41,7 @@ pub loop-j-init : goal.loop-j-init
 loop-j-init c =
     let costs = c.forget.new.costs in
     let places = c.forget.new.places in
-    let n = length c.args.g.now.ids in
+    let n = length c.args.opening.now.graph.now.ids in
     let room : length costs ≡ n * c.args.width = c.forget.ensures.one_cost_each ∙ c.requires.costs in
     let far_off : (i : ℕ) → i < length costs → get_or costs i 0 ≡ far =
     λ i inside. c.forget.ensures.none i (omega (arith, inside, c.forget.ensures.one_cost_each)) in
@@ -60,11 +60,11 @@ loop-j-init c =
 
 pub loop-j-preserved : goal.loop-j-preserved
 loop-j-preserved c =
-    let g = c.args.g.now in
+    let g = c.args.opening.now.graph.now in
     let n = length g.ids in
     let width = c.args.width in
     let j = c.loop-j.j in
-    let first = c.args.first in
+    let first = c.args.opening.now.first in
     let source : c.new-source.result ≡ first + j = omega (arith, c.new-source.ensures, c.get.ensures.value) in
     let j_below : j < width = omega (arith, c.loop-j-test.true, c.source_count-j-end.ensures.most) in
     record {
@@ -80,14 +80,14 @@ loop-j-preserved c =
             let is : c.new-source.result ≡ first + k = omega (arith, source, same) in
             let own_list : slice_get g.ends c.new-source.result ≡ Some ends = subst (λ (v : ℕ). slice_get g.ends v ≡ Some ends) (sym is) list in
             let blank = c.loop-j.invariant.blank j ends (omega arith) j_below in
-            subst (λ (v : ℕ). IsSwept g w c.args.dir v 0 (lane ends n width c.offer_begun.new.costs c.offer_begun.new.places k)) is
-            (subst (λ (i : ℕ). IsSwept g w c.args.dir c.new-source.result 0 (lane ends n width c.offer_begun.new.costs c.offer_begun.new.places i)) (sym same)
-            (sweep_begun g root w c.args.dir c.new-source.result (lane ends n width c.loop-j.costs c.loop-j.places j)
-            (lane ends n width c.offer_begun.new.costs c.offer_begun.new.places j) c.requires.kept
+            subst (λ (v : ℕ). IsSwept g w c.args.opening.now.dir v 0 (lane ends n width c.offer_begun.new.costs c.offer_begun.new.places k)) is
+            (subst (λ (i : ℕ). IsSwept g w c.args.opening.now.dir c.new-source.result 0 (lane ends n width c.offer_begun.new.costs c.offer_begun.new.places i)) (sym same)
+            (sweep_begun g root w c.args.opening.now.dir c.new-source.result (lane ends n width c.loop-j.costs c.loop-j.places j)
+            (lane ends n width c.offer_begun.new.costs c.offer_begun.new.places j) c.requires.opening.kept
             (lane_length ends n width c.loop-j.costs c.loop-j.places j) blank.none
             (c.offer_begun.ensures.offered root w ends are own_list)))
         | inr other ↦
-            subst (λ (known : List (Option Known)). IsSwept g w c.args.dir (first + k) 0 known)
+            subst (λ (known : List (Option Known)). IsSwept g w c.args.opening.now.dir (first + k) 0 known)
             (sym (c.offer_begun.ensures.others k ends (omega (arith, below, other, j_below)) other))
             (c.loop-j.invariant.begun root k w ends are (omega (arith, below, other)) list)
       ];

@@ -9,10 +9,10 @@ use Rattle.inc_dec_spf.proofs.fan.begin.Given as goal
 
 abbrev pub invariant-loop-j : goal.invariant-loop-j
 invariant-loop-j l = record {
-  room : length l.costs ≡ length l.g.ids * l.width;
+  room : length l.costs ≡ length l.opening.graph.now.ids * l.width;
   costs : AreCosts l.costs l.places;
   low : AreLow 65535 l.costs;
-  blank : (k : ℕ) (ends : List End) → l.j ≤ k → k < l.width → IsBlank (lane ends (length l.g.ids) l.width l.costs l.places k);
-  begun : (root k : ℕ) (w : Directions) (ends : List End) → AreDirections l.g l.d root w → k < l.j → slice_get l.g.ends (l.first + k) ≡ Some ends
-      → IsSwept l.g w l.dir (l.first + k) 0 (lane ends (length l.g.ids) l.width l.costs l.places k);
+  blank : (k : ℕ) (ends : List End) → l.j ≤ k → k < l.width → IsBlank (lane ends (length l.opening.graph.now.ids) l.width l.costs l.places k);
+  begun : (root k : ℕ) (w : Directions) (ends : List End) → AreDirections l.opening.graph.now l.opening.directed.now root w → k < l.j → slice_get l.opening.graph.now.ends (l.opening.first + k) ≡ Some ends
+      → IsSwept l.opening.graph.now w l.opening.dir (l.opening.first + k) 0 (lane ends (length l.opening.graph.now.ids) l.width l.costs l.places k);
 }

@@ -42,7 +42,7 @@ forgotten_low costs j bound within low = record {
 
 pub loop-j-preserved : goal.loop-j-preserved
 loop-j-preserved c =
-    let first = c.args.first in
+    let first = c.args.opening.now.first in
     let j = c.loop-j.j in
     let x = c.args.x in
     let source : c.new-source.result ≡ first + j = omega (arith, c.new-source.ensures, c.get.ensures.value) in
@@ -78,10 +78,10 @@ loop-j-preserved c =
       })
     ]
 
-pub returns-clause-stays : goal.returns-clause-stays
-returns-clause-stays c = λ root j w are below inside not_on.
-    let early = c.source_count-j-end.ensures.all j below inside in
-    c.loop-j.invariant.stays root j w are (omega (arith, early, c.loop-j-test.false)) not_on
-
-pub returns-clause-goes : goal.returns-clause-goes
-returns-clause-goes c = λ root j w are below inside on. c.loop-j.invariant.goes root j w are on
+pub returns-clause-onward : goal.returns-clause-onward
+returns-clause-onward c = record {
+  stays = λ root j w are below inside not_on.
+      let early = c.source_count-j-end.ensures.all j below inside in
+      c.loop-j.invariant.stays root j w are (omega (arith, early, c.loop-j-test.false)) not_on;
+  goes = λ root j w are below inside on. c.loop-j.invariant.goes root j w are on;
+}

@@ -7,16 +7,16 @@ use Rattle.inc_dec_spf.proofs.fan.mark_stops.Goals as goal
 
 pub loop-j-preserved : goal.loop-j-preserved
 loop-j-preserved c =
-    let first = c.args.first in
+    let first = c.args.opening.now.first in
     let j = c.loop-j.j in
     let source : c.new-source.result ≡ first + j = omega (arith, c.new-source.ensures, c.get.ensures.value) in
-    let within : c.new-source.result < length c.args.g.now.ids = omega (arith, source, c.loop-j-test.true, c.source_count-j-end.ensures.within) in
+    let within : c.new-source.result < length c.args.opening.now.graph.now.ids = omega (arith, source, c.loop-j-test.true, c.source_count-j-end.ensures.within) in
     record {
       stops = c.mark-in-loop-j.ensures.one_each ∙ c.mark.ensures.one_each ∙ c.loop-j.invariant.stops;
       marked = λ root w are.
           let so_far = c.loop-j.invariant.marked root w are in
           let head =
-          head_of_node c.args.g.now c.args.d.now w c.new-source.result c.place.result.head are.says within
+          head_of_node c.args.opening.now.graph.now c.args.opening.now.directed.now w c.new-source.result c.place.result.head are.says within
           (ap (λ (o : Option Place). option_map (λ p. p.head) o) c.place.ensures) in
           record {
             sources = λ k below inside. c.mark-in-loop-j.ensures.stay (first + k) (elim (cases_eq k j) [
@@ -44,5 +44,5 @@ returns-clause-marked c = λ root w are.
       heads = λ k below inside. so_far.heads k (reached k below inside) inside;
     }
   where
-    reached : (k : ℕ) → k < c.args.width → c.args.first + k < length c.args.g.now.ids → k < c.loop-j.j
+    reached : (k : ℕ) → k < c.args.width → c.args.opening.now.first + k < length c.args.opening.now.graph.now.ids → k < c.loop-j.j
     reached k below inside = let early = c.source_count-j-end.ensures.all k below inside in omega (arith, early, c.loop-j-test.false)

@@ -7,5 +7,5 @@ use Rattle.inc_dec_spf.proofs.fan.mark_stops.Given as goal
 abbrev pub invariant-loop-j : goal.invariant-loop-j
 invariant-loop-j l = record {
   stops : length l.stops ≡ length l.initial.stops;
-  marked : (root : ℕ) (w : Directions) → AreDirections l.g l.d root w → AreStops l.g w l.first l.j l.stops;
+  marked : (root : ℕ) (w : Directions) → AreDirections l.opening.graph.now l.opening.directed.now root w → AreStops l.opening.graph.now w l.opening.first l.j l.stops;
 }

@@ -50,65 +50,22 @@ read_at : (xs own : List ℕ) (y x n j : ℕ) → y ≡ x → y * n + n ≤ leng
 read_at xs own y x n j same room made below =
     ap (λ (ys : List ℕ). get_or ys j 0) made ∙ range_index xs (y * n) n j room below ∙ ap (λ (v : ℕ). get_or xs (v * n + j) 0) same
 
--- a path goes on from a node that is not marked
-not_stopped : (g : Topology) (w : Directions) (first width x j : ℕ) (stops : List Bool) → AreStops g w first width stops → slice_get stops x ≡ Some false
-    → j < width → first + j < length g.ids → GoesOn w (first + j) x
-not_stopped g w first width x j stops are clear below inside = record {
-  not_source = λ same.
-      let marked = are.sources j below inside in
-      let yes = sym clear ∙ subst (λ (v : ℕ). slice_get stops v ≡ Some true) (sym same) marked in
-      let no = same_Some false true yes in (cc);
-  not_head = λ same.
-      let marked = are.heads j below inside in
-      let yes = sym clear ∙ subst (λ (v : ℕ). slice_get stops v ≡ Some true) (sym same) marked in
-      let no = same_Some false true yes in (cc);
-}
-
-pub returns-then-stops-get-clause-from : goal.returns-then-stops-get-clause-from
-returns-then-stops-get-clause-from c = λ root j w are below inside.
-    let costs = c.args.costs.now in
-    let places = c.args.places.now in
+pub returns-clause-costs : goal.returns-clause-costs
+returns-clause-costs c =
     let width = length c.args.from_costs.now in
-    let room : c.get.result * width + width ≤ length costs =
-    row_within c.get.result (length c.args.g.now.ids) width (length costs) c.requires.room (omega (arith, c.requires.node, c.get.ensures.value)) in
-    let room_places : c.get.result * width + width ≤ length places = omega (arith, room, c.requires.costs.one_each) in
-    let long : j < length c.copy_from_slice.new.self = omega (arith, below, c.copy_from_slice.ensures.len) in
-    record {
-      cost = λ on.
-          (c.forget_stopped.ensures.goes root j w are long inside on).0
-          ∙ read_at costs c.copy_from_slice.new.self c.get.result c.args.x width j c.get.ensures.value room c.copy_from_slice.ensures.after below;
-      place = λ on.
-          (c.forget_stopped.ensures.goes root j w are long inside on).1
-          ∙ read_at places c.copy_from_slice-2.new.self c.get.result c.args.x width j c.get.ensures.value room_places c.copy_from_slice-2.ensures.after below;
-      stays = λ not_on. c.forget_stopped.ensures.stays root j w are long inside not_on;
-    }
+    let room : c.get.result * width + width ≤ length c.args.costs.now = omega (arith, c.requires.room, ap (λ (v : ℕ). v * width) c.get.ensures.value) in
+    copied c.args.costs.now c.args.places.now c.copy_from_slice.new.self c.copy_from_slice-2.new.self (c.get.result * width) width room
+    c.copy_from_slice.ensures.after c.copy_from_slice-2.ensures.after c.requires.costs
 
-pub returns-else-stops-get-clause-costs : goal.returns-else-stops-get-clause-costs
-returns-else-stops-get-clause-costs c =
-    let costs = c.args.costs.now in
+pub returns-clause-taken_costs : goal.returns-clause-taken_costs
+returns-clause-taken_costs c = λ j below.
     let width = length c.args.from_costs.now in
-    let room : c.get.result * width + width ≤ length costs =
-    row_within c.get.result (length c.args.g.now.ids) width (length costs) c.requires.room (omega (arith, c.requires.node, c.get.ensures.value)) in
-    copied costs c.args.places.now c.copy_from_slice.new.self c.copy_from_slice-2.new.self (c.get.result * width) width room c.copy_from_slice.ensures.after
-    c.copy_from_slice-2.ensures.after c.requires.costs
+    let room : c.get.result * width + width ≤ length c.args.costs.now = omega (arith, c.requires.room, ap (λ (v : ℕ). v * width) c.get.ensures.value) in
+    read_at c.args.costs.now c.copy_from_slice.new.self c.get.result c.args.x width j c.get.ensures.value room c.copy_from_slice.ensures.after below
 
-pub returns-else-stops-get-clause-from : goal.returns-else-stops-get-clause-from
-returns-else-stops-get-clause-from c = λ root j w are below inside.
-    let costs = c.args.costs.now in
-    let places = c.args.places.now in
+pub returns-clause-taken_places : goal.returns-clause-taken_places
+returns-clause-taken_places c = λ j below.
     let width = length c.args.from_costs.now in
-    let room : c.get.result * width + width ≤ length costs =
-    row_within c.get.result (length c.args.g.now.ids) width (length costs) c.requires.room (omega (arith, c.requires.node, c.get.ensures.value)) in
-    let room_places : c.get.result * width + width ≤ length places = omega (arith, room, c.requires.costs.one_each) in
-    let stops = c.args.stops.now in
-    let clear : slice_get stops c.args.x ≡ Some false =
-    slice_get-get_or stops c.args.x false (omega (arith, c.requires.node, c.requires.one_stop_each))
-    ∙ ap (λ (b : Bool). Some b) (ap (λ (v : ℕ). get_or stops v false) (sym c.get-2.ensures.value) ∙ c.if-stops-get.false) in
-    record {
-      cost = λ on.
-          read_at costs c.copy_from_slice.new.self c.get.result c.args.x width j c.get.ensures.value room c.copy_from_slice.ensures.after below;
-      place = λ on.
-          read_at places c.copy_from_slice-2.new.self c.get.result c.args.x width j c.get.ensures.value room_places c.copy_from_slice-2.ensures.after below;
-      stays = λ not_on.
-          absurd (not_on (not_stopped c.args.g.now w c.args.first width c.args.x j c.args.stops.now (c.requires.stops root w are) clear below inside));
-    }
+    let room : c.get.result * width + width ≤ length c.args.places.now =
+    omega (arith, c.requires.room, c.requires.costs.one_each, ap (λ (v : ℕ). v * width) c.get.ensures.value) in
+    read_at c.args.places.now c.copy_from_slice-2.new.self c.get.result c.args.x width j c.get.ensures.value room c.copy_from_slice-2.ensures.after below

@@ -7,12 +7,6 @@ use Rattle.inc_dec_spf.specs.Known.{hop_of}
 use Rattle.inc_dec_spf.specs.LeastPath.{IsHop}
 use Rattle.inc_dec_spf.proofs.least_paths.spf.Given as goal
 
-abbrev pub ghost-open : goal.ghost-open
-ghost-open a = 1
-
-abbrev pub ghost-way : goal.ghost-way
-ghost-way a = 1
-
 abbrev pub invariant-loop-n : goal.invariant-loop-n
 invariant-loop-n l = record {
   one_each : length l.known.items ≡ length l.g.ids;

@@ -2,45 +2,50 @@ use Rattle.std.proofs.Common.{◌≡◌, ◌≢◌, ◌<◌, ◌+◌, ◌-◌, �
 use Rattle.std.specs.Option.{option_map}
 use Rattle.std.proofs.lemmas.Bool.{eqb-false, eqb-true}
 use Rattle.inc_dec_spf.specs.declared.reach.Known.{Known}
-use Rattle.inc_dec_spf.specs.Fan.{known_by}
+use Rattle.inc_dec_spf.specs.Fan.{IsOpen, known_by}
+use Rattle.inc_dec_spf.specs.FanEntries.{FanEntries, fan_entries}
 use Rattle.inc_dec_spf.specs.Known.{hop_of}
 use Rattle.inc_dec_spf.specs.LeastPath.{IsHop, NotReached}
 use Rattle.inc_dec_spf.proofs.EntryRead.{entry_read}
 use Rattle.inc_dec_spf.proofs.fan.Fan.way.Goals as goal
 
 pub returns-then-eq : goal.returns-then-eq
-returns-then-eq g c = λ w dir opened.
+returns-then-eq c = λ w dir opened.
     let same = eqb-true c.args.t c.args.s (sym c.eq.ensures ∙ c.if-eq.true) in
     NotReached (λ k h path share. absurd (share.two (sym same)))
 
 pub returns : goal.returns
-returns g c = λ w dir opened.
-    let req = c.requires in
-    let fan = req.1.1.1.1.1 in
+returns c = λ w dir opened.
+    let fan = c.self.inside in
     let graph = c.args.g.now in
-    let costs = c.args.self.now.costs.items in
-    let places = c.args.self.now.places.items in
+    let count = length graph.ids in
+    let width = length fan.from_costs.items in
+    let costs = fan.costs.items in
+    let places = fan.places.items in
     let ends = c.ends.result.now in
     let j = c.get-2.result - c.get-3.result in
     let t = c.args.t in
-    let t_within : t < length graph.ids = req.1.1.0 in
-    let width_is : c.len.result ≡ g.width = omega (arith, c.len.ensures, fan.from_costs, c.args.self.now.from_costs.ok.0) in
-    let is_s : c.args.first + j ≡ c.args.s = omega (arith, c.get-2.ensures.value, c.get-3.ensures.value, req.1.1.1.0) in
-    let below : j < g.width = omega (arith, is_s, req.1.1.1.1.0) in
+    let now : IsOpen graph w dir c.args.first (fan_entries (length fan.stops.items) width costs places) =
+    subst (λ (e : FanEntries). IsOpen graph w dir c.args.first e) (sym c.self.view_is) opened in
+    let wide = ap (λ (e : FanEntries). e.width) c.self.view_is in
+    let nodes : length fan.stops.items ≡ count = ap (λ (e : FanEntries). e.nodes) c.self.view_is ∙ c.requires.nodes in
+    let width_is : c.len.result ≡ width = omega (arith, c.len.ensures, fan.from_costs.ok.0) in
+    let is_s : c.args.first + j ≡ c.args.s = omega (arith, c.get-2.ensures.value, c.get-3.ensures.value, c.requires.from) in
+    let below : j < width = omega (arith, is_s, wide, c.requires.among) in
     let two : c.args.t ≢ c.args.s = eqb-false c.args.t c.args.s (sym c.eq.ensures ∙ c.if-eq.false) in
-    let at : c.get.result * c.len.result + j ≡ t * g.width + j =
+    let at : c.get.result * c.len.result + j ≡ t * width + j =
     ap (λ (v : ℕ). v * c.len.result + j) c.get.ensures.value ∙ ap (λ (m : ℕ). t * m + j) width_is in
-    let cost : c.index.result.now ≡ get_or costs (t * g.width + j) 0 =
-    entry_read costs (length graph.ids) g.width j t c.index.result.now fan.costs t_within below
+    let cost : c.index.result.now ≡ get_or costs (t * width + j) 0 =
+    entry_read costs count width j t c.index.result.now (c.self.invariant.one_cost_each ∙ ap (λ (k : ℕ). k * width) nodes) c.requires.target below
     (c.index.ensures ∙ ap (λ (i : ℕ). get_or costs i c.index.result.now) at) in
-    let place : c.index-2.result.now ≡ get_or places (t * g.width + j) 0 =
-    entry_read places (length graph.ids) g.width j t c.index-2.result.now fan.places t_within below
+    let place : c.index-2.result.now ≡ get_or places (t * width + j) 0 =
+    entry_read places count width j t c.index-2.result.now (c.self.invariant.one_place_each ∙ ap (λ (k : ℕ). k * width) nodes) c.requires.target below
     (c.index-2.ensures ∙ ap (λ (i : ℕ). get_or places i c.index-2.result.now) at) in
-    let it = opened.each j t ends below (omega (arith, is_s, req.1.0)) t_within
+    let it = now.each j t ends below (omega (arith, is_s, c.requires.source)) c.requires.target
     (subst (λ (v : ℕ). slice_get graph.ends v ≡ Some ends) (sym is_s) c.ends.ensures.value) in
-    let known : c.known_by.result ≡ known_by ends (get_or costs (t * g.width + j) 0) (get_or places (t * g.width + j) 0) =
+    let known : c.known_by.result ≡ known_by ends (get_or costs (t * width + j) 0) (get_or places (t * width + j) 0) =
     c.known_by.ensures ∙ ap (λ (x : ℕ). known_by ends x c.index-2.result.now) cost
-    ∙ ap (λ (p : ℕ). known_by ends (get_or costs (t * g.width + j) 0) p) place in
+    ∙ ap (λ (p : ℕ). known_by ends (get_or costs (t * width + j) 0) p) place in
     subst (λ (o : Option Known). IsHop graph w dir c.args.s t (option_map hop_of o)) (sym known)
-    (subst (λ (v : ℕ). IsHop graph w dir v t (option_map hop_of (known_by ends (get_or costs (t * g.width + j) 0) (get_or places (t * g.width + j) 0)))) is_s
+    (subst (λ (v : ℕ). IsHop graph w dir v t (option_map hop_of (known_by ends (get_or costs (t * width + j) 0) (get_or places (t * width + j) 0)))) is_s
     (it.hop (λ same. two (sym (sym is_s ∙ same)))))
