@@ -6,9 +6,8 @@ use Rattle.inc_dec_spf.specs.declared.reach.Dir.{Dir}
 use Rattle.inc_dec_spf.specs.declared.reach.Dir.TheVariants.{Down, Up}
 use Rattle.inc_dec_spf.specs.FirstLink.{Begins, BeginsNone, IsFirstLink, no_link}
 use Rattle.mrt_rows.specs.declared.members.Home.{Home}
-use Rattle.mrt_rows.specs.Put.{IsHome, IsMemberRow, IsOwnRow}
+use Rattle.mrt_rows.specs.Put.{IsHome, IsMemberRow, IsOwnRow, NoneOfOneLink}
 use Rattle.mrt_rows.specs.RowLines.{BeginsOver, NoWay}
-use Rattle.mrt_rows.specs.Source.{NoneOfOneLink}
 use Rattle.mrt_rows.proofs.HeadWays.{way_from_head, way_home}
 use Rattle.mrt_rows.proofs.LinesHold.{has_head, with_head}
 use Rattle.mrt_rows.proofs.NearRows.{are_members, member_ring, ring_by}

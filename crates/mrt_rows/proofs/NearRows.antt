@@ -8,7 +8,7 @@ use Rattle.mrt_graph.specs.Topology.{Topology}
 use Rattle.link_direction.specs.BlockOfTwo.{FromHead, HaveInCommon, Peers, ToHead}
 use Rattle.link_direction.specs.Directions.{Directions, Says}
 use Rattle.mrt_rows.specs.RowLines.{AreMembers, HasOneLink}
-use Rattle.mrt_rows.specs.Source.{NoneOfOneLink}
+use Rattle.mrt_rows.specs.Put.{NoneOfOneLink}
 use Rattle.mrt_rows.proofs.OrderedGraphs.{OrderedGraph, not_root_of_peers}
 use Rattle.mrt_rows.proofs.Ways.{Inside, Ring, inside_itself}
 use Rattle.mrt_rows.proofs.WaysBegun.{peers, share}

@@ -8,9 +8,8 @@ use Rattle.inc_dec_spf.specs.declared.reach.Dir.TheVariants.{Down, Up}
 use Rattle.inc_dec_spf.specs.FirstLink.{IsFirstLink, no_link}
 use Rattle.mrt_rows.specs.declared.members.Home.{Home}
 use Rattle.mrt_rows.specs.NearOf.{Apart, InCommon, IsNearRow, IsSoleOf}
-use Rattle.mrt_rows.specs.Put.{IsHome, IsMemberRow, IsOwnRow, ShareMoreLinks}
+use Rattle.mrt_rows.specs.Put.{IsHome, IsMemberRow, IsOwnRow, NoneOfOneLink, ShareMoreLinks}
 use Rattle.mrt_rows.specs.RowLines.{HasOneLink}
-use Rattle.mrt_rows.specs.Source.{NoneOfOneLink}
 use Rattle.mrt_rows.proofs.LinesHold.{has_head}
 use Rattle.mrt_rows.proofs.MemberRows.{head_row, top_row}
 use Rattle.mrt_rows.proofs.NearRows.{are_members, none_common, ring_by}

@@ -4,8 +4,7 @@ use Rattle.std.proofs.lemmas.Option.{same_Some}
 use Rattle.link_direction.specs.BlockOfTwo.{FromHead, HaveInCommon, Peers, ToHead}
 use Rattle.inc_dec_spf.specs.FirstLink.{AreOthersInOneBlock}
 use Rattle.inc_dec_spf.specs.LeastPath.{HasMoreLinks, ShareBlock}
-use Rattle.mrt_rows.specs.Put.{AreHeadsMarked}
-use Rattle.mrt_rows.specs.Source.{NoneOfOneLink}
+use Rattle.mrt_rows.specs.Put.{AreHeadsMarked, NoneOfOneLink}
 use Rattle.mrt_rows.proofs.OrderedGraphs.{OrderedGraph, not_root_of_peers, one_common, within}
 
 module _ (og : OrderedGraph) (s t : ℕ) (s_within : s < length og.g.ids) (t_within : t < length og.g.ids) (two : s ≢ t) where

@@ -10,7 +10,8 @@ use Rattle.link_direction.specs.BlockOfTwo.{HaveInCommon}
 use Rattle.link_direction.specs.Directions.{Directions, Says}
 use Rattle.inc_dec_spf.specs.declared.reach.Dir.{Dir}
 use Rattle.inc_dec_spf.specs.declared.reach.Dir.TheVariants.{Down, Up}
-use Rattle.inc_dec_spf.specs.Fan.{IsFan, IsOpen}
+use Rattle.inc_dec_spf.specs.Fan.{IsOpen}
+use Rattle.inc_dec_spf.specs.FanEntries.{FanEntries}
 use Rattle.inc_dec_spf.specs.FirstLink.{IsFirstLink, no_link}
 use Rattle.inc_dec_spf.specs.Turns.{AreTurns}
 use Rattle.mrt_rows.specs.declared.source_rows.SourceRows.{SourceRows}
@@ -68,16 +69,20 @@ pub record AreLinked (g : Topology) (w : Directions) (dir : Dir) (s : ℕ) (link
 abbrev pub fan_width : ℕ
 fan_width = 64
 
+-- a fan of the graph has so many sources, and is open from the nodes from one number on
+pub record IsFanFrom (g : Topology) (w : Directions) (dir : Dir) (first : ℕ) (fan : FanEntries) : Type 0 where
+  pub nodes : fan.nodes ≡ length g.ids
+  pub width : fan.width ≡ fan_width
+  pub is_open : IsOpen g w dir first fan
+
 -- what is held between two sources: the nodes by their turns, the sole links, room for each node, and two fans, which are
 -- open from the nodes from one number on
 pub record AreFans (g : Topology) (w : Directions) (held : SourceRows) : Type 0 where
   pub by_order : AreTurns g w Up held.by_order.items
   pub against_order : AreTurns g w Down held.against_order.items
   pub soles : AreSoles g w held.links.soles.items
-  pub up : IsFan g fan_width held.up
-  pub down : IsFan g fan_width held.down
-  pub open_up : IsOpen g w Up held.first fan_width held.up
-  pub open_down : IsOpen g w Down held.first fan_width held.down
+  pub up : IsFanFrom g w Up held.first held.up
+  pub down : IsFanFrom g w Down held.first held.down
   pub one_up_each : length held.links.up.items ≡ length g.ids
   pub one_down_each : length held.links.down.items ≡ length g.ids
   pub room : length held.room.items ≡ length g.ids

@@ -1,31 +1,14 @@
--- A source and its hops.
-use Rattle.std.specs.Prelude.{◌≡◌, ◌<◌, ℕ, List, Option, length}
-use Rattle.mrt_graph.specs.DirectedLists.{DirectedLists}
-use Rattle.mrt_graph.specs.GraphInvariant.{IsTopology}
+-- A source: a node, with what its rows for all others are made from.
+use Rattle.std.specs.Prelude.{◌<◌, ℕ, length}
 use Rattle.mrt_graph.specs.Topology.{Topology}
-use Rattle.link_direction.specs.BlockOfTwo.{HaveInCommon}
 use Rattle.link_direction.specs.Directions.{Directions}
-use Rattle.inc_dec_spf.specs.declared.reach.Dir.TheVariants.{Down, Up}
-use Rattle.inc_dec_spf.specs.declared.reach.Hop.{Hop}
-use Rattle.inc_dec_spf.specs.HasDirections.{AreDirections, HasDirections}
-use Rattle.inc_dec_spf.specs.LeastPath.{IsReach}
-use Rattle.mrt_rows.specs.RowLines.{HasOneLink}
+use Rattle.mrt_rows.specs.declared.row_over.Source.{Source}
+use Rattle.mrt_rows.specs.NearOf.{IsPlaceOf, IsSoleOf}
+use Rattle.mrt_rows.specs.Put.{IsHome}
 
--- s is a node of a graph with its directions, and there are hops up and down for each node
-pub record IsSource (g : Topology) (d : DirectedLists) (s : ℕ) (up down : List (Option Hop)) : Type 0 where
-  pub kept : IsTopology g
-  pub directed : HasDirections g d
-  pub within : s < length g.ids
-  pub one_up_each : length up ≡ length g.ids
-  pub one_down_each : length down ≡ length g.ids
-
--- these are the directions from this root, and the hops of s by them
-pub record AreHops (g : Topology) (d : DirectedLists) (root : ℕ) (w : Directions) (s : ℕ)
-    (up down : List (Option Hop)) : Type 0 where
-  pub are : AreDirections g d root w
-  pub goes_up : IsReach g w Up s up
-  pub goes_down : IsReach g w Down s down
-
--- the common block of s and t, if they have one, has more than one link
-abbrev pub NoneOfOneLink : Topology → Directions → ℕ → ℕ → Type 0
-NoneOfOneLink g w s t = (k h link : ℕ) → HaveInCommon w s t k h → ¬ HasOneLink g w k link
+-- its place, the sole link of its block and its links home are as the directions say
+pub record IsSourceBy (g : Topology) (w : Directions) (source : Source) : Type 0 where
+  pub within : source.node < length g.ids
+  pub place : IsPlaceOf w source.node source.place
+  pub sole : IsSoleOf g w source.node source.sole
+  pub home : IsHome g w source.node source.home

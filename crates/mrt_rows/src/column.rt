@@ -18,7 +18,7 @@ use crate::chain::put_below;
 use crate::heads::mark_heads;
 use crate::homes::homes_of;
 use crate::members::Home;
-use crate::row_over::row_over;
+use crate::row_over::{Source, row_over};
 use crate::soles::take_soles;
 use inc_dec_spf::{Dir, NO_LINK, Tile, nodes_by_turn};
 use mrt_graph::{Column, Directed, Graph, LinkNo, NoMemory, NodeNo, Row, Tag};
@@ -228,16 +228,19 @@ impl Columns {
             → IsAimOf g.now w (aim_at self.now.aims.items WIDTH j) s aim → IsNearRow g.now root w s aim result }
     {
         let at = s.get() as usize;
+        let source = Source {
+            node: s,
+            place: d.place(s),
+            sole: self.soles[at],
+            home: self.homes[at],
+        };
         row_over(
-            s,
+            &source,
             aim,
-            &d.place(s),
             &d.place(aim),
-            self.soles[at],
             self.soles[aim.get() as usize],
             self.up.links_of(s)[j],
             self.down.links_of(s)[j],
-            &self.homes[at],
         )
     }
 }

@@ -65,6 +65,6 @@ fn links_onward(
     let mut fan = Fan::new(alloc, g, 1)?;
     fan.open(g, d, dir, &turns, source);
     let mut links = vec![in alloc; LinkNo::new(NO_LINK); g.node_count() as usize]?;
-    fan.put_links(g, dir, source, source, &mut links);
+    fan.put_links(g, source, source, &mut links);
     Ok(links)
 }

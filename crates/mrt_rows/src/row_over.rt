@@ -9,46 +9,52 @@ ghost use Rattle.link_direction.specs.Directions.{Directions};
 ghost use Rattle.link_direction.specs.OrderedGadag.{IsOrderedGadag};
 ghost use Rattle.inc_dec_spf.specs.declared.reach.Dir.TheVariants.{Down, Up};
 ghost use Rattle.inc_dec_spf.specs.FirstLink.{IsFirstLink, no_link};
-ghost use Rattle.inc_dec_spf.specs.HasDirections.{AreDirections, HasDirections};
+ghost use Rattle.inc_dec_spf.specs.HasDirections.{AreDirections};
 ghost use Rattle.mrt_rows.specs.NearOf.{IsNearRow, IsPlaceOf, IsSoleOf, near_first};
-ghost use Rattle.mrt_rows.specs.Put.{IsHome, ShareMoreLinks};
-ghost use Rattle.mrt_rows.specs.RowsOf.{HasRow};
+ghost use Rattle.mrt_rows.specs.Put.{ShareMoreLinks};
 ghost use Rattle.mrt_rows.specs.FirstLinks.{AreFirstLinks};
+ghost use Rattle.mrt_rows.specs.RowsOf.{HasRow};
+ghost use Rattle.mrt_rows.specs.Source.{IsSourceBy};
 
 use crate::first_links::FirstLinks;
 use crate::members::{Home, member_row};
 use inc_dec_spf::NO_LINK;
 use mrt_graph::{Directed, Graph, LinkNo, NodeNo, Place, Row, Tag};
 
-/// The row of s for t, by their places and the sole links of their blocks, and by the first links of s up and down to t
-/// and home. `None` where they have no block in common.
+/// A node, with what its rows for all others are made from: its place, the sole link of its block, and its links home.
+#[derive(Clone, Copy)]
+pub struct Source {
+    pub node: NodeNo,
+    pub place: Place,
+    pub sole: LinkNo,
+    pub home: Home,
+}
+
+/// The row of a source for t, by the place and the sole link of t, and by the first links of the source up and down to
+/// it. `None` where they have no block in common.
 pub fn row_over(
-    s: NodeNo,
+    source: &Source,
     t: NodeNo,
-    here: &Place,
     there: &Place,
-    sole_here: LinkNo,
-    sole_there: LinkNo,
+    sole: LinkNo,
     up: LinkNo,
     down: LinkNo,
-    home: &Home,
 ) -> Option<Row>
-    requires { s ≢ t }
+    requires { source.now.node ≢ t }
     ensures { (g : Topology) (root : ℕ) (w : Directions) → IsTopology g → IsOrderedGadag g root w
-        → s < length g.ids → t < length g.ids → IsPlaceOf w s here.now → IsPlaceOf w t there.now
-        → IsSoleOf g w s sole_here → IsSoleOf g w t sole_there
-        → (ShareMoreLinks g w s t → IsFirstLink g w Up s t up)
-        → (ShareMoreLinks g w s t → IsFirstLink g w Down s t down)
-        → IsHome g w s home.now → IsNearRow g root w s t result }
+        → IsSourceBy g w source.now → t < length g.ids → IsPlaceOf w t there.now → IsSoleOf g w t sole
+        → (ShareMoreLinks g w source.now.node t → IsFirstLink g w Up source.now.node t up)
+        → (ShareMoreLinks g w source.now.node t → IsFirstLink g w Down source.now.node t down)
+        → IsNearRow g root w source.now.node t result }
 {
-    if here.block == there.block {
-        return Some(member_row(up, down, home));
+    if source.place.block == there.block {
+        return Some(member_row(up, down, &source.home));
     }
-    if here.head == t {
-        return Some(end_row(sole_here, up, down, Tag::Head));
+    if source.place.head == t {
+        return Some(end_row(source.sole, up, down, Tag::Head));
     }
-    if there.head == s {
-        return Some(end_row(sole_there, up, down, Tag::Top));
+    if there.head == source.node {
+        return Some(end_row(sole, up, down, Tag::Top));
     }
     None
 }
@@ -76,24 +82,50 @@ pub fn near_row(g: &Graph, d: &Directed, links: &FirstLinks, t: NodeNo) -> Optio
     ensures { (root : ℕ) (w : Directions) → AreDirections g.now d.now root w
         → IsNearRow g.now root w links.now.source t result }
 {
-    let here = d.place(links.source);
+    let source = source_of(g, d, links);
+    row_to(g, d, links, &source, t)
+}
+
+/// The source of these links.
+fn source_of(g: &Graph, d: &Directed, links: &FirstLinks) -> Source
+    requires { AreFirstLinks g.now d.now links.now }
+    ensures node { result.node ≡ links.now.source }
+    ensures source { (root : ℕ) (w : Directions) → AreDirections g.now d.now root w → IsSourceBy g.now w result }
+{
+    let place = d.place(links.source);
     let sole = links.soles[links.source.get() as usize];
-    let head = here.head.get() as usize;
+    let head = place.head.get() as usize;
     let home = Home {
         up: links.up[head],
         down: links.down[head],
     };
-    let at = t.get() as usize;
-    row_over(
-        links.source,
-        t,
-        &here,
-        &d.place(t),
+    Source {
+        node: links.source,
+        place,
         sole,
+        home,
+    }
+}
+
+/// The row of the source of these links for t.
+fn row_to(g: &Graph, d: &Directed, links: &FirstLinks, source: &Source, t: NodeNo) -> Option<Row>
+    requires links { AreFirstLinks g.now d.now links.now }
+    requires node { source.now.node ≡ links.now.source }
+    requires source { (root : ℕ) (w : Directions) → AreDirections g.now d.now root w → IsSourceBy g.now w source.now }
+    requires target { t < length g.now.ids }
+    requires two { links.now.source ≢ t }
+    ensures { (root : ℕ) (w : Directions) → AreDirections g.now d.now root w
+        → IsNearRow g.now root w links.now.source t result }
+{
+    let at = t.get() as usize;
+    let there = d.place(t);
+    row_over(
+        source,
+        t,
+        &there,
         links.soles[at],
         links.up[at],
         links.down[at],
-        &home,
     )
 }
 
@@ -108,33 +140,12 @@ pub fn put_near_rows(g: &Graph, d: &Directed, links: &FirstLinks, room: &mut [Ro
         → ((t : ℕ) → t < length g.now.ids → links.now.source ≢ t → HasRow g.now root w links.now.source rows t)
         → rows links.now.source ≡ None → take result room.new ≡ near_first rows (length g.now.ids) }
 {
-    let s = links.source;
-    let here = d.place(s);
-    let soles = links.soles.as_slice();
-    let up = links.up.as_slice();
-    let down = links.down.as_slice();
-    let sole = soles[s.get() as usize];
-    let head = here.head.get() as usize;
-    let home = Home {
-        up: up[head],
-        down: down[head],
-    };
+    let source = source_of(g, d, links);
     let mut found = 0;
     for n in 0..g.node_count() {
         let t = NodeNo::new(n);
-        let at = n as usize;
-        if t != s {
-            if let Some(row) = row_over(
-                s,
-                t,
-                &here,
-                &d.place(t),
-                sole,
-                soles[at],
-                up[at],
-                down[at],
-                &home,
-            ) {
+        if t != links.source {
+            if let Some(row) = row_to(g, d, links, &source, t) {
                 room[found] = row;
                 found += 1;
             }

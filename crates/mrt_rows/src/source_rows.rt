@@ -128,9 +128,8 @@ impl SourceRows {
         if has_more_links(g, &self.directed, s) {
             self.open(g, s);
             let first = NodeNo::new(self.first);
-            self.up.put_links(g, Dir::Up, first, s, &mut self.links.up);
-            self.down
-                .put_links(g, Dir::Down, first, s, &mut self.links.down);
+            self.up.put_links(g, first, s, &mut self.links.up);
+            self.down.put_links(g, first, s, &mut self.links.down);
         }
     }
 

@@ -4,4 +4,5 @@ pub mod Colors
 pub mod Failed
 pub mod OrderChoice
 pub mod OrderText
+pub mod Source
 pub mod Tagging

@@ -3,7 +3,7 @@
 ghost use Rattle.std.specs.Prelude.{◌≡◌, ◌<◌, ℕ, length};
 ghost use Rattle.link_direction.specs.Directions.{Directions};
 ghost use Rattle.inc_dec_spf.specs.HasDirections.{HasDirections};
-ghost use Rattle.mrt_rows.specs.Source.{AreHops, IsSource};
+ghost use Rattle.order_repair.specs.Source.{AreHops, IsSource};
 ghost use Rattle.order_repair.specs.Failed.{IsBetween, IsNotSole, IsWithin};
 ghost use Rattle.order_repair.specs.OrderChoice.{IsOrderChoice, LineFor};
 ghost use Rattle.order_repair.specs.Tagging.{IsNearTag};

@@ -6,7 +6,7 @@ ghost use Rattle.mrt_graph.specs.declared.cert.Tag.TheVariants.{Top};
 ghost use Rattle.mrt_graph.specs.Separates.{IsNeitherEnd};
 ghost use Rattle.link_direction.specs.Directions.{Directions, Says};
 ghost use Rattle.inc_dec_spf.specs.HasDirections.{HasDirections};
-ghost use Rattle.mrt_rows.specs.Source.{AreHops, IsSource};
+ghost use Rattle.order_repair.specs.Source.{AreHops, IsSource};
 ghost use Rattle.text_parts.specs.Adds.{Adds};
 ghost use Rattle.text_parts.specs.Parts.{AreParts};
 ghost use Rattle.order_repair.specs.Blocks.{IsPair};

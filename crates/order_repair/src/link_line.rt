@@ -6,7 +6,7 @@ ghost use Rattle.mrt_graph.specs.declared.cert.Tag.TheVariants.{Unordered};
 ghost use Rattle.link_direction.specs.Directions.{Directions, Says};
 ghost use Rattle.inc_dec_spf.specs.declared.reach.Dir.TheVariants.{Up};
 ghost use Rattle.inc_dec_spf.specs.LeastPath.{IsReach};
-ghost use Rattle.mrt_rows.specs.Source.{AreHops, IsSource};
+ghost use Rattle.order_repair.specs.Source.{AreHops, IsSource};
 ghost use Rattle.order_repair.specs.Arrow.{arrow_of};
 ghost use Rattle.order_repair.specs.OrderChoice.{ClosingLine, LeadsTo, LinkLine, PlainLine};
 ghost use Rattle.order_repair.specs.Tagging.{IsNearTag};

@@ -2,7 +2,7 @@
 
 ghost use Rattle.std.specs.Prelude.{◌≡◌, ◌<◌, ℕ, IfSome, length};
 ghost use Rattle.link_direction.specs.Directions.{Directions};
-ghost use Rattle.mrt_rows.specs.Source.{AreHops, IsSource};
+ghost use Rattle.order_repair.specs.Source.{AreHops, IsSource};
 ghost use Rattle.order_repair.specs.Tagging.{IsNearTag, IsTagFor, peer_tag, tag_where};
 
 use inc_dec_spf::{Hop, Reach};

@@ -1,7 +1,7 @@
 use Rattle.std.proofs.Common.{◌++◌, ◌∙◌, ℕ, List, ap}
 use Rattle.inc_dec_spf.specs.HasDirections.{HasDirections}
 use Rattle.inc_dec_spf.proofs.SameDirections.{directions_are}
-use Rattle.mrt_rows.specs.Source.{AreHops}
+use Rattle.order_repair.specs.Source.{AreHops}
 use Rattle.order_repair.proofs.text.order_text.Goals as goal
 
 pub push_lines-requires : goal.push_lines-requires

@@ -45,8 +45,8 @@ index-requires c =
     let held = c.requires.held c.requires.directed.directions c.requires.directed.says in
     omega (arith, c.args.self.now.soles.small, c.get-at.ensures.value, c.requires.source, held.soles.one_each)
 
-pub index-requires-2 : goal.index-requires-2
-index-requires-2 c =
+pub index-requires-3 : goal.index-requires-3
+index-requires-3 c =
     let held = c.requires.held c.requires.directed.directions c.requires.directed.says in
     omega (arith, c.args.self.now.soles.small, c.get.ensures.value, c.requires.aim, held.soles.one_each)
 
@@ -70,8 +70,8 @@ bounds-links_of-j-2 c =
     let held = c.requires.held c.requires.directed.directions c.requires.directed.says in
     omega (arith, c.links_of-2.ensures.one_each, held.down.links, c.requires.place)
 
-pub index-requires-3 : goal.index-requires-3
-index-requires-3 c =
+pub index-requires-2 : goal.index-requires-2
+index-requires-2 c =
     let held = c.requires.held c.requires.directed.directions c.requires.directed.says in
     omega (arith, c.args.self.now.homes.small, c.get-at.ensures.value, c.requires.source, held.a_home_each)
 
@@ -92,13 +92,17 @@ returns c = λ w says up down aimed.
     c.index-links_of-j.is in
     let at_down = slice_get_read downs (length downs) j c.index-links_of-j-2.result refl
     (omega (arith, c.links_of-2.ensures.one_each, held.down.links, below)) c.index-links_of-j-2.is in
-    c.row_over.ensures g c.args.root w c.requires.kept og.ordered c.requires.source c.requires.aim
-    (place_is g d w s c.place.result says c.requires.source c.place.ensures) (place_is g d w aim c.place-2.result says c.requires.aim c.place-2.ensures)
-    (sole_at g w columns.soles.items c.get-at.result s c.index.result.now held.soles c.get-at.ensures.value c.requires.source c.index.ensures)
-    (sole_at g w columns.soles.items c.get.result aim c.index-2.result.now held.soles c.get.ensures.value c.requires.aim c.index-2.ensures)
+    c.row_over.ensures g c.args.root w c.requires.kept og.ordered
+    (record {
+      within = c.requires.source;
+      place = place_is g d w s c.place.result says c.requires.source c.place.ensures;
+      sole = sole_at g w columns.soles.items c.get-at.result s c.index.result.now held.soles c.get-at.ensures.value c.requires.source c.index.ensures;
+      home = home_at g w columns.homes.items c.get-at.result s c.index-2.result.now held.homes held.a_home_each c.get-at.ensures.value c.requires.source
+          c.index-2.ensures;
+    })
+    c.requires.aim (place_is g d w aim c.place-2.result says c.requires.aim c.place-2.ensures)
+    (sole_at g w columns.soles.items c.get.result aim c.index-3.result.now held.soles c.get.ensures.value c.requires.aim c.index-3.ensures)
     (first_link g w _ columns.up columns.aims.items ups s aim j c.index-links_of-j.result up aimed c.requires.source c.requires.aim below held.up.links at_up
     c.links_of.ensures.there)
     (first_link g w _ columns.down columns.aims.items downs s aim j c.index-links_of-j-2.result down aimed c.requires.source c.requires.aim below held.down.links
     at_down c.links_of-2.ensures.there)
-    (home_at g w columns.homes.items c.get-at.result s c.index-3.result.now held.homes held.a_home_each c.get-at.ensures.value c.requires.source
-    c.index-3.ensures)

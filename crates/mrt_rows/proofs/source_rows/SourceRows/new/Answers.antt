@@ -1,8 +1,8 @@
 use Rattle.std.proofs.Common.{◌∙◌, ◌≤◌, rules, ℕ, List, length, sym, subst, arith}
 use Rattle.std.proofs.lemmas.List.{with_items_is}
-use Rattle.inc_dec_spf.specs.declared.fan.Fan.{Fan}
 use Rattle.inc_dec_spf.specs.declared.reach.Dir.{Dir}
 use Rattle.inc_dec_spf.specs.Fan.{IsOpen}
+use Rattle.inc_dec_spf.specs.FanEntries.{FanEntries}
 use Rattle.link_direction.specs.Directions.{Directions}
 use Rattle.mrt_graph.specs.Topology.{Topology}
 use Rattle.mrt_rows.specs.NearOf.{AreSoles}
@@ -10,8 +10,8 @@ use Rattle.mrt_rows.proofs.SourceCert.{are_from}
 use Rattle.mrt_rows.proofs.source_rows.SourceRows.new.Goals as goal
 
 -- a fan is open from no node
-open_from_none : (g : Topology) (w : Directions) (dir : Dir) (first width : ℕ) (fan : Fan) → length g.ids ≤ first → IsOpen g w dir first width fan
-open_from_none g w dir first width fan past = record { each = λ j t ends below inside within list. absurd (omega (arith, past, inside)) }
+open_from_none : (g : Topology) (w : Directions) (dir : Dir) (first : ℕ) (fan : FanEntries) → length g.ids ≤ first → IsOpen g w dir first fan
+open_from_none g w dir first fan past = record { each = λ j t ends below inside within list. absurd (omega (arith, past, inside)) }
 
 pub returns-clause-made : goal.returns-clause-made
 returns-clause-made c =
@@ -29,10 +29,16 @@ returns-clause-made c =
             by_order = c.in_ok-by_order.ensures c.args.root w are;
             against_order = c.in_ok-against_order.ensures c.args.root w are;
             soles = subst (λ (xs : List ℕ). AreSoles g w xs) (sym same) (c.take_soles.ensures c.args.root w are);
-            up = c.in_ok-up.ensures;
-            down = c.in_ok-down.ensures;
-            open_up = open_from_none g w _ c.node_count-count.result 64 c.in_ok-up.up past;
-            open_down = open_from_none g w _ c.node_count-count.result 64 c.in_ok-down.down past;
+            up = record {
+              nodes = c.in_ok-up.ensures.nodes;
+              width = c.in_ok-up.ensures.width;
+              is_open = open_from_none g w _ c.node_count-count.result c.in_ok-up.up past;
+            };
+            down = record {
+              nodes = c.in_ok-down.ensures.nodes;
+              width = c.in_ok-down.ensures.width;
+              is_open = open_from_none g w _ c.node_count-count.result c.in_ok-down.down past;
+            };
             one_up_each = search rules;
             one_down_each = search rules;
             room = search rules;

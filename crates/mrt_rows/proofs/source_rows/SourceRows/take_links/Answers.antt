@@ -17,47 +17,41 @@ linked g w dir s source links after same from has =
     subst (λ (v : ℕ). AreLinked g w dir v after) (sym from)
     (subst (λ (xs : List ℕ). AreLinked g w dir s xs) (sym same) (record { each = λ t link at shares. has.each t link at shares.share.two }))
 
-pub put_links-requires : goal.put_links-requires
-put_links-requires c =
-    let w = c.requires.directed.directions in
-    let says = subst (λ (d : DirectedLists). Says c.args.g.now d w) (sym c.open.ensures.directed) c.requires.directed.are.says in
-    let held = c.open.ensures.made.fans w says in (
-      c.requires.kept,
-      (
-        c.requires.s,
-        (
-          omega (arith, c.new-first.ensures, c.open.ensures.from),
-          (
-            omega (arith, c.new-first.ensures, c.open.ensures.among),
-            (
-              ap (λ (xs : List ℕ). length xs) c.deref_mut.ensures.value ∙ held.one_up_each,
-              held.up,
-            ),
-          ),
-        ),
-      ),
-    )
+pub put_links-requires-clause-among : goal.put_links-requires-clause-among
+put_links-requires-clause-among c =
+    let says = subst (λ (d : DirectedLists). Says c.args.g.now d c.requires.directed.directions) (sym c.open.ensures.directed) c.requires.directed.are.says in
+    let held = c.open.ensures.made.fans c.requires.directed.directions says in
+    omega (arith, c.new-first.ensures, c.open.ensures.among, held.up.width)
 
-pub put_links-requires-then-has_more_links : goal.put_links-requires-then-has_more_links
-put_links-requires-then-has_more_links c =
-    let w = c.requires.directed.directions in
-    let says = subst (λ (d : DirectedLists). Says c.args.g.now d w) (sym c.open.ensures.directed) c.requires.directed.are.says in
-    let held = c.open.ensures.made.fans w says in (
-      c.requires.kept,
-      (
-        c.requires.s,
-        (
-          omega (arith, c.new-first.ensures, c.open.ensures.from),
-          (
-            omega (arith, c.new-first.ensures, c.open.ensures.among),
-            (
-              ap (λ (xs : List ℕ). length xs) c.deref_mut-then-has_more_links.ensures.value ∙ held.one_down_each,
-              held.down,
-            ),
-          ),
-        ),
-      ),
-    )
+pub put_links-requires-clause-one_each : goal.put_links-requires-clause-one_each
+put_links-requires-clause-one_each c =
+    let says = subst (λ (d : DirectedLists). Says c.args.g.now d c.requires.directed.directions) (sym c.open.ensures.directed) c.requires.directed.are.says in
+    let held = c.open.ensures.made.fans c.requires.directed.directions says in
+    ap (λ (xs : List ℕ). length xs) c.deref_mut.ensures.value ∙ held.one_up_each
+
+pub put_links-requires-clause-nodes : goal.put_links-requires-clause-nodes
+put_links-requires-clause-nodes c =
+    let says = subst (λ (d : DirectedLists). Says c.args.g.now d c.requires.directed.directions) (sym c.open.ensures.directed) c.requires.directed.are.says in
+    let held = c.open.ensures.made.fans c.requires.directed.directions says in
+    held.up.nodes
+
+pub put_links-requires-then-has_more_links-clause-among : goal.put_links-requires-then-has_more_links-clause-among
+put_links-requires-then-has_more_links-clause-among c =
+    let says = subst (λ (d : DirectedLists). Says c.args.g.now d c.requires.directed.directions) (sym c.open.ensures.directed) c.requires.directed.are.says in
+    let held = c.open.ensures.made.fans c.requires.directed.directions says in
+    omega (arith, c.new-first.ensures, c.open.ensures.among, held.down.width)
+
+pub put_links-requires-then-has_more_links-clause-one_each : goal.put_links-requires-then-has_more_links-clause-one_each
+put_links-requires-then-has_more_links-clause-one_each c =
+    let says = subst (λ (d : DirectedLists). Says c.args.g.now d c.requires.directed.directions) (sym c.open.ensures.directed) c.requires.directed.are.says in
+    let held = c.open.ensures.made.fans c.requires.directed.directions says in
+    ap (λ (xs : List ℕ). length xs) c.deref_mut-then-has_more_links.ensures.value ∙ held.one_down_each
+
+pub put_links-requires-then-has_more_links-clause-nodes : goal.put_links-requires-then-has_more_links-clause-nodes
+put_links-requires-then-has_more_links-clause-nodes c =
+    let says = subst (λ (d : DirectedLists). Says c.args.g.now d c.requires.directed.directions) (sym c.open.ensures.directed) c.requires.directed.are.says in
+    let held = c.open.ensures.made.fans c.requires.directed.directions says in
+    held.down.nodes
 
 pub returns-then-has_more_links-clause-made : goal.returns-then-has_more_links-clause-made
 returns-then-has_more_links-clause-made c =
@@ -75,8 +69,6 @@ returns-then-has_more_links-clause-made c =
             soles = held.soles;
             up = held.up;
             down = held.down;
-            open_up = held.open_up;
-            open_down = held.open_down;
             one_up_each = ap (λ (xs : List ℕ). length xs) up_same ∙ c.put_links.auto.links ∙ ap (λ (xs : List ℕ). length xs) c.deref_mut.ensures.value ∙ held.one_up_each;
             one_down_each = ap (λ (xs : List ℕ). length xs) down_same ∙ c.put_links-then-has_more_links.auto.links
                 ∙ ap (λ (xs : List ℕ). length xs) c.deref_mut-then-has_more_links.ensures.value ∙ held.one_down_each;
@@ -108,10 +100,10 @@ returns-then-has_more_links-clause-links c =
           let held = c.open.ensures.made.fans w are.says in
           record {
             up = linked g w Up c.args.s _ c.put_links.new.links _ up_same c.open.ensures.source
-                (c.put_links.ensures w (subst (λ (first : ℕ). IsOpen g w Up first 64 c.open.new.self.up) (sym c.new-first.ensures) held.open_up));
+                (c.put_links.ensures w Up (subst (λ (first : ℕ). IsOpen g w Up first c.open.new.self.up) (sym c.new-first.ensures) held.up.is_open));
             down = linked g w Down c.args.s _ c.put_links-then-has_more_links.new.links _ down_same c.open.ensures.source
-                (c.put_links-then-has_more_links.ensures w
-                (subst (λ (first : ℕ). IsOpen g w Down first 64 c.open.new.self.down) (sym c.new-first.ensures) held.open_down));
+                (c.put_links-then-has_more_links.ensures w Down
+                (subst (λ (first : ℕ). IsOpen g w Down first c.open.new.self.down) (sym c.new-first.ensures) held.down.is_open));
             soles = held.soles;
           };
     }
@@ -129,8 +121,6 @@ open-requires-clause-made c = record {
         soles = held.soles;
         up = held.up;
         down = held.down;
-        open_up = held.open_up;
-        open_down = held.open_down;
         one_up_each = held.one_up_each;
         one_down_each = held.one_down_each;
         room = held.room;
@@ -149,8 +139,6 @@ returns-else-has_more_links-clause-made c = record {
         soles = held.soles;
         up = held.up;
         down = held.down;
-        open_up = held.open_up;
-        open_down = held.open_down;
         one_up_each = held.one_up_each;
         one_down_each = held.one_down_each;
         room = held.room;
