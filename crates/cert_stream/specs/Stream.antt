@@ -4,9 +4,9 @@ use Rattle.mrt_graph.specs.declared.cert.CertFile.{CertFile}
 use Rattle.mrt_graph.specs.declared.cert.CertLink.{CertLink}
 use Rattle.mrt_graph.specs.declared.cert.CertNode.{CertNode}
 use Rattle.mrt_graph.specs.Topology.{Topology}
-use Rattle.mrt_rows.specs.declared.source_rows.SourceRows.{SourceRows}
 use Rattle.mrt_rows.specs.CertOf.{IsCertOf}
-use Rattle.mrt_rows.specs.NearOf.{MakeRows}
+use Rattle.mrt_rows.specs.Making.{MakeRows}
+use Rattle.mrt_rows.specs.RowsFound.{RowsFound}
 use Rattle.cert_format.specs.CertText.{header_text}
 use Rattle.cert_format.specs.Limits.{IsCertFile}
 use Rattle.cert_format.specs.Putting.{Writer}
@@ -24,7 +24,7 @@ pub record AreOfFile (file : CertFile) (number : ℕ) (nodes : List CertNode) (l
 
 -- what is held before a certificate is written or compared: what makes its rows, its other parts, and a writer that was given
 -- its header alone; there is such a certificate, and it is within the limits of its version
-pub record IsStream (g : Topology) (number : ℕ) (nodes : List CertNode) (links : List CertLink) (rows : SourceRows)
+pub record IsStream (g : Topology) (number : ℕ) (nodes : List CertNode) (links : List CertLink) (rows : RowsFound)
     (writer : Writer) : Type 0 where
   pub made : MakeRows g rows
   pub some : (file : CertFile) × IsCertOf g rows.root file

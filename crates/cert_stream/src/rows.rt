@@ -4,7 +4,7 @@ ghost use Rattle.std.specs.Prelude.{◌≡◌, ◌<◌, ◌+◌, ◌^◌, ◌++�
 ghost use Rattle.std.specs.List.{flat_map};
 ghost use Rattle.mrt_graph.specs.declared.cert.CertFile.{CertFile};
 ghost use Rattle.mrt_rows.specs.CertOf.{IsCertOf};
-ghost use Rattle.mrt_rows.specs.NearOf.{MakeRows};
+ghost use Rattle.mrt_rows.specs.Making.{MakeRows};
 ghost use Rattle.cert_format.specs.CertText.{row_text};
 ghost use Rattle.cert_format.specs.Putting.{Puts};
 ghost use Rattle.cert_format.specs.Versions.{rows_in};

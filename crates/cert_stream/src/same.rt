@@ -3,7 +3,8 @@
 ghost use Rattle.std.specs.Prelude.{◌≡◌, ◌<◌, ◌↔◌, ℕ, IsTrue, length};
 ghost use Rattle.mrt_graph.specs.declared.cert.CertFile.{CertFile};
 ghost use Rattle.mrt_rows.specs.CertOf.{IsCertOf};
-ghost use Rattle.mrt_rows.specs.NearOf.{MakeRows, near_rows_of};
+ghost use Rattle.mrt_rows.specs.Making.{MakeRows};
+ghost use Rattle.mrt_rows.specs.NearOf.{near_rows_of};
 ghost use Rattle.cert_stream.specs.Same.{HaveSameRows};
 
 use mrt_graph::{CertLink, CertNode, Graph, NodeNo, Row};

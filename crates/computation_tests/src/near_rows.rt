@@ -1,6 +1,6 @@
 //! The near rows of source after source, and the words on nodes and links, beside the certificate.
 
-ghost use Rattle.mrt_rows.specs.NearOf.{MakeRows};
+ghost use Rattle.mrt_rows.specs.Making.{MakeRows};
 
 use crate::hand_graphs::{graph_told, ring};
 use crate::hand_rows::{Case, cases};

@@ -4,10 +4,12 @@ pub mod ColumnOf
 pub mod DirectedFrom
 pub mod FirstLinks
 pub mod Held
+pub mod Making
 pub mod NearOf
 pub mod Put
 pub mod Rooted
 pub mod RowLines
+pub mod RowsFound
 pub mod RowsOf
 pub mod Source
 pub mod Table

@@ -1,5 +1,5 @@
 -- The near rows of a certificate, source after source: those that are not Carried.
-use Rattle.std.specs.Prelude.{◌≡◌, ◌≢◌, ◌<◌, ◌-◌, ◌*◌, ◌++◌, ℕ, zero, suc, Bool, List, [], ◌∷◌, Option, Some, None, drop, filter, length, not, slice_get, take}
+use Rattle.std.specs.Prelude.{◌≡◌, ◌≢◌, ◌-◌, ◌*◌, ◌++◌, ℕ, zero, suc, Bool, List, [], ◌∷◌, Option, Some, None, drop, filter, length, not, slice_get, take}
 use Rattle.mrt_graph.specs.declared.cert.Row.{Row}
 use Rattle.mrt_graph.specs.declared.cert.Tag.TheVariants.{Carried}
 use Rattle.mrt_graph.specs.declared.gadag.Place.{Place}
@@ -7,15 +7,9 @@ use Rattle.mrt_graph.specs.Certificate.{Certificate}
 use Rattle.mrt_graph.specs.Tags.{same_tag}
 use Rattle.mrt_graph.specs.Topology.{Topology}
 use Rattle.link_direction.specs.BlockOfTwo.{HaveInCommon}
-use Rattle.link_direction.specs.Directions.{Directions, Says}
+use Rattle.link_direction.specs.Directions.{Directions}
 use Rattle.inc_dec_spf.specs.declared.reach.Dir.{Dir}
-use Rattle.inc_dec_spf.specs.declared.reach.Dir.TheVariants.{Down, Up}
-use Rattle.inc_dec_spf.specs.Fan.{IsOpen}
-use Rattle.inc_dec_spf.specs.FanEntries.{FanEntries}
 use Rattle.inc_dec_spf.specs.FirstLink.{IsFirstLink, no_link}
-use Rattle.inc_dec_spf.specs.Turns.{AreTurns}
-use Rattle.mrt_rows.specs.declared.source_rows.SourceRows.{SourceRows}
-use Rattle.mrt_rows.specs.DirectedFrom.{IsDirectedFrom}
 use Rattle.mrt_rows.specs.Put.{IsOwnRow, ShareMoreLinks}
 use Rattle.mrt_rows.specs.RowLines.{HasOneLink}
 
@@ -64,31 +58,3 @@ pub record IsPlaceOf (w : Directions) (v : ℕ) (place : Place) : Type 0 where
 -- the links by which s begins the least paths to the nodes with which it has a block of more than one link in common
 pub record AreLinked (g : Topology) (w : Directions) (dir : Dir) (s : ℕ) (links : List ℕ) : Type 0 where
   pub each : (t link : ℕ) → slice_get links t ≡ Some link → ShareMoreLinks g w s t → IsFirstLink g w dir s t link
-
--- so many sources are taken side by side
-abbrev pub fan_width : ℕ
-fan_width = 64
-
--- a fan of the graph has so many sources, and is open from the nodes from one number on
-pub record IsFanFrom (g : Topology) (w : Directions) (dir : Dir) (first : ℕ) (fan : FanEntries) : Type 0 where
-  pub nodes : fan.nodes ≡ length g.ids
-  pub width : fan.width ≡ fan_width
-  pub is_open : IsOpen g w dir first fan
-
--- what is held between two sources: the nodes by their turns, the sole links, room for each node, and two fans, which are
--- open from the nodes from one number on
-pub record AreFans (g : Topology) (w : Directions) (held : SourceRows) : Type 0 where
-  pub by_order : AreTurns g w Up held.by_order.items
-  pub against_order : AreTurns g w Down held.against_order.items
-  pub soles : AreSoles g w held.links.soles.items
-  pub up : IsFanFrom g w Up held.first held.up
-  pub down : IsFanFrom g w Down held.first held.down
-  pub one_up_each : length held.links.up.items ≡ length g.ids
-  pub one_down_each : length held.links.down.items ≡ length g.ids
-  pub room : length held.room.items ≡ length g.ids
-
--- these make the rows of the graph from their root: by its directions, and by what is held between sources
-pub record MakeRows (g : Topology) (held : SourceRows) : Type 0 where
-  pub root_within : held.root < length g.ids
-  pub directed : IsDirectedFrom g held.root held.directed
-  pub fans : (w : Directions) → Says g held.directed w → AreFans g w held

@@ -1,5 +1,5 @@
 -- A source: a node, with what its rows for all others are made from.
-use Rattle.std.specs.Prelude.{◌<◌, ℕ, length}
+use Rattle.std.specs.Prelude.{◌<◌, length}
 use Rattle.mrt_graph.specs.Topology.{Topology}
 use Rattle.link_direction.specs.Directions.{Directions}
 use Rattle.mrt_rows.specs.declared.row_over.Source.{Source}

@@ -10,6 +10,7 @@ mod directed;
 mod first_links;
 mod heads;
 mod homes;
+mod making;
 mod members;
 mod of_source;
 mod places;

@@ -1,4 +1,4 @@
-use Rattle.mrt_rows.specs.NearOf.{MakeRows}
+use Rattle.mrt_rows.specs.Making.{MakeRows}
 use Rattle.computation_tests.proofs.near_rows.near_of_all.Given as goal
 
 abbrev pub invariant-loop-n : goal.invariant-loop-n

@@ -3,7 +3,7 @@ use Rattle.std.proofs.lemmas.Option.{slice_get_within}
 use Rattle.mrt_graph.proofs.EndsAt.{leads_end}
 use Rattle.mrt_rows.proofs.OrderedGraphs.{graph_of}
 use Rattle.mrt_rows.proofs.SoleBlocks.{touched}
-use Rattle.mrt_rows.proofs.source_rows.has_more_links.Goals as goal
+use Rattle.mrt_rows.proofs.making.has_more_links.Goals as goal
 
 pub returns : goal.returns
 returns c = λ is root t w are t_within shares.

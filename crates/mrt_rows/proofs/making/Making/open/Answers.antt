@@ -3,7 +3,7 @@ use Rattle.inc_dec_spf.specs.declared.reach.Dir.TheVariants.{Down, Up}
 use Rattle.inc_dec_spf.specs.Fan.{IsOpen}
 use Rattle.inc_dec_spf.specs.Turns.{AreTurns}
 use Rattle.inc_dec_spf.proofs.SameDirections.{directions_are}
-use Rattle.mrt_rows.proofs.source_rows.SourceRows.open.Goals as goal
+use Rattle.mrt_rows.proofs.making.Making.open.Goals as goal
 
 pub open-requires-clause-turns : goal.open-requires-clause-turns
 open-requires-clause-turns c = λ root w are.
@@ -49,6 +49,5 @@ returns-clause-made c = record {
         };
         one_up_each = held.one_up_each;
         one_down_each = held.one_down_each;
-        room = held.room;
       };
 }

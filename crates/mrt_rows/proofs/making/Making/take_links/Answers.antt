@@ -9,7 +9,7 @@ use Rattle.inc_dec_spf.specs.declared.reach.Dir.TheVariants.{Down, Up}
 use Rattle.inc_dec_spf.specs.Fan.{HasFirstLinks, IsOpen}
 use Rattle.inc_dec_spf.specs.HasDirections.{HasDirections}
 use Rattle.mrt_rows.specs.NearOf.{AreLinked}
-use Rattle.mrt_rows.proofs.source_rows.SourceRows.take_links.Goals as goal
+use Rattle.mrt_rows.proofs.making.Making.take_links.Goals as goal
 
 linked : (g : Topology) (w : Directions) (dir : Dir) (s source : ℕ) (links after : List ℕ) → after ≡ links → source ≡ s → HasFirstLinks g w dir s links
     → AreLinked g w dir source after
@@ -72,7 +72,6 @@ returns-then-has_more_links-clause-made c =
             one_up_each = ap (λ (xs : List ℕ). length xs) up_same ∙ c.put_links.auto.links ∙ ap (λ (xs : List ℕ). length xs) c.deref_mut.ensures.value ∙ held.one_up_each;
             one_down_each = ap (λ (xs : List ℕ). length xs) down_same ∙ c.put_links-then-has_more_links.auto.links
                 ∙ ap (λ (xs : List ℕ). length xs) c.deref_mut-then-has_more_links.ensures.value ∙ held.one_down_each;
-            room = held.room;
           };
     }
 
@@ -123,7 +122,6 @@ open-requires-clause-made c = record {
         down = held.down;
         one_up_each = held.one_up_each;
         one_down_each = held.one_down_each;
-        room = held.room;
       };
 }
 
@@ -141,7 +139,6 @@ returns-else-has_more_links-clause-made c = record {
         down = held.down;
         one_up_each = held.one_up_each;
         one_down_each = held.one_down_each;
-        room = held.room;
       };
 }
 

@@ -1,0 +1,46 @@
+-- What makes the rows of a graph from a root, source after source.
+use Rattle.std.specs.Prelude.{◌≡◌, ◌<◌, ℕ, length}
+use Rattle.mrt_graph.specs.Topology.{Topology}
+use Rattle.link_direction.specs.Directions.{Directions, Says}
+use Rattle.inc_dec_spf.specs.declared.reach.Dir.{Dir}
+use Rattle.inc_dec_spf.specs.declared.reach.Dir.TheVariants.{Down, Up}
+use Rattle.inc_dec_spf.specs.Fan.{IsOpen}
+use Rattle.inc_dec_spf.specs.FanEntries.{FanEntries}
+use Rattle.inc_dec_spf.specs.Turns.{AreTurns}
+use Rattle.mrt_rows.specs.declared.making.Making.{Making}
+use Rattle.mrt_rows.specs.DirectedFrom.{IsDirectedFrom}
+use Rattle.mrt_rows.specs.NearOf.{AreSoles}
+use Rattle.mrt_rows.specs.RowsFound.{RowsFound}
+
+-- so many sources are taken side by side
+abbrev pub fan_width : ℕ
+fan_width = 64
+
+-- a fan of the graph has so many sources, and is open from the nodes from one number on
+pub record IsFanFrom (g : Topology) (w : Directions) (dir : Dir) (first : ℕ) (fan : FanEntries) : Type 0 where
+  pub nodes : fan.nodes ≡ length g.ids
+  pub width : fan.width ≡ fan_width
+  pub is_open : IsOpen g w dir first fan
+
+-- what is held between two sources: the nodes by their turns, the sole links, room for the links to each node, and two
+-- fans, which are open from the nodes from one number on
+pub record AreFans (g : Topology) (w : Directions) (held : Making) : Type 0 where
+  pub by_order : AreTurns g w Up held.by_order.items
+  pub against_order : AreTurns g w Down held.against_order.items
+  pub soles : AreSoles g w held.links.soles.items
+  pub up : IsFanFrom g w Up held.first held.up
+  pub down : IsFanFrom g w Down held.first held.down
+  pub one_up_each : length held.links.up.items ≡ length g.ids
+  pub one_down_each : length held.links.down.items ≡ length g.ids
+
+-- this makes the links of each source: by the directions from the root, and by what is held between sources
+pub record MakeLinks (g : Topology) (held : Making) : Type 0 where
+  pub root_within : held.root < length g.ids
+  pub directed : IsDirectedFrom g held.root held.directed
+  pub fans : (w : Directions) → Says g held.directed w → AreFans g w held
+
+-- these make the rows of the graph from their root: there is what makes the links of each source, and room for the rows
+-- of one
+pub record MakeRows (g : Topology) (rows : RowsFound) : Type 0 where
+  pub making : MakeLinks g rows.making
+  pub room : rows.room ≡ length g.ids
