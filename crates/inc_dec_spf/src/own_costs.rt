@@ -193,10 +193,16 @@ fn arrive(at: usize, x: NodeNo, aims: &[NodeNo], costs: &mut [u32])
     ensures elsewhere { (j : ℕ) → slice_index aims.now (at + j) ≢ x → slice_get costs.new j ≡ slice_get costs.old j }
 {
     for j in 0..costs.len() {
-        if aims[at + j] == x {
-            costs[j] = 0;
-        }
+        costs[j] = cost_from(x, aims[at + j], costs[j]);
     }
+}
+
+/// The cost from x to what is aimed at: none at x itself. (A value rather than a choice to write: so some are written at once.)
+fn cost_from(x: NodeNo, aim: NodeNo, cost: u32) -> u32
+    ensures at_x { aim ≡ x → result ≡ 0 }
+    ensures elsewhere { aim ≢ x → result ≡ cost }
+{
+    if aim == x { 0 } else { cost }
 }
 
 /// Keeps what a node has among what all nodes have, from place `at` on.

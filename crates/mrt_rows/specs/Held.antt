@@ -7,7 +7,7 @@ use Rattle.inc_dec_spf.specs.Tile.{IsAimed, IsTile}
 use Rattle.inc_dec_spf.specs.Turns.{AreTurns}
 use Rattle.mrt_rows.specs.declared.column.Columns.{Columns}
 use Rattle.mrt_rows.specs.Chain.{AreBlockAims, tile_width}
-use Rattle.mrt_rows.specs.NearOf.{AreSoles}
+use Rattle.mrt_rows.specs.NearOf.{AreHomeRows, AreSoles}
 use Rattle.mrt_rows.specs.Put.{AreHeadsMarked, AreHomes}
 
 -- what the blocks aim at for the destinations from one number on, and tiles that are aimed so
@@ -16,8 +16,8 @@ pub record AreTilesAimed (g : Topology) (root : ℕ) (w : Directions) (held : Co
   pub up : IsAimed g w Up held.aims.items tile_width held.up
   pub down : IsAimed g w Down held.aims.items tile_width held.down
 
--- the nodes by their turns, marks on the heads of blocks, the sole links and the links home of all nodes, room for each
--- node, and tiles with places for so many of each, which are aimed if their first destination is a node
+-- the nodes by their turns, marks on the heads of blocks, the sole links, the links and the rows home of all nodes, room
+-- for each node, and tiles with places for so many of each, which are aimed if their first destination is a node
 pub record AreHeld (g : Topology) (root : ℕ) (w : Directions) (held : Columns) : Type 0 where
   pub by_order : AreTurns g w Up held.by_order.items
   pub against_order : AreTurns g w Down held.against_order.items
@@ -26,6 +26,8 @@ pub record AreHeld (g : Topology) (root : ℕ) (w : Directions) (held : Columns)
   pub soles : AreSoles g w held.soles.items
   pub a_home_each : length held.homes.items ≡ length g.ids
   pub homes : AreHomes g w held.homes.items
+  pub a_home_row_each : length held.home_rows.items ≡ length g.ids
+  pub home_rows : AreHomeRows g root w held.home_rows.items
   pub one_below_each : length held.below.items ≡ length g.ids
   pub places : length held.aims.items ≡ length g.ids * tile_width
   pub up : IsTile g tile_width held.up

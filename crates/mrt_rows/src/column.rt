@@ -16,7 +16,7 @@ ghost use Rattle.mrt_rows.specs.NearOf.{IsNearRow};
 use crate::block_aims::{WIDTH, put_block_aims};
 use crate::chain::put_below;
 use crate::heads::mark_heads;
-use crate::homes::homes_of;
+use crate::homes::{home_rows, homes_of};
 use crate::members::Home;
 use crate::row_over::{Source, row_over};
 use crate::soles::take_soles;
@@ -33,6 +33,7 @@ pub struct Columns {
     pub heads: Vec<bool>,
     pub soles: Vec<LinkNo>,
     pub homes: Vec<Home>,
+    pub home_rows: Vec<Row>,
     pub below: Vec<Option<NodeNo>>,
     pub first: u16,
     pub aims: Vec<NodeNo>,
@@ -56,6 +57,7 @@ impl Columns {
         let mut soles = vec![in alloc; LinkNo::new(NO_LINK); count as usize]?;
         take_soles(g, d, &mut soles);
         let homes = homes_of(alloc, g, d, &by_order, &against_order, &heads)?;
+        let home_rows = home_rows(alloc, g, &soles, &homes)?;
         let below = vec![in alloc; None; count as usize]?;
         let aims = vec![in alloc; root; count as usize * WIDTH as usize]?;
         let up = Tile::new(alloc, g, WIDTH)?;
@@ -66,6 +68,7 @@ impl Columns {
             heads,
             soles,
             homes,
+            home_rows,
             below,
             first: count,
             aims,
@@ -185,27 +188,29 @@ impl Columns {
         })
     }
 
-    /// What s aims at: the node below it on the way from `to` to the root, or what its block aims at.
+    /// What s aims at: the node below it on the way from `to` to the root; the one that lies in its block; or its head.
     fn aim_of(&self, g: &Graph, root: NodeNo, d: &Directed, s: NodeNo, to: NodeNo) -> NodeNo
         requires kept { IsTopology g.now }
         requires directed { SaysOrdered g.now root d.now }
         requires source { s < length g.now.ids }
         requires to { to < length g.now.ids }
-        requires held { (w : Directions) → Says g.now d.now w → AreHeld g.now root w self.now }
         requires below { (w : Directions) → Says g.now d.now w
             → AreBelow g.now root w to self.now.below.items }
-        requires from { self.now.first ≤ to }
-        requires among { to < self.now.first + WIDTH }
         ensures { (w : Directions) → Says g.now d.now w → IsRowAim w self.now.below.items s result }
     {
         if let Some(under) = self.below[s.get() as usize] {
             return under;
         }
-        let at = d.place(s).block.get() as usize * WIDTH as usize;
-        self.aims[at + (to.get() - self.first) as usize]
+        let here = d.place(s);
+        if let Some(beside) = self.below[here.head.get() as usize] {
+            if d.place(beside).block == here.block {
+                return beside;
+            }
+        }
+        here.head
     }
 
-    /// The row of `s` for what it aims at, at place j.
+    /// The row of `s` for what it aims at, at place j. The row home is held.
     fn aimed_row(
         &self,
         g: &Graph,
@@ -228,9 +233,13 @@ impl Columns {
             → IsAimOf g.now w (aim_at self.now.aims.items WIDTH j) s aim → IsNearRow g.now root w s aim result }
     {
         let at = s.get() as usize;
+        let here = d.place(s);
+        if here.head == aim {
+            return Some(self.home_rows[at]);
+        }
         let source = Source {
             node: s,
-            place: d.place(s),
+            place: here,
             sole: self.soles[at],
             home: self.homes[at],
         };

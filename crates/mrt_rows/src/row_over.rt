@@ -60,7 +60,7 @@ pub fn row_over(
 }
 
 /// The row over a sole link, or with this tag where there is none.
-fn end_row(sole: LinkNo, blue: LinkNo, red: LinkNo, tag: Tag) -> Row
+pub fn end_row(sole: LinkNo, blue: LinkNo, red: LinkNo, tag: Tag) -> Row
     ensures sole { sole ≢ no_link → result ≡ record { blue = sole; red = sole; tag = Sole } }
     ensures other { sole ≡ no_link → result ≡ record { blue = blue; red = red; tag = tag } }
 {

@@ -1,5 +1,7 @@
-use Rattle.std.proofs.Common.{◌≡◌, ◌∙◌, ◌<◌, ◌+◌, ◌*◌, ℕ, List, Some, get_or, length, slice_get, refl, sym, ap, subst, arith}
+use Rattle.std.proofs.Common.{◌≡◌, ◌≢◌, ◌∙◌, ◌<◌, ◌+◌, ◌*◌, ℕ, List, Some, get_or, length, slice_get, refl, sym, ap, subst, arith}
+use Rattle.std.proofs.lemmas.Bool.{eqb-true}
 use Rattle.std.proofs.lemmas.Option.{slice_get-get_or, slice_get_read}
+use Rattle.mrt_graph.specs.declared.cert.Row.{Row}
 use Rattle.link_direction.specs.Directions.{Directions, Says}
 use Rattle.mrt_graph.specs.declared.gadag.Place.{Place}
 use Rattle.mrt_graph.specs.DirectedLists.{DirectedLists}
@@ -10,7 +12,7 @@ use Rattle.inc_dec_spf.specs.BlockAims.{IsAimOf, aim_at}
 use Rattle.inc_dec_spf.specs.FirstLink.{IsFirstLink}
 use Rattle.inc_dec_spf.specs.Tile.{IsAimed}
 use Rattle.mrt_rows.specs.declared.members.Home.{Home}
-use Rattle.mrt_rows.specs.NearOf.{AreSoles, IsPlaceOf, IsSoleOf}
+use Rattle.mrt_rows.specs.NearOf.{AreSoles, IsNearRow, IsPlaceOf, IsSoleOf}
 use Rattle.mrt_rows.specs.Put.{AreHomes, IsHome, ShareMoreLinks}
 use Rattle.mrt_rows.proofs.Climbing.{graph_by}
 use Rattle.mrt_rows.proofs.NearRows.{place_says}
@@ -43,10 +45,15 @@ first_link g w dir tile aims links s t j link aimed aim s_within t_within below 
 pub index-requires : goal.index-requires
 index-requires c =
     let held = c.requires.held c.requires.directed.directions c.requires.directed.says in
+    omega (arith, c.args.self.now.home_rows.small, c.get-at.ensures.value, c.requires.source, held.a_home_row_each)
+
+pub index-requires-2 : goal.index-requires-2
+index-requires-2 c =
+    let held = c.requires.held c.requires.directed.directions c.requires.directed.says in
     omega (arith, c.args.self.now.soles.small, c.get-at.ensures.value, c.requires.source, held.soles.one_each)
 
-pub index-requires-3 : goal.index-requires-3
-index-requires-3 c =
+pub index-requires-4 : goal.index-requires-4
+index-requires-4 c =
     let held = c.requires.held c.requires.directed.directions c.requires.directed.says in
     omega (arith, c.args.self.now.soles.small, c.get.ensures.value, c.requires.aim, held.soles.one_each)
 
@@ -70,10 +77,26 @@ bounds-links_of-j-2 c =
     let held = c.requires.held c.requires.directed.directions c.requires.directed.says in
     omega (arith, c.links_of-2.ensures.one_each, held.down.links, c.requires.place)
 
-pub index-requires-2 : goal.index-requires-2
-index-requires-2 c =
+pub index-requires-3 : goal.index-requires-3
+index-requires-3 c =
     let held = c.requires.held c.requires.directed.directions c.requires.directed.says in
     omega (arith, c.args.self.now.homes.small, c.get-at.ensures.value, c.requires.source, held.a_home_each)
+
+pub returns-then-eq : goal.returns-then-eq
+returns-then-eq c = λ w says up down aimed.
+    let g = c.args.g.now in
+    let s = c.args.s in
+    let held = c.requires.held w says in
+    let og = graph_by g c.args.root c.args.d.now w c.requires.kept c.requires.directed says in
+    let place = place_says g c.args.d.now w s c.place-here.result says c.requires.source c.place-here.ensures in
+    let head : w.head s ≡ c.args.aim = sym place.0 ∙ eqb-true c.place-here.result.head c.args.aim (sym c.eq.ensures ∙ c.if-eq.true) in
+    let other : s ≢ c.args.root = λ at_root.
+    c.requires.two (at_root ∙ sym (ap w.head at_root ∙ og.ordered.heads.root_head) ∙ head) in
+    let rows = c.args.self.now.home_rows.items in
+    subst (λ (t : ℕ). IsNearRow g c.args.root w s t (Some c.index.result.now)) head
+    (held.home_rows.each s c.index.result.now (subst (λ (x : ℕ). slice_get rows x ≡ Some c.index.result.now) c.get-at.ensures.value
+    (slice_get-get_or rows c.get-at.result c.index.result.now (omega (arith, c.get-at.ensures.value, c.requires.source, held.a_home_row_each))
+    ∙ ap (λ (x : Row). Some x) (sym c.index.ensures))) other)
 
 pub returns : goal.returns
 returns c = λ w says up down aimed.
@@ -95,13 +118,13 @@ returns c = λ w says up down aimed.
     c.row_over.ensures g c.args.root w c.requires.kept og.ordered
     (record {
       within = c.requires.source;
-      place = place_is g d w s c.place.result says c.requires.source c.place.ensures;
-      sole = sole_at g w columns.soles.items c.get-at.result s c.index.result.now held.soles c.get-at.ensures.value c.requires.source c.index.ensures;
-      home = home_at g w columns.homes.items c.get-at.result s c.index-2.result.now held.homes held.a_home_each c.get-at.ensures.value c.requires.source
-          c.index-2.ensures;
+      place = place_is g d w s c.place-here.result says c.requires.source c.place-here.ensures;
+      sole = sole_at g w columns.soles.items c.get-at.result s c.index-2.result.now held.soles c.get-at.ensures.value c.requires.source c.index-2.ensures;
+      home = home_at g w columns.homes.items c.get-at.result s c.index-3.result.now held.homes held.a_home_each c.get-at.ensures.value c.requires.source
+          c.index-3.ensures;
     })
-    c.requires.aim (place_is g d w aim c.place-2.result says c.requires.aim c.place-2.ensures)
-    (sole_at g w columns.soles.items c.get.result aim c.index-3.result.now held.soles c.get.ensures.value c.requires.aim c.index-3.ensures)
+    c.requires.aim (place_is g d w aim c.place.result says c.requires.aim c.place.ensures)
+    (sole_at g w columns.soles.items c.get.result aim c.index-4.result.now held.soles c.get.ensures.value c.requires.aim c.index-4.ensures)
     (first_link g w _ columns.up columns.aims.items ups s aim j c.index-links_of-j.result up aimed c.requires.source c.requires.aim below held.up.links at_up
     c.links_of.ensures.there)
     (first_link g w _ columns.down columns.aims.items downs s aim j c.index-links_of-j-2.result down aimed c.requires.source c.requires.aim below held.down.links

@@ -2,7 +2,8 @@ use Rattle.std.proofs.Common.{rules, ◌∙◌, ◌≤◌, ℕ, Bool, List, leng
 use Rattle.std.proofs.lemmas.List.{with_items_is}
 use Rattle.inc_dec_spf.specs.HasDirections.{AreDirections}
 use Rattle.mrt_rows.specs.NearOf.{AreSoles}
-use Rattle.mrt_rows.specs.Put.{AreHeadsMarked}
+use Rattle.mrt_rows.specs.declared.members.Home.{Home}
+use Rattle.mrt_rows.specs.Put.{AreHeadsMarked, AreHomes}
 use Rattle.mrt_rows.proofs.Climbing.{graph_by}
 use Rattle.mrt_rows.proofs.column.Columns.new.Goals as goal
 
@@ -19,14 +20,19 @@ returns c = λ w says.
     let past : length g.ids ≤ c.node_count-count.result = omega (arith, c.node_count-count.ensures.count) in
     let marked_read : AreHeadsMarked g w c.deref-3.result.now =
     subst (λ (hs : List Bool). AreHeadsMarked g w hs) (sym (c.deref-3.ensures.value ∙ heads_same)) marked in
+    let taken = c.take_soles.ensures root w are in
+    let homes = c.in_ok-homes.ensures.homes root w are marked_read in
     record {
       by_order = c.in_ok-by_order.ensures root w are;
       against_order = c.in_ok-against_order.ensures root w are;
       a_mark_each = ap (λ (hs : List Bool). length hs) heads_same ∙ c.mark_heads.ensures.one_each;
       marked = subst (λ (hs : List Bool). AreHeadsMarked g w hs) (sym heads_same) marked;
-      soles = subst (λ (xs : List ℕ). AreSoles g w xs) (sym soles_same) (c.take_soles.ensures root w are);
+      soles = subst (λ (xs : List ℕ). AreSoles g w xs) (sym soles_same) taken;
       a_home_each = c.in_ok-homes.ensures.one_each;
-      homes = c.in_ok-homes.ensures.homes root w are marked_read;
+      homes = homes;
+      a_home_row_each = c.in_ok-home_rows.ensures.one_each;
+      home_rows = c.in_ok-home_rows.ensures.rows root w og.ordered (subst (λ (xs : List ℕ). AreSoles g w xs) (sym (c.deref-4.ensures.value ∙ soles_same)) taken)
+          (subst (λ (xs : List Home). AreHomes g w xs) (sym c.deref-5.ensures.value) homes);
       one_below_each = search rules;
       places = search rules;
       up = c.in_ok-up.ensures;
