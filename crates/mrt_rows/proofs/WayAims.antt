@@ -1,10 +1,11 @@
 -- What the blocks aim at, as the way to the root is gone head by head.
 use Rattle.std.proofs.Common.{◌≡◌, ◌≢◌, ◌⊎◌, ◌∙◌, ◌<◌, ◌≤◌, ◌+◌, ◌*◌, ℕ, List, length, set, inl, inr, refl, sym, ap, subst, arith}
-use Rattle.std.proofs.lemmas.Bool.{cases_eq}
+use Rattle.std.proofs.lemmas.Bool.{cases_eq, cases_lt}
 use Rattle.std.proofs.lemmas.List.{get_or-set_other, get_or-set_same}
 use Rattle.mrt_graph.specs.Topology.{Topology}
 use Rattle.link_direction.specs.Directions.{Directions}
 use Rattle.inc_dec_spf.specs.BlockAims.{aim_at}
+use Rattle.inc_dec_spf.proofs.SideBySide.{row_within}
 use Rattle.mrt_rows.specs.Chain.{AreWayAims, Climbs, IsOnWay, There}
 use Rattle.mrt_rows.proofs.ChainAims.{climb_low, climb_on, further, root_alone}
 use Rattle.mrt_rows.proofs.OrderedGraphs.{OrderedGraph}
@@ -71,13 +72,26 @@ way_aims_too g root w t aim after same are = record {
   ];
 }
 
+-- places of different blocks, and different places of one block, are not the same
+one_place : (width k b i j : ℕ) → i < width → j < width → k * width + i ≡ b * width + j → (k ≡ b) × (i ≡ j)
+one_place width k b i j i_below j_below same = elim (cases_lt k b) [
+  | inl low ↦ absurd (omega (arith, row_within k b width (b * width) refl low, i_below, same))
+  | inr high ↦ elim (cases_lt b k) [
+    | inl low ↦ absurd (omega (arith, row_within b k width (k * width) refl low, j_below, same))
+    | inr low ↦
+        let one : k ≡ b = omega (arith, high, low) in
+        (one, omega (arith, same, ap (λ (x : ℕ). x * width) one))
+  ]
+]
+
 -- one aim is put
-module _ (aims : List ℕ) (b j c : ℕ) (j_below : j < 64) (room : b * 64 + j < length aims) where
-  pub aim_there : aim_at (set aims (b * 64 + j) c) 64 j b ≡ c
-  aim_there = get_or-set_same aims (b * 64 + j) c 0 room
+module _ (aims : List ℕ) (width b j c : ℕ) (j_below : j < width) (room : b * width + j < length aims) where
+  pub aim_there : aim_at (set aims (b * width + j) c) width j b ≡ c
+  aim_there = get_or-set_same aims (b * width + j) c 0 room
 
-  pub aim_elsewhere : (k : ℕ) → k ≢ b → aim_at (set aims (b * 64 + j) c) 64 j k ≡ aim_at aims 64 j k
-  aim_elsewhere k other = get_or-set_other aims (b * 64 + j) (k * 64 + j) c 0 (λ same. other (omega (arith, same)))
+  pub aim_elsewhere : (k : ℕ) → k ≢ b → aim_at (set aims (b * width + j) c) width j k ≡ aim_at aims width j k
+  aim_elsewhere k other = get_or-set_other aims (b * width + j) (k * width + j) c 0 (λ same. other (one_place width k b j j j_below j_below same).0)
 
-  pub aim_beside : (i k : ℕ) → i < 64 → i ≢ j → aim_at (set aims (b * 64 + j) c) 64 i k ≡ aim_at aims 64 i k
-  aim_beside i k below other = get_or-set_other aims (b * 64 + j) (k * 64 + i) c 0 (λ same. other (omega (arith, same, below, j_below)))
+  pub aim_beside : (i k : ℕ) → i < width → i ≢ j → aim_at (set aims (b * width + j) c) width i k ≡ aim_at aims width i k
+  aim_beside i k below other =
+      get_or-set_other aims (b * width + j) (k * width + i) c 0 (λ same. other (one_place width k b i j below j_below same).1)

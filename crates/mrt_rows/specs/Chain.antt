@@ -40,10 +40,6 @@ pub record AreWayAims (g : Topology) (root : ℕ) (w : Directions) (t : ℕ) (ai
 pub record AreHeadAims (g : Topology) (w : Directions) (width : ℕ) (aims : List ℕ) : Type 0 where
   pub each : (j y : ℕ) → j < width → y < length g.ids → aim_at aims width j (w.block y) ≡ w.head y
 
--- so many destinations are taken side by side
-abbrev pub tile_width : ℕ
-tile_width = 64
-
--- at each place, the blocks aim so for the destination there: these begin with number `first`
-pub record AreBlockAims (g : Topology) (root : ℕ) (w : Directions) (first : ℕ) (aims : List ℕ) : Type 0 where
-  pub each : (j : ℕ) → j < tile_width → first + j < length g.ids → AreWayAims g root w (first + j) (aim_at aims tile_width j)
+-- at each of so many places, the blocks aim so for the destination there: these begin with number `first`
+pub record AreBlockAims (g : Topology) (root : ℕ) (w : Directions) (first width : ℕ) (aims : List ℕ) : Type 0 where
+  pub each : (j : ℕ) → j < width → first + j < length g.ids → AreWayAims g root w (first + j) (aim_at aims width j)

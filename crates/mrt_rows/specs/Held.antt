@@ -6,15 +6,15 @@ use Rattle.inc_dec_spf.specs.declared.reach.Dir.TheVariants.{Down, Up}
 use Rattle.inc_dec_spf.specs.Tile.{IsAimed, IsTile}
 use Rattle.inc_dec_spf.specs.Turns.{AreTurns}
 use Rattle.mrt_rows.specs.declared.column.Columns.{Columns}
-use Rattle.mrt_rows.specs.Chain.{AreBlockAims, tile_width}
+use Rattle.mrt_rows.specs.Chain.{AreBlockAims}
 use Rattle.mrt_rows.specs.NearOf.{AreHomeRows, AreSoles}
 use Rattle.mrt_rows.specs.Put.{AreHeadsMarked, AreHomes}
 
 -- what the blocks aim at for the destinations from one number on, and tiles that are aimed so
 pub record AreTilesAimed (g : Topology) (root : ℕ) (w : Directions) (held : Columns) : Type 0 where
-  pub aims : AreBlockAims g root w held.first held.aims.items
-  pub up : IsAimed g w Up held.aims.items tile_width held.up
-  pub down : IsAimed g w Down held.aims.items tile_width held.down
+  pub aims : AreBlockAims g root w held.first held.width held.aims.items
+  pub up : IsAimed g w Up held.aims.items held.width held.up
+  pub down : IsAimed g w Down held.aims.items held.width held.down
 
 -- the nodes by their turns, marks on the heads of blocks, the sole links, the links and the rows home of all nodes, room
 -- for each node, and tiles with places for so many of each, which are aimed if their first destination is a node
@@ -29,7 +29,8 @@ pub record AreHeld (g : Topology) (root : ℕ) (w : Directions) (held : Columns)
   pub a_home_row_each : length held.home_rows.items ≡ length g.ids
   pub home_rows : AreHomeRows g root w held.home_rows.items
   pub one_below_each : length held.below.items ≡ length g.ids
-  pub places : length held.aims.items ≡ length g.ids * tile_width
-  pub up : IsTile g tile_width held.up
-  pub down : IsTile g tile_width held.down
+  pub some_places : 0 < held.width
+  pub places : length held.aims.items ≡ length g.ids * held.width
+  pub up : IsTile g held.width held.up
+  pub down : IsTile g held.width held.down
   pub aimed : held.first < length g.ids → AreTilesAimed g root w held

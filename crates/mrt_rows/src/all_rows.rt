@@ -8,7 +8,7 @@ ghost use Rattle.mrt_rows.specs.RowsOf.{AreAllRows, row_among};
 
 use crate::column::Columns;
 use crate::places::put;
-use mrt_graph::{Column, Directed, Graph, LinkNo, NoMemory, NodeNo, Row, Tag};
+use mrt_graph::{Directed, Graph, LinkNo, NoMemory, NodeNo, Row, Tag};
 use std::alloc::Global;
 
 /// The rows of all nodes, by ascending source, then by ascending destination: column after column.
@@ -29,16 +29,17 @@ pub fn all_rows(alloc: Global, g: &Graph, root: NodeNo, d: &Directed) -> Result<
         tag: Tag::Carried,
     };
     let mut rows = vec![in alloc; none_yet; size * (size - 1)]?;
+    let mut column = vec![in alloc; None; size]?;
     for n in 0..count {
         let to = NodeNo::new(n);
-        let column = columns.to(alloc, g, root, d, to)?;
+        columns.put(g, root, d, to, &mut column);
         put_column(count, to, &column, &mut rows);
     }
     Ok(rows)
 }
 
 /// Puts the rows of a column at their places.
-fn put_column(count: u16, to: NodeNo, column: &Column, rows: &mut [Row])
+fn put_column(count: u16, to: NodeNo, column: &[Option<Row>], rows: &mut [Row])
     requires to { to < count }
     requires one_each { length column.now ≡ count }
     requires none { slice_get column.now to ≡ Some None }
@@ -50,8 +51,16 @@ fn put_column(count: u16, to: NodeNo, column: &Column, rows: &mut [Row])
 {
     for n in 0..count {
         let s = NodeNo::new(n);
-        if let Some(row) = column.row(s) {
+        if let Some(row) = row_at(column, s) {
             put(count, s, to, row, rows);
         }
     }
+}
+
+/// The row of node s in a column.
+fn row_at(column: &[Option<Row>], s: NodeNo) -> Option<Row>
+    requires { s < length column.now }
+    ensures { slice_get column.now s ≡ Some result }
+{
+    column[s.get() as usize]
 }

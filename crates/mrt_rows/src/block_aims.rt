@@ -10,22 +10,34 @@ ghost use Rattle.mrt_rows.specs.Chain.{AreBlockAims, AreHeadAims, AreWayAims};
 
 use mrt_graph::{Directed, Graph, NodeNo};
 
-/// So many destinations are taken side by side.
-pub const WIDTH: u16 = 64;
+/// One of so many places side by side.
+#[derive(Clone, Copy)]
+pub struct Lane {
+    pub width: u16,
+    pub at: u16,
+}
 
 /// Puts what each block aims at for each of the destinations from `first` on, at the places of the block: its node on the
 /// way from the destination to the root, head by head, or its head where none lies in it.
-pub fn put_block_aims(g: &Graph, root: NodeNo, d: &Directed, first: u16, aims: &mut [NodeNo])
+pub fn put_block_aims(
+    g: &Graph,
+    root: NodeNo,
+    d: &Directed,
+    first: u16,
+    width: u16,
+    aims: &mut [NodeNo],
+)
     requires kept { IsTopology g.now }
     requires directed { SaysOrdered g.now root d.now }
     requires first { first < length g.now.ids }
-    requires room { length aims.old ≡ length g.now.ids * WIDTH }
+    requires room { length aims.old ≡ length g.now.ids * width }
     ensures room { length aims.new ≡ length aims.old }
-    ensures aims { (w : Directions) → Says g.now d.now w → AreBlockAims g.now root w first aims.new }
+    ensures aims { (w : Directions) → Says g.now d.now w → AreBlockAims g.now root w first width aims.new }
 {
-    put_heads(g, d, WIDTH as usize, aims);
-    for j in 0..WIDTH.min(g.node_count() - first) {
-        put_way(g, root, d, NodeNo::new(first + j), j, aims);
+    put_heads(g, d, width as usize, aims);
+    for at in 0..width.min(g.node_count() - first) {
+        let lane = Lane { width, at };
+        put_way(g, root, d, NodeNo::new(first + at), lane, aims);
     }
 }
 
@@ -57,25 +69,25 @@ fn put_all(at: usize, width: usize, node: NodeNo, aims: &mut [NodeNo])
     }
 }
 
-/// The block of each node on the way from `to` to the root aims at it, at place j.
-fn put_way(g: &Graph, root: NodeNo, d: &Directed, to: NodeNo, j: u16, aims: &mut [NodeNo])
+/// The block of each node on the way from `to` to the root aims at it, at this place.
+fn put_way(g: &Graph, root: NodeNo, d: &Directed, to: NodeNo, lane: Lane, aims: &mut [NodeNo])
     requires kept { IsTopology g.now }
     requires directed { SaysOrdered g.now root d.now }
     requires to { to < length g.now.ids }
-    requires place { j < WIDTH }
-    requires room { length aims.old ≡ length g.now.ids * WIDTH }
+    requires place { lane.at < lane.width }
+    requires room { length aims.old ≡ length g.now.ids * lane.width }
     ensures room { length aims.new ≡ length aims.old }
     ensures way { (w : Directions) → Says g.now d.now w
-        → ((y : ℕ) → y < length g.now.ids → aim_at aims.old WIDTH j (w.block y) ≡ w.head y)
-        → AreWayAims g.now root w to (aim_at aims.new WIDTH j) }
-    ensures others { (i k : ℕ) → i < WIDTH → i ≢ j
-        → aim_at aims.new WIDTH i k ≡ aim_at aims.old WIDTH i k }
+        → ((y : ℕ) → y < length g.now.ids → aim_at aims.old lane.width lane.at (w.block y) ≡ w.head y)
+        → AreWayAims g.now root w to (aim_at aims.new lane.width lane.at) }
+    ensures others { (i k : ℕ) → i < lane.width → i ≢ lane.at
+        → aim_at aims.new lane.width i k ≡ aim_at aims.old lane.width i k }
 {
     let mut c = to;
     while c != root {
         let place = d.place(c);
-        let at = place.block.get() as usize * WIDTH as usize;
-        aims[at + j as usize] = c;
+        let at = place.block.get() as usize * lane.width as usize;
+        aims[at + lane.at as usize] = c;
         c = place.head;
     }
 }

@@ -13,7 +13,7 @@ ghost use Rattle.mrt_rows.specs.ColumnOf.{IsColumnOf, IsRowIn};
 ghost use Rattle.mrt_rows.specs.Held.{AreHeld};
 ghost use Rattle.mrt_rows.specs.NearOf.{IsNearRow};
 
-use crate::block_aims::{WIDTH, put_block_aims};
+use crate::block_aims::put_block_aims;
 use crate::chain::put_below;
 use crate::heads::mark_heads;
 use crate::homes::{home_rows, homes_of};
@@ -23,6 +23,9 @@ use crate::soles::take_soles;
 use inc_dec_spf::{Dir, NO_LINK, Tile, nodes_by_turn};
 use mrt_graph::{Column, Directed, Graph, LinkNo, NoMemory, NodeNo, Row, Tag};
 use std::alloc::Global;
+
+/// So many destinations are taken side by side.
+const WIDTH: u16 = 64;
 
 /// What the columns of all destinations have in common, and the room in which they are made: what the blocks aim at, for
 /// the destinations from number `first` on, for none where there is no such node, and tiles that are aimed so.
@@ -35,6 +38,7 @@ pub struct Columns {
     pub homes: Vec<Home>,
     pub home_rows: Vec<Row>,
     pub below: Vec<Option<NodeNo>>,
+    pub width: u16,
     pub first: u16,
     pub aims: Vec<NodeNo>,
     pub up: Tile,
@@ -49,6 +53,22 @@ impl Columns {
         requires { SaysOrdered g.now root d.now }
         ensures { (w : Directions) → Says g.now d.now w → IfOk result (AreHeld g.now root w) }
     {
+        let columns = Columns::side_by_side(alloc, g, root, d, WIDTH)?;
+        Ok(columns)
+    }
+
+    /// The same, for so many destinations side by side.
+    fn side_by_side(
+        alloc: Global,
+        g: &Graph,
+        root: NodeNo,
+        d: &Directed,
+        width: u16,
+    ) -> Result<Columns, NoMemory>
+        requires ordered { SaysOrdered g.now root d.now }
+        requires some { 0 < width }
+        ensures { (w : Directions) → Says g.now d.now w → IfOk result (AreHeld g.now root w) }
+    {
         let count = g.node_count();
         let by_order = nodes_by_turn(alloc, g, d, Dir::Up)?;
         let against_order = nodes_by_turn(alloc, g, d, Dir::Down)?;
@@ -59,9 +79,9 @@ impl Columns {
         let homes = homes_of(alloc, g, d, &by_order, &against_order, &heads)?;
         let home_rows = home_rows(alloc, g, &soles, &homes)?;
         let below = vec![in alloc; None; count as usize]?;
-        let aims = vec![in alloc; root; count as usize * WIDTH as usize]?;
-        let up = Tile::new(alloc, g, WIDTH)?;
-        let down = Tile::new(alloc, g, WIDTH)?;
+        let aims = vec![in alloc; root; count as usize * width as usize]?;
+        let up = Tile::new(alloc, g, width)?;
+        let down = Tile::new(alloc, g, width)?;
         Ok(Columns {
             by_order,
             against_order,
@@ -70,6 +90,7 @@ impl Columns {
             homes,
             home_rows,
             below,
+            width,
             first: count,
             aims,
             up,
@@ -98,10 +119,32 @@ impl Columns {
         ensures sound { IfOk result (λ column. ColumnSound g.now.links (length g.now.ids) column to) }
     {
         let mut rows = vec![in alloc; None; g.node_count() as usize]?;
+        self.put(g, root, d, to, &mut rows);
+        Ok(Column::new(rows))
+    }
+
+    /// Puts the rows of all nodes for `to`, in place of what `rows` had. It takes the time of `to`, and no memory.
+    pub fn put(
+        &mut self,
+        g: &Graph,
+        root: NodeNo,
+        d: &Directed,
+        to: NodeNo,
+        rows: &mut [Option<Row>],
+    )
+        requires kept { IsTopology g.now }
+        requires directed { SaysOrdered g.now root d.now }
+        requires to { to < length g.now.ids }
+        requires held { (w : Directions) → Says g.now d.now w → AreHeld g.now root w self.old }
+        requires one_each { length rows.old ≡ length g.now.ids }
+        ensures held { (w : Directions) → Says g.now d.now w → AreHeld g.now root w self.new }
+        ensures one_each { length rows.new ≡ length rows.old }
+        ensures rows { (w : Directions) → Says g.now d.now w → IsColumnOf g.now root w to rows.new }
+    {
         self.aim(g, root, d, to);
         self.climb(g, root, d, to);
-        self.put_rows(g, root, d, to, &mut rows);
-        Ok(Column::new(rows))
+        rows[to.get() as usize] = None;
+        self.put_rows(g, root, d, to, rows);
     }
 
     /// Aims the tiles at as many destinations as they have places for, `to` among them, unless they are aimed so.
@@ -112,13 +155,13 @@ impl Columns {
         requires held { (w : Directions) → Says g.now d.now w → AreHeld g.now root w self.old }
         ensures held { (w : Directions) → Says g.now d.now w → AreHeld g.now root w self.new }
         ensures from { self.new.first ≤ to }
-        ensures among { to < self.new.first + WIDTH }
+        ensures among { to < self.new.first + self.new.width }
     {
-        if self.first <= to.get() && to.get() - self.first < WIDTH {
+        if self.first <= to.get() && to.get() - self.first < self.width {
             return;
         }
-        let first = to.get() / WIDTH * WIDTH;
-        put_block_aims(g, root, d, first, &mut self.aims);
+        let first = to.get() - to.get() % self.width;
+        put_block_aims(g, root, d, first, self.width, &mut self.aims);
         self.up.aim(g, d, Dir::Up, &self.against_order, &self.heads, &self.aims);
         self.down
             .aim(g, d, Dir::Down, &self.by_order, &self.heads, &self.aims);
@@ -133,6 +176,7 @@ impl Columns {
         requires held { (w : Directions) → Says g.now d.now w → AreHeld g.now root w self.old }
         ensures held { (w : Directions) → Says g.now d.now w → AreHeld g.now root w self.new }
         ensures first { self.new.first ≡ self.old.first }
+        ensures width { self.new.width ≡ self.old.width }
         ensures below { (w : Directions) → Says g.now d.now w
             → AreBelow g.now root w to self.new.below.items }
     {
@@ -148,7 +192,7 @@ impl Columns {
         requires below { (w : Directions) → Says g.now d.now w
             → AreBelow g.now root w to self.now.below.items }
         requires from { self.now.first ≤ to }
-        requires among { to < self.now.first + WIDTH }
+        requires among { to < self.now.first + self.now.width }
         requires one_each { length rows.old ≡ length g.now.ids }
         requires none { slice_get rows.old to ≡ Some None }
         ensures { (w : Directions) → Says g.now d.now w → IsColumnOf g.now root w to rows.new }
@@ -172,7 +216,7 @@ impl Columns {
         requires below { (w : Directions) → Says g.now d.now w
             → AreBelow g.now root w to self.now.below.items }
         requires from { self.now.first ≤ to }
-        requires among { to < self.now.first + WIDTH }
+        requires among { to < self.now.first + self.now.width }
         ensures { (w : Directions) → Says g.now d.now w → IsRowIn g.now root w s to result }
     {
         let j = (to.get() - self.first) as usize;
@@ -225,12 +269,12 @@ impl Columns {
         requires source { s < length g.now.ids }
         requires aim { aim < length g.now.ids }
         requires two { s ≢ aim }
-        requires place { j < WIDTH }
+        requires place { j < self.now.width }
         requires held { (w : Directions) → Says g.now d.now w → AreHeld g.now root w self.now }
         ensures { (w : Directions) → Says g.now d.now w
-            → IsAimed g.now w Up self.now.aims.items WIDTH self.now.up
-            → IsAimed g.now w Down self.now.aims.items WIDTH self.now.down
-            → IsAimOf g.now w (aim_at self.now.aims.items WIDTH j) s aim → IsNearRow g.now root w s aim result }
+            → IsAimed g.now w Up self.now.aims.items self.now.width self.now.up
+            → IsAimed g.now w Down self.now.aims.items self.now.width self.now.down
+            → IsAimOf g.now w (aim_at self.now.aims.items self.now.width j) s aim → IsNearRow g.now root w s aim result }
     {
         let at = s.get() as usize;
         let here = d.place(s);
@@ -256,7 +300,7 @@ impl Columns {
 
 /// The rows of all nodes for `to`.
 ///
-/// It takes the time and the room of 64 columns. For those of several destinations make `Columns` once.
+/// For those of several destinations make `Columns` once.
 pub fn column_of(
     alloc: Global,
     g: &Graph,
@@ -270,7 +314,7 @@ pub fn column_of(
         → IfOk result (λ column. IsColumnOf g.now root w to column) }
     ensures sound { IfOk result (λ column. ColumnSound g.now.links (length g.now.ids) column to) }
 {
-    let mut columns = Columns::new(alloc, g, root, d)?;
+    let mut columns = Columns::side_by_side(alloc, g, root, d, 1)?;
     let column = columns.to(alloc, g, root, d, to)?;
     Ok(column)
 }

@@ -7,8 +7,8 @@ use Rattle.mrt_rows.proofs.Climbing.{graph_by}
 use Rattle.mrt_rows.proofs.WayAims.{way_aims_too}
 use Rattle.mrt_rows.proofs.block_aims.put_block_aims.Goals as goal
 
-pub loop-j-init : goal.loop-j-init
-loop-j-init c = record {
+pub loop-at-init : goal.loop-at-init
+loop-at-init c = record {
   room = refl;
   done = λ w says i below. absurd (omega (arith, below));
   ahead = λ w says i y low high y_within.
@@ -17,25 +17,26 @@ loop-j-init c = record {
       (c.put_heads.ensures.heads c.args.root w are).each i y high y_within;
 }
 
-pub loop-j-preserved : goal.loop-j-preserved
-loop-j-preserved c =
+pub loop-at-preserved : goal.loop-at-preserved
+loop-at-preserved c =
     let g = c.args.g.now in
-    let j = c.loop-j.j in
-    let aims = c.loop-j.aims in
+    let j = c.loop-at.at in
+    let width = c.args.width in
+    let aims = c.loop-at.aims in
     let after = c.put_way.new.aims in
-    let j_below : j < 64 = omega (arith, c.loop-j-test.true, c.min-j-end.ensures) in
+    let j_below : j < width = omega (arith, c.loop-at-test.true, c.min-at-end.ensures) in
     record {
-      room = c.put_way.ensures.room ∙ c.loop-j.invariant.room;
+      room = c.put_way.ensures.room ∙ c.loop-at.invariant.room;
       done = λ w says i below. elim (cases_eq i j) [
         | inl same ↦
-            subst (λ (k : ℕ). AreWayAims g c.args.root w (c.args.first + k) (aim_at after 64 k)) (sym same)
-            (subst (λ (t : ℕ). AreWayAims g c.args.root w t (aim_at after 64 j)) c.new.ensures
-            (c.put_way.ensures.way w says (λ y y_within. c.loop-j.invariant.ahead w says j y (omega arith) j_below y_within)))
+            subst (λ (k : ℕ). AreWayAims g c.args.root w (c.args.first + k) (aim_at after width k)) (sym same)
+            (subst (λ (t : ℕ). AreWayAims g c.args.root w t (aim_at after width j)) c.new.ensures
+            (c.put_way.ensures.way w says (λ y y_within. c.loop-at.invariant.ahead w says j y (omega arith) j_below y_within)))
         | inr other ↦
-            way_aims_too g c.args.root w (c.args.first + i) (aim_at aims 64 i) (aim_at after 64 i)
-            (λ k. c.put_way.ensures.others i k (omega (arith, below, j_below)) other) (c.loop-j.invariant.done w says i (omega (arith, below, other)))
+            way_aims_too g c.args.root w (c.args.first + i) (aim_at aims width i) (aim_at after width i)
+            (λ k. c.put_way.ensures.others i k (omega (arith, below, j_below)) other) (c.loop-at.invariant.done w says i (omega (arith, below, other)))
       ];
       ahead = λ w says i y low high y_within.
           c.put_way.ensures.others i (w.block y) high (λ same. omega (arith, low, same))
-          ∙ c.loop-j.invariant.ahead w says i y (omega (arith, low)) high y_within;
+          ∙ c.loop-at.invariant.ahead w says i y (omega (arith, low)) high y_within;
     }

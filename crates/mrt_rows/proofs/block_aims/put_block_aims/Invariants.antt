@@ -4,9 +4,9 @@ use Rattle.inc_dec_spf.specs.BlockAims.{aim_at}
 use Rattle.mrt_rows.specs.Chain.{AreWayAims}
 use Rattle.mrt_rows.proofs.block_aims.put_block_aims.Given as goal
 
-abbrev pub invariant-loop-j : goal.invariant-loop-j
-invariant-loop-j l = record {
+abbrev pub invariant-loop-at : goal.invariant-loop-at
+invariant-loop-at l = record {
   room : length l.aims ≡ length l.initial.aims;
-  done : (w : Directions) → Says l.g l.d w → (i : ℕ) → i < l.j → AreWayAims l.g l.root w (l.first + i) (aim_at l.aims 64 i);
-  ahead : (w : Directions) → Says l.g l.d w → (i y : ℕ) → l.j ≤ i → i < 64 → y < length l.g.ids → aim_at l.aims 64 i (w.block y) ≡ w.head y;
+  done : (w : Directions) → Says l.g l.d w → (i : ℕ) → i < l.at → AreWayAims l.g l.root w (l.first + i) (aim_at l.aims l.width i);
+  ahead : (w : Directions) → Says l.g l.d w → (i y : ℕ) → l.at ≤ i → i < l.width → y < length l.g.ids → aim_at l.aims l.width i (w.block y) ≡ w.head y;
 }

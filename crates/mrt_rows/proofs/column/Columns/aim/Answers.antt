@@ -1,20 +1,21 @@
-use Rattle.std.proofs.Common.{◌≡◌, ℕ, Bool, List, length, sym, subst, ap, ◌∙◌}
+use Rattle.std.proofs.Common.{◌≡◌, ◌*◌, ℕ, Bool, List, length, sym, subst, ap, arith, ◌∙◌}
+use Rattle.std.proofs.Math.Nat.{mod-lt}
 use Rattle.std.proofs.lemmas.List.{with_items_is}
 use Rattle.mrt_graph.specs.Topology.{Topology}
 use Rattle.link_direction.specs.Directions.{Directions}
 use Rattle.inc_dec_spf.specs.declared.reach.Dir.TheVariants.{Down, Up}
 use Rattle.inc_dec_spf.specs.FirstLink.{AreOthersInOneBlock}
 use Rattle.inc_dec_spf.specs.HasDirections.{AreDirections}
-use Rattle.inc_dec_spf.specs.Tile.{IsAimed}
+use Rattle.inc_dec_spf.specs.Tile.{IsAimed, IsTile}
 use Rattle.inc_dec_spf.specs.Turns.{AreTurns}
 use Rattle.mrt_rows.specs.Chain.{AreBlockAims}
 use Rattle.mrt_rows.proofs.Climbing.{graph_by}
 use Rattle.mrt_rows.proofs.Sharing.{others_in_one_block}
 use Rattle.mrt_rows.proofs.column.Columns.aim.Goals as goal
 
-aims_moved : (g : Topology) (root : ℕ) (w : Directions) (first : ℕ) (aims after : List ℕ) → after ≡ aims → AreBlockAims g root w first aims
-    → AreBlockAims g root w first after
-aims_moved g root w first aims after same are = subst (λ (xs : List ℕ). AreBlockAims g root w first xs) (sym same) are
+aims_moved : (g : Topology) (root : ℕ) (w : Directions) (first width : ℕ) (aims after : List ℕ) → after ≡ aims → AreBlockAims g root w first width aims
+    → AreBlockAims g root w first width after
+aims_moved g root w first width aims after same are = subst (λ (xs : List ℕ). AreBlockAims g root w first width xs) (sym same) are
 
 pub put_block_aims-requires-clause-room : goal.put_block_aims-requires-clause-room
 put_block_aims-requires-clause-room c =
@@ -37,8 +38,8 @@ aim-requires c =
             ap (λ (marks : List Bool). length marks) c.deref-2.ensures.value ∙ (c.requires.held w says).a_mark_each,
             (
               ap (λ (xs : List ℕ). length xs) same ∙ c.put_block_aims.ensures.room ∙ ap (λ (xs : List ℕ). length xs) c.deref_mut.ensures.value
-                  ∙ (c.requires.held w says).places,
-              (c.requires.held w says).up,
+                  ∙ (c.requires.held w says).places ∙ ap (λ (k : ℕ). length g.ids * k) (sym (c.requires.held w says).up.links),
+              subst (λ (k : ℕ). IsTile g k c.args.self.now.up) (sym (c.requires.held w says).up.links) (c.requires.held w says).up,
             ),
           ),
         ),
@@ -61,8 +62,8 @@ aim-requires-2 c =
             ap (λ (marks : List Bool). length marks) c.deref-5.ensures.value ∙ (c.requires.held w says).a_mark_each,
             (
               ap (λ (xs : List ℕ). length xs) same ∙ c.put_block_aims.ensures.room ∙ ap (λ (xs : List ℕ). length xs) c.deref_mut.ensures.value
-                  ∙ (c.requires.held w says).places,
-              (c.requires.held w says).down,
+                  ∙ (c.requires.held w says).places ∙ ap (λ (k : ℕ). length g.ids * k) (sym (c.requires.held w says).down.links),
+              subst (λ (k : ℕ). IsTile g k c.args.self.now.down) (sym (c.requires.held w says).down.links) (c.requires.held w says).down,
             ),
           ),
         ),
@@ -95,12 +96,23 @@ returns-clause-held c = λ w says.
       a_home_row_each = held.a_home_row_each;
       home_rows = held.home_rows;
       one_below_each = held.one_below_each;
+      some_places = held.some_places;
       places = ap (λ (xs : List ℕ). length xs) same ∙ c.put_block_aims.ensures.room ∙ ap (λ (xs : List ℕ). length xs) c.deref_mut.ensures.value ∙ held.places;
-      up = c.aim.ensures.tile;
-      down = c.aim-2.ensures.tile;
+      up = subst (λ (k : ℕ). IsTile g k c.aim.new.self) held.up.links c.aim.ensures.tile;
+      down = subst (λ (k : ℕ). IsTile g k c.aim-2.new.self) held.down.links c.aim-2.ensures.tile;
       aimed = λ inside. record {
-        aims = aims_moved g root w _ put _ same (c.put_block_aims.ensures.aims w says);
-        up = subst (λ (xs : List ℕ). IsAimed g w Up xs 64 c.aim.new.self) c.deref-3.ensures.value (c.aim.ensures.aimed root w are others);
-        down = subst (λ (xs : List ℕ). IsAimed g w Down xs 64 c.aim-2.new.self) c.deref-6.ensures.value (c.aim-2.ensures.aimed root w are others_down);
+        aims = aims_moved g root w _ _ put _ same (c.put_block_aims.ensures.aims w says);
+        up = subst (λ (xs : List ℕ). IsAimed g w Up xs c.args.self.now.width c.aim.new.self) c.deref-3.ensures.value
+            (subst (λ (k : ℕ). IsAimed g w Up c.deref-3.result.now k c.aim.new.self) held.up.links (c.aim.ensures.aimed root w are others));
+        down = subst (λ (xs : List ℕ). IsAimed g w Down xs c.args.self.now.width c.aim-2.new.self) c.deref-6.ensures.value
+            (subst (λ (k : ℕ). IsAimed g w Down c.deref-6.result.now k c.aim-2.new.self) held.down.links (c.aim-2.ensures.aimed root w are others_down));
       };
     }
+
+pub nonzero_rem-first : goal.nonzero_rem-first
+nonzero_rem-first c = (c.requires.held c.requires.directed.directions c.requires.directed.says).some_places
+
+pub returns-clause-among : goal.returns-clause-among
+returns-clause-among c =
+    let some = (c.requires.held c.requires.directed.directions c.requires.directed.says).some_places in
+    omega (arith, mod-lt c.get-3.result {m = c.args.self.now.width} some, c.get-2.ensures.value)

@@ -1,7 +1,7 @@
 use Rattle.std.proofs.Common.{◌≡◌, ◌∙◌, ◌<◌, ℕ, List, Option, Some, None, get_or, length, slice_get, sym, ap, subst, arith}
 use Rattle.std.proofs.lemmas.Bool.{eqb-true, eqb-false}
 use Rattle.std.proofs.lemmas.Option.{same_Some, slice_get-get_or}
-use Rattle.mrt_rows.specs.Chain.{AtHome, Beside, IsRowAim, Under}
+use Rattle.mrt_rows.specs.Chain.{AtHome, Beside, Under}
 use Rattle.mrt_rows.proofs.ChainAims.{climb_low}
 use Rattle.mrt_rows.proofs.Climbing.{graph_by}
 use Rattle.mrt_rows.proofs.NearRows.{place_says}

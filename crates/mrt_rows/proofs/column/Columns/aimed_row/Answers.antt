@@ -11,6 +11,7 @@ use Rattle.inc_dec_spf.specs.declared.tile.Tile.{Tile}
 use Rattle.inc_dec_spf.specs.BlockAims.{IsAimOf, aim_at}
 use Rattle.inc_dec_spf.specs.FirstLink.{IsFirstLink}
 use Rattle.inc_dec_spf.specs.Tile.{IsAimed}
+use Rattle.inc_dec_spf.proofs.SideBySide.{row_within}
 use Rattle.mrt_rows.specs.declared.members.Home.{Home}
 use Rattle.mrt_rows.specs.NearOf.{AreSoles, IsNearRow, IsPlaceOf, IsSoleOf}
 use Rattle.mrt_rows.specs.Put.{AreHomes, IsHome, ShareMoreLinks}
@@ -34,11 +35,11 @@ home_at g w homes i v home are one_each named within is =
     are.each v home (subst (λ (x : ℕ). slice_get homes x ≡ Some home) named
     (slice_get-get_or homes i home (omega (arith, named, within, one_each)) ∙ ap (λ (x : Home). Some x) (sym is)))
 
-first_link : (g : Topology) (w : Directions) (dir : Dir) (tile : Tile) (aims links : List ℕ) (s t j link : ℕ) → IsAimed g w dir aims 64 tile
-    → IsAimOf g w (aim_at aims 64 j) s t → s < length g.ids → t < length g.ids → j < 64 → length tile.links.items ≡ 64 → slice_get links j ≡ Some link
+first_link : (g : Topology) (w : Directions) (dir : Dir) (tile : Tile) (aims links : List ℕ) (width s t j link : ℕ) → IsAimed g w dir aims width tile
+    → IsAimOf g w (aim_at aims width j) s t → s < length g.ids → t < length g.ids → j < width → length tile.links.items ≡ width → slice_get links j ≡ Some link
     → ((i x : ℕ) → slice_get links i ≡ Some x → slice_get tile.all_links.items (s * length tile.links.items + i) ≡ Some x)
     → ShareMoreLinks g w s t → IsFirstLink g w dir s t link
-first_link g w dir tile aims links s t j link aimed aim s_within t_within below wide at there shares =
+first_link g w dir tile aims links width s t j link aimed aim s_within t_within below wide at there shares =
     (aimed.each s s_within).each j t shares.block shares.head link below t_within shares.share aim
     (subst (λ (k : ℕ). slice_get tile.all_links.items (s * k + j) ≡ Some link) wide (there j link at))
 
@@ -60,7 +61,8 @@ index-requires-4 c =
 pub links_of-requires : goal.links_of-requires
 links_of-requires c =
     let held = c.requires.held c.requires.directed.directions c.requires.directed.says in
-    rw (held.up.links, held.up.all_links) (omega (arith, c.requires.source))
+    rw (held.up.links, held.up.all_links) (row_within c.args.s (length c.args.g.now.ids) c.args.self.now.width (length c.args.g.now.ids * c.args.self.now.width) refl
+    c.requires.source)
 
 pub bounds-links_of-j : goal.bounds-links_of-j
 bounds-links_of-j c =
@@ -70,7 +72,8 @@ bounds-links_of-j c =
 pub links_of-requires-2 : goal.links_of-requires-2
 links_of-requires-2 c =
     let held = c.requires.held c.requires.directed.directions c.requires.directed.says in
-    rw (held.down.links, held.down.all_links) (omega (arith, c.requires.source))
+    rw (held.down.links, held.down.all_links) (row_within c.args.s (length c.args.g.now.ids) c.args.self.now.width (length c.args.g.now.ids * c.args.self.now.width) refl
+    c.requires.source)
 
 pub bounds-links_of-j-2 : goal.bounds-links_of-j-2
 bounds-links_of-j-2 c =
@@ -108,7 +111,7 @@ returns c = λ w says up down aimed.
     let columns = c.args.self.now in
     let held = c.requires.held w says in
     let og = graph_by g c.args.root d w c.requires.kept c.requires.directed says in
-    let below : j < 64 = omega (arith, c.requires.place) in
+    let below = c.requires.place in
     let ups = c.links_of.result.now in
     let downs = c.links_of-2.result.now in
     let at_up = slice_get_read ups (length ups) j c.index-links_of-j.result refl (omega (arith, c.links_of.ensures.one_each, held.up.links, below))
@@ -125,7 +128,7 @@ returns c = λ w says up down aimed.
     })
     c.requires.aim (place_is g d w aim c.place.result says c.requires.aim c.place.ensures)
     (sole_at g w columns.soles.items c.get.result aim c.index-4.result.now held.soles c.get.ensures.value c.requires.aim c.index-4.ensures)
-    (first_link g w _ columns.up columns.aims.items ups s aim j c.index-links_of-j.result up aimed c.requires.source c.requires.aim below held.up.links at_up
+    (first_link g w _ columns.up columns.aims.items ups columns.width s aim j c.index-links_of-j.result up aimed c.requires.source c.requires.aim below held.up.links at_up
     c.links_of.ensures.there)
-    (first_link g w _ columns.down columns.aims.items downs s aim j c.index-links_of-j-2.result down aimed c.requires.source c.requires.aim below held.down.links
+    (first_link g w _ columns.down columns.aims.items downs columns.width s aim j c.index-links_of-j-2.result down aimed c.requires.source c.requires.aim below held.down.links
     at_down c.links_of-2.ensures.there)

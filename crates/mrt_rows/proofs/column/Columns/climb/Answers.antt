@@ -23,6 +23,7 @@ returns-clause-held c = λ w says.
       a_home_row_each = held.a_home_row_each;
       home_rows = held.home_rows;
       one_below_each = ap (λ (xs : List (Option ℕ)). length xs) same ∙ (c.put_below.ensures w says).one_each;
+      some_places = held.some_places;
       places = held.places;
       up = held.up;
       down = held.down;

@@ -40,10 +40,10 @@ returns-in_err-row c = λ w says.
     let apart : s ≢ aim = λ same. aim_apart og c.args.to c.requires.to below are_below s aim c.requires.source c.requires.two is (sym same) in
     let place : held.first + j ≡ c.args.to = omega (arith, c.get.ensures.value, c.requires.from) in
     let aimed = (c.requires.held w says).aimed (omega (arith, c.requires.from, c.requires.to)) in
-    let ways : AreWayAims g c.args.root w c.args.to (aim_at held.aims.items 64 j) =
-    subst (λ (t : ℕ). AreWayAims g c.args.root w t (aim_at held.aims.items 64 j)) place
+    let ways : AreWayAims g c.args.root w c.args.to (aim_at held.aims.items held.width j) =
+    subst (λ (t : ℕ). AreWayAims g c.args.root w t (aim_at held.aims.items held.width j)) place
     (aimed.aims.each j (omega (arith, place, c.requires.among)) (omega (arith, place, c.requires.to))) in
-    let it = aim_of_blocks og c.args.to c.requires.to below are_below (aim_at held.aims.items 64 j) ways s aim c.requires.source c.requires.two is in
+    let it = aim_of_blocks og c.args.to c.requires.to below are_below (aim_at held.aims.items held.width j) ways s aim c.requires.source c.requires.two is in
     let near = c.aimed_row.ensures w says aimed.up aimed.down it in
     absurd (some_near og c.args.to c.requires.to below are_below s aim c.requires.source c.requires.two apart is
     (subst (λ (o : Option Row). IsNearRow g c.args.root w s aim o) c.in_err-row.was near))
@@ -62,10 +62,10 @@ returns-then-eq c = λ w says.
     let apart : s ≢ aim = λ same. aim_apart og c.args.to c.requires.to below are_below s aim c.requires.source c.requires.two is (sym same) in
     let place : held.first + j ≡ c.args.to = omega (arith, c.get.ensures.value, c.requires.from) in
     let aimed = (c.requires.held w says).aimed (omega (arith, c.requires.from, c.requires.to)) in
-    let ways : AreWayAims g c.args.root w c.args.to (aim_at held.aims.items 64 j) =
-    subst (λ (t : ℕ). AreWayAims g c.args.root w t (aim_at held.aims.items 64 j)) place
+    let ways : AreWayAims g c.args.root w c.args.to (aim_at held.aims.items held.width j) =
+    subst (λ (t : ℕ). AreWayAims g c.args.root w t (aim_at held.aims.items held.width j)) place
     (aimed.aims.each j (omega (arith, place, c.requires.among)) (omega (arith, place, c.requires.to))) in
-    let it = aim_of_blocks og c.args.to c.requires.to below are_below (aim_at held.aims.items 64 j) ways s aim c.requires.source c.requires.two is in
+    let it = aim_of_blocks og c.args.to c.requires.to below are_below (aim_at held.aims.items held.width j) ways s aim c.requires.source c.requires.two is in
     let near = c.aimed_row.ensures w says aimed.up aimed.down it in
     row_at_aim og c.args.to c.requires.to below are_below s aim c.requires.source c.requires.two apart is c.in_ok-row.row
     (eqb-true aim c.args.to (sym c.eq.ensures ∙ c.if-eq.true))
@@ -85,10 +85,10 @@ returns c = λ w says.
     let apart : s ≢ aim = λ same. aim_apart og c.args.to c.requires.to below are_below s aim c.requires.source c.requires.two is (sym same) in
     let place : held.first + j ≡ c.args.to = omega (arith, c.get.ensures.value, c.requires.from) in
     let aimed = (c.requires.held w says).aimed (omega (arith, c.requires.from, c.requires.to)) in
-    let ways : AreWayAims g c.args.root w c.args.to (aim_at held.aims.items 64 j) =
-    subst (λ (t : ℕ). AreWayAims g c.args.root w t (aim_at held.aims.items 64 j)) place
+    let ways : AreWayAims g c.args.root w c.args.to (aim_at held.aims.items held.width j) =
+    subst (λ (t : ℕ). AreWayAims g c.args.root w t (aim_at held.aims.items held.width j)) place
     (aimed.aims.each j (omega (arith, place, c.requires.among)) (omega (arith, place, c.requires.to))) in
-    let it = aim_of_blocks og c.args.to c.requires.to below are_below (aim_at held.aims.items 64 j) ways s aim c.requires.source c.requires.two is in
+    let it = aim_of_blocks og c.args.to c.requires.to below are_below (aim_at held.aims.items held.width j) ways s aim c.requires.source c.requires.two is in
     let near = c.aimed_row.ensures w says aimed.up aimed.down it in
     row_from_aim og c.args.to c.requires.to below are_below s aim c.requires.source c.requires.two apart is c.in_ok-row.row
     (eqb-false aim c.args.to (sym c.eq.ensures ∙ c.if-eq.false))

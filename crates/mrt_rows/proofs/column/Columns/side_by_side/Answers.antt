@@ -5,14 +5,14 @@ use Rattle.mrt_rows.specs.NearOf.{AreSoles}
 use Rattle.mrt_rows.specs.declared.members.Home.{Home}
 use Rattle.mrt_rows.specs.Put.{AreHeadsMarked, AreHomes}
 use Rattle.mrt_rows.proofs.Climbing.{graph_by}
-use Rattle.mrt_rows.proofs.column.Columns.new.Goals as goal
+use Rattle.mrt_rows.proofs.column.Columns.side_by_side.Goals as goal
 
 pub returns : goal.returns
 returns c = λ w says.
     let g = c.args.g.now in
     let root = c.args.root in
     let kept = c.node_count-count.ensures.kept in
-    let og = graph_by g root c.args.d.now w kept c.requires says in
+    let og = graph_by g root c.args.d.now w kept c.requires.ordered says in
     let are : AreDirections g c.args.d.now root w = record { says = says; ordered = og.ordered } in
     let heads_same = with_items_is c.in_ok-heads.heads c.mark_heads.new.marks (c.mark_heads.auto.marks ∙ c.deref_mut.ensures.len) in
     let marked = c.mark_heads.ensures.heads root w are in
@@ -34,6 +34,7 @@ returns c = λ w says.
       home_rows = c.in_ok-home_rows.ensures.rows root w og.ordered (subst (λ (xs : List ℕ). AreSoles g w xs) (sym (c.deref-4.ensures.value ∙ soles_same)) taken)
           (subst (λ (xs : List Home). AreHomes g w xs) (sym c.deref-5.ensures.value) homes);
       one_below_each = search rules;
+      some_places = c.requires.some;
       places = search rules;
       up = c.in_ok-up.ensures;
       down = c.in_ok-down.ensures;
