@@ -9,3 +9,5 @@ pub mod Bringing
 pub mod Converging
 pub mod RunsAsLists
 pub mod MayBeFlooded
+pub mod Stored
+pub mod Copies

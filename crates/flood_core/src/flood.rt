@@ -7,11 +7,11 @@ ghost use Rattle.flood_core.specs.Receiving.{new_router};
 
 use crate::answer::Answer;
 use crate::router::Router;
+use crate::shared_lsdb::SharedLsdb;
+use crate::shared_update::{SharedUpdate, shared_updates};
 use crate::update::Update;
 use file_key::FileKey;
-use lsdb::Lsdb;
-use mrt_graph::{NoMemory, Seq};
-use ospf_lsa::Lsa;
+use mrt_graph::NoMemory;
 use std::alloc::Global;
 use std::marker::Model;
 
@@ -21,7 +21,7 @@ use std::marker::Model;
 #[derive(Drop)]
 pub struct Flood {
     alloc: Global,
-    packets: Vec<Update>,
+    packets: Vec<SharedUpdate>,
     routers: Vec<Router>,
     changed: u32,
 }
@@ -47,7 +47,8 @@ impl Flood {
     ///
     /// # Errors
     ///
-    /// [`NoMemory`] where there was none for the list of the routers.
+    /// [`NoMemory`] where there was none for the list of the routers, or for the packets to hold their LSAs together with
+    /// databases.
     pub fn new(
         alloc: Global,
         file: FileKey,
@@ -62,7 +63,7 @@ impl Flood {
     {
         Ok(Flood {
             alloc,
-            packets: updates,
+            packets: shared_updates(alloc, updates)?,
             routers: new_routers(alloc, file, routers)?,
             changed: 0,
         })
@@ -75,7 +76,8 @@ impl Flood {
     /// place. Those whose install answers `Added` or `Replaced` are new, and become a packet, the last one, which the
     /// router sends on: with the place, the router and the area of the delivered one, and the LSAs as they stand there.
     ///
-    /// It takes time in proportion to the packet's bytes, over many deliveries.
+    /// It takes, over many deliveries, a look-up for each LSA, and the time of comparing its bytes where there is one of
+    /// its rank. It copies no LSA: the database and the new packet hold what the delivered one holds.
     ///
     /// # Errors
     ///
@@ -102,7 +104,7 @@ impl Flood {
             changed,
         } = self;
         let update = &packets[packet as usize];
-        let news = routers[usize::from(router)].receive(alloc, update.lsas.as_slice())?;
+        let news = routers[usize::from(router)].receive(alloc, update.lsas())?;
         let sent = update.with_lsas(news);
         let answer = send_on(&mut packets, sent)?;
         let flood = Flood {
@@ -115,25 +117,11 @@ impl Flood {
     }
 
     /// A router's database.
-    pub fn database(&self, router: u16) -> &Lsdb
+    pub fn database(&self, router: u16) -> &SharedLsdb
         requires { router < length self.now.routers }
         ensures { database_of self.now router ≡ Some result.now }
     {
         &self.routers[usize::from(router)].database
-    }
-}
-
-impl Update {
-    /// The packet with these LSAs alone.
-    fn with_lsas(&self, lsas: Vec<Lsa>) -> Update
-        ensures { result ≡ record self.now { lsas = lsas.items } }
-    {
-        Update {
-            at: self.at,
-            router: self.router,
-            area: self.area,
-            lsas: Seq::from_vec(lsas),
-        }
     }
 }
 
@@ -149,13 +137,13 @@ fn new_routers(alloc: Global, file: FileKey, count: u16) -> Result<Vec<Router>, 
 }
 
 /// Puts a packet of new LSAs at the end, if there are any, and tells how many there are and the packet's number.
-fn send_on(packets: &mut Vec<Update>, sent: Update) -> Result<Answer, NoMemory>
+fn send_on(packets: &mut Vec<SharedUpdate>, sent: SharedUpdate) -> Result<Answer, NoMemory>
     requires few { length sent.lsas < 2 ^ 32 }
     requires room { length packets.old.items < 2 ^ 32 }
     ensures answer { IfOk result (λ answer. answer ≡ answer_of (length packets.old.items) sent.lsas) }
     ensures packets { OnOk result (packets.new.items ≡ packets.old.items ++ sent_on sent sent.lsas) }
 {
-    let count = sent.lsas.as_slice().len() as u32;
+    let count = sent.lsas().len() as u32;
     if count == 0 {
         return Ok(Answer::Changed { count, sent: None });
     }

@@ -7,13 +7,18 @@
 #![tactic(auto)]
 
 mod answer;
+mod compare;
 mod error;
 mod field;
 mod flood;
+mod held;
 mod packet;
 mod reading;
 mod router;
 mod run_law;
+mod shared_lsa;
+mod shared_lsdb;
+mod shared_update;
 mod update;
 mod update_law;
 
@@ -26,5 +31,6 @@ pub use run_law::{
     newest_of_the_same_are_the_same, nothing_is_made_up,
     the_same_deliveries_give_the_same_database,
 };
+pub use shared_lsdb::SharedLsdb;
 pub use update::Update;
 pub use update_law::bytes_are_updates_or_have_a_fault;

@@ -12,10 +12,10 @@ send_on-requires-clause-few c =
       changed = c.self.inside.changed;
     } in
     let done = done_of state c.args.packet c.from-2.result c.index-update.result.now c.with_lsas-sent.result
-    c.index_mut.result.now c.receive.new.self c.as_slice-3.result.now c.in_ok-news.news.items
+    c.index_mut.result.now c.receive.new.self c.lsas.result.now c.in_ok-news.news.items
     (omega (arith, c.if-as_slice-packet.false, ap length c.as_slice.ensures.value))
     (omega (arith, c.if-as_slice-from.false, ap length c.as_slice-2.ensures.value, c.from.ensures, c.from-2.ensures))
-    c.index-update.ensures c.index_mut.ensures.value c.as_slice-3.ensures c.in_ok-news.ensures.news
+    c.index-update.ensures c.index_mut.ensures.value c.lsas.ensures c.in_ok-news.ensures.news
     c.in_ok-news.ensures.after c.with_lsas-sent.ensures in
     omega (arith, few_sent done c.self.invariant)
 
@@ -30,10 +30,10 @@ done_here : (c : goal.In_ok-answer) → IsDone
     c.receive.new.self c.in_ok-news.news.items
 done_here c =
     done_of _ c.args.packet c.from-2.result c.index-update.result.now c.with_lsas-sent.result
-    c.index_mut.result.now c.receive.new.self c.as_slice-3.result.now c.in_ok-news.news.items
+    c.index_mut.result.now c.receive.new.self c.lsas.result.now c.in_ok-news.news.items
     (omega (arith, c.if-as_slice-packet.false, ap length c.as_slice.ensures.value))
     (omega (arith, c.if-as_slice-from.false, ap length c.as_slice-2.ensures.value, c.from.ensures, c.from-2.ensures))
-    c.index-update.ensures c.index_mut.ensures.value c.as_slice-3.ensures c.in_ok-news.ensures.news
+    c.index-update.ensures c.index_mut.ensures.value c.lsas.ensures c.in_ok-news.ensures.news
     c.in_ok-news.ensures.after c.with_lsas-sent.ensures
 
 pub invariant_of-flood : goal.invariant_of-flood
