@@ -3,9 +3,8 @@
 use crate::update_files::{OLDER_FIRST, PACKETS};
 use area_graph::build_area;
 use file_key::FileKey;
-use flood_core::read_updates;
+use flood_core::{SharedLsdb, read_updates};
 use flood_script::{Compare, FloodScriptError, Verdict, flood_text, read_flood_script};
-use lsdb::Lsdb;
 use mrt_graph::{Kind, NoMemory, NodeId};
 use std::alloc::Global;
 
@@ -18,8 +17,8 @@ impl Compare for ByNodes {
     fn compare(
         &self,
         alloc: Global,
-        one: &Lsdb,
-        other: &Lsdb,
+        one: &SharedLsdb,
+        other: &SharedLsdb,
         router: u32,
     ) -> Result<Verdict, NoMemory> {
         Ok(verdict_of(nodes(alloc, one, router), nodes(alloc, other, router)))
@@ -34,9 +33,12 @@ fn verdict_of(one: Option<u16>, other: Option<u16>) -> Verdict {
     }
 }
 
-fn nodes(alloc: Global, database: &Lsdb, router: u32) -> Option<u16> {
-    database.settled().ok()?;
-    let area = build_area(alloc, database).ok()?;
+fn nodes(alloc: Global, database: &SharedLsdb, router: u32) -> Option<u16> {
+    if !database.is_settled() {
+        return None;
+    }
+    let copy = database.copied(alloc).ok()?;
+    let area = build_area(alloc, &copy).ok()?;
     area.find(NodeId {
         kind: Kind::Router,
         number: router,

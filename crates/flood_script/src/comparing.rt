@@ -3,7 +3,7 @@
 ghost use Rattle.std.specs.Prelude.{IfOk};
 
 use crate::verdict::Verdict;
-use lsdb::Lsdb;
+use flood_core::SharedLsdb;
 use mrt_graph::NoMemory;
 use std::alloc::Global;
 
@@ -24,8 +24,8 @@ pub trait Compare {
     fn compare(
         &self,
         alloc: Global,
-        one: &Lsdb,
-        other: &Lsdb,
+        one: &SharedLsdb,
+        other: &SharedLsdb,
         router: u32,
     ) -> Result<Verdict, NoMemory>
         ensures { IfOk result (λ verdict. says self.now one.now other.now router verdict) };

@@ -1,13 +1,15 @@
 //! Databases compared by the certificate of a router's island.
 
-ghost use Rattle.std.specs.Prelude.{◌≡◌, IfOk, if◌then◌else◌};
+ghost use Rattle.std.specs.Prelude.{◌≡◌, ◌⊎◌, IfOk, IfErr, if◌then◌else◌, length};
 ghost use Rattle.area_graph.specs.AreaInvariant.{IsArea};
+ghost use Rattle.area_graph.specs.AreaSize.{IsTooLarge, TellsTooLarge};
 ghost use Rattle.flood_verdict.specs.Found.{IsFound, IsFoundIn};
+ghost use Rattle.flood_verdict.specs.Says.{area_in};
 
 use area_graph::{Area, AreaError, build_area};
 use cert_stream::CertStream;
-use flood_script::{Compare, Verdict};
-use lsdb::Lsdb;
+use flood_core::SharedLsdb;
+use flood_script::{Compare, Verdict, newest_of_the_same_give_one_area};
 use mrt_graph::NoMemory;
 use mrt_island::{IslandError, Profile, find_island};
 use std::alloc::Global;
@@ -48,8 +50,8 @@ impl<'a> Compare for ByIsland<'a> {
     /// it and takes part under the profile. Certificates are the same where their roots, nodes, links, roles and rows
     /// are; metrics and link data are no part of that.
     ///
-    /// It takes the time of both areas, islands and certificates. The rows of both are found source after source, up to
-    /// the first that differ, so no certificate is ever held whole.
+    /// It takes the time of copying both databases, one after the other, and of both areas, islands and certificates. The
+    /// rows of both are found source after source, up to the first that differ, so no certificate is ever held whole.
     ///
     /// # Errors
     ///
@@ -57,8 +59,8 @@ impl<'a> Compare for ByIsland<'a> {
     fn compare(
         &self,
         alloc: Global,
-        one: &Lsdb,
-        other: &Lsdb,
+        one: &SharedLsdb,
+        other: &SharedLsdb,
         router: u32,
     ) -> Result<Verdict, NoMemory> {
         let Some(its) = found(alloc, one, self.profile, router)? else {
@@ -86,20 +88,33 @@ fn verdict_on(same: bool) -> Verdict
 /// nothing of the router.
 fn found(
     alloc: Global,
-    database: &Lsdb,
+    database: &SharedLsdb,
     profile: &Profile,
     router: u32,
 ) -> Result<Option<CertStream>, NoMemory>
     ensures { IfOk result (IsFound profile.now database.now router) }
 {
-    if database.settled().is_err() {
+    if !database.is_settled() {
         return Ok(None);
     }
-    match build_area(alloc, database) {
+    match area_in(alloc, database) {
         Ok(area) => found_in(alloc, &area, profile, router),
         Err(AreaError::TooLarge { .. }) => Ok(None),
         Err(AreaError::NoMemory) => Err(NoMemory),
     }
+}
+
+/// The area of a database. The copy that it is built of is given up before it is used.
+fn area_in(alloc: Global, database: &SharedLsdb) -> Result<Area, AreaError>
+    ensures area { IfOk result (λ area. area ≡ area_in database.now) }
+    ensures within { IfOk result (λ _.
+        IsTooLarge (length (area_in database.now).ids) (length (area_in database.now).arcs) → ⊥) }
+    ensures refused { IfErr result (λ error. (error ≡ AreaError.NoMemory)
+        ⊎ TellsTooLarge (length (area_in database.now).ids) (length (area_in database.now).arcs) error) }
+{
+    newest_of_the_same_give_one_area();
+    let copy = database.copied(alloc)?;
+    build_area(alloc, &copy)
 }
 
 /// The certificate of a router's island in an area; none where the router is not there or takes no part.
