@@ -1,4 +1,4 @@
-pub mod Aimed
+pub mod AimsTo
 pub mod Lanes
 pub mod LanesBegun
 pub mod LanesOffered
@@ -11,7 +11,6 @@ pub mod EntryRead
 pub mod FirstLinks
 pub mod HomePaths
 pub mod InBlocks
-pub mod LeastKnown
 pub mod Marks
 pub mod Offering
 pub mod OneHop
@@ -20,7 +19,6 @@ pub mod Reached
 pub mod SameDirections
 pub mod SideBySide
 pub mod Swept
-pub mod ToTarget
 pub mod WaysArePaths
 pub mod WaysInBlocks
 pub mod WaysOn

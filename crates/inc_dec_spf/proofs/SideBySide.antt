@@ -10,18 +10,6 @@ use Rattle.mrt_graph.proofs.ListPlaces.{set_elsewhere, set_there}
 use Rattle.inc_dec_spf.specs.Rest.{far}
 use Rattle.inc_dec_spf.specs.Side.{AreTaken, left_onward, lesser, link_of_lesser}
 
-pub lesser_old : (cost old : ℕ) → old ≤ cost → lesser cost old ≡ old
-lesser_old cost old less = elim (cases_Bool (nat_lt cost old)) [
-  | inl is_less ↦ absurd (omega (arith, less, ltb-true cost old is_less))
-  | inr is_not ↦ rw is_not refl
-]
-
-pub link_old : (cost old link old_link : ℕ) → old ≤ cost → link_of_lesser cost old link old_link ≡ old_link
-link_old cost old link old_link less = elim (cases_Bool (nat_lt cost old)) [
-  | inl is_less ↦ absurd (omega (arith, less, ltb-true cost old is_less))
-  | inr is_not ↦ rw is_not refl
-]
-
 -- the first places were replaced, and the others are as they were
 pub record AreTakenTo (Left : ℕ → ℕ → Type 0) (metric link : ℕ) (costs links : List ℕ) (count : ℕ) (costs' links' : List ℕ) : Type 0 where
   pub one_cost_each : length costs' ≡ length costs

@@ -1,5 +1,4 @@
 pub mod Against
-pub mod Aims
 pub mod BlockAims
 pub mod Fan
 pub mod FanEntries
@@ -8,7 +7,6 @@ pub mod HasDirections
 pub mod Known
 pub mod LeastPath
 pub mod Offers
-pub mod OneWay
 pub mod Opening
 pub mod Path
 pub mod Rest

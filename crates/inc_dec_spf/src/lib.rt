@@ -1,12 +1,10 @@
 //! The increasing and decreasing shortest paths in the blocks of a GADAG (RFC 7811, section 5.7).
 #![tactic(auto)]
 
-mod aims;
 mod beside;
 mod fan;
 mod least_paths;
 mod offers;
-mod one_way;
 mod own_costs;
 mod path_law;
 mod reach;
@@ -26,5 +24,5 @@ pub use path_law::{
 pub use reach::{Dir, Hop, Reach};
 pub use side::NO_LINK;
 pub use tile::Tile;
-pub use to_target::{spf_to, spf_to_each, sweep_to_each};
+pub use to_target::spf_to;
 pub use turns::nodes_by_turn;

@@ -1,16 +1,21 @@
 //! The least ways within the blocks of all nodes, to some nodes side by side.
 
 ghost use Rattle.std.specs.Prelude.{◌≡◌, ◌≢◌, ◌<◌, ◌≤◌, ◌+◌, ◌*◌, ◌⊎◌, ℕ, Some, false, length, slice_get, slice_index, true};
+ghost use Rattle.std.specs.Option.{option_map};
 ghost use Rattle.mrt_graph.specs.GraphInvariant.{IsTopology};
 ghost use Rattle.link_direction.specs.Directions.{Directions};
 ghost use Rattle.inc_dec_spf.specs.Against.{against};
+ghost use Rattle.inc_dec_spf.specs.BlockAims.{IsAimOf, aim_at};
 ghost use Rattle.inc_dec_spf.specs.FirstLink.{AreOthersInOneBlock, HasLinksAt, LiesInOneBlock, no_link};
 ghost use Rattle.inc_dec_spf.specs.HasDirections.{AreDirections, HasDirections};
+ghost use Rattle.inc_dec_spf.specs.Known.{hop_of};
+ghost use Rattle.inc_dec_spf.specs.LeastPath.{IsHop};
 ghost use Rattle.inc_dec_spf.specs.Rest.{far};
+ghost use Rattle.inc_dec_spf.specs.Side.{hop_by};
 ghost use Rattle.inc_dec_spf.specs.Turns.{AreTurns};
 ghost use Rattle.inc_dec_spf.specs.Ways.{IsReadyFrom};
 
-use crate::reach::Dir;
+use crate::reach::{Dir, Known};
 use crate::side::{FAR, NO_LINK};
 use crate::ways::take_ways;
 use mrt_graph::{Directed, Graph, LinkNo, NodeNo};
@@ -19,7 +24,7 @@ use mrt_graph::{Directed, Graph, LinkNo, NodeNo};
 /// which it begins the ways of these costs.
 ///
 /// The turns are those of the other direction, so whatever a node leads to has its turn before it.
-fn take_own_ways(
+pub fn take_own_ways(
     g: &Graph,
     d: &Directed,
     dir: Dir,
@@ -94,6 +99,53 @@ fn take_all_ways(
     forget(costs, links);
     take_ways(g, d, s, dir, false, aims, all_costs, costs, links);
     keep(s.get() as usize * links.len(), links, all_links);
+}
+
+/// What is known of s by the least ways to the first of the nodes side by side, in all its blocks.
+pub fn first_known(
+    g: &Graph,
+    d: &Directed,
+    s: NodeNo,
+    dir: Dir,
+    aims: &[NodeNo],
+    all_costs: &[u32],
+    costs: &mut [u32],
+    links: &mut [LinkNo],
+) -> Option<Known>
+    requires kept { IsTopology g.now }
+    requires directed { HasDirections g.now d.now }
+    requires node { s < length g.now.ids }
+    requires some { 0 < length costs.old }
+    requires aims { length aims.now ≡ length g.now.ids * length costs.old }
+    requires one_link_each { length links.old ≡ length costs.old }
+    requires all_costs { length all_costs.now ≡ length g.now.ids * length costs.old }
+    requires most { (i cost : ℕ) → slice_get all_costs.now i ≡ Some cost → cost ≤ far }
+    ensures one_each { length costs.new ≡ length costs.old }
+    ensures one_link_each { length links.new ≡ length links.old }
+    ensures hop { (root t : ℕ) (w : Directions) → AreDirections g.now d.now root w
+        → ((y : ℕ) → y < length g.now.ids
+        → IsReadyFrom g.now w dir aims.now (length costs.old) (65536 * length g.now.ids) all_costs.now y)
+        → s ≢ t → IsAimOf g.now w (aim_at aims.now (length costs.old) 0) s t
+        → IsHop g.now w dir s t (option_map hop_of result) }
+{
+    forget(costs, links);
+    take_ways(g, d, s, dir, false, aims, all_costs, costs, links);
+    known_by(costs[0], links[0])
+}
+
+/// What is known by a least cost and its link: nothing, where the cost is far.
+fn known_by(cost: u32, link: LinkNo) -> Option<Known>
+    ensures { option_map hop_of result ≡ hop_by cost link }
+{
+    if cost < FAR {
+        Some(Known {
+            cost,
+            place: 0,
+            link,
+        })
+    } else {
+        None
+    }
 }
 
 /// Takes the links by which the marked nodes begin the least ways to the nodes side by side, in all their blocks.

@@ -1,16 +1,21 @@
 //! Tiles: the links by which all nodes begin the least paths to some nodes side by side.
 
-ghost use Rattle.std.specs.Prelude.{◌≡◌, ◌<◌, ◌≤◌, ◌+◌, ◌*◌, ℕ, IfOk, Some, length, slice_get};
+ghost use Rattle.std.specs.Prelude.{◌≡◌, ◌≢◌, ◌<◌, ◌≤◌, ◌+◌, ◌*◌, ℕ, IfOk, Some, length, slice_get};
+ghost use Rattle.std.specs.Option.{option_map};
 ghost use Rattle.mrt_graph.specs.GraphInvariant.{IsTopology};
 ghost use Rattle.link_direction.specs.Directions.{Directions};
 ghost use Rattle.inc_dec_spf.specs.Against.{against};
+ghost use Rattle.inc_dec_spf.specs.BlockAims.{IsAimOf, aim_at};
 ghost use Rattle.inc_dec_spf.specs.FirstLink.{AreOthersInOneBlock};
 ghost use Rattle.inc_dec_spf.specs.HasDirections.{AreDirections, HasDirections};
+ghost use Rattle.inc_dec_spf.specs.Known.{hop_of};
+ghost use Rattle.inc_dec_spf.specs.LeastPath.{IsHop};
 ghost use Rattle.inc_dec_spf.specs.Tile.{IsAimed, IsTile};
 ghost use Rattle.inc_dec_spf.specs.Turns.{AreTurns};
+ghost use Rattle.inc_dec_spf.specs.Ways.{IsReadyFrom};
 
-use crate::own_costs::take_links;
-use crate::reach::Dir;
+use crate::own_costs::{first_known, take_links, take_own_ways};
+use crate::reach::{Dir, Known};
 use crate::side::{FAR, NO_LINK};
 use mrt_graph::{Directed, Graph, LinkNo, NoMemory, NodeNo};
 use std::alloc::Global;
@@ -83,6 +88,75 @@ impl Tile {
             &mut self.costs,
             &mut self.links,
         );
+    }
+
+    /// Takes the costs of all nodes, each in its own block, to what the block aims at. The turns are those of the other
+    /// direction.
+    pub(crate) fn take_costs(
+        &mut self,
+        g: &Graph,
+        d: &Directed,
+        dir: Dir,
+        turns: &[NodeNo],
+        aims: &[NodeNo],
+    )
+        ghost width: { ℕ }
+        requires kept { IsTopology g.now }
+        requires directed { HasDirections g.now d.now }
+        requires turns { (root : ℕ) (w : Directions) → AreDirections g.now d.now root w
+            → AreTurns g.now w (against dir) turns.now }
+        requires aims { length aims.now ≡ length g.now.ids * width }
+        requires tile { IsTile g.now width self.old }
+        ensures tile { IsTile g.now width self.new }
+        ensures ready { (root y : ℕ) (w : Directions) → AreDirections g.now d.now root w → y < length g.now.ids
+            → IsReadyFrom g.now w dir aims.now width (65536 * length g.now.ids) self.new.all_costs.items y }
+    {
+        take_own_ways(
+            g,
+            d,
+            dir,
+            turns,
+            aims,
+            &mut self.all_costs,
+            &mut self.all_links,
+            &mut self.costs,
+            &mut self.links,
+        );
+    }
+
+    /// What is known of s on the way to what its blocks aim at, in a tile of width one whose costs were taken so. It is aimed
+    /// at another node, over all its blocks that do not aim at s itself.
+    pub(crate) fn hop_from(
+        &mut self,
+        g: &Graph,
+        d: &Directed,
+        dir: Dir,
+        s: NodeNo,
+        aims: &[NodeNo],
+    ) -> Option<Known>
+        requires kept { IsTopology g.now }
+        requires directed { HasDirections g.now d.now }
+        requires node { s < length g.now.ids }
+        requires aims { length aims.now ≡ length g.now.ids * 1 }
+        requires tile { IsTile g.now 1 self.old }
+        ensures tile { IsTile g.now 1 self.new }
+        ensures costs { self.new.all_costs.items ≡ self.old.all_costs.items }
+        ensures hop { (root t : ℕ) (w : Directions) → AreDirections g.now d.now root w
+            → ((y : ℕ) → y < length g.now.ids
+            → IsReadyFrom g.now w dir aims.now 1 (65536 * length g.now.ids) self.old.all_costs.items y)
+            → s ≢ t → IsAimOf g.now w (aim_at aims.now 1 0) s t
+            → IsHop g.now w dir s t (option_map hop_of result) }
+    {
+        first_known(
+            g,
+            d,
+            s,
+            dir,
+            aims,
+            &self.all_costs,
+            &mut self.costs,
+            &mut self.links,
+        )
     }
 
     /// The links of node s, for the nodes that it is aimed at.

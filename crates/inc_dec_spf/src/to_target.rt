@@ -1,75 +1,21 @@
-//! Least paths to one node, and of each node to its aim.
+//! Least paths to one node.
 
-ghost use Rattle.std.specs.Prelude.{◌≡◌, ◌<◌, ℕ, IfOk, length};
-ghost use Rattle.mrt_graph.specs.GraphInvariant.{IsTopology};
+ghost use Rattle.std.specs.Prelude.{◌≡◌, ◌<◌, ℕ, IfOk, length, slice_index};
 ghost use Rattle.mrt_graph.specs.Topology.{Topology};
 ghost use Rattle.link_direction.specs.Directions.{Directions, Says};
-ghost use Rattle.inc_dec_spf.specs.Against.{against};
-ghost use Rattle.inc_dec_spf.specs.Aims.{AreAims, AreAimsTo, AreHopsTo, IsAimTo};
+ghost use Rattle.inc_dec_spf.specs.BlockAims.{AreAimsTo, IsMeeting, aim_at};
 ghost use Rattle.inc_dec_spf.specs.HasDirections.{AreDirections, HasDirections};
 ghost use Rattle.inc_dec_spf.specs.LeastPath.{IsReachTo};
-ghost use Rattle.inc_dec_spf.specs.Turns.{AreTurns};
 
-use crate::aims::{take_aims, take_heads};
 use crate::reach::{Dir, Reach};
+use crate::tile::Tile;
 use crate::turns::nodes_by_turn;
 use mrt_graph::{Directed, Graph, NoMemory, NodeNo};
 use std::alloc::Global;
 
-/// The least path of each node to its aim, up or down.
-///
-/// It takes time in proportion to the nodes, and to the ends of those that aim at others. To sweep for several lists of
-/// aims, one after another, see `sweep_to_each`.
-pub fn spf_to_each(
-    alloc: Global,
-    g: &Graph,
-    d: &Directed,
-    aims: &[NodeNo],
-    dir: Dir,
-) -> Result<Reach, NoMemory>
-    requires directed { HasDirections g.now d.now }
-    requires aims { (root : ℕ) (w : Directions) → AreDirections g.now d.now root w
-        → AreAims g.now w aims.now }
-    ensures { (w : Directions) → Says g.now d.now w → IfOk result (AreHopsTo g.now w dir aims.now) }
-{
-    let turns = nodes_by_turn(alloc, g, d, dir.against())?;
-    let mut reach = Reach::none(alloc, g)?;
-    sweep_to_each(g, d, &turns, aims, dir, &mut reach);
-    Ok(reach)
-}
-
-/// The least path of each node to its aim, up or down, in place of what `reach` had. The turns are those of the other
-/// direction.
-///
-/// One sweep over the nodes, against their order, serves all blocks. Nodes that aim at nodes of blocks whose heads they
-/// are come last, since their paths begin in these blocks, and not in their own. It takes time in proportion to the
-/// nodes, and to the ends of those that aim at others, and no memory.
-pub fn sweep_to_each(
-    g: &Graph,
-    d: &Directed,
-    turns: &[NodeNo],
-    aims: &[NodeNo],
-    dir: Dir,
-    reach: &mut Reach,
-)
-    requires kept { IsTopology g.now }
-    requires directed { HasDirections g.now d.now }
-    requires turns { (root : ℕ) (w : Directions) → AreDirections g.now d.now root w
-        → AreTurns g.now w (against dir) turns.now }
-    requires aims { (root : ℕ) (w : Directions) → AreDirections g.now d.now root w
-        → AreAims g.now w aims.now }
-    requires one_each { length reach.old ≡ length g.now.ids }
-    ensures one_each { length reach.new ≡ length g.now.ids }
-    ensures hops { (w : Directions) → Says g.now d.now w → AreHopsTo g.now w dir aims.now reach.new }
-{
-    reach.known.fill(None);
-    take_aims(g, d, dir, turns, aims, &mut reach.known);
-    take_heads(g, d, dir, aims, &mut reach.known);
-}
-
 /// The least paths to a node from every node with which it has a block of more than one link in common, up or down.
 ///
-/// It takes time in proportion to the nodes, and to the ends of those that are in these blocks.
+/// It takes time in proportion to the nodes and the links.
 pub fn spf_to(
     alloc: Global,
     g: &Graph,
@@ -81,42 +27,83 @@ pub fn spf_to(
     requires directed { HasDirections g.now d.now }
     ensures { (w : Directions) → Says g.now d.now w → IfOk result (IsReachTo g.now w dir target) }
 {
+    let count = g.node_count();
+    let turns = nodes_by_turn(alloc, g, d, dir.against())?;
     let aims = aims_to(alloc, g, d, target)?;
-    let reach = spf_to_each(alloc, g, d, &aims, dir)?;
-    Ok(reach)
+    let mut tile = Tile::new(alloc, g, 1)?;
+    tile.take_costs(g, d, dir, &turns, &aims);
+    let mut known = vec![in alloc; None; count as usize]?;
+    for n in 0..count {
+        let s = NodeNo::new(n);
+        if meets(d, s, target) {
+            known[n as usize] = tile.hop_from(g, d, dir, s, &aims);
+        }
+    }
+    Ok(Reach::new(known))
 }
 
-/// The aims of all nodes, where this node is the target.
+/// What the blocks aim at, where this node is the target.
 fn aims_to(alloc: Global, g: &Graph, d: &Directed, target: NodeNo) -> Result<Vec<NodeNo>, NoMemory>
     requires directed { HasDirections g.now d.now }
     requires target { target < length g.now.ids }
-    ensures { (w : Directions) → Says g.now d.now w
-        → IfOk result (λ aims. AreAimsTo g.now w target aims.items) }
+    ensures one_each { IfOk result (λ aims. length aims.items ≡ length g.now.ids) }
+    ensures aims { (root : ℕ) (w : Directions) → AreDirections g.now d.now root w
+        → IfOk result (λ aims. AreAimsTo g.now w target (aim_at aims.items 1 0)) }
 {
-    let count = g.node_count();
-    let mut aims = vec![in alloc; target; count as usize]?;
-    for n in 0..count {
-        aims[n as usize] = aim_of(d, NodeNo::new(n), target);
-    }
+    let mut aims = vec![in alloc; target; g.node_count() as usize]?;
+    put_aims(g, d, target, &mut aims);
     Ok(aims)
 }
 
-/// The aim of node s: the target, where the two have a block in common.
-fn aim_of(d: &Directed, s: NodeNo, target: NodeNo) -> NodeNo
+/// Puts what the blocks aim at.
+fn put_aims(g: &Graph, d: &Directed, target: NodeNo, aims: &mut [NodeNo])
+    requires directed { HasDirections g.now d.now }
+    requires target { target < length g.now.ids }
+    requires one_each { length aims.old ≡ length g.now.ids }
+    ensures one_each { length aims.new ≡ length g.now.ids }
+    ensures aims { (root : ℕ) (w : Directions) → AreDirections g.now d.now root w
+        → AreAimsTo g.now w target (aim_at aims.new 1 0) }
+{
+    put_heads(g, d, aims);
+    let there = d.place(target);
+    let above = d.place(there.head);
+    aims[above.block.get() as usize] = there.head;
+    aims[there.block.get() as usize] = target;
+}
+
+/// Each block aims at its head.
+fn put_heads(g: &Graph, d: &Directed, aims: &mut [NodeNo])
+    requires directed { HasDirections g.now d.now }
+    requires one_each { length aims.old ≡ length g.now.ids }
+    ensures one_each { length aims.new ≡ length g.now.ids }
+    ensures heads { (root y : ℕ) (w : Directions) → AreDirections g.now d.now root w → y < length g.now.ids
+        → slice_index aims.new (w.block y) ≡ w.head y }
+{
+    for n in 0..g.node_count() {
+        let place = d.place(NodeNo::new(n));
+        aims[place.block.get() as usize] = place.head;
+    }
+}
+
+/// Whether s is another node than the target, and has a block in common with it.
+fn meets(d: &Directed, s: NodeNo, target: NodeNo) -> bool
     requires node { s < length d.now.places }
     requires target { target < length d.now.places }
-    ensures { (g : Topology) (w : Directions) → Says g d.now w → IsAimTo w target s result }
+    ensures { (g : Topology) (w : Directions) → Says g d.now w → IsMeeting w s target result }
 {
+    if s == target {
+        return false;
+    }
     let here = d.place(s);
     let there = d.place(target);
     if here.block == there.block {
-        return target;
+        return true;
     }
     if here.head == target {
-        return target;
+        return true;
     }
     if there.head == s {
-        return target;
+        return true;
     }
-    s
+    false
 }

@@ -1,34 +1,10 @@
-use Rattle.std.proofs.Common.{◌≡◌, ◌∙◌, ◌<◌, ℕ, Some, length, set, slice_get, inl, inr, sym, ap, subst, arith}
-use Rattle.std.proofs.lemmas.Bool.{cases_eq}
-use Rattle.std.proofs.lemmas.List.{length-set}
-use Rattle.std.proofs.lemmas.Option.{same_Some, slice_get_within}
-use Rattle.mrt_graph.proofs.ListPlaces.{set_elsewhere, set_there}
-use Rattle.inc_dec_spf.specs.Aims.{IsAimTo}
+use Rattle.std.proofs.Common.{◌∙◌, ℕ, List, sym, subst}
+use Rattle.std.proofs.lemmas.List.{with_items_is}
+use Rattle.inc_dec_spf.specs.BlockAims.{AreAimsTo, aim_at}
 use Rattle.inc_dec_spf.proofs.to_target.aims_to.Goals as goal
 
-pub loop-n-preserved : goal.loop-n-preserved
-loop-n-preserved c =
-    let aims = c.loop-n.aims.items in
-    let n = c.loop-n.n in
-    let new = c.aim_of.result in
-    record {
-      one_each = length-set aims n new ∙ c.loop-n.invariant.one_each;
-      nodes = c.loop-n.invariant.nodes;
-      each = λ w s aim says below at. elim (cases_eq s n) [
-        | inl same ↦
-            let within : n < length aims = omega (arith, c.loop-n-test.true, c.loop-n.invariant.nodes, c.loop-n.invariant.one_each) in
-            let now : slice_get (set aims n new) s ≡ Some new = ap (λ (v : ℕ). slice_get (set aims n new) v) same ∙ set_there aims n new within in
-            let aim_is : new ≡ aim = same_Some new aim (sym now ∙ at) in
-            subst (λ (a : ℕ). IsAimTo w c.args.target s a) aim_is
-            (subst (λ (v : ℕ). IsAimTo w c.args.target v new) (c.new.ensures ∙ sym same) (c.aim_of.ensures c.args.g.now w says))
-        | inr other ↦ c.loop-n.invariant.each w s aim says (omega (arith, below, other)) (sym (set_elsewhere aims n s new other) ∙ at)
-      ];
-    }
-
-pub returns : goal.returns
-returns c = λ w says. record {
-  one_each = c.loop-n.invariant.one_each;
-  each = λ s aim at.
-      c.loop-n.invariant.each w s aim says
-      (omega (arith, slice_get_within c.loop-n.aims.items s aim at, c.loop-n.invariant.one_each, c.loop-n.invariant.nodes, c.loop-n-test.false)) at;
-}
+pub returns-clause-aims : goal.returns-clause-aims
+returns-clause-aims c = λ root w are.
+    let put = c.put_aims.new.aims in
+    let same = with_items_is c.in_ok-aims.aims put (c.put_aims.auto.aims ∙ c.deref_mut.ensures.len) in
+    subst (λ (xs : List ℕ). AreAimsTo c.args.g.now w c.args.target (aim_at xs 1 0)) (sym same) (c.put_aims.ensures.aims root w are)
