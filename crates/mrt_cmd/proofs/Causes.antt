@@ -9,8 +9,8 @@ use Rattle.mrt_exit.specs.declared.exit.Exit.TheVariants as exits
 use Rattle.mrt_cmd.specs.Causes.{HasCause, HasNoText, IsAnswered, IsOutputCalm, IsShelfCalm, IsTold, ShelfInCall, SinkInCall}
 use Rattle.mrt_cmd.specs.Comes.{Comes, Gives, GivesText, IsRefused, NamesHeld, Refuses}
 use Rattle.mrt_exit.specs.Exits.{line_of}
-use Rattle.mrt_cmd.specs.Files.{MayFail, files_of}
-use Rattle.mrt_cmd.specs.Form.{Form, AsksVerdict, form_of}
+use Rattle.mrt_words.specs.Files.{MayFail, files_of}
+use Rattle.mrt_words.specs.Form.{Form, AsksVerdict, form_of}
 use Rattle.mrt_cmd.specs.Headline.{IsPassed}
 use Rattle.mrt_cmd.specs.Reading.{IsRefusalOrFault}
 use Rattle.mrt_exit.specs.Telling.{GainedLine, IsCutShort}

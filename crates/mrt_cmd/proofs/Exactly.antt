@@ -5,10 +5,11 @@ use Rattle.std.specs.Option.{IsSomeAnd}
 use Rattle.mrt_io.specs.Holding.{Files}
 use Rattle.mrt_exit.specs.declared.exit.Exit.{Exit}
 use Rattle.mrt_exit.specs.declared.exit.Exit.TheVariants as exits
-use Rattle.mrt_cmd.specs.Answers.{FileBytes, IsRefusedOver}
+use Rattle.mrt_words.specs.FileBytes.{FileBytes}
+use Rattle.mrt_answer.specs.Answers.{IsRefusedOver}
 use Rattle.mrt_cmd.specs.Comes.{Comes, Gives, GivesText, MissesAt, Refuses}
-use Rattle.mrt_cmd.specs.Files.{IsFirstMissing, files_of}
-use Rattle.mrt_cmd.specs.Form.{Form, OfFiles, Survey, Flood, Task, Check, Certify, Table, Trace, Fabric, Upgrade, Lfa, Order, Proxy, form_of}
+use Rattle.mrt_words.specs.Files.{IsFirstMissing, files_of}
+use Rattle.mrt_words.specs.Form.{Form, OfFiles, Survey, Flood, Task, Check, Certify, Table, Trace, Fabric, Upgrade, Lfa, Order, Proxy, form_of}
 use Rattle.mrt_cmd.specs.Run.{WritesNothing}
 
 -- one exit comes of the words at most

@@ -4,10 +4,11 @@ use Rattle.std.specs.Option.{option_map, option_to_list}
 use Rattle.std.proofs.lemmas.Bool.{le-ltb}
 use Rattle.mrt_io.specs.Holding.{Files}
 use Rattle.mrt_exit.specs.declared.exit.Exit.{Exit}
-use Rattle.mrt_cmd.specs.Answers.{FileBytes}
-use Rattle.mrt_cmd.specs.Comes.{AreRead, GivesFrom, IsLastRead, IsProfileRead, RefusesFrom}
-use Rattle.mrt_cmd.specs.Files.{NamedFile, Names, IsReadAs, files_in, profile_file, refusal_of}
-use Rattle.mrt_cmd.proofs.OneReading.{held_once}
+use Rattle.mrt_words.specs.FileBytes.{FileBytes}
+use Rattle.mrt_words.specs.FileBytes.{AreRead, IsLastRead, IsProfileRead}
+use Rattle.mrt_cmd.specs.Comes.{GivesFrom, RefusesFrom}
+use Rattle.mrt_words.specs.Files.{NamedFile, Names, IsReadAs, files_in, profile_file, refusal_of}
+use Rattle.mrt_answer.proofs.OneReading.{held_once}
 
 module _ (files : Files) where
   read_once : (file : NamedFile) (bytes others : List ℕ) → IsReadAs (Some files) file bytes

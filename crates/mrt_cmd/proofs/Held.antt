@@ -7,11 +7,12 @@ use Rattle.mrt_io.specs.Holding.{Files}
 use Rattle.mrt_exit.specs.declared.exit.Exit.{Exit}
 use Rattle.mrt_exit.specs.declared.exit.Exit.TheVariants as exits
 use Rattle.mrt_exit.specs.declared.exit.What.{What}
-use Rattle.mrt_cmd.specs.Answers.{FileBytes}
+use Rattle.mrt_words.specs.FileBytes.{FileBytes}
 use Rattle.mrt_cmd.specs.Causes.{HasNoText, IsOfBytes, ShelfInCall}
-use Rattle.mrt_cmd.specs.Comes.{AreRead, Gives, GivesText, IsLastRead, IsProfileRead, IsRefused, NamesHeld, Refuses}
-use Rattle.mrt_cmd.specs.Files.{NamedFile, Names, AreThere, SaysOneOf, files_in, files_of, flood_names, profile_file, task_file, task_names}
-use Rattle.mrt_cmd.specs.Form.{FileForm, FloodForm, Form, OfFiles, Survey, Flood, Task, Check, Certify, Table, Trace, Fabric, Upgrade, Lfa, Order, Proxy, form_of}
+use Rattle.mrt_words.specs.FileBytes.{AreRead, IsLastRead, IsProfileRead}
+use Rattle.mrt_cmd.specs.Comes.{Gives, GivesText, IsRefused, NamesHeld, Refuses}
+use Rattle.mrt_words.specs.Files.{NamedFile, Names, AreThere, SaysOneOf, files_in, files_of, flood_names, profile_file, task_file, task_names}
+use Rattle.mrt_words.specs.Form.{FileForm, FloodForm, Form, OfFiles, Survey, Flood, Task, Check, Certify, Table, Trace, Fabric, Upgrade, Lfa, Order, Proxy, form_of}
 use Rattle.mrt_cmd.proofs.WrittenPasses.{unread_says_one}
 
 -- files that were read are held

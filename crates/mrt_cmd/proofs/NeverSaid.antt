@@ -4,16 +4,17 @@ use Rattle.mrt_io.specs.Holding.{Files}
 use Rattle.mrt_exit.specs.declared.exit.Exit.{Exit}
 use Rattle.mrt_exit.specs.declared.exit.Exit.TheVariants as exits
 use Rattle.mrt_exit.specs.declared.exit.What.{What}
-use Rattle.mrt_cmd.specs.Answers.{FileBytes, IsRefusedOver, IsRefusedTask}
-use Rattle.mrt_cmd.specs.Files.{NamedFile, IsRefusedBy, SaysOneOf, files_in, flood_names, task_names}
-use Rattle.mrt_cmd.specs.Flooded.{IsRefusedFlood}
-use Rattle.mrt_cmd.specs.Form.{Form, OfFiles, Survey, Flood, Task, Check, Certify, Table, Trace, Fabric, Upgrade, Lfa, Order, Proxy}
-use Rattle.mrt_cmd.specs.Input.{Input}
-use Rattle.mrt_cmd.specs.Islands.{HasNoneFor}
-use Rattle.mrt_cmd.specs.Packets.{IsNoRun}
-use Rattle.mrt_cmd.specs.Proxied.{HasNoProxy}
+use Rattle.mrt_words.specs.FileBytes.{FileBytes}
+use Rattle.mrt_answer.specs.Answers.{IsRefusedOver, IsRefusedTask}
+use Rattle.mrt_words.specs.Files.{NamedFile, IsRefusedBy, SaysOneOf, files_in, flood_names, task_names}
+use Rattle.mrt_answer.specs.Flooded.{IsRefusedFlood}
+use Rattle.mrt_words.specs.Form.{Form, OfFiles, Survey, Flood, Task, Check, Certify, Table, Trace, Fabric, Upgrade, Lfa, Order, Proxy}
+use Rattle.mrt_answer.specs.Input.{Input}
+use Rattle.mrt_answer.specs.Islands.{HasNoneFor}
+use Rattle.mrt_answer.specs.Packets.{IsNoRun}
+use Rattle.mrt_answer.specs.Proxied.{HasNoProxy}
 use Rattle.mrt_cmd.specs.Reading.{IsRefusal, IsRefusalOrFault}
-use Rattle.mrt_cmd.specs.Verdict.{IsNoVerdict}
+use Rattle.mrt_answer.specs.Verdict.{IsNoVerdict}
 use Rattle.mrt_cmd.proofs.WrittenPasses.{unread_says_one}
 
 pub data IsUnsaid : Exit → Type 0 where

@@ -1,49 +1,20 @@
 -- What `certify` wrote passes `check` and `upgrade`.
-use Rattle.std.proofs.Common.{◌≡◌, ◌∙◌, ◌≤◌, ◌<◌, ◌+◌, ◌==◌, ◌∷◌, [], ℕ, Bool, true, false, List, Option, Some, None, length, refl, sym, ap, subst, inl, inr, arith}
-use Rattle.std.specs.Prelude.{◌&&◌, Contains, IsNone, codes, nat_lt, slice_get, if◌then◌else◌}
+use Rattle.std.proofs.Common.{◌≡◌, ◌∙◌, ◌≤◌, ◌<◌, ◌+◌, ◌∷◌, [], ℕ, Bool, true, false, List, Option, Some, None, length, sym, ap, inl, inr, arith}
+use Rattle.std.specs.Prelude.{◌&&◌, IsNone, codes, nat_lt, if◌then◌else◌}
 use Rattle.std.specs.Option.{IsSomeAnd, option_map, option_map_or, option_or}
-use Rattle.std.proofs.lemmas.Bool.{and_parts, eqb-true, lt-ltb}
+use Rattle.std.proofs.lemmas.Bool.{lt-ltb}
 use Rattle.std.proofs.lemmas.Option.{same_Some}
-use Rattle.area_graph.specs.AreaInvariant.{IsArea}
-use Rattle.area_graph.specs.Nodes.{router as router_node}
-use Rattle.area_graph.specs.Parts.{AreaParts}
-use Rattle.cert_format.specs.CertText.{cert_text}
-use Rattle.cert_format.specs.Limits.{IsCertFile}
-use Rattle.mrt_graph.specs.declared.cert.CertFile.{CertFile}
-use Rattle.mrt_graph.specs.declared.node_id.NodeId.{NodeId}
-use Rattle.mrt_graph.specs.BothThere.{are_equal}
-use Rattle.mrt_graph.specs.CertWords.{order_of}
-use Rattle.mrt_graph.specs.Rules.{OrderRule}
-use Rattle.mrt_graph.specs.Topology.{Topology}
 use Rattle.mrt_io.specs.Holding.{Files}
-use Rattle.mrt_island.specs.IslandOf.{IsIsland}
-use Rattle.mrt_island.specs.Policy.{Policy}
 use Rattle.mrt_exit.specs.declared.exit.Exit.{Exit}
 use Rattle.mrt_exit.specs.declared.exit.Exit.TheVariants as exits
-use Rattle.mrt_cmd.specs.Answers.{FileBytes, GivesOver, IsRefusedOver}
-use Rattle.mrt_cmd.specs.Certified.{IsCertified}
-use Rattle.mrt_cmd.specs.Comes.{AreRead, Gives, GivesText, IsProfileRead, Refuses}
+use Rattle.mrt_words.specs.FileBytes.{FileBytes, AreRead, IsProfileRead, with_last}
+use Rattle.mrt_answer.specs.Answers.{GivesOver, IsRefusedOver}
+use Rattle.mrt_cmd.specs.Comes.{Gives, GivesText, Refuses}
 use Rattle.mrt_graph.specs.Spelling.{address_in}
-use Rattle.mrt_cmd.specs.Files.{NamedFile, SaysOneOf, files_in, flood_names, refusal_of, task_names}
-use Rattle.mrt_cmd.specs.Form.{FileForm, Form, OfFiles, Survey, Flood, Task, Check, Certify, Table, Trace, Fabric, Upgrade, Lfa, Order, Proxy, AsksVerdict, AsksVerdictTask, profile_name}
+use Rattle.mrt_words.specs.Files.{NamedFile, SaysOneOf, files_in, flood_names, refusal_of, task_names}
+use Rattle.mrt_words.specs.Form.{FileForm, Form, OfFiles, Survey, Flood, Task, Check, Certify, Table, Trace, Fabric, Upgrade, Lfa, Order, Proxy, AsksVerdict, AsksVerdictTask, profile_name}
 use Rattle.mrt_cmd.specs.Headline.{ChecksWritten, IsPassed, profile_held}
-use Rattle.mrt_cmd.specs.Input.{Input, HasIsland, IsInput, IsSpellingOf, area, policy}
 use Rattle.mrt_cmd.specs.Run.{WritesNothing}
-use Rattle.mrt_cmd.specs.Upgraded.{upgraded}
-use Rattle.mrt_cmd.specs.Verdict.{accepted_line}
-use Rattle.mrt_cmd.proofs.OneExit.{AreaLaws, is_area}
-use Rattle.mrt_cmd.proofs.OneVerdict.{contained}
-use Rattle.mrt_cmd.proofs.Upgrades.{upgraded_accepted}
-
--- the law of the layer below on the islands of the routers of one
-abbrev pub EachRouterLaw : Type 0
-EachRouterLaw = (policy : Policy) (area : AreaParts) (router other : ℕ) (g : Topology) (root : ℕ)
-    (link_of : List (Option ℕ)) → IsArea area → IsIsland policy area router g root link_of
-    → Contains g.ids (router_node other) → IsIsland policy area other g root link_of
-
--- the law of the layer below on the length of a spelling
-abbrev pub LongestLaw : Type 0
-LongestLaw = (f : CertFile) → IsCertFile f → length (cert_text f) ≤ 84025358
 
 -- a form over files of these words
 abbrev form_with : List ℕ → List ℕ → Task → FileForm
@@ -98,127 +69,46 @@ profile_is files word bytes held short = go (profile_name word) held
     go None held = sym (same_Some [] bytes held)
     go (Some name) held = (held, short)
 
--- the root of an accepted certificate is a router of the island
-module _ (areas : AreaLaws) (each : EachRouterLaw) (longest : LongestLaw) where
-  root_number : (graph : Topology) (root : ℕ) (file : CertFile) (id : NodeId) → slice_get graph.ids root ≡ Some id
-      → (option_map_or (λ id. id.number == file.root) (slice_get graph.ids root) false && are_equal (order_of file.cert root) (Some 1)) ≡ true
-      → id.number ≡ file.root
-  root_number graph root file id there stands =
-      eqb-true id.number file.root
-      (rw there at (and_parts (option_map_or (λ id. id.number == file.root) (slice_get graph.ids root) false)
-      (are_equal (order_of file.cert root) (Some 1)) stands).0)
+-- the laws of the layer below on what was written
+pub record PassLaws : Type 0 where
+  pub check : (bytes : FileBytes) (router : ℕ) (certificate text : List ℕ) → GivesOver (Certify router) bytes text
+      → (line : List ℕ) × GivesOver (Check certificate) (with_last bytes text) line
+  pub upgrade : (bytes : FileBytes) (router : ℕ) (certificate text : List ℕ) → GivesOver (Certify router) bytes text
+      → GivesOver (Upgrade certificate) (with_last bytes text) text
+  pub short : (bytes : FileBytes) (router : ℕ) (text : List ℕ) → GivesOver (Certify router) bytes text
+      → length text ≤ 134217728
 
-  own_island : (bytes : FileBytes) (input : Input) → IsInput bytes.first bytes.profile input → (router : ℕ)
-      (text : List ℕ) (taken : IsCertified input router text)
-      → HasIsland input taken.certificate.file.root taken.graph taken.root
-  own_island bytes input given router text taken =
-      let there : slice_get taken.graph.ids taken.root ≡ Some taken.island.island.rooted.id =
-      subst (λ (ids : List NodeId). slice_get ids taken.root ≡ Some taken.island.island.rooted.id)
-      (sym taken.island.island.made.same_ids) taken.island.island.rooted.there in
-      let number = root_number taken.graph taken.root taken.certificate.file taken.island.island.rooted.id there
-      (taken.certificate.accepted OrderRule).root_first in
-      let is_router : taken.island.island.rooted.id ≡ router_node taken.certificate.file.root =
-      λ i. record { kind = taken.island.island.rooted.router i; number = number i } in
-      let inside : Contains taken.graph.ids (router_node taken.certificate.file.root) =
-      subst (λ (id : NodeId). Contains taken.graph.ids id) is_router
-      (contained taken.graph.ids taken.root taken.island.island.rooted.id there) in
-      record {
-        area_within = taken.island.area_within;
-        link_of = taken.island.link_of;
-        island = each (policy input) (area input) router taken.certificate.file.root taken.graph taken.root
-            taken.island.link_of (is_area areas bytes.first input.newest given.database_is taken.island.area_within)
-            taken.island.island inside;
-      }
-
-  -- the check of what was written says yes
-  accepts : (bytes : FileBytes) (router : ℕ) (certificate text : List ℕ) → (over : GivesOver (Certify router) bytes text)
-      → (line : List ℕ) × GivesOver (Check certificate) (record { first = bytes.first; profile = bytes.profile; last = text }) line
-  accepts bytes router certificate text over =
-      let file : CertFile = over.gives.certificate.file in (
-        accepted_line file.root (length over.gives.graph.ids) (length over.gives.graph.links),
-        record {
-          input = over.input;
-          given = over.given;
-          gives = record {
-            file = file;
-            is = over.gives.certificate.spelled;
-            accepted = record {
-              graph = over.gives.graph;
-              root = over.gives.root;
-              island = own_island bytes over.input over.given router text over.gives;
-              accepted = record {
-                accepted = over.gives.certificate.accepted;
-                sound = over.gives.certificate.sound;
-                line = refl;
-              };
-            };
-          };
-        },
-      )
-
-  -- the upgrade of what was written gives it as it is: it is of version 2
-  upgrades : (bytes : FileBytes) (router : ℕ) (certificate text : List ℕ) → GivesOver (Certify router) bytes text
-      → GivesOver (Upgrade certificate) (record { first = bytes.first; profile = bytes.profile; last = text }) text
-  upgrades bytes router certificate text over =
-      let file : CertFile = over.gives.certificate.file in
-      let own = over.gives in
-      let same : file ≡ upgraded file =
-      λ i. record { version = own.certificate.computed.tells.version i; root = file.root; cert = file.cert } in
-      let accepted = upgraded_accepted own.graph own.root file own.certificate.accepted in
-      record {
-        input = over.input;
-        given = over.given;
-        gives = record {
-          file = file;
-          is = own.certificate.spelled;
-          upgrade = record {
-            graph = own.graph;
-            root = own.root;
-            island = own_island bytes over.input over.given router text own;
-            upgrade = record {
-              accepted = accepted;
-              sound = own.certificate.sound;
-              spelled = subst (λ (f : CertFile). IsSpellingOf text f) same own.certificate.spelled;
-            };
-          };
-        };
-      }
-
-  -- the words give a text
-  pub written_passes : (files : Files) (words : List (List ℕ)) → ChecksWritten files words
-      → (line : List ℕ) × GivesText (Some files) words line
-  written_passes files words w =
-      let certify : IsCertifyForm (Some w.written.files) w.written.database w.written.profile w.written.text =
-      certify_form (Some w.written.files) w.written.database w.written.profile w.written.text
-      (nat_lt 0 (length w.written.database) && nat_lt 0 (length w.written.profile)) (address_in w.written.router)
-      w.written.gave in
-      let bytes : FileBytes = certify.gives.0 in
-      let read : AreRead (Some w.written.files) (task_names (form_with w.written.database w.written.profile (Certify certify.router))) bytes =
-      certify.gives.1 in
-      let over : GivesOver (Certify certify.router) bytes w.written.text = certify.gives.2 in
-      let short : length w.written.text ≤ 134217728 =
-      let at_most = longest over.gives.certificate.file over.gives.certificate.spelled.within in
-      let same : length w.written.text ≡ length (cert_text over.gives.certificate.file) =
-      ap (λ (text : List ℕ). length text) over.gives.certificate.spelled.spelled in
-      omega (arith, at_most, same) in
-      let kept : FileBytes = record { first = bytes.first; profile = bytes.profile; last = w.written.text } in
-      let profile_read : IsProfileRead (Some files) (profile_name w.profile) bytes.profile =
-      let before = profile_was w.written.files w.written.profile bytes.profile read.profile_read in
-      profile_is files w.profile bytes.profile (w.same_profile ∙ before.0) before.1 in
-      elim w.asks [
-        | inl asks ↦
-            let accepted = accepts bytes certify.router w.certificate w.written.text over in
-            let given : Gives (Some files) (OfFiles (form_with w.database w.profile (Check w.certificate))) accepted.0 =
-            (kept, record { first_read = (w.same_database ∙ read.first_read.0, read.first_read.1); profile_read = profile_read; last_read = (w.held, short) }, accepted.1) in
-            (accepted.0, check_given (Some files) words w.command w.database w.profile w.certificate accepted.0 asks w.words_are w.named given)
-        | inr asks ↦
-            let given : Gives (Some files) (OfFiles (form_with w.database w.profile (Upgrade w.certificate))) w.written.text = (
-              kept,
-              record { first_read = (w.same_database ∙ read.first_read.0, read.first_read.1); profile_read = profile_read; last_read = (w.held, short) },
-              upgrades bytes certify.router w.certificate w.written.text over,
-            ) in
-            (w.written.text, upgrade_given (Some files) words w.command w.database w.profile w.certificate w.written.text asks w.words_are w.named given)
-      ]
+-- the words give a text
+pub written_passes : PassLaws → (files : Files) (words : List (List ℕ)) → ChecksWritten files words
+    → (line : List ℕ) × GivesText (Some files) words line
+written_passes laws files words w =
+    let certify : IsCertifyForm (Some w.written.files) w.written.database w.written.profile w.written.text =
+    certify_form (Some w.written.files) w.written.database w.written.profile w.written.text
+    (nat_lt 0 (length w.written.database) && nat_lt 0 (length w.written.profile)) (address_in w.written.router)
+    w.written.gave in
+    let bytes : FileBytes = certify.gives.0 in
+    let read : AreRead (Some w.written.files) (task_names (form_with w.written.database w.written.profile (Certify certify.router))) bytes =
+    certify.gives.1 in
+    let over : GivesOver (Certify certify.router) bytes w.written.text = certify.gives.2 in
+    let short = laws.short bytes certify.router w.written.text over in
+    let kept : FileBytes = with_last bytes w.written.text in
+    let profile_read : IsProfileRead (Some files) (profile_name w.profile) bytes.profile =
+    let before = profile_was w.written.files w.written.profile bytes.profile read.profile_read in
+    profile_is files w.profile bytes.profile (w.same_profile ∙ before.0) before.1 in
+    elim w.asks [
+      | inl asks ↦
+          let accepted = laws.check bytes certify.router w.certificate w.written.text over in
+          let given : Gives (Some files) (OfFiles (form_with w.database w.profile (Check w.certificate))) accepted.0 =
+          (kept, record { first_read = (w.same_database ∙ read.first_read.0, read.first_read.1); profile_read = profile_read; last_read = (w.held, short) }, accepted.1) in
+          (accepted.0, check_given (Some files) words w.command w.database w.profile w.certificate accepted.0 asks w.words_are w.named given)
+      | inr asks ↦
+          let given : Gives (Some files) (OfFiles (form_with w.database w.profile (Upgrade w.certificate))) w.written.text = (
+            kept,
+            record { first_read = (w.same_database ∙ read.first_read.0, read.first_read.1); profile_read = profile_read; last_read = (w.held, short) },
+            laws.upgrade bytes certify.router w.certificate w.written.text over,
+          ) in
+          (w.written.text, upgrade_given (Some files) words w.command w.database w.profile w.certificate w.written.text asks w.words_are w.named given)
+    ]
 
 -- nothing holds of a form that there is not
 pub no_form : (form : Option Form) (P : Form → Type 0) → IsNone form → IsSomeAnd form P → ⊥

@@ -24,7 +24,7 @@ use Rattle.mrt_exit.specs.declared.exit.Exit.TheVariants.{
 use Rattle.mrt_exit.specs.declared.exit.What.TheVariants.{DatabaseFile, UpdatesFile, ProfileFile, CertificateFile, ScriptFile}
 use Rattle.mrt_cmd.specs.Comes.{Comes, FailsAt, GivesText, IsRefused, MissesAt, NamesHeld}
 use Rattle.mrt_exit.specs.Exits.{line_of}
-use Rattle.mrt_cmd.specs.Form.{AsksVerdict, form_of}
+use Rattle.mrt_words.specs.Form.{AsksVerdict, form_of}
 use Rattle.mrt_exit.specs.Telling.{GainedLine, IsCutShort}
 use Rattle.mrt_cmd.specs.Run.{IsHealthyForText, IsUndisturbed, WritesNothing}
 

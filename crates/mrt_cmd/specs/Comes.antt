@@ -1,30 +1,15 @@
 -- What comes of the words over the files that they name, where memory suffices and no device fails.
-use Rattle.std.specs.Prelude.{◌≡◌, ◌⊎◌, [], ℕ, List, Option, Some, None, IfSome, IsNone}
+use Rattle.std.specs.Prelude.{◌≡◌, ◌⊎◌, ℕ, List, Option, IfSome, IsNone}
 use Rattle.std.specs.Option.{IsSomeAnd}
 use Rattle.mrt_io.specs.Holding.{Files}
 use Rattle.mrt_exit.specs.declared.exit.Exit.{Exit}
 use Rattle.mrt_exit.specs.declared.exit.Exit.TheVariants.{Done, Usage}
-use Rattle.mrt_cmd.specs.Answers.{FileBytes, GivesOver, IsRefusedOver}
-use Rattle.mrt_cmd.specs.Files.{NamedFile, Names, files_in, files_of, flood_names, profile_file, task_names, IsFirstMissing, IsReadAs, IsRefusedBy, MayFail, AreThere}
-use Rattle.mrt_cmd.specs.Flooded.{GivesFlood, IsRefusedFlood}
-use Rattle.mrt_cmd.specs.Form.{Form, OfFiles, Survey, Flood, form_of}
-use Rattle.mrt_cmd.specs.Surveyed.{IsSurveyed}
-
--- these are the bytes of the profile; without a name they are none
-abbrev pub IsProfileRead : Option Files → Option (List ℕ) → List ℕ → Type 0
-IsProfileRead held None bytes = bytes ≡ []
-IsProfileRead held (Some name) bytes = IsReadAs held (profile_file name) bytes
-
--- these are the bytes of the last file; where there is none, they are none
-abbrev pub IsLastRead : Option Files → Option NamedFile → List ℕ → Type 0
-IsLastRead held None bytes = bytes ≡ []
-IsLastRead held (Some file) bytes = IsReadAs held file bytes
-
--- these are the bytes of the files of these names
-pub record AreRead (held : Option Files) (names : Names) (bytes : FileBytes) : Type 0 where
-  pub first_read : IsReadAs held names.first bytes.first
-  pub profile_read : IsProfileRead held names.profile bytes.profile
-  pub last_read : IsLastRead held names.last bytes.last
+use Rattle.mrt_words.specs.FileBytes.{FileBytes, AreRead}
+use Rattle.mrt_answer.specs.Answers.{GivesOver, IsRefusedOver}
+use Rattle.mrt_words.specs.Files.{Names, files_in, files_of, flood_names, task_names, IsFirstMissing, IsRefusedBy, MayFail, AreThere}
+use Rattle.mrt_answer.specs.Flooded.{GivesFlood, IsRefusedFlood}
+use Rattle.mrt_words.specs.Form.{Form, OfFiles, Survey, Flood, form_of}
+use Rattle.mrt_answer.specs.Surveyed.{IsSurveyed}
 
 -- the text that is said of the bytes of such files
 abbrev pub GivesFrom : Option Files → Names → (FileBytes → List ℕ → Type 0) → List ℕ → Type 0

@@ -5,11 +5,12 @@ use Rattle.mrt_io.specs.Holding.{Files}
 use Rattle.mrt_exit.specs.declared.exit.Exit.{Exit}
 use Rattle.mrt_exit.specs.declared.exit.Exit.TheVariants.{Done, NoMemory, ReadFault, WriteFault}
 use Rattle.flood_verdict.specs.Alike.{ComparesAlike}
-use Rattle.mrt_cmd.specs.Answers.{FileBytes}
-use Rattle.mrt_cmd.specs.Comes.{AreRead, GivesText}
-use Rattle.mrt_cmd.specs.Files.{flood_names}
-use Rattle.mrt_cmd.specs.Flooded.{HoldsFlood}
-use Rattle.mrt_cmd.specs.Form.{FloodForm, Flood, form_of, profile_name}
+use Rattle.mrt_words.specs.FileBytes.{FileBytes}
+use Rattle.mrt_words.specs.FileBytes.{AreRead}
+use Rattle.mrt_cmd.specs.Comes.{GivesText}
+use Rattle.mrt_words.specs.Files.{flood_names}
+use Rattle.mrt_answer.specs.Flooded.{HoldsFlood}
+use Rattle.mrt_words.specs.Form.{FloodForm, Flood, form_of, profile_name}
 
 -- what a word for a profile stands for: no bytes where it names none, else those that are held
 abbrev pub profile_held : Files → List ℕ → Option (List ℕ)

@@ -12,34 +12,25 @@ ghost use Rattle.flood_verdict.specs.Says.{Says};
 ghost use Rattle.mrt_island.specs.declared.profile_error.ProfileKind.{ProfileKind};
 ghost use Rattle.mrt_exit.specs.declared.exit.DbKind.{DbKind};
 ghost use Rattle.mrt_exit.specs.declared.exit.What.{What};
-ghost use Rattle.mrt_cmd.specs.Asked.{asked, files_asked};
+ghost use Rattle.mrt_words.specs.Asked.{asked, files_asked, flood_asked};
 ghost use Rattle.mrt_cmd.specs.Causes.{HasNoText, IsAnswered};
 ghost use Rattle.mrt_cmd.specs.Comes.{Comes, FailsAt, Gives, GivesText, IsRefused, MissesAt, NamesHeld};
 ghost use Rattle.mrt_exit.specs.Exits.{line_of};
-ghost use Rattle.mrt_cmd.specs.Files.{AreThere, files_of};
-ghost use Rattle.mrt_cmd.specs.Form.{AsksVerdict, IsSurvey, IsTaskWithin, IsWithin, OfFiles, form_of};
+ghost use Rattle.mrt_words.specs.Files.{AreThere, files_of};
+ghost use Rattle.mrt_words.specs.Form.{AsksVerdict, IsSurvey, IsTaskWithin, IsWithin, Flood, OfFiles, form_of};
 ghost use Rattle.mrt_cmd.specs.Headline.{ChecksWritten, FloodsAlike, IsPassed};
 ghost use Rattle.mrt_cmd.specs.Reading.{IsRefusal, IsRefusalOrFault};
-ghost use Rattle.mrt_cmd.specs.TextBytes.{HasText, IsTextOf};
+ghost use Rattle.mrt_answer.specs.TextBytes.{HasText, IsTextOf};
 ghost use Rattle.mrt_exit.specs.Telling.{GainedLine, IsCutShort};
-ghost use Rattle.mrt_cmd.specs.Run.{
-  IsExitOfSurvey,
-  IsHealthyForText,
-  IsUndisturbed,
-  WritesNothing,
-};
+ghost use Rattle.mrt_cmd.specs.Run.{IsExitOfSurvey, IsHealthyForText, IsUndisturbed, WritesNothing};
 
-use crate::answer::answer;
-use crate::files_read::read_files;
-use crate::flood::flood;
 use crate::run_law::{
     alike_routers_are_told_alike, one_exit_comes, only_a_verdict_says_no, what_was_written_passes,
 };
-use crate::survey::survey;
-use crate::text::Text;
-use crate::words::{FileForm, Form, read_form};
+use mrt_answer::{Text, answer_of_files, answer_of_flood, answer_of_survey};
 use mrt_exit::{Exit, tell};
 use mrt_io::{Shelf, Sink, Word};
+use mrt_words::{FileForm, FloodForm, Form, read_files, read_flood_files, read_form};
 use std::alloc::Global;
 
 /// Does what the words ask for: reads the files that they name, writes the text of the answer to `out`, or else one line on
@@ -214,8 +205,8 @@ fn text_of<F: Shelf>(alloc: Global, form: Form<'_>, shelf: &mut F) -> Result<Tex
 {
     match form {
         Form::OfFiles(form) => text_of_files(alloc, form, shelf),
-        Form::Survey { number, nodes } => Ok(Text::Bytes(survey(alloc, number, nodes)?)),
-        Form::Flood(form) => Ok(Text::Bytes(flood(alloc, &form, shelf)?)),
+        Form::Survey { number, nodes } => answer_of_survey(alloc, number, nodes),
+        Form::Flood(form) => text_of_flood(alloc, &form, shelf),
     }
 }
 
@@ -233,7 +224,24 @@ fn text_of_files<F: Shelf>(alloc: Global, form: FileForm<'_>, shelf: &mut F) -> 
         → F.faults shelf.new ≡ F.faults shelf.old }
 {
     let files = read_files(alloc, shelf, &form)?;
-    answer(alloc, files)
+    answer_of_files(alloc, files)
+}
+
+/// The text that a form over packets gives.
+fn text_of_flood<F: Shelf>(alloc: Global, form: &FloodForm<'_>, shelf: &mut F) -> Result<Text, Exit>
+    ensures text { IfOk result (HasText (Gives (F.held shelf.old) (Flood (flood_asked form.now)))) }
+    ensures refused { IfErr result (IsRefusalOrFault (F.held shelf.old) (Flood (flood_asked form.now))
+        (F.faults shelf.old) (F.faults shelf.new)) }
+    ensures calm { (Rose (F.faults shelf.old) (F.faults shelf.new) → ⊥)
+        → IfErr result (IsRefusal (F.held shelf.old) (Flood (flood_asked form.now))) }
+    ensures healthy { F.healthy shelf.old
+        → IfErr result (IsRefusal (F.held shelf.old) (Flood (flood_asked form.now))) }
+    ensures no_fault { F.healthy shelf.old
+        → AreThere (F.held shelf.old) (files_of (Flood (flood_asked form.now)))
+        → F.faults shelf.new ≡ F.faults shelf.old }
+{
+    let files = read_flood_files(alloc, shelf, form)?;
+    answer_of_flood(alloc, &files)
 }
 
 /// Writes the answer's text.

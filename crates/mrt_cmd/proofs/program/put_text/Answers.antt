@@ -1,5 +1,5 @@
 use Rattle.std.proofs.Common.{◌∙◌, sym}
-use Rattle.mrt_cmd.proofs.TextsHeld.{cut_short}
+use Rattle.mrt_answer.proofs.TextsHeld.{cut_short}
 use Rattle.mrt_cmd.proofs.program.put_text.Goals as goal
 
 pub returns-in-Err-clause-write_fault : goal.returns-in-Err-clause-write_fault

@@ -7,7 +7,7 @@ use Rattle.mrt_cmd.specs.Comes.{GivesText}
 use Rattle.mrt_cmd.specs.Run.{WritesNothing}
 use Rattle.mrt_cmd.proofs.Causes.{passed_stopped, stopped, told_of, written}
 use Rattle.mrt_cmd.proofs.SurveyExits.{memory_of_survey, written_of_survey}
-use Rattle.mrt_cmd.proofs.TextsHeld.{BytesOf, some_bytes}
+use Rattle.mrt_answer.proofs.TextsHeld.{BytesOf, some_bytes}
 use Rattle.mrt_cmd.proofs.WrittenPasses.{passed_written}
 use Rattle.mrt_cmd.proofs.program.run.Given.{Over}
 use Rattle.mrt_cmd.proofs.program.run.Goals as goal

@@ -1,5 +1,5 @@
 use Rattle.std.proofs.Common.{◌≡◌}
-use Rattle.mrt_cmd.specs.Asked.{asked}
+use Rattle.mrt_words.specs.Asked.{asked}
 use Rattle.mrt_cmd.proofs.Causes.{refused_over_words}
 use Rattle.mrt_cmd.proofs.program.text_for.Goals as goal
 

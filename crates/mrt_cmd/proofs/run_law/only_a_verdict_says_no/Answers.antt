@@ -1,4 +1,4 @@
-use Rattle.mrt_cmd.specs.Form.{form_of}
+use Rattle.mrt_words.specs.Form.{form_of}
 use Rattle.mrt_cmd.proofs.WrittenPasses.{only_verdict_words}
 use Rattle.mrt_cmd.proofs.run_law.only_a_verdict_says_no.Goals as goal
 

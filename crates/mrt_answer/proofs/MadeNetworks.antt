@@ -1,0 +1,151 @@
+-- What a network that is made from a number comes to.
+use Rattle.std.proofs.Common.{◌≡◌, ◌∙◌, ◌≤◌, ℕ, true, List, [], ◌∷◌, None, Result, Ok, Err, length, map, refl, sym, ap, subst, inl, inr}
+use Rattle.std.specs.Prelude.{Contains, IfErr, IfOk}
+use Rattle.std.specs.List.{AllByRecursion}
+use Rattle.area_graph.specs.AreaOf.{area_of}
+use Rattle.area_graph.specs.AreaSize.{IsTooLarge}
+use Rattle.area_graph.specs.Nodes.{router as router_node}
+use Rattle.lsdb.specs.Conflicts.{least_conflict}
+use Rattle.lsdb.specs.Entries.{Database, Entry, entries_in}
+use Rattle.lsdb.specs.Installing.{IsKept}
+use Rattle.lsdb.specs.Installs.{all_installed}
+use Rattle.lsdb.specs.Newest.{IsSettled}
+use Rattle.lsdb.specs.Orders.{newest_in}
+use Rattle.mrt_island.specs.declared.setting.Setting.{Setting}
+use Rattle.ospf_lsa.specs.LsaText.{lsas_text}
+use Rattle.ospf_lsa.specs.Lsas.{AreLsas}
+use Rattle.ospf_lsa.specs.declared.lsa.Lsa.{Lsa}
+use Rattle.mrt_graph.specs.declared.cert.CertFile.{CertFile}
+use Rattle.mrt_graph.specs.Topology.{Topology}
+use Rattle.mrt_survey.specs.MadeLsas.{made_lsas}
+use Rattle.mrt_survey.specs.SurveyText.{IsSurveyText}
+use Rattle.mrt_exit.specs.declared.exit.DbKind.{DbKind}
+use Rattle.mrt_exit.specs.declared.exit.Exit.{Exit}
+use Rattle.mrt_exit.specs.declared.exit.Exit.TheVariants as exits
+use Rattle.lsdb.specs.Database.{IsDatabase, entering, enters}
+use Rattle.mrt_answer.specs.Database.{IsBadDatabase}
+use Rattle.mrt_words.specs.Form.{IsNetworkSize}
+use Rattle.mrt_answer.specs.Input.{Input, IsInput, area, input_of}
+use Rattle.mrt_answer.specs.Islands.{HasNoIslandFor}
+use Rattle.mrt_answer.specs.Refusals.{HasNoDatabase, HasNone}
+use Rattle.mrt_answer.specs.Surveyed.{IsSummedUp, made_input}
+use Rattle.mrt_answer.specs.Tabled.{IsComputedFile}
+use Rattle.mrt_answer.proofs.OneVerdict.{no_large_area}
+
+-- the laws of the layers below on the LSAs, on the area and on the islands of a network
+pub record NetworkLaws : Type 0 where
+  pub faultless : (number nodes : ℕ) → 4 ≤ nodes → nodes ≤ 2048 → AreLsas 0 (made_lsas number nodes)
+  pub kept : (number nodes : ℕ) → 4 ≤ nodes → nodes ≤ 2048 → AllByRecursion IsKept (made_lsas number nodes)
+  pub settled : (number nodes : ℕ) → least_conflict (all_installed [] (made_lsas number nodes)) ≡ None
+  pub newest : (number nodes : ℕ)
+      → map (λ (entry : Entry). entry.lsa) (all_installed [] (made_lsas number nodes)) ≡ made_lsas number nodes
+  pub entries : (lsas : List Lsa) → all_installed [] lsas ≡ entries_in lsas
+  pub agree : (lsas : List Lsa) → least_conflict (entries_in lsas) ≡ None → IsSettled lsas
+  pub within : (number nodes : ℕ) → nodes ≤ 2048
+      → IsTooLarge (length (area_of (made_lsas number nodes)).ids) (length (area_of (made_lsas number nodes)).arcs) → ⊥
+  pub there : (number nodes router : ℕ) → 1 ≤ router → router ≤ nodes
+      → Contains (area_of (made_lsas number nodes)).ids (router_node router)
+
+-- what may stand in a database enters it
+kept_enters : (lsa : Lsa) → IsKept lsa → enters lsa ≡ true
+kept_enters lsa kept = elim kept.type [
+  | inl router ↦ rw router refl
+  | inr network ↦ rw network refl
+]
+
+all_enter : (lsas : List Lsa) → AllByRecursion IsKept lsas → entering lsas ≡ lsas
+all_enter [] kept = refl
+all_enter (lsa ∷ rest) kept =
+    rw (kept_enters lsa kept.0) (ap (λ (xs : List Lsa). lsa ∷ xs) (all_enter rest kept.1))
+
+module _ (laws : NetworkLaws) (number nodes : ℕ) (size : IsNetworkSize nodes) where
+  all_entered : entering (made_lsas number nodes) ≡ made_lsas number nodes
+  all_entered = all_enter (made_lsas number nodes) (laws.kept number nodes size.0 size.1)
+
+  settled_lsas : IsSettled (made_lsas number nodes)
+  settled_lsas = laws.agree (made_lsas number nodes)
+      (subst (λ (es : List Entry). least_conflict es ≡ None) (laws.entries (made_lsas number nodes))
+      (laws.settled number nodes))
+
+  newest_lsas : made_lsas number nodes ≡ newest_in (made_lsas number nodes)
+  newest_lsas =
+      sym (laws.newest number nodes)
+      ∙ ap (map (λ (entry : Entry). entry.lsa)) (laws.entries (made_lsas number nodes))
+
+  pub made_database : IsDatabase (lsas_text (made_lsas number nodes)) (made_lsas number nodes)
+  made_database = record {
+    lsas = made_lsas number nodes;
+    held = record { each = laws.faultless number nodes size.0 size.1; spelled = refl };
+    settled = subst IsSettled (sym all_entered) settled_lsas;
+    newest_ones = subst (λ (lsas : List Lsa). made_lsas number nodes ≡ newest_in lsas) (sym all_entered) newest_lsas;
+  }
+
+  pub made_is_input : IsInput (lsas_text (made_lsas number nodes)) [] (made_input number nodes)
+  made_is_input = record {
+    database_is = made_database;
+    profile_is = record { faultless = λ place. refl; said = refl };
+  }
+
+  pub made_has_island : (router : ℕ) → 1 ≤ router → router ≤ nodes → (exit : Exit)
+      → HasNoIslandFor (made_input number nodes) router exit → ⊥
+  made_has_island router first last (exits.TooLarge what count) large =
+      no_large_area (area (made_input number nodes)) what count (laws.within number nodes size.1) large
+  made_has_island router first last (exits.NotThere other) missing = elim missing.2 [
+    | inl absent ↦ absent (laws.there number nodes router first last)
+    | inr unsupported ↦ cc
+  ]
+  made_has_island router first last exit none = none
+
+-- what is said of a network's bytes, or of its router's island, is want of memory
+pub no_fault_of_made : (bytes : List ℕ) (exit : Exit) → ((at : ℕ) (kind : DbKind) → IsBadDatabase bytes at kind → ⊥)
+    → HasNoDatabase bytes exit → exit ≡ exits.NoMemory
+no_fault_of_made bytes (exits.BadDatabase at kind) faultless said = absurd (faultless at kind said)
+no_fault_of_made bytes exits.NoMemory faultless said = refl
+no_fault_of_made bytes exit faultless said = absurd said
+
+pub memory_of_database : {T : Type 0} (answer : Result T Exit) (bytes : List ℕ) (number nodes : ℕ)
+    → bytes ≡ lsas_text (made_lsas number nodes)
+    → ((at : ℕ) (kind : DbKind) → IsBadDatabase (lsas_text (made_lsas number nodes)) at kind → ⊥)
+    → IfErr answer (HasNoDatabase bytes) → IfErr answer (λ exit. exit ≡ exits.NoMemory)
+memory_of_database (Ok t) bytes number nodes is faultless said = tt
+memory_of_database (Err exit) bytes number nodes is faultless said =
+    no_fault_of_made (lsas_text (made_lsas number nodes)) exit faultless
+    (subst (λ (text : List ℕ). HasNoDatabase text exit) is said)
+
+-- what the database of a network's bytes holds
+pub newest_of_made : {E : Type 0} (answer : Result Database E) (bytes : List ℕ) (number nodes : ℕ)
+    → bytes ≡ lsas_text (made_lsas number nodes)
+    → ((newest : List Lsa) → IsDatabase (lsas_text (made_lsas number nodes)) newest → newest ≡ made_lsas number nodes)
+    → IfOk answer (λ database. IsDatabase bytes (map (λ entry. entry.lsa) database.entries))
+    → IfOk answer (λ database. map (λ entry. entry.lsa) database.entries ≡ made_lsas number nodes)
+newest_of_made (Ok database) bytes number nodes is only held =
+    only (map (λ (entry : Entry). entry.lsa) database.entries)
+    (subst (λ (text : List ℕ). IsDatabase text (map (λ (entry : Entry). entry.lsa) database.entries)) is held)
+newest_of_made (Err error) bytes number nodes is only held = tt
+
+memory_of_island : (input : Input) (router : ℕ) (exit : Exit)
+    → ((exit : Exit) → HasNoIslandFor input router exit → ⊥) → HasNone input router exit → exit ≡ exits.NoMemory
+memory_of_island input router exit has (inl none) = absurd (has exit none)
+memory_of_island input router exit has (inr memory) = memory
+
+pub memory_of_islands : {T : Type 0} (answer : Result T Exit) (input given : Input) (router : ℕ) → given ≡ input
+    → ((exit : Exit) → HasNoIslandFor input router exit → ⊥) → IfErr answer (HasNone given router)
+    → IfErr answer (λ exit. exit ≡ exits.NoMemory)
+memory_of_islands (Ok t) input given router same has said = tt
+memory_of_islands (Err exit) input given router same has said =
+    memory_of_island input router exit has (subst (λ (it : Input). HasNone it router exit) same said)
+
+-- where a database holds the LSAs of a network, and a profile nothing, they hold what is surveyed
+pub made_input_is : (entries : List Entry) (settings : List Setting) (number nodes : ℕ)
+    → map (λ entry. entry.lsa) entries ≡ made_lsas number nodes → settings ≡ []
+    → input_of entries settings ≡ made_input number nodes
+made_input_is entries settings number nodes newest none = λ i. record { newest = newest i; settings = none i }
+
+-- what was written of a graph and its certificate is the survey
+pub summed_up_text : {T E : Type 0} (bytes : T → List ℕ) (answer : Result T E) (number : ℕ) (graph : Topology) (root : ℕ)
+    (file : CertFile) → IsComputedFile graph root file
+    → IfOk answer (λ text. IsSurveyText number graph root file.cert (bytes text))
+    → IfOk answer (λ text. IsSummedUp number graph root (bytes text))
+summed_up_text bytes (Ok text) number graph root file certificate spelled =
+    record { file = file; certificate = certificate; spelled = spelled }
+summed_up_text bytes (Err error) number graph root file certificate spelled = tt

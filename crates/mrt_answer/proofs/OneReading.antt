@@ -1,0 +1,169 @@
+-- What the bytes of each file hold, they hold in one way, or they have one first fault, and never both.
+use Rattle.std.proofs.Common.{◌≡◌, ◌∙◌, ◌<◌, ◌≤◌, ◌⊎◌, ◌-◌, ◌+◌, ℕ, Bool, true, false, List, [], ◌∷◌, Option, Some, None, refl, sym, ap, subst, inl, inr, arith}
+use Rattle.std.specs.Option.{option_map_or}
+use Rattle.std.proofs.lemmas.Bool.{cases_lt}
+use Rattle.cert_format.specs.CertText.{cert_text}
+use Rattle.cert_format.specs.FirstFault.{first_fault}
+use Rattle.cert_format.specs.Limits.{IsCertFile}
+use Rattle.cert_format.specs.declared.error.CertKind.{CertKind}
+use Rattle.lsdb.specs.Conflicts.{least_conflict}
+use Rattle.lsdb.specs.Disagreements.{IsFirstConflictOf}
+use Rattle.lsdb.specs.Entries.{entries_in}
+use Rattle.lsdb.specs.Installing.{IsBehind}
+use Rattle.lsdb.specs.Installs.{AreBehind}
+use Rattle.lsdb.specs.Newest.{IsSettled}
+use Rattle.lsdb.specs.Orders.{newest_in}
+use Rattle.lsdb.specs.declared.change.Conflict.{Conflict as Clash}
+use Rattle.mrt_graph.specs.declared.cert.CertFile.{CertFile}
+use Rattle.mrt_graph.specs.TextLines.{text_lines}
+use Rattle.mrt_island.specs.ProfileFaults.{IsFirstFault as IsFirstLineFault, fault_at}
+use Rattle.mrt_island.specs.declared.profile_error.ProfileKind.{ProfileKind}
+use Rattle.mrt_island.specs.declared.setting.Setting.{Setting}
+use Rattle.ospf_lsa.specs.LsaText.{lsa_length, lsas_text}
+use Rattle.ospf_lsa.specs.Lsas.{AreLsas}
+use Rattle.ospf_lsa.specs.Outcome.{IsFirstFault}
+use Rattle.ospf_lsa.specs.declared.error.LsaKind.{LsaKind}
+use Rattle.ospf_lsa.specs.declared.lsa.Lsa.{Lsa as Advertisement}
+use Rattle.lsdb.specs.Database.{HoldsLsas, IsDatabase, entering, enters}
+use Rattle.mrt_answer.specs.Database.{IsBadDatabase}
+use Rattle.mrt_words.specs.CertSpelling.{IsSpellingOf}
+use Rattle.mrt_answer.specs.Input.{IsProfile}
+use Rattle.mrt_exit.specs.declared.exit.DbKind.{DbKind}
+use Rattle.mrt_exit.specs.declared.exit.DbKind.TheVariants.{Lsa, Conflict}
+
+-- what an option holds is one
+pub held_once : {X : Type 0} (x y : X) (option : Option X) → option ≡ Some x → option ≡ Some y → x ≡ y
+held_once x y option one two = ap (λ o. option_map_or (λ z. z) o x) (sym one ∙ two)
+
+-- ---- databases
+
+-- the laws of the layers below on bytes, on LSAs and on conflicts
+pub record DatabaseLaws : Type 0 where
+  pub never_both : (bytes : List ℕ) (lsas : List Advertisement) (at : ℕ) (kind : LsaKind) → AreLsas 0 lsas
+      → bytes ≡ lsas_text lsas → IsFirstFault bytes at kind → ⊥
+  pub one_list : (bytes : List ℕ) (lsas others : List Advertisement) → AreLsas 0 lsas → bytes ≡ lsas_text lsas
+      → AreLsas 0 others → bytes ≡ lsas_text others
+      → lsas ≡ others
+  pub one_fault : (bytes : List ℕ) (at place : ℕ) (kind other : LsaKind) → IsFirstFault bytes at kind
+      → IsFirstFault bytes place other
+      → (at ≡ place) × (kind ≡ other)
+  pub settled : (lsas : List Advertisement) → IsSettled lsas → least_conflict (entries_in lsas) ≡ None
+  pub only : (lsas : List Advertisement) (conflict : Clash) → AreBehind None lsas → IsFirstConflictOf lsas conflict
+      → least_conflict (entries_in lsas) ≡ Some conflict
+
+-- the places of LSAs that stand one after another rise, also without some of them
+rising : (greatest : Option ℕ) (at : ℕ) (lsas : List Advertisement) → ((place : ℕ) → at ≤ place
+    → IsBehind greatest place) → AreLsas at lsas
+    → AreBehind greatest (entering lsas)
+rising greatest at [] behind are = tt
+rising greatest at (lsa ∷ rest) behind are =
+    go (enters lsa) refl (rising (Some lsa.at) (at + lsa_length lsa) rest (λ place le. omega (arith, are.0, le)) are.2)
+    (rising greatest (at + lsa_length lsa) rest (λ place le. behind place (omega (arith, le))) are.2)
+  where
+    go : (b : Bool) → enters lsa ≡ b → AreBehind (Some lsa.at) (entering rest) → AreBehind greatest (entering rest)
+        → AreBehind greatest (entering (lsa ∷ rest))
+    go true e after around = rw e (behind lsa.at (omega (arith, are.0)), after)
+    go false e after around = rw e around
+
+module _ (laws : DatabaseLaws) where
+  one_list_held : (bytes : List ℕ) (lsas others : List Advertisement) → HoldsLsas bytes lsas
+      → HoldsLsas bytes others → lsas ≡ others
+  one_list_held bytes lsas others one other = laws.one_list bytes lsas others one.each one.spelled other.each
+      other.spelled
+
+  pub one_database : (bytes : List ℕ) (newest others : List Advertisement) → IsDatabase bytes newest
+      → IsDatabase bytes others → newest ≡ others
+  one_database bytes newest others one other =
+      one.newest_ones ∙ ap (λ (lsas : List Advertisement). newest_in (entering lsas))
+      (one_list_held bytes one.lsas other.lsas one.held other.held)
+      ∙ sym other.newest_ones
+
+  told_of : (bytes : List ℕ) (lsas : List Advertisement) (conflict : Clash) → HoldsLsas bytes lsas
+      → IsFirstConflictOf (entering lsas) conflict
+      → least_conflict (entries_in (entering lsas)) ≡ Some conflict
+  told_of bytes lsas conflict held first = laws.only (entering lsas) conflict
+      (rising None 0 lsas (λ place le. tt) held.each) first
+
+  pub no_bad_database : (bytes : List ℕ) (newest : List Advertisement) (at : ℕ) (kind : DbKind)
+      → IsDatabase bytes newest → IsBadDatabase bytes at kind → ⊥
+  no_bad_database bytes newest at (Lsa kind) one bad = laws.never_both bytes one.lsas at kind one.held.each
+      one.held.spelled bad
+  no_bad_database bytes newest at (Conflict first) one bad =
+      let same : one.lsas ≡ bad.0 = one_list_held bytes one.lsas bad.0 one.held bad.1 in
+      let none : least_conflict (entries_in (entering bad.0)) ≡ None = laws.settled (entering bad.0)
+      (subst (λ (lsas : List Advertisement). IsSettled (entering lsas)) same one.settled) in
+      let some = told_of bytes bad.0 (record { first = first; second = at }) bad.1 bad.2 in
+      absurd cc
+
+  pub one_bad_database : (bytes : List ℕ) (at place : ℕ) (kind other : DbKind) → IsBadDatabase bytes at kind
+      → IsBadDatabase bytes place other
+      → (at ≡ place) × (kind ≡ other)
+  one_bad_database bytes at place (Lsa kind) (Lsa other) one two =
+      let same = laws.one_fault bytes at place kind other one two in
+      (same.0, ap Lsa same.1)
+  one_bad_database bytes at place (Lsa kind) (Conflict first) one two = absurd
+      (laws.never_both bytes two.0 at kind two.1.each two.1.spelled one)
+  one_bad_database bytes at place (Conflict first) (Lsa kind) one two = absurd
+      (laws.never_both bytes one.0 place kind one.1.each one.1.spelled two)
+  one_bad_database bytes at place (Conflict first) (Conflict former) one two =
+      let same : one.0 ≡ two.0 = one_list_held bytes one.0 two.0 one.1 two.1 in
+      let told : least_conflict (entries_in (entering two.0)) ≡ Some (record { first = first; second = at }) =
+      subst (λ (lsas : List Advertisement). least_conflict (entries_in (entering lsas)) ≡ Some
+      (record { first = first; second = at })) same
+      (told_of bytes one.0 (record { first = first; second = at }) one.1 one.2) in
+      let told_too = told_of bytes two.0 (record { first = former; second = place }) two.1 two.2 in
+      let equal = held_once _ _ _ told told_too in
+      (ap (λ (c : Clash). c.second) equal, ap (λ (c : Clash). Conflict c.first) equal)
+
+-- ---- profiles
+
+pub no_bad_profile : (bytes : List ℕ) (settings : List Setting) (line : ℕ) (kind : ProfileKind)
+    → IsProfile bytes settings → IsFirstLineFault (text_lines bytes) line kind → ⊥
+no_bad_profile bytes settings line kind one bad =
+    let none = one.faultless (line - 1) in
+    let some = bad.fault in
+    absurd cc
+
+pub one_profile : (bytes : List ℕ) (settings others : List Setting) → IsProfile bytes settings
+    → IsProfile bytes others → settings ≡ others
+one_profile bytes settings others one other = one.said ∙ sym other.said
+
+before_first : (lines : List (List ℕ)) (line number : ℕ) (kind other : ProfileKind)
+    → IsFirstLineFault lines line kind → IsFirstLineFault lines number other → line - 1 < number - 1 → ⊥
+before_first lines line number kind other one two before =
+    let none = two.first (line - 1) before in
+    let some = one.fault in
+    absurd cc
+
+pub one_bad_profile : (lines : List (List ℕ)) (line number : ℕ) (kind other : ProfileKind)
+    → IsFirstLineFault lines line kind → IsFirstLineFault lines number other
+    → (line ≡ number) × (kind ≡ other)
+one_bad_profile lines line number kind other one two = go (cases_lt (line - 1) (number - 1))
+    (cases_lt (number - 1) (line - 1))
+  where
+    go : (line - 1 < number - 1) ⊎ (number - 1 ≤ line - 1) → (number - 1 < line - 1) ⊎ (line - 1 ≤ number - 1)
+        → (line ≡ number) × (kind ≡ other)
+    go (inl before) after = absurd (before_first lines line number kind other one two before)
+    go (inr le) (inl after) = absurd (before_first lines number line other kind two one after)
+    go (inr le) (inr ge) =
+        let same : line ≡ number = omega (arith, le, ge, one.counted, two.counted) in (
+          same,
+          held_once kind other (fault_at lines (number - 1)) (ap (λ (n : ℕ). fault_at lines (n - 1)) (sym same) ∙
+              one.fault) two.fault,
+        )
+
+-- ---- certificates
+
+pub record CertLaws : Type 0 where
+  pub one : (f g : CertFile) → IsCertFile f → IsCertFile g → cert_text f ≡ cert_text g → f ≡ g
+  pub faultless : (f : CertFile) → IsCertFile f → first_fault (cert_text f) ≡ None
+
+pub no_bad_cert : CertLaws → (bytes : List ℕ) (file : CertFile) (fault : ℕ × CertKind) → IsSpellingOf bytes file
+    → first_fault bytes ≡ Some fault → ⊥
+no_bad_cert laws bytes file fault one some =
+    let none : first_fault bytes ≡ None = ap first_fault one.spelled ∙ laws.faultless file one.within in
+    absurd cc
+
+pub one_cert : CertLaws → (bytes : List ℕ) (file other : CertFile) → IsSpellingOf bytes file → IsSpellingOf bytes other
+    → file ≡ other
+one_cert laws bytes file other one two = laws.one file other one.within two.within (sym one.spelled ∙ two.spelled)

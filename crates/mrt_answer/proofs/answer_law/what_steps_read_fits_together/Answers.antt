@@ -1,0 +1,12 @@
+use Rattle.mrt_answer.proofs.OneAnswer.{AreaLaws, is_area, parts_fit}
+use Rattle.mrt_answer.proofs.answer_law.what_steps_read_fits_together.Goals as goal
+
+areas : goal.After-the_newest_records_give_an_area → AreaLaws
+areas c = record {
+  stands = c.an_lsa_without_a_fault_may_be_installed.ensures;
+  area = c.the_newest_records_give_an_area.ensures;
+}
+
+pub returns : goal.returns
+returns c = λ database profile input given router parts are.
+    parts_fit input (is_area (areas c) database input.newest given.database_is) router parts are

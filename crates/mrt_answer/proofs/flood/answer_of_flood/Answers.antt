@@ -1,0 +1,49 @@
+use Rattle.std.proofs.Common.{ℕ, List, [], subst}
+use Rattle.flood_core.specs.declared.update.Update.{Update}
+use Rattle.flood_core.specs.FloodState.{started}
+use Rattle.flood_core.specs.Updates.{AreUpdates}
+use Rattle.flood_script.specs.FloodScripts.{IsScript}
+use Rattle.flood_script.specs.FloodTexts.{IsFloodText}
+use Rattle.flood_verdict.specs.Says.{Says}
+use Rattle.mrt_graph.specs.TextLines.{text_lines}
+use Rattle.mrt_island.specs.declared.setting.Setting.{Setting}
+use Rattle.mrt_words.specs.FloodRead.{flood_bytes}
+use Rattle.mrt_answer.specs.Input.{IsProfile}
+use Rattle.mrt_answer.specs.Refusals.{HasNoFloodScript, IsAnswerOfFlood}
+use Rattle.mrt_answer.proofs.Floods.{script_refused}
+use Rattle.mrt_words.proofs.HandedOn.{handed_on}
+use Rattle.mrt_answer.proofs.flood.answer_of_flood.Goals as goal
+
+pub returns-in_err-script-clause-refused : goal.returns-in_err-script-clause-refused
+returns-in_err-script-clause-refused c =
+    let bytes = flood_bytes c.args.files.now in
+    let updates = c.in_ok-updates.updates.items in
+    let settings = c.in_ok-profile.profile in
+    let exit = c.in_err-script.field-0.0 in
+    handed_on c.from_residual-in_err-script.result exit c.from_residual-in_err-script.ensures.1 (IsAnswerOfFlood bytes)
+    (script_refused bytes updates
+    (subst (λ (b : List ℕ). AreUpdates 0 b updates []) c.deref.ensures.value c.in_ok-updates.ensures.updates) settings
+    (subst (λ (b : List ℕ). IsProfile b settings) c.deref-2.ensures.value c.in_ok-profile.ensures.profile) exit
+    (subst (λ (b : List ℕ). HasNoFloodScript b exit) c.deref-3.ensures.value c.in_err-script.ensures.none))
+
+pub returns-clause-text : goal.returns-clause-text
+returns-clause-text c =
+    let updates : List Update = c.in_ok-updates.updates.items in
+    let settings : List Setting = c.in_ok-profile.profile in
+    let script = c.in_ok-script.script in
+    record {
+      held = record {
+        updates = updates;
+        packets = subst (λ (b : List ℕ). AreUpdates 0 b updates []) c.deref.ensures.value c.in_ok-updates.ensures.updates;
+        settings = settings;
+        profile_is = subst (λ (b : List ℕ). IsProfile b settings) c.deref-2.ensures.value c.in_ok-profile.ensures.profile;
+        script = script;
+        script_is = subst (λ (b : List ℕ). IsScript (text_lines b) script) c.deref-3.ensures.value
+            c.in_ok-script.ensures.script;
+      };
+      may_flood = c.in_ok-updates.ensures.may_flood;
+      answers = subst
+          (λ (s : List Setting).
+          IsFloodText (Says s) (started updates script.routers) script.lines c.in_ok-flood_text.field-0.items)
+          c.new-comparing.ensures c.in_ok-flood_text.ensures;
+    }

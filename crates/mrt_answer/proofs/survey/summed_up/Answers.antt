@@ -1,0 +1,24 @@
+use Rattle.mrt_graph.proofs.ListTests.{there}
+use Rattle.mrt_rows.specs.CertOf.{file_of}
+use Rattle.mrt_answer.specs.Tabled.{IsComputedFile}
+use Rattle.mrt_answer.proofs.MadeNetworks.{summed_up_text}
+use Rattle.mrt_answer.proofs.survey.summed_up.Goals as goal
+
+pub survey_text-requires : goal.survey_text-requires
+survey_text-requires c =
+    let root = there c.args.graph.now.ids c.args.root c.requires in
+    record { number = root.0.number; accepted = c.in_ok-cert.ensures.accepted root.0 root.1 }
+
+pub returns : goal.returns
+returns c =
+    let root = there c.args.graph.now.ids c.args.root c.requires in
+    let file = file_of root.0 c.in_ok-cert.cert in
+    let accepted = c.in_ok-cert.ensures.accepted root.0 root.1 in
+    let certificate : IsComputedFile c.args.graph.now c.args.root file = record {
+      kept = c.in_ok-cert.ensures.kept;
+      computed = c.in_ok-cert.ensures.cert root.0 root.1;
+      accepted = accepted;
+      sound = c.accepted_implies_sound.ensures c.args.graph.now c.args.root file accepted;
+    } in
+    summed_up_text (λ text. text.items) c.survey_text.result c.args.number c.args.graph.now c.args.root file certificate
+    c.survey_text.ensures

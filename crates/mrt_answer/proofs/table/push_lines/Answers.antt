@@ -1,0 +1,33 @@
+use Rattle.std.proofs.Common.{◌≡◌, ◌≢◌, ◌∙◌, ℕ, sym, subst}
+use Rattle.primary_alt.proofs.ColorsUse.{agree, differ}
+use Rattle.text_parts.specs.Adds.{Adds}
+use Rattle.mrt_report.specs.ByColumn.{IsLineByColumn}
+use Rattle.mrt_rows.specs.CertOf.{IsCertOf}
+use Rattle.mrt_report.proofs.AddingLines.{line_added, line_passed}
+use Rattle.mrt_answer.specs.TableMade.{with_cert}
+use Rattle.mrt_answer.proofs.table.push_lines.Goals.{then-ne+in_ok-push_line, else-ne}
+use Rattle.mrt_answer.proofs.table.push_lines.Goals as goal
+
+pub loop-place-preserved : goal.loop-place-preserved
+loop-place-preserved c = elim c.if-ne.branch [
+  | then-ne+in_ok-push_line w ↦ rw (w.text-is, w.columns-is) (
+    w.push_line.ensures.root ∙ c.loop-place.invariant.0,
+    w.push_line.ensures.made,
+    λ file is.
+        line_added (IsLineByColumn (with_cert c.args.parts.now file.cert)) c.args.parts.now.source c.loop-place.place _ _ _
+        (subst (λ (n : ℕ). n ≢ c.args.parts.now.source) c.new-to.ensures (differ _ _ (sym c.ne.ensures ∙ w.if-ne.true)))
+        (c.loop-place.invariant.2 file is)
+        (subst (λ (n : ℕ). Adds (IsLineByColumn (with_cert c.args.parts.now file.cert) n) c.loop-place.text.items w.push_line.new.text.items)
+        c.new-to.ensures
+        (w.in_ok-push_line.ensures.line file
+        (subst (λ (n : ℕ). IsCertOf c.args.parts.now.island.now n file) (sym c.loop-place.invariant.0) is))),
+  )
+  | else-ne w ↦ rw (w.text-is, w.columns-is) (
+    c.loop-place.invariant.0,
+    c.loop-place.invariant.1,
+    λ file is.
+        line_passed (IsLineByColumn (with_cert c.args.parts.now file.cert)) c.args.parts.now.source c.loop-place.place _ _
+        (subst (λ (n : ℕ). n ≡ c.args.parts.now.source) c.new-to.ensures (agree _ _ (sym c.ne.ensures ∙ w.if-ne.false)))
+        (c.loop-place.invariant.2 file is),
+  )
+]

@@ -1,0 +1,19 @@
+-- What the lines of a router's table are made from.
+use Rattle.std.specs.Prelude.{◌<◌, length}
+use Rattle.area_graph.specs.Fits.{Fits}
+use Rattle.mrt_graph.specs.Certificate.{Certificate}
+use Rattle.mrt_graph.specs.GraphInvariant.{IsNetwork}
+use Rattle.mrt_report.specs.TableParts.{TableParts, AreItsPrimaries, table_parts}
+use Rattle.mrt_answer.specs.declared.table.Parts.{Parts}
+
+-- the parts of a table, with the certificate whose rows stand in the columns
+abbrev pub with_cert : Parts → Certificate → TableParts
+with_cert parts cert =
+    table_parts parts.area.now parts.island.now parts.link_of.now cert parts.source parts.primaries.now
+
+-- the parts belong together
+pub record AreParts (parts : Parts) : Type 0 where
+  pub fits : Fits parts.area.now parts.island.now parts.link_of.now
+  pub within : parts.source < length parts.island.now.ids
+  pub router : ¬ IsNetwork parts.island.now.ids parts.source
+  pub primaries : AreItsPrimaries parts.area.now parts.island.now parts.source parts.primaries.now

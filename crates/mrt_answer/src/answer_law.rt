@@ -1,0 +1,143 @@
+//! What holds of answers.
+
+ghost use Rattle.std.specs.Prelude.{◌≡◌, ◌≤◌, ℕ, List, Contains, length};
+ghost use Rattle.area_graph.specs.Nodes.{router as router_node};
+ghost use Rattle.fabric.specs.FabricParts.{AreFabricParts, FabricParts};
+ghost use Rattle.flood_verdict.specs.Alike.{ComparesAlike, IsToldAlike};
+ghost use Rattle.flood_verdict.specs.Says.{Says};
+ghost use Rattle.mrt_exit.specs.declared.exit.Exit.{Exit};
+ghost use Rattle.mrt_words.specs.FileBytes.{FileBytes, with_last};
+ghost use Rattle.mrt_words.specs.Form.{Task, Check, Certify, Upgrade};
+ghost use Rattle.mrt_answer.specs.Answers.{GivesOver, IsRefusedOver};
+ghost use Rattle.mrt_answer.specs.Certified.{IsCertified};
+ghost use Rattle.mrt_answer.specs.Flooded.{GivesFlood, HoldsFlood, IsRefusedFlood};
+ghost use Rattle.mrt_answer.specs.Input.{Input, IsInput};
+ghost use Rattle.mrt_answer.specs.Packets.{ArePartsFor};
+ghost use Rattle.mrt_answer.specs.SameFile.{IsSameFile};
+ghost use Rattle.mrt_answer.specs.Surveyed.{IsSurveyed};
+ghost use Rattle.mrt_answer.specs.Tabled.{IsTabled};
+
+use crate::survey_law::made_networks_are_taken;
+use area_graph::the_newest_records_give_an_area;
+use cert_format::one_spelling;
+use fabric_script::{lines_are_a_script_or_have_a_fault, one_text_each};
+use flood_core::bytes_are_updates_or_have_a_fault;
+use flood_script::{
+    lines_are_a_flood_script_or_have_a_fault, one_text_each as one_flood_text_each,
+};
+use flood_verdict::{ByIsland, no_difference_is_told, one_verdict_each};
+use lfa_alt::one_text_each as one_lfa_text_each;
+use lsdb::{
+    an_lsa_without_a_fault_may_be_installed, refuses_exactly_where_not_settled,
+    tells_the_first_conflict,
+};
+use mrt_graph::accepted_or_one_first_fault;
+use mrt_island::{a_router_has_one_island, an_island_is_that_of_each_router_in_it};
+use mrt_report::one_table_each;
+use mrt_rows::one_certificate;
+use mrt_survey::one_survey_each;
+use order_repair::one_text_each as one_order_text_each;
+use ospf_lsa::bytes_are_lsas_or_have_a_fault;
+use primary_alt::one_primary_each;
+use proxy_rows::{one_proxy_text, proxy_rows_or_no_common_block};
+
+/// Laws: of the bytes of the files of a task, and of those of a form over packets, there comes one text at most, or one
+/// exit, and never both; and of a network that is made from a number there is one survey.
+pub fn one_answer_comes()
+    ensures refusal { (task : Task) (bytes : FileBytes) (exit other : Exit)
+        → IsRefusedOver task bytes exit → IsRefusedOver task bytes other → exit ≡ other }
+    ensures text { (task : Task) (bytes : FileBytes) (text other : List ℕ)
+        → GivesOver task bytes text → GivesOver task bytes other → text ≡ other }
+    ensures never_both { (task : Task) (bytes : FileBytes) (text : List ℕ) (exit : Exit)
+        → GivesOver task bytes text → IsRefusedOver task bytes exit → ⊥ }
+    ensures flood_refusal { (bytes : FileBytes) (exit other : Exit)
+        → IsRefusedFlood bytes exit → IsRefusedFlood bytes other → exit ≡ other }
+    ensures flood_text { (bytes : FileBytes) (text other : List ℕ)
+        → GivesFlood bytes text → GivesFlood bytes other → text ≡ other }
+    ensures flood_never_both { (bytes : FileBytes) (text : List ℕ) (exit : Exit)
+        → GivesFlood bytes text → IsRefusedFlood bytes exit → ⊥ }
+    ensures survey { (number nodes : ℕ) (text other : List ℕ)
+        → IsSurveyed number nodes text → IsSurveyed number nodes other → text ≡ other }
+{
+    bytes_are_lsas_or_have_a_fault();
+    refuses_exactly_where_not_settled();
+    tells_the_first_conflict();
+    one_spelling();
+    an_lsa_without_a_fault_may_be_installed();
+    the_newest_records_give_an_area();
+    a_router_has_one_island();
+    accepted_or_one_first_fault();
+    one_certificate();
+    one_table_each();
+    one_primary_each();
+    lines_are_a_script_or_have_a_fault();
+    one_text_each();
+    one_lfa_text_each();
+    one_order_text_each();
+    one_proxy_text();
+    proxy_rows_or_no_common_block();
+    one_survey_each();
+    made_networks_are_taken();
+    bytes_are_updates_or_have_a_fault();
+    lines_are_a_flood_script_or_have_a_fault();
+    one_flood_text_each::<ByIsland<'_>>();
+    one_verdict_each();
+}
+
+/// Laws: the text of a certificate that is computed passes a check and an upgrade over the same database and profile, and it is
+/// within the limit of a certificate's file.
+pub fn what_is_certified_passes()
+    ensures check { (bytes : FileBytes) (router : ℕ) (certificate text : List ℕ) → GivesOver (Certify router) bytes text
+        → (line : List ℕ) × GivesOver (Check certificate) (with_last bytes text) line }
+    ensures upgrade { (bytes : FileBytes) (router : ℕ) (certificate text : List ℕ) → GivesOver (Certify router) bytes text
+        → GivesOver (Upgrade certificate) (with_last bytes text) text }
+    ensures short { (bytes : FileBytes) (router : ℕ) (text : List ℕ) → GivesOver (Certify router) bytes text
+        → length text ≤ 134217728 }
+{
+    an_lsa_without_a_fault_may_be_installed();
+    the_newest_records_give_an_area();
+    an_island_is_that_of_each_router_in_it();
+    one_spelling();
+}
+
+/// Laws: the tables of the routers of an island are of one graph, one root and one certificate; and this is the one
+/// that `certify` gives for each of them.
+pub fn tables_are_of_one_certificate()
+    ensures tables { (database profile : List ℕ) (input : Input) → IsInput database profile input
+        → (router other : ℕ) (text second : List ℕ)
+        → (one : IsTabled input router text) → (two : IsTabled input other second)
+        → Contains one.graph.ids (router_node other)
+        → IsSameFile one.graph one.root one.table.file two.graph two.root two.table.file }
+    ensures certificate { (database profile : List ℕ) (input : Input) → IsInput database profile input
+        → (router other : ℕ) (text second : List ℕ)
+        → (one : IsTabled input router text) → (two : IsCertified input other second)
+        → Contains one.graph.ids (router_node other)
+        → IsSameFile one.graph one.root one.table.file two.graph two.root two.certificate.file }
+{
+    an_lsa_without_a_fault_may_be_installed();
+    the_newest_records_give_an_area();
+    a_router_has_one_island();
+    an_island_is_that_of_each_router_in_it();
+    one_certificate();
+}
+
+/// A law: what the steps of packets read fits together, so that the laws of `fabric` hold of each run over it.
+pub fn what_steps_read_fits_together()
+    ensures { (database profile : List ℕ) (input : Input) → IsInput database profile input
+        → (router : ℕ) (parts : FabricParts) → ArePartsFor input router parts → AreFabricParts parts }
+{
+    an_lsa_without_a_fault_may_be_installed();
+    the_newest_records_give_an_area();
+}
+
+/// A law: in the text of packets, a profile and a script of deliveries, no line that compares two routers to which the
+/// deliveries before it brought the same LSAs, or after which flooding is done, is `different`.
+pub fn alike_deliveries_are_told_alike()
+    ensures { (bytes : FileBytes) (text : List ℕ) → GivesFlood bytes text → (held : HoldsFlood bytes)
+        → (compares : ComparesAlike held.updates held.script)
+        → IsToldAlike (Says held.settings) held.updates held.script compares text }
+{
+    bytes_are_updates_or_have_a_fault();
+    lines_are_a_flood_script_or_have_a_fault();
+    no_difference_is_told();
+}

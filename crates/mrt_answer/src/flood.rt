@@ -1,0 +1,62 @@
+//! `flood UPDATES PROFILE SCRIPT`: packets that reach routers in any order, any number of times, or never.
+
+ghost use Rattle.std.specs.Prelude.{◌≤◌, [], IfOk, IfErr, length, vec_len};
+ghost use Rattle.std.specs.List.{AllByRecursion};
+ghost use Rattle.flood_core.specs.Receiving.{MayFlood};
+ghost use Rattle.flood_core.specs.Updates.{AreUpdates};
+ghost use Rattle.flood_script.specs.FloodScripts.{IsAmong, IsScript, deliveries_in};
+ghost use Rattle.mrt_graph.specs.TextLines.{text_lines};
+ghost use Rattle.mrt_words.specs.FloodRead.{flood_bytes};
+ghost use Rattle.mrt_answer.specs.Flooded.{GivesFlood};
+ghost use Rattle.mrt_answer.specs.Refusals.{HasNoFloodScript, HasNoUpdates, IsAnswerOfFlood};
+ghost use Rattle.mrt_answer.specs.TextBytes.{HasText};
+
+use crate::input::profile_of;
+use crate::text::Text;
+use file_key::FileKey;
+use flood_core::{Update, read_updates};
+use flood_script::{FloodScript, flood_text, read_flood_script};
+use flood_verdict::ByIsland;
+use mrt_exit::Exit;
+use mrt_words::FloodRead;
+use std::alloc::Global;
+
+/// The answers to the lines of a script over packets and under a profile, each with its bytes.
+pub fn answer_of_flood(alloc: Global, files: &FloodRead) -> Result<Text, Exit>
+    requires updates { vec_len files.now.updates ≤ 33554432 }
+    requires profile { vec_len files.now.profile ≤ 33554432 }
+    requires script { vec_len files.now.script ≤ 33554432 }
+    ensures text { IfOk result (HasText (GivesFlood (flood_bytes files.now))) }
+    ensures refused { IfErr result (IsAnswerOfFlood (flood_bytes files.now)) }
+{
+    let updates = updates_of(alloc, &files.updates)?;
+    let profile = profile_of(alloc, &files.profile)?;
+    let script = script_of(alloc, &files.script)?;
+    let comparing = ByIsland::new(&profile);
+    let key = FileKey::of(&files.updates);
+    Ok(Text::Bytes(flood_text(alloc, key, updates, &script, &comparing)?))
+}
+
+/// The packets that the bytes are.
+fn updates_of(alloc: Global, bytes: &[u8]) -> Result<Vec<Update>, Exit>
+    requires { length bytes.now ≤ 33554432 }
+    ensures updates { IfOk result (λ updates. AreUpdates 0 bytes.now updates.items []) }
+    ensures few { IfOk result (λ updates. length updates.items ≤ 4294000000) }
+    ensures may_flood { IfOk result (λ updates. AllByRecursion MayFlood updates.items) }
+    ensures none { IfErr result (HasNoUpdates bytes.now) }
+{
+    Ok(read_updates(alloc, bytes)?)
+}
+
+/// The script of deliveries that the bytes are.
+fn script_of(alloc: Global, bytes: &[u8]) -> Result<FloodScript, Exit>
+    requires { length bytes.now ≤ 33554432 }
+    ensures script { IfOk result (λ script. IsScript (text_lines bytes.now) script) }
+    ensures some { IfOk result (λ script. 1 ≤ script.routers) }
+    ensures at_most { IfOk result (λ script. script.routers ≤ 64) }
+    ensures few { IfOk result (λ script. deliveries_in script.lines ≤ 65535) }
+    ensures among { IfOk result (λ script. AllByRecursion (IsAmong script.routers) script.lines) }
+    ensures none { IfErr result (HasNoFloodScript bytes.now) }
+{
+    Ok(read_flood_script(alloc, bytes)?)
+}

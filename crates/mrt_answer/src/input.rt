@@ -1,0 +1,64 @@
+//! What the bytes of the files are.
+
+ghost use Rattle.std.specs.Prelude.{◌≡◌, ◌≤◌, None, IfOk, IfErr, length, map};
+ghost use Rattle.lsdb.specs.Conflicts.{least_conflict};
+ghost use Rattle.lsdb.specs.Database.{IsDatabase};
+ghost use Rattle.fabric_script.specs.ScriptFaults.{IsScript};
+ghost use Rattle.mrt_graph.specs.TextLines.{text_lines};
+ghost use Rattle.mrt_answer.specs.Input.{IsInput, IsProfile};
+ghost use Rattle.mrt_answer.specs.Refusals.{HasNoDatabase, HasNoInput, HasNoProfile, HasNoScript};
+
+use crate::given::Given;
+use fabric_script::{Script, read_script};
+use file_key::FileKey;
+use lsdb::{Lsdb, refuses_exactly_where_not_settled, tells_the_first_conflict};
+use mrt_exit::Exit;
+use mrt_island::{Profile, read_profile};
+use ospf_lsa::read_lsas;
+use std::alloc::Global;
+
+/// The database and the profile that the bytes are.
+pub(crate) fn given_of(alloc: Global, database: &[u8], profile: &[u8]) -> Result<Given, Exit>
+    requires database { length database.now ≤ 8388608 }
+    requires profile { length profile.now ≤ 33554432 }
+    ensures given { IfOk result (λ given. IsInput database.now profile.now given) }
+    ensures none { IfErr result (HasNoInput database.now profile.now) }
+{
+    let database = database_of(alloc, database)?;
+    let profile = profile_of(alloc, profile)?;
+    Ok(Given { database, profile })
+}
+
+/// The database of the router-LSAs and network-LSAs that the bytes are.
+pub(crate) fn database_of(alloc: Global, bytes: &[u8]) -> Result<Lsdb, Exit>
+    requires { length bytes.now ≤ 8388608 }
+    ensures newest { IfOk result (λ database. IsDatabase bytes.now (map (λ entry. entry.lsa) database.entries)) }
+    ensures settled { IfOk result (λ database. least_conflict database.entries ≡ None) }
+    ensures none { IfErr result (HasNoDatabase bytes.now) }
+{
+    refuses_exactly_where_not_settled();
+    tells_the_first_conflict();
+    let lsas = read_lsas(alloc, bytes)?;
+    let database = lsdb::database_of(alloc, FileKey::of(bytes), lsas)?;
+    database.settled()?;
+    Ok(database)
+}
+
+/// The profile that the bytes are.
+pub(crate) fn profile_of(alloc: Global, bytes: &[u8]) -> Result<Profile, Exit>
+    requires { length bytes.now ≤ 33554432 }
+    ensures profile { IfOk result (λ profile. IsProfile bytes.now profile) }
+    ensures none { IfErr result (HasNoProfile bytes.now) }
+{
+    Ok(read_profile(alloc, bytes)?)
+}
+
+/// The script that the bytes are.
+pub(crate) fn script_of(alloc: Global, bytes: &[u8]) -> Result<Script, Exit>
+    requires { length bytes.now ≤ 33554432 }
+    ensures script { IfOk result (λ script. IsScript (text_lines bytes.now) script) }
+    ensures room { IfOk result (λ script. 1 ≤ script.room) }
+    ensures none { IfErr result (HasNoScript bytes.now) }
+{
+    Ok(read_script(alloc, bytes)?)
+}

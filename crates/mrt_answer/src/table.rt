@@ -1,0 +1,162 @@
+//! `table DB PROFILE ROUTER`: what a router installs.
+
+ghost use Rattle.std.specs.Prelude.{◌≡◌, ◌≢◌, ◌<◌, None, Contains, IfOk, IfErr, length};
+ghost use Rattle.area_graph.specs.Fits.{Fits};
+ghost use Rattle.area_graph.specs.Nodes.{router as router_node};
+ghost use Rattle.mrt_graph.specs.declared.cert.CertFile.{CertFile};
+ghost use Rattle.mrt_graph.specs.GraphInvariant.{IsNetwork};
+ghost use Rattle.text_parts.specs.Adds.{Adds};
+ghost use Rattle.mrt_report.specs.AddsLines.{AddsLines};
+ghost use Rattle.mrt_report.specs.ByColumn.{IsLineByColumn};
+ghost use Rattle.mrt_report.specs.TableText.{IsTableText};
+ghost use Rattle.mrt_rows.specs.CertOf.{IsCertOf};
+ghost use Rattle.mrt_rows.specs.Rooted.{MakeColumns};
+ghost use Rattle.mrt_answer.specs.Refusals.{HasNone};
+ghost use Rattle.mrt_answer.specs.TableMade.{AreParts, with_cert};
+ghost use Rattle.mrt_answer.specs.Tabled.{IsTableOf, IsTabled};
+ghost use Rattle.mrt_answer.specs.TextBytes.{HasText};
+
+use crate::given::Given;
+use crate::island::{area_of, island_of};
+use crate::text::Text;
+use area_graph::Area;
+use mrt_exit::Exit;
+use mrt_graph::{Graph, Kind, LinkNo, NoMemory, NodeId, NodeNo, accepted_implies_sound};
+use mrt_report::{lines_make_the_table, primary_for, push_table_line, table_head};
+use mrt_rows::{RootedColumns, certificates_are_accepted};
+use primary_alt::{Primary, primaries};
+use std::alloc::Global;
+
+/// What the lines of a router's table are made from: the area; the island, with the island link that each bond of the
+/// area is, if it is one; the router, by its number in the island; and its primaries for all nodes of the area.
+#[derive(Clone, Copy)]
+struct Parts<'a> {
+    pub area: &'a Area,
+    pub island: &'a Graph,
+    pub link_of: &'a [Option<LinkNo>],
+    pub source: NodeNo,
+    pub primaries: &'a [Option<Primary>],
+}
+
+/// The table of a router: of each other node of its island the two colors' next hops, the primary, and which color
+/// repairs it.
+pub(crate) fn table(alloc: Global, given: &Given, router: u32) -> Result<Text, Exit>
+    ensures tabled { IfOk result (HasText (IsTabled given.now router)) }
+    ensures refused { IfErr result (HasNone given.now router) }
+{
+    let area = area_of(alloc, given)?;
+    let island = island_of(alloc, &area, given, router)?;
+    let link_of = island.link_of.as_slice();
+    let text = table_of(alloc, &area, &island.graph, island.root, link_of, router)?;
+    Ok(Text::Bytes(text))
+}
+
+/// The table of a router of an island, by the rows of its certificate, of which one column at a time is made, and by the
+/// router's primaries.
+fn table_of(
+    alloc: Global,
+    area: &Area,
+    graph: &Graph,
+    root: NodeNo,
+    link_of: &[Option<LinkNo>],
+    router: u32,
+) -> Result<Vec<u8>, NoMemory>
+    requires root { root < length graph.now.ids }
+    requires root_router { ¬ IsNetwork graph.now.ids root }
+    requires fits { Fits area.now graph.now link_of.now }
+    requires inside { Contains graph.now.ids (router_node router) }
+    ensures { IfOk result (λ text. IsTableOf area.now graph.now root link_of.now router text.items) }
+{
+    certificates_are_accepted();
+    accepted_implies_sound();
+    let own = NodeId {
+        kind: Kind::Router,
+        number: router,
+    };
+    let source = graph.find(own).unwrap();
+    let spot = area.find(own).unwrap();
+    let primaries = primaries(alloc, area, spot)?;
+    let mut columns = RootedColumns::new(alloc, graph, root)?;
+    let parts = Parts {
+        area,
+        island: graph,
+        link_of,
+        source,
+        primaries: &primaries,
+    };
+    table_text(alloc, root, &parts, &mut columns)
+}
+
+/// The text of a table: its head, and a line on each other node.
+fn table_text(
+    alloc: Global,
+    root: NodeNo,
+    parts: &Parts,
+    columns: &mut RootedColumns,
+) -> Result<Vec<u8>, NoMemory>
+    requires root { root < length parts.now.island.now.ids }
+    requires root_router { ¬ IsNetwork parts.now.island.now.ids root }
+    requires kept { AreParts parts.now }
+    requires made { MakeColumns parts.now.island.now columns.old }
+    ensures { (file : CertFile) → IsCertOf parts.now.island.now columns.old.root file
+        → IfOk result (λ text. IsTableText (with_cert parts.now file.cert) root text.items) }
+{
+    lines_make_the_table();
+    let mut text = table_head(alloc, parts.island, root, parts.source)?;
+    push_lines(alloc, &mut text, parts, columns)?;
+    Ok(text)
+}
+
+/// Puts a line on each other node at the end of a text.
+fn push_lines(
+    alloc: Global,
+    text: &mut Vec<u8>,
+    parts: &Parts,
+    columns: &mut RootedColumns,
+) -> Result<(), NoMemory>
+    requires kept { AreParts parts.now }
+    requires made { MakeColumns parts.now.island.now columns.old }
+    ensures { (file : CertFile) → IsCertOf parts.now.island.now columns.old.root file
+        → IfOk result (λ _. AddsLines (IsLineByColumn (with_cert parts.now file.cert))
+        parts.now.source (length parts.now.island.now.ids) text.old.items text.new.items) }
+{
+    for place in 0..parts.island.node_count() {
+        let to = NodeNo::new(place);
+        if to != parts.source {
+            push_line(alloc, text, parts, columns, to)?;
+        }
+    }
+    Ok(())
+}
+
+/// Puts the line on another node at the end of a text. The node's column lives no longer than that.
+fn push_line(
+    alloc: Global,
+    text: &mut Vec<u8>,
+    parts: &Parts,
+    columns: &mut RootedColumns,
+    to: NodeNo,
+) -> Result<(), NoMemory>
+    requires kept { AreParts parts.now }
+    requires made { MakeColumns parts.now.island.now columns.old }
+    requires target { to < length parts.now.island.now.ids }
+    requires different { parts.now.source ≢ to }
+    ensures root { columns.new.root ≡ columns.old.root }
+    ensures made { MakeColumns parts.now.island.now columns.new }
+    ensures line { (file : CertFile) → IsCertOf parts.now.island.now columns.old.root file
+        → IfOk result (λ _. Adds (IsLineByColumn (with_cert parts.now file.cert) to) text.old.items text.new.items) }
+{
+    let column = columns.to(alloc, parts.island, to)?;
+    let primary = primary_for(parts.area, parts.island, parts.primaries, to);
+    push_table_line(
+        text,
+        parts.area,
+        parts.island,
+        parts.link_of,
+        &column,
+        parts.source,
+        to,
+        primary,
+    )?;
+    Ok(())
+}

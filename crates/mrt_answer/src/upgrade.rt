@@ -1,0 +1,38 @@
+//! `upgrade DB PROFILE CERT`: an accepted certificate in version 2.
+
+ghost use Rattle.std.specs.Prelude.{◌≡◌, None, IfOk, IfErr};
+ghost use Rattle.mrt_answer.specs.Refusals.{IsVerdictFor};
+ghost use Rattle.mrt_answer.specs.Upgraded.{IsUpgradeFor};
+ghost use Rattle.mrt_answer.specs.TextBytes.{HasText};
+
+use crate::given::Given;
+use crate::island::island_in;
+use crate::text::Text;
+use crate::verdict::judge;
+use cert_format::WritableCert;
+use mrt_exit::Exit;
+use mrt_graph::{CertFile, accepted_files_are_foldable, accepted_implies_sound};
+use std::alloc::Global;
+
+/// The version of the files that it writes.
+const WRITTEN: u16 = 2;
+
+/// The certificate in version 2, where it is accepted for the island of its root.
+pub(crate) fn upgrade(alloc: Global, given: &Given, file: CertFile) -> Result<Text, Exit>
+    ensures upgraded { IfOk result (HasText (IsUpgradeFor given.now file)) }
+    ensures refused { IfErr result (IsVerdictFor given.now file) }
+{
+    accepted_files_are_foldable();
+    accepted_implies_sound();
+    let island = island_in(alloc, given, file.root)?;
+    judge(&island.graph, island.root, &file)?;
+    // what each graph and each certificate keeps is told by reading it
+    let _nodes = island.graph.node_count();
+    let _count = file.cert.node_count();
+    let upgraded = CertFile {
+        version: WRITTEN,
+        root: file.root,
+        cert: file.cert,
+    };
+    Ok(Text::Cert(WritableCert::new(alloc, upgraded)?))
+}

@@ -1,0 +1,53 @@
+//! The verdict on a certificate file.
+
+ghost use Rattle.std.specs.Prelude.{◌≡◌, ◌<◌, None, IfOk, IfErr, length};
+ghost use Rattle.mrt_graph.specs.Accepted.{Accepted};
+ghost use Rattle.mrt_answer.specs.Refusals.{IsRejected, IsVerdictFor};
+ghost use Rattle.mrt_answer.specs.Verdict.{IsAcceptedFor, accepted_line as line_of_accepted};
+ghost use Rattle.mrt_answer.specs.TextBytes.{HasText};
+
+use crate::given::Given;
+use crate::island::island_in;
+use crate::text::Text;
+use cert_checker::{Verdict, check};
+use mrt_exit::{Exit, Line, line_of, push, push_address, push_decimal};
+use mrt_graph::{CertFile, Graph, NodeNo, accepted_implies_sound};
+use std::alloc::Global;
+
+/// The accepted line, where the certificate is accepted for the island of its root.
+pub(crate) fn verdict(alloc: Global, given: &Given, file: &CertFile) -> Result<Text, Exit>
+    ensures accepted { IfOk result (HasText (IsAcceptedFor given.now file.now)) }
+    ensures refused { IfErr result (IsVerdictFor given.now file.now) }
+{
+    accepted_implies_sound();
+    let island = island_in(alloc, given, file.root)?;
+    judge(&island.graph, island.root, file)?;
+    let graph = &island.graph;
+    let line = accepted_line(file.root, graph.node_count(), graph.link_count());
+    Ok(Text::Line(line))
+}
+
+/// Whether the certificate is accepted for the graph and its root.
+pub(crate) fn judge(graph: &Graph, root: NodeNo, file: &CertFile) -> Result<(), Exit>
+    requires { root < length graph.now.ids }
+    ensures accepted { IfOk result (λ _. Accepted graph.now root file.now) }
+    ensures refused { IfErr result (IsRejected graph.now root file.now) }
+{
+    match check(graph, root, file) {
+        Verdict::Yes => Ok(()),
+        Verdict::No { rule, a, b } => Err(Exit::No { rule, a, b }),
+    }
+}
+
+fn accepted_line(root: u32, nodes: u16, links: u16) -> Line
+    ensures { result.items ≡ line_of_accepted root nodes links }
+{
+    let mut line = line_of(b"accepted root ");
+    push_address(&mut line, root);
+    push(&mut line, b" nodes ");
+    push_decimal(&mut line, u64::from(nodes));
+    push(&mut line, b" links ");
+    push_decimal(&mut line, u64::from(links));
+    push(&mut line, b"\n");
+    line
+}

@@ -1,5 +1,0 @@
-use Rattle.std.proofs.Common.{refl}
-use Rattle.mrt_cmd.proofs.verdict.judge.Goals as goal
-
-pub returns-in-No-clause-refused : goal.returns-in-No-clause-refused
-returns-in-No-clause-refused c = (c.in-No.ensures.no _ _ _).0 refl

@@ -1,0 +1,10 @@
+use Rattle.std.proofs.Common.{Option, sym, subst}
+use Rattle.std.specs.Prelude.{IfSome}
+use Rattle.mrt_words.specs.Form.{FileForm, IsTaskWithin}
+use Rattle.mrt_words.proofs.Forms.{form_within}
+use Rattle.mrt_words.proofs.words.read_form.Goals as goal
+
+pub returns-in-Some-clause-within : goal.returns-in-Some-clause-within
+returns-in-Some-clause-within c =
+    subst (λ (o : Option FileForm). IfSome o (λ form. IsTaskWithin form.task)) (sym c.in-Some.ensures)
+    (form_within c.args.words.now)

@@ -1,0 +1,9 @@
+pub mod Asked
+pub mod CertSpelling
+pub mod FileBytes
+pub mod Files
+pub mod FloodRead
+pub mod Form
+pub mod Kept
+pub mod Pieces
+pub mod Unread
