@@ -16,17 +16,12 @@ import folders
 import areas
 import ring
 import timing
-from lsas import records_of, router_lsa, update
+from lsas import records_of, router_lsa, update, updates
 from time_certify import SHAPES, SIZES
 
 LIMIT = 33554432
 LSAS = 30
 ROUNDS = 7
-
-
-def packets(records):
-    """Packets of some tens of these LSAs."""
-    return [update(1, records[at : at + LSAS]) for at in range(0, len(records), LSAS)]
 
 
 def packets_within(parts, limit):
@@ -84,7 +79,7 @@ def report_area(shape, size, folder):
     """The times of an area of one size: to two routers, to eight, and of a comparison."""
     data = SHAPES[shape](size)
     areas.write(f"{folder}/database", data)
-    files = Packets(folder, packets(records_of(data)))
+    files = Packets(folder, updates(1, records_of(data), LSAS))
     two, eight = (files.report(f"{shape} {size}, delivered to {routers} routers", routers) for routers in (2, 8))
     certify = [timing.PROGRAM, "certify", f"{folder}/database", "-", "0.0.0.1"]
     one = timing.writing(certify, f"{folder}/certificate", ROUNDS)
@@ -100,7 +95,7 @@ def main():
     with tempfile.TemporaryDirectory() as folder:
         # A script has at most 65,535 deliveries, so that two routers can have all packets of the first file.
         tens, one, none = (
-            packets(records_of(ring.database(LIMIT // 48))),
+            updates(1, records_of(ring.database(LIMIT // 48)), LSAS),
             update(1, [router_lsa(1, [])]),
             update(1, []),
         )

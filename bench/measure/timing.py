@@ -1,13 +1,21 @@
 """Times and memory of commands, for the scripts that measure."""
+import math
 import os
+import resource
+import signal
 import subprocess
 import sys
 import tempfile
 import time
+from collections import namedtuple
 
 ROOT = os.path.dirname(os.path.dirname(os.path.dirname(os.path.abspath(__file__))))
 DATA = os.path.join(ROOT, "crates", "mrt", "data")
 PROGRAM = os.path.join(ROOT, "crates", "mrt", "out", "mrt")
+
+
+# A run of a command: seconds, the most memory in bytes, the status, and what stood on standard error. No status: it took too long and was ended.
+Run = namedtuple("Run", "seconds memory status errors")
 
 
 def build():
@@ -51,3 +59,32 @@ def peak(command, status=0):
         if done.returncode != status:
             sys.exit(f"{' '.join(command)}: status {done.returncode}")
         return int(told.read().split()[-1]) * 1024
+
+
+def run(command, text=os.devnull, memory=None, patience=None):
+    """One run, whose output goes to a file. It may have so many bytes of memory, and so many seconds. `time` starts it, as for `peak`."""
+    limit = memory and (lambda: resource.setrlimit(resource.RLIMIT_AS, (memory, memory)))
+    with open(text, "wb") as out, tempfile.NamedTemporaryFile("r") as told:
+        timed, start = ["time", "-f", "%M", "-o", told.name, *command], time.perf_counter()
+        with subprocess.Popen(timed, stdout=out, stderr=subprocess.PIPE, preexec_fn=limit, start_new_session=True) as started:
+            try:
+                _, errors = started.communicate(timeout=patience)
+            except subprocess.TimeoutExpired:
+                os.killpg(started.pid, signal.SIGKILL)
+                return Run(time.perf_counter() - start, 0, None, b"")
+        return Run(time.perf_counter() - start, int(told.read().split()[-1]) * 1024, started.returncode, errors)
+
+
+def in_turn(commands, text, rounds, budget=math.inf):
+    """The least time of each of these commands, in seconds, which run in turn so many rounds; after a round that leaves nothing of the
+    budget of seconds there is none more. Their output goes to a file; whether they succeed is not looked at."""
+    least, begun = [math.inf] * len(commands), time.perf_counter()
+    for _ in range(rounds):
+        for place, command in enumerate(commands):
+            with open(text, "wb") as out:
+                start = time.perf_counter()
+                subprocess.run(command, stdout=out, stderr=subprocess.DEVNULL, check=False)
+                least[place] = min(least[place], time.perf_counter() - start)
+        if time.perf_counter() - begun > budget:
+            break
+    return least

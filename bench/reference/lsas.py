@@ -5,6 +5,8 @@ POINT_TO_POINT, TRANSIT, STUB, VIRTUAL = 1, 2, 3, 4
 FIRST_SEQUENCE = 0x80000001
 # The metric of a link that is not for transit traffic (RFC 6987).
 MAX_LINK_METRIC = 65535
+# What the header of an Update leaves to its LSAs, of the 65,535 bytes that its length can tell.
+PACKET_ROOM = 65507
 
 
 def sums(data):
@@ -52,6 +54,18 @@ def update(router, records, area=0):
     """A Link State Update of LSAs (RFC 2328, section A.3.5), with nothing where checksum and authentication stand."""
     body = b"".join(records)
     return struct.pack(">BBHII12xI", 2, 4, 28 + len(body), router, area, len(records)) + body
+
+
+def updates(router, records, most=30):
+    """Updates of these LSAs in their order: so many at most in each, and none longer than its length can tell."""
+    parts, size = [], 0
+    for record in records:
+        if not parts or len(parts[-1]) == most or size + len(record) > PACKET_ROOM:
+            parts.append([])
+            size = 0
+        parts[-1].append(record)
+        size += len(record)
+    return [update(router, part) for part in parts]
 
 
 def address(text):
