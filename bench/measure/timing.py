@@ -1,7 +1,6 @@
 """Times and memory of commands, for the scripts that measure."""
 import math
 import os
-import resource
 import signal
 import subprocess
 import sys
@@ -63,10 +62,10 @@ def peak(command, status=0):
 
 def run(command, text=os.devnull, memory=None, patience=None):
     """One run, whose output goes to a file. It may have so many bytes of memory, and so many seconds. `time` starts it, as for `peak`."""
-    limit = memory and (lambda: resource.setrlimit(resource.RLIMIT_AS, (memory, memory)))
+    limited = ["prlimit", f"--as={memory}"] if memory else []
     with open(text, "wb") as out, tempfile.NamedTemporaryFile("r") as told:
-        timed, start = ["time", "-f", "%M", "-o", told.name, *command], time.perf_counter()
-        with subprocess.Popen(timed, stdout=out, stderr=subprocess.PIPE, preexec_fn=limit, start_new_session=True) as started:
+        timed, start = [*limited, "time", "-f", "%M", "-o", told.name, *command], time.perf_counter()
+        with subprocess.Popen(timed, stdout=out, stderr=subprocess.PIPE, start_new_session=True) as started:
             try:
                 _, errors = started.communicate(timeout=patience)
             except subprocess.TimeoutExpired:
