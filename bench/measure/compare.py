@@ -4,8 +4,9 @@ areas, profiles, certificates of both versions, traces, update packets and scrip
 
 usage: compare.py PROGRAM [CASES [SEED]]
 
-PROGRAM is the built program. Each certificate that it writes is given to its `check` too. Each case on which the two differ is printed, and
-its files are left in a folder that is named.
+PROGRAM is the built program. Areas have few routers, or many blocks, and one in twenty-five has more than 64 routers or more than 128. Each certificate that
+PROGRAM writes is given to its `check` too. Each case on which the two differ is printed, and its files are left in a folder that is named. A thousand
+cases take two minutes, nearly all of them in the reference program.
 """
 import os
 import subprocess
@@ -21,6 +22,7 @@ import certify
 import database
 import lowpoint
 from areas import random_area, random_ring, router, write
+from blocks import MOST, random_blocks
 from database import ROUTER, Refused, text_of
 from lsas import address, lsa, records_of, spelled, update
 
@@ -34,12 +36,25 @@ WRONG_DELIVERIES = ("routers 2", "routers 0", "routers 65", "routers", "routers 
                     "deliver 0 00", "deliver 4294967296 0", "deliver 0 65536", "Deliver 0 0", "same 0 0", "same 0 0 1.1.1", "same 0 0 net:1.1.1.1",
                     "same 0 5 1.1.1.1", "same 5 0 1.1.1.1", "same 0 0 1.1.1.1 1", "stop", "island 1.1.1.1 1", "deliver 0 0\0")
 
+# How many of all areas have many blocks, and how many of them many routers.
+BLOCKS, LARGE = 0.5, 0.04
+
 # Certificate and scripts are the bytes of files; a router is that of `certify` and `table`; a trace is its words; the ends of a prefix are two routers;
 # updates and deliveries are what `flood` reads.
 Case = namedtuple("Case", "data profile cert router trace script ends updates deliveries")
 
 
 # databases
+
+def any_area(random):
+    """An area of few routers, or of many blocks and few routers or, now and then, many."""
+    chance = random.random()
+    if chance < LARGE:
+        return random_blocks(random, random.randint(*random.choice([(65, 120), (129, MOST)])))
+    if chance < BLOCKS:
+        return random_blocks(random, random.randint(2, 24))
+    return random.choice([random_area, random_ring])(random)
+
 
 def again(random, record):
     """Another instance of an LSA: of any age and any sequence number, now and then with one byte of its body changed."""
@@ -61,8 +76,8 @@ def damaged(random, data):
 
 
 def random_database(random):
-    whole = records_of(random.choice([random_area, random_ring])(random))
-    records = whole + [again(random, random.choice(whole)) for _ in range(random.choice([0, 0, 1, 3]))]
+    whole = records_of(any_area(random))
+    records = whole + [again(random, random.choice(whole)) for _ in range(random.choice([0, 0, 1, 3]) if whole else 0)]
     if random.random() < 0.2:
         records.append(lsa(random.choice([3, 5, 10]), 1, router(1), bytes(random.randrange(20))))
     if random.random() < 0.3:
@@ -73,15 +88,19 @@ def random_database(random):
 
 # profiles
 
-def random_line(random):
-    name = spelled(router(random.randint(1, 7)))
+def random_line(random, area):
+    """A line on a router of an area, or on one that need not be there, and on one of its links."""
+    name, arcs = random_router(random, area), area.arcs
     data = random.choice([f"0.0.0.{random.randrange(12)}", f"10.0.{random.randrange(2)}.{random.randint(1, 7)}"])
+    if arcs and random.random() < 0.5:
+        arc = random.choice(arcs)
+        name, data = text_of(area.ids[arc.tail]).removeprefix("net:"), spelled(arc.data)
     return random.choice([f"priority {name} {random.choice([0, 1, 127, 128, 129, 255])}", f"no-mrt {name}", f"ineligible {name} {data}",
                           f"\tineligible  {name}\t{data} ", "# a comment", "", " \t", f"no-mrt {name}\r"])
 
 
-def random_profile(random):
-    lines = "".join(random_line(random) + "\n" for _ in range(random.choice([0, 0, 1, 2, 5]))).encode()
+def random_profile(random, area):
+    lines = "".join(random_line(random, area) + "\n" for _ in range(random.choice([0, 0, 1, 2, 5]))).encode()
     return damaged(random, lines) if random.random() < 0.1 else lines
 
 
@@ -101,10 +120,10 @@ def damaged_fields(random, file):
             cert.rows[s][t] = random.choice([row._replace(blue=random.randrange(m)), row._replace(red=random.randrange(m)), row._replace(tag=random.randrange(7))])
 
 
-def random_certificate(random, data, profile):
+def random_certificate(random, data, profile, area):
     """The certificate of some router's island, whole or damaged; of another area where there is none."""
     try:
-        found = certify.island_of(data, profile, router(random.randint(1, 3)))
+        found = certify.island_of(data, profile, address(random_router(random, area)))
     except Refused:
         found = certify.island_of(random_area(random), b"", router(1))
     text = certificate.write(found, lowpoint.compute(found), random.choice([1, 2]))
@@ -152,11 +171,21 @@ def random_arcs(random, area):
 
 
 def random_ends(random, area):
-    """A router and a node, by name; mostly some arcs lead from one to the other."""
+    """A router and a node, by name; mostly some arcs lead from one to the other, seldom where there are many nodes."""
     way = random_arcs(random, area)
-    if way and random.random() < 0.8:
+    if way and random.random() < (0.8 if len(area.ids) < 30 else 0.3):
         return text_of(area.ids[way[0].tail]), text_of(area.ids[way[-1].to])
     return random_router(random, area), random_node(random, area)
+
+
+def random_pair(random, area):
+    """Two router IDs: of a link's two routers, of any two, or of some that need not be there."""
+    there = [node.number for node in area.ids if node.kind == ROUTER]
+    joined = [(area.ids[arc.tail], area.ids[arc.to]) for arc in area.arcs]
+    pairs = [(one.number, other.number) for one, other in joined if one.kind == other.kind == ROUTER]
+    if pairs and random.random() < 0.4:
+        return random.choice(pairs)
+    return random.sample(there if len(there) > 1 and random.random() < 0.8 else [router(number) for number in range(1, 9)], 2)
 
 
 def random_failure(random, area, beside):
@@ -204,10 +233,21 @@ def damaged_lines(random, lines, all_wrong=WRONG_LINES):
     return random.choice([lines[1:], wrong, wrong, ["", "# a comment"][:random.randrange(3)]])
 
 
+def to_many(random, area):
+    """Packets to many nodes from one router or from any, then their steps in turn, so that all of them are on the way at once."""
+    one, count = random.choice([None, random_router(random, area)]), random.randint(8, 40)
+    packets = [f"inject {one or random_router(random, area)} {random_node(random, area)} {random_entry(random)}" for _ in range(count)]
+    steps = [f"step {packet}" for packet in range(count)] * random.randint(1, 5)
+    random.shuffle(steps)
+    return packets + steps
+
+
 def random_script(random, area):
     start, packets = random_router(random, area), 0
     lines = [f"island {start} {random.choice([1, 3, 8, 40, 65535])}"]
     lines += [f"fail {random_failure(random, area, start)}"] if random.random() < 0.3 else []
+    if random.random() < 0.2:
+        return script_of(random, lines + to_many(random, area), WRONG_LINES)
     for _ in range(random.randint(1, 40)):
         lines.append(random_event(random, area, start, packets))
         packets += lines[-1].startswith("inject")
@@ -242,8 +282,8 @@ def random_instance(random, record):
 
 def random_records(random):
     """LSAs of an area, some of them several times, in any order."""
-    whole = records_of(random.choice([random_area, random_ring])(random))
-    records = whole + [random_instance(random, random.choice(whole)) for _ in range(random.choice([0, 0, 2, 6]))]
+    whole = records_of(any_area(random))
+    records = whole + [random_instance(random, random.choice(whole)) for _ in range(random.choice([0, 0, 2, 6]) if whole else 0)]
     if random.random() < 0.2:
         records.append(lsa(random.choice([3, 5, 10]), 1, router(1), bytes(random.randrange(20))))
     if random.random() < 0.6:
@@ -359,10 +399,11 @@ def answered(program, folder, case):
 
 
 def random_case(random):
-    data, profile = random_database(random), random_profile(random)
+    data = random_database(random)
     area = named_area(data)
-    cert, source = random_certificate(random, data, profile), router(random.randint(1, 7))
-    ends = random.sample([router(number) for number in range(1, 9)], 2)
+    profile = random_profile(random, area)
+    cert, source = random_certificate(random, data, profile, area), address(random_router(random, area))
+    ends = random_pair(random, area)
     updates, packets = random_updates(random)
     return Case(data, profile, cert, source, random_trace(random, area), random_script(random, area), ends, updates, random_deliveries(random, packets))
 
