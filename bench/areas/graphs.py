@@ -95,10 +95,11 @@ def comb(n):
 
 
 def chain_of_rings(n):
-    """Rings of 64 in a row. A link joins the middle of one to the first router of the next."""
-    starts = range(1, n - RING + 2, RING)
-    pairs = [pair for start in starts for pair in ring(numbers(start, RING))]
-    return plain(pairs + [(start + RING // 2, start + RING) for start in starts[:-1]], (1, RING // 2))
+    """Rings of 64 in a row, in a small area shorter ones. A link joins the middle of one to the first router of the next."""
+    size = min(RING, n // 8)
+    starts = range(1, n - size + 2, size)
+    pairs = [pair for start in starts for pair in ring(numbers(start, size))]
+    return plain(pairs + [(start + size // 2, start + size) for start in starts[:-1]], (1, size // 2))
 
 
 def tree_of_rings(n):
@@ -136,10 +137,10 @@ def spurs(n, count):
 
 
 def trees(n):
-    """A mesh of half the routers, at which trees of 32 hang."""
-    half = n // 2
-    below = range(half + 1, n - TREE + 2, TREE)
-    pairs = [pair for place, first in enumerate(below) for pair in heap([1 + place * TREE, *numbers(first, TREE)])]
+    """A mesh of half the routers, at which trees of 32 hang, in a small area smaller ones."""
+    half, size = n // 2, min(TREE, n // 8)
+    below = range(half + 1, n - size + 2, size)
+    pairs = [pair for place, first in enumerate(below) for pair in heap([1 + place * size, *numbers(first, size)])]
     return Made(database(grid(numbers(1, half)) + pairs, metric=any_metric(n)), (1, half // 2))
 
 

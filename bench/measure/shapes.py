@@ -31,7 +31,7 @@ FORMS = (
     ["certify", "check", "upgrade", "table", "table-hub", "trace", "fabric-ten", "fabric-all"]
     + ["proxy", "lfa", "lfa-hub", "order", "flood", "survey"]
 )
-COLUMNS = f"{'shape':<14}{'form':<11}{'nodes':>6}{'ms':>9}{'certify':>9}{'sha256':>8}{'growth':>8}{'MB':>8}{'of db':>9}{'of file':>9}"
+COLUMNS = f"{'shape':<15}{'form':<11}{'nodes':>6}{'ms':>9}{'certify':>9}{'sha256':>8}{'growth':>8}{'MB':>8}{'of db':>9}{'of file':>9}"
 
 # Seconds of the form, of the other program's and of sha256sum of the file, whose size is told; a fault where the form did not end well.
 Row = namedtuple("Row", "shape form nodes seconds beside sha file memory database fault", defaults=[None])
@@ -124,7 +124,7 @@ def line(row, rows, half, with_beside):
     certify = rows["certify"].seconds
     ratio = lambda one, other: one / other if one and other else None
     times = row.seconds and row.seconds * 1000
-    text = f"{row.shape:<14}{row.form:<11}{row.nodes:>6}{told(times, 9, 1)}{told(ratio(row.seconds, certify), 9)}"
+    text = f"{row.shape:<15}{row.form:<11}{row.nodes:>6}{told(times, 9, 1)}{told(ratio(row.seconds, certify), 9)}"
     text += f"{told(ratio(row.seconds, row.sha), 8)}{told(growth(row, half), 8)}{row.memory / 1e6:8.1f}"
     text += f"{row.memory / row.database:9.1f}{told(ratio(row.memory, row.file), 9, 1)}"
     if with_beside:
