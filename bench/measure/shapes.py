@@ -7,11 +7,12 @@ memory, beside the database and beside that file. `table` and `order` ask for a 
 and `fabric-all` for one with two links, and the forms in `-hub` for the one with most links where it has more than eight.
 
 A row says where a bound does not hold: a table takes at most 0.1 s or 1.5 times `certify`, whichever is more; twice the nodes at most 4.4 times
-the time, where this is over 20 ms; `trace`, `fabric-ten`, `proxy` and `flood` at most 1.5 times `lfa` of a router with two links on the same
-area. With --check the status is 1 where one of the first two does not hold, with --strict where any. It builds the program where need be, if none
+the time, where this is over 20 ms; another program answers the same; `trace`, `fabric-ten`, `proxy` and `flood` at most 1.5 times `lfa` of a router with two links on the same
+area. With --check the status is 1 where one of the first three does not hold, with --strict where any. It builds the program where need be, if none
 is named; it fetches nothing.
 """
 import argparse
+import filecmp
 import os
 import shutil
 import sys
@@ -33,8 +34,9 @@ FORMS = (
 )
 COLUMNS = f"{'shape':<15}{'form':<11}{'nodes':>6}{'ms':>9}{'certify':>9}{'sha256':>8}{'growth':>8}{'MB':>8}{'of db':>9}{'of file':>9}"
 
-# Seconds of the form, of the other program's and of sha256sum of the file, whose size is told; a fault where the form did not end well.
-Row = namedtuple("Row", "shape form nodes seconds beside sha file memory database fault", defaults=[None])
+# Seconds of the form, of the other program's and of sha256sum of the file, whose size is told; a fault where the form did not end well, so that there
+# are no times; whether the other program answers otherwise.
+Row = namedtuple("Row", "shape form nodes seconds beside sha file memory database fault differs", defaults=[None, False])
 
 
 # runs
@@ -48,6 +50,13 @@ class Programs:
 
     def all(self):
         return [self.program] + ([self.beside] if self.beside else [])
+
+    def differ(self, words, text):
+        """Whether the other program answers otherwise than what stands in a file."""
+        if not self.beside:
+            return False
+        other = f"{text}-beside"
+        return timing.run([self.beside, *words], other, patience=PATIENCE).status != 0 or not filecmp.cmp(text, other, False)
 
 
 def largest(words):
@@ -73,9 +82,10 @@ def row_of(programs, shape, form, inputs, words):
     # (the text is written anew while it is timed, so that what sha256sum reads is a copy)
     summed = inputs.path("summed")
     shutil.copy(largest([*words, text]), summed)
+    differs = programs.differ(words, text)
     commands = [[program, *words] for program in programs.all()] + [["sha256sum", summed]]
     *times, sha = timing.in_turn(commands, text, programs.rounds, BUDGET)
-    return Row(shape, form, nodes, times[0], times[-1], sha, os.path.getsize(summed), first.memory, database)
+    return Row(shape, form, nodes, times[0], times[-1], sha, os.path.getsize(summed), first.memory, database, None, differs)
 
 
 def rows_of(programs, shape, size, forms, folder):
@@ -101,12 +111,12 @@ def faults(row, rows, half):
     """What a row breaks, and what only --strict asks for."""
     if row.fault:
         return [row.fault], []
-    hard, soft, grown = [], [], growth(row, half)
+    hard, soft, grown = ["ANOTHER ANSWER"] * row.differs, [], growth(row, half)
     certify, lfa = rows["certify"].seconds, rows["lfa"].seconds
     if row.form.startswith("table") and certify and row.seconds > max(TABLE_SECONDS, TABLE_RATIO * certify):
-        hard.append(f"over {TABLE_RATIO} times certify")
+        hard.append(f"TOO MUCH: over {TABLE_RATIO} times certify")
     if grown and grown > GROWTH and row.seconds > GROWTH_FROM:
-        hard.append(f"over {GROWTH} times for twice the nodes")
+        hard.append(f"TOO MUCH: over {GROWTH} times for twice the nodes")
     if row.form in AS_LFA and lfa and row.seconds > LFA_RATIO * lfa:
         soft.append(f"{row.seconds / lfa:.1f} times lfa")
     return hard, soft
@@ -130,7 +140,7 @@ def line(row, rows, half, with_beside):
     if with_beside:
         text += f"{told(row.beside and row.beside * 1000, 9, 1)}{told(ratio(row.seconds, row.beside), 8)}"
     hard, soft = faults(row, rows, half)
-    return text + "".join(f"  {word}" for word in [*(f"TOO MUCH: {each}" for each in hard), *soft])
+    return text + "".join(f"  {word}" for word in hard + soft)
 
 
 def report(programs, shape, size, forms):
