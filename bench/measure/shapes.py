@@ -7,9 +7,9 @@ memory, beside the database and beside that file. `table` and `order` ask for a 
 and `fabric-all` for one with two links, and the forms in `-hub` for the one with most links where it has more than eight.
 
 A row says where a bound does not hold: a table takes at most 0.1 s or 1.5 times `certify`, whichever is more; twice the nodes at most 4.4 times
-the time, where this is over 20 ms; another program answers the same; `trace`, `fabric-ten`, `proxy` and `flood` at most 1.5 times `lfa` of a router with two links on the same
-area. With --check the status is 1 where one of the first three does not hold, with --strict where any. It builds the program where need be, if none
-is named; it fetches nothing.
+the time, where this is over 20 ms; another program answers the same; `trace`, `fabric-ten`, `proxy` and `flood` take at most 1.5 times `lfa` of a
+router with two links on the same area. With --check the status is 1 where one of the first three does not hold, with --strict where any. It builds
+the program where need be, if none is named; it fetches nothing.
 """
 import argparse
 import filecmp
