@@ -4,7 +4,7 @@
 Each row is a form on the larger area of a shape: the least time of some runs, which go side by side with those of sha256sum of the largest
 file that the form reads or writes; its ratios to `mrt certify` of the same area, to sha256sum, and to the time at half the size; and the peak
 memory, beside the database and beside that file. `table` and `order` ask for a router in the middle, `lfa`, `trace` and the failure in `fabric-ten`
-and `fabric-all` for one with two links, and the forms in `-hub` for the one with most links where it has more than eight.
+and `fabric-all` for one with two links (or as near to two as there are), and the forms in `-hub` for the one with most, where these are more than eight.
 
 A row says where a bound does not hold: a table takes at most 0.1 s or 1.5 times `certify`, whichever is more; twice the nodes at most 4.4 times
 the time, where this is over 20 ms; another program answers the same; `trace`, `fabric-ten`, `proxy` and `flood` take at most 1.5 times `lfa` of a
