@@ -420,7 +420,7 @@ def main():
                     differing += 1
                     kept = tempfile.mkdtemp()
                     answered(program, kept, case)
-                    print(f"case {number}, {command}: {got}, not {want}; its files are in {kept}")
+                    print(f"case {number}, {command}: {got}, not {want}; its files are in {kept}", flush=True)
     print(f"{cases} cases, {differing} differ; by status: " + ", ".join(f"{command} {status}: {counts[command, status]}" for command, status in sorted(counts)))
     sys.exit(1 if differing else 0)
 
