@@ -95,7 +95,9 @@ def answers(
         if failed and number == len(before):
             next(said, None)
         next(said, None)
-        found.append([next(said, "no answer") for _ in range(packet.steps)])
+        found.append([line for _, line in zip(range(packet.steps), said)])
+        if len(found[-1]) < packet.steps:
+            raise ToolFault(f"{program.path} fabric has said less than was asked", REFUSED)
     return found
 
 

@@ -1,11 +1,13 @@
-"""A certificate that `mrt check` has accepted, read for pictures."""
+"""A certificate that `mrt` has written or accepted, read for pictures."""
 from __future__ import annotations
 
 import struct
 from typing import NamedTuple
 
 from .area import Node
+from .ending import REFUSED, ToolFault
 
+MAGIC = b"MRTC"
 HEADER, NODE, LINK, ROW = 14, 11, 7, 5
 BLUE, RED = 0, 1
 CARRIED = b"\x06"
@@ -44,8 +46,17 @@ class Certificate(NamedTuple):
 
 
 def read(data: bytes) -> Certificate:
-    """The certificate of bytes that were accepted."""
-    _, version, count, links, root = struct.unpack_from(">4sHHHI", data)
+    """The certificate of bytes that were written or accepted; where they are none, it was not `mrt` that did so."""
+    try:
+        return certificate_of(data)
+    except (struct.error, ValueError, IndexError) as fault:
+        raise ToolFault("what was written is no certificate", REFUSED) from fault
+
+
+def certificate_of(data: bytes) -> Certificate:
+    magic, version, count, links, root = struct.unpack_from(">4sHHHI", data)
+    if magic != MAGIC:
+        raise ValueError(magic)
     at, nodes, heads, blocks, pairs = HEADER, [], [], [], []
     for kind, number, _, head, block in struct.iter_unpack(">BIHHH", data[at : at + NODE * count]):
         nodes.append(Node(number, kind))
@@ -57,6 +68,8 @@ def read(data: bytes) -> Certificate:
     rows = data[at + LINK * links :]
     if version == 2:
         rows = all_rows(nodes.index(Node(root, 1)), heads, blocks, rows)
+    if len(rows) != ROW * count * (count - 1):
+        raise ValueError(len(rows))
     return Certificate(nodes, Node(root, 1), heads, blocks, pairs, rows)
 
 

@@ -7,7 +7,7 @@ import shutil
 import subprocess
 import sys
 
-from .ending import READ_FAULT, ToolFault
+from .ending import READ_FAULT, REFUSED, ToolFault
 
 ROOT = os.path.dirname(os.path.dirname(os.path.dirname(os.path.realpath(__file__))))
 MRT = os.path.join(ROOT, "mrt")
@@ -58,4 +58,8 @@ class Program:
         return done.stdout
 
     def lines(self, command: str, *words: str, untold: int = 0) -> list[str]:
-        return self.run(command, *words, untold=untold).decode("ascii").splitlines()
+        """The lines that a command writes, of which there is one at least."""
+        found = self.run(command, *words, untold=untold).decode("ascii").splitlines()
+        if not found:
+            raise ToolFault(f"{self.path} {command} ended with status 0 and has written nothing", REFUSED)
+        return found

@@ -118,11 +118,40 @@ class Lint(unittest.TestCase):
             done = Done("lint", *names, program=MRT)
             self.assertEqual((done.status, done.lines, done.errors.count("\n")), (status, [], 1), done.errors)
 
-    def test_a_program_that_is_not_there_is_told_at_once(self) -> None:
-        for tool, words in (("lint", ("none", "none")), ("trace", ("none", "none", "1.1.1.1", "2.2.2.2", "blue"))):
-            done = Done(tool, *words, program="/nonexistent")
+
+class OtherPrograms(unittest.TestCase):
+    """Each tool where there is no such program, and with one that ends with status 0 and says nothing, or writes what
+    is no certificate."""
+
+    WORDS = {
+        "diff": ["lan.lsas", "lan.lsas", "lan.profile"],
+        "draw": ["lan.lsas", "lan.profile", "10.255.1.1"],
+        "fib": ["lan.lsas", "lan.profile", "10.255.1.4"],
+        "lint": ["lan.lsas", "lan.profile"],
+        "report": ["lan.lsas", "lan.profile"],
+        "trace": ["lan.lsas", "lan.profile", "10.255.1.4", "10.255.1.1", "repair", "10.255.1.3"],
+    }
+
+    def done(self, tool: str, program: str) -> tuple[int, list[str], str]:
+        words = [f"{DATA}/{word}" if word.startswith("lan") else word for word in self.WORDS[tool]]
+        done = Done(tool, *words, program=program)
+        return done.status, done.lines, done.errors
+
+    def test_one_that_is_not_there_is_told_at_once(self) -> None:
+        for tool in self.WORDS:
             wanted = (8, [], f"{tool}: /nonexistent: there is no such program\n")
-            self.assertEqual((done.status, done.lines, done.errors), wanted)
+            self.assertEqual(self.done(tool, "/nonexistent"), wanted)
+
+    def test_one_that_says_nothing(self) -> None:
+        for tool, form in (("fib", "table"), ("lint", "table"), ("trace", "trace")):
+            told = f"{tool}: /bin/true {form} ended with status 0 and has written nothing\n"
+            self.assertEqual(self.done(tool, "/bin/true"), (1, [], told))
+
+    def test_what_is_no_certificate(self) -> None:
+        for program in ("/bin/true", "/bin/echo"):
+            for tool in ("diff", "draw", "report"):
+                wanted = (1, [], f"{tool}: what was written is no certificate\n")
+                self.assertEqual(self.done(tool, program), wanted)
 
 
 class Trace(unittest.TestCase):

@@ -169,6 +169,20 @@ class Building(Checkout):
         self.assertIn("is not known", self.said("./mrt", "--version"))
         self.assertEqual(self.run_in(self.folder, "./mrt", "--kept").returncode, 1)
 
+    def test_without_the_list_of_crates_there_is_nothing_to_build(self) -> None:
+        os.remove(self.at("crates.txt"))
+        for words in (["a"], ["--install", self.path("usr")]):
+            done = self.run_in(self.folder, "./mrt", *words)
+            self.assertEqual((done.returncode, done.stdout), (70, ""))
+            self.assertIn("there is no program in", done.stderr)
+        self.assertEqual((self.builds(), os.path.exists(self.path("usr"))), (0, False))
+
+    def test_a_proof_that_fails(self) -> None:
+        write(self.path("bin", "rt"), FAILED, 0o755)
+        done = self.run_in(self.folder, "./mrt", "a")
+        self.assertEqual((done.returncode, done.stdout), (70, ""))
+        self.assertIn("the build failed", done.stderr)
+
     def test_version(self) -> None:
         self.assertRegex(self.said("./mrt", "--version"), r"^Semborui \d+\.\d\S*\nnot built\n$")
         self.said("./mrt")
