@@ -217,6 +217,24 @@ class Installing(Checkout):
         self.assertEqual(self.said("usr/bin/mrt", "a", folder=self.top), "a\n")
         self.look_at_help_and_tools()
 
+    def test_the_unit_of_the_agent(self) -> None:
+        """What it starts takes the words, and it has no more rights than it needs."""
+        with open(self.path("usr/lib/systemd/system/mrt-agent@.service"), encoding="utf-8") as file:
+            lines = file.read().splitlines()
+        words = next(line for line in lines if line.startswith("ExecStart=")).removeprefix("ExecStart=").split()
+        values = {"%i": ["frr"], "$ROUTER": ["10.255.0.3"], "$OPTIONS": ["--strict", "--mrt", "/nonexistent"]}
+        given = [value for word in words[1:] for value in values.get(word, [word])]
+        done = self.run_in(self.top, self.path("usr/bin", words[0]), *given)
+        self.assertEqual((done.returncode, done.stderr), (8, "agent: /nonexistent: there is no such program\n"))
+        rights = "CAP_NET_ADMIN CAP_NET_RAW"
+        for line in ("NoNewPrivileges=yes", f"CapabilityBoundingSet={rights}", f"AmbientCapabilities={rights}", "User=%i"):
+            self.assertIn(line, lines)
+        if shutil.which("systemd-analyze"):
+            unit = self.path("mrt-agent@frr.service")
+            write(unit, "\n".join(lines).replace("=mrt-agent ", f"={self.path('usr/bin/mrt-agent')} "))
+            told = self.run_in(self.top, "systemd-analyze", "verify", "--man=no", unit).stderr
+            self.assertEqual([line for line in told.splitlines() if "mrt-agent" in line], [])
+
     def look_at_help_and_tools(self) -> None:
         self.assertIn("mrt survey NUMBER NODES", self.said("usr/bin/mrt", "help", "survey", folder=self.top))
         links = sorted(name for name in os.listdir(self.path("usr/bin")) if name != "mrt")
