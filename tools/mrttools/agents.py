@@ -1,5 +1,5 @@
 """The lab's agents: one in each router, and what they make of a link that comes, a router that goes, another profile,
-two changes within a second, and daemons that die."""
+two changes within a second, and daemons that die; and how many pings are lost meanwhile, with agents and without."""
 from __future__ import annotations
 
 import json
@@ -8,20 +8,23 @@ import subprocess
 import time
 from typing import Callable, NamedTuple
 
-from . import batch, lsas
+from . import batch, kernel, lsas
 from .batch import NOTHING, Linux, State
 from .ending import ToolFault
-from .failing import FAILING, STANDING, failures
-from .forwarding import Batch, do_at_once, line_of
+from .failing import FAILING, STANDING, failures, pairs
+from .forwarding import Batch, do_at_once, line_of, lost_by
 from .hearing import Database, instance_of
 from .keeping import SILENT
 from .network import Network, router_id
+from .pinging import Counted, Pinging
 from .program import ROOT
 from .running import Lab, LabFault
 
 # Seconds that the agents are asked to wait, and within which all are to have their tables.
 QUIET, HOLD, PATIENCE = 5, 2, 90
-HEAD = ("change", "routers", "changes", "batches", "seconds")
+# Pings of each pair while something changes, how far they are apart in milliseconds, and the seconds before it.
+PINGS, EVERY, BEFORE = 1750, 20, 0.5
+HEAD = ("change", "routers", "changes", "batches", "seconds", "lost: with", "without")
 # Whose daemons die: the first one's agent leaves its table, the second one's takes it away.
 LEFT, STRICT = 6, 9
 
@@ -84,9 +87,12 @@ class Agents:
         return batch.state_of(line for line in lines if line.endswith(f"proto {batch.PROTOCOL}"))
 
     def wait(self, without: tuple[int, ...] = ()) -> None:
-        """Waits until the routers, but for some, have the tables of one database, which is that of their daemons."""
+        """Waits until the routers, but for some, have the tables of one database, which is that of their daemons;
+        where no agent runs, until the daemons have one."""
         listed = self.lab.wait(without)
         routers = [router for router in self.running if router not in without]
+        if not routers:
+            return
         database = self.name(f"r{routers[0]}/area.lsas")
         end = time.monotonic() + PATIENCE
         while True:
@@ -117,11 +123,13 @@ class Agents:
 
 
 class Change(NamedTuple):
-    """What happens: its name, how it is done, and the routers that have no table of the area after it."""
+    """What happens: its name, how it is done, the routers that have no table of the area after it, and those that are
+    not pinged, as they are away for a while whatever is repaired."""
 
     name: str
     do: Callable[[], None]
     out: tuple[int, ...] = ()
+    away: tuple[int, ...] = ()
 
 
 def wires(network: Network, verb: str, *names: str) -> None:
@@ -156,45 +164,58 @@ def changes(agents: Agents) -> list[Change]:
 
     return [
         Change("link r4-r5 comes", lambda: wires(network, "up", "link r4-r5")),
-        Change("router r6 goes", lambda: wires(network, "down", "router r6"), (6,)),
-        Change("router r6 comes back", lambda: wires(network, "up", "router r6")),
+        Change("router r6 goes", lambda: wires(network, "down", "router r6"), (6,), (6,)),
+        Change("router r6 comes back", lambda: wires(network, "up", "router r6"), (), (6,)),
         Change("the profile has another root", lambda: write_profile(agents, 5)),
         Change("two links go, half a second apart", two),
         Change("both come back", lambda: wires(network, "up", "link r1-r2", "link r5-r6")),
-        Change(f"daemons of r{LEFT} and r{STRICT} die", die, (LEFT, STRICT)),
-        Change("both are started again", again),
+        Change(f"daemons of r{LEFT} and r{STRICT} die", die, (LEFT, STRICT), (LEFT, STRICT)),
+        Change("both are started again", again, (), (LEFT, STRICT)),
     ]
 
 
 class Row(NamedTuple):
-    """What came of a change: how many routers had other tables, their changes, the most batches of one, and the seconds
-    until the last one had its table."""
+    """What came of a change: how many routers had other tables, their changes, the most batches of one, the seconds
+    until the last one had its table, and the pings that were lost, with agents and without."""
 
     name: str
     routers: int
     changes: int
     batches: int
     seconds: float
+    lost: int
+    without: int
 
     @property
     def cells(self) -> tuple[str, ...]:
-        return self.name, f"{self.routers:,}", f"{self.changes:,}", f"{self.batches:,}", f"{self.seconds:.0f}"
+        numbers = self.routers, self.changes, self.batches, round(self.seconds), self.lost, self.without
+        return self.name, *(f"{number:,}" for number in numbers)
 
 
-def tried(agents: Agents, change: Change) -> Row:
-    """Has something change, and waits until all agents have put it into their kernels."""
-    routers = list(agents.running)
-    before = {router: (len(agents.said(router, "out")), len(agents.said(router, "err"))) for router in routers}
-    began = time.time()
+def pinged(agents: Agents, change: Change) -> Counted:
+    """Has something change, and waits until all have their tables, while all pairs are pinged."""
+    chosen = [pair for pair in pairs(agents.network.plan) if not set(pair) & set(change.away)]
+    pinging = Pinging(agents.network, chosen, PINGS, EVERY)
+    time.sleep(BEFORE)
     change.do()
     agents.wait(change.out)
+    return pinging.end()
+
+
+def tried(agents: Agents, change: Change, without: int) -> Row:
+    """A change, with what the agents said of it."""
+    routers = list(agents.running)
+    before = {router: (len(agents.said(router, "out")), len(agents.said(router, "err"))) for router in routers}
+    began = time.time() + BEFORE
+    lost = lost_by(pinged(agents, change))
     lines = {router: len(agents.said(router, "out")) - before[router][0] for router in routers}
     batches = {
         router: sum(line.startswith("agent: changed:") for line in agents.said(router, "err")[before[router][1] :])
         for router in routers
     }
     last = max(os.stat(agents.name(f"r{router}.out")).st_mtime for router in routers)
-    return Row(change.name, sum(map(bool, lines.values())), sum(lines.values()), max(batches.values()), last - began)
+    seconds, most = max(0, last - began), max(batches.values())
+    return Row(change.name, sum(map(bool, lines.values())), sum(lines.values()), most, seconds, lost, without)
 
 
 def silent_as_asked(agents: Agents, before: State) -> bool:
@@ -217,24 +238,37 @@ def refused(agents: Agents, router: int) -> str:
     return ""
 
 
-def run(agents: Agents, say: Callable[[str], None]) -> bool:
-    """All changes, one after another; whether each router had the table that tools/fib has, and those whose daemons
-    died what was asked, and whether a batch that failed was undone."""
+def begin(agents: Agents, routers: list[int]) -> None:
+    """Starts all daemons, and the agents of some routers before them. All have the settings, to compare."""
     write_profile(agents, 2)
     wires(agents.network, "down", "link r4-r5")
     for router in agents.network.plan.routers:
+        Inside(agents.network.of(router)).run("sh", text=kernel.SETTINGS)
+    for router in routers:
         agents.start(router)
     for router in agents.network.plan.routers:
         agents.lab.start(router)
     agents.wait()
+
+
+def without(agents: Agents) -> list[int]:
+    """How many pings each change costs where no agent runs."""
+    begin(agents, [])
+    return [lost_by(pinged(agents, change)) for change in changes(agents)]
+
+
+def run(agents: Agents, bare: list[int], say: Callable[[str], None]) -> bool:
+    """All changes, one after another; whether each router had the table that tools/fib has, and those whose daemons
+    died what was asked, and whether a batch that failed was undone."""
+    begin(agents, agents.network.plan.routers)
     say(f"agent: {len(agents.running)} routers have the tables of tools/fib: {total(agents):,} routes and rules")
     undone = refused(agents, 1)
     say(f"agent: r1 is given a batch that fails in its middle: {undone or 'IT IS NOT UNDONE'}")
     say(line_of(HEAD))
     agreed = bool(undone)
-    for change in changes(agents):
+    for change, lost in zip(changes(agents), bare):
         before = agents.state(LEFT)
-        row = tried(agents, change)
+        row = tried(agents, change, lost)
         say(line_of(row.cells))
         if STRICT in change.out:
             agreed = silent_as_asked(agents, before) and agreed

@@ -35,7 +35,7 @@ def answer(*words: str) -> str:
 
 
 class Frr:
-    """zebra and ospfd for each router."""
+    """zebra and ospfd for each router; or zebra and staticd, with static routes."""
 
     name = "FRR"
     # Milliseconds from a change to the shortest paths; none for FRR's own timers, which grow from change to change.
@@ -46,15 +46,21 @@ class Frr:
         return answer("/usr/lib/frr/ospfd", "--version").split("\n", 1)[0]
 
     def start(self, network: Network, router: int, folder: str) -> Running:
+        return self.run(network.of(router), folder, {"ospfd": self.configuration(network.plan, router)})
+
+    def hold(self, network: Network, router: int, folder: str, routes: str) -> Running:
+        """Starts a router with static routes and no routing protocol."""
+        return self.run(network.of(router), folder, {"staticd": routes})
+
+    def run(self, space: str, folder: str, configurations: dict[str, str]) -> Running:
         # The daemons give up root's rights for those of the user frr.
         shutil.chown(folder, "frr", "frr")
-        write(f"{folder}/zebra.conf", f"hostname r{router}\n")
-        write(f"{folder}/ospfd.conf", self.configuration(network.plan, router))
         processes = []
-        for name in ("zebra", "ospfd"):
+        for name, text in {"zebra": "", **configurations}.items():
+            write(f"{folder}/{name}.conf", text)
             files = ["-f", f"{folder}/{name}.conf", "-i", f"{folder}/{name}.pid", "-z", f"{folder}/zserv.api"]
             words = [f"/usr/lib/frr/{name}", *files, "--vty_socket", folder, "-P", "0", "--log", "stdout"]
-            processes.append(run_in(network.of(router), f"{folder}/log", *words))
+            processes.append(run_in(space, f"{folder}/log", *words))
         return Running(processes, folder)
 
     def configuration(self, plan: Plan, router: int) -> str:

@@ -45,10 +45,14 @@ class Batch:
     """Commands of ip in a namespace, by a process that waits for them: they are done at once where the network
     fails."""
 
-    def __init__(self, space: str, lines: list[str]) -> None:
+    def __init__(self, place: str, lines: list[str]) -> None:
         self.text = "".join(f"{line}\n" for line in lines)
-        words = ["ip", "-n", space, "-batch", "-"]
-        self.process = subprocess.Popen(words, stdin=subprocess.PIPE, text=True)
+        self.process = subprocess.Popen(
+            self.words(place), stdin=subprocess.PIPE, stdout=subprocess.DEVNULL, text=True
+        )
+
+    def words(self, space: str) -> list[str]:
+        return ["ip", "-n", space, "-batch", "-"]
 
     def send(self) -> None:
         self.process.stdin.write(self.text)
@@ -56,7 +60,7 @@ class Batch:
 
     def end(self) -> None:
         if self.process.wait() != 0:
-            raise ValueError(f"ip ended with status {self.process.returncode}")
+            raise ValueError(f"{self.process.args[0]} ended with status {self.process.returncode}")
 
 
 class Installed:
@@ -74,26 +78,21 @@ class Installed:
         return done.stdout
 
     def make(self, *options: str) -> None:
-        """Has tools/fib print the script of each router, by the addresses that the router itself has."""
+        """Has tools/fib print the script of each router."""
+        self.scripts = {router: self.printed(router, f"r{router}.sh", *options) for router in self.routers}
+
+    def printed(self, router: int, name: str, *options: str) -> str:
+        """What tools/fib prints for a router, by the addresses that the router itself has. It is kept in a file."""
         os.makedirs(self.folder, exist_ok=True)
-        for router in self.routers:
-            addresses = os.path.join(self.folder, f"r{router}.json")
-            with open(addresses, "w", encoding="utf-8") as file:
-                file.write(self.inside(router, "ip", "-j", "-4", "address"))
-            fib = [
-                os.path.join(ROOT, "tools", "fib"),
-                "--mrt",
-                self.mrt.path,
-                "--addresses",
-                addresses,
-                *self.options,
-                *options,
-            ]
-            words = [*fib, self.mrt.database, self.mrt.profile, router_id(router)]
-            done = subprocess.run(words, stdout=subprocess.PIPE, stderr=subprocess.PIPE, text=True, check=True)
-            self.scripts[router] = done.stdout
-            with open(os.path.join(self.folder, f"r{router}.sh"), "w", encoding="ascii") as file:
-                file.write(done.stdout)
+        addresses = os.path.join(self.folder, f"r{router}.json")
+        with open(addresses, "w", encoding="utf-8") as file:
+            file.write(self.inside(router, "ip", "-j", "-4", "address"))
+        fib = [os.path.join(ROOT, "tools", "fib"), "--mrt", self.mrt.path, "--addresses", addresses]
+        words = [*fib, *self.options, *options, self.mrt.database, self.mrt.profile, router_id(router)]
+        text = subprocess.run(words, stdout=subprocess.PIPE, stderr=subprocess.PIPE, text=True, check=True).stdout
+        with open(os.path.join(self.folder, name), "w", encoding="ascii") as file:
+            file.write(text)
+        return text
 
     def install(self) -> None:
         for router, script in self.scripts.items():
@@ -126,6 +125,10 @@ class Installed:
             if lines
         ]
 
+    def rest(self) -> None:
+        """Waits until all is as it was before a failure."""
+        time.sleep(REST)
+
     def taken(self) -> int:
         """How many packets took a repair so far, by the counters of nft."""
         said = (self.inside(router, "nft", "list", "chain", "ip", "mrt", "write") for router in self.routers)
@@ -153,7 +156,7 @@ def lose(installed: Installed, failure: Failure, tell_lan: bool) -> Counted:
     counted = pinging.end()
     do_at_once([Batch(network.wires, [f"link set group {FAILING} up"])] + installed.ready("replace", gone))
     network.group(failure.ports, STANDING)
-    time.sleep(REST)
+    installed.rest()
     return counted
 
 
@@ -209,7 +212,8 @@ def row_of(trial: Trial, bare: Counted) -> Row:
 
 
 def without_routing(installed: Installed, say: Callable[[str], None]) -> list[Row]:
-    """Each failure with primaries and repairs by tools/fib and no daemon, and then with the primaries alone."""
+    """Each failure with primaries and repairs by tools/fib and no routing protocol, and then with the primaries
+    alone."""
     installed.make()
     installed.install()
     trials = [tried(installed, failure, say) for failure in failures(installed.network.plan)]
@@ -258,7 +262,7 @@ def bars_of(rows: list[Row]) -> list[Bar]:
 
 
 def line_of(cells: tuple[str, ...]) -> str:
-    widths = 34, 7, 11, 8, 13, 14
+    widths = 34, 7, 11, 8, 13, 14, 10
     first, *others = (
         cell.ljust(width) if not at else cell.rjust(width) for at, (cell, width) in enumerate(zip(cells, widths))
     )

@@ -9,8 +9,8 @@ from typing import NamedTuple
 from .failing import Pair
 from .network import Network, owner, router_id
 
-# Milliseconds between two pings of one pair.
-EVERY = 10
+# Milliseconds between two pings of one pair, and those after which an answer does not count.
+EVERY, LATE = 10, 300
 
 
 class Counted(NamedTuple):
@@ -27,8 +27,8 @@ class Counted(NamedTuple):
 class Pinging:
     """The pings of all routers, which run until their number is reached."""
 
-    def __init__(self, network: Network, pairs: list[Pair], number: int) -> None:
-        self.network, self.pairs, self.number = network, pairs, number
+    def __init__(self, network: Network, pairs: list[Pair], number: int, every: int = EVERY) -> None:
+        self.network, self.pairs, self.number, self.every = network, pairs, number, every
         self.sources = sorted({source for source, _ in pairs})
         self.before = self.counters()
         self.running = {source: self.start(source) for source in self.sources}
@@ -36,8 +36,10 @@ class Pinging:
     def start(self, source: int) -> subprocess.Popen[str]:
         """One process pings all of a router's destinations in turn. Rounds never take less than the pings in them."""
         targets = [router_id(target) for one, target in self.pairs if one == source]
-        gap = max(1, min(5, EVERY // len(targets)))
-        words = ["fping", "-q", "-C", str(self.number), "-p", str(EVERY), "-i", str(gap), "-B", "1", "-r", "0"]
+        gap = max(1, min(5, self.every // len(targets)))
+        words = ["fping", "-q", "-C", str(self.number), "-p", str(self.every), "-i", str(gap), "-B", "1", "-r", "0"]
+        # What comes late on a machine with other work was not lost.
+        words += ["-t", str(LATE)]
         return subprocess.Popen(
             ["ip", "netns", "exec", self.network.of(source), *words, "-S", router_id(source), *targets],
             stdout=subprocess.DEVNULL,

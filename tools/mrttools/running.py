@@ -29,9 +29,17 @@ class Lab:
         self.running: dict[int, Running] = {}
 
     def start(self, router: int) -> None:
-        own = os.path.join(self.folder, f"r{router}")
-        os.makedirs(own, mode=0o755, exist_ok=True)
-        self.running[router] = self.daemon.start(self.spaces, router, own)
+        self.running[router] = self.daemon.start(self.spaces, router, self.own(router))
+
+    def hold(self, router: int, routes: str) -> None:
+        """Starts a router that has static routes of FRR."""
+        self.running[router] = self.daemon.hold(self.spaces, router, self.own(router), routes)
+
+    def own(self, router: int) -> str:
+        """A router's own folder."""
+        folder = os.path.join(self.folder, f"r{router}")
+        os.makedirs(folder, mode=0o755, exist_ok=True)
+        return folder
 
     def stop(self) -> None:
         """Ends the daemons, with the routes that they keep."""
