@@ -20,11 +20,13 @@ from .running import Lab
 PINGS, BEFORE, REST = 120, 0.4, 0.4
 TRIES = 3
 HEAD = ("failed", "pings", "lost: with", "without", "parted pairs", "took a repair")
+NETWORKS = ("network", "failures", "part no pair", "pings", "lost: with", "without", "tried again")
 
 
 class Row(NamedTuple):
     """What one failure cost with repairs and without: the pings sent, and lost; the pairs that `mrt` says are parted;
-    the pairs that lost more than one ping and are not, or none and are; the packets that took a repair."""
+    the pairs that lost more than one ping and are not, or none and are; the packets that took a repair; what the
+    kernels counted; and how often it was tried again."""
 
     failure: Failure
     sent: int
@@ -34,6 +36,7 @@ class Row(NamedTuple):
     wrong: set[Pair]
     taken: int
     kernel: tuple[int, int, int]
+    again: int = 0
 
     @property
     def cells(self) -> tuple[str, ...]:
@@ -182,12 +185,14 @@ def lost_by(counted: Counted) -> int:
 
 
 class Trial(NamedTuple):
-    """A failure with repairs: what mrt says of it, what was counted, and how many packets took a repair."""
+    """A failure with repairs: what mrt says of it, what was counted, how many packets took a repair, and how often it
+    was tried again."""
 
     failure: Failure
     parted: set[Pair]
     counted: Counted
     taken: int
+    again: int = 0
 
 
 def tried(installed: Installed, failure: Failure, say: Callable[[str], None]) -> Trial:
@@ -201,14 +206,14 @@ def tried(installed: Installed, failure: Failure, say: Callable[[str], None]) ->
         if not wrong or number == TRIES - 1:
             break
         say(f"again: {failure.name}: {lost_by(counted)} pings were lost, of {len(wrong)} pairs not as mrt says")
-    return Trial(failure, parted, counted, installed.taken() - before)
+    return Trial(failure, parted, counted, installed.taken() - before, number)
 
 
 def row_of(trial: Trial, bare: Counted) -> Row:
     """What came of one failure."""
     counted, kernel = trial.counted, (trial.counted.echoes, trial.counted.replies, trial.counted.circled)
     lost, wrong = lost_by(counted), wrong_pairs(counted, trial.parted)
-    return Row(trial.failure, counted.sent, lost, lost_by(bare), trial.parted, wrong, trial.taken, kernel)
+    return Row(trial.failure, counted.sent, lost, lost_by(bare), trial.parted, wrong, trial.taken, kernel, trial.again)
 
 
 def without_routing(installed: Installed, say: Callable[[str], None]) -> list[Row]:
@@ -267,6 +272,13 @@ def line_of(cells: tuple[str, ...]) -> str:
         cell.ljust(width) if not at else cell.rjust(width) for at, (cell, width) in enumerate(zip(cells, widths))
     )
     return first + "".join(others)
+
+
+def network_cells(plan: Plan, rows: list[Row]) -> tuple[str, ...]:
+    """A network in a line: pings and losses are those of the failures that part no pair."""
+    whole = [row for row in rows if not row.parted]
+    sums = (sum(values) for values in zip(*((row.sent, row.lost, row.without, row.again) for row in whole)))
+    return plan.name, *(f"{number:,}" for number in (len(rows), len(whole), *sums))
 
 
 def sums(plan: Plan, rows: list[Row], beside: bool) -> list[str]:

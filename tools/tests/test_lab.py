@@ -4,7 +4,7 @@ from functools import partial
 from unittest import mock
 from xml.etree import ElementTree
 
-from mrttools import agents, bars, comparing, failing, forwarding, network
+from mrttools import agents, bars, comparing, failing, forwarding, network, pinging, statics
 from mrttools.daemons import Bird, Frr, Running
 from mrttools.pinging import Counted
 from mrttools.plans import PLANS, SHARED_BY
@@ -128,6 +128,17 @@ class Failures(unittest.TestCase):
         counted = Counted({(1, 2): 0, (1, 3): 1, (2, 1): 2, (2, 3): 9, (3, 1): 0}, 5, 5, 5, 0)
         self.assertEqual(forwarding.wrong_pairs(counted, {(2, 3), (3, 1)}), {(2, 1), (3, 1)})
 
+    def test_a_network_in_a_line(self) -> None:
+        """It has the failures that part no pair."""
+        one, other = list(failing.failures(network.PLAN))[:2]
+        rows = [
+            forwarding.Row(one, 1000, 2, 90, set(), set(), 7, (0, 0, 0), 1),
+            forwarding.Row(other, 1000, 500, 500, {(1, 8)}, set(), 7, (0, 0, 0), 1),
+        ]
+        cells = forwarding.network_cells(network.PLAN, rows)
+        self.assertEqual(cells, ("lab", "2", "1", "1,000", "2", "90", "1"))
+        self.assertEqual(len(cells), len(forwarding.NETWORKS))
+
     def test_pings_to_an_address_that_two_routers_have(self) -> None:
         """It is lost where both are parted."""
         plan = network.PLAN._replace(shared=(3, 8))
@@ -137,6 +148,21 @@ class Failures(unittest.TestCase):
         with mock.patch.object(forwarding, "lost_by_mrt", lambda *_: {(1, 8), (2, 8), (2, 3)}):
             parted = forwarding.parted_pairs(None, plan, failure)
             self.assertEqual(parted, {(1, 8), (8, 1), (2, 8), (8, 2), (2, 3), (3, 2), (2, network.SHARED)})
+
+    def test_static_routes_of_frr_that_word_takes_away(self) -> None:
+        """Those whose next hop is gone, of the primaries alone, in the words of FRR."""
+        lab = mock.Mock(running={3: Running([], "/r3"), 4: Running([], "/r4")})
+        installed = statics.Static(mock.Mock(plan=network.PLAN), None, "", [], lab)
+        primary, row = "ip route 10.255.0.7/32 198.51.100.7 to-lan", "ip route 10.255.0.7/32 198.51.100.7 to-lan table 7811"
+        other = "ip route 10.255.0.2/32 198.51.100.70 to-lan"
+        installed.configurations = {3: f"{primary}\n{row}\n{other}\n", 4: f"{other}\n"}
+        gone = installed.primaries_by(["198.51.100.7"])
+        self.assertEqual(gone, {3: [primary], 4: []})
+        with mock.patch.object(forwarding.subprocess, "Popen") as begun:
+            (batch,) = installed.ready("del", gone)
+            self.assertEqual(batch.text, f"configure terminal\nno {primary}\n")
+            self.assertEqual(begun.call_args.args[0], ["vtysh", "--vty_socket", "/r3", "-d", "staticd"])
+            self.assertEqual(installed.ready("replace", gone)[0].text, f"configure terminal\n{primary}\n")
 
     def test_the_picture(self) -> None:
         picture = bars.svg("<lab>", [bars.Bar("link r1-r2", 0, 1500, 0), bars.Bar("router r5", 9, 10, 4)])
@@ -156,6 +182,27 @@ class Changes(unittest.TestCase):
         self.assertEqual(sorted(ports), ["p2-4", "p2-5", "p3-5", "p3-6", "p4-1", "p4-6"])
         self.assertEqual(batch.call_args.args[1], ["link set group 99 down"])
         self.assertEqual(spaces.group.call_args_list[1].args, (ports, 0))
+
+
+    def test_pings_while_something_changes(self) -> None:
+        """All pairs are pinged from before the change until all have settled, but those of routers that are away."""
+        course: list[str] = []
+        changing = agents.Change("one goes", lambda: course.append("change"), (6,), (6, 9))
+        held = mock.Mock(network=mock.Mock(plan=network.PLAN))
+        held.wait.side_effect = lambda out: course.append(f"settled without {out}")
+        with mock.patch.object(agents, "Pinging") as pinging, mock.patch.object(agents.time, "sleep"):
+            pinging.side_effect = lambda *_: course.append("pings") or mock.Mock(end=lambda: course.append("end"))
+            agents.pinged(held, changing)
+        self.assertEqual(course, ["pings", "change", "settled without (6,)", "end"])
+        chosen = pinging.call_args.args[1]
+        self.assertEqual((len(chosen), {6, 9} & {one for pair in chosen for one in pair}), (42, set()))
+
+    def test_an_answer_that_comes_late_is_no_loss(self) -> None:
+        spaces = mock.Mock(plan=network.PLAN)
+        with mock.patch.object(pinging.subprocess, "Popen") as begun, mock.patch.object(pinging.Pinging, "counters"):
+            pinging.Pinging(spaces, [(1, 2), (1, 3)], 5)
+        words = begun.call_args.args[0]
+        self.assertGreater(int(words[words.index("-t") + 1]), int(words[words.index("-p") + 1]))
 
 
 class Configurations(unittest.TestCase):
