@@ -39,6 +39,14 @@ class Inside(Linux):
         return super().run("ip", "netns", "exec", self.space, *words, text=text)
 
 
+def rights(groups: str) -> list[str]:
+    """What starts a program with the rights that it has by mrt-agent@.service and no others, in the groups that the daemon
+    answers."""
+    chosen = "-all,+net_admin,+net_raw"
+    limits = [f"--inh-caps={chosen}", f"--ambient-caps={chosen}", f"--bounding-set={chosen}", "--no-new-privs"]
+    return ["setpriv", f"--groups={groups}", *limits]
+
+
 class Agents:
     """The agents of a network, their files and what they say."""
 
@@ -57,7 +65,8 @@ class Agents:
         options += ["--strict"] if router == STRICT else []
         options += ["--socket", self.lab.daemon.socket(os.path.join(self.lab.folder, f"r{router}"))]
         given = [self.lab.daemon.name.lower(), self.profile, router_id(router), self.name(f"r{router}")]
-        words = ["ip", "netns", "exec", self.network.of(router), os.path.join(ROOT, "tools", "agent")]
+        words = ["ip", "netns", "exec", self.network.of(router), *rights(self.lab.daemon.groups)]
+        words.append(os.path.join(ROOT, "tools", "agent"))
         with open(self.name(f"r{router}.out"), "wb") as out, open(self.name(f"r{router}.err"), "wb") as err:
             self.running[router] = subprocess.Popen([*words, *options, *given], stdout=out, stderr=err)
 

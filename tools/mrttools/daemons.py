@@ -41,6 +41,8 @@ class Frr:
     # Milliseconds from a change to the shortest paths; none for FRR's own timers, which grow from change to change.
     spf_delay: int | None = None
     needs = ["/usr/lib/frr/zebra", "/usr/lib/frr/ospfd", "vtysh"]
+    # Those whom it answers, beside a root with all rights.
+    groups = "frr,frrvty"
 
     def version(self) -> str:
         return answer("/usr/lib/frr/ospfd", "--version").split("\n", 1)[0]
@@ -103,6 +105,7 @@ class Bird:
 
     name = "BIRD"
     needs = ["bird", "birdc"]
+    groups = "bird"
 
     def version(self) -> str:
         return subprocess.run(["bird", "--version"], stderr=subprocess.PIPE, text=True, check=False).stderr.strip()

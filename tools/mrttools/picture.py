@@ -185,7 +185,7 @@ def tree_marks(island: Island, target: Node, failure: Failure | None, style: Sty
     cert, cuts = island.certificate, island.certificate.cut_nodes()
     marks = []
     for node in island.area.nodes:
-        words = [word for word, true in (("root", node == cert.root), ("cut node", node in cuts)) if true]
+        words = [word for word, true in (("root", node == cert.root), ("single point of failure", node in cuts)) if true]
         marks.append(mark_of(node, words, fill_of(node, island, failure), node == target, style))
     return marks
 

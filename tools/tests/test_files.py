@@ -104,7 +104,7 @@ class Links(unittest.TestCase):
 
     def test_tools(self) -> None:
         with tempfile.TemporaryDirectory() as folder:
-            for tool in ("draw", "lab", "lint", "lsdb-from-pcap", "trace", "fib"):
+            for tool in "agent change diff draw fib lab lint lsdb-from-pcap report trace".split():
                 os.symlink(os.path.join(TOOLS, tool), os.path.join(folder, tool))
                 done = subprocess.run([os.path.join(folder, tool), "--help"], stdout=subprocess.PIPE, check=False)
                 self.assertEqual(done.returncode, 0, tool)

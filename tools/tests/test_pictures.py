@@ -124,7 +124,7 @@ class Arrows(unittest.TestCase):
         self.assertEqual([mark.node for mark in drawing.marks], self.island.area.nodes)
         self.assertEqual({stroke.bond for stroke in drawing.strokes}, set(self.island.area.bonds))
         words = {mark.node: mark.word for mark in drawing.marks}
-        self.assertEqual((words[router(1)], words[LAN], words[router(2)]), ("root", "network, cut node", ""))
+        self.assertEqual((words[router(1)], words[LAN], words[router(2)]), ("root", "network, single point of failure", ""))
         self.assertEqual([mark.node for mark in drawing.marks if mark.double], [router(1)])
 
     def test_the_legend_has_what_the_picture_has(self) -> None:
