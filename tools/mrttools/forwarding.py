@@ -25,7 +25,7 @@ NETWORKS = ("network", "failures", "part no pair", "pings", "lost: with", "witho
 
 class Row(NamedTuple):
     """What one failure cost with repairs and without: the pings sent, and lost; the pairs that `mrt` says are parted;
-    the pairs that lost more than one ping and are not, or none and are; the packets that took a repair; what the
+    the pairs that lost more than was in flight and are not, or no more and are; the packets that took a repair; what the
     kernels counted; and how often it was tried again."""
 
     failure: Failure
@@ -128,6 +128,10 @@ class Installed:
             if lines
         ]
 
+    def in_flight(self, failure: Failure) -> int:
+        """How many pings of a pair are on their way before a failure is seen, or word of it has come."""
+        return 1
+
     def rest(self) -> None:
         """Waits until all is as it was before a failure."""
         time.sleep(REST)
@@ -175,9 +179,9 @@ def parted_pairs(mrt: Program, plan: Plan, failure: Failure) -> set[Pair]:
     }
 
 
-def wrong_pairs(counted: Counted, parted: set[Pair]) -> set[Pair]:
-    """The pairs that lost more than one ping and are not parted, or did not and are."""
-    return {pair for pair, lost in counted.lost.items() if (lost > 1) != (pair in parted)}
+def wrong_pairs(counted: Counted, parted: set[Pair], most: int) -> set[Pair]:
+    """The pairs that lost more pings than may be in flight and are not parted, or did not and are."""
+    return {pair for pair, lost in counted.lost.items() if (lost > most) != (pair in parted)}
 
 
 def lost_by(counted: Counted) -> int:
@@ -185,12 +189,13 @@ def lost_by(counted: Counted) -> int:
 
 
 class Trial(NamedTuple):
-    """A failure with repairs: what mrt says of it, what was counted, how many packets took a repair, and how often it
-    was tried again."""
+    """A failure with repairs: what mrt says of it, what was counted, the pairs that are not as mrt says, how many
+    packets took a repair, and how often it was tried again."""
 
     failure: Failure
     parted: set[Pair]
     counted: Counted
+    wrong: set[Pair]
     taken: int
     again: int = 0
 
@@ -202,18 +207,27 @@ def tried(installed: Installed, failure: Failure, say: Callable[[str], None]) ->
     for number in range(TRIES):
         before = installed.taken()
         counted = lose(installed, failure, tell_lan=True)
-        wrong = wrong_pairs(counted, parted)
+        wrong = wrong_pairs(counted, parted, installed.in_flight(failure))
         if not wrong or number == TRIES - 1:
             break
         say(f"again: {failure.name}: {lost_by(counted)} pings were lost, of {len(wrong)} pairs not as mrt says")
-    return Trial(failure, parted, counted, installed.taken() - before, number)
+    return Trial(failure, parted, counted, wrong, installed.taken() - before, number)
 
 
 def row_of(trial: Trial, bare: Counted) -> Row:
     """What came of one failure."""
-    counted, kernel = trial.counted, (trial.counted.echoes, trial.counted.replies, trial.counted.circled)
-    lost, wrong = lost_by(counted), wrong_pairs(counted, trial.parted)
-    return Row(trial.failure, counted.sent, lost, lost_by(bare), trial.parted, wrong, trial.taken, kernel, trial.again)
+    kernel = trial.counted.echoes, trial.counted.replies, trial.counted.circled
+    return Row(
+        trial.failure,
+        trial.counted.sent,
+        lost_by(trial.counted),
+        lost_by(bare),
+        trial.parted,
+        trial.wrong,
+        trial.taken,
+        kernel,
+        trial.again,
+    )
 
 
 def without_routing(installed: Installed, say: Callable[[str], None]) -> list[Row]:
@@ -246,7 +260,7 @@ def beside_routing(installed: Installed, lab: Lab, say: Callable[[str], None]) -
         taken = installed.taken()
         counted = lose(installed, failure, tell_lan=False)
         parted = parted_pairs(installed.mrt, plan, failure)
-        trials.append(Trial(failure, parted, counted, installed.taken() - taken))
+        trials.append(Trial(failure, parted, counted, set(), installed.taken() - taken))
         lab.wait_for_routes(before)
     installed.remove()
     for failure in chosen:
@@ -266,19 +280,24 @@ def bars_of(rows: list[Row]) -> list[Bar]:
     return [Bar(row.failure.name, row.lost, row.without, len(row.parted)) for row in rows]
 
 
-def line_of(cells: tuple[str, ...]) -> str:
-    widths = 34, 7, 11, 8, 13, 14, 10
+def line_of(cells: tuple[str, ...], widths: tuple[int, ...] = (34, 7, 11, 8, 13, 14, 10)) -> str:
     first, *others = (
         cell.ljust(width) if not at else cell.rjust(width) for at, (cell, width) in enumerate(zip(cells, widths))
     )
     return first + "".join(others)
 
 
-def network_cells(plan: Plan, rows: list[Row]) -> tuple[str, ...]:
+def network_cells(name: str, rows: list[Row]) -> tuple[str, ...]:
     """A network in a line: pings and losses are those of the failures that part no pair."""
     whole = [row for row in rows if not row.parted]
     sums = (sum(values) for values in zip(*((row.sent, row.lost, row.without, row.again) for row in whole)))
-    return plan.name, *(f"{number:,}" for number in (len(rows), len(whole), *sums))
+    return name, *(f"{number:,}" for number in (len(rows), len(whole), *sums))
+
+
+def networks(found: dict[str, list[Row]]) -> list[str]:
+    """A line on each network, under their heading."""
+    widths = 10, 10, 14, 11, 12, 10, 13
+    return [line_of(cells, widths) for cells in (NETWORKS, *(network_cells(*each) for each in found.items()))]
 
 
 def sums(plan: Plan, rows: list[Row], beside: bool) -> list[str]:
@@ -300,8 +319,8 @@ def sums(plan: Plan, rows: list[Row], beside: bool) -> list[str]:
         ]
     for row in rows:
         for one, other in sorted(row.wrong):
-            said = "is parted by mrt, and lost none" if (one, other) in row.parted else "lost more than one ping"
+            said = "is parted by mrt, and lost none" if (one, other) in row.parted else "lost more than was in flight"
             lines.append(f"wrong: {row.failure.name}: r{one} to r{other} {said}")
     if not any(row.wrong for row in rows):
-        lines.append(f"forward: {plan.name}: a pair lost more than one ping exactly where mrt says lost")
+        lines.append(f"forward: {plan.name}: a pair lost more than was in flight exactly where mrt says lost")
     return lines

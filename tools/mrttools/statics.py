@@ -5,6 +5,7 @@ from __future__ import annotations
 import time
 from typing import Iterable
 
+from .failing import Failure
 from .forwarding import Batch, Installed
 from .network import Network
 from .program import Program
@@ -12,6 +13,8 @@ from .running import PATIENCE, Lab, LabFault
 
 # The number under which zebra has static routes in the kernel.
 PROTOCOL = "196"
+# How many pings of a pair may be lost until FRR has taken routes away: those of a tenth of a second.
+UNTIL_WORD = 10
 
 
 class Typed(Batch):
@@ -54,6 +57,9 @@ class Static(Installed):
             < text.count("ip route ")
             for router, text in self.configurations.items()
         )
+
+    def in_flight(self, failure: Failure) -> int:
+        return UNTIL_WORD if failure.gone else super().in_flight(failure)
 
     def rest(self) -> None:
         end = time.monotonic() + PATIENCE

@@ -126,7 +126,7 @@ class Failures(unittest.TestCase):
 
     def test_what_is_wrong(self) -> None:
         counted = Counted({(1, 2): 0, (1, 3): 1, (2, 1): 2, (2, 3): 9, (3, 1): 0}, 5, 5, 5, 0)
-        self.assertEqual(forwarding.wrong_pairs(counted, {(2, 3), (3, 1)}), {(2, 1), (3, 1)})
+        self.assertEqual(forwarding.wrong_pairs(counted, {(2, 3), (3, 1)}, 1), {(2, 1), (3, 1)})
 
     def test_a_network_in_a_line(self) -> None:
         """It has the failures that part no pair."""
@@ -135,9 +135,9 @@ class Failures(unittest.TestCase):
             forwarding.Row(one, 1000, 2, 90, set(), set(), 7, (0, 0, 0), 1),
             forwarding.Row(other, 1000, 500, 500, {(1, 8)}, set(), 7, (0, 0, 0), 1),
         ]
-        cells = forwarding.network_cells(network.PLAN, rows)
-        self.assertEqual(cells, ("lab", "2", "1", "1,000", "2", "90", "1"))
-        self.assertEqual(len(cells), len(forwarding.NETWORKS))
+        head, line = forwarding.networks({"lab": rows})
+        self.assertEqual(line.split(), ["lab", "2", "1", "1,000", "2", "90", "1"])
+        self.assertEqual(len(head), len(line))
 
     def test_pings_to_an_address_that_two_routers_have(self) -> None:
         """It is lost where both are parted."""
@@ -163,6 +163,9 @@ class Failures(unittest.TestCase):
             self.assertEqual(batch.text, f"configure terminal\nno {primary}\n")
             self.assertEqual(begun.call_args.args[0], ["vtysh", "--vty_socket", "/r3", "-d", "staticd"])
             self.assertEqual(installed.ready("replace", gone)[0].text, f"configure terminal\n{primary}\n")
+        # Word takes a while, and on a link of two routers there is none.
+        port = next(failure for failure in failing.failures(network.PLAN) if failure.gone)
+        self.assertEqual([installed.in_flight(each) for each in (port, port._replace(gone=[]))], [statics.UNTIL_WORD, 1])
 
     def test_the_picture(self) -> None:
         picture = bars.svg("<lab>", [bars.Bar("link r1-r2", 0, 1500, 0), bars.Bar("router r5", 9, 10, 4)])
