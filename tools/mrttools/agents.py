@@ -185,19 +185,20 @@ def changes(agents: Agents) -> list[Change]:
 
 class Row(NamedTuple):
     """What came of a change: how many routers had other tables, their changes, the most batches of one, the seconds
-    until the last one had its table, and the pings that were lost, with agents and without."""
+    until the last one had its table, and what was counted of pings, with agents and without."""
 
     name: str
     routers: int
     changes: int
     batches: int
     seconds: float
-    lost: int
-    without: int
+    counted: Counted
+    without: Counted
 
     @property
     def cells(self) -> tuple[str, ...]:
-        numbers = self.routers, self.changes, self.batches, round(self.seconds), self.lost, self.without
+        lost = lost_by(self.counted), lost_by(self.without)
+        numbers = self.routers, self.changes, self.batches, round(self.seconds), *lost
         return self.name, *(f"{number:,}" for number in numbers)
 
 
@@ -211,12 +212,12 @@ def pinged(agents: Agents, change: Change) -> Counted:
     return pinging.end()
 
 
-def tried(agents: Agents, change: Change, without: int) -> Row:
+def tried(agents: Agents, change: Change, without: Counted) -> Row:
     """A change, with what the agents said of it."""
     routers = list(agents.running)
     before = {router: (len(agents.said(router, "out")), len(agents.said(router, "err"))) for router in routers}
     began = time.time() + BEFORE
-    lost = lost_by(pinged(agents, change))
+    counted = pinged(agents, change)
     lines = {router: len(agents.said(router, "out")) - before[router][0] for router in routers}
     batches = {
         router: sum(line.startswith("agent: changed:") for line in agents.said(router, "err")[before[router][1] :])
@@ -224,7 +225,7 @@ def tried(agents: Agents, change: Change, without: int) -> Row:
     }
     last = max(os.stat(agents.name(f"r{router}.out")).st_mtime for router in routers)
     seconds, most = max(0, last - began), max(batches.values())
-    return Row(change.name, sum(map(bool, lines.values())), sum(lines.values()), most, seconds, lost, without)
+    return Row(change.name, sum(map(bool, lines.values())), sum(lines.values()), most, seconds, counted, without)
 
 
 def silent_as_asked(agents: Agents, before: State) -> bool:
@@ -260,13 +261,23 @@ def begin(agents: Agents, routers: list[int]) -> None:
     agents.wait()
 
 
-def without(agents: Agents) -> list[int]:
-    """How many pings each change costs where no agent runs."""
+def without(agents: Agents) -> list[Counted]:
+    """What is counted at each change where no agent runs."""
     begin(agents, [])
-    return [lost_by(pinged(agents, change)) for change in changes(agents)]
+    return [pinged(agents, change) for change in changes(agents)]
 
 
-def run(agents: Agents, bare: list[int], say: Callable[[str], None]) -> bool:
+def circled(rows: list[Row]) -> str:
+    """How many of the lost packets went in circles: those of the daemons' own loops while they find new ways."""
+    with_them, without_them = ([each.counted for each in rows], [each.without for each in rows])
+    lost, bare = (sum(map(lost_by, counted)) for counted in (with_them, without_them))
+    return (
+        f"agent: with agents {lost:,} pings were lost, and {sum(each.circled for each in with_them):,} packets circled; "
+        f"without them {bare:,} and {sum(each.circled for each in without_them):,}"
+    )
+
+
+def run(agents: Agents, bare: list[Counted], say: Callable[[str], None]) -> bool:
     """All changes, one after another; whether each router had the table that tools/fib has, and those whose daemons
     died what was asked, and whether a batch that failed was undone."""
     begin(agents, agents.network.plan.routers)
@@ -274,13 +285,14 @@ def run(agents: Agents, bare: list[int], say: Callable[[str], None]) -> bool:
     undone = refused(agents, 1)
     say(f"agent: r1 is given a batch that fails in its middle: {undone or 'IT IS NOT UNDONE'}")
     say(line_of(HEAD))
-    agreed = bool(undone)
-    for change, lost in zip(changes(agents), bare):
+    agreed, rows = bool(undone), []
+    for change, counted in zip(changes(agents), bare):
         before = agents.state(LEFT)
-        row = tried(agents, change, lost)
-        say(line_of(row.cells))
+        rows.append(tried(agents, change, counted))
+        say(line_of(rows[-1].cells))
         if STRICT in change.out:
             agreed = silent_as_asked(agents, before) and agreed
+    say(circled(rows))
     agents.stop()
     return agreed
 

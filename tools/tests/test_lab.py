@@ -200,6 +200,13 @@ class Changes(unittest.TestCase):
         chosen = pinging.call_args.args[1]
         self.assertEqual((len(chosen), {6, 9} & {one for pair in chosen for one in pair}), (42, set()))
 
+    def test_what_a_change_cost(self) -> None:
+        counted, bare = Counted({(1, 2): 3, (2, 1): 4}, 9, 9, 9, 5), Counted({(1, 2): 8}, 9, 9, 9, 8)
+        row = agents.Row("one goes", 9, 485, 2, 14.4, counted, bare)
+        self.assertEqual(row.cells, ("one goes", "9", "485", "2", "14", "7", "8"))
+        told = "agent: with agents 7 pings were lost, and 5 packets circled; without them 8 and 8"
+        self.assertEqual(agents.circled([row]), told)
+
     def test_an_answer_that_comes_late_is_no_loss(self) -> None:
         spaces = mock.Mock(plan=network.PLAN)
         with mock.patch.object(pinging.subprocess, "Popen") as begun, mock.patch.object(pinging.Pinging, "counters"):
