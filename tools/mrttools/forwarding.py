@@ -12,12 +12,12 @@ from .bars import Bar
 from .failing import FAILING, STANDING, Failure, Pair, failures, lost_by_mrt, pairs, pinged
 from .kernel import PRIMARY
 from .network import SHARED, Network, Plan, router_id
-from .pinging import Counted, Pinging
+from .pinging import Counted, Pinging, first_in_line, gap_of
 from .program import ROOT, Program
 from .running import Lab
 
-# Pings of each pair in one failure, how long they run before it, and how long the network rests after it, in seconds.
-PINGS, BEFORE, REST = 120, 0.4, 0.4
+# How long pings run in one failure, how long before it, and how long the network rests after it, in seconds.
+LASTS, BEFORE, REST = 1.2, 0.4, 0.4
 TRIES = 3
 HEAD = ("failed", "pings", "lost: with", "without", "parted pairs", "took a repair")
 NETWORKS = ("network", "failures", "part no pair", "pings", "lost: with", "without", "tried again")
@@ -51,7 +51,7 @@ class Batch:
     def __init__(self, place: str, lines: list[str]) -> None:
         self.text = "".join(f"{line}\n" for line in lines)
         self.process = subprocess.Popen(
-            self.words(place), stdin=subprocess.PIPE, stdout=subprocess.DEVNULL, text=True
+            [*first_in_line(), *self.words(place)], stdin=subprocess.PIPE, stdout=subprocess.DEVNULL, text=True
         )
 
     def words(self, space: str) -> list[str]:
@@ -63,7 +63,7 @@ class Batch:
 
     def end(self) -> None:
         if self.process.wait() != 0:
-            raise ValueError(f"{self.process.args[0]} ended with status {self.process.returncode}")
+            raise ValueError(f"{' '.join(self.process.args)} ended with status {self.process.returncode}")
 
 
 class Installed:
@@ -157,7 +157,9 @@ def lose(installed: Installed, failure: Failure, tell_lan: bool) -> Counted:
     gone = installed.primaries_by(failure.gone if tell_lan else [])
     gone.pop(failure.router, None)
     down = [Batch(network.wires, [f"link set group {FAILING} down"])] + installed.ready("del", gone)
-    pinging = Pinging(network, pinged(network.plan, failure.router), PINGS)
+    chosen = pinged(network.plan, failure.router)
+    gap = gap_of(len(pairs(network.plan)))
+    pinging = Pinging(network, chosen, round(1000 * LASTS) // gap, gap)
     time.sleep(BEFORE)
     do_at_once(down)
     counted = pinging.end()
