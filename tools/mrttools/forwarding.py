@@ -12,7 +12,7 @@ from .bars import Bar
 from .failing import FAILING, STANDING, Failure, Pair, failures, lost_by_mrt, pairs, pinged
 from .kernel import PRIMARY
 from .network import SHARED, Network, Plan, router_id
-from .pinging import Counted, Pinging, first_in_line, gap_of
+from .pinging import Counted, Pinging, gap_of
 from .program import ROOT, Program
 from .running import Lab
 
@@ -51,7 +51,7 @@ class Batch:
     def __init__(self, place: str, lines: list[str]) -> None:
         self.text = "".join(f"{line}\n" for line in lines)
         self.process = subprocess.Popen(
-            [*first_in_line(), *self.words(place)], stdin=subprocess.PIPE, stdout=subprocess.DEVNULL, text=True
+            self.words(place), stdin=subprocess.PIPE, stdout=subprocess.DEVNULL, text=True
         )
 
     def words(self, space: str) -> list[str]:

@@ -2,10 +2,8 @@
 from __future__ import annotations
 
 import re
-import shutil
 import subprocess
 from collections import Counter
-from functools import cache
 from typing import NamedTuple
 
 from .failing import Pair
@@ -14,15 +12,6 @@ from .network import Network, owner, router_id
 # Milliseconds between two pings of one pair, and those after which an answer does not count; how many pings are sent in
 # a second at most.
 EVERY, LATE, MOST = 10, 300, 9000
-
-
-@cache
-def first_in_line() -> list[str]:
-    """What has a program run as soon as it is woken, where that is allowed: with other work on the machine pings would
-    be sent late, and a link be taken down bit by bit. Both take little of it."""
-    words = ["chrt", "--rr", "1"]
-    may = shutil.which(words[0]) and subprocess.run([*words, "true"], stderr=subprocess.DEVNULL).returncode == 0
-    return words if may else []
 
 
 def gap_of(pairs: int, least: int = EVERY) -> int:
@@ -58,7 +47,7 @@ class Pinging:
         # What comes late on a machine with other work was not lost.
         words += ["-t", str(LATE)]
         return subprocess.Popen(
-            [*first_in_line(), "ip", "netns", "exec", self.network.of(source), *words, "-S", router_id(source), *targets],
+            ["ip", "netns", "exec", self.network.of(source), *words, "-S", router_id(source), *targets],
             stdout=subprocess.DEVNULL,
             stderr=subprocess.PIPE,
             text=True,

@@ -158,11 +158,10 @@ class Failures(unittest.TestCase):
         installed.configurations = {3: f"{primary}\n{row}\n{other}\n", 4: f"{other}\n"}
         gone = installed.primaries_by(["198.51.100.7"])
         self.assertEqual(gone, {3: [primary], 4: []})
-        pinging.first_in_line()
         with mock.patch.object(forwarding.subprocess, "Popen") as begun:
             (batch,) = installed.ready("del", gone)
             self.assertEqual(batch.text, f"configure terminal\nno {primary}\n")
-            self.assertEqual(begun.call_args.args[0][-5:], ["vtysh", "--vty_socket", "/r3", "-d", "staticd"])
+            self.assertEqual(begun.call_args.args[0], ["vtysh", "--vty_socket", "/r3", "-d", "staticd"])
             self.assertEqual(installed.ready("replace", gone)[0].text, f"configure terminal\n{primary}\n")
         # Word takes a while, and on a link of two routers there is none.
         port = next(failure for failure in failing.failures(network.PLAN) if failure.gone)
@@ -212,11 +211,10 @@ class Changes(unittest.TestCase):
         self.assertEqual(agents.circled([row]), told)
 
     def test_an_answer_that_comes_late_is_no_loss(self) -> None:
-        spaces, first = mock.Mock(plan=network.PLAN), pinging.first_in_line()
+        spaces = mock.Mock(plan=network.PLAN)
         with mock.patch.object(pinging.subprocess, "Popen") as begun, mock.patch.object(pinging.Pinging, "counters"):
             pinging.Pinging(spaces, [(1, 2), (1, 3)], 5)
         words = begun.call_args.args[0]
-        self.assertEqual(words[: len(first)], first)
         self.assertGreater(int(words[words.index("-t") + 1]), int(words[words.index("-p") + 1]))
 
 
