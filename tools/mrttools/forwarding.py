@@ -18,7 +18,7 @@ from .running import Lab
 
 # How long pings run in one failure, how long before it, and how long the network rests after it, in seconds.
 LASTS, BEFORE, REST = 1.2, 0.4, 0.4
-TRIES = 3
+TRIES = 5
 HEAD = ("failed", "pings", "lost: with", "without", "parted pairs", "took a repair")
 NETWORKS = ("network", "failures", "part no pair", "pings", "lost: with", "without", "tried again")
 
