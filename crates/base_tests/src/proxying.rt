@@ -3,7 +3,7 @@
 
 ghost use Rattle.std.specs.Prelude.{◌≡◌, ◌<◌, ◌+◌, IfOk, length};
 ghost use Rattle.mrt_plain.specs.Within.{AreWithin};
-ghost use Rattle.proxy_rows.specs.AcceptedFor.{IsAcceptedFor};
+ghost use Rattle.mrt_graph.specs.AcceptedFor.{IsAcceptedFor};
 
 use crate::certs::cert;
 use crate::judging::{nodes, rows};
@@ -66,12 +66,11 @@ fn file(rt: &impl Abort, alloc: Global, island: &Island) -> Result<CertFile, NoM
     })
 }
 
-/// Asserts that the checker accepts the file, and that its version is 2.
+/// Asserts that the checker accepts the file.
 fn assert_accepted(rt: &impl Abort, g: &Graph, root: NodeNo, file: &CertFile)
     requires { root < length g.now.ids }
     ensures { IsAcceptedFor g.now file.now.cert }
 {
-    assert!(rt; file.version == 2);
     match check(g, root, file) {
         Verdict::Yes => {}
         Verdict::No { .. } => panic!(rt; "not accepted"),

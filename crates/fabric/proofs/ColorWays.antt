@@ -53,7 +53,7 @@ module _ (parts : FabricParts) (are : AreFabricParts parts) where
   -- from each node to each other one a color has its way
   pub way : (color : Color) (n d : ℕ) → n < length parts.island.ids → d < length parts.island.ids → n ≢ d → Way (next_on parts color d) d n
   way color n d from to other =
-      let file : CertFile = record { version = 2; root = are.accepted.number; cert = parts.cert } in
+      let file : CertFile = record { version = are.accepted.version; root = are.accepted.number; cert = parts.cert } in
       let b = blocks parts.island are.accepted.root file are.accepted.accepted in
       let rows = rows_hold parts.island are.accepted.root file are.accepted.accepted b.root_within in
       let counts : length parts.cert.nodes ≡ length parts.island.ids = (are.accepted.accepted GraphRule).counts.nodes in
@@ -68,7 +68,7 @@ module _ (parts : FabricParts) (are : AreFabricParts parts) where
   pub leads_within : (e u v : ℕ) → leads parts.island.links e u ≡ Some v → v < length parts.island.ids
   leads_within e u v on =
       subst (λ (n : ℕ). v < n) (are.accepted.accepted GraphRule).counts.nodes
-      ((blocks parts.island are.accepted.root (record { version = 2; root = are.accepted.number; cert = parts.cert }) are.accepted.accepted).to_within e u v on)
+      ((blocks parts.island are.accepted.root (record { version = are.accepted.version; root = are.accepted.number; cert = parts.cert }) are.accepted.accepted).to_within e u v on)
 
   pub trail : (color : Color) (d n : ℕ) (hops : List Hop) → Follows (next_on parts color d) d n hops → Trail parts.island.links n hops d
   trail color d n hops follows = follows_trail parts.island.links (next_on parts color d) (color_leads parts.island.links (row_of parts.cert) color d) d n hops follows

@@ -135,7 +135,7 @@ module _ (parts : FabricParts) (are : AreFabricParts parts) (failure : Option Fa
 
   sound : (n d : ℕ) → node_at parts q.place ≡ Some n → node_at parts q.to ≡ Some d → SoundFor parts.island.links (length parts.island.ids) (row_of parts.cert) n d
   sound n d at to =
-      accepted_sound parts.island are.accepted.root (record { version = 2; root = are.accepted.number; cert = parts.cert }) are.accepted.accepted n d
+      accepted_sound parts.island are.accepted.root (record { version = are.accepted.version; root = are.accepted.number; cert = parts.cert }) are.accepted.accepted n d
       (node_within parts are q.place n at) (node_within parts are q.to d to)
       (λ same. lives.kept.apart going (one_spot parts are q.place q.to d (at ∙ ap (λ (v : ℕ). Some v) same) to))
 

@@ -12,7 +12,7 @@ use Rattle.mrt_graph.specs.GraphInvariant.{IsTopology}
 use Rattle.mrt_graph.specs.Topology.{Topology}
 use Rattle.mrt_graph.specs.declared.link.Element.{Element}
 use Rattle.mrt_graph.specs.declared.link.Element.TheVariants as elements
-use Rattle.primary_alt.specs.AcceptedRows.{IsAcceptedFor}
+use Rattle.mrt_graph.specs.AcceptedFor.{IsAcceptedFor}
 
 -- the area; the island; the island's certificate; and the island link that each bond of the area is, if it is one
 pub record FabricParts : Type 0 where

@@ -3,7 +3,7 @@
 ghost use Rattle.std.specs.Prelude.{◌≡◌, ◌≤◌, IfOk};
 ghost use Rattle.fabric.specs.FabricState.{packet_after};
 ghost use Rattle.fabric.specs.declared.event.Event.TheVariants as events;
-ghost use Rattle.primary_alt.specs.AcceptedRows.{IsAcceptedFor};
+ghost use Rattle.mrt_graph.specs.AcceptedFor.{IsAcceptedFor};
 ghost use Rattle.primary_alt.specs.RoutesMade.{AreMadeWith};
 
 use crate::entering::{entering, has_element, may_enter};
@@ -52,7 +52,7 @@ impl<'a> Fabric<'a> {
     ghost use Rattle.fabric.specs.FabricStep.{FabricStep};
     ghost use Rattle.fabric.specs.OutcomeText.{IsTellable};
     ghost use Rattle.fabric.specs.declared.event.Event.TheVariants as events;
-    ghost use Rattle.primary_alt.specs.AcceptedRows.{IsAcceptedFor};
+    ghost use Rattle.mrt_graph.specs.AcceptedFor.{IsAcceptedFor};
     ghost use Rattle.primary_alt.specs.RoutesMade.{AreMadeWith};
 
     /// A fabric without packets and without a failure, with room for so many packets, which is taken here.

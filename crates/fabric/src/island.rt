@@ -5,7 +5,7 @@ ghost use Rattle.area_graph.specs.AreaInvariant.{IsArea};
 ghost use Rattle.fabric.specs.Answers.{HasElement};
 ghost use Rattle.fabric.specs.FabricParts.{AreFabricParts, element_at, link_at, node_at};
 ghost use Rattle.fabric.specs.Viewed.{AreRouted, viewed};
-ghost use Rattle.primary_alt.specs.AcceptedRows.{IsElementOf};
+ghost use Rattle.primary_alt.specs.Elements.{IsElementOf};
 ghost use Rattle.primary_alt.specs.Offers.{is_network};
 
 use crate::event::Failure;

@@ -1,7 +1,7 @@
 //! The texts of scripts and of traces.
 
 ghost use Rattle.std.specs.Prelude.{◌≡◌, ◌≤◌, IfOk};
-ghost use Rattle.primary_alt.specs.AcceptedRows.{IsAcceptedFor};
+ghost use Rattle.mrt_graph.specs.AcceptedFor.{IsAcceptedFor};
 ghost use Rattle.primary_alt.specs.RoutesMade.{AreMadeWith};
 ghost use Rattle.fabric_script.specs.RunTexts.{IsScriptText, IsTraceText};
 

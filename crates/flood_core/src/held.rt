@@ -5,9 +5,8 @@ ghost use Rattle.std.specs.Option.{is_some};
 ghost use Rattle.lsdb.specs.Installing.{change_of, changed, noted};
 ghost use Rattle.flood_core.specs.Receiving.{arrived};
 
-use crate::compare::change;
 use crate::shared_lsa::SharedLsa;
-use lsdb::Change;
+use lsdb::{Change, change_of};
 use mrt_graph::NoMemory;
 use ospf_lsa::Lsa;
 use std::alloc::Global;
@@ -47,7 +46,7 @@ impl Held {
         ensures change { result ≡ change_of self.old.lsa (arrived at lsa) }
         ensures after { self.new ≡ changed self.old (arrived at lsa) (change_of self.old.lsa (arrived at lsa)) }
     {
-        let change = change(self.lsa.get(), lsa.get());
+        let change = change_of(self.lsa.get(), lsa.get());
         self.turn(lsa, at, change);
         change
     }

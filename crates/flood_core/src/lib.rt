@@ -7,7 +7,6 @@
 #![tactic(auto)]
 
 mod answer;
-mod compare;
 mod error;
 mod field;
 mod flood;

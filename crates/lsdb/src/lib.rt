@@ -19,4 +19,5 @@ pub use laws::{
     tells_the_first_conflict, the_same_lsas_give_the_same_database,
 };
 pub use lsdb::Lsdb;
+pub use meet::change_of;
 pub use whole::database_of;

@@ -14,8 +14,8 @@ use crate::compare::{compare_ranks, same};
 use ospf_lsa::Lsa;
 use std::cmp::Ordering;
 
-/// What an instance is to the one of its key that is there.
-fn change(there: &Lsa, lsa: &Lsa) -> Change
+/// What an instance is to the one of its key that is there (RFC 2328, section 13.1).
+pub fn change_of(there: &Lsa, lsa: &Lsa) -> Change
     ensures { result ≡ change_of there.now lsa.now }
 {
     match compare_ranks(lsa, there) {
@@ -54,7 +54,7 @@ pub fn meet(lsas: &mut Vec<Lsa>, differing: &mut Vec<Option<u32>>, place: usize,
     ensures noted { length differing.new.items ≡ length lsas.new.items }
     ensures kept { AllByRecursion IsKept lsas.new.items }
 {
-    let change = change(&lsas[place], &lsa);
+    let change = change_of(&lsas[place], &lsa);
     turn(lsas, differing, place, lsa, change);
     change
 }

@@ -50,7 +50,7 @@ use Rattle.mrt_answer.specs.Proxied.{HasBoth, HasNoProxy, HasProxy, MissesOne}
 use Rattle.mrt_answer.specs.Surveyed.{IsSurveyed, made_input}
 use Rattle.mrt_answer.specs.Tabled.{IsTableOf, IsTabled}
 use Rattle.mrt_answer.specs.Upgraded.{GivesUpgrade, IsUpgradeFor, upgraded}
-use Rattle.mrt_answer.specs.Verdict.{GivesVerdict, IsAcceptedFor, IsNoVerdict, IsRefusedFor, accepted_line}
+use Rattle.mrt_answer.specs.Verdict.{GivesVerdict, IsYesFor, IsNoVerdict, IsRefusedFor, accepted_line}
 use Rattle.mrt_answer.proofs.OneFlood.{FloodLaws}
 use Rattle.mrt_answer.proofs.Refusals.{root_within}
 use Rattle.mrt_answer.proofs.Upgrades.{read_accepted}
@@ -148,7 +148,7 @@ parts_fit input kept router parts are = record {
   area_kept = subst IsArea (sym are.area_is) (kept are.has.area_within);
   island_kept = are.certificate.kept;
   fits = are.fits;
-  accepted = record { root = are.root; number = are.root_number; accepted = are.certificate.accepted };
+  accepted = record { root = are.root; version = 2; number = are.root_number; accepted = are.certificate.accepted };
 }
 
 too_large_is : (what other : What) (size count : ℕ) → (what ≡ other) × (size ≡ count)
@@ -444,7 +444,7 @@ module _ (laws : Laws) where
           laws.rules.never_both refused.0 refused.1 file rule a b accepted_too refused.3
       no_refusal_for graph root island accepted exit refused = no_island_none file.root graph root exit island refused
 
-      one_text_for : (text other : List ℕ) → IsAcceptedFor input file text → IsAcceptedFor input file other
+      one_text_for : (text other : List ℕ) → IsYesFor input file text → IsYesFor input file other
           → text ≡ other
       one_text_for text other one two =
           let same = one_island file.root one.graph two.graph one.root two.root one.island two.island in
@@ -479,14 +479,14 @@ module _ (laws : Laws) where
       no_verdict_given text (exits.BadCertificate at kind) taken refused =
           no_bad_cert laws.certs certificate taken.file (at, kind) taken.is refused
       no_verdict_given text exit taken refused =
-          let accepted = subst (λ (f : CertFile). IsAcceptedFor input f text)
+          let accepted = subst (λ (f : CertFile). IsYesFor input f text)
           (one_cert laws.certs certificate taken.file refused.0 taken.is refused.1) taken.accepted in
           no_refusal_for refused.0 accepted.graph accepted.root accepted.island accepted.accepted.accepted exit refused.2
 
       one_verdict_text : (text other : List ℕ) → GivesVerdict input certificate text
           → GivesVerdict input certificate other → text ≡ other
       one_verdict_text text other one two =
-          one_text_for two.file text other (subst (λ (f : CertFile). IsAcceptedFor input f text)
+          one_text_for two.file text other (subst (λ (f : CertFile). IsYesFor input f text)
           (one_cert laws.certs certificate one.file two.file one.is two.is) one.accepted) two.accepted
 
       no_upgrade_given : (text : List ℕ) (exit : Exit) → GivesUpgrade input certificate text

@@ -8,7 +8,7 @@ use Rattle.mrt_graph.specs.GraphInvariant.{IsTopology}
 use Rattle.mrt_graph.specs.Related.{are_unrelated}
 use Rattle.mrt_graph.specs.Topology.{Topology}
 use Rattle.mrt_graph.proofs.NodeIds.{one_place}
-use Rattle.proxy_rows.specs.AcceptedFor.{IsAcceptedFor}
+use Rattle.mrt_graph.specs.AcceptedFor.{IsAcceptedFor}
 use Rattle.proxy_rows.specs.ProxyText.{IsProxyText}
 use Rattle.mrt_rows.specs.CertOf.{IsCertOf}
 use Rattle.mrt_answer.specs.Input.{Input}
@@ -29,7 +29,7 @@ pub record ProxyLaws : Type 0 where
 pub accepted_for : (graph : Topology) (root : ℕ) (file : CertFile) → IsComputedFile graph root file
     → IsAcceptedFor graph file.cert
 accepted_for graph root file computed =
-    record { root = root; number = file.root; accepted = upgraded_accepted graph root file computed.accepted }
+    record { root = root; version = 2; number = file.root; accepted = upgraded_accepted graph root file computed.accepted }
 
 -- what a text is made from
 record Made : Type 0 where

@@ -26,7 +26,7 @@ use Rattle.mrt_answer.specs.declared.text.Text.{Text}
 use Rattle.mrt_answer.specs.Packets.{GivesRun, IsScriptGiven}
 use Rattle.mrt_answer.specs.TextBytes.{HasText}
 use Rattle.mrt_answer.specs.Upgraded.{GivesUpgrade, IsUpgradeFor}
-use Rattle.mrt_answer.specs.Verdict.{GivesVerdict, IsAcceptedFor}
+use Rattle.mrt_answer.specs.Verdict.{GivesVerdict, IsYesFor}
 use Rattle.mrt_answer.proofs.TextsHeld.{answer_has_also}
 
 pub area_refused : (Missing : Type 0) (input : Input) (router : ℕ) (exit : Exit) → HasNoArea (area input) exit
@@ -83,10 +83,10 @@ verdicts_of_bytes (Err exit) input bytes file is said = verdict_of_bytes input b
 
 -- what is accepted, or upgraded, is what the bytes give
 pub verdicts_given : (answer : Result Text Exit) (input : Input) (bytes : List ℕ) (file : CertFile)
-    → IsSpellingOf bytes file → IfOk answer (HasText (IsAcceptedFor input file))
+    → IsSpellingOf bytes file → IfOk answer (HasText (IsYesFor input file))
     → IfOk answer (HasText (GivesVerdict input bytes))
 verdicts_given answer input bytes file is said =
-    answer_has_also (IsAcceptedFor input file) (GivesVerdict input bytes)
+    answer_has_also (IsYesFor input file) (GivesVerdict input bytes)
     (λ text accepted. record { file = file; is = is; accepted = accepted }) answer said
 
 pub upgrades_given : (answer : Result Text Exit) (input : Input) (bytes : List ℕ) (file : CertFile)

@@ -27,7 +27,7 @@ pub record IsAccepted (graph : Topology) (root : ℕ) (file : CertFile) (text : 
   pub line : text ≡ accepted_line file.root (length graph.ids) (length graph.links)
 
 -- the certificate is accepted for the island of its root, and this line says so
-pub record IsAcceptedFor (input : Input) (file : CertFile) (text : List ℕ) : Type 0 where
+pub record IsYesFor (input : Input) (file : CertFile) (text : List ℕ) : Type 0 where
   pub graph : Topology
   pub root : ℕ
   pub island : HasIsland input file.root graph root
@@ -37,7 +37,7 @@ pub record IsAcceptedFor (input : Input) (file : CertFile) (text : List ℕ) : T
 pub record GivesVerdict (input : Input) (certificate text : List ℕ) : Type 0 where
   pub file : CertFile
   pub is : IsSpellingOf certificate file
-  pub accepted : IsAcceptedFor input file text
+  pub accepted : IsYesFor input file text
 
 -- what comes of a certificate but for yes: no island of its root; else the first rule that fails
 abbrev pub IsRefusedFor : Input → CertFile → Exit → Type 0

@@ -1,7 +1,7 @@
 //! `trace DB PROFILE FROM TO blue` and the like, and `fabric DB PROFILE SCRIPT`: packets, step by step through a failure.
 
 ghost use Rattle.std.specs.Prelude.{◌≡◌, ◌≤◌, None, IfOk, IfErr, length};
-ghost use Rattle.primary_alt.specs.AcceptedRows.{IsAcceptedFor};
+ghost use Rattle.mrt_graph.specs.AcceptedFor.{IsAcceptedFor};
 ghost use Rattle.primary_alt.specs.RoutesMade.{AreMadeWith};
 ghost use Rattle.mrt_answer.specs.Packets.{ArePartsFor, GivesRun, IsScriptGiven, IsTraceGiven, packet_parts};
 ghost use Rattle.mrt_answer.specs.Refusals.{HasNone, IsRunRefusal};

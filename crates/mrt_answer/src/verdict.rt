@@ -3,7 +3,7 @@
 ghost use Rattle.std.specs.Prelude.{◌≡◌, ◌<◌, None, IfOk, IfErr, length};
 ghost use Rattle.mrt_graph.specs.Accepted.{Accepted};
 ghost use Rattle.mrt_answer.specs.Refusals.{IsRejected, IsVerdictFor};
-ghost use Rattle.mrt_answer.specs.Verdict.{IsAcceptedFor, accepted_line as line_of_accepted};
+ghost use Rattle.mrt_answer.specs.Verdict.{IsYesFor, accepted_line as line_of_accepted};
 ghost use Rattle.mrt_answer.specs.TextBytes.{HasText};
 
 use crate::given::Given;
@@ -16,7 +16,7 @@ use std::alloc::Global;
 
 /// The accepted line, where the certificate is accepted for the island of its root.
 pub(crate) fn verdict(alloc: Global, given: &Given, file: &CertFile) -> Result<Text, Exit>
-    ensures accepted { IfOk result (HasText (IsAcceptedFor given.now file.now)) }
+    ensures accepted { IfOk result (HasText (IsYesFor given.now file.now)) }
     ensures refused { IfErr result (IsVerdictFor given.now file.now) }
 {
     accepted_implies_sound();

@@ -1,4 +1,5 @@
 pub mod Accepted
+pub mod AcceptedFor
 pub mod Alternate
 pub mod Apart
 pub mod BothThere

@@ -14,14 +14,14 @@ use Rattle.mrt_graph.proofs.AcceptedBlocks.{blocks}
 use Rattle.mrt_graph.proofs.ListPlaces.{contains_at, place_of}
 use Rattle.mrt_graph.proofs.TestFacts.{number_is}
 use Rattle.mrt_graph.proofs.WordsOf.{words_of}
-use Rattle.mrt_survey.specs.AcceptedAt.{IsAcceptedAt}
+use Rattle.mrt_graph.specs.AcceptedFor.{IsAcceptedAt}
 use Rattle.mrt_survey.specs.BlockHeads.{HeadsBlocks, AsMember, AsRoot, HeadsTwo}
 use Rattle.mrt_survey.specs.Separating.{SeparatesTwo}
 use Rattle.mrt_survey.proofs.SeparatingHeads.{separating_heads, told_there}
 
 -- the root of an accepted certificate is a node of the certificate, and of the graph
 pub root_in_cert : (g : Topology) (root : ℕ) (c : Certificate) → IsAcceptedAt g root c → root < length c.nodes
-root_in_cert g root c is = (blocks g root (record { version = 2; root = is.number; cert = c }) is.accepted).root_within
+root_in_cert g root c is = (blocks g root (record { version = is.version; root = is.number; cert = c }) is.accepted).root_within
 
 pub root_in_graph : (g : Topology) (root : ℕ) (c : Certificate) → IsAcceptedAt g root c → root < length g.ids
 root_in_graph g root c is = subst (λ (n : ℕ). root < n) (is.accepted GraphRule).counts.nodes (root_in_cert g root c is)
@@ -46,7 +46,7 @@ module _ (g : Topology) (root : ℕ) (c : Certificate) (is : IsAcceptedAt g root
   -- a node that is not the root and is the head of one is not its own head
   other_head : (x a : ℕ) → x ≢ root → head_of c a ≡ Some x → a ≢ x
   other_head x a not_root head = λ own.
-      let b = blocks g root (record { version = 2; root = is.number; cert = c }) is.accepted in
+      let b = blocks g root (record { version = is.version; root = is.number; cert = c }) is.accepted in
       let within = told_there (λ node. node.head) c.nodes a x head in
       let w = words_of g.links root c in
       let at_x : w.head x ≡ x = ap w.head (sym own) ∙ number_is (head_of c a) x head in
@@ -81,5 +81,5 @@ module _ (g : Topology) (root : ℕ) (c : Certificate) (is : IsAcceptedAt g root
   -- just the nodes that separate two others are marked
   pub separating_marked : (x : ℕ) → (IsMarked after x) ↔ SeparatesTwo g.links (length g.ids) x
   separating_marked x =
-      let law = separating_heads g root (record { version = 2; root = is.number; cert = c }) is.accepted x in
+      let law = separating_heads g root (record { version = is.version; root = is.number; cert = c }) is.accepted x in
       ((λ marked. law.1 ((heads_blocks x).0 marked)), (λ has. (heads_blocks x).1 (law.0 has)))

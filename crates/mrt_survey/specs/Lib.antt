@@ -1,4 +1,3 @@
-pub mod AcceptedAt
 pub mod BlockHeads
 pub mod Counting
 pub mod Draws

@@ -3,7 +3,7 @@
 ghost use Rattle.std.specs.Prelude.{◌≡◌, ◌≤◌, ◌↔◌, IfOk, IsTrue, length};
 ghost use Rattle.std.specs.List.{filter};
 ghost use Rattle.mrt_graph.specs.Roles.{is_sole};
-ghost use Rattle.mrt_survey.specs.AcceptedAt.{IsAcceptedAt};
+ghost use Rattle.mrt_graph.specs.AcceptedFor.{IsAcceptedAt};
 ghost use Rattle.mrt_survey.specs.BlockHeads.{HeadsTwo};
 ghost use Rattle.mrt_survey.specs.Counting.{AreSoMany};
 ghost use Rattle.mrt_survey.specs.Separating.{SeparatesTwo};

@@ -11,7 +11,7 @@ use Rattle.mrt_graph.proofs.AcceptedBlocks.{blocks}
 use Rattle.mrt_graph.proofs.AcceptedSound.{accepted_sound}
 use Rattle.mrt_graph.proofs.Bridge.{color_leads}
 use Rattle.mrt_graph.proofs.LeadsOn.{sound-hop}
-use Rattle.primary_alt.specs.AcceptedRows.{IsAcceptedFor}
+use Rattle.mrt_graph.specs.AcceptedFor.{IsAcceptedFor}
 
 -- it has the graph's counts
 pub counts : (g : Topology) (c : Certificate) → IsAcceptedFor g c → SameCounts g c

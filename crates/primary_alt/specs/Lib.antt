@@ -1,4 +1,3 @@
-pub mod AcceptedRows
 pub mod ArcWalk
 pub mod ArcsInto
 pub mod Attaining
@@ -7,6 +6,7 @@ pub mod Beginnings
 pub mod Distance
 pub mod Distances
 pub mod DistancesFrom
+pub mod Elements
 pub mod FirstArcs
 pub mod Meets
 pub mod NoArc

@@ -4,10 +4,9 @@ ghost use Rattle.std.specs.Prelude.{◌≡◌, ◌≢◌, ◌<◌, IsSome, Some,
 ghost use Rattle.mrt_graph.specs.Certificate.{row_of};
 ghost use Rattle.mrt_graph.specs.Hop.{color_hop, hop_over};
 ghost use Rattle.mrt_graph.specs.Rows.{link_of_color};
-ghost use Rattle.primary_alt.specs.AcceptedRows.{IsAcceptedFor};
+ghost use Rattle.mrt_graph.specs.AcceptedFor.{IsAcceptedFor};
 
-use crate::rows::RowsOf;
-use mrt_graph::{Cert, Color, Graph, LinkNo, NodeNo, Row};
+use mrt_graph::{Cert, Color, Graph, LinkNo, NodeNo, Row, RowsOf};
 
 /// One hop on a color: a link, and the node that it leads to.
 #[derive(Clone, Copy)]

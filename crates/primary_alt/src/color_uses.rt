@@ -7,8 +7,7 @@ ghost use Rattle.mrt_graph.specs.Sound.{SoundFor};
 ghost use Rattle.primary_alt.specs.Meets.{IsOver};
 
 use crate::color_hops::{ColorHop, next_hop};
-use crate::rows::RowsOf;
-use mrt_graph::{Color, Element, Graph, NodeNo};
+use mrt_graph::{Color, Element, Graph, NodeNo, RowsOf};
 
 /// Whether the color walk from `s` to `t` uses `x`, which is neither `s` nor `t`.
 ///

@@ -18,7 +18,6 @@ mod repair;
 mod repair_law;
 mod routes;
 mod routes_law;
-mod rows;
 mod searches;
 mod shortest;
 mod turned;
@@ -39,6 +38,5 @@ pub use repair_law::{
 };
 pub use routes::Routes;
 pub use routes_law::{routes_lead_nearer, routes_reach_their_destinations};
-pub use rows::RowsOf;
 pub use searches::Searches;
 pub use shortest::Primary;

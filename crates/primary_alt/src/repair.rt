@@ -6,11 +6,11 @@ ghost use Rattle.mrt_graph.specs.Certificate.{row_of};
 ghost use Rattle.mrt_graph.specs.Column.{ColumnSound, rows_of_column};
 ghost use Rattle.mrt_graph.specs.Separates.{IsNeitherEnd};
 ghost use Rattle.mrt_graph.specs.Sound.{SoundFor};
-ghost use Rattle.primary_alt.specs.AcceptedRows.{IsAcceptedFor, IsElementOf};
+ghost use Rattle.mrt_graph.specs.AcceptedFor.{IsAcceptedFor};
+ghost use Rattle.primary_alt.specs.Elements.{IsElementOf};
 
 use crate::color_uses::uses;
-use crate::rows::RowsOf;
-use mrt_graph::{Cert, Color, Column, Element, Graph, NodeNo};
+use mrt_graph::{Cert, Color, Column, Element, Graph, NodeNo, RowsOf};
 
 /// The color on which `source` sends a packet for `to` after a failure; None where no color goes round it. A failure
 /// outside the graph is None as `failed`.

@@ -12,7 +12,7 @@ use Rattle.mrt_graph.proofs.AcceptedBlocks.{blocks}
 use Rattle.mrt_graph.proofs.Blocks.{Words, Blocks}
 use Rattle.mrt_graph.proofs.WordsOf.{words_of}
 use Rattle.proxy_rows.specs.declared.attachment.Attachment.{Attachment}
-use Rattle.proxy_rows.specs.AcceptedFor.{IsAcceptedFor}
+use Rattle.mrt_graph.specs.AcceptedFor.{IsAcceptedFor}
 use Rattle.proxy_rows.specs.Attachment.{IsAttachment}
 
 -- the words of an accepted certificate

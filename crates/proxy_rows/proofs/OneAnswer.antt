@@ -21,7 +21,7 @@ use Rattle.proxy_rows.specs.declared.proxy_row.Out.TheVariants as outs
 use Rattle.proxy_rows.specs.declared.proxy_row.ProxyRow.{ProxyRow}
 use Rattle.proxy_rows.specs.declared.side.Side.{Side}
 use Rattle.proxy_rows.specs.declared.side.Side.TheVariants.{Low, High}
-use Rattle.proxy_rows.specs.AcceptedFor.{IsAcceptedFor}
+use Rattle.mrt_graph.specs.AcceptedFor.{IsAcceptedFor}
 use Rattle.proxy_rows.specs.Attachment.{IsAttachment}
 use Rattle.proxy_rows.specs.Ground.{IsGround}
 use Rattle.proxy_rows.specs.ProxyRows.{AreProxyRows, AreRowsOf, BelongsTo, IsEntry, First, None as none_of_it, IsHeadBlue, Itself, ToLow, IsOnward, IsPlainToLow, IsProxyRow, OfHead, OfLow, OfHigh, OfOther, OfOutside, IsSideOut, Here, Over}

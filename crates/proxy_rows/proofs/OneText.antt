@@ -17,7 +17,7 @@ use Rattle.text_parts.proofs.Adding.{one_text_of_parts}
 use Rattle.proxy_rows.specs.declared.proxy_row.Out.{Out}
 use Rattle.proxy_rows.specs.declared.proxy_row.Out.TheVariants as outs
 use Rattle.proxy_rows.specs.declared.proxy_row.ProxyRow.{ProxyRow}
-use Rattle.proxy_rows.specs.AcceptedFor.{IsAcceptedFor}
+use Rattle.mrt_graph.specs.AcceptedFor.{IsAcceptedFor}
 use Rattle.proxy_rows.specs.ProxyText.{IsEndOn, IsHead, IsHop, IsLine, IsOutText, IsProxyText}
 use Rattle.proxy_rows.proofs.OneAnswer.{one_answer}
 

@@ -4,7 +4,7 @@ use Rattle.mrt_graph.specs.Certificate.{Certificate}
 use Rattle.mrt_graph.specs.GraphInvariant.{IsTopology}
 use Rattle.mrt_graph.specs.Topology.{Topology}
 use Rattle.proxy_rows.specs.declared.attachment.Attachment.{Attachment}
-use Rattle.proxy_rows.specs.AcceptedFor.{IsAcceptedFor}
+use Rattle.mrt_graph.specs.AcceptedFor.{IsAcceptedFor}
 use Rattle.proxy_rows.specs.Attachment.{IsAttachment}
 
 -- a graph, a certificate that is accepted for it, and the attachment of two of its routers

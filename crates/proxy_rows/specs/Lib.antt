@@ -1,4 +1,3 @@
-pub mod AcceptedFor
 pub mod Attachment
 pub mod Ends
 pub mod GraphWith

@@ -16,7 +16,7 @@ ghost use Rattle.std.specs.Prelude.{
 };
 ghost use Rattle.mrt_graph.specs.Related.{are_unrelated};
 ghost use Rattle.mrt_graph.specs.Topology.{Topology};
-ghost use Rattle.proxy_rows.specs.AcceptedFor.{IsAcceptedFor};
+ghost use Rattle.mrt_graph.specs.AcceptedFor.{IsAcceptedFor};
 ghost use Rattle.proxy_rows.specs.Attachment.{IsAttachment};
 
 use mrt_graph::{Cert, CertNode, NodeNo};

@@ -8,7 +8,7 @@ ghost use Rattle.mrt_graph.specs.Sound.{SoundFor};
 ghost use Rattle.mrt_graph.specs.Topology.{Topology};
 ghost use Rattle.proxy_rows.specs.declared.side.Side.TheVariants.{Low, High};
 ghost use Rattle.proxy_rows.specs.declared.attachment.Attachment.{Attachment};
-ghost use Rattle.proxy_rows.specs.AcceptedFor.{IsAcceptedFor};
+ghost use Rattle.mrt_graph.specs.AcceptedFor.{IsAcceptedFor};
 ghost use Rattle.proxy_rows.specs.Attachment.{IsAttachment};
 ghost use Rattle.proxy_rows.specs.GraphWith.{AreRowsWith, links_with, new_node};
 ghost use Rattle.proxy_rows.specs.Ground.{IsGround};

@@ -6,7 +6,7 @@ ghost use Rattle.mrt_graph.specs.GraphInvariant.{IsTopology};
 ghost use Rattle.mrt_graph.specs.Related.{are_unrelated};
 ghost use Rattle.text_parts.specs.Adds.{Adds};
 ghost use Rattle.text_parts.specs.Parts.{AreParts};
-ghost use Rattle.proxy_rows.specs.AcceptedFor.{IsAcceptedFor};
+ghost use Rattle.mrt_graph.specs.AcceptedFor.{IsAcceptedFor};
 ghost use Rattle.proxy_rows.specs.ProxyRows.{AreProxyRows};
 ghost use Rattle.proxy_rows.specs.ProxyText.{IsHead, IsHop, IsLine, IsOutText, IsProxyText};
 ghost use Rattle.proxy_rows.specs.Touches.{Touches};

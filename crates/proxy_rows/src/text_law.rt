@@ -4,7 +4,7 @@ ghost use Rattle.std.specs.Prelude.{◌≡◌, ℕ, List};
 ghost use Rattle.mrt_graph.specs.Certificate.{Certificate};
 ghost use Rattle.mrt_graph.specs.GraphInvariant.{IsTopology};
 ghost use Rattle.mrt_graph.specs.Topology.{Topology};
-ghost use Rattle.proxy_rows.specs.AcceptedFor.{IsAcceptedFor};
+ghost use Rattle.mrt_graph.specs.AcceptedFor.{IsAcceptedFor};
 ghost use Rattle.proxy_rows.specs.ProxyText.{IsProxyText};
 
 /// A law: two routers have one text.

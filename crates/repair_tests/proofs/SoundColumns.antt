@@ -22,7 +22,7 @@ use Rattle.mrt_graph.specs.Uses.{Uses, nodes_met}
 use Rattle.mrt_graph.specs.Walk.{Walk}
 use Rattle.mrt_graph.proofs.AcceptedSound.{accepted_sound}
 use Rattle.mrt_graph.proofs.LeadsOn.{sound-hop}
-use Rattle.primary_alt.specs.AcceptedRows.{IsAcceptedFor}
+use Rattle.mrt_graph.specs.AcceptedFor.{IsAcceptedFor}
 use Rattle.primary_alt.proofs.ColorSteps.{counts}
 
 -- where the hops are the same, so are the links

@@ -1,7 +1,8 @@
 //! The colors that repair failures on the way from router 1 to router 4 of a small island.
 
 ghost use Rattle.std.specs.Prelude.{◌≡◌, IfSome, length};
-ghost use Rattle.primary_alt.specs.AcceptedRows.{IsAcceptedFor, IsElementOf};
+ghost use Rattle.mrt_graph.specs.AcceptedFor.{IsAcceptedFor};
+ghost use Rattle.primary_alt.specs.Elements.{IsElementOf};
 
 use crate::small_area::{island_of, small_area};
 use mrt_graph::{Cert, Color, Element, Graph, LinkNo, NodeNo};

@@ -3,7 +3,7 @@
 ghost use Rattle.std.specs.Prelude.{◌≡◌, ◌<◌, IfOk, length};
 ghost use Rattle.mrt_graph.specs.Certificate.{row_of};
 ghost use Rattle.mrt_graph.specs.Column.{ColumnSound};
-ghost use Rattle.primary_alt.specs.AcceptedRows.{IsAcceptedFor};
+ghost use Rattle.mrt_graph.specs.AcceptedFor.{IsAcceptedFor};
 
 use crate::networks::{LAN, TRIANGLE, network_of};
 use mrt_graph::{Cert, Column, Element, Graph, LinkNo, NoMemory, NodeNo, Row};

@@ -1,7 +1,7 @@
 //! Packets through a failure: worked by hand.
 
 ghost use Rattle.std.specs.Prelude.{◌≡◌, ◌≤◌};
-ghost use Rattle.primary_alt.specs.AcceptedRows.{IsAcceptedFor};
+ghost use Rattle.mrt_graph.specs.AcceptedFor.{IsAcceptedFor};
 ghost use Rattle.primary_alt.specs.RoutesMade.{AreMadeWith};
 
 use crate::networks::{LAN, LINE, Network, TRIANGLE, network_of};

@@ -26,7 +26,7 @@ pub returns-clause-accepted : goal.returns-clause-accepted
 returns-clause-accepted c =
     let island = c.in_ok-island.island in
     let root = there island.graph.ids island.root (root_within _ _ _ _ _ _ c.in_ok-island.ensures.island) in
-    record { root = island.root; number = root.0.number; accepted = c.in_ok-cert.ensures.accepted root.0 root.1 }
+    record { root = island.root; version = 2; number = root.0.number; accepted = c.in_ok-cert.ensures.accepted root.0 root.1 }
 
 pub returns-clause-parts : goal.returns-clause-parts
 returns-clause-parts c =

@@ -34,6 +34,7 @@ proxy_text-requires-clause-accepted c =
     let own = c.in_ok-island.ensures.island.island in
     record {
       root = c.in_ok-island.island.root;
+      version = 2;
       number = own.rooted.id.number;
       accepted = c.in_ok-cert.ensures.accepted own.rooted.id (root_there _ _ _ _ _ _ own);
     }

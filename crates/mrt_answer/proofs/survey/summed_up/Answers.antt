@@ -7,7 +7,7 @@ use Rattle.mrt_answer.proofs.survey.summed_up.Goals as goal
 pub survey_text-requires : goal.survey_text-requires
 survey_text-requires c =
     let root = there c.args.graph.now.ids c.args.root c.requires in
-    record { number = root.0.number; accepted = c.in_ok-cert.ensures.accepted root.0 root.1 }
+    record { version = 2; number = root.0.number; accepted = c.in_ok-cert.ensures.accepted root.0 root.1 }
 
 pub returns : goal.returns
 returns c =

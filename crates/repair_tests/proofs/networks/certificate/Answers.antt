@@ -9,4 +9,4 @@ returns-in-Ok c =
     let less = c.if-get-node_count.false in
     let within : c.args.island.now.root < length c.args.island.now.graph.ids = omega (arith, root, count, less) in
     let id = there c.args.island.now.graph.ids c.args.island.now.root within in
-    record { root = c.args.island.now.root; number = id.0.number; accepted = c.in-Ok.ensures.accepted id.0 id.1 }
+    record { root = c.args.island.now.root; version = 2; number = id.0.number; accepted = c.in-Ok.ensures.accepted id.0 id.1 }

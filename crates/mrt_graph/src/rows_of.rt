@@ -3,7 +3,9 @@
 ghost use Rattle.std.specs.Prelude.{◌≡◌, Some, IsSome};
 ghost use Rattle.mrt_graph.specs.Rows.{Rows};
 
-use mrt_graph::{Cert, Column, NodeNo, Row};
+use crate::cert::{Cert, Row};
+use crate::column::Column;
+use crate::numbers::NodeNo;
 
 /// What rows are read from.
 pub trait RowsOf {
