@@ -8,7 +8,7 @@ use Rattle.lsdb.proofs.meet.meet.Goals as goal
 
 pub returns-clause-change : goal.returns-clause-change
 returns-clause-change c = λ entry there.
-    c.change-change.ensures
+    c.change_of-change.ensures
     ∙ ap (λ (l : Lsa). change_of l c.args.lsa)
     (instance_of c.args.lsas.now.items c.args.differing.now.items c.args.place entry c.index.result.now
     c.index.ensures there)
@@ -18,7 +18,7 @@ returns-clause-entries c = λ entry there.
     c.turn.ensures.entries entry there
     ∙ ap (λ (change : Change). set (entries_of c.args.lsas.now.items c.args.differing.now.items) c.args.place
     (changed entry c.args.lsa change))
-    (c.change-change.ensures
+    (c.change_of-change.ensures
     ∙ ap (λ (l : Lsa). change_of l c.args.lsa)
     (instance_of c.args.lsas.now.items c.args.differing.now.items c.args.place entry c.index.result.now
     c.index.ensures there))
