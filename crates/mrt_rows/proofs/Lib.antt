@@ -33,6 +33,7 @@ pub mod PushedWords
 pub mod RowOver
 pub mod RowTags
 pub mod RowsExist
+pub mod RowsHeld
 pub mod RowsOfColumns
 pub mod RowsPut
 pub mod RulesHold

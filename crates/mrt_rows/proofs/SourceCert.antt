@@ -70,3 +70,19 @@ one_link_words g w links others are others_are =
     same_lists links others (are.one_each ∙ sym others_are.one_each) (λ e d within.
     let link = there g.links e (omega (arith, within, are.one_each)) in
     same_at links others e d (link_words w e link.0) (are.each e link.0 link.1) (others_are.each e link.0 link.1))
+
+-- the words by the directions from its root are those of the graph's certificate
+module _ (g : Topology) (root : ℕ) (d : DirectedLists) (kept : IsTopology g) (within : root < length g.ids) (made : IsDirectedFrom g root d) where
+  pub nodes_by : (nodes : List CertNode) → ((w : Directions) → Says g d w → AreNodeWords g w nodes)
+      → (file : CertFile) → IsCertOf g root file → nodes ≡ file.cert.nodes
+  nodes_by nodes are file is =
+      let it = ordered_from g root d kept within made in
+      one_node_words g it.directions nodes file.cert.nodes (are it.directions it.says)
+      (told_by g root d kept within made it.directions it.says file is).nodes
+
+  pub links_by : (links : List CertLink) → ((w : Directions) → Says g d w → AreLinkWords g w links)
+      → (file : CertFile) → IsCertOf g root file → links ≡ file.cert.links
+  links_by links are file is =
+      let it = ordered_from g root d kept within made in
+      one_link_words g it.directions links file.cert.links (are it.directions it.says)
+      (told_by g root d kept within made it.directions it.says file is).links

@@ -11,5 +11,6 @@ pub mod Rooted
 pub mod RowLines
 pub mod RowsFound
 pub mod RowsOf
+pub mod RowsTo
 pub mod Source
 pub mod Table

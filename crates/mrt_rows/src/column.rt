@@ -25,7 +25,7 @@ use mrt_graph::{Column, Directed, Graph, LinkNo, NoMemory, NodeNo, Row, Tag};
 use std::alloc::Global;
 
 /// So many destinations are taken side by side.
-const WIDTH: u16 = 64;
+pub(crate) const WIDTH: u16 = 64;
 
 /// What the columns of all destinations have in common, and the room in which they are made: what the blocks aim at, for
 /// the destinations from number `first` on, for none where there is no such node, and tiles that are aimed so.
@@ -58,7 +58,7 @@ impl Columns {
     }
 
     /// The same, for so many destinations side by side.
-    fn side_by_side(
+    pub(crate) fn side_by_side(
         alloc: Global,
         g: &Graph,
         root: NodeNo,

@@ -17,6 +17,7 @@ mod places;
 mod rooted;
 mod row_over;
 mod rows_law;
+mod rows_to;
 mod soles;
 mod source_rows;
 mod table;
@@ -32,4 +33,5 @@ pub use rows_law::{
     near_rows_are_those_of_each_node, one_certificate, one_column_for_each, one_row_for_each,
     tabled_certificates_are_accepted,
 };
+pub use rows_to::RowsTo;
 pub use source_rows::SourceRows;

@@ -7,12 +7,15 @@ ghost use Rattle.mrt_graph.specs.GraphInvariant.{IsTopology};
 ghost use Rattle.mrt_rows.specs.CertOf.{IsCertOf};
 ghost use Rattle.mrt_rows.specs.ColumnOf.{HasRowsFor};
 ghost use Rattle.mrt_rows.specs.Rooted.{MakeColumns};
+ghost use Rattle.mrt_rows.specs.RowsTo.{AreRowsTo};
 
-use crate::column::Columns;
+use crate::column::{Columns, WIDTH};
 use crate::directed::directions;
 use crate::rows_law::{columns_are_of_one_certificate, one_certificate};
+use crate::rows_to::RowsTo;
+use crate::words::{all_links, all_nodes};
 use link_direction::directions_are_ordered;
-use mrt_graph::{Column, Directed, Graph, NoMemory, NodeNo};
+use mrt_graph::{CertLink, CertNode, Column, Directed, Graph, NoMemory, NodeNo};
 use std::alloc::Global;
 
 /// What makes the columns of a graph: the root, the graph's directions from it, and what all columns have in common.
@@ -34,9 +37,39 @@ impl RootedColumns {
         ensures cert { IfOk result (λ _. (file : CertFile) × IsCertOf g.now root file) }
         ensures kept { IfOk result (λ _. IsTopology g.now) }
     {
+        let rooted = RootedColumns::side_by_side(alloc, g, root, WIDTH)?;
+        Ok(rooted)
+    }
+
+    /// The same for few destinations, wherever they lie: each column takes time in proportion to the links.
+    pub fn one_by_one(alloc: Global, g: &Graph, root: NodeNo) -> Result<RootedColumns, NoMemory>
+        requires { root < length g.now.ids }
+        ensures root { IfOk result (λ rooted. rooted.root ≡ root) }
+        ensures made { IfOk result (MakeColumns g.now) }
+        ensures cert { IfOk result (λ _. (file : CertFile) × IsCertOf g.now root file) }
+        ensures kept { IfOk result (λ _. IsTopology g.now) }
+    {
+        let rooted = RootedColumns::side_by_side(alloc, g, root, 1)?;
+        Ok(rooted)
+    }
+
+    /// The same, for so many destinations side by side.
+    fn side_by_side(
+        alloc: Global,
+        g: &Graph,
+        root: NodeNo,
+        width: u16,
+    ) -> Result<RootedColumns, NoMemory>
+        requires root { root < length g.now.ids }
+        requires some { 0 < width }
+        ensures root { IfOk result (λ rooted. rooted.root ≡ root) }
+        ensures made { IfOk result (MakeColumns g.now) }
+        ensures cert { IfOk result (λ _. (file : CertFile) × IsCertOf g.now root file) }
+        ensures kept { IfOk result (λ _. IsTopology g.now) }
+    {
         columns_are_of_one_certificate();
         let directed = directions(alloc, g, root)?;
-        let columns = Columns::new(alloc, g, root, &directed)?;
+        let columns = Columns::side_by_side(alloc, g, root, &directed, width)?;
         Ok(RootedColumns {
             root,
             directed,
@@ -63,5 +96,53 @@ impl RootedColumns {
         let _count = g.node_count();
         let column = self.columns.to(alloc, g, self.root, &self.directed, to)?;
         Ok(column)
+    }
+    /// The rows of all nodes for the marked ones: a column for each.
+    ///
+    /// It takes the time of `to` for each, and memory for their columns.
+    pub fn rows_to(&mut self, alloc: Global, g: &Graph, wanted: &[bool]) -> Result<RowsTo, NoMemory>
+        requires made { MakeColumns g.now self.old }
+        requires one_each { length wanted.now ≡ length g.now.ids }
+        ensures root { self.new.root ≡ self.old.root }
+        ensures made { MakeColumns g.now self.new }
+        ensures rows { (file : CertFile) → IsCertOf g.now self.old.root file
+            → IfOk result (AreRowsTo wanted.now file) }
+    {
+        let count = g.node_count();
+        let mut places = Vec::with_capacity(alloc, count as usize)?;
+        let mut columns = Vec::new(alloc);
+        for n in 0..count {
+            if wanted[n as usize] {
+                places.push_reserved(Some(columns.len() as u16));
+                let column = self.to(alloc, g, NodeNo::new(n))?;
+                columns.push(column)?;
+            } else {
+                places.push_reserved(None);
+            }
+        }
+        Ok(RowsTo::new(places, columns))
+    }
+
+    /// The words of the graph's certificate on all nodes.
+    pub fn nodes(&self, alloc: Global, g: &Graph) -> Result<Vec<CertNode>, NoMemory>
+        requires { MakeColumns g.now self.now }
+        ensures { (file : CertFile) → IsCertOf g.now self.now.root file
+            → IfOk result (λ nodes. nodes.items ≡ file.cert.nodes) }
+    {
+        // what each graph keeps is told by reading it
+        let _count = g.node_count();
+        let nodes = all_nodes(alloc, g, &self.directed)?;
+        Ok(nodes)
+    }
+
+    /// Its words on all links.
+    pub fn links(&self, alloc: Global, g: &Graph) -> Result<Vec<CertLink>, NoMemory>
+        requires { MakeColumns g.now self.now }
+        ensures { (file : CertFile) → IsCertOf g.now self.now.root file
+            → IfOk result (λ links. links.items ≡ file.cert.links) }
+    {
+        let _count = g.node_count();
+        let links = all_links(alloc, g, &self.directed)?;
+        Ok(links)
     }
 }

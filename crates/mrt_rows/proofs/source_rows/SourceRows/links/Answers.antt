@@ -2,7 +2,7 @@ use Rattle.std.proofs.Common.{sym, subst}
 use Rattle.mrt_rows.specs.CertOf.{IsCertOf}
 use Rattle.mrt_rows.specs.Making.{MakeRows}
 use Rattle.mrt_rows.specs.RowsFound.{RowsFound}
-use Rattle.mrt_rows.proofs.SourceCert.{directions_from, one_link_words, ordered_from, told_by}
+use Rattle.mrt_rows.proofs.SourceCert.{directions_from, links_by}
 use Rattle.mrt_rows.proofs.source_rows.SourceRows.links.Goals as goal
 
 pub all_links-requires : goal.all_links-requires
@@ -13,11 +13,6 @@ all_links-requires c =
 pub returns : goal.returns
 returns c = λ file is_of.
     let made = (subst (λ (rows : RowsFound). MakeRows c.args.g.now rows) (sym c.self.view_is) c.requires).making in
-    let is = subst (λ (rows : RowsFound). IsCertOf c.args.g.now rows.root file) (sym c.self.view_is) is_of in
-    let g = c.args.g.now in
-    let root = c.self.inside.making.root in
-    let d = c.self.inside.making.directed in
-    let kept = c.node_count-count.ensures.kept in
-    let ordered = ordered_from g root d kept made.root_within made.directed in
-    let tells = told_by g root d kept made.root_within made.directed ordered.directions ordered.says file is in
-    one_link_words g ordered.directions c.in_ok-links.links.items file.cert.links (c.in_ok-links.ensures ordered.directions ordered.says) tells.links
+    links_by c.args.g.now c.self.inside.making.root c.self.inside.making.directed c.node_count-count.ensures.kept made.root_within made.directed
+    c.in_ok-links.links.items c.in_ok-links.ensures file
+    (subst (λ (rows : RowsFound). IsCertOf c.args.g.now rows.root file) (sym c.self.view_is) is_of)

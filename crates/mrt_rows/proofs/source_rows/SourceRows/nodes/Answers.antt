@@ -2,7 +2,7 @@ use Rattle.std.proofs.Common.{sym, subst}
 use Rattle.mrt_rows.specs.CertOf.{IsCertOf}
 use Rattle.mrt_rows.specs.Making.{MakeRows}
 use Rattle.mrt_rows.specs.RowsFound.{RowsFound}
-use Rattle.mrt_rows.proofs.SourceCert.{directions_from, one_node_words, ordered_from, told_by}
+use Rattle.mrt_rows.proofs.SourceCert.{directions_from, nodes_by}
 use Rattle.mrt_rows.proofs.source_rows.SourceRows.nodes.Goals as goal
 
 pub all_nodes-requires : goal.all_nodes-requires
@@ -13,11 +13,6 @@ all_nodes-requires c =
 pub returns : goal.returns
 returns c = λ file is_of.
     let made = (subst (λ (rows : RowsFound). MakeRows c.args.g.now rows) (sym c.self.view_is) c.requires).making in
-    let is = subst (λ (rows : RowsFound). IsCertOf c.args.g.now rows.root file) (sym c.self.view_is) is_of in
-    let g = c.args.g.now in
-    let root = c.self.inside.making.root in
-    let d = c.self.inside.making.directed in
-    let kept = c.node_count-count.ensures.kept in
-    let ordered = ordered_from g root d kept made.root_within made.directed in
-    let tells = told_by g root d kept made.root_within made.directed ordered.directions ordered.says file is in
-    one_node_words g ordered.directions c.in_ok-nodes.nodes.items file.cert.nodes (c.in_ok-nodes.ensures.words ordered.directions ordered.says) tells.nodes
+    nodes_by c.args.g.now c.self.inside.making.root c.self.inside.making.directed c.node_count-count.ensures.kept made.root_within made.directed
+    c.in_ok-nodes.nodes.items c.in_ok-nodes.ensures.words file
+    (subst (λ (rows : RowsFound). IsCertOf c.args.g.now rows.root file) (sym c.self.view_is) is_of)

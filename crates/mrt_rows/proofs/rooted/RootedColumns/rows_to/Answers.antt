@@ -1,0 +1,75 @@
+use Rattle.std.proofs.Common.{◌≡◌, ◌∙◌, ◌<◌, ◌+◌, ◌++◌, ℕ, Bool, List, [], ◌∷◌, Option, Some, None, length, slice_get, slice_index_or, true, false, inl, inr, sym, ap, subst, arith, length-append}
+use Rattle.std.proofs.lemmas.Bool.{both_ways, cases_eq, cases_lt}
+use Rattle.std.proofs.lemmas.List.{get_or_past}
+use Rattle.mrt_graph.specs.declared.cert.CertFile.{CertFile}
+use Rattle.mrt_graph.specs.declared.cert.Row.{Row}
+use Rattle.mrt_graph.specs.Search.{IsMarked}
+use Rattle.mrt_rows.specs.CertOf.{IsCertOf}
+use Rattle.mrt_rows.specs.ColumnOf.{HasRowsFor}
+use Rattle.mrt_rows.proofs.RowsHeld.{IsHeld, held_last, held_on, held_on_place, rows_held}
+use Rattle.mrt_rows.proofs.rooted.RootedColumns.rows_to.Goals.{then-wanted-n+in_ok-column+in_ok-push, else-wanted-n}
+use Rattle.mrt_rows.proofs.rooted.RootedColumns.rows_to.Goals as goal
+
+mark_within : (marks : List Bool) (t : ℕ) → IsMarked marks t → t < length marks
+mark_within marks t marked = elim (cases_lt t (length marks)) [
+  | inl within ↦ within
+  | inr past ↦ absurd (both_ways (slice_index_or marks t false) (get_or_past marks t false past) marked)
+]
+
+-- one more place, with or without a column
+marked_more : (file : CertFile) (marks : List Bool) (places : List (Option ℕ)) (columns : List (List (Option Row))) (n : ℕ) (column : List (Option Row))
+    → length places ≡ n → HasRowsFor file.cert n column
+    → ((t : ℕ) → t < n → IsMarked marks t → IsHeld file places columns t)
+    → (t : ℕ) → t < n + 1 → IsMarked marks t → IsHeld file (places ++ Some (length columns) ∷ []) (columns ++ column ∷ []) t
+marked_more file marks places columns n column many has before t below marked = elim (cases_eq t n) [
+  | inl same ↦
+      subst (λ (k : ℕ). IsHeld file (places ++ Some (length columns) ∷ []) (columns ++ column ∷ []) k) (sym same)
+      (held_last file places columns n column many has)
+  | inr other ↦ held_on file places columns t (Some (length columns)) (column ∷ []) (before t (omega (arith, below, other)) marked)
+]
+
+unmarked_more : (file : CertFile) (marks : List Bool) (places : List (Option ℕ)) (columns : List (List (Option Row))) (n : ℕ)
+    → slice_index_or marks n false ≡ false
+    → ((t : ℕ) → t < n → IsMarked marks t → IsHeld file places columns t)
+    → (t : ℕ) → t < n + 1 → IsMarked marks t → IsHeld file (places ++ None ∷ []) columns t
+unmarked_more file marks places columns n bare before t below marked = elim (cases_eq t n) [
+  | inl same ↦ absurd (both_ways (slice_index_or marks n false) bare (subst (λ (k : ℕ). IsMarked marks k) same marked))
+  | inr other ↦ held_on_place file places columns t None (before t (omega (arith, below, other)) marked)
+]
+
+pub loop-n-preserved : goal.loop-n-preserved
+loop-n-preserved c = elim c.if-wanted-n.branch [
+  | then-wanted-n+in_ok-column+in_ok-push w ↦ rw (w.self-is, w.places-is, w.columns-is, w.push_reserved.ensures.items, w.in_ok-push.ensures.items) (record {
+    root = w.to.ensures.root ∙ c.loop-n.invariant.root;
+    made = w.to.ensures.made;
+    count = c.loop-n.invariant.count;
+    many = omega (arith, length-append {A = Option ℕ}, c.loop-n.invariant.many);
+    few = omega (arith, length-append {A = List (Option Row)}, c.loop-n.invariant.few);
+    room = omega (arith, c.loop-n.invariant.room, w.push_reserved.ensures.capacity);
+    held = λ file is t below marked.
+        let has : HasRowsFor file.cert c.loop-n.n w.in_ok-column.column =
+        subst (λ (k : ℕ). HasRowsFor file.cert k w.in_ok-column.column) w.new.ensures
+        (w.in_ok-column.ensures.rows file (subst (λ (k : ℕ). IsCertOf c.args.g.now k file) (sym c.loop-n.invariant.root) is)) in
+        subst (λ (k : ℕ). IsHeld file (c.loop-n.places.items ++ Some k ∷ []) (c.loop-n.columns.items ++ w.in_ok-column.column ∷ []) t) (sym (w.len.ensures ∙ c.loop-n.columns.ok.0))
+        (marked_more file c.args.wanted.now c.loop-n.places.items c.loop-n.columns.items c.loop-n.n w.in_ok-column.column c.loop-n.invariant.many has
+        (c.loop-n.invariant.held file is) t below marked);
+  })
+  | else-wanted-n w ↦ rw (w.self-is, w.places-is, w.columns-is, w.push_reserved-else-wanted-n.ensures.items) (record {
+    root = c.loop-n.invariant.root;
+    made = c.loop-n.invariant.made;
+    count = c.loop-n.invariant.count;
+    many = omega (arith, length-append {A = Option ℕ}, c.loop-n.invariant.many);
+    few = omega (arith, c.loop-n.invariant.few);
+    room = omega (arith, c.loop-n.invariant.room, w.push_reserved-else-wanted-n.ensures.capacity);
+    held = λ file is t below marked.
+        unmarked_more file c.args.wanted.now c.loop-n.places.items c.loop-n.columns.items c.loop-n.n w.if-wanted-n.false
+        (c.loop-n.invariant.held file is) t below marked;
+  })
+]
+
+pub returns-clause-rows : goal.returns-clause-rows
+returns-clause-rows c = λ file is t marked s.
+    rw c.new-2.ensures
+    (rows_held file c.loop-n.places.items c.loop-n.columns.items t
+    (c.loop-n.invariant.held file is t
+    (omega (arith, mark_within c.args.wanted.now t marked, c.requires.one_each, c.loop-n.invariant.count, c.loop-n-test.false)) marked) s)
