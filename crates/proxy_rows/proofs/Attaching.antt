@@ -1,12 +1,12 @@
 -- Two nodes with a block in common, by their order.
-use Rattle.std.proofs.Common.{◌≡◌, ◌≢◌, ◌<◌, ◌==◌, ◌&&◌, ◌∙◌, ℕ, true, false, not, Option, Some, slice_get, inl, inr, refl, sym, ap, arith, Bool}
+use Rattle.std.proofs.Common.{◌≡◌, ◌≢◌, ◌<◌, ◌==◌, ◌&&◌, ◌∙◌, ℕ, true, false, not, Option, Some, slice_get, length, inl, inr, refl, sym, ap, subst, arith, Bool}
 use Rattle.std.proofs.lemmas.Bool.{cases_eq, and_parts, cases_Bool, eq-eqb, lt-ltb, or_right}
 use Rattle.std.proofs.lemmas.Bool.Decides.{eqb_tells}
 use Rattle.std.proofs.lemmas.Option.{slice_get_within}
 use Rattle.std.specs.Option.{option_map, unwrap_or}
 use Rattle.mrt_graph.specs.declared.cert.CertNode.{CertNode}
 use Rattle.mrt_graph.specs.Certificate.{Certificate}
-use Rattle.mrt_graph.specs.Related.{is_common_block}
+use Rattle.mrt_graph.specs.Related.{are_unrelated, is_common_block}
 use Rattle.mrt_graph.specs.Topology.{Topology}
 use Rattle.mrt_graph.proofs.AcceptedBlocks.{blocks}
 use Rattle.mrt_graph.proofs.Blocks.{Words, Blocks}
@@ -25,6 +25,18 @@ blocks_of g c accepted = blocks g accepted.root _ accepted.accepted
 -- two nodes have no block in common
 abbrev pub are_apart : ℕ → ℕ → CertNode → CertNode → Bool
 are_apart a b one other = not (one.block == other.block) && (not (one.head == b) && not (other.head == a))
+
+-- two nodes are unrelated where they are apart
+pub unrelated_is : (c : Certificate) (a b : ℕ) (one other : CertNode) → slice_get c.nodes a ≡ Some one → slice_get c.nodes b ≡ Some other
+    → are_unrelated c a b ≡ are_apart a b one other
+unrelated_is c a b one other at_a at_b = rw (at_a, at_b) refl
+
+-- the head of a node is one
+pub head_there : (g : Topology) (c : Certificate) → IsAcceptedFor g c → (a : ℕ) (one : CertNode) → slice_get c.nodes a ≡ Some one → one.head < length c.nodes
+head_there g c accepted a one at_a =
+    let w = words g c accepted in
+    let is_head : w.head a ≡ one.head = ap (λ (o : Option CertNode). unwrap_or (option_map (λ node. node.head) o) 0) at_a in
+    subst (λ (h : ℕ). h < length c.nodes) is_head ((blocks_of g c accepted).head_within a (slice_get_within c.nodes a one at_a))
 
 -- the head of a node has no greater order
 head_before : (g : Topology) (c : Certificate) → IsAcceptedFor g c → (a b : ℕ) (one other : CertNode)

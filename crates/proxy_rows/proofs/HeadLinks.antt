@@ -1,5 +1,5 @@
 -- The closing link of the block, or its one link: there is one of these.
-use Rattle.std.proofs.Common.{◌≡◌, ◌⊎◌, ◌==◌, ◌&&◌, ◌∙◌, ℕ, Bool, true, not, Option, Some, None, slice_get, length, inl, inr, refl, sym, ap, subst}
+use Rattle.std.proofs.Common.{◌≡◌, ◌⊎◌, ◌==◌, ◌&&◌, ◌∙◌, ℕ, Bool, true, false, not, Option, Some, None, slice_get, length, inl, inr, refl, sym, ap, subst}
 use Rattle.std.proofs.lemmas.Bool.{and_parts, eq-eqb, eqb-true, ne_eqb, not-true, or_cases, true≢false}
 use Rattle.std.proofs.lemmas.Option.{same_Some}
 use Rattle.std.specs.List.{list_all}
@@ -10,7 +10,7 @@ use Rattle.mrt_graph.specs.declared.cert.Role.TheVariants as roles
 use Rattle.mrt_graph.specs.Certificate.{Certificate}
 use Rattle.mrt_graph.specs.CertWords.{block_of, has_role, head_of, links_of}
 use Rattle.mrt_graph.specs.HeadsAndBlocks.{closed_unless_one_link, closings}
-use Rattle.mrt_graph.specs.Roles.{is_closing, is_sole}
+use Rattle.mrt_graph.specs.Roles.{is_closing, is_plain, is_sole}
 use Rattle.mrt_graph.specs.Rules.{ClosedRule}
 use Rattle.mrt_graph.specs.Topology.{Topology}
 use Rattle.mrt_graph.proofs.Blocks.{Words}
@@ -146,3 +146,25 @@ module _ (g : Topology) (c : Certificate) (at : Attachment) (ground : IsGround g
         | inl closing ↦ Closing red.hop.link red.of (role_of c at red.hop.link is_closing red.of (ap is_closing closing))
         | inr sole ↦ absurd (not_sole red.hop.link red.of none sole)
       ]
+
+  said_role : (e : ℕ) (h : Held c at e) → w.role e ≡ h.link.role
+  said_role e h = ap (λ (o : Option CertLink). option_map_or (λ link. link.role) o roles.Plain) h.is
+
+  -- a closing or sole link of the block is not plain
+  pub not_plain : (e : ℕ) → IsOfBlock c at e → (w.role e ≡ roles.Closing) ⊎ (w.role e ≡ roles.Sole) → has_role is_plain c e ≡ false
+  not_plain e of role =
+      let h = held c at e of in
+      let same = sym (said_role e h) in
+      rw h.is (elim role [ inl closing ↦ ap is_plain (same ∙ closing) | inr sole ↦ ap is_plain (same ∙ sole) ])
+
+  -- a link of the block that is not plain is red at the head
+  pub red_if_not_plain : (e : ℕ) → IsOfBlock c at e → has_role is_plain c e ≡ false → IsHeadRed c at (outs.Link e)
+  red_if_not_plain e of other =
+      let h = held c at e of in
+      let same = same_as_red e of (go h.link.role (said_role e h) (rw h.is at other)) in
+      subst (λ (k : ℕ). IsHeadRed c at (outs.Link k)) (sym same) head_red
+    where
+      go : (role : Role) → w.role e ≡ role → is_plain role ≡ false → (w.role e ≡ roles.Closing) ⊎ (w.role e ≡ roles.Sole)
+      go roles.Plain is fails = absurd (true≢false fails)
+      go roles.Sole is fails = inr is
+      go roles.Closing is fails = inl is

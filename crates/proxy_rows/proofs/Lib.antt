@@ -1,3 +1,4 @@
+pub mod AnyRows
 pub mod Attaching
 pub mod BlockRows
 pub mod BlockSteps

@@ -123,7 +123,7 @@ module _ (g : Topology) (c : Certificate) (at : Attachment) (ground : IsGround g
       let first = found.1 in
       inl (Onward s end.link end.to member first.asked.of_block (end_leads g s first.place first.ends end ground.kept first.list first.there) first.asked.onward first.asked.within)
   decided_by_end side s within member other ends list (inr none) =
-      inr (λ is. side_end g c at ground side s within other is (none_at_all g (IsOnward g c at side s) s (length ends) ends list (omega arith) none))
+      inr (λ is. side_end g c at ground.kept side s within other is (none_at_all g (IsOnward g c at side s) s (length ends) ends list (omega arith) none))
 
   decided_in_by : (bound : ℕ) (side : Side) (s : ℕ) → s < length g.ids → rank side s < bound → Decided (IsIn g.links c at side s)
   decided_in_by zero side s within less = absurd (omega (arith, less))
@@ -196,7 +196,7 @@ module _ (g : Topology) (c : Certificate) (at : Attachment) (ground : IsGround g
       go : s ≢ router_of at side → (ends : List End) → slice_get g.ends s ≡ Some ends
           → ((end : End) × IsFirstEnd g (IsOnward g c at side s) s end) ⊎ NoneBefore (IsOnward g c at side s) ends (length ends) → (out : Out) × IsSideOut g c at side s out
       go other ends list (inl found) = (outs.Link found.0.link, Over found.0 other found.1)
-      go other ends list (inr none) = absurd (side_end g c at ground side s within other is (none_at_all g (IsOnward g c at side s) s (length ends) ends list (omega arith) none))
+      go other ends list (inr none) = absurd (side_end g c at ground.kept side s within other is (none_at_all g (IsOnward g c at side s) s (length ends) ends list (omega arith) none))
 
   -- each node has a row
   row_there : (s : ℕ) → s < length g.ids → (row : ProxyRow) × IsProxyRow g c at s row

@@ -6,6 +6,8 @@ use Rattle.std.specs.Prelude.{nat_lt}
 use Rattle.mrt_graph.specs.declared.cert.Color.TheVariants.{Blue, Red}
 use Rattle.mrt_graph.specs.declared.cert.Row.{Row}
 use Rattle.mrt_graph.specs.declared.link.Link.{Link}
+use Rattle.mrt_graph.specs.AcceptedFor.{IsAcceptedFor}
+use Rattle.mrt_graph.specs.GraphInvariant.{IsTopology}
 use Rattle.mrt_graph.specs.Certificate.{Certificate, are_two, row_of}
 use Rattle.mrt_graph.specs.Leads.{leads}
 use Rattle.mrt_graph.specs.Topology.{Topology}
@@ -16,8 +18,8 @@ use Rattle.proxy_rows.specs.declared.proxy_row.Out.{Out}
 use Rattle.proxy_rows.specs.declared.proxy_row.ProxyRow.{ProxyRow}
 use Rattle.proxy_rows.specs.declared.side.Side.{Side}
 use Rattle.proxy_rows.specs.Ground.{IsGround}
-use Rattle.proxy_rows.specs.ProxyRows.{IsHeadBlue, Itself, ToLow, IsHeadRed, IsProxyRow, OfHead, OfLow, OfHigh, OfOther, OfOutside, IsSideOut, Here, Over}
-use Rattle.proxy_rows.specs.Touches.{Touches}
+use Rattle.proxy_rows.specs.ProxyRows.{AreProxyRows, IsHeadBlue, Itself, ToLow, IsHeadRed, IsProxyRow, OfHead, OfLow, OfHigh, OfOther, OfOutside, IsSideOut, Here, Over}
+use Rattle.proxy_rows.specs.Touches.{AllTouch, Touches}
 use Rattle.proxy_rows.proofs.Attaching.{words}
 use Rattle.proxy_rows.proofs.BlockRows.{link_is, to_high}
 use Rattle.proxy_rows.proofs.Grounds.{rows}
@@ -81,3 +83,13 @@ module _ (g : Topology) (c : Certificate) (at : Attachment) (ground : IsGround g
   touches s _ (OfHigh red row high out is) = ((row_touches s at.head row is).blue, side_touches _ s red out)
   touches s _ (OfOther row member not_low not_high is) = ((row_touches s at.head row is).red, (row_touches s at.head row is).blue)
   touches s _ (OfOutside entry row out entry_is is) = ((row_touches s entry row is).blue, (row_touches s entry row is).red)
+
+-- both of each
+pub all_touch : (g : Topology) (c : Certificate) (a b : ℕ) (rows : List ProxyRow) → IsTopology g → IsAcceptedFor g c → AreProxyRows g c a b rows → AllTouch g rows
+all_touch g c a b rows kept accepted are =
+    let ground : IsGround g c are.at = record { kept = kept; accepted = accepted; a = a; b = b; attached = are.attached } in
+    record {
+      one_each = are.rows.one_each;
+      blue = λ s row at. (touches g c are.at ground s row (are.rows.each s row at)).0;
+      red = λ s row at. (touches g c are.at ground s row (are.rows.each s row at)).1;
+    }

@@ -7,3 +7,4 @@ pub mod ProxyText
 pub mod Sides
 pub mod Steps
 pub mod Touches
+pub mod Words

@@ -14,12 +14,14 @@ ghost use Rattle.std.specs.Prelude.{
   not,
   length,
 };
+ghost use Rattle.mrt_graph.specs.AcceptedFor.{IsAcceptedFor};
+ghost use Rattle.mrt_graph.specs.Certificate.{Certificate};
 ghost use Rattle.mrt_graph.specs.Related.{are_unrelated};
 ghost use Rattle.mrt_graph.specs.Topology.{Topology};
-ghost use Rattle.mrt_graph.specs.AcceptedFor.{IsAcceptedFor};
 ghost use Rattle.proxy_rows.specs.Attachment.{IsAttachment};
 
-use mrt_graph::{Cert, CertNode, NodeNo};
+use crate::words::node_at;
+use mrt_graph::{CertNode, NodeNo};
 
 /// The router with the lower order and the other one, their common block and its head.
 #[derive(Clone, Copy)]
@@ -30,17 +32,22 @@ pub struct Attachment {
     pub head: NodeNo,
 }
 
-/// The attachment of two routers; `None` where they have no block in common.
-pub fn attach(c: &Cert, a: NodeNo, b: NodeNo) -> Option<Attachment>
-    requires first { a < length c.now.nodes }
-    requires second { b < length c.now.nodes }
+/// The attachment of two routers, by what a certificate says of nodes; `None` where it gives the two no common block.
+///
+/// Their proxy rows ask for the certificate's rows for its head, and for no others.
+pub fn attach(nodes: &[CertNode], a: NodeNo, b: NodeNo) -> Option<Attachment>
+    requires first { a < length nodes.now }
+    requires second { b < length nodes.now }
     requires different { a ≢ b }
-    ensures found { (g : Topology) → IsAcceptedFor g c.now
-        → IfSome result (IsAttachment c.now a b) }
-    ensures none { IsNone result ↔ (are_unrelated c.now a b ≡ true) }
+    ensures found { (g : Topology) (c : Certificate) → c.nodes ≡ nodes.now → IsAcceptedFor g c
+        → IfSome result (IsAttachment c a b) }
+    ensures head { (g : Topology) (c : Certificate) → c.nodes ≡ nodes.now → IsAcceptedFor g c
+        → IfSome result (λ at. at.head < length nodes.now) }
+    ensures none { (c : Certificate) → c.nodes ≡ nodes.now
+        → (IsNone result ↔ (are_unrelated c a b ≡ true)) }
 {
-    let one = c.node(a);
-    let other = c.node(b);
+    let one = node_at(nodes, a);
+    let other = node_at(nodes, b);
     if are_apart(a, b, &one, &other) {
         return None;
     }

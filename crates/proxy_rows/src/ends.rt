@@ -17,27 +17,47 @@ ghost use Rattle.mrt_graph.specs.FirstEnd.{IsFirstEnd};
 ghost use Rattle.mrt_graph.specs.Roles.{is_plain};
 ghost use Rattle.mrt_graph.specs.Search.{IsMarked};
 ghost use Rattle.proxy_rows.specs.declared.side.Side.TheVariants.{Low};
-ghost use Rattle.proxy_rows.specs.Ends.{HasNoEnd, NoneBefore};
-ghost use Rattle.proxy_rows.specs.Ground.{IsGround};
+ghost use Rattle.proxy_rows.specs.Ends.{HasNoEnd, IsNotPlain, NoneBefore};
 ghost use Rattle.proxy_rows.specs.ProxyRows.{IsOnward, IsPlainToLow};
-ghost use Rattle.proxy_rows.specs.Sides.{IsIn, IsOfBlock};
+ghost use Rattle.proxy_rows.specs.Sides.{IsOfBlock};
+ghost use Rattle.proxy_rows.specs.Words.{AreAccepted, IsOn, without_rows};
 
 use crate::attachment::Attachment;
 use crate::side::{Side, goes_on};
-use mrt_graph::{Cert, End, Graph, LinkNo, NodeNo, Role};
+use crate::words::{Words, link_at};
+use mrt_graph::{End, LinkNo, NodeNo, Role};
 
 /// The first end of the head over a plain link of the block to a node of Low.
-pub fn first_plain(g: &Graph, c: &Cert, at: &Attachment, low: &[bool]) -> Option<End>
-    requires ground { IsGround g.now c.now at.now }
-    requires count { length low.now ≡ length g.now.ids }
-    requires marked { (s : ℕ) → IsMarked low.now s ↔ IsIn g.now.links c.now at.now Low s }
-    ensures some { IfSome result (IsFirstEnd g.now (IsPlainToLow g.now c.now at.now) at.now.head) }
-    ensures none { IfNone result (HasNoEnd g.now (IsPlainToLow g.now c.now at.now) at.now.head) }
+pub fn first_plain(words: &Words, at: &Attachment, low: &[bool]) -> Option<End>
+    requires ground { AreAccepted words.now at.now }
+    requires count { length low.now ≡ length words.now.graph.now.ids }
+    requires marked { (s : ℕ) → IsMarked low.now s ↔ IsOn words.now at.now Low s }
+    ensures some { IfSome result (IsFirstEnd words.now.graph.now
+        (IsPlainToLow words.now.graph.now (without_rows words.now) at.now) at.now.head) }
+    ensures none { IfNone result (HasNoEnd words.now.graph.now
+        (IsPlainToLow words.now.graph.now (without_rows words.now) at.now) at.now.head) }
 {
-    let ends = g.ends(at.head);
+    let ends = words.graph.ends(at.head);
     for place in 0..ends.len() {
         let end = ends[place];
-        if is_plain_to_low(g, c, at, low, &end) {
+        if is_plain_to_low(words, at, low, &end) {
+            return Some(end);
+        }
+    }
+    None
+}
+
+/// An end of the head over a link of the block that is not plain.
+pub fn first_closing(words: &Words, at: &Attachment) -> Option<End>
+    requires ground { AreAccepted words.now at.now }
+    ensures some { IfSome result (IsNotPlain (without_rows words.now) at.now) }
+    ensures none { IfNone result (HasNoEnd words.now.graph.now
+        (IsNotPlain (without_rows words.now) at.now) at.now.head) }
+{
+    let ends = words.graph.ends(at.head);
+    for place in 0..ends.len() {
+        let end = ends[place];
+        if is_not_plain(words, at, &end) {
             return Some(end);
         }
     }
@@ -46,24 +66,25 @@ pub fn first_plain(g: &Graph, c: &Cert, at: &Attachment, low: &[bool]) -> Option
 
 /// The first end of `s` over a link of the block to a node of the side, to which one goes on.
 pub fn first_onward(
-    g: &Graph,
-    c: &Cert,
+    words: &Words,
     at: &Attachment,
     side: Side,
     marks: &[bool],
     s: NodeNo,
 ) -> Option<End>
-    requires ground { IsGround g.now c.now at.now }
-    requires count { length marks.now ≡ length g.now.ids }
-    requires marked { (s : ℕ) → IsMarked marks.now s ↔ IsIn g.now.links c.now at.now side s }
-    requires within { s < length g.now.ids }
-    ensures some { IfSome result (IsFirstEnd g.now (IsOnward g.now c.now at.now side s) s) }
-    ensures none { IfNone result (HasNoEnd g.now (IsOnward g.now c.now at.now side s) s) }
+    requires ground { AreAccepted words.now at.now }
+    requires count { length marks.now ≡ length words.now.graph.now.ids }
+    requires marked { (s : ℕ) → IsMarked marks.now s ↔ IsOn words.now at.now side s }
+    requires within { s < length words.now.graph.now.ids }
+    ensures some { IfSome result (IsFirstEnd words.now.graph.now
+        (IsOnward words.now.graph.now (without_rows words.now) at.now side s) s) }
+    ensures none { IfNone result (HasNoEnd words.now.graph.now
+        (IsOnward words.now.graph.now (without_rows words.now) at.now side s) s) }
 {
-    let ends = g.ends(s);
+    let ends = words.graph.ends(s);
     for number in 0..ends.len() {
         let end = ends[number];
-        if is_onward(g, c, at, side, marks, s, &end) {
+        if is_onward(words, at, side, marks, s, &end) {
             return Some(end);
         }
     }
@@ -71,49 +92,58 @@ pub fn first_onward(
 }
 
 /// Whether an end is over a plain link of the block to a node of Low.
-fn is_plain_to_low(g: &Graph, c: &Cert, at: &Attachment, low: &[bool], end: &End) -> bool
-    requires link { end.now.link < length c.now.links }
+fn is_plain_to_low(words: &Words, at: &Attachment, low: &[bool], end: &End) -> bool
+    requires link { end.now.link < length words.now.links.now }
     requires to { end.now.to < length low.now }
-    requires marked { (s : ℕ) → IsMarked low.now s ↔ IsIn g.now.links c.now at.now Low s }
-    ensures { IsTrue result ↔ IsPlainToLow g.now c.now at.now end.now }
+    requires marked { (s : ℕ) → IsMarked low.now s ↔ IsOn words.now at.now Low s }
+    ensures { IsTrue result ↔ IsPlainToLow words.now.graph.now (without_rows words.now) at.now end.now }
 {
-    is_of_block(c, at, end.link) && is_plain(c, end.link) && is_marked(low, end.to)
+    is_of_block(words, at, end.link) && is_plain(words, end.link) && is_marked(low, end.to)
+}
+
+/// Whether an end is over a link of the block that is not plain.
+fn is_not_plain(words: &Words, at: &Attachment, end: &End) -> bool
+    requires link { end.now.link < length words.now.links.now }
+    ensures { IsTrue result ↔ IsNotPlain (without_rows words.now) at.now end.now }
+{
+    is_of_block(words, at, end.link) && !is_plain(words, end.link)
 }
 
 /// Whether an end of `s` is over a link of the block to a node of the side, to which one goes on.
 fn is_onward(
-    g: &Graph,
-    c: &Cert,
+    words: &Words,
     at: &Attachment,
     side: Side,
     marks: &[bool],
     s: NodeNo,
     end: &End,
 ) -> bool
-    requires link { end.now.link < length c.now.links }
-    requires from { s < length c.now.nodes }
-    requires to { end.now.to < length c.now.nodes }
-    requires count { length marks.now ≡ length c.now.nodes }
-    requires marked { (s : ℕ) → IsMarked marks.now s ↔ IsIn g.now.links c.now at.now side s }
-    ensures { IsTrue result ↔ IsOnward g.now c.now at.now side s end.now }
+    requires link { end.now.link < length words.now.links.now }
+    requires from { s < length words.now.nodes.now }
+    requires to { end.now.to < length words.now.nodes.now }
+    requires count { length marks.now ≡ length words.now.nodes.now }
+    requires marked { (s : ℕ) → IsMarked marks.now s ↔ IsOn words.now at.now side s }
+    ensures { IsTrue result
+        ↔ IsOnward words.now.graph.now (without_rows words.now) at.now side s end.now }
 {
-    is_of_block(c, at, end.link) && is_marked(marks, end.to) && goes_on(c, side, s, end.to)
+    let of_block = is_of_block(words, at, end.link);
+    of_block && is_marked(marks, end.to) && goes_on(words, side, s, end.to)
 }
 
 /// Whether a link is of the block.
-fn is_of_block(c: &Cert, at: &Attachment, e: LinkNo) -> bool
-    requires within { e < length c.now.links }
-    ensures { IsTrue result ↔ IsOfBlock c.now at.now e }
+fn is_of_block(words: &Words, at: &Attachment, e: LinkNo) -> bool
+    requires within { e < length words.now.links.now }
+    ensures { IsTrue result ↔ IsOfBlock (without_rows words.now) at.now e }
 {
-    c.link(e).block == at.block
+    link_at(words.links, e).block == at.block
 }
 
 /// Whether a link is plain.
-fn is_plain(c: &Cert, e: LinkNo) -> bool
-    requires within { e < length c.now.links }
-    ensures { result ≡ has_role is_plain c.now e }
+fn is_plain(words: &Words, e: LinkNo) -> bool
+    requires within { e < length words.now.links.now }
+    ensures { result ≡ has_role is_plain (without_rows words.now) e }
 {
-    c.link(e).role == Role::Plain
+    link_at(words.links, e).role == Role::Plain
 }
 
 /// Whether a node has its mark.

@@ -12,10 +12,12 @@ mod rows;
 mod side;
 mod text;
 mod text_law;
+mod words;
 
+pub use attachment::{Attachment, attach};
 pub use proxy_error::ProxyError;
 pub use proxy_law::{one_list_of_proxy_rows, proxy_rows_are_sound, proxy_rows_or_no_common_block};
 pub use proxy_row::{Out, ProxyRow};
-pub use rows::proxy_rows;
-pub use text::proxy_text;
+pub use rows::{proxy_rows, proxy_rows_at};
+pub use text::{proxy_text, proxy_text_of};
 pub use text_law::one_proxy_text;

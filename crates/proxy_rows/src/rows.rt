@@ -1,27 +1,28 @@
 //! The rows of all nodes for a prefix that is attached to two routers.
 
-ghost use Rattle.std.specs.Prelude.{◌≡◌, ◌≢◌, ◌<◌, ◌+◌, ◌↔◌, ℕ, true, Err, IfOk, length};
+ghost use Rattle.std.specs.Prelude.{◌≡◌, ◌≢◌, ◌<◌, ◌+◌, ◌↔◌, ℕ, true, Err, IfOk, List, length};
+ghost use Rattle.mrt_graph.specs.declared.cert.Row.{Row};
+ghost use Rattle.mrt_graph.specs.AcceptedFor.{IsAcceptedFor};
+ghost use Rattle.mrt_graph.specs.GraphInvariant.{IsTopology};
 ghost use Rattle.mrt_graph.specs.Related.{are_unrelated};
 ghost use Rattle.mrt_graph.specs.Rows.{Rows};
 ghost use Rattle.mrt_graph.specs.Search.{IsMarked};
 ghost use Rattle.mrt_graph.specs.Sound.{SoundFor};
-ghost use Rattle.mrt_graph.specs.Topology.{Topology};
-ghost use Rattle.proxy_rows.specs.declared.side.Side.TheVariants.{Low, High};
 ghost use Rattle.proxy_rows.specs.declared.attachment.Attachment.{Attachment};
-ghost use Rattle.mrt_graph.specs.AcceptedFor.{IsAcceptedFor};
+ghost use Rattle.proxy_rows.specs.declared.side.Side.TheVariants.{Low, High};
 ghost use Rattle.proxy_rows.specs.Attachment.{IsAttachment};
 ghost use Rattle.proxy_rows.specs.GraphWith.{AreRowsWith, links_with, new_node};
-ghost use Rattle.proxy_rows.specs.Ground.{IsGround};
 ghost use Rattle.proxy_rows.specs.ProxyRows.{AreProxyRows, AreRowsOf, IsHeadBlue, IsHeadRed, IsProxyRow, IsSideOut};
-ghost use Rattle.proxy_rows.specs.Sides.{IsIn};
+ghost use Rattle.proxy_rows.specs.Words.{AreAccepted, AreReadWith, IsOn, ReadFrom, with_rows};
 
 use crate::attachment::{Attachment, attach};
-use crate::ends::{first_onward, first_plain, is_marked};
+use crate::ends::{first_closing, first_onward, first_plain, is_marked};
 use crate::marking::{is_member, side_marks};
 use crate::proxy_error::ProxyError;
 use crate::proxy_row::{Out, ProxyRow};
 use crate::side::{Side, router_of};
-use mrt_graph::{Cert, Graph, NoMemory, NodeNo};
+use crate::words::Words;
+use mrt_graph::{Cert, CertLink, CertNode, Graph, NoMemory, NodeNo, RowsOf};
 use std::alloc::Global;
 
 /// Of each node its row for a prefix that two routers, `a` and `b`, are attached to: a named proxy-node (RFC 7811, section
@@ -50,67 +51,104 @@ pub fn proxy_rows(
         → AreRowsWith g.now at entries.items rows → (s : ℕ) → s < length g.now.ids
         → SoundFor (links_with g.now at) (length g.now.ids + 1) rows s (new_node g.now)) }
 {
-    let Some(at) = attach(c, a, b) else {
+    let (nodes, links) = (c.nodes(), c.links());
+    let Some(at) = attach(nodes, a, b) else {
         return Err(ProxyError::NoCommonBlock);
     };
-    let rows = rows_at(alloc, g, c, &at, g.node_count())?;
+    let rows = proxy_rows_at(alloc, g, nodes, links, &at, c)?;
     Ok(rows)
 }
 
-/// The rows, by the attachment.
-fn rows_at(
+/// Of each node its row for a prefix that two routers are attached to, by their attachment, the words on nodes and links of
+/// a certificate that is accepted for the graph, and its rows for the head of the attachment, wherever they stand. The
+/// rows are those that [`proxy_rows`] has by the certificate. What each graph keeps is told with them.
+///
+/// It takes time in proportion to nodes and links.
+pub fn proxy_rows_at<R: RowsOf>(
     alloc: Global,
     g: &Graph,
-    c: &Cert,
+    nodes: &[CertNode],
+    links: &[CertLink],
     at: &Attachment,
+    rows: &R,
+) -> Result<Vec<ProxyRow>, NoMemory>
+    requires read { ReadFrom g.now nodes.now links.now at.now (R.rows rows.now) }
+    ensures kept { IsTopology g.now }
+    ensures rows { (read : ReadFrom g.now nodes.now links.now at.now (R.rows rows.now))
+        → IfOk result (λ rows. AreProxyRows g.now read.cert read.a read.b rows.items) }
+{
+    let words = Words {
+        graph: g,
+        nodes,
+        links,
+    };
+    rows_by(alloc, &words, at, rows, g.node_count())
+}
+
+/// The rows, by the words and the attachment.
+fn rows_by<R: RowsOf>(
+    alloc: Global,
+    words: &Words,
+    at: &Attachment,
+    rows: &R,
     count: u16,
 ) -> Result<Vec<ProxyRow>, NoMemory>
-    requires ground { IsGround g.now c.now at.now }
-    requires count { count ≡ length g.now.ids }
-    ensures { IfOk result (λ rows. AreRowsOf g.now c.now at.now rows.items) }
+    requires read { (rest : List Row) × AreReadWith words.now at.now (R.rows rows.now) rest }
+    requires count { count ≡ length words.now.graph.now.ids }
+    ensures { (rest : List Row) → AreReadWith words.now at.now (R.rows rows.now) rest
+        → IfOk result (λ rows.
+        AreRowsOf words.now.graph.now (with_rows words.now rest) at.now rows.items) }
 {
-    let low = side_marks(alloc, g, c, at, Side::Low)?;
-    let high = side_marks(alloc, g, c, at, Side::High)?;
-    let mut rows = Vec::with_capacity(alloc, count as usize)?;
+    let low = side_marks(alloc, words, at, Side::Low)?;
+    let high = side_marks(alloc, words, at, Side::High)?;
+    let mut proxies = Vec::with_capacity(alloc, count as usize)?;
     for s in 0..count {
         // Taken apart so that the borrow checker's part of the proof meets the type of its fields.
-        let ProxyRow { blue, red } = row(g, c, at, &low, &high, NodeNo::new(s));
-        rows.push_reserved(ProxyRow { blue, red });
+        let ProxyRow { blue, red } = row(words, at, rows, &low, &high, NodeNo::new(s));
+        proxies.push_reserved(ProxyRow { blue, red });
     }
-    Ok(rows)
+    Ok(proxies)
 }
 
 /// The row of a node.
-fn row(g: &Graph, c: &Cert, at: &Attachment, low: &[bool], high: &[bool], s: NodeNo) -> ProxyRow
-    requires ground { IsGround g.now c.now at.now }
-    requires low_count { length low.now ≡ length g.now.ids }
-    requires low { (s : ℕ) → IsMarked low.now s ↔ IsIn g.now.links c.now at.now Low s }
-    requires high_count { length high.now ≡ length g.now.ids }
-    requires high { (s : ℕ) → IsMarked high.now s ↔ IsIn g.now.links c.now at.now High s }
-    requires within { s < length g.now.ids }
-    ensures { IsProxyRow g.now c.now at.now s result }
+fn row<R: RowsOf>(
+    words: &Words,
+    at: &Attachment,
+    rows: &R,
+    low: &[bool],
+    high: &[bool],
+    s: NodeNo,
+) -> ProxyRow
+    requires read { (rest : List Row) × AreReadWith words.now at.now (R.rows rows.now) rest }
+    requires low_count { length low.now ≡ length words.now.graph.now.ids }
+    requires low { (s : ℕ) → IsMarked low.now s ↔ IsOn words.now at.now Low s }
+    requires high_count { length high.now ≡ length words.now.graph.now.ids }
+    requires high { (s : ℕ) → IsMarked high.now s ↔ IsOn words.now at.now High s }
+    requires within { s < length words.now.graph.now.ids }
+    ensures { (rest : List Row) → AreReadWith words.now at.now (R.rows rows.now) rest
+        → IsProxyRow words.now.graph.now (with_rows words.now rest) at.now s result }
 {
     if s == at.head {
         return ProxyRow {
-            blue: head_blue(g, c, at, low),
-            red: head_red(c, at),
+            blue: head_blue(words, at, low),
+            red: head_red(words, at),
         };
     }
-    let row = c.row(s, at.head);
+    let row = rows.row_for(s, at.head);
     let (blue, red) = (Out::Link(row.blue), Out::Link(row.red));
     if is_marked(low, s) {
         return ProxyRow {
-            blue: side_out(g, c, at, Side::Low, low, s),
+            blue: side_out(words, at, Side::Low, low, s),
             red,
         };
     }
     if is_marked(high, s) {
         return ProxyRow {
             blue,
-            red: side_out(g, c, at, Side::High, high, s),
+            red: side_out(words, at, Side::High, high, s),
         };
     }
-    if is_member(c, at, s) {
+    if is_member(words, at, s) {
         return ProxyRow {
             blue: red,
             red: blue,
@@ -120,44 +158,47 @@ fn row(g: &Graph, c: &Cert, at: &Attachment, low: &[bool], high: &[bool], s: Nod
 }
 
 /// Blue at the head.
-fn head_blue(g: &Graph, c: &Cert, at: &Attachment, low: &[bool]) -> Out
-    requires ground { IsGround g.now c.now at.now }
-    requires low_count { length low.now ≡ length g.now.ids }
-    requires low { (s : ℕ) → IsMarked low.now s ↔ IsIn g.now.links c.now at.now Low s }
-    ensures { IsHeadBlue g.now c.now at.now result }
+fn head_blue(words: &Words, at: &Attachment, low: &[bool]) -> Out
+    requires ground { AreAccepted words.now at.now }
+    requires low_count { length low.now ≡ length words.now.graph.now.ids }
+    requires low { (s : ℕ) → IsMarked low.now s ↔ IsOn words.now at.now Low s }
+    ensures { (rest : List Row)
+        → IsHeadBlue words.now.graph.now (with_rows words.now rest) at.now result }
 {
     if at.head == at.lower {
         return Out::Attached;
     }
-    match first_plain(g, c, at, low) {
+    match first_plain(words, at, low) {
         Some(end) => Out::Link(end.link),
         None => unreachable!(),
     }
 }
 
-/// Red at the head: red of its row for the router with the greater order.
-fn head_red(c: &Cert, at: &Attachment) -> Out
-    requires head { at.now.head < length c.now.nodes }
-    requires upper { at.now.upper < length c.now.nodes }
-    requires different { at.now.head ≢ at.now.upper }
-    ensures { (g : Topology) → IsGround g c.now at.now → IsHeadRed c.now at.now result }
+/// Red at the head: the closing link of the block, or its one link.
+fn head_red(words: &Words, at: &Attachment) -> Out
+    requires ground { AreAccepted words.now at.now }
+    ensures { (rest : List Row) → IsHeadRed (with_rows words.now rest) at.now result }
 {
-    Out::Link(c.row(at.head, at.upper).red)
+    match first_closing(words, at) {
+        Some(end) => Out::Link(end.link),
+        None => unreachable!(),
+    }
 }
 
 /// Out of a node of a side.
-fn side_out(g: &Graph, c: &Cert, at: &Attachment, side: Side, marks: &[bool], s: NodeNo) -> Out
-    requires ground { IsGround g.now c.now at.now }
-    requires count { length marks.now ≡ length g.now.ids }
-    requires marked { (s : ℕ) → IsMarked marks.now s ↔ IsIn g.now.links c.now at.now side s }
-    requires within { s < length g.now.ids }
-    requires on { IsIn g.now.links c.now at.now side s }
-    ensures { IsSideOut g.now c.now at.now side s result }
+fn side_out(words: &Words, at: &Attachment, side: Side, marks: &[bool], s: NodeNo) -> Out
+    requires ground { AreAccepted words.now at.now }
+    requires count { length marks.now ≡ length words.now.graph.now.ids }
+    requires marked { (s : ℕ) → IsMarked marks.now s ↔ IsOn words.now at.now side s }
+    requires within { s < length words.now.graph.now.ids }
+    requires on { IsOn words.now at.now side s }
+    ensures { (rest : List Row)
+        → IsSideOut words.now.graph.now (with_rows words.now rest) at.now side s result }
 {
     if s == router_of(at, side) {
         return Out::Attached;
     }
-    match first_onward(g, c, at, side, marks, s) {
+    match first_onward(words, at, side, marks, s) {
         Some(end) => Out::Link(end.link),
         None => unreachable!(),
     }

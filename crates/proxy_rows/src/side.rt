@@ -2,9 +2,11 @@
 
 ghost use Rattle.std.specs.Prelude.{◌≡◌, ◌<◌, length};
 ghost use Rattle.proxy_rows.specs.Sides.{goes_on, router_of};
+ghost use Rattle.proxy_rows.specs.Words.{without_rows};
 
 use crate::attachment::Attachment;
-use mrt_graph::{Cert, NodeNo};
+use crate::words::{Words, node_at};
+use mrt_graph::NodeNo;
 
 /// The two sides of the block of two routers: Low ascends to the one with the lower order, High descends to the other one.
 #[derive(Clone, Copy)]
@@ -24,13 +26,13 @@ pub fn router_of(at: &Attachment, side: Side) -> NodeNo
 }
 
 /// Whether one goes on from `s` to `v`, on a side.
-pub fn goes_on(c: &Cert, side: Side, s: NodeNo, v: NodeNo) -> bool
-    requires from { s < length c.now.nodes }
-    requires to { v < length c.now.nodes }
-    ensures { result ≡ goes_on c.now side s v }
+pub fn goes_on(words: &Words, side: Side, s: NodeNo, v: NodeNo) -> bool
+    requires from { s < length words.now.nodes.now }
+    requires to { v < length words.now.nodes.now }
+    ensures { result ≡ goes_on (without_rows words.now) side s v }
 {
-    let from = c.node(s).order;
-    let to = c.node(v).order;
+    let from = node_at(words.nodes, s).order;
+    let to = node_at(words.nodes, v).order;
     match side {
         Side::Low => from < to,
         Side::High => to < from,

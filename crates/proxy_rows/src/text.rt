@@ -1,6 +1,7 @@
 //! The text on a prefix that is attached to two routers.
 
 ghost use Rattle.std.specs.Prelude.{◌≡◌, ◌≢◌, ◌<◌, ◌↔◌, true, Err, IfOk, Some, length, slice_get};
+ghost use Rattle.mrt_graph.specs.Certificate.{Certificate};
 ghost use Rattle.mrt_graph.specs.CertWords.{order_of};
 ghost use Rattle.mrt_graph.specs.GraphInvariant.{IsTopology};
 ghost use Rattle.mrt_graph.specs.Related.{are_unrelated};
@@ -9,7 +10,7 @@ ghost use Rattle.text_parts.specs.Parts.{AreParts};
 ghost use Rattle.mrt_graph.specs.AcceptedFor.{IsAcceptedFor};
 ghost use Rattle.proxy_rows.specs.ProxyRows.{AreProxyRows};
 ghost use Rattle.proxy_rows.specs.ProxyText.{IsHead, IsHop, IsLine, IsOutText, IsProxyText};
-ghost use Rattle.proxy_rows.specs.Touches.{Touches};
+ghost use Rattle.proxy_rows.specs.Touches.{AllTouch, Touches};
 
 use crate::ends::end_on;
 use crate::proxy_error::ProxyError;
@@ -45,9 +46,32 @@ pub fn proxy_text(
         ↔ (are_unrelated c.now a b ≡ true) }
 {
     let rows = proxy_rows(alloc, g, c, a, b)?;
+    let text = proxy_text_of(alloc, g, root, a, b, &rows)?;
+    Ok(text)
+}
+
+/// The text on a prefix that two routers, `a` and `b`, are attached to, by its rows, which are those of a certificate that
+/// is accepted for the graph.
+///
+/// It takes time in proportion to nodes and links.
+pub fn proxy_text_of(
+    alloc: Global,
+    g: &Graph,
+    root: NodeNo,
+    a: NodeNo,
+    b: NodeNo,
+    rows: &[ProxyRow],
+) -> Result<Vec<u8>, NoMemory>
+    requires rows { (c : Certificate) × IsAcceptedFor g.now c × AreProxyRows g.now c a b rows.now }
+    requires root { root < length g.now.ids }
+    requires first { a < length g.now.ids }
+    requires second { b < length g.now.ids }
+    ensures { (c : Certificate) → AreProxyRows g.now c a b rows.now
+        → IfOk result (λ text. IsProxyText g.now root c a b text.items) }
+{
     let mut text = Vec::new(alloc);
     push_head(&mut text, g, a, b, root)?;
-    push_lines(&mut text, g, c, a, b, &rows)?;
+    push_lines(&mut text, g, rows, g.node_count())?;
     Ok(text)
 }
 
@@ -75,20 +99,13 @@ fn push_head(
 }
 
 /// Puts the lines on all nodes at the end of a text.
-fn push_lines(
-    text: &mut Vec<u8>,
-    g: &Graph,
-    c: &Cert,
-    a: NodeNo,
-    b: NodeNo,
-    rows: &[ProxyRow],
-) -> Result<(), NoMemory>
-    requires accepted { IsAcceptedFor g.now c.now }
-    requires rows { AreProxyRows g.now c.now a b rows.now }
+fn push_lines(text: &mut Vec<u8>, g: &Graph, rows: &[ProxyRow], count: u16) -> Result<(), NoMemory>
+    requires kept { IsTopology g.now }
+    requires rows { AllTouch g.now rows.now }
+    requires count { count ≡ length g.now.ids }
     ensures { IfOk result (λ _.
         Adds (AreParts (IsLine g.now rows.now) (length g.now.ids)) text.old.items text.new.items) }
 {
-    let count = g.node_count();
     for s in 0..count {
         push_line(text, g, rows, NodeNo::new(s))?;
     }

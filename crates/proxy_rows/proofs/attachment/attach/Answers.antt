@@ -1,16 +1,24 @@
-use Rattle.std.proofs.Common.{◌≡◌, ◌∙◌, false, inl, inr, sym, subst, arith}
-use Rattle.std.proofs.lemmas.Bool.{cases_lt}
+use Rattle.std.proofs.Common.{◌≡◌, ◌<◌, ◌∙◌, List, false, slice_get, length, inl, inr, refl, sym, ap, subst, arith}
+use Rattle.std.proofs.lemmas.Bool.{cases_lt, true≢false}
+use Rattle.mrt_graph.specs.declared.cert.CertNode.{CertNode}
+use Rattle.proxy_rows.specs.declared.attachment.Attachment.{Attachment}
 use Rattle.proxy_rows.specs.Attachment.{IsAttachment}
-use Rattle.proxy_rows.proofs.Attaching.{are_apart, attached, attached_turned, orders_differ}
+use Rattle.proxy_rows.proofs.Attaching.{are_apart, attached, attached_turned, head_there, orders_differ, unrelated_is}
 use Rattle.proxy_rows.proofs.attachment.attach.Goals as goal
 
+pub returns-then-are_apart-clause-none : goal.returns-then-are_apart-clause-none
+returns-then-are_apart-clause-none c cert same =
+    let at_a = ap (λ (nodes : List CertNode). slice_get nodes c.args.a) same ∙ c.node_at-one.ensures in
+    let at_b = ap (λ (nodes : List CertNode). slice_get nodes c.args.b) same ∙ c.node_at-other.ensures in
+    let is = unrelated_is cert c.args.a c.args.b c.node_at-one.result c.node_at-other.result at_a at_b in
+    (λ none. is ∙ sym c.are_apart.ensures ∙ c.if-are_apart.true, λ unrelated. refl)
+
 pub returns-clause-found : goal.returns-clause-found
-returns-clause-found c g accepted =
-    let cert = c.args.c.now in
-    let one = c.node-one.result in
-    let other = c.node-other.result in
-    let at_a = c.node-one.ensures.value in
-    let at_b = c.node-other.ensures.value in
+returns-clause-found c g cert same accepted =
+    let one = c.node_at-one.result in
+    let other = c.node_at-other.result in
+    let at_a = ap (λ (nodes : List CertNode). slice_get nodes c.args.a) same ∙ c.node_at-one.ensures in
+    let at_b = ap (λ (nodes : List CertNode). slice_get nodes c.args.b) same ∙ c.node_at-other.ensures in
     let differ = orders_differ g cert accepted c.args.a c.args.b one other at_a at_b c.requires.different in
     let near : are_apart c.args.a c.args.b one other ≡ false = sym c.are_apart.ensures ∙ c.if-are_apart.false in
     elim (cases_lt one.order other.order) [
@@ -19,3 +27,26 @@ returns-clause-found c g accepted =
       | inr above ↦ subst (IsAttachment cert c.args.a c.args.b) (sym (c.in_order.ensures.descending above))
           (attached_turned g cert accepted c.args.a c.args.b one other at_a at_b c.requires.different near (omega (arith, above, differ)))
     ]
+
+pub returns-clause-head : goal.returns-clause-head
+returns-clause-head c g cert same accepted =
+    let one = c.node_at-one.result in
+    let other = c.node_at-other.result in
+    let at_a = ap (λ (nodes : List CertNode). slice_get nodes c.args.a) same ∙ c.node_at-one.ensures in
+    let at_b = ap (λ (nodes : List CertNode). slice_get nodes c.args.b) same ∙ c.node_at-other.ensures in
+    let count : length cert.nodes ≡ length c.args.nodes.now = ap length same in
+    elim (cases_lt one.order other.order) [
+      | inl less ↦ subst (λ (at : Attachment). at.head < length c.args.nodes.now) (sym (c.in_order.ensures.ascending less))
+          (omega (arith, head_there g cert accepted c.args.b other at_b, count))
+      | inr above ↦ subst (λ (at : Attachment). at.head < length c.args.nodes.now) (sym (c.in_order.ensures.descending above))
+          (omega (arith, head_there g cert accepted c.args.a one at_a, count))
+    ]
+
+pub returns-clause-none : goal.returns-clause-none
+returns-clause-none c cert same =
+    let at_a = ap (λ (nodes : List CertNode). slice_get nodes c.args.a) same ∙ c.node_at-one.ensures in
+    let at_b = ap (λ (nodes : List CertNode). slice_get nodes c.args.b) same ∙ c.node_at-other.ensures in
+    let is = unrelated_is cert c.args.a c.args.b c.node_at-one.result c.node_at-other.result at_a at_b in (
+      λ none. absurd (cc),
+      λ unrelated. absurd (true≢false (sym unrelated ∙ is ∙ sym c.are_apart.ensures ∙ c.if-are_apart.false)),
+    )

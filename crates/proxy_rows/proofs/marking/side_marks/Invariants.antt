@@ -3,12 +3,13 @@ use Rattle.mrt_graph.specs.Search.{left_of}
 use Rattle.mrt_graph.proofs.Searching.{Searches}
 use Rattle.proxy_rows.specs.Sides.{router_of}
 use Rattle.proxy_rows.specs.Steps.{StepsTo}
+use Rattle.proxy_rows.specs.Words.{without_rows}
 use Rattle.proxy_rows.proofs.marking.side_marks.Given as goal
 
 abbrev pub invariant-loop-v : goal.invariant-loop-v
 invariant-loop-v l = record {
-  count : length l.search.marks ≡ length l.g.ids;
-  search : Searches (StepsTo l.g l.c l.at l.fn.side) (router_of l.at l.fn.side) l.search;
+  count : length l.search.marks ≡ length l.words.graph.now.ids;
+  search : Searches (StepsTo l.words.graph.now (without_rows l.words) l.at l.fn.side) (router_of l.at l.fn.side) l.search;
 }
 
 abbrev pub decreases-loop-v : goal.decreases-loop-v

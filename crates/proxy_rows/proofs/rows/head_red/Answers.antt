@@ -1,16 +1,24 @@
-use Rattle.std.proofs.Common.{ℕ, sym, subst}
-use Rattle.mrt_graph.specs.declared.cert.Color.TheVariants.{Red}
-use Rattle.mrt_graph.specs.Certificate.{row_of}
 use Rattle.proxy_rows.specs.declared.proxy_row.Out.TheVariants as outs
-use Rattle.proxy_rows.specs.ProxyRows.{IsHeadRed}
-use Rattle.proxy_rows.proofs.BlockRows.{link_is, to_high}
-use Rattle.proxy_rows.proofs.HeadLinks.{head_red}
+use Rattle.proxy_rows.specs.Ends.{IsNotPlain}
+use Rattle.proxy_rows.specs.Words.{with_rows, without_rows}
+use Rattle.proxy_rows.proofs.AnyRows.{none_too, red_too}
+use Rattle.proxy_rows.proofs.HeadLinks.{red_if_not_plain}
+use Rattle.proxy_rows.proofs.SideEnds.{closing_end}
 use Rattle.proxy_rows.proofs.rows.head_red.Goals as goal
 
-pub returns : goal.returns
-returns c g ground =
-    let cert = c.args.c.now in
+pub unreachable-requires : goal.unreachable-requires
+unreachable-requires c =
+    let words = c.args.words.now in
+    let cert = with_rows words c.requires.ground.rest in
     let at = c.args.at.now in
-    let red = to_high g cert at ground in
-    let same = link_is g.links (row_of cert) Red at.upper at.head c.row.result red.hop c.row.ensures.value red.is in
-    subst (λ (e : ℕ). IsHeadRed cert at (outs.Link e)) (sym same) (head_red g cert at ground)
+    closing_end words.graph.now cert at c.requires.ground.stands
+    (none_too words.graph.now (IsNotPlain (without_rows words) at) (IsNotPlain cert at)
+    (λ end asked. record { of_block = asked.of_block; not_plain = asked.not_plain }) at.head c.in-None.ensures.none)
+
+pub returns : goal.returns
+returns c rest =
+    let words = c.args.words.now in
+    let own = c.requires.ground.rest in
+    let asked = c.in-Some.ensures.some in
+    red_too words c.args.at.now own rest (outs.Link c.in-Some.end.link)
+    (red_if_not_plain words.graph.now (with_rows words own) c.args.at.now c.requires.ground.stands c.in-Some.end.link asked.of_block asked.not_plain)

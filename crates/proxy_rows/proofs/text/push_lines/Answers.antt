@@ -1,25 +1,17 @@
 use Rattle.std.proofs.Common.{ℕ, subst, arith}
 use Rattle.text_parts.specs.Adds.{Adds}
 use Rattle.text_parts.proofs.Adding.{one_part_more}
-use Rattle.proxy_rows.specs.Ground.{IsGround}
 use Rattle.proxy_rows.specs.ProxyText.{IsLine}
-use Rattle.proxy_rows.proofs.Touching.{touches}
 use Rattle.proxy_rows.proofs.text.push_lines.Goals as goal
 
 pub push_line-requires : goal.push_line-requires
-push_line-requires c =
-    let g = c.args.g.now in
-    let cert = c.args.c.now in
-    let are = c.requires.rows in
-    let ground : IsGround g cert are.at =
-    record { kept = c.node_count-count.ensures.kept; accepted = c.requires.accepted; a = c.args.a; b = c.args.b; attached = are.attached } in
-    record {
-      kept = c.node_count-count.ensures.kept;
-      within = omega (arith, c.loop-s-test.true, c.new.ensures, c.node_count-count.ensures.count);
-      one_each = are.rows.one_each;
-      blue = λ row at. (touches g cert are.at ground c.new.result row (are.rows.each c.new.result row at)).0;
-      red = λ row at. (touches g cert are.at ground c.new.result row (are.rows.each c.new.result row at)).1;
-    }
+push_line-requires c = record {
+  kept = c.requires.kept;
+  within = omega (arith, c.loop-s-test.true, c.new.ensures, c.requires.count);
+  one_each = c.requires.rows.one_each;
+  blue = λ row at. c.requires.rows.blue c.new.result row at;
+  red = λ row at. c.requires.rows.red c.new.result row at;
+}
 
 pub loop-s-preserved : goal.loop-s-preserved
 loop-s-preserved c =

@@ -1,0 +1,49 @@
+-- What is read of a certificate: its words on nodes and links, and its rows for one node.
+use Rattle.std.specs.Prelude.{◌≡◌, ◌<◌, ℕ, List, [], length}
+use Rattle.mrt_graph.specs.declared.cert.CertLink.{CertLink}
+use Rattle.mrt_graph.specs.declared.cert.CertNode.{CertNode}
+use Rattle.mrt_graph.specs.declared.cert.Row.{Row}
+use Rattle.mrt_graph.specs.AcceptedFor.{IsAcceptedFor}
+use Rattle.mrt_graph.specs.Certificate.{Certificate, certificate_of, row_of}
+use Rattle.mrt_graph.specs.Rows.{Rows}
+use Rattle.mrt_graph.specs.Topology.{Topology}
+use Rattle.proxy_rows.specs.declared.attachment.Attachment.{Attachment}
+use Rattle.proxy_rows.specs.declared.side.Side.{Side}
+use Rattle.proxy_rows.specs.declared.words.Words.{Words}
+use Rattle.proxy_rows.specs.Attachment.{IsAttachment}
+use Rattle.proxy_rows.specs.Ground.{IsGround}
+use Rattle.proxy_rows.specs.Sides.{IsIn}
+
+-- a certificate that is accepted for the graph, with an attachment of two routers: it has these words on nodes and links,
+-- and these rows of all nodes for the head of the attachment
+pub record ReadFrom (g : Topology) (nodes : List CertNode) (links : List CertLink) (at : Attachment) (rows : Rows) : Type 0 where
+  pub cert : Certificate
+  pub a : ℕ
+  pub b : ℕ
+  pub accepted : IsAcceptedFor g cert
+  pub attached : IsAttachment cert a b at
+  pub nodes_are : cert.nodes ≡ nodes
+  pub links_are : cert.links ≡ links
+  pub rows_are : (s : ℕ) → s < length g.ids → row_of cert s at.head ≡ rows s at.head
+
+-- a certificate of these words and some rows
+abbrev pub with_rows : Words → List Row → Certificate
+with_rows words rest = certificate_of words.nodes.now words.links.now rest
+
+-- one without rows: it says of nodes and links what each certificate of these words says
+abbrev pub without_rows : Words → Certificate
+without_rows words = with_rows words []
+
+-- s is on a side of the block
+abbrev pub IsOn : Words → Attachment → Side → ℕ → Type 0
+IsOn words at side s = IsIn words.graph.now.links (without_rows words) at side s
+
+-- with some rows the words are a certificate that is accepted for the graph and has the attachment
+pub record AreAccepted (words : Words) (at : Attachment) : Type 0 where
+  pub rest : List Row
+  pub stands : IsGround words.graph.now (with_rows words rest) at
+
+-- with these rows they are, and `rows` has of these those for the head of the attachment
+pub record AreReadWith (words : Words) (at : Attachment) (rows : Rows) (rest : List Row) : Type 0 where
+  pub stands : IsGround words.graph.now (with_rows words rest) at
+  pub rows_are : (s : ℕ) → s < length words.graph.now.ids → row_of (with_rows words rest) s at.head ≡ rows s at.head
