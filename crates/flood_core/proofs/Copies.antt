@@ -20,7 +20,7 @@ use Rattle.lsdb.proofs.Lists.{all_of_list}
 use Rattle.lsdb.proofs.Settling.{no_conflict_settled}
 use Rattle.lsdb.proofs.Stores.{installed_new}
 use Rattle.flood_core.specs.Receiving.{arrived}
-use Rattle.flood_core.specs.Runs.{AreNewestOfTheSame, numbered}
+use Rattle.flood_core.specs.Runs.{AreNewestOfTheSame, last_number, numbered}
 use Rattle.flood_core.specs.SharedStore.{IsSharedStore, lsas_in}
 use Rattle.flood_core.proofs.Stored.{kept_with_place}
 
@@ -117,7 +117,7 @@ module _ (keys : List Key) (es copy : List Entry) (greatest : Option ℕ) (is : 
   pub copied_settled : least_conflict copy ≡ None
   copied_settled = ap least_conflict copies_are ∙ quiet_alone (numbered 0 (lsas_in es))
 
-  copied_lsas : lsas_in copy ≡ numbered 0 (lsas_in es)
+  pub copied_lsas : lsas_in copy ≡ numbered 0 (lsas_in es)
   copied_lsas = ap lsas_in copies_are ∙ lsas_alone (numbered 0 (lsas_in es))
 
   pub copied_placeless : map (λ (e : Entry). without_place e.lsa) copy ≡ map (λ (e : Entry). without_place e.lsa) es
@@ -141,12 +141,17 @@ module _ (keys : List Key) (es copy : List Entry) (greatest : Option ℕ) (is : 
 pub record AreCopied (es : List Entry) (number : ℕ) (copy : Database) : Type 0 where
   pub comes : all_installed copy.entries (numbered number (lsas_in (drop number es)))
       ≡ all_installed [] (numbered 0 (lsas_in es))
-  pub behind : (at : ℕ) → number ≤ at → IsBehind copy.greatest at
+  pub last : copy.greatest ≡ last_number number
+
+-- a number comes after the last one before it
+pub behind_last : (number : ℕ) → IsBehind (last_number number) number
+behind_last zero = tt
+behind_last (suc number) = omega arith
 
 pub copied_none : (es : List Entry) (copy : Database) → copy.entries ≡ [] → copy.greatest ≡ None → AreCopied es 0 copy
 copied_none es copy none nothing = record {
   comes = ap (λ (list : List Entry). all_installed list (numbered 0 (lsas_in es))) none;
-  behind = λ at le. subst (λ (g : Option ℕ). IsBehind g at) (sym nothing) tt;
+  last = nothing;
 }
 
 drop_next : (es : List Entry) (i : ℕ) (e : Entry) → i < length es → e ≡ get_or es i e → drop i es ≡ e ∷ drop (i + 1) es
@@ -163,8 +168,7 @@ copied_more es number copy after lsa e inside is copied so_far grown last = reco
       ∙ ap (λ (list : List Entry). all_installed copy.entries (numbered number (lsas_in list)))
       (sym (drop_next es number e inside is))
       ∙ so_far.comes;
-  behind = λ at le. subst (λ (g : Option ℕ). IsBehind g at) (sym last)
-      (omega (arith, le, ap (λ (l : Lsa). l.at) copied));
+  last = last ∙ ap (λ (l : Lsa). Some l.at) copied ∙ ap last_number (sym (add-one number));
 }
 
 pub copied_all : (es : List Entry) (number : ℕ) (copy : Database) → length es ≤ number → AreCopied es number copy

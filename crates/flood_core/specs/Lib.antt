@@ -5,6 +5,7 @@ pub mod UpdateOutcome
 pub mod Reading
 pub mod Databases
 pub mod Receiving
+pub mod Noting
 pub mod SharedStore
 pub mod FloodState
 pub mod FloodStep

@@ -1,6 +1,6 @@
 -- Runs of deliveries, and what they bring to a router. A packet that is sent on may be delivered to any router, at any
 -- time, or never.
-use Rattle.std.specs.Prelude.{◌≡◌, ◌<◌, ◌≤◌, ◌+◌, ◌++◌, ◌==◌, ◌&&◌, ◌⊎◌, ℕ, Bool, List, [], ◌∷◌, Some, None, length, slice_get, if◌then◌else◌}
+use Rattle.std.specs.Prelude.{◌≡◌, ◌<◌, ◌≤◌, ◌+◌, ◌++◌, ◌==◌, ◌&&◌, ◌⊎◌, ℕ, zero, suc, Bool, List, [], ◌∷◌, Option, Some, None, length, slice_get, if◌then◌else◌}
 use Rattle.std.specs.List.{AllByRecursion, flat_map}
 use Rattle.std.specs.Option.{option_map_or}
 use Rattle.std.specs.Ordering.{is_eq}
@@ -50,6 +50,11 @@ brought state (delivery ∷ deliveries) router =
 abbrev pub numbered : ℕ → List Lsa → List Lsa
 numbered number [] = []
 numbered number (lsa ∷ lsas) = arrived number lsa ∷ numbered (number + 1) lsas
+
+-- the last of so many numbers from 0, if there is one
+abbrev pub last_number : ℕ → Option ℕ
+last_number zero = None
+last_number (suc number) = Some number
 
 -- what deliveries of a file's packets to so many routers brought to a router: the LSAs of types 1 and 2 of all packets
 -- that were delivered to it, in the order of delivery, with arrival numbers

@@ -1,10 +1,11 @@
 //! What a router's database has of a key.
 
-ghost use Rattle.std.specs.Prelude.{◌≡◌, None, IfOk};
+ghost use Rattle.std.specs.Prelude.{◌≡◌, ◌<◌, ◌-◌, ◌^◌, None, IfOk};
 ghost use Rattle.std.specs.Option.{is_some};
 ghost use Rattle.lsdb.specs.Installing.{change_of, changed, noted};
 ghost use Rattle.flood_core.specs.Receiving.{arrived};
 
+use crate::noted::Noted;
 use crate::shared_lsa::SharedLsa;
 use lsdb::{Change, change_of};
 use mrt_graph::NoMemory;
@@ -18,7 +19,7 @@ use std::marker::Model;
 pub struct Held {
     lsa: SharedLsa,
     at: u32,
-    differing: Option<u32>,
+    differing: Noted,
 }
 
 impl Model for Held {
@@ -37,12 +38,13 @@ impl Held {
         Held {
             lsa,
             at,
-            differing: None,
+            differing: Noted::none(),
         }
     }
 
     /// Lets an instance of the key with this place meet the one that is there, and tells what it changed.
     pub fn meet(&mut self, lsa: SharedLsa, at: u32) -> Change
+        requires { at < 2 ^ 32 - 1 }
         ensures change { result ≡ change_of self.old.lsa (arrived at lsa) }
         ensures after { self.new ≡ changed self.old (arrived at lsa) (change_of self.old.lsa (arrived at lsa)) }
     {
@@ -53,6 +55,7 @@ impl Held {
 
     /// Changes what is held.
     fn turn(&mut self, lsa: SharedLsa, at: u32, change: Change)
+        requires { at < 2 ^ 32 - 1 }
         ensures { self.new ≡ changed self.old (arrived at lsa) change }
     {
         match change {
@@ -64,10 +67,11 @@ impl Held {
 
     /// Notes the place of a differing instance, where none was noted.
     fn note(&mut self, at: u32)
+        requires { at < 2 ^ 32 - 1 }
         ensures { self.new ≡ noted self.old at }
     {
-        if self.differing.is_none() {
-            self.differing = Some(at);
+        if !self.differing.is_some() {
+            self.differing = Noted::of(at);
         }
     }
 

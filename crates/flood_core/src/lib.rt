@@ -11,6 +11,7 @@ mod error;
 mod field;
 mod flood;
 mod held;
+mod noted;
 mod packet;
 mod reading;
 mod router;

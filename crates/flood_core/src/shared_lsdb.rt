@@ -1,11 +1,11 @@
 //! A router's database.
 
-ghost use Rattle.std.specs.Prelude.{◌≡◌, ◌↔◌, [], None, Some, IfOk, OnOk, IsTrue, map};
+ghost use Rattle.std.specs.Prelude.{◌≡◌, ◌<◌, ◌-◌, ◌^◌, ◌↔◌, [], None, Some, IfOk, OnOk, IsTrue, length, map};
 ghost use Rattle.lsdb.specs.Conflicts.{least_conflict};
 ghost use Rattle.lsdb.specs.Installing.{installed, IsBehind, IsKept};
 ghost use Rattle.lsdb.specs.Orders.{without_place};
 ghost use Rattle.flood_core.specs.Receiving.{arrived};
-ghost use Rattle.flood_core.specs.Runs.{AreNewestOfTheSame};
+ghost use Rattle.flood_core.specs.Runs.{AreNewestOfTheSame, last_number, numbered};
 
 use crate::held::Held;
 use crate::shared_lsa::SharedLsa;
@@ -56,6 +56,7 @@ impl SharedLsdb {
     pub(crate) fn install(&mut self, lsa: &SharedLsa, at: u32) -> Result<Change, NoMemory>
         requires kept { IsKept lsa.now }
         requires behind { IsBehind self.old.greatest at }
+        requires small { at < 2 ^ 32 - 1 }
         ensures change { IfOk result (λ change. change ≡ (installed self.old.entries (arrived at lsa.now)).1) }
         ensures entries { OnOk result (self.new.entries ≡ (installed self.old.entries (arrived at lsa.now)).0) }
         ensures greatest { OnOk result (self.new.greatest ≡ Some at) }
@@ -85,7 +86,8 @@ impl SharedLsdb {
         true
     }
 
-    /// A settled database of copies of the first newest instances, each with its number in their order as its place.
+    /// A settled database of copies of the first newest instances of a settled one, each with its number in their order
+    /// as its place.
     ///
     /// It takes time and memory in proportion to their bytes.
     ///
@@ -93,9 +95,13 @@ impl SharedLsdb {
     ///
     /// [`NoMemory`] where there was none for the copies.
     pub fn copied(&self, alloc: Global) -> Result<Lsdb, NoMemory>
+        requires { least_conflict self.now.entries ≡ None }
         ensures settled { IfOk result (λ copy. least_conflict copy.entries ≡ None) }
         ensures newest { IfOk result (λ copy. map (λ entry. without_place entry.lsa) copy.entries
             ≡ map (λ entry. without_place entry.lsa) self.now.entries) }
+        ensures places { IfOk result (λ copy. map (λ entry. entry.lsa) copy.entries
+            ≡ numbered 0 (map (λ entry. entry.lsa) self.now.entries)) }
+        ensures greatest { IfOk result (λ copy. copy.greatest ≡ last_number (length self.now.entries)) }
         ensures of_the_same { IfOk result (λ copy. AreNewestOfTheSame (map (λ entry. entry.lsa) self.now.entries)
             (map (λ entry. entry.lsa) copy.entries)) }
     {
