@@ -1,28 +1,36 @@
 //! Which entries are arcs.
 
-ghost use Rattle.std.specs.Prelude.{◌≡◌, IfOk, IfErr};
+ghost use Rattle.std.specs.Prelude.{◌≡◌, ◌⊎◌, IfOk, IfErr, length};
 ghost use Rattle.std.specs.List.{filter};
 ghost use Rattle.std.specs.List.Sorted.{IsSorted};
 ghost use Rattle.area_graph.specs.NumberedArcs.{arcs_among, is_arc, pairing_cmp};
 ghost use Rattle.mrt_graph.specs.InOrder.{in_order};
 ghost use Rattle.area_graph.specs.Listed.{AreApart};
 ghost use Rattle.area_graph.specs.Ways.{IsFirstOf};
+ghost use Rattle.area_graph.specs.AreaSize.{IsTooLarge, TellsTooLarge};
 
 use crate::area_error::AreaError;
 use crate::entry::NumberedEntry;
+use crate::size::check_size;
 use std::alloc::Global;
 
-/// The entries that are arcs, ordered by tail, far node, link data and place.
+/// The entries that are arcs, ordered by tail, far node, link data and place, where with so many nodes they are no more
+/// than an area may have. They are counted before there is a list of them.
 pub fn arcs_by_way(
     alloc: Global,
+    nodes: usize,
     mut entries: Vec<NumberedEntry>,
 ) -> Result<Vec<NumberedEntry>, AreaError>
     requires { AreApart entries.items }
     ensures arcs { IfOk result (λ arcs. arcs.items ≡ arcs_among entries.items) }
-    ensures refused { IfErr result (λ error. error ≡ AreaError.NoMemory) }
+    ensures within { IfOk result (λ arcs. IsTooLarge nodes (length arcs.items) → ⊥) }
+    ensures refused { IfErr result (λ error. (error ≡ AreaError.NoMemory)
+        ⊎ TellsTooLarge nodes (length (arcs_among entries.items)) error) }
 {
     sort_by_way(&mut entries);
-    answered(alloc, entries.as_slice())
+    let count = arc_count(entries.as_slice());
+    check_size(nodes, count)?;
+    answered(alloc, entries.as_slice(), count)
 }
 
 /// Orders entries by tail, far node, link data and place.
@@ -33,13 +41,29 @@ fn sort_by_way(entries: &mut Vec<NumberedEntry>)
     entries.sort_unstable_by_key(|entry| (entry.tail, entry.far, entry.link_data, entry.place));
 }
 
-/// The entries, in their order, that an entry leads back for.
-fn answered(alloc: Global, entries: &[NumberedEntry]) -> Result<Vec<NumberedEntry>, AreaError>
+/// How many of the entries an entry leads back for.
+fn arc_count(entries: &[NumberedEntry]) -> usize
+    requires { IsSorted pairing_cmp entries.now }
+    ensures { result ≡ length (filter (is_arc entries.now) entries.now) }
+{
+    let mut count = 0;
+    for entry in entries {
+        count += is_answered(entries, *entry) as usize;
+    }
+    count
+}
+
+/// The entries, in their order, that an entry leads back for, which are so many.
+fn answered(
+    alloc: Global,
+    entries: &[NumberedEntry],
+    count: usize,
+) -> Result<Vec<NumberedEntry>, AreaError>
     requires { IsSorted pairing_cmp entries.now }
     ensures arcs { IfOk result (λ arcs. arcs.items ≡ filter (is_arc entries.now) entries.now) }
     ensures refused { IfErr result (λ error. error ≡ AreaError.NoMemory) }
 {
-    let mut arcs = Vec::with_capacity(alloc, entries.len())?;
+    let mut arcs = Vec::with_capacity(alloc, count)?;
     for entry in entries {
         if is_answered(entries, *entry) {
             arcs.push(*entry)?;
@@ -61,7 +85,7 @@ fn is_answered(entries: &[NumberedEntry], entry: NumberedEntry) -> bool
 }
 
 /// How many entries stand before those that lead from `tail` to `far`.
-pub fn first_of(entries: &[NumberedEntry], tail: usize, far: usize) -> usize
+pub fn first_of(entries: &[NumberedEntry], tail: u32, far: u32) -> usize
     requires { IsSorted pairing_cmp entries.now }
     ensures { IsFirstOf tail far entries.now result }
 {

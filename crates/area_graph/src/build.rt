@@ -1,6 +1,6 @@
 //! From a database to its area.
 
-ghost use Rattle.std.specs.Prelude.{◌≡◌, ◌<◌, ◌≤◌, ◌-◌, ◌^◌, ◌⊎◌, None, IfOk, IfErr, length, map, min};
+ghost use Rattle.std.specs.Prelude.{◌≡◌, ◌≤◌, ◌⊎◌, None, IfOk, IfErr, length, map};
 ghost use Rattle.std.specs.List.{AllByRecursion};
 ghost use Rattle.lsdb.specs.Conflicts.{least_conflict};
 ghost use Rattle.area_graph.specs.AreaOf.{area_of};
@@ -20,12 +20,6 @@ use lsdb::Lsdb;
 use mrt_graph::NodeId;
 use std::alloc::Global;
 
-/// The most nodes that an area may have.
-const MAX_NODES: usize = 4096;
-
-/// The most arcs that it may have.
-const MAX_ARCS: usize = 32768;
-
 /// The area that the newest LSAs of a settled database give (RFC 2328, section 16.1).
 ///
 /// Its nodes are the routers of live router-LSAs, and the networks of live network-LSAs; of several of one network that
@@ -34,7 +28,8 @@ const MAX_ARCS: usize = 32768;
 /// the router, and that by the link. For two nodes the arcs of each direction are put in order of link data, then of
 /// place in the LSA, and the k-th of one makes a pair with the k-th of the other.
 ///
-/// It takes the time of sorting the entries of all LSAs twice, and of a binary search in them for each entry.
+/// It takes the time of sorting the entries of all LSAs twice, and of two binary searches in them for each entry; memory
+/// beside the area for a list of the entries.
 ///
 /// # Example
 ///
@@ -70,23 +65,8 @@ pub fn build_area(alloc: Global, database: &Lsdb) -> Result<Area, AreaError>
         ⊎ TellsTooLarge (length area.ids) (length area.arcs) error) }
 {
     let Listing { ids, entries } = listing(alloc, database.newest())?;
-    let by_way = arcs_by_way(alloc, entries)?;
-    check_size(&ids, &by_way)?;
+    let by_way = arcs_by_way(alloc, ids.len(), entries)?;
     area_of_arcs(alloc, ids, &by_way)
-}
-
-/// Refuses more nodes or arcs than an area may have.
-fn check_size(ids: &[NodeId], by_way: &[NumberedEntry]) -> Result<(), AreaError>
-    ensures within { IfOk result (λ _. IsTooLarge (length ids.now) (length by_way.now) → ⊥) }
-    ensures refused { IfErr result (λ error. TellsTooLarge (length ids.now) (length by_way.now) error) }
-{
-    if ids.len() > MAX_NODES || by_way.len() > MAX_ARCS {
-        return Err(AreaError::TooLarge {
-            nodes: told(ids.len()),
-            arcs: told(by_way.len()),
-        });
-    }
-    Ok(())
 }
 
 /// The area of these nodes and arcs, which are in the order in which they are paired.
@@ -105,11 +85,4 @@ fn area_of_arcs(
     let paired = pair_arcs(alloc, by_way)?;
     let starts = starts(alloc, ids.len(), &paired.arcs)?;
     Ok(Area::of_parts(ids, paired.arcs, starts, paired.bonds))
-}
-
-/// A count as a number of 32 bits, the greatest one where it is greater.
-fn told(count: usize) -> u32
-    ensures { result ≡ min count (2 ^ 32 - 1) }
-{
-    count.min(u32::MAX as usize) as u32
 }

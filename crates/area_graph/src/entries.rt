@@ -1,6 +1,6 @@
 //! What LSAs list, as entries.
 
-ghost use Rattle.std.specs.Prelude.{◌≡◌, ◌+◌, ◌<◌, ◌≤◌, ◌++◌, IfOk, IfErr, IfSome, OnOk, length, vec_len, vec_capacity};
+ghost use Rattle.std.specs.Prelude.{◌≡◌, ◌+◌, ◌<◌, ◌≤◌, ◌^◌, ◌++◌, IfOk, IfErr, IfSome, OnOk, length, vec_len, vec_capacity};
 ghost use Rattle.std.specs.List.{AllByRecursion, AllZip};
 ghost use Rattle.std.specs.List.Sorted.{IsStrictlySortedBy};
 ghost use Rattle.std.specs.Option.{option_and_then, option_to_list};
@@ -36,11 +36,43 @@ pub fn entries(
     ensures entries { IfOk result (λ found. found.items ≡ entries_from ids.now 0 (all_speakers lsas.now)) }
     ensures refused { IfErr result (λ error. error ≡ AreaError.NoMemory) }
 {
-    let mut found = Vec::new(alloc);
+    check_numbers(ids.len())?;
+    check_numbers(speakers.len())?;
+    let mut found = Vec::with_capacity(alloc, listed_by(lsas, speakers))?;
     for (tail, speaker) in speakers.iter().enumerate() {
         add_entries(&mut found, ids, tail, speaker.id, &lsas[speaker.at].body)?;
     }
     Ok(found)
+}
+
+/// Refuses more nodes, or more links or routers of an LSA, than 32 bits number, for which there is no memory either.
+fn check_numbers(count: usize) -> Result<(), AreaError>
+    ensures few { OnOk result (count < 2 ^ 32) }
+    ensures refused { IfErr result (λ error. error ≡ AreaError.NoMemory) }
+{
+    if count > u32::MAX as usize {
+        return Err(AreaError::NoMemory);
+    }
+    Ok(())
+}
+
+/// How many links and routers the LSAs list that speak for the nodes, so that there is room for an entry of each at once.
+fn listed_by(lsas: &[Lsa], speakers: &[Speaker]) -> usize {
+    let mut count = 0usize;
+    for speaker in speakers {
+        if let Some(lsa) = lsas.get(speaker.at) {
+            count = count.saturating_add(listed_in(&lsa.body));
+        }
+    }
+    count
+}
+
+fn listed_in(body: &Body) -> usize {
+    match body {
+        Body::Router { links, .. } => links.as_slice().len(),
+        Body::Network { routers, .. } => routers.as_slice().len(),
+        Body::Other { .. } => 0,
+    }
 }
 
 /// Adds the entries of the LSA that speaks for node number `tail`, which is `own`.
@@ -52,6 +84,8 @@ fn add_entries(
     body: &Body,
 ) -> Result<(), AreaError>
     requires ascend { IsStrictlySortedBy node_id_cmp ids.now }
+    requires few { length ids.now < 2 ^ 32 }
+    requires tail { tail < 2 ^ 32 }
     ensures entries { OnOk result (found.new.items ≡ found.old.items ++ by_number ids.now tail (entries_of own body.now)) }
     ensures refused { IfErr result (λ error. error ≡ AreaError.NoMemory) }
 {
@@ -71,9 +105,12 @@ fn add_links(
     links: &[RouterLink],
 ) -> Result<(), AreaError>
     requires ascend { IsStrictlySortedBy node_id_cmp ids.now }
+    requires few { length ids.now < 2 ^ 32 }
+    requires tail { tail < 2 ^ 32 }
     ensures entries { OnOk result (found.new.items ≡ found.old.items ++ by_number ids.now tail (entries_of_links own 0 links.now)) }
     ensures refused { IfErr result (λ error. error ≡ AreaError.NoMemory) }
 {
+    check_numbers(links.len())?;
     found.reserve(links.len())?;
     for (place, link) in links.iter().enumerate() {
         put(found, of_link(ids, tail, own, place, link));
@@ -89,9 +126,12 @@ fn add_listed(
     routers: &[u32],
 ) -> Result<(), AreaError>
     requires ascend { IsStrictlySortedBy node_id_cmp ids.now }
+    requires few { length ids.now < 2 ^ 32 }
+    requires tail { tail < 2 ^ 32 }
     ensures entries { (own : NodeId) → OnOk result (found.new.items ≡ found.old.items ++ by_number ids.now tail (entries_of_listed own 0 routers.now)) }
     ensures refused { IfErr result (λ error. error ≡ AreaError.NoMemory) }
 {
+    check_numbers(routers.len())?;
     found.reserve(routers.len())?;
     for (place, router) in routers.iter().enumerate() {
         put(found, of_listed(ids, tail, place, *router));
@@ -120,15 +160,18 @@ fn of_link(
     link: &RouterLink,
 ) -> Option<NumberedEntry>
     requires ascend { IsStrictlySortedBy node_id_cmp ids.now }
+    requires few { length ids.now < 2 ^ 32 }
+    requires tail { tail < 2 ^ 32 }
+    requires place { place < 2 ^ 32 }
     ensures { result ≡ option_and_then (numbered_entry ids.now tail) (entry_of_link own place link.now) }
 {
     let far = place_of(ids, far_end(own, link)?)?;
     Some(NumberedEntry {
-        tail,
-        far,
+        tail: tail as u32,
+        far: far as u32,
         metric: link.metric,
         link_data: link.link_data,
-        place,
+        place: place as u32,
     })
 }
 
@@ -150,6 +193,9 @@ fn far_end(own: NodeId, link: &RouterLink) -> Option<NodeId>
 /// The entry for a router that a network lists, if it is a node.
 fn of_listed(ids: &[NodeId], tail: usize, place: usize, router: u32) -> Option<NumberedEntry>
     requires ascend { IsStrictlySortedBy node_id_cmp ids.now }
+    requires few { length ids.now < 2 ^ 32 }
+    requires tail { tail < 2 ^ 32 }
+    requires place { place < 2 ^ 32 }
     ensures { (own : NodeId) → result ≡ numbered_entry ids.now tail (entry_of_listed own place router) }
 {
     let far = place_of(
@@ -160,10 +206,10 @@ fn of_listed(ids: &[NodeId], tail: usize, place: usize, router: u32) -> Option<N
         },
     )?;
     Some(NumberedEntry {
-        tail,
-        far,
+        tail: tail as u32,
+        far: far as u32,
         metric: 0,
         link_data: 0,
-        place,
+        place: place as u32,
     })
 }

@@ -14,6 +14,7 @@ mod listing;
 mod numbers;
 mod pairing;
 mod places;
+mod size;
 mod speaker;
 mod speakers;
 mod starts;
