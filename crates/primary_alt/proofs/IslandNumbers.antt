@@ -1,37 +1,68 @@
 -- The numbers of nodes and bonds in an island, one after another.
-use Rattle.std.proofs.Common.{◌≡◌, ◌≢◌, ◌<◌, ◌+◌, ◌==◌, ◌&&◌, ◌++◌, ◌∷◌, [], ◌∙◌, ◌↔◌, ◌⊎◌, ℕ, true, List, Option, Some, None, length, slice_get, inl, inr, refl, sym, ap, subst, arith}
-use Rattle.std.specs.Prelude.{Contains, IfSome, IsNone}
-use Rattle.std.proofs.lemmas.Bool.{and_parts, cases_lt, eqb-true}
+use Rattle.std.proofs.Common.{◌≡◌, ◌≢◌, ◌<◌, ◌+◌, ◌==◌, ◌&&◌, ◌++◌, ◌∷◌, [], ◌∙◌, ◌⊎◌, ℕ, true, List, Option, Some, None, length, set, slice_get, inl, inr, sym, ap, subst, arith}
+use Rattle.std.specs.List.Sorted.{IsStrictlySortedBy}
+use Rattle.std.proofs.lemmas.Bool.{and_parts, cases_eq, cases_lt, eqb-true}
 use Rattle.std.proofs.lemmas.Option.{same_Some, slice_get_within}
 use Rattle.area_graph.specs.declared.area_types.Arc.{Arc}
 use Rattle.area_graph.specs.AreaInvariant.{IsArea}
 use Rattle.area_graph.specs.Fits.{Fits, names}
 use Rattle.area_graph.specs.Parts.{AreaParts}
+use Rattle.mrt_graph.specs.NodeOrder.{node_id_cmp}
 use Rattle.mrt_graph.specs.Topology.{Topology}
 use Rattle.mrt_graph.specs.declared.node_id.NodeId.{NodeId}
-use Rattle.mrt_graph.proofs.ListPlaces.{pushed_at}
+use Rattle.mrt_graph.proofs.ListPlaces.{place_of, pushed_at, set_elsewhere, set_there}
 use Rattle.mrt_graph.proofs.ListTests.{there}
+use Rattle.mrt_graph.proofs.NodeIds.{one_place}
 use Rattle.mrt_graph.proofs.Tallies.{counted_at}
 use Rattle.primary_alt.proofs.ArcWalks.{arc_kept}
-use Rattle.primary_alt.specs.RoutesMade.{AreBondsOf, IsNodeOf}
+use Rattle.primary_alt.specs.RoutesMade.{AreAreaNodes, AreBondsOf, AreIslandNodes, IsNodeOf}
 
--- what is found is the node
-pub node_found : (ids : List NodeId) (id : NodeId) (node : Option ℕ) → IfSome node (λ n. slice_get ids n ≡ Some id) → (IsNone node ↔ (Contains ids id → ⊥)) → IsNodeOf ids id node
-node_found ids id None found none = none.0 refl
-node_found ids id (Some n) found none = found
+-- the nodes that so many island nodes are, told at these
+pub record AreNodesTo (spots : List ℕ) (nodes : List (Option ℕ)) (count : ℕ) : Type 0 where
+  pub only : (s n : ℕ) → slice_get nodes s ≡ Some (Some n) → slice_get spots n ≡ Some s
+  pub all : (n s : ℕ) → n < count → slice_get spots n ≡ Some s → (k : ℕ) × (slice_get nodes s ≡ Some (Some k))
 
--- one node more: what is told of those so far, and of the next one
-pub node_more : (ids island : List NodeId) (nodes : List (Option ℕ)) (s : ℕ) (id : NodeId) (node : Option ℕ) → length nodes ≡ s → slice_get ids s ≡ Some id
-    → IsNodeOf island id node
-    → ((k : ℕ) (own : NodeId) (o : Option ℕ) → slice_get ids k ≡ Some own → slice_get nodes k ≡ Some o → IsNodeOf island own o)
-    → (k : ℕ) (own : NodeId) (o : Option ℕ) → slice_get ids k ≡ Some own → slice_get (nodes ++ node ∷ []) k ≡ Some o → IsNodeOf island own o
-node_more ids island nodes s id node many at is so_far k own o here there' = elim (pushed_at nodes node o k there') [
-  | inl before ↦ so_far k own o here before
-  | inr last ↦
-      let place : k ≡ s = last.0 ∙ many in
-      let same : id ≡ own = same_Some id own (sym at ∙ ap (λ (i : ℕ). slice_get ids i) (sym place) ∙ here) in
-      subst (λ (x : NodeId). IsNodeOf island x o) same (subst (λ (x : Option ℕ). IsNodeOf island id x) last.1 is)
-]
+pub nodes_more : (spots : List ℕ) (nodes : List (Option ℕ)) (n s : ℕ) → slice_get spots n ≡ Some s → s < length nodes → AreNodesTo spots nodes n
+    → AreNodesTo spots (set nodes s (Some n)) (n + 1)
+nodes_more spots nodes n s is within so_far = record {
+  only = λ s' n' at. elim (cases_eq s' s) [
+    | inl same ↦
+        let here : n ≡ n' =
+        same_Some n n' (same_Some (Some n) (Some n') (sym told ∙ ap (λ (i : ℕ). slice_get (set nodes s (Some n)) i) (sym same) ∙ at)) in
+        subst (λ (k : ℕ). slice_get spots k ≡ Some s') here (is ∙ ap (λ (i : ℕ). Some i) (sym same))
+    | inr apart ↦ so_far.only s' n' (sym (set_elsewhere nodes s s' (Some n) apart) ∙ at)
+  ];
+  all = λ n' s' low is'. elim (cases_eq s' s) [
+    | inl same ↦ (n, ap (λ (i : ℕ). slice_get (set nodes s (Some n)) i) same ∙ told)
+    | inr apart ↦ elim (cases_lt n' n) [
+      | inl early ↦ let old = so_far.all n' s' early is' in (old.0, set_elsewhere nodes s s' (Some n) apart ∙ old.1)
+      | inr last ↦
+          let same : n' ≡ n = omega (arith, low, last) in
+          absurd (apart (same_Some s' s (sym is' ∙ ap (λ (i : ℕ). slice_get spots i) same ∙ is)))
+    ]
+  ];
+}
+  where
+    told : slice_get (set nodes s (Some n)) s ≡ Some (Some n)
+    told = set_there nodes s (Some n) within
+
+-- once all island nodes have told, each node of the area has its own
+pub nodes_all : (ids island : List NodeId) (spots : List ℕ) (nodes : List (Option ℕ)) → IsStrictlySortedBy node_id_cmp ids → AreAreaNodes ids island spots
+    → length nodes ≡ length ids → AreNodesTo spots nodes (length island) → AreIslandNodes ids island nodes
+nodes_all ids island spots nodes up are many told = record { one_each = many; same = λ s id node here at. is s id node here at }
+  where
+    is : (s : ℕ) (id : NodeId) (node : Option ℕ) → slice_get ids s ≡ Some id → slice_get nodes s ≡ Some node → IsNodeOf island id node
+    is s id None here at = λ has.
+        let place = place_of island id has in
+        let spot = there spots place.0 (omega (arith, are.one_each, slice_get_within island place.0 id place.1)) in
+        let same : s ≡ spot.0 = one_place ids s spot.0 id up here (are.same place.0 spot.0 id place.1 spot.1) in
+        let other = told.all place.0 spot.0 (slice_get_within island place.0 id place.1) spot.1 in
+        let clash : None ≡ Some other.0 = same_Some None (Some other.0) (sym at ∙ ap (λ (i : ℕ). slice_get nodes i) same ∙ other.1) in
+        cc
+    is s id (Some n) here at =
+        let spot = told.only s n at in
+        let own = there island n (omega (arith, are.one_each, slice_get_within spots n s spot)) in
+        own.1 ∙ ap (λ (x : NodeId). Some x) (same_Some own.0 id (sym (are.same n s own.0 own.1 spot) ∙ here))
 
 pub spot_more : (ids island : List NodeId) (spots : List ℕ) (n : ℕ) (id : NodeId) (spot : ℕ) → length spots ≡ n → slice_get island n ≡ Some id → slice_get ids spot ≡ Some id
     → ((k s : ℕ) (own : NodeId) → slice_get island k ≡ Some own → slice_get spots k ≡ Some s → slice_get ids s ≡ Some own)

@@ -7,9 +7,11 @@ pub mod BackwardSteps
 pub mod Beginning
 pub mod ColorSteps
 pub mod ColorsUse
+pub mod ColumnsGive
+pub mod ColumnsRead
 pub mod DistancesExist
 pub mod DistancesFound
-pub mod FirstRows
+pub mod FirstColumns
 pub mod FirstsByDistances
 pub mod FirstsFound
 pub mod HopsArrive
@@ -25,6 +27,4 @@ pub mod RoutesGiven
 pub mod RowRelaxed
 pub mod RowsInto
 pub mod SecondsFound
-pub mod TableGives
-pub mod TableRows
 pub mod TurnedWalks

@@ -23,10 +23,8 @@ pub record AreBetween (count : ℕ) (arcs : List Arc) : Type 0 where
   pub tails : (k : ℕ) (arc : Arc) → slice_get arcs k ≡ Some arc → arc.tail < count
   pub tos : (k : ℕ) (arc : Arc) → slice_get arcs k ≡ Some arc → arc.to < count
 
--- after the first arcs that were there, of each of that many nodes the first of its arcs that attains its distance
-pub record AreRowsAfter (arcs : List Arc) (starts : List ℕ) (distances : List (Option ℕ)) (before after : List (Option ℕ))
-    (count : ℕ) : Type 0 where
-  pub many : length after ≡ length before + count
-  pub kept : (i : ℕ) → i < length before → slice_get after i ≡ slice_get before i
-  pub row : (x : ℕ) → x < count → IsFirstToAttain arcs (slice_index_or starts x 0) (slice_index_or starts (x + 1) 0)
-      distances (slice_index_or after (length before + x) None)
+-- of each node the first of its arcs that attains its distance
+pub record AreFirstToAttain (arcs : List Arc) (starts : List ℕ) (distances firsts : List (Option ℕ)) : Type 0 where
+  pub one_each : length firsts ≡ length distances
+  pub each : (x : ℕ) → x < length distances → IsFirstToAttain arcs (slice_index_or starts x 0) (slice_index_or starts (x + 1) 0)
+      distances (slice_index_or firsts x None)

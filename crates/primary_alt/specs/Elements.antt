@@ -1,5 +1,5 @@
 -- What may fail in an island.
-use Rattle.std.specs.Prelude.{◌<◌, ℕ, length}
+use Rattle.std.specs.Prelude.{◌<◌, length}
 use Rattle.mrt_graph.specs.declared.link.Element.{Element}
 use Rattle.mrt_graph.specs.declared.link.Element.TheVariants as elements
 use Rattle.mrt_graph.specs.Topology.{Topology}

@@ -7,7 +7,7 @@ use Rattle.mrt_graph.specs.Topology.{Topology}
 use Rattle.mrt_graph.specs.declared.node_id.NodeId.{NodeId}
 use Rattle.primary_alt.specs.declared.shortest.Primary.{Primary}
 use Rattle.primary_alt.specs.Primaries.{IsPrimary}
-use Rattle.primary_alt.specs.RouteLists.{RouteLists, primary_at}
+use Rattle.primary_alt.specs.RouteLists.{HasColumn, RouteLists, primary_at}
 use Rattle.primary_alt.specs.Routers.{IsRouter}
 
 -- the node of that identifier among these; none where no node has it
@@ -32,19 +32,25 @@ pub record AreBondsOf (count : ℕ) (links : List (Option ℕ)) (bonds : List �
   pub one_each : length bonds ≡ count
   pub names : (e b : ℕ) → slice_get bonds e ≡ Some b → slice_get links b ≡ Some (Some e)
 
--- of each two nodes of the area an entry: of a router its primary, of a network none
-pub record AreAllPrimaries (area : AreaParts) (routes : RouteLists) : Type 0 where
-  pub a_row_each : length routes.primaries ≡ length area.ids
-  pub an_entry_each : (x : ℕ) (row : List (Option Primary)) → slice_get routes.primaries x ≡ Some row
-      → length row ≡ length area.ids
-  pub routers : (x t : ℕ) → IsRouter area.ids x → t < length area.ids → IsPrimary area x t (primary_at routes x t)
+-- of each node of the area a place for its column; a column has an entry of each node: of a router its primary, of a
+-- network none
+pub record AreColumns (area : AreaParts) (routes : RouteLists) : Type 0 where
+  pub a_place_each : length routes.primaries ≡ length area.ids
+  pub an_entry_each : (t : ℕ) (column : List (Option Primary)) → slice_get routes.primaries t ≡ Some (Some column)
+      → length column ≡ length area.ids
+  pub routers : (x t : ℕ) → IsRouter area.ids x → HasColumn routes t → IsPrimary area x t (primary_at routes x t)
   pub networks : (x t : ℕ) → IsNetwork area.ids x → primary_at routes x t ≡ None
 
 -- routes are made with this area and this graph: the primaries are the area's; the graph fits the area by the list of
 -- links; nodes of both that belong together have one identifier; the bond of a link is the one that names it
-pub record AreMadeWith (area : AreaParts) (graph : Topology) (routes : RouteLists) : Type 0 where
-  pub primaries : AreAllPrimaries area routes
+pub record AreMade (area : AreaParts) (graph : Topology) (routes : RouteLists) : Type 0 where
+  pub primaries : AreColumns area routes
   pub fits : Fits area graph routes.links
   pub nodes : AreIslandNodes area.ids graph.ids routes.nodes
   pub spots : AreAreaNodes area.ids graph.ids routes.spots
   pub bonds : AreBondsOf (length graph.links) routes.links routes.bonds
+
+-- routes are made so, and each node of the area has a column
+pub record AreMadeWith (area : AreaParts) (graph : Topology) (routes : RouteLists) : Type 0 where
+  pub made : AreMade area graph routes
+  pub all : (t : ℕ) → t < length area.ids → HasColumn routes t

@@ -1,53 +1,77 @@
-//! The first arcs of shortest paths between all nodes of an area.
+//! The first arcs of shortest paths from all nodes of an area.
 
-ghost use Rattle.std.specs.Prelude.{◌≡◌, ◌<◌, ◌≤◌, ◌+◌, ◌↔◌, ℕ, IfOk, IsTrue, Some, None, length, slice_get, slice_index_or, vec_capacity, vec_len};
+ghost use Rattle.std.specs.Prelude.{◌≡◌, ◌<◌, ◌≤◌, ◌↔◌, ℕ, Contains, IfOk, IsTrue, None, length, map};
+ghost use Rattle.std.specs.List.{range_with_len};
 ghost use Rattle.area_graph.specs.declared.area_types.Arc.{Arc};
 ghost use Rattle.area_graph.specs.Starts.{AreStarts};
-ghost use Rattle.primary_alt.specs.Attaining.{AreBetween, AreRowsAfter, Attains, IsFirstToAttain};
-ghost use Rattle.primary_alt.specs.FirstArcs.{AreFirstArcs};
+ghost use Rattle.primary_alt.specs.Attaining.{AreBetween, AreFirstToAttain, Attains, IsFirstToAttain};
+ghost use Rattle.primary_alt.specs.FirstArcs.{AreColumnsFor};
 
 use crate::arc_starts::arc_starts;
 use crate::arcs_into::ArcsInto;
 use crate::backward::distances_to;
 use crate::first_arc::FirstArc;
+use crate::first_column::FirstColumn;
 use area_graph::{Arc, ArcNo, Area, Spot};
 use mrt_graph::NoMemory;
 use std::alloc::Global;
 use std::collections::BinaryHeap;
 
-/// The first arc of each node on a shortest path to each other node: a row for each destination.
+/// A column for each of these destinations: the first arc of each node on a shortest path there.
 ///
-/// One search for each destination, over one list and one heap for all of them.
-pub fn first_arcs(alloc: Global, area: &Area, arcs: &[Arc]) -> Result<Vec<FirstArc>, NoMemory>
-    requires { arcs.now ≡ area.now.arcs }
-    ensures { IfOk result (λ firsts. AreFirstArcs area.now firsts.items) }
+/// One search for each different destination, over one list and one heap for all of them.
+pub fn first_columns(
+    alloc: Global,
+    area: &Area,
+    arcs: &[Arc],
+    destinations: &[Spot],
+) -> Result<Vec<Option<FirstColumn>>, NoMemory>
+    requires arcs { arcs.now ≡ area.now.arcs }
+    requires within { (t : ℕ) → Contains destinations.now t → t < length area.now.ids }
+    ensures { IfOk result (λ columns. AreColumnsFor area.now destinations.now columns.items) }
 {
     let count = area.count();
     let starts = arc_starts(alloc, area)?;
     let into = ArcsInto::new(alloc, Vec::from_slice(alloc, arcs)?, count)?;
     let mut known = vec![in alloc; None; count as usize]?;
     let mut waiting = BinaryHeap::with_capacity(alloc, arcs.len() + 1)?;
-    let mut firsts = Vec::with_capacity(alloc, count as usize * count as usize)?;
-    for t in 0..count {
-        distances_to(&into, Spot::new(t), &mut known, &mut waiting)?;
-        push_row(arcs, &starts, &known, &mut firsts);
+    let mut columns = no_columns(alloc, count)?;
+    for t in destinations {
+        let place = t.get() as usize;
+        if columns[place].is_some() {
+            continue;
+        }
+        distances_to(&into, *t, &mut known, &mut waiting)?;
+        columns[place] = Some(column(alloc, arcs, &starts, &known)?);
     }
-    Ok(firsts)
+    Ok(columns)
 }
 
-/// Puts the first arc of each node after the first arcs that are there.
-fn push_row(arcs: &[Arc], starts: &[usize], known: &[Option<u32>], firsts: &mut Vec<FirstArc>)
+/// No column for each of so many nodes.
+fn no_columns(alloc: Global, count: u16) -> Result<Vec<Option<FirstColumn>>, NoMemory>
+    ensures { IfOk result (λ columns. columns.items ≡ map (λ _. None) (range_with_len 0 count)) }
+{
+    let columns = (0..count).map(|_| None).collect(alloc)?;
+    Ok(columns)
+}
+
+/// The first arc of each node that attains its distance.
+fn column(
+    alloc: Global,
+    arcs: &[Arc],
+    starts: &[usize],
+    known: &[Option<u32>],
+) -> Result<FirstColumn, NoMemory>
     requires few { length arcs.now ≤ 32768 }
     requires starts { AreStarts (length known.now) arcs.now starts.now }
     requires between { AreBetween (length known.now) arcs.now }
-    requires room { vec_len firsts.old + length known.now ≤ vec_capacity firsts.old }
-    ensures rows { AreRowsAfter arcs.now starts.now known.now firsts.old.items firsts.new.items (length known.now) }
-    ensures many { vec_len firsts.new ≡ vec_len firsts.old + length known.now }
-    ensures capacity { vec_capacity firsts.new ≡ vec_capacity firsts.old }
+    ensures { IfOk result (AreFirstToAttain arcs.now starts.now known.now) }
 {
+    let mut firsts = Vec::with_capacity(alloc, known.len())?;
     for x in 0..known.len() {
         firsts.push_reserved(first_arc(arcs, starts[x], starts[x + 1], known));
     }
+    Ok(FirstColumn::new(firsts))
 }
 
 /// The first of the arcs from one number up to another that attains the distance of its tail.

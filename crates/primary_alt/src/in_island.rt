@@ -10,18 +10,6 @@ use area_graph::{Arc, Area, BondNo, Spot};
 use mrt_graph::{Graph, LinkNo, NoMemory, NodeId, NodeNo};
 use std::alloc::Global;
 
-/// Of each node of the area the island node of its identifier.
-pub fn island_nodes(alloc: Global, area: &Area, g: &Graph) -> Result<Vec<Option<NodeNo>>, NoMemory>
-    ensures { IfOk result (λ nodes. AreIslandNodes area.now.ids g.now.ids nodes.items) }
-{
-    let count = area.count();
-    let mut nodes = Vec::with_capacity(alloc, count as usize)?;
-    for s in 0..count {
-        nodes.push_reserved(g.find(area.id(Spot::new(s))));
-    }
-    Ok(nodes)
-}
-
 /// Of each island node the node of the area that has its identifier.
 pub fn area_nodes(alloc: Global, area: &Area, g: &Graph) -> Result<Vec<Spot>, NoMemory>
     requires { (id : NodeId) → Contains g.now.ids id → Contains area.now.ids id }
@@ -44,6 +32,23 @@ fn spot_of(area: &Area, id: NodeId) -> Spot
         Some(spot) => spot,
         None => unreachable!(),
     }
+}
+
+/// Of each node of the area the island node of its identifier, by the nodes of the area that the island nodes are.
+pub fn island_nodes(
+    alloc: Global,
+    area: &Area,
+    g: &Graph,
+    spots: &[Spot],
+) -> Result<Vec<Option<NodeNo>>, NoMemory>
+    requires { AreAreaNodes area.now.ids g.now.ids spots.now }
+    ensures { IfOk result (λ nodes. AreIslandNodes area.now.ids g.now.ids nodes.items) }
+{
+    let mut nodes = vec![in alloc; None; area.count() as usize]?;
+    for n in 0..g.node_count() {
+        nodes[spots[n as usize].get() as usize] = Some(NodeNo::new(n));
+    }
+    Ok(nodes)
 }
 
 /// Of each link of the graph the bond that it is.

@@ -9,6 +9,7 @@ mod color_hops;
 mod color_uses;
 mod first_arc;
 mod first_arcs;
+mod first_column;
 mod in_island;
 mod least_walks;
 mod least_weights;

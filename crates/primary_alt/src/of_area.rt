@@ -22,6 +22,14 @@ pub fn all_arcs(alloc: Global, area: &Area) -> Result<Vec<Arc>, NoMemory>
     Ok(arcs)
 }
 
+/// The nodes of an area, in their order.
+pub fn all_nodes(alloc: Global, area: &Area) -> Result<Vec<Spot>, NoMemory>
+    ensures { IfOk result (λ nodes. nodes.items ≡ range_with_len 0 (length area.now.ids)) }
+{
+    let nodes = (0..area.count()).map(|s| Spot::new(s)).collect(alloc)?;
+    Ok(nodes)
+}
+
 /// Of each arc the node that it leads to.
 pub fn far_nodes(alloc: Global, arcs: &[Arc]) -> Result<Vec<Spot>, NoMemory>
     ensures { IfOk result (λ nodes. nodes.items ≡ map (λ arc. arc.to) arcs.now) }

@@ -1,26 +1,27 @@
 //! The primaries of all routers of an area, and what its nodes and bonds are in an island.
 
-ghost use Rattle.std.specs.Prelude.{◌≡◌, ◌<◌, ◌≤◌, ◌*◌, ◌==◌, ◌||◌, false, not, length, slice_index_or};
-ghost use Rattle.primary_alt.specs.FirstArcs.{IsTable, first_at, primary_by, primary_over};
+ghost use Rattle.std.specs.Prelude.{◌≡◌, ◌<◌, ◌==◌, ◌||◌, false, not, length, slice_index_or};
+ghost use Rattle.primary_alt.specs.FirstArcs.{IsFirstColumn, primary_by, primary_over};
 
-use crate::first_arc::FirstArc;
-use crate::first_arcs::first_arcs;
+use crate::first_arcs::first_columns;
+use crate::first_column::FirstColumn;
 use crate::in_island::{area_nodes, bonds_of_links, island_nodes};
-use crate::of_area::{all_arcs, far_nodes, networks};
+use crate::of_area::{all_arcs, all_nodes, far_nodes, networks};
 use crate::shortest::Primary;
 use area_graph::{ArcNo, Area, BondNo, Spot};
 use mrt_graph::{Graph, LinkNo, NoMemory, NodeNo};
 use std::alloc::Global;
 use std::marker::Model;
 
-/// The primaries of all routers of an area, and the numbers by which its nodes and bonds go in an island.
+/// The primaries of all routers of an area for some of its nodes or for all, and the numbers by which its nodes and
+/// bonds go in an island.
 ///
-/// Of each two nodes it keeps two bytes: the number of the first arc on a shortest path. A primary is put together from
-/// these when it is asked for.
+/// Of each node, for each of the destinations, it keeps two bytes: the number of the first arc on a shortest path. A
+/// primary is put together from these when it is asked for.
 #[derive(Drop)]
 pub struct Routes {
-    /// Of each destination, of each node the first arc on a shortest path there.
-    firsts: Vec<FirstArc>,
+    /// Of each node, where it is a destination, of all nodes the first arcs on shortest paths there.
+    columns: Vec<Option<FirstColumn>>,
     /// Of each arc the node that it leads to.
     leads: Vec<Spot>,
     /// Of each node whether it is a network.
@@ -37,26 +38,25 @@ pub struct Routes {
 
 impl Model for Routes {
     ghost use Rattle.primary_alt.specs.RouteLists.{RouteLists};
-    ghost use Rattle.primary_alt.specs.FirstArcs.{IsTable, rows_of};
+    ghost use Rattle.primary_alt.specs.FirstArcs.{IsTable, columns_of};
 
     ghost Value = { RouteLists };
 
-    ghost view = { λ r. record { primaries = rows_of r.networks.items r.leads.items r.firsts.items; nodes = r.nodes.items; links = r.links.items; spots = r.spots.items; bonds = r.bonds.items } };
+    ghost view = { λ r. record { primaries = columns_of r.networks.items r.leads.items r.columns.items; nodes = r.nodes.items; links = r.links.items; spots = r.spots.items; bonds = r.bonds.items } };
 
-    ghost invariant = { λ r. IsTable r.networks.items r.leads.items r.firsts.items };
+    ghost invariant = { λ r. IsTable r.networks.items r.leads.items r.columns.items };
 }
 
 impl Routes {
-    ghost use Rattle.std.specs.Prelude.{◌≡◌, ◌<◌, IfOk, Some, length, slice_get};
+    ghost use Rattle.std.specs.Prelude.{◌≡◌, ◌<◌, ◌↔◌, ℕ, Contains, IfOk, Some, length, slice_get};
     ghost use Rattle.area_graph.specs.Fits.{Fits};
-    ghost use Rattle.primary_alt.specs.RouteLists.{primary_at};
-    ghost use Rattle.primary_alt.specs.RoutesMade.{AreMadeWith};
+    ghost use Rattle.primary_alt.specs.RouteLists.{HasColumn, primary_at};
+    ghost use Rattle.primary_alt.specs.RoutesMade.{AreMade, AreMadeWith};
 
-    /// The routes of an area and of a graph that fits it; `link_of` has of each bond the link that it is.
+    /// The routes of an area and of a graph that fits it, for all nodes of the area; `link_of` has of each bond the link
+    /// that it is.
     ///
-    /// One search for each destination, backwards along the arcs, gives the distances of all nodes to it, and one pass
-    /// over the arcs the first one of each node that attains them. So it takes time in proportion to the nodes times the
-    /// arcs, times the logarithm of the latter. What it keeps is two bytes for each two nodes of the area.
+    /// It takes the time and the memory of the routes to all nodes.
     pub fn new(
         alloc: Global,
         area: &Area,
@@ -67,16 +67,40 @@ impl Routes {
         ensures made { IfOk result (λ routes. AreMadeWith area.now g.now routes) }
         ensures links { IfOk result (λ routes. routes.links ≡ link_of.now) }
     {
+        let nodes = all_nodes(alloc, area)?;
+        let routes = Routes::to(alloc, area, g, link_of, &nodes)?;
+        Ok(routes)
+    }
+
+    /// The routes to these nodes of the area alone, of which some may be named more than once.
+    ///
+    /// One search for each different destination, backwards along the arcs, gives the distances of all nodes to it, and
+    /// one pass over the arcs the first one of each node that attains them. So it takes time in proportion to the
+    /// different destinations times the arcs, times the logarithm of the latter. What it keeps is two bytes for each of
+    /// these destinations and each node, and a few words for each node, arc and bond.
+    pub fn to(
+        alloc: Global,
+        area: &Area,
+        g: &Graph,
+        link_of: &[Option<LinkNo>],
+        destinations: &[Spot],
+    ) -> Result<Routes, NoMemory>
+        requires fits { Fits area.now g.now link_of.now }
+        requires within { (t : ℕ) → Contains destinations.now t → t < length area.now.ids }
+        ensures made { IfOk result (λ routes. AreMade area.now g.now routes) }
+        ensures columns { IfOk result (λ routes. (t : ℕ) → HasColumn routes t ↔ Contains destinations.now t) }
+        ensures links { IfOk result (λ routes. routes.links ≡ link_of.now) }
+    {
         let arcs = all_arcs(alloc, area)?;
-        let firsts = first_arcs(alloc, area, &arcs)?;
+        let columns = first_columns(alloc, area, &arcs, destinations)?;
         let leads = far_nodes(alloc, &arcs)?;
         let networks = networks(alloc, area)?;
-        let nodes = island_nodes(alloc, area, g)?;
         let links = Vec::from_slice(alloc, link_of)?;
         let spots = area_nodes(alloc, area, g)?;
+        let nodes = island_nodes(alloc, area, g, &spots)?;
         let bonds = bonds_of_links(alloc, area, &arcs, g, link_of)?;
         Ok(Routes {
-            firsts,
+            columns,
             leads,
             networks,
             nodes,
@@ -87,7 +111,7 @@ impl Routes {
     }
 
     /// Where a router sends a packet for `t` (RFC 2328, section 16.1): None where `x` is `t`, where no walk leads
-    /// there, and where `x` is a network.
+    /// there, where `x` is a network, and where `t` is none of the destinations.
     ///
     /// It takes the time of reading at most two first arcs.
     pub fn primary(&self, x: Spot, t: Spot) -> Option<Primary>
@@ -95,7 +119,10 @@ impl Routes {
         requires to { t < length self.now.primaries }
         ensures { result ≡ primary_at self.now x t }
     {
-        primary_by(&self.networks, &self.leads, &self.firsts, x, t)
+        match &self.columns[t.get() as usize] {
+            Some(column) => primary_by(&self.networks, &self.leads, column, x, t),
+            None => None,
+        }
     }
 
     /// The island node that a node of the area is; None where it is not of the island.
@@ -131,24 +158,24 @@ impl Routes {
     }
 }
 
-/// Where `x` sends a packet for `t`, put together from the first arcs of `x` and of a network on the way.
+/// By the column for `t`, where `x` sends a packet, put together from the first arcs of `x` and of a network on the way.
 fn primary_by(
     networks: &[bool],
     leads: &[Spot],
-    firsts: &[FirstArc],
+    column: &FirstColumn,
     x: Spot,
     t: Spot,
 ) -> Option<Primary>
-    requires kept { IsTable networks.now leads.now firsts.now }
+    requires kept { IsFirstColumn networks.now leads.now column.now }
     requires from { x < length networks.now }
     requires to { t < length networks.now }
-    ensures { result ≡ primary_by networks.now leads.now firsts.now x t }
+    ensures { result ≡ primary_by networks.now leads.now column.now x t }
 {
     if sends_nothing(networks, x, t) {
         return None;
     }
-    let first = first_at(firsts, networks.len(), x, t)?;
-    primary_over(networks, leads, firsts, t, first)
+    let first = column.first_of(x)?;
+    primary_over(networks, leads, column, t, first)
 }
 
 /// Whether `x` is `t`, or a network.
@@ -159,18 +186,18 @@ fn sends_nothing(networks: &[bool], x: Spot, t: Spot) -> bool
     x == t || networks[x.get() as usize]
 }
 
-/// The primary for `t` over a first arc.
+/// By the column for `t`, the primary over a first arc.
 fn primary_over(
     networks: &[bool],
     leads: &[Spot],
-    firsts: &[FirstArc],
+    column: &FirstColumn,
     t: Spot,
     first: ArcNo,
 ) -> Option<Primary>
-    requires kept { IsTable networks.now leads.now firsts.now }
+    requires kept { IsFirstColumn networks.now leads.now column.now }
     requires first { first < length leads.now }
     requires to { t < length networks.now }
-    ensures { result ≡ primary_over networks.now leads.now firsts.now t first (slice_index_or leads.now first 0) }
+    ensures { result ≡ primary_over networks.now leads.now column.now t first (slice_index_or leads.now first 0) }
 {
     let to = leads[first.get() as usize];
     if ends_hop(networks, to, t) {
@@ -180,7 +207,7 @@ fn primary_over(
             next: to,
         });
     }
-    let second = first_at(firsts, networks.len(), to, t)?;
+    let second = column.first_of(to)?;
     Some(Primary {
         first,
         second: Some(second),
@@ -194,16 +221,4 @@ fn ends_hop(networks: &[bool], to: Spot, t: Spot) -> bool
     ensures { result ≡ ((to == t) || not (slice_index_or networks.now to false)) }
 {
     to == t || !networks[to.get() as usize]
-}
-
-/// The first arc of a node for a destination, of so many nodes.
-fn first_at(firsts: &[FirstArc], count: usize, x: Spot, t: Spot) -> Option<ArcNo>
-    requires few { count ≤ 4096 }
-    requires one_each { length firsts.now ≡ count * count }
-    requires from { x < count }
-    requires to { t < count }
-    ensures { result ≡ first_at count firsts.now x t }
-{
-    let place = t.get() as usize * count + x.get() as usize;
-    firsts[place].get()
 }

@@ -1,0 +1,13 @@
+use Rattle.std.proofs.Common.{◌+◌, ◌∷◌, [], ◌∙◌, ℕ, List, Option, ap, length, sym, subst, arith}
+use Rattle.std.proofs.lemmas.List.{length-append}
+use Rattle.primary_alt.proofs.FirstColumns.{AreFirstsTo, firsts_more}
+use Rattle.primary_alt.proofs.first_arcs.column.Goals as goal
+
+pub loop-x-preserved : goal.loop-x-preserved
+loop-x-preserved c = record {
+  firsts = subst (λ (xs : List (Option ℕ)). AreFirstsTo c.args.arcs.now c.args.starts.now c.args.known.now xs (c.loop-x.x + 1)) (sym c.push_reserved.ensures.items)
+      (firsts_more c.args.arcs.now c.args.starts.now c.args.known.now c.loop-x.firsts.items c.loop-x.x c.first_arc.result c.loop-x.invariant.held c.loop-x.invariant.firsts c.first_arc.ensures);
+  many = omega (arith, c.push_reserved.ensures.len, c.loop-x.invariant.many);
+  held = ap length c.push_reserved.ensures.items ∙ length-append c.loop-x.firsts.items (c.first_arc.result ∷ []) ∙ omega (arith, c.loop-x.invariant.held);
+  room = omega (arith, c.push_reserved.ensures.capacity, c.loop-x.invariant.room);
+}
