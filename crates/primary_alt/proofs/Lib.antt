@@ -1,3 +1,4 @@
+pub mod AgreeingRows
 pub mod ArcStarts
 pub mod ArcWalks
 pub mod ArcsOffered

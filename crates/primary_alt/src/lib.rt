@@ -32,7 +32,7 @@ pub use primary_law::{
     a_primary_where_a_walk_leads, each_router_has_its_primaries, one_primary_each,
     primaries_lead_nearer, primaries_reach_their_destinations,
 };
-pub use repair::{alternate, alternate_on, is_between};
+pub use repair::{alternate, alternate_by, alternate_on, is_between};
 pub use repair_law::{
     a_color_given_goes_round, a_sound_column_goes_round, no_alternate_for_ends_and_what_separates,
     one_alternate_each,

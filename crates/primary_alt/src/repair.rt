@@ -30,10 +30,7 @@ pub fn alternate(
     requires element { IfSome failed (λ x. IsElementOf g.now x) }
     ensures { IsAlternate g.now.links (length g.now.ids) (row_of c.now) source to failed result }
 {
-    match failed {
-        None => Some(Color::Blue),
-        Some(x) => color_round(g, c, source, to, &x),
-    }
+    alternate_by(g, c, source, to, failed)
 }
 
 /// The same by the rows of all nodes for `to`, where these are sound.
@@ -54,9 +51,28 @@ pub fn alternate_on(
     ensures { IsAlternate g.now.links (length g.now.ids) (rows_of_column c.now) source to
         failed result }
 {
+    alternate_by(g, c, source, to, failed)
+}
+
+/// The same by any rows that are sound for `to`.
+///
+/// It follows both color walks, so it takes time in proportion to the nodes at worst, and no memory.
+pub fn alternate_by<R: RowsOf>(
+    g: &Graph,
+    rows: &R,
+    source: NodeNo,
+    to: NodeNo,
+    failed: Option<Element>,
+) -> Option<Color>
+    requires sound { (at : ℕ) → at < length g.now.ids → at ≢ to
+        → SoundFor g.now.links (length g.now.ids) (R.rows rows.now) at to }
+    requires source { source < length g.now.ids }
+    ensures { IsAlternate g.now.links (length g.now.ids) (R.rows rows.now) source to
+        failed result }
+{
     match failed {
         None => Some(Color::Blue),
-        Some(x) => color_round(g, c, source, to, &x),
+        Some(x) => color_round(g, rows, source, to, &x),
     }
 }
 
