@@ -22,8 +22,8 @@ use crate::letters::push_letters;
 use crate::parts::Parts;
 use crate::words::tag_word;
 use area_graph::ArcNo;
-use mrt_graph::{End, Graph, LinkNo, NoMemory, NodeNo};
-use primary_alt::{Primary, RowsOf};
+use mrt_graph::{End, Graph, LinkNo, NoMemory, NodeNo, RowsOf};
+use primary_alt::Primary;
 use text_parts::{push, push_hop, push_node};
 
 /// Puts the line on a destination at the end of a text.
