@@ -21,8 +21,9 @@ use Rattle.proxy_rows.specs.Attachment.{IsAttachment}
 use Rattle.proxy_rows.specs.Ends.{HasNoEnd}
 use Rattle.proxy_rows.specs.Ground.{IsGround}
 use Rattle.proxy_rows.specs.ProxyRows.{IsHeadRed, Closing, OneLink, IsOnward, IsPlainToLow}
+use Rattle.proxy_rows.specs.ReadFrom.{ReadFrom}
 use Rattle.proxy_rows.specs.Sides.{IsIn, Router, Onward, goes_on}
-use Rattle.proxy_rows.specs.Words.{AreAccepted, AreReadWith, ReadFrom, with_rows}
+use Rattle.proxy_rows.specs.Words.{AreAccepted, AreReadWith, with_rows}
 use Rattle.proxy_rows.proofs.Grounds.{counts, head_within}
 
 module _ (words : Words) (at : Attachment) (one other : List Row) where

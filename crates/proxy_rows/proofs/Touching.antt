@@ -85,8 +85,8 @@ module _ (g : Topology) (c : Certificate) (at : Attachment) (ground : IsGround g
   touches s _ (OfOutside entry row out entry_is is) = ((row_touches s entry row is).blue, (row_touches s entry row is).red)
 
 -- both of each
-pub all_touch : (g : Topology) (c : Certificate) (a b : ℕ) (rows : List ProxyRow) → IsTopology g → IsAcceptedFor g c → AreProxyRows g c a b rows → AllTouch g rows
-all_touch g c a b rows kept accepted are =
+pub all_touch : (g : Topology) (c : Certificate) (a b : ℕ) (entries : List ProxyRow) → IsTopology g → IsAcceptedFor g c → AreProxyRows g c a b entries → AllTouch g entries
+all_touch g c a b entries kept accepted are =
     let ground : IsGround g c are.at = record { kept = kept; accepted = accepted; a = a; b = b; attached = are.attached } in
     record {
       one_each = are.rows.one_each;

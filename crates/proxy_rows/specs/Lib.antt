@@ -4,6 +4,7 @@ pub mod GraphWith
 pub mod Ground
 pub mod ProxyRows
 pub mod ProxyText
+pub mod ReadFrom
 pub mod Sides
 pub mod Steps
 pub mod Touches

@@ -13,7 +13,8 @@ ghost use Rattle.proxy_rows.specs.declared.side.Side.TheVariants.{Low, High};
 ghost use Rattle.proxy_rows.specs.Attachment.{IsAttachment};
 ghost use Rattle.proxy_rows.specs.GraphWith.{AreRowsWith, links_with, new_node};
 ghost use Rattle.proxy_rows.specs.ProxyRows.{AreProxyRows, AreRowsOf, IsHeadBlue, IsHeadRed, IsProxyRow, IsSideOut};
-ghost use Rattle.proxy_rows.specs.Words.{AreAccepted, AreReadWith, IsOn, ReadFrom, with_rows};
+ghost use Rattle.proxy_rows.specs.ReadFrom.{ReadFrom};
+ghost use Rattle.proxy_rows.specs.Words.{AreAccepted, AreReadWith, IsOn, with_rows};
 
 use crate::attachment::{Attachment, attach};
 use crate::ends::{first_closing, first_onward, first_plain, is_marked};
