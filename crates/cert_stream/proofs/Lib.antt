@@ -1,3 +1,4 @@
 mod Nears
 mod OneFile
 mod Whole
+mod OneGraph

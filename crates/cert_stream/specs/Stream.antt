@@ -1,8 +1,9 @@
 -- A certificate that is found as it is written or compared.
-use Rattle.std.specs.Prelude.{◌≡◌, ℕ, List, length}
+use Rattle.std.specs.Prelude.{◌≡◌, ◌<◌, ℕ, List, length}
 use Rattle.mrt_graph.specs.declared.cert.CertFile.{CertFile}
 use Rattle.mrt_graph.specs.declared.cert.CertLink.{CertLink}
 use Rattle.mrt_graph.specs.declared.cert.CertNode.{CertNode}
+use Rattle.mrt_graph.specs.GraphInvariant.{IsTopology}
 use Rattle.mrt_graph.specs.Topology.{Topology}
 use Rattle.mrt_rows.specs.CertOf.{IsCertOf}
 use Rattle.mrt_rows.specs.Making.{MakeRows}
@@ -31,3 +32,9 @@ pub record IsStream (g : Topology) (number : ℕ) (nodes : List CertNode) (links
   pub parts : (file : CertFile) → IsCertOf g rows.root file → AreOfFile file number nodes links
   pub within : (file : CertFile) → IsCertOf g rows.root file → IsCertFile file
   pub header : writer ≡ record { version = 2; gone = 0; held = header_text 2 (length g.ids) (length g.links) number }
+
+-- this is the root from which rows are made, and a node of the graph, which keeps what each graph does
+pub record IsRootOf (g : Topology) (root of_rows : ℕ) : Type 0 where
+  pub same : root ≡ of_rows
+  pub within : root < length g.ids
+  pub kept : IsTopology g

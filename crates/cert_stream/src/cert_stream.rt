@@ -12,11 +12,11 @@ ghost use Rattle.cert_stream.specs.Same.{HaveSameParts};
 
 use crate::numbers::numbers_fit;
 use crate::parts::put_file;
-use crate::same::{are_links_same, are_nodes_same, are_rows_same};
+use crate::same::{are_graphs_same, are_links_same, are_nodes_same, are_rows_same};
 use cert_format::{CertWriter, one_spelling};
 use mrt_graph::{CertLink, CertNode, Graph, NoMemory, NodeNo};
 use mrt_io::{PutError, Sink};
-use mrt_rows::SourceRows;
+use mrt_rows::{SourceRows, one_certificate};
 use std::alloc::Global;
 use std::marker::Model;
 
@@ -27,6 +27,7 @@ const VERSION: u16 = 2;
 #[derive(Drop)]
 pub struct CertStream {
     graph: Graph,
+    root: NodeNo,
     number: u32,
     nodes: Vec<CertNode>,
     links: Vec<CertLink>,
@@ -35,13 +36,13 @@ pub struct CertStream {
 }
 
 impl Model for CertStream {
-    ghost use Rattle.cert_stream.specs.Stream.{IsStream, Stream};
+    ghost use Rattle.cert_stream.specs.Stream.{IsRootOf, IsStream, Stream};
 
     ghost Value = { Stream };
 
     ghost view = { λ s. record { graph = s.graph; root = s.rows.root } };
 
-    ghost invariant = { λ s. IsStream s.graph s.number s.nodes.items s.links.items s.rows s.writer };
+    ghost invariant = { λ s. IsStream s.graph s.number s.nodes.items s.links.items s.rows s.writer × IsRootOf s.graph s.root s.rows.root };
 }
 
 impl CertStream {
@@ -75,6 +76,7 @@ impl CertStream {
         )?;
         Ok(CertStream {
             graph,
+            root,
             number,
             nodes,
             links,
@@ -123,17 +125,21 @@ impl CertStream {
         put_file(writer, sink, &graph, &nodes, &links, &mut rows)
     }
 
-    /// Whether two certificates are the same. The numbers of their roots, their nodes and their links are compared
-    /// first, then their rows, which are found for one node after another: it stops at the first difference. It takes no
-    /// memory.
+    /// Whether two certificates are the same. Those of one graph from one root are, without a row found. Else the numbers
+    /// of their roots, their nodes and their links are compared, then their rows, which are found for one node after
+    /// another: it stops at the first difference. It takes no memory.
     ///
-    /// It takes time in proportion to the nodes and the links; where these are the same, for each node up to the first
-    /// that differs in its rows, time in proportion to the nodes and the ends of all nodes.
+    /// It takes time in proportion to the nodes and the links; where only the graphs differ, in metrics or link data, for
+    /// each node up to the first that differs in its rows, time in proportion to the nodes and the ends of all nodes.
     pub fn is_same(self, other: CertStream) -> bool
         ensures { (file second : CertFile) → IsCertOf self.graph self.root file
             → IsCertOf other.graph other.root second → (IsTrue result ↔ (file ≡ second)) }
     {
         one_spelling();
+        one_certificate();
+        if self.is_of_the_same(&other) {
+            return true;
+        }
         let has_same_parts = self.has_same_parts(&other);
         let CertStream {
             graph,
@@ -146,6 +152,13 @@ impl CertStream {
             ..
         } = other;
         has_same_parts && are_rows_same(&graph, &mut rows, &other_graph, &mut others)
+    }
+
+    /// Whether both are of one graph and one root.
+    fn is_of_the_same(&self, other: &CertStream) -> bool
+        ensures { IsTrue result → self.now ≡ other.now }
+    {
+        self.root == other.root && are_graphs_same(&self.graph, &other.graph)
     }
 
     /// Whether the numbers of the root, the nodes and the links are the same.

@@ -1,14 +1,76 @@
 //! The certificates of two graphs compared, the rows of which are found as they are compared.
 
-ghost use Rattle.std.specs.Prelude.{◌≡◌, ◌<◌, ◌↔◌, ℕ, IsTrue, length};
+ghost use Rattle.std.specs.Prelude.{◌≡◌, ◌<◌, ◌↔◌, ℕ, IsTrue, length, slice_get};
 ghost use Rattle.mrt_graph.specs.declared.cert.CertFile.{CertFile};
 ghost use Rattle.mrt_rows.specs.CertOf.{IsCertOf};
 ghost use Rattle.mrt_rows.specs.Making.{MakeRows};
 ghost use Rattle.mrt_rows.specs.NearOf.{near_rows_of};
 ghost use Rattle.cert_stream.specs.Same.{HaveSameRows};
 
-use mrt_graph::{CertLink, CertNode, Graph, NodeNo, Row};
+use mrt_graph::{CertLink, CertNode, End, Graph, LinkNo, NodeNo, Row};
 use mrt_rows::SourceRows;
+
+/// Whether two graphs are the same: their identifiers, their links, and each node's interfaces. It stops at the first
+/// difference.
+///
+/// It takes time in proportion to the nodes and the links.
+pub fn are_graphs_same(g: &Graph, other: &Graph) -> bool
+    ensures { IsTrue result → g.now ≡ other.now }
+{
+    if g.node_count() != other.node_count() || g.link_count() != other.link_count() {
+        return false;
+    }
+    has_same_links(g, other) && has_same_nodes(g, other)
+}
+
+/// Whether two graphs with as many links have the same ones.
+fn has_same_links(g: &Graph, other: &Graph) -> bool
+    requires { length g.now.links ≡ length other.now.links }
+    ensures { IsTrue result → g.now.links ≡ other.now.links }
+{
+    for e in 0..g.link_count() {
+        let link = LinkNo::new(e);
+        if g.link(link) != other.link(link) {
+            return false;
+        }
+    }
+    true
+}
+
+/// Whether two graphs with as many nodes have the same identifiers and interfaces.
+fn has_same_nodes(g: &Graph, other: &Graph) -> bool
+    requires { length g.now.ids ≡ length other.now.ids }
+    ensures ids { IsTrue result → g.now.ids ≡ other.now.ids }
+    ensures ends { IsTrue result → g.now.ends ≡ other.now.ends }
+{
+    // what each graph keeps is told by reading it
+    let _count = other.node_count();
+    for n in 0..g.node_count() {
+        if !is_same_node(g, other, NodeNo::new(n)) {
+            return false;
+        }
+    }
+    true
+}
+
+/// Whether node n has the same identifier and interfaces in both graphs.
+fn is_same_node(g: &Graph, other: &Graph, n: NodeNo) -> bool
+    requires n { n < length g.now.ids }
+    requires other_n { n < length other.now.ids }
+    ensures id { IsTrue result → slice_get g.now.ids n ≡ slice_get other.now.ids n }
+    ensures ends { IsTrue result → slice_get g.now.ends n ≡ slice_get other.now.ends n }
+{
+    if g.id(n) != other.id(n) {
+        return false;
+    }
+    are_ends_same(g.ends(n), other.ends(n))
+}
+
+fn are_ends_same(ends: &[End], others: &[End]) -> bool
+    ensures { IsTrue result ↔ (ends.now ≡ others.now) }
+{
+    ends == others
+}
 
 /// Whether these are the same nodes.
 pub fn are_nodes_same(nodes: &[CertNode], others: &[CertNode]) -> bool

@@ -1,4 +1,5 @@
-use Rattle.std.proofs.Common.{sym, subst}
+use Rattle.std.proofs.Common.{◌≡◌, ◌<◌, ℕ, length, refl, sym, subst}
+use Rattle.mrt_graph.specs.GraphInvariant.{IsTopology}
 use Rattle.mrt_rows.specs.CertOf.{IsCertOf}
 use Rattle.cert_stream.specs.Same.{HaveSameParts}
 use Rattle.cert_stream.specs.Stream.{Stream}
@@ -8,21 +9,31 @@ use Rattle.cert_stream.proofs.cert_stream.CertStream.is_same.Goals as goal
 
 pub are_rows_same-requires-clause-count : goal.are_rows_same-requires-clause-count
 are_rows_same-requires-clause-count c =
-    let file = c.self.invariant.some.0 in
-    let second = c.other.invariant.some.0 in
-    let is : IsCertOf c.args.self.graph c.args.self.root file = subst (λ (it : Stream). IsCertOf it.graph it.root file) c.self.view_is c.self.invariant.some.1 in
-    let second_is : IsCertOf c.args.other.graph c.args.other.root second = subst (λ (it : Stream). IsCertOf it.graph it.root second) c.other.view_is c.other.invariant.some.1 in
+    let file = c.self.invariant.0.some.0 in
+    let second = c.other.invariant.0.some.0 in
+    let is : IsCertOf c.args.self.graph c.args.self.root file = subst (λ (it : Stream). IsCertOf it.graph it.root file) c.self.view_is c.self.invariant.0.some.1 in
+    let second_is : IsCertOf c.args.other.graph c.args.other.root second = subst (λ (it : Stream). IsCertOf it.graph it.root second) c.other.view_is c.other.invariant.0.some.1 in
     let parts : HaveSameParts file second = (c.has_same_parts-has_same_parts.ensures file second is second_is).0 c.if-has_same_parts.true in
-    same_count c.self.inside.graph c.other.inside.graph _ _ file second c.self.invariant.some.1 c.other.invariant.some.1 parts
+    same_count c.self.inside.graph c.other.inside.graph _ _ file second c.self.invariant.0.some.1 c.other.invariant.0.some.1 parts
 
 pub returns : goal.returns
 returns c = λ file second is second_is.
     let now : IsCertOf c.self.inside.graph c.self.inside.rows.root file = subst (λ (it : Stream). IsCertOf it.graph it.root file) (sym c.self.view_is) is in
     let second_now : IsCertOf c.other.inside.graph c.other.inside.rows.root second = subst (λ (it : Stream). IsCertOf it.graph it.root second) (sym c.other.view_is) second_is in
-    let one = c.one_spelling.ensures.one file second (c.self.invariant.within file now) (c.other.invariant.within second second_now) in
+    let one = c.one_spelling.ensures.one file second (c.self.invariant.0.within file now) (c.other.invariant.0.within second second_now) in
     elim c.if-has_same_parts.branch [
       | then-has_same_parts w ↦ same_is_one c.self.inside.graph c.other.inside.graph _ _ file second now second_now c.has_same_parts-has_same_parts.result w.are_rows_same.result c.if-has_same_parts.result
           w.if-has_same_parts.true w.result-is (c.has_same_parts-has_same_parts.ensures file second is second_is) (w.are_rows_same.ensures file second now second_now) one
       | else-has_same_parts w ↦ other_is_none c.self.inside.graph c.other.inside.graph _ _ file second now second_now c.has_same_parts-has_same_parts.result c.if-has_same_parts.result
           w.if-has_same_parts.false w.result-is (c.has_same_parts-has_same_parts.ensures file second is second_is)
     ]
+
+pub returns-then-is_of_the_same : goal.returns-then-is_of_the_same
+returns-then-is_of_the_same c = λ file second is second_is.
+    let one : c.args.self ≡ c.args.other = c.is_of_the_same.ensures c.if-is_of_the_same.true in
+    let here : IsCertOf c.args.other.graph c.args.other.root file = subst (λ (it : Stream). IsCertOf it.graph it.root file) one is in
+    let root = c.other.invariant.1 in
+    let kept : IsTopology c.args.other.graph = subst (λ (it : Stream). IsTopology it.graph) c.other.view_is root.kept in
+    let within : c.args.other.root < length c.args.other.graph.ids =
+    subst (λ (it : Stream). it.root < length it.graph.ids) c.other.view_is (subst (λ (n : ℕ). n < length c.other.inside.graph.ids) root.same root.within) in
+    (λ _. c.one_certificate.ensures c.args.other.graph c.args.other.root file second kept within here second_is, λ _. refl)

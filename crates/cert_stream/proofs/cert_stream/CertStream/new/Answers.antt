@@ -33,15 +33,17 @@ invariant_of-result c =
     let some = c.in_ok-rows.ensures.cert in
     let at : ℕ → ℕ → Writer = λ n m. record { version = 2; gone = 0; held = header_text 2 n m c.id-number.result.number } in
     let each = held c.args.graph c.args.root c.in_ok-rows.rows.root c.id-number.result.number c.id-number.result c.in_ok-nodes.nodes.items c.deref.result.now c.in_ok-links.links.items c.in_ok-rows.ensures.kept c.requires root c.id-number.ensures refl
-    c.in_ok-nodes.ensures c.in_ok-links.ensures c.deref.ensures.value c.numbers_fit.ensures.root c.numbers_fit.ensures.nodes in
-    record {
-      made = c.in_ok-rows.ensures.made;
-      some = (some.0, subst (λ (r : ℕ). IsCertOf c.args.graph r some.0) (sym root) some.1);
-      parts = λ file is. (each file is).0;
-      within = λ file is. (each file is).1;
-      header = c.in_ok-writer.ensures ∙ ap (λ (n : ℕ). at n c.link_count.result) c.node_count.ensures.count
-          ∙ ap (at (length c.args.graph.ids)) c.link_count.ensures.count;
-    }
+    c.in_ok-nodes.ensures c.in_ok-links.ensures c.deref.ensures.value c.numbers_fit.ensures.root c.numbers_fit.ensures.nodes in (
+      record {
+        made = c.in_ok-rows.ensures.made;
+        some = (some.0, subst (λ (r : ℕ). IsCertOf c.args.graph r some.0) (sym root) some.1);
+        parts = λ file is. (each file is).0;
+        within = λ file is. (each file is).1;
+        header = c.in_ok-writer.ensures ∙ ap (λ (n : ℕ). at n c.link_count.result) c.node_count.ensures.count
+            ∙ ap (at (length c.args.graph.ids)) c.link_count.ensures.count;
+      },
+      record { same = sym root; within = c.requires; kept = c.in_ok-rows.ensures.kept },
+    )
 
 pub returns-clause-within : goal.returns-clause-within
 returns-clause-within c = λ file is.
