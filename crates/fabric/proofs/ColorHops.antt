@@ -4,7 +4,7 @@ use Rattle.std.specs.Prelude.{Contains}
 use Rattle.std.specs.Option.{option_and_then, option_map}
 use Rattle.std.proofs.lemmas.Bool.{cases_eq}
 use Rattle.std.proofs.lemmas.Option.{same_Some}
-use Rattle.fabric.specs.FabricParts.{AreFabricParts, FabricParts, element_at, link_at, node_at}
+use Rattle.fabric.specs.FabricParts.{ArePartsKept, FabricParts, element_at, link_at, node_at}
 use Rattle.fabric.specs.PacketHop.{IsColorHop, IsOver, OverNetwork, PacketHop, Straight}
 use Rattle.fabric.specs.declared.event.Failure.{Failure}
 use Rattle.fabric.specs.declared.event.Failure.TheVariants as failures
@@ -14,7 +14,6 @@ use Rattle.mrt_graph.specs.declared.cert.Color.{Color}
 use Rattle.mrt_graph.specs.declared.link.Element.{Element}
 use Rattle.mrt_graph.specs.declared.link.Element.TheVariants as elements
 use Rattle.mrt_graph.specs.declared.link.Link.{Link}
-use Rattle.mrt_graph.specs.Certificate.{row_of}
 use Rattle.mrt_graph.specs.GraphInvariant.{IsLink, IsNetwork}
 use Rattle.mrt_graph.specs.Hop.{Hop}
 use Rattle.mrt_graph.specs.Leads.{far_node}
@@ -52,7 +51,7 @@ pub record Onward (parts : FabricParts) (color : Color) (t : ℕ) (hop : PacketH
   pub ahead : (failed : Failure) → Contains hop.elements failed → IsAhead parts hops failed
   pub ends : (hop.next ≡ t) ⊎ (¬ IsNetwork parts.area.ids hop.next)
 
-module _ (parts : FabricParts) (are : AreFabricParts parts) (color : Color) where
+module _ (parts : FabricParts) (are : ArePartsKept parts) (color : Color) where
   same_over : (n d b v n' d' : ℕ) → n' ≡ n → d' ≡ d → IsOver parts color n' d' b v → IsOver parts color n d b v
   same_over n d b v n' d' one other over =
       subst (λ (y : ℕ). IsOver parts color n y b v) other (subst (λ (y : ℕ). IsOver parts color y d' b v) one over)
@@ -61,7 +60,7 @@ module _ (parts : FabricParts) (are : AreFabricParts parts) (color : Color) wher
   to_router : (d n v next : ℕ) (hop : Hop) → next_on parts color d n ≡ Some hop → node_at parts v ≡ Some n → IsNetwork parts.area.ids v
       → node_at parts next ≡ Some hop.to → ¬ IsNetwork parts.area.ids next
   to_router d n v next hop row at network to other =
-      go (slice_get parts.island.links hop.link) refl (color_leads parts.island.links (row_of parts.cert) color d n hop row)
+      go (slice_get parts.island.links hop.link) refl (color_leads parts.island.links parts.rows color d n hop row)
     where
       near : IsNetwork parts.island.ids n
       near = network_inside parts are v n at network

@@ -1,8 +1,9 @@
 -- Color walks, hop by hop.
-use Rattle.std.proofs.Common.{◌≡◌, ◌≢◌, ◌<◌, ◌≤◌, ℕ, zero, suc, List, [], ◌∷◌, Option, Some, length, inl, inr, refl, sym, ap, subst, arith}
+use Rattle.std.proofs.Common.{◌≡◌, ◌≢◌, ◌<◌, ◌≤◌, ℕ, zero, suc, List, [], ◌∷◌, Option, Some, None, length, slice_get, inl, inr, refl, sym, ap, subst, arith}
+use Rattle.std.specs.Option.{option_and_then}
 use Rattle.std.proofs.lemmas.Bool.{eq-eqb, ne_eqb}
 use Rattle.std.proofs.lemmas.List.{length-map}
-use Rattle.fabric.specs.FabricParts.{AreFabricParts, FabricParts}
+use Rattle.fabric.specs.FabricParts.{ArePartsKept, FabricParts, IsServed}
 use Rattle.mrt_graph.specs.declared.cert.CertFile.{CertFile}
 use Rattle.mrt_graph.specs.declared.cert.Color.{Color}
 use Rattle.mrt_graph.specs.declared.cert.Color.TheVariants.{Blue, Red}
@@ -12,25 +13,28 @@ use Rattle.mrt_graph.specs.declared.link.Link.{Link}
 use Rattle.mrt_graph.specs.Alternate.{UsesOn}
 use Rattle.mrt_graph.specs.Certificate.{row_of}
 use Rattle.mrt_graph.specs.ColorWalk.{links_followed}
+use Rattle.mrt_graph.specs.GraphInvariant.{IsLink}
 use Rattle.mrt_graph.specs.Hop.{Hop, color_hop}
-use Rattle.mrt_graph.specs.Leads.{leads}
+use Rattle.mrt_graph.specs.Leads.{far_node, leads}
 use Rattle.mrt_graph.specs.Rules.{GraphRule}
 use Rattle.mrt_graph.specs.Uses.{Uses, nodes_met}
 use Rattle.mrt_graph.proofs.AcceptedBlocks.{blocks}
 use Rattle.mrt_graph.proofs.Arrival.{at_most}
 use Rattle.mrt_graph.proofs.Bridge.{color_leads}
 use Rattle.mrt_graph.proofs.Claims.{Good, Way}
-use Rattle.mrt_graph.proofs.Hops.{follows_trail}
+use Rattle.mrt_graph.proofs.Hops.{far_ends, follows_trail}
+use Rattle.mrt_graph.proofs.ListTests.{all_at}
 use Rattle.mrt_graph.proofs.Members.{Has, contains_from_has}
 use Rattle.mrt_graph.proofs.NearPairs.{near_claim}
 use Rattle.mrt_graph.proofs.RowsHold.{rows_hold}
 use Rattle.mrt_graph.proofs.Trails.{Differ, Follows, On, Trail, links_on, nodes_on}
 use Rattle.mrt_graph.proofs.Whole.{good_everywhere}
 use Rattle.mrt_graph.proofs.WordsOf.{words_of}
+use Rattle.primary_alt.proofs.AgreeingRows.{same_hops}
 
 -- the next hop on a color, for island node d
 abbrev pub next_on : FabricParts → Color → ℕ → ℕ → Option Hop
-next_on parts color d n = color_hop parts.island.links (row_of parts.cert) color d n
+next_on parts color d n = color_hop parts.island.links parts.rows color d n
 
 -- the fold over at most n hops is the way, if it is no longer
 followed : (next : ℕ → Option Hop) (t n s : ℕ) (hops : List Hop) → Follows next t s hops → length hops ≤ n → links_followed next t n s ≡ links_on hops
@@ -49,29 +53,40 @@ uses links s t hops (elements.Link e) trail on = contains_from_has (links_on hop
 uses links s t hops (elements.Node x) trail on =
     contains_from_has (nodes_met links s (links_on hops)) x (subst (λ (xs : List ℕ). Has xs x) (sym (met_of links s t hops trail)) on)
 
-module _ (parts : FabricParts) (are : AreFabricParts parts) where
-  -- from each node to each other one a color has its way
-  pub way : (color : Color) (n d : ℕ) → n < length parts.island.ids → d < length parts.island.ids → n ≢ d → Way (next_on parts color d) d n
-  way color n d from to other =
-      let file : CertFile = record { version = are.accepted.version; root = are.accepted.number; cert = parts.cert } in
-      let b = blocks parts.island are.accepted.root file are.accepted.accepted in
-      let rows = rows_hold parts.island are.accepted.root file are.accepted.accepted b.root_within in
-      let counts : length parts.cert.nodes ≡ length parts.island.ids = (are.accepted.accepted GraphRule).counts.nodes in
-      let w = words_of parts.island.links are.accepted.root parts.cert in
-      go color (good_everywhere w b rows (near_claim w b rows) n d (omega (arith, from, counts)) (omega (arith, to, counts)) other)
+module _ (parts : FabricParts) (are : ArePartsKept parts) where
+  -- from each node to each other one that is served a color has its way
+  pub way : (color : Color) (n d : ℕ) → IsServed parts d → n < length parts.island.ids → d < length parts.island.ids → n ≢ d → Way (next_on parts color d) d n
+  way color n d served from to other =
+      let cert = served.cert in
+      let file : CertFile = record { version = served.accepted.version; root = served.accepted.number; cert = cert } in
+      let b = blocks parts.island served.accepted.root file served.accepted.accepted in
+      let rows = rows_hold parts.island served.accepted.root file served.accepted.accepted b.root_within in
+      let counts : length cert.nodes ≡ length parts.island.ids = (served.accepted.accepted GraphRule).counts.nodes in
+      let w = words_of parts.island.links served.accepted.root cert in
+      subst (λ (next : ℕ → Option Hop). Way next d n) (same_hops parts.island.links d (row_of cert) parts.rows (λ s. sym (served.same s)) color)
+      (go color (good_everywhere w b rows (near_claim w b rows) n d (omega (arith, from, counts)) (omega (arith, to, counts)) other))
     where
-      go : (color : Color) → Good (words_of parts.island.links are.accepted.root parts.cert) n d → Way (next_on parts color d) d n
+      go : (color : Color) → Good (words_of parts.island.links served.accepted.root served.cert) n d → Way (color_hop parts.island.links (row_of served.cert) color d) d n
       go Blue good = good.blue
       go Red good = good.red
 
   -- where a hop leads to is a node
   pub leads_within : (e u v : ℕ) → leads parts.island.links e u ≡ Some v → v < length parts.island.ids
-  leads_within e u v on =
-      subst (λ (n : ℕ). v < n) (are.accepted.accepted GraphRule).counts.nodes
-      ((blocks parts.island are.accepted.root (record { version = are.accepted.version; root = are.accepted.number; cert = parts.cert }) are.accepted.accepted).to_within e u v on)
+  leads_within e u v on = go (slice_get parts.island.links e) refl on
+    where
+      go : (o : Option Link) → slice_get parts.island.links e ≡ o → option_and_then (far_node u) o ≡ Some v → v < length parts.island.ids
+      go None there is = cc
+      go (Some link) there is =
+          let kept = all_at (IsLink parts.island.ids) parts.island.links e link are.island_kept.links_kept there in
+          let less = kept.ascending in
+          let upper = kept.upper in
+          elim (far_ends link u v is) [
+            | inl up ↦ subst (λ (y : ℕ). y < length parts.island.ids) up.1 upper
+            | inr down ↦ subst (λ (y : ℕ). y < length parts.island.ids) down.1 (omega (arith, less, upper))
+          ]
 
   pub trail : (color : Color) (d n : ℕ) (hops : List Hop) → Follows (next_on parts color d) d n hops → Trail parts.island.links n hops d
-  trail color d n hops follows = follows_trail parts.island.links (next_on parts color d) (color_leads parts.island.links (row_of parts.cert) color d) d n hops follows
+  trail color d n hops follows = follows_trail parts.island.links (next_on parts color d) (color_leads parts.island.links parts.rows color d) d n hops follows
 
   met_within : (d n : ℕ) (hops : List Hop) → n < length parts.island.ids → Trail parts.island.links n hops d → (x : ℕ) → Has (nodes_on n hops) x → x < length parts.island.ids
   met_within d n [] within trail x has = elim has [ inl same ↦ subst (λ (y : ℕ). y < length parts.island.ids) same within | inr none ↦ absurd none ]
@@ -89,7 +104,7 @@ module _ (parts : FabricParts) (are : AreFabricParts parts) where
 
   -- the color walk uses what is on the way
   pub on_walk : (color : Color) (d n : ℕ) (hops : List Hop) → n < length parts.island.ids → Follows (next_on parts color d) d n hops → Differ (nodes_on n hops)
-      → (x : Element) → On n hops x → UsesOn parts.island.links (length parts.island.ids) (row_of parts.cert) n d x color
+      → (x : Element) → On n hops x → UsesOn parts.island.links (length parts.island.ids) parts.rows n d x color
   on_walk color d n hops within follows differ x on =
       let short = way_short color d n hops within follows differ in
       let same : links_followed (next_on parts color d) d (length parts.island.ids) n ≡ links_on hops =

@@ -9,7 +9,7 @@ use Rattle.fabric.specs.Runs.{IsRun}
 use Rattle.fabric.specs.declared.event.Event.{Event}
 use Rattle.fabric.specs.declared.packet.Packet.{Packet}
 use Rattle.fabric.proofs.Effects.{AfterEnd, Apart, Effect, FailsNow, Handled, Made, effect}
-use Rattle.fabric.proofs.LifeSteps.{life_begins}
+use Rattle.fabric.proofs.LifeSteps.{entering_kept}
 use Rattle.fabric.proofs.PacketChains.{Chain, next_of}
 use Rattle.fabric.proofs.PacketVisits.{all_different, color_differ, modes_kept, primary_differ}
 use Rattle.fabric.proofs.SmallIslands.{island_small}
@@ -42,7 +42,7 @@ module _ (parts : FabricParts) (are : AreFabricParts parts) (p : ℕ) where
       go (Apart same failure to) on = rw (to.makes_is, to.handles_is) (on q (same ∙ there))
       go (FailsNow failed same none kept element to) on = rw (to.makes_is, to.handles_is) (on q (same ∙ there))
       go (AfterEnd q' before ended same failure to) on = rw (to.makes_is, to.handles_is) (on q (same ∙ there))
-      go (Made at t entry none now failure may to) on = cc
+      go (Made at t entry is none now failure may to) on = cc
       go (Handled q' outcome before going handled now failure to) on =
           let same : q' ≡ q = let e : Some q' ≡ Some q = sym before ∙ there in cc in
           subst (λ (x : Packet). Chain parts x (course p old (event ∷ events) (answer ∷ answers))) same
@@ -64,10 +64,10 @@ module _ (parts : FabricParts) (are : AreFabricParts parts) (p : ℕ) where
       go (FailsNow failed same nothing kept element to) on = rw (to.makes_is, to.handles_is) (on (same ∙ none))
       go (AfterEnd q before ended same failure to) on = rw (to.makes_is, to.handles_is) (on (same ∙ none))
       go (Handled q outcome before going handled now failure to) on = cc
-      go (Made at t entry nothing now failure may to) on = inr (record {
+      go (Made at t entry is nothing now failure may to) on = inr (record {
         q = entering at t entry;
         rest = course p (state_after old event answer) events answers;
-        kept = (life_begins parts are (island_small parts are) None at t entry may).kept;
+        kept = entering_kept parts are.kept (island_small parts are.kept) at t entry may;
         chain = course_chain events answers (state_after old event answer) new (entering at t entry) (next_run old new event events answer answers run) now;
         same = rw (to.makes_is, now) refl;
       })

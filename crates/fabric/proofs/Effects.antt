@@ -31,7 +31,7 @@ pub record AreTo (p : ℕ) (event : Event) (answer : Answer) (own : List OwnEven
 pub data Effect (parts : FabricParts) (p : ℕ) (old new : FabricState) (event : Event) (answer : Answer) : Type 0 where
   Apart : slice_get new.packets p ≡ slice_get old.packets p → new.failure ≡ old.failure
       → AreTo p event answer [] [] false false → Effect parts p old new event answer
-  Made : (at to : ℕ) (entry : Entry) → slice_get old.packets p ≡ None → slice_get new.packets p ≡ Some (entering at to entry)
+  Made : (at to : ℕ) (entry : Entry) → event ≡ Inject at to entry → slice_get old.packets p ≡ None → slice_get new.packets p ≡ Some (entering at to entry)
       → new.failure ≡ old.failure → MayEnter parts at to entry
       → AreTo p event answer (Enters at to entry ∷ []) [] true false → Effect parts p old new event answer
   FailsNow : (failed : Failure) → slice_get new.packets p ≡ slice_get old.packets p → old.failure ≡ None
@@ -63,7 +63,7 @@ module _ (parts : FabricParts) (p : ℕ) (old : FabricState) where
         let none : slice_get old.packets p ≡ None = slice_get_past old.packets p (omega (arith, same)) in
         let there : slice_get (old.packets ++ entering at to entry ∷ []) p ≡ Some (entering at to entry) =
         subst (λ (k : ℕ). slice_get (old.packets ++ entering at to entry ∷ []) k ≡ Some (entering at to entry)) same (at_last old.packets (entering at to entry)) in
-        Made at to entry none there refl may (record {
+        Made at to entry refl none there refl may (record {
           own_is = rw (eq-eqb (length old.packets) p same) refl;
           answers_is = refl;
           makes_is = eq-eqb (length old.packets) p same;

@@ -18,7 +18,7 @@ use Rattle.mrt_graph.specs.SameGraph.{same_id}
 use Rattle.mrt_graph.specs.declared.node_id.NodeId.{NodeId}
 use Rattle.mrt_graph.proofs.NodeIds.{one_place}
 use Rattle.mrt_graph.proofs.Tallies.{count_is_tally, counted_at, position_of_one, tally}
-use Rattle.fabric.specs.FabricParts.{AreFabricParts, FabricParts, link_at, node_at}
+use Rattle.fabric.specs.FabricParts.{ArePartsKept, FabricParts, link_at, node_at}
 
 -- a node of the area and the island node that it is have one identifier
 pub record IsOne (parts : FabricParts) (s n : ℕ) : Type 0 where
@@ -38,7 +38,7 @@ is_one parts s n is = go (slice_get parts.area.ids s) refl is
     go None there is = cc
     go (Some id) there is = record { id = id; in_area = there; in_island = placed parts.island.ids id n is }
 
-module _ (parts : FabricParts) (are : AreFabricParts parts) where
+module _ (parts : FabricParts) (are : ArePartsKept parts) where
   -- an island node is one node of the area
   pub one_spot : (s s' n : ℕ) → node_at parts s ≡ Some n → node_at parts s' ≡ Some n → s ≡ s'
   one_spot s s' n is is' =
@@ -95,7 +95,7 @@ number_there ids id n ascend there =
     let here : k ≡ n = one_place ids k n id ascend (slice_get-get_or ids k id (omega (arith, less, within)) ∙ ap (λ x. Some x) (sym same)) there in
     omega (arith, here, less)))
 
-module _ (parts : FabricParts) (are : AreFabricParts parts) where
+module _ (parts : FabricParts) (are : ArePartsKept parts) where
   -- a node of the area that has the identifier of an island node is this island node
   pub node_of_id : (s n : ℕ) (id : NodeId) → slice_get parts.area.ids s ≡ Some id → slice_get parts.island.ids n ≡ Some id → node_at parts s ≡ Some n
   node_of_id s n id there here = rw there (number_there parts.island.ids id n are.island_kept.ids_ascend here)

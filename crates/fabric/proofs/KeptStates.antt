@@ -6,7 +6,7 @@ use Rattle.std.proofs.lemmas.Bool.{cases_eq}
 use Rattle.std.proofs.lemmas.List.{length-append, length-set}
 use Rattle.std.proofs.lemmas.Option.{same_Some, slice_get_past, slice_get_read, slice_get_within}
 use Rattle.fabric.specs.Answers.{Answered, GetsNumber, HasEnded, IsStepAnswer, MayEnter, NoPacket}
-use Rattle.fabric.specs.FabricParts.{AreFabricParts, FabricParts}
+use Rattle.fabric.specs.FabricParts.{ArePartsKept, AreRowsFor, FabricParts}
 use Rattle.fabric.specs.FabricState.{entering, packet_after, state_after, state_of}
 use Rattle.fabric.specs.FabricStep.{FabricStep}
 use Rattle.fabric.specs.Handling.{IsHandled}
@@ -19,30 +19,30 @@ use Rattle.fabric.specs.declared.event.Refused.TheVariants as refusals
 use Rattle.fabric.specs.declared.packet.Entry.{Entry}
 use Rattle.fabric.specs.declared.packet.Packet.{Packet}
 use Rattle.fabric.specs.declared.packet.State.TheVariants as states
-use Rattle.fabric.proofs.LifeSteps.{life_begins}
+use Rattle.fabric.proofs.LifeSteps.{entering_kept}
 use Rattle.fabric.proofs.PacketChains.{kept_next, next_of}
 use Rattle.fabric.proofs.SmallIslands.{island_small}
 use Rattle.mrt_graph.proofs.ListPlaces.{pushed_at, set_elsewhere, set_there}
 
-module _ (parts : FabricParts) (are : AreFabricParts parts) (packets : List Packet) (failure : Option Failure) (room : ℕ) (kept : IsKeptState parts (state_of packets failure room)) where
+module _ (parts : FabricParts) (are : ArePartsKept parts) (packets : List Packet) (failure : Option Failure) (room : ℕ) (kept : IsKeptState parts (state_of packets failure room)) where
   pub kept_entered : (at to : ℕ) (entry : Entry) → MayEnter parts at to entry → length packets < room → IsKeptState parts (state_of (packets ++ entering at to entry ∷ []) failure room)
   kept_entered at to entry may less = record {
     packets = λ p packet there. elim (pushed_at packets (entering at to entry) packet p there) [
       | inl before ↦ kept.packets p packet before
-      | inr last ↦ subst (λ (q : Packet). IsKeptPacket parts q) last.1 (life_begins parts are (island_small parts are) failure at to entry may).kept
+      | inr last ↦ subst (λ (q : Packet). IsKeptPacket parts q) last.1 (entering_kept parts are (island_small parts are) at to entry may)
     ];
     failure = kept.failure;
     few = omega (arith, less, length-append packets (entering at to entry ∷ []));
   }
 
-  pub kept_handled : (p : ℕ) (q : Packet) (outcome : Outcome) → slice_get packets p ≡ Some q → q.state ≡ states.Going → IsHandled parts failure q outcome
+  pub kept_handled : (p : ℕ) (q : Packet) (outcome : Outcome) → AreRowsFor parts q.to → slice_get packets p ≡ Some q → q.state ≡ states.Going → IsHandled parts failure q outcome
       → IsKeptState parts (state_of (slice_set packets p (packet_after outcome q)) failure room)
-  kept_handled p q outcome there going handled = record {
+  kept_handled p q outcome served there going handled = record {
     packets = λ k packet at. elim (cases_eq k p) [
       | inl here ↦
           let now : slice_get (set packets p (packet_after outcome q)) p ≡ Some packet = subst (λ (j : ℕ). slice_get (set packets p (packet_after outcome q)) j ≡ Some packet) here at in
           let same : packet_after outcome q ≡ packet = same_Some _ _ (sym (set_there packets p (packet_after outcome q) (slice_get_within packets p q there)) ∙ now) in
-          subst (λ (x : Packet). IsKeptPacket parts x) same (kept_next parts are q (packet_after outcome q) (kept.packets p q there) going (next_of parts failure q outcome handled))
+          subst (λ (x : Packet). IsKeptPacket parts x) same (kept_next parts are q (packet_after outcome q) served (kept.packets p q there) going (next_of parts failure q outcome handled))
       | inr other ↦ kept.packets k packet (sym (set_elsewhere packets p k (packet_after outcome q) other) ∙ at)
     ];
     failure = kept.failure;

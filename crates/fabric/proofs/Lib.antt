@@ -1,5 +1,6 @@
 pub mod ColorHops
 pub mod ColorWays
+pub mod Destinations
 pub mod Effects
 pub mod EnterOrNot
 pub mod Islands
@@ -17,6 +18,8 @@ pub mod PacketChains
 pub mod PacketVisits
 pub mod Routed
 pub mod RunLives
+pub mod SameRuns
+pub mod ServedRows
 pub mod SmallIslands
 pub mod SomeAnswer
 pub mod SomeHop

@@ -3,7 +3,7 @@ use Rattle.std.proofs.Common.{◌≡◌, ◌≢◌, ◌⊎◌, ◌<◌, ◌≤�
 use Rattle.std.specs.Prelude.{IsSome}
 use Rattle.std.specs.Option.{option_map}
 use Rattle.std.proofs.lemmas.Option.{same_Some}
-use Rattle.fabric.specs.FabricParts.{AreFabricParts, FabricParts, element_at, node_at}
+use Rattle.fabric.specs.FabricParts.{ArePartsKept, FabricParts, element_at, node_at}
 use Rattle.fabric.specs.Handling.{Arrives, AtDestination, AtFailed, HasHop, IsHandled, Moves, OnColor, OutsideIsland, Repaired, Unreachable, Unrepaired}
 use Rattle.fabric.specs.KeptState.{IsKeptPacket}
 use Rattle.fabric.specs.PacketHop.{IsColorHop, IsCut, IsHop, PacketHop}
@@ -93,7 +93,7 @@ pub inside_is : (o : Option ℕ) → IsSome o → (n : ℕ) × (o ≡ Some n)
 inside_is None some = cc
 inside_is (Some n) some = (n, refl)
 
-module _ (parts : FabricParts) (are : AreFabricParts parts) (small : length parts.island.ids ≤ length parts.area.ids) where
+module _ (parts : FabricParts) (are : ArePartsKept parts) (small : length parts.island.ids ≤ length parts.area.ids) where
   -- two nodes that differ
   two : (q : Packet) → IsKeptPacket parts q → q.state ≡ states.Going → 2 ≤ length parts.area.ids
   two q kept going =

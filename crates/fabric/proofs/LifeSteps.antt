@@ -3,7 +3,7 @@ use Rattle.std.proofs.Common.{◌≡◌, ◌≢◌, ◌⊎◌, ◌<◌, ◌≤�
 use Rattle.std.specs.Prelude.{IsSome}
 use Rattle.std.proofs.lemmas.Option.{same_Some}
 use Rattle.fabric.specs.Answers.{AreInside, IsOpen, MayEnter}
-use Rattle.fabric.specs.FabricParts.{AreFabricParts, FabricParts, element_at, node_at}
+use Rattle.fabric.specs.FabricParts.{ArePartsKept, AreRowsFor, FabricParts, element_at, node_at}
 use Rattle.fabric.specs.FabricState.{entering, mode_of, packet_after}
 use Rattle.fabric.specs.Handling.{Arrives, AtDestination, AtFailed, IsHandled, IsRepairedBy, Moves, OnColor, OutsideIsland, Repaired, Unreachable, Unrepaired}
 use Rattle.fabric.specs.KeptState.{IsKeptPacket}
@@ -26,7 +26,6 @@ use Rattle.mrt_graph.specs.declared.cert.Color.{Color}
 use Rattle.mrt_graph.specs.declared.cert.Color.TheVariants.{Blue, Red}
 use Rattle.mrt_graph.specs.declared.link.Element.{Element}
 use Rattle.mrt_graph.specs.Alternate.{AtEnd, ByBlue, ByRed, IsAlternate, OnBoth, Outside, UsesOn}
-use Rattle.mrt_graph.specs.Certificate.{row_of}
 use Rattle.mrt_graph.specs.GraphInvariant.{IsNetwork}
 use Rattle.mrt_graph.proofs.Members.{Has}
 use Rattle.mrt_graph.proofs.Trails.{Differ}
@@ -36,7 +35,7 @@ use Rattle.primary_alt.proofs.RouterFacts.{router_alone, router_within}
 pub some_inside : (parts : FabricParts) (v m : ℕ) → node_at parts v ≡ Some m → IsSome (node_at parts v)
 some_inside parts v m at = rw at refl
 
-module _ (parts : FabricParts) (are : AreFabricParts parts) (small : length parts.island.ids ≤ length parts.area.ids) where
+module _ (parts : FabricParts) (are : ArePartsKept parts) (small : length parts.island.ids ≤ length parts.area.ids) where
   -- a packet that moves
   pub moved_kept : (q : Packet) (hop : PacketHop) → IsKeptPacket parts q → hop.next < length parts.area.ids → (q.mode ≢ modes.Primary → IsSome (node_at parts hop.next))
       → ¬ IsNetwork parts.area.ids hop.next → hop.next ≢ q.to → IsKeptPacket parts (record q { place = hop.next })
@@ -141,27 +140,27 @@ module _ (parts : FabricParts) (are : AreFabricParts parts) (small : length part
 
   -- a color that is given does not use the failure
   given_avoids : (x : Element) (n d : ℕ) (color : Color) (o : Option Element) (answer : Option Color) → o ≡ Some x → answer ≡ Some color
-      → IsAlternate parts.island.links (length parts.island.ids) (row_of parts.cert) n d o answer
-      → UsesOn parts.island.links (length parts.island.ids) (row_of parts.cert) n d x color → ⊥
+      → IsAlternate parts.island.links (length parts.island.ids) parts.rows n d o answer
+      → UsesOn parts.island.links (length parts.island.ids) parts.rows n d x color → ⊥
   given_avoids x n d color o answer is given Outside = cc
   given_avoids x n d color o answer is given (AtEnd y end) = cc
   given_avoids x n d color o answer is given (OnBoth y between blue red) = cc
   given_avoids x n d color o answer is given (ByBlue y between not_blue) =
       let same : y ≡ x = same_Some _ _ is in
       let same' : Blue ≡ color = same_Some _ _ given in
-      λ uses. not_blue (subst (λ (z : Element). UsesOn parts.island.links (length parts.island.ids) (row_of parts.cert) n d z Blue) (sym same)
-      (subst (λ (c : Color). UsesOn parts.island.links (length parts.island.ids) (row_of parts.cert) n d x c) (sym same') uses))
+      λ uses. not_blue (subst (λ (z : Element). UsesOn parts.island.links (length parts.island.ids) parts.rows n d z Blue) (sym same)
+      (subst (λ (c : Color). UsesOn parts.island.links (length parts.island.ids) parts.rows n d x c) (sym same') uses))
   given_avoids x n d color o answer is given (ByRed y between blue not_red) =
       let same : y ≡ x = same_Some _ _ is in
       let same' : Red ≡ color = same_Some _ _ given in
-      λ uses. not_red (subst (λ (z : Element). UsesOn parts.island.links (length parts.island.ids) (row_of parts.cert) n d z Red) (sym same)
-      (subst (λ (c : Color). UsesOn parts.island.links (length parts.island.ids) (row_of parts.cert) n d x c) (sym same') uses))
+      λ uses. not_red (subst (λ (z : Element). UsesOn parts.island.links (length parts.island.ids) parts.rows n d z Red) (sym same)
+      (subst (λ (c : Color). UsesOn parts.island.links (length parts.island.ids) parts.rows n d x c) (sym same') uses))
 
   -- the whole way on a color
-  pub whole_way : (color : Color) (q : Packet) (n d : ℕ) → IsKeptPacket parts q → q.place ≢ q.to → node_at parts q.place ≡ Some n → node_at parts q.to ≡ Some d → IsLeft parts color q
-  whole_way color q n d kept apart at to =
+  pub whole_way : (color : Color) (q : Packet) (n d : ℕ) → AreRowsFor parts q.to → IsKeptPacket parts q → q.place ≢ q.to → node_at parts q.place ≡ Some n → node_at parts q.to ≡ Some d → IsLeft parts color q
+  whole_way color q n d served kept apart at to =
       let apart' : n ≢ d = λ same. apart (one_spot parts are q.place q.to d (at ∙ ap (λ (y : ℕ). Some y) same) to) in
-      let w = way parts are color n d (node_within parts are q.place n at) (node_within parts are q.to d to) apart' in
+      let w = way parts are color n d (served d to) (node_within parts are q.place n at) (node_within parts are q.to d to) apart' in
       record { n = n; d = d; at = at; to = to; hops = w.hops; follows = w.follows; differ = w.differ }
 
   whole_short : (color : Color) (q : Packet) (left : IsLeft parts color q) → length left.hops + 1 ≤ length parts.area.ids
@@ -181,10 +180,10 @@ module _ (parts : FabricParts) (are : AreFabricParts parts) (small : length part
     apart = kept.apart;
   }
 
-  switched_life : (failure : Option Failure) (q : Packet) (steps : ℕ) (color : Color) → Lives parts failure q steps → q.state ≡ states.Going → q.mode ≡ modes.Primary
+  switched_life : (failure : Option Failure) (q : Packet) (steps : ℕ) (color : Color) → AreRowsFor parts q.to → Lives parts failure q steps → q.state ≡ states.Going → q.mode ≡ modes.Primary
       → IsRepairedBy parts failure q (Some color) → Lives parts failure (record q { mode = modes.Switched color }) (steps + 1)
   unfolding whole_way
-  switched_life failure q steps color lives going mode by = go lives.life
+  switched_life failure q steps color served lives going mode by = go lives.life
     where
       kept' : IsKeptPacket parts (record q { mode = modes.Switched color })
       kept' = switched_kept q color lives.kept (some_inside parts q.place by.at by.place) (some_inside parts q.to by.to by.destination)
@@ -192,7 +191,7 @@ module _ (parts : FabricParts) (are : AreFabricParts parts) (small : length part
       go : Life parts failure q steps → Lives parts failure (record q { mode = modes.Switched color }) (steps + 1)
       go (HasEnded ended few never) = absurd (ended going)
       go (OnPrimary visited mode' going' differ below count farther) =
-          let left = whole_way color (record q { mode = modes.Switched color }) by.at by.to kept' (lives.kept.apart going) by.place by.destination in
+          let left = whole_way color (record q { mode = modes.Switched color }) by.at by.to served kept' (lives.kept.apart going) by.place by.destination in
           let short = whole_short color (record q { mode = modes.Switched color }) left in
           let few = visited_few parts are small q visited lives.kept differ below in
           record {
@@ -208,21 +207,21 @@ module _ (parts : FabricParts) (are : AreFabricParts parts) (small : length part
       go (OnSwitched c mode' going' left few avoids) = cc
 
   -- each outcome
-  pub life_after : (failure : Option Failure) (q : Packet) (steps : ℕ) → Lives parts failure q steps → q.state ≡ states.Going → (outcome : Outcome) → IsHandled parts failure q outcome
+  pub life_after : (failure : Option Failure) (q : Packet) (steps : ℕ) → AreRowsFor parts q.to → Lives parts failure q steps → q.state ≡ states.Going → (outcome : Outcome) → IsHandled parts failure q outcome
       → Lives parts failure (packet_after outcome q) (steps + 1)
-  life_after failure q steps lives going outcome (AtFailed is) = lost_life parts are small failure q steps losses.Inside lives going (AtFailed is)
-  life_after failure q steps lives going outcome (Unreachable stands primary none) = lost_life parts are small failure q steps losses.NoRoute lives going (Unreachable stands primary none)
-  life_after failure q steps lives going outcome (Moves hop has uncut other) = moved_life failure q steps hop lives going has.is other
-  life_after failure q steps lives going outcome (Arrives hop has uncut here) = delivered_life failure q steps lives going
-  life_after failure q steps lives going outcome (AtDestination hop has there destination) =
+  life_after failure q steps served lives going outcome (AtFailed is) = lost_life parts are small failure q steps losses.Inside lives going (AtFailed is)
+  life_after failure q steps served lives going outcome (Unreachable stands primary none) = lost_life parts are small failure q steps losses.NoRoute lives going (Unreachable stands primary none)
+  life_after failure q steps served lives going outcome (Moves hop has uncut other) = moved_life failure q steps hop lives going has.is other
+  life_after failure q steps served lives going outcome (Arrives hop has uncut here) = delivered_life failure q steps lives going
+  life_after failure q steps served lives going outcome (AtDestination hop has there destination) =
       lost_life parts are small failure q steps losses.IsDestination lives going (AtDestination hop has there destination)
-  life_after failure q steps lives going outcome (OnColor off other) = lost_life parts are small failure q steps losses.ColorCut lives going (OnColor off other)
-  life_after failure q steps lives going outcome (OutsideIsland off primary outside) = lost_life parts are small failure q steps losses.Outside lives going (OutsideIsland off primary outside)
-  life_after failure q steps lives going outcome (Unrepaired off primary by) = lost_life parts are small failure q steps losses.NoAlternate lives going (Unrepaired off primary by)
-  life_after failure q steps lives going outcome (Repaired color off primary by) = switched_life failure q steps color lives going primary by
+  life_after failure q steps served lives going outcome (OnColor off other) = lost_life parts are small failure q steps losses.ColorCut lives going (OnColor off other)
+  life_after failure q steps served lives going outcome (OutsideIsland off primary outside) = lost_life parts are small failure q steps losses.Outside lives going (OutsideIsland off primary outside)
+  life_after failure q steps served lives going outcome (Unrepaired off primary by) = lost_life parts are small failure q steps losses.NoAlternate lives going (Unrepaired off primary by)
+  life_after failure q steps served lives going outcome (Repaired color off primary by) = switched_life failure q steps color served lives going primary by
 
   -- where it enters
-  entering_kept : (at to : ℕ) (entry : Entry) → MayEnter parts at to entry → IsKeptPacket parts (entering at to entry)
+  pub entering_kept : (at to : ℕ) (entry : Entry) → MayEnter parts at to entry → IsKeptPacket parts (entering at to entry)
   entering_kept at to entry may = record {
     place = router_within parts.area.ids at may.router;
     to = may.destination;
@@ -237,8 +236,8 @@ module _ (parts : FabricParts) (are : AreFabricParts parts) (small : length part
       inside entries.Red color are = are
       inside entries.Repair color anywhere = absurd (color refl)
 
-  pub life_begins : (failure : Option Failure) (at to : ℕ) (entry : Entry) → MayEnter parts at to entry → Lives parts failure (entering at to entry) 0
-  life_begins failure at to entry may = record { kept = kept; life = go entry refl }
+  pub life_begins : (failure : Option Failure) (at to : ℕ) (entry : Entry) → AreRowsFor parts to → MayEnter parts at to entry → Lives parts failure (entering at to entry) 0
+  life_begins failure at to entry served may = record { kept = kept; life = go entry refl }
     where
       kept : IsKeptPacket parts (entering at to entry)
       kept = entering_kept at to entry may
@@ -247,7 +246,7 @@ module _ (parts : FabricParts) (are : AreFabricParts parts) (small : length part
       on_color color mode =
           let n = inside_is (node_at parts at) (kept.place_inside (λ primary. cc)) in
           let d = inside_is (node_at parts to) (kept.to_inside (λ primary. cc)) in
-          let left = whole_way color (entering at to entry) n.0 d.0 kept (kept.apart refl) n.1 d.1 in
+          let left = whole_way color (entering at to entry) n.0 d.0 served kept (kept.apart refl) n.1 d.1 in
           let short = whole_short color (entering at to entry) left in
           OnEntered color mode refl left (omega (arith, short))
 

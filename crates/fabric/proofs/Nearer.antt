@@ -5,7 +5,7 @@ use Rattle.std.proofs.lemmas.Option.{same_Some}
 use Rattle.area_graph.specs.AreaInvariant.{IsArea}
 use Rattle.area_graph.specs.Parts.{AreaParts}
 use Rattle.area_graph.specs.declared.area_types.Arc.{Arc}
-use Rattle.fabric.specs.FabricParts.{AreFabricParts, FabricParts}
+use Rattle.fabric.specs.FabricParts.{ArePartsKept, FabricParts}
 use Rattle.fabric.specs.PacketHop.{AreOver, IsPrimaryHop, One, PacketHop, Two}
 use Rattle.fabric.specs.declared.event.Failure.{Failure}
 use Rattle.fabric.specs.declared.event.Failure.TheVariants as failures
@@ -89,7 +89,7 @@ pub record Nearer (parts : FabricParts) (x t : ℕ) (hop : PacketHop) : Type 0 w
   pub moves : hop.next ≢ x
   pub not_over : ¬ Contains hop.elements (failures.Node x)
 
-pub nearer_hop : (parts : FabricParts) → AreFabricParts parts → (x t : ℕ) (hop : PacketHop) → ¬ IsNetwork parts.area.ids x → IsPrimaryHop parts x t hop → Nearer parts x t hop
+pub nearer_hop : (parts : FabricParts) → ArePartsKept parts → (x t : ℕ) (hop : PacketHop) → ¬ IsNetwork parts.area.ids x → IsPrimaryHop parts x t hop → Nearer parts x t hop
 nearer_hop parts are x t hop router is =
     let set = is_set parts.area x t is.primary (Some is.primary) are.area_kept refl is.is in
     let rest = nearer parts.area are.area_kept x t set.distance is.primary router is.is set.is in
@@ -109,5 +109,5 @@ nearer_hop parts are x t hop router is =
     }
 
 -- where there is a primary hop, a walk leads
-pub hop_walks : (parts : FabricParts) → AreFabricParts parts → (x t : ℕ) (hop : PacketHop) → IsPrimaryHop parts x t hop → (walk : List Arc) × ArcWalk parts.area.arcs x walk t
+pub hop_walks : (parts : FabricParts) → ArePartsKept parts → (x t : ℕ) (hop : PacketHop) → IsPrimaryHop parts x t hop → (walk : List Arc) × ArcWalk parts.area.arcs x walk t
 hop_walks parts are x t hop is = let set = is_set parts.area x t is.primary (Some is.primary) are.area_kept refl is.is in (set.is.walk, set.is.leads)

@@ -1,7 +1,7 @@
 -- A packet has one hop, and one alternate.
 use Rattle.std.proofs.Common.{◌≡◌, ◌∙◌, ℕ, List, [], ◌∷◌, ◌++◌, Option, Some, None, refl, sym, ap, subst}
 use Rattle.std.proofs.lemmas.Option.{same_Some}
-use Rattle.fabric.specs.FabricParts.{AreFabricParts, FabricParts, node_at}
+use Rattle.fabric.specs.FabricParts.{ArePartsKept, FabricParts, node_at}
 use Rattle.area_graph.specs.Parts.{AreaParts}
 use Rattle.area_graph.specs.declared.area_types.Arc.{Arc}
 use Rattle.fabric.specs.PacketHop.{AreOver, IsColorHop, IsHop, IsOver, One, OverNetwork, PacketHop, Straight, Two, over_arc}
@@ -25,7 +25,7 @@ one_over b v = record { elements = Bond b ∷ Node v ∷ []; next = v }
 abbrev two_over : ℕ → ℕ → ℕ → ℕ → PacketHop
 two_over b v bond next = record { elements = Bond b ∷ Node v ∷ Bond bond ∷ Node next ∷ []; next = next }
 
-module _ (parts : FabricParts) (are : AreFabricParts parts) (color : Color) where
+module _ (parts : FabricParts) (are : ArePartsKept parts) (color : Color) where
   -- a hop over a link is over one bond, to one node
   same_over : (n d b v n' d' b' v' : ℕ) → n ≡ n' → d ≡ d' → IsOver parts color n d b v → IsOver parts color n' d' b' v' → (b ≡ b') × (v ≡ v')
   same_over n d b v n' d' b' v' same same' over over' =
@@ -69,7 +69,7 @@ same_primary_hop area hop other primary primary' same over over' next next' =
     let nexts : hop.next ≡ other.next = next ∙ ap (λ (p : Primary). p.next) same ∙ sym next' in
     λ i. record { elements = elements i; next = nexts i }
 
-pub one_hop : (parts : FabricParts) → AreFabricParts parts → (mode : Mode) (x t : ℕ) (hop other : PacketHop) → IsHop parts mode x t hop → IsHop parts mode x t other → hop ≡ other
+pub one_hop : (parts : FabricParts) → ArePartsKept parts → (mode : Mode) (x t : ℕ) (hop other : PacketHop) → IsHop parts mode x t hop → IsHop parts mode x t other → hop ≡ other
 one_hop parts are modes.Primary x t hop other is is' =
     let same : is.primary ≡ is'.primary = same_Some _ _ (one_entry parts.area x t (Some is.primary) (Some is'.primary) is.is is'.is) in
     same_primary_hop parts.area hop other is.primary is'.primary same is.elements is'.elements is.next is'.next

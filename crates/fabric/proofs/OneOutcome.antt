@@ -2,7 +2,7 @@
 use Rattle.std.proofs.Common.{◌≡◌, ◌≢◌, ◌⊎◌, ◌∙◌, ℕ, List, [], ◌∷◌, Option, Some, None, Ok, length, slice_get, inl, inr, refl, sym, ap, subst, arith}
 use Rattle.std.proofs.lemmas.Option.{same_Some}
 use Rattle.fabric.specs.Answers.{Answered, FailedBefore, GetsNumber, HasEnded, IsAnswer, IsFailAnswer, IsInjectAnswer, IsKept, IsStepAnswer, MayNotEnter, NoPacket, NoRoom, NotThere}
-use Rattle.fabric.specs.FabricParts.{AreFabricParts, FabricParts, element_at, node_at}
+use Rattle.fabric.specs.FabricParts.{ArePartsKept, FabricParts, element_at, node_at}
 use Rattle.fabric.specs.FabricState.{Answer, FabricState, state_after}
 use Rattle.fabric.specs.Runs.{IsRun}
 use Rattle.fabric.specs.Handling.{Arrives, AtDestination, AtFailed, HasHop, IsCutOff, IsHandled, IsRepairedBy, IsUnreachable, Moves, OnColor, OutsideIsland, Repaired, Unreachable, Unrepaired}
@@ -21,10 +21,9 @@ use Rattle.fabric.specs.declared.packet.Packet.{Packet}
 use Rattle.fabric.proofs.Nearer.{hop_walks}
 use Rattle.fabric.proofs.OneHop.{one_alternate, one_hop}
 use Rattle.mrt_graph.specs.Alternate.{IsAlternate}
-use Rattle.mrt_graph.specs.Certificate.{row_of}
 use Rattle.mrt_graph.specs.declared.cert.Color.{Color}
 
-module _ (parts : FabricParts) (are : AreFabricParts parts) (failure : Option Failure) (q : Packet) where
+module _ (parts : FabricParts) (are : ArePartsKept parts) (failure : Option Failure) (q : Packet) where
   -- the outcome that the alternate gives
   abbrev by_alternate : Option Color → Outcome
   by_alternate None = outcomes.Lost losses.NoAlternate
@@ -75,11 +74,11 @@ module _ (parts : FabricParts) (are : AreFabricParts parts) (failure : Option Fa
       let at : by.at ≡ by'.at = same_Some _ _ (sym by.place ∙ by'.place) in
       let to : by.to ≡ by'.to = same_Some _ _ (sym by.destination ∙ by'.destination) in
       let failed : by.failed ≡ by'.failed = same_Some _ _ (sym by.kept ∙ by'.kept) in
-      let there : IsAlternate parts.island.links (length parts.island.ids) (row_of parts.cert) by'.at by'.to (element_at parts by'.failed) answer =
-      subst (λ (f : Failure). IsAlternate parts.island.links (length parts.island.ids) (row_of parts.cert) by'.at by'.to (element_at parts f) answer) failed
-      (subst (λ (y : ℕ). IsAlternate parts.island.links (length parts.island.ids) (row_of parts.cert) by'.at y (element_at parts by.failed) answer) to
-      (subst (λ (y : ℕ). IsAlternate parts.island.links (length parts.island.ids) (row_of parts.cert) y by.to (element_at parts by.failed) answer) at by.is)) in
-      one_alternate parts.island.links (length parts.island.ids) (row_of parts.cert) by'.at by'.to (element_at parts by'.failed) answer other there by'.is
+      let there : IsAlternate parts.island.links (length parts.island.ids) parts.rows by'.at by'.to (element_at parts by'.failed) answer =
+      subst (λ (f : Failure). IsAlternate parts.island.links (length parts.island.ids) parts.rows by'.at by'.to (element_at parts f) answer) failed
+      (subst (λ (y : ℕ). IsAlternate parts.island.links (length parts.island.ids) parts.rows by'.at y (element_at parts by.failed) answer) to
+      (subst (λ (y : ℕ). IsAlternate parts.island.links (length parts.island.ids) parts.rows y by.to (element_at parts by.failed) answer) at by.is)) in
+      one_alternate parts.island.links (length parts.island.ids) parts.rows by'.at by'.to (element_at parts by'.failed) answer other there by'.is
 
   one_after_cut : (outcome other : Outcome) → AfterCut outcome → AfterCut other → outcome ≡ other
   one_after_cut outcome other (Colored color is) (Colored color' is') = is ∙ sym is'
@@ -155,7 +154,7 @@ one_fail_answer parts failure failed answer other (IsKept has none) (NotThere no
 one_fail_answer parts failure failed answer other (IsKept has none) (FailedBefore has' some) = absurd (some none)
 one_fail_answer parts failure failed answer other (IsKept has none) (IsKept has' none') = refl
 
-module _ (parts : FabricParts) (are : AreFabricParts parts) where
+module _ (parts : FabricParts) (are : ArePartsKept parts) where
   pub one_step_answer : (failure : Option Failure) (there there' : Option Packet) (answer other : Answer) → there ≡ there' → IsStepAnswer parts failure there answer
       → IsStepAnswer parts failure there' other → answer ≡ other
   one_step_answer failure there there' answer other same NoPacket NoPacket = refl

@@ -2,7 +2,7 @@
 use Rattle.std.proofs.Common.{◌≡◌, ◌∙◌, ℕ, List, [], ◌∷◌, Option, Some, None, Ok, Err, slice_get, refl, sym, ap, subst}
 use Rattle.std.proofs.lemmas.Option.{same_Some}
 use Rattle.fabric.specs.Answers.{Answered, HasEnded, IsStepAnswer}
-use Rattle.fabric.specs.FabricParts.{AreFabricParts, FabricParts}
+use Rattle.fabric.specs.FabricParts.{ArePartsKept, FabricParts}
 use Rattle.fabric.specs.FabricState.{Answer, FabricState, entering, packet_after, start, state_after}
 use Rattle.fabric.specs.OwnEvents.{Enters, Fails, OwnEvent, Steps, own_events, step_answers}
 use Rattle.fabric.specs.Runs.{IsRun}
@@ -26,7 +26,7 @@ OwnRun parts failure there (Steps ∷ events) answers =
     (q : Packet) × (there ≡ Some q) × ((answer : Answer) × ((rest : List Answer) × (answers ≡ answer ∷ rest) × IsStepAnswer parts failure (Some q) answer
     × OwnRun parts failure (Some (answered answer q)) events rest))
 
-module _ (parts : FabricParts) (are : AreFabricParts parts) where
+module _ (parts : FabricParts) (are : ArePartsKept parts) where
   one_own_run : (events : List OwnEvent) (failure : Option Failure) (there : Option Packet) (answers others : List Answer) → OwnRun parts failure there events answers
       → OwnRun parts failure there events others → answers ≡ others
   one_own_run [] failure there answers others one other = one ∙ sym other
@@ -68,7 +68,7 @@ module _ (parts : FabricParts) (are : AreFabricParts parts) where
             → OwnRun parts (state_after old event answer).failure (slice_get (state_after old event answer).packets p) (own_events p events answers) (step_answers p events answers)
             → OwnRun parts old.failure (slice_get old.packets p) (own_events p (event ∷ events) (answer ∷ answers)) (step_answers p (event ∷ events) (answer ∷ answers))
         go (Apart same failure to) rest = rw (to.own_is, to.answers_is) (same_start old.failure _ (slice_get old.packets p) _ (own_events p events answers) (step_answers p events answers) failure same rest)
-        go (Made at t entry none now failure may to) rest =
+        go (Made at t entry is none now failure may to) rest =
             rw (to.own_is, to.answers_is) (same_start old.failure _ (Some (entering at t entry)) _ (own_events p events answers) (step_answers p events answers) failure now rest)
         go (FailsNow failed same none kept element to) rest =
             rw (to.own_is, to.answers_is) (same_start (Some failed) _ (slice_get old.packets p) _ (own_events p events answers) (step_answers p events answers) kept same rest)
@@ -101,7 +101,7 @@ module _ (parts : FabricParts) (are : AreFabricParts parts) where
               ),
             )
 
-pub same_answers : (parts : FabricParts) → AreFabricParts parts → (room : ℕ) (events : List Event) (answers : List Answer) (end : FabricState) → IsRun parts (start room) events answers end
+pub same_answers : (parts : FabricParts) → ArePartsKept parts → (room : ℕ) (events : List Event) (answers : List Answer) (end : FabricState) → IsRun parts (start room) events answers end
     → (other : ℕ) (events' : List Event) (answers' : List Answer) (end' : FabricState) → IsRun parts (start other) events' answers' end'
     → (p q : ℕ) → own_events p events answers ≡ own_events q events' answers' → step_answers p events answers ≡ step_answers q events' answers'
 same_answers parts are room events answers end run other events' answers' end' run' p q same =

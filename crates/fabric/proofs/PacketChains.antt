@@ -2,7 +2,7 @@
 use Rattle.std.proofs.Common.{◌≡◌, ◌≢◌, ◌⊎◌, ◌∙◌, List, [], ◌∷◌, Option, inl, inr, refl, sym, ap, subst}
 use Rattle.std.specs.Prelude.{IsSome}
 use Rattle.fabric.specs.Course.{KeepsMode}
-use Rattle.fabric.specs.FabricParts.{AreFabricParts, FabricParts, node_at}
+use Rattle.fabric.specs.FabricParts.{ArePartsKept, AreRowsFor, FabricParts, node_at}
 use Rattle.fabric.specs.FabricState.{packet_after}
 use Rattle.fabric.specs.Handling.{Arrives, AtDestination, AtFailed, IsHandled, Moves, OnColor, OutsideIsland, Repaired, Unreachable, Unrepaired}
 use Rattle.fabric.specs.KeptState.{IsKeptPacket}
@@ -59,21 +59,21 @@ mode_on a b c (inl same) (inr (primary, later)) = inr (sym same ∙ primary, lat
 mode_on a b c (inr (primary, (color, is))) (inl same') = inr (primary, (color, same' ∙ is))
 mode_on a b c (inr (primary, (color, is))) (inr (primary', later)) = cc
 
-module _ (parts : FabricParts) (are : AreFabricParts parts) where
+module _ (parts : FabricParts) (are : ArePartsKept parts) where
   -- what is left of the way of a packet on a color
-  pub left_now : (color : Color) (q : Packet) → IsKeptPacket parts q → q.state ≡ states.Going → q.mode ≢ modes.Primary → IsLeft parts color q
-  left_now color q kept going mode =
+  pub left_now : (color : Color) (q : Packet) → AreRowsFor parts q.to → IsKeptPacket parts q → q.state ≡ states.Going → q.mode ≢ modes.Primary → IsLeft parts color q
+  left_now color q served kept going mode =
       let n = inside_is (node_at parts q.place) (kept.place_inside mode) in
       let d = inside_is (node_at parts q.to) (kept.to_inside mode) in
-      whole_way parts are (island_small parts are) color q n.0 d.0 kept (kept.apart going) n.1 d.1
+      whole_way parts are (island_small parts are) color q n.0 d.0 served kept (kept.apart going) n.1 d.1
 
   -- what is kept of a packet
-  pub kept_next : (q r : Packet) → IsKeptPacket parts q → q.state ≡ states.Going → Next parts q r → IsKeptPacket parts r
-  kept_next q r kept going (ByMove hop is other same) = subst (λ (p : Packet). IsKeptPacket parts p) (sym same) (go q.mode refl is)
+  pub kept_next : (q r : Packet) → AreRowsFor parts q.to → IsKeptPacket parts q → q.state ≡ states.Going → Next parts q r → IsKeptPacket parts r
+  kept_next q r served kept going (ByMove hop is other same) = subst (λ (p : Packet). IsKeptPacket parts p) (sym same) (go q.mode refl is)
     where
       on_color : (color : Color) → (q.mode ≡ modes.Entered color) ⊎ (q.mode ≡ modes.Switched color) → q.mode ≢ modes.Primary → IsKeptPacket parts (record q { place = hop.next })
       on_color color mode other' =
-          let left = left_now color q kept going other' in
+          let left = left_now color q served kept going other' in
           color_kept parts are (island_small parts are) color q left hop kept
           (step_on parts are (island_small parts are) color q kept going left hop (color_hop_of parts color q.mode q.place q.to hop mode is)) other
 
@@ -83,8 +83,8 @@ module _ (parts : FabricParts) (are : AreFabricParts parts) where
           moved_kept parts are (island_small parts are) q hop kept near.within (λ color. absurd (color mode)) (router_there parts are (island_small parts are) q.to hop.next near.ends other) other
       go (modes.Entered color) mode is = on_color color (inl mode) (λ primary. cc)
       go (modes.Switched color) mode is = on_color color (inr mode) (λ primary. cc)
-  kept_next q r kept going (ByArrival hop is here same) =
+  kept_next q r served kept going (ByArrival hop is here same) =
       subst (λ (p : Packet). IsKeptPacket parts p) (sym same) (delivered_kept parts are (island_small parts are) q kept)
-  kept_next q r kept going (ByLoss loss same) = subst (λ (p : Packet). IsKeptPacket parts p) (sym same) (ended_kept parts are (island_small parts are) q kept loss)
-  kept_next q r kept going (BySwitch color primary place to same) =
+  kept_next q r served kept going (ByLoss loss same) = subst (λ (p : Packet). IsKeptPacket parts p) (sym same) (ended_kept parts are (island_small parts are) q kept loss)
+  kept_next q r served kept going (BySwitch color primary place to same) =
       subst (λ (p : Packet). IsKeptPacket parts p) (sym same) (switched_kept parts are (island_small parts are) q color kept place to)

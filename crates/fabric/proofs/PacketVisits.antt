@@ -17,6 +17,7 @@ use Rattle.fabric.proofs.ColorHops.{Onward}
 use Rattle.fabric.proofs.Life.{IsFarther, IsLeft, color_hop_of, left_after, step_on}
 use Rattle.fabric.proofs.Nearer.{Nearer, nearer_hop}
 use Rattle.fabric.proofs.PacketChains.{ByArrival, ByLoss, ByMove, BySwitch, Chain, Next, kept_next, left_now, mode_next, mode_on}
+use Rattle.fabric.proofs.ServedRows.{served_to}
 use Rattle.fabric.proofs.SmallIslands.{island_small}
 use Rattle.mrt_graph.specs.Reaches.{AreDifferent}
 use Rattle.mrt_graph.specs.declared.cert.Color.{Color}
@@ -93,10 +94,10 @@ module _ (parts : FabricParts) (are : AreFabricParts parts) where
   later_primary : (q : Packet) (rest : List Packet) → Chain parts q rest → IsKeptPacket parts q → q.mode ≡ modes.Primary → (y : ℕ) → Has (visits is_primary rest) y
       → IsFarther parts q.to q.place y
   later_primary q [] chain kept mode y has = absurd has
-  later_primary q (r ∷ rest) chain kept mode y has = go chain.1 (visit_cases is_primary r rest y has) (later_primary r rest chain.2 (kept_next parts are q r kept chain.0 chain.1))
+  later_primary q (r ∷ rest) chain kept mode y has = go chain.1 (visit_cases is_primary r rest y has) (later_primary r rest chain.2 (kept_next parts are.kept q r (served_to parts are q.to) kept chain.0 chain.1))
     where
       near_of : (hop : PacketHop) → IsHop parts q.mode q.place q.to hop → Nearer parts q.place q.to hop
-      near_of hop is = nearer_hop parts are q.place q.to hop (kept.router chain.0) (subst (λ (m : Mode). IsHop parts m q.place q.to hop) mode is)
+      near_of hop is = nearer_hop parts are.kept q.place q.to hop (kept.router chain.0) (subst (λ (m : Mode). IsHop parts m q.place q.to hop) mode is)
 
       one : (hop : PacketHop) (near : Nearer parts q.place q.to hop) → hop.next ≡ y → IsFarther parts q.to q.place y
       one hop near same = subst (λ (v : ℕ). IsFarther parts q.to q.place v) same (record { far = near.distance; far_is = near.is; near = near.rest; near_is = near.rest_is; falls = near.falls })
@@ -132,10 +133,10 @@ module _ (parts : FabricParts) (are : AreFabricParts parts) where
   later_color color q [] chain kept mode left y has = absurd has
   later_color color q (r ∷ rest) chain kept mode left y has =
       go chain.1 (visit_cases is_on_color r rest y has)
-      (λ mode' left'. later_color color r rest chain.2 (kept_next parts are q r kept chain.0 chain.1) mode' left' y)
+      (λ mode' left'. later_color color r rest chain.2 (kept_next parts are.kept q r (served_to parts are q.to) kept chain.0 chain.1) mode' left' y)
     where
       on_of : (hop : PacketHop) → IsHop parts q.mode q.place q.to hop → Onward parts color q.to hop left.d left.hops
-      on_of hop is = step_on parts are (island_small parts are) color q kept chain.0 left hop (color_hop_of parts color q.mode q.place q.to hop mode is)
+      on_of hop is = step_on parts are.kept (island_small parts are.kept) color q kept chain.0 left hop (color_hop_of parts color q.mode q.place q.to hop mode is)
 
       here_is : (hop : PacketHop) (on : Onward parts color q.to hop left.d left.hops) → hop.next ≡ y → (m : ℕ) × (node_at parts y ≡ Some m) × Has (nodes_behind left.hops) m
       here_is hop on same = (on.m, subst (λ (v : ℕ). node_at parts v ≡ Some on.m) same on.at, on.nodes on.m (inl refl))
@@ -147,7 +148,7 @@ module _ (parts : FabricParts) (are : AreFabricParts parts) where
       go (ByMove hop is other same) (inl here) further = here_is hop (on_of hop is) (sym (ap (λ (p : Packet). p.place) same) ∙ here.2)
       go (ByMove hop is other same) (inr later) further =
           let on = on_of hop is in
-          let left' : IsLeft parts color (record q { place = hop.next }) = left_after parts are (island_small parts are) color q left hop on in
+          let left' : IsLeft parts color (record q { place = hop.next }) = left_after parts are.kept (island_small parts are.kept) color q left hop on in
           let further' : (q.mode ≡ modes.Entered color) ⊎ (q.mode ≡ modes.Switched color) → (left'' : IsLeft parts color (record q { place = hop.next })) → (m : ℕ) × (node_at parts y ≡ Some m) × Has (nodes_behind left''.hops) m =
           subst (λ (p : Packet). (p.mode ≡ modes.Entered color) ⊎ (p.mode ≡ modes.Switched color) → (left'' : IsLeft parts color p) → (m : ℕ) × (node_at parts y ≡ Some m) × Has (nodes_behind left''.hops) m) same
           (λ m l. further m l later) in
@@ -172,7 +173,7 @@ module _ (parts : FabricParts) (are : AreFabricParts parts) where
       let same : f.far ≡ f.near = one_distance parts.area.arcs q.place q.to f.far f.near f.far_is f.near_is in
       let falls = f.falls in
       omega (arith, same, falls))
-      (primary_differ r rest chain.2 (kept_next parts are q r kept chain.0 chain.1))
+      (primary_differ r rest chain.2 (kept_next parts are.kept q r (served_to parts are q.to) kept chain.0 chain.1))
 
   on_some : (mode : Mode) → is_on_color mode ≡ true → (color : Color) × ((mode ≡ modes.Entered color) ⊎ (mode ≡ modes.Switched color))
   on_some modes.Primary is = cc
@@ -186,11 +187,11 @@ module _ (parts : FabricParts) (are : AreFabricParts parts) where
       visits_differ is_on_color q (r ∷ rest)
       (λ is has.
       let on = on_some q.mode is in
-      let left = left_now parts are on.0 q kept chain.0 (not_primary q.mode (not-true (is_primary q.mode) is)) in
+      let left = left_now parts are.kept on.0 q (served_to parts are q.to) kept chain.0 (not_primary q.mode (not-true (is_primary q.mode) is)) in
       let found = later_color on.0 q (r ∷ rest) chain kept on.1 left q.place has in
       let same : found.0 ≡ left.n = same_Some _ _ (sym found.1 ∙ left.at) in
       left.differ.0 (subst (λ (m : ℕ). Has (nodes_behind left.hops) m) same found.2))
-      (color_differ r rest chain.2 (kept_next parts are q r kept chain.0 chain.1))
+      (color_differ r rest chain.2 (kept_next parts are.kept q r (served_to parts are q.to) kept chain.0 chain.1))
 
 -- from members to places
 at_place : {X : Type 0} (xs : List X) (d : X) (k : ℕ) → k < length xs → Has xs (get_or xs k d)

@@ -2,7 +2,7 @@
 use Rattle.std.proofs.Common.{◌≡◌, ◌≢◌, ◌<◌, ◌++◌, ℕ, List, Option, Some, None, length, slice_get, sym, subst}
 use Rattle.std.proofs.lemmas.Option.{same_Some, slice_get_within}
 use Rattle.area_graph.specs.Parts.{AreaParts}
-use Rattle.fabric.specs.FabricParts.{AreFabricParts, FabricParts, node_at}
+use Rattle.fabric.specs.FabricParts.{ArePartsKept, FabricParts, node_at}
 use Rattle.fabric.specs.Handling.{IsUnreachable}
 use Rattle.fabric.specs.PacketHop.{AreOver, One, Two}
 use Rattle.fabric.specs.declared.event.Failure.{Failure}
@@ -11,10 +11,10 @@ use Rattle.mrt_graph.specs.declared.node_id.NodeId.{NodeId}
 use Rattle.mrt_graph.proofs.ListTests.{there}
 use Rattle.primary_alt.specs.Primaries.{Direct, IsPrimary, Itself, NoWalk, Over}
 use Rattle.primary_alt.specs.RouteLists.{RouteLists}
-use Rattle.primary_alt.specs.RoutesMade.{AreMadeWith, IsNodeOf}
+use Rattle.primary_alt.specs.RoutesMade.{AreMade, IsNodeOf}
 use Rattle.primary_alt.specs.declared.shortest.Primary.{Primary}
 
-module _ (parts : FabricParts) (are : AreFabricParts parts) (routes : RouteLists) (made : AreMadeWith parts.area parts.island routes) where
+module _ (parts : FabricParts) (are : ArePartsKept parts) (routes : RouteLists) (made : AreMade parts.area parts.island routes) where
   pub routed_node : (s : ℕ) (node : Option ℕ) → s < length parts.area.ids → slice_get routes.nodes s ≡ Some node → node ≡ node_at parts s
   routed_node s node within is = let id = there parts.area.ids s within in go node id.0 (made.nodes.same s id.0 node id.1 is) id.1
     where

@@ -2,7 +2,7 @@
 use Rattle.std.proofs.Common.{◌≡◌, ◌<◌, ◌≤◌, ◌∙◌, ℕ, suc, List, [], ◌∷◌, Some, length, slice_get, inl, inr, refl, sym, ap, subst, arith}
 use Rattle.std.specs.Prelude.{Contains}
 use Rattle.std.proofs.lemmas.Option.{same_Some, slice_get_within}
-use Rattle.fabric.specs.FabricParts.{AreFabricParts, FabricParts}
+use Rattle.fabric.specs.FabricParts.{ArePartsKept, FabricParts}
 use Rattle.mrt_graph.specs.declared.node_id.NodeId.{NodeId}
 use Rattle.mrt_graph.proofs.Arrival.{at_most}
 use Rattle.mrt_graph.proofs.ListPlaces.{place_of}
@@ -64,7 +64,7 @@ spots_differ others (id ∷ ids) within once = (
 spots_within : (others ids : List NodeId) (within : (id : NodeId) → Contains ids id → Contains others id) (k : ℕ) → Has (spots others ids within) k → k < length others
 spots_within others ids within k has = let is = spot_is others ids within k has in slice_get_within others k is.id is.there
 
-pub island_small : (parts : FabricParts) → AreFabricParts parts → length parts.island.ids ≤ length parts.area.ids
+pub island_small : (parts : FabricParts) → ArePartsKept parts → length parts.island.ids ≤ length parts.area.ids
 island_small parts are =
     let within = are.fits.nodes in
     let few : length (spots parts.area.ids parts.island.ids within) ≤ length parts.area.ids =

@@ -23,9 +23,9 @@ use Rattle.fabric.specs.declared.packet.Entry.{Entry}
 use Rattle.fabric.proofs.EnterOrNot.{element_or_not, may_or_not}
 use Rattle.fabric.proofs.PacketChains.{left_now}
 use Rattle.fabric.proofs.RunLives.{IsAt, Living, Unmade, run_lives}
+use Rattle.fabric.proofs.ServedRows.{rows_on, served_to}
 use Rattle.fabric.proofs.SomeHop.{cut_or_not, kept_or_not, some_alternate, some_color_hop}
 use Rattle.mrt_graph.specs.Alternate.{IsAlternate}
-use Rattle.mrt_graph.specs.Certificate.{row_of}
 use Rattle.mrt_graph.specs.declared.cert.Color.{Color}
 use Rattle.primary_alt.specs.Primaries.{Direct, IsPrimary, Itself, NoWalk, Over}
 use Rattle.primary_alt.specs.Routers.{IsRouter}
@@ -46,11 +46,11 @@ module _ (parts : FabricParts) (are : AreFabricParts parts) (entries : ℕ → �
       go entry (Direct n arc apart first direct) = inl (_, record { primary = _; is = Direct n arc apart first direct; elements = One arc first.there; next = refl })
       go entry (Over n k arc onward apart first over second) = inl (_, record { primary = _; is = Over n k arc onward apart first over second; elements = Two k arc onward first.there second.there; next = refl })
   hop_or_none (modes.Entered color) is =
-      let left = left_now parts are color q kept going (λ primary. let e = sym is ∙ primary in cc) in
-      inl (some_color_hop parts are color q.place q.to left.n left.d left.hops left.at left.to (kept.apart going) left.follows)
+      let left = left_now parts are.kept color q (served_to parts are q.to) kept going (λ primary. let e = sym is ∙ primary in cc) in
+      inl (some_color_hop parts are.kept color q.place q.to left.n left.d left.hops left.at left.to (kept.apart going) left.follows)
   hop_or_none (modes.Switched color) is =
-      let left = left_now parts are color q kept going (λ primary. let e = sym is ∙ primary in cc) in
-      inl (some_color_hop parts are color q.place q.to left.n left.d left.hops left.at left.to (kept.apart going) left.follows)
+      let left = left_now parts are.kept color q (served_to parts are q.to) kept going (λ primary. let e = sym is ∙ primary in cc) in
+      inl (some_color_hop parts are.kept color q.place q.to left.n left.d left.hops left.at left.to (kept.apart going) left.follows)
 
   -- after a cut in primary mode
   repaired : IsCutOff parts failure q → q.mode ≡ modes.Primary → (failed : Failure) → failure ≡ Some failed → (n d : Option ℕ) → node_at parts q.place ≡ n → node_at parts q.to ≡ d
@@ -58,12 +58,12 @@ module _ (parts : FabricParts) (are : AreFabricParts parts) (entries : ℕ → �
   repaired off mode failed is None d at to = (_, OutsideIsland off mode (inl at))
   repaired off mode failed is (Some n) None at to = (_, OutsideIsland off mode (inr to))
   repaired off mode failed is (Some n) (Some d) at to =
-      go (some_alternate parts.island.links (length parts.island.ids) (row_of parts.cert) n d (element_at parts failed))
+      go (some_alternate parts.island.links (length parts.island.ids) parts.rows n d (element_at parts failed))
     where
-      by : (answer : Option Color) → IsAlternate parts.island.links (length parts.island.ids) (row_of parts.cert) n d (element_at parts failed) answer → IsRepairedBy parts failure q answer
+      by : (answer : Option Color) → IsAlternate parts.island.links (length parts.island.ids) parts.rows n d (element_at parts failed) answer → IsRepairedBy parts failure q answer
       by answer alternate = record { at = n; place = at; to = d; destination = to; failed = failed; kept = is; is = alternate }
 
-      go : (answer : Option Color) × IsAlternate parts.island.links (length parts.island.ids) (row_of parts.cert) n d (element_at parts failed) answer
+      go : (answer : Option Color) × IsAlternate parts.island.links (length parts.island.ids) parts.rows n d (element_at parts failed) answer
           → (outcome : Outcome) × IsHandled parts failure q outcome
       go (None, alternate) = (_, Unrepaired off mode (by None alternate))
       go (Some color, alternate) = (_, Repaired color off mode (by (Some color) alternate))
@@ -131,7 +131,7 @@ pub some_answer : (parts : FabricParts) → AreFabricParts parts → (entries : 
     → (event : Event) → (answer : Answer) × IsAnswer parts end event answer
 some_answer parts are entries primaries room events answers end run (Inject at to entry) = some_inject parts end at to entry
 some_answer parts are entries primaries room events answers end run (Fail failed) = some_fail parts end.failure failed
-some_answer parts are entries primaries room events answers end run (Step p) = go (run_lives parts are room events answers end run p)
+some_answer parts are entries primaries room events answers end run (Step p) = go (run_lives parts are.kept room events answers end (rows_on parts are events) run p)
   where
     answer_of : (q : Packet) → IsKeptPacket parts q → (answer : Answer) × IsStepAnswer parts end.failure (Some q) answer
     answer_of q kept = elim (going_or_not q.state) [
@@ -141,4 +141,4 @@ some_answer parts are entries primaries room events answers end run (Step p) = g
 
     go : IsAt parts p end (steps_of p events answers) → (answer : Answer) × IsStepAnswer parts end.failure (slice_get end.packets p) answer
     go (Unmade none count) = rw none (_, NoPacket)
-    go (Living q is lives) = rw is (answer_of q lives.kept)
+    go (Living q is served lives) = rw is (answer_of q lives.kept)

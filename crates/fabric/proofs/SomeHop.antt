@@ -4,14 +4,13 @@ use Rattle.std.specs.Prelude.{Contains}
 use Rattle.std.specs.Option.{option_and_then}
 use Rattle.std.proofs.lemmas.Bool.{cases_Bool, cases_eq}
 use Rattle.std.proofs.lemmas.Option.{slice_get_within}
-use Rattle.fabric.specs.FabricParts.{AreFabricParts, FabricParts, node_at}
+use Rattle.fabric.specs.FabricParts.{ArePartsKept, FabricParts, node_at}
 use Rattle.fabric.specs.PacketHop.{IsColorHop, IsCut, IsOver, OverNetwork, PacketHop, Straight}
 use Rattle.fabric.specs.declared.event.Failure.{Failure}
 use Rattle.fabric.specs.declared.event.Failure.TheVariants as failures
 use Rattle.fabric.proofs.ColorWays.{leads_within, next_on}
 use Rattle.fabric.proofs.Islands.{bond_there, one_spot, spot_there}
 use Rattle.mrt_graph.specs.Alternate.{AtEnd, ByBlue, ByRed, IsAlternate, OnBoth, Outside}
-use Rattle.mrt_graph.specs.Certificate.{row_of}
 use Rattle.mrt_graph.specs.ColorWalk.{color_walk}
 use Rattle.mrt_graph.specs.GraphInvariant.{IsNetwork}
 use Rattle.mrt_graph.specs.Hop.{Hop}
@@ -95,7 +94,7 @@ link_there links e s v is = go (slice_get links e) refl is
     go None there is = cc
     go (Some link) there is = slice_get_within links e link there
 
-module _ (parts : FabricParts) (are : AreFabricParts parts) (color : Color) where
+module _ (parts : FabricParts) (are : ArePartsKept parts) (color : Color) where
   -- the bond and the node of a hop on a color
   record IsFound (n d : ℕ) (h : Hop) : Type 0 where
     b : ℕ
@@ -105,7 +104,7 @@ module _ (parts : FabricParts) (are : AreFabricParts parts) (color : Color) wher
 
   found : (n d : ℕ) (h : Hop) → next_on parts color d n ≡ Some h → IsFound n d h
   found n d h row =
-      let on = color_leads parts.island.links (row_of parts.cert) color d n h row in
+      let on = color_leads parts.island.links parts.rows color d n h row in
       let bond = bond_there parts are h.link (link_there parts.island.links h.link n h.to on) in
       let spot = spot_there parts are h.to (leads_within parts are h.link n h.to on) in
       record { b = bond.0; v = spot.0; over = record { hop = h; row = row; link = bond.1; node = spot.1 }; at = spot.1 }

@@ -11,7 +11,6 @@ use Rattle.fabric.specs.declared.packet.Loss.TheVariants.{ColorCut, Inside, IsDe
 use Rattle.fabric.specs.declared.packet.Mode.TheVariants.{Entered, Primary}
 use Rattle.fabric.specs.declared.packet.Packet.{Packet}
 use Rattle.mrt_graph.specs.Alternate.{UsesOn}
-use Rattle.mrt_graph.specs.Certificate.{row_of}
 use Rattle.mrt_graph.specs.Separates.{Separates}
 use Rattle.mrt_graph.specs.declared.cert.Color.{Color}
 use Rattle.mrt_graph.specs.declared.link.Element.{Element}
@@ -48,7 +47,7 @@ pub record IsOnWalk (parts : FabricParts) (failure : Option Failure) (packet : P
   pub inside : IsInside parts packet at to
   pub x : Element
   pub failed : IsElement parts failure x
-  pub uses : UsesOn parts.island.links (length parts.island.ids) (row_of parts.cert) at to x color
+  pub uses : UsesOn parts.island.links (length parts.island.ids) parts.rows at to x color
 
 -- each loss of a packet has its cause, and comes exactly where this stands. Inside: its place has failed. NoRoute: in
 -- primary mode, its place has not failed, and no walk leads to its destination. IsDestination: its hop is cut, and its

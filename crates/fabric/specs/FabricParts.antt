@@ -1,5 +1,5 @@
 -- What the steps of packets read.
-use Rattle.std.specs.Prelude.{ℕ, List, Option, slice_get}
+use Rattle.std.specs.Prelude.{◌≡◌, ◌<◌, ℕ, List, Option, Some, length, slice_get}
 use Rattle.std.specs.Option.{option_and_then, option_map}
 use Rattle.area_graph.specs.AreaInvariant.{IsArea}
 use Rattle.area_graph.specs.Fits.{Fits}
@@ -7,26 +7,37 @@ use Rattle.area_graph.specs.Nodes.{number_of}
 use Rattle.area_graph.specs.Parts.{AreaParts}
 use Rattle.fabric.specs.declared.event.Failure.{Failure}
 use Rattle.fabric.specs.declared.event.Failure.TheVariants as failures
-use Rattle.mrt_graph.specs.Certificate.{Certificate}
+use Rattle.mrt_graph.specs.AcceptedFor.{IsAcceptedFor}
+use Rattle.mrt_graph.specs.Certificate.{Certificate, row_of}
 use Rattle.mrt_graph.specs.GraphInvariant.{IsTopology}
+use Rattle.mrt_graph.specs.Rows.{Rows}
 use Rattle.mrt_graph.specs.Topology.{Topology}
 use Rattle.mrt_graph.specs.declared.link.Element.{Element}
 use Rattle.mrt_graph.specs.declared.link.Element.TheVariants as elements
-use Rattle.mrt_graph.specs.AcceptedFor.{IsAcceptedFor}
 
--- the area; the island; the island's certificate; and the island link that each bond of the area is, if it is one
+-- the area; the island; the rows of the island's nodes; and the island link that each bond of the area is, if it is one
 pub record FabricParts : Type 0 where
   pub area : AreaParts
   pub island : Topology
-  pub cert : Certificate
+  pub rows : Rows
   pub link_of : List (Option ℕ)
 
--- the island fits the area by the list of links, and the certificate is accepted for the island
-pub record AreFabricParts (parts : FabricParts) : Type 0 where
+-- the island fits the area by the list of links
+pub record ArePartsKept (parts : FabricParts) : Type 0 where
   pub area_kept : IsArea parts.area
   pub island_kept : IsTopology parts.island
   pub fits : Fits parts.area parts.island parts.link_of
-  pub accepted : IsAcceptedFor parts.island parts.cert
+
+-- island node d is served: each node has that row for it which it has in a certificate that is accepted for the island
+pub record IsServed (parts : FabricParts) (d : ℕ) : Type 0 where
+  pub cert : Certificate
+  pub accepted : IsAcceptedFor parts.island cert
+  pub same : (s : ℕ) → parts.rows s d ≡ row_of cert s d
+
+-- the island fits the area by the list of links, and each of its nodes is served
+pub record AreFabricParts (parts : FabricParts) : Type 0 where
+  pub kept : ArePartsKept parts
+  pub served : (d : ℕ) → d < length parts.island.ids → IsServed parts d
 
 -- the island node that a node of the area is: the one with its identifier; none where it is outside the island
 abbrev pub node_at : FabricParts → ℕ → Option ℕ
@@ -40,3 +51,7 @@ link_at parts b = option_and_then (λ entry. entry) (slice_get parts.link_of b)
 abbrev pub element_at : FabricParts → Failure → Option Element
 element_at parts (failures.Node s) = option_map (λ n. elements.Node n) (node_at parts s)
 element_at parts (failures.Bond b) = option_map (λ e. elements.Link e) (link_at parts b)
+
+-- node t of the area is served: if it is a node of the island, that one is
+abbrev pub AreRowsFor : FabricParts → ℕ → Type 0
+AreRowsFor parts t = (d : ℕ) → node_at parts t ≡ Some d → IsServed parts d

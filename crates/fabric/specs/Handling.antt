@@ -13,7 +13,6 @@ use Rattle.fabric.specs.declared.packet.Loss.TheVariants.{ColorCut, Inside, IsDe
 use Rattle.fabric.specs.declared.packet.Mode.TheVariants.{Primary}
 use Rattle.fabric.specs.declared.packet.Packet.{Packet}
 use Rattle.mrt_graph.specs.Alternate.{IsAlternate}
-use Rattle.mrt_graph.specs.Certificate.{row_of}
 use Rattle.mrt_graph.specs.declared.cert.Color.{Color}
 use Rattle.primary_alt.specs.ArcWalk.{ArcWalk}
 
@@ -42,7 +41,7 @@ pub record IsRepairedBy (parts : FabricParts) (failure : Option Failure) (packet
   pub destination : node_at parts packet.to ≡ Some to
   pub failed : Failure
   pub kept : failure ≡ Some failed
-  pub is : IsAlternate parts.island.links (length parts.island.ids) (row_of parts.cert) at to (element_at parts failed) answer
+  pub is : IsAlternate parts.island.links (length parts.island.ids) parts.rows at to (element_at parts failed) answer
 
 -- the first of these that applies: the place of the packet has failed; it is in primary mode, and no walk leads to its
 -- destination; its hop is not cut, so that it moves to the next node, and is delivered if this is its destination; its

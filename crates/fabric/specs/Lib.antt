@@ -10,4 +10,6 @@ pub mod OutcomeText
 pub mod OwnEvents
 pub mod PacketHop
 pub mod Runs
+pub mod SameRows
+pub mod Served
 pub mod Viewed

@@ -7,7 +7,6 @@ use Rattle.fabric.specs.declared.event.Failure.{Failure}
 use Rattle.fabric.specs.declared.event.Failure.TheVariants.{Bond, Node}
 use Rattle.fabric.specs.declared.packet.Mode.{Mode}
 use Rattle.fabric.specs.declared.packet.Mode.TheVariants as modes
-use Rattle.mrt_graph.specs.Certificate.{row_of}
 use Rattle.mrt_graph.specs.GraphInvariant.{IsNetwork}
 use Rattle.mrt_graph.specs.Hop.{Hop, color_hop}
 use Rattle.mrt_graph.specs.declared.cert.Color.{Color}
@@ -44,7 +43,7 @@ pub record IsPrimaryHop (parts : FabricParts) (x t : ℕ) (hop : PacketHop) : Ty
 -- the hop on a color of island node n for island node d is over the link that bond b is, to the node that v is
 pub record IsOver (parts : FabricParts) (color : Color) (n d b v : ℕ) : Type 0 where
   pub hop : Hop
-  pub row : color_hop parts.island.links (row_of parts.cert) color d n ≡ Some hop
+  pub row : color_hop parts.island.links parts.rows color d n ≡ Some hop
   pub link : link_at parts b ≡ Some hop.link
   pub node : node_at parts v ≡ Some hop.to
 

@@ -2,7 +2,7 @@
 
 ghost use Rattle.std.specs.Prelude.{◌≡◌, ◌<◌, ◌↔◌, IsTrue, length};
 ghost use Rattle.fabric.specs.Answers.{AreInside, HasElement, IsOpen, MayEnter};
-ghost use Rattle.fabric.specs.FabricParts.{AreFabricParts};
+ghost use Rattle.fabric.specs.FabricParts.{ArePartsKept};
 ghost use Rattle.fabric.specs.FabricState.{entering, mode_of};
 ghost use Rattle.fabric.specs.Viewed.{AreRouted, viewed};
 
@@ -11,13 +11,13 @@ use crate::island::{is_at_network, node_of};
 use crate::packet::{Entry, Mode, Packet, State};
 use crate::parts::Parts;
 use area_graph::Spot;
-use mrt_graph::Color;
+use mrt_graph::{Color, RowsOf};
 
 /// Whether a packet may enter at a node for another one.
-pub fn may_enter(parts: &Parts, at: Spot, to: Spot, entry: Entry) -> bool
-    requires kept { AreFabricParts (viewed parts.now) }
+pub fn may_enter<R: RowsOf>(parts: &Parts<'_, R>, at: Spot, to: Spot, entry: Entry) -> bool
+    requires kept { ArePartsKept (viewed R.rows parts.now) }
     requires routed { AreRouted parts.now }
-    ensures { IsTrue result ↔ MayEnter (viewed parts.now) at to entry }
+    ensures { IsTrue result ↔ MayEnter (viewed R.rows parts.now) at to entry }
 {
     let count = parts.area.count();
     at.get() < count
@@ -28,12 +28,12 @@ pub fn may_enter(parts: &Parts, at: Spot, to: Spot, entry: Entry) -> bool
 }
 
 /// Whether an entry is open from one node to another.
-fn is_open(parts: &Parts, at: Spot, to: Spot, entry: Entry) -> bool
-    requires kept { AreFabricParts (viewed parts.now) }
+fn is_open<R: RowsOf>(parts: &Parts<'_, R>, at: Spot, to: Spot, entry: Entry) -> bool
+    requires kept { ArePartsKept (viewed R.rows parts.now) }
     requires routed { AreRouted parts.now }
     requires at { at < length parts.now.area.now.ids }
     requires to { to < length parts.now.area.now.ids }
-    ensures { IsTrue result ↔ IsOpen (viewed parts.now) at to entry }
+    ensures { IsTrue result ↔ IsOpen (viewed R.rows parts.now) at to entry }
 {
     match entry {
         Entry::Blue => are_inside(parts, at, to),
@@ -43,12 +43,12 @@ fn is_open(parts: &Parts, at: Spot, to: Spot, entry: Entry) -> bool
 }
 
 /// Whether both nodes are of the island.
-fn are_inside(parts: &Parts, at: Spot, to: Spot) -> bool
-    requires kept { AreFabricParts (viewed parts.now) }
+fn are_inside<R: RowsOf>(parts: &Parts<'_, R>, at: Spot, to: Spot) -> bool
+    requires kept { ArePartsKept (viewed R.rows parts.now) }
     requires routed { AreRouted parts.now }
     requires at { at < length parts.now.area.now.ids }
     requires to { to < length parts.now.area.now.ids }
-    ensures { IsTrue result ↔ AreInside (viewed parts.now) at to }
+    ensures { IsTrue result ↔ AreInside (viewed R.rows parts.now) at to }
 {
     node_of(parts, at).is_some() && node_of(parts, to).is_some()
 }
@@ -77,8 +77,8 @@ fn mode_of(entry: Entry) -> Mode
 }
 
 /// Whether the area has an element.
-pub fn has_element(parts: &Parts, failed: &Failure) -> bool
-    ensures { IsTrue result ↔ HasElement (viewed parts.now) failed.now }
+pub fn has_element<R: RowsOf>(parts: &Parts<'_, R>, failed: &Failure) -> bool
+    ensures { IsTrue result ↔ HasElement (viewed R.rows parts.now) failed.now }
 {
     match failed {
         Failure::Node(s) => s.get() < parts.area.count(),

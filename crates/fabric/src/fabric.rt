@@ -3,8 +3,6 @@
 ghost use Rattle.std.specs.Prelude.{◌≡◌, ◌≤◌, IfOk};
 ghost use Rattle.fabric.specs.FabricState.{packet_after};
 ghost use Rattle.fabric.specs.declared.event.Event.TheVariants as events;
-ghost use Rattle.mrt_graph.specs.AcceptedFor.{IsAcceptedFor};
-ghost use Rattle.primary_alt.specs.RoutesMade.{AreMadeWith};
 
 use crate::entering::{entering, has_element, may_enter};
 use crate::event::{Event, Failure, Outcome, Refused};
@@ -13,66 +11,69 @@ use crate::numbers::PacketNo;
 use crate::packet::{Entry, Mode, Packet, State};
 use crate::parts::Parts;
 use area_graph::{Area, Spot};
-use mrt_graph::{Cert, Graph, NoMemory};
+use mrt_graph::{Graph, NoMemory, RowsOf};
 use primary_alt::Routes;
 use std::alloc::Global;
 use std::marker::Model;
 
-/// Packets on their way through an area, one of whose elements may fail; and the tables by which its routers send them.
+/// Packets on their way through an area, one of whose elements may fail; and the tables by which its routers send them:
+/// routes, and rows from any source of them, as far as they are for the destinations of these packets.
 #[derive(Drop)]
-pub struct Fabric<'a> {
-    parts: Parts<'a>,
+pub struct Fabric<'a, R: RowsOf> {
+    parts: Parts<'a, R>,
     packets: Vec<Packet>,
     failure: Option<Failure>,
     room: u16,
 }
 
-impl<'a> Model for Fabric<'a> {
+impl<'a, R: RowsOf> Model for Fabric<'a, R> {
     ghost use Rattle.std.specs.Prelude.{◌≤◌, vec_capacity};
-    ghost use Rattle.fabric.specs.FabricParts.{AreFabricParts};
+    ghost use Rattle.fabric.specs.FabricParts.{ArePartsKept};
     ghost use Rattle.fabric.specs.FabricState.{state_of};
     ghost use Rattle.fabric.specs.KeptState.{IsKeptState};
-    ghost use Rattle.fabric.specs.Viewed.{AreRouted, FabricSeen, viewed};
+    ghost use Rattle.fabric.specs.Served.{ArePacketsServed};
+    ghost use Rattle.fabric.specs.Viewed.{AreRouted, FabricSeen, tables_of, viewed};
 
-    ghost Value = { FabricSeen };
+    ghost Value = { FabricSeen R };
 
     ghost view = { λ f. record {
-      parts = viewed f.parts;
+      tables = tables_of f.parts;
       state = state_of f.packets.items f.failure f.room;
     } };
 
-    ghost invariant = { λ f. AreFabricParts (viewed f.parts) × AreRouted f.parts
-        × IsKeptState (viewed f.parts) (state_of f.packets.items f.failure f.room)
-        × (f.room ≤ vec_capacity f.packets) };
+    ghost invariant = { λ f. ArePartsKept (viewed R.rows f.parts) × AreRouted f.parts
+        × IsKeptState (viewed R.rows f.parts) (state_of f.packets.items f.failure f.room)
+        × (f.room ≤ vec_capacity f.packets)
+        × ArePacketsServed (viewed R.rows f.parts) f.parts.routes.now f.packets.items };
 }
 
-impl<'a> Fabric<'a> {
+impl<'a, R: RowsOf> Fabric<'a, R> {
     ghost use Rattle.std.specs.Prelude.{◌≡◌, ◌≤◌, IfOk, slice_get};
     ghost use Rattle.fabric.specs.FabricState.{start};
     ghost use Rattle.fabric.specs.FabricStep.{FabricStep};
     ghost use Rattle.fabric.specs.OutcomeText.{IsTellable};
+    ghost use Rattle.fabric.specs.Served.{IsEventServed, IsServedBy};
+    ghost use Rattle.fabric.specs.Viewed.{parts_of};
     ghost use Rattle.fabric.specs.declared.event.Event.TheVariants as events;
-    ghost use Rattle.mrt_graph.specs.AcceptedFor.{IsAcceptedFor};
-    ghost use Rattle.primary_alt.specs.RoutesMade.{AreMadeWith};
+    ghost use Rattle.primary_alt.specs.RoutesMade.{AreMade};
 
     /// A fabric without packets and without a failure, with room for so many packets, which is taken here.
     pub fn new(
         alloc: Global,
         area: &'a Area,
         g: &'a Graph,
-        c: &'a Cert,
+        rows: &'a R,
         routes: &'a Routes,
         room: u16,
-    ) -> Result<Fabric<'a>, NoMemory>
-        requires accepted { IsAcceptedFor g.now c.now }
-        requires routed { AreMadeWith area.now g.now routes.now }
+    ) -> Result<Fabric<'a, R>, NoMemory>
+        requires routed { AreMade area.now g.now routes.now }
         requires room { 1 ≤ room }
         ensures { IfOk result (λ fabric. fabric ≡ record {
-          parts = record {
+          tables = record {
             area = area.now;
             island = g.now;
-            cert = c.now;
-            link_of = routes.now.links;
+            source = rows.now;
+            routes = routes.now;
           };
           state = start room;
         }) }
@@ -84,7 +85,7 @@ impl<'a> Fabric<'a> {
             parts: Parts {
                 area,
                 island: g,
-                cert: c,
+                rows,
                 routes,
             },
             packets,
@@ -98,9 +99,10 @@ impl<'a> Fabric<'a> {
     /// It takes no memory. The time is that of reading a few entries of tables; where a packet's primary hop is cut, it
     /// follows both color walks as well.
     pub fn apply(&mut self, e: Event) -> Result<Outcome, Refused>
-        ensures step { FabricStep self.old.parts self.old.state e result self.new.state }
-        ensures parts { self.new.parts ≡ self.old.parts }
-        ensures told { IsTellable self.old.parts.area.ids result }
+        requires { IsEventServed (parts_of R.rows self.old.tables) self.old.tables.routes e }
+        ensures step { FabricStep (parts_of R.rows self.old.tables) self.old.state e result self.new.state }
+        ensures tables { self.new.tables ≡ self.old.tables }
+        ensures told { IsTellable self.old.tables.area.ids result }
     {
         match e {
             Event::Inject { at, to, entry } => self.inject(at, to, entry),
@@ -118,10 +120,11 @@ impl<'a> Fabric<'a> {
 
     /// A packet enters, if it may and there is room.
     fn inject(&mut self, at: Spot, to: Spot, entry: Entry) -> Result<Outcome, Refused>
-        ensures step { FabricStep self.old.parts self.old.state (events.Inject at to entry)
+        requires { IsServedBy (parts_of R.rows self.old.tables) self.old.tables.routes to }
+        ensures step { FabricStep (parts_of R.rows self.old.tables) self.old.state (events.Inject at to entry)
             result self.new.state }
-        ensures parts { self.new.parts ≡ self.old.parts }
-        ensures told { IsTellable self.old.parts.area.ids result }
+        ensures tables { self.new.tables ≡ self.old.tables }
+        ensures told { IsTellable self.old.tables.area.ids result }
     {
         if !may_enter(&self.parts, at, to, entry) {
             return Err(Refused::NoSuchPlace);
@@ -136,10 +139,10 @@ impl<'a> Fabric<'a> {
 
     /// The router where a packet is handles it once, if it is going.
     fn step(&mut self, p: PacketNo) -> Result<Outcome, Refused>
-        ensures step { FabricStep self.old.parts self.old.state (events.Step p)
+        ensures step { FabricStep (parts_of R.rows self.old.tables) self.old.state (events.Step p)
             result self.new.state }
-        ensures parts { self.new.parts ≡ self.old.parts }
-        ensures told { IsTellable self.old.parts.area.ids result }
+        ensures tables { self.new.tables ≡ self.old.tables }
+        ensures told { IsTellable self.old.tables.area.ids result }
     {
         let place = p.get() as usize;
         if place >= self.packets.len() {
@@ -156,10 +159,10 @@ impl<'a> Fabric<'a> {
 
     /// An element fails, if none has.
     fn fail(&mut self, failed: Failure) -> Result<Outcome, Refused>
-        ensures step { FabricStep self.old.parts self.old.state (events.Fail failed)
+        ensures step { FabricStep (parts_of R.rows self.old.tables) self.old.state (events.Fail failed)
             result self.new.state }
-        ensures parts { self.new.parts ≡ self.old.parts }
-        ensures told { IsTellable self.old.parts.area.ids result }
+        ensures tables { self.new.tables ≡ self.old.tables }
+        ensures told { IsTellable self.old.tables.area.ids result }
     {
         if !has_element(&self.parts, &failed) {
             return Err(Refused::NoSuchPlace);

@@ -2,10 +2,11 @@
 
 ghost use Rattle.std.specs.Prelude.{◌≡◌, ◌≢◌, ◌↔◌, ◌==◌, if◌then◌else◌, IsTrue, Some};
 ghost use Rattle.fabric.specs.Answers.{HasElement};
-ghost use Rattle.fabric.specs.FabricParts.{AreFabricParts};
+ghost use Rattle.fabric.specs.FabricParts.{ArePartsKept};
 ghost use Rattle.fabric.specs.Handling.{HasHop, IsCutOff, IsHandled};
 ghost use Rattle.fabric.specs.KeptState.{IsKeptPacket};
 ghost use Rattle.fabric.specs.PacketHop.{IsCut};
+ghost use Rattle.fabric.specs.Served.{IsServedBy};
 ghost use Rattle.fabric.specs.Viewed.{AreRouted, hop_seen, viewed};
 ghost use Rattle.fabric.specs.declared.event.Failure.{Failure};
 ghost use Rattle.fabric.specs.declared.event.Failure.TheVariants as failures;
@@ -19,20 +20,22 @@ use crate::island::{element_of, node_of};
 use crate::next_hop::{NextHop, is_cut, is_node};
 use crate::packet::{Loss, Mode, Packet};
 use crate::parts::Parts;
-use primary_alt::alternate;
+use mrt_graph::RowsOf;
+use primary_alt::alternate_by;
 
 /// What happens to a packet that is going.
 ///
 /// It takes the time of reading its next hop; where it is in primary mode and its hop is cut, it follows both color walks
 /// as well.
-pub fn handled(parts: &Parts, failure: Option<Failure>, packet: &Packet) -> Outcome
-    requires kept { AreFabricParts (viewed parts.now) }
+pub fn handled<R: RowsOf>(parts: &Parts<'_, R>, failure: Option<Failure>, packet: &Packet) -> Outcome
+    requires kept { ArePartsKept (viewed R.rows parts.now) }
     requires routed { AreRouted parts.now }
-    requires packet { IsKeptPacket (viewed parts.now) packet.now }
+    requires served { IsServedBy (viewed R.rows parts.now) parts.now.routes.now packet.now.to }
+    requires packet { IsKeptPacket (viewed R.rows parts.now) packet.now }
     requires going { packet.now.state ≡ states.Going }
     requires failure { (failed : Failure) → failure ≡ Some failed
-        → HasElement (viewed parts.now) failed }
-    ensures { IsHandled (viewed parts.now) failure packet.now result }
+        → HasElement (viewed R.rows parts.now) failed }
+    ensures { IsHandled (viewed R.rows parts.now) failure packet.now result }
 {
     if has_failed(&failure, packet) {
         return Outcome::Lost(Loss::Inside);
@@ -41,15 +44,16 @@ pub fn handled(parts: &Parts, failure: Option<Failure>, packet: &Packet) -> Outc
 }
 
 /// What happens to a packet whose place has not failed.
-fn sent(parts: &Parts, failure: Option<Failure>, packet: &Packet) -> Outcome
-    requires kept { AreFabricParts (viewed parts.now) }
+fn sent<R: RowsOf>(parts: &Parts<'_, R>, failure: Option<Failure>, packet: &Packet) -> Outcome
+    requires kept { ArePartsKept (viewed R.rows parts.now) }
     requires routed { AreRouted parts.now }
-    requires packet { IsKeptPacket (viewed parts.now) packet.now }
+    requires served { IsServedBy (viewed R.rows parts.now) parts.now.routes.now packet.now.to }
+    requires packet { IsKeptPacket (viewed R.rows parts.now) packet.now }
     requires going { packet.now.state ≡ states.Going }
     requires failure { (failed : Failure) → failure ≡ Some failed
-        → HasElement (viewed parts.now) failed }
+        → HasElement (viewed R.rows parts.now) failed }
     requires stands { failure ≢ Some (failures.Node packet.now.place) }
-    ensures { IsHandled (viewed parts.now) failure packet.now result }
+    ensures { IsHandled (viewed R.rows parts.now) failure packet.now result }
 {
     let Some(hop) = next_hop(parts, packet) else {
         return Outcome::Lost(Loss::NoRoute);
@@ -89,15 +93,16 @@ fn moved(packet: &Packet, hop: &NextHop) -> Outcome
 }
 
 /// What happens to a packet whose hop is cut.
-fn cut_off(parts: &Parts, failed: &Failure, packet: &Packet, hop: &NextHop) -> Outcome
-    requires kept { AreFabricParts (viewed parts.now) }
+fn cut_off<R: RowsOf>(parts: &Parts<'_, R>, failed: &Failure, packet: &Packet, hop: &NextHop) -> Outcome
+    requires kept { ArePartsKept (viewed R.rows parts.now) }
     requires routed { AreRouted parts.now }
-    requires packet { IsKeptPacket (viewed parts.now) packet.now }
+    requires served { IsServedBy (viewed R.rows parts.now) parts.now.routes.now packet.now.to }
+    requires packet { IsKeptPacket (viewed R.rows parts.now) packet.now }
     requires going { packet.now.state ≡ states.Going }
-    requires failure { HasElement (viewed parts.now) failed.now }
-    requires hop { HasHop (viewed parts.now) (Some failed.now) packet.now (hop_seen hop.now) }
+    requires failure { HasElement (viewed R.rows parts.now) failed.now }
+    requires hop { HasHop (viewed R.rows parts.now) (Some failed.now) packet.now (hop_seen hop.now) }
     requires cut { IsCut (Some failed.now) (hop_seen hop.now) }
-    ensures { IsHandled (viewed parts.now) (Some failed.now) packet.now result }
+    ensures { IsHandled (viewed R.rows parts.now) (Some failed.now) packet.now result }
 {
     if is_node(failed, packet.to) {
         return Outcome::Lost(Loss::IsDestination);
@@ -110,15 +115,16 @@ fn cut_off(parts: &Parts, failed: &Failure, packet: &Packet, hop: &NextHop) -> O
 }
 
 /// What happens to a packet in primary mode whose hop is cut by another element than its destination.
-fn repaired(parts: &Parts, failed: &Failure, packet: &Packet) -> Outcome
-    requires kept { AreFabricParts (viewed parts.now) }
+fn repaired<R: RowsOf>(parts: &Parts<'_, R>, failed: &Failure, packet: &Packet) -> Outcome
+    requires kept { ArePartsKept (viewed R.rows parts.now) }
     requires routed { AreRouted parts.now }
-    requires packet { IsKeptPacket (viewed parts.now) packet.now }
+    requires served { IsServedBy (viewed R.rows parts.now) parts.now.routes.now packet.now.to }
+    requires packet { IsKeptPacket (viewed R.rows parts.now) packet.now }
     requires going { packet.now.state ≡ states.Going }
-    requires failure { HasElement (viewed parts.now) failed.now }
-    requires cut { IsCutOff (viewed parts.now) (Some failed.now) packet.now }
+    requires failure { HasElement (viewed R.rows parts.now) failed.now }
+    requires cut { IsCutOff (viewed R.rows parts.now) (Some failed.now) packet.now }
     requires mode { packet.now.mode ≡ modes.Primary }
-    ensures { IsHandled (viewed parts.now) (Some failed.now) packet.now result }
+    ensures { IsHandled (viewed R.rows parts.now) (Some failed.now) packet.now result }
 {
     let Some(at) = node_of(parts, packet.place) else {
         return Outcome::Lost(Loss::Outside);
@@ -126,7 +132,7 @@ fn repaired(parts: &Parts, failed: &Failure, packet: &Packet) -> Outcome
     let Some(to) = node_of(parts, packet.to) else {
         return Outcome::Lost(Loss::Outside);
     };
-    match alternate(parts.island, parts.cert, at, to, element_of(parts, failed)) {
+    match alternate_by(parts.island, parts.rows, at, to, element_of(parts, failed)) {
         Some(color) => Outcome::Switched(color),
         None => Outcome::Lost(Loss::NoAlternate),
     }

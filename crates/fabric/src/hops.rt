@@ -1,10 +1,11 @@
 //! Where a packet goes next.
 
 ghost use Rattle.std.specs.Prelude.{◌≡◌, ◌≢◌, ◌<◌, ◌↔◌, ◌++◌, IsTrue, IfNone, IfSome, IsSome, None, Some, length, slice_get};
-ghost use Rattle.fabric.specs.FabricParts.{AreFabricParts, link_at, node_at};
+ghost use Rattle.fabric.specs.FabricParts.{ArePartsKept, link_at, node_at};
 ghost use Rattle.fabric.specs.Handling.{IsUnreachable};
 ghost use Rattle.fabric.specs.KeptState.{IsKeptPacket};
 ghost use Rattle.fabric.specs.PacketHop.{AreOver, IsColorHop, IsHop, IsOver, IsPrimaryHop};
+ghost use Rattle.fabric.specs.Served.{IsServedBy};
 ghost use Rattle.fabric.specs.Viewed.{AreRouted, crossed, hop_seen, viewed};
 ghost use Rattle.fabric.specs.declared.packet.Mode.TheVariants as modes;
 ghost use Rattle.fabric.specs.declared.packet.State.TheVariants as states;
@@ -15,17 +16,18 @@ use crate::next_hop::{Crossing, NextHop};
 use crate::packet::{Mode, Packet};
 use crate::parts::Parts;
 use area_graph::{ArcNo, Area, Spot};
-use mrt_graph::{Color, NodeNo};
-use primary_alt::hop_on;
+use mrt_graph::{Color, NodeNo, RowsOf};
+use primary_alt::next_hop as hop_by;
 
 /// The next hop of a packet that is going, if there is one.
-pub fn next_hop(parts: &Parts, packet: &Packet) -> Option<NextHop>
-    requires kept { AreFabricParts (viewed parts.now) }
+pub fn next_hop<R: RowsOf>(parts: &Parts<'_, R>, packet: &Packet) -> Option<NextHop>
+    requires kept { ArePartsKept (viewed R.rows parts.now) }
     requires routed { AreRouted parts.now }
-    requires packet { IsKeptPacket (viewed parts.now) packet.now }
+    requires served { IsServedBy (viewed R.rows parts.now) parts.now.routes.now packet.now.to }
+    requires packet { IsKeptPacket (viewed R.rows parts.now) packet.now }
     requires going { packet.now.state ≡ states.Going }
     ensures some { IfSome result (λ hop.
-        IsHop (viewed parts.now) packet.now.mode packet.now.place packet.now.to (hop_seen hop)) }
+        IsHop (viewed R.rows parts.now) packet.now.mode packet.now.place packet.now.to (hop_seen hop)) }
     ensures no_route { IfNone result (packet.now.mode ≡ modes.Primary) }
     ensures none { IfNone result (IsUnreachable parts.now.area.now packet.now.place packet.now.to) }
 {
@@ -38,14 +40,15 @@ pub fn next_hop(parts: &Parts, packet: &Packet) -> Option<NextHop>
 }
 
 /// The hop by the primary of a router.
-fn primary_hop(parts: &Parts, x: Spot, t: Spot) -> Option<NextHop>
-    requires kept { AreFabricParts (viewed parts.now) }
+fn primary_hop<R: RowsOf>(parts: &Parts<'_, R>, x: Spot, t: Spot) -> Option<NextHop>
+    requires kept { ArePartsKept (viewed R.rows parts.now) }
     requires routed { AreRouted parts.now }
+    requires served { IsServedBy (viewed R.rows parts.now) parts.now.routes.now t }
     requires place { x < length parts.now.area.now.ids }
     requires router { ¬ IsNetwork parts.now.area.now.ids x }
     requires to { t < length parts.now.area.now.ids }
     requires different { x ≢ t }
-    ensures some { IfSome result (λ hop. IsPrimaryHop (viewed parts.now) x t (hop_seen hop)) }
+    ensures some { IfSome result (λ hop. IsPrimaryHop (viewed R.rows parts.now) x t (hop_seen hop)) }
     ensures none { IfNone result (IsUnreachable parts.now.area.now x t) }
 {
     let primary = parts.routes.primary(x, t)?;
@@ -74,24 +77,25 @@ fn crossing_over(area: &Area, number: ArcNo) -> Crossing
 }
 
 /// The hop on a color.
-fn color_hop(parts: &Parts, color: Color, x: Spot, t: Spot) -> NextHop
-    requires kept { AreFabricParts (viewed parts.now) }
+fn color_hop<R: RowsOf>(parts: &Parts<'_, R>, color: Color, x: Spot, t: Spot) -> NextHop
+    requires kept { ArePartsKept (viewed R.rows parts.now) }
     requires routed { AreRouted parts.now }
+    requires served { IsServedBy (viewed R.rows parts.now) parts.now.routes.now t }
     requires place { x < length parts.now.area.now.ids }
     requires to { t < length parts.now.area.now.ids }
-    requires place_inside { IsSome (node_at (viewed parts.now) x) }
-    requires to_inside { IsSome (node_at (viewed parts.now) t) }
+    requires place_inside { IsSome (node_at (viewed R.rows parts.now) x) }
+    requires to_inside { IsSome (node_at (viewed R.rows parts.now) t) }
     requires different { x ≢ t }
-    ensures { IsColorHop (viewed parts.now) color x t (hop_seen result) }
+    ensures { IsColorHop (viewed R.rows parts.now) color x t (hop_seen result) }
 {
     let n = node_of(parts, x).unwrap();
     let d = node_of(parts, t).unwrap();
-    let hop = hop_on(parts.island, parts.cert, n, d, color);
+    let hop = hop_by(parts.island, parts.rows, n, d, color);
     let first = crossing_of(parts, &hop);
     if !is_on_the_way(parts.area, first.node, t) {
         return over_one(first);
     }
-    let onward = hop_on(parts.island, parts.cert, hop.to, d, color);
+    let onward = hop_by(parts.island, parts.rows, hop.to, d, color);
     over_two(first, crossing_of(parts, &onward))
 }
 

@@ -3,7 +3,7 @@
 ghost use Rattle.std.specs.Prelude.{◌≡◌, ◌<◌, IfSome, Some, length};
 ghost use Rattle.area_graph.specs.AreaInvariant.{IsArea};
 ghost use Rattle.fabric.specs.Answers.{HasElement};
-ghost use Rattle.fabric.specs.FabricParts.{AreFabricParts, element_at, link_at, node_at};
+ghost use Rattle.fabric.specs.FabricParts.{ArePartsKept, element_at, link_at, node_at};
 ghost use Rattle.fabric.specs.Viewed.{AreRouted, viewed};
 ghost use Rattle.primary_alt.specs.Elements.{IsElementOf};
 ghost use Rattle.primary_alt.specs.Offers.{is_network};
@@ -12,34 +12,34 @@ use crate::event::Failure;
 use crate::next_hop::Crossing;
 use crate::parts::Parts;
 use area_graph::{Area, BondNo, Spot};
-use mrt_graph::{Element, Kind, LinkNo, NodeNo};
+use mrt_graph::{Element, Kind, LinkNo, NodeNo, RowsOf};
 use primary_alt::ColorHop;
 
 /// The island node that a node of the area is, if it is one.
-pub fn node_of(parts: &Parts, s: Spot) -> Option<NodeNo>
-    requires kept { AreFabricParts (viewed parts.now) }
+pub fn node_of<R: RowsOf>(parts: &Parts<'_, R>, s: Spot) -> Option<NodeNo>
+    requires kept { ArePartsKept (viewed R.rows parts.now) }
     requires routed { AreRouted parts.now }
     requires within { s < length parts.now.area.now.ids }
-    ensures { result ≡ node_at (viewed parts.now) s }
+    ensures { result ≡ node_at (viewed R.rows parts.now) s }
 {
     parts.routes.node(s)
 }
 
 /// The island link that a bond is, if it is one.
-fn link_of(parts: &Parts, b: BondNo) -> Option<LinkNo>
-    requires kept { AreFabricParts (viewed parts.now) }
+fn link_of<R: RowsOf>(parts: &Parts<'_, R>, b: BondNo) -> Option<LinkNo>
+    requires kept { ArePartsKept (viewed R.rows parts.now) }
     requires within { b < length parts.now.area.now.bonds }
-    ensures { result ≡ link_at (viewed parts.now) b }
+    ensures { result ≡ link_at (viewed R.rows parts.now) b }
 {
     parts.routes.link(b)
 }
 
 /// The element of the island that a failed element of the area is, if it is one.
-pub fn element_of(parts: &Parts, failed: &Failure) -> Option<Element>
-    requires kept { AreFabricParts (viewed parts.now) }
+pub fn element_of<R: RowsOf>(parts: &Parts<'_, R>, failed: &Failure) -> Option<Element>
+    requires kept { ArePartsKept (viewed R.rows parts.now) }
     requires routed { AreRouted parts.now }
-    requires within { HasElement (viewed parts.now) failed.now }
-    ensures is { result ≡ element_at (viewed parts.now) failed.now }
+    requires within { HasElement (viewed R.rows parts.now) failed.now }
+    ensures is { result ≡ element_at (viewed R.rows parts.now) failed.now }
     ensures within { IfSome result (λ x. IsElementOf parts.now.island.now x) }
 {
     match failed {
@@ -55,13 +55,13 @@ pub fn element_of(parts: &Parts, failed: &Failure) -> Option<Element>
 }
 
 /// The bond that the link of a hop on a color is, and the node of the area that it leads to.
-pub fn crossing_of(parts: &Parts, hop: &ColorHop) -> Crossing
-    requires kept { AreFabricParts (viewed parts.now) }
+pub fn crossing_of<R: RowsOf>(parts: &Parts<'_, R>, hop: &ColorHop) -> Crossing
+    requires kept { ArePartsKept (viewed R.rows parts.now) }
     requires routed { AreRouted parts.now }
     requires link { hop.now.link < length parts.now.island.now.links }
     requires to { hop.now.to < length parts.now.island.now.ids }
-    ensures link { link_at (viewed parts.now) result.bond ≡ Some hop.now.link }
-    ensures node { node_at (viewed parts.now) result.node ≡ Some hop.now.to }
+    ensures link { link_at (viewed R.rows parts.now) result.bond ≡ Some hop.now.link }
+    ensures node { node_at (viewed R.rows parts.now) result.node ≡ Some hop.now.to }
 {
     Crossing {
         bond: parts.routes.bond(hop.link),

@@ -21,9 +21,10 @@ ghost use Rattle.fabric.specs.Course.{
   steps_of,
   visits,
 };
-ghost use Rattle.fabric.specs.FabricParts.{AreFabricParts, FabricParts};
+ghost use Rattle.fabric.specs.FabricParts.{AreFabricParts, ArePartsKept, FabricParts};
 ghost use Rattle.fabric.specs.FabricState.{Answer, FabricState, start};
 ghost use Rattle.fabric.specs.Runs.{IsRun};
+ghost use Rattle.fabric.specs.Served.{AreRowsOn};
 ghost use Rattle.fabric.specs.declared.event.Event.{Event};
 ghost use Rattle.fabric.specs.declared.packet.Loss.{Loss};
 ghost use Rattle.fabric.specs.declared.packet.Mode.TheVariants as modes;
@@ -72,6 +73,16 @@ pub fn packets_end()
         → (p : ℕ) → steps_of p events answers ≤ 2 * (length parts.area.ids - 1) }
     ensures going { (parts : FabricParts) → AreFabricParts parts
         → (room : ℕ) (events : List Event) (answers : List Answer) (end : FabricState)
+        → IsRun parts (start room) events answers end
+        → (p : ℕ) (packet : Packet) → slice_get end.packets p ≡ Some packet
+        → packet.state ≡ states.Going
+        → steps_of p events answers < 2 * (length parts.area.ids - 1) }
+{}
+
+/// A law: the latter, where rows serve the destinations of the packets alone.
+pub fn served_packets_end()
+    ensures { (parts : FabricParts) → ArePartsKept parts → (room : ℕ) (events : List Event)
+        (answers : List Answer) (end : FabricState) → AreRowsOn parts events
         → IsRun parts (start room) events answers end
         → (p : ℕ) (packet : Packet) → slice_get end.packets p ≡ Some packet
         → packet.state ≡ states.Going

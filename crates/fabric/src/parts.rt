@@ -1,14 +1,14 @@
 //! What the steps of packets read.
 
 use area_graph::Area;
-use mrt_graph::{Cert, Graph};
+use mrt_graph::Graph;
 use primary_alt::Routes;
 
-/// The area; the island, and its certificate; and the routes that are made with both.
-#[derive(Clone, Copy)]
-pub struct Parts<'a> {
+/// The area; the island, and that from which the rows of its nodes are read; and the routes that are made with both.
+#[derive(Drop)]
+pub struct Parts<'a, R> {
     pub area: &'a Area,
     pub island: &'a Graph,
-    pub cert: &'a Cert,
+    pub rows: &'a R,
     pub routes: &'a Routes,
 }

@@ -3,5 +3,5 @@ use Rattle.fabric.proofs.Routed.{routed_spot}
 use Rattle.fabric.proofs.island.crossing_of.Goals as goal
 
 pub returns-clause-node : goal.returns-clause-node
-returns-clause-node c =
-    routed_spot (viewed c.args.parts.now) c.requires.kept c.args.parts.now.routes.now c.requires.routed c.args.hop.now.to c.spot.result c.requires.to c.spot.ensures
+returns-clause-node g c =
+    routed_spot (viewed g.R.RowsOf.rows c.args.parts.now) c.requires.kept c.args.parts.now.routes.now c.requires.routed c.args.hop.now.to c.spot.result c.requires.to c.spot.ensures
