@@ -27,7 +27,11 @@ use primary_alt::alternate_by;
 ///
 /// It takes the time of reading its next hop; where it is in primary mode and its hop is cut, it follows both color walks
 /// as well.
-pub fn handled<R: RowsOf>(parts: &Parts<'_, R>, failure: Option<Failure>, packet: &Packet) -> Outcome
+pub fn handled<R: RowsOf>(
+    parts: &Parts<'_, R>,
+    failure: Option<Failure>,
+    packet: &Packet,
+) -> Outcome
     requires kept { ArePartsKept (viewed R.rows parts.now) }
     requires routed { AreRouted parts.now }
     requires served { IsServedBy (viewed R.rows parts.now) parts.now.routes.now packet.now.to }
@@ -93,7 +97,12 @@ fn moved(packet: &Packet, hop: &NextHop) -> Outcome
 }
 
 /// What happens to a packet whose hop is cut.
-fn cut_off<R: RowsOf>(parts: &Parts<'_, R>, failed: &Failure, packet: &Packet, hop: &NextHop) -> Outcome
+fn cut_off<R: RowsOf>(
+    parts: &Parts<'_, R>,
+    failed: &Failure,
+    packet: &Packet,
+    hop: &NextHop,
+) -> Outcome
     requires kept { ArePartsKept (viewed R.rows parts.now) }
     requires routed { AreRouted parts.now }
     requires served { IsServedBy (viewed R.rows parts.now) parts.now.routes.now packet.now.to }

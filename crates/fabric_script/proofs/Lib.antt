@@ -1,4 +1,6 @@
+pub mod ByDestinations
 pub mod FewBonds
+pub mod Gathered
 pub mod LeastRoom
 pub mod LinesTaken
 pub mod NamesRead
@@ -6,6 +8,7 @@ pub mod NamesSpelled
 pub mod NotThere
 pub mod OneText
 pub mod Placed
+pub mod ServedEvents
 pub mod SpellingsTold
 pub mod StepsRead
 pub mod RunsOn

@@ -12,12 +12,14 @@ use Rattle.fabric.specs.declared.packet.State.{State}
 use Rattle.fabric.specs.declared.packet.State.TheVariants.{Delivered, Going, Lost}
 use Rattle.fabric.specs.Answers.{Answered, HasEnded as HasEndedBefore, IsStepAnswer, NoPacket}
 use Rattle.fabric.specs.Course.{steps_of}
-use Rattle.fabric.specs.FabricParts.{AreFabricParts, FabricParts}
+use Rattle.fabric.specs.FabricParts.{ArePartsKept, FabricParts}
 use Rattle.fabric.specs.FabricState.{Answer, FabricState, start}
 use Rattle.fabric.specs.Runs.{IsRun}
+use Rattle.fabric.specs.Served.{AreRowsOn}
 use Rattle.fabric_script.specs.Told.{HasLines, IsSteppedOn, IsTold}
 use Rattle.fabric_script.specs.Trace.{HasEnded, IsGoingAfter}
 use Rattle.fabric_script.specs.Unstepped.{IsUnstepped}
+use Rattle.fabric_script.proofs.ServedEvents.{rows_on_step}
 use Rattle.fabric_script.proofs.RunsOn.{lines_on, one_step_more, run_on}
 
 -- so many steps since the old state, with their lines
@@ -30,6 +32,7 @@ pub record HasStepped (parts : FabricParts) (old new : FabricState) (count : ℕ
   pub answers : List Answer
   pub run : IsRun parts (start 1) events answers new
   pub steps : steps_of 0 events answers ≡ count
+  pub served : AreRowsOn parts events
 
 pub no_steps : (parts : FabricParts) (state : FabricState) (text : List ℕ) → IsUnstepped parts state
     → HasStepped parts state state 0 text text
@@ -42,6 +45,7 @@ no_steps parts state text unstepped = record {
   answers = unstepped.answers;
   run = unstepped.run;
   steps = unstepped.none;
+  served = unstepped.served;
 }
 
 -- packet 0 is going
@@ -116,6 +120,7 @@ step_taken parts old mid new count before between after so_far goes (answer ∷ 
       steps = ap (λ (a : Answer). steps_of 0 (so_far.events ++ Step 0 ∷ []) (so_far.answers ++ a ∷ [])) own.is
           ∙ one_step_more own.outcome so_far.events so_far.answers parts (start 1) mid so_far.run
           ∙ ap (λ (n : ℕ). n + 1) so_far.steps;
+      served = rows_on_step parts so_far.events 0 so_far.served;
     }
 step_taken parts old mid new count before between after so_far goes (answer ∷ other ∷ more) run lines = absurd run.2
 
@@ -136,14 +141,14 @@ stepped parts old new count before after so_far ended = record {
 
 -- the law of the layer below on packets that are going
 abbrev pub GoingLaw : Type 0
-GoingLaw = (parts : FabricParts) → AreFabricParts parts → (room : ℕ) (events : List Event) (answers : List Answer)
-    (end : FabricState) → IsRun parts (start room) events answers end → (p : ℕ) (packet : Packet)
+GoingLaw = (parts : FabricParts) → ArePartsKept parts → (room : ℕ) (events : List Event) (answers : List Answer)
+    (end : FabricState) → AreRowsOn parts events → IsRun parts (start room) events answers end → (p : ℕ) (packet : Packet)
     → slice_get end.packets p ≡ Some packet → packet.state ≡ Going
     → steps_of p events answers < 2 * (length parts.area.ids - 1)
 
 -- after twice as many steps as there are nodes it has ended
-pub ended_at_last : GoingLaw → (parts : FabricParts) → AreFabricParts parts → (old new : FabricState) (count : ℕ)
+pub ended_at_last : GoingLaw → (parts : FabricParts) → ArePartsKept parts → (old new : FabricState) (count : ℕ)
     (before after : List ℕ) → HasStepped parts old new count before after → 2 * length parts.area.ids ≤ count → HasEnded new
 ended_at_last law parts kept old new count before after so_far many = λ packet there goes.
-    let few = law parts kept 1 so_far.events so_far.answers new so_far.run 0 packet there goes in
+    let few = law parts kept 1 so_far.events so_far.answers new so_far.served so_far.run 0 packet there goes in
     absurd (omega (arith, few, so_far.steps, many))

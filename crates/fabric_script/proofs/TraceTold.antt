@@ -5,17 +5,18 @@ use Rattle.area_graph.specs.Parts.{AreaParts}
 use Rattle.fabric.specs.declared.event.Event.{Event}
 use Rattle.fabric.specs.declared.event.Event.TheVariants.{Step}
 use Rattle.fabric.specs.Course.{steps_of}
-use Rattle.fabric.specs.FabricParts.{FabricParts}
+use Rattle.fabric.specs.FabricParts.{AreRowsFor, FabricParts}
 use Rattle.fabric.specs.FabricState.{Answer, FabricState, start}
 use Rattle.fabric.specs.Runs.{IsRun}
 use Rattle.fabric_script.specs.declared.event.FailureName.{FailureName}
 use Rattle.fabric_script.specs.declared.event.ScriptEvent.TheVariants.{Inject}
 use Rattle.fabric_script.specs.declared.trace.Trace.{Trace}
-use Rattle.fabric_script.specs.NamedEvents.{event_of}
+use Rattle.fabric_script.specs.NamedEvents.{event_of, spot_of}
 use Rattle.fabric_script.specs.RunTexts.{IsTraceText}
 use Rattle.fabric_script.specs.Told.{IsSteppedOn, IsTold}
 use Rattle.fabric_script.specs.Trace.{beginning, failures_of}
 use Rattle.fabric_script.specs.Unstepped.{IsUnstepped}
+use Rattle.fabric_script.proofs.ServedEvents.{rows_on_beginning}
 use Rattle.fabric_script.proofs.RunsOn.{lines_on, run_on, told_on, whole_text}
 
 -- the failure and the packet that enters, told one after the other
@@ -43,13 +44,15 @@ none_stepped area (Some failed) trace parts old new (answer ∷ other ∷ []) ru
 none_stepped area (Some failed) trace parts old new (answer ∷ other ∷ last ∷ more) run = absurd run.2.2
 
 pub unstepped : (parts last : FabricParts) (state : FabricState) (trace : Trace) (text : List ℕ) → last ≡ parts
+    → AreRowsFor parts (spot_of parts.area trace.to)
     → IsTold parts (start 1) (beginning parts.area trace) state [] text → IsUnstepped last state
-unstepped parts last state trace text last_is told =
+unstepped parts last state trace text last_is rows told =
     subst (λ (p : FabricParts). IsUnstepped p state) (sym last_is) (record {
       events = beginning parts.area trace;
       answers = told.answers;
       run = told.run;
       none = none_stepped parts.area trace.failed trace parts (start 1) state told.answers told.run;
+      served = rows_on_beginning parts trace rows;
     })
 
 pub trace_told : (parts last : FabricParts) (state : FabricState) (trace : Trace) (between text : List ℕ) → last ≡ parts

@@ -1,3 +1,4 @@
+pub mod Destinations
 pub mod NamedEvents
 pub mod Names
 pub mod RunTexts

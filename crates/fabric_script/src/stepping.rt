@@ -1,7 +1,8 @@
 //! A packet's steps until it ends.
 
 ghost use Rattle.std.specs.Prelude.{◌≡◌, ◌≢◌, ◌↔◌, IfOk, IsTrue};
-ghost use Rattle.fabric.specs.FabricParts.{AreFabricParts};
+ghost use Rattle.fabric.specs.FabricParts.{ArePartsKept};
+ghost use Rattle.fabric.specs.Viewed.{parts_of};
 ghost use Rattle.fabric_script.specs.Told.{IsSteppedOn};
 ghost use Rattle.fabric_script.specs.Trace.{HasEnded};
 ghost use Rattle.fabric_script.specs.Unstepped.{IsUnstepped};
@@ -9,17 +10,22 @@ ghost use Rattle.fabric_script.specs.Unstepped.{IsUnstepped};
 use crate::event::ScriptEvent;
 use crate::telling::tell_one;
 use area_graph::Area;
-use fabric::{Fabric, PacketNo, State, packets_end};
-use mrt_graph::NoMemory;
+use fabric::{Fabric, PacketNo, State, served_packets_end};
+use mrt_graph::{NoMemory, RowsOf};
 
 /// The steps of packet 0 until it has ended, and the lines of their answers. It has had none before.
-pub fn tell_steps(fabric: &mut Fabric<'_>, area: &Area, text: &mut Vec<u8>) -> Result<(), NoMemory>
-    requires area { fabric.old.parts.area ≡ area.now }
-    requires kept { AreFabricParts fabric.old.parts }
-    requires unstepped { IsUnstepped fabric.old.parts fabric.old.state }
-    ensures stepped { IfOk result (λ _. IsSteppedOn fabric.old.parts fabric.old.state text.old.items text.new.items) }
+pub fn tell_steps<R: RowsOf>(
+    fabric: &mut Fabric<'_, R>,
+    area: &Area,
+    text: &mut Vec<u8>,
+) -> Result<(), NoMemory>
+    requires area { fabric.old.tables.area ≡ area.now }
+    requires kept { ArePartsKept (parts_of R.rows fabric.old.tables) }
+    requires unstepped { IsUnstepped (parts_of R.rows fabric.old.tables) fabric.old.state }
+    ensures stepped { IfOk result (λ _. IsSteppedOn (parts_of R.rows fabric.old.tables)
+        fabric.old.state text.old.items text.new.items) }
 {
-    packets_end();
+    served_packets_end();
     for _ in 0..2 * area.count() as u32 {
         if has_ended(fabric) {
             return Ok(());
@@ -30,7 +36,7 @@ pub fn tell_steps(fabric: &mut Fabric<'_>, area: &Area, text: &mut Vec<u8>) -> R
 }
 
 /// Whether packet 0 has ended, or was not made.
-fn has_ended(fabric: &Fabric<'_>) -> bool
+fn has_ended<R: RowsOf>(fabric: &Fabric<'_, R>) -> bool
     ensures { IsTrue result ↔ HasEnded fabric.now.state }
 {
     match fabric.packet(PacketNo::new(0)) {

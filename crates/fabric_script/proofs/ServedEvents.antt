@@ -1,0 +1,117 @@
+-- Events whose destinations are served.
+use Rattle.std.proofs.Common.{◌≡◌, ◌∙◌, ◌<◌, ◌++◌, ℕ, List, [], ◌∷◌, Option, Some, None, ap, arith, get_or, length, slice_get, refl, subst, sym, inl, inr}
+use Rattle.std.specs.Prelude.{Contains}
+use Rattle.std.specs.Option.{option_and_then, unwrap_or}
+use Rattle.std.proofs.lemmas.Option.{same_Some, slice_get-get_or, slice_get_past}
+use Rattle.area_graph.specs.Nodes.{number_of, router}
+use Rattle.area_graph.specs.Parts.{AreaParts}
+use Rattle.fabric.specs.FabricParts.{AreRowsFor, FabricParts, node_at}
+use Rattle.fabric.specs.Served.{AreRowsOn, IsEventServed, IsServedBy}
+use Rattle.fabric.specs.Viewed.{FabricTables, parts_of}
+use Rattle.fabric.specs.declared.event.Event.{Event}
+use Rattle.fabric.specs.declared.event.Event.TheVariants as happenings
+use Rattle.fabric.specs.declared.packet.Entry.{Entry}
+use Rattle.fabric_script.specs.Destinations.{AreServed, HaveDestinations}
+use Rattle.fabric_script.specs.NamedEvents.{event_of, spot_of}
+use Rattle.fabric_script.specs.Trace.{beginning, failures_of}
+use Rattle.fabric_script.specs.declared.event.FailureName.{FailureName}
+use Rattle.fabric_script.specs.declared.event.ScriptEvent.{ScriptEvent}
+use Rattle.fabric_script.specs.declared.event.ScriptEvent.TheVariants.{Fail, Inject, Step}
+use Rattle.fabric_script.specs.declared.trace.Trace.{Trace}
+use Rattle.mrt_graph.specs.Rows.{Rows}
+use Rattle.mrt_graph.proofs.ListPlaces.{contains_at, place_of, pushed_at}
+use Rattle.mrt_graph.proofs.Members.{contains_cases, contains_none}
+use Rattle.primary_alt.specs.RouteLists.{RouteLists}
+
+-- by tables that stay as they were
+pub still_served : {R : Type 0} (rows : R → Rows) (tables now : FabricTables R) (event : Event) → now ≡ tables
+    → IsEventServed (parts_of rows tables) tables.routes event → IsEventServed (parts_of rows now) now.routes event
+still_served {R} rows tables now event same =
+    subst (λ (t : FabricTables R). IsEventServed (parts_of rows t) t.routes event) (sym same)
+
+-- of the events of a list, the next one
+pub next_served : {R : Type 0} (rows : R → Rows) (tables now : FabricTables R) (area : AreaParts) (events : List ScriptEvent) (d : ScriptEvent) (i : ℕ)
+    (event : Event) → now ≡ tables → tables.area ≡ area → i < length events → event ≡ event_of area (get_or events i d)
+    → AreServed (parts_of rows tables) tables.routes events → IsEventServed (parts_of rows now) now.routes event
+next_served rows tables now area events d i event same area_is inside is are =
+    let one : ScriptEvent = get_or events i d in
+    let event_is : event ≡ event_of tables.area one = is ∙ ap (λ (a : AreaParts). event_of a one) (sym area_is) in
+    still_served rows tables now event same
+    (subst (λ (e : Event). IsEventServed (parts_of rows tables) tables.routes e) (sym event_is)
+    (are one (contains_at events i one (slice_get-get_or events i d inside))))
+
+-- of one event alone
+pub alone_served : (parts : FabricParts) (routes : RouteLists) (area : AreaParts) (event : ScriptEvent) (events : List ScriptEvent)
+    → events ≡ event ∷ [] → parts.area ≡ area → IsEventServed parts routes (event_of area event) → AreServed parts routes events
+alone_served parts routes area event events are same served other among = elim (contains_cases event other [] (subst (λ (xs : List ScriptEvent). Contains xs other) are among)) [
+  | inl is ↦ subst (λ (e : ScriptEvent). IsEventServed parts routes (event_of parts.area e)) (sym is)
+      (subst (λ (a : AreaParts). IsEventServed parts routes (event_of a event)) (sym same) served)
+  | inr none ↦ absurd (contains_none other none)
+]
+
+-- the packet of a trace
+pub trace_served : {R : Type 0} (rows : R → Rows) (tables now : FabricTables R) (area : AreaParts) (trace : Trace) (event : ScriptEvent)
+    → now ≡ tables → event ≡ Inject trace.from trace.to trace.entry
+    → IsServedBy (parts_of rows tables) tables.routes (spot_of area trace.to)
+    → IsEventServed (parts_of rows now) now.routes (event_of area event)
+trace_served rows tables now area trace event same is served =
+    subst (λ (e : ScriptEvent). IsEventServed (parts_of rows now) now.routes (event_of area e)) (sym is)
+    (still_served rows tables now (event_of area (Inject trace.from trace.to trace.entry)) same served)
+
+-- a step of a packet asks for nothing
+pub rows_on_step : (parts : FabricParts) (events : List Event) (p : ℕ) → AreRowsOn parts events → AreRowsOn parts (events ++ happenings.Step p ∷ [])
+rows_on_step parts events p on at to entry among =
+    let place = place_of (events ++ happenings.Step p ∷ []) (happenings.Inject at to entry) among in
+    elim (pushed_at events (happenings.Step p) (happenings.Inject at to entry) place.0 place.1) [
+      | inl before ↦ on at to entry (contains_at events place.0 (happenings.Inject at to entry) before)
+      | inr last ↦ absurd (let same = last.1 in cc)
+    ]
+
+-- what stands before the steps of a trace
+one_to : (parts : FabricParts) (before : List Event) (t : ℕ) (from : ℕ) (how : Entry)
+    → ((at to : ℕ) (entry : Entry) → Contains before (happenings.Inject at to entry) → ⊥)
+    → AreRowsFor parts t → AreRowsOn parts (before ++ happenings.Inject from t how ∷ [])
+one_to parts before t from how none rows at to entry among =
+    let place = place_of (before ++ happenings.Inject from t how ∷ []) (happenings.Inject at to entry) among in
+    elim (pushed_at before (happenings.Inject from t how) (happenings.Inject at to entry) place.0 place.1) [
+      | inl front ↦ absurd (none at to entry (contains_at before place.0 (happenings.Inject at to entry) front))
+      | inr last ↦ (let same = last.1 in let here : t ≡ to = cc in subst (λ (y : ℕ). AreRowsFor parts y) here rows)
+    ]
+
+-- a failure lets no packet in
+pub no_inject : (area : AreaParts) (failed : Option FailureName) (at to : ℕ) (entry : Entry)
+    → Contains (failures_of area failed) (happenings.Inject at to entry) → ⊥
+no_inject area None at to entry among = contains_none (happenings.Inject at to entry) among
+no_inject area (Some name) at to entry among =
+    elim (contains_cases (event_of area (Fail name)) (happenings.Inject at to entry) [] among) [
+      | inl same ↦ cc
+      | inr none ↦ contains_none (happenings.Inject at to entry) none
+    ]
+
+pub rows_on_beginning : (parts : FabricParts) (trace : Trace) → AreRowsFor parts (spot_of parts.area trace.to)
+    → AreRowsOn parts (beginning parts.area trace)
+rows_on_beginning parts trace rows =
+    one_to parts (failures_of parts.area trace.failed) (spot_of parts.area trace.to) (spot_of parts.area (router trace.from)) trace.entry
+    (no_inject parts.area trace.failed) rows
+
+-- a name that the area does not have is no destination
+nowhere : (parts : FabricParts) (routes : RouteLists) → IsServedBy parts routes (length parts.area.ids)
+nowhere parts routes = record {
+  rows = λ d at. absurd (none d (sym (ap (option_and_then (number_of parts.island.ids)) (slice_get_past parts.area.ids (length parts.area.ids) (omega arith))) ∙ at));
+  primaries = λ less. absurd (omega (arith, less));
+}
+  where
+    none : (d : ℕ) → ◌≡◌ {A = Option ℕ} None (Some d) → ⊥
+    none d e = cc
+
+-- where all destinations of events are served, so are the events
+pub served_at_destinations : (parts : FabricParts) (routes : RouteLists) (events : List ScriptEvent) (spots : List ℕ)
+    → HaveDestinations parts.area events spots → ((t : ℕ) → Contains spots t → IsServedBy parts routes t) → AreServed parts routes events
+served_at_destinations parts routes events spots have served (Inject number to entry) among = go (number_of parts.area.ids to) refl
+  where
+    go : (place : Option ℕ) → number_of parts.area.ids to ≡ place → IsServedBy parts routes (spot_of parts.area to)
+    go None is = subst (λ (t : ℕ). IsServedBy parts routes t) (sym (ap (λ (o : Option ℕ). unwrap_or o (length parts.area.ids)) is)) (nowhere parts routes)
+    go (Some t) is = subst (λ (t : ℕ). IsServedBy parts routes t) (sym (ap (λ (o : Option ℕ). unwrap_or o (length parts.area.ids)) is))
+        (served t (have.each (Inject number to entry) t among is))
+served_at_destinations parts routes events spots have served (Step packet) among = tt
+served_at_destinations parts routes events spots have served (Fail failed) among = tt
