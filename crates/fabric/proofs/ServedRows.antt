@@ -1,8 +1,8 @@
 -- Rows that are served.
-use Rattle.std.proofs.Common.{◌≡◌, ◌≢◌, ◌<◌, ℕ, List, length, refl, sym}
+use Rattle.std.proofs.Common.{◌≢◌, ◌<◌, ℕ, List, length, refl, sym}
 use Rattle.std.specs.Prelude.{IsSome}
 use Rattle.area_graph.specs.Parts.{AreaParts}
-use Rattle.fabric.specs.FabricParts.{AreFabricParts, ArePartsKept, AreRowsFor, FabricParts, IsServed}
+use Rattle.fabric.specs.FabricParts.{AreFabricParts, AreRowsFor, FabricParts, IsServed}
 use Rattle.fabric.specs.Served.{AreRowsOn, IsEventServed}
 use Rattle.fabric.specs.Viewed.{parts_with}
 use Rattle.fabric.specs.declared.event.Event.{Event}

@@ -1,5 +1,5 @@
 -- Texts by rows that agree for the destinations.
-use Rattle.std.proofs.Common.{◌≡◌, ◌<◌, ◌++◌, ℕ, zero, suc, List, [], ◌∷◌, map, replicate, subst, sym, inl, inr}
+use Rattle.std.proofs.Common.{◌≡◌, ◌++◌, ℕ, zero, suc, List, [], ◌∷◌, map, replicate, subst, sym, inl, inr}
 use Rattle.std.specs.Prelude.{◌⊎◌, Contains}
 use Rattle.fabric.specs.FabricParts.{FabricParts}
 use Rattle.fabric.specs.FabricState.{Answer, FabricState, start}
@@ -11,7 +11,7 @@ use Rattle.fabric.specs.declared.packet.Entry.{Entry}
 use Rattle.fabric_script.specs.Destinations.{AgreeForEvent}
 use Rattle.fabric_script.specs.NamedEvents.{event_of, spot_of}
 use Rattle.fabric_script.specs.RunTexts.{IsScriptText, IsTraceText}
-use Rattle.fabric_script.specs.Trace.{AreUntilEnd, IsGoingAfter, beginning, failures_of, then_steps}
+use Rattle.fabric_script.specs.Trace.{beginning, failures_of, then_steps}
 use Rattle.fabric_script.specs.declared.event.ScriptEvent.{ScriptEvent}
 use Rattle.fabric_script.specs.declared.event.ScriptEvent.TheVariants.{Fail, Inject, Step}
 use Rattle.fabric_script.specs.declared.script.Script.{Script}

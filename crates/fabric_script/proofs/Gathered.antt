@@ -1,13 +1,13 @@
 -- Destinations, gathered event by event.
-use Rattle.std.proofs.Common.{◌≡◌, ◌≢◌, ◌<◌, ◌≤◌, ◌+◌, ◌++◌, ◌∙◌, ℕ, zero, suc, Bool, true, false, List, [], ◌∷◌, Option, Some, None, arith, get_or, length, set, slice_get, take, inl, inr, refl, subst, sym, ap}
+use Rattle.std.proofs.Common.{◌≡◌, ◌<◌, ◌+◌, ◌++◌, ◌∙◌, ℕ, zero, suc, Bool, true, false, List, [], ◌∷◌, Option, Some, None, get_or, length, set, slice_get, take, inl, inr, subst, sym, ap}
 use Rattle.std.specs.Prelude.{◌⊎◌, Contains, replicate}
 use Rattle.std.proofs.lemmas.Bool.{cases_eq}
-use Rattle.std.proofs.lemmas.List.{length-set, take_all, take_more}
-use Rattle.std.proofs.lemmas.Option.{same_Some, slice_get-get_or, slice_get_within}
+use Rattle.std.proofs.lemmas.List.{take_more}
+use Rattle.std.proofs.lemmas.Option.{same_Some}
 use Rattle.area_graph.specs.Parts.{AreaParts}
 use Rattle.fabric_script.specs.Destinations.{HaveDestinations, destination_of}
 use Rattle.fabric_script.specs.declared.event.ScriptEvent.{ScriptEvent}
-use Rattle.mrt_graph.proofs.ListPlaces.{at_last, at_left, contains_at, place_of, pushed_at, set_elsewhere, set_there}
+use Rattle.mrt_graph.proofs.ListPlaces.{at_last, at_left, contains_at, place_of, pushed_at, set_elsewhere}
 use Rattle.mrt_graph.proofs.Members.{contains_none}
 
 -- the destinations of the events so far, and a mark at each of them

@@ -1,11 +1,11 @@
 -- Events whose destinations are served.
-use Rattle.std.proofs.Common.{◌≡◌, ◌∙◌, ◌<◌, ◌++◌, ℕ, List, [], ◌∷◌, Option, Some, None, ap, arith, get_or, length, slice_get, refl, subst, sym, inl, inr}
+use Rattle.std.proofs.Common.{◌≡◌, ◌∙◌, ◌<◌, ◌++◌, ℕ, List, [], ◌∷◌, Option, Some, None, ap, arith, get_or, length, refl, subst, sym, inl, inr}
 use Rattle.std.specs.Prelude.{Contains}
 use Rattle.std.specs.Option.{option_and_then, unwrap_or}
-use Rattle.std.proofs.lemmas.Option.{same_Some, slice_get-get_or, slice_get_past}
+use Rattle.std.proofs.lemmas.Option.{slice_get-get_or, slice_get_past}
 use Rattle.area_graph.specs.Nodes.{number_of, router}
 use Rattle.area_graph.specs.Parts.{AreaParts}
-use Rattle.fabric.specs.FabricParts.{AreRowsFor, FabricParts, node_at}
+use Rattle.fabric.specs.FabricParts.{AreRowsFor, FabricParts}
 use Rattle.fabric.specs.Served.{AreRowsOn, IsEventServed, IsServedBy}
 use Rattle.fabric.specs.Viewed.{FabricTables, parts_of}
 use Rattle.fabric.specs.declared.event.Event.{Event}

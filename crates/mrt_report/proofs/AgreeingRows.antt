@@ -1,52 +1,15 @@
 -- Lines by rows that agree for the destination.
-use Rattle.std.proofs.Common.{◌≡◌, ◌↔◌, ℕ, List, Option, Some, None, sym, subst}
-use Rattle.std.specs.Option.{option_and_then}
+use Rattle.std.proofs.Common.{◌≡◌, ◌↔◌, ℕ, List, Option, Some, None, subst}
 use Rattle.area_graph.specs.Parts.{AreaParts}
-use Rattle.mrt_graph.specs.declared.cert.Color.{Color}
-use Rattle.mrt_graph.specs.declared.cert.Color.TheVariants.{Blue, Red}
 use Rattle.mrt_graph.specs.declared.cert.Row.{Row}
 use Rattle.mrt_graph.specs.declared.link.Element.{Element}
-use Rattle.mrt_graph.specs.declared.link.Link.{Link}
-use Rattle.mrt_graph.specs.Alternate.{AtEnd, ByBlue, ByRed, IsAlternate, OnBoth, Outside, UsesOn}
-use Rattle.mrt_graph.specs.ColorWalk.{links_followed}
-use Rattle.mrt_graph.specs.Hop.{Hop, color_hop, hop_over}
-use Rattle.mrt_graph.specs.Rows.{Rows, link_of_color}
+use Rattle.mrt_graph.specs.Rows.{Rows}
 use Rattle.mrt_graph.specs.Topology.{Topology}
-use Rattle.mrt_graph.specs.Uses.{Uses}
 use Rattle.primary_alt.specs.declared.shortest.Primary.{Primary}
+use Rattle.primary_alt.proofs.AgreeingRows.{AreSameFor, alternate_too, turned}
 use Rattle.mrt_report.specs.Letters.{AreArcElements, AreArcLetters, AreLetters, AreSecondLetters}
 use Rattle.mrt_report.specs.LineParts.{line_parts}
 use Rattle.mrt_report.specs.Lines.{AreColorWords, ArePrimaryWords, IsArcHop, IsLine, IsLinkHop}
-
--- all nodes have the same rows for t
-abbrev pub AreSameFor : ℕ → Rows → Rows → Type 0
-AreSameFor t rows others = (s : ℕ) → rows s t ≡ others s t
-
-turned : (t : ℕ) (rows others : Rows) → AreSameFor t rows others → AreSameFor t others rows
-turned t rows others same s = sym (same s)
-
--- then they send a packet over the same links
-same_hops : (links : List Link) (t : ℕ) (rows others : Rows) → AreSameFor t rows others → (color : Color)
-    → color_hop links rows color t ≡ color_hop links others color t
-same_hops links t rows others same color = λ i s. option_and_then (λ row. hop_over links s (link_of_color color row)) (same s i)
-
-same_use : (links : List Link) (n : ℕ) (t : ℕ) (rows others : Rows) → AreSameFor t rows others → (s : ℕ) (x : Element) (color : Color)
-    → UsesOn links n rows s t x color → UsesOn links n others s t x color
-same_use links n t rows others same s x color =
-    subst (λ (next : ℕ → Option Hop). Uses links s (links_followed next t n s) x) (same_hops links t rows others same color)
-
--- and have the same alternates
-same_alternate : (links : List Link) (n : ℕ) (t : ℕ) (rows others : Rows) → AreSameFor t rows others → (s : ℕ) (failed : Option Element) (answer : Option Color)
-    → IsAlternate links n rows s t failed answer → IsAlternate links n others s t failed answer
-same_alternate links n t rows others same s failed answer Outside = Outside
-same_alternate links n t rows others same s failed answer (AtEnd x end) = AtEnd x end
-same_alternate links n t rows others same s failed answer (OnBoth x between blue red) =
-    OnBoth x between (same_use links n t rows others same s x Blue blue) (same_use links n t rows others same s x Red red)
-same_alternate links n t rows others same s failed answer (ByBlue x between not_blue) =
-    ByBlue x between (λ blue. not_blue (same_use links n t others rows (turned t rows others same) s x Blue blue))
-same_alternate links n t rows others same s failed answer (ByRed x between blue not_red) =
-    ByRed x between (same_use links n t rows others same s x Blue blue)
-    (λ red. not_red (same_use links n t others rows (turned t rows others same) s x Red red))
 
 module _ (area : AreaParts) (island : Topology) (link_of : List (Option ℕ)) (source to : ℕ) where
   same_elements : (rows others : Rows) (number : ℕ) (link far : Option Element)
@@ -69,9 +32,9 @@ module _ (area : AreaParts) (island : Topology) (link_of : List (Option ℕ)) (s
     node = a.node;
     elements_are = same_elements rows others number a.link a.node a.elements_are;
     link_repair = a.link_repair;
-    link_repair_is = same_alternate _ _ to rows others same source a.link a.link_repair a.link_repair_is;
+    link_repair_is = alternate_too _ _ to rows others same source a.link a.link_repair a.link_repair_is;
     node_repair = a.node_repair;
-    node_repair_is = same_alternate _ _ to rows others same source a.node a.node_repair a.node_repair_is;
+    node_repair_is = alternate_too _ _ to rows others same source a.node a.node_repair a.node_repair_is;
     spelled = a.spelled;
   }
 

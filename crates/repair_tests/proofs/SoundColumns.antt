@@ -1,5 +1,5 @@
 -- The rows of an accepted certificate for one destination are a sound column.
-use Rattle.std.proofs.Common.{◌≡◌, ◌<◌, ◌≤◌, ◌∙◌, ◌==◌, ℕ, zero, suc, Bool, true, false, List, [], ◌∷◌, Option, Some, None, length, map, slice_get, inl, inr, refl, sym, ap, subst, arith, if◌then◌else◌}
+use Rattle.std.proofs.Common.{◌≡◌, ◌<◌, ◌≤◌, ◌∙◌, ℕ, true, false, List, Option, Some, None, length, map, slice_get, inl, inr, sym, ap, arith}
 use Rattle.std.specs.Prelude.{IsSome}
 use Rattle.std.specs.List.{range_with_len}
 use Rattle.std.specs.Option.{is_none, option_and_then, option_map_or}
@@ -12,52 +12,14 @@ use Rattle.mrt_graph.specs.declared.cert.Row.{Row}
 use Rattle.mrt_graph.specs.declared.link.Link.{Link}
 use Rattle.mrt_graph.specs.Certificate.{Certificate, row_of}
 use Rattle.mrt_graph.specs.Column.{ColumnSound, is_none_at, rows_of_column}
-use Rattle.mrt_graph.specs.ColorWalk.{color_walk, links_followed}
-use Rattle.mrt_graph.specs.Hop.{Hop, color_hop, hop_over}
-use Rattle.mrt_graph.specs.Reaches.{AreDifferent}
+use Rattle.mrt_graph.specs.Hop.{color_hop, hop_over}
 use Rattle.mrt_graph.specs.Rows.{Rows, link_of_color}
-use Rattle.mrt_graph.specs.Sound.{SoundFor}
 use Rattle.mrt_graph.specs.Topology.{Topology}
-use Rattle.mrt_graph.specs.Uses.{Uses, nodes_met}
-use Rattle.mrt_graph.specs.Walk.{Walk}
 use Rattle.mrt_graph.proofs.AcceptedSound.{accepted_sound}
 use Rattle.mrt_graph.proofs.LeadsOn.{sound-hop}
 use Rattle.mrt_graph.specs.AcceptedFor.{IsAcceptedFor}
+use Rattle.primary_alt.proofs.AgreeingRows.{sound_too}
 use Rattle.primary_alt.proofs.ColorSteps.{counts}
-
--- where the hops are the same, so are the links
-one_link : (next next' : ℕ → Option Hop) (t most : ℕ) → ((v : ℕ) → links_followed next t most v ≡ links_followed next' t most v) → (b : Bool) (o : Option Hop)
-    → (if b then [] else option_map_or (λ hop. hop.link ∷ links_followed next t most hop.to) o [])
-    ≡ (if b then [] else option_map_or (λ hop. hop.link ∷ links_followed next' t most hop.to) o [])
-one_link next next' t most rest true o = refl
-one_link next next' t most rest false None = refl
-one_link next next' t most rest false (Some hop) = ap (λ (links : List ℕ). hop.link ∷ links) (rest hop.to)
-
-same_links : (next next' : ℕ → Option Hop) → ((s : ℕ) → next s ≡ next' s) → (t most s : ℕ) → links_followed next t most s ≡ links_followed next' t most s
-same_links next next' same t zero s = refl
-same_links next next' same t (suc most) s =
-    ap (λ (o : Option Hop). if s == t then [] else option_map_or (λ hop. hop.link ∷ links_followed next t most hop.to) o []) (same s)
-    ∙ one_link next next' t most (λ v. same_links next next' same t most v) (s == t) (next' s)
-
--- rows that are the same for t are as sound
-module _ (links : List Link) (n : ℕ) (rows rows' : Rows) (s t : ℕ) (same : (u : ℕ) → rows u t ≡ rows' u t) where
-  same_walk : (color : Color) → color_walk links n rows color s t ≡ color_walk links n rows' color s t
-  same_walk color = same_links (color_hop links rows color t) (color_hop links rows' color t)
-      (λ u. ap (option_and_then (λ (row : Row). hop_over links u (link_of_color color row))) (same u)) t n s
-
-  pub sound_as : SoundFor links n rows s t → SoundFor links n rows' s t
-  sound_as sound = record {
-    blue = record {
-      ends_at_t = subst (λ (w : List ℕ). Walk links s w t) (same_walk Blue) sound.blue.ends_at_t;
-      no_node_twice = subst (λ (w : List ℕ). AreDifferent (nodes_met links s w)) (same_walk Blue) sound.blue.no_node_twice;
-    };
-    red = record {
-      ends_at_t = subst (λ (w : List ℕ). Walk links s w t) (same_walk Red) sound.red.ends_at_t;
-      no_node_twice = subst (λ (w : List ℕ). AreDifferent (nodes_met links s w)) (same_walk Red) sound.red.no_node_twice;
-    };
-    apart = λ x between blue red.
-        sound.apart x between (subst (λ (w : List ℕ). Uses links s w x) (sym (same_walk Blue)) blue) (subst (λ (w : List ℕ). Uses links s w x) (sym (same_walk Red)) red);
-  }
 
 -- the rows for t
 abbrev pub rows_for : Certificate → ℕ → ℕ → List (Option Row)
@@ -112,6 +74,6 @@ module _ (g : Topology) (c : Certificate) (t : ℕ) (a : IsAcceptedFor g c) (wit
             absurd (row_there g.links (row_of c) Blue s t (sound-hop g.links (length g.ids) (row_of c) Blue s t apart (accepted_sound g a.root _ a.accepted s t low within apart)) none)
       ];
     };
-    sound = λ s low apart. sound_as g.links (length g.ids) (row_of c) (rows_of_column (rows_for c t (length g.ids))) s t same_rows
+    sound = λ s low apart. sound_too g.links (length g.ids) t (row_of c) (rows_of_column (rows_for c t (length g.ids))) same_rows s
         (accepted_sound g a.root _ a.accepted s t low within apart);
   }

@@ -1,4 +1,4 @@
-use Rattle.std.proofs.Common.{◌∙◌, ℕ, Option, Some, None, inl, inr, refl, sym, ap, subst, length}
+use Rattle.std.proofs.Common.{◌∙◌, Option, Some, None, inl, inr, refl, sym, subst, length}
 use Rattle.fabric.specs.FabricParts.{FabricParts}
 use Rattle.fabric.specs.Handling.{OutsideIsland, Repaired, Unrepaired}
 use Rattle.fabric.specs.Viewed.{viewed}

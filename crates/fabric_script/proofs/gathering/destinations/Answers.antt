@@ -1,7 +1,7 @@
-use Rattle.std.proofs.Common.{◌≡◌, ◌<◌, ◌∙◌, ℕ, Bool, true, Some, arith, length, slice_get, sym, ap, subst}
+use Rattle.std.proofs.Common.{◌≡◌, ◌∙◌, ℕ, Bool, true, Some, arith, length, slice_get, sym, ap, subst}
 use Rattle.std.proofs.lemmas.List.{length-set}
 use Rattle.std.proofs.lemmas.Option.{slice_get_read}
-use Rattle.fabric_script.proofs.Gathered.{known_more, new_more, none_gathered, none_more}
+use Rattle.fabric_script.proofs.Gathered.{known_more, new_more, none_more}
 use Rattle.fabric_script.proofs.gathering.destinations.Goals as goal
 
 pub loop-event-preserved-in_default : goal.loop-event-preserved-in_default
