@@ -1,8 +1,9 @@
 //! Databases compared by the certificate of a router's island.
 
-ghost use Rattle.std.specs.Prelude.{◌≡◌, ◌⊎◌, IfOk, IfErr, if◌then◌else◌, length};
+ghost use Rattle.std.specs.Prelude.{◌≡◌, ◌⊎◌, None, IfOk, IfErr, if◌then◌else◌, length};
 ghost use Rattle.area_graph.specs.AreaInvariant.{IsArea};
 ghost use Rattle.area_graph.specs.AreaSize.{IsTooLarge, TellsTooLarge};
+ghost use Rattle.lsdb.specs.Conflicts.{least_conflict};
 ghost use Rattle.flood_verdict.specs.Found.{IsFound, IsFoundIn};
 ghost use Rattle.flood_verdict.specs.Says.{area_in};
 
@@ -50,8 +51,10 @@ impl<'a> Compare for ByIsland<'a> {
     /// it and takes part under the profile. Certificates are the same where their roots, nodes, links, roles and rows
     /// are; metrics and link data are no part of that.
     ///
-    /// It takes the time of copying both databases, one after the other, and of both areas, islands and certificates. The
-    /// rows of both are found source after source, up to the first that differ, so no certificate is ever held whole.
+    /// It takes the time of copying both databases, one after the other, of both areas and islands, and of the searches
+    /// and directions of both. Rows are found only where the islands have the same nodes, links and roots in words and not
+    /// the same metrics or link data: then source after source, up to the first that differ, so no certificate is ever
+    /// held whole.
     ///
     /// # Errors
     ///
@@ -104,8 +107,9 @@ fn found(
     }
 }
 
-/// The area of a database. The copy that it is built of is given up before it is used.
+/// The area of a settled database. The copy that it is built of is given up before it is used.
 fn area_in(alloc: Global, database: &SharedLsdb) -> Result<Area, AreaError>
+    requires { least_conflict database.now.entries ≡ None }
     ensures area { IfOk result (λ area. area ≡ area_in database.now) }
     ensures within { IfOk result (λ _.
         IsTooLarge (length (area_in database.now).ids) (length (area_in database.now).arcs) → ⊥) }
