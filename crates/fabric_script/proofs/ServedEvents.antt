@@ -5,13 +5,14 @@ use Rattle.std.specs.Option.{option_and_then, unwrap_or}
 use Rattle.std.proofs.lemmas.Option.{slice_get-get_or, slice_get_past}
 use Rattle.area_graph.specs.Nodes.{number_of, router}
 use Rattle.area_graph.specs.Parts.{AreaParts}
-use Rattle.fabric.specs.FabricParts.{AreRowsFor, FabricParts}
+use Rattle.fabric.specs.FabricParts.{AreRowsFor, FabricParts, node_at}
+use Rattle.fabric.specs.SameRows.{AgreeFor}
 use Rattle.fabric.specs.Served.{AreRowsOn, IsEventServed, IsServedBy}
 use Rattle.fabric.specs.Viewed.{FabricTables, parts_of}
 use Rattle.fabric.specs.declared.event.Event.{Event}
 use Rattle.fabric.specs.declared.event.Event.TheVariants as happenings
 use Rattle.fabric.specs.declared.packet.Entry.{Entry}
-use Rattle.fabric_script.specs.Destinations.{AreServed, HaveDestinations}
+use Rattle.fabric_script.specs.Destinations.{AgreeForEvent, AreServed, HaveDestinations}
 use Rattle.fabric_script.specs.NamedEvents.{event_of, spot_of}
 use Rattle.fabric_script.specs.Trace.{beginning, failures_of}
 use Rattle.fabric_script.specs.declared.event.FailureName.{FailureName}
@@ -19,6 +20,7 @@ use Rattle.fabric_script.specs.declared.event.ScriptEvent.{ScriptEvent}
 use Rattle.fabric_script.specs.declared.event.ScriptEvent.TheVariants.{Fail, Inject, Step}
 use Rattle.fabric_script.specs.declared.trace.Trace.{Trace}
 use Rattle.mrt_graph.specs.Rows.{Rows}
+use Rattle.mrt_graph.specs.declared.node_id.NodeId.{NodeId}
 use Rattle.mrt_graph.proofs.ListPlaces.{contains_at, place_of, pushed_at}
 use Rattle.mrt_graph.proofs.Members.{contains_cases, contains_none}
 use Rattle.primary_alt.specs.RouteLists.{RouteLists}
@@ -95,23 +97,38 @@ rows_on_beginning parts trace rows =
     (no_inject parts.area trace.failed) rows
 
 -- a name that the area does not have is no destination
-nowhere : (parts : FabricParts) (routes : RouteLists) → IsServedBy parts routes (length parts.area.ids)
-nowhere parts routes = record {
-  rows = λ d at. absurd (none d (sym (ap (option_and_then (number_of parts.island.ids)) (slice_get_past parts.area.ids (length parts.area.ids) (omega arith))) ∙ at));
-  primaries = λ less. absurd (omega (arith, less));
-}
+outside : (parts : FabricParts) (d : ℕ) → node_at parts (length parts.area.ids) ≡ Some d → ⊥
+outside parts d at = none (sym (ap (option_and_then (number_of parts.island.ids)) (slice_get_past parts.area.ids (length parts.area.ids) (omega arith))) ∙ at)
   where
-    none : (d : ℕ) → ◌≡◌ {A = Option ℕ} None (Some d) → ⊥
-    none d e = cc
+    none : ◌≡◌ {A = Option ℕ} None (Some d) → ⊥
+    none e = cc
+
+nowhere : (parts : FabricParts) (routes : RouteLists) → IsServedBy parts routes (length parts.area.ids)
+nowhere parts routes = record { rows = λ d at. absurd (outside parts d at); primaries = λ less. absurd (omega (arith, less)) }
+
+-- what holds of all destinations of events, and of the number of none, holds of what each names
+all_destinations : (area : AreaParts) (P : ℕ → Type 0) → P (length area.ids) → (events : List ScriptEvent) (spots : List ℕ)
+    → HaveDestinations area events spots → ((t : ℕ) → Contains spots t → P t)
+    → (number : ℕ) (to : NodeId) (entry : Entry) → Contains events (Inject number to entry) → P (spot_of area to)
+all_destinations area P none events spots have each number to entry among = go (number_of area.ids to) refl
+  where
+    go : (place : Option ℕ) → number_of area.ids to ≡ place → P (spot_of area to)
+    go None is = subst P (sym (ap (λ (o : Option ℕ). unwrap_or o (length area.ids)) is)) none
+    go (Some t) is = subst P (sym (ap (λ (o : Option ℕ). unwrap_or o (length area.ids)) is)) (each t (have.each (Inject number to entry) t among is))
 
 -- where all destinations of events are served, so are the events
 pub served_at_destinations : (parts : FabricParts) (routes : RouteLists) (events : List ScriptEvent) (spots : List ℕ)
     → HaveDestinations parts.area events spots → ((t : ℕ) → Contains spots t → IsServedBy parts routes t) → AreServed parts routes events
-served_at_destinations parts routes events spots have served (Inject number to entry) among = go (number_of parts.area.ids to) refl
-  where
-    go : (place : Option ℕ) → number_of parts.area.ids to ≡ place → IsServedBy parts routes (spot_of parts.area to)
-    go None is = subst (λ (t : ℕ). IsServedBy parts routes t) (sym (ap (λ (o : Option ℕ). unwrap_or o (length parts.area.ids)) is)) (nowhere parts routes)
-    go (Some t) is = subst (λ (t : ℕ). IsServedBy parts routes t) (sym (ap (λ (o : Option ℕ). unwrap_or o (length parts.area.ids)) is))
-        (served t (have.each (Inject number to entry) t among is))
+served_at_destinations parts routes events spots have served (Inject number to entry) among =
+    all_destinations parts.area (IsServedBy parts routes) (nowhere parts routes) events spots have served number to entry among
 served_at_destinations parts routes events spots have served (Step packet) among = tt
 served_at_destinations parts routes events spots have served (Fail failed) among = tt
+
+-- and where rows agree for them, they agree for the events
+pub agree_at_destinations : (parts : FabricParts) (rows : Rows) (events : List ScriptEvent) (spots : List ℕ)
+    → HaveDestinations parts.area events spots → ((t : ℕ) → Contains spots t → AgreeFor parts rows t)
+    → (event : ScriptEvent) → Contains events event → AgreeForEvent parts rows event
+agree_at_destinations parts rows events spots have agree (Inject number to entry) among =
+    all_destinations parts.area (AgreeFor parts rows) (λ d at. absurd (outside parts d at)) events spots have agree number to entry among
+agree_at_destinations parts rows events spots have agree (Step packet) among = tt
+agree_at_destinations parts rows events spots have agree (Fail failed) among = tt
