@@ -12,8 +12,9 @@ pub mod OneSurvey
 pub mod OneTable
 pub mod OneVerdict
 pub mod OverBytes
+pub mod PacketsServed
+pub mod ProxyBetween
 pub mod Refusals
-pub mod Roots
 pub mod Tables
 pub mod TextsHeld
 pub mod ToldAlike

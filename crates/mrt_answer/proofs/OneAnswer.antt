@@ -8,6 +8,7 @@ use Rattle.area_graph.specs.AreaSize.{IsTooLarge}
 use Rattle.area_graph.specs.Nodes.{router as router_node}
 use Rattle.area_graph.specs.Parts.{AreaParts}
 use Rattle.mrt_graph.specs.Accepted.{Accepted}
+use Rattle.mrt_graph.specs.Certificate.{row_of}
 use Rattle.mrt_graph.specs.FirstFault.{FirstFault}
 use Rattle.mrt_graph.specs.TextLines.{text_lines}
 use Rattle.mrt_graph.specs.Topology.{Topology}
@@ -56,7 +57,7 @@ use Rattle.mrt_answer.proofs.Refusals.{root_within}
 use Rattle.mrt_answer.proofs.Upgrades.{read_accepted}
 use Rattle.mrt_answer.proofs.OneReading.{CertLaws, DatabaseLaws, held_once, no_bad_cert, no_bad_database, no_bad_profile, one_bad_database, one_bad_profile, one_cert, one_database, one_profile}
 use Rattle.mrt_answer.proofs.OneOrder.{OrderLaw, one_order_of}
-use Rattle.mrt_answer.proofs.OneProxy.{IsOneGraph, ProxyLaws, no_unrelated, none_missed, one_missed, one_proxied_text}
+use Rattle.mrt_answer.proofs.OneProxy.{IsOneGraph, ProxyLaws, accepted_for, no_unrelated, none_missed, one_missed, one_proxied_text}
 use Rattle.mrt_answer.proofs.OneSurvey.{SurveyTextLaw, one_surveyed}
 use Rattle.mrt_answer.proofs.OneTable.{CertificateLaw, TableLaws, one_table}
 use Rattle.mrt_answer.proofs.OneVerdict.{IslandLaws, contained, inside_is_there, no_large_area, one_large_area}
@@ -145,10 +146,16 @@ is_area laws bytes newest database within =
 pub parts_fit : (input : Input) → ((IsTooLarge (length (area input).ids) (length (area input).arcs) → ⊥)
     → IsArea (area input)) → (router : ℕ) (parts : FabricParts) → ArePartsFor input router parts → AreFabricParts parts
 parts_fit input kept router parts are = record {
-  area_kept = subst IsArea (sym are.area_is) (kept are.has.area_within);
-  island_kept = are.certificate.kept;
-  fits = are.fits;
-  accepted = record { root = are.root; version = 2; number = are.root_number; accepted = are.certificate.accepted };
+  kept = record {
+    area_kept = subst IsArea (sym are.area_is) (kept are.has.area_within);
+    island_kept = are.certificate.kept;
+    fits = are.fits;
+  };
+  served = λ d within. record {
+    cert = are.file.cert;
+    accepted = accepted_for parts.island are.root are.file are.certificate;
+    same = λ s i. are.rows_are i s d;
+  };
 }
 
 too_large_is : (what other : What) (size count : ℕ) → (what ≡ other) × (size ≡ count)
@@ -350,17 +357,16 @@ module _ (laws : Laws) where
       one_parts parts other one two =
           let same = laws.islands.one_island (policy input) (area input) router parts.island other.island one.root two.root
           one.has.link_of two.has.link_of (kept one.has.area_within) one.has.island two.has.island in
-          let file : CertFile = record { version = 2; root = one.root_number; cert = parts.cert } in
-          let second : CertFile = record { version = 2; root = two.root_number; cert = other.cert } in
-          let computed : IsCertOf other.island two.root file =
-          subst (λ (n : ℕ). IsCertOf other.island n file) same.1
-          (subst (λ (g : Topology). IsCertOf g one.root file) same.0 one.certificate.computed) in
-          let files : file ≡ second = laws.certificates other.island two.root file second two.certificate.kept
+          let computed : IsCertOf other.island two.root one.file =
+          subst (λ (n : ℕ). IsCertOf other.island n one.file) same.1
+          (subst (λ (g : Topology). IsCertOf g one.root one.file) same.0 one.certificate.computed) in
+          let files : one.file ≡ two.file = laws.certificates other.island two.root one.file two.file two.certificate.kept
           (root_within (policy input) (area input) router other.island two.root two.has.link_of two.has.island) computed
           two.certificate.computed in
           let areas : parts.area ≡ other.area = one.area_is ∙ sym two.area_is in
           let links : parts.link_of ≡ other.link_of = one.links_are ∙ same.2 ∙ sym two.links_are in
-          λ i. record { area = areas i; island = same.0 i; cert = (files i).cert; link_of = links i }
+          let rows : parts.rows ≡ other.rows = one.rows_are ∙ ap (λ (f : CertFile). row_of f.cert) files ∙ sym two.rows_are in
+          λ i. record { area = areas i; island = same.0 i; rows = rows i; link_of = links i }
 
     -- ---- of a trace, and of the bytes of a script
 

@@ -16,7 +16,6 @@ use Rattle.mrt_answer.specs.Proxied.{HasBoth, HasProxy, MissesOne}
 use Rattle.mrt_answer.specs.Tabled.{IsComputedFile}
 use Rattle.mrt_answer.proofs.OneTable.{CertificateLaw}
 use Rattle.mrt_answer.proofs.OneVerdict.{contained}
-use Rattle.mrt_answer.proofs.Upgrades.{upgraded_accepted}
 
 -- the laws of the layer below on texts
 pub record ProxyLaws : Type 0 where
@@ -29,7 +28,7 @@ pub record ProxyLaws : Type 0 where
 pub accepted_for : (graph : Topology) (root : ℕ) (file : CertFile) → IsComputedFile graph root file
     → IsAcceptedFor graph file.cert
 accepted_for graph root file computed =
-    record { root = root; version = 2; number = file.root; accepted = upgraded_accepted graph root file computed.accepted }
+    record { root = root; version = file.version; number = file.root; accepted = computed.accepted }
 
 -- what a text is made from
 record Made : Type 0 where

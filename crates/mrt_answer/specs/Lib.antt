@@ -6,6 +6,7 @@ pub mod Input
 pub mod Islands
 pub mod LoopFree
 pub mod Ordered
+pub mod PacketTables
 pub mod Packets
 pub mod Proxied
 pub mod Refusals

@@ -7,7 +7,9 @@ use Rattle.fabric_script.specs.declared.script.Script.{Script}
 use Rattle.fabric_script.specs.declared.trace.Trace.{Trace}
 use Rattle.fabric_script.specs.RunTexts.{IsScriptText, IsTraceText}
 use Rattle.fabric_script.specs.ScriptFaults.{IsFirstFault, IsScript}
-use Rattle.mrt_graph.specs.Certificate.{Certificate}
+use Rattle.mrt_graph.specs.declared.cert.CertFile.{CertFile}
+use Rattle.mrt_graph.specs.Certificate.{row_of}
+use Rattle.mrt_graph.specs.Rows.{Rows}
 use Rattle.mrt_graph.specs.TextLines.{text_lines}
 use Rattle.mrt_graph.specs.Topology.{Topology}
 use Rattle.mrt_exit.specs.declared.exit.Exit.{Exit}
@@ -17,19 +19,20 @@ use Rattle.mrt_answer.specs.Islands.{HasNoIslandFor}
 use Rattle.mrt_answer.specs.Tabled.{IsComputedFile}
 
 -- what the steps of packets read
-abbrev pub packet_parts : AreaParts → Topology → Certificate → List (Option ℕ) → FabricParts
-packet_parts area graph cert link_of = record { area = area; island = graph; cert = cert; link_of = link_of }
+abbrev pub packet_parts : AreaParts → Topology → Rows → List (Option ℕ) → FabricParts
+packet_parts area graph rows link_of = record { area = area; island = graph; rows = rows; link_of = link_of }
 
--- these are read for the island of a router: the area, that island with the certificate that is computed for it, and of
--- each bond of the area the link of the island that it is
+-- these are read for the island of a router: the area, that island with the rows of the certificate that is computed for
+-- it, and of each bond of the area the link of the island that it is
 pub record ArePartsFor (input : Input) (number : ℕ) (parts : FabricParts) : Type 0 where
   pub area_is : parts.area ≡ area input
   pub root : ℕ
   pub has : HasIsland input number parts.island root
   pub links_are : parts.link_of ≡ has.link_of
   pub fits : Fits parts.area parts.island parts.link_of
-  pub root_number : ℕ
-  pub certificate : IsComputedFile parts.island root (record { version = 2; root = root_number; cert = parts.cert })
+  pub file : CertFile
+  pub certificate : IsComputedFile parts.island root file
+  pub rows_are : parts.rows ≡ row_of file.cert
 
 -- the text is that of a packet's trace, in the island of the router where it enters
 abbrev pub IsTraceGiven : Input → Trace → List ℕ → Type 0

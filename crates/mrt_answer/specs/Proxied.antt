@@ -6,7 +6,7 @@ use Rattle.mrt_graph.specs.Related.{are_unrelated}
 use Rattle.mrt_graph.specs.Topology.{Topology}
 use Rattle.proxy_rows.specs.ProxyText.{IsProxyText}
 use Rattle.mrt_exit.specs.declared.exit.Exit.{Exit}
-use Rattle.mrt_exit.specs.declared.exit.Exit.TheVariants.{NoCommonBlock, NotThere}
+use Rattle.mrt_exit.specs.declared.exit.Exit.TheVariants.{NoCommonBlock, NoMemory, NotThere}
 use Rattle.mrt_answer.specs.Input.{Input, HasIsland}
 use Rattle.mrt_answer.specs.Islands.{HasNoIslandFor}
 use Rattle.mrt_answer.specs.Tabled.{IsComputedFile}
@@ -23,6 +23,20 @@ pub record HasBoth (input : Input) (number first second : ℕ) : Type 0 where
   pub first_is : slice_get graph.ids a ≡ Some (router first)
   pub b : ℕ
   pub second_is : slice_get graph.ids b ≡ Some (router second)
+
+-- the text is that on a prefix that two nodes of a graph are attached to, by the certificate that is computed for it and a
+-- root
+pub record IsProxyOf (graph : Topology) (root a b : ℕ) (text : List ℕ) : Type 0 where
+  pub file : CertFile
+  pub certificate : IsComputedFile graph root file
+  pub spelled : IsProxyText graph root file.cert a b text
+
+-- why there is none: that certificate gives the two no common block; or there was no memory
+abbrev pub HasNoProxyOf : Topology → ℕ → ℕ → ℕ → Exit → Type 0
+HasNoProxyOf graph root a b NoCommonBlock =
+    (file : CertFile) × IsComputedFile graph root file × (are_unrelated file.cert a b ≡ true)
+HasNoProxyOf graph root a b NoMemory = Unit {0}
+HasNoProxyOf graph root a b exit = ⊥
 
 -- the text is that on a prefix that the two are attached to
 pub record HasProxy (input : Input) (number first second : ℕ) (text : List ℕ) : Type 0 where

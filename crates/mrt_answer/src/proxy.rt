@@ -1,9 +1,9 @@
 //! `proxy DB PROFILE ROUTER A B`: the rows for a prefix that is attached to two routers.
 
-ghost use Rattle.std.specs.Prelude.{◌≡◌, ◌≢◌, None, IfOk, IfErr, IfSome, Contains, Some, slice_get};
+ghost use Rattle.std.specs.Prelude.{◌≡◌, ◌≢◌, ◌<◌, None, IfOk, IfErr, IfSome, Contains, Some, length, slice_get};
 ghost use Rattle.std.specs.Option.{IfNone};
 ghost use Rattle.area_graph.specs.Nodes.{router as router_node};
-ghost use Rattle.mrt_answer.specs.Proxied.{HasProxy};
+ghost use Rattle.mrt_answer.specs.Proxied.{HasNoProxyOf, HasProxy, IsProxyOf};
 ghost use Rattle.mrt_answer.specs.Refusals.{IsProxyRefusal};
 ghost use Rattle.mrt_answer.specs.TextBytes.{HasText};
 
@@ -12,8 +12,8 @@ use crate::island::island_in;
 use crate::text::Text;
 use mrt_exit::Exit;
 use mrt_graph::{Graph, Kind, NodeId, NodeNo, accepted_implies_sound};
-use mrt_rows::compute;
-use proxy_rows::{ProxyError, proxy_text};
+use mrt_rows::{RootedColumns, certificates_are_accepted};
+use proxy_rows::{attach, proxy_rows_at, proxy_text_of};
 use std::alloc::Global;
 
 /// The rows of all nodes of a router's island for a prefix that is attached to two routers of it.
@@ -28,7 +28,6 @@ pub(crate) fn proxy(
     ensures proxied { IfOk result (HasText (HasProxy given.now router first second)) }
     ensures refused { IfErr result (IsProxyRefusal given.now router first second) }
 {
-    accepted_implies_sound();
     let island = island_in(alloc, given, router)?;
     let graph = &island.graph;
     let Some(a) = router_in(graph, first) else {
@@ -37,12 +36,36 @@ pub(crate) fn proxy(
     let Some(b) = router_in(graph, second) else {
         return Err(Exit::NotThere { number: second });
     };
-    let cert = compute(alloc, graph, island.root)?;
-    match proxy_text(alloc, graph, island.root, &cert, a, b) {
-        Ok(text) => Ok(Text::Bytes(text)),
-        Err(ProxyError::NoCommonBlock) => Err(Exit::NoCommonBlock),
-        Err(ProxyError::NoMemory) => Err(Exit::NoMemory),
-    }
+    proxy_between(alloc, graph, island.root, a, b)
+}
+
+/// The same for two nodes of a graph, by its certificate from a root, of which one column is made.
+fn proxy_between(
+    alloc: Global,
+    graph: &Graph,
+    root: NodeNo,
+    a: NodeNo,
+    b: NodeNo,
+) -> Result<Text, Exit>
+    requires root { root < length graph.now.ids }
+    requires first { a < length graph.now.ids }
+    requires second { b < length graph.now.ids }
+    requires different { a ≢ b }
+    ensures proxied { IfOk result (HasText (IsProxyOf graph.now root a b)) }
+    ensures refused { IfErr result (HasNoProxyOf graph.now root a b) }
+{
+    certificates_are_accepted();
+    accepted_implies_sound();
+    let mut columns = RootedColumns::one_by_one(alloc, graph, root)?;
+    let nodes = columns.nodes(alloc, graph)?;
+    let Some(at) = attach(&nodes, a, b) else {
+        return Err(Exit::NoCommonBlock);
+    };
+    let links = columns.links(alloc, graph)?;
+    let column = columns.to(alloc, graph, at.head)?;
+    let rows = proxy_rows_at(alloc, graph, &nodes, &links, &at, &column)?;
+    let text = proxy_text_of(alloc, graph, root, a, b, &rows)?;
+    Ok(Text::Bytes(text))
 }
 
 /// The number of a router of the graph, if it is one.
