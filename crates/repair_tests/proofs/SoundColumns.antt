@@ -1,5 +1,5 @@
 -- The rows of an accepted certificate for one destination are a sound column.
-use Rattle.std.proofs.Common.{◌≡◌, ◌<◌, ◌≤◌, ◌∙◌, ℕ, true, false, List, Option, Some, None, length, map, slice_get, inl, inr, sym, ap, arith}
+use Rattle.std.proofs.Common.{◌≡◌, ◌<◌, ◌≤◌, ◌∙◌, ℕ, true, false, List, Option, Some, None, length, map, slice_get, inl, inr, sym, ap, arith, refl}
 use Rattle.std.specs.Prelude.{IsSome}
 use Rattle.std.specs.List.{range_with_len}
 use Rattle.std.specs.Option.{is_none, option_and_then, option_map_or}
