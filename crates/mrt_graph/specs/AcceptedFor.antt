@@ -1,10 +1,10 @@
--- Certificates that are accepted, whatever the version of their file and the router that it names; no rule reads these.
+-- Certificates that are accepted, whatever the version of their file, which no rule reads.
 use Rattle.std.specs.Prelude.{ℕ}
 use Rattle.mrt_graph.specs.Accepted.{Accepted}
 use Rattle.mrt_graph.specs.Certificate.{Certificate}
 use Rattle.mrt_graph.specs.Topology.{Topology}
 
--- the certificate is accepted for the graph and its root
+-- the certificate is accepted for the graph and its root, with the number that stands before it as that of its router
 pub record IsAcceptedAt (g : Topology) (root : ℕ) (c : Certificate) : Type 0 where
   pub version : ℕ
   pub number : ℕ

@@ -9,14 +9,10 @@ use Rattle.mrt_graph.specs.Alternate.{AtEnd, ByBlue, ByRed, IsAlternate, OnBoth,
 use Rattle.mrt_graph.specs.ColorWalk.{color_walk, links_followed}
 use Rattle.mrt_graph.specs.Hop.{Hop, color_hop, hop_over}
 use Rattle.mrt_graph.specs.Reaches.{AreDifferent, Reaches}
-use Rattle.mrt_graph.specs.Rows.{Rows, link_of_color}
+use Rattle.mrt_graph.specs.Rows.{AreSameFor, Rows, link_of_color}
 use Rattle.mrt_graph.specs.Sound.{SoundFor}
 use Rattle.mrt_graph.specs.Uses.{Uses, nodes_met}
 use Rattle.mrt_graph.specs.Walk.{Walk}
-
--- all nodes have the same rows for t
-abbrev pub AreSameFor : ℕ → Rows → Rows → Type 0
-AreSameFor t rows others = (s : ℕ) → rows s t ≡ others s t
 
 pub turned : (t : ℕ) (rows others : Rows) → AreSameFor t rows others → AreSameFor t others rows
 turned t rows others same s = sym (same s)

@@ -6,7 +6,6 @@ pub mod Beginnings
 pub mod Distance
 pub mod Distances
 pub mod DistancesFrom
-pub mod Elements
 pub mod FirstArcs
 pub mod Meets
 pub mod NoArc

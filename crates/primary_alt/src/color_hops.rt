@@ -1,35 +1,16 @@
 //! Where a packet on a color goes.
 
-ghost use Rattle.std.specs.Prelude.{◌≡◌, ◌≢◌, ◌<◌, IsSome, Some, length};
-ghost use Rattle.mrt_graph.specs.Certificate.{row_of};
+ghost use Rattle.std.specs.Prelude.{◌≡◌, ◌<◌, IsSome, Some, length};
 ghost use Rattle.mrt_graph.specs.Hop.{color_hop, hop_over};
 ghost use Rattle.mrt_graph.specs.Rows.{link_of_color};
-ghost use Rattle.mrt_graph.specs.AcceptedFor.{IsAcceptedFor};
 
-use mrt_graph::{Cert, Color, Graph, LinkNo, NodeNo, Row, RowsOf};
+use mrt_graph::{Color, Graph, LinkNo, NodeNo, Row, RowsOf};
 
 /// One hop on a color: a link, and the node that it leads to.
 #[derive(Clone, Copy)]
 pub struct ColorHop {
     pub link: LinkNo,
     pub to: NodeNo,
-}
-
-/// Where a packet for `t` goes from `at` on a color: over the link of this color in the row of `at` for `t` (RFC 7812,
-/// section 5.2).
-///
-/// It takes the time of reading one row and one link.
-pub fn hop_on(g: &Graph, c: &Cert, at: NodeNo, t: NodeNo, color: Color) -> ColorHop
-    requires accepted { IsAcceptedFor g.now c.now }
-    requires at { at < length g.now.ids }
-    requires target { t < length g.now.ids }
-    requires different { at ≢ t }
-    ensures hop { color_hop g.now.links (row_of c.now) color t at
-        ≡ Some (record { link = result.link; to = result.to }) }
-    ensures link { result.link < length g.now.links }
-    ensures to { result.to < length g.now.ids }
-{
-    next_hop(g, c, at, t, color)
 }
 
 /// Where a packet for `t` goes from `at` on a color, by these rows (RFC 7812, section 5.2).

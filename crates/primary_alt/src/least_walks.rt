@@ -6,6 +6,7 @@ ghost use Rattle.area_graph.specs.AreaInvariant.{IsArea};
 ghost use Rattle.mrt_graph.specs.GraphInvariant.{IsNetwork};
 ghost use Rattle.primary_alt.specs.Beginnings.{AreBeginnings, HasSecond, IsFirst};
 ghost use Rattle.primary_alt.specs.Distances.{HasDistance};
+ghost use Rattle.primary_alt.specs.DistancesFrom.{AreDistancesFrom};
 ghost use Rattle.primary_alt.specs.Primaries.{ArePrimaries, IsFirstArc, IsPrimary, LeadsOver};
 
 use crate::least_weights::least_weights;
@@ -16,16 +17,39 @@ use area_graph::{Arc, ArcNo, Area, Spot};
 use mrt_graph::NoMemory;
 use std::alloc::Global;
 
+/// Where a router sends packets, and how far each node is from it.
+#[derive(Drop)]
+pub struct FromRouter {
+    /// Of each node where the router sends a packet for it: None for the router itself, and where no walk leads.
+    pub primaries: Vec<Option<Primary>>,
+    /// Of each node its distance: None where no walk leads.
+    pub distances: Vec<Option<u32>>,
+}
+
 /// Of each node where the source, a router, sends a packet for it: None for the source itself, and where no walk
 /// leads.
 ///
-/// Three searches from the source serve all nodes: one for the distances, and along shortest paths one for the first
-/// arcs and one for the second ones, each the least by number. It takes time in proportion to the arcs, times the
-/// logarithm of their number.
+/// It takes the time of [`from_router`](crate::from_router).
 pub fn primaries(alloc: Global, area: &Area, source: Spot) -> Result<Vec<Option<Primary>>, NoMemory>
     requires within { source < length area.now.ids }
     requires router { ¬ IsNetwork area.now.ids source }
     ensures { IfOk result (λ entries. ArePrimaries area.now source entries.items) }
+{
+    let from = from_router(alloc, area, source)?;
+    Ok(from.primaries)
+}
+
+/// The primaries of the source, a router, and the distances from it.
+///
+/// Three searches from the source serve all nodes: one for the distances, and along shortest paths one for the first
+/// arcs and one for the second ones, each the least by number. It takes time in proportion to the arcs, times the
+/// logarithm of their number.
+pub fn from_router(alloc: Global, area: &Area, source: Spot) -> Result<FromRouter, NoMemory>
+    requires within { source < length area.now.ids }
+    requires router { ¬ IsNetwork area.now.ids source }
+    ensures primaries { IfOk result (λ from. ArePrimaries area.now source from.primaries.items) }
+    ensures distances { IfOk result (λ from. AreDistancesFrom area.now.arcs source from.distances.items) }
+    ensures one_each { IfOk result (λ from. length from.distances.items ≡ length area.now.ids) }
 {
     let arcs = all_arcs(alloc, area)?;
     let count = area.count();
@@ -42,7 +66,11 @@ pub fn primaries(alloc: Global, area: &Area, source: Spot) -> Result<Vec<Option<
         firsts: &firsts,
     };
     let seconds = least_weights(alloc, &arcs, count, source, &numbers)?;
-    entries(alloc, area, source, &arcs, &firsts, &seconds)
+    let primaries = entries(alloc, area, source, &arcs, &firsts, &seconds)?;
+    Ok(FromRouter {
+        primaries,
+        distances,
+    })
 }
 
 /// The primaries of a router that begin with these arcs.

@@ -24,9 +24,9 @@ mod shortest;
 mod turned;
 mod weights;
 
-pub use color_hops::{ColorHop, hop_on, next_hop};
+pub use color_hops::{ColorHop, next_hop};
 pub use color_uses::is_over;
-pub use least_walks::primaries;
+pub use least_walks::{FromRouter, from_router, primaries};
 pub use of_area::{all_arcs, is_network};
 pub use primary_law::{
     a_primary_where_a_walk_leads, each_router_has_its_primaries, one_primary_each,

@@ -1,13 +1,12 @@
 //! The color that repairs a failure.
 
-ghost use Rattle.std.specs.Prelude.{◌≢◌, ◌<◌, ◌↔◌, ℕ, IfSome, IsTrue, Some, length};
+ghost use Rattle.std.specs.Prelude.{◌≢◌, ◌<◌, ◌↔◌, ℕ, IsTrue, Some, length};
 ghost use Rattle.mrt_graph.specs.Alternate.{IsAlternate};
 ghost use Rattle.mrt_graph.specs.Certificate.{row_of};
 ghost use Rattle.mrt_graph.specs.Column.{ColumnSound, rows_of_column};
 ghost use Rattle.mrt_graph.specs.Separates.{IsNeitherEnd};
 ghost use Rattle.mrt_graph.specs.Sound.{SoundFor};
 ghost use Rattle.mrt_graph.specs.AcceptedFor.{IsAcceptedFor};
-ghost use Rattle.primary_alt.specs.Elements.{IsElementOf};
 
 use crate::color_uses::uses;
 use mrt_graph::{Cert, Color, Column, Element, Graph, NodeNo, RowsOf};
@@ -26,8 +25,6 @@ pub fn alternate(
     requires accepted { IsAcceptedFor g.now c.now }
     requires source { source < length g.now.ids }
     requires target { to < length g.now.ids }
-    requires different { source ≢ to }
-    requires element { IfSome failed (λ x. IsElementOf g.now x) }
     ensures { IsAlternate g.now.links (length g.now.ids) (row_of c.now) source to failed result }
 {
     alternate_by(g, c, source, to, failed)
@@ -45,9 +42,6 @@ pub fn alternate_on(
 ) -> Option<Color>
     requires sound { ColumnSound g.now.links (length g.now.ids) c.now to }
     requires source { source < length g.now.ids }
-    requires target { to < length g.now.ids }
-    requires different { source ≢ to }
-    requires element { IfSome failed (λ x. IsElementOf g.now x) }
     ensures { IsAlternate g.now.links (length g.now.ids) (rows_of_column c.now) source to
         failed result }
 {

@@ -1,8 +1,7 @@
 //! The colors that repair failures on the way from router 1 to router 4 of a small island.
 
-ghost use Rattle.std.specs.Prelude.{◌≡◌, IfSome, length};
+ghost use Rattle.std.specs.Prelude.{◌≡◌, length};
 ghost use Rattle.mrt_graph.specs.AcceptedFor.{IsAcceptedFor};
-ghost use Rattle.primary_alt.specs.Elements.{IsElementOf};
 
 use crate::small_area::{island_of, small_area};
 use mrt_graph::{Cert, Color, Element, Graph, LinkNo, NodeNo};
@@ -13,7 +12,6 @@ use std::alloc::Global;
 fn repair(g: &Graph, c: &Cert, failed: Option<Element>) -> Option<Color>
     requires accepted { IsAcceptedFor g.now c.now }
     requires nodes { length g.now.ids ≡ 5 }
-    requires element { IfSome failed (λ x. IsElementOf g.now x) }
 {
     alternate(g, c, NodeNo::new(0), NodeNo::new(3), failed)
 }

@@ -9,8 +9,9 @@ use Rattle.primary_alt.specs.Beginnings.{AreBeginnings}
 use Rattle.primary_alt.specs.Turned.{AreLeast, CanWeigh, IsFirstWeight, IsMetric, IsSecondWeight, IsWithin}
 use Rattle.primary_alt.proofs.AreaArcs.{arcs_between}
 use Rattle.primary_alt.proofs.Beginning.{beginnings, can_weigh}
+use Rattle.primary_alt.proofs.DistancesFound.{all_from}
 use Rattle.primary_alt.proofs.RouterFacts.{router_from}
-use Rattle.primary_alt.proofs.least_walks.primaries.Goals as goal
+use Rattle.primary_alt.proofs.least_walks.from_router.Goals as goal
 
 -- what each search asks, of the list of arcs that it reads
 few_arcs : (area : AreaParts) (own : List Arc) → IsArea area → own ≡ area.arcs → length own ≤ 32768
@@ -118,5 +119,10 @@ entries-requires-clause-are c =
     (beginnings area c.in_ok-arcs.ensures.kept s (router_from area.ids s c.requires.within c.requires.router) known (c.in_ok-distances.ensures.one_each ∙ c.count-count.ensures.count) metrics
     firsts (c.in_ok-firsts.ensures.one_each ∙ c.count-count.ensures.count) least seconds (c.in_ok-seconds.ensures.one_each ∙ c.count-count.ensures.count) least'))
 
-pub returns : goal.returns
-returns c = c.entries.ensures
+pub returns-clause-distances : goal.returns-clause-distances
+returns-clause-distances c =
+    let area = c.args.area.now in
+    let s = c.args.source in
+    let known = c.in_ok-distances.distances.items in
+    let metrics = subst (λ (xs : List Arc). AreLeast IsMetric xs s known) (c.deref.ensures.value ∙ c.in_ok-arcs.ensures.arcs) c.in_ok-distances.ensures.least in
+    all_from area.arcs metrics.others s known metrics.are metrics.distances
