@@ -3,10 +3,10 @@ use Rattle.std.proofs.Common.{◌≡◌, ◌↔◌, ℕ, List, Option, Some, Non
 use Rattle.area_graph.specs.Parts.{AreaParts}
 use Rattle.mrt_graph.specs.declared.cert.Row.{Row}
 use Rattle.mrt_graph.specs.declared.link.Element.{Element}
-use Rattle.mrt_graph.specs.Rows.{Rows}
+use Rattle.mrt_graph.specs.Rows.{AreSameFor, Rows}
 use Rattle.mrt_graph.specs.Topology.{Topology}
 use Rattle.primary_alt.specs.declared.shortest.Primary.{Primary}
-use Rattle.primary_alt.proofs.AgreeingRows.{AreSameFor, alternate_too, turned}
+use Rattle.primary_alt.proofs.AgreeingRows.{alternate_too, turned}
 use Rattle.mrt_report.specs.Letters.{AreArcElements, AreArcLetters, AreLetters, AreSecondLetters}
 use Rattle.mrt_report.specs.LineParts.{line_parts}
 use Rattle.mrt_report.specs.Lines.{AreColorWords, ArePrimaryWords, IsArcHop, IsLine, IsLinkHop}
