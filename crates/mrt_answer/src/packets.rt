@@ -125,7 +125,7 @@ fn columns_for(
     ensures kept { IfOk result (λ _. IsTopology g.now) }
 {
     if destinations <= (g.node_count() / FEW) as usize {
-        RootedColumns::one_by_one(alloc, g, root)
+        RootedColumns::for_some(alloc, g, root, destinations)
     } else {
         RootedColumns::new(alloc, g, root)
     }

@@ -56,7 +56,7 @@ fn proxy_between(
 {
     certificates_are_accepted();
     accepted_implies_sound();
-    let mut columns = RootedColumns::one_by_one(alloc, graph, root)?;
+    let mut columns = RootedColumns::for_some(alloc, graph, root, 1)?;
     let nodes = columns.nodes(alloc, graph)?;
     let Some(at) = attach(&nodes, a, b) else {
         return Err(Exit::NoCommonBlock);

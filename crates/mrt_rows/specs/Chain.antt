@@ -1,5 +1,5 @@
 -- The heads above a destination, and what the nodes aim at.
-use Rattle.std.specs.Prelude.{◌≡◌, ◌≢◌, ◌<◌, ◌⊎◌, ◌+◌, ℕ, List, Option, Some, None, length, slice_get}
+use Rattle.std.specs.Prelude.{◌≡◌, ◌≢◌, ◌<◌, ◌⊎◌, ℕ, List, Option, Some, None, length, slice_get}
 use Rattle.mrt_graph.specs.Topology.{Topology}
 use Rattle.link_direction.specs.Directions.{Directions}
 use Rattle.inc_dec_spf.specs.BlockAims.{aim_at}
@@ -40,6 +40,6 @@ pub record AreWayAims (g : Topology) (root : ℕ) (w : Directions) (t : ℕ) (ai
 pub record AreHeadAims (g : Topology) (w : Directions) (width : ℕ) (aims : List ℕ) : Type 0 where
   pub each : (j y : ℕ) → j < width → y < length g.ids → aim_at aims width j (w.block y) ≡ w.head y
 
--- at each of so many places, the blocks aim so for the destination there: these begin with number `first`
-pub record AreBlockAims (g : Topology) (root : ℕ) (w : Directions) (first width : ℕ) (aims : List ℕ) : Type 0 where
-  pub each : (j : ℕ) → j < width → first + j < length g.ids → AreWayAims g root w (first + j) (aim_at aims width j)
+-- at each place, the blocks aim so for the destination there
+pub record AreBlockAims (g : Topology) (root : ℕ) (w : Directions) (targets aims : List ℕ) : Type 0 where
+  pub each : (j t : ℕ) → slice_get targets j ≡ Some t → AreWayAims g root w t (aim_at aims (length targets) j)

@@ -1,5 +1,5 @@
 -- What is held between the columns of two destinations.
-use Rattle.std.specs.Prelude.{◌≡◌, ◌<◌, ◌*◌, ℕ, length}
+use Rattle.std.specs.Prelude.{◌≡◌, ◌<◌, ◌*◌, ℕ, List, Some, length, slice_get}
 use Rattle.mrt_graph.specs.Topology.{Topology}
 use Rattle.link_direction.specs.Directions.{Directions}
 use Rattle.inc_dec_spf.specs.declared.reach.Dir.TheVariants.{Down, Up}
@@ -10,15 +10,15 @@ use Rattle.mrt_rows.specs.Chain.{AreBlockAims}
 use Rattle.mrt_rows.specs.NearOf.{AreHomeRows, AreSoles}
 use Rattle.mrt_rows.specs.Put.{AreHeadsMarked, AreHomes}
 
--- what the blocks aim at for the destinations from one number on, and tiles that are aimed so
+-- what the blocks aim at for the destinations in their places, and tiles that are aimed so
 pub record AreTilesAimed (g : Topology) (root : ℕ) (w : Directions) (held : Columns) : Type 0 where
-  pub aims : AreBlockAims g root w held.first held.width held.aims.items
+  pub aims : AreBlockAims g root w held.targets.items held.aims.items
   pub up : IsAimed g w Up held.aims.items held.width held.up
   pub down : IsAimed g w Down held.aims.items held.width held.down
 
 -- the nodes by their turns, marks on the heads of blocks, the sole links, the links and the rows home of all nodes, room
--- for each node, and tiles with places for so many of each, which are aimed if their first destination is a node
-pub record AreHeld (g : Topology) (root : ℕ) (w : Directions) (held : Columns) : Type 0 where
+-- for each node and each destination side by side, and tiles, which are aimed where a node stands among these
+pub record AreHeldFor (g : Topology) (root : ℕ) (w : Directions) (held : Columns) (targets : List ℕ) : Type 0 where
   pub by_order : AreTurns g w Up held.by_order.items
   pub against_order : AreTurns g w Down held.against_order.items
   pub a_mark_each : length held.heads.items ≡ length g.ids
@@ -33,4 +33,9 @@ pub record AreHeld (g : Topology) (root : ℕ) (w : Directions) (held : Columns)
   pub places : length held.aims.items ≡ length g.ids * held.width
   pub up : IsTile g held.width held.up
   pub down : IsTile g held.width held.down
-  pub aimed : held.first < length g.ids → AreTilesAimed g root w held
+  pub a_target_each : length held.targets.items ≡ held.width
+  pub aimed : (j t : ℕ) → slice_get targets j ≡ Some t → t < length g.ids → AreTilesAimed g root w held
+
+-- they are aimed at the destinations in their places
+abbrev pub AreHeld : Topology → ℕ → Directions → Columns → Type 0
+AreHeld g root w held = AreHeldFor g root w held held.targets.items

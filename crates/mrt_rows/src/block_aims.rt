@@ -1,6 +1,6 @@
 //! What the blocks aim at, for some destinations side by side.
 
-ghost use Rattle.std.specs.Prelude.{◌≡◌, ◌≢◌, ◌<◌, ◌≤◌, ◌+◌, ◌*◌, ◌⊎◌, ℕ, length, slice_index};
+ghost use Rattle.std.specs.Prelude.{◌≡◌, ◌≢◌, ◌<◌, ◌≤◌, ◌+◌, ◌*◌, ◌⊎◌, ℕ, Some, length, slice_get, slice_index};
 ghost use Rattle.mrt_graph.specs.GraphInvariant.{IsTopology};
 ghost use Rattle.link_direction.specs.Directions.{Directions, Says};
 ghost use Rattle.link_direction.specs.OrderedGadag.{SaysOrdered};
@@ -13,31 +13,31 @@ use mrt_graph::{Directed, Graph, NodeNo};
 /// One of so many places side by side.
 #[derive(Clone, Copy)]
 pub struct Lane {
-    pub width: u16,
-    pub at: u16,
+    pub width: usize,
+    pub at: usize,
 }
 
-/// Puts what each block aims at for each of the destinations from `first` on, at the places of the block: its node on the
-/// way from the destination to the root, head by head, or its head where none lies in it.
+/// Puts what each block aims at for each of the destinations, at the places of the block: its node on the way from the
+/// destination to the root, head by head, or its head where none lies in it.
 pub fn put_block_aims(
     g: &Graph,
     root: NodeNo,
     d: &Directed,
-    first: u16,
-    width: u16,
+    targets: &[NodeNo],
     aims: &mut [NodeNo],
 )
     requires kept { IsTopology g.now }
     requires directed { SaysOrdered g.now root d.now }
-    requires first { first < length g.now.ids }
-    requires room { length aims.old ≡ length g.now.ids * width }
+    requires within { (j t : ℕ) → slice_get targets.now j ≡ Some t → t < length g.now.ids }
+    requires room { length aims.old ≡ length g.now.ids * length targets.now }
     ensures room { length aims.new ≡ length aims.old }
-    ensures aims { (w : Directions) → Says g.now d.now w → AreBlockAims g.now root w first width aims.new }
+    ensures aims { (w : Directions) → Says g.now d.now w → AreBlockAims g.now root w targets.now aims.new }
 {
-    put_heads(g, d, width as usize, aims);
-    for at in 0..width.min(g.node_count() - first) {
+    let width = targets.len();
+    put_heads(g, d, width, aims);
+    for at in 0..width {
         let lane = Lane { width, at };
-        put_way(g, root, d, NodeNo::new(first + at), lane, aims);
+        put_way(g, root, d, targets[at], lane, aims);
     }
 }
 
@@ -86,8 +86,8 @@ fn put_way(g: &Graph, root: NodeNo, d: &Directed, to: NodeNo, lane: Lane, aims: 
     let mut c = to;
     while c != root {
         let place = d.place(c);
-        let at = place.block.get() as usize * lane.width as usize;
-        aims[at + lane.at as usize] = c;
+        let at = place.block.get() as usize * lane.width;
+        aims[at + lane.at] = c;
         c = place.head;
     }
 }

@@ -1,6 +1,6 @@
 //! The columns of destinations.
 
-ghost use Rattle.std.specs.Prelude.{◌≡◌, ◌≢◌, ◌<◌, ◌≤◌, ◌+◌, ℕ, IfOk, None, Some, length, slice_get};
+ghost use Rattle.std.specs.Prelude.{◌≡◌, ◌≢◌, ◌<◌, ◌≤◌, ◌+◌, ℕ, [], IfOk, IfSome, None, Some, length, slice_get};
 ghost use Rattle.mrt_graph.specs.Column.{ColumnSound};
 ghost use Rattle.mrt_graph.specs.GraphInvariant.{IsTopology};
 ghost use Rattle.link_direction.specs.Directions.{Directions, Says};
@@ -10,7 +10,7 @@ ghost use Rattle.inc_dec_spf.specs.BlockAims.{IsAimOf, aim_at};
 ghost use Rattle.inc_dec_spf.specs.Tile.{IsAimed};
 ghost use Rattle.mrt_rows.specs.Chain.{AreBelow, IsRowAim};
 ghost use Rattle.mrt_rows.specs.ColumnOf.{IsColumnOf, IsRowIn};
-ghost use Rattle.mrt_rows.specs.Held.{AreHeld};
+ghost use Rattle.mrt_rows.specs.Held.{AreHeld, AreHeldFor};
 ghost use Rattle.mrt_rows.specs.NearOf.{IsNearRow};
 
 use crate::block_aims::put_block_aims;
@@ -27,8 +27,15 @@ use std::alloc::Global;
 /// So many destinations are taken side by side.
 pub(crate) const WIDTH: u16 = 64;
 
-/// What the columns of all destinations have in common, and the room in which they are made: what the blocks aim at, for
-/// the destinations from number `first` on, for none where there is no such node, and tiles that are aimed so.
+/// A node that is aimed at, and its place beside others.
+#[derive(Clone, Copy)]
+struct Target {
+    node: NodeNo,
+    at: usize,
+}
+
+/// What the columns of all destinations have in common, and the room in which they are made: so many destinations, what
+/// the blocks aim at for them, and tiles that are aimed so.
 #[derive(Drop)]
 pub struct Columns {
     pub by_order: Vec<NodeNo>,
@@ -39,7 +46,7 @@ pub struct Columns {
     pub home_rows: Vec<Row>,
     pub below: Vec<Option<NodeNo>>,
     pub width: u16,
-    pub first: u16,
+    pub targets: Vec<NodeNo>,
     pub aims: Vec<NodeNo>,
     pub up: Tile,
     pub down: Tile,
@@ -79,6 +86,8 @@ impl Columns {
         let homes = homes_of(alloc, g, d, &by_order, &against_order, &heads)?;
         let home_rows = home_rows(alloc, g, &soles, &homes)?;
         let below = vec![in alloc; None; count as usize]?;
+        // there is no such node, so nothing is aimed at yet
+        let targets = vec![in alloc; NodeNo::new(count); width as usize]?;
         let aims = vec![in alloc; root; count as usize * width as usize]?;
         let up = Tile::new(alloc, g, width)?;
         let down = Tile::new(alloc, g, width)?;
@@ -91,7 +100,7 @@ impl Columns {
             home_rows,
             below,
             width,
-            first: count,
+            targets,
             aims,
             up,
             down,
@@ -100,8 +109,9 @@ impl Columns {
 
     /// The rows of all nodes for `to`.
     ///
-    /// It takes time in proportion to the nodes. Where `to` is none of the 64 nodes for which tiles were aimed last, it takes
-    /// time in proportion to the links times 64; these nodes begin with a multiple of 64. It takes memory for the column alone.
+    /// It takes time in proportion to the nodes. Where the tiles are not aimed at `to`, they are aimed at it and its
+    /// neighbours by number, in time in proportion to the links times 64, or times the width; these begin with a multiple
+    /// of it. It takes memory for the column alone.
     pub fn to(
         &mut self,
         alloc: Global,
@@ -141,31 +151,72 @@ impl Columns {
         ensures one_each { length rows.new ≡ length rows.old }
         ensures rows { (w : Directions) → Says g.now d.now w → IsColumnOf g.now root w to rows.new }
     {
-        self.aim(g, root, d, to);
+        let at = self.aim(g, root, d, to);
         self.climb(g, root, d, to);
         rows[to.get() as usize] = None;
-        self.put_rows(g, root, d, to, rows);
+        self.put_rows(g, root, d, Target { node: to, at }, rows);
     }
 
-    /// Aims the tiles at as many destinations as they have places for, `to` among them, unless they are aimed so.
-    fn aim(&mut self, g: &Graph, root: NodeNo, d: &Directed, to: NodeNo)
+    /// Aims the tiles at as many destinations as they have places for, `to` among them, unless they are aimed so, and
+    /// answers its place.
+    fn aim(&mut self, g: &Graph, root: NodeNo, d: &Directed, to: NodeNo) -> usize
         requires kept { IsTopology g.now }
         requires directed { SaysOrdered g.now root d.now }
         requires to { to < length g.now.ids }
         requires held { (w : Directions) → Says g.now d.now w → AreHeld g.now root w self.old }
         ensures held { (w : Directions) → Says g.now d.now w → AreHeld g.now root w self.new }
-        ensures from { self.new.first ≤ to }
-        ensures among { to < self.new.first + self.new.width }
+        ensures place { slice_get self.new.targets.items result ≡ Some to }
     {
-        if self.first <= to.get() && to.get() - self.first < self.width {
-            return;
+        match place_of(&self.targets, to) {
+            Some(at) => at,
+            None => {
+                let at = to.get() as usize % self.targets.len();
+                take_from(
+                    to.get() as usize - at,
+                    g.node_count() - 1,
+                    &mut self.targets,
+                );
+                self.aim_tiles(g, root, d);
+                at
+            }
         }
-        let first = to.get() - to.get() % self.width;
-        put_block_aims(g, root, d, first, self.width, &mut self.aims);
+    }
+
+    /// Aims the tiles at `from` and the next marked nodes, as many as they have places for.
+    pub(crate) fn aim_at_marked(
+        &mut self,
+        g: &Graph,
+        root: NodeNo,
+        d: &Directed,
+        marks: &[bool],
+        from: NodeNo,
+    )
+        requires kept { IsTopology g.now }
+        requires directed { SaysOrdered g.now root d.now }
+        requires from { from < length g.now.ids }
+        requires one_each { length marks.now ≡ length g.now.ids }
+        requires held { (w : Directions) → Says g.now d.now w → AreHeld g.now root w self.old }
+        ensures held { (w : Directions) → Says g.now d.now w → AreHeld g.now root w self.new }
+    {
+        if place_of(&self.targets, from).is_none() {
+            take_marked(marks, g.node_count(), from, &mut self.targets);
+            self.aim_tiles(g, root, d);
+        }
+    }
+
+    /// Aims the tiles at the destinations in their places.
+    fn aim_tiles(&mut self, g: &Graph, root: NodeNo, d: &Directed)
+        requires kept { IsTopology g.now }
+        requires directed { SaysOrdered g.now root d.now }
+        requires within { (j t : ℕ) → slice_get self.old.targets.items j ≡ Some t → t < length g.now.ids }
+        requires held { (w : Directions) → Says g.now d.now w → AreHeldFor g.now root w self.old [] }
+        ensures held { (w : Directions) → Says g.now d.now w → AreHeld g.now root w self.new }
+        ensures targets { self.new.targets ≡ self.old.targets }
+    {
+        put_block_aims(g, root, d, &self.targets, &mut self.aims);
         self.up.aim(g, d, Dir::Up, &self.against_order, &self.heads, &self.aims);
         self.down
             .aim(g, d, Dir::Down, &self.by_order, &self.heads, &self.aims);
-        self.first = first;
     }
 
     /// Puts the nodes below others on the way from `to` to the root.
@@ -175,8 +226,7 @@ impl Columns {
         requires to { to < length g.now.ids }
         requires held { (w : Directions) → Says g.now d.now w → AreHeld g.now root w self.old }
         ensures held { (w : Directions) → Says g.now d.now w → AreHeld g.now root w self.new }
-        ensures first { self.new.first ≡ self.old.first }
-        ensures width { self.new.width ≡ self.old.width }
+        ensures targets { self.new.targets ≡ self.old.targets }
         ensures below { (w : Directions) → Says g.now d.now w
             → AreBelow g.now root w to self.new.below.items }
     {
@@ -184,45 +234,46 @@ impl Columns {
     }
 
     /// Puts the rows of all nodes for `to`, which is among the destinations that the tiles are aimed at.
-    fn put_rows(&self, g: &Graph, root: NodeNo, d: &Directed, to: NodeNo, rows: &mut [Option<Row>])
+    fn put_rows(&self, g: &Graph, root: NodeNo, d: &Directed, to: Target, rows: &mut [Option<Row>])
         requires kept { IsTopology g.now }
         requires directed { SaysOrdered g.now root d.now }
-        requires to { to < length g.now.ids }
+        requires to { to.node < length g.now.ids }
         requires held { (w : Directions) → Says g.now d.now w → AreHeld g.now root w self.now }
         requires below { (w : Directions) → Says g.now d.now w
-            → AreBelow g.now root w to self.now.below.items }
-        requires from { self.now.first ≤ to }
-        requires among { to < self.now.first + self.now.width }
+            → AreBelow g.now root w to.node self.now.below.items }
+        requires place { slice_get self.now.targets.items to.at ≡ Some to.node }
         requires one_each { length rows.old ≡ length g.now.ids }
-        requires none { slice_get rows.old to ≡ Some None }
-        ensures { (w : Directions) → Says g.now d.now w → IsColumnOf g.now root w to rows.new }
+        requires none { slice_get rows.old to.node ≡ Some None }
+        ensures { (w : Directions) → Says g.now d.now w → IsColumnOf g.now root w to.node rows.new }
     {
         for n in 0..g.node_count() {
             let s = NodeNo::new(n);
-            if s != to {
+            if s != to.node {
                 rows[n as usize] = self.row(g, root, d, s, to);
             }
         }
     }
 
     /// The row of `s` for `to`, by its row for what it aims at.
-    fn row(&self, g: &Graph, root: NodeNo, d: &Directed, s: NodeNo, to: NodeNo) -> Option<Row>
+    fn row(&self, g: &Graph, root: NodeNo, d: &Directed, s: NodeNo, to: Target) -> Option<Row>
         requires kept { IsTopology g.now }
         requires directed { SaysOrdered g.now root d.now }
         requires source { s < length g.now.ids }
-        requires to { to < length g.now.ids }
-        requires two { s ≢ to }
+        requires to { to.node < length g.now.ids }
+        requires two { s ≢ to.node }
         requires held { (w : Directions) → Says g.now d.now w → AreHeld g.now root w self.now }
         requires below { (w : Directions) → Says g.now d.now w
-            → AreBelow g.now root w to self.now.below.items }
-        requires from { self.now.first ≤ to }
-        requires among { to < self.now.first + self.now.width }
-        ensures { (w : Directions) → Says g.now d.now w → IsRowIn g.now root w s to result }
+            → AreBelow g.now root w to.node self.now.below.items }
+        requires place { slice_get self.now.targets.items to.at ≡ Some to.node }
+        ensures { (w : Directions) → Says g.now d.now w → IsRowIn g.now root w s to.node result }
     {
-        let j = (to.get() - self.first) as usize;
-        let aim = self.aim_of(g, root, d, s, to);
-        let row = self.aimed_row(g, root, d, s, aim, j)?;
-        if aim == to {
+        let aim = self.aim_of(g, root, d, s, to.node);
+        let target = Target {
+            node: aim,
+            at: to.at,
+        };
+        let row = self.aimed_row(g, root, d, s, target)?;
+        if aim == to.node {
             return Some(row);
         }
         Some(Row {
@@ -254,31 +305,31 @@ impl Columns {
         here.head
     }
 
-    /// The row of `s` for what it aims at, at place j. The row home is held.
+    /// The row of `s` for what it aims at. The row home is held.
     fn aimed_row(
         &self,
         g: &Graph,
         root: NodeNo,
         d: &Directed,
         s: NodeNo,
-        aim: NodeNo,
-        j: usize,
+        aim: Target,
     ) -> Option<Row>
         requires kept { IsTopology g.now }
         requires directed { SaysOrdered g.now root d.now }
         requires source { s < length g.now.ids }
-        requires aim { aim < length g.now.ids }
-        requires two { s ≢ aim }
-        requires place { j < self.now.width }
+        requires aim { aim.node < length g.now.ids }
+        requires two { s ≢ aim.node }
+        requires place { aim.at < self.now.width }
         requires held { (w : Directions) → Says g.now d.now w → AreHeld g.now root w self.now }
         ensures { (w : Directions) → Says g.now d.now w
             → IsAimed g.now w Up self.now.aims.items self.now.width self.now.up
             → IsAimed g.now w Down self.now.aims.items self.now.width self.now.down
-            → IsAimOf g.now w (aim_at self.now.aims.items self.now.width j) s aim → IsNearRow g.now root w s aim result }
+            → IsAimOf g.now w (aim_at self.now.aims.items self.now.width aim.at) s aim.node
+            → IsNearRow g.now root w s aim.node result }
     {
         let at = s.get() as usize;
         let here = d.place(s);
-        if here.head == aim {
+        if here.head == aim.node {
             return Some(self.home_rows[at]);
         }
         let source = Source {
@@ -289,12 +340,56 @@ impl Columns {
         };
         row_over(
             &source,
-            aim,
-            &d.place(aim),
-            self.soles[aim.get() as usize],
-            self.up.links_of(s)[j],
-            self.down.links_of(s)[j],
+            aim.node,
+            &d.place(aim.node),
+            self.soles[aim.node.get() as usize],
+            self.up.links_of(s)[aim.at],
+            self.down.links_of(s)[aim.at],
         )
+    }
+}
+
+/// The place of a node, if it stands there.
+fn place_of(targets: &[NodeNo], node: NodeNo) -> Option<usize>
+    ensures { IfSome result (λ at. slice_get targets.now at ≡ Some node) }
+{
+    for at in 0..targets.len() {
+        if targets[at] == node {
+            return Some(at);
+        }
+    }
+    None
+}
+
+/// Puts the nodes from number `first` on, and the last one again where no more follow.
+fn take_from(first: usize, last: u16, targets: &mut [NodeNo])
+    requires { first ≤ last }
+    ensures one_each { length targets.new ≡ length targets.old }
+    ensures there { (j : ℕ) → j < length targets.old → first + j ≤ last → slice_get targets.new j ≡ Some (first + j) }
+    ensures within { (j t : ℕ) → slice_get targets.new j ≡ Some t → t ≤ last }
+{
+    for at in 0..targets.len() {
+        targets[at] = NodeNo::new((first + at).min(last as usize) as u16);
+    }
+}
+
+/// Puts a node and the next marked ones, and the first one again where no more are marked.
+fn take_marked(marks: &[bool], count: u16, from: NodeNo, targets: &mut [NodeNo])
+    requires one_each { length marks.now ≡ count }
+    requires from { from < count }
+    ensures one_each { length targets.new ≡ length targets.old }
+    ensures within { (j t : ℕ) → slice_get targets.new j ≡ Some t → t < count }
+{
+    targets.fill(from);
+    let mut at = 1;
+    for n in from.get() + 1..count {
+        if at >= targets.len() {
+            return;
+        }
+        if marks[n as usize] {
+            targets[at] = NodeNo::new(n);
+            at += 1;
+        }
     }
 }
 

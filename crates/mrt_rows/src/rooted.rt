@@ -41,15 +41,21 @@ impl RootedColumns {
         Ok(rooted)
     }
 
-    /// The same for few destinations, wherever they lie: each column takes time in proportion to the links.
-    pub fn one_by_one(alloc: Global, g: &Graph, root: NodeNo) -> Result<RootedColumns, NoMemory>
+    /// The same for so many destinations, wherever they lie: as many as there are, at most 64, side by side.
+    pub fn for_some(
+        alloc: Global,
+        g: &Graph,
+        root: NodeNo,
+        destinations: usize,
+    ) -> Result<RootedColumns, NoMemory>
         requires { root < length g.now.ids }
         ensures root { IfOk result (λ rooted. rooted.root ≡ root) }
         ensures made { IfOk result (MakeColumns g.now) }
         ensures cert { IfOk result (λ _. (file : CertFile) × IsCertOf g.now root file) }
         ensures kept { IfOk result (λ _. IsTopology g.now) }
     {
-        let rooted = RootedColumns::side_by_side(alloc, g, root, 1)?;
+        let width = destinations.max(1).min(WIDTH as usize) as u16;
+        let rooted = RootedColumns::side_by_side(alloc, g, root, width)?;
         Ok(rooted)
     }
 
@@ -97,9 +103,25 @@ impl RootedColumns {
         let column = self.columns.to(alloc, g, self.root, &self.directed, to)?;
         Ok(column)
     }
+
+    /// Aims at a node and the next marked ones, as many as there are places for.
+    fn aim_at_marked(&mut self, g: &Graph, marks: &[bool], from: NodeNo)
+        requires made { MakeColumns g.now self.old }
+        requires from { from < length g.now.ids }
+        requires one_each { length marks.now ≡ length g.now.ids }
+        ensures root { self.new.root ≡ self.old.root }
+        ensures made { MakeColumns g.now self.new }
+    {
+        directions_are_ordered();
+        let _count = g.node_count();
+        self.columns
+            .aim_at_marked(g, self.root, &self.directed, marks, from);
+    }
+
     /// The rows of all nodes for the marked ones: a column for each.
     ///
-    /// It takes the time of `to` for each, and memory for their columns.
+    /// They are taken side by side, as many as there are places for, wherever they lie. It takes the time of `to` for each, and
+    /// memory for their columns.
     pub fn rows_to(&mut self, alloc: Global, g: &Graph, wanted: &[bool]) -> Result<RowsTo, NoMemory>
         requires made { MakeColumns g.now self.old }
         requires one_each { length wanted.now ≡ length g.now.ids }
@@ -114,6 +136,7 @@ impl RootedColumns {
         for n in 0..count {
             if wanted[n as usize] {
                 places.push_reserved(Some(columns.len() as u16));
+                self.aim_at_marked(g, wanted, NodeNo::new(n));
                 let column = self.to(alloc, g, NodeNo::new(n))?;
                 columns.push(column)?;
             } else {

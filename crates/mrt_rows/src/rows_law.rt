@@ -21,6 +21,10 @@ ghost use Rattle.mrt_rows.specs.ColumnOf.{HasColumns, IsColumnOf};
 ghost use Rattle.mrt_rows.specs.NearOf.{is_near, near_rows_before, near_rows_of};
 ghost use Rattle.mrt_rows.specs.RowsOf.{HasRow};
 
+use gadag_ears::one_gadag;
+use link_direction::{directions_are_ordered, one_order};
+use lowpoint_dfs::one_search;
+
 /// A law: where a file says of a graph what a GADAG with its order says, and its rows are those of the table, the
 /// fourteen rules hold of it.
 pub fn tabled_certificates_are_accepted()
@@ -75,11 +79,19 @@ pub fn certificates_are_accepted()
         → IsCertOf g root file → Accepted g root file }
 {}
 
-/// A law: a graph has at most one certificate from its root.
+/// A law: a graph has exactly one certificate from its root.
 pub fn one_certificate()
-    ensures { (g : Topology) (root : ℕ) (file other : CertFile) → IsTopology g → root < length g.ids
+    ensures some { (g : Topology) (root : ℕ) → IsTopology g → root < length g.ids
+        → (file : CertFile) × IsCertOf g root file }
+    ensures one { (g : Topology) (root : ℕ) (file other : CertFile) → IsTopology g → root < length g.ids
         → IsCertOf g root file → IsCertOf g root other → file ≡ other }
-{}
+{
+    one_search();
+    one_gadag();
+    one_order();
+    directions_are_ordered();
+    columns_are_of_one_certificate();
+}
 
 /// A law: the near rows of a certificate are those of its nodes, one node after another.
 pub fn near_rows_are_those_of_each_node()

@@ -11,7 +11,7 @@ returns c =
     } in
     let certs : CertLaws = record {
       one_island = c.a_router_has_one_island.ensures;
-      one_certificate = c.one_certificate.ensures;
+      one_certificate = c.one_certificate.ensures.one;
     } in
     λ settings updates count deliveries one other router its others may_flood alike its_are others_are.
     never_different laws certs settings updates count may_flood deliveries one other its others its_are others_are router

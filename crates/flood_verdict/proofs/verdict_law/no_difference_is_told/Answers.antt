@@ -11,6 +11,6 @@ returns c =
     } in
     let certs : CertLaws = record {
       one_island = c.a_router_has_one_island.ensures;
-      one_certificate = c.one_certificate.ensures;
+      one_certificate = c.one_certificate.ensures.one;
     } in
     λ settings updates script text. told_alike laws certs settings updates script text

@@ -24,7 +24,7 @@ laws c = record {
     script_text = c.one_text_each.ensures.script;
     trace_text = c.one_text_each.ensures.trace;
   };
-  certificates = c.one_certificate.ensures;
+  certificates = c.one_certificate.ensures.one;
   tables = record { table = c.one_table_each.ensures; primary = c.one_primary_each.ensures };
   databases = record {
     never_both = c.bytes_are_lsas_or_have_a_fault.ensures.never_both;

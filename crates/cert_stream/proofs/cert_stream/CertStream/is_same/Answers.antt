@@ -36,4 +36,4 @@ returns-then-is_of_the_same c = λ file second is second_is.
     let kept : IsTopology c.args.other.graph = subst (λ (it : Stream). IsTopology it.graph) c.other.view_is root.kept in
     let within : c.args.other.root < length c.args.other.graph.ids =
     subst (λ (it : Stream). it.root < length it.graph.ids) c.other.view_is (subst (λ (n : ℕ). n < length c.other.inside.graph.ids) root.same root.within) in
-    (λ _. c.one_certificate.ensures c.args.other.graph c.args.other.root file second kept within here second_is, λ _. refl)
+    (λ _. c.one_certificate.ensures.one c.args.other.graph c.args.other.root file second kept within here second_is, λ _. refl)

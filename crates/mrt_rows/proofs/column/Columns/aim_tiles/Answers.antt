@@ -1,5 +1,4 @@
-use Rattle.std.proofs.Common.{◌≡◌, ◌*◌, ℕ, Bool, List, length, sym, subst, ap, arith, ◌∙◌}
-use Rattle.std.proofs.Math.Nat.{mod-lt}
+use Rattle.std.proofs.Common.{◌≡◌, ◌*◌, ◌∙◌, ℕ, Bool, List, Some, length, slice_get, sym, subst, ap}
 use Rattle.std.proofs.lemmas.List.{with_items_is}
 use Rattle.mrt_graph.specs.Topology.{Topology}
 use Rattle.link_direction.specs.Directions.{Directions}
@@ -11,16 +10,22 @@ use Rattle.inc_dec_spf.specs.Turns.{AreTurns}
 use Rattle.mrt_rows.specs.Chain.{AreBlockAims}
 use Rattle.mrt_rows.proofs.Climbing.{graph_by}
 use Rattle.mrt_rows.proofs.Sharing.{others_in_one_block}
-use Rattle.mrt_rows.proofs.column.Columns.aim.Goals as goal
+use Rattle.mrt_rows.proofs.column.Columns.aim_tiles.Goals as goal
 
-aims_moved : (g : Topology) (root : ℕ) (w : Directions) (first width : ℕ) (aims after : List ℕ) → after ≡ aims → AreBlockAims g root w first width aims
-    → AreBlockAims g root w first width after
-aims_moved g root w first width aims after same are = subst (λ (xs : List ℕ). AreBlockAims g root w first width xs) (sym same) are
+aims_moved : (g : Topology) (root : ℕ) (w : Directions) (targets others aims after : List ℕ) → others ≡ targets → after ≡ aims
+    → AreBlockAims g root w others aims → AreBlockAims g root w targets after
+aims_moved g root w targets others aims after alike same are =
+    subst (λ (ts : List ℕ). AreBlockAims g root w ts after) alike (subst (λ (xs : List ℕ). AreBlockAims g root w others xs) (sym same) are)
+
+pub put_block_aims-requires-clause-within : goal.put_block_aims-requires-clause-within
+put_block_aims-requires-clause-within c = λ j t at.
+    c.requires.within j t (subst (λ (ts : List ℕ). slice_get ts j ≡ Some t) c.deref.ensures.value at)
 
 pub put_block_aims-requires-clause-room : goal.put_block_aims-requires-clause-room
 put_block_aims-requires-clause-room c =
     let held = c.requires.held c.requires.directed.directions c.requires.directed.says in
     ap (λ (xs : List ℕ). length xs) c.deref_mut.ensures.value ∙ held.places
+    ∙ ap (λ (k : ℕ). length c.args.g.now.ids * k) (sym held.a_target_each ∙ ap (λ (ts : List ℕ). length ts) (sym c.deref.ensures.value))
 
 pub aim-requires : goal.aim-requires
 aim-requires c =
@@ -28,14 +33,14 @@ aim-requires c =
     let says = c.requires.directed.says in
     let w = c.requires.directed.directions in
     let put = c.put_block_aims.new.aims in
-    let same = c.deref-3.ensures.value ∙ with_items_is c.args.self.now.aims put (c.put_block_aims.ensures.room ∙ c.deref_mut.ensures.len) in (
+    let same = c.deref-4.ensures.value ∙ with_items_is c.args.self.now.aims put (c.put_block_aims.ensures.room ∙ c.deref_mut.ensures.len) in (
       c.requires.kept,
       (
         record { root = c.args.root; directions = w; are = record { says = says; ordered = c.requires.directed.ordered } },
         (
-          (λ root w are. subst (λ (turns : List ℕ). AreTurns g w Down turns) (sym c.deref.ensures.value) (c.requires.held w are.says).against_order),
+          (λ root w are. subst (λ (turns : List ℕ). AreTurns g w Down turns) (sym c.deref-2.ensures.value) (c.requires.held w are.says).against_order),
           (
-            ap (λ (marks : List Bool). length marks) c.deref-2.ensures.value ∙ (c.requires.held w says).a_mark_each,
+            ap (λ (marks : List Bool). length marks) c.deref-3.ensures.value ∙ (c.requires.held w says).a_mark_each,
             (
               ap (λ (xs : List ℕ). length xs) same ∙ c.put_block_aims.ensures.room ∙ ap (λ (xs : List ℕ). length xs) c.deref_mut.ensures.value
                   ∙ (c.requires.held w says).places ∙ ap (λ (k : ℕ). length g.ids * k) (sym (c.requires.held w says).up.links),
@@ -52,14 +57,14 @@ aim-requires-2 c =
     let says = c.requires.directed.says in
     let w = c.requires.directed.directions in
     let put = c.put_block_aims.new.aims in
-    let same = c.deref-6.ensures.value ∙ with_items_is c.args.self.now.aims put (c.put_block_aims.ensures.room ∙ c.deref_mut.ensures.len) in (
+    let same = c.deref-7.ensures.value ∙ with_items_is c.args.self.now.aims put (c.put_block_aims.ensures.room ∙ c.deref_mut.ensures.len) in (
       c.requires.kept,
       (
         record { root = c.args.root; directions = w; are = record { says = says; ordered = c.requires.directed.ordered } },
         (
-          (λ root w are. subst (λ (turns : List ℕ). AreTurns g w Up turns) (sym c.deref-4.ensures.value) (c.requires.held w are.says).by_order),
+          (λ root w are. subst (λ (turns : List ℕ). AreTurns g w Up turns) (sym c.deref-5.ensures.value) (c.requires.held w are.says).by_order),
           (
-            ap (λ (marks : List Bool). length marks) c.deref-5.ensures.value ∙ (c.requires.held w says).a_mark_each,
+            ap (λ (marks : List Bool). length marks) c.deref-6.ensures.value ∙ (c.requires.held w says).a_mark_each,
             (
               ap (λ (xs : List ℕ). length xs) same ∙ c.put_block_aims.ensures.room ∙ ap (λ (xs : List ℕ). length xs) c.deref_mut.ensures.value
                   ∙ (c.requires.held w says).places ∙ ap (λ (k : ℕ). length g.ids * k) (sym (c.requires.held w says).down.links),
@@ -79,11 +84,11 @@ returns-clause-held c = λ w says.
     let held = c.requires.held w says in
     let put = c.put_block_aims.new.aims in
     let same = with_items_is c.args.self.now.aims put (c.put_block_aims.ensures.room ∙ c.deref_mut.ensures.len) in
-    let others : AreOthersInOneBlock g w c.deref-2.result.now =
-    subst (λ (marks : List Bool). AreOthersInOneBlock g w marks) (sym c.deref-2.ensures.value)
+    let others : AreOthersInOneBlock g w c.deref-3.result.now =
+    subst (λ (marks : List Bool). AreOthersInOneBlock g w marks) (sym c.deref-3.ensures.value)
     (others_in_one_block og c.args.self.now.heads.items held.marked) in
-    let others_down : AreOthersInOneBlock g w c.deref-5.result.now =
-    subst (λ (marks : List Bool). AreOthersInOneBlock g w marks) (sym c.deref-5.ensures.value)
+    let others_down : AreOthersInOneBlock g w c.deref-6.result.now =
+    subst (λ (marks : List Bool). AreOthersInOneBlock g w marks) (sym c.deref-6.ensures.value)
     (others_in_one_block og c.args.self.now.heads.items held.marked) in
     record {
       by_order = held.by_order;
@@ -100,19 +105,12 @@ returns-clause-held c = λ w says.
       places = ap (λ (xs : List ℕ). length xs) same ∙ c.put_block_aims.ensures.room ∙ ap (λ (xs : List ℕ). length xs) c.deref_mut.ensures.value ∙ held.places;
       up = subst (λ (k : ℕ). IsTile g k c.aim.new.self) held.up.links c.aim.ensures.tile;
       down = subst (λ (k : ℕ). IsTile g k c.aim-2.new.self) held.down.links c.aim-2.ensures.tile;
-      aimed = λ inside. record {
-        aims = aims_moved g root w _ _ put _ same (c.put_block_aims.ensures.aims w says);
-        up = subst (λ (xs : List ℕ). IsAimed g w Up xs c.args.self.now.width c.aim.new.self) c.deref-3.ensures.value
-            (subst (λ (k : ℕ). IsAimed g w Up c.deref-3.result.now k c.aim.new.self) held.up.links (c.aim.ensures.aimed root w are others));
-        down = subst (λ (xs : List ℕ). IsAimed g w Down xs c.args.self.now.width c.aim-2.new.self) c.deref-6.ensures.value
-            (subst (λ (k : ℕ). IsAimed g w Down c.deref-6.result.now k c.aim-2.new.self) held.down.links (c.aim-2.ensures.aimed root w are others_down));
+      a_target_each = held.a_target_each;
+      aimed = λ j t at inside. record {
+        aims = aims_moved g root w _ _ put _ c.deref.ensures.value same (c.put_block_aims.ensures.aims w says);
+        up = subst (λ (xs : List ℕ). IsAimed g w Up xs c.args.self.now.width c.aim.new.self) c.deref-4.ensures.value
+            (subst (λ (k : ℕ). IsAimed g w Up c.deref-4.result.now k c.aim.new.self) held.up.links (c.aim.ensures.aimed root w are others));
+        down = subst (λ (xs : List ℕ). IsAimed g w Down xs c.args.self.now.width c.aim-2.new.self) c.deref-7.ensures.value
+            (subst (λ (k : ℕ). IsAimed g w Down c.deref-7.result.now k c.aim-2.new.self) held.down.links (c.aim-2.ensures.aimed root w are others_down));
       };
     }
-
-pub nonzero_rem-first : goal.nonzero_rem-first
-nonzero_rem-first c = (c.requires.held c.requires.directed.directions c.requires.directed.says).some_places
-
-pub returns-clause-among : goal.returns-clause-among
-returns-clause-among c =
-    let some = (c.requires.held c.requires.directed.directions c.requires.directed.says).some_places in
-    omega (arith, mod-lt c.get-3.result {m = c.args.self.now.width} some, c.get-2.ensures.value)

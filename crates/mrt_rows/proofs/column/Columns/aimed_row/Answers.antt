@@ -64,8 +64,8 @@ links_of-requires c =
     rw (held.up.links, held.up.all_links) (row_within c.args.s (length c.args.g.now.ids) c.args.self.now.width (length c.args.g.now.ids * c.args.self.now.width) refl
     c.requires.source)
 
-pub bounds-links_of-j : goal.bounds-links_of-j
-bounds-links_of-j c =
+pub bounds-links_of-aim : goal.bounds-links_of-aim
+bounds-links_of-aim c =
     let held = c.requires.held c.requires.directed.directions c.requires.directed.says in
     omega (arith, c.links_of.ensures.one_each, held.up.links, c.requires.place)
 
@@ -75,8 +75,8 @@ links_of-requires-2 c =
     rw (held.down.links, held.down.all_links) (row_within c.args.s (length c.args.g.now.ids) c.args.self.now.width (length c.args.g.now.ids * c.args.self.now.width) refl
     c.requires.source)
 
-pub bounds-links_of-j-2 : goal.bounds-links_of-j-2
-bounds-links_of-j-2 c =
+pub bounds-links_of-aim-2 : goal.bounds-links_of-aim-2
+bounds-links_of-aim-2 c =
     let held = c.requires.held c.requires.directed.directions c.requires.directed.says in
     omega (arith, c.links_of-2.ensures.one_each, held.down.links, c.requires.place)
 
@@ -92,7 +92,7 @@ returns-then-eq c = λ w says up down aimed.
     let held = c.requires.held w says in
     let og = graph_by g c.args.root c.args.d.now w c.requires.kept c.requires.directed says in
     let place = place_says g c.args.d.now w s c.place-here.result says c.requires.source c.place-here.ensures in
-    let head : w.head s ≡ c.args.aim = sym place.0 ∙ eqb-true c.place-here.result.head c.args.aim (sym c.eq.ensures ∙ c.if-eq.true) in
+    let head : w.head s ≡ c.args.aim.node = sym place.0 ∙ eqb-true c.place-here.result.head c.args.aim.node (sym c.eq.ensures ∙ c.if-eq.true) in
     let other : s ≢ c.args.root = λ at_root.
     c.requires.two (at_root ∙ sym (ap w.head at_root ∙ og.ordered.heads.root_head) ∙ head) in
     let rows = c.args.self.now.home_rows.items in
@@ -106,18 +106,18 @@ returns c = λ w says up down aimed.
     let g = c.args.g.now in
     let d = c.args.d.now in
     let s = c.args.s in
-    let aim = c.args.aim in
-    let j = c.args.j in
+    let aim = c.args.aim.node in
+    let j = c.args.aim.at in
     let columns = c.args.self.now in
     let held = c.requires.held w says in
     let og = graph_by g c.args.root d w c.requires.kept c.requires.directed says in
     let below = c.requires.place in
     let ups = c.links_of.result.now in
     let downs = c.links_of-2.result.now in
-    let at_up = slice_get_read ups (length ups) j c.index-links_of-j.result refl (omega (arith, c.links_of.ensures.one_each, held.up.links, below))
-    c.index-links_of-j.is in
-    let at_down = slice_get_read downs (length downs) j c.index-links_of-j-2.result refl
-    (omega (arith, c.links_of-2.ensures.one_each, held.down.links, below)) c.index-links_of-j-2.is in
+    let at_up = slice_get_read ups (length ups) j c.index-links_of-aim.result refl (omega (arith, c.links_of.ensures.one_each, held.up.links, below))
+    c.index-links_of-aim.is in
+    let at_down = slice_get_read downs (length downs) j c.index-links_of-aim-2.result refl
+    (omega (arith, c.links_of-2.ensures.one_each, held.down.links, below)) c.index-links_of-aim-2.is in
     c.row_over.ensures g c.args.root w c.requires.kept og.ordered
     (record {
       within = c.requires.source;
@@ -128,7 +128,7 @@ returns c = λ w says up down aimed.
     })
     c.requires.aim (place_is g d w aim c.place.result says c.requires.aim c.place.ensures)
     (sole_at g w columns.soles.items c.get.result aim c.index-4.result.now held.soles c.get.ensures.value c.requires.aim c.index-4.ensures)
-    (first_link g w _ columns.up columns.aims.items ups columns.width s aim j c.index-links_of-j.result up aimed c.requires.source c.requires.aim below held.up.links at_up
+    (first_link g w _ columns.up columns.aims.items ups columns.width s aim j c.index-links_of-aim.result up aimed c.requires.source c.requires.aim below held.up.links at_up
     c.links_of.ensures.there)
-    (first_link g w _ columns.down columns.aims.items downs columns.width s aim j c.index-links_of-j-2.result down aimed c.requires.source c.requires.aim below held.down.links
+    (first_link g w _ columns.down columns.aims.items downs columns.width s aim j c.index-links_of-aim-2.result down aimed c.requires.source c.requires.aim below held.down.links
     at_down c.links_of-2.ensures.there)

@@ -27,7 +27,8 @@ returns-clause-held c = λ w says.
       places = held.places;
       up = held.up;
       down = held.down;
-      aimed = λ inside. let are = held.aimed inside in record { aims = are.aims; up = are.up; down = are.down };
+      a_target_each = held.a_target_each;
+      aimed = λ j t at inside. let are = held.aimed j t at inside in record { aims = are.aims; up = are.up; down = are.down };
     }
 
 pub returns-clause-below : goal.returns-clause-below

@@ -14,7 +14,7 @@ loop-n-preserved c = elim c.if-ne.branch [
   | then-ne b ↦
       let g = c.args.g.now in
       let root = c.args.root in
-      let to = c.args.to in
+      let to = c.args.to.node in
       let rows = c.loop-n.rows in
       let n = c.loop-n.n in
       let s = c.new-s.result in
@@ -37,20 +37,20 @@ loop-n-preserved c = elim c.if-ne.branch [
       let n = c.loop-n.n in
       record {
         one_each = ap (λ (xs : List (Option Row)). length xs) b.rows-is ∙ c.loop-n.invariant.one_each;
-        none = ap (λ (xs : List (Option Row)). slice_get xs c.args.to) b.rows-is ∙ c.loop-n.invariant.none;
+        none = ap (λ (xs : List (Option Row)). slice_get xs c.args.to.node) b.rows-is ∙ c.loop-n.invariant.none;
         first = λ w says.
-            let here : c.new-s.result ≡ c.args.to = elim (cases_eq c.new-s.result c.args.to) [
+            let here : c.new-s.result ≡ c.args.to.node = elim (cases_eq c.new-s.result c.args.to.node) [
               | inl same ↦ same
               | inr other ↦
-                  let yes : c.ne.result ≡ true = rw (ne_eqb c.new-s.result c.args.to other) at c.ne.ensures in let no = b.if-ne.false in absurd (cc)
+                  let yes : c.ne.result ≡ true = rw (ne_eqb c.new-s.result c.args.to.node other) at c.ne.ensures in let no = b.if-ne.false in absurd (cc)
             ] in
-            subst (λ (xs : List (Option Row)). AreFirst c.args.g.now c.args.root w c.args.to (n + 1) xs) (sym b.rows-is)
-            (none_put c.args.g.now c.args.root w c.args.to n rows (c.loop-n.invariant.first w says) (sym c.new-s.ensures ∙ here));
+            subst (λ (xs : List (Option Row)). AreFirst c.args.g.now c.args.root w c.args.to.node (n + 1) xs) (sym b.rows-is)
+            (none_put c.args.g.now c.args.root w c.args.to.node n rows (c.loop-n.invariant.first w says) (sym c.new-s.ensures ∙ here));
       }
 ]
 
 pub returns : goal.returns
 returns c = λ w says.
-    all_put (graph_by c.args.g.now c.args.root c.args.d.now w c.requires.kept c.requires.directed says) c.args.to c.loop-n.n c.loop-n.rows
+    all_put (graph_by c.args.g.now c.args.root c.args.d.now w c.requires.kept c.requires.directed says) c.args.to.node c.loop-n.n c.loop-n.rows
     c.loop-n.invariant.one_each c.loop-n.invariant.none (omega (arith, c.loop-n-test.false, c.node_count-n-end.ensures.count))
     (c.loop-n.invariant.first w says)

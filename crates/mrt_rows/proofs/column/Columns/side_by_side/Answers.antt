@@ -1,4 +1,6 @@
-use Rattle.std.proofs.Common.{rules, ◌∙◌, ◌≤◌, ℕ, Bool, List, length, sym, ap, subst, arith}
+use Rattle.std.proofs.Common.{rules, ◌≡◌, ◌∙◌, ◌≤◌, ℕ, zero, suc, Bool, List, Some, length, slice_get, sym, ap, subst, arith}
+use Rattle.std.specs.Prelude.{replicate}
+use Rattle.std.proofs.lemmas.Option.{same_Some}
 use Rattle.std.proofs.lemmas.List.{with_items_is}
 use Rattle.inc_dec_spf.specs.HasDirections.{AreDirections}
 use Rattle.mrt_rows.specs.NearOf.{AreSoles}
@@ -6,6 +8,11 @@ use Rattle.mrt_rows.specs.declared.members.Home.{Home}
 use Rattle.mrt_rows.specs.Put.{AreHeadsMarked, AreHomes}
 use Rattle.mrt_rows.proofs.Climbing.{graph_by}
 use Rattle.mrt_rows.proofs.column.Columns.side_by_side.Goals as goal
+
+same_each : (n k j t : ℕ) → slice_get (replicate n k) j ≡ Some t → t ≡ k
+same_each zero k j t at = cc
+same_each (suc n) k zero t at = sym (same_Some k t at)
+same_each (suc n) k (suc j) t at = same_each n k j t at
 
 pub returns : goal.returns
 returns c = λ w says.
@@ -38,5 +45,8 @@ returns c = λ w says.
       places = search rules;
       up = c.in_ok-up.ensures;
       down = c.in_ok-down.ensures;
-      aimed = λ inside. absurd (omega (arith, past, inside));
+      a_target_each = search rules;
+      aimed = λ j t at inside. (
+          let blank : c.in_ok-targets.targets.items ≡ replicate c.args.width c.new-2.result = c.in_ok-targets.ensures.items_if_clones_equal (search rules) in
+          absurd (omega (arith, past, inside, c.new-2.ensures, same_each c.args.width c.new-2.result j t (subst (λ (ts : List ℕ). slice_get ts j ≡ Some t) blank at))));
     }

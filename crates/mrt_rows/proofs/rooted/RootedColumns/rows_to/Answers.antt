@@ -1,4 +1,4 @@
-use Rattle.std.proofs.Common.{◌≡◌, ◌∙◌, ◌<◌, ◌+◌, ◌++◌, ℕ, Bool, List, [], ◌∷◌, Option, Some, None, length, slice_get, slice_index_or, true, false, inl, inr, sym, ap, subst, arith, length-append}
+use Rattle.std.proofs.Common.{◌≡◌, ◌∙◌, ◌<◌, ◌+◌, ◌++◌, ℕ, Bool, List, [], ◌∷◌, Option, Some, None, length, slice_index_or, false, inl, inr, sym, subst, arith, length-append}
 use Rattle.std.proofs.lemmas.Bool.{both_ways, cases_eq, cases_lt}
 use Rattle.std.proofs.lemmas.List.{get_or_past}
 use Rattle.mrt_graph.specs.declared.cert.CertFile.{CertFile}
@@ -40,7 +40,7 @@ unmarked_more file marks places columns n bare before t below marked = elim (cas
 pub loop-n-preserved : goal.loop-n-preserved
 loop-n-preserved c = elim c.if-wanted-n.branch [
   | then-wanted-n+in_ok-column+in_ok-push w ↦ rw (w.self-is, w.places-is, w.columns-is, w.push_reserved.ensures.items, w.in_ok-push.ensures.items) (record {
-    root = w.to.ensures.root ∙ c.loop-n.invariant.root;
+    root = w.to.ensures.root ∙ w.aim_at_marked.ensures.root ∙ c.loop-n.invariant.root;
     made = w.to.ensures.made;
     count = c.loop-n.invariant.count;
     many = omega (arith, length-append {A = Option ℕ}, c.loop-n.invariant.many);
@@ -48,8 +48,8 @@ loop-n-preserved c = elim c.if-wanted-n.branch [
     room = omega (arith, c.loop-n.invariant.room, w.push_reserved.ensures.capacity);
     held = λ file is t below marked.
         let has : HasRowsFor file.cert c.loop-n.n w.in_ok-column.column =
-        subst (λ (k : ℕ). HasRowsFor file.cert k w.in_ok-column.column) w.new.ensures
-        (w.in_ok-column.ensures.rows file (subst (λ (k : ℕ). IsCertOf c.args.g.now k file) (sym c.loop-n.invariant.root) is)) in
+        subst (λ (k : ℕ). HasRowsFor file.cert k w.in_ok-column.column) w.new-then-wanted-n.ensures
+        (w.in_ok-column.ensures.rows file (subst (λ (k : ℕ). IsCertOf c.args.g.now k file) (sym (w.aim_at_marked.ensures.root ∙ c.loop-n.invariant.root)) is)) in
         subst (λ (k : ℕ). IsHeld file (c.loop-n.places.items ++ Some k ∷ []) (c.loop-n.columns.items ++ w.in_ok-column.column ∷ []) t) (sym (w.len.ensures ∙ c.loop-n.columns.ok.0))
         (marked_more file c.args.wanted.now c.loop-n.places.items c.loop-n.columns.items c.loop-n.n w.in_ok-column.column c.loop-n.invariant.many has
         (c.loop-n.invariant.held file is) t below marked);

@@ -19,5 +19,5 @@ returns-clause-rows c = λ file is.
     let found = c.columns_are_of_one_certificate.ensures c.args.g.now c.args.self.now.root made.tree made.gadag c.args.self.now.directed ordered.directions
     kept within made.searched made.by_ears made.in_order ordered.says in
     subst (λ (f : CertFile). HasRowsFor f.cert c.args.to c.in_ok-column.column)
-    (c.one_certificate.ensures c.args.g.now c.args.self.now.root found.0 file kept within found.1 is)
+    (c.one_certificate.ensures.one c.args.g.now c.args.self.now.root found.0 file kept within found.1 is)
     (found.2.each c.args.to c.in_ok-column.column c.requires.to (c.in_ok-column.ensures.rows ordered.directions ordered.says))
