@@ -1,6 +1,6 @@
 //! The top call.
 
-ghost use Rattle.std.specs.Prelude.{◌≡◌, ◌⊎◌, ◌↔◌, ℕ, List, IfErr, IfOk, IsNone, IsSome, Some, length};
+ghost use Rattle.std.specs.Prelude.{◌≡◌, ◌≤◌, ◌⊎◌, ◌↔◌, ℕ, List, IfErr, IfOk, IsNone, IsSome, Some, length};
 ghost use Rattle.std.specs.Option.{IsSomeAnd};
 ghost use Rattle.mrt_io.specs.Counts.{Rose};
 ghost use Rattle.mrt_io.specs.Holding.{Files};
@@ -94,6 +94,11 @@ pub fn run<F: Shelf, K: Sink, E: Sink>(
     ensures no_read_fault { F.healthy shelf.old → NamesHeld (F.held shelf.old) words.now
         → F.faults shelf.new ≡ F.faults shelf.old }
 
+    // What the shelf holds is as before, so a second command over it is answered over the same files.
+    ensures count { F.faults shelf.old ≤ F.faults shelf.new }
+    ensures unchanged { F.held shelf.new ≡ F.held shelf.old }
+    ensures stays_healthy { F.healthy shelf.old → NamesHeld (F.held shelf.old) words.now → F.healthy shelf.new }
+
     // Each of the other refusals comes only where it is what comes of the files. `answered` says so of `NoCommonBlock`.
     ensures too_large { (what : What) (size : ℕ) → result ≡ Exit.TooLarge what size
         → IsRefused (F.held shelf.old) words.now (Exit.TooLarge what size) }
@@ -179,8 +184,11 @@ fn text_for<F: Shelf>(alloc: Global, words: &[Word], shelf: &mut F) -> Result<Te
         })) }
     ensures comes { IsUndisturbed (F.healthy shelf.old) (F.faults shelf.old) (F.faults shelf.new)
         → IfErr result (λ exit. Comes (F.held shelf.old) words.now exit ⊎ (exit ≡ Exit.NoMemory)) }
+    ensures count { F.faults shelf.old ≤ F.faults shelf.new }
+    ensures unchanged { F.held shelf.new ≡ F.held shelf.old }
     ensures no_fault { F.healthy shelf.old → NamesHeld (F.held shelf.old) words.now
         → F.faults shelf.new ≡ F.faults shelf.old }
+    ensures stays_healthy { F.healthy shelf.old → NamesHeld (F.held shelf.old) words.now → F.healthy shelf.new }
     ensures survey { IsSomeAnd (form_of words.now) IsSurvey → IfErr result (λ exit. exit ≡ Exit.NoMemory) }
     ensures survey_reads_nothing { IsSomeAnd (form_of words.now) IsSurvey → shelf.new ≡ shelf.old }
 {
@@ -198,8 +206,12 @@ fn text_of<F: Shelf>(alloc: Global, form: Form<'_>, shelf: &mut F) -> Result<Tex
     ensures refused { IfErr result (IsRefusalOrFault (F.held shelf.old) (asked form.entry) (F.faults shelf.old) (F.faults shelf.new)) }
     ensures calm { (Rose (F.faults shelf.old) (F.faults shelf.new) → ⊥) → IfErr result (IsRefusal (F.held shelf.old) (asked form.entry)) }
     ensures healthy { F.healthy shelf.old → IfErr result (IsRefusal (F.held shelf.old) (asked form.entry)) }
+    ensures count { F.faults shelf.old ≤ F.faults shelf.new }
+    ensures unchanged { F.held shelf.new ≡ F.held shelf.old }
     ensures no_fault { F.healthy shelf.old → AreThere (F.held shelf.old) (files_of (asked form.entry))
         → F.faults shelf.new ≡ F.faults shelf.old }
+    ensures stays_healthy { F.healthy shelf.old → AreThere (F.held shelf.old) (files_of (asked form.entry))
+        → F.healthy shelf.new }
     ensures survey { IsSurvey (asked form.entry) → IfErr result (λ exit. exit ≡ Exit.NoMemory) }
     ensures survey_reads_nothing { IsSurvey (asked form.entry) → shelf.new ≡ shelf.old }
 {
@@ -220,8 +232,12 @@ fn text_of_files<F: Shelf>(alloc: Global, form: FileForm<'_>, shelf: &mut F) -> 
         → IfErr result (IsRefusal (F.held shelf.old) (OfFiles (files_asked form.entry))) }
     ensures healthy { F.healthy shelf.old
         → IfErr result (IsRefusal (F.held shelf.old) (OfFiles (files_asked form.entry))) }
+    ensures count { F.faults shelf.old ≤ F.faults shelf.new }
+    ensures unchanged { F.held shelf.new ≡ F.held shelf.old }
     ensures no_fault { F.healthy shelf.old → AreThere (F.held shelf.old) (files_of (OfFiles (files_asked form.entry)))
         → F.faults shelf.new ≡ F.faults shelf.old }
+    ensures stays_healthy { F.healthy shelf.old → AreThere (F.held shelf.old) (files_of (OfFiles (files_asked form.entry)))
+        → F.healthy shelf.new }
 {
     let files = read_files(alloc, shelf, &form)?;
     answer_of_files(alloc, files)
@@ -236,9 +252,14 @@ fn text_of_flood<F: Shelf>(alloc: Global, form: &FloodForm<'_>, shelf: &mut F) -
         → IfErr result (IsRefusal (F.held shelf.old) (Flood (flood_asked form.now))) }
     ensures healthy { F.healthy shelf.old
         → IfErr result (IsRefusal (F.held shelf.old) (Flood (flood_asked form.now))) }
+    ensures count { F.faults shelf.old ≤ F.faults shelf.new }
+    ensures unchanged { F.held shelf.new ≡ F.held shelf.old }
     ensures no_fault { F.healthy shelf.old
         → AreThere (F.held shelf.old) (files_of (Flood (flood_asked form.now)))
         → F.faults shelf.new ≡ F.faults shelf.old }
+    ensures stays_healthy { F.healthy shelf.old
+        → AreThere (F.held shelf.old) (files_of (Flood (flood_asked form.now)))
+        → F.healthy shelf.new }
 {
     let files = read_flood_files(alloc, shelf, form)?;
     answer_of_flood(alloc, &files)

@@ -6,4 +6,5 @@ pub mod FloodRead
 pub mod Form
 pub mod Kept
 pub mod Pieces
+pub mod Spellings
 pub mod Unread

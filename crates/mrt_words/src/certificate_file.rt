@@ -39,8 +39,10 @@ pub(crate) fn read_certificate_file<F: Shelf>(
     ensures healthy { F.healthy shelf.old → IfErr result (IsUnread (F.held shelf.old) file.now) }
 
     ensures count { F.faults shelf.old ≤ F.faults shelf.new }
+    ensures unchanged { F.held shelf.new ≡ F.held shelf.old }
     ensures no_fault { F.healthy shelf.old → IsKnownThere (F.held shelf.old) file.now.name
         → F.faults shelf.new ≡ F.faults shelf.old }
+    ensures stays_healthy { F.healthy shelf.old → IsKnownThere (F.held shelf.old) file.now.name → F.healthy shelf.new }
 {
     open_file(alloc, shelf, file)?;
     let reader = read_to_end(alloc, shelf, file)?;
@@ -82,7 +84,9 @@ fn read_to_end<F: Shelf>(
     ensures calm { (Rose (F.faults shelf.old) (F.faults shelf.new) → ⊥) → IfErr result (IsUnread (F.held shelf.old) file.now) }
     ensures healthy { F.healthy shelf.old → IfErr result (IsUnread (F.held shelf.old) file.now) }
     ensures count { F.faults shelf.old ≤ F.faults shelf.new }
+    ensures unchanged { F.held shelf.new ≡ F.held shelf.old }
     ensures no_fault { F.healthy shelf.old → IsSome (F.left shelf.old) → F.faults shelf.new ≡ F.faults shelf.old }
+    ensures stays_healthy { F.healthy shelf.old → IsSome (F.left shelf.old) → F.healthy shelf.new }
 {
     let mut piece = zeros(alloc, PIECE)?;
     read_in_pieces(alloc, shelf, file, piece.as_mut_slice())
@@ -105,7 +109,9 @@ fn read_in_pieces<F: Shelf>(
     ensures calm { (Rose (F.faults shelf.old) (F.faults shelf.new) → ⊥) → IfErr result (IsUnread (F.held shelf.old) file.now) }
     ensures healthy { F.healthy shelf.old → IfErr result (IsUnread (F.held shelf.old) file.now) }
     ensures count { F.faults shelf.old ≤ F.faults shelf.new }
+    ensures unchanged { F.held shelf.new ≡ F.held shelf.old }
     ensures no_fault { F.healthy shelf.old → IsSome (F.left shelf.old) → F.faults shelf.new ≡ F.faults shelf.old }
+    ensures stays_healthy { F.healthy shelf.old → IsSome (F.left shelf.old) → F.healthy shelf.new }
 {
     any_pieces();
     let mut reader = CertReader::new(alloc);

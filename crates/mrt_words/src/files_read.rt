@@ -48,8 +48,12 @@ pub fn read_files<F: Shelf>(
     ensures calm { (Rose (F.faults shelf.old) (F.faults shelf.new) → ⊥)
         → IfErr result (AreUnread (F.held shelf.old) (task_names (files_asked form.now))) }
     ensures healthy { F.healthy shelf.old → IfErr result (AreUnread (F.held shelf.old) (task_names (files_asked form.now))) }
+    ensures count { F.faults shelf.old ≤ F.faults shelf.new }
+    ensures unchanged { F.held shelf.new ≡ F.held shelf.old }
     ensures no_fault { F.healthy shelf.old → AreThere (F.held shelf.old) (files_in (task_names (files_asked form.now)))
         → F.faults shelf.new ≡ F.faults shelf.old }
+    ensures stays_healthy { F.healthy shelf.old → AreThere (F.held shelf.old) (files_in (task_names (files_asked form.now)))
+        → F.healthy shelf.new }
 {
     let database = read_file(alloc, shelf, &NamedFile::database(form.database))?;
     let profile = read_profile_file(alloc, shelf, form.profile)?;
@@ -80,9 +84,14 @@ pub fn read_flood_files<F: Shelf>(
         → IfErr result (AreUnread (F.held shelf.old) (flood_names (flood_asked form.now))) }
     ensures healthy { F.healthy shelf.old
         → IfErr result (AreUnread (F.held shelf.old) (flood_names (flood_asked form.now))) }
+    ensures count { F.faults shelf.old ≤ F.faults shelf.new }
+    ensures unchanged { F.held shelf.new ≡ F.held shelf.old }
     ensures no_fault { F.healthy shelf.old
         → AreThere (F.held shelf.old) (files_in (flood_names (flood_asked form.now)))
         → F.faults shelf.new ≡ F.faults shelf.old }
+    ensures stays_healthy { F.healthy shelf.old
+        → AreThere (F.held shelf.old) (files_in (flood_names (flood_asked form.now)))
+        → F.healthy shelf.new }
 {
     let updates = read_file(alloc, shelf, &NamedFile::updates(form.updates))?;
     let profile = read_profile_file(alloc, shelf, form.profile)?;

@@ -90,9 +90,13 @@ pub(crate) fn read_task_file<F: Shelf>(
     ensures healthy { F.healthy shelf.old
         → IfErr result (λ exit. IsSomeAnd (task_file (task_asked task.entry)) (λ file. IsUnread (F.held shelf.old) file exit)) }
     ensures count { F.faults shelf.old ≤ F.faults shelf.new }
+    ensures unchanged { F.held shelf.new ≡ F.held shelf.old }
     ensures no_fault { F.healthy shelf.old
         → IfSome (task_file (task_asked task.entry)) (λ file. IsKnownThere (F.held shelf.old) file.name)
         → F.faults shelf.new ≡ F.faults shelf.old }
+    ensures stays_healthy { F.healthy shelf.old
+        → IfSome (task_file (task_asked task.entry)) (λ file. IsKnownThere (F.held shelf.old) file.name)
+        → F.healthy shelf.new }
 {
     match task {
         Task::Check { certificate } => Ok(Work::Check {

@@ -1,7 +1,7 @@
 use Rattle.std.proofs.Common.{Option, sym, subst}
 use Rattle.std.specs.Prelude.{IfSome}
 use Rattle.mrt_words.specs.Form.{FileForm, IsTaskWithin}
-use Rattle.mrt_words.proofs.Forms.{form_within}
+use Rattle.mrt_words.proofs.Spelled.{form_within}
 use Rattle.mrt_words.proofs.words.read_form.Goals as goal
 
 pub returns-in-Some-clause-within : goal.returns-in-Some-clause-within

@@ -1,0 +1,13 @@
+use Rattle.std.proofs.Common.{◌≡◌, ℕ, List, Option, Some, subst}
+use Rattle.std.specs.Prelude.{IfSome}
+use Rattle.mrt_words.specs.Form.{Form, form_of}
+use Rattle.mrt_words.specs.Spellings.{AreWordsOf}
+use Rattle.mrt_words.proofs.Spelled.{form_spelled}
+use Rattle.mrt_words.proofs.Spelling.{form_is}
+use Rattle.mrt_words.proofs.words_law.words_spell_one_form.Goals as goal
+
+pub returns : goal.returns
+returns c = λ words form. (
+  λ is. subst (λ (found : Option Form). IfSome found (λ form. AreWordsOf form words)) is (form_spelled words),
+  form_is form words,
+)
