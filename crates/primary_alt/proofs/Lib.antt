@@ -2,10 +2,11 @@ pub mod AgreeingRows
 pub mod ArcStarts
 pub mod ArcWalks
 pub mod ArcsOffered
-pub mod ArcsTurned
 pub mod AreaArcs
 pub mod BackwardSteps
 pub mod Beginning
+pub mod BeginningsFound
+pub mod BeginningsPassed
 pub mod ColorSteps
 pub mod ColorsUse
 pub mod ColumnsGive
@@ -14,12 +15,12 @@ pub mod DistancesExist
 pub mod DistancesFound
 pub mod FirstColumns
 pub mod FirstsByDistances
-pub mod FirstsFound
 pub mod HopsArrive
 pub mod IslandNumbers
 pub mod NearerHops
 pub mod NumbersRead
 pub mod OfferMade
+pub mod OnwardFound
 pub mod PrimariesExist
 pub mod PrimariesLead
 pub mod Repairs
@@ -27,5 +28,4 @@ pub mod RouterFacts
 pub mod RoutesGiven
 pub mod RowRelaxed
 pub mod RowsInto
-pub mod SecondsFound
 pub mod TurnedWalks

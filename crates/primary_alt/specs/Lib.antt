@@ -7,9 +7,11 @@ pub mod Distance
 pub mod Distances
 pub mod DistancesFrom
 pub mod FirstArcs
+pub mod LeastBeginnings
 pub mod Meets
 pub mod NoArc
 pub mod Offers
+pub mod Onward
 pub mod Primaries
 pub mod PrimaryHops
 pub mod RouteLists

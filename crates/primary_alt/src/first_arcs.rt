@@ -90,7 +90,7 @@ fn first_arc(arcs: &[Arc], from: usize, to: usize, known: &[Option<u32>]) -> Fir
 }
 
 /// Whether the arc's metric plus the distance of its far node is the distance of its tail.
-pub fn attains(arc: &Arc, known: &[Option<u32>]) -> bool
+fn attains(arc: &Arc, known: &[Option<u32>]) -> bool
     requires tail { arc.now.tail < length known.now }
     requires to { arc.now.to < length known.now }
     ensures { IsTrue result ↔ Attains known.now arc.now }

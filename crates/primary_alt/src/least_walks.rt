@@ -1,19 +1,17 @@
 //! Primaries.
 
-ghost use Rattle.std.specs.Prelude.{◌≡◌, ◌≢◌, ◌<◌, ◌↔◌, ℕ, IfOk, IsTrue, Some, length};
-ghost use Rattle.area_graph.specs.declared.area_types.Arc.{Arc};
+ghost use Rattle.std.specs.Prelude.{◌≡◌, ◌≢◌, ◌<◌, ◌↔◌, IfOk, IsTrue, Some, length};
 ghost use Rattle.area_graph.specs.AreaInvariant.{IsArea};
 ghost use Rattle.mrt_graph.specs.GraphInvariant.{IsNetwork};
-ghost use Rattle.primary_alt.specs.Beginnings.{AreBeginnings, HasSecond, IsFirst};
-ghost use Rattle.primary_alt.specs.Distances.{HasDistance};
+ghost use Rattle.primary_alt.specs.Beginnings.{AreBeginnings, IsBeginning};
 ghost use Rattle.primary_alt.specs.DistancesFrom.{AreDistancesFrom};
-ghost use Rattle.primary_alt.specs.Primaries.{ArePrimaries, IsFirstArc, IsPrimary, LeadsOver};
+ghost use Rattle.primary_alt.specs.Primaries.{ArePrimaries, IsPrimary, LeadsOver};
 
-use crate::least_weights::least_weights;
+use crate::beginnings::{Beginning, least_beginnings};
 use crate::of_area::{all_arcs, is_network};
+use crate::searches::Searches;
 use crate::shortest::Primary;
-use crate::weights::{FirstNumbers, Metrics, SecondNumbers};
-use area_graph::{Arc, ArcNo, Area, Spot};
+use area_graph::{Arc, Area, Spot};
 use mrt_graph::NoMemory;
 use std::alloc::Global;
 
@@ -41,9 +39,8 @@ pub fn primaries(alloc: Global, area: &Area, source: Spot) -> Result<Vec<Option<
 
 /// The primaries of the source, a router, and the distances from it.
 ///
-/// Three searches from the source serve all nodes: one for the distances, and along shortest paths one for the first
-/// arcs and one for the second ones, each the least by number. It takes time in proportion to the arcs, times the
-/// logarithm of their number.
+/// One search from the source gives the distances, and one pass over the arcs of shortest paths the first two arcs to all
+/// nodes, the least by number. It takes time in proportion to the arcs, times the logarithm of their number.
 pub fn from_router(alloc: Global, area: &Area, source: Spot) -> Result<FromRouter, NoMemory>
     requires within { source < length area.now.ids }
     requires router { ¬ IsNetwork area.now.ids source }
@@ -51,77 +48,37 @@ pub fn from_router(alloc: Global, area: &Area, source: Spot) -> Result<FromRoute
     ensures distances { IfOk result (λ from. AreDistancesFrom area.now.arcs source from.distances.items) }
     ensures one_each { IfOk result (λ from. length from.distances.items ≡ length area.now.ids) }
 {
+    let mut searches = Searches::new(alloc, area)?;
+    let mut known = vec![in alloc; None; area.count() as usize]?;
+    searches.distances(source, &mut known)?;
     let arcs = all_arcs(alloc, area)?;
-    let count = area.count();
-    let distances = least_weights(alloc, &arcs, count, source, &Metrics)?;
-    let numbers = FirstNumbers {
-        source,
-        distances: &distances,
-    };
-    let firsts = least_weights(alloc, &arcs, count, source, &numbers)?;
-    let numbers = SecondNumbers {
-        source,
-        arcs: &arcs,
-        distances: &distances,
-        firsts: &firsts,
-    };
-    let seconds = least_weights(alloc, &arcs, count, source, &numbers)?;
-    let primaries = entries(alloc, area, source, &arcs, &firsts, &seconds)?;
+    let begins = least_beginnings(alloc, &arcs, source, &known)?;
+    let primaries = entries(alloc, area, source, &arcs, &begins)?;
     Ok(FromRouter {
         primaries,
-        distances,
+        distances: known,
     })
 }
 
-/// The primaries of a router that begin with these arcs.
+/// The primaries of a router for paths that begin so.
 fn entries(
     alloc: Global,
     area: &Area,
     source: Spot,
     arcs: &[Arc],
-    firsts: &[Option<u32>],
-    seconds: &[Option<u32>],
+    begins: &[Option<Beginning>],
 ) -> Result<Vec<Option<Primary>>, NoMemory>
     requires kept { IsArea area.now }
     requires arcs { arcs.now ≡ area.now.arcs }
-    requires firsts { length firsts.now ≡ length area.now.ids }
-    requires seconds { length seconds.now ≡ length area.now.ids }
-    requires are { AreBeginnings area.now source firsts.now seconds.now }
+    requires begins { length begins.now ≡ length area.now.ids }
+    requires are { AreBeginnings area.now source begins.now }
     ensures { IfOk result (λ entries. ArePrimaries area.now source entries.items) }
 {
-    let mut entries = no_entries(alloc, firsts)?;
-    fill(area, source, arcs, firsts, seconds, &mut entries);
-    Ok(entries)
-}
-
-/// None for each of these.
-fn no_entries(alloc: Global, firsts: &[Option<u32>]) -> Result<Vec<Option<Primary>>, NoMemory>
-    ensures { IfOk result (λ entries. length entries.items ≡ length firsts.now) }
-{
-    let entries = firsts.iter().map(|_| None).collect(alloc)?;
-    Ok(entries)
-}
-
-/// Puts the primary for each node where its entry is.
-fn fill(
-    area: &Area,
-    source: Spot,
-    arcs: &[Arc],
-    firsts: &[Option<u32>],
-    seconds: &[Option<u32>],
-    entries: &mut Vec<Option<Primary>>,
-)
-    requires kept { IsArea area.now }
-    requires arcs { arcs.now ≡ area.now.arcs }
-    requires firsts { length firsts.now ≡ length area.now.ids }
-    requires seconds { length seconds.now ≡ length area.now.ids }
-    requires are { AreBeginnings area.now source firsts.now seconds.now }
-    requires entries { length entries.old.items ≡ length area.now.ids }
-    ensures { ArePrimaries area.now source entries.new.items }
-{
-    for t in 0..entries.len() {
-        entries[t] = entry(area, source, arcs, firsts, seconds, Spot::new(t as u16));
+    let mut entries = vec![in alloc; None; begins.len()]?;
+    for t in 0..begins.len() {
+        entries[t] = entry(area, source, arcs, begins, Spot::new(t as u16));
     }
+    Ok(entries)
 }
 
 /// The primary for `t`.
@@ -129,74 +86,46 @@ fn entry(
     area: &Area,
     source: Spot,
     arcs: &[Arc],
-    firsts: &[Option<u32>],
-    seconds: &[Option<u32>],
+    begins: &[Option<Beginning>],
     t: Spot,
 ) -> Option<Primary>
-    requires kept { IsArea area.now }
     requires arcs { arcs.now ≡ area.now.arcs }
-    requires firsts { length firsts.now ≡ length area.now.ids }
-    requires seconds { length seconds.now ≡ length area.now.ids }
-    requires are { AreBeginnings area.now source firsts.now seconds.now }
+    requires kept { IsArea area.now }
+    requires begins { length begins.now ≡ length area.now.ids }
+    requires are { AreBeginnings area.now source begins.now }
     requires to { t < length area.now.ids }
     ensures { IsPrimary area.now source t result }
 {
     if t == source {
         return None;
     }
-    match firsts[t.get() as usize] {
-        Some(first) => {
-            let first = ArcNo::new(first as u16);
-            Some(primary_over(area, source, arcs, seconds, t, first))
-        }
+    match begins[t.get() as usize] {
+        Some(begin) => Some(primary_over(area, source, arcs, t, begin)),
         None => None,
     }
 }
 
-/// The primary for `t` over a first arc.
-fn primary_over(
-    area: &Area,
-    source: Spot,
-    arcs: &[Arc],
-    seconds: &[Option<u32>],
-    t: Spot,
-    first: ArcNo,
-) -> Primary
+/// The primary for `t` by how a shortest path there begins.
+fn primary_over(area: &Area, source: Spot, arcs: &[Arc], t: Spot, begin: Beginning) -> Primary
     requires kept { IsArea area.now }
     requires arcs { arcs.now ≡ area.now.arcs }
-    requires seconds { length seconds.now ≡ length area.now.ids }
     requires to { t < length area.now.ids }
     requires apart { t ≢ source }
-    requires first { IsFirst area.now source t first }
-    requires second { (arc : Arc) → IsFirstArc area.now.arcs source t first arc
-        → LeadsOver area.now t arc → HasSecond area.now seconds.now arc.to t }
+    requires begin { IsBeginning area.now source t begin }
     ensures { IsPrimary area.now source t (Some result) }
 {
-    let arc = &arcs[first.get() as usize];
+    let arc = &arcs[begin.first.get() as usize];
     if !leads_over(area, arc, t) {
         return Primary {
-            first,
+            first: begin.first,
             second: None,
             next: arc.to,
         };
     }
-    let second = number_for(seconds, t);
     Primary {
-        first,
-        second: Some(second),
-        next: arcs[second.get() as usize].to,
-    }
-}
-
-/// The number that stands there for `t`.
-fn number_for(numbers: &[Option<u32>], t: Spot) -> ArcNo
-    requires within { t < length numbers.now }
-    requires some { (number : ℕ) × HasDistance numbers.now t number × (number < 65536) }
-    ensures { HasDistance numbers.now t result }
-{
-    match numbers[t.get() as usize] {
-        Some(number) => ArcNo::new(number as u16),
-        None => unreachable!(),
+        first: begin.first,
+        second: Some(begin.second),
+        next: arcs[begin.second.get() as usize].to,
     }
 }
 

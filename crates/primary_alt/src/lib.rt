@@ -5,6 +5,7 @@
 mod arc_starts;
 mod arcs_into;
 mod backward;
+mod beginnings;
 mod color_hops;
 mod color_uses;
 mod first_arc;
@@ -12,8 +13,8 @@ mod first_arcs;
 mod first_column;
 mod in_island;
 mod least_walks;
-mod least_weights;
 mod of_area;
+mod onward;
 mod primary_law;
 mod repair;
 mod repair_law;
@@ -22,7 +23,6 @@ mod routes_law;
 mod searches;
 mod shortest;
 mod turned;
-mod weights;
 
 pub use color_hops::{ColorHop, next_hop};
 pub use color_uses::is_over;

@@ -6,7 +6,6 @@ use crate::arcs_into::ArcsInto;
 use crate::backward::{Offer, distances_to};
 use crate::of_area::all_arcs;
 use crate::turned::turned;
-use crate::weights::Metrics;
 use area_graph::{Area, Spot};
 use mrt_graph::NoMemory;
 use std::alloc::Global;
@@ -43,7 +42,7 @@ impl<'a> Searches<'a> {
         ensures { IfOk result (λ searches. searches ≡ area.now) }
     {
         let arcs = all_arcs(alloc, area)?;
-        let others = turned(alloc, &arcs, &Metrics)?;
+        let others = turned(alloc, &arcs)?;
         let into = ArcsInto::new(alloc, others, area.count())?;
         let waiting = BinaryHeap::with_capacity(alloc, into.arcs.len() + 1)?;
         Ok(Searches {

@@ -1,7 +1,7 @@
 use Rattle.std.proofs.Common.{◌≡◌, ◌<◌, ℕ, Option, Some, length, slice_get}
 use Rattle.primary_alt.specs.declared.shortest.Primary.{Primary}
 use Rattle.primary_alt.specs.Primaries.{IsPrimary}
-use Rattle.primary_alt.proofs.least_walks.fill.Given as goal
+use Rattle.primary_alt.proofs.least_walks.entries.Given as goal
 
 abbrev pub invariant-loop-t : goal.invariant-loop-t
 invariant-loop-t l = record {
