@@ -9,7 +9,7 @@ use Rattle.mrt_graph.specs.AcceptedFor.{IsAcceptedFor}
 use Rattle.mrt_graph.specs.Certificate.{Certificate, row_of}
 use Rattle.mrt_graph.specs.FirstEnd.{IsFirstEnd}
 use Rattle.mrt_graph.specs.GraphInvariant.{IsTopology}
-use Rattle.mrt_graph.specs.Rows.{Rows}
+use Rattle.mrt_graph.specs.Rows.{AreSameFor, Rows}
 use Rattle.mrt_graph.specs.Topology.{Topology}
 use Rattle.mrt_graph.proofs.RowsHold.{in_block_there}
 use Rattle.proxy_rows.specs.declared.attachment.Attachment.{Attachment}
@@ -78,7 +78,7 @@ read_with words at rows kept read =
       stands =
           subst (λ (c : Certificate). IsGround words.graph.now c at) same
           (record { kept = kept; accepted = read.accepted; a = read.a; b = read.b; attached = read.attached });
-      rows_are = subst (λ (c : Certificate). (s : ℕ) → s < length words.graph.now.ids → row_of c s at.head ≡ rows s at.head) same read.rows_are;
+      rows_are = subst (λ (c : Certificate). AreSameFor at.head (row_of c) rows) same read.rows_are;
     }
 
 -- a certificate that is at hand, with an attachment of two routers
@@ -92,7 +92,7 @@ read_of g c nodes links a b at same_nodes same_links accepted attached = record 
   attached = attached;
   nodes_are = sym same_nodes;
   links_are = sym same_links;
-  rows_are = λ s within. refl;
+  rows_are = λ s. refl;
 }
 
 -- words that are read with rows are accepted
@@ -107,4 +107,4 @@ row_given words at rows rest read s within differ =
     let c = with_rows words rest in
     let row = in_block_there g read.stands.accepted.root _ read.stands.accepted.accepted s at.head
     (omega (arith, within, (counts g c at read.stands).nodes)) (head_within g c at read.stands) differ in
-    subst (λ (o : Option Row). IsSome o) (read.rows_are s within) (subst (λ (o : Option Row). IsSome o) (sym row.is) refl)
+    subst (λ (o : Option Row). IsSome o) (read.rows_are s) (subst (λ (o : Option Row). IsSome o) (sym row.is) refl)

@@ -1,8 +1,8 @@
 -- Certificates of some words on nodes and links.
-use Rattle.std.specs.Prelude.{◌≡◌, ◌<◌, ℕ, List, [], length}
+use Rattle.std.specs.Prelude.{ℕ, List, []}
 use Rattle.mrt_graph.specs.declared.cert.Row.{Row}
 use Rattle.mrt_graph.specs.Certificate.{Certificate, certificate_of, row_of}
-use Rattle.mrt_graph.specs.Rows.{Rows}
+use Rattle.mrt_graph.specs.Rows.{AreSameFor, Rows}
 use Rattle.proxy_rows.specs.declared.attachment.Attachment.{Attachment}
 use Rattle.proxy_rows.specs.declared.side.Side.{Side}
 use Rattle.proxy_rows.specs.declared.words.Words.{Words}
@@ -26,7 +26,7 @@ pub record AreAccepted (words : Words) (at : Attachment) : Type 0 where
   pub rest : List Row
   pub stands : IsGround words.graph.now (with_rows words rest) at
 
--- with these rows they are, and `rows` has of these those for the head of the attachment
+-- with these rows the words are such a certificate, and its rows for the head of the attachment are the same as `rows`
 pub record AreReadWith (words : Words) (at : Attachment) (rows : Rows) (rest : List Row) : Type 0 where
   pub stands : IsGround words.graph.now (with_rows words rest) at
-  pub rows_are : (s : ℕ) → s < length words.graph.now.ids → row_of (with_rows words rest) s at.head ≡ rows s at.head
+  pub rows_are : AreSameFor at.head (row_of (with_rows words rest)) rows

@@ -30,7 +30,7 @@ pub returns-then-is_marked : goal.returns-then-is_marked
 returns-then-is_marked g c rest read =
     OfLow c.side_out.result c.row_for-row.result
     (on_side c.args.words.now c.args.at.now [] rest Low c.args.s ((c.requires.low c.args.s).0 (c.is_marked.ensures.0 c.if-is_marked.true)))
-    (c.side_out.ensures rest) (read.rows_are c.args.s c.requires.within ∙ c.row_for-row.ensures)
+    (c.side_out.ensures rest) (read.rows_are c.args.s ∙ c.row_for-row.ensures)
 
 pub side_out-requires-then-is_marked-2-clause-ground : goal.side_out-requires-then-is_marked-2-clause-ground
 side_out-requires-then-is_marked-2-clause-ground g c = accepted_of c.args.words.now c.args.at.now (g.R.RowsOf.rows c.args.rows.now) c.requires.read
@@ -39,7 +39,7 @@ pub returns-then-is_marked-2 : goal.returns-then-is_marked-2
 returns-then-is_marked-2 g c rest read =
     OfHigh c.side_out-then-is_marked-2.result c.row_for-row.result
     (on_side c.args.words.now c.args.at.now [] rest High c.args.s ((c.requires.high c.args.s).0 (c.is_marked-2.ensures.0 c.if-is_marked-2.true)))
-    (c.side_out-then-is_marked-2.ensures rest) (read.rows_are c.args.s c.requires.within ∙ c.row_for-row.ensures)
+    (c.side_out-then-is_marked-2.ensures rest) (read.rows_are c.args.s ∙ c.row_for-row.ensures)
 
 pub returns-then-is_member : goal.returns-then-is_member
 returns-then-is_member g c rest read =
@@ -47,7 +47,7 @@ returns-then-is_member g c rest read =
     OfOther c.row_for-row.result (c.is_member.ensures.0 c.if-is_member.true)
     (λ low. both_ways c.is_marked.result c.if-is_marked.false (c.is_marked.ensures.1 ((c.requires.low c.args.s).1 (on_side words c.args.at.now rest [] Low c.args.s low))))
     (λ high. both_ways c.is_marked-2.result c.if-is_marked-2.false (c.is_marked-2.ensures.1 ((c.requires.high c.args.s).1 (on_side words c.args.at.now rest [] High c.args.s high))))
-    (read.rows_are c.args.s c.requires.within ∙ c.row_for-row.ensures)
+    (read.rows_are c.args.s ∙ c.row_for-row.ensures)
 
 pub returns : goal.returns
 returns g c rest read =
@@ -58,4 +58,4 @@ returns g c rest read =
     ] in
     outside_row words.graph.now (with_rows words rest) c.args.at.now read.stands c.args.s
     (omega (arith, c.requires.within, (counts words.graph.now (with_rows words rest) c.args.at.now read.stands).nodes))
-    outside c.row_for-row.result (read.rows_are c.args.s c.requires.within ∙ c.row_for-row.ensures)
+    outside c.row_for-row.result (read.rows_are c.args.s ∙ c.row_for-row.ensures)
