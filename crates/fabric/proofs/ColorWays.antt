@@ -3,7 +3,7 @@ use Rattle.std.proofs.Common.{◌≡◌, ◌≢◌, ◌<◌, ◌≤◌, ℕ, zer
 use Rattle.std.specs.Option.{option_and_then}
 use Rattle.std.proofs.lemmas.Bool.{eq-eqb, ne_eqb}
 use Rattle.std.proofs.lemmas.List.{length-map}
-use Rattle.fabric.specs.FabricParts.{ArePartsKept, FabricParts, IsServed}
+use Rattle.fabric.specs.FabricParts.{ArePartsKept, FabricParts, AreRowsAccepted}
 use Rattle.mrt_graph.specs.declared.cert.CertFile.{CertFile}
 use Rattle.mrt_graph.specs.declared.cert.Color.{Color}
 use Rattle.mrt_graph.specs.declared.cert.Color.TheVariants.{Blue, Red}
@@ -54,19 +54,19 @@ uses links s t hops (elements.Node x) trail on =
     contains_from_has (nodes_met links s (links_on hops)) x (subst (λ (xs : List ℕ). Has xs x) (sym (met_of links s t hops trail)) on)
 
 module _ (parts : FabricParts) (are : ArePartsKept parts) where
-  -- from each node to each other one that is served a color has its way
-  pub way : (color : Color) (n d : ℕ) → IsServed parts d → n < length parts.island.ids → d < length parts.island.ids → n ≢ d → Way (next_on parts color d) d n
-  way color n d served from to other =
-      let cert = served.cert in
-      let file : CertFile = record { version = served.accepted.version; root = served.accepted.number; cert = cert } in
-      let b = blocks parts.island served.accepted.root file served.accepted.accepted in
-      let rows = rows_hold parts.island served.accepted.root file served.accepted.accepted b.root_within in
-      let counts : length cert.nodes ≡ length parts.island.ids = (served.accepted.accepted GraphRule).counts.nodes in
-      let w = words_of parts.island.links served.accepted.root cert in
-      subst (λ (next : ℕ → Option Hop). Way next d n) (same_hops parts.island.links d (row_of cert) parts.rows (λ s. sym (served.same s)) color)
+  -- from each node to each other one for which the rows are accepted a color has its way
+  pub way : (color : Color) (n d : ℕ) → AreRowsAccepted parts d → n < length parts.island.ids → d < length parts.island.ids → n ≢ d → Way (next_on parts color d) d n
+  way color n d are_accepted from to other =
+      let cert = are_accepted.cert in
+      let file : CertFile = record { version = are_accepted.accepted.version; root = are_accepted.accepted.number; cert = cert } in
+      let b = blocks parts.island are_accepted.accepted.root file are_accepted.accepted.accepted in
+      let rows = rows_hold parts.island are_accepted.accepted.root file are_accepted.accepted.accepted b.root_within in
+      let counts : length cert.nodes ≡ length parts.island.ids = (are_accepted.accepted.accepted GraphRule).counts.nodes in
+      let w = words_of parts.island.links are_accepted.accepted.root cert in
+      subst (λ (next : ℕ → Option Hop). Way next d n) (same_hops parts.island.links d (row_of cert) parts.rows (λ s. sym (are_accepted.same s)) color)
       (go color (good_everywhere w b rows (near_claim w b rows) n d (omega (arith, from, counts)) (omega (arith, to, counts)) other))
     where
-      go : (color : Color) → Good (words_of parts.island.links served.accepted.root served.cert) n d → Way (color_hop parts.island.links (row_of served.cert) color d) d n
+      go : (color : Color) → Good (words_of parts.island.links are_accepted.accepted.root are_accepted.cert) n d → Way (color_hop parts.island.links (row_of are_accepted.cert) color d) d n
       go Blue good = good.blue
       go Red good = good.red
 

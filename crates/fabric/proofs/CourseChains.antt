@@ -1,12 +1,15 @@
 -- The course of a packet in a run is a chain of steps.
 use Rattle.std.proofs.Common.{◌≡◌, ◌⊎◌, ◌∙◌, ℕ, List, [], ◌∷◌, Some, None, slice_get, inl, inr, refl, sym, subst, arith}
-use Rattle.std.specs.Prelude.{AllPairs}
+use Rattle.std.specs.Prelude.{AllPairs, Contains}
 use Rattle.fabric.specs.Course.{KeepsMode, course, is_on_color, is_primary, visits}
-use Rattle.fabric.specs.FabricParts.{AreFabricParts, FabricParts}
+use Rattle.fabric.specs.FabricParts.{ArePartsKept, AreRowsFor, FabricParts}
 use Rattle.fabric.specs.FabricState.{Answer, FabricState, entering, packet_after, start, state_after}
 use Rattle.fabric.specs.KeptState.{IsKeptPacket}
 use Rattle.fabric.specs.Runs.{IsRun}
+use Rattle.fabric.specs.Served.{AreRowsOn}
 use Rattle.fabric.specs.declared.event.Event.{Event}
+use Rattle.fabric.specs.declared.event.Event.TheVariants.{Inject}
+use Rattle.fabric.specs.declared.packet.Entry.{Entry}
 use Rattle.fabric.specs.declared.packet.Packet.{Packet}
 use Rattle.fabric.proofs.Effects.{AfterEnd, Apart, Effect, FailsNow, Handled, Made, effect}
 use Rattle.fabric.proofs.LifeSteps.{entering_kept}
@@ -14,16 +17,35 @@ use Rattle.fabric.proofs.PacketChains.{Chain, next_of}
 use Rattle.fabric.proofs.PacketVisits.{all_different, color_differ, modes_kept, primary_differ}
 use Rattle.fabric.proofs.SmallIslands.{island_small}
 use Rattle.mrt_graph.specs.Reaches.{AreDifferent}
+use Rattle.mrt_graph.proofs.Members.{contains_first, contains_later}
 
--- a course that begins with a packet that is kept
-record Begun (parts : FabricParts) (packets : List Packet) : Type 0 where
+-- a course that begins with a packet that is kept, and that enters by one of the events
+record Begun (parts : FabricParts) (events : List Event) (packets : List Packet) : Type 0 where
   q : Packet
   rest : List Packet
+  from : ℕ
+  entry : Entry
+  enters : Contains events (Inject from q.to entry)
   kept : IsKeptPacket parts q
   chain : Chain parts q rest
   same : packets ≡ q ∷ rest
 
-module _ (parts : FabricParts) (are : AreFabricParts parts) (p : ℕ) where
+-- by one of more events
+begun_later : (parts : FabricParts) (event : Event) (events : List Event) (packets : List Packet)
+    → (packets ≡ []) ⊎ Begun parts events packets → (packets ≡ []) ⊎ Begun parts (event ∷ events) packets
+begun_later parts event events packets (inl none) = inl none
+begun_later parts event events packets (inr begun) = inr (record {
+  q = begun.q;
+  rest = begun.rest;
+  from = begun.from;
+  entry = begun.entry;
+  enters = contains_later event (Inject begun.from begun.q.to begun.entry) events begun.enters;
+  kept = begun.kept;
+  chain = begun.chain;
+  same = begun.same;
+})
+
+module _ (parts : FabricParts) (are : ArePartsKept parts) (p : ℕ) where
   next_run : (old new : FabricState) (event : Event) (events : List Event) (answer : Answer) (answers : List Answer) → IsRun parts old (event ∷ events) (answer ∷ answers) new
       → IsRun parts (state_after old event answer) events answers new
   next_run old new event events answer answers run = subst (λ (s : FabricState). IsRun parts s events answers new) run.1.after run.2
@@ -49,17 +71,18 @@ module _ (parts : FabricParts) (are : AreFabricParts parts) (p : ℕ) where
           (rw (to.makes_is, to.handles_is, now) (going, next_of parts old.failure q' outcome handled, on (packet_after outcome q') now))
 
   course_from : (events : List Event) (answers : List Answer) (old new : FabricState) → IsRun parts old events answers new → slice_get old.packets p ≡ None
-      → (course p old events answers ≡ []) ⊎ Begun parts (course p old events answers)
+      → (course p old events answers ≡ []) ⊎ Begun parts events (course p old events answers)
   course_from [] [] old new run none = inl refl
   course_from [] (answer ∷ answers) old new run none = absurd run
   course_from (event ∷ events) [] old new run none = absurd run
   course_from (event ∷ events) (answer ∷ answers) old new run none =
-      go (effect parts p old event answer run.1.answers) (λ now. course_from events answers (state_after old event answer) new (next_run old new event events answer answers run) now)
+      go (effect parts p old event answer run.1.answers) (λ now. begun_later parts event events _
+      (course_from events answers (state_after old event answer) new (next_run old new event events answer answers run) now))
     where
       go : Effect parts p old (state_after old event answer) event answer
           → (slice_get (state_after old event answer).packets p ≡ None
-          → (course p (state_after old event answer) events answers ≡ []) ⊎ Begun parts (course p (state_after old event answer) events answers))
-          → (course p old (event ∷ events) (answer ∷ answers) ≡ []) ⊎ Begun parts (course p old (event ∷ events) (answer ∷ answers))
+          → (course p (state_after old event answer) events answers ≡ []) ⊎ Begun parts (event ∷ events) (course p (state_after old event answer) events answers))
+          → (course p old (event ∷ events) (answer ∷ answers) ≡ []) ⊎ Begun parts (event ∷ events) (course p old (event ∷ events) (answer ∷ answers))
       go (Apart same failure to) on = rw (to.makes_is, to.handles_is) (on (same ∙ none))
       go (FailsNow failed same nothing kept element to) on = rw (to.makes_is, to.handles_is) (on (same ∙ none))
       go (AfterEnd q before ended same failure to) on = rw (to.makes_is, to.handles_is) (on (same ∙ none))
@@ -67,20 +90,25 @@ module _ (parts : FabricParts) (are : AreFabricParts parts) (p : ℕ) where
       go (Made at t entry is nothing now failure may to) on = inr (record {
         q = entering at t entry;
         rest = course p (state_after old event answer) events answers;
-        kept = entering_kept parts are.kept (island_small parts are.kept) at t entry may;
+        from = at;
+        entry = entry;
+        enters = subst (λ (e : Event). Contains (event ∷ events) e) is (contains_first event events);
+        kept = entering_kept parts are (island_small parts are) at t entry may;
         chain = course_chain events answers (state_after old event answer) new (entering at t entry) (next_run old new event events answer answers run) now;
         same = rw (to.makes_is, now) refl;
       })
 
-module _ (parts : FabricParts) (are : AreFabricParts parts) (room : ℕ) (events : List Event) (answers : List Answer) (end : FabricState) (run : IsRun parts (start room) events answers end) (p : ℕ) where
+module _ (parts : FabricParts) (are : ArePartsKept parts) (room : ℕ) (events : List Event) (answers : List Answer) (end : FabricState) (run : IsRun parts (start room) events answers end) (p : ℕ) where
   -- the whole course
-  pub no_place_twice : AreDifferent (visits is_primary (course p (start room) events answers)) × AreDifferent (visits is_on_color (course p (start room) events answers))
-  no_place_twice = elim (course_from parts are p events answers (start room) end run refl) [
+  pub no_place_twice : AreRowsOn parts events → AreDifferent (visits is_primary (course p (start room) events answers)) × AreDifferent (visits is_on_color (course p (start room) events answers))
+  no_place_twice on = elim (course_from parts are p events answers (start room) end run refl) [
     | inl none ↦ rw none (all_different [] tt, all_different [] tt)
-    | inr begun ↦ rw begun.same (
-      all_different (visits is_primary (begun.q ∷ begun.rest)) (primary_differ parts are begun.q begun.rest begun.chain begun.kept),
-      all_different (visits is_on_color (begun.q ∷ begun.rest)) (color_differ parts are begun.q begun.rest begun.chain begun.kept),
-    )
+    | inr begun ↦
+        let rows : AreRowsFor parts begun.q.to = on begun.from begun.q.to begun.entry begun.enters in
+        rw begun.same (
+          all_different (visits is_primary (begun.q ∷ begun.rest)) (primary_differ parts are begun.q begun.rest begun.chain begun.kept rows),
+          all_different (visits is_on_color (begun.q ∷ begun.rest)) (color_differ parts are begun.q begun.rest begun.chain begun.kept rows),
+        )
   ]
 
   pub one_change : AllPairs (λ (earlier later : Packet). KeepsMode earlier.mode later.mode) (course p (start room) events answers)

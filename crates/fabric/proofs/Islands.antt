@@ -1,20 +1,17 @@
 -- Nodes, links and elements of the area and of the island that belong together.
-use Rattle.std.proofs.Common.{Contains, true, ◌≡◌, ◌<◌, ◌≤◌, ◌∙◌, ℕ, List, Option, Some, None, length, slice_get, get_or, refl, sym, ap, arith}
+use Rattle.std.proofs.Common.{Contains, true, ◌≡◌, ◌<◌, ◌≤◌, ◌∙◌, ℕ, List, Option, Some, None, length, slice_get, refl, sym, ap, arith}
 use Rattle.std.specs.List.{position}
 use Rattle.std.specs.Option.{option_and_then, option_map}
 use Rattle.std.proofs.lemmas.Bool.{eq-eqb, eqb-true}
-use Rattle.std.proofs.lemmas.List.Quantifiers.{position-Some}
-use Rattle.std.proofs.lemmas.Option.{get_or_from_slice_get, same_Some, slice_get_within, slice_get-get_or}
+use Rattle.std.proofs.lemmas.Option.{get_or_from_slice_get, same_Some, slice_get_within}
 use Rattle.area_graph.specs.Fits.{names}
 use Rattle.area_graph.specs.Nodes.{number_of}
-use Rattle.area_graph.proofs.Placing.{first_place}
-use Rattle.area_graph.proofs.SameIds.{not_one_node, one_node, same_itself}
+use Rattle.area_graph.proofs.Placing.{number_found, place_of_one}
 use Rattle.std.specs.List.Sorted.{IsStrictlySortedBy}
 use Rattle.mrt_graph.specs.NodeOrder.{node_id_cmp}
 use Rattle.mrt_graph.proofs.ListPlaces.{contains_at, place_of}
 use Rattle.mrt_graph.proofs.ListTests.{there}
 use Rattle.mrt_graph.specs.GraphInvariant.{IsNetwork}
-use Rattle.mrt_graph.specs.SameGraph.{same_id}
 use Rattle.mrt_graph.specs.declared.node_id.NodeId.{NodeId}
 use Rattle.mrt_graph.proofs.NodeIds.{one_place}
 use Rattle.mrt_graph.proofs.Tallies.{count_is_tally, counted_at, position_of_one, tally}
@@ -26,17 +23,12 @@ pub record IsOne (parts : FabricParts) (s n : ℕ) : Type 0 where
   pub in_area : slice_get parts.area.ids s ≡ Some id
   pub in_island : slice_get parts.island.ids n ≡ Some id
 
-placed : (ids : List NodeId) (id : NodeId) (n : ℕ) → number_of ids id ≡ Some n → slice_get ids n ≡ Some id
-placed ids id n is =
-    let found = position-Some (same_id id) ids n id is in
-    slice_get-get_or ids n id found.0 ∙ ap (λ x. Some x) (sym (one_node id (get_or ids n id) found.1))
-
 pub is_one : (parts : FabricParts) (s n : ℕ) → node_at parts s ≡ Some n → IsOne parts s n
 is_one parts s n is = go (slice_get parts.area.ids s) refl is
   where
     go : (o : Option NodeId) → slice_get parts.area.ids s ≡ o → option_and_then (number_of parts.island.ids) o ≡ Some n → IsOne parts s n
     go None there is = cc
-    go (Some id) there is = record { id = id; in_area = there; in_island = placed parts.island.ids id n is }
+    go (Some id) there is = record { id = id; in_area = there; in_island = number_found parts.island.ids id n is }
 
 module _ (parts : FabricParts) (are : ArePartsKept parts) where
   -- an island node is one node of the area
@@ -89,11 +81,7 @@ module _ (parts : FabricParts) (are : ArePartsKept parts) where
 -- the number of an identifier that stands there
 number_there : (ids : List NodeId) (id : NodeId) (n : ℕ) → IsStrictlySortedBy node_id_cmp ids → slice_get ids n ≡ Some id → number_of ids id ≡ Some n
 number_there ids id n ascend there =
-    let within = slice_get_within ids n id there in
-    first_place (same_id id) ids n id within (rw (get_or_from_slice_get ids n id id there) (same_itself id))
-    (λ k less. not_one_node id (get_or ids k id) (λ same.
-    let here : k ≡ n = one_place ids k n id ascend (slice_get-get_or ids k id (omega (arith, less, within)) ∙ ap (λ x. Some x) (sym same)) there in
-    omega (arith, here, less)))
+    place_of_one ids n id ascend (slice_get_within ids n id there) (get_or_from_slice_get ids n id id there)
 
 module _ (parts : FabricParts) (are : ArePartsKept parts) where
   -- a node of the area that has the identifier of an island node is this island node

@@ -37,12 +37,12 @@ module _ (parts : FabricParts) (are : ArePartsKept parts) (packets : List Packet
 
   pub kept_handled : (p : ℕ) (q : Packet) (outcome : Outcome) → AreRowsFor parts q.to → slice_get packets p ≡ Some q → q.state ≡ states.Going → IsHandled parts failure q outcome
       → IsKeptState parts (state_of (slice_set packets p (packet_after outcome q)) failure room)
-  kept_handled p q outcome served there going handled = record {
+  kept_handled p q outcome rows there going handled = record {
     packets = λ k packet at. elim (cases_eq k p) [
       | inl here ↦
           let now : slice_get (set packets p (packet_after outcome q)) p ≡ Some packet = subst (λ (j : ℕ). slice_get (set packets p (packet_after outcome q)) j ≡ Some packet) here at in
           let same : packet_after outcome q ≡ packet = same_Some _ _ (sym (set_there packets p (packet_after outcome q) (slice_get_within packets p q there)) ∙ now) in
-          subst (λ (x : Packet). IsKeptPacket parts x) same (kept_next parts are q (packet_after outcome q) served (kept.packets p q there) going (next_of parts failure q outcome handled))
+          subst (λ (x : Packet). IsKeptPacket parts x) same (kept_next parts are q (packet_after outcome q) rows (kept.packets p q there) going (next_of parts failure q outcome handled))
       | inr other ↦ kept.packets k packet (sym (set_elsewhere packets p k (packet_after outcome q) other) ∙ at)
     ];
     failure = kept.failure;

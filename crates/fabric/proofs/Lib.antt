@@ -1,3 +1,4 @@
+pub mod AcceptedRows
 pub mod ColorHops
 pub mod ColorWays
 pub mod Destinations
@@ -19,7 +20,6 @@ pub mod PacketVisits
 pub mod Routed
 pub mod RunLives
 pub mod SameRuns
-pub mod ServedRows
 pub mod SmallIslands
 pub mod SomeAnswer
 pub mod SomeHop

@@ -158,9 +158,9 @@ module _ (parts : FabricParts) (are : ArePartsKept parts) (small : length parts.
 
   -- the whole way on a color
   pub whole_way : (color : Color) (q : Packet) (n d : ℕ) → AreRowsFor parts q.to → IsKeptPacket parts q → q.place ≢ q.to → node_at parts q.place ≡ Some n → node_at parts q.to ≡ Some d → IsLeft parts color q
-  whole_way color q n d served kept apart at to =
+  whole_way color q n d rows kept apart at to =
       let apart' : n ≢ d = λ same. apart (one_spot parts are q.place q.to d (at ∙ ap (λ (y : ℕ). Some y) same) to) in
-      let w = way parts are color n d (served d to) (node_within parts are q.place n at) (node_within parts are q.to d to) apart' in
+      let w = way parts are color n d (rows d to) (node_within parts are q.place n at) (node_within parts are q.to d to) apart' in
       record { n = n; d = d; at = at; to = to; hops = w.hops; follows = w.follows; differ = w.differ }
 
   whole_short : (color : Color) (q : Packet) (left : IsLeft parts color q) → length left.hops + 1 ≤ length parts.area.ids
@@ -183,7 +183,7 @@ module _ (parts : FabricParts) (are : ArePartsKept parts) (small : length parts.
   switched_life : (failure : Option Failure) (q : Packet) (steps : ℕ) (color : Color) → AreRowsFor parts q.to → Lives parts failure q steps → q.state ≡ states.Going → q.mode ≡ modes.Primary
       → IsRepairedBy parts failure q (Some color) → Lives parts failure (record q { mode = modes.Switched color }) (steps + 1)
   unfolding whole_way
-  switched_life failure q steps color served lives going mode by = go lives.life
+  switched_life failure q steps color rows lives going mode by = go lives.life
     where
       kept' : IsKeptPacket parts (record q { mode = modes.Switched color })
       kept' = switched_kept q color lives.kept (some_inside parts q.place by.at by.place) (some_inside parts q.to by.to by.destination)
@@ -191,7 +191,7 @@ module _ (parts : FabricParts) (are : ArePartsKept parts) (small : length parts.
       go : Life parts failure q steps → Lives parts failure (record q { mode = modes.Switched color }) (steps + 1)
       go (HasEnded ended few never) = absurd (ended going)
       go (OnPrimary visited mode' going' differ below count farther) =
-          let left = whole_way color (record q { mode = modes.Switched color }) by.at by.to served kept' (lives.kept.apart going) by.place by.destination in
+          let left = whole_way color (record q { mode = modes.Switched color }) by.at by.to rows kept' (lives.kept.apart going) by.place by.destination in
           let short = whole_short color (record q { mode = modes.Switched color }) left in
           let few = visited_few parts are small q visited lives.kept differ below in
           record {
@@ -209,16 +209,16 @@ module _ (parts : FabricParts) (are : ArePartsKept parts) (small : length parts.
   -- each outcome
   pub life_after : (failure : Option Failure) (q : Packet) (steps : ℕ) → AreRowsFor parts q.to → Lives parts failure q steps → q.state ≡ states.Going → (outcome : Outcome) → IsHandled parts failure q outcome
       → Lives parts failure (packet_after outcome q) (steps + 1)
-  life_after failure q steps served lives going outcome (AtFailed is) = lost_life parts are small failure q steps losses.Inside lives going (AtFailed is)
-  life_after failure q steps served lives going outcome (Unreachable stands primary none) = lost_life parts are small failure q steps losses.NoRoute lives going (Unreachable stands primary none)
-  life_after failure q steps served lives going outcome (Moves hop has uncut other) = moved_life failure q steps hop lives going has.is other
-  life_after failure q steps served lives going outcome (Arrives hop has uncut here) = delivered_life failure q steps lives going
-  life_after failure q steps served lives going outcome (AtDestination hop has there destination) =
+  life_after failure q steps rows lives going outcome (AtFailed is) = lost_life parts are small failure q steps losses.Inside lives going (AtFailed is)
+  life_after failure q steps rows lives going outcome (Unreachable stands primary none) = lost_life parts are small failure q steps losses.NoRoute lives going (Unreachable stands primary none)
+  life_after failure q steps rows lives going outcome (Moves hop has uncut other) = moved_life failure q steps hop lives going has.is other
+  life_after failure q steps rows lives going outcome (Arrives hop has uncut here) = delivered_life failure q steps lives going
+  life_after failure q steps rows lives going outcome (AtDestination hop has there destination) =
       lost_life parts are small failure q steps losses.IsDestination lives going (AtDestination hop has there destination)
-  life_after failure q steps served lives going outcome (OnColor off other) = lost_life parts are small failure q steps losses.ColorCut lives going (OnColor off other)
-  life_after failure q steps served lives going outcome (OutsideIsland off primary outside) = lost_life parts are small failure q steps losses.Outside lives going (OutsideIsland off primary outside)
-  life_after failure q steps served lives going outcome (Unrepaired off primary by) = lost_life parts are small failure q steps losses.NoAlternate lives going (Unrepaired off primary by)
-  life_after failure q steps served lives going outcome (Repaired color off primary by) = switched_life failure q steps color served lives going primary by
+  life_after failure q steps rows lives going outcome (OnColor off other) = lost_life parts are small failure q steps losses.ColorCut lives going (OnColor off other)
+  life_after failure q steps rows lives going outcome (OutsideIsland off primary outside) = lost_life parts are small failure q steps losses.Outside lives going (OutsideIsland off primary outside)
+  life_after failure q steps rows lives going outcome (Unrepaired off primary by) = lost_life parts are small failure q steps losses.NoAlternate lives going (Unrepaired off primary by)
+  life_after failure q steps rows lives going outcome (Repaired color off primary by) = switched_life failure q steps color rows lives going primary by
 
   -- where it enters
   pub entering_kept : (at to : ℕ) (entry : Entry) → MayEnter parts at to entry → IsKeptPacket parts (entering at to entry)
@@ -237,7 +237,7 @@ module _ (parts : FabricParts) (are : ArePartsKept parts) (small : length parts.
       inside entries.Repair color anywhere = absurd (color refl)
 
   pub life_begins : (failure : Option Failure) (at to : ℕ) (entry : Entry) → AreRowsFor parts to → MayEnter parts at to entry → Lives parts failure (entering at to entry) 0
-  life_begins failure at to entry served may = record { kept = kept; life = go entry refl }
+  life_begins failure at to entry rows may = record { kept = kept; life = go entry refl }
     where
       kept : IsKeptPacket parts (entering at to entry)
       kept = entering_kept at to entry may
@@ -246,7 +246,7 @@ module _ (parts : FabricParts) (are : ArePartsKept parts) (small : length parts.
       on_color color mode =
           let n = inside_is (node_at parts at) (kept.place_inside (λ primary. cc)) in
           let d = inside_is (node_at parts to) (kept.to_inside (λ primary. cc)) in
-          let left = whole_way color (entering at to entry) n.0 d.0 served kept (kept.apart refl) n.1 d.1 in
+          let left = whole_way color (entering at to entry) n.0 d.0 rows kept (kept.apart refl) n.1 d.1 in
           let short = whole_short color (entering at to entry) left in
           OnEntered color mode refl left (omega (arith, short))
 

@@ -4,12 +4,13 @@ use Rattle.std.specs.Option.{option_map}
 use Rattle.std.proofs.lemmas.Option.{same_Some}
 use Rattle.fabric.specs.Answers.{Answered, HasEnded as EndedBefore, IsStepAnswer, NoPacket}
 use Rattle.fabric.specs.Causes.{IsCutFromFailed, IsOnWalk, IsSeparated, LossCauses}
-use Rattle.fabric.specs.FabricParts.{AreFabricParts, FabricParts, element_at, link_at, node_at}
+use Rattle.fabric.specs.FabricParts.{ArePartsKept, AreRowsFor, FabricParts, element_at, link_at, node_at}
 use Rattle.fabric.specs.FabricState.{Answer, FabricState, start}
 use Rattle.fabric.specs.FabricStep.{FabricStep}
 use Rattle.fabric.specs.Handling.{Arrives, AtDestination, AtFailed, IsCutOff, IsHandled, IsRepairedBy, IsUnreachable, Moves, OnColor, OutsideIsland, Repaired, Unreachable, Unrepaired}
 use Rattle.fabric.specs.PacketHop.{IsCut}
 use Rattle.fabric.specs.Runs.{IsRun}
+use Rattle.fabric.specs.Served.{AreRowsOn}
 use Rattle.fabric.specs.Course.{steps_of}
 use Rattle.fabric.specs.declared.event.Event.{Event}
 use Rattle.fabric.specs.declared.event.Event.TheVariants.{Step}
@@ -30,7 +31,7 @@ use Rattle.fabric.proofs.Life.{HasEnded, IsLeft, Life, Lives, OnEntered, OnPrima
 use Rattle.fabric.proofs.OneOutcome.{one_outcome}
 use Rattle.fabric.proofs.PacketChains.{left_now}
 use Rattle.fabric.proofs.RunLives.{IsAt, Living, Unmade, run_lives}
-use Rattle.fabric.proofs.ServedRows.{rows_on, served_to, sound_for}
+use Rattle.fabric.proofs.AcceptedRows.{sound_for}
 use Rattle.fabric.proofs.SmallIslands.{island_small}
 use Rattle.mrt_graph.specs.Alternate.{AtEnd, ByBlue, ByRed, IsAlternate, OnBoth, Outside}
 use Rattle.mrt_graph.specs.Separates.{IsNeitherEnd}
@@ -39,9 +40,9 @@ use Rattle.mrt_graph.specs.declared.cert.Color.{Color}
 use Rattle.mrt_graph.specs.declared.link.Element.{Element}
 use Rattle.mrt_graph.specs.declared.link.Element.TheVariants as elements
 
-module _ (parts : FabricParts) (are : AreFabricParts parts) (failure : Option Failure) (q : Packet) (steps : ℕ) (lives : Lives parts failure q steps) (going : q.state ≡ states.Going) where
+module _ (parts : FabricParts) (are : ArePartsKept parts) (failure : Option Failure) (q : Packet) (rows : AreRowsFor parts q.to) (steps : ℕ) (lives : Lives parts failure q steps) (going : q.state ≡ states.Going) where
   small : length parts.island.ids ≤ length parts.area.ids
-  small = island_small parts are.kept
+  small = island_small parts are
 
   -- why it is lost, by the loss
   inside_then : (outcome : Outcome) → IsHandled parts failure q outcome → outcome ≡ Lost losses.Inside → failure ≡ Some (failures.Node q.place)
@@ -88,7 +89,7 @@ module _ (parts : FabricParts) (are : AreFabricParts parts) (failure : Option Fa
       go (HasEnded ended few never) = ended going
       go (OnPrimary visited mode going' differ below count farther) = cc
       go (OnEntered c' mode going' left few) = cc
-      go (OnSwitched c' mode going' left few avoids) = switched_stays parts are.kept small c' failure q left lives.kept going mode avoids (Lost loss) loss refl handled
+      go (OnSwitched c' mode going' left few avoids) = switched_stays parts are small c' failure q left lives.kept going mode avoids (Lost loss) loss refl handled
 
   color_then : (outcome : Outcome) → IsHandled parts failure q outcome → outcome ≡ Lost losses.ColorCut → ((color : Color) × (q.mode ≡ modes.Entered color)) × IsCutOff parts failure q
   color_then outcome (AtFailed is) e = cc
@@ -124,8 +125,8 @@ module _ (parts : FabricParts) (are : AreFabricParts parts) (failure : Option Fa
       link_no_node (Some k) e = cc
   neither n d at to (failures.Node s) kept stands other (elements.Link e) is = tt
   neither n d at to (failures.Node s) kept stands other (elements.Node y) is = (
-    λ same. stands (kept ∙ ap (λ (v : ℕ). Some (failures.Node v)) (one_spot parts are.kept s q.place n (node_is (node_at parts s) refl is ∙ ap (λ (v : ℕ). Some v) same) at)),
-    λ same. other (kept ∙ ap (λ (v : ℕ). Some (failures.Node v)) (one_spot parts are.kept s q.to d (node_is (node_at parts s) refl is ∙ ap (λ (v : ℕ). Some v) same) to)),
+    λ same. stands (kept ∙ ap (λ (v : ℕ). Some (failures.Node v)) (one_spot parts are s q.place n (node_is (node_at parts s) refl is ∙ ap (λ (v : ℕ). Some v) same) at)),
+    λ same. other (kept ∙ ap (λ (v : ℕ). Some (failures.Node v)) (one_spot parts are s q.to d (node_is (node_at parts s) refl is ∙ ap (λ (v : ℕ). Some v) same) to)),
   )
     where
       node_is : (o : Option ℕ) → node_at parts s ≡ o → ◌≡◌ {A = Option Element} (option_map (λ n. elements.Node n) o) (Some (elements.Node y)) → node_at parts s ≡ Some y
@@ -134,8 +135,8 @@ module _ (parts : FabricParts) (are : AreFabricParts parts) (failure : Option Fa
 
   sound : (n d : ℕ) → node_at parts q.place ≡ Some n → node_at parts q.to ≡ Some d → SoundFor parts.island.links (length parts.island.ids) parts.rows n d
   sound n d at to =
-      sound_for parts n d (served_to parts are q.to d to) (node_within parts are.kept q.place n at) (node_within parts are.kept q.to d to)
-      (λ same. lives.kept.apart going (one_spot parts are.kept q.place q.to d (at ∙ ap (λ (v : ℕ). Some v) same) to))
+      sound_for parts n d (rows d to) (node_within parts are q.place n at) (node_within parts are q.to d to)
+      (λ same. lives.kept.apart going (one_spot parts are q.place q.to d (at ∙ ap (λ (v : ℕ). Some v) same) to))
 
   separated : IsCutOff parts failure q → IsRepairedBy parts failure q None → IsSeparated parts failure q
   separated off by = go (element_at parts by.failed) None refl refl by.is
@@ -186,12 +187,12 @@ module _ (parts : FabricParts) (are : AreFabricParts parts) (failure : Option Fa
   used off color mode = go failure refl off.cut
     where
       left : IsLeft parts color q
-      left = left_now parts are.kept color q (served_to parts are q.to) lives.kept going (λ primary. cc)
+      left = left_now parts are color q rows lives.kept going (λ primary. cc)
 
       go : (failure' : Option Failure) → failure ≡ failure' → IsCut failure' off.hop → IsOnWalk parts failure q color
       go None kept cut = absurd cut
       go (Some failed) kept cut =
-          let on = step_on parts are.kept small color q lives.kept going left off.hop (color_hop_of parts color q.mode q.place q.to off.hop (inl mode) off.has.is) in
+          let on = step_on parts are small color q lives.kept going left off.hop (color_hop_of parts color q.mode q.place q.to off.hop (inl mode) off.has.is) in
           let ahead = on.ahead failed cut in
           record {
             at = left.n;
@@ -199,7 +200,7 @@ module _ (parts : FabricParts) (are : AreFabricParts parts) (failure : Option Fa
             inside = record { place = left.at; destination = left.to };
             x = ahead.x;
             failed = (failed, kept, ahead.is);
-            uses = on_walk parts are.kept color left.d left.n left.hops (node_within parts are.kept q.place left.n left.at) left.follows left.differ ahead.x (on_ahead left.n left.hops ahead.x ahead.ahead);
+            uses = on_walk parts are color left.d left.n left.hops (node_within parts are q.place left.n left.at) left.follows left.differ ahead.x (on_ahead left.n left.hops ahead.x ahead.ahead);
           }
 
   pub caused : (outcome : Outcome) → IsHandled parts failure q outcome → LossCauses parts failure q outcome
@@ -214,7 +215,7 @@ module _ (parts : FabricParts) (are : AreFabricParts parts) (failure : Option Fa
   }
     where
       one : (other : Outcome) → IsHandled parts failure q other → outcome ≡ other
-      one other is = one_outcome parts are.kept failure q outcome other handled is
+      one other is = one_outcome parts are failure q outcome other handled is
 
 -- a step that is answered handles a packet that is going
 handled_by : (parts : FabricParts) (failure : Option Failure) (there : Option Packet) (packet : Packet) (answer : Answer) (outcome : Outcome) → there ≡ Some packet
@@ -229,16 +230,16 @@ handled_by parts failure there packet answer outcome is same (Answered q other g
     )
 
 -- in each run from the start
-pub run_caused : (parts : FabricParts) → AreFabricParts parts → (room : ℕ) (events : List Event) (answers : List Answer) (end : FabricState) → IsRun parts (start room) events answers end
+pub run_caused : (parts : FabricParts) → ArePartsKept parts → (room : ℕ) (events : List Event) (answers : List Answer) (end : FabricState) → AreRowsOn parts events → IsRun parts (start room) events answers end
     → (p : ℕ) (packet : Packet) → slice_get end.packets p ≡ Some packet → (outcome : Outcome) (new : FabricState) → FabricStep parts end (Step p) (Ok outcome) new
     → LossCauses parts end.failure packet outcome
-run_caused parts are room events answers end run p packet there outcome new step = go (run_lives parts are.kept room events answers end (rows_on parts are events) run p)
+run_caused parts are room events answers end on run p packet there outcome new step = go (run_lives parts are room events answers end on run p)
   where
     by : (packet.state ≡ states.Going) × IsHandled parts end.failure packet outcome
     by = handled_by parts end.failure (slice_get end.packets p) packet (Ok outcome) outcome there refl step.answers
 
     go : IsAt parts p end (steps_of p events answers) → LossCauses parts end.failure packet outcome
     go (Unmade none count) = cc
-    go (Living q is served lives) =
+    go (Living q is has_rows lives) =
         let same : q ≡ packet = same_Some _ _ (sym is ∙ there) in
-        caused parts are end.failure packet (steps_of p events answers) (subst (λ (x : Packet). Lives parts end.failure x (steps_of p events answers)) same lives) by.0 outcome by.1
+        caused parts are end.failure packet (subst (λ (x : Packet). AreRowsFor parts x.to) same has_rows) (steps_of p events answers) (subst (λ (x : Packet). Lives parts end.failure x (steps_of p events answers)) same lives) by.0 outcome by.1

@@ -59,21 +59,28 @@ mode_on a b c (inl same) (inr (primary, later)) = inr (sym same ∙ primary, lat
 mode_on a b c (inr (primary, (color, is))) (inl same') = inr (primary, (color, same' ∙ is))
 mode_on a b c (inr (primary, (color, is))) (inr (primary', later)) = cc
 
+-- its destination stays
+pub rows_next : (parts : FabricParts) (q r : Packet) → Next parts q r → AreRowsFor parts q.to → AreRowsFor parts r.to
+rows_next parts q r (ByMove hop is other same) rows = subst (λ (p : Packet). AreRowsFor parts p.to) (sym same) rows
+rows_next parts q r (ByArrival hop is here same) rows = subst (λ (p : Packet). AreRowsFor parts p.to) (sym same) rows
+rows_next parts q r (ByLoss loss same) rows = subst (λ (p : Packet). AreRowsFor parts p.to) (sym same) rows
+rows_next parts q r (BySwitch color primary place to same) rows = subst (λ (p : Packet). AreRowsFor parts p.to) (sym same) rows
+
 module _ (parts : FabricParts) (are : ArePartsKept parts) where
   -- what is left of the way of a packet on a color
   pub left_now : (color : Color) (q : Packet) → AreRowsFor parts q.to → IsKeptPacket parts q → q.state ≡ states.Going → q.mode ≢ modes.Primary → IsLeft parts color q
-  left_now color q served kept going mode =
+  left_now color q rows kept going mode =
       let n = inside_is (node_at parts q.place) (kept.place_inside mode) in
       let d = inside_is (node_at parts q.to) (kept.to_inside mode) in
-      whole_way parts are (island_small parts are) color q n.0 d.0 served kept (kept.apart going) n.1 d.1
+      whole_way parts are (island_small parts are) color q n.0 d.0 rows kept (kept.apart going) n.1 d.1
 
   -- what is kept of a packet
   pub kept_next : (q r : Packet) → AreRowsFor parts q.to → IsKeptPacket parts q → q.state ≡ states.Going → Next parts q r → IsKeptPacket parts r
-  kept_next q r served kept going (ByMove hop is other same) = subst (λ (p : Packet). IsKeptPacket parts p) (sym same) (go q.mode refl is)
+  kept_next q r rows kept going (ByMove hop is other same) = subst (λ (p : Packet). IsKeptPacket parts p) (sym same) (go q.mode refl is)
     where
       on_color : (color : Color) → (q.mode ≡ modes.Entered color) ⊎ (q.mode ≡ modes.Switched color) → q.mode ≢ modes.Primary → IsKeptPacket parts (record q { place = hop.next })
       on_color color mode other' =
-          let left = left_now color q served kept going other' in
+          let left = left_now color q rows kept going other' in
           color_kept parts are (island_small parts are) color q left hop kept
           (step_on parts are (island_small parts are) color q kept going left hop (color_hop_of parts color q.mode q.place q.to hop mode is)) other
 
@@ -83,8 +90,8 @@ module _ (parts : FabricParts) (are : ArePartsKept parts) where
           moved_kept parts are (island_small parts are) q hop kept near.within (λ color. absurd (color mode)) (router_there parts are (island_small parts are) q.to hop.next near.ends other) other
       go (modes.Entered color) mode is = on_color color (inl mode) (λ primary. cc)
       go (modes.Switched color) mode is = on_color color (inr mode) (λ primary. cc)
-  kept_next q r served kept going (ByArrival hop is here same) =
+  kept_next q r rows kept going (ByArrival hop is here same) =
       subst (λ (p : Packet). IsKeptPacket parts p) (sym same) (delivered_kept parts are (island_small parts are) q kept)
-  kept_next q r served kept going (ByLoss loss same) = subst (λ (p : Packet). IsKeptPacket parts p) (sym same) (ended_kept parts are (island_small parts are) q kept loss)
-  kept_next q r served kept going (BySwitch color primary place to same) =
+  kept_next q r rows kept going (ByLoss loss same) = subst (λ (p : Packet). IsKeptPacket parts p) (sym same) (ended_kept parts are (island_small parts are) q kept loss)
+  kept_next q r rows kept going (BySwitch color primary place to same) =
       subst (λ (p : Packet). IsKeptPacket parts p) (sym same) (switched_kept parts are (island_small parts are) q color kept place to)

@@ -6,7 +6,7 @@ use Rattle.std.proofs.lemmas.Bool.{and_parts, not-true}
 use Rattle.std.proofs.lemmas.List.Kept.{AllPairs-cons}
 use Rattle.std.proofs.lemmas.Option.{same_Some}
 use Rattle.fabric.specs.Course.{KeepsMode, is_lost, is_on_color, is_primary, visits}
-use Rattle.fabric.specs.FabricParts.{AreFabricParts, FabricParts, node_at}
+use Rattle.fabric.specs.FabricParts.{ArePartsKept, AreRowsFor, FabricParts, node_at}
 use Rattle.fabric.specs.KeptState.{IsKeptPacket}
 use Rattle.fabric.specs.PacketHop.{IsHop, PacketHop}
 use Rattle.fabric.specs.declared.packet.Mode.{Mode}
@@ -16,8 +16,7 @@ use Rattle.fabric.specs.declared.packet.State.TheVariants as states
 use Rattle.fabric.proofs.ColorHops.{Onward}
 use Rattle.fabric.proofs.Life.{IsFarther, IsLeft, color_hop_of, left_after, step_on}
 use Rattle.fabric.proofs.Nearer.{Nearer, nearer_hop}
-use Rattle.fabric.proofs.PacketChains.{ByArrival, ByLoss, ByMove, BySwitch, Chain, Next, kept_next, left_now, mode_next, mode_on}
-use Rattle.fabric.proofs.ServedRows.{served_to}
+use Rattle.fabric.proofs.PacketChains.{ByArrival, ByLoss, ByMove, BySwitch, Chain, Next, kept_next, left_now, mode_next, mode_on, rows_next}
 use Rattle.fabric.proofs.SmallIslands.{island_small}
 use Rattle.mrt_graph.specs.Reaches.{AreDifferent}
 use Rattle.mrt_graph.specs.declared.cert.Color.{Color}
@@ -85,19 +84,19 @@ none_primary parts q rest chain mode y has =
       | inr switched ↦ mode switched.0
     ]
 
-module _ (parts : FabricParts) (are : AreFabricParts parts) where
+module _ (parts : FabricParts) (are : ArePartsKept parts) where
   ended_visits : (test : Mode → Bool) (r : Packet) (rest : List Packet) → Chain parts r rest → r.state ≢ states.Going → (y : ℕ) → Has (visits test rest) y → ⊥
   ended_visits test r [] chain ended y has = absurd has
   ended_visits test r (p ∷ rest) chain ended y has = ended chain.0
 
   -- in primary mode each later place is nearer
-  later_primary : (q : Packet) (rest : List Packet) → Chain parts q rest → IsKeptPacket parts q → q.mode ≡ modes.Primary → (y : ℕ) → Has (visits is_primary rest) y
+  later_primary : (q : Packet) (rest : List Packet) → Chain parts q rest → IsKeptPacket parts q → AreRowsFor parts q.to → q.mode ≡ modes.Primary → (y : ℕ) → Has (visits is_primary rest) y
       → IsFarther parts q.to q.place y
-  later_primary q [] chain kept mode y has = absurd has
-  later_primary q (r ∷ rest) chain kept mode y has = go chain.1 (visit_cases is_primary r rest y has) (later_primary r rest chain.2 (kept_next parts are.kept q r (served_to parts are q.to) kept chain.0 chain.1))
+  later_primary q [] chain kept rows mode y has = absurd has
+  later_primary q (r ∷ rest) chain kept rows mode y has = go chain.1 (visit_cases is_primary r rest y has) (later_primary r rest chain.2 (kept_next parts are q r rows kept chain.0 chain.1) (rows_next parts q r chain.1 rows))
     where
       near_of : (hop : PacketHop) → IsHop parts q.mode q.place q.to hop → Nearer parts q.place q.to hop
-      near_of hop is = nearer_hop parts are.kept q.place q.to hop (kept.router chain.0) (subst (λ (m : Mode). IsHop parts m q.place q.to hop) mode is)
+      near_of hop is = nearer_hop parts are q.place q.to hop (kept.router chain.0) (subst (λ (m : Mode). IsHop parts m q.place q.to hop) mode is)
 
       one : (hop : PacketHop) (near : Nearer parts q.place q.to hop) → hop.next ≡ y → IsFarther parts q.to q.place y
       one hop near same = subst (λ (v : ℕ). IsFarther parts q.to q.place v) same (record { far = near.distance; far_is = near.is; near = near.rest; near_is = near.rest_is; falls = near.falls })
@@ -128,15 +127,15 @@ module _ (parts : FabricParts) (are : AreFabricParts parts) where
           absurd (none_primary parts r rest chain.2 (λ primary'. let switched = ap (λ (p : Packet). p.mode) same in cc) y later)
 
   -- on a color each later place is ahead on its way
-  later_color : (color : Color) (q : Packet) (rest : List Packet) → Chain parts q rest → IsKeptPacket parts q → (q.mode ≡ modes.Entered color) ⊎ (q.mode ≡ modes.Switched color)
+  later_color : (color : Color) (q : Packet) (rest : List Packet) → Chain parts q rest → IsKeptPacket parts q → AreRowsFor parts q.to → (q.mode ≡ modes.Entered color) ⊎ (q.mode ≡ modes.Switched color)
       → (left : IsLeft parts color q) → (y : ℕ) → Has (visits is_on_color rest) y → (m : ℕ) × (node_at parts y ≡ Some m) × Has (nodes_behind left.hops) m
-  later_color color q [] chain kept mode left y has = absurd has
-  later_color color q (r ∷ rest) chain kept mode left y has =
+  later_color color q [] chain kept rows mode left y has = absurd has
+  later_color color q (r ∷ rest) chain kept rows mode left y has =
       go chain.1 (visit_cases is_on_color r rest y has)
-      (λ mode' left'. later_color color r rest chain.2 (kept_next parts are.kept q r (served_to parts are q.to) kept chain.0 chain.1) mode' left' y)
+      (λ mode' left'. later_color color r rest chain.2 (kept_next parts are q r rows kept chain.0 chain.1) (rows_next parts q r chain.1 rows) mode' left' y)
     where
       on_of : (hop : PacketHop) → IsHop parts q.mode q.place q.to hop → Onward parts color q.to hop left.d left.hops
-      on_of hop is = step_on parts are.kept (island_small parts are.kept) color q kept chain.0 left hop (color_hop_of parts color q.mode q.place q.to hop mode is)
+      on_of hop is = step_on parts are (island_small parts are) color q kept chain.0 left hop (color_hop_of parts color q.mode q.place q.to hop mode is)
 
       here_is : (hop : PacketHop) (on : Onward parts color q.to hop left.d left.hops) → hop.next ≡ y → (m : ℕ) × (node_at parts y ≡ Some m) × Has (nodes_behind left.hops) m
       here_is hop on same = (on.m, subst (λ (v : ℕ). node_at parts v ≡ Some on.m) same on.at, on.nodes on.m (inl refl))
@@ -148,7 +147,7 @@ module _ (parts : FabricParts) (are : AreFabricParts parts) where
       go (ByMove hop is other same) (inl here) further = here_is hop (on_of hop is) (sym (ap (λ (p : Packet). p.place) same) ∙ here.2)
       go (ByMove hop is other same) (inr later) further =
           let on = on_of hop is in
-          let left' : IsLeft parts color (record q { place = hop.next }) = left_after parts are.kept (island_small parts are.kept) color q left hop on in
+          let left' : IsLeft parts color (record q { place = hop.next }) = left_after parts are (island_small parts are) color q left hop on in
           let further' : (q.mode ≡ modes.Entered color) ⊎ (q.mode ≡ modes.Switched color) → (left'' : IsLeft parts color (record q { place = hop.next })) → (m : ℕ) × (node_at parts y ≡ Some m) × Has (nodes_behind left''.hops) m =
           subst (λ (p : Packet). (p.mode ≡ modes.Entered color) ⊎ (p.mode ≡ modes.Switched color) → (left'' : IsLeft parts color p) → (m : ℕ) × (node_at parts y ≡ Some m) × Has (nodes_behind left''.hops) m) same
           (λ m l. further m l later) in
@@ -164,16 +163,16 @@ module _ (parts : FabricParts) (are : AreFabricParts parts) where
       go (BySwitch c primary place to same) visit further = absurd (elim mode [ inl entered ↦ cc | inr switched ↦ cc ])
 
   -- no place twice in primary mode
-  pub primary_differ : (q : Packet) (rest : List Packet) → Chain parts q rest → IsKeptPacket parts q → Differ (visits is_primary (q ∷ rest))
-  primary_differ q [] chain kept = visits_differ is_primary q [] (λ is has. absurd has) tt
-  primary_differ q (r ∷ rest) chain kept =
+  pub primary_differ : (q : Packet) (rest : List Packet) → Chain parts q rest → IsKeptPacket parts q → AreRowsFor parts q.to → Differ (visits is_primary (q ∷ rest))
+  primary_differ q [] chain kept rows = visits_differ is_primary q [] (λ is has. absurd has) tt
+  primary_differ q (r ∷ rest) chain kept rows =
       visits_differ is_primary q (r ∷ rest)
       (λ is has.
-      let f = later_primary q (r ∷ rest) chain kept (primary_is q.mode is) q.place has in
+      let f = later_primary q (r ∷ rest) chain kept rows (primary_is q.mode is) q.place has in
       let same : f.far ≡ f.near = one_distance parts.area.arcs q.place q.to f.far f.near f.far_is f.near_is in
       let falls = f.falls in
       omega (arith, same, falls))
-      (primary_differ r rest chain.2 (kept_next parts are.kept q r (served_to parts are q.to) kept chain.0 chain.1))
+      (primary_differ r rest chain.2 (kept_next parts are q r rows kept chain.0 chain.1) (rows_next parts q r chain.1 rows))
 
   on_some : (mode : Mode) → is_on_color mode ≡ true → (color : Color) × ((mode ≡ modes.Entered color) ⊎ (mode ≡ modes.Switched color))
   on_some modes.Primary is = cc
@@ -181,17 +180,17 @@ module _ (parts : FabricParts) (are : AreFabricParts parts) where
   on_some (modes.Switched color) is = (color, inr refl)
 
   -- no place twice on a color
-  pub color_differ : (q : Packet) (rest : List Packet) → Chain parts q rest → IsKeptPacket parts q → Differ (visits is_on_color (q ∷ rest))
-  color_differ q [] chain kept = visits_differ is_on_color q [] (λ is has. absurd has) tt
-  color_differ q (r ∷ rest) chain kept =
+  pub color_differ : (q : Packet) (rest : List Packet) → Chain parts q rest → IsKeptPacket parts q → AreRowsFor parts q.to → Differ (visits is_on_color (q ∷ rest))
+  color_differ q [] chain kept rows = visits_differ is_on_color q [] (λ is has. absurd has) tt
+  color_differ q (r ∷ rest) chain kept rows =
       visits_differ is_on_color q (r ∷ rest)
       (λ is has.
       let on = on_some q.mode is in
-      let left = left_now parts are.kept on.0 q (served_to parts are q.to) kept chain.0 (not_primary q.mode (not-true (is_primary q.mode) is)) in
-      let found = later_color on.0 q (r ∷ rest) chain kept on.1 left q.place has in
+      let left = left_now parts are on.0 q rows kept chain.0 (not_primary q.mode (not-true (is_primary q.mode) is)) in
+      let found = later_color on.0 q (r ∷ rest) chain kept rows on.1 left q.place has in
       let same : found.0 ≡ left.n = same_Some _ _ (sym found.1 ∙ left.at) in
       left.differ.0 (subst (λ (m : ℕ). Has (nodes_behind left.hops) m) same found.2))
-      (color_differ r rest chain.2 (kept_next parts are.kept q r (served_to parts are q.to) kept chain.0 chain.1))
+      (color_differ r rest chain.2 (kept_next parts are q r rows kept chain.0 chain.1) (rows_next parts q r chain.1 rows))
 
 -- from members to places
 at_place : {X : Type 0} (xs : List X) (d : X) (k : ℕ) → k < length xs → Has xs (get_or xs k d)

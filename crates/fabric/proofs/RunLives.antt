@@ -40,13 +40,13 @@ module _ (parts : FabricParts) (are : ArePartsKept parts) (p : ℕ) where
   -- where nothing changes of the packet and the failure
   stays : (old new : FabricState) (steps : ℕ) → slice_get new.packets p ≡ slice_get old.packets p → new.failure ≡ old.failure → IsAt parts p old steps → IsAt parts p new steps
   stays old new steps same failure (Unmade none count) = Unmade (same ∙ none) count
-  stays old new steps same failure (Living q there served lives) = Living q (same ∙ there) served (same_failure old.failure new.failure q steps failure lives)
+  stays old new steps same failure (Living q there rows lives) = Living q (same ∙ there) rows (same_failure old.failure new.failure q steps failure lives)
 
   fails : (old new : FabricState) (failed : Failure) (steps : ℕ) → slice_get new.packets p ≡ slice_get old.packets p → old.failure ≡ None → new.failure ≡ Some failed
       → IsAt parts p old steps → IsAt parts p new steps
   fails old new failed steps same none kept (Unmade nothing count) = Unmade (same ∙ nothing) count
-  fails old new failed steps same none kept (Living q there served lives) =
-      Living q (same ∙ there) served (same_failure (Some failed) new.failure q steps kept (life_fails parts failed q steps (same_failure old.failure None q steps (sym none) lives)))
+  fails old new failed steps same none kept (Living q there rows lives) =
+      Living q (same ∙ there) rows (same_failure (Some failed) new.failure q steps kept (life_fails parts failed q steps (same_failure old.failure None q steps (sym none) lives)))
 
   goes_on : (old new : FabricState) (event : Event) (answer : Answer) (steps : ℕ) → ((at to : ℕ) (entry : Entry) → event ≡ Inject at to entry → AreRowsFor parts to)
       → Effect parts p old new event answer → IsAt parts p old steps
@@ -59,17 +59,17 @@ module _ (parts : FabricParts) (are : ArePartsKept parts) (p : ℕ) where
       made : IsAt parts p old steps → IsAt parts p new steps
       made (Unmade nothing count) =
           Living (entering from t entry) there (enters from t entry is) (same_failure old.failure new.failure (entering from t entry) steps failure (subst (λ (k : ℕ). Lives parts old.failure (entering from t entry) k) (sym count) (life_begins parts are (island_small parts are) old.failure from t entry (enters from t entry is) may)))
-      made (Living q before served lives) = cc
+      made (Living q before rows lives) = cc
   goes_on old new event answer steps enters (Handled q outcome there going handled now failure to) at = rw to.handles_is (handle at)
     where
       handle : IsAt parts p old steps → IsAt parts p new (steps + 1)
       handle (Unmade nothing count) = cc
-      handle (Living q' before served lives) =
+      handle (Living q' before rows lives) =
           let same : q' ≡ q = same_Some _ _ (sym before ∙ there) in
-          let rows : AreRowsFor parts q.to = subst (λ (r : Packet). AreRowsFor parts r.to) same served in
-          Living (packet_after outcome q) now (subst (λ (t : ℕ). AreRowsFor parts t) (sym (to_stays outcome q)) rows)
+          let still : AreRowsFor parts q.to = subst (λ (r : Packet). AreRowsFor parts r.to) same rows in
+          Living (packet_after outcome q) now (subst (λ (t : ℕ). AreRowsFor parts t) (sym (to_stays outcome q)) still)
           (same_failure old.failure new.failure (packet_after outcome q) (steps + 1) failure
-          (life_after parts are (island_small parts are) old.failure q steps rows (subst (λ (r : Packet). Lives parts old.failure r steps) same lives) going outcome handled))
+          (life_after parts are (island_small parts are) old.failure q steps still (subst (λ (r : Packet). Lives parts old.failure r steps) same lives) going outcome handled))
 
   pub at_step : (old next : FabricState) (event : Event) (answer : Answer) (steps : ℕ) → ((at to : ℕ) (entry : Entry) → event ≡ Inject at to entry → AreRowsFor parts to)
       → FabricStep parts old event answer next → IsAt parts p old steps
@@ -113,20 +113,20 @@ module _ (parts : FabricParts) (are : ArePartsKept parts) (room : ℕ) (events :
 
       go : IsAt parts p end (steps_of p events answers) → ⊥
       go (Unmade none count) = cc
-      go (Living q is served lives) = lost q (steps_of p events answers) (same_Some _ _ (sym is ∙ there)) lives.life
+      go (Living q is rows lives) = lost q (steps_of p events answers) (same_Some _ _ (sym is ∙ there)) lives.life
 
   pub few_steps : steps_of p events answers ≤ 2 * (length parts.area.ids - 1)
   few_steps = go (run_lives parts are room events answers end on run p)
     where
       go : IsAt parts p end (steps_of p events answers) → steps_of p events answers ≤ most parts
       go (Unmade none count) = omega (arith, count)
-      go (Living q is served lives) = life_most parts are (island_small parts are) end.failure q (steps_of p events answers) lives
+      go (Living q is rows lives) = life_most parts are (island_small parts are) end.failure q (steps_of p events answers) lives
 
   pub steps_left : (packet : Packet) → slice_get end.packets p ≡ Some packet → packet.state ≡ states.Going → steps_of p events answers < 2 * (length parts.area.ids - 1)
   steps_left packet there going = go (run_lives parts are room events answers end on run p)
     where
       go : IsAt parts p end (steps_of p events answers) → steps_of p events answers < most parts
       go (Unmade none count) = cc
-      go (Living q is served lives) =
+      go (Living q is rows lives) =
           let same : q ≡ packet = same_Some _ _ (sym is ∙ there) in
           life_below parts are (island_small parts are) end.failure q (steps_of p events answers) lives (ap (λ (x : Packet). x.state) same ∙ going)

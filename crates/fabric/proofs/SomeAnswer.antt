@@ -3,12 +3,13 @@ use Rattle.std.proofs.Common.{◌≡◌, ◌≢◌, ◌⊎◌, ◌<◌, ◌∙�
 use Rattle.std.proofs.lemmas.Bool.{cases_eq, cases_lt}
 use Rattle.fabric.specs.Answers.{Answered, FailedBefore, GetsNumber, HasElement, HasEnded, IsAnswer, IsFailAnswer, IsInjectAnswer, IsKept, IsStepAnswer, MayNotEnter, NoPacket, NoRoom, NotThere}
 use Rattle.fabric.specs.Course.{steps_of}
-use Rattle.fabric.specs.FabricParts.{AreFabricParts, FabricParts, element_at, node_at}
+use Rattle.fabric.specs.FabricParts.{ArePartsKept, AreRowsFor, FabricParts, element_at, node_at}
 use Rattle.fabric.specs.FabricState.{Answer, FabricState, start}
 use Rattle.fabric.specs.Handling.{Arrives, AtDestination, AtFailed, HasHop, IsCutOff, IsHandled, IsRepairedBy, IsUnreachable, Moves, OnColor, OutsideIsland, Repaired, Unreachable, Unrepaired}
 use Rattle.fabric.specs.KeptState.{IsKeptPacket}
 use Rattle.fabric.specs.PacketHop.{IsCut, IsHop, One, PacketHop, Two}
 use Rattle.fabric.specs.Runs.{IsRun}
+use Rattle.fabric.specs.Served.{AreRowsOn}
 use Rattle.fabric.specs.declared.event.Event.{Event}
 use Rattle.fabric.specs.declared.event.Event.TheVariants.{Fail, Inject, Step}
 use Rattle.fabric.specs.declared.event.Failure.{Failure}
@@ -23,7 +24,6 @@ use Rattle.fabric.specs.declared.packet.Entry.{Entry}
 use Rattle.fabric.proofs.EnterOrNot.{element_or_not, may_or_not}
 use Rattle.fabric.proofs.PacketChains.{left_now}
 use Rattle.fabric.proofs.RunLives.{IsAt, Living, Unmade, run_lives}
-use Rattle.fabric.proofs.ServedRows.{rows_on, served_to}
 use Rattle.fabric.proofs.SomeHop.{cut_or_not, kept_or_not, some_alternate, some_color_hop}
 use Rattle.mrt_graph.specs.Alternate.{IsAlternate}
 use Rattle.mrt_graph.specs.declared.cert.Color.{Color}
@@ -32,9 +32,9 @@ use Rattle.primary_alt.specs.Routers.{IsRouter}
 use Rattle.primary_alt.proofs.RouterFacts.{router_from}
 use Rattle.primary_alt.specs.declared.shortest.Primary.{Primary}
 
-module _ (parts : FabricParts) (are : AreFabricParts parts) (entries : ℕ → ℕ → Option Primary)
+module _ (parts : FabricParts) (are : ArePartsKept parts) (entries : ℕ → ℕ → Option Primary)
     (primaries : (s t : ℕ) → IsRouter parts.area.ids s → t < length parts.area.ids → IsPrimary parts.area s t (entries s t))
-    (failure : Option Failure) (q : Packet) (kept : IsKeptPacket parts q) (going : q.state ≡ states.Going) where
+    (failure : Option Failure) (q : Packet) (rows : AreRowsFor parts q.to) (kept : IsKeptPacket parts q) (going : q.state ≡ states.Going) where
   -- a hop, or no walk
   hop_or_none : (mode : Mode) → q.mode ≡ mode → ((hop : PacketHop) × IsHop parts mode q.place q.to hop) ⊎ ((mode ≡ modes.Primary) × IsUnreachable parts.area q.place q.to)
   hop_or_none modes.Primary is = go (entries q.place q.to) (primaries q.place q.to (router_from parts.area.ids q.place kept.place (kept.router going)) kept.to)
@@ -46,11 +46,11 @@ module _ (parts : FabricParts) (are : AreFabricParts parts) (entries : ℕ → �
       go entry (Direct n arc apart first direct) = inl (_, record { primary = _; is = Direct n arc apart first direct; elements = One arc first.there; next = refl })
       go entry (Over n k arc onward apart first over second) = inl (_, record { primary = _; is = Over n k arc onward apart first over second; elements = Two k arc onward first.there second.there; next = refl })
   hop_or_none (modes.Entered color) is =
-      let left = left_now parts are.kept color q (served_to parts are q.to) kept going (λ primary. let e = sym is ∙ primary in cc) in
-      inl (some_color_hop parts are.kept color q.place q.to left.n left.d left.hops left.at left.to (kept.apart going) left.follows)
+      let left = left_now parts are color q rows kept going (λ primary. let e = sym is ∙ primary in cc) in
+      inl (some_color_hop parts are color q.place q.to left.n left.d left.hops left.at left.to (kept.apart going) left.follows)
   hop_or_none (modes.Switched color) is =
-      let left = left_now parts are.kept color q (served_to parts are q.to) kept going (λ primary. let e = sym is ∙ primary in cc) in
-      inl (some_color_hop parts are.kept color q.place q.to left.n left.d left.hops left.at left.to (kept.apart going) left.follows)
+      let left = left_now parts are color q rows kept going (λ primary. let e = sym is ∙ primary in cc) in
+      inl (some_color_hop parts are color q.place q.to left.n left.d left.hops left.at left.to (kept.apart going) left.follows)
 
   -- after a cut in primary mode
   repaired : IsCutOff parts failure q → q.mode ≡ modes.Primary → (failed : Failure) → failure ≡ Some failed → (n d : Option ℕ) → node_at parts q.place ≡ n → node_at parts q.to ≡ d
@@ -125,20 +125,20 @@ some_fail parts failure failed = elim (element_or_not parts failed) [
     go (Some other) is has = (_, FailedBefore has (λ none. let e = sym is ∙ none in cc))
 
 -- after each run from the start
-pub some_answer : (parts : FabricParts) → AreFabricParts parts → (entries : ℕ → ℕ → Option Primary)
+pub some_answer : (parts : FabricParts) → ArePartsKept parts → (entries : ℕ → ℕ → Option Primary)
     → ((s t : ℕ) → IsRouter parts.area.ids s → t < length parts.area.ids → IsPrimary parts.area s t (entries s t))
-    → (room : ℕ) (events : List Event) (answers : List Answer) (end : FabricState) → IsRun parts (start room) events answers end
+    → (room : ℕ) (events : List Event) (answers : List Answer) (end : FabricState) → AreRowsOn parts events → IsRun parts (start room) events answers end
     → (event : Event) → (answer : Answer) × IsAnswer parts end event answer
-some_answer parts are entries primaries room events answers end run (Inject at to entry) = some_inject parts end at to entry
-some_answer parts are entries primaries room events answers end run (Fail failed) = some_fail parts end.failure failed
-some_answer parts are entries primaries room events answers end run (Step p) = go (run_lives parts are.kept room events answers end (rows_on parts are events) run p)
+some_answer parts are entries primaries room events answers end on run (Inject at to entry) = some_inject parts end at to entry
+some_answer parts are entries primaries room events answers end on run (Fail failed) = some_fail parts end.failure failed
+some_answer parts are entries primaries room events answers end on run (Step p) = go (run_lives parts are room events answers end on run p)
   where
-    answer_of : (q : Packet) → IsKeptPacket parts q → (answer : Answer) × IsStepAnswer parts end.failure (Some q) answer
-    answer_of q kept = elim (going_or_not q.state) [
-      | inl going ↦ let found = some_outcome parts are entries primaries end.failure q kept going in (_, Answered q found.0 going found.1)
+    answer_of : (q : Packet) → AreRowsFor parts q.to → IsKeptPacket parts q → (answer : Answer) × IsStepAnswer parts end.failure (Some q) answer
+    answer_of q rows kept = elim (going_or_not q.state) [
+      | inl going ↦ let found = some_outcome parts are entries primaries end.failure q rows kept going in (_, Answered q found.0 going found.1)
       | inr ended ↦ (_, HasEnded q ended)
     ]
 
     go : IsAt parts p end (steps_of p events answers) → (answer : Answer) × IsStepAnswer parts end.failure (slice_get end.packets p) answer
     go (Unmade none count) = rw none (_, NoPacket)
-    go (Living q is served lives) = rw is (answer_of q lives.kept)
+    go (Living q is has_rows lives) = rw is (answer_of q has_rows lives.kept)

@@ -1,5 +1,5 @@
 -- What the steps of packets read.
-use Rattle.std.specs.Prelude.{◌≡◌, ◌<◌, ℕ, List, Option, Some, length, slice_get}
+use Rattle.std.specs.Prelude.{◌≡◌, ℕ, List, Option, Some, slice_get}
 use Rattle.std.specs.Option.{option_and_then, option_map}
 use Rattle.area_graph.specs.AreaInvariant.{IsArea}
 use Rattle.area_graph.specs.Fits.{Fits}
@@ -10,7 +10,7 @@ use Rattle.fabric.specs.declared.event.Failure.TheVariants as failures
 use Rattle.mrt_graph.specs.AcceptedFor.{IsAcceptedFor}
 use Rattle.mrt_graph.specs.Certificate.{Certificate, row_of}
 use Rattle.mrt_graph.specs.GraphInvariant.{IsTopology}
-use Rattle.mrt_graph.specs.Rows.{Rows}
+use Rattle.mrt_graph.specs.Rows.{AreSameFor, Rows}
 use Rattle.mrt_graph.specs.Topology.{Topology}
 use Rattle.mrt_graph.specs.declared.link.Element.{Element}
 use Rattle.mrt_graph.specs.declared.link.Element.TheVariants as elements
@@ -28,16 +28,11 @@ pub record ArePartsKept (parts : FabricParts) : Type 0 where
   pub island_kept : IsTopology parts.island
   pub fits : Fits parts.area parts.island parts.link_of
 
--- island node d is served: each node has that row for it which it has in a certificate that is accepted for the island
-pub record IsServed (parts : FabricParts) (d : ℕ) : Type 0 where
+-- the rows for island node d are accepted: they are those of a certificate that is accepted for the island
+pub record AreRowsAccepted (parts : FabricParts) (d : ℕ) : Type 0 where
   pub cert : Certificate
   pub accepted : IsAcceptedFor parts.island cert
-  pub same : (s : ℕ) → parts.rows s d ≡ row_of cert s d
-
--- the island fits the area by the list of links, and each of its nodes is served
-pub record AreFabricParts (parts : FabricParts) : Type 0 where
-  pub kept : ArePartsKept parts
-  pub served : (d : ℕ) → d < length parts.island.ids → IsServed parts d
+  pub same : AreSameFor d parts.rows (row_of cert)
 
 -- the island node that a node of the area is: the one with its identifier; none where it is outside the island
 abbrev pub node_at : FabricParts → ℕ → Option ℕ
@@ -52,6 +47,6 @@ abbrev pub element_at : FabricParts → Failure → Option Element
 element_at parts (failures.Node s) = option_map (λ n. elements.Node n) (node_at parts s)
 element_at parts (failures.Bond b) = option_map (λ e. elements.Link e) (link_at parts b)
 
--- node t of the area is served: if it is a node of the island, that one is
+-- there are rows for node t of the area: if it is a node of the island, the rows for this one are accepted
 abbrev pub AreRowsFor : FabricParts → ℕ → Type 0
-AreRowsFor parts t = (d : ℕ) → node_at parts t ≡ Some d → IsServed parts d
+AreRowsFor parts t = (d : ℕ) → node_at parts t ≡ Some d → AreRowsAccepted parts d

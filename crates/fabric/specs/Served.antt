@@ -7,12 +7,13 @@ use Rattle.fabric.specs.declared.packet.Entry.{Entry}
 use Rattle.fabric.specs.declared.packet.Packet.{Packet}
 use Rattle.primary_alt.specs.RouteLists.{HasColumn, RouteLists}
 
--- destination t is served: by rows, if it is a node of the island; and by primaries, if it is a node of the area
+-- destination t is served: there are rows for it, if it is a node of the island, and primaries, if it is a node of the
+-- area
 pub record IsServedBy (parts : FabricParts) (routes : RouteLists) (t : ℕ) : Type 0 where
   pub rows : AreRowsFor parts t
   pub primaries : t < length parts.area.ids → HasColumn routes t
 
--- the destination of each packet that enters by one of the events is served by rows
+-- there are rows for the destination of each packet that enters by one of the events
 abbrev pub AreRowsOn : FabricParts → List Event → Type 0
 AreRowsOn parts events = (at to : ℕ) (entry : Entry) → Contains events (Inject at to entry) → AreRowsFor parts to
 

@@ -18,7 +18,7 @@ use Rattle.primary_alt.specs.RoutesMade.{AreMade}
 pub record FabricTables (R : Type 0) : Type 0 where
   pub area : AreaParts
   pub island : Topology
-  pub source : R
+  pub rows : R
   pub routes : RouteLists
 
 -- a fabric: what it was made with, and its state
@@ -32,14 +32,14 @@ parts_with area island rows routes = record { area = area; island = island; rows
 
 -- what they read of such tables, where the rows of such a source are these
 abbrev pub parts_of : {R : Type 0} → (R → Rows) → FabricTables R → FabricParts
-parts_of rows tables = parts_with tables.area tables.island (rows tables.source) tables.routes
+parts_of rows tables = parts_with tables.area tables.island (rows tables.rows) tables.routes
 
 -- what the parts refer to
 abbrev pub tables_of : {R : Type 0} → Parts R → FabricTables R
 tables_of parts = record {
   area = parts.area.now;
   island = parts.island.now;
-  source = parts.rows.now;
+  rows = parts.rows.now;
   routes = parts.routes.now;
 }
 

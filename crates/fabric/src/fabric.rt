@@ -72,7 +72,7 @@ impl<'a, R: RowsOf> Fabric<'a, R> {
           tables = record {
             area = area.now;
             island = g.now;
-            source = rows.now;
+            rows = rows.now;
             routes = routes.now;
           };
           state = start room;

@@ -1,11 +1,9 @@
 //! What the area's nodes and bonds are in the island.
 
-ghost use Rattle.std.specs.Prelude.{◌≡◌, ◌<◌, IfSome, Some, length};
-ghost use Rattle.area_graph.specs.AreaInvariant.{IsArea};
+ghost use Rattle.std.specs.Prelude.{◌≡◌, ◌<◌, Some, length};
 ghost use Rattle.fabric.specs.Answers.{HasElement};
 ghost use Rattle.fabric.specs.FabricParts.{ArePartsKept, element_at, link_at, node_at};
 ghost use Rattle.fabric.specs.Viewed.{AreRouted, viewed};
-ghost use Rattle.primary_alt.specs.Elements.{IsElementOf};
 ghost use Rattle.primary_alt.specs.Offers.{is_network};
 
 use crate::event::Failure;
@@ -39,8 +37,7 @@ pub fn element_of<R: RowsOf>(parts: &Parts<'_, R>, failed: &Failure) -> Option<E
     requires kept { ArePartsKept (viewed R.rows parts.now) }
     requires routed { AreRouted parts.now }
     requires within { HasElement (viewed R.rows parts.now) failed.now }
-    ensures is { result ≡ element_at (viewed R.rows parts.now) failed.now }
-    ensures within { IfSome result (λ x. IsElementOf parts.now.island.now x) }
+    ensures { result ≡ element_at (viewed R.rows parts.now) failed.now }
 {
     match failed {
         Failure::Node(s) => match node_of(parts, *s) {

@@ -17,6 +17,7 @@ mod packet;
 mod packet_law;
 mod parts;
 mod rows_law;
+mod served_law;
 mod step_law;
 
 pub use event::{Event, Failure, Outcome, Refused};
@@ -28,7 +29,7 @@ pub use order_law::own_events_decide_the_answers;
 pub use packet::{Entry, Loss, Mode, Packet, State};
 pub use packet_law::{
     a_switched_packet_is_never_lost, no_place_twice, one_change_of_mode, packets_end,
-    served_packets_end,
 };
 pub use rows_law::rows_for_destinations_decide;
+pub use served_law::a_certificate_serves_each_event;
 pub use step_law::{one_answer_each, other_things_stay};

@@ -1,7 +1,7 @@
 //! What decides the answers to a packet's steps. The law holds of the definitions alone; the function does nothing.
 
 ghost use Rattle.std.specs.Prelude.{◌≡◌, ℕ, List};
-ghost use Rattle.fabric.specs.FabricParts.{AreFabricParts, FabricParts};
+ghost use Rattle.fabric.specs.FabricParts.{ArePartsKept, FabricParts};
 ghost use Rattle.fabric.specs.FabricState.{Answer, FabricState, start};
 ghost use Rattle.fabric.specs.OwnEvents.{own_events, step_answers};
 ghost use Rattle.fabric.specs.Runs.{IsRun};
@@ -11,7 +11,7 @@ ghost use Rattle.fabric.specs.declared.event.Event.{Event};
 /// and the failure that is kept stand in the same order. Then these steps have the same answers, whatever events of
 /// other packets and whatever refused events stand between them.
 pub fn own_events_decide_the_answers()
-    ensures { (parts : FabricParts) → AreFabricParts parts
+    ensures { (parts : FabricParts) → ArePartsKept parts
         → (room : ℕ) (events : List Event) (answers : List Answer) (end : FabricState)
         → IsRun parts (start room) events answers end
         → (other_room : ℕ) (others : List Event) (other_answers : List Answer)

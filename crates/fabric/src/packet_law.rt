@@ -1,4 +1,5 @@
-//! What holds of each packet, whatever the events. The laws hold of the definitions alone; the functions do nothing.
+//! What holds of each packet, whatever the events. The laws hold of the definitions alone; the functions do nothing. Of
+//! rows they ask for those for the destinations of packets alone.
 
 ghost use Rattle.std.specs.Prelude.{
   ◌≡◌,
@@ -21,7 +22,7 @@ ghost use Rattle.fabric.specs.Course.{
   steps_of,
   visits,
 };
-ghost use Rattle.fabric.specs.FabricParts.{AreFabricParts, ArePartsKept, FabricParts};
+ghost use Rattle.fabric.specs.FabricParts.{ArePartsKept, FabricParts};
 ghost use Rattle.fabric.specs.FabricState.{Answer, FabricState, start};
 ghost use Rattle.fabric.specs.Runs.{IsRun};
 ghost use Rattle.fabric.specs.Served.{AreRowsOn};
@@ -35,19 +36,19 @@ ghost use Rattle.mrt_graph.specs.declared.cert.Color.{Color};
 
 /// Laws: a packet visits no place twice in primary mode, and none twice on a color.
 pub fn no_place_twice()
-    ensures in_primary_mode { (parts : FabricParts) → AreFabricParts parts
+    ensures in_primary_mode { (parts : FabricParts) → ArePartsKept parts
         → (room : ℕ) (events : List Event) (answers : List Answer) (end : FabricState)
-        → IsRun parts (start room) events answers end
+        → AreRowsOn parts events → IsRun parts (start room) events answers end
         → (p : ℕ) → AreDifferent (visits is_primary (course p (start room) events answers)) }
-    ensures on_a_color { (parts : FabricParts) → AreFabricParts parts
+    ensures on_a_color { (parts : FabricParts) → ArePartsKept parts
         → (room : ℕ) (events : List Event) (answers : List Answer) (end : FabricState)
-        → IsRun parts (start room) events answers end
+        → AreRowsOn parts events → IsRun parts (start room) events answers end
         → (p : ℕ) → AreDifferent (visits is_on_color (course p (start room) events answers)) }
 {}
 
 /// A law: a packet keeps its mode, but for one change at most, from primary mode to a color, which it keeps then.
 pub fn one_change_of_mode()
-    ensures { (parts : FabricParts) → AreFabricParts parts → (room : ℕ) (events : List Event)
+    ensures { (parts : FabricParts) → ArePartsKept parts → (room : ℕ) (events : List Event)
         (answers : List Answer) (end : FabricState)
         → IsRun parts (start room) events answers end
         → (p : ℕ) → AllPairs (λ (earlier later : Packet). KeepsMode earlier.mode later.mode)
@@ -56,9 +57,9 @@ pub fn one_change_of_mode()
 
 /// A law: a packet that was switched to a color is never lost.
 pub fn a_switched_packet_is_never_lost()
-    ensures { (parts : FabricParts) → AreFabricParts parts → (room : ℕ) (events : List Event)
+    ensures { (parts : FabricParts) → ArePartsKept parts → (room : ℕ) (events : List Event)
         (answers : List Answer) (end : FabricState)
-        → IsRun parts (start room) events answers end
+        → AreRowsOn parts events → IsRun parts (start room) events answers end
         → (p : ℕ) (packet : Packet) → slice_get end.packets p ≡ Some packet
         → (color : Color) → packet.mode ≡ modes.Switched color
         → (loss : Loss) → packet.state ≡ states.Lost loss → ⊥ }
@@ -67,23 +68,13 @@ pub fn a_switched_packet_is_never_lost()
 /// Laws: a packet has at most twice as many answered steps as its area has other nodes; after so many it is delivered or
 /// lost.
 pub fn packets_end()
-    ensures few_steps { (parts : FabricParts) → AreFabricParts parts
+    ensures few_steps { (parts : FabricParts) → ArePartsKept parts
         → (room : ℕ) (events : List Event) (answers : List Answer) (end : FabricState)
-        → IsRun parts (start room) events answers end
+        → AreRowsOn parts events → IsRun parts (start room) events answers end
         → (p : ℕ) → steps_of p events answers ≤ 2 * (length parts.area.ids - 1) }
-    ensures going { (parts : FabricParts) → AreFabricParts parts
+    ensures going { (parts : FabricParts) → ArePartsKept parts
         → (room : ℕ) (events : List Event) (answers : List Answer) (end : FabricState)
-        → IsRun parts (start room) events answers end
-        → (p : ℕ) (packet : Packet) → slice_get end.packets p ≡ Some packet
-        → packet.state ≡ states.Going
-        → steps_of p events answers < 2 * (length parts.area.ids - 1) }
-{}
-
-/// A law: the latter, where rows serve the destinations of the packets alone.
-pub fn served_packets_end()
-    ensures { (parts : FabricParts) → ArePartsKept parts → (room : ℕ) (events : List Event)
-        (answers : List Answer) (end : FabricState) → AreRowsOn parts events
-        → IsRun parts (start room) events answers end
+        → AreRowsOn parts events → IsRun parts (start room) events answers end
         → (p : ℕ) (packet : Packet) → slice_get end.packets p ≡ Some packet
         → packet.state ≡ states.Going
         → steps_of p events answers < 2 * (length parts.area.ids - 1) }

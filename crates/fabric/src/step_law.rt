@@ -2,10 +2,11 @@
 
 ghost use Rattle.std.specs.Prelude.{◌≡◌, ◌≢◌, ℕ, Err, List, Some, slice_get};
 ghost use Rattle.fabric.specs.Answers.{IsAnswer};
-ghost use Rattle.fabric.specs.FabricParts.{AreFabricParts, FabricParts};
+ghost use Rattle.fabric.specs.FabricParts.{ArePartsKept, FabricParts};
 ghost use Rattle.fabric.specs.FabricState.{Answer, FabricState, start};
 ghost use Rattle.fabric.specs.FabricStep.{FabricStep};
 ghost use Rattle.fabric.specs.Runs.{IsRun};
+ghost use Rattle.fabric.specs.Served.{AreRowsOn};
 ghost use Rattle.fabric.specs.declared.event.Event.{Event};
 ghost use Rattle.fabric.specs.declared.event.Event.TheVariants as events;
 ghost use Rattle.fabric.specs.declared.event.Failure.{Failure};
@@ -18,14 +19,14 @@ use primary_alt::each_router_has_its_primaries;
 /// Laws: in each state that a run from the start leads to, each event has an answer, and only one; so a run has one list
 /// of answers, and leads to one state.
 pub fn one_answer_each()
-    ensures some { (parts : FabricParts) → AreFabricParts parts
+    ensures some { (parts : FabricParts) → ArePartsKept parts
         → (room : ℕ) (events : List Event) (answers : List Answer) (end : FabricState)
-        → IsRun parts (start room) events answers end
+        → AreRowsOn parts events → IsRun parts (start room) events answers end
         → (event : Event) → (answer : Answer) × IsAnswer parts end event answer }
-    ensures only_one { (parts : FabricParts) → AreFabricParts parts
+    ensures only_one { (parts : FabricParts) → ArePartsKept parts
         → (state : FabricState) (event : Event) (answer other : Answer)
         → IsAnswer parts state event answer → IsAnswer parts state event other → answer ≡ other }
-    ensures one_run { (parts : FabricParts) → AreFabricParts parts
+    ensures one_run { (parts : FabricParts) → ArePartsKept parts
         → (state : FabricState) (events : List Event) (answers others : List Answer)
         (end other : FabricState)
         → IsRun parts state events answers end → IsRun parts state events others other

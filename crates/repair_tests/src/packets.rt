@@ -6,7 +6,9 @@ ghost use Rattle.primary_alt.specs.RoutesMade.{AreMadeWith};
 
 use crate::networks::{LAN, LINE, Network, TRIANGLE, network_of};
 use area_graph::{BondNo, Spot};
-use fabric::{Entry, Event, Fabric, Failure, PacketNo, outcome_line};
+use fabric::{
+    Entry, Event, Fabric, Failure, PacketNo, a_certificate_serves_each_event, outcome_line,
+};
 use mrt_graph::NoMemory;
 use std::alloc::Global;
 
@@ -137,6 +139,7 @@ fn text_of(alloc: Global, network: &Network, case: &Case) -> Result<Vec<u8>, NoM
     requires made { AreMadeWith network.now.area network.now.island.graph network.now.routes }
     requires room { 1 ≤ case.now.room }
 {
+    a_certificate_serves_each_event();
     let mut fabric = Fabric::new(
         alloc,
         &network.area,

@@ -3,7 +3,7 @@ use Rattle.fabric.specs.FabricParts.{FabricParts}
 use Rattle.fabric.specs.Handling.{OutsideIsland, Repaired, Unrepaired}
 use Rattle.fabric.specs.Viewed.{viewed}
 use Rattle.fabric.proofs.Islands.{node_within}
-use Rattle.fabric.proofs.ServedRows.{sound_for}
+use Rattle.fabric.proofs.AcceptedRows.{sound_for}
 use Rattle.fabric.proofs.handling.repaired.Goals as goal
 use Rattle.mrt_graph.specs.Alternate.{IsAlternate}
 use Rattle.mrt_graph.specs.declared.link.Element.{Element}
@@ -35,7 +35,7 @@ returns-in-Some-alternate_by g c =
       failed = c.args.failed.now;
       kept = refl;
       is = subst (λ (o : Option Element). IsAlternate c.args.parts.now.island.now.links (length c.args.parts.now.island.now.ids) (g.R.RowsOf.rows c.args.parts.now.rows.now) c.in-Some.at c.in-Some-node_of.to o (Some c.in-Some-alternate_by.color))
-          c.element_of.ensures.is c.in-Some-alternate_by.ensures;
+          c.element_of.ensures c.in-Some-alternate_by.ensures;
     })
 
 pub returns-in-None : goal.returns-in-None
@@ -48,5 +48,5 @@ returns-in-None g c =
       failed = c.args.failed.now;
       kept = refl;
       is = subst (λ (o : Option Element). IsAlternate c.args.parts.now.island.now.links (length c.args.parts.now.island.now.ids) (g.R.RowsOf.rows c.args.parts.now.rows.now) c.in-Some.at c.in-Some-node_of.to o None)
-          c.element_of.ensures.is c.in-None.ensures;
+          c.element_of.ensures c.in-None.ensures;
     })

@@ -4,7 +4,7 @@ use Rattle.fabric.specs.FabricParts.{FabricParts}
 use Rattle.fabric.specs.PacketHop.{IsColorHop, OverNetwork, PacketHop, Straight}
 use Rattle.fabric.specs.Viewed.{viewed}
 use Rattle.fabric.proofs.Islands.{node_within, one_spot, spot_within}
-use Rattle.fabric.proofs.ServedRows.{hop_served}
+use Rattle.fabric.proofs.AcceptedRows.{hop_for}
 use Rattle.fabric.proofs.hops.color_hop.Goals as goal
 
 pub next_hop-hop-requires : goal.next_hop-hop-requires
@@ -12,7 +12,7 @@ next_hop-hop-requires g c =
     let parts : FabricParts = viewed g.R.RowsOf.rows c.args.parts.now in
     let at = sym c.node_of.ensures ∙ c.unwrap-n.ensures in
     let to = sym c.node_of-2.ensures ∙ c.unwrap-d.ensures in
-    hop_served parts c.args.color c.unwrap-n.result c.unwrap-d.result (c.requires.served.rows c.unwrap-d.result to)
+    hop_for parts c.args.color c.unwrap-n.result c.unwrap-d.result (c.requires.served.rows c.unwrap-d.result to)
     (node_within parts c.requires.kept c.args.x c.unwrap-n.result at) (node_within parts c.requires.kept c.args.t c.unwrap-d.result to)
     (λ same. c.requires.different (one_spot parts c.requires.kept c.args.x c.args.t c.unwrap-d.result (at ∙ ap (λ (n : ℕ). Some n) same) to))
 
@@ -32,7 +32,7 @@ next_hop-onward-requires g c =
     let parts : FabricParts = viewed g.R.RowsOf.rows c.args.parts.now in
     let at = c.crossing_of-first.ensures.node in
     let to = sym c.node_of-2.ensures ∙ c.unwrap-d.ensures in
-    hop_served parts c.args.color c.next_hop-hop.result.to c.unwrap-d.result (c.requires.served.rows c.unwrap-d.result to)
+    hop_for parts c.args.color c.next_hop-hop.result.to c.unwrap-d.result (c.requires.served.rows c.unwrap-d.result to)
     c.next_hop-hop.ensures.to (node_within parts c.requires.kept c.args.t c.unwrap-d.result to)
     (λ same. (c.is_on_the_way.ensures.0 c.if-not-is_on_the_way.false).1
     (one_spot parts c.requires.kept c.crossing_of-first.result.node c.args.t c.unwrap-d.result (at ∙ ap (λ (n : ℕ). Some n) same) to))

@@ -4,11 +4,11 @@ use Rattle.fabric.proofs.step_law.one_answer_each.Goals as goal
 
 pub returns-clause-some : goal.returns-clause-some
 returns-clause-some c parts are =
-    let primaries = c.each_router_has_its_primaries.ensures parts.area are.kept.area_kept in
+    let primaries = c.each_router_has_its_primaries.ensures parts.area are.area_kept in
     some_answer parts are primaries.0 primaries.1
 
 pub returns-clause-only_one : goal.returns-clause-only_one
-returns-clause-only_one c = λ parts are. one_answer parts are.kept
+returns-clause-only_one c = one_answer
 
 pub returns-clause-one_run : goal.returns-clause-one_run
-returns-clause-one_run c = λ parts are. one_run parts are.kept
+returns-clause-one_run c = one_run
