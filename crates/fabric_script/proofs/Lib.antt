@@ -1,4 +1,5 @@
 pub mod ByDestinations
+pub mod Entered
 pub mod FewBonds
 pub mod Gathered
 pub mod LeastRoom
@@ -8,9 +9,9 @@ pub mod NamesSpelled
 pub mod NotThere
 pub mod OneText
 pub mod Placed
+pub mod RunsOn
 pub mod ServedEvents
 pub mod SpellingsTold
 pub mod StepsRead
-pub mod RunsOn
 pub mod StepsTold
 pub mod TraceTold

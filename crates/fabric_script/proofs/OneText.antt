@@ -3,7 +3,7 @@ use Rattle.std.proofs.Common.{◌≡◌, ◌∙◌, ◌<◌, ℕ, List, Some, ap
 use Rattle.std.proofs.lemmas.Bool.{cases_lt}
 use Rattle.std.proofs.lemmas.Option.{same_Some}
 use Rattle.fabric.specs.declared.event.Event.{Event}
-use Rattle.fabric.specs.FabricParts.{AreFabricParts, FabricParts}
+use Rattle.fabric.specs.FabricParts.{ArePartsKept, FabricParts}
 use Rattle.fabric.specs.FabricState.{Answer, FabricState, start}
 use Rattle.fabric.specs.OutcomeText.{run_text}
 use Rattle.fabric.specs.Runs.{IsRun}
@@ -15,7 +15,7 @@ use Rattle.fabric_script.specs.Trace.{AreUntilEnd, HasEnded, IsTraced, beginning
 
 -- the law of the layer below
 pub record RunLaws : Type 0 where
-  pub one_run : (parts : FabricParts) → AreFabricParts parts → (state : FabricState) (events : List Event)
+  pub one_run : (parts : FabricParts) → ArePartsKept parts → (state : FabricState) (events : List Event)
       (answers others : List Answer) (end other : FabricState) → IsRun parts state events answers end
       → IsRun parts state events others other → (answers ≡ others) × (end ≡ other)
 
@@ -24,7 +24,7 @@ one_spelling : (parts : FabricParts) (answers others : List Answer) (text other 
 one_spelling parts answers others text other same one two =
     same_Some text other (sym one ∙ ap (run_text parts.area.ids) same ∙ two)
 
-module _ (laws : RunLaws) (parts : FabricParts) (kept : AreFabricParts parts) where
+module _ (laws : RunLaws) (parts : FabricParts) (kept : ArePartsKept parts) where
   pub one_script_text : (script : Script) (text other : List ℕ) → IsScriptText parts script text
       → IsScriptText parts script other → text ≡ other
   one_script_text script text other one two =

@@ -1,27 +1,25 @@
 -- Events whose destinations are served.
-use Rattle.std.proofs.Common.{◌≡◌, ◌∙◌, ◌<◌, ◌++◌, ℕ, List, [], ◌∷◌, Option, Some, None, ap, arith, get_or, length, refl, subst, sym, inl, inr}
+use Rattle.std.proofs.Common.{◌≡◌, ◌∙◌, ◌<◌, ℕ, List, [], ◌∷◌, Option, Some, None, ap, arith, get_or, length, refl, subst, sym, inl, inr}
 use Rattle.std.specs.Prelude.{Contains}
 use Rattle.std.specs.Option.{option_and_then, unwrap_or}
 use Rattle.std.proofs.lemmas.Option.{slice_get-get_or, slice_get_past}
-use Rattle.area_graph.specs.Nodes.{number_of, router}
+use Rattle.area_graph.proofs.Placing.{number_found}
+use Rattle.area_graph.specs.Nodes.{number_of}
 use Rattle.area_graph.specs.Parts.{AreaParts}
-use Rattle.fabric.specs.FabricParts.{AreRowsFor, FabricParts, node_at}
+use Rattle.fabric.specs.FabricParts.{FabricParts, node_at}
 use Rattle.fabric.specs.SameRows.{AgreeFor}
-use Rattle.fabric.specs.Served.{AreRowsOn, IsEventServed, IsServedBy}
+use Rattle.fabric.specs.Served.{IsEventServed, IsServedBy}
 use Rattle.fabric.specs.Viewed.{FabricTables, parts_of}
 use Rattle.fabric.specs.declared.event.Event.{Event}
-use Rattle.fabric.specs.declared.event.Event.TheVariants as happenings
 use Rattle.fabric.specs.declared.packet.Entry.{Entry}
-use Rattle.fabric_script.specs.Destinations.{AgreeForEvent, AreServed, HaveDestinations}
+use Rattle.fabric_script.specs.Destinations.{AgreeForEvent, AreDestinations, AreServed}
 use Rattle.fabric_script.specs.NamedEvents.{event_of, spot_of}
-use Rattle.fabric_script.specs.Trace.{beginning, failures_of}
-use Rattle.fabric_script.specs.declared.event.FailureName.{FailureName}
 use Rattle.fabric_script.specs.declared.event.ScriptEvent.{ScriptEvent}
 use Rattle.fabric_script.specs.declared.event.ScriptEvent.TheVariants.{Fail, Inject, Step}
 use Rattle.fabric_script.specs.declared.trace.Trace.{Trace}
 use Rattle.mrt_graph.specs.Rows.{Rows}
 use Rattle.mrt_graph.specs.declared.node_id.NodeId.{NodeId}
-use Rattle.mrt_graph.proofs.ListPlaces.{contains_at, place_of, pushed_at}
+use Rattle.mrt_graph.proofs.ListPlaces.{contains_at}
 use Rattle.mrt_graph.proofs.Members.{contains_cases, contains_none}
 use Rattle.primary_alt.specs.RouteLists.{RouteLists}
 
@@ -60,42 +58,6 @@ trace_served rows tables now area trace event same is served =
     subst (λ (e : ScriptEvent). IsEventServed (parts_of rows now) now.routes (event_of area e)) (sym is)
     (still_served rows tables now (event_of area (Inject trace.from trace.to trace.entry)) same served)
 
--- a step of a packet asks for nothing
-pub rows_on_step : (parts : FabricParts) (events : List Event) (p : ℕ) → AreRowsOn parts events → AreRowsOn parts (events ++ happenings.Step p ∷ [])
-rows_on_step parts events p on at to entry among =
-    let place = place_of (events ++ happenings.Step p ∷ []) (happenings.Inject at to entry) among in
-    elim (pushed_at events (happenings.Step p) (happenings.Inject at to entry) place.0 place.1) [
-      | inl before ↦ on at to entry (contains_at events place.0 (happenings.Inject at to entry) before)
-      | inr last ↦ absurd (let same = last.1 in cc)
-    ]
-
--- what stands before the steps of a trace
-one_to : (parts : FabricParts) (before : List Event) (t : ℕ) (from : ℕ) (how : Entry)
-    → ((at to : ℕ) (entry : Entry) → Contains before (happenings.Inject at to entry) → ⊥)
-    → AreRowsFor parts t → AreRowsOn parts (before ++ happenings.Inject from t how ∷ [])
-one_to parts before t from how none rows at to entry among =
-    let place = place_of (before ++ happenings.Inject from t how ∷ []) (happenings.Inject at to entry) among in
-    elim (pushed_at before (happenings.Inject from t how) (happenings.Inject at to entry) place.0 place.1) [
-      | inl front ↦ absurd (none at to entry (contains_at before place.0 (happenings.Inject at to entry) front))
-      | inr last ↦ (let same = last.1 in let here : t ≡ to = cc in subst (λ (y : ℕ). AreRowsFor parts y) here rows)
-    ]
-
--- a failure lets no packet in
-pub no_inject : (area : AreaParts) (failed : Option FailureName) (at to : ℕ) (entry : Entry)
-    → Contains (failures_of area failed) (happenings.Inject at to entry) → ⊥
-no_inject area None at to entry among = contains_none (happenings.Inject at to entry) among
-no_inject area (Some name) at to entry among =
-    elim (contains_cases (event_of area (Fail name)) (happenings.Inject at to entry) [] among) [
-      | inl same ↦ cc
-      | inr none ↦ contains_none (happenings.Inject at to entry) none
-    ]
-
-pub rows_on_beginning : (parts : FabricParts) (trace : Trace) → AreRowsFor parts (spot_of parts.area trace.to)
-    → AreRowsOn parts (beginning parts.area trace)
-rows_on_beginning parts trace rows =
-    one_to parts (failures_of parts.area trace.failed) (spot_of parts.area trace.to) (spot_of parts.area (router trace.from)) trace.entry
-    (no_inject parts.area trace.failed) rows
-
 -- a name that the area does not have is no destination
 outside : (parts : FabricParts) (d : ℕ) → node_at parts (length parts.area.ids) ≡ Some d → ⊥
 outside parts d at = none (sym (ap (option_and_then (number_of parts.island.ids)) (slice_get_past parts.area.ids (length parts.area.ids) (omega arith))) ∙ at)
@@ -108,27 +70,29 @@ nowhere parts routes = record { rows = λ d at. absurd (outside parts d at); pri
 
 -- what holds of all destinations of events, and of the number of none, holds of what each names
 all_destinations : (area : AreaParts) (P : ℕ → Type 0) → P (length area.ids) → (events : List ScriptEvent) (spots : List ℕ)
-    → HaveDestinations area events spots → ((t : ℕ) → Contains spots t → P t)
+    → AreDestinations area events spots → ((t : ℕ) → Contains spots t → P t)
     → (number : ℕ) (to : NodeId) (entry : Entry) → Contains events (Inject number to entry) → P (spot_of area to)
-all_destinations area P none events spots have each number to entry among = go (number_of area.ids to) refl
+all_destinations area P none events spots are each number to entry among = go (number_of area.ids to) refl
   where
     go : (place : Option ℕ) → number_of area.ids to ≡ place → P (spot_of area to)
     go None is = subst P (sym (ap (λ (o : Option ℕ). unwrap_or o (length area.ids)) is)) none
-    go (Some t) is = subst P (sym (ap (λ (o : Option ℕ). unwrap_or o (length area.ids)) is)) (each t (have.each (Inject number to entry) t among is))
+    go (Some t) is =
+        subst P (sym (ap (λ (o : Option ℕ). unwrap_or o (length area.ids)) is))
+        (each t ((are.all t).1 (record { event = Inject number to entry; among = among; enters = number_found area.ids to t is })))
 
 -- where all destinations of events are served, so are the events
 pub served_at_destinations : (parts : FabricParts) (routes : RouteLists) (events : List ScriptEvent) (spots : List ℕ)
-    → HaveDestinations parts.area events spots → ((t : ℕ) → Contains spots t → IsServedBy parts routes t) → AreServed parts routes events
-served_at_destinations parts routes events spots have served (Inject number to entry) among =
-    all_destinations parts.area (IsServedBy parts routes) (nowhere parts routes) events spots have served number to entry among
-served_at_destinations parts routes events spots have served (Step packet) among = tt
-served_at_destinations parts routes events spots have served (Fail failed) among = tt
+    → AreDestinations parts.area events spots → ((t : ℕ) → Contains spots t → IsServedBy parts routes t) → AreServed parts routes events
+served_at_destinations parts routes events spots are served (Inject number to entry) among =
+    all_destinations parts.area (IsServedBy parts routes) (nowhere parts routes) events spots are served number to entry among
+served_at_destinations parts routes events spots are served (Step packet) among = tt
+served_at_destinations parts routes events spots are served (Fail failed) among = tt
 
 -- and where rows agree for them, they agree for the events
 pub agree_at_destinations : (parts : FabricParts) (rows : Rows) (events : List ScriptEvent) (spots : List ℕ)
-    → HaveDestinations parts.area events spots → ((t : ℕ) → Contains spots t → AgreeFor parts rows t)
+    → AreDestinations parts.area events spots → ((t : ℕ) → Contains spots t → AgreeFor parts rows t)
     → (event : ScriptEvent) → Contains events event → AgreeForEvent parts rows event
-agree_at_destinations parts rows events spots have agree (Inject number to entry) among =
-    all_destinations parts.area (AgreeFor parts rows) (λ d at. absurd (outside parts d at)) events spots have agree number to entry among
-agree_at_destinations parts rows events spots have agree (Step packet) among = tt
-agree_at_destinations parts rows events spots have agree (Fail failed) among = tt
+agree_at_destinations parts rows events spots are agree (Inject number to entry) among =
+    all_destinations parts.area (AgreeFor parts rows) (λ d at. absurd (outside parts d at)) events spots are agree number to entry among
+agree_at_destinations parts rows events spots are agree (Step packet) among = tt
+agree_at_destinations parts rows events spots are agree (Fail failed) among = tt

@@ -12,14 +12,14 @@ use Rattle.fabric.specs.declared.packet.State.{State}
 use Rattle.fabric.specs.declared.packet.State.TheVariants.{Delivered, Going, Lost}
 use Rattle.fabric.specs.Answers.{Answered, HasEnded as HasEndedBefore, IsStepAnswer, NoPacket}
 use Rattle.fabric.specs.Course.{steps_of}
-use Rattle.fabric.specs.FabricParts.{ArePartsKept, FabricParts}
+use Rattle.fabric.specs.FabricParts.{ArePartsKept, AreRowsFor, FabricParts}
 use Rattle.fabric.specs.FabricState.{Answer, FabricState, start}
 use Rattle.fabric.specs.Runs.{IsRun}
 use Rattle.fabric.specs.Served.{AreRowsOn}
 use Rattle.fabric_script.specs.Told.{HasLines, IsSteppedOn, IsTold}
 use Rattle.fabric_script.specs.Trace.{HasEnded, IsGoingAfter}
 use Rattle.fabric_script.specs.Unstepped.{IsUnstepped}
-use Rattle.fabric_script.proofs.ServedEvents.{rows_on_step}
+use Rattle.fabric_script.proofs.Entered.{then_steps_entered}
 use Rattle.fabric_script.proofs.RunsOn.{lines_on, one_step_more, run_on}
 
 -- so many steps since the old state, with their lines
@@ -32,7 +32,7 @@ pub record HasStepped (parts : FabricParts) (old new : FabricState) (count : ℕ
   pub answers : List Answer
   pub run : IsRun parts (start 1) events answers new
   pub steps : steps_of 0 events answers ≡ count
-  pub served : AreRowsOn parts events
+  pub rows : AreRowsOn parts events
 
 pub no_steps : (parts : FabricParts) (state : FabricState) (text : List ℕ) → IsUnstepped parts state
     → HasStepped parts state state 0 text text
@@ -45,7 +45,7 @@ no_steps parts state text unstepped = record {
   answers = unstepped.answers;
   run = unstepped.run;
   steps = unstepped.none;
-  served = unstepped.served;
+  rows = unstepped.rows;
 }
 
 -- packet 0 is going
@@ -120,7 +120,7 @@ step_taken parts old mid new count before between after so_far goes (answer ∷ 
       steps = ap (λ (a : Answer). steps_of 0 (so_far.events ++ Step 0 ∷ []) (so_far.answers ++ a ∷ [])) own.is
           ∙ one_step_more own.outcome so_far.events so_far.answers parts (start 1) mid so_far.run
           ∙ ap (λ (n : ℕ). n + 1) so_far.steps;
-      served = rows_on_step parts so_far.events 0 so_far.served;
+      rows = then_steps_entered (AreRowsFor parts) so_far.events 1 so_far.rows;
     }
 step_taken parts old mid new count before between after so_far goes (answer ∷ other ∷ more) run lines = absurd run.2
 
@@ -150,5 +150,5 @@ GoingLaw = (parts : FabricParts) → ArePartsKept parts → (room : ℕ) (events
 pub ended_at_last : GoingLaw → (parts : FabricParts) → ArePartsKept parts → (old new : FabricState) (count : ℕ)
     (before after : List ℕ) → HasStepped parts old new count before after → 2 * length parts.area.ids ≤ count → HasEnded new
 ended_at_last law parts kept old new count before after so_far many = λ packet there goes.
-    let few = law parts kept 1 so_far.events so_far.answers new so_far.served so_far.run 0 packet there goes in
+    let few = law parts kept 1 so_far.events so_far.answers new so_far.rows so_far.run 0 packet there goes in
     absurd (omega (arith, few, so_far.steps, many))

@@ -16,7 +16,7 @@ use Rattle.fabric_script.specs.RunTexts.{IsTraceText}
 use Rattle.fabric_script.specs.Told.{IsSteppedOn, IsTold}
 use Rattle.fabric_script.specs.Trace.{beginning, failures_of}
 use Rattle.fabric_script.specs.Unstepped.{IsUnstepped}
-use Rattle.fabric_script.proofs.ServedEvents.{rows_on_beginning}
+use Rattle.fabric_script.proofs.Entered.{beginning_entered}
 use Rattle.fabric_script.proofs.RunsOn.{lines_on, run_on, told_on, whole_text}
 
 -- the failure and the packet that enters, told one after the other
@@ -52,7 +52,7 @@ unstepped parts last state trace text last_is rows told =
       answers = told.answers;
       run = told.run;
       none = none_stepped parts.area trace.failed trace parts (start 1) state told.answers told.run;
-      served = rows_on_beginning parts trace rows;
+      rows = beginning_entered (AreRowsFor parts) parts.area trace rows;
     })
 
 pub trace_told : (parts last : FabricParts) (state : FabricState) (trace : Trace) (between text : List ℕ) → last ≡ parts

@@ -1,6 +1,5 @@
 -- The destinations of the packets of scripts and traces.
-use Rattle.std.specs.Prelude.{◌≡◌, ◌<◌, ⊤, ℕ, Contains, List, Option, Some, None, length}
-use Rattle.area_graph.specs.Nodes.{number_of}
+use Rattle.std.specs.Prelude.{◌≡◌, ◌↔◌, ⊤, ℕ, Contains, List, Some, slice_get}
 use Rattle.area_graph.specs.Parts.{AreaParts}
 use Rattle.fabric.specs.FabricParts.{FabricParts}
 use Rattle.fabric.specs.SameRows.{AgreeFor}
@@ -8,19 +7,26 @@ use Rattle.fabric.specs.Served.{IsEventServed}
 use Rattle.fabric_script.specs.NamedEvents.{event_of, spot_of}
 use Rattle.fabric_script.specs.declared.event.ScriptEvent.{ScriptEvent}
 use Rattle.fabric_script.specs.declared.event.ScriptEvent.TheVariants.{Fail, Inject, Step}
+use Rattle.mrt_graph.specs.Reaches.{AreDifferent}
 use Rattle.mrt_graph.specs.Rows.{Rows}
 use Rattle.primary_alt.specs.RouteLists.{RouteLists}
 
--- the node for which a packet enters by the event, if one does and the area has that node
-abbrev pub destination_of : AreaParts → ScriptEvent → Option ℕ
-destination_of area (Inject number to entry) = number_of area.ids to
-destination_of area (Step packet) = None
-destination_of area (Fail failed) = None
+-- by the event a packet enters for node t of the area
+abbrev pub EntersFor : AreaParts → ℕ → ScriptEvent → Type 0
+EntersFor area t (Inject number to entry) = slice_get area.ids t ≡ Some to
+EntersFor area t (Step packet) = ⊥
+EntersFor area t (Fail failed) = ⊥
 
--- these nodes of the area have all destinations of the events among them
-pub record HaveDestinations (area : AreaParts) (events : List ScriptEvent) (spots : List ℕ) : Type 0 where
-  pub within : (t : ℕ) → Contains spots t → t < length area.ids
-  pub each : (event : ScriptEvent) (t : ℕ) → Contains events event → destination_of area event ≡ Some t → Contains spots t
+-- node t of the area is a destination of the events: by one of them a packet enters for it
+pub record IsDestination (area : AreaParts) (events : List ScriptEvent) (t : ℕ) : Type 0 where
+  pub event : ScriptEvent
+  pub among : Contains events event
+  pub enters : EntersFor area t event
+
+-- these nodes are the destinations of the events, each once
+pub record AreDestinations (area : AreaParts) (events : List ScriptEvent) (spots : List ℕ) : Type 0 where
+  pub all : (t : ℕ) → Contains spots t ↔ IsDestination area events t
+  pub once : AreDifferent spots
 
 -- the destination of each packet that enters by one of the events is served
 abbrev pub AreServed : FabricParts → RouteLists → List ScriptEvent → Type 0

@@ -1,7 +1,7 @@
 //! The destinations of the packets of a script.
 
-ghost use Rattle.std.specs.Prelude.{◌≡◌, ◌<◌, IfOk, IfSome, false, length, replicate};
-ghost use Rattle.fabric_script.specs.Destinations.{HaveDestinations, destination_of};
+ghost use Rattle.std.specs.Prelude.{◌≡◌, ◌<◌, ◌↔◌, ℕ, Contains, IfOk, IfSome, Some, false, length, replicate};
+ghost use Rattle.fabric_script.specs.Destinations.{AreDestinations, EntersFor};
 
 use crate::event::ScriptEvent;
 use crate::script::Script;
@@ -9,7 +9,7 @@ use area_graph::{Area, Spot};
 use mrt_graph::NoMemory;
 use std::alloc::Global;
 
-/// The nodes of the area for which packets enter by the events of a script, each once, in the order in which they come.
+/// The nodes of the area for which packets enter by the events of a script, each once.
 ///
 /// It takes the time of a look-up for each of these events.
 ///
@@ -17,7 +17,8 @@ use std::alloc::Global;
 ///
 /// [`NoMemory`] where there was none for the nodes.
 pub fn destinations(alloc: Global, area: &Area, script: &Script) -> Result<Vec<Spot>, NoMemory>
-    ensures { IfOk result (λ spots. HaveDestinations area.now script.now.events spots.items) }
+    ensures are { IfOk result (λ spots. AreDestinations area.now script.now.events spots.items) }
+    ensures within { IfOk result (λ spots. (t : ℕ) → Contains spots.items t → t < length area.now.ids) }
 {
     let events = script.events.as_slice();
     let mut known = none_known(alloc, area.count())?;
@@ -45,7 +46,7 @@ fn none_known(alloc: Global, count: u16) -> Result<Vec<bool>, NoMemory>
 
 /// The node for which a packet enters by an event, if one does and the area has that node.
 fn destination(area: &Area, event: &ScriptEvent) -> Option<Spot>
-    ensures is { result ≡ destination_of area.now event.now }
+    ensures enters { (t : ℕ) → (result ≡ Some t) ↔ EntersFor area.now t event.now }
     ensures within { IfSome result (λ spot. spot < length area.now.ids) }
 {
     let _area = area.count();

@@ -1,6 +1,6 @@
 //! A whole script file.
 
-ghost use Rattle.std.specs.Prelude.{◌≡◌, ◌≤◌, ◌+◌, ◌<◌, ◌^◌, ◌++◌, ◌∷◌, [], ℕ, Ok, Err, IfOk, OnOk, Some, length};
+ghost use Rattle.std.specs.Prelude.{◌≡◌, ◌≤◌, ◌+◌, ◌<◌, ◌^◌, ℕ, Ok, Err, IfOk, OnOk, Some, length};
 ghost use Rattle.mrt_graph.specs.TextLines.{text_lines};
 ghost use Rattle.fabric_script.specs.declared.script.Script.{Script};
 ghost use Rattle.fabric_script.specs.ScriptFaults.{IsFirstFault, IsScript, OrNoMemory, ReadsLines};

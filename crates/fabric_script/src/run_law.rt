@@ -1,7 +1,7 @@
 //! What holds of the texts of runs. The law holds of the definitions alone; the function does nothing.
 
 ghost use Rattle.std.specs.Prelude.{◌≡◌, ℕ, List};
-ghost use Rattle.fabric.specs.FabricParts.{AreFabricParts, FabricParts};
+ghost use Rattle.fabric.specs.FabricParts.{ArePartsKept, FabricParts};
 ghost use Rattle.fabric_script.specs.declared.script.Script.{Script};
 ghost use Rattle.fabric_script.specs.declared.trace.Trace.{Trace};
 ghost use Rattle.fabric_script.specs.RunTexts.{IsScriptText, IsTraceText};
@@ -10,9 +10,9 @@ use fabric::one_answer_each;
 
 /// Laws: a script has one text, and so has a trace.
 pub fn one_text_each()
-    ensures script { (parts : FabricParts) → AreFabricParts parts → (script : Script) (text other : List ℕ)
+    ensures script { (parts : FabricParts) → ArePartsKept parts → (script : Script) (text other : List ℕ)
         → IsScriptText parts script text → IsScriptText parts script other → text ≡ other }
-    ensures trace { (parts : FabricParts) → AreFabricParts parts → (trace : Trace) (text other : List ℕ)
+    ensures trace { (parts : FabricParts) → ArePartsKept parts → (trace : Trace) (text other : List ℕ)
         → IsTraceText parts trace text → IsTraceText parts trace other → text ≡ other }
 {
     one_answer_each();

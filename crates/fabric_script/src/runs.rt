@@ -1,6 +1,6 @@
 //! The texts of scripts and of traces.
 
-ghost use Rattle.std.specs.Prelude.{◌≡◌, ◌≤◌, IfOk};
+ghost use Rattle.std.specs.Prelude.{◌≤◌, IfOk};
 ghost use Rattle.fabric.specs.Served.{IsServedBy};
 ghost use Rattle.fabric.specs.Viewed.{parts_with};
 ghost use Rattle.primary_alt.specs.RoutesMade.{AreMade};

@@ -1,6 +1,6 @@
 //! A packet's steps until it ends.
 
-ghost use Rattle.std.specs.Prelude.{◌≡◌, ◌≢◌, ◌↔◌, IfOk, IsTrue};
+ghost use Rattle.std.specs.Prelude.{◌≡◌, ◌↔◌, IfOk, IsTrue};
 ghost use Rattle.fabric.specs.FabricParts.{ArePartsKept};
 ghost use Rattle.fabric.specs.Viewed.{parts_of};
 ghost use Rattle.fabric_script.specs.Told.{IsSteppedOn};
@@ -10,7 +10,7 @@ ghost use Rattle.fabric_script.specs.Unstepped.{IsUnstepped};
 use crate::event::ScriptEvent;
 use crate::telling::tell_one;
 use area_graph::Area;
-use fabric::{Fabric, PacketNo, State, served_packets_end};
+use fabric::{Fabric, PacketNo, State, packets_end};
 use mrt_graph::{NoMemory, RowsOf};
 
 /// The steps of packet 0 until it has ended, and the lines of their answers. It has had none before.
@@ -25,7 +25,7 @@ pub fn tell_steps<R: RowsOf>(
     ensures stepped { IfOk result (λ _. IsSteppedOn (parts_of R.rows fabric.old.tables)
         fabric.old.state text.old.items text.new.items) }
 {
-    served_packets_end();
+    packets_end();
     for _ in 0..2 * area.count() as u32 {
         if has_ended(fabric) {
             return Ok(());

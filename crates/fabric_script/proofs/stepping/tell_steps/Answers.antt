@@ -35,7 +35,7 @@ returns g c =
     ap (λ (a : AreaParts). length a.ids) c.requires.area in record {
       stepped = stepped (parts_of g.R.RowsOf.rows c.args.fabric.now.tables) c.args.fabric.now.state c.loop.fabric.state c.loop.counter c.args.text.now.items
           c.loop.text.items c.loop.invariant.stepped
-          (ended_at_last c.served_packets_end.ensures (parts_of g.R.RowsOf.rows c.args.fabric.now.tables) c.requires.kept c.args.fabric.now.state c.loop.fabric.state
+          (ended_at_last c.packets_end.ensures.going (parts_of g.R.RowsOf.rows c.args.fabric.now.tables) c.requires.kept c.args.fabric.now.state c.loop.fabric.state
           c.loop.counter c.args.text.now.items c.loop.text.items c.loop.invariant.stepped
           (omega (arith, c.loop-test.false, c.count.ensures.count, nodes)));
     }
