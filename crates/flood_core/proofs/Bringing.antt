@@ -12,7 +12,7 @@ use Rattle.ospf_lsa.specs.declared.lsa.Lsa.{Lsa}
 use Rattle.lsdb.specs.Installing.{IsKept}
 use Rattle.flood_core.specs.declared.answer.Answer.{Answer}
 use Rattle.flood_core.specs.declared.answer.Answer.TheVariants as answers
-use Rattle.flood_core.specs.declared.router.Router.{Router}
+use Rattle.flood_core.specs.Routers.{Router}
 use Rattle.flood_core.specs.declared.update.Update.{Update}
 use Rattle.flood_core.specs.FloodState.{FloodState, started}
 use Rattle.flood_core.specs.FloodStep.{answer_of, delivered, reached, sent_on}

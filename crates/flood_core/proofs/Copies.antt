@@ -1,5 +1,5 @@
 -- Copies of the first newest instances, each with its number as its place.
-use Rattle.std.proofs.Common.{◌≡◌, ◌∙◌, ◌<◌, ◌≤◌, ◌+◌, ◌++◌, ◌||◌, ℕ, zero, suc, Bool, false, List, [], ◌∷◌, Option, Some, None, length, map, get_or, slice_get, Contains, refl, sym, ap, subst, add-one, drop, drop-cons, append_assoc, arith}
+use Rattle.std.proofs.Common.{◌≡◌, ◌∙◌, ◌<◌, ◌≤◌, ◌+◌, ◌++◌, ◌||◌, ℕ, zero, suc, Bool, false, List, [], ◌∷◌, Option, Some, None, length, map, get_or, slice_get, Contains, refl, sym, ap, subst, add-one, drop, append_assoc, arith}
 use Rattle.std.specs.List.{AllByRecursion, IsDistinct, list_any}
 use Rattle.std.proofs.lemmas.Bool.{or_parts}
 use Rattle.std.proofs.lemmas.List.{append-nil, drop_all}
@@ -22,6 +22,7 @@ use Rattle.lsdb.proofs.Stores.{installed_new}
 use Rattle.flood_core.specs.Receiving.{arrived}
 use Rattle.flood_core.specs.Runs.{AreNewestOfTheSame, last_number, numbered}
 use Rattle.flood_core.specs.SharedStore.{IsSharedStore, lsas_in}
+use Rattle.flood_core.proofs.Numbered.{next_left}
 use Rattle.flood_core.proofs.Stored.{kept_with_place}
 
 -- ---- one instance of each key
@@ -100,7 +101,7 @@ hold_the_same lsas others same lsa = (
   subst (λ (list : List Lsa). Contains list lsa) (sym same),
 )
 
-placeless_in : (es : List Entry) → map (λ (e : Entry). without_place e.lsa) es ≡ map without_place (lsas_in es)
+pub placeless_in : (es : List Entry) → map (λ (e : Entry). without_place e.lsa) es ≡ map without_place (lsas_in es)
 placeless_in [] = refl
 placeless_in (e ∷ es) = ap (λ (rest : List Lsa). without_place e.lsa ∷ rest) (placeless_in es)
 
@@ -135,6 +136,23 @@ module _ (keys : List Key) (es copy : List Entry) (greatest : Option ℕ) (is : 
     other_is = copied_lsas ∙ sym (newest_alone (numbered 0 (lsas_in es)) distinct_numbered);
   }
 
+-- ---- what holds the same
+
+-- the first newest instances of two databases that are the same but for their places
+pub of_the_same : (keys others : List Key) (es es' : List Entry) (greatest greatest' : Option ℕ)
+    → IsSharedStore keys es greatest → IsSharedStore others es' greatest'
+    → map (λ (e : Entry). without_place e.lsa) es ≡ map (λ (e : Entry). without_place e.lsa) es'
+    → AreNewestOfTheSame (lsas_in es) (lsas_in es')
+of_the_same keys others es es' greatest greatest' is is' same = record {
+  lsas = lsas_in es;
+  others = lsas_in es';
+  kept = is.store.kept;
+  settled = settled_alone (lsas_in es) is.store.distinct;
+  same = hold_the_same (lsas_in es) (lsas_in es') (sym (placeless_in es) ∙ same ∙ placeless_in es');
+  one_is = sym (newest_alone (lsas_in es) is.store.distinct);
+  other_is = sym (newest_alone (lsas_in es') is'.store.distinct);
+}
+
 -- ---- one copy after another
 
 -- the first so many entries were copied
@@ -154,11 +172,6 @@ copied_none es copy none nothing = record {
   last = nothing;
 }
 
-drop_next : (es : List Entry) (i : ℕ) (e : Entry) → i < length es → e ≡ get_or es i e → drop i es ≡ e ∷ drop (i + 1) es
-drop_next es i e inside is =
-    drop-cons es i e inside ∙ ap (λ (x : Entry). x ∷ drop (suc i) es) (sym is)
-    ∙ ap (λ (n : ℕ). e ∷ drop n es) (sym (add-one i))
-
 pub copied_more : (es : List Entry) (number : ℕ) (copy after : Database) (lsa : Lsa) (e : Entry)
     → number < length es → e ≡ get_or es number e → lsa ≡ arrived number e.lsa → AreCopied es number copy
     → after.entries ≡ (installed copy.entries lsa).0 → after.greatest ≡ Some lsa.at → AreCopied es (number + 1) after
@@ -166,7 +179,7 @@ copied_more es number copy after lsa e inside is copied so_far grown last = reco
   comes = ap (λ (list : List Entry). all_installed list (numbered (number + 1) (lsas_in (drop (number + 1) es))))
       (grown ∙ ap (λ (l : Lsa). (installed copy.entries l).0) copied)
       ∙ ap (λ (list : List Entry). all_installed copy.entries (numbered number (lsas_in list)))
-      (sym (drop_next es number e inside is))
+      (sym (next_left es number e inside is))
       ∙ so_far.comes;
   last = last ∙ ap (λ (l : Lsa). Some l.at) copied ∙ ap last_number (sym (add-one number));
 }

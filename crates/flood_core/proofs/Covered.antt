@@ -23,7 +23,7 @@ use Rattle.lsdb.proofs.Lists.{any_and, pass_none}
 use Rattle.lsdb.proofs.Ranks.{above, flipped, greater_is, none_outranks_itself}
 use Rattle.lsdb.proofs.Stores.{key_is}
 use Rattle.lsdb.proofs.Tellings.{added, replaced, told}
-use Rattle.flood_core.specs.declared.router.Router.{Router}
+use Rattle.flood_core.specs.Routers.{Router}
 use Rattle.flood_core.specs.Receiving.{after_all, after_one, arrived, is_new, is_news, new_router, news}
 use Rattle.flood_core.specs.Runs.{numbered, same_instance}
 use Rattle.flood_core.proofs.InTurn.{after_append}

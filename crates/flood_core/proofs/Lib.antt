@@ -2,12 +2,16 @@ pub mod OnePacket
 pub mod OneFile
 pub mod Placing
 pub mod Refusals
+pub mod Numbered
 pub mod InTurn
+pub mod Received
 pub mod OneDelivery
+pub mod NumberedDelivery
 pub mod Covered
 pub mod Bringing
 pub mod Converging
 pub mod RunsAsLists
 pub mod MayBeFlooded
 pub mod Stored
+pub mod SameLsas
 pub mod Copies

@@ -9,7 +9,7 @@ use Rattle.ospf_lsa.specs.declared.lsa.Lsa.{Lsa}
 use Rattle.lsdb.specs.Installing.{IsBehind, IsKept}
 use Rattle.flood_core.specs.declared.answer.Answer.{Answer}
 use Rattle.flood_core.specs.declared.answer.Answer.TheVariants as answers
-use Rattle.flood_core.specs.declared.router.Router.{Router}
+use Rattle.flood_core.specs.Routers.{Router}
 use Rattle.flood_core.specs.declared.update.Update.{Update}
 use Rattle.flood_core.specs.FloodState.{FloodState, IsFlood, IsRouter}
 use Rattle.flood_core.specs.FloodStep.{answer_of, delivered, reached, sent_on}
@@ -17,7 +17,7 @@ use Rattle.flood_core.specs.Receiving.{after_all, after_one, is_news, is_topolog
 
 -- ---- lists
 
-all_set : {X : Type 0} (P : X → Type 0) (xs : List X) (i : ℕ) (y : X) → AllByRecursion P xs → P y
+pub all_set : {X : Type 0} (P : X → Type 0) (xs : List X) (i : ℕ) (y : X) → AllByRecursion P xs → P y
     → AllByRecursion P (set xs i y)
 all_set P [] i y all is = tt
 all_set P (x ∷ xs) zero y all is = (is, all.1)

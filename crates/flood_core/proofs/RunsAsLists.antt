@@ -20,7 +20,7 @@ use Rattle.lsdb.proofs.Lists.{all_of_list}
 use Rattle.lsdb.proofs.Orders.{swapped}
 use Rattle.lsdb.proofs.Reordered.{keys_reordered, newest_reordered}
 use Rattle.lsdb.proofs.Settling.{no_conflict_settled, settled_no_conflict}
-use Rattle.flood_core.specs.declared.router.Router.{Router}
+use Rattle.flood_core.specs.Routers.{Router}
 use Rattle.flood_core.specs.declared.update.Update.{Update}
 use Rattle.flood_core.specs.Databases.{after_installs, empty_database}
 use Rattle.flood_core.specs.FloodState.{FloodState, database_of, started}

@@ -4,7 +4,7 @@ use Rattle.std.specs.List.{AllByRecursion}
 use Rattle.std.specs.Option.{option_map}
 use Rattle.lsdb.specs.Entries.{Database}
 use Rattle.lsdb.specs.Installing.{IsBehind}
-use Rattle.flood_core.specs.declared.router.Router.{Router}
+use Rattle.flood_core.specs.Routers.{Router}
 use Rattle.flood_core.specs.declared.update.Update.{Update}
 use Rattle.flood_core.specs.Receiving.{new_router, MayFlood}
 

@@ -5,7 +5,7 @@ use Rattle.std.specs.Option.{option_map_or}
 use Rattle.ospf_lsa.specs.declared.lsa.Lsa.{Lsa}
 use Rattle.flood_core.specs.declared.answer.Answer.{Answer}
 use Rattle.flood_core.specs.declared.answer.Answer.TheVariants as answers
-use Rattle.flood_core.specs.declared.router.Router.{Router}
+use Rattle.flood_core.specs.Routers.{Router}
 use Rattle.flood_core.specs.declared.update.Update.{Update}
 use Rattle.flood_core.specs.FloodState.{FloodState}
 use Rattle.flood_core.specs.Receiving.{after_all, news, topology}

@@ -4,9 +4,11 @@ pub mod PacketFaults
 pub mod UpdateOutcome
 pub mod Reading
 pub mod Databases
+pub mod Routers
 pub mod Receiving
 pub mod Noting
 pub mod SharedStore
 pub mod FloodState
+pub mod Numbers
 pub mod FloodStep
 pub mod Runs

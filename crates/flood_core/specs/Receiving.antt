@@ -7,7 +7,7 @@ use Rattle.ospf_lsa.specs.Types.{router_lsa, network_lsa}
 use Rattle.lsdb.specs.declared.change.Change.{Change}
 use Rattle.lsdb.specs.declared.change.Change.TheVariants.{Added, Replaced, Older, Same, Clash}
 use Rattle.lsdb.specs.Installing.{installed, IsKept}
-use Rattle.flood_core.specs.declared.router.Router.{Router}
+use Rattle.flood_core.specs.Routers.{Router}
 use Rattle.flood_core.specs.declared.update.Update.{Update}
 use Rattle.flood_core.specs.Databases.{after_install, empty_database}
 

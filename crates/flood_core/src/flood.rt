@@ -1,39 +1,46 @@
 //! Packets and the routers that they reach.
 
-ghost use Rattle.std.specs.Prelude.{◌≡◌, ◌≤◌, ◌<◌, ◌+◌, ◌++◌, ◌^◌, ◌↔◌, Some, IfOk, OnOk, length, replicate, vec_len};
+ghost use Rattle.std.specs.Prelude.{◌≡◌, ◌≤◌, ◌<◌, ◌+◌, ◌++◌, ◌^◌, ◌↔◌, ℕ, List, Some, IfOk, OnOk, length, map, replicate};
 ghost use Rattle.std.specs.List.{AllByRecursion};
+ghost use Rattle.ospf_lsa.specs.declared.lsa.Lsa.{Lsa};
 ghost use Rattle.flood_core.specs.FloodStep.{answer_of, sent_on};
+ghost use Rattle.flood_core.specs.Numbers.{lsas_by, router_in, update_in, AreNumbers, IsStored};
 ghost use Rattle.flood_core.specs.Receiving.{new_router};
 
 use crate::answer::Answer;
-use crate::router::Router;
+use crate::numbered_update::{NumberedUpdate, numbered_updates};
+use crate::receiver::Receiver;
 use crate::shared_lsdb::SharedLsdb;
-use crate::shared_update::{SharedUpdate, shared_updates};
 use crate::update::Update;
 use file_key::FileKey;
 use mrt_graph::NoMemory;
+use ospf_lsa::Lsa;
 use std::alloc::Global;
 use std::marker::Model;
 
 /// Packets, and routers each with a database of its own, which packets reach in any order, any number of times, or
 /// never. Of RFC 2328 it has which of two instances is newer (section 13.1) and that what was new is sent on (section
 /// 13.3), and nothing else of section 13.
+///
+/// Each LSA of the file stands once in a list; packets and databases have its number there.
 #[derive(Drop)]
 pub struct Flood {
     alloc: Global,
-    packets: Vec<SharedUpdate>,
-    routers: Vec<Router>,
+    lsas: Vec<Lsa>,
+    packets: Vec<NumberedUpdate>,
+    routers: Vec<Receiver>,
     changed: u32,
 }
 
 impl Model for Flood {
-    ghost use Rattle.flood_core.specs.FloodState.{FloodState, IsFlood};
+    ghost use Rattle.flood_core.specs.FloodState.{FloodState};
+    ghost use Rattle.flood_core.specs.Numbers.{flood_in, IsFloodIn};
 
     ghost Value = { FloodState };
 
-    ghost view = { λ f. record { packets = f.packets.items; routers = f.routers.items; changed = f.changed } };
+    ghost view = { λ f. flood_in f.lsas.items f.packets.items f.routers.items f.changed };
 
-    ghost invariant = { λ f. IsFlood (record { packets = f.packets.items; routers = f.routers.items; changed = f.changed }) };
+    ghost invariant = { λ f. IsFloodIn f.lsas.items f.packets.items f.routers.items f.changed };
 }
 
 impl Flood {
@@ -47,8 +54,7 @@ impl Flood {
     ///
     /// # Errors
     ///
-    /// [`NoMemory`] where there was none for the list of the routers, or for the packets to hold their LSAs together with
-    /// databases.
+    /// [`NoMemory`] where there was none for the list of the routers, of the LSAs, or of the numbers in a packet.
     pub fn new(
         alloc: Global,
         file: FileKey,
@@ -61,10 +67,14 @@ impl Flood {
         requires may_flood { AllByRecursion MayFlood updates.items }
         ensures { IfOk result (λ flood. flood ≡ started updates.items routers) }
     {
+        let mut lsas = Vec::new(alloc);
+        let packets = numbered_updates(alloc, &mut lsas, updates)?;
+        let routers = new_routers(alloc, file, routers)?;
         Ok(Flood {
             alloc,
-            packets: shared_updates(alloc, updates)?,
-            routers: new_routers(alloc, file, routers)?,
+            lsas,
+            packets,
+            routers,
             changed: 0,
         })
     }
@@ -76,8 +86,9 @@ impl Flood {
     /// place. Those whose install answers `Added` or `Replaced` are new, and become a packet, the last one, which the
     /// router sends on: with the place, the router and the area of the delivered one, and the LSAs as they stand there.
     ///
-    /// It takes, over many deliveries, a look-up for each LSA, and the time of comparing its bytes where there is one of
-    /// its rank. It copies no LSA: the database and the new packet hold what the delivered one holds.
+    /// It takes, over many deliveries, a look-up for each LSA, and the time of comparing its bytes where another LSA of the
+    /// file is there, of its rank. It copies no LSA: the database and the new packet have the numbers that the delivered one
+    /// has.
     ///
     /// # Errors
     ///
@@ -99,16 +110,19 @@ impl Flood {
         }
         let Flood {
             alloc,
+            lsas,
             mut packets,
             mut routers,
             changed,
         } = self;
         let update = &packets[packet as usize];
-        let news = routers[usize::from(router)].receive(alloc, update.lsas())?;
+        let numbers = update.lsas.as_slice();
+        let news = routers[usize::from(router)].receive(alloc, lsas.as_slice(), numbers)?;
         let sent = update.with_lsas(news);
         let answer = send_on(&mut packets, sent)?;
         let flood = Flood {
             alloc,
+            lsas,
             packets,
             routers,
             changed: changed + 1,
@@ -117,33 +131,44 @@ impl Flood {
     }
 
     /// A router's database.
-    pub fn database(&self, router: u16) -> &SharedLsdb
+    pub fn database(&self, router: u16) -> SharedLsdb<'_>
         requires { router < length self.now.routers }
-        ensures { database_of self.now router ≡ Some result.now }
+        ensures { database_of self.now router ≡ Some result }
     {
-        &self.routers[usize::from(router)].database
+        SharedLsdb::new(
+            self.lsas.as_slice(),
+            &self.routers[usize::from(router)].store,
+        )
     }
 }
 
 /// So many routers with empty databases.
-fn new_routers(alloc: Global, file: FileKey, count: u16) -> Result<Vec<Router>, NoMemory>
-    ensures { IfOk result (λ routers. routers.items ≡ replicate count new_router) }
+fn new_routers(alloc: Global, file: FileKey, count: u16) -> Result<Vec<Receiver>, NoMemory>
+    ensures routers { (lsas : List Lsa) → IfOk result (λ routers.
+        map (router_in lsas) routers.items ≡ replicate count new_router) }
+    ensures stored { (lsas : List Lsa) → IfOk result (λ routers.
+        AllByRecursion (λ router. IsStored lsas router.store) routers.items) }
 {
     let mut routers = Vec::with_capacity(alloc, usize::from(count))?;
     for _number in 0..count {
-        routers.push(Router::new(alloc, file))?;
+        routers.push(Receiver::new(alloc, file))?;
     }
     Ok(routers)
 }
 
 /// Puts a packet of new LSAs at the end, if there are any, and tells how many there are and the packet's number.
-fn send_on(packets: &mut Vec<SharedUpdate>, sent: SharedUpdate) -> Result<Answer, NoMemory>
-    requires few { length sent.lsas < 2 ^ 32 }
+fn send_on(packets: &mut Vec<NumberedUpdate>, sent: NumberedUpdate) -> Result<Answer, NoMemory>
+    requires few { length sent.lsas.items < 2 ^ 32 }
     requires room { length packets.old.items < 2 ^ 32 }
-    ensures answer { IfOk result (λ answer. answer ≡ answer_of (length packets.old.items) sent.lsas) }
-    ensures packets { OnOk result (packets.new.items ≡ packets.old.items ++ sent_on sent sent.lsas) }
+    ensures answer { (lsas : List Lsa) → IfOk result (λ answer.
+        answer ≡ answer_of (length packets.old.items) (lsas_by lsas sent.lsas.items)) }
+    ensures packets { (lsas : List Lsa) → OnOk result (map (update_in lsas) packets.new.items
+        ≡ map (update_in lsas) packets.old.items ++ sent_on (update_in lsas sent) (lsas_by lsas sent.lsas.items)) }
+    ensures numbers { (lsas : List Lsa) → AreNumbers lsas sent.lsas.items
+        → AllByRecursion (λ packet. AreNumbers lsas packet.lsas.items) packets.old.items
+        → OnOk result (AllByRecursion (λ packet. AreNumbers lsas packet.lsas.items) packets.new.items) }
 {
-    let count = sent.lsas().len() as u32;
+    let count = sent.lsas.len() as u32;
     if count == 0 {
         return Ok(Answer::Changed { count, sent: None });
     }

@@ -12,13 +12,14 @@ mod field;
 mod flood;
 mod held;
 mod noted;
+mod numbered_update;
 mod packet;
 mod reading;
-mod router;
+mod receiver;
 mod run_law;
-mod shared_lsa;
+mod same;
 mod shared_lsdb;
-mod shared_update;
+mod store;
 mod update;
 mod update_law;
 

@@ -1,75 +1,45 @@
 //! A router's database.
 
-ghost use Rattle.std.specs.Prelude.{◌≡◌, ◌<◌, ◌-◌, ◌^◌, ◌↔◌, [], None, Some, IfOk, OnOk, IsTrue, length, map};
+ghost use Rattle.std.specs.Prelude.{◌≡◌, ◌↔◌, None, IfOk, IsTrue, length, map};
 ghost use Rattle.lsdb.specs.Conflicts.{least_conflict};
-ghost use Rattle.lsdb.specs.Installing.{installed, IsBehind, IsKept};
 ghost use Rattle.lsdb.specs.Orders.{without_place};
-ghost use Rattle.flood_core.specs.Receiving.{arrived};
+ghost use Rattle.flood_core.specs.Numbers.{database_in, IsStored};
 ghost use Rattle.flood_core.specs.Runs.{AreNewestOfTheSame, last_number, numbered};
 
-use crate::held::Held;
-use crate::shared_lsa::SharedLsa;
-use file_key::FileKey;
-use indexmap::IndexSet;
-use lsdb::{Change, Key, Lsdb};
+use crate::same::hold_the_same;
+use crate::store::Store;
+use lsdb::Lsdb;
 use mrt_graph::NoMemory;
+use ospf_lsa::Lsa;
 use std::alloc::Global;
 use std::marker::Model;
 
 /// A database of LSAs that packets and other databases hold too. It keeps of each key the first newest instance, as
 /// [`Lsdb`] does, and copies none.
 #[derive(Drop)]
-pub struct SharedLsdb {
-    keys: IndexSet<Key, FileKey>,
-    held: Vec<Held>,
-    greatest: Option<u32>,
+pub struct SharedLsdb<'a> {
+    lsas: &'a [Lsa],
+    store: &'a Store,
 }
 
-impl Model for SharedLsdb {
+impl<'a> Model for SharedLsdb<'a> {
     ghost use Rattle.lsdb.specs.Entries.{Database};
-    ghost use Rattle.flood_core.specs.SharedStore.{IsSharedStore};
+    ghost use Rattle.flood_core.specs.Numbers.{database_in, IsStored};
 
     ghost Value = { Database };
 
-    ghost view = { λ d. record { entries = d.held.items; greatest = d.greatest } };
+    ghost view = { λ d. database_in d.lsas.now d.store.now };
 
-    ghost invariant = { λ d. IsSharedStore d.keys.keys d.held.items d.greatest };
+    ghost invariant = { λ d. IsStored d.lsas.now d.store.now };
 }
 
-impl SharedLsdb {
-    /// A database without LSAs, with its keys hashed by what the file of its LSAs gives.
-    pub(crate) fn keyed(alloc: Global, file: FileKey) -> SharedLsdb
-        ensures entries { result.entries ≡ [] }
-        ensures greatest { result.greatest ≡ None }
+impl<'a> SharedLsdb<'a> {
+    /// The database that is kept so over the LSAs of a file.
+    pub(crate) fn new(lsas: &'a [Lsa], store: &'a Store) -> SharedLsdb<'a>
+        requires { IsStored lsas.now store.now }
+        ensures { result ≡ database_in lsas.now store.now }
     {
-        SharedLsdb {
-            keys: IndexSet::with_hasher(alloc, file),
-            held: Vec::new(alloc),
-            greatest: None,
-        }
-    }
-
-    /// Installs an instance with this place, and tells what it changed.
-    ///
-    /// It takes, over many installs, the time of a look-up by key, and where there is an instance of the same rank,
-    /// that of comparing the two bodies. It copies nothing.
-    pub(crate) fn install(&mut self, lsa: &SharedLsa, at: u32) -> Result<Change, NoMemory>
-        requires kept { IsKept lsa.now }
-        requires behind { IsBehind self.old.greatest at }
-        requires small { at < 2 ^ 32 - 1 }
-        ensures change { IfOk result (λ change. change ≡ (installed self.old.entries (arrived at lsa.now)).1) }
-        ensures entries { OnOk result (self.new.entries ≡ (installed self.old.entries (arrived at lsa.now)).0) }
-        ensures greatest { OnOk result (self.new.greatest ≡ Some at) }
-    {
-        let shared = lsa.share()?;
-        self.held.reserve(1)?;
-        let (place, is_new) = self.keys.insert_full(Key::of(lsa.get()))?;
-        self.greatest = Some(at);
-        if is_new {
-            self.held.push_reserved(Held::new(shared, at));
-            return Ok(Change::Added);
-        }
-        Ok(self.held[place].meet(shared, at))
+        SharedLsdb { lsas, store }
     }
 
     /// Whether the newest instances of each key differ in nothing but their places and ages.
@@ -78,12 +48,19 @@ impl SharedLsdb {
     pub fn is_settled(&self) -> bool
         ensures { IsTrue result ↔ (least_conflict self.now.entries ≡ None) }
     {
-        for held in &self.held {
-            if held.is_contradicted() {
-                return false;
-            }
-        }
-        true
+        self.store.is_settled()
+    }
+
+    /// Whether another database holds the same LSAs in the same order, but for their places.
+    ///
+    /// It takes time in proportion to their bytes at most, and no memory.
+    pub fn holds_the_same(&self, other: &SharedLsdb) -> bool
+        ensures same { IsTrue result ↔ (map (λ entry. without_place entry.lsa) self.now.entries
+            ≡ map (λ entry. without_place entry.lsa) other.now.entries) }
+        ensures of_the_same { IsTrue result → AreNewestOfTheSame (map (λ entry. entry.lsa) self.now.entries)
+            (map (λ entry. entry.lsa) other.now.entries) }
+    {
+        hold_the_same(self.lsas, self.store, other.lsas, other.store)
     }
 
     /// A settled database of copies of the first newest instances of a settled one, each with its number in their order
@@ -105,10 +82,7 @@ impl SharedLsdb {
         ensures of_the_same { IfOk result (λ copy. AreNewestOfTheSame (map (λ entry. entry.lsa) self.now.entries)
             (map (λ entry. entry.lsa) copy.entries)) }
     {
-        let mut copy = Lsdb::keyed(alloc, *self.keys.hasher());
-        for number in 0..self.held.len() {
-            copy.install(self.held[number].copied(alloc, number as u32)?)?;
-        }
+        let copy = self.store.copied(alloc, self.lsas)?;
         Ok(copy)
     }
 }

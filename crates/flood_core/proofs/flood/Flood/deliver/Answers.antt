@@ -1,57 +1,126 @@
-use Rattle.std.proofs.Common.{◌≡◌, ◌+◌, length, ℕ, set, subst, ap, arith}
+use Rattle.std.proofs.Common.{◌≡◌, ◌+◌, ℕ, length, ap, set, subst, arith}
 use Rattle.flood_core.specs.FloodStep.{delivered}
-use Rattle.flood_core.specs.FloodState.{FloodState}
-use Rattle.flood_core.proofs.OneDelivery.{IsDone, answer_told, done_of, few_sent, flood_kept, state_told}
+use Rattle.flood_core.specs.Numbers.{flood_in}
+use Rattle.flood_core.proofs.NumberedDelivery.{HasReceived, answer_on, deliverable, few_new, flood_on, not_refused, received_of, state_on}
 use Rattle.flood_core.proofs.flood.Flood.deliver.Goals as goal
+
+pub receive-requires-clause-stored : goal.receive-requires-clause-stored
+receive-requires-clause-stored c =
+    (deliverable c.self.inside.lsas.items c.self.inside.packets.items c.self.inside.routers.items c.self.inside.changed
+    c.args.packet c.from-2.result c.index-update.result.now c.index_mut.result.now c.self.invariant
+    (omega (arith, c.if-as_slice-packet.false, ap length c.as_slice.ensures.value))
+    (omega (arith, c.if-as_slice-from.false, ap length c.as_slice-2.ensures.value, c.from.ensures, c.from-2.ensures))
+    c.index-update.ensures c.index_mut.ensures.value c.as_slice-3.result.now c.as_slice-numbers.result.now
+    c.as_slice-3.ensures.value c.as_slice-numbers.ensures.value).stored
+
+pub receive-requires-clause-numbers : goal.receive-requires-clause-numbers
+receive-requires-clause-numbers c =
+    (deliverable c.self.inside.lsas.items c.self.inside.packets.items c.self.inside.routers.items c.self.inside.changed
+    c.args.packet c.from-2.result c.index-update.result.now c.index_mut.result.now c.self.invariant
+    (omega (arith, c.if-as_slice-packet.false, ap length c.as_slice.ensures.value))
+    (omega (arith, c.if-as_slice-from.false, ap length c.as_slice-2.ensures.value, c.from.ensures, c.from-2.ensures))
+    c.index-update.ensures c.index_mut.ensures.value c.as_slice-3.result.now c.as_slice-numbers.result.now
+    c.as_slice-3.ensures.value c.as_slice-numbers.ensures.value).are_numbers
+
+pub receive-requires-clause-kept : goal.receive-requires-clause-kept
+receive-requires-clause-kept c =
+    (deliverable c.self.inside.lsas.items c.self.inside.packets.items c.self.inside.routers.items c.self.inside.changed
+    c.args.packet c.from-2.result c.index-update.result.now c.index_mut.result.now c.self.invariant
+    (omega (arith, c.if-as_slice-packet.false, ap length c.as_slice.ensures.value))
+    (omega (arith, c.if-as_slice-from.false, ap length c.as_slice-2.ensures.value, c.from.ensures, c.from-2.ensures))
+    c.index-update.ensures c.index_mut.ensures.value c.as_slice-3.result.now c.as_slice-numbers.result.now
+    c.as_slice-3.ensures.value c.as_slice-numbers.ensures.value).kept
+
+pub receive-requires-clause-behind : goal.receive-requires-clause-behind
+receive-requires-clause-behind c =
+    (deliverable c.self.inside.lsas.items c.self.inside.packets.items c.self.inside.routers.items c.self.inside.changed
+    c.args.packet c.from-2.result c.index-update.result.now c.index_mut.result.now c.self.invariant
+    (omega (arith, c.if-as_slice-packet.false, ap length c.as_slice.ensures.value))
+    (omega (arith, c.if-as_slice-from.false, ap length c.as_slice-2.ensures.value, c.from.ensures, c.from-2.ensures))
+    c.index-update.ensures c.index_mut.ensures.value c.as_slice-3.result.now c.as_slice-numbers.result.now
+    c.as_slice-3.ensures.value c.as_slice-numbers.ensures.value).behind
+
+pub receive-requires-clause-room : goal.receive-requires-clause-room
+receive-requires-clause-room c =
+    (deliverable c.self.inside.lsas.items c.self.inside.packets.items c.self.inside.routers.items c.self.inside.changed
+    c.args.packet c.from-2.result c.index-update.result.now c.index_mut.result.now c.self.invariant
+    (omega (arith, c.if-as_slice-packet.false, ap length c.as_slice.ensures.value))
+    (omega (arith, c.if-as_slice-from.false, ap length c.as_slice-2.ensures.value, c.from.ensures, c.from-2.ensures))
+    c.index-update.ensures c.index_mut.ensures.value c.as_slice-3.result.now c.as_slice-numbers.result.now
+    c.as_slice-3.ensures.value c.as_slice-numbers.ensures.value).room
 
 pub send_on-requires-clause-few : goal.send_on-requires-clause-few
 send_on-requires-clause-few c =
-    let state : FloodState = record {
-      packets = c.self.inside.packets.items;
-      routers = c.self.inside.routers.items;
-      changed = c.self.inside.changed;
-    } in
-    let done = done_of state c.args.packet c.from-2.result c.index-update.result.now c.with_lsas-sent.result
-    c.index_mut.result.now c.receive.new.self c.lsas.result.now c.in_ok-news.news.items
+    let few = few_new c.self.inside.lsas.items c.self.inside.packets.items c.self.inside.routers.items c.self.inside.changed
+    c.args.packet c.from-2.result c.index-update.result.now c.index_mut.result.now c.self.invariant
     (omega (arith, c.if-as_slice-packet.false, ap length c.as_slice.ensures.value))
     (omega (arith, c.if-as_slice-from.false, ap length c.as_slice-2.ensures.value, c.from.ensures, c.from-2.ensures))
-    c.index-update.ensures c.index_mut.ensures.value c.lsas.ensures c.in_ok-news.ensures.news
-    c.in_ok-news.ensures.after c.with_lsas-sent.ensures in
-    omega (arith, few_sent done c.self.invariant)
+    c.index-update.ensures c.index_mut.ensures.value c.with_lsas-sent.result c.receive.new.self c.in_ok-news.news.items
+    (received_of c.as_slice-3.result.now c.self.inside.lsas.items c.as_slice-numbers.result.now
+    c.index-update.result.now.lsas.items c.index_mut.result.now c.receive.new.self c.in_ok-news.news.items
+    c.as_slice-3.ensures.value c.as_slice-numbers.ensures.value (record {
+      news_are = c.in_ok-news.ensures.news;
+      new_ones = c.in_ok-news.ensures.numbers;
+      after_is = c.in_ok-news.ensures.after;
+      stored = c.in_ok-news.ensures.stored;
+    }))
+    (c.with_lsas-sent.ensures.packet c.self.inside.lsas.items) in
+    omega (arith, few)
 
--- the delivery, where the new packet was put
-done_here : (c : goal.In_ok-answer) → IsDone
-    (record {
-      packets = c.self.inside.packets.items;
-      routers = c.self.inside.routers.items;
-      changed = c.self.inside.changed;
+-- what the router received, where the new packet was put
+received_here : (c : goal.In_ok-answer) → HasReceived c.self.inside.lsas.items c.index-update.result.now.lsas.items
+    c.index_mut.result.now c.receive.new.self c.in_ok-news.news.items
+received_here c =
+    received_of c.as_slice-3.result.now c.self.inside.lsas.items c.as_slice-numbers.result.now
+    c.index-update.result.now.lsas.items c.index_mut.result.now c.receive.new.self c.in_ok-news.news.items
+    c.as_slice-3.ensures.value c.as_slice-numbers.ensures.value (record {
+      news_are = c.in_ok-news.ensures.news;
+      new_ones = c.in_ok-news.ensures.numbers;
+      after_is = c.in_ok-news.ensures.after;
+      stored = c.in_ok-news.ensures.stored;
     })
-    c.args.packet c.from-2.result c.index-update.result.now c.with_lsas-sent.result c.index_mut.result.now
-    c.receive.new.self c.in_ok-news.news.items
-done_here c =
-    done_of _ c.args.packet c.from-2.result c.index-update.result.now c.with_lsas-sent.result
-    c.index_mut.result.now c.receive.new.self c.lsas.result.now c.in_ok-news.news.items
-    (omega (arith, c.if-as_slice-packet.false, ap length c.as_slice.ensures.value))
-    (omega (arith, c.if-as_slice-from.false, ap length c.as_slice-2.ensures.value, c.from.ensures, c.from-2.ensures))
-    c.index-update.ensures c.index_mut.ensures.value c.lsas.ensures c.in_ok-news.ensures.news
-    c.in_ok-news.ensures.after c.with_lsas-sent.ensures
 
 pub invariant_of-flood : goal.invariant_of-flood
 invariant_of-flood c =
-    flood_kept (done_here c) c.args.self c.send_on.new.packets.items c.self.view_is c.requires c.self.invariant
-    c.in_ok-answer.ensures.packets
+    flood_on c.self.inside.lsas.items c.self.inside.packets.items c.self.inside.routers.items c.self.inside.changed
+    c.args.packet c.from-2.result c.index-update.result.now c.index_mut.result.now c.self.invariant
+    (omega (arith, c.if-as_slice-packet.false, ap length c.as_slice.ensures.value))
+    (omega (arith, c.if-as_slice-from.false, ap length c.as_slice-2.ensures.value, c.from.ensures, c.from-2.ensures))
+    c.index-update.ensures c.index_mut.ensures.value c.with_lsas-sent.result c.receive.new.self c.in_ok-news.news.items
+    (received_here c) (c.with_lsas-sent.ensures.packet c.self.inside.lsas.items) c.args.self c.send_on.new.packets.items
+    c.self.view_is c.requires (c.in_ok-answer.ensures.packets c.self.inside.lsas.items)
+    (c.in_ok-answer.ensures.numbers c.self.inside.lsas.items) c.with_lsas-sent.ensures.lsas
 
 pub returns-clause-answer : goal.returns-clause-answer
 returns-clause-answer c =
     subst (λ (r : ℕ). c.in_ok-answer.answer ≡ (delivered c.args.self c.args.packet r).0) c.from-2.ensures
-    (answer_told (done_here c) c.args.self c.in_ok-answer.answer c.self.view_is c.in_ok-answer.ensures.answer)
+    (answer_on c.self.inside.lsas.items c.self.inside.packets.items c.self.inside.routers.items c.self.inside.changed
+    c.args.packet c.from-2.result c.index-update.result.now c.index_mut.result.now c.self.invariant
+    (omega (arith, c.if-as_slice-packet.false, ap length c.as_slice.ensures.value))
+    (omega (arith, c.if-as_slice-from.false, ap length c.as_slice-2.ensures.value, c.from.ensures, c.from-2.ensures))
+    c.index-update.ensures c.index_mut.ensures.value c.with_lsas-sent.result c.receive.new.self c.in_ok-news.news.items
+    (received_here c) (c.with_lsas-sent.ensures.packet c.self.inside.lsas.items) c.args.self c.in_ok-answer.answer
+    c.self.view_is (c.in_ok-answer.ensures.answer c.self.inside.lsas.items))
 
 pub returns-clause-state : goal.returns-clause-state
 returns-clause-state c =
-    subst (λ (r : ℕ). record {
-      packets = c.send_on.new.packets.items;
-      routers = set c.self.inside.routers.items c.from-2.result c.receive.new.self;
-      changed = c.self.inside.changed + 1;
-    }
+    subst (λ (r : ℕ). flood_in c.self.inside.lsas.items c.send_on.new.packets.items
+    (set c.self.inside.routers.items c.from-2.result c.receive.new.self) (c.self.inside.changed + 1)
     ≡ (delivered c.args.self c.args.packet r).1) c.from-2.ensures
-    (state_told (done_here c) c.args.self c.send_on.new.packets.items c.self.view_is c.in_ok-answer.ensures.packets)
+    (state_on c.self.inside.lsas.items c.self.inside.packets.items c.self.inside.routers.items c.self.inside.changed
+    c.args.packet c.from-2.result c.index-update.result.now c.index_mut.result.now c.self.invariant
+    (omega (arith, c.if-as_slice-packet.false, ap length c.as_slice.ensures.value))
+    (omega (arith, c.if-as_slice-from.false, ap length c.as_slice-2.ensures.value, c.from.ensures, c.from-2.ensures))
+    c.index-update.ensures c.index_mut.ensures.value c.with_lsas-sent.result c.receive.new.self c.in_ok-news.news.items
+    (received_here c) (c.with_lsas-sent.ensures.packet c.self.inside.lsas.items) c.args.self c.send_on.new.packets.items
+    c.self.view_is (c.in_ok-answer.ensures.packets c.self.inside.lsas.items))
+
+pub returns-clause-no_router : goal.returns-clause-no_router
+returns-clause-no_router c =
+    not_refused c.self.inside.lsas.items c.self.inside.packets.items c.self.inside.routers.items c.self.inside.changed
+    c.args.packet c.from-2.result c.index-update.result.now c.index_mut.result.now c.self.invariant
+    (omega (arith, c.if-as_slice-packet.false, ap length c.as_slice.ensures.value))
+    (omega (arith, c.if-as_slice-from.false, ap length c.as_slice-2.ensures.value, c.from.ensures, c.from-2.ensures))
+    c.index-update.ensures c.index_mut.ensures.value c.with_lsas-sent.result c.receive.new.self c.in_ok-news.news.items
+    (received_here c) (c.with_lsas-sent.ensures.packet c.self.inside.lsas.items) c.args.self c.in_ok-answer.answer
+    c.args.router c.self.view_is c.from-2.ensures (c.in_ok-answer.ensures.answer c.self.inside.lsas.items)

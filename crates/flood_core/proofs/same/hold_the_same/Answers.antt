@@ -1,0 +1,54 @@
+use Rattle.std.proofs.Common.{◌∙◌, ◌<◌, ◌≤◌, length, refl, sym, ap, arith}
+use Rattle.std.proofs.lemmas.Bool.{true≢false}
+use Rattle.lsdb.specs.Orders.{without_place}
+use Rattle.flood_core.specs.declared.held.Held.{Held}
+use Rattle.flood_core.proofs.Numbered.{all_at, lsa_read}
+use Rattle.flood_core.proofs.SameLsas.{one_differs, same_all, same_more}
+use Rattle.flood_core.proofs.same.hold_the_same.Goals as goal
+
+pub returns-then-not-are_alike : goal.returns-then-not-are_alike
+returns-then-not-are_alike c =
+    let within : c.loop-place.place < length c.args.store.now.held.items = omega arith in
+    let within' : c.loop-place.place < length c.args.other.now.held.items = omega arith in
+    let one = lsa_read c.args.lsas.now c.index.result.now.number c.index-lsas-index.result
+    (all_at (λ (h : Held). h.number < length c.args.lsas.now) c.args.store.now.held.items c.loop-place.place
+    c.index.result.now c.requires.stored.numbers within c.index.ensures) c.index-lsas-index.is in
+    let other = lsa_read c.args.others.now c.index-in-loop-place.result.now.number c.index-others-index.result
+    (all_at (λ (h : Held). h.number < length c.args.others.now) c.args.other.now.held.items c.loop-place.place
+    c.index-in-loop-place.result.now c.requires.other_stored.numbers within' c.index-in-loop-place.ensures)
+    c.index-others-index.is in (
+      λ is. absurd cc,
+      λ all.
+          absurd (true≢false
+          (sym (c.are_alike.ensures.1
+          (ap without_place one
+          ∙ one_differs c.args.lsas.now c.args.others.now c.args.store.now.held.items c.args.other.now.held.items
+          c.loop-place.place c.index.result.now c.index-in-loop-place.result.now c.loop-place.invariant within within'
+          c.index.ensures c.index-in-loop-place.ensures all
+          ∙ sym (ap without_place other)))
+          ∙ c.if-not-are_alike.true)),
+    )
+
+pub loop-place-preserved : goal.loop-place-preserved
+loop-place-preserved c =
+    let within : c.loop-place.place < length c.args.store.now.held.items = omega arith in
+    let within' : c.loop-place.place < length c.args.other.now.held.items = omega arith in
+    let one = lsa_read c.args.lsas.now c.index.result.now.number c.index-lsas-index.result
+    (all_at (λ (h : Held). h.number < length c.args.lsas.now) c.args.store.now.held.items c.loop-place.place
+    c.index.result.now c.requires.stored.numbers within c.index.ensures) c.index-lsas-index.is in
+    let other = lsa_read c.args.others.now c.index-in-loop-place.result.now.number c.index-others-index.result
+    (all_at (λ (h : Held). h.number < length c.args.others.now) c.args.other.now.held.items c.loop-place.place
+    c.index-in-loop-place.result.now c.requires.other_stored.numbers within' c.index-in-loop-place.ensures)
+    c.index-others-index.is in
+    same_more c.args.lsas.now c.args.others.now c.args.store.now.held.items c.args.other.now.held.items
+    c.loop-place.place c.index.result.now c.index-in-loop-place.result.now c.loop-place.invariant within within'
+    c.index.ensures c.index-in-loop-place.ensures
+    (sym (ap without_place one) ∙ c.are_alike.ensures.0 c.if-not-are_alike.false ∙ ap without_place other)
+
+pub returns : goal.returns
+returns c =
+    let past : length c.args.store.now.held.items ≤ c.loop-place.place = omega arith in (
+      λ _. same_all c.args.lsas.now c.args.others.now c.args.store.now.held.items c.args.other.now.held.items
+          c.loop-place.place past c.loop-place.invariant,
+      λ _. refl,
+    )
