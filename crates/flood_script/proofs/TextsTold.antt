@@ -6,7 +6,7 @@ use Rattle.std.proofs.lemmas.List.{append-nil}
 use Rattle.std.proofs.Math.ListN.{length-set}
 use Rattle.lsdb.specs.Entries.{Database}
 use Rattle.flood_core.specs.declared.answer.Answer.TheVariants as answers
-use Rattle.flood_core.specs.declared.router.Router.{Router}
+use Rattle.flood_core.specs.Routers.{Router}
 use Rattle.flood_core.specs.declared.update.Update.{Update}
 use Rattle.flood_core.specs.FloodState.{FloodState}
 use Rattle.flood_core.specs.FloodStep.{reached}

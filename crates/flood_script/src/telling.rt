@@ -86,8 +86,8 @@ fn tell<C: Compare>(
         FloodLine::Same { one, other, router } => {
             let verdict = comparing.compare(
                 alloc,
-                flood.database(*one),
-                flood.database(*other),
+                &flood.database(*one),
+                &flood.database(*other),
                 *router,
             )?;
             push_verdict(text, verdict)?;
