@@ -100,6 +100,18 @@ better_there Is items i offered made old new now was read is at exactly =
       is = sym new_is ∙ is ∙ ap (λ (o : Option FreeCandidate). better o offered) same;
     }
 
+-- where nothing is offered, the old one stays
+pub nothing_more : (Is : FreeCandidate → Type 0) (old new : Option FreeCandidate) → new ≡ old → ((choice : FreeCandidate) → ¬ Is choice) → IsBetterBy Is old new
+nothing_more Is old new same none = record {
+  offered = None;
+  exactly = λ choice. (λ some. cc, λ is. absurd (none choice is));
+  is = same ∙ sym (as_before old);
+}
+  where
+    as_before : (o : Option FreeCandidate) → better o None ≡ o
+    as_before None = refl
+    as_before (Some best) = refl
+
 -- one way more
 pub one_more : (area : AreaParts) (s t n : ℕ) (entry : Option Destination) (ways : List Way) (way : Way) (old new : Option FreeCandidate) → slice_get ways n ≡ Some way
     → IsBest (IsOfferedBy area s t entry ways n) old → IsBetterBy (Offers area s t entry way) old new → IsBest (IsOfferedBy area s t entry ways (n + 1)) new

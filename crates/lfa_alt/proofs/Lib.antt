@@ -6,6 +6,7 @@ pub mod HopsLead
 pub mod LfasExist
 pub mod LfasFound
 pub mod Nearer
+pub mod NetworkWays
 pub mod Offered
 pub mod OneLfa
 pub mod OneText

@@ -34,6 +34,14 @@ pub data IsWayOver (area : AreaParts) (s number : ℕ) : Way → Type 0 where
       → Leaves area arc.to second onward → onward.to ≢ s
       → IsWayOver area s number (way_across number arc (Some second) onward)
 
+-- a way over an arc of s to a network, which ends there
+pub record IsWayToNetwork (area : AreaParts) (s : ℕ) (way : Way) : Type 0 where
+  pub number : ℕ
+  pub arc : Arc
+  pub leaves : Leaves area s number arc
+  pub network : IsNetwork area.ids arc.to
+  pub is : way ≡ way_over number arc (Some arc.to)
+
 -- a way serves a destination
 abbrev pub Serves : Option ℕ → Option ℕ → ℕ → Type 0
 Serves None second t = ⊤

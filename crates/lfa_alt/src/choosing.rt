@@ -1,7 +1,8 @@
 //! What loop-free candidate a way is for a destination, and which of two comes first.
 
-ghost use Rattle.std.specs.Prelude.{◌≡◌, ◌≢◌, ◌<◌, ◌+◌, ◌↔◌, ℕ, IfSome, IsTrue, None, Some, length, slice_index_or};
+ghost use Rattle.std.specs.Prelude.{◌≡◌, ◌≢◌, ◌<◌, ◌+◌, ◌↔◌, ℕ, IfSome, IsTrue, None, Some, ◌&&◌, is_none, is_some, length, slice_index_or};
 ghost use Rattle.std.specs.Ordering.{is_gt};
+ghost use Rattle.area_graph.specs.AreaInvariant.{IsArea};
 ghost use Rattle.area_graph.specs.Parts.{AreaParts};
 ghost use Rattle.primary_alt.specs.DistancesFrom.{AreDistancesFrom};
 ghost use Rattle.lfa_alt.specs.declared.alternate.FreeCandidate.{FreeCandidate};
@@ -9,7 +10,7 @@ ghost use Rattle.lfa_alt.specs.Best.{better};
 ghost use Rattle.lfa_alt.specs.LoopFree.{IsLoopFreeBy, candidate_cmp};
 ghost use Rattle.lfa_alt.specs.Nearer.{IsNearer, ProtectsBy};
 ghost use Rattle.lfa_alt.specs.Destinations.{IsDestination, IsDestinationFor, Offers};
-ghost use Rattle.lfa_alt.specs.Ways.{Serves, candidate_of};
+ghost use Rattle.lfa_alt.specs.Ways.{IsWayToNetwork, Serves, candidate_of};
 
 use crate::alternate::FreeCandidate;
 use crate::destination::Destination;
@@ -35,6 +36,37 @@ pub fn candidate_for(
         Some(destination) => offered(way, source, known, t, destination),
         None => None,
     }
+}
+
+/// Whether a way ends at a network.
+pub fn is_to_network(way: &Way) -> bool
+    ensures { result ≡ (is_some way.now.network && is_none way.now.second) }
+{
+    way.network.is_some() && way.second.is_none()
+}
+
+/// The loop-free candidate that a way to a network is for it, if it is one. No distance from the network is asked: from
+/// there to itself it is 0, and from any other node to it greater.
+pub fn candidate_there(way: &Way, destination: &Option<Destination>) -> Option<FreeCandidate>
+    ensures { (area : AreaParts) (source : ℕ) → IsArea area → IsWayToNetwork area source way.now
+        → IsDestinationFor area source way.now.next destination.now → (choice : FreeCandidate)
+        → (result ≡ Some choice) ↔ Offers area source way.now.next destination.now way.now choice }
+{
+    match destination {
+        Some(destination) => offered_there(way, destination),
+        None => None,
+    }
+}
+
+fn offered_there(way: &Way, destination: &Destination) -> Option<FreeCandidate>
+    ensures { (area : AreaParts) (source : ℕ) → IsArea area → IsWayToNetwork area source way.now
+        → IsDestination area source way.now.next destination.now → (choice : FreeCandidate)
+        → (result ≡ Some choice) ↔ Offers area source way.now.next (Some destination.now) way.now choice }
+{
+    if way.bond == destination.bond {
+        return None;
+    }
+    Some(candidate_over(way, 0, destination.primary.next != way.next))
 }
 
 /// The loop-free candidate that a way is for a node with a primary, if it is one.

@@ -3,6 +3,7 @@
 ghost use Rattle.std.specs.Prelude.{◌≡◌, ◌<◌, IfOk, length, map};
 ghost use Rattle.std.specs.Option.{option_map};
 ghost use Rattle.mrt_graph.specs.GraphInvariant.{IsNetwork};
+ghost use Rattle.primary_alt.specs.DistancesFrom.{AreDistancesFrom};
 ghost use Rattle.primary_alt.specs.Primaries.{ArePrimaries};
 ghost use Rattle.lfa_alt.specs.LoopFree.{AreLfas, alternate_of};
 
@@ -12,42 +13,43 @@ use crate::offering::{Near, best_of};
 use crate::ways::ways;
 use area_graph::{Area, Spot};
 use mrt_graph::NoMemory;
-use primary_alt::{Primary, Searches, all_arcs, primaries};
+use primary_alt::{FromRouter, Searches, all_arcs, from_router};
 use std::alloc::Global;
 
 /// Of each node the loop-free alternate of the source, a router, for it (RFC 5286, section 3): None for the source
 /// itself, where no walk leads, and where no candidate is loop-free.
 ///
-/// One search from each neighbour serves all nodes, and three from the source give its primaries. So it takes time in
-/// proportion to the neighbours times the arcs, times the logarithm of the latter, and to the ways times the nodes. A way
-/// is an arc of the source, or its arc to a network and a node on that network. The hub of a star and a router on a network
-/// of all routers search from each of them.
+/// One search from each neighbouring router serves all nodes, and what [`from_router`](primary_alt::from_router) takes
+/// gives the source's primaries and its distances. So it takes time in proportion to the neighbours times the arcs, times
+/// the logarithm of the latter, and to the ways times the nodes. A way is an arc of the source, or its arc to a network and
+/// a node on that network. The hub of a star and a router on a network of all routers search from each of them.
 pub fn loop_free(alloc: Global, area: &Area, source: Spot) -> Result<Vec<Option<Lfa>>, NoMemory>
     requires within { source < length area.now.ids }
     requires router { ¬ IsNetwork area.now.ids source }
     ensures { IfOk result (λ entries. AreLfas area.now source entries.items) }
 {
-    let primaries = primaries(alloc, area, source)?;
-    alternates(alloc, area, source, &primaries)
+    let from = from_router(alloc, area, source)?;
+    alternates(alloc, area, source, &from)
 }
 
-/// Of each node the loop-free alternate of the source for it, by the primaries of the source.
+/// Of each node the loop-free alternate of the source for it, by the primaries of the source and the distances from it.
 pub fn alternates(
     alloc: Global,
     area: &Area,
     source: Spot,
-    primaries: &[Option<Primary>],
+    from: &FromRouter,
 ) -> Result<Vec<Option<Lfa>>, NoMemory>
     requires within { source < length area.now.ids }
-    requires primaries { ArePrimaries area.now source primaries.now }
+    requires primaries { ArePrimaries area.now source from.now.primaries.items }
+    requires distances { AreDistancesFrom area.now.arcs source from.now.distances.items }
+    requires one_each { length from.now.distances.items ≡ length area.now.ids }
     ensures { IfOk result (λ entries. AreLfas area.now source entries.items) }
 {
     let arcs = all_arcs(alloc, area)?;
-    let mut searches = Searches::new(alloc, area)?;
-    let mut known = vec![in alloc; None; area.count() as usize]?;
-    searches.distances(source, &mut known)?;
-    let destinations = destinations(alloc, area, &arcs, source, primaries, &known)?;
+    let destinations = destinations(alloc, area, &arcs, source, &from.primaries, &from.distances)?;
     let ways = ways(alloc, area, &arcs, source)?;
+    let mut searches = Searches::new(alloc, area)?;
+    let known = Vec::from_slice(alloc, &from.distances)?;
     let near = Near { at: source, known };
     let best = best_of(alloc, &mut searches, near, source, &destinations, &ways)?;
     lfas(alloc, &best)

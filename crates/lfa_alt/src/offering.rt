@@ -1,6 +1,7 @@
 //! The first one of the loop-free candidates that ways offer, of all nodes at once.
 
 ghost use Rattle.std.specs.Prelude.{◌≡◌, ◌<◌, ℕ, IfOk, OnOk, Option, None, Some, length, map, slice_get};
+ghost use Rattle.area_graph.specs.AreaInvariant.{IsArea};
 ghost use Rattle.area_graph.specs.Parts.{AreaParts};
 ghost use Rattle.primary_alt.specs.DistancesFrom.{AreDistancesFrom};
 ghost use Rattle.lfa_alt.specs.declared.alternate.FreeCandidate.{FreeCandidate};
@@ -9,9 +10,10 @@ ghost use Rattle.lfa_alt.specs.declared.way.Way.{Way};
 ghost use Rattle.lfa_alt.specs.Best.{AreBest};
 ghost use Rattle.lfa_alt.specs.Nearer.{IsBetterBy};
 ghost use Rattle.lfa_alt.specs.Destinations.{AreDestinations, Offers};
+ghost use Rattle.lfa_alt.specs.Ways.{AreWays, IsWayToNetwork};
 
 use crate::alternate::FreeCandidate;
-use crate::choosing::{better, candidate_for};
+use crate::choosing::{better, candidate_for, candidate_there, is_to_network};
 use crate::destination::Destination;
 use crate::way::Way;
 use area_graph::Spot;
@@ -28,7 +30,7 @@ pub struct Near {
 
 /// Of each node the first one of the loop-free candidates that the ways offer for it.
 ///
-/// One search for each node that ways lead to, where those to one node stand together.
+/// One search for each router that ways lead to, where those to one node stand together.
 pub fn best_of(
     alloc: Global,
     searches: &mut Searches,
@@ -37,20 +39,22 @@ pub fn best_of(
     destinations: &[Option<Destination>],
     ways: &[Way],
 ) -> Result<Vec<Option<FreeCandidate>>, NoMemory>
+    requires kept { IsArea searches.old }
     requires source { source < length searches.old.ids }
     requires near { AreDistancesFrom searches.old.arcs near.at near.known.items }
     requires one_each { length near.known.items ≡ length searches.old.ids }
     requires destinations { AreDestinations searches.old source destinations.now }
-    requires throughs { (t : ℕ) (destination : Destination) → slice_get destinations.now t ≡ Some (Some destination)
-        → destination.primary.next < length searches.old.ids }
-    requires ways { (number : ℕ) (way : Way) → slice_get ways.now number ≡ Some way
-        → way.next < length searches.old.ids }
+    requires ways { AreWays searches.old source ways.now }
     ensures { IfOk result (λ best.
         AreBest searches.old source destinations.now ways.now (length ways.now) best.items) }
 {
     let mut best = none_each(alloc, destinations)?;
     for number in 0..ways.len() {
         let way = &ways[number];
+        if is_to_network(way) {
+            offer_there(way, destinations, &mut best);
+            continue;
+        }
         go_to(searches, way.next, &mut near)?;
         offer(way, source, &near.known, destinations, &mut best);
     }
@@ -83,6 +87,26 @@ fn go_to(searches: &mut Searches, s: Spot, near: &mut Near) -> Result<(), NoMemo
         near.at = s;
     }
     Ok(())
+}
+
+/// Puts what a way to a network offers for that network in place of its first candidate so far, if it comes before that
+/// one. It offers nothing for other nodes.
+fn offer_there(
+    way: &Way,
+    destinations: &[Option<Destination>],
+    best: &mut Vec<Option<FreeCandidate>>,
+)
+    requires next { way.now.next < length destinations.now }
+    requires best { length best.old.items ≡ length destinations.now }
+    ensures one_each { length best.new.items ≡ length best.old.items }
+    ensures better { (area : AreaParts) (source : ℕ) → IsArea area → IsWayToNetwork area source way.now
+        → AreDestinations area source destinations.now → (t : ℕ) (entry : Option Destination) (old new : Option FreeCandidate)
+        → slice_get destinations.now t ≡ Some entry → slice_get best.old.items t ≡ Some old
+        → slice_get best.new.items t ≡ Some new
+        → IsBetterBy (Offers area source t entry way.now) old new }
+{
+    let place = way.next.get() as usize;
+    best[place] = better(best[place], candidate_there(way, &destinations[place]));
 }
 
 /// Puts what a way offers for each node in place of its first candidate so far, if it comes before that one.

@@ -14,7 +14,7 @@ use crate::finding::alternates;
 use crate::words::kind_word;
 use area_graph::{ArcNo, Area, Spot};
 use mrt_graph::NoMemory;
-use primary_alt::{Primary, primaries};
+use primary_alt::{Primary, from_router};
 use std::alloc::Global;
 use text_parts::{push, push_count, push_hop, push_node};
 
@@ -31,11 +31,11 @@ pub fn lfa_text(alloc: Global, area: &Area, source: Spot) -> Result<Vec<u8>, NoM
     requires router { ¬ IsNetwork area.now.ids source }
     ensures { IfOk result (λ text. IsLfaText area.now source text.items) }
 {
-    let primaries = primaries(alloc, area, source)?;
-    let entries = alternates(alloc, area, source, &primaries)?;
+    let from = from_router(alloc, area, source)?;
+    let entries = alternates(alloc, area, source, &from)?;
     let mut text = Vec::new(alloc);
     push_head(&mut text, area, source)?;
-    push_lines(&mut text, area, source, &primaries, &entries)?;
+    push_lines(&mut text, area, source, &from.primaries, &entries)?;
     Ok(text)
 }
 
