@@ -8,6 +8,7 @@ pub use mrt_answer::{
     made_networks_are_taken, tables_are_of_one_certificate, what_steps_read_fits_together,
 };
 pub use mrt_exit::{DbKind, Exit, Line, What};
+pub use mrt_words::words_spell_one_form;
 pub use program::run;
 pub use run_law::{
     alike_routers_are_told_alike, one_exit_comes, only_a_verdict_says_no, what_was_written_passes,

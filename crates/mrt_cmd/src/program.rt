@@ -42,11 +42,11 @@ use std::alloc::Global;
 ///
 /// It takes the time of reading the files, of an install for each LSA, of the area and the island, and of what is asked: of
 /// checking a certificate, and of `upgrade` writing it; of computing and writing one; of computing the rows for one node after
-/// the other and a router's primaries and writing its table; of computing a certificate and all routers' primaries and
-/// following packets; of a search from each neighbour for `lfa`, of the directions and the text for `order`, of computing a
-/// certificate for `proxy`. A survey takes the time of making the network and of computing the certificate of its island;
-/// `flood` that of reading packets, profile and script, of the deliveries, and for each comparison of two areas, islands and
-/// certificates.
+/// the other and a router's primaries and writing its table; of the rows and the primaries for the destinations of packets and
+/// of following these; of a search from the router and from each neighbour for `lfa`, of the directions and the text for
+/// `order`, of the rows for one node for `proxy`. A survey takes the time of making the network and of computing the
+/// certificate of its island; `flood` that of reading packets, profile and script, of the deliveries, and for each comparison
+/// of two areas, islands and certificates, where the databases differ.
 pub fn run<F: Shelf, K: Sink, E: Sink>(
     alloc: Global,
     words: &[Word],
@@ -81,7 +81,8 @@ pub fn run<F: Shelf, K: Sink, E: Sink>(
         })
         result }
 
-    // `Usage` comes just where the words are none of the forms, and nothing is read then.
+    // `Usage` comes just where the words are none of the forms (`words_spell_one_form` has the table of these), and nothing is read
+    // then.
     ensures usage { (result ≡ Exit.Usage) ↔ IsNone (form_of words.now) }
     ensures usage_reads_nothing { result ≡ Exit.Usage → shelf.new ≡ shelf.old }
 

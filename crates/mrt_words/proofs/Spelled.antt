@@ -11,7 +11,7 @@ use Rattle.fabric_script.specs.Names.{failure_in, node_in}
 use Rattle.fabric_script.specs.ScriptLines.{entry_in}
 use Rattle.mrt_graph.specs.Spelling.{address_in, number_in}
 use Rattle.mrt_words.specs.Form.{FileForm, FloodForm, Form, OfFiles, Survey, Flood, Task, Check, Certify, Table, Trace, Fabric, Upgrade, Order, Proxy, Lfa, IsNetworkSize, IsTaskWithin, file_form_of, file_name, flood_of, form_of, lfa_of, nodes_in, other_form_of, profile_name, proxy_of, survey_of, task_form_of, task_in, task_of, trace_of}
-use Rattle.mrt_words.specs.Spellings.{AreFailureWords, AreFloodWords, AreLfaWords, AreNameWords, AreProxyWords, AreRouterWords, AreSurveyWords, AreTaskWords, AreTraceWords, AreWordsOf, AreWordsUnderProfile, IsProfile}
+use Rattle.mrt_words.specs.Spellings.{AreFailureWords, AreFloodWords, AreLfaWords, AreNameWords, AreProxyWords, AreRouterWords, AreSurveyWords, AreTaskWords, AreTraceWords, AreWordsOf, AreWordsUnderProfile, NamesProfile}
 
 -- a test that holds, and what comes where it does; else what comes next
 branch : {A : Type 0} (P : A → Type 0) (b : Bool) (one other : Option A) → (b ≡ true → IfSome one P) → IfSome other P
@@ -143,10 +143,10 @@ task_spelled command (from ∷ to ∷ entry ∷ failed ∷ []) =
     (λ name is. trace_spelled command from to entry (Some name) (failed ∷ []) same (failed, refl, is))) tt
 task_spelled command (from ∷ to ∷ entry ∷ failed ∷ more ∷ words) = tt
 
-profile_is : (word : List ℕ) → word ≢ [] → IsProfile (profile_name word) word
+profile_is : (word : List ℕ) → word ≢ [] → NamesProfile (profile_name word) word
 profile_is word some = go (bytes_eq word (codes "-")) refl
   where
-    go : (b : Bool) → bytes_eq word (codes "-") ≡ b → IsProfile (if b then None else Some word) word
+    go : (b : Bool) → bytes_eq word (codes "-") ≡ b → NamesProfile (if b then None else Some word) word
     go true is = (bytes_eq-Decides word (codes "-")).0 is
     go false is = (refl, λ same. differ ((bytes_eq-Decides word (codes "-")).1 same) is, some)
       where

@@ -11,7 +11,7 @@ use Rattle.fabric_script.specs.Names.{failure_in, node_in}
 use Rattle.fabric_script.specs.ScriptLines.{entry_in}
 use Rattle.mrt_graph.specs.Spelling.{address_in, number_in}
 use Rattle.mrt_words.specs.Form.{FileForm, FloodForm, Form, OfFiles, Survey, Flood, Task, Check, Certify, Table, Trace, Fabric, Upgrade, Order, Proxy, Lfa, IsNetworkSize, file_form_of, file_name, flood_of, form_of, lfa_of, nodes_in, other_form_of, profile_name, proxy_of, survey_of, task_form_of, task_in, task_of, trace_of}
-use Rattle.mrt_words.specs.Spellings.{AreFailureWords, AreFloodWords, AreLfaWords, AreNameWords, AreProxyWords, AreRouterWords, AreSurveyWords, AreTaskWords, AreTraceWords, AreWordsOf, AreWordsUnderProfile, IsProfile}
+use Rattle.mrt_words.specs.Spellings.{AreFailureWords, AreFloodWords, AreLfaWords, AreNameWords, AreProxyWords, AreRouterWords, AreSurveyWords, AreTaskWords, AreTraceWords, AreWordsOf, AreWordsUnderProfile, NamesProfile}
 
 long : (word : List ℕ) → word ≢ [] → nat_lt 0 (length word) ≡ true
 long [] some = absurd (some refl)
@@ -60,7 +60,7 @@ task_is (Proxy router first second) words are = ap task_words are.are ∙ proxy_
     proxy_is : proxy_of are.address are.one are.other ≡ Some (Proxy router first second)
     proxy_is = rw (are.router_is, are.first_is, are.second_is, different first second are.different) refl
 
-profile_word : (profile : Option (List ℕ)) (word : List ℕ) → IsProfile profile word → (profile_name word ≡ profile) × (nat_lt 0 (length word) ≡ true)
+profile_word : (profile : Option (List ℕ)) (word : List ℕ) → NamesProfile profile word → (profile_name word ≡ profile) × (nat_lt 0 (length word) ≡ true)
 profile_word None word is = (ap profile_name is, ap (λ (w : List ℕ). nat_lt 0 (length w)) is)
 profile_word (Some name) word is = (ap profile_name is.0 ∙ go (bytes_eq name (codes "-")) refl, ap (λ (w : List ℕ). nat_lt 0 (length w)) is.0 ∙ long name is.2)
   where

@@ -7,12 +7,12 @@ use Rattle.fabric_script.specs.ScriptLines.{entry_in}
 use Rattle.mrt_graph.specs.Spelling.{address_in, number_in}
 use Rattle.mrt_words.specs.Form.{FileForm, FloodForm, Form, OfFiles, Survey, Flood, Task, Check, Certify, Table, Trace, Fabric, Upgrade, Lfa, Order, Proxy, IsNetworkSize}
 
--- the word stands for a profile: its name, or `-` for none
-abbrev pub IsProfile : Option (List ℕ) → List ℕ → Type 0
-IsProfile None word = word ≡ codes "-"
-IsProfile (Some name) word = (word ≡ name) × (name ≢ codes "-") × (name ≢ [])
+-- the word stands for a profile: its name, which is not empty, or `-` for none
+abbrev pub NamesProfile : Option (List ℕ) → List ℕ → Type 0
+NamesProfile None word = word ≡ codes "-"
+NamesProfile (Some name) word = (word ≡ name) × (name ≢ codes "-") × (name ≢ [])
 
--- a command and a file's name
+-- a command and a file's name, which is not empty
 abbrev pub AreNameWords : List ℕ → List ℕ → List (List ℕ) → Type 0
 AreNameWords command name words = (words ≡ command ∷ name ∷ []) × (name ≢ [])
 
@@ -61,14 +61,14 @@ AreTaskWords (Lfa router) words = ⊥
 AreTaskWords (Order router) words = AreRouterWords (codes "order") router words
 AreTaskWords (Proxy router first second) words = AreProxyWords router first second words
 
--- the command, the names of the database and of the profile, and what else the task has
+-- the command, the names of the database and of the profile, and what else the task has; no name is empty
 pub record AreWordsUnderProfile (form : FileForm) (words : List (List ℕ)) : Type 0 where
   pub command : List ℕ
   pub profile : List ℕ
   pub more : List (List ℕ)
   pub are : words ≡ command ∷ form.database ∷ profile ∷ more
   pub named : form.database ≢ []
-  pub profile_is : IsProfile form.profile profile
+  pub profile_is : NamesProfile form.profile profile
   pub task_is : AreTaskWords form.task (command ∷ more)
 
 -- `lfa DB ROUTER`
@@ -95,7 +95,7 @@ pub record AreFloodWords (form : FloodForm) (words : List (List ℕ)) : Type 0 w
   pub profile : List ℕ
   pub are : words ≡ codes "flood" ∷ form.updates ∷ profile ∷ form.script ∷ []
   pub named : form.updates ≢ []
-  pub profile_is : IsProfile form.profile profile
+  pub profile_is : NamesProfile form.profile profile
   pub script_named : form.script ≢ []
 
 -- the words spell the form
