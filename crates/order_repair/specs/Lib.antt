@@ -1,8 +1,11 @@
 pub mod Arrow
+pub mod BlockLists
 pub mod Blocks
+pub mod Chains
 pub mod Colors
 pub mod Failed
 pub mod OrderChoice
 pub mod OrderText
 pub mod Source
+pub mod SourceView
 pub mod Tagging

@@ -1,6 +1,8 @@
 //! Repairs by order: which color goes round a failure, told without following a walk.
 #![tactic(auto)]
 
+mod block_lists;
+mod chains;
 mod choice;
 mod colors;
 mod line;
@@ -9,6 +11,7 @@ mod node_line;
 mod order_law;
 mod pair;
 mod reached;
+mod source_view;
 mod tagging;
 mod text;
 mod text_law;

@@ -1,59 +1,56 @@
 //! The line on a node with which the router has a block of more than one link in common.
 
-ghost use Rattle.std.specs.Prelude.{◌≡◌, ◌≢◌, ◌<◌, ◌↔◌, ℕ, IfOk, IsTrue, Some, length, slice_get};
-ghost use Rattle.mrt_graph.specs.declared.link.Element.TheVariants as elements;
+ghost use Rattle.std.specs.Prelude.{◌≡◌, ◌≢◌, ◌<◌, ◌≤◌, ◌↔◌, ℕ, List, IfOk, IsTrue, Some, length, slice_get};
+ghost use Rattle.mrt_graph.specs.declared.gadag.Place.{Place};
 ghost use Rattle.mrt_graph.specs.declared.cert.Tag.TheVariants.{Top};
 ghost use Rattle.mrt_graph.specs.Separates.{IsNeitherEnd};
-ghost use Rattle.link_direction.specs.Directions.{Directions, Says};
+ghost use Rattle.link_direction.specs.Directions.{Directions};
 ghost use Rattle.inc_dec_spf.specs.HasDirections.{HasDirections};
-ghost use Rattle.order_repair.specs.Source.{AreHops, IsSource};
 ghost use Rattle.text_parts.specs.Adds.{Adds};
-ghost use Rattle.text_parts.specs.Parts.{AreParts};
-ghost use Rattle.order_repair.specs.Blocks.{IsPair};
+ghost use Rattle.order_repair.specs.BlockLists.{AreBlockLists, node_blocks};
+ghost use Rattle.order_repair.specs.Blocks.{IsPair, LinkLetters, NodeLetters};
+ghost use Rattle.order_repair.specs.Chains.{IsNext};
 ghost use Rattle.order_repair.specs.Failed.{IsWithin, LiesIn};
 ghost use Rattle.order_repair.specs.OrderText.{IsLetter, IsLine};
+ghost use Rattle.order_repair.specs.SourceView.{AreHopsIn, IsSourceIn};
 ghost use Rattle.order_repair.specs.Tagging.{IsNearTag, IsTagFor};
 
 use crate::choice::color_for;
 use crate::colors::letter;
 use crate::pair::Pair;
-use inc_dec_spf::Reach;
+use crate::source_view::SourceView;
 use mrt_graph::{Directed, Element, Graph, LinkNo, NoMemory, NodeNo, Place, Tag};
 use text_parts::{push, push_node};
 
 /// Puts the line on a pair's destination at the end of a text.
-pub fn push_line(
-    text: &mut Vec<u8>,
-    g: &Graph,
-    d: &Directed,
-    up: &Reach,
-    down: &Reach,
-    pair: &Pair,
-) -> Result<(), NoMemory>
-    requires source { IsSource g.now d.now pair.now.source up.now down.now }
-    requires to { pair.now.to < length g.now.ids }
+pub fn push_line(text: &mut Vec<u8>, view: &SourceView, pair: &Pair) -> Result<(), NoMemory>
+    requires source { IsSourceIn view.now pair.now.source }
+    requires lists { AreBlockLists view.now.directed.now view.now.lists.now }
+    requires to { pair.now.to < length view.now.graph.now.ids }
     requires near { IsNearTag pair.now.tag }
-    ensures { (root : ℕ) (w : Directions) → AreHops g.now d.now root w pair.now.source up.now down.now
-        → IsTagFor g.now root w pair.now.source pair.now.to (Some pair.now.tag)
-        → IfOk result (λ _. Adds (IsLine g.now root w pair.now.source pair.now.to) text.old.items text.new.items) }
+    ensures { (root : ℕ) (w : Directions) → AreHopsIn view.now root w pair.now.source
+        → IsTagFor view.now.graph.now root w pair.now.source pair.now.to (Some pair.now.tag)
+        → IfOk result (λ _. Adds (IsLine view.now.graph.now root w pair.now.source pair.now.to)
+        text.old.items text.new.items) }
 {
-    let place = block_of(g, d, pair);
-    push_node(text, g.id(pair.to))?;
+    let place = block_of(view.graph, view.directed, pair);
+    push_node(text, view.graph.id(pair.to))?;
     push(text, b" ")?;
-    push_node_letters(text, g, d, up, down, pair, &place)?;
+    push_node_letters(text, view, pair, &place)?;
     push(text, b" ")?;
-    push_link_letters(text, g, d, up, down, pair, &place)?;
+    push_link_letters(text, view, pair, &place)?;
     push(text, b"\n")?;
     Ok(())
 }
 
 /// The block that a pair has in common, and its head.
 fn block_of(g: &Graph, d: &Directed, pair: &Pair) -> Place
-    requires blocks { length d.now.places ≡ length g.now.ids }
+    requires directed { HasDirections g.now d.now }
     requires source { pair.now.source < length g.now.ids }
     requires to { pair.now.to < length g.now.ids }
     ensures top { pair.now.tag ≡ Top → slice_get d.now.places pair.now.to ≡ Some result }
     ensures other { pair.now.tag ≢ Top → slice_get d.now.places pair.now.source ≡ Some result }
+    ensures within { result.block < length g.now.ids }
 {
     match pair.tag {
         Tag::Top => d.place(pair.to),
@@ -64,114 +61,116 @@ fn block_of(g: &Graph, d: &Directed, pair: &Pair) -> Place
 /// Puts the letters of the block's nodes at the end of a text.
 fn push_node_letters(
     text: &mut Vec<u8>,
-    g: &Graph,
-    d: &Directed,
-    up: &Reach,
-    down: &Reach,
+    view: &SourceView,
     pair: &Pair,
     place: &Place,
 ) -> Result<(), NoMemory>
-    requires source { IsSource g.now d.now pair.now.source up.now down.now }
-    requires to { pair.now.to < length g.now.ids }
+    requires source { IsSourceIn view.now pair.now.source }
+    requires lists { AreBlockLists view.now.directed.now view.now.lists.now }
+    requires to { pair.now.to < length view.now.graph.now.ids }
     requires near { IsNearTag pair.now.tag }
-    ensures { (root : ℕ) (w : Directions) → AreHops g.now d.now root w pair.now.source up.now down.now
-        → IsPair g.now root w pair.now.source pair.now.to pair.now.tag place.now
-        → IfOk result (λ _. Adds (AreParts
-        (λ f. IsLetter g.now root w pair.now.source pair.now.to place.now.block place.now.head (elements.Node f))
-        (length g.now.ids)) text.old.items text.new.items) }
+    requires block { place.now.block < length view.now.graph.now.ids }
+    ensures { (root : ℕ) (w : Directions) → AreHopsIn view.now root w pair.now.source
+        → IsPair view.now.graph.now root w pair.now.source pair.now.to pair.now.tag place.now
+        → IfOk result (λ _. Adds
+        (NodeLetters view.now.graph.now root w pair.now place.now (length view.now.graph.now.ids))
+        text.old.items text.new.items) }
 {
-    let count = g.node_count();
-    for f in 0..count {
-        push_letter(
-            text,
-            g,
-            d,
-            up,
-            down,
-            pair,
-            place,
-            &Element::Node(NodeNo::new(f)),
-        )?;
+    let count = view.graph.node_count();
+    let mut from = 0;
+    let mut next = view.lists.nodes.first(place.block);
+    while next < count {
+        push_head_letter(text, view, pair, place, from, next)?;
+        push_letter(text, view, pair, &Element::Node(NodeNo::new(next)))?;
+        from = next + 1;
+        next = view.lists.nodes.next(next);
+    }
+    push_head_letter(text, view, pair, place, from, next)
+}
+
+/// Puts the letter of the block's head at the end of a text, where its number lies from the one on and before the other.
+/// The block has no other node there.
+fn push_head_letter(
+    text: &mut Vec<u8>,
+    view: &SourceView,
+    pair: &Pair,
+    place: &Place,
+    from: u16,
+    until: u16,
+) -> Result<(), NoMemory>
+    requires source { IsSourceIn view.now pair.now.source }
+    requires to { pair.now.to < length view.now.graph.now.ids }
+    requires near { IsNearTag pair.now.tag }
+    requires none { IsNext (node_blocks view.now.directed.now) place.now.block from until }
+    ensures { (root : ℕ) (w : Directions) (before : List ℕ) → AreHopsIn view.now root w pair.now.source
+        → IsPair view.now.graph.now root w pair.now.source pair.now.to pair.now.tag place.now
+        → Adds (NodeLetters view.now.graph.now root w pair.now place.now from) before text.old.items
+        → IfOk result (λ _. Adds (NodeLetters view.now.graph.now root w pair.now place.now until)
+        before text.new.items) }
+{
+    if is_between(place.head, from, until) {
+        return push_letter(text, view, pair, &Element::Node(place.head));
     }
     Ok(())
+}
+
+/// Whether a node's number lies from the one on and before the other.
+fn is_between(n: NodeNo, from: u16, until: u16) -> bool
+    ensures { IsTrue result ↔ ((from ≤ n) × (n < until)) }
+{
+    from <= n.get() && n.get() < until
 }
 
 /// Puts the letters of the block's links at the end of a text.
 fn push_link_letters(
     text: &mut Vec<u8>,
-    g: &Graph,
-    d: &Directed,
-    up: &Reach,
-    down: &Reach,
+    view: &SourceView,
     pair: &Pair,
     place: &Place,
 ) -> Result<(), NoMemory>
-    requires source { IsSource g.now d.now pair.now.source up.now down.now }
-    requires to { pair.now.to < length g.now.ids }
+    requires source { IsSourceIn view.now pair.now.source }
+    requires lists { AreBlockLists view.now.directed.now view.now.lists.now }
+    requires to { pair.now.to < length view.now.graph.now.ids }
     requires near { IsNearTag pair.now.tag }
-    ensures { (root : ℕ) (w : Directions) → AreHops g.now d.now root w pair.now.source up.now down.now
-        → IsPair g.now root w pair.now.source pair.now.to pair.now.tag place.now
-        → IfOk result (λ _. Adds (AreParts
-        (λ e. IsLetter g.now root w pair.now.source pair.now.to place.now.block place.now.head (elements.Link e))
-        (length g.now.links)) text.old.items text.new.items) }
+    requires block { place.now.block < length view.now.graph.now.ids }
+    ensures { (root : ℕ) (w : Directions) → AreHopsIn view.now root w pair.now.source
+        → IsPair view.now.graph.now root w pair.now.source pair.now.to pair.now.tag place.now
+        → IfOk result (λ _. Adds
+        (LinkLetters view.now.graph.now root w pair.now place.now (length view.now.graph.now.links))
+        text.old.items text.new.items) }
 {
-    let count = g.link_count();
-    for e in 0..count {
-        push_letter(
-            text,
-            g,
-            d,
-            up,
-            down,
-            pair,
-            place,
-            &Element::Link(LinkNo::new(e)),
-        )?;
+    let count = view.graph.link_count();
+    let mut next = view.lists.links.first(place.block);
+    while next < count {
+        push_letter(text, view, pair, &Element::Link(LinkNo::new(next)))?;
+        next = view.lists.links.next(next);
     }
     Ok(())
 }
 
-/// Puts the letter of a node or a link at the end of a text, where it is of the block.
+/// Puts the letter of a node or a link of the block at the end of a text.
 fn push_letter(
     text: &mut Vec<u8>,
-    g: &Graph,
-    d: &Directed,
-    up: &Reach,
-    down: &Reach,
+    view: &SourceView,
     pair: &Pair,
-    place: &Place,
     x: &Element,
 ) -> Result<(), NoMemory>
-    requires source { IsSource g.now d.now pair.now.source up.now down.now }
-    requires to { pair.now.to < length g.now.ids }
+    requires source { IsSourceIn view.now pair.now.source }
+    requires to { pair.now.to < length view.now.graph.now.ids }
     requires near { IsNearTag pair.now.tag }
-    requires within { IsWithin g.now x.now }
-    ensures { (root : ℕ) (w : Directions) → AreHops g.now d.now root w pair.now.source up.now down.now
-        → IsPair g.now root w pair.now.source pair.now.to pair.now.tag place.now
+    requires within { IsWithin view.now.graph.now x.now }
+    ensures { (root : ℕ) (w : Directions) (place : Place) → AreHopsIn view.now root w pair.now.source
+        → IsPair view.now.graph.now root w pair.now.source pair.now.to pair.now.tag place
+        → LiesIn view.now.graph.now w place.block place.head x.now
         → IfOk result (λ _. Adds
-        (IsLetter g.now root w pair.now.source pair.now.to place.now.block place.now.head x.now)
+        (IsLetter view.now.graph.now root w pair.now.source pair.now.to place.block place.head x.now)
         text.old.items text.new.items) }
 {
-    if !lies_in(g, d, place, x) {
-        return Ok(());
-    }
     if is_neither_end(pair, x) {
-        return push(text, letter(color_for(g, d, up, down, pair, *x)));
+        let color = color_for(view.graph, view.directed, view.up, view.down, pair, *x);
+        return push(text, letter(color));
     }
     push(text, b"-")
-}
-
-/// Whether a node or a link is of the block. The head of a block is of it.
-fn lies_in(g: &Graph, d: &Directed, place: &Place, x: &Element) -> bool
-    requires directed { HasDirections g.now d.now }
-    requires within { IsWithin g.now x.now }
-    ensures { (w : Directions) → Says g.now d.now w
-        → IsTrue result ↔ LiesIn g.now w place.now.block place.now.head x.now }
-{
-    match x {
-        Element::Node(f) => *f == place.head || d.place(*f).block == place.block,
-        Element::Link(e) => d.mark(*e).block == place.block,
-    }
 }
 
 /// Whether it is a link, or a node other than the two.

@@ -1,19 +1,22 @@
 //! The text on a router's repairs by order.
 
-ghost use Rattle.std.specs.Prelude.{◌≡◌, ◌<◌, ℕ, IfOk, IfSome, length};
+ghost use Rattle.std.specs.Prelude.{◌≡◌, ◌<◌, ℕ, IfOk, length};
 ghost use Rattle.mrt_graph.specs.GraphInvariant.{IsTopology};
 ghost use Rattle.link_direction.specs.Directions.{Directions, Says};
 ghost use Rattle.link_direction.specs.OrderedGadag.{SaysOrdered};
 ghost use Rattle.mrt_rows.specs.DirectedFrom.{IsDirectedFrom};
-ghost use Rattle.order_repair.specs.Source.{AreHops, IsSource};
+ghost use Rattle.order_repair.specs.BlockLists.{AreBlockLists};
+ghost use Rattle.order_repair.specs.SourceView.{AreHopsIn, IsSourceIn};
 ghost use Rattle.text_parts.specs.Adds.{Adds};
 ghost use Rattle.text_parts.specs.Parts.{AreParts};
 ghost use Rattle.order_repair.specs.OrderText.{IsHead, IsOrderText, IsPartOn, IsTextFrom};
 
+use crate::block_lists::BlockLists;
 use crate::line::push_line;
 use crate::pair::Pair;
+use crate::source_view::SourceView;
 use crate::tagging::tag_for;
-use inc_dec_spf::{Dir, Reach, spf};
+use inc_dec_spf::{Dir, spf};
 use mrt_graph::{Directed, Graph, NoMemory, NodeNo};
 use std::alloc::Global;
 use text_parts::{push, push_node};
@@ -21,8 +24,8 @@ use text_parts::{push, push_node};
 /// The text on the repairs by order of a router: a line on the router and the root, and a line on each node with which the
 /// router has a block of more than one link in common. That line has a letter for each node and each link of the block.
 ///
-/// Two searches serve the whole text, and no walk is followed. For each of these nodes it takes time in proportion to the
-/// nodes and the links of the graph.
+/// Two searches and one pass over the nodes and the links serve the whole text, and no walk is followed. It takes time in
+/// proportion to the graph and to the text.
 ///
 /// # Errors
 ///
@@ -45,9 +48,17 @@ pub fn order_text(
     let _count = g.node_count();
     let up = spf(alloc, g, d, source, Dir::Up)?;
     let down = spf(alloc, g, d, source, Dir::Down)?;
+    let lists = BlockLists::new(alloc, g, d)?;
+    let view = SourceView {
+        graph: g,
+        directed: d,
+        lists: &lists,
+        up: &up,
+        down: &down,
+    };
     let mut text = Vec::new(alloc);
     push_head(&mut text, g, root, source)?;
-    push_lines(&mut text, g, d, &up, &down, source)?;
+    push_lines(&mut text, &view, source)?;
     Ok(text)
 }
 
@@ -66,22 +77,17 @@ fn push_head(text: &mut Vec<u8>, g: &Graph, root: NodeNo, source: NodeNo) -> Res
 }
 
 /// Puts the lines on all nodes at the end of a text.
-fn push_lines(
-    text: &mut Vec<u8>,
-    g: &Graph,
-    d: &Directed,
-    up: &Reach,
-    down: &Reach,
-    source: NodeNo,
-) -> Result<(), NoMemory>
-    requires source { IsSource g.now d.now source up.now down.now }
-    ensures { (root : ℕ) (w : Directions) → AreHops g.now d.now root w source up.now down.now
-        → IfOk result (λ _. Adds (AreParts (IsPartOn g.now root w source) (length g.now.ids))
+fn push_lines(text: &mut Vec<u8>, view: &SourceView, source: NodeNo) -> Result<(), NoMemory>
+    requires source { IsSourceIn view.now source }
+    requires lists { AreBlockLists view.now.directed.now view.now.lists.now }
+    ensures { (root : ℕ) (w : Directions) → AreHopsIn view.now root w source
+        → IfOk result (λ _. Adds
+        (AreParts (IsPartOn view.now.graph.now root w source) (length view.now.graph.now.ids))
         text.old.items text.new.items) }
 {
-    let count = g.node_count();
+    let count = view.graph.node_count();
     for t in 0..count {
-        push_part(text, g, d, up, down, source, NodeNo::new(t))?;
+        push_part(text, view, source, NodeNo::new(t))?;
     }
     Ok(())
 }
@@ -89,20 +95,19 @@ fn push_lines(
 /// Puts the line on a node at the end of a text, where there is one.
 fn push_part(
     text: &mut Vec<u8>,
-    g: &Graph,
-    d: &Directed,
-    up: &Reach,
-    down: &Reach,
+    view: &SourceView,
     source: NodeNo,
     to: NodeNo,
 ) -> Result<(), NoMemory>
-    requires source { IsSource g.now d.now source up.now down.now }
-    requires to { to < length g.now.ids }
-    ensures { (root : ℕ) (w : Directions) → AreHops g.now d.now root w source up.now down.now
-        → IfOk result (λ _. Adds (IsPartOn g.now root w source to) text.old.items text.new.items) }
+    requires source { IsSourceIn view.now source }
+    requires lists { AreBlockLists view.now.directed.now view.now.lists.now }
+    requires to { to < length view.now.graph.now.ids }
+    ensures { (root : ℕ) (w : Directions) → AreHopsIn view.now root w source
+        → IfOk result (λ _. Adds (IsPartOn view.now.graph.now root w source to)
+        text.old.items text.new.items) }
 {
-    match tag_for(g, d, up, down, source, to) {
-        Some(tag) => push_line(text, g, d, up, down, &Pair { source, to, tag }),
+    match tag_for(view.graph, view.directed, view.up, view.down, source, to) {
+        Some(tag) => push_line(text, view, &Pair { source, to, tag }),
         None => Ok(()),
     }
 }

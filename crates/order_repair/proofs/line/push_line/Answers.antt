@@ -6,9 +6,9 @@ use Rattle.order_repair.proofs.line.push_line.Goals as goal
 
 pub returns : goal.returns
 returns c = λ root w hops tagged.
-    let g = c.args.g.now in
-    let og = graph_of g root w c.args.d.now c.requires.source.kept hops.are in
-    let pair = pair_is og c.args.d.now hops.are.says c.args.pair.now.source c.args.pair.now.to c.requires.source.within c.requires.to
+    let g = c.args.view.now.graph.now in
+    let og = graph_of g root w c.args.view.now.directed.now c.requires.source.kept hops.are in
+    let pair = pair_is og c.args.view.now.directed.now hops.are.says c.args.pair.now.source c.args.pair.now.to c.requires.source.within c.requires.to
     c.args.pair.now.tag c.block_of-place.result c.block_of-place.ensures.top c.block_of-place.ensures.other _ tagged refl in
     let nodes = c.in_ok-push_node_letters.ensures root w hops pair in
     let links = c.in_ok-push_link_letters.ensures root w hops pair in

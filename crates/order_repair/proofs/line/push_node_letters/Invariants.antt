@@ -1,18 +1,20 @@
-use Rattle.std.proofs.Common.{◌≡◌, ℕ, length}
-use Rattle.mrt_graph.specs.declared.link.Element.TheVariants as elements
+use Rattle.std.proofs.Common.{◌≡◌, ◌-◌, ℕ, length}
 use Rattle.link_direction.specs.Directions.{Directions}
-use Rattle.order_repair.specs.Source.{AreHops}
 use Rattle.text_parts.specs.Adds.{Adds}
-use Rattle.text_parts.specs.Parts.{AreParts}
-use Rattle.order_repair.specs.Blocks.{IsPair}
-use Rattle.order_repair.specs.OrderText.{IsLetter}
+use Rattle.order_repair.specs.BlockLists.{node_blocks}
+use Rattle.order_repair.specs.Blocks.{IsPair, NodeLetters}
+use Rattle.order_repair.specs.Chains.{IsNext}
+use Rattle.order_repair.specs.SourceView.{AreHopsIn}
 use Rattle.order_repair.proofs.line.push_node_letters.Given as goal
 
-abbrev pub invariant-loop-f : goal.invariant-loop-f
-invariant-loop-f l = record {
-  count : l.count ≡ length l.g.ids;
-  letters : (root : ℕ) (w : Directions) → AreHops l.g l.d root w l.pair.source l.up l.down
-      → IsPair l.g root w l.pair.source l.pair.to l.pair.tag l.place
-      → Adds (AreParts (λ f. IsLetter l.g root w l.pair.source l.pair.to l.place.block l.place.head (elements.Node f)) l.f)
-      l.fn.text.items l.text.items;
+abbrev pub invariant-loop-next : goal.invariant-loop-next
+invariant-loop-next l = record {
+  count : l.count ≡ length l.view.graph.now.ids;
+  next : IsNext (node_blocks l.view.directed.now) l.place.block l.from l.next;
+  letters : (root : ℕ) (w : Directions) → AreHopsIn l.view root w l.pair.source
+      → IsPair l.view.graph.now root w l.pair.source l.pair.to l.pair.tag l.place
+      → Adds (NodeLetters l.view.graph.now root w l.pair l.place l.from) l.fn.text.items l.text.items;
 }
+
+abbrev pub decreases-loop-next : goal.decreases-loop-next
+decreases-loop-next l = l.count - l.next

@@ -1,37 +1,33 @@
 use Rattle.std.proofs.Common.{◌++◌, ◌∙◌, ℕ, List, ap}
+use Rattle.mrt_graph.specs.DirectedLists.{DirectedLists}
+use Rattle.mrt_graph.specs.Topology.{Topology}
+use Rattle.link_direction.specs.OrderedGadag.{SaysOrdered}
 use Rattle.inc_dec_spf.specs.HasDirections.{HasDirections}
 use Rattle.inc_dec_spf.proofs.SameDirections.{directions_are}
 use Rattle.order_repair.specs.Source.{AreHops}
 use Rattle.order_repair.proofs.text.order_text.Goals as goal
 
-pub push_lines-requires : goal.push_lines-requires
-push_lines-requires c =
-    let w = c.requires.directed.directions in
-    let says = c.requires.directed.says in
-    record {
-      source = record {
-        kept = c.node_count-count.ensures.kept;
-        directed = record {
-          root = c.args.root;
-          directions = w;
-          are = (record { says = says; ordered = c.requires.directed.ordered });
-        };
-        within = c.requires.source;
-        one_up_each = (c.in_ok-up.ensures w says).one_each;
-        one_down_each = (c.in_ok-down.ensures w says).one_each;
-      };
-    }
+-- the directions of the graph
+abbrev has : (g : Topology) (d : DirectedLists) (root : ℕ) → SaysOrdered g root d → HasDirections g d
+has g d root is = record { root = root; directions = is.directions; are = (record { says = is.says; ordered = is.ordered }) }
+
+pub new-requires-clause-directed : goal.new-requires-clause-directed
+new-requires-clause-directed c = has c.args.g.now c.args.d.now c.args.root c.requires.directed
+
+pub push_lines-requires-clause-source : goal.push_lines-requires-clause-source
+push_lines-requires-clause-source c = record {
+  kept = c.node_count-count.ensures.kept;
+  directed = has c.args.g.now c.args.d.now c.args.root c.requires.directed;
+  within = c.requires.source;
+  one_up_each = (c.in_ok-up.ensures c.requires.directed.directions c.requires.directed.says).one_each;
+  one_down_each = (c.in_ok-down.ensures c.requires.directed.directions c.requires.directed.says).one_each;
+}
 
 pub returns-clause-by_words : goal.returns-clause-by_words
 returns-clause-by_words c = λ w says.
     let g = c.args.g.now in
-    let has : HasDirections g c.args.d.now = record {
-      root = c.args.root;
-      directions = c.requires.directed.directions;
-      are = (record { says = c.requires.directed.says; ordered = c.requires.directed.ordered });
-    } in
     let hops : AreHops g c.args.d.now c.args.root w c.args.source c.in_ok-up.up c.in_ok-down.down = record {
-      are = directions_are g c.args.d.now w c.node_count-count.ensures.kept has says;
+      are = directions_are g c.args.d.now w c.node_count-count.ensures.kept (has g c.args.d.now c.args.root c.requires.directed) says;
       goes_up = c.in_ok-up.ensures w says;
       goes_down = c.in_ok-down.ensures w says;
     } in

@@ -8,7 +8,7 @@ pub loop-t-preserved : goal.loop-t-preserved
 loop-t-preserved c = record {
   count = c.loop-t.invariant.count;
   lines = λ root w hops.
-      let IsPart = IsPartOn c.args.g.now root w c.args.source in
+      let IsPart = IsPartOn c.args.view.now.graph.now root w c.args.source in
       one_part_more IsPart c.loop-t.t c.args.text.now.items c.loop-t.text.items c.push_part.new.text.items
       (c.loop-t.invariant.lines root w hops)
       (subst (λ (n : ℕ). Adds (IsPart n) c.loop-t.text.items c.push_part.new.text.items) c.new.ensures
