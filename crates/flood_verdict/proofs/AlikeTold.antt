@@ -10,7 +10,7 @@ use Rattle.ospf_lsa.specs.declared.lsa.Lsa.{Lsa}
 use Rattle.area_graph.specs.AreaOf.{area_of}
 use Rattle.area_graph.specs.Parts.{AreaParts}
 use Rattle.flood_core.specs.declared.answer.Answer.TheVariants as answers
-use Rattle.flood_core.specs.declared.router.Router.{Router}
+use Rattle.flood_core.specs.Routers.{Router}
 use Rattle.flood_core.specs.declared.update.Update.{Update}
 use Rattle.flood_core.specs.FloodState.{FloodState, database_of, started}
 use Rattle.flood_core.specs.FloodStep.{reached}
