@@ -1,15 +1,34 @@
 -- Two certificates that were found, compared.
-use Rattle.std.proofs.Common.{◌≡◌, ℕ, Bool, true, false, List, Some, refl, sym, subst}
+use Rattle.std.proofs.Common.{◌≡◌, ℕ, Bool, true, false, List, Some, None, length, refl, sym, subst}
 use Rattle.std.specs.Prelude.{◌↔◌, IsTrue, if◌then◌else◌}
+use Rattle.area_graph.specs.AreaInvariant.{IsArea}
+use Rattle.area_graph.specs.AreaSize.{IsTooLarge}
+use Rattle.area_graph.specs.Parts.{AreaParts}
 use Rattle.flood_script.specs.declared.verdict.Verdict.{Verdict}
 use Rattle.flood_script.specs.declared.verdict.Verdict.TheVariants as verdicts
+use Rattle.lsdb.specs.Conflicts.{least_conflict}
 use Rattle.lsdb.specs.Entries.{Database}
 use Rattle.mrt_graph.specs.declared.cert.CertFile.{CertFile}
 use Rattle.mrt_island.specs.declared.setting.Setting.{Setting}
 use Rattle.cert_stream.specs.Stream.{Stream}
 use Rattle.mrt_rows.specs.CertOf.{IsCertOf}
 use Rattle.flood_verdict.specs.Found.{IsFound}
-use Rattle.flood_verdict.specs.Says.{Says, Tells}
+use Rattle.flood_verdict.specs.Says.{IsIslandCert, Says, Tells, area_in}
+
+-- what is found in one database is there in another one that is settled and has its area
+pub same_told : (settings : List Setting) (its others : Database) (router : ℕ) (stream : Stream)
+    → IsFound settings its router (Some stream) → least_conflict others.entries ≡ None → area_in its ≡ area_in others
+    → Says settings its others router verdicts.Same
+same_told settings its others router stream (file, computed, tells) settled area = (
+  file,
+  tells,
+  record {
+    settled = settled;
+    within = subst (λ (a : AreaParts). IsTooLarge (length a.ids) (length a.arcs) → ⊥) area tells.within;
+    area_kept = subst IsArea area tells.area_kept;
+    told = subst (λ (a : AreaParts). IsIslandCert settings a router file) area tells.told;
+  },
+)
 
 -- a test tells whether the certificates of two graphs and their roots are the same
 abbrev pub IsTestOf : Stream → Stream → Bool → Type 0

@@ -1,6 +1,6 @@
 //! Databases compared by the certificate of a router's island.
 
-ghost use Rattle.std.specs.Prelude.{◌≡◌, ◌⊎◌, None, IfOk, IfErr, if◌then◌else◌, length};
+ghost use Rattle.std.specs.Prelude.{◌≡◌, ◌⊎◌, None, IfOk, IfErr, IsTrue, if◌then◌else◌, length};
 ghost use Rattle.area_graph.specs.AreaInvariant.{IsArea};
 ghost use Rattle.area_graph.specs.AreaSize.{IsTooLarge, TellsTooLarge};
 ghost use Rattle.lsdb.specs.Conflicts.{least_conflict};
@@ -51,10 +51,10 @@ impl<'a> Compare for ByIsland<'a> {
     /// it and takes part under the profile. Certificates are the same where their roots, nodes, links, roles and rows
     /// are; metrics and link data are no part of that.
     ///
-    /// It takes the time of copying both databases, one after the other, of both areas and islands, and of the searches
-    /// and directions of both. Rows are found only where the islands have the same nodes, links and roots in words and not
-    /// the same metrics or link data: then source after source, up to the first that differ, so no certificate is ever
-    /// held whole.
+    /// Where both hold the same LSAs in the same order, it takes the time of copying one database, of its area and island,
+    /// and of the search and the directions of that. Else it takes these of both, one after the other. Rows are found only
+    /// where the islands have the same nodes, links and roots in words and not the same metrics or link data: then source
+    /// after source, up to the first that differ, so no certificate is ever held whole.
     ///
     /// # Errors
     ///
@@ -69,11 +69,27 @@ impl<'a> Compare for ByIsland<'a> {
         let Some(its) = found(alloc, one, self.profile, router)? else {
             return Ok(Verdict::None);
         };
+        if have_one_area(one, other) {
+            return Ok(Verdict::Same);
+        }
         let Some(others) = found(alloc, other, self.profile, router)? else {
             return Ok(Verdict::None);
         };
         Ok(verdict_on(its.is_same(others)))
     }
+}
+
+/// Whether the second of two databases is settled, and has the area of the first by the LSAs that both hold. It does not
+/// tell of each two that have one area.
+fn have_one_area(one: &SharedLsdb, other: &SharedLsdb) -> bool
+    ensures settled { IsTrue result → least_conflict other.now.entries ≡ None }
+    ensures area { IsTrue result → area_in one.now ≡ area_in other.now }
+{
+    newest_of_the_same_give_one_area();
+    if !one.holds_the_same(other) {
+        return false;
+    }
+    other.is_settled()
 }
 
 /// What two certificates come to, which are the same or are not.
