@@ -1,4 +1,5 @@
 pub mod CertifiedPasses
+pub mod ComputedColumns
 pub mod Databases
 pub mod Floods
 pub mod MadeNetworks
@@ -19,3 +20,4 @@ pub mod Tables
 pub mod TextsHeld
 pub mod ToldAlike
 pub mod Upgrades
+pub mod WantedNodes

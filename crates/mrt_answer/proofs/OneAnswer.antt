@@ -18,7 +18,9 @@ use Rattle.mrt_island.specs.declared.profile_error.ProfileKind.{ProfileKind}
 use Rattle.cert_format.specs.CertText.{cert_text}
 use Rattle.cert_format.specs.FirstFault.{first_fault}
 use Rattle.cert_format.specs.declared.error.CertKind.{CertKind}
-use Rattle.fabric.specs.FabricParts.{AreFabricParts, FabricParts}
+use Rattle.fabric.specs.FabricParts.{ArePartsKept, FabricParts}
+use Rattle.fabric.specs.Served.{AreRowsOn}
+use Rattle.fabric.specs.declared.event.Event.{Event}
 use Rattle.fabric_script.specs.declared.script.Script.{Script}
 use Rattle.fabric_script.specs.declared.trace.Trace.{Trace as PacketTrace}
 use Rattle.fabric_script.specs.RunTexts.{IsScriptText, IsTraceText}
@@ -85,9 +87,9 @@ pub record PacketLaws : Type 0 where
       → script ≡ other
   pub one_fault : (lines : List (List ℕ)) (number other : ℕ) → IsFirstFaultOfScript lines number
       → IsFirstFaultOfScript lines other → number ≡ other
-  pub script_text : (parts : FabricParts) → AreFabricParts parts → (script : Script) (text other : List ℕ)
+  pub script_text : (parts : FabricParts) → ArePartsKept parts → (script : Script) (text other : List ℕ)
       → IsScriptText parts script text → IsScriptText parts script other → text ≡ other
-  pub trace_text : (parts : FabricParts) → AreFabricParts parts → (trace : PacketTrace) (text other : List ℕ)
+  pub trace_text : (parts : FabricParts) → ArePartsKept parts → (trace : PacketTrace) (text other : List ℕ)
       → IsTraceText parts trace text → IsTraceText parts trace other → text ≡ other
 
 -- the laws on networks that are made from a number, and on the texts of their surveys
@@ -144,18 +146,19 @@ is_area laws bytes newest database within =
 
 -- what the steps of packets read in a router's island fits together
 pub parts_fit : (input : Input) → ((IsTooLarge (length (area input).ids) (length (area input).arcs) → ⊥)
-    → IsArea (area input)) → (router : ℕ) (parts : FabricParts) → ArePartsFor input router parts → AreFabricParts parts
+    → IsArea (area input)) → (router : ℕ) (parts : FabricParts) → ArePartsFor input router parts → ArePartsKept parts
 parts_fit input kept router parts are = record {
-  kept = record {
-    area_kept = subst IsArea (sym are.area_is) (kept are.has.area_within);
-    island_kept = are.certificate.kept;
-    fits = are.fits;
-  };
-  served = λ d within. record {
-    cert = are.file.cert;
-    accepted = accepted_for parts.island are.root are.file are.certificate;
-    same = λ s i. are.rows_are i s d;
-  };
+  area_kept = subst IsArea (sym are.area_is) (kept are.has.area_within);
+  island_kept = are.certificate.kept;
+  fits = are.fits;
+}
+
+-- and there are rows for all destinations
+pub rows_for_all : (input : Input) (router : ℕ) (parts : FabricParts) → ArePartsFor input router parts → (events : List Event) → AreRowsOn parts events
+rows_for_all input router parts are events at to entry among = λ d is. record {
+  cert = are.file.cert;
+  accepted = accepted_for parts.island are.root are.file are.certificate;
+  same = λ s i. are.rows_are i s d;
 }
 
 too_large_is : (what other : What) (size count : ℕ) → (what ≡ other) × (size ≡ count)

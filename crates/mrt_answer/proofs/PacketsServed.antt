@@ -1,48 +1,73 @@
 -- What is made for the destinations of packets serves them.
-use Rattle.std.proofs.Common.{◌≡◌, ◌<◌, ◌∙◌, ℕ, List, Option, Some, None, length, slice_get, refl, sym, ap, subst, arith}
+use Rattle.std.proofs.Common.{◌≡◌, ◌<◌, ◌∙◌, ℕ, List, Option, Some, None, length, slice_get, refl, ap, subst, arith}
 use Rattle.std.specs.Prelude.{Contains}
 use Rattle.std.specs.Option.{unwrap_or}
 use Rattle.std.proofs.lemmas.Option.{slice_get_within}
-use Rattle.area_graph.specs.Fits.{Fits}
+use Rattle.area_graph.proofs.Placing.{number_found}
+use Rattle.area_graph.specs.Nodes.{number_of}
 use Rattle.area_graph.specs.Parts.{AreaParts}
 use Rattle.fabric.specs.FabricParts.{ArePartsKept, FabricParts, node_at}
 use Rattle.fabric.specs.SameRows.{AgreeFor}
 use Rattle.fabric.specs.Served.{IsServedBy}
+use Rattle.fabric.specs.Viewed.{parts_with}
 use Rattle.fabric.proofs.Islands.{is_one}
 use Rattle.fabric.proofs.Routed.{routed_node}
+use Rattle.fabric_script.specs.NamedEvents.{spot_of}
 use Rattle.mrt_graph.specs.Certificate.{row_of}
 use Rattle.mrt_graph.specs.Topology.{Topology}
+use Rattle.mrt_graph.specs.declared.node_id.NodeId.{NodeId}
 use Rattle.mrt_graph.proofs.ListTests.{there}
 use Rattle.mrt_island.specs.IslandOf.{IsIsland}
-use Rattle.mrt_rows.specs.RowsTo.{ColumnsHeld, rows_in}
+use Rattle.mrt_rows.specs.RowsTo.{rows_in}
 use Rattle.primary_alt.specs.RouteLists.{RouteLists}
 use Rattle.primary_alt.specs.RoutesMade.{AreMade}
-use Rattle.mrt_answer.specs.Input.{HasAreaWithin, Input, area as area_of, policy}
-use Rattle.mrt_answer.specs.PacketTables.{AreTablesTo}
-use Rattle.mrt_answer.specs.Packets.{ArePartsFor, packet_parts}
+use Rattle.mrt_answer.specs.declared.packets.AreaAndIsland.{AreaAndIsland}
+use Rattle.mrt_answer.specs.declared.packets.Tables.{Tables}
+use Rattle.mrt_answer.specs.Input.{Input, policy}
+use Rattle.mrt_answer.specs.PacketTables.{AreTablesTo, IsAreaAndIsland}
+use Rattle.mrt_answer.specs.Packets.{ArePartsFor}
 use Rattle.mrt_answer.proofs.OneProxy.{accepted_for}
 
-module _ (area : AreaParts) (graph : Topology) (root : ℕ) (spots : List ℕ) (routes : RouteLists) (rows : ColumnsHeld)
-    (made : AreTablesTo area graph root spots routes rows) where
+module _ (net : AreaAndIsland) (spots : List ℕ) (tables : Tables) (made : AreTablesTo net spots tables) where
+  -- what the steps read, and the same with all rows of the certificate
   abbrev pub parts : FabricParts
-  parts = packet_parts area graph (rows_in rows) routes.links
+  parts = parts_with net.area net.island.graph (rows_in tables.rows) tables.routes
 
-  inside : (t d : ℕ) → node_at parts t ≡ Some d → t < length area.ids
-  inside t d is = let one = is_one parts t d is in slice_get_within area.ids t one.id one.in_area
+  abbrev pub whole : FabricParts
+  whole = parts_with net.area net.island.graph (row_of made.file.cert) tables.routes
+
+  inside : (t d : ℕ) → node_at parts t ≡ Some d → t < length net.area.ids
+  inside t d is = let one = is_one parts t d is in slice_get_within net.area.ids t one.id one.in_area
 
   -- a destination is served, if it is among these or no node of the area
-  pub served : (t : ℕ) → (t < length area.ids → Contains spots t) → IsServedBy parts routes t
+  pub served : (t : ℕ) → (t < length net.area.ids → Contains spots t) → IsServedBy parts tables.routes t
   served t among = record {
     rows = λ d is. record {
       cert = made.file.cert;
-      accepted = accepted_for graph root made.file made.certificate;
+      accepted = accepted_for net.island.graph net.island.root made.file made.certificate;
       same = made.agree t (among (inside t d is)) d is;
     };
-    primaries = λ within. made.columns t (among within);
+    primaries = λ within. (made.columns t).1 (among within);
   }
 
-  pub agrees : (t : ℕ) → (t < length area.ids → Contains spots t) → AgreeFor parts (row_of made.file.cert) t
+  pub agrees : (t : ℕ) → (t < length net.area.ids → Contains spots t) → AgreeFor parts (row_of made.file.cert) t
   agrees t among = λ d is. made.agree t (among (inside t d is)) d is
+
+  pub are_whole : (input : Input) (router : ℕ) → IsAreaAndIsland input router net → ArePartsFor input router whole
+  are_whole input router is = record {
+    area_is = is.area_is;
+    root = net.island.root;
+    has = record {
+      area_within = is.within;
+      link_of = net.island.link_of;
+      island = subst (λ (a : AreaParts). IsIsland (policy input) a router net.island.graph net.island.root net.island.link_of) is.area_is is.island;
+    };
+    links_are = made.links;
+    fits = made.routed.fits;
+    file = made.file;
+    certificate = made.certificate;
+    rows_are = refl;
+  }
 
 -- the island node that a node of the area is, by the routes
 pub node_of_routes : (parts : FabricParts) → ArePartsKept parts → (routes : RouteLists) → AreMade parts.area parts.island routes
@@ -61,30 +86,10 @@ node_below area graph routes made t d at =
     slice_get_within graph.ids d id.0 (made.nodes.same t id.0 (Some d) id.1 at)
 
 -- the number that stands for a destination, where the area has it
-pub number_stands : (o : Option ℕ) (count t : ℕ) → unwrap_or o count ≡ t → t < count → o ≡ Some t
-number_stands None count t is below = absurd (omega (arith, is, below))
-number_stands (Some n) count t is below = ap (λ (k : ℕ). Some k) is
-
--- what is made for a router's island, and in place of the rows for some destinations all rows of the certificate
-module _ (input : Input) (router : ℕ) (area : AreaParts) (graph : Topology) (root : ℕ) (link_of : List (Option ℕ)) (area_is : area ≡ area_of input)
-    (within : HasAreaWithin input) (island : IsIsland (policy input) area router graph root link_of) (fits : Fits area graph link_of)
-    (spots : List ℕ) (routes : RouteLists) (rows : ColumnsHeld) (links_are : routes.links ≡ link_of)
-    (made : AreTablesTo area graph root spots routes rows) where
-  abbrev pub whole : FabricParts
-  whole = packet_parts area graph (row_of made.file.cert) routes.links
-
-  pub are_whole : ArePartsFor input router whole
-  are_whole = record {
-    area_is = area_is;
-    root = root;
-    has = record {
-      area_within = within;
-      link_of = link_of;
-      island = subst (λ (a : AreaParts). IsIsland (policy input) a router graph root link_of) area_is island;
-    };
-    links_are = links_are;
-    fits = subst (λ (links : List (Option ℕ)). Fits area graph links) (sym links_are) fits;
-    file = made.file;
-    certificate = made.certificate;
-    rows_are = refl;
-  }
+pub spot_stands : (area : AreaParts) (id : NodeId) → spot_of area id < length area.ids → slice_get area.ids (spot_of area id) ≡ Some id
+spot_stands area id within = go (number_of area.ids id) refl within
+  where
+    go : (place : Option ℕ) → number_of area.ids id ≡ place → unwrap_or place (length area.ids) < length area.ids
+        → slice_get area.ids (unwrap_or place (length area.ids)) ≡ Some id
+    go None is below = absurd (omega (arith, below))
+    go (Some t) is below = number_found area.ids id t is

@@ -1,31 +1,26 @@
 -- What is said of two nodes of an island is said of the two routers.
-use Rattle.std.proofs.Common.{◌≡◌, ◌<◌, ℕ, List, Option, Some, Result, Ok, Err, length, refl, sym, inl, inr, slice_get}
+use Rattle.std.proofs.Common.{◌≡◌, ℕ, List, Option, Some, Result, Ok, Err, refl, sym, inl, inr, slice_get}
 use Rattle.std.specs.Prelude.{IfErr, IfOk}
 use Rattle.area_graph.specs.Nodes.{router as router_node}
-use Rattle.mrt_graph.specs.declared.cert.CertFile.{CertFile}
 use Rattle.mrt_graph.specs.declared.cert.CertLink.{CertLink}
 use Rattle.mrt_graph.specs.declared.cert.CertNode.{CertNode}
 use Rattle.mrt_graph.specs.declared.cert.Row.{Row}
-use Rattle.mrt_graph.specs.Accepted.{Accepted}
-use Rattle.mrt_graph.specs.AcceptedFor.{IsAcceptedFor}
-use Rattle.mrt_graph.specs.Certificate.{row_of}
 use Rattle.mrt_graph.specs.Column.{rows_of_column}
-use Rattle.mrt_graph.specs.GraphInvariant.{IsTopology}
-use Rattle.mrt_graph.specs.Sound.{Sound}
 use Rattle.mrt_graph.specs.Topology.{Topology}
-use Rattle.mrt_rows.specs.CertOf.{IsCertOf}
 use Rattle.mrt_rows.specs.ColumnOf.{HasRowsFor}
+use Rattle.mrt_rows.specs.declared.rooted.RootedColumns.{RootedColumns}
 use Rattle.proxy_rows.specs.declared.attachment.Attachment.{Attachment}
 use Rattle.proxy_rows.specs.Attachment.{IsAttachment}
 use Rattle.proxy_rows.specs.ReadFrom.{ReadFrom}
 use Rattle.mrt_exit.specs.declared.exit.Exit.{Exit}
 use Rattle.mrt_exit.specs.declared.exit.Exit.TheVariants as exits
 use Rattle.mrt_answer.specs.declared.text.Text.{Text}
+use Rattle.mrt_answer.specs.Computed.{HasComputed}
 use Rattle.mrt_answer.specs.Input.{HasIsland, Input}
 use Rattle.mrt_answer.specs.Proxied.{HasNoProxyOf, HasProxy, IsProxyOf}
 use Rattle.mrt_answer.specs.Refusals.{IsProxyRefusal}
-use Rattle.mrt_answer.specs.Tabled.{IsComputedFile}
 use Rattle.mrt_answer.specs.TextBytes.{HasText}
+use Rattle.mrt_answer.proofs.OneProxy.{accepted_for}
 use Rattle.mrt_answer.proofs.TextsHeld.{answer_has_also}
 
 module _ (input : Input) (number first second : ℕ) (graph : Topology) (root : ℕ) (island : HasIsland input number graph root) (a b : ℕ)
@@ -70,26 +65,17 @@ module _ (input : Input) (number first second : ℕ) (graph : Topology) (root : 
   refused (Ok text) none = tt
   refused (Err exit) none = refusal exit none
 
--- the certificate of a graph and its root is the one that is computed for them
-pub computed_file : (graph : Topology) (root : ℕ) → IsTopology graph → root < length graph.ids
-    → ((g : Topology) (r : ℕ) (file : CertFile) → IsTopology g → r < length g.ids → IsCertOf g r file → Accepted g r file)
-    → ((g : Topology) (r : ℕ) (file : CertFile) → Accepted g r file → Sound g.links (length g.ids) (row_of file.cert))
-    → (file : CertFile) → IsCertOf graph root file → IsComputedFile graph root file
-computed_file graph root kept within accept sound file is =
-    let accepted = accept graph root file kept within is in
-    record { kept = kept; computed = is; accepted = accepted; sound = sound graph root file accepted }
-
 -- what the rows for a prefix are read from, by its words and one column of it
-abbrev pub read_from : (graph : Topology) (file : CertFile) (nodes : List CertNode) (links : List CertLink) (a b : ℕ) (at : Attachment)
-    (column : List (Option Row)) → IsAcceptedFor graph file.cert → IsAttachment file.cert a b at → nodes ≡ file.cert.nodes → links ≡ file.cert.links
-    → HasRowsFor file.cert at.head column → ReadFrom graph nodes links at (rows_of_column column)
-read_from graph file nodes links a b at column accepted attached nodes_are links_are rows = record {
-  cert = file.cert;
+abbrev pub read_from : (graph : Topology) (root : ℕ) (columns : RootedColumns) (own : HasComputed graph root columns) (nodes : List CertNode) (links : List CertLink)
+    (a b : ℕ) (at : Attachment) (column : List (Option Row)) → IsAttachment own.file.cert a b at → nodes ≡ own.file.cert.nodes → links ≡ own.file.cert.links
+    → HasRowsFor own.file.cert at.head column → ReadFrom graph nodes links at (rows_of_column column)
+read_from graph root columns own nodes links a b at column attached nodes_are links_are rows = record {
+  cert = own.file.cert;
   a = a;
   b = b;
-  accepted = accepted;
+  accepted = accepted_for graph root own.file own.certificate;
   attached = attached;
   nodes_are = sym nodes_are;
   links_are = sym links_are;
-  rows_are = λ s within. rows.same s;
+  rows_are = rows.same;
 }

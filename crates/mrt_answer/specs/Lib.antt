@@ -1,5 +1,6 @@
 pub mod Answers
 pub mod Certified
+pub mod Computed
 pub mod Database
 pub mod Flooded
 pub mod Input

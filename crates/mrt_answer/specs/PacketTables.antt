@@ -1,21 +1,39 @@
 -- What the steps of packets for some destinations read.
-use Rattle.std.specs.Prelude.{ℕ, Contains, List}
-use Rattle.area_graph.specs.Parts.{AreaParts}
+use Rattle.std.specs.Prelude.{◌≡◌, ◌↔◌, ℕ, Contains, List, Some, slice_get}
+use Rattle.area_graph.specs.Fits.{Fits}
 use Rattle.fabric.specs.SameRows.{AgreeFor}
+use Rattle.fabric.specs.Viewed.{parts_with}
 use Rattle.mrt_graph.specs.declared.cert.CertFile.{CertFile}
 use Rattle.mrt_graph.specs.Certificate.{row_of}
-use Rattle.mrt_graph.specs.Topology.{Topology}
-use Rattle.mrt_rows.specs.RowsTo.{ColumnsHeld, rows_in}
+use Rattle.mrt_island.specs.IslandOf.{IsIsland}
+use Rattle.mrt_rows.specs.RowsTo.{rows_in}
 use Rattle.primary_alt.specs.RouteLists.{HasColumn, RouteLists}
-use Rattle.mrt_answer.specs.Packets.{packet_parts}
+use Rattle.primary_alt.specs.RoutesMade.{AreMade}
+use Rattle.mrt_answer.specs.declared.packets.AreaAndIsland.{AreaAndIsland}
+use Rattle.mrt_answer.specs.declared.packets.Tables.{Tables}
+use Rattle.mrt_answer.specs.Input.{HasAreaWithin, Input, area, policy}
 use Rattle.mrt_answer.specs.Tabled.{IsComputedFile}
 
--- routes to these nodes of the area, and for those that are of the island the rows of the certificate that is computed for
--- it
-pub record AreTablesTo (area : AreaParts) (graph : Topology) (root : ℕ) (destinations : List ℕ) (routes : RouteLists)
-    (rows : ColumnsHeld) : Type 0 where
+-- this is the area, with the island of a router in it
+pub record IsAreaAndIsland (input : Input) (router : ℕ) (net : AreaAndIsland) : Type 0 where
+  pub area_is : net.area ≡ area input
+  pub within : HasAreaWithin input
+  pub island : IsIsland (policy input) net.area router net.island.graph net.island.root net.island.link_of
+  pub fits : Fits net.area net.island.graph net.island.link_of
+
+-- one of these nodes of the area is island node d
+pub record IsWanted (routes : RouteLists) (destinations : List ℕ) (d : ℕ) : Type 0 where
+  pub t : ℕ
+  pub among : Contains destinations t
+  pub is : slice_get routes.nodes t ≡ Some (Some d)
+
+-- routes to these nodes of the area alone, and for those that are of the island the rows of the certificate that is
+-- computed for it
+pub record AreTablesTo (net : AreaAndIsland) (destinations : List ℕ) (tables : Tables) : Type 0 where
+  pub routed : AreMade net.area net.island.graph tables.routes
+  pub links : tables.routes.links ≡ net.island.link_of
+  pub columns : (t : ℕ) → HasColumn tables.routes t ↔ Contains destinations t
   pub file : CertFile
-  pub certificate : IsComputedFile graph root file
-  pub columns : (t : ℕ) → Contains destinations t → HasColumn routes t
+  pub certificate : IsComputedFile net.island.graph net.island.root file
   pub agree : (t : ℕ) → Contains destinations t
-      → AgreeFor (packet_parts area graph (rows_in rows) routes.links) (row_of file.cert) t
+      → AgreeFor (parts_with net.area net.island.graph (rows_in tables.rows) tables.routes) (row_of file.cert) t

@@ -1,7 +1,6 @@
 -- The answers to events on packets, in a router's island.
-use Rattle.std.specs.Prelude.{◌≡◌, ℕ, List, Option}
+use Rattle.std.specs.Prelude.{◌≡◌, ℕ, List}
 use Rattle.area_graph.specs.Fits.{Fits}
-use Rattle.area_graph.specs.Parts.{AreaParts}
 use Rattle.fabric.specs.FabricParts.{FabricParts}
 use Rattle.fabric_script.specs.declared.script.Script.{Script}
 use Rattle.fabric_script.specs.declared.trace.Trace.{Trace}
@@ -9,18 +8,12 @@ use Rattle.fabric_script.specs.RunTexts.{IsScriptText, IsTraceText}
 use Rattle.fabric_script.specs.ScriptFaults.{IsFirstFault, IsScript}
 use Rattle.mrt_graph.specs.declared.cert.CertFile.{CertFile}
 use Rattle.mrt_graph.specs.Certificate.{row_of}
-use Rattle.mrt_graph.specs.Rows.{Rows}
 use Rattle.mrt_graph.specs.TextLines.{text_lines}
-use Rattle.mrt_graph.specs.Topology.{Topology}
 use Rattle.mrt_exit.specs.declared.exit.Exit.{Exit}
 use Rattle.mrt_exit.specs.declared.exit.Exit.TheVariants.{BadScript}
 use Rattle.mrt_answer.specs.Input.{Input, HasIsland, area}
 use Rattle.mrt_answer.specs.Islands.{HasNoIslandFor}
 use Rattle.mrt_answer.specs.Tabled.{IsComputedFile}
-
--- what the steps of packets read
-abbrev pub packet_parts : AreaParts → Topology → Rows → List (Option ℕ) → FabricParts
-packet_parts area graph rows link_of = record { area = area; island = graph; rows = rows; link_of = link_of }
 
 -- these are read for the island of a router: the area, that island with the rows of the certificate that is computed for
 -- it, and of each bond of the area the link of the island that it is

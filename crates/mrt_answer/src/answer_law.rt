@@ -2,7 +2,9 @@
 
 ghost use Rattle.std.specs.Prelude.{◌≡◌, ◌≤◌, ℕ, List, Contains, length};
 ghost use Rattle.area_graph.specs.Nodes.{router as router_node};
-ghost use Rattle.fabric.specs.FabricParts.{AreFabricParts, FabricParts};
+ghost use Rattle.fabric.specs.FabricParts.{ArePartsKept, FabricParts};
+ghost use Rattle.fabric.specs.Served.{AreRowsOn};
+ghost use Rattle.fabric.specs.declared.event.Event.{Event};
 ghost use Rattle.flood_verdict.specs.Alike.{ComparesAlike, IsToldAlike};
 ghost use Rattle.flood_verdict.specs.Says.{Says};
 ghost use Rattle.mrt_exit.specs.declared.exit.Exit.{Exit};
@@ -121,10 +123,13 @@ pub fn tables_are_of_one_certificate()
     one_certificate();
 }
 
-/// A law: what the steps of packets read fits together, so that the laws of `fabric` hold of each run over it.
+/// Laws: what the steps of packets read fits together, and there are rows for all destinations, so that the laws of
+/// `fabric` hold of each run over it.
 pub fn what_steps_read_fits_together()
-    ensures { (database profile : List ℕ) (input : Input) → IsInput database profile input
-        → (router : ℕ) (parts : FabricParts) → ArePartsFor input router parts → AreFabricParts parts }
+    ensures kept { (database profile : List ℕ) (input : Input) → IsInput database profile input
+        → (router : ℕ) (parts : FabricParts) → ArePartsFor input router parts → ArePartsKept parts }
+    ensures rows { (input : Input) (router : ℕ) (parts : FabricParts) → ArePartsFor input router parts
+        → (events : List Event) → AreRowsOn parts events }
 {
     an_lsa_without_a_fault_may_be_installed();
     the_newest_records_give_an_area();

@@ -4,6 +4,7 @@
 mod answer;
 mod answer_law;
 mod certificate;
+mod columns;
 mod flood;
 mod given;
 mod input;

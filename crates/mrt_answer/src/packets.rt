@@ -1,22 +1,15 @@
 //! `trace DB PROFILE FROM TO blue` and the like, and `fabric DB PROFILE SCRIPT`: packets, step by step through a failure.
 //! What they read is made for the destinations of the packets alone.
 
-ghost use Rattle.std.specs.Prelude.{◌≡◌, ◌<◌, ◌≤◌, ℕ, None, Some, IfOk, IfErr, Contains, length, slice_get};
+ghost use Rattle.std.specs.Prelude.{◌≡◌, ◌<◌, ◌≤◌, ◌↔◌, ◌/◌, ℕ, Some, IfOk, IfErr, IsTrue, Contains, filter, length, slice_get};
 ghost use Rattle.area_graph.specs.Fits.{Fits};
-ghost use Rattle.area_graph.specs.Nodes.{number_of};
-ghost use Rattle.mrt_graph.specs.declared.cert.CertFile.{CertFile};
-ghost use Rattle.mrt_graph.specs.GraphInvariant.{IsTopology};
 ghost use Rattle.mrt_graph.specs.Search.{IsMarked};
-ghost use Rattle.mrt_island.specs.IslandOf.{IsIsland};
-ghost use Rattle.mrt_rows.specs.CertOf.{IsCertOf};
-ghost use Rattle.mrt_rows.specs.Rooted.{MakeColumns};
-ghost use Rattle.primary_alt.specs.RoutesMade.{AreMade};
-ghost use Rattle.mrt_answer.specs.Input.{HasAreaWithin, area, policy};
-ghost use Rattle.mrt_answer.specs.PacketTables.{AreTablesTo};
+ghost use Rattle.mrt_answer.specs.PacketTables.{AreTablesTo, IsAreaAndIsland, IsWanted};
 ghost use Rattle.mrt_answer.specs.Packets.{GivesRun, IsScriptGiven, IsTraceGiven};
 ghost use Rattle.mrt_answer.specs.Refusals.{HasNone, IsRunRefusal};
 ghost use Rattle.mrt_answer.specs.TextBytes.{HasText};
 
+use crate::columns::columns_of;
 use crate::given::Given;
 use crate::input::script_of;
 use crate::island::{area_of, island_of};
@@ -26,18 +19,15 @@ use fabric_script::{
     Script, Trace, destinations, script_text, texts_by_rows_for_destinations, trace_text,
 };
 use mrt_exit::Exit;
-use mrt_graph::{Graph, NoMemory, NodeNo, accepted_implies_sound};
+use mrt_graph::NoMemory;
 use mrt_island::Island;
-use mrt_rows::{RootedColumns, RowsTo, certificates_are_accepted};
+use mrt_rows::RowsTo;
 use primary_alt::Routes;
 use std::alloc::Global;
 
-/// At most one destination for so many nodes is few.
-const FEW: u16 = 8;
-
-/// Where packets go: an area, and the island of a router in it.
+/// The area of a database, and a router's island in it.
 #[derive(Drop)]
-struct Place {
+struct AreaAndIsland {
     area: Area,
     island: Island,
 }
@@ -50,41 +40,34 @@ struct Tables {
 }
 
 /// The area, and a router's island.
-fn place_of(alloc: Global, given: &Given, router: u32) -> Result<Place, Exit>
-    ensures area { IfOk result (λ place. place.area ≡ area given.now) }
-    ensures within { IfOk result (λ _. HasAreaWithin given.now) }
-    ensures island { IfOk result (λ place. IsIsland (policy given.now) place.area router
-        place.island.graph place.island.root place.island.link_of) }
-    ensures fits { IfOk result (λ place. Fits place.area place.island.graph place.island.link_of) }
+fn area_and_island(alloc: Global, given: &Given, router: u32) -> Result<AreaAndIsland, Exit>
+    ensures is { IfOk result (IsAreaAndIsland given.now router) }
     ensures refused { IfErr result (HasNone given.now router) }
 {
     let area = area_of(alloc, given)?;
     let island = island_of(alloc, &area, given, router)?;
-    Ok(Place { area, island })
+    Ok(AreaAndIsland { area, island })
 }
 
 /// The routes to these nodes of the area, and the rows for those of them that are of the island.
-fn tables_to(
-    alloc: Global,
-    area: &Area,
-    island: &Island,
-    destinations: &[Spot],
-) -> Result<Tables, NoMemory>
-    requires fits { Fits area.now island.now.graph island.now.link_of }
-    requires root { island.now.root < length island.now.graph.ids }
-    requires within { (t : ℕ) → Contains destinations.now t → t < length area.now.ids }
-    ensures routed { IfOk result (λ tables. AreMade area.now island.now.graph tables.routes) }
-    ensures links { IfOk result (λ tables. tables.routes.links ≡ island.now.link_of) }
-    ensures to { IfOk result (λ tables. AreTablesTo area.now island.now.graph island.now.root
-        destinations.now tables.routes tables.rows) }
+fn tables_to(alloc: Global, net: &AreaAndIsland, destinations: &[Spot]) -> Result<Tables, NoMemory>
+    requires fits { Fits net.now.area net.now.island.graph net.now.island.link_of }
+    requires root { net.now.island.root < length net.now.island.graph.ids }
+    requires within { (t : ℕ) → Contains destinations.now t → t < length net.now.area.ids }
+    ensures { IfOk result (AreTablesTo net.now destinations.now) }
 {
-    certificates_are_accepted();
-    accepted_implies_sound();
+    let area = &net.area;
+    let graph = &net.island.graph;
     let _count = area.count();
-    let graph = &island.graph;
-    let routes = Routes::to(alloc, area, graph, island.link_of.as_slice(), destinations)?;
+    let routes = Routes::to(
+        alloc,
+        area,
+        graph,
+        net.island.link_of.as_slice(),
+        destinations,
+    )?;
     let wanted = wanted_nodes(alloc, &routes, destinations, graph.node_count())?;
-    let mut columns = columns_for(alloc, graph, island.root, destinations.len())?;
+    let mut columns = columns_of(alloc, graph, net.island.root, count_of(&wanted))?;
     let rows = columns.rows_to(alloc, graph, &wanted)?;
     Ok(Tables { routes, rows })
 }
@@ -99,8 +82,8 @@ fn wanted_nodes(
     requires within { (t : ℕ) → Contains destinations.now t → t < length routes.now.nodes }
     requires nodes { (t d : ℕ) → slice_get routes.now.nodes t ≡ Some (Some d) → d < count }
     ensures one_each { IfOk result (λ marks. length marks.items ≡ count) }
-    ensures marked { IfOk result (λ marks. (t d : ℕ) → Contains destinations.now t
-        → slice_get routes.now.nodes t ≡ Some (Some d) → IsMarked marks.items d) }
+    ensures marked { IfOk result (λ marks. (d : ℕ) → IsMarked marks.items d
+        ↔ IsWanted routes.now destinations.now d) }
 {
     let mut wanted = vec![in alloc; false; count as usize]?;
     for spot in destinations {
@@ -111,31 +94,17 @@ fn wanted_nodes(
     Ok(wanted)
 }
 
-/// What makes the columns for so many destinations: few one by one, and many side by side.
-fn columns_for(
-    alloc: Global,
-    g: &Graph,
-    root: NodeNo,
-    destinations: usize,
-) -> Result<RootedColumns, NoMemory>
-    requires { root < length g.now.ids }
-    ensures root { IfOk result (λ rooted. rooted.root ≡ root) }
-    ensures made { IfOk result (MakeColumns g.now) }
-    ensures cert { IfOk result (λ _. (file : CertFile) × IsCertOf g.now root file) }
-    ensures kept { IfOk result (λ _. IsTopology g.now) }
+/// How many nodes are wanted.
+fn count_of(wanted: &[bool]) -> usize
+    ensures { result ≡ length (filter (λ mark. mark) wanted.now) }
 {
-    if destinations <= (g.node_count() / FEW) as usize {
-        RootedColumns::for_some(alloc, g, root, destinations)
-    } else {
-        RootedColumns::new(alloc, g, root)
-    }
+    wanted.iter().filter(|mark| **mark).count()
 }
 
 /// The nodes of the area that packets of a trace go to: its destination, if the area has it.
 fn destination_of(alloc: Global, area: &Area, trace: &Trace) -> Result<Vec<Spot>, NoMemory>
-    ensures within { IfOk result (λ spots. (t : ℕ) → Contains spots.items t → t < length area.now.ids) }
-    ensures there { IfOk result (λ spots. (t : ℕ) → number_of area.now.ids trace.now.to ≡ Some t
-        → Contains spots.items t) }
+    ensures { IfOk result (λ spots. (t : ℕ) → Contains spots.items t
+        ↔ (slice_get area.now.ids t ≡ Some trace.now.to)) }
 {
     // what each area keeps is told by reading it
     let _count = area.count();
@@ -152,10 +121,10 @@ pub(crate) fn trace(alloc: Global, given: &Given, trace: &Trace) -> Result<Text,
     ensures refused { IfErr result (HasNone given.now trace.now.from) }
 {
     texts_by_rows_for_destinations();
-    let Place { area, island } = place_of(alloc, given, trace.from)?;
-    let spots = destination_of(alloc, &area, trace)?;
-    let Tables { routes, rows } = tables_to(alloc, &area, &island, &spots)?;
-    let text = trace_text(alloc, &area, &island.graph, &rows, &routes, trace)?;
+    let net = area_and_island(alloc, given, trace.from)?;
+    let spots = destination_of(alloc, &net.area, trace)?;
+    let Tables { routes, rows } = tables_to(alloc, &net, &spots)?;
+    let text = trace_text(alloc, &net.area, &net.island.graph, &rows, &routes, trace)?;
     Ok(Text::Bytes(text))
 }
 
@@ -176,9 +145,9 @@ fn run_of(alloc: Global, given: &Given, script: &Script) -> Result<Text, Exit>
     ensures refused { IfErr result (HasNone given.now script.now.router) }
 {
     texts_by_rows_for_destinations();
-    let Place { area, island } = place_of(alloc, given, script.router)?;
-    let spots = destinations(alloc, &area, script)?;
-    let Tables { routes, rows } = tables_to(alloc, &area, &island, &spots)?;
-    let text = script_text(alloc, &area, &island.graph, &rows, &routes, script)?;
+    let net = area_and_island(alloc, given, script.router)?;
+    let spots = destinations(alloc, &net.area, script)?;
+    let Tables { routes, rows } = tables_to(alloc, &net, &spots)?;
+    let text = script_text(alloc, &net.area, &net.island.graph, &rows, &routes, script)?;
     Ok(Text::Bytes(text))
 }

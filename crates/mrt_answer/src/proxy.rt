@@ -1,18 +1,18 @@
 //! `proxy DB PROFILE ROUTER A B`: the rows for a prefix that is attached to two routers.
 
-ghost use Rattle.std.specs.Prelude.{◌≡◌, ◌≢◌, ◌<◌, None, IfOk, IfErr, IfSome, Contains, Some, length, slice_get};
+ghost use Rattle.std.specs.Prelude.{◌≡◌, ◌≢◌, ◌<◌, IfOk, IfErr, IfSome, Contains, Some, length, slice_get};
 ghost use Rattle.std.specs.Option.{IfNone};
 ghost use Rattle.area_graph.specs.Nodes.{router as router_node};
 ghost use Rattle.mrt_answer.specs.Proxied.{HasNoProxyOf, HasProxy, IsProxyOf};
 ghost use Rattle.mrt_answer.specs.Refusals.{IsProxyRefusal};
 ghost use Rattle.mrt_answer.specs.TextBytes.{HasText};
 
+use crate::columns::columns_of;
 use crate::given::Given;
 use crate::island::island_in;
 use crate::text::Text;
 use mrt_exit::Exit;
-use mrt_graph::{Graph, Kind, NodeId, NodeNo, accepted_implies_sound};
-use mrt_rows::{RootedColumns, certificates_are_accepted};
+use mrt_graph::{Graph, Kind, NodeId, NodeNo};
 use proxy_rows::{attach, proxy_rows_at, proxy_text_of};
 use std::alloc::Global;
 
@@ -54,9 +54,7 @@ fn proxy_between(
     ensures proxied { IfOk result (HasText (IsProxyOf graph.now root a b)) }
     ensures refused { IfErr result (HasNoProxyOf graph.now root a b) }
 {
-    certificates_are_accepted();
-    accepted_implies_sound();
-    let mut columns = RootedColumns::for_some(alloc, graph, root, 1)?;
+    let mut columns = columns_of(alloc, graph, root, 1)?;
     let nodes = columns.nodes(alloc, graph)?;
     let Some(at) = attach(&nodes, a, b) else {
         return Err(Exit::NoCommonBlock);

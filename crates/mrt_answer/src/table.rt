@@ -1,6 +1,6 @@
 //! `table DB PROFILE ROUTER`: what a router installs.
 
-ghost use Rattle.std.specs.Prelude.{◌≡◌, ◌≢◌, ◌<◌, None, Contains, IfOk, IfErr, length};
+ghost use Rattle.std.specs.Prelude.{◌≡◌, ◌≢◌, ◌<◌, Contains, IfOk, IfErr, length};
 ghost use Rattle.area_graph.specs.Fits.{Fits};
 ghost use Rattle.area_graph.specs.Nodes.{router as router_node};
 ghost use Rattle.mrt_graph.specs.declared.cert.CertFile.{CertFile};
@@ -16,14 +16,15 @@ ghost use Rattle.mrt_answer.specs.TableMade.{AreParts, with_cert};
 ghost use Rattle.mrt_answer.specs.Tabled.{IsTableOf, IsTabled};
 ghost use Rattle.mrt_answer.specs.TextBytes.{HasText};
 
+use crate::columns::columns_of;
 use crate::given::Given;
 use crate::island::{area_of, island_of};
 use crate::text::Text;
 use area_graph::Area;
 use mrt_exit::Exit;
-use mrt_graph::{Graph, Kind, LinkNo, NoMemory, NodeId, NodeNo, accepted_implies_sound};
+use mrt_graph::{Graph, Kind, LinkNo, NoMemory, NodeId, NodeNo};
 use mrt_report::{lines_make_the_table, primary_for, push_table_line, table_head};
-use mrt_rows::{RootedColumns, certificates_are_accepted};
+use mrt_rows::RootedColumns;
 use primary_alt::{Primary, primaries};
 use std::alloc::Global;
 
@@ -67,8 +68,6 @@ fn table_of(
     requires inside { Contains graph.now.ids (router_node router) }
     ensures { IfOk result (λ text. IsTableOf area.now graph.now root link_of.now router text.items) }
 {
-    certificates_are_accepted();
-    accepted_implies_sound();
     let own = NodeId {
         kind: Kind::Router,
         number: router,
@@ -76,7 +75,7 @@ fn table_of(
     let source = graph.find(own).unwrap();
     let spot = area.find(own).unwrap();
     let primaries = primaries(alloc, area, spot)?;
-    let mut columns = RootedColumns::new(alloc, graph, root)?;
+    let mut columns = columns_of(alloc, graph, root, graph.node_count() as usize)?;
     let parts = Parts {
         area,
         island: graph,

@@ -7,5 +7,4 @@ ghost use Rattle.mrt_words.specs.Spellings.{AreWordsOf};
 /// A law: words have a form exactly where the table of the forms has them as words of it. So they spell one form, or none.
 pub fn words_spell_one_form()
     ensures { (words : List (List ℕ)) (form : Form) → (form_of words ≡ Some form) ↔ AreWordsOf form words }
-{
-}
+{}

@@ -4,8 +4,6 @@ use Rattle.std.proofs.lemmas.Option.{slice_get_within}
 use Rattle.area_graph.specs.Nodes.{router as router_node}
 use Rattle.primary_alt.specs.declared.shortest.Primary.{Primary}
 use Rattle.primary_alt.specs.Primaries.{ArePrimaries}
-use Rattle.mrt_rows.specs.CertOf.{IsCertOf}
-use Rattle.mrt_answer.specs.Tabled.{IsComputedFile}
 use Rattle.mrt_words.proofs.HandedOn.{if_ok}
 use Rattle.mrt_answer.proofs.Tables.{is_found, not_network}
 use Rattle.mrt_answer.proofs.table.table_of.Goals as goal
@@ -13,25 +11,14 @@ use Rattle.mrt_answer.proofs.table.table_of.Goals as goal
 pub returns : goal.returns
 returns c =
     let graph = c.args.graph.now in
-    let root = c.args.root in
-    let kept = c.in_ok-columns.ensures.kept in
-    let file = c.in_ok-columns.ensures.cert.0 in
-    let computed = c.in_ok-columns.ensures.cert.1 in
-    let accepted = c.certificates_are_accepted.ensures graph root file kept c.requires.root computed in
-    let certificate : IsComputedFile graph root file = record {
-      kept = kept;
-      computed = computed;
-      accepted = accepted;
-      sound = c.accepted_implies_sound.ensures graph root file accepted;
-    } in
+    let own = c.in_ok-columns.ensures.computed in
     let source : slice_get graph.ids c.unwrap-source.result ≡ Some (router_node c.args.router) = subst (λ (o : Option ℕ). IfSome o (λ n. slice_get c.args.graph.now.ids n ≡ Some (router_node c.args.router))) c.unwrap-source.ensures c.find.ensures.found in
     let spot : slice_get c.args.area.now.ids c.unwrap-spot.result ≡ Some (router_node c.args.router) = subst (λ (o : Option ℕ). IfSome o (λ s. slice_get c.args.area.now.ids s ≡ Some (router_node c.args.router))) c.unwrap-spot.ensures c.find-2.ensures.found in
-    if_ok c.table_text.result _ _ (c.table_text.ensures file
-    (subst (λ (n : ℕ). IsCertOf graph n file) (sym c.in_ok-columns.ensures.root) computed))
+    if_ok c.table_text.result _ _ (c.table_text.ensures own.file own.of_columns)
     (λ text spelled.
     record {
-      file = file;
-      certificate = certificate;
+      file = own.file;
+      certificate = own.certificate;
       source = c.unwrap-source.result;
       in_island = source;
       spot = c.unwrap-spot.result;
