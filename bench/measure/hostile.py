@@ -8,8 +8,8 @@ seed, puts them all into one run of places; a database, a profile and packets ha
 `old`, `equal`, `others` and `longest` are databases of 8 MiB: of old or equal instances, of LSAs of another type, of LSAs as long as they get. `lan`
 has networks with 16,000 routers, `network` one network with 80,000 LSAs, `parallel` bundles of links. `certificate` has the longest ones, which are
 wrong at the very end, `script` scripts and a profile of a million lines that are wrong in the last. `flood` has packets of one LSA of 65 kB, which
-reach 64 routers, `known` one such LSA that reaches a router 65,535 times, `fabric` 65,535 packets that each switch once on the largest ring. `stacks`
-runs each form with a stack of 64 KiB, `sizes` with a limit on the size of files.
+reach 64 routers, `known` one such LSA that reaches a router 65,535 times, also from two places of the file, `fabric` 65,535 packets that each switch
+once on the largest ring. `stacks` runs each form with a stack of 64 KiB, `sizes` with a limit on the size of files.
 
 A run has at most MB of memory (2,000) and S seconds (120). With --check the status is 1 where a run takes more than ten times sha256sum and 0.1 s, or
 has more than six times the files and 16 MB, but for rows that are told only, since what they ask for costs more. It builds the program where need be,
@@ -259,6 +259,9 @@ def known(_):
     areas.write("packets", long_update(1))
     areas.write("events", b"routers 1\n" + b"deliver 0 0\n" * MOST_DELIVERIES)
     yield Row(f"an LSA of 65 kB, {MOST_DELIVERIES} times to one router", ["flood", "packets", "-", "events"])
+    areas.write("twins", long_update(1) * 2)
+    areas.write("events", b"routers 1\ndeliver 0 0\n" + b"deliver 1 0\n" * (MOST_DELIVERIES - 1))
+    yield Row("the same from another place of the file, each compared", ["flood", "twins", "-", "events"], 0, True)
 
 
 def fabric(_):
