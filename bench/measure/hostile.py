@@ -12,8 +12,8 @@ reach 64 routers, `known` one such LSA that reaches a router 65,535 times, also 
 once on the largest ring. `stacks` runs each form with a stack of 64 KiB, `sizes` with a limit on the size of files.
 
 A run has at most MB of memory (2,000) and S seconds (120). With --check the status is 1 where a run takes more than ten times sha256sum and 0.1 s, or
-has more than six times the files and 16 MB, but for rows that are told only, since what they ask for costs more. It builds the program where need be,
-if none is named; it fetches nothing.
+has more than six times the files and 16 MB, or, where it floods, twice the packets and 64 bytes for each LSA in a packet or a database, whichever is
+more; but for rows that are told only, since what they ask for costs more. It builds the program where need be, if none is named; it fetches nothing.
 """
 import argparse
 import os
@@ -46,9 +46,11 @@ NETWORK_ROUTERS, NETWORK_LSAS = 16000, 80000
 
 # what a run may take
 SLOWER, SECONDS, LARGER, BYTES = 10, 0.1, 6, 16e6
+# of packets twice their bytes, and so much for each LSA in a packet or in a router's database
+TWICE, EACH = 2, 64
 
-# A run: what is told of it, its words, the status that it has to end with, and whether it is told only.
-Row = namedtuple("Row", "title words status told_only", defaults=[0, False])
+# A run: what is told of it, its words, the status that it has to end with, whether it is told only, and how many LSAs stand in packets and databases.
+Row = namedtuple("Row", "title words status told_only lsas", defaults=[0, False, 0])
 
 # the hasher of the kit's maps, and how many entries its table holds for each group of places
 SEED = 0x243F6A8885A308D3
@@ -113,7 +115,7 @@ def keys(many):
         packets = updates(1, [router_lsa(number, []) for number in numbers], PACKET)
         areas.write("packets", b"".join(packets))
         areas.write("events", deliveries(len(packets), ROUTERS))
-        yield Row(f"{few} keys to {ROUTERS} routers, {name}", ["flood", "packets", "-", "events"])
+        yield Row(f"{few} keys to {ROUTERS} routers, {name}", ["flood", "packets", "-", "events"], lsas=few * (ROUTERS + 1))
 
 
 # databases
@@ -294,7 +296,8 @@ def show(row, asked):
     elif status != row.status:
         faults.append(f"status {status}, NOT {row.status}: {runs[-1].errors.decode().strip()}")
     else:
-        faults += ["TOO SLOW"] * (took > SLOWER * sha + SECONDS) + ["TOO LARGE"] * (memory > LARGER * size + BYTES)
+        most = max(LARGER * size + BYTES, TWICE * size + EACH * row.lsas)
+        faults += ["TOO SLOW"] * (took > SLOWER * sha + SECONDS) + ["TOO LARGE"] * (memory > most)
     print(
         f"{row.title}: {size} bytes, sha256sum {sha * 1000:.0f} ms, {took * 1000:.0f} ms, {took / sha:.1f} times it, "
         f"{memory / 1e6:.1f} MB, {memory / size:.1f} times the files"
