@@ -18,7 +18,7 @@ use Rattle.mrt_island.specs.Numbering.{AreFlagNumbers, AreLinkNumbers, flagged, 
 use Rattle.mrt_island.specs.IslandOf.{IsIsland}
 use Rattle.mrt_island.specs.Rooting.{IsRoot}
 use Rattle.mrt_island.proofs.Bounds.{pairs_few}
-use Rattle.mrt_island.proofs.Counting.{flagged_filter, length_flagged}
+use Rattle.mrt_island.proofs.Counting.{flagged_filter}
 use Rattle.mrt_island.proofs.LinkNumbers.{are_numbers, link_numbers, links_numbered, numbers_from}
 
 pub links_made : (policy : Policy) (area : AreaParts) (inside flags i f : List Bool) (b : List Bond) (links : List LinkIn) → links ≡ map (link_by i) (flagged f b) → i ≡ inside → f ≡ flags → b ≡ area.bonds

@@ -1,5 +1,5 @@
 -- The island of a router.
-use Rattle.std.specs.Prelude.{◌≡◌, ℕ, Bool, List, Option}
+use Rattle.std.specs.Prelude.{ℕ, Bool, List, Option}
 use Rattle.mrt_graph.specs.NewGraph.{IsGraphOf}
 use Rattle.mrt_graph.specs.Topology.{Topology}
 use Rattle.area_graph.specs.Parts.{AreaParts}

@@ -15,7 +15,8 @@ use std::marker::Model;
 /// What is set apart from the defaults for the routers of an area. Contracts see it as the list of what the lines of its file say.
 #[derive(Drop)]
 pub struct Profile {
-    /// Each setting by its subject, with the priority where the subject is one.
+    /// Each setting by its subject, with the priority where the subject is one. Most profiles have none, and keys that are
+    /// made for all routers and links only to find nothing would cost more than the island.
     settings: IndexMap<Subject, u8, FileKey>,
 }
 
@@ -54,6 +55,9 @@ impl Profile {
     pub fn priority(&self, router: u32) -> u8
         ensures { result ≡ priority_of self.now router }
     {
+        if self.settings.is_empty() {
+            return DEFAULT_PRIORITY;
+        }
         match self.settings.get(&Subject::Priority { router }) {
             None => DEFAULT_PRIORITY,
             Some(priority) => *priority,
@@ -64,6 +68,9 @@ impl Profile {
     pub fn supports(&self, router: u32) -> bool
         ensures { result ≡ supports self.now router }
     {
+        if self.settings.is_empty() {
+            return true;
+        }
         !self.settings.contains_key(&Subject::NoMrt { router })
     }
 
@@ -71,7 +78,6 @@ impl Profile {
     pub fn eligible(&self, router: u32, link_data: u32) -> bool
         ensures { result ≡ is_eligible self.now router link_data }
     {
-        // most profiles say nothing, and a key for each end of a pair would cost more than the island
         if self.settings.is_empty() {
             return true;
         }
