@@ -29,11 +29,12 @@ pub enum Loss {
     NoRoute,
     /// Its hop is cut, and its destination is the failed node.
     IsDestination,
-    /// The hop of the color on which it entered is cut.
+    /// The hop of the color on which it entered is cut, by another element than its destination.
     ColorCut,
-    /// Its primary hop is cut, and its place or its destination is not of the island.
+    /// Its primary hop is cut by another element than its destination, and its place or its destination is not of the
+    /// island.
     Outside,
-    /// Its primary hop is cut, and no color goes round the failure.
+    /// Its primary hop is cut by another element than its destination, and no color goes round the failure.
     NoAlternate,
 }
 
