@@ -1,24 +1,24 @@
 -- A body is read as it is written, and written as it is read.
-use Rattle.std.proofs.Common.{◌≡◌, ℕ, ◌+◌, ◌-◌, ◌*◌, ◌/◌, ◌%◌, ◌^◌, ◌<◌, ◌≤◌, Bool, true, false, List, [], ◌∷◌, ◌++◌, length, drop, Option, Some, None, Ok, Err, inl, inr, refl, sym, ap, subst, ◌∙◌, arith}
+use Rattle.std.proofs.Common.{◌≡◌, ℕ, ◌+◌, ◌-◌, ◌*◌, ◌/◌, ◌%◌, ◌^◌, ◌<◌, ◌≤◌, Bool, true, false, List, [], ◌++◌, length, drop, Option, Some, None, Ok, Err, inl, inr, refl, sym, ap, subst, ◌∙◌, arith}
 use Rattle.std.specs.Int.{w8, w16, w32, to_be_bytes}
 use Rattle.std.specs.List.{flat_map, list_any}
 use Rattle.std.specs.Option.{option_map_or}
 use Rattle.std.proofs.lemmas.Bool.{cases_lt, le-ltb, lt-ltb, eq-eqb, ne_eqb}
 use Rattle.std.proofs.lemmas.Bool.Decides.{eqb_tells}
-use Rattle.std.proofs.lemmas.List.{append-nil, drop_all, length-append, length-drop}
+use Rattle.std.proofs.lemmas.List.{append-nil, drop_all, length-drop}
 use Rattle.byteorder.specs.Numbers.{big_number-reads_back}
 use Rattle.ospf_lsa.specs.declared.error.LsaKind.TheVariants as kinds
 use Rattle.ospf_lsa.specs.declared.lsa.RouterLink.{RouterLink}
 use Rattle.ospf_lsa.specs.declared.lsa.Body.{Body}
 use Rattle.ospf_lsa.specs.declared.lsa.Body.TheVariants.{Router, Network, Other}
-use Rattle.ospf_lsa.specs.LsaText.{link_text, body_text}
+use Rattle.ospf_lsa.specs.LsaText.{links_text, body_text}
 use Rattle.ospf_lsa.specs.Header.{number_at}
-use Rattle.ospf_lsa.specs.Reading.{numbers_in, links_in, body_links, body_in, with_links, router_body, network_body, typed_body}
+use Rattle.ospf_lsa.specs.Reading.{numbers_in, links_in, Links, body_links, body_in, with_links, router_body, network_body, typed_body}
 use Rattle.ospf_lsa.specs.Faults.{SpellsLinks}
-use Rattle.ospf_lsa.specs.Lsas.{has_zero_metric, FitsBody, IsOfType, KeepsMetrics}
+use Rattle.ospf_lsa.specs.Lsas.{has_zero_metric, AreEntriesOf, FitsBody, IsOfType, KeepsMetrics}
 use Rattle.mrt_graph.proofs.Bytes.{IsBytes, bytes_after}
 use Rattle.ospf_lsa.proofs.Numbers.{all_bytes, spelled8, spelled16, spelled32, spelled_at, number_fits, numbers_spelled, numbers_fit, numbers_read, length_numbers}
-use Rattle.ospf_lsa.proofs.Links.{links_spelled, links_read, length_link}
+use Rattle.ospf_lsa.proofs.Links.{links_spelled, links_read, length_links}
 
 -- a body of this type that is read is spelled by its bytes
 pub record IsSpelledBody (kind : ℕ) (bytes : List ℕ) (body : Body) : Type 0 where
@@ -28,11 +28,11 @@ pub record IsSpelledBody (kind : ℕ) (bytes : List ℕ) (body : Body) : Type 0 
   pub metrics : KeepsMetrics body
 
 -- the links of a body that are read are spelled by its bytes
-record IsSpelledRouter (bytes : List ℕ) (links : List RouterLink) : Type 0 where
+record IsSpelledRouter (bytes : List ℕ) (links : Links) : Type 0 where
   text : bytes ≡ body_text (body_in bytes links)
   fit : FitsBody (body_in bytes links)
 
-links_of_spelled : (bytes : List ℕ) (links : List RouterLink) → body_links bytes ≡ Some links → IsBytes bytes
+links_of_spelled : (bytes : List ℕ) (links : Links) → body_links bytes ≡ Some links → IsBytes bytes
     → IsSpelledRouter bytes links
 links_of_spelled bytes links e are = elim (cases_lt (length bytes) 4) [
   | inl short ↦ let none : body_links bytes ≡ None = rw (lt-ltb _ _ short) refl in absurd cc
@@ -46,20 +46,21 @@ links_of_spelled bytes links e are = elim (cases_lt (length bytes) 4) [
             ∙ ap (λ (t : List ℕ). to_be_bytes w8 (number_at 1 1 bytes) ++ t)
             (spelled_at w16 2 4 bytes spelled16 refl long are
             ∙ ap (λ (n : ℕ). to_be_bytes w16 n ++ drop 4 bytes) (sym so.many)
-            ∙ ap (λ (t : List ℕ). to_be_bytes w16 (length links) ++ t) so.spelled));
-        fit = (number_fits 1 0 bytes are, number_fits 1 1 bytes are, so.fit);
+            ∙ ap (λ (t : List ℕ). to_be_bytes w16 (length links.0) ++ t) so.spelled));
+        fit = (number_fits 1 0 bytes are, number_fits 1 1 bytes are, so.fit, so.entries_fit, so.entries);
       }
 ]
 
 -- links that are read are those of the body
-pub links_found : (bytes : List ℕ) (links : List RouterLink) → body_links bytes ≡ Some links → IsBytes bytes
-    → SpellsLinks bytes links
+pub links_found : (bytes : List ℕ) (links : Links) → body_links bytes ≡ Some links → IsBytes bytes
+    → SpellsLinks bytes links.0
 links_found bytes links e are =
     let read = links_of_spelled bytes links e are in
-    record { flags = number_at 0 1 bytes; spare = number_at 1 1 bytes; fits = read.fit; spelled = read.text }
+    record
+    { flags = number_at 0 1 bytes; spare = number_at 1 1 bytes; tos = links.1; fits = read.fit; spelled = read.text }
 
-router_made : (kind : ℕ) (bytes : List ℕ) (links : List RouterLink) → kind ≡ 1 → body_links bytes ≡ Some links
-    → list_any has_zero_metric links ≡ false → IsBytes bytes
+router_made : (kind : ℕ) (bytes : List ℕ) (links : Links) → kind ≡ 1 → body_links bytes ≡ Some links
+    → list_any has_zero_metric links.0 ≡ false → IsBytes bytes
     → IsSpelledBody kind bytes (body_in bytes links)
 router_made kind bytes links is found metrics are =
     let read = links_of_spelled bytes links found are in
@@ -69,8 +70,8 @@ router_spelled : (kind : ℕ) (bytes : List ℕ) (body : Body) → kind ≡ 1 �
     → IsSpelledBody kind bytes body
 router_spelled kind bytes body is e are = by_links (body_links bytes) refl e
   where
-    by_metrics : (links : List RouterLink) (b : Bool) → body_links bytes ≡ Some links
-        → list_any has_zero_metric links ≡ b → with_links bytes links ≡ Ok body → IsSpelledBody kind bytes body
+    by_metrics : (links : Links) (b : Bool) → body_links bytes ≡ Some links
+        → list_any has_zero_metric links.0 ≡ b → with_links bytes links ≡ Ok body → IsSpelledBody kind bytes body
     by_metrics links true found zero_metric e = let refused : with_links bytes links ≡ Err kinds.ZeroMetric =
         rw zero_metric refl in absurd cc
     by_metrics links false found zero_metric e =
@@ -78,10 +79,10 @@ router_spelled kind bytes body is e are = by_links (body_links bytes) refl e
         let same : body_in bytes links ≡ body = cc in
         subst (λ (b : Body). IsSpelledBody kind bytes b) same (router_made kind bytes links is found zero_metric are)
 
-    by_links : (o : Option (List RouterLink)) → body_links bytes ≡ o
+    by_links : (o : Option Links) → body_links bytes ≡ o
         → option_map_or (with_links bytes) o (Err kinds.Body) ≡ Ok body → IsSpelledBody kind bytes body
     by_links None found e = absurd cc
-    by_links (Some links) found e = by_metrics links (list_any has_zero_metric links) found refl e
+    by_links (Some links) found e = by_metrics links (list_any has_zero_metric links.0) found refl e
 
 network_made : (kind : ℕ) (bytes : List ℕ) → kind ≡ 2 → 4 ≤ length bytes → length bytes % 4 ≡ 0 → IsBytes bytes
     → IsSpelledBody kind bytes (Network (number_at 0 4 bytes) (numbers_in ((length bytes - 4) / 4) (drop 4 bytes)))
@@ -135,53 +136,50 @@ body_spelled kind bytes body e are = elim (eqb_tells kind 1) [
   ]
 ]
 
-pub length_links : (links : List RouterLink) → length links ≤ length (flat_map link_text links)
-length_links [] = omega arith
-length_links (link ∷ links) =
-    omega (arith, length-append (link_text link) (flat_map link_text links), length_link link, length_links links)
-
 -- the links of a body that is written are read
-links_of_read : (flags spare : ℕ) (links : List RouterLink) → FitsBody (Router flags spare links)
-    → length (body_text (Router flags spare links)) < 2 ^ 16
-    → (body_links (body_text (Router flags spare links)) ≡ Some links)
-    × (body_in (body_text (Router flags spare links)) links ≡ Router flags spare links)
-links_of_read flags spare links fit fits =
-    let text : List ℕ = body_text (Router flags spare links) in
-    let long : 4 ≤ length (body_text (Router flags spare links)) = omega arith in
-    let few : length links < 2 ^ 16 = omega (arith, length_links links) in
-    let count : number_at 2 2 (body_text (Router flags spare links)) ≡ length links =
-    big_number-reads_back 2 (length links) (flat_map link_text links) few in
-    let first : number_at 0 1 (body_text (Router flags spare links)) ≡ flags =
-    big_number-reads_back 1 flags (drop 1 (body_text (Router flags spare links))) fit.0 in
-    let second : number_at 1 1 (body_text (Router flags spare links)) ≡ spare =
-    big_number-reads_back 1 spare (drop 2 (body_text (Router flags spare links))) fit.1 in
-    let opened : body_links (body_text (Router flags spare links))
-    ≡ links_in (number_at 2 2 (body_text (Router flags spare links))) (flat_map link_text links) =
+links_of_read : (flags spare : ℕ) (links : List RouterLink) (tos : List ℕ) → FitsBody (Router flags spare links tos)
+    → length (body_text (Router flags spare links tos)) < 2 ^ 16
+    → (body_links (body_text (Router flags spare links tos)) ≡ Some (links, tos))
+    × (body_in (body_text (Router flags spare links tos)) (links, tos) ≡ Router flags spare links tos)
+links_of_read flags spare links tos fit fits =
+    let text : List ℕ = body_text (Router flags spare links tos) in
+    let entries : AreEntriesOf links tos = fit.4 in
+    let long : 4 ≤ length (body_text (Router flags spare links tos)) = omega arith in
+    let few : length links < 2 ^ 16 = omega (arith, fits, length_links links tos entries) in
+    let count : number_at 2 2 (body_text (Router flags spare links tos)) ≡ length links =
+    big_number-reads_back 2 (length links) (links_text links tos) few in
+    let first : number_at 0 1 (body_text (Router flags spare links tos)) ≡ flags =
+    big_number-reads_back 1 flags (drop 1 (body_text (Router flags spare links tos))) fit.0 in
+    let second : number_at 1 1 (body_text (Router flags spare links tos)) ≡ spare =
+    big_number-reads_back 1 spare (drop 2 (body_text (Router flags spare links tos))) fit.1 in
+    let opened : body_links (body_text (Router flags spare links tos))
+    ≡ links_in (number_at 2 2 (body_text (Router flags spare links tos))) (links_text links tos) =
     rw (le-ltb _ _ long) refl in (
-      opened ∙ ap (λ (n : ℕ). links_in n (flat_map link_text links)) count ∙ links_read links fit.2,
-      ap (λ (f : ℕ). Router f (number_at 1 1 (body_text (Router flags spare links))) links) first
-          ∙ ap (λ (s : ℕ). Router flags s links) second,
+      opened ∙ ap (λ (n : ℕ). links_in n (links_text links tos)) count ∙ links_read links tos fit.2 fit.3 entries,
+      ap (λ (f : ℕ). Router f (number_at 1 1 (body_text (Router flags spare links tos))) links tos) first
+          ∙ ap (λ (s : ℕ). Router flags s links tos) second,
     )
 
 -- the links that bytes spell are read from them
-pub spelled_found : (bytes : List ℕ) (links : List RouterLink) → length bytes < 2 ^ 16 → SpellsLinks bytes links
-    → body_links bytes ≡ Some links
+pub spelled_found : (bytes : List ℕ) (links : List RouterLink) → length bytes < 2 ^ 16
+    → (spells : SpellsLinks bytes links) → body_links bytes ≡ Some (links, spells.tos)
 spelled_found bytes links short spells =
-    let fits : length (body_text (Router spells.flags spells.spare links)) < 2 ^ 16 =
+    let fits : length (body_text (Router spells.flags spells.spare links spells.tos)) < 2 ^ 16 =
     subst (λ (t : List ℕ). length t < 2 ^ 16) spells.spelled short in
-    ap body_links spells.spelled ∙ (links_of_read spells.flags spells.spare links spells.fits fits).0
+    ap body_links spells.spelled ∙ (links_of_read spells.flags spells.spare links spells.tos spells.fits fits).0
 
-router_read : (kind flags spare : ℕ) (links : List RouterLink) → kind ≡ 1 → FitsBody (Router flags spare links)
-    → list_any has_zero_metric links ≡ false → length (body_text (Router flags spare links)) < 2 ^ 16
-    → typed_body kind (body_text (Router flags spare links)) ≡ Ok (Router flags spare links)
-router_read kind flags spare links is fit metrics fits =
-    let read = links_of_read flags spare links fit fits in
-    let opened : typed_body kind (body_text (Router flags spare links))
-    ≡ router_body (body_text (Router flags spare links)) = rw (eq-eqb kind 1 is) refl in
-    let made : with_links (body_text (Router flags spare links)) links
-    ≡ Ok (body_in (body_text (Router flags spare links)) links) = rw metrics refl in
-    opened ∙ ap (λ (o : Option (List RouterLink)). option_map_or
-    (with_links (body_text (Router flags spare links))) o (Err kinds.Body)) read.0
+router_read : (kind flags spare : ℕ) (links : List RouterLink) (tos : List ℕ) → kind ≡ 1
+    → FitsBody (Router flags spare links tos) → list_any has_zero_metric links ≡ false
+    → length (body_text (Router flags spare links tos)) < 2 ^ 16
+    → typed_body kind (body_text (Router flags spare links tos)) ≡ Ok (Router flags spare links tos)
+router_read kind flags spare links tos is fit metrics fits =
+    let read = links_of_read flags spare links tos fit fits in
+    let opened : typed_body kind (body_text (Router flags spare links tos))
+    ≡ router_body (body_text (Router flags spare links tos)) = rw (eq-eqb kind 1 is) refl in
+    let made : with_links (body_text (Router flags spare links tos)) (links, tos)
+    ≡ Ok (body_in (body_text (Router flags spare links tos)) (links, tos)) = rw metrics refl in
+    opened ∙ ap (λ (o : Option Links). option_map_or
+    (with_links (body_text (Router flags spare links tos))) o (Err kinds.Body)) read.0
     ∙ made ∙ ap Ok read.1
 
 network_read : (kind mask : ℕ) (routers : List ℕ) → kind ≡ 2 → FitsBody (Network mask routers)
@@ -213,6 +211,7 @@ network_read kind mask routers is fit =
 
 pub body_read : (kind : ℕ) (body : Body) → IsOfType kind body → FitsBody body → KeepsMetrics body
     → length (body_text body) < 2 ^ 16 → typed_body kind (body_text body) ≡ Ok body
-body_read kind (Router flags spare links) is fit metrics fits = router_read kind flags spare links is fit metrics fits
+body_read kind (Router flags spare links tos) is fit metrics fits =
+    router_read kind flags spare links tos is fit metrics fits
 body_read kind (Network mask routers) is fit metrics fits = network_read kind mask routers is fit
 body_read kind (Other bytes) is fit metrics fits = rw (ne_eqb kind 1 is.0, ne_eqb kind 2 is.1) refl

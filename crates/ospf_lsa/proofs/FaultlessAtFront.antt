@@ -3,7 +3,6 @@ use Rattle.std.proofs.Common.{◌≡◌, ◌<◌, ◌+◌, ◌*◌, ◌^◌, ℕ
 use Rattle.std.specs.List.{list_any}
 use Rattle.ospf_lsa.specs.declared.error.LsaKind.{LsaKind}
 use Rattle.ospf_lsa.specs.declared.error.LsaKind.TheVariants as kinds
-use Rattle.ospf_lsa.specs.declared.lsa.RouterLink.{RouterLink}
 use Rattle.ospf_lsa.specs.declared.lsa.Body.{Body}
 use Rattle.ospf_lsa.specs.declared.lsa.Body.TheVariants.{Router, Network, Other}
 use Rattle.ospf_lsa.specs.declared.lsa.Lsa.{Lsa}
@@ -12,7 +11,7 @@ use Rattle.ospf_lsa.specs.Faults.{SpellsLinks, HasBadBody, HasFault, HasZeroMetr
 use Rattle.ospf_lsa.specs.Header.{type_field, length_field, covered_bytes, body_bytes, checksum_field}
 use Rattle.ospf_lsa.specs.LsaText.{body_text, lsa_text}
 use Rattle.ospf_lsa.specs.Lsas.{has_zero_metric, FitsBody, IsLsa, IsOfType, KeepsMetrics}
-use Rattle.ospf_lsa.specs.Reading.{body_links}
+use Rattle.ospf_lsa.specs.Reading.{body_links, Links}
 use Rattle.ospf_lsa.proofs.Bodies.{spelled_found}
 use Rattle.ospf_lsa.proofs.Numbers.{length_numbers}
 use Rattle.ospf_lsa.proofs.Records.{IsAtFront, at_front}
@@ -26,8 +25,8 @@ record IsRecord (bytes : List ℕ) (kind : ℕ) (body : Body) : Type 0 where
 
 no_bad_body : (bytes : List ℕ) (kind : ℕ) (body : Body) → IsRecord bytes kind body → IsOfType kind body
     → FitsBody body → ¬ HasBadBody bytes
-no_bad_body bytes kind (Router flags spare links) is of_type fits bad = elim bad [
-  | inl router ↦ router.1 links (record { flags = flags; spare = spare; fits = fits; spelled = is.text })
+no_bad_body bytes kind (Router flags spare links tos) is of_type fits bad = elim bad [
+  | inl router ↦ router.1 links (record { flags = flags; spare = spare; tos = tos; fits = fits; spelled = is.text })
   | inr network ↦ omega (arith, is.type, of_type, network.0)
 ]
 no_bad_body bytes kind (Network mask routers) is of_type fits bad = elim bad [
@@ -41,19 +40,19 @@ no_bad_body bytes kind (Other other) is of_type fits bad = elim bad [
   | inr network ↦ of_type.1 (sym is.type ∙ network.0)
 ]
 
-same_links : (links others : List RouterLink) (o : Option (List RouterLink)) → o ≡ Some links → o ≡ Some others
-    → links ≡ others
+same_links : (links others : Links) (o : Option Links) → o ≡ Some links → o ≡ Some others → links ≡ others
 same_links links others o e f = cc
 
 no_zero_metric : (bytes : List ℕ) (kind : ℕ) (body : Body) → IsRecord bytes kind body → IsOfType kind body
     → FitsBody body → KeepsMetrics body → ¬ HasZeroMetric bytes
-no_zero_metric bytes kind (Router flags spare links) is of_type fits metrics zero =
+no_zero_metric bytes kind (Router flags spare links tos) is of_type fits metrics zero =
     let spells : SpellsLinks (body_bytes bytes) links =
-    record { flags = flags; spare = spare; fits = fits; spelled = is.text } in
+    record { flags = flags; spare = spare; tos = tos; fits = fits; spelled = is.text } in
     let short : length (body_bytes bytes) < 2 ^ 16 = subst (λ (t : List ℕ). length t < 2 ^ 16) (sym is.text) is.short in
-    let same : zero.1.0 ≡ links = same_links zero.1.0 links (body_links (body_bytes bytes))
+    let same : zero.1.0 ≡ links = ap (λ (ls : Links). ls.0)
+    (same_links (zero.1.0, zero.1.1.tos) (links, tos) (body_links (body_bytes bytes))
     (spelled_found (body_bytes bytes) zero.1.0 short zero.1.1)
-    (spelled_found (body_bytes bytes) links short spells) in
+    (spelled_found (body_bytes bytes) links short spells)) in
     let both : true ≡ false = sym zero.1.2 ∙ ap (list_any has_zero_metric) same ∙ metrics in
     absurd cc
 no_zero_metric bytes kind (Network mask routers) is of_type fits metrics zero = omega (arith, is.type, of_type, zero.0)

@@ -7,14 +7,13 @@ use Rattle.std.proofs.lemmas.Bool.Decides.{eqb_tells}
 use Rattle.std.proofs.lemmas.List.{length-drop, length-take}
 use Rattle.ospf_lsa.specs.declared.error.LsaKind.{LsaKind}
 use Rattle.ospf_lsa.specs.declared.error.LsaKind.TheVariants as kinds
-use Rattle.ospf_lsa.specs.declared.lsa.RouterLink.{RouterLink}
 use Rattle.ospf_lsa.specs.declared.lsa.Body.{Body}
 use Rattle.ospf_lsa.specs.declared.lsa.Body.TheVariants.{Network, Other}
 use Rattle.ospf_lsa.specs.Checksum.{is_good}
 use Rattle.ospf_lsa.specs.Faults.{SpellsLinks, HasFault, HasFirstFault, HasBadBody, order_of}
 use Rattle.ospf_lsa.specs.Header.{number_at, type_field, id_field, router_field, sequence_field, checksum_field, length_field, covered_bytes, body_bytes}
 use Rattle.ospf_lsa.specs.Lsas.{has_zero_metric}
-use Rattle.ospf_lsa.specs.Reading.{header_fault, numbers_in, body_in, body_links, with_links, router_body, network_body, typed_body, with_body, record_in}
+use Rattle.ospf_lsa.specs.Reading.{header_fault, numbers_in, Links, body_in, body_links, with_links, router_body, network_body, typed_body, with_body, record_in}
 use Rattle.ospf_lsa.proofs.Bodies.{links_found, spelled_found}
 use Rattle.ospf_lsa.proofs.FaultlessAtFront.{opposite}
 use Rattle.ospf_lsa.proofs.HeaderFaults.{IsWhole, short_told, cut_told, length_told, checksum_told, sequence_told, router_told}
@@ -167,7 +166,7 @@ body_long bytes is = simp (length-take, length-drop) (omega (arith, is.within))
 body_short : (bytes : List ℕ) → IsHeader bytes → IsBytes bytes → length (body_bytes bytes) < 2 ^ 16
 body_short bytes is are = omega (arith, body_long bytes is, number_fits 2 18 bytes are)
 
-no_links : (links : List RouterLink) (o : Option (List RouterLink)) → o ≡ None → o ≡ Some links → ⊥
+no_links : (links : Links) (o : Option Links) → o ≡ None → o ≡ Some links → ⊥
 no_links links o e f = absurd cc
 
 same_kind : (kind told : LsaKind) (r : Result Body LsaKind) → r ≡ Err kind → r ≡ Err told → kind ≡ told
@@ -181,38 +180,38 @@ router_first : (bytes : List ℕ) (told : LsaKind) → type_field bytes ≡ 1 �
     → router_body (body_bytes bytes) ≡ Err told → HasFirstFault told bytes
 router_first bytes told router is are body_are e = by_links (body_links (body_bytes bytes)) refl
   where
-    by_metrics : (links : List RouterLink) (b : Bool) → body_links (body_bytes bytes) ≡ Some links
-        → list_any has_zero_metric links ≡ b → with_links (body_bytes bytes) links ≡ Err told → HasFirstFault told bytes
+    by_metrics : (links : Links) (b : Bool) → body_links (body_bytes bytes) ≡ Some links
+        → list_any has_zero_metric links.0 ≡ b → with_links (body_bytes bytes) links ≡ Err told → HasFirstFault told bytes
     by_metrics links true found zero h =
-        let spells : SpellsLinks (body_bytes bytes) links = links_found (body_bytes bytes) links found body_are in
+        let spells : SpellsLinks (body_bytes bytes) links.0 = links_found (body_bytes bytes) links found body_are in
         let refused : with_links (body_bytes bytes) links ≡ Err kinds.ZeroMetric = rw zero refl in
         subst (λ (k : LsaKind). HasFirstFault k bytes)
         (same_kind kinds.ZeroMetric told (with_links (body_bytes bytes) links) refused h)
-        (first_of kinds.ZeroMetric bytes (router, (links, spells, zero))
+        (first_of kinds.ZeroMetric bytes (router, (links.0, spells, zero))
         (header_none 6 bytes (omega arith) is (λ lt bad. elim bad [
-          | inl refused ↦ refused.1 links spells
+          | inl refused ↦ refused.1 links.0 spells
           | inr network ↦ omega (arith, router, network.0)
         ])))
     by_metrics links false found none h =
         absurd (ok_kind (body_in (body_bytes bytes) links) told (with_links (body_bytes bytes) links) (rw none refl) h)
 
-    by_links : (o : Option (List RouterLink)) → body_links (body_bytes bytes) ≡ o → HasFirstFault told bytes
+    by_links : (o : Option Links) → body_links (body_bytes bytes) ≡ o → HasFirstFault told bytes
     by_links None found =
         let refused : router_body (body_bytes bytes) ≡ Err kinds.Body =
-        ap (λ (o : Option (List RouterLink)). option_map_or (with_links (body_bytes bytes)) o (Err kinds.Body))
+        ap (λ (o : Option Links). option_map_or (with_links (body_bytes bytes)) o (Err kinds.Body))
         found in
         subst (λ (k : LsaKind). HasFirstFault k bytes)
         (same_kind kinds.Body told (router_body (body_bytes bytes)) refused e)
         (first_of kinds.Body bytes
         (inl (
           router,
-          λ links spells. no_links links (body_links (body_bytes bytes)) found
+          λ links spells. no_links (links, spells.tos) (body_links (body_bytes bytes)) found
               (spelled_found (body_bytes bytes) links (body_short bytes is are) spells),
         ))
         (header_none 5 bytes (omega arith) is (λ lt. absurd (omega (arith, lt)))))
     by_links (Some links) found =
-        by_metrics links (list_any has_zero_metric links) found refl
-        (sym (ap (λ (o : Option (List RouterLink)). option_map_or (with_links (body_bytes bytes)) o (Err kinds.Body))
+        by_metrics links (list_any has_zero_metric links.0) found refl
+        (sym (ap (λ (o : Option Links). option_map_or (with_links (body_bytes bytes)) o (Err kinds.Body))
         found) ∙ e)
 
 network_first : (bytes : List ℕ) (told : LsaKind) → type_field bytes ≡ 2 → IsHeader bytes

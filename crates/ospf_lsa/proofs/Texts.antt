@@ -1,31 +1,77 @@
--- What loops that write leave.
-use Rattle.std.proofs.Common.{◌≡◌, ℕ, suc, ◌+◌, ◌<◌, List, ◌∷◌, ◌++◌, length, get_or, drop, sym, ap, subst, ◌∙◌, append_assoc, add-one}
+-- What a loop that writes links leaves.
+use Rattle.std.proofs.Common.{◌≡◌, ◌<◌, ◌≤◌, ℕ, suc, ◌+◌, ◌^◌, List, [], ◌∷◌, ◌++◌, length, get_or, take, drop, sym, ap, subst, ◌∙◌, append_assoc, add-one, arith}
+use Rattle.std.specs.Int.{w32, to_be_bytes}
 use Rattle.std.specs.List.{flat_map, AllByRecursion}
 use Rattle.std.proofs.Math.Seq.{drop-cons}
+use Rattle.std.proofs.lemmas.List.{length-append, length-drop}
+use Rattle.std.proofs.lemmas.List.Sums.{sum_by-cons}
+use Rattle.ospf_lsa.specs.declared.lsa.RouterLink.{RouterLink}
+use Rattle.ospf_lsa.specs.LsaText.{link_text, links_text}
+use Rattle.ospf_lsa.specs.Lsas.{AreEntriesOf, FitsLink, Is32Bits}
 
--- the element that a loop is at, and those after it
-pub next_of : {X : Type 0} (xs : List X) (i : ℕ) (x : X) → i < length xs → x ≡ get_or xs i x
-    → drop i xs ≡ x ∷ drop (i + 1) xs
-next_of xs i x lt is = drop-cons xs i x lt ∙ ap (λ y. y ∷ drop (suc i) xs) (sym is)
-    ∙ ap (λ k. x ∷ drop k xs) (sym (add-one i))
+-- numbers of 32 bits are that, all of them
+pub all_numbers : (numbers : List ℕ) → ((k : ℕ) → get_or numbers k 0 < 2 ^ 32) → AllByRecursion Is32Bits numbers
+all_numbers [] are = tt
+all_numbers (number ∷ numbers) are = (are 0, all_numbers numbers (λ k. are (suc k)))
 
--- the texts of that element and of those after it
-pub texts_of : {X : Type 0} (text : X → List ℕ) (xs : List X) (i : ℕ) (x : X) → i < length xs → x ≡ get_or xs i x
-    → flat_map text (drop i xs) ≡ text x ++ flat_map text (drop (i + 1) xs)
-texts_of text xs i x lt is = ap (flat_map text) (next_of xs i x lt is)
+-- what is read past the end of links
+abbrev pub no_link : RouterLink
+no_link = record { id = 0; link_data = 0; kind = 0; entries = 0; metric = 0 }
 
--- one more text
-pub one_more_text : {X : Type 0} (text : X → List ℕ) (xs : List X) (i : ℕ) (x : X) (out out' all : List ℕ)
-    → i < length xs → x ≡ get_or xs i x → out' ≡ out ++ text x
-    → out ++ flat_map text (drop i xs) ≡ all → out' ++ flat_map text (drop (i + 1) xs) ≡ all
-one_more_text text xs i x out out' all lt is grown so_far =
-    ap (λ t. t ++ flat_map text (drop (i + 1) xs)) grown ∙ append_assoc out (text x) (flat_map text (drop (i + 1) xs))
-    ∙ ap (λ t. out ++ t) (sym (texts_of text xs i x lt is)) ∙ so_far
+-- what is left to write before a link and after it
+pub record IsNext (links : List RouterLink) (i : ℕ) (link : RouterLink) (tos : List ℕ) : Type 0 where
+  pub text : links_text (drop i links) tos
+      ≡ link_text link ++ (flat_map (to_be_bytes w32) (take link.entries tos)
+      ++ links_text (drop (i + 1) links) (drop link.entries tos))
+  pub enough : link.entries ≤ length tos
+  pub entries : AreEntriesOf (drop (i + 1) links) (drop link.entries tos)
+  pub fits : FitsLink link → AllByRecursion FitsLink (drop (i + 1) links) → AllByRecursion FitsLink (drop i links)
 
-pub all_more : {X : Type 0} (P : X → Type 0) (xs : List X) (i : ℕ) (x : X) → i < length xs → x ≡ get_or xs i x → P x
-    → AllByRecursion P (drop (i + 1) xs) → AllByRecursion P (drop i xs)
-all_more P xs i x lt is here later = subst (λ ys. AllByRecursion P ys) (sym (next_of xs i x lt is)) (here, later)
+-- that is so of the link that a loop is at
+pub next_link : (links : List RouterLink) (i : ℕ) (tos : List ℕ) → i < length links → AreEntriesOf (drop i links) tos
+    → IsNext links i (get_or links i no_link) tos
+next_link links i tos lt entries = so (get_or links i no_link)
+    (drop-cons links i no_link lt ∙ ap (λ (k : ℕ). get_or links i no_link ∷ drop k links) (sym (add-one i)))
+  where
+    so : (link : RouterLink) → drop i links ≡ link ∷ drop (i + 1) links → IsNext links i link tos
+    so link next =
+        let all : AreEntriesOf (link ∷ drop (i + 1) links) tos =
+        subst (λ (ls : List RouterLink). AreEntriesOf ls tos) next entries in
+        let more = sum_by-cons (λ (l : RouterLink). l.entries) link (drop (i + 1) links) in
+        record {
+          text = ap (λ (ls : List RouterLink). links_text ls tos) next;
+          enough = omega (arith, all, more);
+          entries = simp length-drop (omega (arith, all, more));
+          fits = λ here later. subst (λ (ls : List RouterLink). AllByRecursion FitsLink ls) (sym next) (here, later);
+        }
 
-pub all_parts : {X : Type 0} (P : X → Type 0) (xs : List X) (i : ℕ) (x : X) → i < length xs → x ≡ get_or xs i x
-    → AllByRecursion P (drop i xs) → P x × AllByRecursion P (drop (i + 1) xs)
-all_parts P xs i x lt is all = subst (λ ys. AllByRecursion P ys) (next_of xs i x lt is) all
+-- the room that is left before that link and after it
+pub next_room : (links : List RouterLink) (i : ℕ) (link : RouterLink) (tos own later : List ℕ) → IsNext links i link tos
+    → own ≡ take link.entries tos → later ≡ drop link.entries tos
+    → length (links_text (drop i links) tos)
+    ≡ 12 + length (flat_map (to_be_bytes w32) own) + length (links_text (drop (i + 1) links) later)
+next_room links i link tos own later next is is' =
+    ap length next.text
+    ∙ omega (
+      arith,
+      length-append (flat_map (to_be_bytes w32) (take link.entries tos))
+          (links_text (drop (i + 1) links) (drop link.entries tos)),
+      ap (λ (t : List ℕ). length (flat_map (to_be_bytes w32) t)) is,
+      ap (λ (t : List ℕ). length (links_text (drop (i + 1) links) t)) is',
+    )
+
+-- one more link is written
+pub one_more_link : (links : List RouterLink) (i : ℕ) (link : RouterLink) (tos own later out out' all : List ℕ)
+    → IsNext links i link tos → own ≡ take link.entries tos → later ≡ drop link.entries tos
+    → out' ≡ out ++ (link_text link ++ flat_map (to_be_bytes w32) own)
+    → out ++ links_text (drop i links) tos ≡ all → out' ++ links_text (drop (i + 1) links) later ≡ all
+one_more_link links i link tos own later out out' all next is is' grown so_far =
+    let rest : List ℕ = links_text (drop (i + 1) links) later in
+    ap (λ (t : List ℕ). t ++ rest) grown
+    ∙ append_assoc out (link_text link ++ flat_map (to_be_bytes w32) own) rest
+    ∙ ap (λ (t : List ℕ). out ++ t)
+    (append_assoc (link_text link) (flat_map (to_be_bytes w32) own) rest
+    ∙ ap (λ (t : List ℕ). link_text link ++ (flat_map (to_be_bytes w32) t ++ rest)) is
+    ∙ ap (λ (t : List ℕ). link_text link
+    ++ (flat_map (to_be_bytes w32) (take link.entries tos) ++ links_text (drop (i + 1) links) t)) is'
+    ∙ sym next.text) ∙ so_far

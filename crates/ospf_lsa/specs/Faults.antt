@@ -12,12 +12,13 @@ use Rattle.ospf_lsa.specs.Lsas.{has_zero_metric, FitsBody}
 use Rattle.ospf_lsa.specs.Types.{router_lsa, network_lsa}
 
 -- these bytes are a router-LSA's body of these links: its flags, its spare byte, the number of its links, and they
--- themselves, with nothing after them; each number fits its field, the count of a link's TOS entries among them
+-- themselves, each with as many TOS entries as it says, with nothing after them; each number fits its field
 pub record SpellsLinks (bytes : List ℕ) (links : List RouterLink) : Type 0 where
   pub flags : ℕ
   pub spare : ℕ
-  pub fits : FitsBody (Router flags spare links)
-  pub spelled : bytes ≡ body_text (Router flags spare links)
+  pub tos : List ℕ
+  pub fits : FitsBody (Router flags spare links tos)
+  pub spelled : bytes ≡ body_text (Router flags spare links tos)
 
 -- fewer than 20 bytes are left, or fewer than its length field says
 abbrev pub IsTruncated : List ℕ → Type 0

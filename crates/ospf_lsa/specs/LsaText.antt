@@ -1,5 +1,5 @@
 -- The bytes of LSAs (RFC 2328, section A.4). All their numbers are in network order.
-use Rattle.std.specs.Prelude.{ℕ, ◌+◌, List, ◌++◌, length, drop}
+use Rattle.std.specs.Prelude.{ℕ, ◌+◌, List, [], ◌∷◌, ◌++◌, length, take, drop}
 use Rattle.std.specs.Int.{w8, w16, w32, to_be_bytes, cast_unsigned}
 use Rattle.std.specs.List.{flat_map}
 use Rattle.ospf_lsa.specs.declared.lsa.RouterLink.{RouterLink}
@@ -7,16 +7,24 @@ use Rattle.ospf_lsa.specs.declared.lsa.Body.{Body}
 use Rattle.ospf_lsa.specs.declared.lsa.Body.TheVariants.{Router, Network, Other}
 use Rattle.ospf_lsa.specs.declared.lsa.Lsa.{Lsa}
 
--- a link of a router-LSA: its ID, its data, its type, the number of its TOS entries, its metric, and these entries
+-- a link of a router-LSA without its TOS entries: its ID, its data, its type, the number of these entries, its metric
 abbrev pub link_text : RouterLink → List ℕ
 link_text link =
     to_be_bytes w32 link.id ++ (to_be_bytes w32 link.link_data ++ (to_be_bytes w8 link.kind
-    ++ (to_be_bytes w8 (length link.tos) ++ (to_be_bytes w16 link.metric ++ flat_map (to_be_bytes w32) link.tos))))
+    ++ (to_be_bytes w8 link.entries ++ to_be_bytes w16 link.metric)))
 
--- of a router its flags, the spare byte, the number of its links, and these; of a network its mask and its routers
+-- the links of a router-LSA, each with its TOS entries after it: the first link has as many as it says from the front
+-- of these, the links after it have those that are left
+abbrev pub links_text : List RouterLink → List ℕ → List ℕ
+links_text [] tos = []
+links_text (link ∷ links) tos =
+    link_text link ++ (flat_map (to_be_bytes w32) (take link.entries tos) ++ links_text links (drop link.entries tos))
+
+-- of a router its flags, the spare byte, the number of its links, and these with their TOS entries; of a network its
+-- mask and its routers
 abbrev pub body_text : Body → List ℕ
-body_text (Router flags spare links) =
-    to_be_bytes w8 flags ++ (to_be_bytes w8 spare ++ (to_be_bytes w16 (length links) ++ flat_map link_text links))
+body_text (Router flags spare links tos) =
+    to_be_bytes w8 flags ++ (to_be_bytes w8 spare ++ (to_be_bytes w16 (length links) ++ links_text links tos))
 body_text (Network mask routers) = to_be_bytes w32 mask ++ flat_map (to_be_bytes w32) routers
 body_text (Other bytes) = bytes
 

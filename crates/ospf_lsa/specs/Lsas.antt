@@ -2,7 +2,7 @@
 use Rattle.std.specs.Prelude.{◌≡◌, ◌≢◌, ◌<◌, ◌^◌, ◌+◌, ◌||◌, ◌&&◌, ◌==◌, ℕ, Bool, true, false, List, [], ◌∷◌, length}
 use Rattle.std.specs.Int.{w32, cast_signed}
 use Rattle.std.specs.Int.RustNames.{FitsSigned}
-use Rattle.std.specs.List.{list_any, AllByRecursion}
+use Rattle.std.specs.List.{list_any, sum_by, AllByRecursion}
 use Rattle.ospf_lsa.specs.declared.lsa.RouterLink.{RouterLink}
 use Rattle.ospf_lsa.specs.declared.lsa.Body.{Body}
 use Rattle.ospf_lsa.specs.declared.lsa.Body.TheVariants.{Router, Network, Other}
@@ -23,18 +23,23 @@ Is32Bits number = number < 2 ^ 32
 abbrev pub IsByte : ℕ → Type 0
 IsByte number = number < 2 ^ 8
 
--- each number of a link fits its field, the count of its TOS entries among them
+-- each number of a link fits its field, the number of its TOS entries among them
 pub record FitsLink (link : RouterLink) : Type 0 where
   pub id : link.id < 2 ^ 32
   pub link_data : link.link_data < 2 ^ 32
   pub kind : link.kind < 2 ^ 8
+  pub entries : link.entries < 2 ^ 8
   pub metric : link.metric < 2 ^ 16
-  pub few_entries : length link.tos < 2 ^ 8
-  pub entries : AllByRecursion Is32Bits link.tos
 
--- each number of a body fits its field
+-- these are as many TOS entries as the links say that they have
+abbrev pub AreEntriesOf : List RouterLink → List ℕ → Type 0
+AreEntriesOf links tos = length tos ≡ sum_by (λ link. link.entries) links
+
+-- each number of a body fits its field, and of a router-LSA there are as many TOS entries as its links say
 abbrev pub FitsBody : Body → Type 0
-FitsBody (Router flags spare links) = (flags < 2 ^ 8) × (spare < 2 ^ 8) × AllByRecursion FitsLink links
+FitsBody (Router flags spare links tos) =
+    (flags < 2 ^ 8) × (spare < 2 ^ 8) × AllByRecursion FitsLink links × AllByRecursion Is32Bits tos
+    × AreEntriesOf links tos
 FitsBody (Network mask routers) = (mask < 2 ^ 32) × AllByRecursion Is32Bits routers
 FitsBody (Other bytes) = AllByRecursion IsByte bytes
 
@@ -49,13 +54,13 @@ pub record FitsHeader (lsa : Lsa) : Type 0 where
 
 -- the body is of the LS type: a router-LSA's, a network-LSA's, or of any other type its bytes
 abbrev pub IsOfType : ℕ → Body → Type 0
-IsOfType kind (Router flags spare links) = kind ≡ router_lsa
+IsOfType kind (Router flags spare links tos) = kind ≡ router_lsa
 IsOfType kind (Network mask routers) = kind ≡ network_lsa
 IsOfType kind (Other bytes) = (kind ≢ router_lsa) × (kind ≢ network_lsa)
 
 -- none of a body's links leads to a router or to a transit network with metric 0
 abbrev pub KeepsMetrics : Body → Type 0
-KeepsMetrics (Router flags spare links) = list_any has_zero_metric links ≡ false
+KeepsMetrics (Router flags spare links tos) = list_any has_zero_metric links ≡ false
 KeepsMetrics (Network mask routers) = Unit {0}
 KeepsMetrics (Other bytes) = Unit {0}
 

@@ -1,5 +1,5 @@
 -- What the private steps of reading answer. No contract of a public function cites it.
-use Rattle.std.specs.Prelude.{◌≡◌, ◌+◌, ◌-◌, ◌*◌, ◌/◌, ◌%◌, ◌^◌, ◌&&◌, ◌==◌, ℕ, zero, suc, not, nat_lt, List, [], ◌∷◌, length, drop, Option, Some, None, Result, Ok, Err, if◌then◌else◌}
+use Rattle.std.specs.Prelude.{◌≡◌, ◌+◌, ◌-◌, ◌*◌, ◌/◌, ◌%◌, ◌^◌, ◌&&◌, ◌==◌, ℕ, zero, suc, not, nat_lt, List, [], ◌∷◌, ◌++◌, length, drop, Option, Some, None, Result, Ok, Err, if◌then◌else◌}
 use Rattle.std.specs.Int.{w32, cast_signed}
 use Rattle.std.specs.List.{list_any}
 use Rattle.std.specs.Option.{option_map, option_map_or, option_and_then}
@@ -21,40 +21,48 @@ abbrev pub numbers_in : ℕ → List ℕ → List ℕ
 numbers_in zero bytes = []
 numbers_in (suc count) bytes = number_at 0 4 bytes ∷ numbers_in count (drop 4 bytes)
 
--- a link with its TOS entries
+-- a link
 abbrev pub link_in : List ℕ → RouterLink
 link_in bytes = record {
   id = number_at 0 4 bytes;
   link_data = number_at 4 4 bytes;
   kind = number_at 8 1 bytes;
+  entries = number_at 9 1 bytes;
   metric = number_at 10 2 bytes;
-  tos = numbers_in (number_at 9 1 bytes) (drop 12 bytes);
 }
 
--- how many bytes a link has
-abbrev pub link_length : List ℕ → ℕ
-link_length bytes = 12 + 4 * number_at 9 1 bytes
+-- how many bytes a link has with its TOS entries
+abbrev pub link_length : RouterLink → ℕ
+link_length link = 12 + 4 * link.entries
 
--- the link at the front and how many bytes it has; none where it is cut
-abbrev pub first_link : List ℕ → Option (RouterLink × ℕ)
+-- the link at the front; none where it or one of its TOS entries is cut
+abbrev pub first_link : List ℕ → Option RouterLink
 first_link bytes =
     if nat_lt (length bytes) 12 then None
-    else (if nat_lt (length bytes) (link_length bytes) then None else Some (link_in bytes, link_length bytes))
+    else (if nat_lt (length bytes) (link_length (link_in bytes)) then None else Some (link_in bytes))
+
+-- links, and the TOS entries of all of them
+abbrev pub Links : Type 0
+Links = List RouterLink × List ℕ
+
+-- a link and its TOS entries before others
+abbrev pub with_link : RouterLink → List ℕ → Links → Links
+with_link link tos later = (link ∷ later.0, tos ++ later.1)
 
 -- so many links, and nothing after them
-abbrev pub links_in : ℕ → List ℕ → Option (List RouterLink)
-links_in zero bytes = if length bytes == 0 then Some [] else None
+abbrev pub links_in : ℕ → List ℕ → Option Links
+links_in zero bytes = if length bytes == 0 then Some ([], []) else None
 links_in (suc count) bytes =
-    option_and_then (λ first. option_map (λ links. first.0 ∷ links) (links_in count (drop first.1 bytes)))
-    (first_link bytes)
+    option_and_then (λ link. option_map (with_link link (numbers_in link.entries (drop 12 bytes)))
+    (links_in count (drop (link_length link) bytes))) (first_link bytes)
 
 -- the links in a router-LSA's body, after its flags, its spare byte and the count of its links
-abbrev pub body_links : List ℕ → Option (List RouterLink)
+abbrev pub body_links : List ℕ → Option Links
 body_links bytes = if nat_lt (length bytes) 4 then None else links_in (number_at 2 2 bytes) (drop 4 bytes)
 
 -- a router-LSA's body of these links
-abbrev pub body_in : List ℕ → List RouterLink → Body
-body_in bytes links = Router (number_at 0 1 bytes) (number_at 1 1 bytes) links
+abbrev pub body_in : List ℕ → Links → Body
+body_in bytes links = Router (number_at 0 1 bytes) (number_at 1 1 bytes) links.0 links.1
 
 -- an LSA with this place and this body
 abbrev pub lsa_in : ℕ → List ℕ → Body → Lsa
@@ -82,8 +90,8 @@ header_fault bytes =
     else None)))))
 
 -- a router-LSA's body of these links; none may have the metric 0 where it leads to a router or to a transit network
-abbrev pub with_links : List ℕ → List RouterLink → Result Body LsaKind
-with_links bytes links = if list_any has_zero_metric links then Err kinds.ZeroMetric else Ok (body_in bytes links)
+abbrev pub with_links : List ℕ → Links → Result Body LsaKind
+with_links bytes links = if list_any has_zero_metric links.0 then Err kinds.ZeroMetric else Ok (body_in bytes links)
 
 -- a router-LSA's body, or its first fault
 abbrev pub router_body : List ℕ → Result Body LsaKind

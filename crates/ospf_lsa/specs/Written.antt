@@ -1,14 +1,12 @@
 -- LSAs as they are written, with a fresh checksum (RFC 905, annex B).
-use Rattle.std.specs.Prelude.{◌≡◌, ◌≢◌, ◌≤◌, ◌^◌, ℕ, length}
+use Rattle.std.specs.Prelude.{◌≡◌, ◌≢◌, ◌^◌, ℕ}
 use Rattle.std.specs.Int.{w32, cast_signed}
-use Rattle.std.specs.List.{AllByRecursion}
-use Rattle.ospf_lsa.specs.declared.lsa.RouterLink.{RouterLink}
 use Rattle.ospf_lsa.specs.declared.lsa.Body.{Body}
 use Rattle.ospf_lsa.specs.declared.lsa.Body.TheVariants.{Router, Network, Other}
 use Rattle.ospf_lsa.specs.declared.lsa.Lsa.{Lsa}
 use Rattle.ospf_lsa.specs.Checksum.{fresh_checksum}
 use Rattle.ospf_lsa.specs.LsaText.{covered_text}
-use Rattle.ospf_lsa.specs.Lsas.{KeepsMetrics}
+use Rattle.ospf_lsa.specs.Lsas.{AreEntriesOf, KeepsMetrics}
 use Rattle.ospf_lsa.specs.Types.{router_lsa}
 
 -- an LSA but for its checksum, which is this one
@@ -23,15 +21,11 @@ renewed lsa = with_checksum lsa (fresh_checksum (covered_text (with_checksum lsa
 abbrev pub renewed_at_front : Lsa → Lsa
 renewed_at_front lsa = record (renewed lsa) { at = 0 }
 
--- the number of a link's TOS entries fits its byte
-abbrev pub HasFewEntries : RouterLink → Type 0
-HasFewEntries link = length link.tos ≤ 255
-
--- so it is of each link of a body
-abbrev pub HasShortLinks : Body → Type 0
-HasShortLinks (Router flags spare links) = AllByRecursion HasFewEntries links
-HasShortLinks (Network mask routers) = Unit {0}
-HasShortLinks (Other bytes) = Unit {0}
+-- a router-LSA's body has as many TOS entries as its links say
+abbrev pub HasItsEntries : Body → Type 0
+HasItsEntries (Router flags spare links tos) = AreEntriesOf links tos
+HasItsEntries (Network mask routers) = Unit {0}
+HasItsEntries (Other bytes) = Unit {0}
 
 -- an LSA without the faults that writing leaves as they are: its sequence number is not the reserved one, the link
 -- state ID of a router-LSA is its advertising router, and no metric is 0 where it may not be

@@ -29,7 +29,7 @@ pub fn body(alloc: Global, kind: u8, bytes: &[u8]) -> Result<Result<Body, LsaKin
 fn router(alloc: Global, bytes: &[u8]) -> Result<Result<Body, LsaKind>, AllocError>
     ensures { IfOk result (λ body. body ≡ router_body bytes.now) }
 {
-    let Some(links) = links_of_body(alloc, bytes)? else {
+    let Some((links, tos)) = links_of_body(alloc, bytes)? else {
         return Ok(Err(LsaKind::Body));
     };
     if any_zero_metric(&links) {
@@ -39,12 +39,16 @@ fn router(alloc: Global, bytes: &[u8]) -> Result<Result<Body, LsaKind>, AllocErr
         flags: number_8(bytes, 0),
         spare: number_8(bytes, 1),
         links: Seq::from_vec(links),
+        tos: Seq::from_vec(tos),
     }))
 }
 
-/// The links of a router-LSA's body, where it is one.
-fn links_of_body(alloc: Global, body: &[u8]) -> Result<Option<Vec<RouterLink>>, AllocError>
-    ensures links { IfOk result (λ links. option_map (λ v. v.items) links ≡ body_links body.now) }
+/// The links of a router-LSA's body and the TOS entries of all of them, where it is one.
+fn links_of_body(
+    alloc: Global,
+    body: &[u8],
+) -> Result<Option<(Vec<RouterLink>, Vec<u32>)>, AllocError>
+    ensures links { IfOk result (λ links. option_map (λ v. (v.0.items, v.1.items)) links ≡ body_links body.now) }
     ensures front { IfOk result (λ links. IfSome links (λ v. 4 ≤ length body.now)) }
 {
     if body.len() < 4 {

@@ -2,7 +2,7 @@
 
 ghost use Rattle.std.specs.Prelude.{◌≡◌, ◌++◌, IfOk};
 
-use crate::lsa::{Body, Lsa, RouterLink};
+use crate::lsa::{Body, Lsa};
 use mrt_graph::{NoMemory, Seq};
 use std::alloc::Global;
 
@@ -38,51 +38,26 @@ fn body(alloc: Global, body: &Body) -> Result<Body, NoMemory>
         Body::Router {
             flags,
             spare,
-            links: kept,
+            links,
+            tos,
         } => Ok(Body::Router {
             flags: *flags,
             spare: *spare,
-            links: links(alloc, kept)?,
+            links: list(alloc, links)?,
+            tos: list(alloc, tos)?,
         }),
         Body::Network { mask, routers } => Ok(Body::Network {
             mask: *mask,
-            routers: numbers(alloc, routers)?,
+            routers: list(alloc, routers)?,
         }),
-        Body::Other { bytes: kept } => Ok(Body::Other {
-            bytes: bytes(alloc, kept)?,
+        Body::Other { bytes } => Ok(Body::Other {
+            bytes: list(alloc, bytes)?,
         }),
     }
 }
 
-fn links(alloc: Global, links: &Seq<RouterLink>) -> Result<Seq<RouterLink>, NoMemory>
-    ensures { IfOk result (λ copy. copy ≡ links.now) }
+fn list<T: Copy>(alloc: Global, list: &Seq<T>) -> Result<Seq<T>, NoMemory>
+    ensures { IfOk result (λ copy. copy ≡ list.now) }
 {
-    let links = links.as_slice();
-    let mut copy = Vec::with_capacity(alloc, links.len())?;
-    for link in links {
-        copy.push(RouterLink {
-            id: link.id,
-            link_data: link.link_data,
-            kind: link.kind,
-            metric: link.metric,
-            tos: numbers(alloc, &link.tos)?,
-        })?;
-    }
-    Ok(Seq::from_vec(copy))
-}
-
-fn numbers(alloc: Global, numbers: &Seq<u32>) -> Result<Seq<u32>, NoMemory>
-    ensures { IfOk result (λ copy. copy ≡ numbers.now) }
-{
-    let mut copy = Vec::with_capacity(alloc, numbers.as_slice().len())?;
-    copy.extend_from_slice(numbers.as_slice())?;
-    Ok(Seq::from_vec(copy))
-}
-
-fn bytes(alloc: Global, bytes: &Seq<u8>) -> Result<Seq<u8>, NoMemory>
-    ensures { IfOk result (λ copy. copy ≡ bytes.now) }
-{
-    let mut copy = Vec::with_capacity(alloc, bytes.as_slice().len())?;
-    copy.extend_from_slice(bytes.as_slice())?;
-    Ok(Seq::from_vec(copy))
+    Ok(Seq::from_vec(Vec::from_slice(alloc, list.as_slice())?))
 }

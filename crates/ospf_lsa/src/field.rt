@@ -1,6 +1,6 @@
 //! Numbers in network order.
 
-ghost use Rattle.std.specs.Prelude.{◌≡◌, ◌≤◌, ◌+◌, ◌*◌, IfOk, length, drop};
+ghost use Rattle.std.specs.Prelude.{◌≡◌, ◌≤◌, ◌+◌, ◌*◌, ◌++◌, IfOk, OnOk, length, drop};
 ghost use Rattle.std.specs.Int.{w32, cast_signed};
 ghost use Rattle.ospf_lsa.specs.Header.{number_at};
 ghost use Rattle.ospf_lsa.specs.Reading.{numbers_in};
@@ -51,8 +51,18 @@ pub fn numbers(alloc: Global, bytes: &[u8], count: usize) -> Result<Vec<u32>, Al
     ensures { IfOk result (λ numbers. numbers.items ≡ numbers_in count bytes.now) }
 {
     let mut numbers = Vec::with_capacity(alloc, count)?;
+    add_numbers(&mut numbers, bytes, count)?;
+    Ok(numbers)
+}
+
+/// Adds so many numbers of 32 bits.
+pub fn add_numbers(numbers: &mut Vec<u32>, bytes: &[u8], count: usize) -> Result<(), AllocError>
+    requires { 4 * count ≤ length bytes.now }
+    ensures { OnOk result (numbers.new.items ≡ numbers.old.items ++ numbers_in count bytes.now) }
+{
+    numbers.reserve(count)?;
     for i in 0..count {
         numbers.push_reserved(number_32(bytes, 4 * i));
     }
-    Ok(numbers)
+    Ok(())
 }

@@ -18,7 +18,7 @@ const MAX_AGE: u16 = 3600;
 const SECONDS: u16 = 0x8000;
 
 /// A link of a router-LSA (RFC 2328, section A.4.2).
-#[derive(Drop, PartialEq, Eq)]
+#[derive(Clone, Copy, PartialEq, Eq)]
 pub struct RouterLink {
     /// The neighbour's router ID, the designated router's interface address, or the IP network, by the link's type.
     pub id: u32,
@@ -26,19 +26,21 @@ pub struct RouterLink {
     pub link_data: u32,
     /// 1 point-to-point, 2 to a transit network, 3 to a stub network, 4 virtual.
     pub kind: u8,
+    /// How many TOS entries it has, metrics by type of service.
+    pub entries: u8,
     pub metric: u16,
-    /// The metrics by type of service, each with the four bytes of its entry as one number.
-    pub tos: Seq<u32>,
 }
 
 /// What stands after the header of an LSA.
 #[derive(Drop, PartialEq, Eq)]
 pub enum Body {
-    /// Of a router-LSA: its flags, the byte after them, and its links (RFC 2328, section A.4.2).
+    /// Of a router-LSA: its flags, the byte after them, its links, and the TOS entries of all links, those of the first
+    /// link first, each with its four bytes as one number (RFC 2328, section A.4.2).
     Router {
         flags: u8,
         spare: u8,
         links: Seq<RouterLink>,
+        tos: Seq<u32>,
     },
     /// Of a network-LSA: the network's mask and the IDs of its routers (RFC 2328, section A.4.3).
     Network {

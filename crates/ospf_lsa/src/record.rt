@@ -13,7 +13,7 @@ use crate::field::{number_8, number_16, number_32, signed_32};
 use crate::lsa::{Lsa, ROUTER_LSA};
 use std::alloc::Global;
 
-/// The bytes of a header (RFC 2328, section A.4.1).
+/// How many bytes a header has (RFC 2328, section A.4.1).
 pub const HEADER: usize = 20;
 
 /// The sequence number that no LSA has (RFC 2328, section 12.1.6).

@@ -3,9 +3,9 @@
 ghost use Rattle.std.specs.Prelude.{◌≡◌, ◌≤◌, ◌<◌, ◌+◌, ◌*◌, ◌^◌, ◌++◌, IfOk, [], ◌∷◌, length, vec_len, vec_capacity};
 ghost use Rattle.std.specs.Int.{w32, to_be_bytes};
 ghost use Rattle.std.specs.List.{flat_map, AllByRecursion};
-ghost use Rattle.ospf_lsa.specs.LsaText.{link_text, body_text, header_text, lsa_length, lsa_text, lsas_text};
-ghost use Rattle.ospf_lsa.specs.Lsas.{AreLsas, FitsBody, FitsHeader, FitsLink, Is32Bits, IsByte, IsOfType};
-ghost use Rattle.ospf_lsa.specs.Written.{renewed, renewed_at_front, with_checksum, HasFewEntries, HasShortLinks, IsReadable};
+ghost use Rattle.ospf_lsa.specs.LsaText.{link_text, links_text, body_text, header_text, lsa_length, lsa_text, lsas_text};
+ghost use Rattle.ospf_lsa.specs.Lsas.{AreEntriesOf, AreLsas, FitsBody, FitsHeader, FitsLink, Is32Bits, IsByte, IsOfType};
+ghost use Rattle.ospf_lsa.specs.Written.{renewed, renewed_at_front, with_checksum, HasItsEntries, IsReadable};
 
 use crate::checksum::fresh;
 use crate::field::after;
@@ -15,7 +15,7 @@ use crate::record::HEADER;
 use mrt_graph::NoMemory;
 use std::alloc::Global;
 
-/// The bytes of the age, which the checksum does not cover (RFC 2328, section 12.1.7).
+/// How many bytes the age has, which the checksum does not cover (RFC 2328, section 12.1.7).
 const AGE: usize = 2;
 
 /// The place of the checksum field (RFC 2328, section A.4.1).
@@ -24,8 +24,8 @@ const CHECKSUM: usize = 16;
 /// The bytes of an LSA (RFC 2328, section A.4), with its length and a fresh checksum (section 12.1.7); its own
 /// `checksum` is not used.
 ///
-/// The type must be 1 for a router-LSA's body, 2 for a network-LSA's, and another one for [`Body::Other`]. The whole
-/// may have at most 65,535 bytes, and each link at most 255 TOS entries.
+/// The type must be 1 for a router-LSA's body, 2 for a network-LSA's, and another one for [`Body::Other`]. A router-LSA
+/// must have as many TOS entries as its links say, and the whole may have at most 65,535 bytes.
 ///
 /// Where its sequence number is not the reserved one, a router-LSA has its advertising router as link state ID, and no
 /// link to a router or to a transit network in it has metric 0, [`read_lsas`](crate::read_lsas) reads this one LSA
@@ -38,7 +38,7 @@ const CHECKSUM: usize = 16;
 /// [`NoMemory`] where there was none for the bytes.
 pub fn write_lsa(alloc: Global, lsa: &Lsa) -> Result<Vec<u8>, NoMemory>
     requires kind { IsOfType lsa.now.kind lsa.now.body }
-    requires entries { HasShortLinks lsa.now.body }
+    requires entries { HasItsEntries lsa.now.body }
     requires fits { lsa_length lsa.now ≤ 65535 }
     ensures text { IfOk result (λ bytes. bytes.items ≡ lsa_text (renewed lsa.now)) }
     ensures len { IfOk result (λ bytes. length bytes.items ≡ lsa_length lsa.now) }
@@ -58,7 +58,7 @@ pub fn write_lsa(alloc: Global, lsa: &Lsa) -> Result<Vec<u8>, NoMemory>
 /// The bytes of an LSA with the checksum 0.
 fn unchecked(alloc: Global, lsa: &Lsa) -> Result<Vec<u8>, NoMemory>
     requires kind { IsOfType lsa.now.kind lsa.now.body }
-    requires entries { HasShortLinks lsa.now.body }
+    requires entries { HasItsEntries lsa.now.body }
     requires fits { lsa_length lsa.now ≤ 65535 }
     ensures text { IfOk result (λ bytes. bytes.items ≡ lsa_text (with_checksum lsa.now 0)) }
     ensures header { IfOk result (λ bytes. FitsHeader lsa.now) }
@@ -73,28 +73,26 @@ fn unchecked(alloc: Global, lsa: &Lsa) -> Result<Vec<u8>, NoMemory>
     Ok(bytes)
 }
 
-/// The bytes of a body.
+/// How many bytes a body has.
 fn body_length(body: &Body) -> usize
-    requires { length (body_text body.now) < 2 ^ 16 }
+    requires entries { HasItsEntries body.now }
+    requires short { length (body_text body.now) < 2 ^ 16 }
     ensures { result ≡ length (body_text body.now) }
 {
     match body {
-        Body::Router { links, .. } => 4 + links_length(links.as_slice()),
+        Body::Router { links, tos, .. } => 4 + links_length(links.as_slice(), tos.as_slice()),
         Body::Network { routers, .. } => 4 + 4 * routers.as_slice().len(),
         Body::Other { bytes } => bytes.as_slice().len(),
     }
 }
 
-/// The bytes of links.
-fn links_length(links: &[RouterLink]) -> usize
-    requires { length (flat_map link_text links.now) < 2 ^ 16 }
-    ensures { result ≡ length (flat_map link_text links.now) }
+/// How many bytes links have with their TOS entries.
+fn links_length(links: &[RouterLink], tos: &[u32]) -> usize
+    requires entries { AreEntriesOf links.now tos.now }
+    requires short { length (links_text links.now tos.now) < 2 ^ 16 }
+    ensures { result ≡ length (links_text links.now tos.now) }
 {
-    let mut total = 0;
-    for link in links {
-        total += LINK + 4 * link.tos.as_slice().len();
-    }
-    total
+    LINK * links.len() + 4 * tos.len()
 }
 
 /// The header of an LSA of this length with the checksum 0.
@@ -124,7 +122,7 @@ fn header(lsa: &Lsa, length: u16) -> [u8; 20]
 /// Adds a body.
 fn put_body(out: &mut Vec<u8>, kind: u8, body: &Body)
     requires kind { IsOfType kind body.now }
-    requires entries { HasShortLinks body.now }
+    requires entries { HasItsEntries body.now }
     requires short { length (body_text body.now) < 2 ^ 16 }
     requires room { vec_len out.old + length (body_text body.now) ≤ vec_capacity out.old }
     ensures text { out.new.items ≡ out.old.items ++ body_text body.now }
@@ -135,69 +133,70 @@ fn put_body(out: &mut Vec<u8>, kind: u8, body: &Body)
             flags,
             spare,
             links,
-        } => put_router(out, *flags, *spare, links.as_slice()),
+            tos,
+        } => put_router(out, *flags, *spare, links.as_slice(), tos.as_slice()),
         Body::Network { mask, routers } => put_network(out, *mask, routers.as_slice()),
         Body::Other { bytes } => put_bytes(out, bytes.as_slice()),
     }
 }
 
 /// Adds the body of a router-LSA (RFC 2328, section A.4.2).
-fn put_router(out: &mut Vec<u8>, flags: u8, spare: u8, links: &[RouterLink])
-    requires entries { AllByRecursion HasFewEntries links.now }
-    requires short { length (flat_map link_text links.now) < 2 ^ 16 }
-    requires room { vec_len out.old + (4 + length (flat_map link_text links.now)) ≤ vec_capacity out.old }
-    ensures text { out.new.items ≡ out.old.items ++ body_text (Body.Router flags spare links.now) }
-    ensures fits { FitsBody (Body.Router flags spare links.now) }
+fn put_router(out: &mut Vec<u8>, flags: u8, spare: u8, links: &[RouterLink], tos: &[u32])
+    requires entries { AreEntriesOf links.now tos.now }
+    requires short { length (links_text links.now tos.now) < 2 ^ 16 }
+    requires room { vec_len out.old + (4 + length (links_text links.now tos.now)) ≤ vec_capacity out.old }
+    ensures text { out.new.items ≡ out.old.items ++ body_text (Body.Router flags spare links.now tos.now) }
+    ensures fits { FitsBody (Body.Router flags spare links.now tos.now) }
 {
     let [count, count_low] = (links.len() as u16).to_be_bytes();
     out.extend_from_slice(&[flags, spare, count, count_low])
         .unwrap();
-    put_links(out, links);
+    put_links(out, links, tos);
 }
 
-/// Adds links.
-fn put_links(out: &mut Vec<u8>, links: &[RouterLink])
-    requires entries { AllByRecursion HasFewEntries links.now }
-    requires room { vec_len out.old + length (flat_map link_text links.now) ≤ vec_capacity out.old }
-    ensures text { out.new.items ≡ out.old.items ++ flat_map link_text links.now }
-    ensures fits { AllByRecursion FitsLink links.now }
+/// Adds links, each with its TOS entries after it.
+fn put_links(out: &mut Vec<u8>, links: &[RouterLink], tos: &[u32])
+    requires entries { AreEntriesOf links.now tos.now }
+    requires room { vec_len out.old + length (links_text links.now tos.now) ≤ vec_capacity out.old }
+    ensures text { out.new.items ≡ out.old.items ++ links_text links.now tos.now }
+    ensures links_fit { AllByRecursion FitsLink links.now }
+    ensures entries_fit { AllByRecursion Is32Bits tos.now }
 {
+    let mut rest = tos;
     for link in links {
-        put_link(out, link);
+        let (entries, later) = rest.split_at(usize::from(link.entries));
+        put_link(out, link, entries);
+        rest = later;
     }
 }
 
-/// Adds a link.
-fn put_link(out: &mut Vec<u8>, link: &RouterLink)
-    requires entries { HasFewEntries link.now }
-    requires room { vec_len out.old + length (link_text link.now) ≤ vec_capacity out.old }
-    ensures text { out.new.items ≡ out.old.items ++ link_text link.now }
+/// Adds a link with these TOS entries after it.
+fn put_link(out: &mut Vec<u8>, link: &RouterLink, entries: &[u32])
+    requires room { vec_len out.old + (12 + length (flat_map (to_be_bytes w32) entries.now)) ≤ vec_capacity out.old }
+    ensures text { out.new.items ≡ out.old.items ++ (link_text link.now ++ flat_map (to_be_bytes w32) entries.now) }
     ensures capacity { vec_capacity out.old ≤ vec_capacity out.new }
     ensures fits { FitsLink link.now }
 {
-    let entries = link.tos.as_slice();
-    out.extend_from_slice(&front(link, entries.len() as u8))
-        .unwrap();
+    out.extend_from_slice(&link_bytes(link)).unwrap();
     put_numbers(out, entries);
 }
 
-/// The bytes of a link with so many TOS entries before these.
-fn front(link: &RouterLink, entries: u8) -> [u8; 12]
-    requires { entries ≡ length link.now.tos }
-    ensures text { result ++ flat_map (to_be_bytes w32) link.now.tos ≡ link_text link.now }
-    ensures fits { AllByRecursion Is32Bits link.now.tos → FitsLink link.now }
+/// The bytes of a link without its TOS entries.
+fn link_bytes(link: &RouterLink) -> [u8; 12]
+    ensures text { result ≡ link_text link.now }
+    ensures fits { FitsLink link.now }
 {
     let RouterLink {
         id,
         link_data,
         kind,
+        entries,
         metric,
-        ..
     } = link;
     let [i, j, k, l] = id.to_be_bytes();
     let [a, b, c, d] = link_data.to_be_bytes();
     let [metric, metric_low] = metric.to_be_bytes();
-    [i, j, k, l, a, b, c, d, *kind, entries, metric, metric_low]
+    [i, j, k, l, a, b, c, d, *kind, *entries, metric, metric_low]
 }
 
 /// Adds the body of a network-LSA (RFC 2328, section A.4.3).

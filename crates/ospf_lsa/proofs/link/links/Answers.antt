@@ -1,31 +1,38 @@
-use Rattle.std.proofs.Common.{◌≡◌, ◌∙◌, ◌≤◌, length, Option, Some, sym, subst, ℕ, arith}
+use Rattle.std.proofs.Common.{◌≡◌, ◌∙◌, ◌≤◌, ◌+◌, ◌*◌, ◌++◌, ℕ, List, length, drop, Option, Some, sym, subst, ap, arith}
 use Rattle.std.specs.Prelude.{IfSome}
 use Rattle.std.proofs.lemmas.List.{length-drop}
 use Rattle.ospf_lsa.specs.declared.lsa.RouterLink.{RouterLink}
-use Rattle.ospf_lsa.specs.Reading.{first_link}
+use Rattle.ospf_lsa.specs.Reading.{numbers_in, first_link, link_length}
 use Rattle.ospf_lsa.proofs.Links.{links_cut, links_next}
 use Rattle.ospf_lsa.proofs.link.links.Goals as goal
 
 pub returns-in_default : goal.returns-in_default
 returns-in_default c =
-    links_cut c.args.count c.loop.counter c.loop.rest.now c.loop.links.items _ c.loop-test.true
-    (sym c.in_ok-link.ensures.value ∙ c.in_default.is) c.loop.invariant.whole
+    links_cut c.args.count c.loop.counter c.loop.rest.now (c.loop.links.items, c.loop.tos.items) _ c.loop-test.true
+    (sym c.first_link.ensures.value ∙ c.in_default.is) c.loop.invariant.whole
 
 pub loop-preserved : goal.loop-preserved
 loop-preserved c =
-    let found : first_link c.loop.rest.now ≡ Some (c.in-Some.link, c.in-Some.length) = sym c.in_ok-link.ensures.value
-    ∙ c.in-Some.is in
-    let next = links_next c.args.count c.loop.counter c.in-Some.length c.in-Some.link c.loop.rest.now
-    c.loop.links.items c.push_reserved.new.self.items _ c.loop-test.true found c.push_reserved.ensures.items
-    c.loop.invariant.whole in
-    let least : 12 ≤ c.in-Some.length =
-    subst (λ (o : Option (RouterLink × ℕ)). IfSome o (λ x. 12 ≤ x.1)) c.in-Some.is c.in_ok-link.ensures.some in
-    let within : c.in-Some.length ≤ length c.loop.rest.now =
-    subst (λ (o : Option (RouterLink × ℕ)). IfSome o (λ x. x.1 ≤ length c.loop.rest.now)) c.in-Some.is
-    c.in_ok-link.ensures.within in
+    let link : RouterLink = c.in-Some.link in
+    let rest : List ℕ = c.loop.rest.now in
+    let found : first_link c.loop.rest.now ≡ Some c.in-Some.link = sym c.first_link.ensures.value ∙ c.in-Some.is in
+    let within : link_length c.in-Some.link ≤ length c.loop.rest.now =
+    subst (λ (o : Option RouterLink). IfSome o (λ link. link_length link ≤ length c.loop.rest.now)) c.in-Some.is
+    c.first_link.ensures.within in
+    let behind : c.after-rest.result.now ≡ drop (link_length c.in-Some.link) c.loop.rest.now =
+    c.after-rest.ensures ∙ ap (λ (n : ℕ). drop (12 + 4 * n) rest) c.from-entries.ensures in
+    let entries : c.add_numbers.new.numbers.items
+    ≡ c.loop.tos.items ++ numbers_in c.in-Some.link.entries (drop 12 c.loop.rest.now) =
+    c.in_ok-add_numbers.ensures
+    ∙ ap (λ (n : ℕ). c.loop.tos.items ++ numbers_in n c.after.result.now) c.from-entries.ensures
+    ∙ ap (λ (t : List ℕ). c.loop.tos.items ++ numbers_in link.entries t) c.after.ensures in
+    let next = links_next c.args.count c.loop.counter link rest (c.loop.links.items, c.loop.tos.items)
+    (c.push_reserved.new.self.items, c.add_numbers.new.numbers.items) _ c.loop-test.true found
+    c.push_reserved.ensures.items entries c.loop.invariant.whole in
     record {
-      whole = rw c.after-rest.ensures next;
+      whole = rw behind next;
       many = omega arith;
-      taken = rw c.after-rest.ensures (simp length-drop (omega arith));
+      taken = omega
+          (arith, ap length behind, length-drop (link_length link) rest, within, c.loop.invariant.taken);
       room = omega arith;
     }

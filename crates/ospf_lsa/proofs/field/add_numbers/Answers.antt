@@ -1,6 +1,6 @@
 use Rattle.std.proofs.Common.{arith}
 use Rattle.ospf_lsa.proofs.Numbers.{numbers_next}
-use Rattle.ospf_lsa.proofs.field.numbers.Goals as goal
+use Rattle.ospf_lsa.proofs.field.add_numbers.Goals as goal
 
 pub loop-i-preserved : goal.loop-i-preserved
 loop-i-preserved c = record {
