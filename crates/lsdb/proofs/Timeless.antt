@@ -33,29 +33,31 @@ link_is a b h =
     let second = and_parts _ _ first.1 in
     let third = and_parts _ _ second.1 in
     let fourth = and_parts _ _ third.1 in
-    let make : ℕ → ℕ → ℕ → ℕ → List ℕ
-    → RouterLink = λ i d k m t. record { id = i; link_data = d; kind = k; metric = m; tos = t } in
-    ap (λ (i : ℕ). make i a.link_data a.kind a.metric a.tos) (eqb-true _ _ first.0)
-    ∙ ap (λ (d : ℕ). make b.id d a.kind a.metric a.tos) (eqb-true _ _ second.0)
-    ∙ ap (λ (k : ℕ). make b.id b.link_data k a.metric a.tos) (eqb-true _ _ third.0)
-    ∙ ap (λ (m : ℕ). make b.id b.link_data b.kind m a.tos) (eqb-true _ _ fourth.0)
-    ∙ ap (λ (t : List ℕ). make b.id b.link_data b.kind b.metric t) (list_is nat_eq eqb-true _ _ fourth.1)
+    let make : ℕ → ℕ → ℕ → ℕ → ℕ
+    → RouterLink = λ i d k e m. record { id = i; link_data = d; kind = k; entries = e; metric = m } in
+    ap (λ (i : ℕ). make i a.link_data a.kind a.entries a.metric) (eqb-true _ _ first.0)
+    ∙ ap (λ (d : ℕ). make b.id d a.kind a.entries a.metric) (eqb-true _ _ second.0)
+    ∙ ap (λ (k : ℕ). make b.id b.link_data k a.entries a.metric) (eqb-true _ _ third.0)
+    ∙ ap (λ (e : ℕ). make b.id b.link_data b.kind e a.metric) (eqb-true _ _ fourth.0)
+    ∙ ap (λ (m : ℕ). make b.id b.link_data b.kind b.entries m) (eqb-true _ _ fourth.1)
 
 body_is : (a b : Body) → same_body a b ≡ true → a ≡ b
-body_is (Router f s l) (Router f' s' l') h =
+body_is (Router f s l t) (Router f' s' l' t') h =
     let first = and_parts _ _ h in
     let second = and_parts _ _ first.1 in
-    ap (λ (x : ℕ). Router x s l) (eqb-true f f' first.0) ∙ ap (λ (x : ℕ). Router f' x l) (eqb-true s s' second.0)
-    ∙ ap (λ (x : List RouterLink). Router f' s' x) (list_is same_link link_is l l' second.1)
-body_is (Router f s l) (Network m r) h = absurd cc
-body_is (Router f s l) (Other b) h = absurd cc
-body_is (Network m r) (Router f s l) h = absurd cc
+    let third = and_parts _ _ second.1 in
+    ap (λ (x : ℕ). Router x s l t) (eqb-true f f' first.0) ∙ ap (λ (x : ℕ). Router f' x l t) (eqb-true s s' second.0)
+    ∙ ap (λ (x : List RouterLink). Router f' s' x t) (list_is same_link link_is l l' third.0)
+    ∙ ap (λ (x : List ℕ). Router f' s' l' x) (list_is nat_eq eqb-true t t' third.1)
+body_is (Router f s l t) (Network m r) h = absurd cc
+body_is (Router f s l t) (Other b) h = absurd cc
+body_is (Network m r) (Router f s l t) h = absurd cc
 body_is (Network m r) (Network m' r') h =
     let first = and_parts _ _ h in
     ap (λ (x : ℕ). Network x r) (eqb-true m m' first.0)
     ∙ ap (λ (x : List ℕ). Network m' x) (list_is nat_eq eqb-true r r' first.1)
 body_is (Network m r) (Other b) h = absurd cc
-body_is (Other b) (Router f s l) h = absurd cc
+body_is (Other b) (Router f s l t) h = absurd cc
 body_is (Other b) (Network m r) h = absurd cc
 body_is (Other b) (Other b') h = ap (λ (x : List ℕ). Other x) (list_is nat_eq eqb-true b b' h)
 

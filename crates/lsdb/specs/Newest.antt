@@ -15,12 +15,12 @@ use Rattle.lsdb.specs.Rank.{outranks}
 abbrev pub same_link : RouterLink → RouterLink → Bool
 same_link one other =
     (one.id == other.id) && ((one.link_data == other.link_data) && ((one.kind == other.kind)
-    && ((one.metric == other.metric) && pointwise nat_eq one.tos other.tos)))
+    && ((one.entries == other.entries) && (one.metric == other.metric))))
 
 -- whether two bodies are alike
 abbrev pub same_body : Body → Body → Bool
-same_body (Router flags spare links) (Router flags' spare' links') =
-    (flags == flags') && ((spare == spare') && pointwise same_link links links')
+same_body (Router flags spare links tos) (Router flags' spare' links' tos') =
+    (flags == flags') && ((spare == spare') && (pointwise same_link links links' && pointwise nat_eq tos tos'))
 same_body (Network mask routers) (Network mask' routers') = (mask == mask') && pointwise nat_eq routers routers'
 same_body (Other bytes) (Other bytes') = pointwise nat_eq bytes bytes'
 same_body _ _ = false
