@@ -19,11 +19,10 @@ use Rattle.mrt_graph.specs.Tags.{same_tag}
 use Rattle.mrt_graph.proofs.ListPlaces.{set_elsewhere, set_there}
 use Rattle.mrt_graph.proofs.ListTests.{there}
 use Rattle.mrt_graph.proofs.RowPlaces.{column_above, column_below, row_at}
-use Rattle.mrt_graph.proofs.TestFacts.{both_pass}
 use Rattle.cert_format.specs.Down.{IsDown}
 use Rattle.cert_format.specs.Folded.{is_near}
 use Rattle.cert_format.specs.Unfolding.{AreSettledBefore, marks_of}
-use Rattle.cert_format.proofs.OneUnfolding.{carrier_far, carrier_home, under_head}
+use Rattle.cert_format.proofs.OneUnfolding.{carrier_far, carrier_home, chain_ends, under_head}
 use Rattle.cert_format.proofs.Pairs.{pairs_length, related_at}
 use Rattle.cert_format.proofs.Placings.{head_within, top_stays}
 use Rattle.cert_format.proofs.Spreading.{place_within}
@@ -250,17 +249,12 @@ module _ (nodes : List CertNode) (down : List ℕ) (it : IsDown (certificate_of 
     | inr before ↦ head_within c t before.head before.is_head
   ]
 
-  chain_ends : (s : ℕ) → s < length nodes → in_chain c (length nodes) s ≡ Some it.top
-  chain_ends s within =
-      let p = both_pass (λ x y. x == y) (in_chain c (length nodes) s) (Some it.top) (it.chains s within) in
-      p.first_is ∙ ap (λ (x : ℕ). Some x) (eqb-true p.first p.second p.passes ∙ same_Some p.second it.top (sym p.second_is))
-
   -- a carrier is neither of the two nodes
   pub carrier_self : (s i t h : ℕ) → s < length nodes → slice_get down i ≡ Some t → t ≢ s → are_unrelated c s t ≡ true → carrier c it.top s t ≡ Some h → h ≢ s
   carrier_self s i t h s_in at two far by = λ same. elim (cases_eq t it.top) [
     | inl home ↦
         let own : head_of c s ≡ Some s = sym (carrier_home c it.top s t home) ∙ by ∙ ap (λ (x : ℕ). Some x) same in
-        let top : s ≡ it.top = same_Some s it.top (sym (top_stays c s (length nodes) own) ∙ chain_ends s s_in) in
+        let top : s ≡ it.top = same_Some s it.top (sym (top_stays c s (length nodes) own) ∙ chain_ends c it.top s (it.chains s s_in)) in
         two (home ∙ sym top)
     | inr away ↦ both_ways (are_unrelated c s t) (over_head c s t (sym (carrier_far c it.top s t away) ∙ by ∙ ap (λ (x : ℕ). Some x) same)) far
   ]

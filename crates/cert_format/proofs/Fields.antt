@@ -24,6 +24,7 @@ pub record IsWide (w : Width) : Type 0 where
   pub len : (n : ℕ) → length (to_be_bytes w n) ≡ byte_len w
   pub back : (bytes : List ℕ) → length bytes ≡ byte_len w → IsBytes bytes → to_be_bytes w (from_be_bytes w bytes) ≡ bytes
   pub again : (n : ℕ) → n < 256 ^ byte_len w → from_be_bytes w (to_be_bytes w n) ≡ n
+  pub small : (bytes : List ℕ) → length bytes ≡ byte_len w → IsBytes bytes → from_be_bytes w bytes < 256 ^ byte_len w
 
 one_back : (bytes : List ℕ) → length bytes ≡ 1 → get_or bytes 0 0 < 256 → to_be_bytes w8 (from_be_bytes w8 bytes) ≡ bytes
 one_back [] len lt = absurd (omega arith)
@@ -35,6 +36,7 @@ wide8 = record {
   len = λ n. refl;
   back = λ bytes len fits. one_back bytes len (fits 0);
   again = λ n lt. omega arith;
+  small = λ bytes len fits. omega (arith, fits 0);
 }
 
 pub wide16 : IsWide w16
@@ -42,6 +44,7 @@ wide16 = record {
   len = λ n. refl;
   back = λ bytes len fits. be_bytes_2 bytes _ len fits refl;
   again = λ n lt. from_be_bytes-to_be_bytes_2 n lt;
+  small = λ bytes len fits. omega (arith, fits 0, fits 1);
 }
 
 pub wide32 : IsWide w32
@@ -49,6 +52,7 @@ wide32 = record {
   len = λ n. refl;
   back = λ bytes len fits. be_bytes_4 bytes _ len fits refl;
   again = λ n lt. from_be_bytes-to_be_bytes_4 n lt;
+  small = λ bytes len fits. omega (arith, fits 0, fits 1, fits 2, fits 3);
 }
 
 -- the number that the first bytes spell

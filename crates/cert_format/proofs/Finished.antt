@@ -146,7 +146,7 @@ nodes_down header parts whole other =
     let shape = whole.under.shape (omega (arith, whole.nodes)) in
     elim shape.listed [ inl one ↦ absurd (other one) | inr is ↦ is ]
 
-same_stream : (a b : List ℕ) → ◌≡◌ {A = Progress} (Ok a) (Ok b) → a ≡ b
+pub same_stream : (a b : List ℕ) → ◌≡◌ {A = Progress} (Ok a) (Ok b) → a ≡ b
 same_stream a b e = cc
 
 -- what is spelled so is read

@@ -1,10 +1,14 @@
 pub mod Buffers
 pub mod Carrying
 pub mod Certain
+pub mod Downward
+pub mod Faultless
 pub mod Feeding
 pub mod Fields
 pub mod FileRows
+pub mod FileOrFault
 pub mod Files
+pub mod FilledIn
 pub mod Finished
 pub mod Forms
 pub mod GoesOn

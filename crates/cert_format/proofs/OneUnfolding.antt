@@ -8,10 +8,10 @@ use Rattle.mrt_graph.specs.declared.cert.CertLink.{CertLink}
 use Rattle.mrt_graph.specs.declared.cert.CertNode.{CertNode}
 use Rattle.mrt_graph.specs.declared.cert.Row.{Row}
 use Rattle.mrt_graph.specs.declared.cert.Tag.TheVariants.{Carried}
-use Rattle.mrt_graph.specs.BothThere.{are_different}
+use Rattle.mrt_graph.specs.BothThere.{are_different, are_equal}
 use Rattle.mrt_graph.specs.Certificate.{Certificate, are_two, certificate_of, row_of}
 use Rattle.mrt_graph.specs.CertWords.{block_of, head_of}
-use Rattle.mrt_graph.specs.Foldable.{IsFoldable, in_chain, is_folded}
+use Rattle.mrt_graph.specs.Foldable.{IsFoldable, comes_to, in_chain, is_folded, is_own_head}
 use Rattle.cert_format.specs.Folded.{is_near}
 use Rattle.mrt_graph.specs.Related.{are_unrelated}
 use Rattle.mrt_graph.specs.RowPlace.{place_of_row}
@@ -20,7 +20,7 @@ use Rattle.mrt_graph.specs.Tags.{same_tag}
 use Rattle.mrt_graph.proofs.FirstPlaces.{one_first}
 use Rattle.mrt_graph.proofs.ListTests.{some_passes, there}
 use Rattle.mrt_graph.proofs.RowPlaces.{placed, row_at}
-use Rattle.mrt_graph.proofs.TestFacts.{both_pass, row_of_two, tag_is, unless}
+use Rattle.mrt_graph.proofs.TestFacts.{row_of_two, tag_is, unless}
 
 -- where two lists are alike in which rows are near, and have the same near rows, the near rows stand at the same places
 same_near : (xs ys : List Row) → length xs ≡ length ys
@@ -64,6 +64,18 @@ chain_shift c (suc k) a = ap (option_and_then (head_of c)) (chain_shift c k a) �
     go : (o : Option ℕ) → option_and_then (head_of c) (option_and_then (in_chain c k) o) ≡ option_and_then (in_chain c (suc k)) o
     go None = refl
     go (Some h) = refl
+
+equal_some : (o : Option ℕ) (k : ℕ) → are_equal o (Some k) ≡ true → o ≡ Some k
+equal_some None k e = absurd (false≢true e)
+equal_some (Some x) k e = ap (λ (y : ℕ). Some y) (eqb-true x k e)
+
+-- a node that is its own head is its head
+pub own_head : (c : Certificate) (a : ℕ) → is_own_head c a ≡ true → head_of c a ≡ Some a
+own_head c a own = equal_some (head_of c a) a own
+
+-- a chain that comes to r ends there
+pub chain_ends : (c : Certificate) (r a : ℕ) → comes_to c r a ≡ true → in_chain c (length c.nodes) a ≡ Some r
+chain_ends c r a comes = equal_some (in_chain c (length c.nodes) a) r comes
 
 -- a row of two nodes, and how it is folded
 pub record Folded (c : Certificate) (r s t : ℕ) : Type 0 where
@@ -263,10 +275,7 @@ module _ (nodes : List CertNode) (links more : List CertLink) (rows others : Lis
   pub one_unfolding : rows ≡ others
   one_unfolding = same_lists rows others (count ∙ sym other_count) (λ k d within.
       let at = placed n k (subst (λ (m : ℕ). k < m) count within) in
-      let p = both_pass (λ x y. x == y) (in_chain a n at.target) (Some folds.top) (folds.chains at.target at.target_within) in
-      let ends : in_chain a n at.target ≡ Some folds.top =
-      p.first_is ∙ ap (λ (x : ℕ). Some x) (eqb-true p.first p.second p.passes ∙ same_Some p.second folds.top (sym p.second_is)) in
-      let rows_same = chain_same n at.target ends at.source at.source_within at.target_within at.two in
+      let rows_same = chain_same n at.target (chain_ends a folds.top at.target (folds.chains at.target at.target_within)) at.source at.source_within at.target_within at.two in
       let here : slice_get rows k ≡ slice_get others k =
       subst (λ (x : ℕ). slice_get rows x ≡ slice_get others x) at.place
       (sym (row_at a n at.source at.target refl at.source_within at.target_within at.two) ∙ rows_same

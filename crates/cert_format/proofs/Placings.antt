@@ -14,12 +14,11 @@ use Rattle.mrt_graph.specs.Search.{IsMarked, unmarked}
 use Rattle.mrt_graph.proofs.ListPlaces.{at_left, at_last, pushed_at}
 use Rattle.mrt_graph.proofs.ListTests.{all_at}
 use Rattle.mrt_graph.proofs.Searching.{mark_kept, mark_set}
-use Rattle.mrt_graph.proofs.TestFacts.{both_pass}
 use Rattle.cert_format.specs.Down.{HasHeadBefore, IsDown}
 use Rattle.cert_format.specs.Folded.{head_fault, least}
 use Rattle.cert_format.specs.Placing.{IsClosed, IsPlacing, LooksDown, Places}
 use Rattle.cert_format.proofs.HeadFaults.{IsLeast, Tells, least_is, least_tells}
-use Rattle.cert_format.proofs.OneUnfolding.{chain_shift}
+use Rattle.cert_format.proofs.OneUnfolding.{chain_ends, chain_shift, own_head}
 
 pub places_none : (c : Certificate) (marks : List Bool) (down : List ℕ) → Places c marks down marks down
 places_none c marks down = record { many = refl; places = λ top is. is; kept = λ v m. m; room = refl; grows = omega arith }
@@ -44,7 +43,7 @@ later_head c down v i t within it = record {
 }
 
 -- one more node, which is the top or has its head before it
-placing_one : (c : Certificate) (top v : ℕ) (marks : List Bool) (down : List ℕ) → v < length c.nodes → (IsMarked marks v → ⊥)
+pub placing_one : (c : Certificate) (top v : ℕ) (marks : List Bool) (down : List ℕ) → v < length c.nodes → (IsMarked marks v → ⊥)
     → (v ≡ top) ⊎ HasHeadBefore c (down ++ v ∷ []) (length down) v → IsPlacing c top marks down → IsPlacing c top (set marks v true) (down ++ v ∷ [])
 placing_one c top v marks down within bare headed is =
     let v_in : v < length marks = omega (arith, within, is.many) in
@@ -84,20 +83,25 @@ placing_one c top v marks down within bare headed is =
       ];
     }
 
+-- the head of the next node is placed, and so stands before it
+pub head_listed : (c : Certificate) (top v h : ℕ) (marks : List Bool) (down : List ℕ) → IsPlacing c top marks down → head_of c v ≡ Some h → IsMarked marks h
+    → HasHeadBefore c (down ++ v ∷ []) (length down) v
+head_listed c top v h marks down is head marked =
+    let at = is.listed h marked in
+    record {
+      head = h;
+      is_head = head;
+      place = at.0;
+      before = slice_get_within down at.0 h at.1;
+      there = at_left down (v ∷ []) at.0 h at.1;
+    }
+
 pub places_one : (c : Certificate) (v h : ℕ) (marks : List Bool) (down : List ℕ) → v < length marks → length marks ≡ length c.nodes → get_or marks v false ≡ false
     → head_of c v ≡ Some h → IsMarked marks h → unmarked (set marks v true) + 1 ≡ unmarked marks → Places c marks down (set marks v true) (down ++ v ∷ [])
 places_one c v h marks down within many bare head marked fewer = record {
   many = length-set marks v true;
   places = λ top is.
-      let at = is.listed h marked in
-      let it : HasHeadBefore c (down ++ v ∷ []) (length down) v = record {
-        head = h;
-        is_head = head;
-        place = at.0;
-        before = slice_get_within down at.0 h at.1;
-        there = at_left down (v ∷ []) at.0 h at.1;
-      } in
-      placing_one c top v marks down (omega (arith, within, many)) (λ m. both_ways (get_or marks v false) bare m) (inr it) is;
+      placing_one c top v marks down (omega (arith, within, many)) (λ m. both_ways (get_or marks v false) bare m) (inr (head_listed c top v h marks down is head marked)) is;
   kept = λ u m. mark_kept marks v u within m;
   room = omega (arith, fewer, length-append down (v ∷ []));
   grows = omega (arith, length-append down (v ∷ []));
@@ -194,24 +198,16 @@ head_within c v h is = go (slice_get c.nodes v) refl
 -- what is known in the end
 module _ (c : Certificate) (top : ℕ) (marks : List Bool) (down : List ℕ) (own : IsLeast (is_own_head c) (length c.nodes) top)
     (is : IsPlacing c top marks down) (begun : IsMarked marks top) (closed : IsClosed c marks) (few : length down ≤ length c.nodes) where
-  top_head : head_of c top ≡ Some top
-  top_head =
-      let p = both_pass (λ x y. x == y) (head_of c top) (Some top) own.passes in
-      p.first_is ∙ ap (λ (x : ℕ). Some x) (eqb-true p.first p.second p.passes ∙ same_Some p.second top (sym p.second_is))
-
   marked_comes : (v : ℕ) → IsMarked marks v → comes_to c top v ≡ true
   marked_comes v m =
       let at = is.listed v m in
-      let chain = placed_comes c top marks down top_head is at.0 at.0 v (length c.nodes) (omega arith) at.1 (omega (arith, few, slice_get_within down at.0 v at.1)) in
+      let chain = placed_comes c top marks down (own_head c top own.passes) is at.0 at.0 v (length c.nodes) (omega arith) at.1 (omega (arith, few, slice_get_within down at.0 v at.1)) in
       ap (λ (o : Option ℕ). are_equal o (Some top)) chain ∙ eq-eqb top top refl
 
   comes_marked : (v : ℕ) → comes_to c top v ≡ true → IsMarked marks v
   comes_marked v comes =
-      let p = both_pass (λ x y. x == y) (in_chain c (length c.nodes) v) (Some top) comes in
-      let ends : in_chain c (length c.nodes) v ≡ Some top =
-      p.first_is ∙ ap (λ (x : ℕ). Some x) (eqb-true p.first p.second p.passes ∙ same_Some p.second top (sym p.second_is)) in
       chain_placed c marks (λ u m. let at = is.listed u m in is.within at.0 u at.1) (λ u h head m. closed u (head_within c u h head) h head m)
-      (length c.nodes) v top ends begun
+      (length c.nodes) v top (chain_ends c top v comes) begun
 
   alike : (v : ℕ) → not (comes_to c top v) ≡ not (get_or marks v false)
   alike v = elim (cases_Bool (get_or marks v false)) [

@@ -15,7 +15,8 @@ pub enum CertKind {
     Truncated,
     /// The number is out of its range.
     Range,
-    /// The number is no tag.
+    /// The number is no tag: tags are 0 to 6 in version 1, and 0 to 5 in version 2, where 6, of a Carried row, is refused
+    /// too.
     Tag,
     /// Bytes stand after the last row.
     Trailing,

@@ -30,5 +30,5 @@ pub use cert_writer::CertWriter;
 pub use error::{CertError, CertFault, CertKind};
 pub use limits::within_limits;
 pub use putting::WritableCert;
-pub use reading::{any_pieces, one_spelling, read_cert};
+pub use reading::{any_pieces, bytes_are_a_certificate_or_have_a_fault, one_spelling, read_cert};
 pub use writing::write_cert;

@@ -1,7 +1,7 @@
 //! A whole certificate file.
 
-ghost use Rattle.std.specs.Prelude.{◌≡◌, ◌≤◌, ℕ, List, [], Some, Ok, Err, IfOk, length};
-ghost use Rattle.std.specs.List.{flat_map};
+ghost use Rattle.std.specs.Prelude.{◌≡◌, ◌⊎◌, ◌<◌, ◌≤◌, ◌^◌, ℕ, List, [], Some, Ok, Err, IfOk, length};
+ghost use Rattle.std.specs.List.{AllByRecursion, flat_map};
 ghost use Rattle.mrt_graph.specs.declared.cert.CertFile.{CertFile};
 ghost use Rattle.cert_format.specs.declared.error.CertKind.{CertKind};
 ghost use Rattle.cert_format.specs.CertText.{cert_text};
@@ -84,6 +84,16 @@ pub fn one_spelling()
     ensures faultless { (f : CertFile) → IsCertFile f → first_fault (cert_text f) ≡ None }
     ensures longest { (f : CertFile) → IsCertFile f → length (cert_text f) ≤ 84025358 }
     ensures longest_one { (f : CertFile) → IsCertFile f → f.version ≡ 1 → length (cert_text f) ≤ 21041166 }
+{}
+
+/// Any bytes are a certificate file or have a first fault.
+///
+/// They are never both, and a file in one way, by [`one_spelling`]. So but for want of memory [`read_cert`] has one answer
+/// to any bytes.
+pub fn bytes_are_a_certificate_or_have_a_fault()
+    ensures { (bytes : List ℕ) → AllByRecursion (λ byte. byte < 2 ^ 8) bytes
+        → ((f : CertFile) × IsCertFile f × (bytes ≡ cert_text f))
+        ⊎ ((at : ℕ) × (kind : CertKind) × (first_fault bytes ≡ Some (at, kind))) }
 {}
 
 /// A stream is read as a whole is, however it is cut into pieces that are fed one after another.

@@ -1,0 +1,271 @@
+-- Bytes in which no field is at fault, read field by field: what they spell.
+use Rattle.std.proofs.Common.{◌≡◌, ◌+◌, ◌==◌, ◌<◌, ◌≤◌, ◌^◌, ℕ, zero, suc, true, ltb, nat_le, nat_lt, List, [], ◌∷◌, ◌++◌, length, take, drop, Option, Some, None, inl, inr, refl, sym, ap, ◌∙◌, append_assoc, take-append-drop, arith}
+use Rattle.std.specs.Int.{Width, w8, w16, w32, byte_len, from_be_bytes, to_be_bytes}
+use Rattle.std.specs.List.{flat_map, AllByRecursion}
+use Rattle.std.specs.Prelude.{codes}
+use Rattle.std.proofs.lemmas.Bool.{and_parts, cases_Bool, cases_eq, eq-eqb, eqb-true, leb-true, ltb-false, ltb-true, ne_eqb}
+use Rattle.std.proofs.lemmas.List.{length-take-le}
+use Rattle.mrt_graph.proofs.Bytes.{IsBytes, bytes_after}
+use Rattle.mrt_graph.specs.Certificate.{IsCertLink}
+use Rattle.mrt_graph.specs.Tags.{tag_number}
+use Rattle.mrt_graph.specs.declared.cert.CertLink.{CertLink}
+use Rattle.mrt_graph.specs.declared.cert.CertNode.{CertNode}
+use Rattle.mrt_graph.specs.declared.cert.Role.{Role}
+use Rattle.mrt_graph.specs.declared.cert.Role.TheVariants as roles
+use Rattle.mrt_graph.specs.declared.cert.Row.{Row}
+use Rattle.mrt_graph.specs.declared.cert.Tag.{Tag}
+use Rattle.mrt_graph.specs.declared.cert.Tag.TheVariants as tags
+use Rattle.cert_format.specs.declared.error.CertKind.{CertKind}
+use Rattle.cert_format.specs.declared.error.CertKind.TheVariants.{Heads, Trailing, Truncated}
+use Rattle.cert_format.specs.declared.header.Header.{Header}
+use Rattle.cert_format.specs.CertText.{header_text, kind_number, link_text, node_text, role_number, row_text}
+use Rattle.cert_format.specs.FirstFault.{fault_in, number_of}
+use Rattle.cert_format.specs.Layout.{End, Field, Form, Then, after_nodes, any, collected, exactly, head_place, header_form, kind_named, known_version, link_form, node_form, node_named, repeated, row_form, tag, within}
+use Rattle.cert_format.specs.Reading.{IsFileRow, IsHeader, IsListOf, IsNode}
+use Rattle.cert_format.specs.Versions.{most_links, most_nodes, stray_head}
+use Rattle.cert_format.proofs.Fields.{IsWide, wide8, wide16, wide32}
+use Rattle.cert_format.proofs.Files.{head_fails}
+
+-- something that is spelled at the front and keeps this, and then bytes in which no field of the form is at fault
+pub record Reads {A : Type 0} (text : A → List ℕ) (Keeps : A → Type 0) (next : A → Form) (bytes : List ℕ) : Type 0 where
+  pub one : A
+  pub keeps : Keeps one
+  pub at : ℕ
+  pub rest : List ℕ
+  pub spelled : bytes ≡ text one ++ rest
+  pub are : IsBytes rest
+  pub faultless : fault_in (next one) at rest ≡ None
+
+-- a number that a field allows
+pub record IsAllowed (field : Field) (number : ℕ) : Type 0 where
+  pub fits : number < 256 ^ byte_len field.width
+  pub allowed : field.allows number ≡ true
+
+pub some_none : {X : Type 0} (x : X) → ◌≡◌ {A = Option X} (Some x) None → ⊥
+some_none x e = cc
+
+bytes_taken : (n : ℕ) (bytes : List ℕ) → IsBytes bytes → IsBytes (take n bytes)
+bytes_taken zero bytes are i = omega arith
+bytes_taken (suc n) [] are i = omega arith
+bytes_taken (suc n) (byte ∷ bytes) are zero = are 0
+bytes_taken (suc n) (byte ∷ bytes) are (suc i) = bytes_taken n bytes (λ k. are (suc k)) i
+
+pub field_read : (field : Field) (next : ℕ → Form) (at : ℕ) (bytes : List ℕ) → IsWide field.width → IsBytes bytes
+    → fault_in (Then field next) at bytes ≡ None → Reads (to_be_bytes field.width) (IsAllowed field) next bytes
+unfolding fault_in
+field_read field next at bytes wide are none = elim (cases_Bool (ltb (length bytes) (byte_len field.width))) [
+  | inl few ↦
+      let here : ◌≡◌ {A = Option (ℕ × CertKind)} (Some (at, Truncated)) None = rw few at none in
+      absurd (some_none (at, Truncated) here)
+  | inr long ↦
+      let size = byte_len field.width in
+      let len = length-take-le size bytes (ltb-false _ _ long) in
+      let fits = bytes_taken size bytes are in
+      elim (cases_Bool (field.allows (number_of field bytes))) [
+        | inl allowed ↦
+            let later : fault_in (next (number_of field bytes)) (at + size) (drop size bytes) ≡ None = rw (long, allowed) at none in
+            record {
+              one = number_of field bytes;
+              keeps = record { fits = wide.small (take size bytes) len fits; allowed = allowed };
+              at = at + size;
+              rest = drop size bytes;
+              spelled = sym (take-append-drop size bytes) ∙ ap (λ (t : List ℕ). t ++ drop size bytes) (sym (wide.back (take size bytes) len fits));
+              are = bytes_after size bytes are;
+              faultless = later;
+            }
+        | inr refused ↦
+            let here : ◌≡◌ {A = Option (ℕ × CertKind)} (Some (at, field.fault)) None = rw (long, refused) at none in
+            absurd (some_none (at, field.fault) here)
+      ]
+]
+
+pub within_told : (w : Width) (least bound x : ℕ) → (within w least bound).allows x ≡ true → (least ≤ x) × (x < bound)
+within_told w least bound x e =
+    let tests = and_parts (nat_le least x) (nat_lt x bound) e in
+    (leb-true least x tests.0, ltb-true x bound tests.1)
+
+kind_told : (number : ℕ) → 1 ≤ number → number < 3 → kind_number (kind_named number) ≡ number
+kind_told number least below = elim (cases_eq number 1) [
+  | inl one ↦ rw (eq-eqb number 1 one) (sym one)
+  | inr other ↦ rw (ne_eqb number 1 other) (omega (arith, least, below, other))
+]
+
+role_of : (number : ℕ) → number < 3 → (role : Role) × (role_number role ≡ number)
+role_of zero below = (roles.Plain, refl)
+role_of (suc zero) below = (roles.Sole, refl)
+role_of (suc (suc zero)) below = (roles.Closing, refl)
+role_of (suc (suc (suc number))) below = absurd (omega (arith, below))
+
+tag_of : (number : ℕ) → number < 7 → (it : Tag) × (tag_number it ≡ number)
+tag_of zero below = (tags.Sole, refl)
+tag_of (suc zero) below = (tags.Head, refl)
+tag_of (suc (suc zero)) below = (tags.Top, refl)
+tag_of (suc (suc (suc zero))) below = (tags.Below, refl)
+tag_of (suc (suc (suc (suc zero)))) below = (tags.Above, refl)
+tag_of (suc (suc (suc (suc (suc zero))))) below = (tags.Unordered, refl)
+tag_of (suc (suc (suc (suc (suc (suc zero)))))) below = (tags.Carried, refl)
+tag_of (suc (suc (suc (suc (suc (suc (suc number))))))) below = absurd (omega (arith, below))
+
+pub header_read : (next : ℕ → ℕ → ℕ → Form) (at : ℕ) (bytes : List ℕ) → IsBytes bytes → fault_in (header_form next) at bytes ≡ None
+    → Reads (λ it. header_text it.version it.nodes it.links it.root) (λ it. IsHeader it.version it.nodes it.links it.root)
+    (λ (it : Header). next it.version it.nodes it.links) bytes
+header_read next at bytes are none =
+    let wanted = from_be_bytes w32 (codes "MRTC") in
+    let m = field_read (exactly w32 wanted) _ at bytes wide32 are none in
+    let v = field_read known_version _ m.at m.rest wide16 m.are m.faultless in
+    let n = field_read (within w16 1 (most_nodes v.one + 1)) _ v.at v.rest wide16 v.are v.faultless in
+    let l = field_read (within w16 0 (most_links v.one + 1)) _ n.at n.rest wide16 n.are n.faultless in
+    let r = field_read (any w32) _ l.at l.rest wide32 l.are l.faultless in
+    let nodes = within_told w16 1 (most_nodes v.one + 1) n.one n.keeps.allowed in
+    let links = within_told w16 0 (most_links v.one + 1) l.one l.keeps.allowed in
+    record {
+      one = record { version = v.one; nodes = n.one; links = l.one; root = r.one };
+      keeps = record {
+        known = v.keeps.allowed;
+        some_node = nodes.0;
+        few_nodes = omega (arith, nodes.1);
+        few_links = omega (arith, links.1);
+        root_fits = r.keeps.fits;
+      };
+      at = r.at;
+      rest = r.rest;
+      spelled = m.spelled ∙ ap (λ (x : ℕ). to_be_bytes w32 x ++ m.rest) (eqb-true m.one wanted m.keeps.allowed)
+          ∙ ap (λ (t : List ℕ). codes "MRTC" ++ t) (v.spelled ∙ ap (λ (t : List ℕ). to_be_bytes w16 v.one ++ t)
+          (n.spelled ∙ ap (λ (t : List ℕ). to_be_bytes w16 n.one ++ t) (l.spelled ∙ ap (λ (t : List ℕ). to_be_bytes w16 l.one ++ t) r.spelled)));
+      are = r.are;
+      faultless = r.faultless;
+    }
+
+pub node_read : (nodes : ℕ) (next : CertNode → Form) (at : ℕ) (bytes : List ℕ) → IsBytes bytes → fault_in (node_form nodes next) at bytes ≡ None
+    → Reads node_text (IsNode nodes) next bytes
+node_read nodes next at bytes are none =
+    let k = field_read (within w8 1 3) _ at bytes wide8 are none in
+    let i = field_read (any w32) _ k.at k.rest wide32 k.are k.faultless in
+    let o = field_read (within w16 1 (nodes + 1)) _ i.at i.rest wide16 i.are i.faultless in
+    let h = field_read (within w16 0 nodes) _ o.at o.rest wide16 o.are o.faultless in
+    let b = field_read (within w16 0 nodes) _ h.at h.rest wide16 h.are h.faultless in
+    let kind = within_told w8 1 3 k.one k.keeps.allowed in
+    let order = within_told w16 1 (nodes + 1) o.one o.keeps.allowed in
+    record {
+      one = node_named k.one i.one o.one h.one b.one;
+      keeps = record {
+        kept = record {
+          order_from_one = order.0;
+          order_to_n = omega (arith, order.1);
+          head = (within_told w16 0 nodes h.one h.keeps.allowed).1;
+          block = (within_told w16 0 nodes b.one b.keeps.allowed).1;
+        };
+        number = i.keeps.fits;
+      };
+      at = b.at;
+      rest = b.rest;
+      spelled = k.spelled ∙ ap (λ (x : ℕ). to_be_bytes w8 x ++ k.rest) (sym (kind_told k.one kind.0 kind.1))
+          ∙ ap (λ (t : List ℕ). to_be_bytes w8 (kind_number (kind_named k.one)) ++ t) (i.spelled ∙ ap (λ (t : List ℕ). to_be_bytes w32 i.one ++ t)
+          (o.spelled ∙ ap (λ (t : List ℕ). to_be_bytes w16 o.one ++ t) (h.spelled ∙ ap (λ (t : List ℕ). to_be_bytes w16 h.one ++ t) b.spelled)));
+      are = b.are;
+      faultless = b.faultless;
+    }
+
+pub link_read : (nodes : ℕ) (next : Form) (at : ℕ) (bytes : List ℕ) → IsBytes bytes → fault_in (link_form nodes next) at bytes ≡ None
+    → Reads link_text (IsCertLink nodes) (λ link. next) bytes
+link_read nodes next at bytes are none =
+    let a = field_read (any w16) _ at bytes wide16 are none in
+    let b = field_read (within w16 (a.one + 1) nodes) _ a.at a.rest wide16 a.are a.faultless in
+    let k = field_read (within w16 0 nodes) _ b.at b.rest wide16 b.are b.faultless in
+    let r = field_read (within w8 0 3) _ k.at k.rest wide8 k.are k.faultless in
+    let upper = within_told w16 (a.one + 1) nodes b.one b.keeps.allowed in
+    let role = role_of r.one (within_told w8 0 3 r.one r.keeps.allowed).1 in
+    record {
+      one = record { a = a.one; b = b.one; block = k.one; role = role.0 };
+      keeps = record {
+        ascending = omega (arith, upper.0);
+        upper = upper.1;
+        block = (within_told w16 0 nodes k.one k.keeps.allowed).1;
+      };
+      at = r.at;
+      rest = r.rest;
+      spelled = a.spelled ∙ ap (λ (t : List ℕ). to_be_bytes w16 a.one ++ t) (b.spelled ∙ ap (λ (t : List ℕ). to_be_bytes w16 b.one ++ t)
+          (k.spelled ∙ ap (λ (t : List ℕ). to_be_bytes w16 k.one ++ t) (r.spelled ∙ ap (λ (x : ℕ). to_be_bytes w8 x ++ r.rest) (sym role.1))));
+      are = r.are;
+      faultless = r.faultless;
+    }
+
+pub row_read : (count links : ℕ) → count ≤ 7 → (next : Form) (at : ℕ) (bytes : List ℕ) → IsBytes bytes → fault_in (row_form count links next) at bytes ≡ None
+    → Reads row_text (IsFileRow count links) (λ row. next) bytes
+row_read count links few next at bytes are none =
+    let b = field_read (within w16 0 links) _ at bytes wide16 are none in
+    let r = field_read (within w16 0 links) _ b.at b.rest wide16 b.are b.faultless in
+    let t = field_read (tag count) _ r.at r.rest wide8 r.are r.faultless in
+    let below = ltb-true t.one count t.keeps.allowed in
+    let it = tag_of t.one (omega (arith, below, few)) in
+    record {
+      one = record { blue = b.one; red = r.one; tag = it.0 };
+      keeps = record {
+        kept = record {
+          blue = (within_told w16 0 links b.one b.keeps.allowed).1;
+          red = (within_told w16 0 links r.one r.keeps.allowed).1;
+        };
+        tagged = omega (arith, below, it.1);
+      };
+      at = t.at;
+      rest = t.rest;
+      spelled = b.spelled ∙ ap (λ (u : List ℕ). to_be_bytes w16 b.one ++ u) (r.spelled ∙ ap (λ (u : List ℕ). to_be_bytes w16 r.one ++ u)
+          (t.spelled ∙ ap (λ (x : ℕ). to_be_bytes w8 x ++ t.rest) (sym it.1)));
+      are = t.are;
+      faultless = t.faultless;
+    }
+
+-- so many parts, which decide what follows them
+pub collected_read : {A : Type 0} (part : (A → Form) → Form) (text : A → List ℕ) (Keeps : A → Type 0)
+    → ((next : A → Form) (at : ℕ) (bytes : List ℕ) → IsBytes bytes → fault_in (part next) at bytes ≡ None → Reads text Keeps next bytes)
+    → (count : ℕ) (next : List A → Form) (at : ℕ) (bytes : List ℕ) → IsBytes bytes → fault_in (collected count part next) at bytes ≡ None
+    → Reads (flat_map text) (IsListOf count Keeps) next bytes
+collected_read part text Keeps reads zero next at bytes are none =
+    record { one = []; keeps = record { many = refl; each = tt }; at = at; rest = bytes; spelled = refl; are = are; faultless = none }
+collected_read part text Keeps reads (suc count) next at bytes are none =
+    let first = reads (λ x. collected count part (λ xs. next (x ∷ xs))) at bytes are none in
+    let others = collected_read part text Keeps reads count (λ xs. next (first.one ∷ xs)) first.at first.rest first.are first.faultless in
+    record {
+      one = first.one ∷ others.one;
+      keeps = record { many = ap suc others.keeps.many; each = (first.keeps, others.keeps.each) };
+      at = others.at;
+      rest = others.rest;
+      spelled = first.spelled ∙ ap (λ (t : List ℕ). text first.one ++ t) others.spelled ∙ sym (append_assoc (text first.one) (flat_map text others.one) others.rest);
+      are = others.are;
+      faultless = others.faultless;
+    }
+
+-- so many parts
+pub repeated_read : {A : Type 0} (part : Form → Form) (text : A → List ℕ) (Keeps : A → Type 0)
+    → ((next : Form) (at : ℕ) (bytes : List ℕ) → IsBytes bytes → fault_in (part next) at bytes ≡ None → Reads text Keeps (λ x. next) bytes)
+    → (count : ℕ) (next : Form) (at : ℕ) (bytes : List ℕ) → IsBytes bytes → fault_in (repeated count part next) at bytes ≡ None
+    → Reads (flat_map text) (IsListOf count Keeps) (λ xs. next) bytes
+repeated_read part text Keeps reads zero next at bytes are none =
+    record { one = []; keeps = record { many = refl; each = tt }; at = at; rest = bytes; spelled = refl; are = are; faultless = none }
+repeated_read part text Keeps reads (suc count) next at bytes are none =
+    let first = reads (repeated count part next) at bytes are none in
+    let others = repeated_read part text Keeps reads count next first.at first.rest first.are first.faultless in
+    record {
+      one = first.one ∷ others.one;
+      keeps = record { many = ap suc others.keeps.many; each = (first.keeps, others.keeps.each) };
+      at = others.at;
+      rest = others.rest;
+      spelled = first.spelled ∙ ap (λ (t : List ℕ). text first.one ++ t) others.spelled ∙ sym (append_assoc (text first.one) (flat_map text others.one) others.rest);
+      are = others.are;
+      faultless = others.faultless;
+    }
+
+-- no head is at fault
+pub heads_read : (version links at : ℕ) (ns : List CertNode) (bytes : List ℕ) → fault_in (after_nodes version links ns) at bytes ≡ None
+    → stray_head version ns ≡ None
+heads_read version links at ns bytes none = go (stray_head version ns) refl
+  where
+    go : (o : Option ℕ) → stray_head version ns ≡ o → stray_head version ns ≡ None
+    go None is = is
+    go (Some a) is = absurd (some_none (head_place a, Heads) (sym (head_fails version links at a ns bytes is) ∙ none))
+
+-- nothing is left
+pub end_read : (at : ℕ) (bytes : List ℕ) → fault_in End at bytes ≡ None → bytes ≡ []
+unfolding fault_in
+end_read at [] none = refl
+end_read at (byte ∷ bytes) none = absurd (some_none (at, Trailing) none)
