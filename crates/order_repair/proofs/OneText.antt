@@ -15,21 +15,12 @@ use Rattle.inc_dec_spf.specs.LeastPath.{ShareBlock}
 use Rattle.mrt_rows.proofs.HopsExist.{has_hop}
 use Rattle.mrt_rows.proofs.OrderedGraphs.{OrderedGraph, one_common}
 use Rattle.text_parts.specs.Parts.{AreParts}
-use Rattle.text_parts.proofs.Adding.{one_text_of_parts}
+use Rattle.text_parts.proofs.Adding.{one_text_of_parts, some_text_of_parts}
 use Rattle.order_repair.specs.Failed.{IsWithin, LiesIn}
 use Rattle.order_repair.specs.OrderText.{AtEnd, Colored, IsHead, IsLetter, IsLine, IsOrderText, IsPartOn, Line, NoLine, NotOfIt, letter_of}
 use Rattle.order_repair.specs.Tagging.{IsTagFor, NotShared, Tagged}
 use Rattle.order_repair.proofs.OneChoice.{one_choice, some_choice}
 use Rattle.order_repair.proofs.TagFound.{head_found, none_found, peer_found, top_found}
-
--- some list of parts
-some_parts : (IsPart : ℕ → List ℕ → Type 0) (n : ℕ) → ((k : ℕ) → k < n → (a : List ℕ) × IsPart k a)
-    → (text : List ℕ) × AreParts IsPart n text
-some_parts IsPart zero some = ([], refl)
-some_parts IsPart (suc n) some =
-    let parts = some_parts IsPart n (λ k below. some k (omega (arith, below))) in
-    let part = some n (omega arith) in
-    (parts.0 ++ part.0, (parts.0, part.0, parts.1, part.1, refl))
 
 one_id : (ids : List NodeId) (n : ℕ) (one other : NodeId) → slice_get ids n ≡ Some one → slice_get ids n ≡ Some other → one ≡ other
 one_id ids n one other is is' = same_Some one other (sym is ∙ is')
@@ -115,9 +106,9 @@ module _ (og : OrderedGraph) (s : ℕ) (s_within : s < length og.g.ids) where
     some_line : (text : List ℕ) × IsLine og.g og.root og.w s t text
     some_line =
         let id = there og.g.ids t t_within in
-        let nodes = some_parts (λ f. IsLetter og.g og.root og.w s t k h (elements.Node f)) n (λ f. some_letter (elements.Node f)) in
+        let nodes = some_text_of_parts (λ f. IsLetter og.g og.root og.w s t k h (elements.Node f)) n (λ f. some_letter (elements.Node f)) in
         let links =
-        some_parts (λ e. IsLetter og.g og.root og.w s t k h (elements.Link e)) (length og.g.links)
+        some_text_of_parts (λ e. IsLetter og.g og.root og.w s t k h (elements.Link e)) (length og.g.links)
         (λ e. some_letter (elements.Link e)) in (
           node_text id.0 ++ codes " " ++ nodes.0 ++ codes " " ++ links.0 ++ codes "\n",
           record {
@@ -210,7 +201,7 @@ module _ (og : OrderedGraph) (s : ℕ) (s_within : s < length og.g.ids) where
   pub some_text : (text : List ℕ) × IsOrderText og.g og.root og.w s text
   some_text =
       let head = some_head in
-      let lines = some_parts (IsPartOn og.g og.root og.w s) n some_part in (
+      let lines = some_text_of_parts (IsPartOn og.g og.root og.w s) n some_part in (
         head.0 ++ lines.0,
         record { head = head.0; head_is = head.1; lines = lines.0; lines_are = lines.1; spelled = refl },
       )

@@ -1,5 +1,5 @@
 -- Parts that are put at the end of a text, one after another.
-use Rattle.std.proofs.Common.{◌≡◌, ◌+◌, ◌++◌, ◌∙◌, ℕ, zero, suc, List, [], refl, sym, ap, subst, arith, append-nil, append_assoc}
+use Rattle.std.proofs.Common.{◌≡◌, ◌<◌, ◌+◌, ◌++◌, ◌∙◌, ℕ, zero, suc, List, [], refl, sym, ap, subst, arith, append-nil, append_assoc}
 use Rattle.text_parts.specs.Adds.{Adds}
 use Rattle.text_parts.specs.Parts.{AreParts}
 
@@ -31,3 +31,12 @@ one_text_of_parts IsPart one (suc n) text other is is' =
     ∙ ap (λ (xs : List ℕ). xs ++ is.1) (one_text_of_parts IsPart one n is.0 is'.0 is.2 is'.2)
     ∙ ap (λ (xs : List ℕ). is'.0 ++ xs) (one n is.1 is'.1 is.3 is'.3)
     ∙ sym is'.4
+
+-- where there is some part for each number, there is some text of them
+pub some_text_of_parts : (IsPart : ℕ → List ℕ → Type 0) (n : ℕ) → ((k : ℕ) → k < n → (part : List ℕ) × IsPart k part)
+    → (text : List ℕ) × AreParts IsPart n text
+some_text_of_parts IsPart zero some = ([], refl)
+some_text_of_parts IsPart (suc n) some =
+    let parts = some_text_of_parts IsPart n (λ k below. some k (omega (arith, below))) in
+    let part = some n (omega arith) in
+    (parts.0 ++ part.0, (parts.0, part.0, parts.1, part.1, refl))

@@ -1,19 +1,21 @@
-//! Parts of a text, each put at its end.
+//! Parts of a text, each put at its end. Where there is no memory for a part, none of it is put there.
 
-ghost use Rattle.std.specs.Prelude.{◌≡◌, ◌++◌, IfOk, decimal};
+ghost use Rattle.std.specs.Prelude.{◌≡◌, ◌≤◌, ◌+◌, ◌++◌, IfOk, OnErr, decimal, length, vec_capacity, vec_len};
 ghost use Rattle.mrt_graph.specs.Spelling.{node_text};
 ghost use Rattle.text_parts.specs.Hops.{hop_text};
 
+use arrayvec::ArrayVec;
 use itoa::Buffer;
-use mrt_graph::{Kind, NoMemory, NodeId, NodeText};
+use mrt_graph::{Kind, NoMemory, NodeId, NodeText, push_node_text};
 
 /// Puts bytes at the end of a text.
 ///
 /// # Errors
 ///
-/// [`NoMemory`] where there was none for the text, as for each of these.
+/// [`NoMemory`] where there was none for the text, as for each of these; then the text is as it was.
 pub fn push(text: &mut Vec<u8>, part: &[u8]) -> Result<(), NoMemory>
-    ensures { IfOk result (λ _. text.new.items ≡ text.old.items ++ part.now) }
+    ensures added { IfOk result (λ _. text.new.items ≡ text.old.items ++ part.now) }
+    ensures err { OnErr result (text.new.items ≡ text.old.items) }
 {
     text.extend_from_slice(part)?;
     Ok(())
@@ -21,37 +23,57 @@ pub fn push(text: &mut Vec<u8>, part: &[u8]) -> Result<(), NoMemory>
 
 /// Puts a count at the end of a text, in decimal.
 pub fn push_count(text: &mut Vec<u8>, count: u16) -> Result<(), NoMemory>
-    ensures { IfOk result (λ _. text.new.items ≡ text.old.items ++ decimal count) }
+    ensures added { IfOk result (λ _. text.new.items ≡ text.old.items ++ decimal count) }
+    ensures err { OnErr result (text.new.items ≡ text.old.items) }
 {
     push(text, Buffer::new().format(count).as_bytes())
 }
 
 /// Puts a word and a number at the end of a text, the number in decimal.
 pub fn push_number(text: &mut Vec<u8>, word: &[u8], number: u64) -> Result<(), NoMemory>
-    ensures { IfOk result (λ _. text.new.items ≡ text.old.items ++ (word.now ++ decimal number)) }
+    ensures added { IfOk result (λ _. text.new.items ≡ text.old.items ++ (word.now ++ decimal number)) }
+    ensures err { OnErr result (text.new.items ≡ text.old.items) }
 {
-    push(text, word)?;
-    push(text, Buffer::new().format(number).as_bytes())
+    let mut buffer = Buffer::new();
+    let digits = buffer.format(number).as_bytes();
+    text.reserve(word.len() + digits.len())?;
+    put(text, word);
+    put(text, digits);
+    Ok(())
 }
 
 /// Puts a node's name at the end of a text.
 pub fn push_node(text: &mut Vec<u8>, id: NodeId) -> Result<(), NoMemory>
-    ensures { IfOk result (λ _. text.new.items ≡ text.old.items ++ node_text id) }
+    ensures added { IfOk result (λ _. text.new.items ≡ text.old.items ++ node_text id) }
+    ensures err { OnErr result (text.new.items ≡ text.old.items) }
 {
     push(text, NodeText::new(id).bytes())
 }
 
 /// Puts a hop at the end of a text: the far node, and the link data of the near end as an address.
 pub fn push_hop(text: &mut Vec<u8>, far: NodeId, link_data: u32) -> Result<(), NoMemory>
-    ensures { IfOk result (λ _. text.new.items ≡ text.old.items ++ hop_text far link_data) }
+    ensures added { IfOk result (λ _. text.new.items ≡ text.old.items ++ hop_text far link_data) }
+    ensures err { OnErr result (text.new.items ≡ text.old.items) }
 {
-    push_node(text, far)?;
-    push(text, b"/")?;
-    push_node(
-        text,
+    let mut hop: ArrayVec<u8, 39> = ArrayVec::new();
+    push_node_text(&mut hop, far);
+    hop.push(b'/');
+    push_node_text(
+        &mut hop,
         NodeId {
             kind: Kind::Router,
             number: link_data,
         },
-    )
+    );
+    push(text, hop.as_slice())
+}
+
+/// Puts bytes at the end of a text, in which there is room for them.
+fn put(text: &mut Vec<u8>, part: &[u8])
+    requires { vec_len text.old + length part.now ≤ vec_capacity text.old }
+    ensures added { text.new.items ≡ text.old.items ++ part.now }
+    ensures len { vec_len text.new ≡ vec_len text.old + length part.now }
+    ensures capacity { vec_capacity text.old ≤ vec_capacity text.new }
+{
+    text.extend_from_slice(part).unwrap();
 }

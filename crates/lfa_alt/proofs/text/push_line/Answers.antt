@@ -21,5 +21,5 @@ returns c =
       };
       added =
           joined _ _ _ _ _ (joined _ _ _ _ _ (joined _ _ _ _ _ (joined _ _ _ _ _ (joined _ _ _ _ _
-          c.in_ok-push_node.ensures c.in_ok-push.ensures) hop.added) c.in_ok-push-2.ensures) lfa.added) c.in_ok-push-3.ensures;
+          c.in_ok-push_node.ensures.added c.in_ok-push.ensures.added) hop.added) c.in_ok-push-2.ensures.added) lfa.added) c.in_ok-push-3.ensures.added;
     }

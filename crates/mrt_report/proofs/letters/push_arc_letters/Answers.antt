@@ -16,6 +16,6 @@ returns c = λ number are. record {
     spelled = refl;
   };
   added =
-      joined _ _ _ _ _ (c.in_ok-push.ensures ∙ ap (λ (word : List ℕ). c.args.text.now.items ++ word) c.letter.ensures)
-      (c.in_ok-push-2.ensures ∙ ap (λ (word : List ℕ). c.push.new.text.items ++ word) c.letter-2.ensures);
+      joined _ _ _ _ _ (c.in_ok-push.ensures.added ∙ ap (λ (word : List ℕ). c.args.text.now.items ++ word) c.letter.ensures)
+      (c.in_ok-push-2.ensures.added ∙ ap (λ (word : List ℕ). c.push.new.text.items ++ word) c.letter-2.ensures);
 }

@@ -41,6 +41,6 @@ returns c =
       };
       added =
           joined _ _ _ _ _ (joined _ _ _ _ _ (joined _ _ _ _ _ (joined _ _ _ _ _
-          (c.in_ok-push.ensures ∙ ap (λ (word : List ℕ). c.args.text.now.items ++ word) c.tag_word.ensures)
-          c.in_ok-push-2.ensures) blue.added) c.in_ok-push-3.ensures) red.added;
+          (c.in_ok-push.ensures.added ∙ ap (λ (word : List ℕ). c.args.text.now.items ++ word) c.tag_word.ensures)
+          c.in_ok-push-2.ensures.added) blue.added) c.in_ok-push-3.ensures.added) red.added;
     }

@@ -19,5 +19,5 @@ returns c =
       };
       added =
           joined _ _ _ _ _ (joined _ _ _ _ _ (joined _ _ _ _ _ (joined _ _ _ _ _ (joined _ _ _ _ _
-          c.in_ok-push_node.ensures c.in_ok-push.ensures) colors.added) c.in_ok-push-2.ensures) primary.added) c.in_ok-push-3.ensures;
+          c.in_ok-push_node.ensures.added c.in_ok-push.ensures.added) colors.added) c.in_ok-push-2.ensures.added) primary.added) c.in_ok-push-3.ensures.added;
     }

@@ -15,5 +15,5 @@ returns c =
         letters_are = letters.is;
         spelled = refl;
       };
-      added = joined _ _ _ _ _ (joined _ _ _ _ _ hop.added c.in_ok-push.ensures) letters.added;
+      added = joined _ _ _ _ _ (joined _ _ _ _ _ hop.added c.in_ok-push.ensures.added) letters.added;
     }

@@ -19,7 +19,7 @@ returns c = record {
       c.push-3.new.text.items c.push_count.new.text.items c.push-4.new.text.items c.push_count-2.new.text.items c.push-5.new.text.items
       (codes "router ") (node_text c.id.result) (codes " root ") (node_text c.id-2.result) (codes " nodes ") (decimal (length c.args.g.now.ids))
       (codes " links ") (decimal (length c.args.g.now.links)) (codes "\n")
-      c.in_ok-push.ensures c.in_ok-push_node.ensures c.in_ok-push-2.ensures c.in_ok-push_node-2.ensures c.in_ok-push-3.ensures
-      (c.in_ok-push_count.ensures ∙ ap (λ (n : ℕ). c.push-3.new.text.items ++ decimal n) c.node_count.ensures.count) c.in_ok-push-4.ensures
-      (c.in_ok-push_count-2.ensures ∙ ap (λ (n : ℕ). c.push-4.new.text.items ++ decimal n) c.link_count.ensures.count) c.in_ok-push-5.ensures;
+      c.in_ok-push.ensures.added c.in_ok-push_node.ensures.added c.in_ok-push-2.ensures.added c.in_ok-push_node-2.ensures.added c.in_ok-push-3.ensures.added
+      (c.in_ok-push_count.ensures.added ∙ ap (λ (n : ℕ). c.push-3.new.text.items ++ decimal n) c.node_count.ensures.count) c.in_ok-push-4.ensures.added
+      (c.in_ok-push_count-2.ensures.added ∙ ap (λ (n : ℕ). c.push-4.new.text.items ++ decimal n) c.link_count.ensures.count) c.in_ok-push-5.ensures.added;
 }

@@ -33,7 +33,7 @@ returns-then-is_neither_end c = λ root w place hops pair lies.
       is = Colored color lies choice;
       added = added ∙ ap (λ (xs : List ℕ). c.args.text.now.items ++ xs) c.letter.ensures;
     })
-    c.push.ensures
+    c.push.ensures.added
 
 pub returns : goal.returns
 returns c = λ root w place hops pair lies.
@@ -43,4 +43,4 @@ returns c = λ root w place hops pair lies.
       is = AtEnd lies (λ neither. let no : ◌≡◌ {A = Bool} true false = sym (c.is_neither_end.ensures.1 neither) ∙ c.if-is_neither_end.false in cc);
       added = added;
     })
-    c.push-2.ensures
+    c.push-2.ensures.added

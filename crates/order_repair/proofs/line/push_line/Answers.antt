@@ -28,5 +28,5 @@ returns c = λ root w hops tagged.
       };
       added =
           joined _ _ _ _ _ (joined _ _ _ _ _ (joined _ _ _ _ _ (joined _ _ _ _ _ (joined _ _ _ _ _
-          c.in_ok-push_node.ensures c.in_ok-push.ensures) nodes.added) c.in_ok-push-2.ensures) links.added) c.in_ok-push-3.ensures;
+          c.in_ok-push_node.ensures.added c.in_ok-push.ensures.added) nodes.added) c.in_ok-push-2.ensures.added) links.added) c.in_ok-push-3.ensures.added;
     }

@@ -24,6 +24,6 @@ returns c =
           joined text three (codes "\n") _ _ (joined text (two ++ codes " root ") (node_text c.id-3.result) _ _
           (joined text two (codes " root ") _ _ (joined text (one ++ codes " ") (node_text c.id-2.result) _ _
           (joined text one (codes " ") _ _ (joined text (codes "proxy ") (node_text c.id.result) _ _
-          c.in_ok-push.ensures c.in_ok-push_node.ensures) c.in_ok-push-2.ensures) c.in_ok-push_node-2.ensures) c.in_ok-push-3.ensures)
-          c.in_ok-push_node-3.ensures) c.in_ok-push-4.ensures;
+          c.in_ok-push.ensures.added c.in_ok-push_node.ensures.added) c.in_ok-push-2.ensures.added) c.in_ok-push_node-2.ensures.added) c.in_ok-push-3.ensures.added)
+          c.in_ok-push_node-3.ensures.added) c.in_ok-push-4.ensures.added;
     }

@@ -24,5 +24,5 @@ returns c =
       };
       added =
           joined _ _ _ _ _ (joined _ _ _ _ _ (joined _ _ _ _ _ (joined _ _ _ _ _ (joined _ _ _ _ _
-          c.in_ok-push_node.ensures c.in_ok-push.ensures) blue.added) c.in_ok-push-2.ensures) red.added) c.in_ok-push-3.ensures;
+          c.in_ok-push_node.ensures.added c.in_ok-push.ensures.added) blue.added) c.in_ok-push-2.ensures.added) red.added) c.in_ok-push-3.ensures.added;
     }
