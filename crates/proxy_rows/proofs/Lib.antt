@@ -16,4 +16,5 @@ pub mod ProxySound
 pub mod RowsExist
 pub mod SideEnds
 pub mod Stepping
+pub mod TextExists
 pub mod Touching

@@ -1,15 +1,20 @@
 //! What holds of all texts on prefixes that are attached to two routers.
 
-ghost use Rattle.std.specs.Prelude.{◌≡◌, ℕ, List};
+ghost use Rattle.std.specs.Prelude.{◌≡◌, ◌≢◌, ◌<◌, ◌↔◌, ℕ, false, List, length};
 ghost use Rattle.mrt_graph.specs.Certificate.{Certificate};
 ghost use Rattle.mrt_graph.specs.GraphInvariant.{IsTopology};
+ghost use Rattle.mrt_graph.specs.Related.{are_unrelated};
 ghost use Rattle.mrt_graph.specs.Topology.{Topology};
 ghost use Rattle.mrt_graph.specs.AcceptedFor.{IsAcceptedFor};
 ghost use Rattle.proxy_rows.specs.ProxyText.{IsProxyText};
 
-/// A law: two routers have one text.
+/// Laws: two different routers have exactly one text where the certificate gives them a common block, and none where it does
+/// not.
 pub fn one_proxy_text()
-    ensures { (g : Topology) (root : ℕ) (c : Certificate) (a b : ℕ) (text other : List ℕ) → IsTopology g
+    ensures some { (g : Topology) (root : ℕ) (c : Certificate) (a b : ℕ) → IsTopology g → IsAcceptedFor g c
+        → root < length g.ids → a < length g.ids → b < length g.ids → a ≢ b
+        → (are_unrelated c a b ≡ false) ↔ ((text : List ℕ) × IsProxyText g root c a b text) }
+    ensures one { (g : Topology) (root : ℕ) (c : Certificate) (a b : ℕ) (text other : List ℕ) → IsTopology g
         → IsAcceptedFor g c → IsProxyText g root c a b text → IsProxyText g root c a b other
         → text ≡ other }
 {}

@@ -1,21 +1,16 @@
-use Rattle.std.proofs.Common.{◌≡◌, ℕ, Option, Some, None, refl, length}
-use Rattle.std.specs.Prelude.{IsSome}
+use Rattle.std.proofs.Common.{refl, length}
 use Rattle.std.proofs.lemmas.Option.{slice_get_within}
 use Rattle.std.proofs.lemmas.Result.{on_ok_weaker}
 use Rattle.mrt_graph.specs.GraphInvariant.{IsEnd}
 use Rattle.mrt_graph.specs.Leads.{leads}
 use Rattle.mrt_graph.proofs.EndsAt.{leads_end}
 use Rattle.mrt_graph.proofs.ListTests.{all_at}
+use Rattle.proxy_rows.proofs.TextExists.{led}
 use Rattle.proxy_rows.proofs.text.push_over.Goals as goal
-
--- where a link that touches leads
-there : (o : Option ℕ) → IsSome o → (v : ℕ) × (o ≡ Some v)
-there None is = absurd (cc)
-there (Some v) is = (v, refl)
 
 pub unreachable-requires : goal.unreachable-requires
 unreachable-requires c =
-    let to = there (leads c.args.g.now.links c.args.e c.args.s) c.requires.touches in
+    let to = led (leads c.args.g.now.links c.args.e c.args.s) c.requires.touches in
     let end = leads_end c.args.g.now c.args.s c.args.e to.0 c.ends.result.now c.requires.kept c.ends.ensures.value to.1 in
     c.in_default.ensures.none end.place end.end (slice_get_within c.ends.result.now end.place end.end end.at) end.at end.over
 
@@ -37,4 +32,4 @@ returns c =
         spelled = refl;
       };
       added = added;
-    }) c.push_hop.ensures
+    }) c.push_hop.ensures.added
