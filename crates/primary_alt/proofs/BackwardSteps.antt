@@ -1,5 +1,5 @@
 -- The backward search: it begins, takes an offer, and ends with the distances.
-use Rattle.std.proofs.Common.{◌≡◌, ◌<◌, ◌+◌, ◌∙◌, ◌⊎◌, ℕ, List, [], ◌∷◌, Option, Some, None, length, inl, inr, refl, sym, ap, subst, arith}
+use Rattle.std.proofs.Common.{◌≡◌, ◌<◌, ◌≤◌, ◌+◌, ◌∙◌, ◌⊎◌, ℕ, List, [], ◌∷◌, Option, Some, None, length, inl, inr, refl, sym, ap, subst, arith}
 use Rattle.std.specs.Prelude.{Contains, IsPermutation}
 use Rattle.std.specs.declared.cmp.Reverse.{Reverse}
 use Rattle.std.proofs.lemmas.List.Sorted.{Contains-permutation, IsPermutation-sym}
@@ -10,7 +10,7 @@ use Rattle.mrt_graph.proofs.Members.{contains_cases, contains_later, contains_no
 use Rattle.primary_alt.specs.declared.backward.Offer.{Offer}
 use Rattle.primary_alt.specs.ArcsInto.{AreInto}
 use Rattle.primary_alt.specs.ArcWalk.{ArcWalk, cost_of}
-use Rattle.primary_alt.specs.BackwardSearch.{HasAtMost, IsOffered, IsPassed, IsReached, IsRelaxed, IsSearching, Waits}
+use Rattle.primary_alt.specs.BackwardSearch.{HasAtMost, IsLeafOf, IsOffered, IsPassed, IsReached, IsRelaxed, IsSearching, Waits}
 use Rattle.primary_alt.specs.Distances.{AreDistances, HasDistance}
 
 -- an offer as the heap holds it
@@ -21,9 +21,15 @@ held v distance = record { 0 = record { distance = distance; node = v } }
 no_distance : (known : List (Option ℕ)) → ((v d : ℕ) → ¬ HasDistance known v d) → (v d : ℕ) → ¬ HasAtMost known v d
 no_distance known none v d has = none v has.least has.there
 
+-- a leaf's distance is no smaller than that of the node that its one arc leaves: there is nothing to pass on
+leaf_passed : (arcs : List Arc) (known : List (Option ℕ)) (u v distance d : ℕ) → HasAtMost known u distance → distance ≤ d → IsLeafOf arcs u v → IsPassed arcs known v d
+leaf_passed arcs known u v distance d has upto leaf = λ arc there to.
+    subst (λ (x : ℕ). HasAtMost known x (arc.metric + d)) (sym (leaf arc there to))
+    (record { least = has.least; there = has.there; upto = omega (arith, has.upto, upto) })
+
 -- the first offer, of 0 to t
 pub search_begins : (arcs : List Arc) (t : ℕ) (known after : List (Option ℕ)) (heap heap' : List (Reverse Offer)) → t < length known
-    → ((v d : ℕ) → ¬ HasDistance known v d) → ((v d : ℕ) → ¬ Waits heap v d) → IsOffered t 0 known after heap heap' → IsSearching arcs t after heap'
+    → ((v d : ℕ) → ¬ HasDistance known v d) → ((v d : ℕ) → ¬ Waits heap v d) → IsOffered arcs t t 0 known after heap heap' → IsSearching arcs t after heap'
 search_begins arcs t known after heap heap' within none empty is = record {
   begun = is.taken;
   sound = λ v d has. elim (is.from v d has) [
@@ -32,7 +38,7 @@ search_begins arcs t known after heap heap' within none empty is = record {
   ];
   passed = λ v d has. elim (is.from v d has) [
     | inl old ↦ absurd (none v d old)
-    | inr new ↦ inl new.2
+    | inr new ↦ elim new.2 [ inl waits ↦ inl waits | inr leaf ↦ inr (leaf_passed arcs after t v 0 d is.taken (omega arith) leaf) ]
   ];
   within = λ v d waits. elim (is.only v d waits) [
     | inl old ↦ absurd (empty v d old)
@@ -92,7 +98,7 @@ reached_by arcs t arc distance v d there tail sum reached = record {
 
 -- the offer stands: it is passed on over the arcs to the node
 pub offer_passed : (arcs row : List Arc) (t node distance : ℕ) (known after : List (Option ℕ)) (heap heap' : List (Reverse Offer))
-    → HasDistance known node distance → AreInto arcs node row → IsRelaxed row (length row) distance known after heap heap'
+    → HasDistance known node distance → AreInto arcs node row → IsRelaxed arcs row node (length row) distance known after heap heap'
     → IsSearching arcs t known (held node distance ∷ heap) → IsSearching arcs t after heap'
 offer_passed arcs row t node distance known after heap heap' stands into relaxed is = record {
   begun = relaxed.lower t 0 is.begun;
@@ -114,7 +120,12 @@ offer_passed arcs row t node distance known after heap heap' stands into relaxed
       ]
       | inr passed ↦ inr (passed_still arcs known after v d relaxed.lower passed)
     ]
-    | inr new ↦ inl new.4
+    | inr new ↦ elim new.4 [
+      | inl waits ↦ inl waits
+      | inr leaf ↦
+          let settled = relaxed.lower node distance (record { least = distance; there = stands; upto = omega arith }) in
+          inr (leaf_passed arcs after node v distance d settled (omega (arith, new.3)) leaf)
+    ]
   ];
   within = λ v d waits. elim (relaxed.only v d waits) [
     | inl old ↦ omega (arith, relaxed.one_each, is.within v d (contains_later (held node distance) (held v d) heap old))

@@ -1,33 +1,47 @@
 -- An offer of a distance to a node: it is taken, or the node has no greater one.
-use Rattle.std.proofs.Common.{◌≡◌, ◌<◌, ◌≤◌, ◌+◌, ◌*◌, ◌^◌, ◌∙◌, ◌⊎◌, ℕ, cond, List, ◌∷◌, Option, Some, None, length, set, slice_get, inl, inr, refl, sym, ap, subst, arith}
+use Rattle.std.proofs.Common.{◌≡◌, ◌<◌, ◌≤◌, ◌+◌, ◌*◌, ◌^◌, ◌∙◌, ℕ, true, cond, List, [], ◌∷◌, Option, Some, None, length, set, slice_get, inl, inr, refl, sym, ap, subst, arith}
 use Rattle.std.specs.Prelude.{IsPermutation}
 use Rattle.std.specs.Option.{is_some}
 use Rattle.std.specs.declared.cmp.Reverse.{Reverse}
-use Rattle.std.proofs.lemmas.Bool.{cases_eq}
+use Rattle.std.proofs.lemmas.Bool.{cases_eq, eqb-true}
 use Rattle.std.proofs.lemmas.List.{length-set}
 use Rattle.std.proofs.lemmas.List.Sorted.{Contains-permutation, IsPermutation-sym}
 use Rattle.std.proofs.lemmas.List.Sums.{sum_by-set}
 use Rattle.std.proofs.lemmas.Option.{get_or_from_slice_get, same_Some, slice_get_within}
+use Rattle.area_graph.specs.declared.area_types.Arc.{Arc}
 use Rattle.mrt_graph.proofs.ListPlaces.{set_elsewhere, set_there}
-use Rattle.mrt_graph.proofs.Members.{contains_cases, contains_first, contains_later}
+use Rattle.mrt_graph.proofs.Members.{contains_cases, contains_first, contains_later, contains_none}
 use Rattle.primary_alt.specs.declared.backward.Offer.{Offer}
-use Rattle.primary_alt.specs.BackwardSearch.{AreSmall, HasAtMost, IsOffered, Waits, reached, room_of}
+use Rattle.primary_alt.specs.ArcsInto.{AreInto}
+use Rattle.primary_alt.specs.BackwardSearch.{AreSmall, HasAtMost, IsAdded, IsLeafOf, IsOffered, WaitsUnlessLeaf, is_one_from, reached, room_of}
 use Rattle.primary_alt.specs.Distances.{HasDistance}
 
--- a heap gains an offer
-pub record Adds (node distance : ℕ) (heap heap' : List (Reverse Offer)) : Type 0 where
-  pub there : Waits heap' node distance
-  pub kept : (v d : ℕ) → Waits heap v d → Waits heap' v d
-  pub from : (v d : ℕ) → Waits heap' v d → ((v ≡ node) × (d ≡ distance)) ⊎ Waits heap v d
-
-pub adds_of : (offer : Reverse Offer) (heap heap' : List (Reverse Offer)) → IsPermutation (offer ∷ heap) heap' → Adds offer.0.node offer.0.distance heap heap'
-adds_of offer heap heap' p = record {
-  there = Contains-permutation (offer ∷ heap) heap' offer p (contains_first offer heap);
+pub added_by : (arcs : List Arc) (u : ℕ) (offer : Reverse Offer) (heap heap' : List (Reverse Offer)) → IsPermutation (offer ∷ heap) heap'
+    → IsAdded arcs u offer.0.node offer.0.distance heap heap'
+added_by arcs u offer heap heap' p = record {
+  there = inl (Contains-permutation (offer ∷ heap) heap' offer p (contains_first offer heap));
   kept = λ v d has. Contains-permutation (offer ∷ heap) heap' _ p (contains_later offer _ heap has);
-  from = λ v d has. elim (contains_cases offer _ heap (Contains-permutation heap' (offer ∷ heap) _ (IsPermutation-sym (offer ∷ heap) heap' p) has)) [
-    | inl same ↦ inl (ap (λ (r : Reverse Offer). r.0.node) same, ap (λ (r : Reverse Offer). r.0.distance) same)
-    | inr old ↦ inr old
+  only = λ v d has. elim (contains_cases offer _ heap (Contains-permutation heap' (offer ∷ heap) _ (IsPermutation-sym (offer ∷ heap) heap' p) has)) [
+    | inl same ↦ inr (ap (λ (r : Reverse Offer). r.0.node) same)
+    | inr old ↦ inl old
   ];
+}
+
+-- a row of one arc that leaves u
+leaf_by_row : (arcs row : List Arc) (u v : ℕ) → AreInto arcs v row → is_one_from row u ≡ true → IsLeafOf arcs u v
+leaf_by_row arcs [] u v into is = cc
+leaf_by_row arcs (only ∷ []) u v into is = λ arc there to. elim (contains_cases only arc [] (into.all arc there to)) [
+  | inl same ↦ ap (λ (a : Arc). a.tail) same ∙ eqb-true only.tail u is
+  | inr later ↦ absurd (contains_none arc later)
+]
+leaf_by_row arcs (only ∷ other ∷ more) u v into is = cc
+
+pub added_none : (arcs row : List Arc) (u v distance : ℕ) (heap : List (Reverse Offer)) → AreInto arcs v row → is_one_from row u ≡ true
+    → IsAdded arcs u v distance heap heap
+added_none arcs row u v distance heap into is = record {
+  there = inr (leaf_by_row arcs row u v into is);
+  kept = λ w d waits. waits;
+  only = λ w d waits. inl waits;
 }
 
 -- a distance of a node is what stands there
@@ -45,10 +59,10 @@ reached_after known node distance old at =
     ∙ sum_by-set one_if_some known node (Some distance) None (slice_get_within known node old at)
 
 -- the node has a distance that is no greater
-pub offer_left : (node distance : ℕ) (known : List (Option ℕ)) (heap : List (Reverse Offer)) (old : Option ℕ) → slice_get known node ≡ Some old
-    → distance < 2 ^ 32 → room_of old ≤ distance → IsOffered node distance known known heap heap
-offer_left node distance known heap None at small upto = absurd (omega (arith, small, upto))
-offer_left node distance known heap (Some least) at small upto = record {
+pub offer_left : (arcs : List Arc) (u node distance : ℕ) (known : List (Option ℕ)) (heap : List (Reverse Offer)) (old : Option ℕ) → slice_get known node ≡ Some old
+    → distance < 2 ^ 32 → room_of old ≤ distance → IsOffered arcs u node distance known known heap heap
+offer_left arcs u node distance known heap None at small upto = absurd (omega (arith, small, upto))
+offer_left arcs u node distance known heap (Some least) at small upto = record {
   one_each = refl;
   taken = record { least = least; there = at; upto = upto };
   lower = λ v d has. has;
@@ -101,9 +115,10 @@ at_most_one : (o : Option ℕ) → one_if_some o ≤ 1
 at_most_one None = omega arith
 at_most_one (Some d) = omega arith
 
-pub offer_taken : (node distance : ℕ) (known : List (Option ℕ)) (heap heap' : List (Reverse Offer)) (old : Option ℕ) → slice_get known node ≡ Some old
-    → distance < room_of old → Adds node distance heap heap' → IsOffered node distance known (after known node distance) heap heap'
-offer_taken node distance known heap heap' old at nearer adds =
+pub offer_taken : (arcs : List Arc) (u node distance : ℕ) (known : List (Option ℕ)) (heap heap' : List (Reverse Offer)) (old : Option ℕ)
+    → slice_get known node ≡ Some old → distance < room_of old → IsAdded arcs u node distance heap heap'
+    → IsOffered arcs u node distance known (after known node distance) heap heap'
+offer_taken arcs u node distance known heap heap' old at nearer added =
     let within = slice_get_within known node old at in
     let more : reached known ≤ reached (after known node distance) = omega (arith, reached_after known node distance old at, at_most_one old) in
     record {
@@ -113,11 +128,11 @@ offer_taken node distance known heap heap' old at nearer adds =
       from = λ v d has. elim (cases_eq v node) [
         | inl here ↦
             let same : d ≡ distance = stands known node distance v d here within has in
-            inr (here, same, subst (λ (x : ℕ). Waits heap' x d) (sym here) (subst (λ (x : ℕ). Waits heap' node x) (sym same) adds.there))
+            inr (here, same, subst (λ (x : ℕ). WaitsUnlessLeaf arcs u heap' x d) (sym here) (subst (λ (x : ℕ). WaitsUnlessLeaf arcs u heap' node x) (sym same) added.there))
         | inr other ↦ inl (sym (set_elsewhere known node v (Some distance) other) ∙ has)
       ];
-      kept = adds.kept;
-      only = λ v d waits. elim (adds.from v d waits) [ inl new ↦ inr new.0 | inr old ↦ inl old ];
+      kept = added.kept;
+      only = added.only;
       more = more;
       small = taken_small known node distance old at nearer more;
     }

@@ -6,11 +6,11 @@ use Rattle.std.proofs.lemmas.Option.{same_Some}
 use Rattle.area_graph.specs.declared.area_types.Arc.{Arc}
 use Rattle.mrt_graph.proofs.ListPlaces.{contains_at}
 use Rattle.primary_alt.specs.declared.backward.Offer.{Offer}
-use Rattle.primary_alt.specs.BackwardSearch.{AreSmall, HasAtMost, IsOffered, IsRelaxed, reached}
+use Rattle.primary_alt.specs.BackwardSearch.{AreSmall, HasAtMost, IsOffered, IsRelaxed, Waits, WaitsUnlessLeaf, reached}
 
-pub relaxed_none : (row : List Arc) (distance : ℕ) (known : List (Option ℕ)) (heap : List (Reverse Offer)) → AreSmall known
-    → IsRelaxed row 0 distance known known heap heap
-relaxed_none row distance known heap small = record {
+pub relaxed_none : (arcs row : List Arc) (u distance : ℕ) (known : List (Option ℕ)) (heap : List (Reverse Offer)) → AreSmall known
+    → IsRelaxed arcs row u 0 distance known known heap heap
+relaxed_none arcs row u distance known heap small = record {
   one_each = refl;
   taken = λ j arc early at. absurd (omega (arith, early));
   lower = λ v d has. has;
@@ -25,11 +25,16 @@ relaxed_none row distance known heap small = record {
 summed : (known : List (Option ℕ)) (v a b : ℕ) → HasAtMost known v (a + b) → HasAtMost known v (b + a)
 summed known v a b has = record { least = has.least; there = has.there; upto = omega (arith, has.upto) }
 
-pub relaxed_more : (row : List Arc) (k distance : ℕ) (arc : Arc) (before mid after : List (Option ℕ)) (heap heap' heap'' : List (Reverse Offer))
+-- what waits, or is a leaf's, stays so
+still : (arcs : List Arc) (u v d : ℕ) (heap heap' : List (Reverse Offer)) → ((w e : ℕ) → Waits heap w e → Waits heap' w e) → WaitsUnlessLeaf arcs u heap v d
+    → WaitsUnlessLeaf arcs u heap' v d
+still arcs u v d heap heap' kept new = elim new [ inl waits ↦ inl (kept v d waits) | inr leaf ↦ inr leaf ]
+
+pub relaxed_more : (arcs row : List Arc) (u k distance : ℕ) (arc : Arc) (before mid after : List (Option ℕ)) (heap heap' heap'' : List (Reverse Offer))
     → slice_get row k ≡ Some arc → arc.tail < length before → arc.metric < 65536 → distance + 65535 ≤ 65535 * reached before
-    → IsRelaxed row k distance before mid heap heap' → IsOffered arc.tail (distance + arc.metric) mid after heap' heap''
-    → IsRelaxed row (k + 1) distance before after heap heap''
-relaxed_more row k distance arc before mid after heap heap' heap'' at within metric near first then = record {
+    → IsRelaxed arcs row u k distance before mid heap heap' → IsOffered arcs u arc.tail (distance + arc.metric) mid after heap' heap''
+    → IsRelaxed arcs row u (k + 1) distance before after heap heap''
+relaxed_more arcs row u k distance arc before mid after heap heap' heap'' at within metric near first then = record {
   one_each = then.one_each ∙ first.one_each;
   taken = λ j other early there. elim (cases_lt j k) [
     | inl low ↦ then.lower other.tail _ (first.taken j other low there)
@@ -42,7 +47,7 @@ relaxed_more row k distance arc before mid after heap heap' heap'' at within met
   from = λ v d has. elim (then.from v d has) [
     | inl old ↦ elim (first.from v d old) [
       | inl older ↦ inl older
-      | inr new ↦ inr (new.0, new.1, new.2, new.3, then.kept v d new.4)
+      | inr new ↦ inr (new.0, new.1, new.2, new.3, still arcs u v d heap' heap'' then.kept new.4)
     ]
     | inr new ↦ inr (arc, contains_at row k arc at, new.0, omega (arith, new.1), new.2)
   ];

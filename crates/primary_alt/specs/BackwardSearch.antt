@@ -1,5 +1,5 @@
 -- The search for distances to one node, backwards along the arcs.
-use Rattle.std.specs.Prelude.{◌≡◌, ◌<◌, ◌≤◌, ◌+◌, ◌*◌, ◌^◌, ◌⊎◌, ℕ, List, Option, Some, None, Contains, length, slice_get, count_by, sum_by}
+use Rattle.std.specs.Prelude.{◌≡◌, ◌<◌, ◌≤◌, ◌+◌, ◌*◌, ◌^◌, ◌⊎◌, ◌==◌, ℕ, Bool, false, List, [], ◌∷◌, Option, Some, None, Contains, length, slice_get, count_by, sum_by}
 use Rattle.std.specs.Option.{is_some}
 use Rattle.std.specs.declared.cmp.Reverse.{Reverse}
 use Rattle.area_graph.specs.declared.area_types.Arc.{Arc}
@@ -34,26 +34,48 @@ room_of (Some distance) = distance
 abbrev pub left : List (Option ℕ) → ℕ → ℕ
 left known waiting = 2 * sum_by room_of known + waiting
 
--- an offer of a distance to a node: it has at most this distance, and what is new is this offer, which waits
-pub record IsOffered (node distance : ℕ) (before after : List (Option ℕ)) (heap heap' : List (Reverse Offer)) : Type 0
-  where
-    pub one_each : length after ≡ length before
-    pub taken : HasAtMost after node distance
-    pub lower : (v d : ℕ) → HasAtMost before v d → HasAtMost after v d
-    pub from : (v d : ℕ) → HasDistance after v d → HasDistance before v d ⊎ ((v ≡ node) × (d ≡ distance) × Waits heap' v d)
-    pub kept : (v d : ℕ) → Waits heap v d → Waits heap' v d
-    pub only : (v d : ℕ) → Waits heap' v d → Waits heap v d ⊎ (v ≡ node)
-    pub more : reached before ≤ reached after
-    pub small : AreSmall before → distance ≤ 65535 * reached before → AreSmall after
+-- these arcs are one alone, which leaves that node
+abbrev pub is_one_from : List Arc → ℕ → Bool
+is_one_from [] u = false
+is_one_from (arc ∷ []) u = arc.tail == u
+is_one_from (arc ∷ other ∷ more) u = false
 
--- offers over the first so many of a node's arcs: each tail has at most the metric and the node's distance, and what is
--- new is such an offer, which waits
-pub record IsRelaxed (row : List Arc) (count distance : ℕ) (before after : List (Option ℕ)) (heap heap' : List (Reverse Offer))
+-- node v is a leaf of u: each arc to v leaves u
+abbrev pub IsLeafOf : List Arc → ℕ → ℕ → Type 0
+IsLeafOf arcs u v = (arc : Arc) → Contains arcs arc → arc.to ≡ v → arc.tail ≡ u
+
+-- the offer of this distance to node v waits; it need not where v is a leaf of u
+abbrev pub WaitsUnlessLeaf : List Arc → ℕ → List (Reverse Offer) → ℕ → ℕ → Type 0
+WaitsUnlessLeaf arcs u heap v distance = Waits heap v distance ⊎ IsLeafOf arcs u v
+
+-- an offer of u to a node, among those that wait: it waits, or need not, and no other one is new
+pub record IsAdded (arcs : List Arc) (u node distance : ℕ) (heap heap' : List (Reverse Offer)) : Type 0 where
+  pub there : WaitsUnlessLeaf arcs u heap' node distance
+  pub kept : (v d : ℕ) → Waits heap v d → Waits heap' v d
+  pub only : (v d : ℕ) → Waits heap' v d → Waits heap v d ⊎ (v ≡ node)
+
+-- an offer of u to a node: it has at most this distance, and what is new is this offer, which waits or need not
+pub record IsOffered (arcs : List Arc) (u node distance : ℕ) (before after : List (Option ℕ)) (heap heap' : List (Reverse Offer))
     : Type 0 where
+  pub one_each : length after ≡ length before
+  pub taken : HasAtMost after node distance
+  pub lower : (v d : ℕ) → HasAtMost before v d → HasAtMost after v d
+  pub from : (v d : ℕ) → HasDistance after v d
+      → HasDistance before v d ⊎ ((v ≡ node) × (d ≡ distance) × WaitsUnlessLeaf arcs u heap' v d)
+  pub kept : (v d : ℕ) → Waits heap v d → Waits heap' v d
+  pub only : (v d : ℕ) → Waits heap' v d → Waits heap v d ⊎ (v ≡ node)
+  pub more : reached before ≤ reached after
+  pub small : AreSmall before → distance ≤ 65535 * reached before → AreSmall after
+
+-- offers of u over the first so many of a row of arcs: each tail has at most the metric and the distance of u, and what is
+-- new is such an offer, which waits or need not
+pub record IsRelaxed (arcs row : List Arc) (u count distance : ℕ) (before after : List (Option ℕ))
+    (heap heap' : List (Reverse Offer)) : Type 0 where
   pub one_each : length after ≡ length before
   pub taken : (j : ℕ) (arc : Arc) → j < count → slice_get row j ≡ Some arc → HasAtMost after arc.tail (arc.metric + distance)
   pub lower : (v d : ℕ) → HasAtMost before v d → HasAtMost after v d
-  pub from : (v d : ℕ) → HasDistance after v d → HasDistance before v d ⊎ ((arc : Arc) × Contains row arc × (v ≡ arc.tail) × (d ≡ arc.metric + distance) × Waits heap' v d)
+  pub from : (v d : ℕ) → HasDistance after v d
+      → HasDistance before v d ⊎ ((arc : Arc) × Contains row arc × (v ≡ arc.tail) × (d ≡ arc.metric + distance) × WaitsUnlessLeaf arcs u heap' v d)
   pub kept : (v d : ℕ) → Waits heap v d → Waits heap' v d
   pub only : (v d : ℕ) → Waits heap' v d → Waits heap v d ⊎ (v < length before)
   pub more : reached before ≤ reached after

@@ -3,7 +3,7 @@
 ghost use Rattle.std.specs.BinaryHeap.{heap_items, heap_len};
 ghost use Rattle.std.specs.Prelude.{◌≡◌, ◌<◌, ◌≤◌, ◌+◌, ◌*◌, ◌∷◌, ◌↔◌, ℕ, IsTrue, OnOk, length};
 ghost use Rattle.primary_alt.specs.ArcsInto.{AreFromBelow, AreStartsInto};
-ghost use Rattle.primary_alt.specs.BackwardSearch.{AreSmall, IsOffered, IsRelaxed, IsSearching, left, reached, room_of};
+ghost use Rattle.primary_alt.specs.BackwardSearch.{AreSmall, IsAdded, IsOffered, IsRelaxed, IsSearching, is_one_from, left, reached, room_of};
 ghost use Rattle.primary_alt.specs.Distances.{AreDistances, HasDistance};
 
 use crate::arcs_into::ArcsInto;
@@ -37,7 +37,8 @@ pub fn distances_to(
 {
     forget(known);
     waiting.clear();
-    offer_to(t, 0, known, waiting)?;
+    // what a walk of no arc costs
+    offer_to(into, t, t, 0, known, waiting)?;
     while let Some(Reverse(nearest)) = waiting.pop() {
         settle(into, nearest, known, waiting)?;
     }
@@ -76,7 +77,14 @@ fn settle(
         ≤ left known.old.items (heap_len waiting.old)) }
 {
     if stands(&nearest, known) {
-        relax(into.row(nearest.node), nearest.distance, known, waiting)?;
+        relax(
+            into,
+            into.row(nearest.node),
+            nearest.node,
+            nearest.distance,
+            known,
+            waiting,
+        )?;
     }
     Ok(())
 }
@@ -92,47 +100,93 @@ fn stands(offer: &Offer, known: &[Option<u32>]) -> bool
     }
 }
 
-/// Offers the tail of each arc to a node the arc's metric and the node's distance.
+/// Offers the tail of each arc of a row, those to `u`, the arc's metric and the distance of `u`.
 fn relax(
+    into: &ArcsInto,
     row: &[Arc],
+    u: Spot,
     distance: u32,
     known: &mut Vec<Option<u32>>,
     waiting: &mut BinaryHeap<Reverse<Offer>>,
 ) -> Result<(), NoMemory>
+    requires starts { AreStartsInto into.now.arcs.items into.now.starts.items }
+    requires rows { length into.now.starts.items ≡ length known.old.items + 1 }
     requires tails { AreFromBelow (length known.old.items) row.now }
     requires few { length known.old.items ≤ 4096 }
     requires small { AreSmall known.old.items }
     requires near { distance + 65535 ≤ 65535 * reached known.old.items }
-    ensures relaxed { OnOk result (IsRelaxed row.now (length row.now) distance
+    ensures relaxed { OnOk result (IsRelaxed into.now.arcs.items row.now u (length row.now) distance
         known.old.items known.new.items (heap_items waiting.old) (heap_items waiting.new)) }
     ensures fewer { OnOk result (left known.new.items (heap_len waiting.new)
         ≤ left known.old.items (heap_len waiting.old)) }
 {
     for arc in row {
-        offer_to(arc.tail, distance + arc.metric as u32, known, waiting)?;
+        offer_to(
+            into,
+            u,
+            arc.tail,
+            distance + arc.metric as u32,
+            known,
+            waiting,
+        )?;
     }
     Ok(())
 }
 
-/// Offers a node a distance: it is kept where it is smaller than the known one, and waits to be passed on.
+/// Offers a node a distance over an arc from it to `u`: it is kept where it is smaller than the known one.
 fn offer_to(
+    into: &ArcsInto,
+    u: Spot,
     node: Spot,
     distance: u32,
     known: &mut Vec<Option<u32>>,
     waiting: &mut BinaryHeap<Reverse<Offer>>,
 ) -> Result<(), NoMemory>
+    requires starts { AreStartsInto into.now.arcs.items into.now.starts.items }
+    requires rows { length into.now.starts.items ≡ length known.old.items + 1 }
     requires node { node < length known.old.items }
-    ensures offered { OnOk result (IsOffered node distance
+    ensures offered { OnOk result (IsOffered into.now.arcs.items u node distance
         known.old.items known.new.items (heap_items waiting.old) (heap_items waiting.new)) }
     ensures fewer { OnOk result (left known.new.items (heap_len waiting.new)
         ≤ left known.old.items (heap_len waiting.old)) }
 {
     let at = node.get() as usize;
     if is_nearer(distance, &known[at]) {
-        waiting.push(Reverse(Offer { distance, node }))?;
+        wait(into, u, node, distance, waiting)?;
         known[at] = Some(distance);
     }
     Ok(())
+}
+
+/// Lets an offer of `u` to a node wait to be passed on. Where the one arc that leads to the node leaves `u`, the node
+/// could pass its distance on to `u` alone, which is no farther: there the offer need not wait.
+fn wait(
+    into: &ArcsInto,
+    u: Spot,
+    node: Spot,
+    distance: u32,
+    waiting: &mut BinaryHeap<Reverse<Offer>>,
+) -> Result<(), NoMemory>
+    requires starts { AreStartsInto into.now.arcs.items into.now.starts.items }
+    requires node { node + 1 < length into.now.starts.items }
+    ensures added { OnOk result (IsAdded into.now.arcs.items u node distance
+        (heap_items waiting.old) (heap_items waiting.new)) }
+    ensures one_more { OnOk result (heap_len waiting.new ≤ heap_len waiting.old + 1) }
+{
+    if !is_one_from(into.row(node), u) {
+        waiting.push(Reverse(Offer { distance, node }))?;
+    }
+    Ok(())
+}
+
+/// Whether these arcs are one alone, which leaves `u`.
+fn is_one_from(row: &[Arc], u: Spot) -> bool
+    ensures { result ≡ is_one_from row.now u }
+{
+    match row {
+        [only] => only.tail == u,
+        _ => false,
+    }
 }
 
 /// Whether a distance is smaller than the known one.

@@ -3,24 +3,24 @@ use Rattle.std.specs.BinaryHeap.{heap_items}
 use Rattle.std.proofs.lemmas.Bool.{cases_lt}
 use Rattle.std.proofs.lemmas.Option.{slice_get_read}
 use Rattle.primary_alt.specs.BackwardSearch.{room_of}
-use Rattle.primary_alt.proofs.OfferMade.{adds_of, offer_left, offer_taken}
+use Rattle.primary_alt.proofs.OfferMade.{offer_left, offer_taken}
 use Rattle.primary_alt.proofs.backward.offer_to.Goals as goal
 
 known_before : (known : List (Option ℕ)) (node at : ℕ) (old : Option ℕ) → node < length known → at ≡ node → old ≡ get_or known at old → slice_get known node ≡ Some old
 known_before known node at old within same read =
     slice_get_read known (length known) node old refl within (subst (λ (i : ℕ). old ≡ get_or known i old) same read)
 
-pub returns-in_ok-push-clause-offered : goal.returns-in_ok-push-clause-offered
-returns-in_ok-push-clause-offered c =
+pub returns-in_ok-wait-clause-offered : goal.returns-in_ok-wait-clause-offered
+returns-in_ok-wait-clause-offered c =
     rw c.get-at.ensures.value
-    (offer_taken c.args.node c.args.distance c.args.known.now.items (heap_items c.args.waiting.now) (heap_items c.push.new.self) c.index.result.now
+    (offer_taken c.args.into.now.arcs.items c.args.u c.args.node c.args.distance c.args.known.now.items (heap_items c.args.waiting.now) (heap_items c.wait.new.waiting) c.index.result.now
     (known_before c.args.known.now.items c.args.node c.get-at.result c.index.result.now c.requires.node c.get-at.ensures.value c.index.ensures)
     (c.is_nearer.ensures.0 c.if-is_nearer.true)
-    (adds_of _ (heap_items c.args.waiting.now) (heap_items c.push.new.self) c.in_ok-push.ensures.permutation))
+    c.in_ok-wait.ensures.added)
 
 pub returns-else-is_nearer-clause-offered : goal.returns-else-is_nearer-clause-offered
 returns-else-is_nearer-clause-offered c =
-    offer_left c.args.node c.args.distance c.args.known.now.items (heap_items c.args.waiting.now) c.index.result.now
+    offer_left c.args.into.now.arcs.items c.args.u c.args.node c.args.distance c.args.known.now.items (heap_items c.args.waiting.now) c.index.result.now
     (known_before c.args.known.now.items c.args.node c.get-at.result c.index.result.now c.requires.node c.get-at.ensures.value c.index.ensures)
     (omega arith)
     (elim (cases_lt c.args.distance (room_of c.index.result.now)) [
