@@ -11,7 +11,6 @@ use Rattle.mrt_graph.specs.declared.node_id.Kind.{Kind}
 use Rattle.mrt_graph.specs.declared.node_id.Kind.TheVariants.{Network, Router}
 use Rattle.mrt_graph.specs.declared.node_id.NodeId.{NodeId}
 use Rattle.mrt_graph.specs.GraphInvariant.{IsNetwork}
-use Rattle.mrt_graph.proofs.ListPlaces.{contains_at}
 use Rattle.mrt_graph.proofs.Members.{all_has, has_at, has_from_contains}
 use Rattle.primary_alt.specs.ArcWalk.{ArcWalk, cost_of}
 use Rattle.primary_alt.specs.Distance.{IsDistance}
@@ -25,11 +24,6 @@ arc_onward arcs (a ∷ more) s u arc w there tail = (w.0, w.1, arc_onward arcs m
 pub cost_onward : (walk : List Arc) (arc : Arc) → cost_of (walk ++ arc ∷ []) ≡ cost_of walk + arc.metric
 cost_onward [] arc = omega arith
 cost_onward (a ∷ more) arc = omega (arith, cost_onward more arc)
-
--- a walk from an arc on, as one from the arc's tail
-pub walk_from_arc : (arcs : List Arc) (k : ℕ) (arc : Arc) (s t : ℕ) (walk : List Arc) → slice_get arcs k ≡ Some arc → arc.tail ≡ s → ArcWalk arcs arc.to walk t
-    → ArcWalk arcs s (arc ∷ walk) t
-walk_from_arc arcs k arc s t walk there tail w = (contains_at arcs k arc there, tail, w)
 
 -- there is one distance
 pub one_distance : (arcs : List Arc) (s t d d' : ℕ) → IsDistance arcs s t d → IsDistance arcs s t d' → d ≡ d'
