@@ -1,11 +1,13 @@
 -- Routes of an area and of an island of it.
 use Rattle.std.specs.Prelude.{◌≡◌, ◌<◌, ℕ, List, Option, Some, None, Contains, length, slice_get}
+use Rattle.area_graph.specs.declared.area_types.Arc.{Arc}
 use Rattle.area_graph.specs.Fits.{Fits}
 use Rattle.area_graph.specs.Parts.{AreaParts}
 use Rattle.mrt_graph.specs.GraphInvariant.{IsNetwork}
 use Rattle.mrt_graph.specs.Topology.{Topology}
 use Rattle.mrt_graph.specs.declared.node_id.NodeId.{NodeId}
 use Rattle.primary_alt.specs.declared.shortest.Primary.{Primary}
+use Rattle.primary_alt.specs.ArcWalk.{ArcWalk}
 use Rattle.primary_alt.specs.Primaries.{IsPrimary}
 use Rattle.primary_alt.specs.RouteLists.{HasColumn, RouteLists, primary_at}
 use Rattle.primary_alt.specs.Routers.{IsRouter}
@@ -54,3 +56,10 @@ pub record AreMade (area : AreaParts) (graph : Topology) (routes : RouteLists) :
 pub record AreMadeWith (area : AreaParts) (graph : Topology) (routes : RouteLists) : Type 0 where
   pub made : AreMade area graph routes
   pub all : (t : ℕ) → t < length area.ids → HasColumn routes t
+
+-- why routes have no primary of x for t: x is t; x is a network; no walk leads there; there is no column for t
+pub data HasNoPrimary (area : AreaParts) (routes : RouteLists) (x t : ℕ) : Type 0 where
+  IsThere : x ≡ t → HasNoPrimary area routes x t
+  AtNetwork : IsNetwork area.ids x → HasNoPrimary area routes x t
+  NoWay : ((walk : List Arc) → ¬ ArcWalk area.arcs x walk t) → HasNoPrimary area routes x t
+  NoColumn : ¬ HasColumn routes t → HasNoPrimary area routes x t

@@ -48,10 +48,12 @@ impl Model for Routes {
 }
 
 impl Routes {
-    ghost use Rattle.std.specs.Prelude.{◌≡◌, ◌<◌, ◌↔◌, ℕ, Contains, IfOk, Some, length, slice_get};
+    ghost use Rattle.std.specs.Prelude.{◌≡◌, ◌<◌, ◌↔◌, ℕ, Contains, IfOk, IsNone, Some, length, slice_get};
     ghost use Rattle.area_graph.specs.Fits.{Fits};
+    ghost use Rattle.area_graph.specs.Parts.{AreaParts};
+    ghost use Rattle.mrt_graph.specs.Topology.{Topology};
     ghost use Rattle.primary_alt.specs.RouteLists.{HasColumn, primary_at};
-    ghost use Rattle.primary_alt.specs.RoutesMade.{AreMade, AreMadeWith};
+    ghost use Rattle.primary_alt.specs.RoutesMade.{AreMade, AreMadeWith, HasNoPrimary};
 
     /// The routes of an area and of a graph that fits it, for all nodes of the area; `link_of` has of each bond the link
     /// that it is.
@@ -117,7 +119,9 @@ impl Routes {
     pub fn primary(&self, x: Spot, t: Spot) -> Option<Primary>
         requires from { x < length self.now.primaries }
         requires to { t < length self.now.primaries }
-        ensures { result ≡ primary_at self.now x t }
+        ensures primary { result ≡ primary_at self.now x t }
+        ensures none { (area : AreaParts) (graph : Topology) → AreMade area graph self.now
+            → (IsNone result ↔ HasNoPrimary area self.now x t) }
     {
         match &self.columns[t.get() as usize] {
             Some(column) => primary_by(&self.networks, &self.leads, column, x, t),

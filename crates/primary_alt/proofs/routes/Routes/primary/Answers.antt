@@ -6,6 +6,7 @@ use Rattle.primary_alt.specs.declared.shortest.Primary.{Primary}
 use Rattle.primary_alt.specs.FirstArcs.{IsFirstColumn, IsTable, columns_of, primary_by}
 use Rattle.primary_alt.specs.RouteLists.{RouteLists, primary_at}
 use Rattle.primary_alt.proofs.ColumnsRead.{many_columns, primary_seen}
+use Rattle.primary_alt.proofs.RoutesGiven.{none_exactly}
 use Rattle.primary_alt.proofs.routes.Routes.primary.Goals as goal
 
 -- what was read at the place of t
@@ -81,10 +82,12 @@ returns-in-Some c =
     let from = within networks leads columns c.args.self.now c.args.x told c.requires.from in
     let to = within networks leads columns c.args.self.now c.args.t told c.requires.to in
     let at = column_read columns c.args.t c.get.result c.index.result.now (Some column) c.get.ensures.value (omega (arith, to, c.self.invariant.a_place_each)) c.index.ensures c.in-Some.is in
+    let is : c.primary_by.result ≡ primary_at c.args.self.now c.args.x c.args.t =
     c.primary_by.ensures
     ∙ ap (λ (xs : List Bool). primary_by xs c.deref-in-Some.result.now column c.args.x c.args.t) c.deref.ensures.value
     ∙ ap (λ (xs : List ℕ). primary_by networks xs column c.args.x c.args.t) c.deref-in-Some.ensures.value
-    ∙ seen_by networks leads columns c.args.self.now c.args.x c.args.t (Some column) told from to at
+    ∙ seen_by networks leads columns c.args.self.now c.args.x c.args.t (Some column) told from to at in
+    record { primary = is; none = λ area graph made. none_exactly area c.args.self.now made.primaries c.args.x c.args.t c.primary_by.result is c.requires.from }
 
 pub returns-in-None : goal.returns-in-None
 returns-in-None c =
@@ -96,4 +99,5 @@ returns-in-None c =
     let from = within networks leads columns c.args.self.now c.args.x told c.requires.from in
     let to = within networks leads columns c.args.self.now c.args.t told c.requires.to in
     let at = column_read columns c.args.t c.get.result c.index.result.now None c.get.ensures.value (omega (arith, to, c.self.invariant.a_place_each)) c.index.ensures c.in-None.is in
-    seen_by networks leads columns c.args.self.now c.args.x c.args.t None told from to at
+    let is : None ≡ primary_at c.args.self.now c.args.x c.args.t = seen_by networks leads columns c.args.self.now c.args.x c.args.t None told from to at in
+    record { primary = is; none = λ area graph made. none_exactly area c.args.self.now made.primaries c.args.x c.args.t None is c.requires.from }
