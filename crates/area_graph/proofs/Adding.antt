@@ -62,17 +62,16 @@ first_by_number : (ids : List NodeId) (tail : ℕ) (o : Option Entry) (rest : Li
 first_by_number ids tail None rest = refl
 first_by_number ids tail (Some entry) rest = first_is (numbered_entry ids tail entry) (by_number ids tail rest)
 
-pub links_more : (ids : List NodeId) (tail : ℕ) (own : NodeId) (place : ℕ) (links : List RouterLink) (link : RouterLink) (old new whole : List NumberedEntry) → place < length links
-    → link ≡ get_or links place link → new ≡ old ++ option_to_list (option_and_then (numbered_entry ids tail) (entry_of_link own place link))
+pub links_more : (ids : List NodeId) (tail : ℕ) (own : NodeId) (place : ℕ) (links : List RouterLink) (d : RouterLink) (old new whole : List NumberedEntry) → place < length links
+    → new ≡ old ++ option_to_list (option_and_then (numbered_entry ids tail) (entry_of_link own place (get_or links place d)))
     → old ++ by_number ids tail (entries_of_links own place (drop place links)) ≡ whole
     → new ++ by_number ids tail (entries_of_links own (place + 1) (drop (place + 1) links)) ≡ whole
-links_more ids tail own place links link old new whole within is added all =
-    let one = entry_of_link own place link in
+links_more ids tail own place links d old new whole within added all =
+    let one = entry_of_link own place (get_or links place d) in
     let rest = entries_of_links own (place + 1) (drop (place + 1) links) in
     joined old new (option_to_list (option_and_then (numbered_entry ids tail) one)) (by_number ids tail rest) whole added
     (ap (λ (xs : List NumberedEntry). old ++ xs) (sym (first_by_number ids tail one rest))
-    ∙ ap (λ (l : RouterLink). old ++ by_number ids tail (entries_of_links own place (l ∷ drop (place + 1) links))) is
-    ∙ ap (λ (ls : List RouterLink). old ++ by_number ids tail (entries_of_links own place ls)) (sym (drop_more links place link within)) ∙ all)
+    ∙ ap (λ (ls : List RouterLink). old ++ by_number ids tail (entries_of_links own place ls)) (sym (drop_more links place d within)) ∙ all)
 
 pub listed_more : (ids : List NodeId) (tail : ℕ) (own : NodeId) (place : ℕ) (routers : List ℕ) (old new whole : List NumberedEntry) → place < length routers
     → new ≡ old ++ option_to_list (numbered_entry ids tail (entry_of_listed own place (get_or routers place 0)))

@@ -109,7 +109,7 @@ routers_listed own place (listed ∷ others) = (
 
 body_listed : (lsa : Lsa) (body : Body) → (lsa.kind ≡ 1) ⊎ (lsa.kind ≡ 2) → IsOfType lsa.kind body → KeepsMetrics body
     → AllByRecursion (IsListed (node_of lsa)) (entries_of (node_of lsa) body)
-body_listed lsa (Router flags spare links) type kind metrics =
+body_listed lsa (Router flags spare links tos) type kind metrics =
     subst (λ (own : NodeId). AllByRecursion (IsListed own) (entries_of_links own 0 links)) (sym (of_router lsa kind)) (links_listed lsa.id 0 links metrics)
 body_listed lsa (Network mask routers) type kind metrics =
     subst (λ (own : NodeId). AllByRecursion (IsListed own) (entries_of_listed own 0 routers)) (sym (of_network lsa kind)) (routers_listed lsa.id 0 routers)
@@ -199,7 +199,7 @@ routers_rise own place (listed ∷ others) = (omega arith, routers_rise own (pla
 
 body_rises : (own : NodeId) (body : Body) → Rising 0 (entries_of own body)
 unfolding Rising
-body_rises own (Router flags spare links) = links_rise own 0 links
+body_rises own (Router flags spare links tos) = links_rise own 0 links
 body_rises own (Network mask routers) = routers_rise own 0 routers
 body_rises own (Other bytes) = tt
 

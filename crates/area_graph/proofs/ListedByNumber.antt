@@ -41,7 +41,7 @@ listed_from own place [] = tt
 listed_from own place (listed ∷ others) = (refl, listed_from own (place + 1) others)
 
 body_from : (own : NodeId) (body : Body) → AllByRecursion (λ e. e.from ≡ own) (entries_of own body)
-body_from own (Router flags spare links) = links_from own 0 links
+body_from own (Router flags spare links tos) = links_from own 0 links
 body_from own (Network mask routers) = listed_from own 0 routers
 body_from own (Other bytes) = tt
 

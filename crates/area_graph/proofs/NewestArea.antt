@@ -6,7 +6,6 @@ use Rattle.std.specs.declared.cmp.Ordering.TheVariants.{Less}
 use Rattle.std.proofs.lemmas.Cmp.{on_total}
 use Rattle.mrt_graph.specs.InOrder.{in_order}
 use Rattle.mrt_graph.specs.NodeOrder.{node_id_cmp}
-use Rattle.mrt_graph.specs.declared.node_id.NodeId.{NodeId}
 use Rattle.mrt_graph.proofs.InOrder.{in_order_moves, in_order_sorted}
 use Rattle.mrt_graph.proofs.Members.{all_from_has, all_has}
 use Rattle.mrt_graph.proofs.NodeIds.{node_id_total}

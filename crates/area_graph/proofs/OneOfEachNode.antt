@@ -1,6 +1,6 @@
 -- Speakers that are sorted by node, and of one node by the greatest advertising router first, are those that speak,
 -- once the later ones of each node are left out.
-use Rattle.std.proofs.Common.{◌≡◌, ◌∙◌, ◌<◌, ◌&&◌, ◌==◌, ℕ, Bool, true, false, not, cond, ltb, List, [], ◌∷◌, ◌⊎◌, length, get_or, map, refl, sym, ap, subst, inl, inr, arith}
+use Rattle.std.proofs.Common.{◌≡◌, ◌∙◌, ◌<◌, ◌&&◌, ◌==◌, ℕ, Bool, true, false, not, cond, ltb, List, [], ◌∷◌, length, get_or, map, refl, sym, ap, subst, inl, inr, arith}
 use Rattle.std.specs.declared.cmp.Ordering.{Ordering}
 use Rattle.std.specs.declared.cmp.Ordering.TheVariants.{Less, Equal, Greater}
 use Rattle.std.specs.List.{AllByRecursion, AllPairs, AllZip, IsDistinct, filter, dedup}

@@ -49,7 +49,7 @@ entries_of_listed from place (listed ∷ others) =
 
 -- the entries of a node's LSA
 abbrev pub entries_of : NodeId → Body → List Entry
-entries_of from (Router flags spare links) = entries_of_links from 0 links
+entries_of from (Router flags spare links tos) = entries_of_links from 0 links
 entries_of from (Network mask routers) = entries_of_listed from 0 routers
 entries_of from (Other bytes) = []
 

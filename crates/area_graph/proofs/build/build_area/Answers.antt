@@ -3,7 +3,7 @@ use Rattle.std.specs.Prelude.{IfOk}
 use Rattle.ospf_lsa.specs.declared.lsa.Lsa.{Lsa}
 use Rattle.lsdb.specs.Entries.{Entry as DatabaseEntry}
 use Rattle.area_graph.specs.AreaOf.{area_of}
-use Rattle.area_graph.specs.AreaSize.{IsTooLarge, TellsTooLarge}
+use Rattle.area_graph.specs.AreaSize.{TellsTooLarge}
 use Rattle.area_graph.specs.NumberedArcs.{arcs_among}
 use Rattle.area_graph.specs.NumberedEntries.{entries}
 use Rattle.area_graph.specs.Nodes.{nodes}
