@@ -16,5 +16,6 @@ pub mod Marked
 pub mod OneSurvey
 pub mod Rounds
 pub mod SeparatingHeads
+pub mod SurveyExists
 pub mod TextSize
 pub mod WalkTrails

@@ -1,13 +1,16 @@
 //! That there is one survey.
 
 ghost use Rattle.std.specs.Prelude.{◌≡◌, ℕ, List};
+ghost use Rattle.mrt_graph.specs.AcceptedFor.{IsAcceptedAt};
 ghost use Rattle.mrt_graph.specs.Certificate.{Certificate};
 ghost use Rattle.mrt_graph.specs.Topology.{Topology};
 ghost use Rattle.mrt_survey.specs.SurveyText.{IsSurveyText};
 
-/// A law: a graph and its certificate have one survey, for one root and one number.
+/// Laws: a graph and a certificate that is accepted for it have exactly one survey, for one root and one number.
 pub fn one_survey_each()
-    ensures { (number : ℕ) (g : Topology) (root : ℕ) (c : Certificate) (text other : List ℕ)
+    ensures some { (number : ℕ) (g : Topology) (root : ℕ) (c : Certificate) → IsAcceptedAt g root c
+        → (text : List ℕ) × IsSurveyText number g root c text }
+    ensures one { (number : ℕ) (g : Topology) (root : ℕ) (c : Certificate) (text other : List ℕ)
         → IsSurveyText number g root c text → IsSurveyText number g root c other
         → text ≡ other }
 {}
