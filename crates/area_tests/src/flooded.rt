@@ -1,6 +1,6 @@
 //! Packets that reach routers by a script.
 
-use crate::update_files::{OLDER_FIRST, PACKETS};
+use crate::update_files::{LAN_PACKETS, OLDER_FIRST, PACKETS};
 use area_graph::build_area;
 use file_key::FileKey;
 use flood_core::{SharedLsdb, read_updates};
@@ -63,46 +63,60 @@ fn gives(alloc: Global, packets: &[u8], script: &[u8], wanted: &[u8]) -> bool {
     }
 }
 
-/// Scripts over the packets of a triangle, and their texts.
-fn runs() -> &'static [(&'static [u8], &'static [u8])] {
-    &[
-        (
-            b"routers 2\ndeliver 0 0\ndeliver 0 0\ndeliver 2 1\nsame 0 1 3.3.3.3\nsame 0 1 1.1.1.1\ndeliver 1 1\ndeliver 3 1\nsame 0 1 1.1.1.1\ndeliver 9 0\ndeliver 0 5\n",
-            b"changed 3 sent 3\nchanged 0\nchanged 2 sent 4\ndifferent\nnone\nchanged 1 sent 5\nchanged 0\nsame\nrefused no-such-packet\nrefused no-such-router\n",
-        ),
-        // another order, and what was sent on in turn
-        (
-            b"routers 3\ndeliver 2 0\ndeliver 1 0\ndeliver 4 1\ndeliver 3 1\ndeliver 0 2\nsame 0 1 2.2.2.2\nsame 1 2 2.2.2.2\n",
-            b"changed 2 sent 3\nchanged 1 sent 4\nchanged 1 sent 5\nchanged 2 sent 6\nchanged 3 sent 7\nsame\nsame\n",
-        ),
-        // of both numbers that are not there the packet's is told
-        (b"routers 1\ndeliver 3 1\n", b"refused no-such-packet\n"),
-        (b"routers 1\n", b""),
-    ]
+/// Packets, a script over them, and its text.
+struct Run {
+    packets: &'static [u8],
+    script: &'static [u8],
+    text: &'static [u8],
+}
+
+const RUNS: &[Run] = &[
+    Run {
+        packets: &PACKETS,
+        script: b"routers 2\ndeliver 0 0\ndeliver 0 0\ndeliver 2 1\nsame 0 1 3.3.3.3\nsame 0 1 1.1.1.1\ndeliver 1 1\ndeliver 3 1\nsame 0 1 1.1.1.1\ndeliver 9 0\ndeliver 0 5\n",
+        text: b"changed 3 sent 3\nchanged 0\nchanged 2 sent 4\ndifferent\nnone\nchanged 1 sent 5\nchanged 0\nsame\nrefused no-such-packet\nrefused no-such-router\n",
+    },
+    // another order, and what was sent on in turn
+    Run {
+        packets: &PACKETS,
+        script: b"routers 3\ndeliver 2 0\ndeliver 1 0\ndeliver 4 1\ndeliver 3 1\ndeliver 0 2\nsame 0 1 2.2.2.2\nsame 1 2 2.2.2.2\n",
+        text: b"changed 2 sent 3\nchanged 1 sent 4\nchanged 1 sent 5\nchanged 2 sent 6\nchanged 3 sent 7\nsame\nsame\n",
+    },
+    // of both numbers that are not there the packet's is told
+    Run {
+        packets: &PACKETS,
+        script: b"routers 1\ndeliver 3 1\n",
+        text: b"refused no-such-packet\n",
+    },
+    Run {
+        packets: &PACKETS,
+        script: b"routers 1\n",
+        text: b"",
+    },
+    // what is new beside an older instance is sent on alone; what a router had before is not
+    Run {
+        packets: &OLDER_FIRST,
+        script: b"routers 2\ndeliver 0 0\ndeliver 1 0\ndeliver 3 1\ndeliver 1 1\ndeliver 5 0\ndeliver 0 1\n",
+        text: b"changed 1 sent 2\nchanged 1 sent 3\nchanged 1 sent 4\nchanged 1 sent 5\nchanged 0\nchanged 1 sent 6\n",
+    },
+    // a network-LSA and entries for types of service; LSAs of other types are passed over
+    Run {
+        packets: LAN_PACKETS,
+        script: b"routers 2\ndeliver 0 0\nsame 0 0 3.3.3.3\ndeliver 1 1\nsame 0 1 4.4.4.4\ndeliver 2 1\ndeliver 3 1\nsame 0 1 1.1.1.1\ndeliver 5 0\n",
+        text: b"changed 5 sent 3\nsame\nchanged 2 sent 4\ndifferent\nchanged 3 sent 5\nchanged 0\nsame\nchanged 0\n",
+    },
+];
+
+fn runs() -> &'static [Run] {
+    RUNS
 }
 
 #[test]
 fn scripts_have_their_texts(rt: HostRuntime) {
-    for (script, wanted) in runs() {
-        assert!(rt; gives(rt.alloc(), PACKETS.as_slice(), script, wanted));
+    for (place, run) in runs().iter().enumerate() {
+        let is_so = gives(rt.alloc(), run.packets, run.script, run.text);
+        assert!(rt; is_so, "run {place}");
     }
-}
-
-/// What is new beside an older instance is sent on alone; what a router had before is not.
-#[test]
-fn what_was_new_is_sent_on_alone(rt: HostRuntime) {
-    let script =
-        b"routers 2\ndeliver 0 0\ndeliver 1 0\ndeliver 3 1\ndeliver 1 1\ndeliver 5 0\ndeliver 0 1\n";
-    let wanted =
-        b"changed 1 sent 2\nchanged 1 sent 3\nchanged 1 sent 4\nchanged 1 sent 5\nchanged 0\nchanged 1 sent 6\n";
-    assert!(rt;
-        gives(
-            rt.alloc(),
-            OLDER_FIRST.as_slice(),
-            script.as_slice(),
-            wanted.as_slice()
-        )
-    );
 }
 
 /// Scripts, and the first line of each that is not as it should be.

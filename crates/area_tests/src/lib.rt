@@ -2,7 +2,11 @@
 #![tactic(auto)]
 
 #[cfg(test)]
+mod copies;
+#[cfg(test)]
 mod databases;
+#[cfg(test)]
+mod delivering;
 #[cfg(test)]
 mod every_order;
 #[cfg(test)]
