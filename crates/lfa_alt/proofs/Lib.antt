@@ -11,5 +11,6 @@ pub mod Offered
 pub mod OneLfa
 pub mod OneText
 pub mod ShortestWalks
+pub mod TextExists
 pub mod WalksRound
 pub mod WaysFound

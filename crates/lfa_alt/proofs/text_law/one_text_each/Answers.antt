@@ -1,5 +1,9 @@
 use Rattle.lfa_alt.proofs.OneText.{one_text}
+use Rattle.lfa_alt.proofs.TextExists.{some_text}
 use Rattle.lfa_alt.proofs.text_law.one_text_each.Goals as goal
 
-pub returns : goal.returns
-returns c = one_text
+pub returns-clause-some : goal.returns-clause-some
+returns-clause-some c area s kept router = some_text area kept s router
+
+pub returns-clause-one : goal.returns-clause-one
+returns-clause-one c = one_text
