@@ -41,6 +41,7 @@ fn instance(alloc: Global, at: u32, router: u32, sequence: i32) -> Lsa
             flags: 0,
             spare: 0,
             links: Seq::from_vec(Vec::new(alloc)),
+            tos: Seq::from_vec(Vec::new(alloc)),
         },
     }
 }

@@ -1,14 +1,15 @@
 -- The ends of links at a router, and how long their bytes are.
-use Rattle.std.proofs.Common.{◌≡◌, ◌≤◌, ◌<◌, ◌∙◌, ◌+◌, ◌*◌, ◌++◌, ◌==◌, ℕ, suc, true, false, List, [], ◌∷◌, Option, Some, None, length, refl, sym, ap, subst, inl, inr, arith}
-use Rattle.std.specs.List.{AllByRecursion, enumerate_from, filter_map, flat_map}
+use Rattle.std.proofs.Common.{◌≡◌, ◌≤◌, ◌<◌, ◌∙◌, ◌+◌, ◌*◌, ◌==◌, ℕ, suc, true, false, List, [], ◌∷◌, Option, Some, None, length, refl, sym, ap, subst, inl, inr, arith}
+use Rattle.std.specs.List.{AllByRecursion, enumerate_from, filter_map}
 use Rattle.std.proofs.lemmas.Bool.Decides.{eqb_tells}
-use Rattle.std.proofs.lemmas.List.{length-append}
+use Rattle.std.proofs.lemmas.List.Sums.{sum_by-cons}
 use Rattle.std.proofs.lemmas.Option.{same_Some}
 use Rattle.std.proofs.lemmas.List.FromFn.{length-enumerate_from}
 use Rattle.ospf_lsa.specs.declared.lsa.RouterLink.{RouterLink}
-use Rattle.ospf_lsa.specs.LsaText.{link_text, lsa_length}
-use Rattle.ospf_lsa.specs.Written.{HasFewEntries}
-use Rattle.mrt_graph.proofs.Members.{Has, all_filter_map, all_has, all_weaker}
+use Rattle.ospf_lsa.specs.LsaText.{links_text, lsa_length}
+use Rattle.ospf_lsa.specs.Lsas.{AreEntriesOf}
+use Rattle.ospf_lsa.proofs.Links.{length_links}
+use Rattle.mrt_graph.proofs.Members.{Has, all_filter_map, all_has}
 use Rattle.mrt_survey.specs.declared.made_link.MadeLink.{MadeLink}
 use Rattle.mrt_survey.specs.MadeLsas.{end_at, ends_of, link_to, plain_lsa}
 use Rattle.mrt_survey.proofs.MadeBounds.{IsMadeLink}
@@ -61,7 +62,7 @@ pub record IsMadeEnd (nodes most : ℕ) (end : RouterLink) : Type 0 where
   pub kind : end.kind ≡ 1
   pub metric_some : 1 ≤ end.metric
   pub metric_most : end.metric ≤ 64
-  pub no_entries : end.tos ≡ []
+  pub no_entries : end.entries ≡ 0
 
 end_kept : (nodes most router k : ℕ) (link : MadeLink) (end : RouterLink) → k ≤ most → IsMadeLink nodes link → IsEndAt router k link end → IsMadeEnd nodes most end
 end_kept nodes most router k link end few made (AtFirst _) = record {
@@ -104,39 +105,33 @@ ends_kept nodes links router all =
     let n = numbered 1 links x.0 x.1 has in
     end_kept nodes (length links) router x.0 x.1 end (omega (arith, n.1)) (all_has (IsMadeLink nodes) links x.1 all n.2) (end_is router x.0 x.1 end is))
 
--- without TOS entries, twelve bytes each
-pub ends_text : (ends : List RouterLink) → AllByRecursion (λ (end : RouterLink). end.tos ≡ []) ends → length (flat_map link_text ends) ≡ 12 * length ends
-ends_text [] none = refl
-ends_text (end ∷ ends) none =
-    let one : length (link_text end) ≡ 12 = one_text end none.0 in
-    let whole : length (link_text end ++ flat_map link_text ends) ≡ length (link_text end) + length (flat_map link_text ends) =
-    length-append (link_text end) (flat_map link_text ends) in
-    let rest = ends_text ends none.1 in
-    omega (arith, one, whole, rest)
-  where
-    one_text : (end : RouterLink) → end.tos ≡ [] → length (link_text end) ≡ 12
-    one_text end none = rw none refl
-
-bare_end : (router k : ℕ) (link : MadeLink) (end : RouterLink) → IsEndAt router k link end → end.tos ≡ []
+-- without TOS entries
+bare_end : (router k : ℕ) (link : MadeLink) (end : RouterLink) → IsEndAt router k link end → end.entries ≡ 0
 bare_end router k link end (AtFirst _) = refl
 bare_end router k link end (AtSecond _) = refl
 
-pub bare_ends : (links : List MadeLink) (router : ℕ) → AllByRecursion (λ (end : RouterLink). end.tos ≡ []) (ends_of links router)
+none_of_bare : (ends : List RouterLink) → AllByRecursion (λ (end : RouterLink). end.entries ≡ 0) ends → AreEntriesOf ends []
+none_of_bare [] none = refl
+none_of_bare (end ∷ ends) none =
+    let rest = none_of_bare ends none.1 in
+    omega (arith, sum_by-cons (λ (link : RouterLink). link.entries) end ends, none.0, rest)
+
+pub bare_ends : (links : List MadeLink) (router : ℕ) → AreEntriesOf (ends_of links router) []
 bare_ends links router =
-    all_filter_map (λ (end : RouterLink). end.tos ≡ []) (end_at router) (enumerate_from 1 links)
-    (λ x end has is. bare_end router x.0 x.1 end (end_is router x.0 x.1 end is))
+    none_of_bare (ends_of links router)
+    (all_filter_map (λ (end : RouterLink). end.entries ≡ 0) (end_at router) (enumerate_from 1 links)
+    (λ x end has is. bare_end router x.0 x.1 end (end_is router x.0 x.1 end is)))
+
+-- twelve bytes each
+pub ends_text : (links : List MadeLink) (router : ℕ) → length (links_text (ends_of links router) []) ≡ 12 * length (ends_of links router)
+ends_text links router = let text = length_links (ends_of links router) [] (bare_ends links router) in omega (arith, text)
 
 -- the length of a router's LSA
 pub plain_length : (links : List MadeLink) (router : ℕ) → lsa_length (plain_lsa links router) ≡ 24 + 12 * length (ends_of links router)
-plain_length links router = let text = ends_text (ends_of links router) (bare_ends links router) in omega (arith, text)
+plain_length links router = let text = ends_text links router in omega (arith, text)
 
 pub plain_fits : (links : List MadeLink) (router : ℕ) → length links ≤ 4096 → lsa_length (plain_lsa links router) ≤ 65535
 plain_fits links router few =
     let long = plain_length links router in
     let ends = few_ends links router in
     omega (arith, few, long, ends)
-
-pub plain_short : (links : List MadeLink) (router : ℕ) → AllByRecursion HasFewEntries (ends_of links router)
-plain_short links router =
-    all_weaker (λ (end : RouterLink). end.tos ≡ []) HasFewEntries (λ end none. let e : length end.tos ≡ 0 = ap length none in omega (arith, e))
-    (ends_of links router) (bare_ends links router)

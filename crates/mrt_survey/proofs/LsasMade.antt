@@ -16,7 +16,7 @@ use Rattle.mrt_graph.proofs.Members.{all_has, all_map, all_weaker, pass_none}
 use Rattle.mrt_survey.specs.declared.made_link.MadeLink.{MadeLink}
 use Rattle.mrt_survey.specs.MadeLinks.{made_links}
 use Rattle.mrt_survey.specs.MadeLsas.{ends_of, lsa_of, made_lsas, placed, plain_lsa}
-use Rattle.mrt_survey.proofs.EndsMade.{IsMadeEnd, ends_kept, plain_fits}
+use Rattle.mrt_survey.proofs.EndsMade.{IsMadeEnd, bare_ends, ends_kept, plain_fits}
 use Rattle.mrt_survey.proofs.MadeBounds.{IsMadeLink, all_range, count_made, links_kept}
 
 end_fits : (nodes most : ℕ) → nodes < 2 ^ 32 → most < 2 ^ 32 → (end : RouterLink) → IsMadeEnd nodes most end → FitsLink end
@@ -24,9 +24,8 @@ end_fits nodes most few_nodes few end kept = record {
   id = omega (arith, kept.id_most, few_nodes);
   link_data = omega (arith, kept.data_most, few);
   kind = omega (arith, kept.kind);
+  entries = omega (arith, kept.no_entries);
   metric = omega (arith, kept.metric_most);
-  few_entries = let none : length end.tos ≡ 0 = ap length kept.no_entries in omega (arith, none);
-  entries = rw kept.no_entries tt;
 }
 
 header_fits : (links : List MadeLink) (router : ℕ) → router < 2 ^ 32 → FitsHeader (plain_lsa links router)
@@ -57,7 +56,8 @@ lsa_kept nodes links router few_nodes few all within =
     let body : AllByRecursion FitsLink (ends_of links router) =
     all_weaker (IsMadeEnd nodes (length links)) FitsLink (end_fits nodes (length links) (omega (arith, few_nodes)) (omega (arith, few))) (ends_of links router)
     (ends_kept nodes links router all) in
-    (renewed_kept (plain_lsa links router) (header_fits links router within) refl (omega arith, omega arith, body) (plain_fits links router few)
+    (renewed_kept (plain_lsa links router) (header_fits links router within) refl
+    (omega arith, omega arith, body, tt, bare_ends links router) (plain_fits links router few)
     (readable nodes links router all)).1
 
 -- an LSA at another place

@@ -8,8 +8,8 @@ use Rattle.ospf_lsa.specs.LsaText.{lsa_text, lsas_text}
 use Rattle.mrt_graph.proofs.Tallies.{one_if}
 use Rattle.mrt_survey.specs.declared.made_link.MadeLink.{MadeLink}
 use Rattle.mrt_survey.specs.MadeLinks.{made_links}
-use Rattle.mrt_survey.specs.MadeLsas.{end_at, ends_of, lsa_of, made_lsas}
-use Rattle.mrt_survey.proofs.EndsMade.{bare_ends, ends_text}
+use Rattle.mrt_survey.specs.MadeLsas.{end_at, lsa_of, made_lsas}
+use Rattle.mrt_survey.proofs.EndsMade.{ends_text}
 use Rattle.mrt_survey.proofs.LsasMade.{made_text}
 use Rattle.mrt_survey.proofs.MadeBounds.{count_made}
 
@@ -96,7 +96,7 @@ text_total links a (suc n) =
     let whole : length (lsa_text (lsa_of links a) ++ lsas_text (map (lsa_of links) (range_with_len (a + 1) n)))
     ≡ length (lsa_text (lsa_of links a)) + length (lsas_text (map (lsa_of links) (range_with_len (a + 1) n))) =
     length-append (lsa_text (lsa_of links a)) (lsas_text (map (lsa_of links) (range_with_len (a + 1) n))) in
-    let text = ends_text (ends_of links a) (bare_ends links a) in
+    let text = ends_text links a in
     let one : length (lsa_text (lsa_of links a)) ≡ 24 + 12 * ends_from 1 links a = omega (arith, text) in
     let rest = text_total links (a + 1) n in
     omega (arith, whole, one, rest)

@@ -17,8 +17,8 @@ link_to router link_data metric = record {
   id = router;
   link_data = link_data;
   kind = 1;
+  entries = 0;
   metric = metric;
-  tos = [];
 }
 
 -- of a link with its number, which is the link data at both ends: a router's own end; none where it is at neither
@@ -44,7 +44,7 @@ plain_lsa links router = record {
   router = router;
   sequence = cast_signed w32 (2 ^ 31 + 1);
   checksum = 0;
-  body = Router 0 0 (ends_of links router);
+  body = Router 0 0 (ends_of links router) [];
 }
 
 -- with the checksum of its bytes

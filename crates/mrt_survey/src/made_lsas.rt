@@ -52,6 +52,7 @@ fn router_lsa(alloc: Global, links: &[MadeLink], router: u32) -> Result<Lsa, NoM
             flags: 0,
             spare: 0,
             links: Seq::from_vec(ends),
+            tos: Seq::from_vec(Vec::new(alloc)),
         },
     })
 }
@@ -63,7 +64,7 @@ fn ends(alloc: Global, links: &[MadeLink], router: u32) -> Result<Vec<RouterLink
 {
     let mut found = Vec::new(alloc);
     for (place, link) in links.iter().enumerate() {
-        put_end(&mut found, end(alloc, link, router, place as u32 + 1))?;
+        put_end(&mut found, end(link, router, place as u32 + 1))?;
     }
     Ok(found)
 }
@@ -79,27 +80,27 @@ fn put_end(found: &mut Vec<RouterLink>, end: Option<RouterLink>) -> Result<(), N
 }
 
 /// A router's end of a link with its number, if it has one.
-fn end(alloc: Global, link: &MadeLink, router: u32, number: u32) -> Option<RouterLink>
+fn end(link: &MadeLink, router: u32, number: u32) -> Option<RouterLink>
     ensures { result ≡ end_at router (number, link.now) }
 {
     if link.first == router {
-        Some(link_of(alloc, link.second, number, link.first_metric))
+        Some(link_of(link.second, number, link.first_metric))
     } else if link.second == router {
-        Some(link_of(alloc, link.first, number, link.second_metric))
+        Some(link_of(link.first, number, link.second_metric))
     } else {
         None
     }
 }
 
 /// A point-to-point link to a router.
-fn link_of(alloc: Global, router: u32, number: u32, metric: u16) -> RouterLink
+fn link_of(router: u32, number: u32, metric: u16) -> RouterLink
     ensures { result ≡ link_to router number metric }
 {
     RouterLink {
         id: router,
         link_data: number,
         kind: POINT_TO_POINT,
+        entries: 0,
         metric,
-        tos: Seq::from_vec(Vec::new(alloc)),
     }
 }

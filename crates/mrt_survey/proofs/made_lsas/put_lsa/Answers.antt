@@ -1,13 +1,13 @@
 use Rattle.std.proofs.Common.{◌∙◌, ◌++◌, ◌≤◌, List, ℕ, ap, subst, sym}
 use Rattle.ospf_lsa.specs.declared.lsa.Lsa.{Lsa}
 use Rattle.ospf_lsa.specs.LsaText.{lsa_length, lsa_text}
-use Rattle.ospf_lsa.specs.Written.{HasShortLinks, renewed}
-use Rattle.mrt_survey.proofs.EndsMade.{plain_fits, plain_short}
+use Rattle.ospf_lsa.specs.Written.{HasItsEntries, renewed}
+use Rattle.mrt_survey.proofs.EndsMade.{bare_ends, plain_fits}
 use Rattle.mrt_survey.proofs.made_lsas.put_lsa.Goals as goal
 
 pub write_lsa-requires-clause-entries : goal.write_lsa-requires-clause-entries
 write_lsa-requires-clause-entries c =
-    subst (λ (lsa : Lsa). HasShortLinks lsa.body) (sym c.in_ok-lsa.ensures) (plain_short c.args.links.now c.args.router)
+    subst (λ (lsa : Lsa). HasItsEntries lsa.body) (sym c.in_ok-lsa.ensures) (bare_ends c.args.links.now c.args.router)
 
 pub write_lsa-requires-clause-fits : goal.write_lsa-requires-clause-fits
 write_lsa-requires-clause-fits c = subst (λ (lsa : Lsa). lsa_length lsa ≤ 65535) (sym c.in_ok-lsa.ensures) (plain_fits c.args.links.now c.args.router c.requires)
