@@ -11,19 +11,19 @@ use Rattle.primary_alt.proofs.RouterFacts.{router_from}
 pub crossing_over-first-requires : goal.crossing_over-first-requires
 crossing_over-first-requires g c =
     let is = c.requires.routed.primaries.routers c.args.x c.args.t (router_from c.args.parts.now.area.now.ids c.args.x c.requires.place c.requires.router) (c.requires.served.primaries c.requires.to) in
-    (arcs_there c.args.parts.now.area.now c.args.x c.args.t c.in_ok-primary.primary _ (sym c.primary.ensures ∙ c.in_ok-primary.was) is).first
+    (arcs_there c.args.parts.now.area.now c.args.x c.args.t c.in_ok-primary.primary _ (sym c.primary.ensures.primary ∙ c.in_ok-primary.was) is).first
 
 pub crossing_over-requires : goal.crossing_over-requires
 crossing_over-requires g c =
     let is = c.requires.routed.primaries.routers c.args.x c.args.t (router_from c.args.parts.now.area.now.ids c.args.x c.requires.place c.requires.router) (c.requires.served.primaries c.requires.to) in
-    (arcs_there c.args.parts.now.area.now c.args.x c.args.t c.in_ok-primary.primary _ (sym c.primary.ensures ∙ c.in_ok-primary.was) is).second c.in-Some.arc c.in-Some.is
+    (arcs_there c.args.parts.now.area.now c.args.x c.args.t c.in_ok-primary.primary _ (sym c.primary.ensures.primary ∙ c.in_ok-primary.was) is).second c.in-Some.arc c.in-Some.is
 
 pub returns-clause-some : goal.returns-clause-some
 returns-clause-some g c =
     let is = c.requires.routed.primaries.routers c.args.x c.args.t (router_from c.args.parts.now.area.now.ids c.args.x c.requires.place c.requires.router) (c.requires.served.primaries c.requires.to) in
     record {
       primary = c.in_ok-primary.primary;
-      is = subst (λ (o : Option Primary). IsPrimary c.args.parts.now.area.now c.args.x c.args.t o) (sym c.primary.ensures ∙ c.in_ok-primary.was) is;
+      is = subst (λ (o : Option Primary). IsPrimary c.args.parts.now.area.now c.args.x c.args.t o) (sym c.primary.ensures.primary ∙ c.in_ok-primary.was) is;
       elements = elements;
       next = refl;
     }
