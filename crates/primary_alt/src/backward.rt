@@ -12,10 +12,12 @@ use mrt_graph::NoMemory;
 use std::cmp::Reverse;
 use std::collections::BinaryHeap;
 
-/// A distance that is offered to a node. Offers are ordered by distance.
-#[derive(Clone, Copy, PartialEq, Eq, PartialOrd, Ord)]
+/// A distance that is offered to a node. Offers are ordered by distance alone.
+#[derive(Clone, Copy)]
+#[derive_where(PartialEq, Eq, PartialOrd, Ord)]
 pub struct Offer {
     pub distance: u32,
+    #[derive_where(skip(EqHashOrd))]
     pub node: Spot,
 }
 
