@@ -1,18 +1,16 @@
 -- Bytes in which no field is at fault, read field by field: what they spell.
-use Rattle.std.proofs.Common.{◌≡◌, ◌+◌, ◌==◌, ◌<◌, ◌≤◌, ◌^◌, ℕ, zero, suc, true, ltb, nat_le, nat_lt, List, [], ◌∷◌, ◌++◌, length, take, drop, Option, Some, None, inl, inr, refl, sym, ap, ◌∙◌, append_assoc, take-append-drop, arith}
+use Rattle.std.proofs.Common.{◌≡◌, ◌+◌, ◌<◌, ◌≤◌, ◌^◌, ℕ, zero, suc, true, ltb, nat_le, nat_lt, List, [], ◌∷◌, ◌++◌, length, take, drop, Option, Some, None, inl, inr, refl, sym, ap, ◌∙◌, append_assoc, take-append-drop, arith}
 use Rattle.std.specs.Int.{Width, w8, w16, w32, byte_len, from_be_bytes, to_be_bytes}
-use Rattle.std.specs.List.{flat_map, AllByRecursion}
+use Rattle.std.specs.List.{flat_map}
 use Rattle.std.specs.Prelude.{codes}
 use Rattle.std.proofs.lemmas.Bool.{and_parts, cases_Bool, cases_eq, eq-eqb, eqb-true, leb-true, ltb-false, ltb-true, ne_eqb}
 use Rattle.std.proofs.lemmas.List.{length-take-le}
 use Rattle.mrt_graph.proofs.Bytes.{IsBytes, bytes_after}
 use Rattle.mrt_graph.specs.Certificate.{IsCertLink}
 use Rattle.mrt_graph.specs.Tags.{tag_number}
-use Rattle.mrt_graph.specs.declared.cert.CertLink.{CertLink}
 use Rattle.mrt_graph.specs.declared.cert.CertNode.{CertNode}
 use Rattle.mrt_graph.specs.declared.cert.Role.{Role}
 use Rattle.mrt_graph.specs.declared.cert.Role.TheVariants as roles
-use Rattle.mrt_graph.specs.declared.cert.Row.{Row}
 use Rattle.mrt_graph.specs.declared.cert.Tag.{Tag}
 use Rattle.mrt_graph.specs.declared.cert.Tag.TheVariants as tags
 use Rattle.cert_format.specs.declared.error.CertKind.{CertKind}
@@ -79,6 +77,23 @@ field_read field next at bytes wide are none = elim (cases_Bool (ltb (length byt
       ]
 ]
 
+-- texts one after another
+three_texts : (a b c bytes r s t : List ℕ) → bytes ≡ a ++ r → r ≡ b ++ s → s ≡ c ++ t → bytes ≡ a ++ (b ++ (c ++ t))
+three_texts a b c bytes r s t first second third = first ∙ ap (λ (it : List ℕ). a ++ it) (second ∙ ap (λ (it : List ℕ). b ++ it) third)
+
+four_texts : (a b c d bytes r s t u : List ℕ) → bytes ≡ a ++ r → r ≡ b ++ s → s ≡ c ++ t → t ≡ d ++ u → bytes ≡ a ++ (b ++ (c ++ (d ++ u)))
+four_texts a b c d bytes r s t u first second third fourth =
+    first ∙ ap (λ (it : List ℕ). a ++ it) (three_texts b c d r s t u second third fourth)
+
+five_texts : (a b c d e bytes r s t u v : List ℕ) → bytes ≡ a ++ r → r ≡ b ++ s → s ≡ c ++ t → t ≡ d ++ u → u ≡ e ++ v
+    → bytes ≡ a ++ (b ++ (c ++ (d ++ (e ++ v))))
+five_texts a b c d e bytes r s t u v first second third fourth fifth =
+    first ∙ ap (λ (it : List ℕ). a ++ it) (four_texts b c d e r s t u v second third fourth fifth)
+
+-- a number in place of another one
+number_text : (w : Width) (x y : ℕ) (bytes rest : List ℕ) → bytes ≡ to_be_bytes w x ++ rest → x ≡ y → bytes ≡ to_be_bytes w y ++ rest
+number_text w x y bytes rest spelled same = spelled ∙ ap (λ (it : ℕ). to_be_bytes w it ++ rest) same
+
 pub within_told : (w : Width) (least bound x : ℕ) → (within w least bound).allows x ≡ true → (least ≤ x) × (x < bound)
 within_told w least bound x e =
     let tests = and_parts (nat_le least x) (nat_lt x bound) e in
@@ -129,9 +144,9 @@ header_read next at bytes are none =
       };
       at = r.at;
       rest = r.rest;
-      spelled = m.spelled ∙ ap (λ (x : ℕ). to_be_bytes w32 x ++ m.rest) (eqb-true m.one wanted m.keeps.allowed)
-          ∙ ap (λ (t : List ℕ). codes "MRTC" ++ t) (v.spelled ∙ ap (λ (t : List ℕ). to_be_bytes w16 v.one ++ t)
-          (n.spelled ∙ ap (λ (t : List ℕ). to_be_bytes w16 n.one ++ t) (l.spelled ∙ ap (λ (t : List ℕ). to_be_bytes w16 l.one ++ t) r.spelled)));
+      spelled = five_texts (codes "MRTC") (to_be_bytes w16 v.one) (to_be_bytes w16 n.one) (to_be_bytes w16 l.one) (to_be_bytes w32 r.one)
+          bytes m.rest v.rest n.rest l.rest r.rest
+          (number_text w32 m.one wanted bytes m.rest m.spelled (eqb-true m.one wanted m.keeps.allowed)) v.spelled n.spelled l.spelled r.spelled;
       are = r.are;
       faultless = r.faultless;
     }
@@ -159,9 +174,9 @@ node_read nodes next at bytes are none =
       };
       at = b.at;
       rest = b.rest;
-      spelled = k.spelled ∙ ap (λ (x : ℕ). to_be_bytes w8 x ++ k.rest) (sym (kind_told k.one kind.0 kind.1))
-          ∙ ap (λ (t : List ℕ). to_be_bytes w8 (kind_number (kind_named k.one)) ++ t) (i.spelled ∙ ap (λ (t : List ℕ). to_be_bytes w32 i.one ++ t)
-          (o.spelled ∙ ap (λ (t : List ℕ). to_be_bytes w16 o.one ++ t) (h.spelled ∙ ap (λ (t : List ℕ). to_be_bytes w16 h.one ++ t) b.spelled)));
+      spelled = five_texts (to_be_bytes w8 (kind_number (kind_named k.one))) (to_be_bytes w32 i.one) (to_be_bytes w16 o.one) (to_be_bytes w16 h.one) (to_be_bytes w16 b.one)
+          bytes k.rest i.rest o.rest h.rest b.rest
+          (number_text w8 k.one (kind_number (kind_named k.one)) bytes k.rest k.spelled (sym (kind_told k.one kind.0 kind.1))) i.spelled o.spelled h.spelled b.spelled;
       are = b.are;
       faultless = b.faultless;
     }
@@ -184,8 +199,9 @@ link_read nodes next at bytes are none =
       };
       at = r.at;
       rest = r.rest;
-      spelled = a.spelled ∙ ap (λ (t : List ℕ). to_be_bytes w16 a.one ++ t) (b.spelled ∙ ap (λ (t : List ℕ). to_be_bytes w16 b.one ++ t)
-          (k.spelled ∙ ap (λ (t : List ℕ). to_be_bytes w16 k.one ++ t) (r.spelled ∙ ap (λ (x : ℕ). to_be_bytes w8 x ++ r.rest) (sym role.1))));
+      spelled = four_texts (to_be_bytes w16 a.one) (to_be_bytes w16 b.one) (to_be_bytes w16 k.one) (to_be_bytes w8 (role_number role.0))
+          bytes a.rest b.rest k.rest r.rest a.spelled b.spelled k.spelled
+          (number_text w8 r.one (role_number role.0) k.rest r.rest r.spelled (sym role.1));
       are = r.are;
       faultless = r.faultless;
     }
@@ -209,8 +225,9 @@ row_read count links few next at bytes are none =
       };
       at = t.at;
       rest = t.rest;
-      spelled = b.spelled ∙ ap (λ (u : List ℕ). to_be_bytes w16 b.one ++ u) (r.spelled ∙ ap (λ (u : List ℕ). to_be_bytes w16 r.one ++ u)
-          (t.spelled ∙ ap (λ (x : ℕ). to_be_bytes w8 x ++ t.rest) (sym it.1)));
+      spelled = three_texts (to_be_bytes w16 b.one) (to_be_bytes w16 r.one) (to_be_bytes w8 (tag_number it.0))
+          bytes b.rest r.rest t.rest b.spelled r.spelled
+          (number_text w8 t.one (tag_number it.0) r.rest t.rest t.spelled (sym it.1));
       are = t.are;
       faultless = t.faultless;
     }

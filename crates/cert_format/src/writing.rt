@@ -1,7 +1,7 @@
 //! Certificate files written.
 
 ghost use Rattle.std.specs.Prelude.{◌≡◌, ◌≤◌, ◌+◌, ◌*◌, ◌++◌, length, IfOk, vec_len, vec_capacity};
-ghost use Rattle.std.specs.List.{AllByRecursion, flat_map};
+ghost use Rattle.std.specs.List.{flat_map};
 ghost use Rattle.cert_format.specs.CertText.{
   kind_number,
   role_number,
@@ -11,7 +11,7 @@ ghost use Rattle.cert_format.specs.CertText.{
   row_text,
   cert_text,
 };
-ghost use Rattle.cert_format.specs.Limits.{HasNumber, IsCertFile, IsOfVersion};
+ghost use Rattle.cert_format.specs.Limits.{IsCertFile, IsOfVersion};
 ghost use Rattle.cert_format.specs.Versions.{rows_in};
 
 use crate::limits::within_limits;
@@ -77,7 +77,6 @@ pub fn header_bytes(version: u16, nodes: u16, links: u16, root: u32) -> [u8; 14]
 fn put_nodes(out: &mut Vec<u8>, nodes: &[CertNode])
     requires { vec_len out.old + 11 * length nodes.now ≤ vec_capacity out.old }
     ensures text { out.new.items ≡ out.old.items ++ flat_map node_text nodes.now }
-    ensures numbers { AllByRecursion HasNumber nodes.now }
     ensures len { vec_len out.new ≡ vec_len out.old + 11 * length nodes.now }
     ensures capacity { vec_capacity out.old ≤ vec_capacity out.new }
 {
@@ -87,8 +86,7 @@ fn put_nodes(out: &mut Vec<u8>, nodes: &[CertNode])
 }
 
 pub fn node_bytes(node: &CertNode) -> [u8; 11]
-    ensures text { result ≡ node_text node.now }
-    ensures number { HasNumber node.now }
+    ensures { result ≡ node_text node.now }
 {
     let kind = match node.id.kind {
         Kind::Router => 1,

@@ -16,7 +16,7 @@ loop-nodes-init c = record {
 pub loop-nodes-preserved : goal.loop-nodes-preserved
 loop-nodes-preserved c = record {
   text = filled_part node_text (buffer_of c.args.self.now) (buffer_of c.loop-nodes.self) (buffer_of c.push.new.self) (flat_map node_text c.args.nodes.now) c.node_bytes.result c.in-Some.node.now c.loop-nodes.nodes.now c.in-Some.rest.now
-      c.loop-nodes.invariant.text c.push.ensures.bytes c.in-Some.ensures.cases.0 c.node_bytes.ensures.text;
+      c.loop-nodes.invariant.text c.push.ensures.bytes c.in-Some.ensures.cases.0 c.node_bytes.ensures;
   kept = c.push.ensures.kept;
   fewer = inr (elim c.loop-nodes.invariant.fewer [
     | inl none ↦ omega (arith, none.1, ap length c.in-Some.ensures.cases.0)
