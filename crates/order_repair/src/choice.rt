@@ -1,6 +1,6 @@
 //! The color that goes round a failure.
 
-ghost use Rattle.std.specs.Prelude.{◌≡◌, ◌<◌, ℕ, length};
+ghost use Rattle.std.specs.Prelude.{◌≡◌, ◌<◌, ◌↔◌, ℕ, length};
 ghost use Rattle.link_direction.specs.Directions.{Directions};
 ghost use Rattle.inc_dec_spf.specs.HasDirections.{HasDirections};
 ghost use Rattle.order_repair.specs.Source.{AreHops, IsSource};
@@ -16,7 +16,8 @@ use inc_dec_spf::Reach;
 use mrt_graph::{Color, Directed, Element, Graph, NodeNo};
 
 /// The color of `source` for `to` where an element of their common block has failed: a node of it other than the two, its
-/// head included, or a link of it. The block has more than one link, and `up` and `down` are the hops of `source`.
+/// head included, or a link of it. The block has more than one link, and `up` and `down` are the hops of `source`. Where
+/// something else has failed, there is no such color, and the answer says nothing.
 ///
 /// The order numbers and the hops of the source alone tell it; no walk is followed. It takes the same time always, and no
 /// memory.
@@ -35,8 +36,9 @@ pub fn order_choice(
     requires one_up_each { length up.now ≡ length g.now.ids }
     requires one_down_each { length down.now ≡ length g.now.ids }
     requires failed { IsWithin g.now failed }
+    // It is the choice exactly where there is one.
     ensures { (root : ℕ) (w : Directions) → AreHops g.now d.now root w source up.now down.now
-        → IsBetween g.now w source to failed → IsOrderChoice g.now root w source to failed result }
+        → (IsOrderChoice g.now root w source to failed result) ↔ (IsBetween g.now w source to failed) }
 {
     // what each graph keeps is told by reading it
     let _count = g.node_count();

@@ -3,10 +3,29 @@ use Rattle.order_repair.proofs.OneText.{one_text, some_text}
 use Rattle.order_repair.proofs.TextOfGraph.{one_text_of}
 use Rattle.order_repair.proofs.text_law.one_text_each.Goals as goal
 
-pub returns : goal.returns
-returns c = record {
-  some = λ g root w s kept ordered s_within. some_text (graph_with g root w kept ordered) s s_within;
-  one = λ g root w s text other kept ordered s_within is is'.
-      one_text (graph_with g root w kept ordered) s s_within text other is is';
-  of_graph = one_text_of;
-}
+pub returns-clause-some : goal.returns-clause-some
+returns-clause-some c = λ g root w s kept ordered s_within. some_text (graph_with g root w kept ordered) s s_within
+
+pub returns-clause-one : goal.returns-clause-one
+returns-clause-one c = λ g root w s text other kept ordered s_within is is'.
+    one_text (graph_with g root w kept ordered) s s_within text other is is'
+
+pub returns-clause-some_of_graph : goal.returns-clause-some_of_graph
+returns-clause-some_of_graph c = λ g root s kept within s_within.
+    let tree = c.one_search.ensures.some g root kept within in
+    let gadag = c.one_gadag.ensures.some g root tree.0 kept within tree.1 in
+    let d = c.one_order.ensures.some g root tree.0 gadag.0 kept within tree.1 gadag.1 in
+    let ordered = c.directions_are_ordered.ensures g root tree.0 gadag.0 kept within tree.1 gadag.1 d.0 d.1 in
+    let text = some_text (graph_with g root ordered.directions kept ordered.ordered) s s_within in (
+      text.0,
+      record {
+        directed = d.0;
+        from_root = record { tree = tree.0; searched = tree.1; gadag = gadag.0; by_ears = gadag.1; in_order = d.1 };
+        words = ordered.directions;
+        says = ordered.says;
+        is = text.1;
+      },
+    )
+
+pub returns-clause-of_graph : goal.returns-clause-of_graph
+returns-clause-of_graph c = one_text_of
