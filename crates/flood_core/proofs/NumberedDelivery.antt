@@ -1,5 +1,5 @@
 -- One delivery, of a packet by the numbers of its LSAs.
-use Rattle.std.proofs.Common.{◌≡◌, ◌∙◌, ◌<◌, ◌≤◌, ◌+◌, ◌^◌, ◌++◌, ◌↔◌, ℕ, zero, suc, List, [], ◌∷◌, length, map, replicate, set, get_or, refl, sym, ap, subst, add-one, arith}
+use Rattle.std.proofs.Common.{◌≡◌, ◌∙◌, ◌<◌, ◌≤◌, ◌+◌, ◌^◌, ◌++◌, ◌↔◌, ℕ, zero, suc, List, [], ◌∷◌, Option, None, length, map, replicate, set, get_or, refl, sym, ap, subst, add-one, arith}
 use Rattle.std.specs.List.{AllByRecursion}
 use Rattle.std.proofs.lemmas.List.{get_or-map, length-map, map-append, map-set}
 use Rattle.ospf_lsa.specs.declared.lsa.Lsa.{Lsa}
@@ -97,6 +97,14 @@ received_of ls lsas ns numbers router after new lsas_are numbers_are has =
 never_refused : (number : ℕ) (new : List Lsa) → answer_of number new ≡ answers.NoSuchRouter → ⊥
 never_refused number [] is = absurd cc
 never_refused number (x ∷ new) is = absurd cc
+
+-- no packet is sent on exactly where nothing was new
+pub sent_of_new : (number : ℕ) (new : List Lsa) (count : ℕ) (sent : Option ℕ) → answer_of number new ≡ answers.Changed count sent
+    → (sent ≡ None) ↔ (count ≡ 0)
+sent_of_new number [] count sent is = ((λ unsent. cc), (λ nothing. cc))
+sent_of_new number (x ∷ new) count sent is =
+    let many : length (x ∷ new) ≡ count = cc in
+    ((λ unsent. absurd (cc)), (λ nothing. absurd (omega (arith, many, nothing))))
 
 module _ (lsas : List Lsa) (packets : List NumberedUpdate) (routers : List Receiver) (changed p r : ℕ)
     (packet : NumberedUpdate) (router : Receiver) (is : IsFloodIn lsas packets routers changed)

@@ -1,6 +1,6 @@
 //! Packets and the routers that they reach.
 
-ghost use Rattle.std.specs.Prelude.{◌≡◌, ◌≤◌, ◌<◌, ◌+◌, ◌++◌, ◌^◌, ◌↔◌, ℕ, List, Some, IfOk, OnOk, length, map, replicate};
+ghost use Rattle.std.specs.Prelude.{◌≡◌, ◌≤◌, ◌<◌, ◌+◌, ◌++◌, ◌^◌, ◌↔◌, ℕ, List, Option, None, Some, IfOk, OnOk, length, map, replicate};
 ghost use Rattle.std.specs.List.{AllByRecursion};
 ghost use Rattle.ospf_lsa.specs.declared.lsa.Lsa.{Lsa};
 ghost use Rattle.flood_core.specs.FloodStep.{answer_of, sent_on};
@@ -101,6 +101,9 @@ impl Flood {
         ensures no_packet { IfOk result (λ done. (done.1 ≡ answers.NoSuchPacket) ↔ (length self.packets ≤ packet)) }
         ensures no_router { IfOk result (λ done.
             (done.1 ≡ answers.NoSuchRouter) ↔ ((packet < length self.packets) × (length self.routers ≤ router))) }
+        // No packet is sent on exactly where no LSA was new.
+        ensures sent { IfOk result (λ done. (count : ℕ) (sent : Option ℕ)
+            → done.1 ≡ answers.Changed count sent → (sent ≡ None) ↔ (count ≡ 0)) }
     {
         if self.packets.as_slice().len() <= packet as usize {
             return Ok((self, Answer::NoSuchPacket));

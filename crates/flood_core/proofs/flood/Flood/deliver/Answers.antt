@@ -1,7 +1,7 @@
-use Rattle.std.proofs.Common.{◌≡◌, ◌+◌, ℕ, length, ap, set, subst, arith}
+use Rattle.std.proofs.Common.{◌≡◌, ◌+◌, ◌∙◌, ℕ, length, sym, ap, set, subst, arith}
 use Rattle.flood_core.specs.FloodStep.{delivered}
 use Rattle.flood_core.specs.Numbers.{flood_in}
-use Rattle.flood_core.proofs.NumberedDelivery.{HasReceived, answer_on, deliverable, few_new, flood_on, not_refused, received_of, state_on}
+use Rattle.flood_core.proofs.NumberedDelivery.{HasReceived, answer_on, deliverable, few_new, flood_on, not_refused, received_of, sent_of_new, state_on}
 use Rattle.flood_core.proofs.flood.Flood.deliver.Goals as goal
 
 pub receive-requires-clause-stored : goal.receive-requires-clause-stored
@@ -124,3 +124,8 @@ returns-clause-no_router c =
     c.index-update.ensures c.index_mut.ensures.value c.with_lsas-sent.result c.receive.new.self c.in_ok-news.news.items
     (received_here c) (c.with_lsas-sent.ensures.packet c.self.inside.lsas.items) c.args.self c.in_ok-answer.answer
     c.args.router c.self.view_is c.from-2.ensures (c.in_ok-answer.ensures.answer c.self.inside.lsas.items)
+
+pub returns-clause-sent : goal.returns-clause-sent
+returns-clause-sent c = λ count sent is.
+    let told = c.in_ok-answer.ensures.answer c.self.inside.lsas.items in
+    sent_of_new _ _ count sent (sym told ∙ is)
