@@ -16,7 +16,7 @@ laws c = record {
     one_line = c.lines_are_a_flood_script_or_have_a_fault.ensures.one_fault;
     one_text = λ settings. c.one_text_each-4.ensures settings (c.one_verdict_each.ensures settings);
   };
-  surveys = record { input = c.made_networks_are_taken.ensures.input; text = c.one_survey_each.ensures };
+  surveys = record { input = c.made_networks_are_taken.ensures.input; text = c.one_survey_each.ensures.one };
   packets = record {
     never_both = c.lines_are_a_script_or_have_a_fault.ensures.never_both;
     one_script = c.lines_are_a_script_or_have_a_fault.ensures.one_script;
@@ -35,10 +35,10 @@ laws c = record {
   };
   certs = record { one = c.one_spelling.ensures.one; faultless = c.one_spelling.ensures.faultless };
   islands = record { one_island = c.a_router_has_one_island.ensures };
-  loop_free = c.one_text_each-2.ensures;
+  loop_free = c.one_text_each-2.ensures.one;
   orders = c.one_text_each-3.ensures.of_graph;
   proxies = record {
-    text = c.one_proxy_text.ensures;
+    text = c.one_proxy_text.ensures.one;
     related = λ g root cert a b text kept accepted given apart.
         c.proxy_rows_or_no_common_block.ensures.never_both g cert a b given.entries kept accepted given.entries_are apart;
   };
