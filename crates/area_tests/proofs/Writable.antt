@@ -1,32 +1,26 @@
 -- An LSA without a fault can be written.
 use Rattle.std.proofs.Common.{◌≡◌, ◌<◌, ◌≤◌, ℕ, zero, suc, ◌+◌, List, [], ◌∷◌, length, get_or, sym, subst, arith}
-use Rattle.std.specs.List.{AllByRecursion}
-use Rattle.ospf_lsa.specs.declared.lsa.RouterLink.{RouterLink}
 use Rattle.ospf_lsa.specs.declared.lsa.Body.{Body}
 use Rattle.ospf_lsa.specs.declared.lsa.Body.TheVariants.{Router, Network, Other}
 use Rattle.ospf_lsa.specs.declared.lsa.Lsa.{Lsa}
 use Rattle.ospf_lsa.specs.LsaText.{lsa_length}
-use Rattle.ospf_lsa.specs.Lsas.{AreLsas, FitsBody, FitsLink, IsLsa, IsOfType}
-use Rattle.ospf_lsa.specs.Written.{HasFewEntries, HasShortLinks}
+use Rattle.ospf_lsa.specs.Lsas.{AreLsas, FitsBody, IsLsa, IsOfType}
+use Rattle.ospf_lsa.specs.Written.{HasItsEntries}
 
 -- what writing asks of an LSA
 pub record IsWritable (lsa : Lsa) : Type 0 where
   pub kind : IsOfType lsa.kind lsa.body
-  pub entries : HasShortLinks lsa.body
+  pub entries : HasItsEntries lsa.body
   pub fits : lsa_length lsa ≤ 65535
 
-few_entries : (links : List RouterLink) → AllByRecursion FitsLink links → AllByRecursion HasFewEntries links
-few_entries [] all = tt
-few_entries (link ∷ links) all = (omega (arith, all.0.few_entries), few_entries links all.1)
-
-short_links : (body : Body) → FitsBody body → HasShortLinks body
-short_links (Router flags spare links) fits = few_entries links fits.2
-short_links (Network mask routers) fits = tt
-short_links (Other bytes) fits = tt
+its_entries : (body : Body) → FitsBody body → HasItsEntries body
+its_entries (Router flags spare links tos) fits = fits.4
+its_entries (Network mask routers) fits = tt
+its_entries (Other bytes) fits = tt
 
 pub faultless_written : (lsa : Lsa) → IsLsa lsa → IsWritable lsa
 faultless_written lsa is =
-    record { kind = is.of_type; entries = short_links lsa.body is.body; fits = omega (arith, is.length_fits) }
+    record { kind = is.of_type; entries = its_entries lsa.body is.body; fits = omega (arith, is.length_fits) }
 
 -- each LSA of a file is without a fault
 pub faultless_at : (lsas : List Lsa) (at i : ℕ) (lsa : Lsa) → AreLsas at lsas → i < length lsas

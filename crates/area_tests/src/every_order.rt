@@ -65,15 +65,15 @@ const INSTANCES: [Instance; 5] = [
     },
 ];
 
-fn link(alloc: Global, to: u32) -> RouterLink
+fn link(to: u32) -> RouterLink
     ensures { has_zero_metric result ≡ false }
 {
     RouterLink {
         id: to,
         link_data: to % 256,
         kind: 1,
+        entries: 0,
         metric: 10,
-        tos: Seq::from_vec(Vec::new(alloc)),
     }
 }
 
@@ -82,8 +82,8 @@ fn links(alloc: Global, instance: &Instance) -> Result<Seq<RouterLink>, NoMemory
 {
     let mut links = Vec::new(alloc);
     if instance.linked {
-        links.push(link(alloc, instance.others[0]))?;
-        links.push(link(alloc, instance.others[1]))?;
+        links.push(link(instance.others[0]))?;
+        links.push(link(instance.others[1]))?;
     }
     Ok(Seq::from_vec(links))
 }
@@ -106,6 +106,7 @@ fn lsa(alloc: Global, at: u32, instance: &Instance) -> Result<Lsa, NoMemory>
             flags: 0,
             spare: 0,
             links,
+            tos: Seq::from_vec(Vec::new(alloc)),
         },
     })
 }

@@ -30,6 +30,7 @@ fn lsa(alloc: Global, at: u32, instance: Instance) -> Lsa
             flags,
             spare: 0,
             links: Seq::from_vec(Vec::new(alloc)),
+            tos: Seq::from_vec(Vec::new(alloc)),
         },
     }
 }

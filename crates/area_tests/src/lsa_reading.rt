@@ -1,6 +1,6 @@
 //! LSAs that are read: where their fields belong, and how they are compared.
 
-use crate::lsa_files::{ALONE, ENTRIES, NETWORK, STUB, TRIANGLE};
+use crate::lsa_files::{ALONE, ENTRIES, NETWORK, STUB, THREE_LINKS, TRIANGLE};
 use ospf_lsa::{Body, Lsa, RouterLink, read_lsas, sums};
 use std::alloc::Global;
 
@@ -27,7 +27,7 @@ fn files_have_so_many_lsas(rt: HostRuntime) {
 
 /// Whether it is a point-to-point link of metric 10 without TOS entries.
 fn is_of_triangle(link: &RouterLink) -> bool {
-    link.kind == 1 && link.metric == 10 && link.tos.as_slice().is_empty()
+    link.kind == 1 && link.metric == 10 && link.entries == 0
 }
 
 fn are_two_of_triangle(links: &[RouterLink]) -> bool {
@@ -105,17 +105,30 @@ fn lsas_are_compared_by_all_their_fields(rt: HostRuntime) {
     }
 }
 
-fn has_entries(link: &RouterLink) -> bool {
-    link.link_data == 0xffffffff
-        && link.kind == 3
-        && link.metric == 0x0102
-        && link.tos.as_slice() == [0x08000007, 0x10000100].as_slice()
+fn is_so(link: &RouterLink, link_data: u32, kind: u8, entries: u8, metric: u16) -> bool {
+    link.link_data == link_data
+        && link.kind == kind
+        && link.entries == entries
+        && link.metric == metric
 }
 
-fn is_link_with_entries(lsa: &Lsa) -> bool {
-    match links(lsa) {
-        [link] => has_entries(link),
+/// Whether these are the three links and the TOS entries of all of them.
+fn are_three_links(links: &[RouterLink], tos: &[u32]) -> bool {
+    match links {
+        [first, second, third] => {
+            is_so(first, 0xffffffff, 3, 1, 0x0102)
+                && is_so(second, 0xff000000, 3, 0, 5)
+                && is_so(third, 2, 1, 2, 10)
+                && tos == [0x08000007, 0x10000100, 0x18000002].as_slice()
+        }
         _ => false,
+    }
+}
+
+fn has_three_links(lsa: &Lsa) -> bool {
+    match &lsa.body {
+        Body::Router { links, tos, .. } => are_three_links(links.as_slice(), tos.as_slice()),
+        Body::Network { .. } | Body::Other { .. } => false,
     }
 }
 
@@ -131,9 +144,9 @@ fn is_network(lsa: &Lsa) -> bool {
 }
 
 #[test]
-fn entries_belong_to_their_link(rt: HostRuntime) {
-    match last_of(rt.alloc(), &ENTRIES) {
-        Some(lsa) => assert!(rt; is_link_with_entries(&lsa)),
+fn entries_stand_link_by_link(rt: HostRuntime) {
+    match last_of(rt.alloc(), &THREE_LINKS) {
+        Some(lsa) => assert!(rt; has_three_links(&lsa)),
         None => assert!(rt; false, "not read"),
     }
 }

@@ -4,9 +4,9 @@ ghost use Rattle.std.specs.Prelude.{◌≤◌, [], ◌∷◌};
 ghost use Rattle.ospf_lsa.specs.LsaText.{lsa_length};
 ghost use Rattle.ospf_lsa.specs.Outcome.{AreAnswer};
 ghost use Rattle.ospf_lsa.specs.Lsas.{IsOfType};
-ghost use Rattle.ospf_lsa.specs.Written.{HasShortLinks, IsReadable, renewed_at_front};
+ghost use Rattle.ospf_lsa.specs.Written.{HasItsEntries, IsReadable, renewed_at_front};
 
-use crate::lsa_files::{ALONE, ENTRIES, NETWORK, STUB, TRIANGLE};
+use crate::lsa_files::{ALONE, ENTRIES, NETWORK, STUB, THREE_LINKS, TRIANGLE};
 use mrt_graph::{NoMemory, Seq};
 use ospf_lsa::{Body, Lsa, LsaError, LsaKind, read_lsas, write_lsa};
 use std::alloc::Global;
@@ -51,6 +51,10 @@ const REWRITTEN: &[Rewritten] = &[
     Rewritten {
         read: &ENTRIES,
         written: &ENTRIES,
+    },
+    Rewritten {
+        read: &THREE_LINKS,
+        written: &THREE_LINKS,
     },
     Rewritten {
         read: &TRIANGLE,
@@ -120,7 +124,7 @@ fn lsas_are_written_as_they_stood(rt: HostRuntime) {
 /// What is written of this LSA is read as this LSA alone.
 fn read_back(alloc: Global, lsa: &Lsa) -> Result<Vec<Lsa>, LsaError>
     requires kind { IsOfType lsa.now.kind lsa.now.body }
-    requires entries { HasShortLinks lsa.now.body }
+    requires entries { HasItsEntries lsa.now.body }
     requires fits { lsa_length lsa.now ≤ 65535 }
     requires readable { IsReadable lsa.now }
     ensures { AreAnswer (renewed_at_front lsa.now ∷ []) result }
@@ -153,6 +157,7 @@ fn is_read_with_place_and_checksum(alloc: Global) -> Result<bool, LsaError> {
             flags: 3,
             spare: 9,
             links: Seq::from_vec(Vec::new(alloc)),
+            tos: Seq::from_vec(Vec::new(alloc)),
         },
     };
     let lsas = read_back(alloc, &lsa)?;

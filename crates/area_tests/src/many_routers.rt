@@ -43,15 +43,15 @@ fn neighbours(alloc: Global, many: Many, number: u32) -> Result<Vec<u32>, NoMemo
     }
 }
 
-fn link(alloc: Global, to: u32) -> RouterLink
+fn link(to: u32) -> RouterLink
     ensures { has_zero_metric result ≡ false }
 {
     RouterLink {
         id: to,
         link_data: 0,
         kind: 1,
+        entries: 0,
         metric: 10,
-        tos: Seq::from_vec(Vec::new(alloc)),
     }
 }
 
@@ -60,7 +60,7 @@ fn links(alloc: Global, to: &[u32]) -> Result<Seq<RouterLink>, NoMemory>
 {
     let mut links = Vec::with_capacity(alloc, to.len())?;
     for number in to {
-        links.push(link(alloc, *number))?;
+        links.push(link(*number))?;
     }
     Ok(Seq::from_vec(links))
 }
@@ -84,6 +84,7 @@ fn lsa(alloc: Global, number: u32, to: &[u32]) -> Result<Lsa, NoMemory>
             flags: 0,
             spare: 0,
             links,
+            tos: Seq::from_vec(Vec::new(alloc)),
         },
     })
 }
