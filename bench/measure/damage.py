@@ -41,7 +41,21 @@ LINES = {
     14: rb"mrt: bad update: (truncated|header|length|count|checksum|reserved-sequence|id-mismatch|body|zero-metric) at \d+\n",
 }
 TRIANGLE_PROFILE = b"priority 3.3.3.3 128\n"
-TRIANGLE_SCRIPT = b"island 2.2.2.2 3\ninject 2.2.2.2 1.1.1.1 repair\nfail link:2.2.2.2/0.0.0.1\nstep 0\nstep 0\nstep 0\n"
+TRIANGLE_SCRIPT = b"""\
+island 1.1.1.1 2
+inject 2.2.2.2 1.1.1.1 repair
+inject 1.1.1.1 3.3.3.3 blue
+step 1
+fail link:2.2.2.2/0.0.0.1
+step 0
+step 0
+fail 3.3.3.3
+step 0
+step 1
+step 1
+inject 1.1.1.1 2.2.2.2 red
+step 9
+"""
 LAN_SCRIPT = b"island 10.255.1.4 2\ninject 10.255.1.4 10.255.1.1 blue\nstep 0\nfail 10.255.1.2\nstep 0\n# the end\n"
 TRIANGLE_DELIVERIES = b"routers 2\ndeliver 0 0\ndeliver 2 1\nsame 0 1 1.1.1.1\ndeliver 1 1\ndeliver 3 1\nsame 0 1 1.1.1.1\n"
 LAN_DELIVERIES = b"routers 2\ndeliver 0 0\ndeliver 1 0\ndeliver 2 0\ndeliver 2 1\ndeliver 0 1\ndeliver 4 1\n#\nsame 1 0 10.255.1.4\n"
