@@ -152,7 +152,27 @@ fn named_files(alloc: Global, files: Files<'_>) -> Result<Vec<(Word, Vec<u8>)>, 
     Ok(list)
 }
 
-/// Whether words over devices that do not fail come to this exit, and this is written.
+/// The status that the program is to end with on each exit.
+fn status_told(exit: Exit) -> u8 {
+    match exit {
+        Exit::Done => 0,
+        Exit::No { .. } => 1,
+        Exit::Usage => 2,
+        Exit::BadDatabase { .. } => 3,
+        Exit::BadProfile { .. } => 4,
+        Exit::BadCertificate { .. } => 5,
+        Exit::TooLarge { .. } => 6,
+        Exit::NotThere { .. } => 7,
+        Exit::ReadFault { .. } => 8,
+        Exit::WriteFault { .. } => 9,
+        Exit::NoMemory => 10,
+        Exit::BadScript { .. } => 11,
+        Exit::NoCommonBlock => 13,
+        Exit::BadUpdate { .. } => 14,
+    }
+}
+
+/// Whether words over devices that do not fail come to this exit with its status, and this is written.
 pub fn comes_to(
     alloc: Global,
     words: &[&str],
@@ -162,7 +182,12 @@ pub fn comes_to(
     err: &[u8],
 ) -> bool {
     match calmly(alloc, words, files) {
-        Ok(left) => left.exit == exit && left.out.bytes() == out && left.err.bytes() == err,
+        Ok(left) => {
+            left.exit == exit
+                && left.exit.status() == status_told(exit)
+                && left.out.bytes() == out
+                && left.err.bytes() == err
+        }
         Err(NoMemory) => false,
     }
 }

@@ -1,6 +1,6 @@
 //! A database and a certificate, cut to each length.
 
-use crate::calling::{CHECK, calmly, front, two};
+use crate::calling::{CHECK, comes_to, front, two};
 use crate::files::{TRIANGLE, TRIANGLE_CERTIFICATE};
 use cert_format::CertKind;
 use mrt_cmd::{DbKind, Exit};
@@ -8,13 +8,19 @@ use mrt_graph::NoMemory;
 use ospf_lsa::LsaKind;
 use std::alloc::Global;
 
-/// What comes of the first bytes of the triangle's database and of its certificate.
-fn comes_of_cut(alloc: Global, database: usize, certificate: usize) -> Result<Exit, NoMemory> {
+/// Whether the first bytes of the triangle's database and of its certificate come to this exit with this line.
+fn comes_of_cut(
+    alloc: Global,
+    database: usize,
+    certificate: usize,
+    exit: Exit,
+    line: &str,
+) -> bool {
     let files = two(
         front(TRIANGLE, database),
         front(TRIANGLE_CERTIFICATE, certificate),
     );
-    Ok(calmly(alloc, CHECK, files)?.exit)
+    comes_to(alloc, CHECK, files, exit, b"", line.as_bytes())
 }
 
 /// The places of the database's records, each of 48 bytes.
@@ -46,39 +52,55 @@ fn last_within(places: &[u32], length: u32) -> u32 {
     last
 }
 
-/// A database of whole records lacks the root of the certificate; else the record that is cut is told.
-fn wanted_of_database(length: u32) -> Exit {
+/// A database that is cut within a record, of which that record is told.
+fn record_is_cut(alloc: Global, length: u32) -> Result<bool, NoMemory> {
+    let at = last_within(records(), length);
+    let kind = DbKind::Lsa(LsaKind::Truncated);
+    let line = format!(in alloc; "mrt: bad database: truncated at {at}\n")?;
+    let exit = Exit::BadDatabase { at, kind };
+    Ok(comes_of_cut(alloc, length as usize, 98, exit, &line))
+}
+
+/// A database of whole records, which lacks the root of the certificate.
+fn root_is_cut(alloc: Global, length: u32) -> bool {
+    let exit = Exit::NotThere {
+        number: 0x0303_0303,
+    };
+    comes_of_cut(
+        alloc,
+        length as usize,
+        98,
+        exit,
+        "mrt: not there: 3.3.3.3\n",
+    )
+}
+
+fn database_is_cut(alloc: Global, length: u32) -> Result<bool, NoMemory> {
     if length % 48 == 0 {
-        return Exit::NotThere {
-            number: 0x0303_0303,
-        };
+        return Ok(root_is_cut(alloc, length));
     }
-    Exit::BadDatabase {
-        at: last_within(records(), length),
-        kind: DbKind::Lsa(LsaKind::Truncated),
-    }
+    record_is_cut(alloc, length)
 }
 
 #[test]
 fn databases_cut_to_each_length(rt: HostRuntime) {
     for length in 0..144_u32 {
-        let exit = comes_of_cut(rt.alloc(), length as usize, 98);
-        assert_eq!(rt; exit, Ok(wanted_of_database(length)), "{length}");
+        assert!(rt; database_is_cut(rt.alloc(), length) == Ok(true), "{length}");
     }
 }
 
-/// The field that is cut or missing is told.
-fn wanted_of_certificate(length: u32) -> Exit {
-    Exit::BadCertificate {
-        at: last_within(fields(), length),
-        kind: CertKind::Truncated,
-    }
+/// A certificate of which the field that is cut or missing is told.
+fn field_is_cut(alloc: Global, length: u32) -> Result<bool, NoMemory> {
+    let at = last_within(fields(), length);
+    let kind = CertKind::Truncated;
+    let line = format!(in alloc; "mrt: bad certificate: truncated at {at}\n")?;
+    let exit = Exit::BadCertificate { at, kind };
+    Ok(comes_of_cut(alloc, 144, length as usize, exit, &line))
 }
 
 #[test]
 fn certificates_cut_to_each_length(rt: HostRuntime) {
     for length in 0..98_u32 {
-        let exit = comes_of_cut(rt.alloc(), 144, length as usize);
-        assert_eq!(rt; exit, Ok(wanted_of_certificate(length)), "{length}");
+        assert!(rt; field_is_cut(rt.alloc(), length) == Ok(true), "{length}");
     }
 }

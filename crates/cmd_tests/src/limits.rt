@@ -80,7 +80,7 @@ const FIRST_CERTIFICATE: &[u8] =
     b"\x4d\x52\x54\x43\x00\x01\x00\x01\x00\x00\x00\x00\x00\x01\x01\x00\x00\x00\x01\x00\x01\x00\x00\x00\x00";
 
 /// Puts a number in at a place.
-fn put(bytes: &mut Vec<u8>, at: usize, number: u32) {
+pub fn put(bytes: &mut Vec<u8>, at: usize, number: u32) {
     for (k, byte) in number.to_be_bytes().iter().enumerate() {
         if let Some(slot) = bytes.get_mut(at.wrapping_add(k)) {
             *slot = *byte;

@@ -40,6 +40,64 @@ refused full\n\
 refused no-such-packet\n",
     },
     Answered {
+        name: "a router that fails with a packet in it",
+        words: FABRIC,
+        database: TRIANGLE,
+        profile: "",
+        script: "\
+island 1.1.1.1 1\n\
+inject 1.1.1.1 3.3.3.3 blue\n\
+step 0\n\
+fail 2.2.2.2\n\
+step 0\n",
+        answers: "\
+entered 0\n\
+moved 2.2.2.2\n\
+failed\n\
+lost inside\n",
+    },
+    Answered {
+        name: "names that the area lacks",
+        words: FABRIC,
+        database: TRIANGLE,
+        profile: "",
+        script: "\
+island 1.1.1.1 1\n\
+inject 1.1.1.1 9.9.9.9 repair\n\
+inject 9.9.9.9 1.1.1.1 blue\n\
+inject 1.1.1.1 net:3.3.3.3 repair\n\
+fail 9.9.9.9\n\
+fail net:1.1.1.1\n\
+fail link:1.1.1.1/0.0.0.9\n\
+step 0\n",
+        answers: "\
+refused no-such-place\n\
+refused no-such-place\n\
+refused no-such-place\n\
+refused no-such-place\n\
+refused no-such-place\n\
+refused no-such-place\n\
+refused no-such-packet\n",
+    },
+    Answered {
+        name: "lines that are passed over, tabs, and ends of lines with a carriage return",
+        words: FABRIC,
+        database: TRIANGLE,
+        profile: "",
+        script: "\
+# packets\r\n\n\
+\x20island\t1.1.1.1  1 \r\n\
+# between\r\n\
+inject 1.1.1.1\t3.3.3.3 blue\r\n\
+\t \n\
+\tstep \t0\n\
+\r\n\
+# the end",
+        answers: "\
+entered 0\n\
+moved 2.2.2.2\n",
+    },
+    Answered {
         name: "no events",
         words: FABRIC,
         database: TRIANGLE,
@@ -96,7 +154,7 @@ const REFUSED: &[Case] = &[
         words: FABRIC,
         database: TRIANGLE,
         profile: "",
-        certificate: b"island 1.1.1.1 1\nstep 0\nstop 0\n",
+        certificate: b"island 1.1.1.1 1\ninject 1.1.1.1 3.3.3.3 blue\nstop 0\nfail 2.2.2.2\nstep 0\n",
         exit: Exit::BadScript { line: 3 },
         out: "",
         err: "mrt: bad script on line 3\n",

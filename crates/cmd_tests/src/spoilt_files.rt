@@ -1,6 +1,6 @@
 //! Certificate files that are cut, longer by a byte, or have another byte in a place, and a database that is cut.
 
-use crate::calling::{CHECK, calmly, front, two};
+use crate::calling::{CHECK, comes_to, front, two};
 use crate::files::{OTHER, ROUTER, TRIANGLE, TRIANGLE_CERTIFICATE};
 use crate::version_two::TRIANGLE_CERTIFICATE_2;
 use cert_format::CertKind;
@@ -19,6 +19,7 @@ struct Case {
     at: usize,
     byte: u8,
     exit: Exit,
+    err: &'static str,
 }
 
 const CASES: &[Case] = &[
@@ -34,6 +35,7 @@ const CASES: &[Case] = &[
             a: 0,
             b: 1,
         },
+        err: "mrt: no: rule 10 at 0 1\n",
     },
     Case {
         database: TRIANGLE,
@@ -46,6 +48,7 @@ const CASES: &[Case] = &[
             at: 72,
             kind: CertKind::Tag,
         },
+        err: "mrt: bad certificate: tag at 72\n",
     },
     // Version 2 has no Carried rows.
     Case {
@@ -59,6 +62,7 @@ const CASES: &[Case] = &[
             at: 72,
             kind: CertKind::Tag,
         },
+        err: "mrt: bad certificate: tag at 72\n",
     },
     Case {
         database: TRIANGLE,
@@ -71,6 +75,7 @@ const CASES: &[Case] = &[
             at: 0,
             kind: CertKind::Magic,
         },
+        err: "mrt: bad certificate: magic at 0\n",
     },
     Case {
         database: TRIANGLE,
@@ -83,6 +88,7 @@ const CASES: &[Case] = &[
             at: 68,
             kind: CertKind::Range,
         },
+        err: "mrt: bad certificate: range at 68\n",
     },
     Case {
         database: TRIANGLE,
@@ -95,6 +101,7 @@ const CASES: &[Case] = &[
             at: 98,
             kind: CertKind::Trailing,
         },
+        err: "mrt: bad certificate: trailing at 98\n",
     },
     // Its bytes are read before its root is looked for.
     Case {
@@ -108,6 +115,7 @@ const CASES: &[Case] = &[
             at: 23,
             kind: CertKind::Truncated,
         },
+        err: "mrt: bad certificate: truncated at 23\n",
     },
     Case {
         database: TRIANGLE,
@@ -120,6 +128,7 @@ const CASES: &[Case] = &[
             at: 97,
             kind: CertKind::Truncated,
         },
+        err: "mrt: bad certificate: truncated at 97\n",
     },
     Case {
         database: TRIANGLE,
@@ -132,6 +141,7 @@ const CASES: &[Case] = &[
             at: 96,
             kind: DbKind::Lsa(LsaKind::Truncated),
         },
+        err: "mrt: bad database: truncated at 96\n",
     },
 ];
 
@@ -158,16 +168,15 @@ fn changed(
     Ok(bytes)
 }
 
-fn exit_of(alloc: Global, case: &Case) -> Result<Exit, NoMemory> {
+fn is_refused(alloc: Global, case: &Case) -> Result<bool, NoMemory> {
     let certificate = changed(alloc, case.certificate, case.length, case.at, case.byte)?;
     let files = two(front(case.database, case.kept), &certificate);
-    let left = calmly(alloc, CHECK, files)?;
-    Ok(left.exit)
+    Ok(comes_to(alloc, CHECK, files, case.exit, b"", case.err.as_bytes()))
 }
 
 #[test]
 fn spoilt_files(rt: HostRuntime) {
     for case in cases() {
-        assert_eq!(rt; exit_of(rt.alloc(), case), Ok(case.exit));
+        assert!(rt; is_refused(rt.alloc(), case) == Ok(true), "{}", case.err);
     }
 }

@@ -2,7 +2,7 @@
 
 use crate::calling::{Case, Files, calm, comes_out, comes_to, left_on, two};
 use crate::files::{
-    CROSSED, LAN, LAN_IN_RING, LINE, ONE_SIDED, SAMPLE, SAMPLE_PROFILE, SQUARE, THREE_LINKS,
+    CROSSED, CUT, LAN, LAN_IN_RING, LINE, ONE_SIDED, SAMPLE, SAMPLE_PROFILE, SQUARE, THREE_LINKS,
     TRIANGLE, TWO_TRIANGLES,
 };
 use crate::limits::ring;
@@ -62,6 +62,18 @@ router 1.1.1.1 root 5.5.5.5 nodes 5 links 6\n\
 3.3.3.3 head blue 2.2.2.2/0.0.0.2 red 3.3.3.3/0.0.0.3 primary 3.3.3.3/0.0.0.3 repair b-\n\
 4.4.4.4 carried blue 2.2.2.2/0.0.0.2 red 3.3.3.3/0.0.0.3 primary 3.3.3.3/0.0.0.3 repair b-\n\
 5.5.5.5 carried blue 2.2.2.2/0.0.0.2 red 3.3.3.3/0.0.0.3 primary 3.3.3.3/0.0.0.3 repair b-\n",
+    },
+    Example {
+        name: "a root that cuts",
+        words: &["table", "db", "-", "1.1.1.1"],
+        database: CUT,
+        profile: "",
+        table: "\
+router 1.1.1.1 root 9.9.9.9 nodes 5 links 4\n\
+2.2.2.2 sole blue 2.2.2.2/0.0.0.2 red 2.2.2.2/0.0.0.2 primary 2.2.2.2/0.0.0.2 repair --\n\
+3.3.3.3 carried blue 2.2.2.2/0.0.0.2 red 2.2.2.2/0.0.0.2 primary 2.2.2.2/0.0.0.2 repair --\n\
+4.4.4.4 carried blue 2.2.2.2/0.0.0.2 red 2.2.2.2/0.0.0.2 primary 2.2.2.2/0.0.0.2 repair --\n\
+9.9.9.9 carried blue 2.2.2.2/0.0.0.2 red 2.2.2.2/0.0.0.2 primary 2.2.2.2/0.0.0.2 repair --\n",
     },
     Example {
         name: "an unordered pair, and two shortest paths of one cost",

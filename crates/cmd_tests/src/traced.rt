@@ -2,7 +2,7 @@
 
 use crate::answered::{Answered, is_answered};
 use crate::calling::{Case, calm, comes_out, left_on, two};
-use crate::files::{CUT, LAN_IN_RING, LINE, ONE_SIDED, TRIANGLE};
+use crate::files::{CROSSED, CUT, LAN, LAN_IN_RING, LINE, ONE_SIDED, TRIANGLE};
 use crate::limits::ring;
 use crate::words::USAGE;
 use mrt_cmd::Exit;
@@ -191,6 +191,70 @@ moved 9.9.9.9\n\
 delivered 3.3.3.3\n",
     },
     Answered {
+        name: "to a network",
+        words: &["trace", "db", "-", "1.1.1.1", "net:10.0.0.4", "repair"],
+        database: LAN,
+        profile: "",
+        script: "",
+        answers: "\
+entered 0\n\
+delivered net:10.0.0.4\n",
+    },
+    Answered {
+        name: "blue to a network",
+        words: &["trace", "db", "-", "1.1.1.1", "net:10.0.0.4", "blue"],
+        database: LAN,
+        profile: "",
+        script: "",
+        answers: "\
+entered 0\n\
+moved 2.2.2.2\n\
+delivered net:10.0.0.4\n",
+    },
+    Answered {
+        name: "blue to an unordered node",
+        words: &["trace", "db", "-", "1.1.1.1", "3.3.3.3", "blue"],
+        database: CROSSED,
+        profile: "",
+        script: "",
+        answers: "\
+entered 0\n\
+moved 5.5.5.5\n\
+delivered 3.3.3.3\n",
+    },
+    Answered {
+        name: "red to an unordered node",
+        words: &["trace", "db", "-", "1.1.1.1", "3.3.3.3", "red"],
+        database: CROSSED,
+        profile: "",
+        script: "",
+        answers: "\
+entered 0\n\
+moved 4.4.4.4\n\
+delivered 3.3.3.3\n",
+    },
+    Answered {
+        name: "to a router that the area lacks",
+        words: &["trace", "db", "-", "3.3.3.3", "9.9.9.9", "blue"],
+        database: TRIANGLE,
+        profile: "",
+        script: "",
+        answers: "\
+refused no-such-place\n",
+    },
+    Answered {
+        name: "to a router that the area lacks, after a failure",
+        words: &[
+            "trace", "db", "-", "3.3.3.3", "9.9.9.9", "repair", "1.1.1.1",
+        ],
+        database: TRIANGLE,
+        profile: "",
+        script: "",
+        answers: "\
+failed\n\
+refused no-such-place\n",
+    },
+    Answered {
         name: "no walk",
         words: &["trace", "db", "-", "1.1.1.1", "2.2.2.2", "repair"],
         database: ONE_SIDED,
@@ -280,16 +344,36 @@ fn refused_traces(rt: HostRuntime) {
     }
 }
 
-/// What comes of a trace on blue around a ring of 2,048 routers, and how many bytes tell it.
-fn comes_around_a_ring(alloc: Global) -> Result<(Exit, usize), NoMemory> {
+/// The line of a router of a ring, after a word.
+fn line(alloc: Global, word: &str, number: u32) -> Result<String, NoMemory> {
+    let (high, low) = (number / 256, number % 256);
+    Ok(format!(in alloc; "{word} 0.0.{high}.{low}\n")?)
+}
+
+/// The lines of a packet on its way around a ring of 2,048 routers: it enters at the first, and moves to each other one.
+fn lines_around(alloc: Global) -> Result<Vec<u8>, NoMemory> {
+    let mut lines = Vec::from_slice(alloc, b"entered 0\n")?;
+    for number in 2..2049 {
+        let word = if number < 2048 { "moved" } else { "delivered" };
+        lines.extend_from_slice(line(alloc, word, number)?.as_bytes())?;
+    }
+    Ok(lines)
+}
+
+/// Whether a trace on blue around such a ring has these lines.
+fn has_lines(alloc: Global, lines: &[u8]) -> Result<bool, NoMemory> {
     let database = ring(alloc, 2048, 1)?;
     let words = &["trace", "db", "-", "0.0.0.1", "0.0.8.0", "blue"];
     let left = left_on(alloc, words, two(&database, b""), calm(40_000))?;
-    Ok((left.exit, left.out.bytes().len()))
+    Ok(left.exit == Exit::Done && left.out.bytes() == lines)
 }
 
-// One line for the packet that enters, 2,046 that move it, and one for its delivery.
+fn goes_around(alloc: Global) -> Result<bool, NoMemory> {
+    let lines = lines_around(alloc)?;
+    has_lines(alloc, &lines)
+}
+
 #[test]
 fn a_trace_around_a_ring(rt: HostRuntime) {
-    assert_eq!(rt; comes_around_a_ring(rt.alloc()), Ok((Exit::Done, 31_888)));
+    assert!(rt; goes_around(rt.alloc()) == Ok(true));
 }
