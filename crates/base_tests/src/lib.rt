@@ -18,11 +18,15 @@ mod graphs;
 #[cfg(test)]
 mod judging;
 #[cfg(test)]
+mod next_nodes;
+#[cfg(test)]
 mod node_texts;
 #[cfg(test)]
 mod numbers_and_words;
 #[cfg(test)]
 mod opened_files;
+#[cfg(test)]
+mod parts_of_texts;
 #[cfg(test)]
 mod plain_islands;
 #[cfg(test)]

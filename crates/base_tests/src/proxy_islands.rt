@@ -17,6 +17,7 @@ pub type Text = (u16, u16, Option<&'static str>);
 
 /// How many routers, the root as a node, the links, and the certificate's words on nodes, on links (block and role) and
 /// on rows.
+#[derive(Clone, Copy)]
 pub struct Island {
     pub name: &'static str,
     pub routers: u16,

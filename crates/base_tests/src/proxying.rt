@@ -49,13 +49,13 @@ fn links_in(alloc: Global, joined: &[(u16, u16, u32)]) -> Result<Vec<LinkIn>, No
 }
 
 /// The graph of an island.
-fn graph_of(rt: &impl Abort, alloc: Global, island: &Island) -> Result<Graph, GraphError> {
+pub fn graph_of(rt: &impl Abort, alloc: Global, island: &Island) -> Result<Graph, GraphError> {
     let links = links_in(alloc, island.joined)?;
     graph(rt, alloc, island.routers, links)
 }
 
 /// The certificate file of an island.
-fn file(rt: &impl Abort, alloc: Global, island: &Island) -> Result<CertFile, NoMemory> {
+pub fn file(rt: &impl Abort, alloc: Global, island: &Island) -> Result<CertFile, NoMemory> {
     let nodes = nodes(alloc, island.nodes)?;
     let links = links(alloc, island)?;
     let rows = rows(alloc, island.rows)?;
@@ -67,7 +67,7 @@ fn file(rt: &impl Abort, alloc: Global, island: &Island) -> Result<CertFile, NoM
 }
 
 /// Asserts that the checker accepts the file.
-fn assert_accepted(rt: &impl Abort, g: &Graph, root: NodeNo, file: &CertFile)
+pub fn assert_accepted(rt: &impl Abort, g: &Graph, root: NodeNo, file: &CertFile)
     requires { root < length g.now.ids }
     ensures { IsAcceptedFor g.now file.now.cert }
 {
@@ -157,6 +157,96 @@ fn rows_of(
     assert!(rt; a < g.node_count() && b < g.node_count() && a != b);
     assert_accepted(rt, g, NodeNo::new(root), file);
     proxy_rows(alloc, g, &file.cert, NodeNo::new(a), NodeNo::new(b))
+}
+
+/// The blue and the red link of a node's row; none where the prefix is attached to the node.
+type OutsTold = (Option<u16>, Option<u16>);
+
+/// An island, two routers that a prefix is attached to, and the rows of its nodes.
+struct Attached {
+    island: &'static Island,
+    a: u16,
+    b: u16,
+    rows: &'static [OutsTold],
+}
+
+const ATTACHED: &[Attached] = &[
+    Attached {
+        island: &TRIANGLE,
+        a: 0,
+        b: 1,
+        rows: &[(None, Some(1)), (Some(2), None), (Some(1), Some(2))],
+    },
+    Attached {
+        island: &LINE,
+        a: 0,
+        b: 1,
+        rows: &[
+            (Some(0), None),
+            (None, Some(0)),
+            (Some(1), Some(1)),
+            (Some(2), Some(2)),
+        ],
+    },
+    Attached {
+        island: &ALL_PLACES,
+        a: 4,
+        b: 6,
+        rows: &[
+            (Some(1), Some(2)),
+            (Some(0), Some(0)),
+            (Some(4), Some(1)),
+            (Some(3), Some(3)),
+            (None, Some(4)),
+            (Some(2), Some(9)),
+            (Some(9), None),
+            (Some(6), Some(11)),
+        ],
+    },
+];
+
+fn attached_ones() -> &'static [Attached] {
+    ATTACHED
+}
+
+fn out_told(link: Option<u16>) -> Out {
+    match link {
+        Some(link) => Out::Link(LinkNo::new(link)),
+        None => Out::Attached,
+    }
+}
+
+fn is_row(row: ProxyRow, told: OutsTold) -> bool {
+    row.blue == out_told(told.0) && row.red == out_told(told.1)
+}
+
+fn are_rows(rows: &[ProxyRow], told: &[OutsTold]) -> bool {
+    if rows.len() != told.len() {
+        return false;
+    }
+    for k in 0..told.len() {
+        if !is_row(rows[k], told[k]) {
+            return false;
+        }
+    }
+    true
+}
+
+fn has_rows(rt: &impl Abort, alloc: Global, case: &Attached) -> Result<bool, GraphError> {
+    let graph = graph_of(rt, alloc, case.island)?;
+    let file = file(rt, alloc, case.island)?;
+    match rows_of(rt, alloc, &graph, case.island.root, &file, case.a, case.b) {
+        Ok(rows) => Ok(are_rows(&rows, case.rows)),
+        Err(_) => Ok(false),
+    }
+}
+
+#[test]
+fn rows_of_small_islands(rt: HostRuntime) {
+    for case in attached_ones() {
+        let is_so = has_rows(&rt, rt.alloc(), case);
+        assert!(&rt; is_so == Ok(true), "{}", case.island.name);
+    }
 }
 
 /// The link of the graph with the new node that a node sends over; its own link to the new node is the first new one, or the
