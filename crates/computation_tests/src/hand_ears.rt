@@ -94,24 +94,24 @@ const TWO_TRIANGLES: &Case = &Case {
     ],
 };
 
-const STAR: &Case = &Case {
-    name: "three links in a star, and one more from its last router: a tree",
+const ROOT_THAT_CUTS: &Case = &Case {
+    name: "a root that heads three blocks, each of one link",
     count: 5,
     routers: 5,
     links: &[
         (0, 1, 10, 10),
-        (0, 2, 10, 10),
-        (0, 3, 10, 10),
+        (1, 4, 10, 10),
+        (2, 4, 10, 10),
         (3, 4, 10, 10),
     ],
-    root: 0,
-    order: &[0, 3, 4, 2, 1],
-    places: &[(0, 0), (0, 1), (0, 2), (0, 3), (3, 4)],
+    root: 4,
+    order: &[4, 3, 2, 1, 0],
+    places: &[(1, 0), (4, 1), (4, 2), (4, 3), (4, 4)],
     marks: &[
-        (Way::AToB, Role::Sole, 1),
-        (Way::AToB, Role::Sole, 2),
-        (Way::AToB, Role::Sole, 3),
-        (Way::AToB, Role::Sole, 4),
+        (Way::BToA, Role::Sole, 0),
+        (Way::BToA, Role::Sole, 1),
+        (Way::BToA, Role::Sole, 2),
+        (Way::BToA, Role::Sole, 3),
     ],
 };
 
@@ -143,27 +143,27 @@ const RING_WITH_CHORDS: &Case = &Case {
 };
 
 const THREE_BETWEEN_TWO: &Case = &Case {
-    name: "routers 2 to 4 with links to 1 and to 5",
+    name: "routers 1 to 3 with links to 4 and to 5",
     count: 5,
     routers: 5,
     links: &[
-        (0, 1, 10, 10),
-        (0, 2, 10, 10),
         (0, 3, 10, 10),
+        (0, 4, 10, 10),
+        (1, 3, 10, 10),
         (1, 4, 10, 10),
+        (2, 3, 10, 10),
         (2, 4, 10, 10),
-        (3, 4, 10, 10),
     ],
     root: 4,
-    order: &[4, 3, 1, 0, 2],
-    places: &[(4, 1), (4, 1), (4, 1), (4, 1), (4, 4)],
+    order: &[4, 2, 0, 3, 1],
+    places: &[(4, 0), (4, 0), (4, 0), (4, 0), (4, 4)],
     marks: &[
-        (Way::BToA, Role::Plain, 1),
-        (Way::AToB, Role::Plain, 1),
-        (Way::BToA, Role::Plain, 1),
-        (Way::BToA, Role::Plain, 1),
-        (Way::AToB, Role::Closing, 1),
-        (Way::BToA, Role::Plain, 1),
+        (Way::AToB, Role::Plain, 0),
+        (Way::BToA, Role::Plain, 0),
+        (Way::BToA, Role::Plain, 0),
+        (Way::AToB, Role::Closing, 0),
+        (Way::AToB, Role::Plain, 0),
+        (Way::BToA, Role::Plain, 0),
     ],
 };
 
@@ -248,7 +248,7 @@ fn cases() -> [&'static Case; 10] {
         TRIANGLE,
         PARALLEL_LINKS,
         TWO_TRIANGLES,
-        STAR,
+        ROOT_THAT_CUTS,
         RING_WITH_CHORDS,
         THREE_BETWEEN_TWO,
         EAR_ABOVE_ITS_START,
