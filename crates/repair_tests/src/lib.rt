@@ -1,4 +1,4 @@
-//! Tests of primaries, of loop-free alternates, of repairs by order, of routes, of repairs, of a table's line, of packets through a failure, and
+//! Tests of primaries, of loop-free alternates, of repairs by order, of routes, of repairs, of a table's lines, of packets through a failure, and
 //! of networks made from a number and their surveys.
 #![tactic(auto)]
 

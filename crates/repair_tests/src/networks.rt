@@ -52,7 +52,7 @@ pub fn network_of(alloc: Global, bytes: &[u8]) -> Option<Network>
 }
 
 /// The island of router 1.1.1.1.
-fn island_of(alloc: Global, area: &Area) -> Option<Island>
+pub fn island_of(alloc: Global, area: &Area) -> Option<Island>
     ensures { IfSome result (λ island. Fits area.now island.graph island.link_of) }
 {
     match find_island(alloc, area, &Profile::empty(alloc), 0x0101_0101) {

@@ -1,4 +1,4 @@
-//! The line of router 1 on router 4 of a small island.
+//! Lines of tables: of router 1 of a small island on router 4, and of router 2 of a triangle.
 
 ghost use Rattle.std.specs.Prelude.{◌≢◌, ◌<◌, IfSome, length};
 ghost use Rattle.area_graph.specs.Fits.{Fits};
@@ -6,11 +6,13 @@ ghost use Rattle.mrt_graph.specs.Column.{ColumnSound};
 ghost use Rattle.mrt_graph.specs.GraphInvariant.{IsNetwork};
 ghost use Rattle.mrt_report.specs.TableParts.{AreItsPrimaries};
 
+use crate::databases::area_of;
+use crate::networks::{TRIANGLE, island_of as island_of_first};
 use crate::small_area::{island_of, small_area};
 use area_graph::Area;
 use mrt_graph::{Column, Kind, NodeNo};
 use mrt_island::Island;
-use mrt_report::{primary_for, table_line};
+use mrt_report::{primary_for, table_head, table_line};
 use mrt_rows::RootedColumns;
 use primary_alt::{Primary, primaries};
 use std::alloc::Global;
@@ -91,25 +93,96 @@ fn line_of(
     line_by(alloc, area, island, &prim, source, to)
 }
 
-/// Whether this is the line of node 0 of an island, a router, on node 3.
-fn is_line(alloc: Global, area: &Area, island: &Island, line: &[u8]) -> Option<bool>
+/// Whether this is the line of a router of an island on another node.
+fn is_line(
+    alloc: Global,
+    area: &Area,
+    island: &Island,
+    source: u16,
+    to: u16,
+    line: &[u8],
+) -> Option<bool>
     requires { Fits area.now island.now.graph island.now.link_of }
 {
-    let source = NodeNo::new(0);
-    if island.graph.node_count() != 5 || island.graph.id(source).kind != Kind::Router {
+    let count = island.graph.node_count();
+    if source == to || count <= source || count <= to {
         return None;
     }
-    let text = line_of(alloc, area, island, source, NodeNo::new(3))?;
+    let source = NodeNo::new(source);
+    if island.graph.id(source).kind != Kind::Router {
+        return None;
+    }
+    let text = line_of(alloc, area, island, source, NodeNo::new(to))?;
     Some(text.as_slice() == line)
 }
 
-fn is_given(alloc: Global) -> Option<bool> {
+fn is_of_small_area(alloc: Global) -> Option<bool> {
     let area = small_area(alloc)?;
     let island = island_of(alloc, &area)?;
-    is_line(alloc, &area, &island, LINE)
+    is_line(alloc, &area, &island, 0, 3, LINE)
 }
 
 #[test]
 fn a_line_of_a_table(rt: HostRuntime) {
-    assert_eq!(rt; is_given(rt.alloc()), Some(true));
+    assert_eq!(rt; is_of_small_area(rt.alloc()), Some(true));
+}
+
+/// The lines of router 2 of a triangle on routers 1 and 3, which are nodes 0 and 2.
+const LINES: &[(u16, &[u8])] = &[
+    (
+        0,
+        b"1.1.1.1 above blue 3.3.3.3/0.0.0.3 red 1.1.1.1/0.0.0.1 primary 1.1.1.1/0.0.0.1 repair b-\n",
+    ),
+    (
+        2,
+        b"3.3.3.3 head blue 3.3.3.3/0.0.0.3 red 1.1.1.1/0.0.0.1 primary 3.3.3.3/0.0.0.3 repair r-\n",
+    ),
+];
+
+fn lines() -> &'static [(u16, &'static [u8])] {
+    LINES
+}
+
+fn is_of_triangle(alloc: Global, to: u16, line: &[u8]) -> Option<bool> {
+    let area = area_of(alloc, TRIANGLE)?;
+    let island = island_of_first(alloc, &area)?;
+    is_line(alloc, &area, &island, 1, to, line)
+}
+
+#[test]
+fn lines_of_the_table_of_a_triangle(rt: HostRuntime) {
+    for &(to, line) in lines() {
+        assert_eq!(rt; is_of_triangle(rt.alloc(), to, line), Some(true));
+    }
+}
+
+/// Whether this is the first line of the table of a router of an island.
+fn is_head(alloc: Global, island: &Island, source: u16, line: &[u8]) -> Option<bool> {
+    let (g, root) = (&island.graph, island.root);
+    if g.node_count() <= source || g.node_count() <= root.get() {
+        return None;
+    }
+    let source = NodeNo::new(source);
+    if g.id(source).kind != Kind::Router {
+        return None;
+    }
+    if g.id(root).kind != Kind::Router {
+        return None;
+    }
+    match table_head(alloc, g, root, source) {
+        Ok(head) => Some(head.as_slice() == line),
+        Err(_) => None,
+    }
+}
+
+fn is_head_of_triangle(alloc: Global, line: &[u8]) -> Option<bool> {
+    let area = area_of(alloc, TRIANGLE)?;
+    let island = island_of_first(alloc, &area)?;
+    is_head(alloc, &island, 1, line)
+}
+
+#[test]
+fn the_first_line_of_a_table(rt: HostRuntime) {
+    let line = b"router 2.2.2.2 root 3.3.3.3 nodes 3 links 3\n";
+    assert_eq!(rt; is_head_of_triangle(rt.alloc(), line), Some(true));
 }
