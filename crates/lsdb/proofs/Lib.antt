@@ -4,6 +4,7 @@ pub mod Arrivals
 pub mod Conflicting
 pub mod Entered
 pub mod Entering
+pub mod Fronts
 pub mod Lists
 pub mod NewestInEveryOrder
 pub mod Orders

@@ -7,6 +7,7 @@ ghost use Rattle.lsdb.specs.Disagreements.{IsFirstConflict};
 ghost use Rattle.lsdb.specs.Entries.{Entry};
 ghost use Rattle.lsdb.specs.Installing.{installed, IsKept, IsBehind};
 ghost use Rattle.lsdb.specs.Keys.{AreDistinct};
+ghost use Rattle.lsdb.specs.Store.{entries_of, front, IsStore};
 
 use crate::change::{Change, Conflict};
 use crate::conflicts::least;
@@ -58,6 +59,27 @@ impl Lsdb {
             lsas: Vec::new(alloc),
             differing: Vec::new(alloc),
             greatest: None,
+        }
+    }
+
+    /// The database with these keys, whose LSAs stand at the front of this list, and this greatest place.
+    pub(crate) fn at_front(
+        keys: IndexSet<Key, FileKey>,
+        lsas: Vec<Lsa>,
+        differing: Vec<Option<u32>>,
+        greatest: Option<u32>,
+    ) -> Lsdb
+        requires store { IsStore keys.keys (front lsas.items differing.items) differing.items }
+        ensures entries { result.entries ≡ entries_of (front lsas.items differing.items) differing.items }
+        ensures greatest { result.greatest ≡ greatest }
+    {
+        let mut lsas = lsas;
+        lsas.truncate(differing.len());
+        Lsdb {
+            keys,
+            lsas,
+            differing,
+            greatest,
         }
     }
 

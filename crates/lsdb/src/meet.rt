@@ -1,13 +1,14 @@
 //! An instance meets the one of its key that is there.
 
-ghost use Rattle.std.specs.Prelude.{◌≡◌, ◌<◌, ℕ, Option, None, Some, if◌then◌else◌, length, map, slice_get, slice_set};
+ghost use Rattle.std.specs.Prelude.{◌≡◌, ◌+◌, ◌<◌, ◌≤◌, ℕ, Option, None, Some, if◌then◌else◌, drop, length, map, slice_get, slice_set};
 ghost use Rattle.std.specs.List.{AllByRecursion};
 ghost use Rattle.std.specs.Option.{is_some};
+ghost use Rattle.ospf_lsa.specs.declared.lsa.Lsa.{Lsa};
 ghost use Rattle.lsdb.specs.Entries.{Entry};
 ghost use Rattle.lsdb.specs.Installing.{change_of, changed, IsKept};
 ghost use Rattle.lsdb.specs.Keys.{key_of};
 ghost use Rattle.lsdb.specs.Newest.{same_but_age};
-ghost use Rattle.lsdb.specs.Store.{entries_of};
+ghost use Rattle.lsdb.specs.Store.{entries_of, front};
 
 use crate::change::Change;
 use crate::compare::{compare_ranks, same};
@@ -86,6 +87,45 @@ fn turn(
             differing[place] = None;
         }
         Change::Clash => note(differing, place, lsa.at),
+        Change::Added | Change::Older | Change::Same => {}
+    }
+}
+
+/// Changes the entry of this number at the front of the list, whose key the instance at this place has.
+pub fn turn_at_front(
+    lsas: &mut Vec<Lsa>,
+    differing: &mut Vec<Option<u32>>,
+    number: usize,
+    place: usize,
+    change: Change,
+)
+    requires front { number < length differing.old.items }
+    requires behind { length differing.old.items ≤ place }
+    requires inside { place < length lsas.old.items }
+    ensures entries { (lsa : Lsa) (entry : Entry)
+        → slice_get lsas.old.items place ≡ Some lsa
+        → slice_get (entries_of (front lsas.old.items differing.old.items) differing.old.items) number
+        ≡ Some entry
+        → entries_of (front lsas.new.items differing.new.items) differing.new.items
+        ≡ slice_set (entries_of (front lsas.old.items differing.old.items) differing.old.items) number
+        (changed entry lsa change) }
+    ensures keys { (lsa : Lsa) → slice_get lsas.old.items place ≡ Some lsa
+        → slice_get (map key_of (front lsas.old.items differing.old.items)) number ≡ Some (key_of lsa)
+        → map key_of (front lsas.new.items differing.new.items)
+        ≡ map key_of (front lsas.old.items differing.old.items) }
+    ensures kept { (lsa : Lsa) → slice_get lsas.old.items place ≡ Some lsa → IsKept lsa
+        → AllByRecursion IsKept (front lsas.old.items differing.old.items)
+        → AllByRecursion IsKept (front lsas.new.items differing.new.items) }
+    ensures noted { length differing.new.items ≡ length differing.old.items }
+    ensures count { length lsas.new.items ≡ length lsas.old.items }
+    ensures rest { drop (place + 1) lsas.new.items ≡ drop (place + 1) lsas.old.items }
+{
+    match change {
+        Change::Replaced => {
+            lsas.swap(number, place);
+            differing[number] = None;
+        }
+        Change::Clash => note(differing, number, lsas[place].at),
         Change::Added | Change::Older | Change::Same => {}
     }
 }
