@@ -19,6 +19,8 @@ mod hand_rows;
 #[cfg(test)]
 mod near_rows;
 #[cfg(test)]
+mod order_colors;
+#[cfg(test)]
 mod order_walks;
 #[cfg(test)]
 mod paths_to_nodes;
