@@ -13,8 +13,8 @@ link_text link =
     to_be_bytes w32 link.id ++ (to_be_bytes w32 link.link_data ++ (to_be_bytes w8 link.kind
     ++ (to_be_bytes w8 link.entries ++ to_be_bytes w16 link.metric)))
 
--- the links of a router-LSA, each with its TOS entries after it: the first link has as many as it says from the front
--- of these, the links after it have those that are left
+-- the links of a router-LSA and their TOS entries: after each link as many entries as it says, taken from the front of
+-- the list; the links after it have those that are left
 abbrev pub links_text : List RouterLink → List ℕ → List ℕ
 links_text [] tos = []
 links_text (link ∷ links) tos =

@@ -1,6 +1,6 @@
 //! Copies of LSAs.
 
-ghost use Rattle.std.specs.Prelude.{◌≡◌, ◌++◌, IfOk};
+ghost use Rattle.std.specs.Prelude.{◌≡◌, IfOk};
 
 use crate::lsa::{Body, Lsa};
 use mrt_graph::{NoMemory, Seq};

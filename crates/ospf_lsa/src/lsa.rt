@@ -31,6 +31,9 @@ pub struct RouterLink {
     pub metric: u16,
 }
 
+/// A link takes as much room as its bytes in a file without its TOS entries.
+const _: () = prove!(size_of::<RouterLink>() == 12);
+
 /// What stands after the header of an LSA.
 #[derive(Drop, PartialEq, Eq)]
 pub enum Body {
