@@ -1,5 +1,5 @@
 -- How the code keeps a database.
-use Rattle.std.specs.Prelude.{◌≡◌, ℕ, Bool, List, [], ◌∷◌, Option, Some, None, length, map, take}
+use Rattle.std.specs.Prelude.{◌≡◌, ℕ, Bool, List, [], ◌∷◌, Option, length, map, take}
 use Rattle.std.specs.List.{AllByRecursion}
 use Rattle.ospf_lsa.specs.declared.lsa.Lsa.{Lsa}
 use Rattle.lsdb.specs.declared.key.Key.{Key}
@@ -27,8 +27,3 @@ pub record IsStore (keys : List Key) (lsas : List Lsa) (differing : List (Option
 -- whether an entry is of the key
 abbrev pub is_entry_of : Key → Entry → Bool
 is_entry_of key entry = same_key key (key_of entry.lsa)
-
--- there is an entry, and it is of the key
-abbrev pub IsEntryOf : Key → Option Entry → Type 0
-IsEntryOf key None = ⊥
-IsEntryOf key (Some entry) = key_of entry.lsa ≡ key
