@@ -10,7 +10,7 @@ use Rattle.flood_core.specs.declared.answer.Answer.TheVariants as answers
 use Rattle.flood_core.specs.declared.numbered_update.NumberedUpdate.{NumberedUpdate}
 use Rattle.flood_core.specs.declared.receiver.Receiver.{Receiver}
 use Rattle.flood_core.specs.declared.update.Update.{Update}
-use Rattle.flood_core.specs.FloodState.{FloodState, IsFlood, IsRouter, started}
+use Rattle.flood_core.specs.FloodState.{FloodState, IsFlood, IsRouter}
 use Rattle.flood_core.specs.FloodStep.{answer_of, delivered, sent_on}
 use Rattle.flood_core.specs.Numbers.{flood_in, lsa_in, lsas_by, router_in, update_in, AreNumbers, IsFloodIn, IsStored}
 use Rattle.flood_core.specs.Receiving.{after_all, new_router, news, topology, MayFlood}
@@ -65,11 +65,6 @@ module _ (lsas : List Lsa) (packets : List NumberedUpdate) (routers : List Recei
     numbers = numbers;
     stored = stored;
   }
-
-  pub begun_is : flood_in lsas packets routers 0 ≡ started updates count
-  begun_is =
-      ap (λ (us : List Update). record { packets = us; routers = map (router_in lsas) routers; changed = 0 }) packets_are
-      ∙ ap (λ (rs : List Router). record { packets = updates; routers = rs; changed = 0 }) routers_are
 
 -- ---- a delivery
 
