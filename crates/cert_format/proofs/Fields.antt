@@ -17,7 +17,7 @@ use Rattle.cert_format.specs.CertText.{kind_number, role_number}
 use Rattle.cert_format.specs.Layout.{any, Field, Form, Then, within, tag}
 use Rattle.cert_format.specs.FirstFault.{number_of, fault_in}
 use Rattle.cert_format.specs.declared.error.CertFault.{CertFault}
-use Rattle.cert_format.specs.Reading.{Rest, rest_of, Names, Took, TookField, ReadsNumber, ReadsField}
+use Rattle.cert_format.specs.Reading.{Rest, Names, Took, TookField, ReadsNumber, ReadsField}
 
 -- numbers of this width and their bytes
 pub record IsWide (w : Width) : Type 0 where
@@ -54,13 +54,6 @@ wide32 = record {
   again = λ n lt. from_be_bytes-to_be_bytes_4 n lt;
   small = λ bytes len fits. omega (arith, fits 0, fits 1, fits 2, fits 3);
 }
-
--- the number that the first bytes spell
-pub took_number : (w : Width) (wide : IsWide w) (n at : ℕ) (front bytes after : List ℕ) → length front ≡ byte_len w → IsBytes front → n ≡ from_be_bytes w front → bytes ≡ front ++ after
-    → Took (to_be_bytes w n) (rest_of at bytes) (rest_of (at + byte_len w) after)
-took_number w wide n at front bytes after len fits n-is parts =
-    let text : to_be_bytes w n ≡ front = rw n-is (wide.back front len fits) in
-    record { parts = rw text parts; place = rw (wide.len n) refl }
 
 -- what was written is what the field reads
 written_is_read : (field : Field) (n : ℕ) (rest : List ℕ) → IsWide field.width → n < 256 ^ byte_len field.width → number_of field (to_be_bytes field.width n ++ rest) ≡ n

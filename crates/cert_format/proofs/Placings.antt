@@ -20,9 +20,6 @@ use Rattle.cert_format.specs.Placing.{IsClosed, IsPlacing, LooksDown, Places}
 use Rattle.cert_format.proofs.HeadFaults.{IsLeast, Tells, least_is, least_tells}
 use Rattle.cert_format.proofs.OneUnfolding.{chain_ends, chain_shift, own_head}
 
-pub places_none : (c : Certificate) (marks : List Bool) (down : List ℕ) → Places c marks down marks down
-places_none c marks down = record { many = refl; places = λ top is. is; kept = λ v m. m; room = refl; grows = omega arith }
-
 pub places_both : (c : Certificate) (m0 : List Bool) (d0 : List ℕ) (m1 : List Bool) (d1 : List ℕ) (m2 : List Bool) (d2 : List ℕ)
     → Places c m0 d0 m1 d1 → Places c m1 d1 m2 d2 → Places c m0 d0 m2 d2
 places_both c m0 d0 m1 d1 m2 d2 a b = record {

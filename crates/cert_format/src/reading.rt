@@ -91,7 +91,7 @@ pub fn one_spelling()
 /// They are never both, and a file in one way, by [`one_spelling`]. So but for want of memory [`read_cert`] has one answer
 /// to any bytes.
 pub fn bytes_are_a_certificate_or_have_a_fault()
-    ensures { (bytes : List ℕ) → AllByRecursion (λ byte. byte < 2 ^ 8) bytes
+    ensures either { (bytes : List ℕ) → AllByRecursion (λ byte. byte < 2 ^ 8) bytes
         → ((f : CertFile) × IsCertFile f × (bytes ≡ cert_text f))
         ⊎ ((at : ℕ) × (kind : CertKind) × (first_fault bytes ≡ Some (at, kind))) }
 {}
