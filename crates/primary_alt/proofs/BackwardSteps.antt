@@ -17,10 +17,6 @@ use Rattle.primary_alt.specs.Distances.{AreDistances, HasDistance}
 abbrev pub held : ℕ → ℕ → Reverse Offer
 held v distance = record { 0 = record { distance = distance; node = v } }
 
--- what has no distance has none of at most so much
-no_distance : (known : List (Option ℕ)) → ((v d : ℕ) → ¬ HasDistance known v d) → (v d : ℕ) → ¬ HasAtMost known v d
-no_distance known none v d has = none v has.least has.there
-
 -- a leaf's distance is no smaller than that of the node that its one arc leaves: there is nothing to pass on
 leaf_passed : (arcs : List Arc) (known : List (Option ℕ)) (u v distance d : ℕ) → HasAtMost known u distance → distance ≤ d → IsLeafOf arcs u v → IsPassed arcs known v d
 leaf_passed arcs known u v distance d has upto leaf = λ arc there to.

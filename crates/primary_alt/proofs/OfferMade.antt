@@ -1,19 +1,19 @@
 -- An offer of a distance to a node: it is taken, or the node has no greater one.
-use Rattle.std.proofs.Common.{◌≡◌, ◌<◌, ◌≤◌, ◌+◌, ◌*◌, ◌^◌, ◌∙◌, ℕ, true, cond, List, [], ◌∷◌, Option, Some, None, length, set, slice_get, inl, inr, refl, sym, ap, subst, arith}
-use Rattle.std.specs.Prelude.{IsPermutation}
+use Rattle.std.proofs.Common.{◌≡◌, ◌<◌, ◌≤◌, ◌+◌, ◌*◌, ◌^◌, ◌∙◌, ℕ, cond, List, ◌∷◌, Option, Some, None, length, set, slice_get, inl, inr, refl, sym, ap, subst, arith}
+use Rattle.std.specs.Prelude.{Contains, IsPermutation}
 use Rattle.std.specs.Option.{is_some}
 use Rattle.std.specs.declared.cmp.Reverse.{Reverse}
-use Rattle.std.proofs.lemmas.Bool.{cases_eq, eqb-true}
+use Rattle.std.proofs.lemmas.Bool.{cases_eq}
 use Rattle.std.proofs.lemmas.List.{length-set}
 use Rattle.std.proofs.lemmas.List.Sorted.{Contains-permutation, IsPermutation-sym}
 use Rattle.std.proofs.lemmas.List.Sums.{sum_by-set}
 use Rattle.std.proofs.lemmas.Option.{get_or_from_slice_get, same_Some, slice_get_within}
 use Rattle.area_graph.specs.declared.area_types.Arc.{Arc}
 use Rattle.mrt_graph.proofs.ListPlaces.{set_elsewhere, set_there}
-use Rattle.mrt_graph.proofs.Members.{contains_cases, contains_first, contains_later, contains_none}
+use Rattle.mrt_graph.proofs.Members.{contains_cases, contains_first, contains_later}
 use Rattle.primary_alt.specs.declared.backward.Offer.{Offer}
 use Rattle.primary_alt.specs.ArcsInto.{AreInto}
-use Rattle.primary_alt.specs.BackwardSearch.{AreSmall, HasAtMost, IsAdded, IsLeafOf, IsOffered, WaitsUnlessLeaf, is_one_from, reached, room_of}
+use Rattle.primary_alt.specs.BackwardSearch.{AreSmall, HasAtMost, IsAdded, IsOffered, WaitsUnlessLeaf, reached, room_of}
 use Rattle.primary_alt.specs.Distances.{HasDistance}
 
 pub added_by : (arcs : List Arc) (u : ℕ) (offer : Reverse Offer) (heap heap' : List (Reverse Offer)) → IsPermutation (offer ∷ heap) heap'
@@ -27,19 +27,11 @@ added_by arcs u offer heap heap' p = record {
   ];
 }
 
--- a row of one arc that leaves u
-leaf_by_row : (arcs row : List Arc) (u v : ℕ) → AreInto arcs v row → is_one_from row u ≡ true → IsLeafOf arcs u v
-leaf_by_row arcs [] u v into is = cc
-leaf_by_row arcs (only ∷ []) u v into is = λ arc there to. elim (contains_cases only arc [] (into.all arc there to)) [
-  | inl same ↦ ap (λ (a : Arc). a.tail) same ∙ eqb-true only.tail u is
-  | inr later ↦ absurd (contains_none arc later)
-]
-leaf_by_row arcs (only ∷ other ∷ more) u v into is = cc
-
-pub added_none : (arcs row : List Arc) (u v distance : ℕ) (heap : List (Reverse Offer)) → AreInto arcs v row → is_one_from row u ≡ true
-    → IsAdded arcs u v distance heap heap
-added_none arcs row u v distance heap into is = record {
-  there = inr (leaf_by_row arcs row u v into is);
+-- a row of arcs that leave u
+pub added_none : (arcs row : List Arc) (u v distance : ℕ) (heap : List (Reverse Offer)) → AreInto arcs v row
+    → ((arc : Arc) → Contains row arc → arc.tail ≡ u) → IsAdded arcs u v distance heap heap
+added_none arcs row u v distance heap into leave = record {
+  there = inr (λ arc there to. leave arc (into.all arc there to));
   kept = λ w d waits. waits;
   only = λ w d waits. inl waits;
 }

@@ -1,5 +1,5 @@
 -- The search for distances to one node, backwards along the arcs.
-use Rattle.std.specs.Prelude.{◌≡◌, ◌<◌, ◌≤◌, ◌+◌, ◌*◌, ◌^◌, ◌⊎◌, ◌==◌, ℕ, Bool, false, List, [], ◌∷◌, Option, Some, None, Contains, length, slice_get, count_by, sum_by}
+use Rattle.std.specs.Prelude.{◌≡◌, ◌<◌, ◌≤◌, ◌+◌, ◌*◌, ◌^◌, ◌⊎◌, ℕ, List, Option, Some, None, Contains, length, slice_get, count_by, sum_by}
 use Rattle.std.specs.Option.{is_some}
 use Rattle.std.specs.declared.cmp.Reverse.{Reverse}
 use Rattle.area_graph.specs.declared.area_types.Arc.{Arc}
@@ -34,12 +34,6 @@ room_of (Some distance) = distance
 abbrev pub left : List (Option ℕ) → ℕ → ℕ
 left known waiting = 2 * sum_by room_of known + waiting
 
--- these arcs are one alone, which leaves that node
-abbrev pub is_one_from : List Arc → ℕ → Bool
-is_one_from [] u = false
-is_one_from (arc ∷ []) u = arc.tail == u
-is_one_from (arc ∷ other ∷ more) u = false
-
 -- node v is a leaf of u: each arc to v leaves u
 abbrev pub IsLeafOf : List Arc → ℕ → ℕ → Type 0
 IsLeafOf arcs u v = (arc : Arc) → Contains arcs arc → arc.to ≡ v → arc.tail ≡ u
@@ -54,7 +48,7 @@ pub record IsAdded (arcs : List Arc) (u node distance : ℕ) (heap heap' : List 
   pub kept : (v d : ℕ) → Waits heap v d → Waits heap' v d
   pub only : (v d : ℕ) → Waits heap' v d → Waits heap v d ⊎ (v ≡ node)
 
--- an offer of u to a node: it has at most this distance, and what is new is this offer, which waits or need not
+-- an offer of u to a node: the node then has at most this distance, and what is new is this offer, which waits or need not
 pub record IsOffered (arcs : List Arc) (u node distance : ℕ) (before after : List (Option ℕ)) (heap heap' : List (Reverse Offer))
     : Type 0 where
   pub one_each : length after ≡ length before

@@ -1,9 +1,10 @@
 //! The search for distances to one node, backwards along the arcs (Dijkstra's).
 
 ghost use Rattle.std.specs.BinaryHeap.{heap_items, heap_len};
-ghost use Rattle.std.specs.Prelude.{◌≡◌, ◌<◌, ◌≤◌, ◌+◌, ◌*◌, ◌∷◌, ◌↔◌, ℕ, IsTrue, OnOk, length};
+ghost use Rattle.std.specs.Prelude.{◌≡◌, ◌<◌, ◌≤◌, ◌+◌, ◌*◌, ◌∷◌, ◌↔◌, ℕ, Contains, IsTrue, OnOk, length};
+ghost use Rattle.area_graph.specs.declared.area_types.Arc.{Arc};
 ghost use Rattle.primary_alt.specs.ArcsInto.{AreFromBelow, AreStartsInto};
-ghost use Rattle.primary_alt.specs.BackwardSearch.{AreSmall, IsAdded, IsOffered, IsRelaxed, IsSearching, is_one_from, left, reached, room_of};
+ghost use Rattle.primary_alt.specs.BackwardSearch.{AreSmall, IsAdded, IsOffered, IsRelaxed, IsSearching, left, reached, room_of};
 ghost use Rattle.primary_alt.specs.Distances.{AreDistances, HasDistance};
 
 use crate::arcs_into::ArcsInto;
@@ -135,7 +136,7 @@ fn relax(
     Ok(())
 }
 
-/// Offers a node a distance over an arc from it to `u`: it is kept where it is smaller than the known one.
+/// Offers a node a distance that `u` gives: it is kept where it is smaller than the known one.
 fn offer_to(
     into: &ArcsInto,
     u: Spot,
@@ -183,7 +184,7 @@ fn wait(
 
 /// Whether these arcs are one alone, which leaves `u`.
 fn is_one_from(row: &[Arc], u: Spot) -> bool
-    ensures { result ≡ is_one_from row.now u }
+    ensures { IsTrue result → (arc : Arc) → Contains row.now arc → arc.tail ≡ u }
 {
     match row {
         [only] => only.tail == u,

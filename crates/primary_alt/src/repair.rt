@@ -1,10 +1,11 @@
 //! The color that repairs a failure.
 
-ghost use Rattle.std.specs.Prelude.{◌≢◌, ◌<◌, ◌↔◌, ℕ, IsTrue, Some, length};
+ghost use Rattle.std.specs.Prelude.{◌≡◌, ◌≢◌, ◌<◌, ◌⊎◌, ◌↔◌, ℕ, IsTrue, Some, None, length};
+ghost use Rattle.mrt_graph.specs.declared.link.Element.{Element};
 ghost use Rattle.mrt_graph.specs.Alternate.{IsAlternate};
 ghost use Rattle.mrt_graph.specs.Certificate.{row_of};
 ghost use Rattle.mrt_graph.specs.Column.{ColumnSound, rows_of_column};
-ghost use Rattle.mrt_graph.specs.Separates.{IsNeitherEnd};
+ghost use Rattle.mrt_graph.specs.Separates.{IsNeitherEnd, Separates};
 ghost use Rattle.mrt_graph.specs.Sound.{SoundFor};
 ghost use Rattle.mrt_graph.specs.AcceptedFor.{IsAcceptedFor};
 
@@ -25,7 +26,10 @@ pub fn alternate(
     requires accepted { IsAcceptedFor g.now c.now }
     requires source { source < length g.now.ids }
     requires target { to < length g.now.ids }
-    ensures { IsAlternate g.now.links (length g.now.ids) (row_of c.now) source to failed result }
+    ensures color { IsAlternate g.now.links (length g.now.ids) (row_of c.now) source to failed result }
+    // There is none exactly where one of the two ends has failed, or what separates them.
+    ensures none { (x : Element) → failed ≡ Some x → source ≢ to
+        → (result ≡ None) ↔ ((¬ IsNeitherEnd x source to) ⊎ Separates g.now.links x source to) }
 {
     alternate_by(g, c, source, to, failed)
 }
@@ -42,8 +46,11 @@ pub fn alternate_on(
 ) -> Option<Color>
     requires sound { ColumnSound g.now.links (length g.now.ids) c.now to }
     requires source { source < length g.now.ids }
-    ensures { IsAlternate g.now.links (length g.now.ids) (rows_of_column c.now) source to
+    ensures color { IsAlternate g.now.links (length g.now.ids) (rows_of_column c.now) source to
         failed result }
+    // There is none exactly where one of the two ends has failed, or what separates them.
+    ensures none { (x : Element) → failed ≡ Some x → source ≢ to
+        → (result ≡ None) ↔ ((¬ IsNeitherEnd x source to) ⊎ Separates g.now.links x source to) }
 {
     alternate_by(g, c, source, to, failed)
 }

@@ -1,6 +1,6 @@
 //! What an alternate gives, where the certificate is accepted.
 
-ghost use Rattle.std.specs.Prelude.{◌≡◌, ◌≢◌, ◌<◌, ◌⊎◌, ◌↔◌, ℕ, List, Option, Some, None, length};
+ghost use Rattle.std.specs.Prelude.{◌≡◌, ◌≢◌, ◌<◌, ℕ, List, Option, Some, length};
 ghost use Rattle.mrt_graph.specs.declared.cert.CertFile.{CertFile};
 ghost use Rattle.mrt_graph.specs.declared.cert.Color.{Color};
 ghost use Rattle.mrt_graph.specs.declared.cert.Row.{Row};
@@ -12,18 +12,8 @@ ghost use Rattle.mrt_graph.specs.Certificate.{row_of};
 ghost use Rattle.mrt_graph.specs.Column.{ColumnSound, rows_of_column};
 ghost use Rattle.mrt_graph.specs.ColorWalk.{color_walk};
 ghost use Rattle.mrt_graph.specs.Rows.{Rows};
-ghost use Rattle.mrt_graph.specs.Separates.{IsNeitherEnd, Separates};
 ghost use Rattle.mrt_graph.specs.Topology.{Topology};
 ghost use Rattle.mrt_graph.specs.Walk.{Walk};
-
-/// A law: there is no alternate exactly where the failed element is one of the two ends, or separates them.
-pub fn no_alternate_for_ends_and_what_separates()
-    ensures { (g : Topology) (root : ℕ) (file : CertFile) → Accepted g root file
-        → (s t : ℕ) → s < length g.ids → t < length g.ids → s ≢ t
-        → (x : Element) (answer : Option Color)
-        → IsAlternate g.links (length g.ids) (row_of file.cert) s t (Some x) answer
-        → (answer ≡ None) ↔ ((¬ IsNeitherEnd x s t) ⊎ Separates g.links x s t) }
-{}
 
 /// Laws: where an alternate is given for an element of the graph, the walk of this color leads to the destination, and
 /// does not use the element.
@@ -47,14 +37,9 @@ pub fn one_alternate_each()
         → IsAlternate links n rows s t failed other → answer ≡ other }
 {}
 
-/// Laws: by a sound column too there is no alternate exactly where the failed element is one of the two ends, or
-/// separates them; and where one is given, the walk of this color leads to the destination, and does not use the element.
+/// Laws: where an alternate is given by a sound column, the walk of this color leads to the destination, and does not use
+/// the element that has failed.
 pub fn a_sound_column_goes_round()
-    ensures none { (links : List Link) (n : ℕ) (column : List (Option Row)) (t : ℕ)
-        → ColumnSound links n column t → (s : ℕ) → s < n → s ≢ t
-        → (x : Element) (answer : Option Color)
-        → IsAlternate links n (rows_of_column column) s t (Some x) answer
-        → (answer ≡ None) ↔ ((¬ IsNeitherEnd x s t) ⊎ Separates links x s t) }
     ensures arrives { (links : List Link) (n : ℕ) (column : List (Option Row)) (t : ℕ)
         → ColumnSound links n column t → (s : ℕ) → s < n → s ≢ t
         → (failed : Option Element) (color : Color)

@@ -1,4 +1,3 @@
-use Rattle.std.proofs.Common.{◌∙◌, sym}
 use Rattle.std.specs.BinaryHeap.{heap_items}
 use Rattle.primary_alt.proofs.OfferMade.{added_by, added_none}
 use Rattle.primary_alt.proofs.backward.wait.Goals as goal
@@ -10,4 +9,4 @@ returns-in_ok-push-clause-added c =
 pub returns-else-not-is_one_from-clause-added : goal.returns-else-not-is_one_from-clause-added
 returns-else-not-is_one_from-clause-added c =
     added_none c.args.into.now.arcs.items c.row.result.now c.args.u c.args.node c.args.distance (heap_items c.args.waiting.now) c.row.ensures
-    (sym c.is_one_from.ensures ∙ c.if-not-is_one_from.false)
+    (c.is_one_from.ensures c.if-not-is_one_from.false)

@@ -1,8 +1,5 @@
-use Rattle.primary_alt.proofs.Repairs.{color_arrives, none_exactly, not_used}
+use Rattle.primary_alt.proofs.Repairs.{color_arrives, not_used}
 use Rattle.primary_alt.proofs.repair_law.a_sound_column_goes_round.Goals as goal
-
-pub returns-clause-none : goal.returns-clause-none
-returns-clause-none c = λ links n column t sound s from other x answer is. none_exactly links n _ s t (sound.sound s from other) x answer is
 
 pub returns-clause-arrives : goal.returns-clause-arrives
 returns-clause-arrives c = λ links n column t sound s from other failed color is. color_arrives links n _ s t (sound.sound s from other) color
