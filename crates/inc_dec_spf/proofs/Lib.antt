@@ -10,7 +10,9 @@ pub mod EndsOffered
 pub mod EntryRead
 pub mod FirstLinks
 pub mod HomePaths
+pub mod HopExists
 pub mod InBlocks
+pub mod LeastExists
 pub mod Marks
 pub mod Offering
 pub mod OneHop

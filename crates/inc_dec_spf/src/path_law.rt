@@ -12,9 +12,12 @@ ghost use Rattle.inc_dec_spf.specs.declared.reach.Hop.{Hop};
 ghost use Rattle.inc_dec_spf.specs.LeastPath.{IsHop, IsReachTo};
 ghost use Rattle.inc_dec_spf.specs.Path.{Path};
 
-/// A law: a node has for each other node one hop at most.
+/// Laws: of what a node has for another one, a hop or none, there is exactly one.
 pub fn one_hop_for_each_node()
-    ensures { (g : Topology) (root s t : ℕ) (w : Directions) (dir : Dir) (hop other : Option Hop)
+    ensures some { (g : Topology) (root s t : ℕ) (w : Directions) (dir : Dir)
+        → IsTopology g → IsOrderedGadag g root w → s < length g.ids → t < length g.ids
+        → (hop : Option Hop) × IsHop g w dir s t hop }
+    ensures one { (g : Topology) (root s t : ℕ) (w : Directions) (dir : Dir) (hop other : Option Hop)
         → IsTopology g → IsOrderedGadag g root w → s < length g.ids → t < length g.ids
         → IsHop g w dir s t hop → IsHop g w dir s t other → hop ≡ other }
 {}

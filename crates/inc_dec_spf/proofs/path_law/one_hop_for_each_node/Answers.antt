@@ -1,6 +1,11 @@
+use Rattle.inc_dec_spf.proofs.HopExists.{some_hop}
 use Rattle.inc_dec_spf.proofs.OneHop.{one_hop}
 use Rattle.inc_dec_spf.proofs.path_law.one_hop_for_each_node.Goals as goal
 
-pub returns : goal.returns
-returns c = λ g root s t w dir hop other kept ordered s_within t_within one two.
+pub returns-clause-some : goal.returns-clause-some
+returns-clause-some c = λ g root s t w dir kept ordered s_within t_within.
+    some_hop g root w (record { kept = kept; ordered = ordered }) dir s t s_within t_within
+
+pub returns-clause-one : goal.returns-clause-one
+returns-clause-one c = λ g root s t w dir hop other kept ordered s_within t_within one two.
     one_hop g root w dir s t hop other (record { kept = kept; ordered = ordered }) s_within t_within one two
