@@ -16,7 +16,6 @@ pub mod Filling
 pub mod HeadWays
 pub mod HomeRows
 pub mod HopsExist
-pub mod LeastExists
 pub mod LinesHold
 pub mod MarkedHeads
 pub mod MemberRows
