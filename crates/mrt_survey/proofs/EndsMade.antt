@@ -54,9 +54,9 @@ end_is router k link end is = elim (eqb_tells link.first router) [
     nothing : ◌≡◌ {A = Option RouterLink} None (Some end) → ⊥
     nothing e = cc
 
--- an end of the network's LSAs: to one of so many routers, point-to-point, with a metric from 1 to 64, without TOS entries
+-- an end of the network's LSAs: its ID is no more than the count of the routers, and it is point-to-point, with a metric
+-- from 1 to 64, without TOS entries
 pub record IsMadeEnd (nodes most : ℕ) (end : RouterLink) : Type 0 where
-  pub id_some : 1 ≤ end.id
   pub id_most : end.id ≤ nodes
   pub data_most : end.link_data ≤ most
   pub kind : end.kind ≡ 1
@@ -66,7 +66,6 @@ pub record IsMadeEnd (nodes most : ℕ) (end : RouterLink) : Type 0 where
 
 end_kept : (nodes most router k : ℕ) (link : MadeLink) (end : RouterLink) → k ≤ most → IsMadeLink nodes link → IsEndAt router k link end → IsMadeEnd nodes most end
 end_kept nodes most router k link end few made (AtFirst _) = record {
-  id_some = made.second_some;
   id_most = made.second_most;
   data_most = few;
   kind = refl;
@@ -75,7 +74,6 @@ end_kept nodes most router k link end few made (AtFirst _) = record {
   no_entries = refl;
 }
 end_kept nodes most router k link end few made (AtSecond _) = record {
-  id_some = made.first_some;
   id_most = made.first_most;
   data_most = few;
   kind = refl;

@@ -57,9 +57,6 @@ ends_from k links v = length (filter_map (end_at v) (enumerate_from k links))
 is_here : (x v : ℕ) → (x == v) ≡ true → is_number x v ≡ 1
 is_here x v at = rw at refl
 
-is_not_here : (x v : ℕ) → (x == v) ≡ false → is_number x v ≡ 0
-is_not_here x v other = rw other refl
-
 one_more_end : (k : ℕ) (link : MadeLink) (links : List MadeLink) (v : ℕ)
     → ends_from k (link ∷ links) v ≤ (is_number link.first v + is_number link.second v) + ends_from (k + 1) links v
 one_more_end k link links v = elim (eqb_tells link.first v) [
