@@ -7,6 +7,7 @@ use Rattle.mrt_graph.specs.declared.cert.Color.TheVariants.{Blue, Red}
 use Rattle.mrt_graph.specs.declared.cert.Row.{Row}
 use Rattle.mrt_graph.specs.declared.link.Element.{Element}
 use Rattle.mrt_graph.specs.declared.link.Element.TheVariants as elements
+use Rattle.mrt_graph.specs.Alternate.{UsesOn}
 use Rattle.mrt_graph.specs.Certificate.{row_of}
 use Rattle.mrt_graph.specs.DirectedLists.{DirectedLists}
 use Rattle.mrt_graph.specs.GraphInvariant.{IsTopology}
@@ -113,6 +114,23 @@ certified g root d w file kept within from says is =
       tells = subst (λ (f : CertFile). Tells g root w f)
           (one_cert_of g root (whole_file og) file kept within made is) (whole_tells og);
     }
+
+-- so in the graph's certificate, for a color that is chosen by its directions
+module _ (g : Topology) (root : ℕ) (d : DirectedLists) (w : Directions) (file : CertFile) (kept : IsTopology g)
+    (within : root < length g.ids) (from : IsDirectedFrom g root d) (says : Says g d w) (is : IsCertOf g root file)
+    (s t : ℕ) (x : Element) (color : Color) (choice : IsOrderChoice g root w s t x color) where
+  it : Certified g root w file
+  it = certified g root d w file kept within from says is
+
+  pub reaches_in_certificate : Reaches g.links (length g.ids) (row_of file.cert) color s t
+  reaches_in_certificate =
+      arrives (record { g = g; root = root; w = w; kept = kept; ordered = it.ordered }) file it.tells s t
+      choice.between.source choice.between.target choice.between.share.two color
+
+  pub round_in_certificate : ¬ UsesOn g.links (length g.ids) (row_of file.cert) s t x color
+  round_in_certificate =
+      goes_round (record { g = g; root = root; w = w; kept = kept; ordered = it.ordered }) file it.tells s t
+      choice.between.source choice.between.target x color choice
 
 abbrev pub graph_with : (g : Topology) (root : ℕ) (w : Directions) → IsTopology g → IsOrderedGadag g root w → OrderedGraph
 graph_with g root w kept ordered = record { g = g; root = root; w = w; kept = kept; ordered = ordered }

@@ -1,8 +1,14 @@
 //! The color that goes round a failure.
 
-ghost use Rattle.std.specs.Prelude.{◌≡◌, ◌<◌, ◌↔◌, ℕ, length};
+ghost use Rattle.std.specs.Prelude.{◌≡◌, ◌<◌, ℕ, length};
+ghost use Rattle.mrt_graph.specs.declared.cert.CertFile.{CertFile};
+ghost use Rattle.mrt_graph.specs.Alternate.{UsesOn};
+ghost use Rattle.mrt_graph.specs.Certificate.{row_of};
+ghost use Rattle.mrt_graph.specs.Reaches.{Reaches};
 ghost use Rattle.link_direction.specs.Directions.{Directions};
 ghost use Rattle.inc_dec_spf.specs.HasDirections.{HasDirections};
+ghost use Rattle.mrt_rows.specs.CertOf.{IsCertOf};
+ghost use Rattle.mrt_rows.specs.DirectedFrom.{IsDirectedFrom};
 ghost use Rattle.order_repair.specs.Source.{AreHops, IsSource};
 ghost use Rattle.order_repair.specs.Failed.{IsBetween, IsNotSole, IsWithin};
 ghost use Rattle.order_repair.specs.OrderChoice.{IsOrderChoice, LineFor};
@@ -36,9 +42,17 @@ pub fn order_choice(
     requires one_up_each { length up.now ≡ length g.now.ids }
     requires one_down_each { length down.now ≡ length g.now.ids }
     requires failed { IsWithin g.now failed }
-    // It is the choice exactly where there is one.
-    ensures { (root : ℕ) (w : Directions) → AreHops g.now d.now root w source up.now down.now
-        → (IsOrderChoice g.now root w source to failed result) ↔ (IsBetween g.now w source to failed) }
+    ensures choice { (root : ℕ) (w : Directions) → AreHops g.now d.now root w source up.now down.now
+        → IsBetween g.now w source to failed → IsOrderChoice g.now root w source to failed result }
+    // By the rows of the graph's certificate the walk of this color reaches its end, and does not use what has failed.
+    ensures arrives { (root : ℕ) (w : Directions) (file : CertFile)
+        → AreHops g.now d.now root w source up.now down.now
+        → IsDirectedFrom g.now root d.now → IsCertOf g.now root file → IsBetween g.now w source to failed
+        → Reaches g.now.links (length g.now.ids) (row_of file.cert) result source to }
+    ensures round { (root : ℕ) (w : Directions) (file : CertFile)
+        → AreHops g.now d.now root w source up.now down.now
+        → IsDirectedFrom g.now root d.now → IsCertOf g.now root file → IsBetween g.now w source to failed
+        → ¬ UsesOn g.now.links (length g.now.ids) (row_of file.cert) source to failed result }
 {
     // what each graph keeps is told by reading it
     let _count = g.node_count();

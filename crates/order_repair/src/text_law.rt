@@ -11,7 +11,7 @@ use gadag_ears::one_gadag;
 use link_direction::{directions_are_ordered, one_order};
 use lowpoint_dfs::one_search;
 
-/// Laws: there is exactly one text on the repairs by order of a router, by its directions, and so in each graph with a root.
+/// Laws: a router has exactly one text on its repairs by order, by given directions and by the graph and its root alone.
 pub fn one_text_each()
     ensures some { (g : Topology) (root : ℕ) (w : Directions) (s : ℕ) → IsTopology g
         → IsOrderedGadag g root w → s < length g.ids → (text : List ℕ) × IsOrderText g root w s text }
@@ -20,7 +20,7 @@ pub fn one_text_each()
         → IsOrderText g root w s other → text ≡ other }
     ensures some_of_graph { (g : Topology) (root s : ℕ) → IsTopology g
         → root < length g.ids → s < length g.ids → (text : List ℕ) × IsTextFrom g root s text }
-    ensures of_graph { (g : Topology) (root s : ℕ) (text other : List ℕ) → IsTopology g
+    ensures one_of_graph { (g : Topology) (root s : ℕ) (text other : List ℕ) → IsTopology g
         → root < length g.ids → s < length g.ids → IsTextFrom g root s text
         → IsTextFrom g root s other → text ≡ other }
 {

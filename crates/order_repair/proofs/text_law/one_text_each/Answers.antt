@@ -27,5 +27,5 @@ returns-clause-some_of_graph c = λ g root s kept within s_within.
       },
     )
 
-pub returns-clause-of_graph : goal.returns-clause-of_graph
-returns-clause-of_graph c = one_text_of
+pub returns-clause-one_of_graph : goal.returns-clause-one_of_graph
+returns-clause-one_of_graph c = one_text_of
