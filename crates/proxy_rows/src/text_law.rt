@@ -8,7 +8,7 @@ ghost use Rattle.mrt_graph.specs.Topology.{Topology};
 ghost use Rattle.mrt_graph.specs.AcceptedFor.{IsAcceptedFor};
 ghost use Rattle.proxy_rows.specs.ProxyText.{IsProxyText};
 
-/// Laws: two different routers have exactly one text where the certificate gives them a common block, and none where it does
+/// Laws: two different nodes have exactly one text where the certificate gives them a common block, and none where it does
 /// not.
 pub fn one_proxy_text()
     ensures some { (g : Topology) (root : ℕ) (c : Certificate) (a b : ℕ) → IsTopology g → IsAcceptedFor g c
