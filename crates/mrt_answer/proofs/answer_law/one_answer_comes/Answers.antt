@@ -36,7 +36,7 @@ laws c = record {
   certs = record { one = c.one_spelling.ensures.one; faultless = c.one_spelling.ensures.faultless };
   islands = record { one_island = c.a_router_has_one_island.ensures };
   loop_free = c.one_text_each-2.ensures.one;
-  orders = c.one_text_each-3.ensures.of_graph;
+  orders = c.one_text_each-3.ensures.one_of_graph;
   proxies = record {
     text = c.one_proxy_text.ensures.one;
     related = λ g root cert a b text kept accepted given apart.
