@@ -232,6 +232,20 @@ row_read count links few next at bytes are none =
       faultless = t.faultless;
     }
 
+-- one part, and others after it
+with_one_before : {A : Type 0} (text : A → List ℕ) (Keeps : A → Type 0) (count : ℕ) (next : List A → Form) (bytes rest : List ℕ) (one : A)
+    → Keeps one → bytes ≡ text one ++ rest → Reads (flat_map text) (IsListOf count Keeps) (λ xs. next (one ∷ xs)) rest
+    → Reads (flat_map text) (IsListOf (suc count) Keeps) next bytes
+with_one_before text Keeps count next bytes rest one keeps spelled others = record {
+  one = one ∷ others.one;
+  keeps = record { many = ap suc others.keeps.many; each = (keeps, others.keeps.each) };
+  at = others.at;
+  rest = others.rest;
+  spelled = spelled ∙ ap (λ (t : List ℕ). text one ++ t) others.spelled ∙ sym (append_assoc (text one) (flat_map text others.one) others.rest);
+  are = others.are;
+  faultless = others.faultless;
+}
+
 -- so many parts, which decide what follows them
 pub collected_read : {A : Type 0} (part : (A → Form) → Form) (text : A → List ℕ) (Keeps : A → Type 0)
     → ((next : A → Form) (at : ℕ) (bytes : List ℕ) → IsBytes bytes → fault_in (part next) at bytes ≡ None → Reads text Keeps next bytes)
@@ -241,16 +255,8 @@ collected_read part text Keeps reads zero next at bytes are none =
     record { one = []; keeps = record { many = refl; each = tt }; at = at; rest = bytes; spelled = refl; are = are; faultless = none }
 collected_read part text Keeps reads (suc count) next at bytes are none =
     let first = reads (λ x. collected count part (λ xs. next (x ∷ xs))) at bytes are none in
-    let others = collected_read part text Keeps reads count (λ xs. next (first.one ∷ xs)) first.at first.rest first.are first.faultless in
-    record {
-      one = first.one ∷ others.one;
-      keeps = record { many = ap suc others.keeps.many; each = (first.keeps, others.keeps.each) };
-      at = others.at;
-      rest = others.rest;
-      spelled = first.spelled ∙ ap (λ (t : List ℕ). text first.one ++ t) others.spelled ∙ sym (append_assoc (text first.one) (flat_map text others.one) others.rest);
-      are = others.are;
-      faultless = others.faultless;
-    }
+    with_one_before text Keeps count next bytes first.rest first.one first.keeps first.spelled
+    (collected_read part text Keeps reads count (λ xs. next (first.one ∷ xs)) first.at first.rest first.are first.faultless)
 
 -- so many parts
 pub repeated_read : {A : Type 0} (part : Form → Form) (text : A → List ℕ) (Keeps : A → Type 0)
@@ -261,16 +267,8 @@ repeated_read part text Keeps reads zero next at bytes are none =
     record { one = []; keeps = record { many = refl; each = tt }; at = at; rest = bytes; spelled = refl; are = are; faultless = none }
 repeated_read part text Keeps reads (suc count) next at bytes are none =
     let first = reads (repeated count part next) at bytes are none in
-    let others = repeated_read part text Keeps reads count next first.at first.rest first.are first.faultless in
-    record {
-      one = first.one ∷ others.one;
-      keeps = record { many = ap suc others.keeps.many; each = (first.keeps, others.keeps.each) };
-      at = others.at;
-      rest = others.rest;
-      spelled = first.spelled ∙ ap (λ (t : List ℕ). text first.one ++ t) others.spelled ∙ sym (append_assoc (text first.one) (flat_map text others.one) others.rest);
-      are = others.are;
-      faultless = others.faultless;
-    }
+    with_one_before text Keeps count (λ xs. next) bytes first.rest first.one first.keeps first.spelled
+    (repeated_read part text Keeps reads count next first.at first.rest first.are first.faultless)
 
 -- no head is at fault
 pub heads_read : (version links at : ℕ) (ns : List CertNode) (bytes : List ℕ) → fault_in (after_nodes version links ns) at bytes ≡ None
