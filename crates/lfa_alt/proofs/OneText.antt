@@ -6,7 +6,7 @@ use Rattle.area_graph.specs.Parts.{AreaParts}
 use Rattle.mrt_graph.specs.declared.node_id.NodeId.{NodeId}
 use Rattle.mrt_graph.specs.Spelling.{node_text}
 use Rattle.text_parts.specs.Hops.{hop_text}
-use Rattle.text_parts.proofs.Adding.{one_text_of_parts}
+use Rattle.text_parts.proofs.Adding.{one_headed_text, one_id}
 use Rattle.primary_alt.specs.declared.shortest.Primary.{Primary}
 use Rattle.primary_alt.proofs.PrimariesLead.{one_entry}
 use Rattle.lfa_alt.specs.declared.alternate.Lfa.{Lfa}
@@ -14,9 +14,6 @@ use Rattle.lfa_alt.specs.LfaText.{AreLfaWords, IsArcHop, IsHead, IsLfaHop, IsLfa
 use Rattle.lfa_alt.specs.LfaWords.{kind_text}
 use Rattle.lfa_alt.proofs.Chosen.{its_primary}
 use Rattle.lfa_alt.proofs.OneLfa.{one_answer}
-
-one_id : (ids : List NodeId) (n : ℕ) (one other : NodeId) → slice_get ids n ≡ Some one → slice_get ids n ≡ Some other → one ≡ other
-one_id ids n one other is is' = same_Some one other (sym is ∙ is')
 
 one_head : (area : AreaParts) (s : ℕ) (text other : List ℕ) → IsHead area s text → IsHead area s other → text ≡ other
 one_head area s text other is is' =
@@ -59,8 +56,4 @@ one_part area s t text other (Line p x is line) (Line p' x' is' line') =
     one_line area s t p' x x' (subst (λ (q : Primary). IsLine area s t q x) (its_primary area s t p p' is is') line) line'
 
 pub one_text : (area : AreaParts) (s : ℕ) (text other : List ℕ) → IsLfaText area s text → IsLfaText area s other → text ≡ other
-one_text area s text other is is' =
-    is.spelled
-    ∙ ap (λ (xs : List ℕ). xs ++ is.lines) (one_head area s is.head is'.head is.head_is is'.head_is)
-    ∙ ap (λ (xs : List ℕ). is'.head ++ xs) (one_text_of_parts (IsPartOn area s) (one_part area s) (length area.ids) is.lines is'.lines is.lines_are is'.lines_are)
-    ∙ sym is'.spelled
+one_text area s text other is is' = one_headed_text (IsHead area s) (IsPartOn area s) (one_head area s) (one_part area s) (length area.ids) text other is is'

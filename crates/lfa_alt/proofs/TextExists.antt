@@ -6,7 +6,7 @@ use Rattle.area_graph.specs.Parts.{AreaParts}
 use Rattle.mrt_graph.specs.Spelling.{node_text}
 use Rattle.mrt_graph.proofs.ListTests.{there}
 use Rattle.text_parts.specs.Hops.{hop_text}
-use Rattle.text_parts.proofs.Adding.{some_text_of_parts}
+use Rattle.text_parts.proofs.Adding.{some_headed_text}
 use Rattle.primary_alt.specs.declared.shortest.Primary.{Primary}
 use Rattle.primary_alt.specs.Primaries.{IsPrimary}
 use Rattle.primary_alt.specs.Routers.{IsRouter}
@@ -72,8 +72,5 @@ module _ (area : AreaParts) (kept : IsArea area) where
     pub some_text : (text : List ℕ) × IsLfaText area s text
     some_text =
         let primaries = primaries_exist area kept in
-        let head = some_head area s (router_within area.ids s router) in
-        let lines = some_text_of_parts (IsPartOn area s) (length area.ids) (λ t within. part_by t within (primaries.0 s t) (primaries.1 s t router within)) in (
-          head.0 ++ lines.0,
-          record { head = head.0; head_is = head.1; lines = lines.0; lines_are = lines.1; spelled = refl },
-        )
+        some_headed_text (IsHead area s) (IsPartOn area s) (length area.ids) (some_head area s (router_within area.ids s router))
+        (λ t within. part_by t within (primaries.0 s t) (primaries.1 s t router within))

@@ -5,7 +5,7 @@ use Rattle.area_graph.specs.Parts.{AreaParts}
 use Rattle.mrt_graph.specs.declared.node_id.NodeId.{NodeId}
 use Rattle.mrt_graph.specs.Spelling.{node_text}
 use Rattle.text_parts.specs.Hops.{hop_text}
-use Rattle.text_parts.specs.Parts.{AreParts}
+use Rattle.text_parts.specs.Parts.{IsHeaded}
 use Rattle.primary_alt.specs.declared.shortest.Primary.{Primary}
 use Rattle.primary_alt.specs.Primaries.{IsPrimary}
 use Rattle.lfa_alt.specs.declared.alternate.Lfa.{Lfa}
@@ -58,9 +58,5 @@ pub data IsPartOn (area : AreaParts) (s t : ℕ) : List ℕ → Type 0 where
       → IsPartOn area s t text
 
 -- the first line, and the lines on all nodes, by number, and so by ascending identifier
-pub record IsLfaText (area : AreaParts) (s : ℕ) (text : List ℕ) : Type 0 where
-  pub head : List ℕ
-  pub head_is : IsHead area s head
-  pub lines : List ℕ
-  pub lines_are : AreParts (IsPartOn area s) (length area.ids) lines
-  pub spelled : text ≡ head ++ lines
+abbrev pub IsLfaText : AreaParts → ℕ → List ℕ → Type 0
+IsLfaText area s text = IsHeaded (IsHead area s) (IsPartOn area s) (length area.ids) text

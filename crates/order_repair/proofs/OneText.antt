@@ -1,7 +1,7 @@
 -- There is exactly one text on the repairs by order of a router.
 use Rattle.std.proofs.Common.{◌≡◌, ◌⊎◌, ◌∙◌, ◌++◌, ◌<◌, ℕ, List, [], Option, Some, None, codes, length, slice_get, refl, sym, ap, subst, inl, inr}
 use Rattle.std.proofs.lemmas.Bool.{cases_eq}
-use Rattle.std.proofs.lemmas.Option.{same_Some, slice_get_within}
+use Rattle.std.proofs.lemmas.Option.{slice_get_within}
 use Rattle.mrt_graph.specs.declared.cert.Color.{Color}
 use Rattle.mrt_graph.specs.declared.cert.Tag.{Tag}
 use Rattle.mrt_graph.specs.declared.link.Element.{Element}
@@ -15,15 +15,12 @@ use Rattle.inc_dec_spf.specs.LeastPath.{ShareBlock}
 use Rattle.mrt_rows.proofs.HopsExist.{has_hop}
 use Rattle.mrt_rows.proofs.OrderedGraphs.{OrderedGraph, one_common}
 use Rattle.text_parts.specs.Parts.{AreParts}
-use Rattle.text_parts.proofs.Adding.{one_text_of_parts, some_text_of_parts}
+use Rattle.text_parts.proofs.Adding.{one_headed_text, one_id, one_text_of_parts, some_headed_text, some_text_of_parts}
 use Rattle.order_repair.specs.Failed.{IsWithin, LiesIn}
 use Rattle.order_repair.specs.OrderText.{AtEnd, Colored, IsHead, IsLetter, IsLine, IsOrderText, IsPartOn, Line, NoLine, NotOfIt, letter_of}
 use Rattle.order_repair.specs.Tagging.{IsTagFor, NotShared, Tagged}
 use Rattle.order_repair.proofs.OneChoice.{one_choice, some_choice}
 use Rattle.order_repair.proofs.TagFound.{head_found, none_found, peer_found, top_found}
-
-one_id : (ids : List NodeId) (n : ℕ) (one other : NodeId) → slice_get ids n ≡ Some one → slice_get ids n ≡ Some other → one ≡ other
-one_id ids n one other is is' = same_Some one other (sym is ∙ is')
 
 module _ (og : OrderedGraph) (s : ℕ) (s_within : s < length og.g.ids) where
   abbrev n : ℕ
@@ -191,17 +188,7 @@ module _ (og : OrderedGraph) (s : ℕ) (s_within : s < length og.g.ids) where
       go it = by_tag it.0 it.1
 
   pub one_text : (text other : List ℕ) → IsOrderText og.g og.root og.w s text → IsOrderText og.g og.root og.w s other → text ≡ other
-  one_text text other is is' =
-      is.spelled
-      ∙ ap (λ (xs : List ℕ). xs ++ is.lines) (one_head is.head is'.head is.head_is is'.head_is)
-      ∙ ap (λ (xs : List ℕ). is'.head ++ xs)
-      (one_text_of_parts (IsPartOn og.g og.root og.w s) one_part n is.lines is'.lines is.lines_are is'.lines_are)
-      ∙ sym is'.spelled
+  one_text text other is is' = one_headed_text (IsHead og.g og.root s) (IsPartOn og.g og.root og.w s) one_head one_part n text other is is'
 
   pub some_text : (text : List ℕ) × IsOrderText og.g og.root og.w s text
-  some_text =
-      let head = some_head in
-      let lines = some_text_of_parts (IsPartOn og.g og.root og.w s) n some_part in (
-        head.0 ++ lines.0,
-        record { head = head.0; head_is = head.1; lines = lines.0; lines_are = lines.1; spelled = refl },
-      )
+  some_text = some_headed_text (IsHead og.g og.root s) (IsPartOn og.g og.root og.w s) n some_head some_part

@@ -9,7 +9,7 @@ use Rattle.mrt_graph.specs.DirectedLists.{DirectedLists}
 use Rattle.mrt_graph.specs.Separates.{IsNeitherEnd}
 use Rattle.mrt_graph.specs.Spelling.{node_text}
 use Rattle.mrt_graph.specs.Topology.{Topology}
-use Rattle.text_parts.specs.Parts.{AreParts}
+use Rattle.text_parts.specs.Parts.{AreParts, IsHeaded}
 use Rattle.link_direction.specs.Directions.{Directions, Says}
 use Rattle.inc_dec_spf.specs.LeastPath.{ShareBlock}
 use Rattle.mrt_rows.specs.DirectedFrom.{IsDirectedFrom}
@@ -57,12 +57,8 @@ pub data IsPartOn (g : Topology) (root : ℕ) (w : Directions) (s t : ℕ) : Lis
   Line : (text : List ℕ) → IsLine g root w s t text → IsPartOn g root w s t text
 
 -- the first line, and the lines on all nodes, by number and so by ascending identifier
-pub record IsOrderText (g : Topology) (root : ℕ) (w : Directions) (s : ℕ) (text : List ℕ) : Type 0 where
-  pub head : List ℕ
-  pub head_is : IsHead g root s head
-  pub lines : List ℕ
-  pub lines_are : AreParts (IsPartOn g root w s) (length g.ids) lines
-  pub spelled : text ≡ head ++ lines
+abbrev pub IsOrderText : Topology → ℕ → Directions → ℕ → List ℕ → Type 0
+IsOrderText g root w s text = IsHeaded (IsHead g root s) (IsPartOn g root w s) (length g.ids) text
 
 -- the text on s in the graph with a root: by what the directions of the graph from the root say
 pub record IsTextFrom (g : Topology) (root s : ℕ) (text : List ℕ) : Type 0 where

@@ -12,17 +12,14 @@ use Rattle.mrt_graph.proofs.EndsAt.{end_leads}
 use Rattle.mrt_graph.proofs.Members.{has_at}
 use Rattle.mrt_graph.proofs.Tallies.{count_is_tally, tally_same}
 use Rattle.text_parts.specs.Hops.{hop_text}
-use Rattle.text_parts.specs.Parts.{AreParts}
-use Rattle.text_parts.proofs.Adding.{one_text_of_parts}
+use Rattle.text_parts.specs.Parts.{IsHeaded}
+use Rattle.text_parts.proofs.Adding.{one_headed_text, one_id}
 use Rattle.proxy_rows.specs.declared.proxy_row.Out.{Out}
 use Rattle.proxy_rows.specs.declared.proxy_row.Out.TheVariants as outs
 use Rattle.proxy_rows.specs.declared.proxy_row.ProxyRow.{ProxyRow}
 use Rattle.mrt_graph.specs.AcceptedFor.{IsAcceptedFor}
 use Rattle.proxy_rows.specs.ProxyText.{IsEndOn, IsHead, IsHop, IsLine, IsOutText, IsProxyText}
 use Rattle.proxy_rows.proofs.OneAnswer.{one_answer}
-
-one_id : (ids : List NodeId) (n : ℕ) (one other : NodeId) → slice_get ids n ≡ Some one → slice_get ids n ≡ Some other → one ≡ other
-one_id ids n one other is is' = same_Some one other (sym is ∙ is')
 
 one_head : (g : Topology) (a b root : ℕ) (text other : List ℕ) → IsHead g a b root text → IsHead g a b root other → text ≡ other
 one_head g a b root text other is is' =
@@ -72,9 +69,6 @@ pub one_text : (g : Topology) (root : ℕ) (c : Certificate) (a b : ℕ) (text o
     → IsProxyText g root c a b text → IsProxyText g root c a b other → text ≡ other
 one_text g root c a b text other kept accepted is is' =
     let entries = one_answer g c a b is.entries is'.entries kept accepted is.entries_are is'.entries_are in
-    is.spelled
-    ∙ ap (λ (xs : List ℕ). xs ++ is.lines) (one_head g a b root is.head is'.head is.head_is is'.head_is)
-    ∙ ap (λ (xs : List ℕ). is'.head ++ xs)
-    (one_text_of_parts (IsLine g is'.entries) (λ s part whole. one_line g is'.entries s part whole kept) (length g.ids) is.lines is'.lines
-    (subst (λ (rows : List ProxyRow). AreParts (IsLine g rows) (length g.ids) is.lines) entries is.lines_are) is'.lines_are)
-    ∙ sym is'.spelled
+    one_headed_text (IsHead g a b root) (IsLine g is'.entries) (one_head g a b root) (λ s part whole. one_line g is'.entries s part whole kept)
+    (length g.ids) text other
+    (subst (λ (rows : List ProxyRow). IsHeaded (IsHead g a b root) (IsLine g rows) (length g.ids) text) entries is.headed) is'.headed

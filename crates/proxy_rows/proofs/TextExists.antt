@@ -12,7 +12,7 @@ use Rattle.mrt_graph.specs.Topology.{Topology}
 use Rattle.mrt_graph.proofs.EndsAt.{leads_end, list_of_ends}
 use Rattle.mrt_graph.proofs.ListTests.{all_at, there}
 use Rattle.text_parts.specs.Hops.{hop_text}
-use Rattle.text_parts.proofs.Adding.{some_text_of_parts}
+use Rattle.text_parts.proofs.Adding.{some_headed_text}
 use Rattle.proxy_rows.specs.declared.proxy_row.Out.{Out}
 use Rattle.proxy_rows.specs.declared.proxy_row.Out.TheVariants as outs
 use Rattle.proxy_rows.specs.declared.proxy_row.ProxyRow.{ProxyRow}
@@ -82,11 +82,10 @@ module _ (g : Topology) (kept : IsTopology g) where
   text_or_none root c a b accepted top first second differ = (
     (λ related. elim (rows_or_none g c a b kept accepted first second differ) [
       | inl rows ↦
-          let head = some_head g a b root first second top in
-          let lines = some_text_of_parts (IsLine g rows.0) (length g.ids) (some_line rows.0 (all_touch g c a b rows.0 kept accepted rows.1)) in (
-            head.0 ++ lines.0,
-            record { entries = rows.0; entries_are = rows.1; head = head.0; head_is = head.1; lines = lines.0; lines_are = lines.1; spelled = refl },
-          )
+          let headed =
+          some_headed_text (IsHead g a b root) (IsLine g rows.0) (length g.ids) (some_head g a b root first second top)
+          (some_line rows.0 (all_touch g c a b rows.0 kept accepted rows.1)) in
+          (headed.0, record { entries = rows.0; entries_are = rows.1; headed = headed.1 })
       | inr unrelated ↦ absurd (cc)
     ]),
     (λ text. elim (cases_Bool (are_unrelated c a b)) [

@@ -6,7 +6,7 @@ use Rattle.mrt_graph.specs.Certificate.{Certificate}
 use Rattle.mrt_graph.specs.Spelling.{node_text}
 use Rattle.mrt_graph.specs.Topology.{Topology}
 use Rattle.text_parts.specs.Hops.{hop_text}
-use Rattle.text_parts.specs.Parts.{AreParts}
+use Rattle.text_parts.specs.Parts.{IsHeaded}
 use Rattle.proxy_rows.specs.declared.proxy_row.Out.{Out}
 use Rattle.proxy_rows.specs.declared.proxy_row.Out.TheVariants.{Attached, Link}
 use Rattle.proxy_rows.specs.declared.proxy_row.ProxyRow.{ProxyRow}
@@ -60,8 +60,4 @@ pub record IsLine (g : Topology) (entries : List ProxyRow) (s : ℕ) (text : Lis
 pub record IsProxyText (g : Topology) (root : ℕ) (c : Certificate) (a b : ℕ) (text : List ℕ) : Type 0 where
   pub entries : List ProxyRow
   pub entries_are : AreProxyRows g c a b entries
-  pub head : List ℕ
-  pub head_is : IsHead g a b root head
-  pub lines : List ℕ
-  pub lines_are : AreParts (IsLine g entries) (length g.ids) lines
-  pub spelled : text ≡ head ++ lines
+  pub headed : IsHeaded (IsHead g a b root) (IsLine g entries) (length g.ids) text

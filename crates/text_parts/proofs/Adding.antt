@@ -1,7 +1,9 @@
 -- Parts that are put at the end of a text, one after another.
-use Rattle.std.proofs.Common.{◌≡◌, ◌<◌, ◌+◌, ◌++◌, ◌∙◌, ℕ, zero, suc, List, [], refl, sym, ap, subst, arith, append-nil, append_assoc}
+use Rattle.std.proofs.Common.{◌≡◌, ◌<◌, ◌+◌, ◌++◌, ◌∙◌, ℕ, zero, suc, List, [], Some, slice_get, refl, sym, ap, subst, arith, append-nil, append_assoc}
+use Rattle.std.proofs.lemmas.Option.{same_Some}
+use Rattle.mrt_graph.specs.declared.node_id.NodeId.{NodeId}
 use Rattle.text_parts.specs.Adds.{Adds}
-use Rattle.text_parts.specs.Parts.{AreParts}
+use Rattle.text_parts.specs.Parts.{AreParts, IsHeaded}
 
 -- no part
 pub nothing : (IsPart : List ℕ → Type 0) (text : List ℕ) → IsPart [] → Adds IsPart text text
@@ -40,3 +42,23 @@ some_text_of_parts IsPart (suc n) some =
     let parts = some_text_of_parts IsPart n (λ k below. some k (omega (arith, below))) in
     let part = some n (omega arith) in
     (parts.0 ++ part.0, (parts.0, part.0, parts.1, part.1, refl))
+
+-- so for a first line and parts
+pub one_headed_text : (IsHead : List ℕ → Type 0) (IsPart : ℕ → List ℕ → Type 0) → ((text other : List ℕ) → IsHead text → IsHead other → text ≡ other)
+    → ((n : ℕ) (part other : List ℕ) → IsPart n part → IsPart n other → part ≡ other) → (n : ℕ) (text other : List ℕ)
+    → IsHeaded IsHead IsPart n text → IsHeaded IsHead IsPart n other → text ≡ other
+one_headed_text IsHead IsPart one_head one n text other is is' =
+    is.spelled
+    ∙ ap (λ (xs : List ℕ). xs ++ is.lines) (one_head is.head is'.head is.head_is is'.head_is)
+    ∙ ap (λ (xs : List ℕ). is'.head ++ xs) (one_text_of_parts IsPart one n is.lines is'.lines is.lines_are is'.lines_are)
+    ∙ sym is'.spelled
+
+pub some_headed_text : (IsHead : List ℕ → Type 0) (IsPart : ℕ → List ℕ → Type 0) (n : ℕ) → (head : List ℕ) × IsHead head
+    → ((k : ℕ) → k < n → (part : List ℕ) × IsPart k part) → (text : List ℕ) × IsHeaded IsHead IsPart n text
+some_headed_text IsHead IsPart n head some =
+    let lines = some_text_of_parts IsPart n some in
+    (head.0 ++ lines.0, record { head = head.0; head_is = head.1; lines = lines.0; lines_are = lines.1; spelled = refl })
+
+-- a number is that of one node
+pub one_id : (ids : List NodeId) (n : ℕ) (one other : NodeId) → slice_get ids n ≡ Some one → slice_get ids n ≡ Some other → one ≡ other
+one_id ids n one other is is' = same_Some one other (sym is ∙ is')

@@ -18,9 +18,5 @@ returns c cert are =
     record {
       entries = c.args.rows.now;
       entries_are = are;
-      head = head.part;
-      head_is = head.is;
-      lines = lines.part;
-      lines_are = lines.is;
-      spelled = search rules;
+      headed = record { head = head.part; head_is = head.is; lines = lines.part; lines_are = lines.is; spelled = search rules };
     }
