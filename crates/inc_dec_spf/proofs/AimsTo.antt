@@ -1,18 +1,15 @@
 -- What has a block in common with a target aims at it.
-use Rattle.std.proofs.Common.{◌≡◌, ◌≢◌, ◌∙◌, ◌<◌, ◌≤◌, ℕ, Bool, true, false, List, Option, Some, None, length, slice_get, inl, inr, refl, sym, ap, subst, arith}
-use Rattle.std.specs.Option.{option_map}
+use Rattle.std.proofs.Common.{◌≡◌, ◌≢◌, ◌∙◌, ◌<◌, ◌≤◌, ℕ, zero, suc, Bool, true, false, Option, Some, None, length, slice_get, inl, inr, sym, ap, arith}
+use Rattle.std.specs.Prelude.{replicate}
 use Rattle.std.proofs.lemmas.Bool.{cases_eq}
-use Rattle.std.proofs.lemmas.List.{length-map}
-use Rattle.std.proofs.lemmas.Option.{same_Some, slice_get-map, slice_get_within}
+use Rattle.std.proofs.lemmas.Option.{same_Some}
 use Rattle.mrt_graph.specs.Topology.{Topology}
 use Rattle.link_direction.specs.BlockOfTwo.{FromHead, HaveInCommon, Peers, ToHead}
 use Rattle.link_direction.specs.Directions.{Directions}
 use Rattle.inc_dec_spf.specs.declared.reach.Dir.{Dir}
 use Rattle.inc_dec_spf.specs.declared.reach.Hop.{Hop}
-use Rattle.inc_dec_spf.specs.declared.reach.Known.{Known}
 use Rattle.inc_dec_spf.specs.BlockAims.{Apart, AreAimsTo, IsAimOf, IsMeeting, Meets}
-use Rattle.inc_dec_spf.specs.Known.{hop_of, hops_of}
-use Rattle.inc_dec_spf.specs.LeastPath.{IsHop, IsReachTo, NotReached}
+use Rattle.inc_dec_spf.specs.LeastPath.{IsHop, NotReached}
 use Rattle.inc_dec_spf.proofs.InBlocks.{IsOrdered}
 
 module _ (g : Topology) (root : ℕ) (w : Directions) (is : IsOrdered g root w) (t : ℕ) (t_within : t < length g.ids) (aim : ℕ → ℕ)
@@ -112,21 +109,8 @@ pub none_met : (g : Topology) (w : Directions) (dir : Dir) (s t : ℕ) (b : Bool
 none_met g w dir s t true is (Meets k h two common) = absurd (cc)
 none_met g w dir s t false is (Apart none) = NotReached (λ k h path share is_path. none k h share.two share.common)
 
--- the hops of all nodes
-pub all_hops : (g : Topology) (w : Directions) (dir : Dir) (t : ℕ) (known : List (Option Known)) → length known ≡ length g.ids
-    → ((s : ℕ) (o : Option Known) → s < length g.ids → slice_get known s ≡ Some o → IsHop g w dir s t (option_map hop_of o))
-    → IsReachTo g w dir t (hops_of known)
-all_hops g w dir t known long done = record {
-  one_each = length-map known (option_map hop_of) ∙ long;
-  each = λ s hop at. go s hop (slice_get known s) refl (sym (slice_get-map (option_map hop_of) known s) ∙ at);
-}
-  where
-    go : (s : ℕ) (hop : Option Hop) (o : Option (Option Known)) → slice_get known s ≡ o → option_map (option_map hop_of) o ≡ Some hop → IsHop g w dir s t hop
-    go s hop None at is_hop = cc
-    go s hop (Some o) at is_hop =
-        subst (λ (x : Option Hop). IsHop g w dir s t x) (same_Some (option_map hop_of o) hop is_hop)
-        (done s o (omega (arith, slice_get_within known s o at, long)) at)
-
-pub none_of : (o : Option Known) → ((way : Known) → o ≡ Some way → ⊥) → o ≡ None
-none_of None none = refl
-none_of (Some way) none = absurd (none way refl)
+-- at first none is known
+pub none_blank : (n s : ℕ) (hop : Option Hop) → slice_get (replicate n None) s ≡ Some hop → hop ≡ None
+none_blank zero s hop at = cc
+none_blank (suc n) zero hop at = sym (same_Some None hop at)
+none_blank (suc n) (suc s) hop at = none_blank n s hop at

@@ -11,12 +11,11 @@ use Rattle.mrt_graph.specs.GraphInvariant.{IsTopology}
 use Rattle.mrt_graph.specs.Topology.{Topology}
 use Rattle.link_direction.specs.Directions.{Directions, Says}
 use Rattle.inc_dec_spf.specs.declared.reach.Dir.{Dir}
-use Rattle.inc_dec_spf.specs.declared.reach.Known.{Known}
-use Rattle.inc_dec_spf.specs.Known.{AreOffered, IsOne}
+use Rattle.inc_dec_spf.specs.Known.{AreOffered, Known}
 use Rattle.inc_dec_spf.specs.Path.{IsStep, LeadsOn}
 use Rattle.inc_dec_spf.specs.Offers.{IsFirstOffer, IsFurtherOffer, goes_on}
 use Rattle.inc_dec_spf.proofs.Marks.{IsMarkedEnd, marked_block, marked_role, test_leads_back, test_leads_on}
-use Rattle.inc_dec_spf.proofs.Offering.{IsBelow, all_below, none_more, one_below}
+use Rattle.inc_dec_spf.proofs.Offering.{IsBelow, IsOne, all_below, none_more, one_below}
 
 -- an offer of the end at a place
 pub record IsFirstAt (g : Topology) (w : Directions) (dir : Dir) (s place v : ℕ) (way : Known) : Type 0 where

@@ -80,6 +80,12 @@ links_stay g w dir aims width y x many all after other same elsewhere has = reco
       (places_apart y x width j other below))) ∙ at);
 }
 
+-- the links in equal lists
+pub links_moved : (g : Topology) (w : Directions) (dir : Dir) (aims : List ℕ) (width other : ℕ) (all after : List ℕ) (s : ℕ) → other ≡ width → after ≡ all
+    → HasLinksAt g w dir aims width all s → HasLinksAt g w dir aims other after s
+links_moved g w dir aims width other all after s wide same has =
+    subst (λ (n : ℕ). HasLinksAt g w dir aims n after s) (sym wide) (subst (λ (xs : List ℕ). HasLinksAt g w dir aims width xs s) (sym same) has)
+
 -- the links of the nodes that had their turns are there
 pub record AreLinked (g : Topology) (w : Directions) (dir : Dir) (aims : List ℕ) (width i : ℕ) (all : List ℕ) : Type 0 where
   pub each : (y : ℕ) → y < length g.ids → turn_of (against dir) (length g.ids) w y < i → LiesInOneBlock g w y → HasLinksAt g w dir aims width all y

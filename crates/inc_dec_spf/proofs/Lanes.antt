@@ -8,11 +8,10 @@ use Rattle.std.proofs.lemmas.List.FromFn.{get_or-map-range_with_len, length-map-
 use Rattle.std.proofs.lemmas.Option.{slice_get-get_or, slice_get_past, unwrap_or-slice_get}
 use Rattle.mrt_graph.specs.declared.link.End.{End}
 use Rattle.mrt_graph.proofs.ListPlaces.{set_elsewhere, set_there}
-use Rattle.inc_dec_spf.specs.declared.reach.Known.{Known}
 use Rattle.inc_dec_spf.specs.Fan.{AreCosts, comes_before, first_cost, first_place, known_at, known_by, lane, link_at, no_place}
-use Rattle.inc_dec_spf.specs.Known.{AreOffered, IsOne, comes_first}
+use Rattle.inc_dec_spf.specs.Known.{AreOffered, Known}
 use Rattle.inc_dec_spf.specs.Rest.{far}
-use Rattle.inc_dec_spf.proofs.Offering.{offer_left, offer_taken}
+use Rattle.inc_dec_spf.proofs.Offering.{IsOne, comes_first, offer_left, offer_taken}
 
 -- which of two ways is kept
 pub record IsNew (c p o q : ℕ) : Type 0 where

@@ -6,10 +6,11 @@ use Rattle.std.proofs.lemmas.List.{length-set}
 use Rattle.mrt_graph.specs.declared.link.End.{End}
 use Rattle.inc_dec_spf.specs.Fan.{AreCosts, AreLow, first_cost, first_place, known_at, known_by, lane, link_at, no_place}
 use Rattle.inc_dec_spf.specs.FirstLink.{no_link}
-use Rattle.inc_dec_spf.specs.Known.{AreOffered, IsOne}
+use Rattle.inc_dec_spf.specs.Known.{AreOffered}
 use Rattle.inc_dec_spf.specs.Rest.{far}
 use Rattle.inc_dec_spf.proofs.FirstLinks.{places_apart}
 use Rattle.inc_dec_spf.proofs.Lanes.{lane_offered, new_few, new_low, new_most, new_none, read_other, read_set, same_lanes}
+use Rattle.inc_dec_spf.proofs.Offering.{IsOne}
 
 -- the link of an end that is there
 pub link_there : (ends : List End) (place : ℕ) (end : End) → slice_get ends place ≡ Some end → link_at ends place ≡ end.link

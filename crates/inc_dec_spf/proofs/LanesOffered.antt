@@ -8,16 +8,15 @@ use Rattle.mrt_graph.specs.GraphInvariant.{IsTopology}
 use Rattle.mrt_graph.specs.Topology.{Topology}
 use Rattle.link_direction.specs.Directions.{Directions, Says}
 use Rattle.inc_dec_spf.specs.declared.reach.Dir.{Dir}
-use Rattle.inc_dec_spf.specs.declared.reach.Known.{Known}
 use Rattle.inc_dec_spf.specs.Fan.{AreCosts, AreLow, AreOver, HasOffered, first_cost, first_place, known_at, known_by, lane, link_at, no_place}
-use Rattle.inc_dec_spf.specs.Known.{AreOffered, IsOne}
+use Rattle.inc_dec_spf.specs.Known.{AreOffered, Known}
 use Rattle.inc_dec_spf.specs.Offers.{goes_on}
 use Rattle.inc_dec_spf.specs.Rest.{far}
 use Rattle.inc_dec_spf.proofs.EndsOffered.{IsFurtherAt, further_all, further_left, further_taken}
 use Rattle.inc_dec_spf.proofs.FirstLinks.{places_apart}
 use Rattle.inc_dec_spf.proofs.Lanes.{known_is, lane_kept, lane_offered, new_few, new_low, new_most, new_none, none_far}
 use Rattle.inc_dec_spf.proofs.Marks.{IsMarkedEnd}
-use Rattle.inc_dec_spf.proofs.Offering.{IsBelow, none_offered}
+use Rattle.inc_dec_spf.proofs.Offering.{IsBelow, IsOne, none_offered}
 
 -- the first ends of x, of which this is known, have offered what they lead on to
 abbrev pub HasOfferedTo : Topology → Directions → Dir → ℕ → ℕ → Option Known → List (Option Known) → List (Option Known) → Type 0

@@ -8,10 +8,9 @@ use Rattle.mrt_graph.specs.Topology.{Topology}
 use Rattle.mrt_graph.proofs.EndsAt.{end_leads}
 use Rattle.link_direction.specs.Directions.{Directions}
 use Rattle.inc_dec_spf.specs.declared.reach.Dir.{Dir}
-use Rattle.inc_dec_spf.specs.declared.reach.Known.{Known}
 use Rattle.inc_dec_spf.specs.Fan.{AreCosts, IsFirstPlace, known_by, lane, link_at}
 use Rattle.inc_dec_spf.specs.FirstLink.{Begins, BeginsNone, no_link}
-use Rattle.inc_dec_spf.specs.Known.{hop_of}
+use Rattle.inc_dec_spf.specs.Known.{Known, hop_of}
 use Rattle.inc_dec_spf.specs.LeastPath.{IsHop}
 use Rattle.inc_dec_spf.specs.Rest.{far}
 use Rattle.inc_dec_spf.specs.Sweep.{IsSwept}

@@ -1,14 +1,13 @@
 -- The sweep for some sources side by side, told of each of them.
-use Rattle.std.proofs.Common.{◌≡◌, ◌<◌, ◌≤◌, ◌+◌, ◌*◌, ◌∙◌, ℕ, List, Option, Some, None, get_or, length, slice_get, inl, inr, refl, sym, ap, subst, arith}
+use Rattle.std.proofs.Common.{◌≡◌, ◌<◌, ◌≤◌, ◌+◌, ◌*◌, ◌∙◌, ℕ, List, Option, Some, None, get_or, length, slice_get, slice_index, inl, inr, refl, sym, ap, subst, arith}
 use Rattle.std.proofs.lemmas.Bool.{cases_eq, cases_lt}
 use Rattle.std.proofs.lemmas.Option.{same_Some}
 use Rattle.mrt_graph.specs.declared.link.End.{End}
 use Rattle.mrt_graph.specs.Topology.{Topology}
 use Rattle.link_direction.specs.Directions.{Directions}
 use Rattle.inc_dec_spf.specs.declared.reach.Dir.{Dir}
-use Rattle.inc_dec_spf.specs.declared.reach.Known.{Known}
-use Rattle.inc_dec_spf.specs.Fan.{HasOffered, IsFromAt, known_at, known_by, lane}
-use Rattle.inc_dec_spf.specs.Known.{AreOffered}
+use Rattle.inc_dec_spf.specs.Fan.{HasOffered, known_at, known_by, lane}
+use Rattle.inc_dec_spf.specs.Known.{AreOffered, Known}
 use Rattle.inc_dec_spf.specs.Offers.{GoesOn, IsTurnOffer}
 use Rattle.inc_dec_spf.specs.Rest.{far}
 use Rattle.inc_dec_spf.proofs.Lanes.{far_none, lane_at, lane_past}
@@ -47,6 +46,12 @@ idle_turn g w dir s x width ends costs places j within all =
     let known = entry_of ends (length g.ids) width costs places j x way within at in
     let none = far_none ends (get_or costs (x * width + j) 0) (get_or places (x * width + j) 0) all in
     absurd (cc (known, none)))
+
+-- for the source s at place j, what is known of x, where a path that comes to x goes on; else nothing is
+pub record IsFromAt (w : Directions) (s x width : ℕ) (costs places from_costs from_places : List ℕ) (j : ℕ) : Type 0 where
+  pub cost : GoesOn w s x → slice_index from_costs j ≡ slice_index costs (x * width + j)
+  pub place : GoesOn w s x → slice_index from_places j ≡ slice_index places (x * width + j)
+  pub stays : ¬ GoesOn w s x → slice_index from_costs j ≡ far
 
 -- the turn of x, in one lane: where a path that comes to x goes on, x offers what is known of it; else nothing
 pub lane_turn : (g : Topology) (w : Directions) (dir : Dir) (s x width : ℕ) (ends : List End) (costs places from_costs from_places costs' places' : List ℕ) (j : ℕ)

@@ -1,12 +1,11 @@
 -- Offers of ways to nodes: the way that comes first is kept.
-use Rattle.std.proofs.Common.{◌≡◌, ◌≢◌, ◌<◌, ◌≤◌, ◌==◌, ◌+◌, ◌∙◌, ℕ, true, false, List, Option, Some, None, set, slice_get, inl, inr, refl, sym, subst, arith}
-use Rattle.std.specs.Prelude.{nat_lt}
+use Rattle.std.proofs.Common.{◌≡◌, ◌≢◌, ◌<◌, ◌≤◌, ◌==◌, ◌+◌, ◌∙◌, ℕ, Bool, true, false, List, Option, Some, None, set, slice_get, inl, inr, refl, sym, subst, arith}
+use Rattle.std.specs.Prelude.{◌&&◌, ◌||◌, nat_lt}
 use Rattle.std.proofs.lemmas.Bool.{cases_Bool, cases_eq, cases_lt, eqb-true, eqb-false, ltb-true, ltb-false, and_parts}
 use Rattle.std.proofs.lemmas.List.{length-set}
 use Rattle.std.proofs.lemmas.Option.{same_Some, slice_get_within}
 use Rattle.mrt_graph.proofs.ListPlaces.{set_elsewhere, set_there}
-use Rattle.inc_dec_spf.specs.declared.reach.Known.{Known}
-use Rattle.inc_dec_spf.specs.Known.{AreOffered, IsKnown, IsNoLater, IsOne, comes_first}
+use Rattle.inc_dec_spf.specs.Known.{AreOffered, IsKnown, IsNoLater, Known}
 
 pub no_later_self : (a : Known) → IsNoLater a a
 no_later_self a = inr (refl, omega arith)
@@ -19,6 +18,17 @@ no_later_on a b c ab bc = elim ab [
     | inr tie' ↦ inr (tie.0 ∙ tie'.0, omega (arith, tie.1, tie'.1))
   ]
 ]
+
+-- of two ways to one node: a lower cost comes first; at equal costs, the earlier end of the source
+abbrev pub comes_first : Known → Option Known → Bool
+comes_first offer None = true
+comes_first offer (Some known) =
+    nat_lt offer.cost known.cost || (offer.cost == known.cost && nat_lt offer.place known.place)
+
+-- one way to one node is offered
+pub record IsOne (to : ℕ) (offer : Known) (v : ℕ) (way : Known) : Type 0 where
+  pub node : v ≡ to
+  pub same : way ≡ offer
 
 -- of two ways one does not come after the other, as the test tells
 pub first_no_later : (offer known : Known) → comes_first offer (Some known) ≡ true → IsNoLater offer known

@@ -1,16 +1,20 @@
 -- The costs of the nodes from their own blocks, turn by turn.
-use Rattle.std.proofs.Common.{◌≡◌, ◌≢◌, ◌⊎◌, ◌∙◌, ◌<◌, ◌≤◌, ◌+◌, ◌-◌, ◌*◌, ℕ, Bool, true, List, [], Some, get_or, length, slice_get, inl, inr, refl, sym, subst, arith}
+use Rattle.std.proofs.Common.{◌≡◌, ◌≢◌, ◌⊎◌, ◌∙◌, ◌<◌, ◌≤◌, ◌+◌, ◌-◌, ◌*◌, ℕ, Bool, false, true, List, [], Some, get_or, length, slice_get, inl, inr, refl, sym, subst, arith}
 use Rattle.std.proofs.lemmas.Bool.{cases_eq, cases_lt}
 use Rattle.std.proofs.lemmas.Option.{same_Some, slice_get-get_or}
 use Rattle.mrt_graph.specs.declared.link.End.{End}
+use Rattle.mrt_graph.specs.GraphInvariant.{IsTopology}
 use Rattle.mrt_graph.specs.Topology.{Topology}
 use Rattle.link_direction.specs.Directions.{Directions}
 use Rattle.inc_dec_spf.specs.declared.reach.Dir.{Dir}
 use Rattle.inc_dec_spf.specs.declared.reach.Dir.TheVariants.{Down, Up}
+use Rattle.inc_dec_spf.specs.declared.aiming.Aiming.{Aiming}
 use Rattle.inc_dec_spf.specs.Against.{against}
+use Rattle.inc_dec_spf.specs.Aiming.{AreOwnCosts}
 use Rattle.inc_dec_spf.specs.BlockAims.{aim_at}
 use Rattle.inc_dec_spf.specs.Path.{IsStep}
 use Rattle.inc_dec_spf.specs.Rest.{IsRestCost, far}
+use Rattle.inc_dec_spf.specs.TileEntries.{TileEntries}
 use Rattle.inc_dec_spf.specs.Turns.{AreTurns, turn_at, turn_of}
 use Rattle.inc_dec_spf.specs.Ways.{AreLeast, AreReady, IsReadyFrom}
 use Rattle.inc_dec_spf.proofs.ByTurn.{turn_within}
@@ -144,8 +148,33 @@ kept_most at costs all after most most_all there elsewhere i cost is = elim (cas
   ]
 ]
 
--- of one width as of another that is equal
-pub ready_in_width : (g : Topology) (w : Directions) (dir : Dir) (own : Bool) (aims : List ℕ) (width same : ℕ) (bound : ℕ) (all : List ℕ) (x : ℕ) → same ≡ width
-    → AreReady g w dir own aims width bound all x → AreReady g w dir own aims same bound all x
-ready_in_width g w dir own aims width same bound all x is ready =
-    subst (λ (n : ℕ). AreReady g w dir own aims n bound all x) (sym is) ready
+-- the least ways of one width, as of another that is equal
+pub least_in_width : (g : Topology) (w : Directions) (dir : Dir) (own : Bool) (aims : List ℕ) (width same bound : ℕ) (all : List ℕ) (x : ℕ) (ends : List End)
+    (costs links : List ℕ) → same ≡ width → AreReady g w dir own aims width bound all x
+    → (AreReady g w dir own aims same bound all x → AreLeast g w dir own aims same bound x ends (length ends) costs links)
+    → AreLeast g w dir own aims width bound x ends (length ends) costs links
+least_in_width g w dir own aims width same bound all x ends costs links is ready least =
+    subst (λ (n : ℕ). AreLeast g w dir own aims n bound x ends (length ends) costs links) is
+    (least (subst (λ (n : ℕ). AreReady g w dir own aims n bound all x) (sym is) ready))
+
+-- what all ends of a node lead to is ready
+pub all_ready : (aiming : Aiming) (w : Directions) (tile : TileEntries) (width : ℕ) (all : List ℕ) (s : ℕ) → IsTopology aiming.graph.now
+    → width ≡ tile.width → all ≡ tile.costs → AreOwnCosts aiming w tile
+    → AreReady aiming.graph.now w aiming.dir false aiming.aims.now width (65536 * length aiming.graph.now.ids) all s
+all_ready aiming w tile width all s kept wide same costs =
+    let bound = 65536 * length aiming.graph.now.ids in
+    subst (λ (n : ℕ). AreReady aiming.graph.now w aiming.dir false aiming.aims.now n bound all s) (sym wide)
+    (subst (λ (xs : List ℕ). AreReady aiming.graph.now w aiming.dir false aiming.aims.now tile.width bound xs s) (sym same) (record {
+      each = λ k end more step kept_to inside. costs.each end.to (move_of aiming.graph.now w aiming.dir k s end kept step).to_within;
+    }))
+
+-- what is known of the costs in these lists is known in a tile that has them
+pub own_costs_of : (aiming : Aiming) (w : Directions) (tile : TileEntries) (width : ℕ) (all : List ℕ) → tile.width ≡ width → tile.costs ≡ all
+    → ((y : ℕ) → y < length aiming.graph.now.ids
+    → IsReadyFrom aiming.graph.now w aiming.dir aiming.aims.now width (65536 * length aiming.graph.now.ids) all y) → AreOwnCosts aiming w tile
+own_costs_of aiming w tile width all wide same ready = record {
+  each = λ y within.
+      let bound = 65536 * length aiming.graph.now.ids in
+      subst (λ (n : ℕ). IsReadyFrom aiming.graph.now w aiming.dir aiming.aims.now n bound tile.costs y) (sym wide)
+      (subst (λ (xs : List ℕ). IsReadyFrom aiming.graph.now w aiming.dir aiming.aims.now width bound xs y) (sym same) (ready y within));
+}

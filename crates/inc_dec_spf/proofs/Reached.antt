@@ -1,17 +1,14 @@
 -- What the sweep has found are the least paths.
 use Rattle.std.proofs.Common.{◌≡◌, ◌≢◌, ◌<◌, ◌≤◌, ◌∙◌, ℕ, List, [], ◌∷◌, Option, Some, None, length, slice_get, inl, inr, refl, sym, subst, arith}
 use Rattle.std.specs.Option.{option_map}
-use Rattle.std.proofs.lemmas.List.{length-map}
-use Rattle.std.proofs.lemmas.Option.{same_Some, slice_get-map, slice_get_within}
+use Rattle.std.proofs.lemmas.Option.{same_Some, slice_get_within}
 use Rattle.mrt_graph.specs.declared.link.End.{End}
 use Rattle.mrt_graph.specs.Topology.{Topology}
 use Rattle.link_direction.specs.BlockOfTwo.{HaveInCommon, Peers, ToHead, FromHead}
 use Rattle.link_direction.specs.Directions.{Directions}
 use Rattle.inc_dec_spf.specs.declared.reach.Dir.{Dir}
-use Rattle.inc_dec_spf.specs.declared.reach.Hop.{Hop}
-use Rattle.inc_dec_spf.specs.declared.reach.Known.{Known}
-use Rattle.inc_dec_spf.specs.Known.{IsKnown, IsNoLater, hop_of, hops_of}
-use Rattle.inc_dec_spf.specs.LeastPath.{BeginsPath, HasMoreLinks, IsHop, IsReach, NotReached, Reached, ShareBlock}
+use Rattle.inc_dec_spf.specs.Known.{IsKnown, IsNoLater, Known, hop_of}
+use Rattle.inc_dec_spf.specs.LeastPath.{BeginsPath, HasMoreLinks, IsHop, NotReached, Reached, ShareBlock}
 use Rattle.inc_dec_spf.specs.Path.{IsStep, Path, cost_of}
 use Rattle.inc_dec_spf.specs.Sweep.{IsSwept}
 use Rattle.inc_dec_spf.proofs.ByTurn.{turn_within}
@@ -159,15 +156,3 @@ hop_for g root w dir s t known (Some way) is swept s_within two at =
           | inl less ↦ omega (arith, less)
           | inr tie ↦ omega (arith, tie.0)
         ]
-
--- the hops of what is known of each node
-pub reach_of : (g : Topology) (w : Directions) (dir : Dir) (s : ℕ) (known : List (Option Known)) → length known ≡ length g.ids
-    → ((t : ℕ) (way : Option Known) → slice_get known t ≡ Some way → IsHop g w dir s t (option_map hop_of way)) → IsReach g w dir s (hops_of known)
-reach_of g w dir s known one_each is = record {
-  one_each = length-map known (option_map hop_of) ∙ one_each;
-  each = λ t hop at. go t hop (slice_get known t) refl (sym (slice_get-map (option_map hop_of) known t) ∙ at);
-}
-  where
-    go : (t : ℕ) (hop : Option Hop) (o : Option (Option Known)) → slice_get known t ≡ o → option_map (option_map hop_of) o ≡ Some hop → IsHop g w dir s t hop
-    go t hop None at is_hop = cc
-    go t hop (Some o) at is_hop = subst (λ (x : Option Hop). IsHop g w dir s t x) (same_Some (option_map hop_of o) hop is_hop) (is t o at)

@@ -9,8 +9,7 @@ use Rattle.mrt_graph.specs.Topology.{Topology}
 use Rattle.mrt_graph.proofs.ListTests.{all_at}
 use Rattle.link_direction.specs.Directions.{Directions}
 use Rattle.inc_dec_spf.specs.declared.reach.Dir.{Dir}
-use Rattle.inc_dec_spf.specs.declared.reach.Known.{Known}
-use Rattle.inc_dec_spf.specs.Known.{AreOffered, IsKnown, hops_of}
+use Rattle.inc_dec_spf.specs.Known.{AreOffered, IsKnown, Known}
 use Rattle.inc_dec_spf.specs.Path.{IsStep}
 use Rattle.inc_dec_spf.specs.Offers.{GoesOn, IsFirstOffer, IsFurtherOffer, IsTurnOffer}
 use Rattle.inc_dec_spf.specs.Sweep.{First, Further, IsSwept, IsWay}
@@ -43,11 +42,6 @@ pub nothing_known : (n v : ℕ) (way : Known) → slice_get (replicate n None) v
 nothing_known zero v way at = cc
 nothing_known (suc n) zero way at = cc
 nothing_known (suc n) (suc v) way at = nothing_known n v way at
-
-pub no_hops : (n t : ℕ) → t < n → slice_get (hops_of (replicate n None)) t ≡ Some None
-no_hops zero t within = absurd (omega (arith, within))
-no_hops (suc n) zero within = refl
-no_hops (suc n) (suc t) within = no_hops n t (omega (arith, within))
 
 -- one more turn
 pub turn_taken : (g : Topology) (root : ℕ) (w : Directions) (dir : Dir) (s x i : ℕ) (before after : List (Option Known)) → IsOrdered g root w

@@ -6,12 +6,11 @@ use Rattle.mrt_graph.specs.declared.link.End.{End}
 use Rattle.mrt_graph.specs.Topology.{Topology}
 use Rattle.link_direction.specs.Directions.{Directions}
 use Rattle.inc_dec_spf.specs.declared.reach.Dir.{Dir}
-use Rattle.inc_dec_spf.specs.declared.reach.Known.{Known}
 use Rattle.inc_dec_spf.specs.FanEntries.{FanEntries}
 use Rattle.inc_dec_spf.specs.FirstLink.{IsFirstLink, no_link}
-use Rattle.inc_dec_spf.specs.Known.{AreOffered, hop_of}
+use Rattle.inc_dec_spf.specs.Known.{AreOffered, Known, hop_of}
 use Rattle.inc_dec_spf.specs.LeastPath.{IsHop}
-use Rattle.inc_dec_spf.specs.Offers.{GoesOn, IsFurtherOffer}
+use Rattle.inc_dec_spf.specs.Offers.{IsFurtherOffer}
 use Rattle.inc_dec_spf.specs.Rest.{far}
 
 -- a place that stands for none: no node has so many ends
@@ -78,12 +77,6 @@ HasOffered g w dir x (Some from) before after = AreOffered (IsFurtherOffer g w d
 pub record AreStops (g : Topology) (w : Directions) (first width : ℕ) (stops : List Bool) : Type 0 where
   pub sources : (j : ℕ) → j < width → first + j < length g.ids → slice_get stops (first + j) ≡ Some true
   pub heads : (j : ℕ) → j < width → first + j < length g.ids → slice_get stops (w.head (first + j)) ≡ Some true
-
--- for the source s at place j, what is known of x, where a path that comes to x goes on; else nothing is
-pub record IsFromAt (w : Directions) (s x width : ℕ) (costs places from_costs from_places : List ℕ) (j : ℕ) : Type 0 where
-  pub cost : GoesOn w s x → slice_index from_costs j ≡ slice_index costs (x * width + j)
-  pub place : GoesOn w s x → slice_index from_places j ≡ slice_index places (x * width + j)
-  pub stays : ¬ GoesOn w s x → slice_index from_costs j ≡ far
 
 -- what s has for node t by a cost and the place of an end: the end begins the least path, which has this cost; there is
 -- none where no path leads to t

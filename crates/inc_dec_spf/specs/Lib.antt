@@ -1,4 +1,5 @@
 pub mod Against
+pub mod Aiming
 pub mod BlockAims
 pub mod Fan
 pub mod FanEntries
@@ -13,5 +14,6 @@ pub mod Rest
 pub mod Side
 pub mod Sweep
 pub mod Tile
+pub mod TileEntries
 pub mod Turns
 pub mod Ways

@@ -8,7 +8,7 @@ use Rattle.mrt_graph.specs.Topology.{Topology}
 use Rattle.link_direction.specs.Directions.{Directions}
 use Rattle.inc_dec_spf.specs.declared.reach.Dir.{Dir}
 use Rattle.inc_dec_spf.specs.declared.reach.Dir.TheVariants.{Down, Up}
-use Rattle.inc_dec_spf.specs.declared.reach.Known.{Known}
+use Rattle.inc_dec_spf.specs.Known.{Known}
 use Rattle.inc_dec_spf.specs.Path.{IsStep}
 
 -- at its node x, a link to node `to` with this direction leads on

@@ -1,20 +1,16 @@
 -- A tile: the links by which all nodes begin the least paths to some nodes side by side.
-use Rattle.std.specs.Prelude.{◌≡◌, ◌<◌, ◌≤◌, ◌*◌, ℕ, List, Some, length, slice_get}
+use Rattle.std.specs.Prelude.{◌≡◌, ◌<◌, ℕ, List, length}
 use Rattle.mrt_graph.specs.Topology.{Topology}
 use Rattle.link_direction.specs.Directions.{Directions}
 use Rattle.inc_dec_spf.specs.declared.reach.Dir.{Dir}
-use Rattle.inc_dec_spf.specs.declared.tile.Tile.{Tile}
 use Rattle.inc_dec_spf.specs.FirstLink.{HasLinksAt}
-use Rattle.inc_dec_spf.specs.Rest.{far}
+use Rattle.inc_dec_spf.specs.TileEntries.{TileEntries}
 
--- it has so many places for each node of the graph
-pub record IsTile (g : Topology) (width : ℕ) (tile : Tile) : Type 0 where
-  pub costs : length tile.costs.items ≡ width
-  pub links : length tile.links.items ≡ width
-  pub all_costs : length tile.all_costs.items ≡ length g.ids * width
-  pub all_links : length tile.all_links.items ≡ length g.ids * width
-  pub most : (i cost : ℕ) → slice_get tile.all_costs.items i ≡ Some cost → cost ≤ far
+-- it is one of the graph, with so many places for each node
+pub record IsTile (g : Topology) (places : ℕ) (tile : TileEntries) : Type 0 where
+  pub nodes : tile.nodes ≡ length g.ids
+  pub width : tile.width ≡ places
 
 -- it is aimed so: it has the links of all nodes
-pub record IsAimed (g : Topology) (w : Directions) (dir : Dir) (aims : List ℕ) (width : ℕ) (tile : Tile) : Type 0 where
-  pub each : (s : ℕ) → s < length g.ids → HasLinksAt g w dir aims width tile.all_links.items s
+pub record IsAimed (g : Topology) (w : Directions) (dir : Dir) (aims : List ℕ) (tile : TileEntries) : Type 0 where
+  pub each : (s : ℕ) → s < length g.ids → HasLinksAt g w dir aims tile.width tile.links s

@@ -15,7 +15,7 @@ ghost use Rattle.inc_dec_spf.specs.Rest.{far};
 ghost use Rattle.inc_dec_spf.specs.Turns.{AreTurns};
 
 use crate::beside::{NO_PLACE, offer_begun, offer_on};
-use crate::reach::{Dir, Known};
+use crate::reach::{Dir, Hop};
 use crate::side::{FAR, NO_LINK};
 use mrt_graph::{Directed, End, Graph, LinkNo, NoMemory, NodeNo};
 use std::alloc::Global;
@@ -119,8 +119,8 @@ impl Fan {
         }
     }
 
-    /// The way of source s to node t: the least path, where there is one. It is open from the nodes from `first` on.
-    pub(crate) fn way(&self, g: &Graph, first: NodeNo, s: NodeNo, t: NodeNo) -> Option<Known>
+    /// The hop of source s for node t. It is open from the nodes from `first` on.
+    pub(crate) fn hop(&self, g: &Graph, first: NodeNo, s: NodeNo, t: NodeNo) -> Option<Hop>
         requires kept { IsTopology g.now }
         requires source { s < length g.now.ids }
         requires target { t < length g.now.ids }
@@ -128,13 +128,13 @@ impl Fan {
         requires among { s < first + self.now.width }
         requires nodes { self.now.nodes ≡ length g.now.ids }
         ensures { (w : Directions) (dir : Dir) → IsOpen g.now w dir first self.now
-            → IsHop g.now w dir s t (option_map hop_of result) }
+            → IsHop g.now w dir s t result }
     {
         if t == s {
             return None;
         }
         let at = t.get() as usize * self.from_costs.len() + (s.get() - first.get()) as usize;
-        known_by(g.ends(s), self.costs[at], self.places[at])
+        hop_by(g.ends(s), self.costs[at], self.places[at])
     }
 }
 
@@ -149,13 +149,13 @@ pub struct Opening<'a> {
     pub first: NodeNo,
 }
 
-/// What is known by a cost and the place of an end of the source.
-fn known_by(ends: &[End], cost: u32, place: u16) -> Option<Known>
-    ensures { result ≡ known_by ends.now cost place }
+/// The hop by a cost and the place of an end of the source: none where the cost is far.
+fn hop_by(ends: &[End], cost: u32, place: u16) -> Option<Hop>
+    ensures { result ≡ option_map hop_of (known_by ends.now cost place) }
 {
     if cost < FAR {
         let link = link_at(ends, place);
-        return Some(Known { cost, place, link });
+        return Some(Hop { cost, link });
     }
     None
 }

@@ -31,11 +31,11 @@ pub fn spf(
     let turns = nodes_by_turn(alloc, g, d, dir)?;
     let mut fan = Fan::new(alloc, g, 1)?;
     fan.open(g, d, dir, &turns, source);
-    let mut known = vec![in alloc; None; count as usize]?;
+    let mut hops = vec![in alloc; None; count as usize]?;
     for n in 0..count {
         let t = NodeNo::new(n);
-        known[n as usize] = fan.way(g, source, source, t);
+        hops[n as usize] = fan.hop(g, source, source, t);
     }
-    let reach = Reach::new(known);
+    let reach = Reach::new(hops);
     Ok(reach)
 }

@@ -1,6 +1,7 @@
 //! The increasing and decreasing shortest paths in the blocks of a GADAG (RFC 7811, section 5.7).
 #![tactic(auto)]
 
+mod aiming;
 mod beside;
 mod fan;
 mod least_paths;
@@ -14,6 +15,7 @@ mod to_target;
 mod turns;
 mod ways;
 
+pub use aiming::Aiming;
 pub use fan::Fan;
 pub use least_paths::spf;
 pub use offers::is_sole;

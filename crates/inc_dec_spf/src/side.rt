@@ -4,13 +4,22 @@ ghost use Rattle.std.specs.Prelude.{◌≡◌, ◌<◌, ◌≤◌, ◌+◌, ◌^
 ghost use Rattle.inc_dec_spf.specs.Rest.{far};
 ghost use Rattle.inc_dec_spf.specs.Side.{AreTaken, cost_at, left_onward, lesser, link_of_lesser};
 
-use mrt_graph::{LinkNo, NodeNo};
+use mrt_graph::{End, LinkNo, NodeNo};
 
 /// More than the cost of any path.
 pub const FAR: u32 = 2147483648;
 
 /// Stands for no link: no graph has so many.
 pub const NO_LINK: u16 = 65535;
+
+/// An end of a node over which ways lead on, and the block of its link; and whether the ways keep to the node's own block.
+#[derive(Clone, Copy)]
+pub struct Leg {
+    pub node: NodeNo,
+    pub own: bool,
+    pub block: NodeNo,
+    pub end: End,
+}
 
 /// Takes the ways over an end to the nodes side by side, where they are less: `left` has the costs after the end.
 pub fn take_over(left: &[u32], metric: u16, link: LinkNo, costs: &mut [u32], links: &mut [LinkNo])
@@ -41,13 +50,11 @@ fn link_of_lesser(cost: u32, old: u32, link: LinkNo, old_link: LinkNo) -> LinkNo
     if cost < old { link } else { old_link }
 }
 
-/// Takes the ways over an end like this, but for those whose aim is x itself.
+/// Takes the ways over an end like this, but for those whose aim is the end's own node.
 pub fn take_onward(
-    x: NodeNo,
+    leg: &Leg,
     aims: &[NodeNo],
     left: &[u32],
-    metric: u16,
-    link: LinkNo,
     costs: &mut [u32],
     links: &mut [LinkNo],
 )
@@ -55,10 +62,13 @@ pub fn take_onward(
     requires one_left_each { length left.now ≡ length costs.old }
     requires one_link_each { length links.old ≡ length costs.old }
     requires most { (j cost : ℕ) → slice_get left.now j ≡ Some cost → cost ≤ far }
-    ensures small { metric < 2 ^ 16 }
-    ensures taken { AreTaken (λ j cost. cost ≡ left_onward x (slice_index aims.now j) (slice_index left.now j)) metric link
-        costs.old links.old costs.new links.new }
+    ensures small { leg.now.end.metric < 2 ^ 16 }
+    ensures taken { AreTaken (λ j cost. cost ≡ left_onward leg.now.node (slice_index aims.now j) (slice_index left.now j))
+        leg.now.end.metric leg.now.end.link costs.old links.old costs.new links.new }
 {
+    let x = leg.node;
+    let metric = leg.end.metric;
+    let link = leg.end.link;
     for j in 0..costs.len() {
         let cost = left_onward(x, aims[j], left[j]) + metric as u32;
         let old = costs[j];

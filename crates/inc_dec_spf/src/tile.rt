@@ -1,32 +1,44 @@
 //! Tiles: the links by which all nodes begin the least paths to some nodes side by side.
 
-ghost use Rattle.std.specs.Prelude.{◌≡◌, ◌≢◌, ◌<◌, ◌≤◌, ◌+◌, ◌*◌, ℕ, IfOk, Some, length, slice_get};
-ghost use Rattle.std.specs.Option.{option_map};
-ghost use Rattle.mrt_graph.specs.GraphInvariant.{IsTopology};
+ghost use Rattle.std.specs.Prelude.{◌≡◌, ◌≢◌, ◌<◌, ◌+◌, ◌*◌, ℕ, IfOk, Some, length, slice_get};
 ghost use Rattle.link_direction.specs.Directions.{Directions};
-ghost use Rattle.inc_dec_spf.specs.Against.{against};
+ghost use Rattle.inc_dec_spf.specs.Aiming.{AreOwnCosts, IsAiming};
 ghost use Rattle.inc_dec_spf.specs.BlockAims.{IsAimOf, aim_at};
-ghost use Rattle.inc_dec_spf.specs.FirstLink.{AreOthersInOneBlock};
-ghost use Rattle.inc_dec_spf.specs.HasDirections.{AreDirections, HasDirections};
-ghost use Rattle.inc_dec_spf.specs.Known.{hop_of};
+ghost use Rattle.inc_dec_spf.specs.FirstLink.{AreOthersInOneBlock, HasLinksAt, LiesInOneBlock};
+ghost use Rattle.inc_dec_spf.specs.HasDirections.{AreDirections};
 ghost use Rattle.inc_dec_spf.specs.LeastPath.{IsHop};
+ghost use Rattle.inc_dec_spf.specs.Side.{hop_by};
 ghost use Rattle.inc_dec_spf.specs.Tile.{IsAimed, IsTile};
-ghost use Rattle.inc_dec_spf.specs.Turns.{AreTurns};
-ghost use Rattle.inc_dec_spf.specs.Ways.{IsReadyFrom};
 
-use crate::own_costs::{first_known, take_links, take_own_ways};
-use crate::reach::{Dir, Known};
+use crate::aiming::Aiming;
+use crate::own_costs::{keep, take_own_ways};
+use crate::reach::Hop;
 use crate::side::{FAR, NO_LINK};
-use mrt_graph::{Directed, Graph, LinkNo, NoMemory, NodeNo};
+use crate::ways::take_ways;
+use mrt_graph::{Graph, LinkNo, NoMemory, NodeNo};
 use std::alloc::Global;
+use std::marker::Model;
 
-/// Costs and links to nodes side by side: of all nodes, and of the one that has its turn.
+/// For each of so many nodes, costs and links to some nodes side by side; and the same of the node that has its turn.
 #[derive(Drop)]
 pub struct Tile {
-    pub all_costs: Vec<u32>,
-    pub all_links: Vec<LinkNo>,
-    pub costs: Vec<u32>,
-    pub links: Vec<LinkNo>,
+    nodes: usize,
+    all_costs: Vec<u32>,
+    all_links: Vec<LinkNo>,
+    costs: Vec<u32>,
+    links: Vec<LinkNo>,
+}
+
+impl Model for Tile {
+    ghost use Rattle.std.specs.Prelude.{length};
+    ghost use Rattle.inc_dec_spf.specs.TileEntries.{AreTileEntries, TileEntries, tile_entries};
+
+    ghost Value = { TileEntries };
+
+    ghost view = { λ tile. tile_entries tile.nodes (length tile.costs.items) tile.all_costs.items tile.all_links.items };
+
+    ghost invariant = { λ tile. AreTileEntries tile.nodes (length tile.costs.items) (length tile.links.items)
+        tile.all_costs.items tile.all_links.items };
 }
 
 impl Tile {
@@ -37,12 +49,13 @@ impl Tile {
         ensures { IfOk result (IsTile g.now width) }
     {
         let none = LinkNo::new(NO_LINK);
-        let places = g.node_count() as usize * width as usize;
-        let all_costs = vec![in alloc; FAR; places]?;
-        let all_links = vec![in alloc; none; places]?;
+        let nodes = g.node_count() as usize;
+        let all_costs = vec![in alloc; FAR; nodes * width as usize]?;
+        let all_links = vec![in alloc; none; nodes * width as usize]?;
         let costs = vec![in alloc; FAR; width as usize]?;
         let links = vec![in alloc; none; width as usize]?;
         Ok(Tile {
+            nodes,
             all_costs,
             all_links,
             costs,
@@ -50,73 +63,42 @@ impl Tile {
         })
     }
 
-    /// Aims each block, at each place, at one node: `aims` has those of block k from k times the width on. Each node that is
-    /// not marked in `heads` lies in one block. The turns are those of the other direction.
+    /// Takes the links of all nodes to what their blocks aim at. Each node that is not marked in `heads` lies in one block.
     ///
     /// It takes time in proportion to the ends of all nodes times the width.
-    pub fn aim(
-        &mut self,
-        g: &Graph,
-        d: &Directed,
-        dir: Dir,
-        turns: &[NodeNo],
-        heads: &[bool],
-        aims: &[NodeNo],
-    )
-        ghost width: { ℕ }
-        requires kept { IsTopology g.now }
-        requires directed { HasDirections g.now d.now }
-        requires turns { (root : ℕ) (w : Directions) → AreDirections g.now d.now root w
-            → AreTurns g.now w (against dir) turns.now }
-        requires heads { length heads.now ≡ length g.now.ids }
-        requires aims { length aims.now ≡ length g.now.ids * width }
-        requires tile { IsTile g.now width self.old }
-        ensures tile { IsTile g.now width self.new }
-        ensures aimed { (root : ℕ) (w : Directions) → AreDirections g.now d.now root w
-            → AreOthersInOneBlock g.now w heads.now
-            → IsAimed g.now w dir aims.now width self.new }
+    pub fn aim(&mut self, aiming: &Aiming, heads: &[bool])
+        requires aiming { IsAiming aiming.now self.old.width }
+        requires nodes { self.old.nodes ≡ length aiming.now.graph.now.ids }
+        requires heads { length heads.now ≡ length aiming.now.graph.now.ids }
+        ensures nodes { self.new.nodes ≡ self.old.nodes }
+        ensures width { self.new.width ≡ self.old.width }
+        ensures aimed { (root : ℕ) (w : Directions) → AreDirections aiming.now.graph.now aiming.now.directed.now root w
+            → AreOthersInOneBlock aiming.now.graph.now w heads.now
+            → IsAimed aiming.now.graph.now w aiming.now.dir aiming.now.aims.now self.new }
     {
-        take_links(
-            g,
-            d,
-            dir,
-            turns,
-            heads,
-            aims,
-            &mut self.all_costs,
-            &mut self.all_links,
-            &mut self.costs,
-            &mut self.links,
-        );
+        self.take_costs(aiming);
+        for n in 0..aiming.graph.node_count() {
+            if heads[n as usize] {
+                self.take_links(aiming, NodeNo::new(n));
+            }
+        }
     }
 
-    /// Takes the costs of all nodes, each in its own block, to what the block aims at. The turns are those of the other
-    /// direction.
-    pub(crate) fn take_costs(
-        &mut self,
-        g: &Graph,
-        d: &Directed,
-        dir: Dir,
-        turns: &[NodeNo],
-        aims: &[NodeNo],
-    )
-        ghost width: { ℕ }
-        requires kept { IsTopology g.now }
-        requires directed { HasDirections g.now d.now }
-        requires turns { (root : ℕ) (w : Directions) → AreDirections g.now d.now root w
-            → AreTurns g.now w (against dir) turns.now }
-        requires aims { length aims.now ≡ length g.now.ids * width }
-        requires tile { IsTile g.now width self.old }
-        ensures tile { IsTile g.now width self.new }
-        ensures ready { (root y : ℕ) (w : Directions) → AreDirections g.now d.now root w → y < length g.now.ids
-            → IsReadyFrom g.now w dir aims.now width (65536 * length g.now.ids) self.new.all_costs.items y }
+    /// Takes the costs of all nodes, each in its own block, to what the block aims at, and the links of those that lie in one
+    /// block.
+    pub(crate) fn take_costs(&mut self, aiming: &Aiming)
+        requires aiming { IsAiming aiming.now self.old.width }
+        requires nodes { self.old.nodes ≡ length aiming.now.graph.now.ids }
+        ensures nodes { self.new.nodes ≡ self.old.nodes }
+        ensures width { self.new.width ≡ self.old.width }
+        ensures costs { (root : ℕ) (w : Directions) → AreDirections aiming.now.graph.now aiming.now.directed.now root w
+            → AreOwnCosts aiming.now w self.new }
+        ensures links { (root y : ℕ) (w : Directions) → AreDirections aiming.now.graph.now aiming.now.directed.now root w
+            → y < length aiming.now.graph.now.ids → LiesInOneBlock aiming.now.graph.now w y
+            → HasLinksAt aiming.now.graph.now w aiming.now.dir aiming.now.aims.now self.new.width self.new.links y }
     {
         take_own_ways(
-            g,
-            d,
-            dir,
-            turns,
-            aims,
+            aiming,
             &mut self.all_costs,
             &mut self.all_links,
             &mut self.costs,
@@ -124,51 +106,78 @@ impl Tile {
         );
     }
 
-    /// What is known of s on the way to what its blocks aim at, in a tile of width one whose costs were taken so. It is aimed
-    /// at another node, over all its blocks that do not aim at s itself.
-    pub(crate) fn hop_from(
-        &mut self,
-        g: &Graph,
-        d: &Directed,
-        dir: Dir,
-        s: NodeNo,
-        aims: &[NodeNo],
-    ) -> Option<Known>
-        requires kept { IsTopology g.now }
-        requires directed { HasDirections g.now d.now }
-        requires node { s < length g.now.ids }
-        requires aims { length aims.now ≡ length g.now.ids * 1 }
-        requires tile { IsTile g.now 1 self.old }
-        ensures tile { IsTile g.now 1 self.new }
-        ensures costs { self.new.all_costs.items ≡ self.old.all_costs.items }
-        ensures hop { (root t : ℕ) (w : Directions) → AreDirections g.now d.now root w
-            → ((y : ℕ) → y < length g.now.ids
-            → IsReadyFrom g.now w dir aims.now 1 (65536 * length g.now.ids) self.old.all_costs.items y)
-            → s ≢ t → IsAimOf g.now w (aim_at aims.now 1 0) s t
-            → IsHop g.now w dir s t (option_map hop_of result) }
+    /// Takes the links of s in all its blocks, where the costs of all nodes were taken.
+    fn take_links(&mut self, aiming: &Aiming, s: NodeNo)
+        requires aiming { IsAiming aiming.now self.old.width }
+        requires nodes { self.old.nodes ≡ length aiming.now.graph.now.ids }
+        requires node { s < length aiming.now.graph.now.ids }
+        ensures nodes { self.new.nodes ≡ self.old.nodes }
+        ensures width { self.new.width ≡ self.old.width }
+        ensures costs { self.new.costs ≡ self.old.costs }
+        ensures links { (root : ℕ) (w : Directions) → AreDirections aiming.now.graph.now aiming.now.directed.now root w
+            → AreOwnCosts aiming.now w self.old
+            → HasLinksAt aiming.now.graph.now w aiming.now.dir aiming.now.aims.now self.new.width self.new.links s }
+        ensures others { (y : ℕ) (w : Directions) → y ≢ s
+            → HasLinksAt aiming.now.graph.now w aiming.now.dir aiming.now.aims.now self.old.width self.old.links y
+            → HasLinksAt aiming.now.graph.now w aiming.now.dir aiming.now.aims.now self.new.width self.new.links y }
     {
-        first_known(
-            g,
-            d,
+        take_ways(
+            aiming,
             s,
-            dir,
-            aims,
+            false,
             &self.all_costs,
             &mut self.costs,
             &mut self.links,
-        )
+        );
+        let at = s.get() as usize * self.costs.len();
+        keep(at, &self.links, &mut self.all_links);
+    }
+
+    /// The hop of s to the first of what its blocks aim at, in all its blocks that do not aim at s itself, where the costs of
+    /// all nodes were taken.
+    pub(crate) fn hop_from(&mut self, aiming: &Aiming, s: NodeNo) -> Option<Hop>
+        requires aiming { IsAiming aiming.now self.old.width }
+        requires nodes { self.old.nodes ≡ length aiming.now.graph.now.ids }
+        requires some { 0 < self.old.width }
+        requires node { s < length aiming.now.graph.now.ids }
+        ensures nodes { self.new.nodes ≡ self.old.nodes }
+        ensures width { self.new.width ≡ self.old.width }
+        ensures costs { self.new.costs ≡ self.old.costs }
+        ensures hop { (root t : ℕ) (w : Directions) → AreDirections aiming.now.graph.now aiming.now.directed.now root w
+            → AreOwnCosts aiming.now w self.old
+            → s ≢ t → IsAimOf aiming.now.graph.now w (aim_at aiming.now.aims.now self.old.width 0) s t
+            → IsHop aiming.now.graph.now w aiming.now.dir s t result }
+    {
+        take_ways(
+            aiming,
+            s,
+            false,
+            &self.all_costs,
+            &mut self.costs,
+            &mut self.links,
+        );
+        hop_by(self.costs[0], self.links[0])
     }
 
     /// The links of node s, for the nodes that it is aimed at.
     pub fn links_of(&self, s: NodeNo) -> &[LinkNo]
-        requires { s * length self.now.links.items + length self.now.links.items
-            ≤ length self.now.all_links.items }
-        ensures one_each { length result.now ≡ length self.now.links.items }
+        requires { s < self.now.nodes }
+        ensures one_each { length result.now ≡ self.now.width }
         ensures there { (j link : ℕ) → slice_get result.now j ≡ Some link
-            → slice_get self.now.all_links.items (s * length self.now.links.items + j) ≡ Some link }
+            → slice_get self.now.links (s * self.now.width + j) ≡ Some link }
     {
-        let width = self.links.len();
+        let width = self.costs.len();
         let at = s.get() as usize * width;
         &self.all_links[at..at + width]
     }
+}
+
+/// The hop by a least cost and its link: none where the cost is far.
+fn hop_by(cost: u32, link: LinkNo) -> Option<Hop>
+    ensures { result ≡ hop_by cost link }
+{
+    if cost < FAR {
+        return Some(Hop { cost, link });
+    }
+    None
 }

@@ -7,6 +7,7 @@ ghost use Rattle.inc_dec_spf.specs.BlockAims.{AreAimsTo, IsMeeting, aim_at};
 ghost use Rattle.inc_dec_spf.specs.HasDirections.{AreDirections, HasDirections};
 ghost use Rattle.inc_dec_spf.specs.LeastPath.{IsReachTo};
 
+use crate::aiming::Aiming;
 use crate::reach::{Dir, Reach};
 use crate::tile::Tile;
 use crate::turns::nodes_by_turn;
@@ -30,16 +31,23 @@ pub fn spf_to(
     let count = g.node_count();
     let turns = nodes_by_turn(alloc, g, d, dir.against())?;
     let aims = aims_to(alloc, g, d, target)?;
+    let aiming = Aiming {
+        graph: g,
+        directed: d,
+        dir,
+        turns: turns.as_slice(),
+        aims: aims.as_slice(),
+    };
     let mut tile = Tile::new(alloc, g, 1)?;
-    tile.take_costs(g, d, dir, &turns, &aims);
-    let mut known = vec![in alloc; None; count as usize]?;
+    tile.take_costs(&aiming);
+    let mut hops = vec![in alloc; None; count as usize]?;
     for n in 0..count {
         let s = NodeNo::new(n);
         if meets(d, s, target) {
-            known[n as usize] = tile.hop_from(g, d, dir, s, &aims);
+            hops[n as usize] = tile.hop_from(&aiming, s);
         }
     }
-    Ok(Reach::new(known))
+    Ok(Reach::new(hops))
 }
 
 /// What the blocks aim at, where this node is the target.

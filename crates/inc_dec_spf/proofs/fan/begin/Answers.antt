@@ -1,7 +1,7 @@
 use Rattle.std.proofs.Common.{◌≡◌, ◌<◌, ◌+◌, ◌*◌, ◌∙◌, ℕ, List, Option, Some, get_or, length, slice_get, refl, sym, subst, inl, inr, arith}
 use Rattle.std.proofs.lemmas.Bool.{cases_eq, cases_lt}
 use Rattle.std.proofs.lemmas.List.{get_or_past}
-use Rattle.inc_dec_spf.specs.declared.reach.Known.{Known}
+use Rattle.inc_dec_spf.specs.Known.{Known}
 use Rattle.inc_dec_spf.specs.Fan.{AreCosts, AreLow, lane, no_place}
 use Rattle.inc_dec_spf.specs.Rest.{far}
 use Rattle.inc_dec_spf.specs.Sweep.{IsSwept}

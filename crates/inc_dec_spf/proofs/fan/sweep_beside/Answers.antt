@@ -1,9 +1,9 @@
 use Rattle.std.proofs.Common.{◌≡◌, ◌<◌, ◌≤◌, ◌+◌, ◌*◌, ◌∙◌, ℕ, get_or, length, refl, sym, ap, subst, arith}
 use Rattle.std.proofs.lemmas.Option.{slice_get_read}
-use Rattle.inc_dec_spf.specs.Fan.{AreLow, HasOffered, IsFromAt, known_by, lane}
+use Rattle.inc_dec_spf.specs.Fan.{AreLow, HasOffered, known_by, lane}
 use Rattle.inc_dec_spf.specs.Rest.{far}
 use Rattle.inc_dec_spf.specs.Sweep.{IsSwept}
-use Rattle.inc_dec_spf.proofs.LanesSwept.{idle_turn, lane_turn}
+use Rattle.inc_dec_spf.proofs.LanesSwept.{IsFromAt, idle_turn, lane_turn}
 use Rattle.inc_dec_spf.proofs.SideBySide.{row_within}
 use Rattle.inc_dec_spf.proofs.Swept.{turn_by_turn}
 use Rattle.inc_dec_spf.proofs.fan.sweep_beside.Goals as goal

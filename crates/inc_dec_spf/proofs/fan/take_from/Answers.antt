@@ -1,14 +1,10 @@
-use Rattle.std.proofs.Common.{◌≡◌, ◌<◌, ◌≤◌, ◌+◌, ◌*◌, ◌∙◌, ℕ, Bool, false, true, List, Some, get_or, length, slice_get, sym, ap, subst, inl, inr, arith}
+use Rattle.std.proofs.Common.{◌≡◌, ◌<◌, ◌≤◌, ◌+◌, ◌*◌, ◌∙◌, ℕ, List, get_or, length, sym, ap, inl, inr, arith}
 use Rattle.std.specs.List.{slice_range}
 use Rattle.std.proofs.lemmas.Bool.{cases_lt}
 use Rattle.std.proofs.lemmas.List.{get_or_past}
-use Rattle.std.proofs.lemmas.Option.{same_Some, slice_get-get_or}
-use Rattle.mrt_graph.specs.Topology.{Topology}
-use Rattle.link_direction.specs.Directions.{Directions}
-use Rattle.inc_dec_spf.specs.Fan.{AreCosts, AreStops}
-use Rattle.inc_dec_spf.specs.Offers.{GoesOn}
+use Rattle.inc_dec_spf.specs.Fan.{AreCosts}
 use Rattle.inc_dec_spf.proofs.Lanes.{range_length}
-use Rattle.inc_dec_spf.proofs.SideBySide.{range_index, row_within}
+use Rattle.inc_dec_spf.proofs.SideBySide.{range_index}
 use Rattle.inc_dec_spf.proofs.fan.take_from.Goals as goal
 
 -- a copy of the entries of one node

@@ -10,11 +10,11 @@ abbrev pub invariant-loop-x : goal.invariant-loop-x
 invariant-loop-x l = record {
   one_each : length l.costs ≡ length l.initial.costs;
   one_link_each : length l.links ≡ length l.initial.costs;
-  all_costs : length l.all_costs ≡ length l.g.ids * length l.initial.costs;
-  all_links : length l.all_links ≡ length l.g.ids * length l.initial.costs;
+  all_costs : length l.all_costs ≡ length l.aiming.graph.now.ids * length l.initial.costs;
+  all_links : length l.all_links ≡ length l.aiming.graph.now.ids * length l.initial.costs;
   most : (i cost : ℕ) → slice_get l.all_costs i ≡ Some cost → cost ≤ far;
-  turned : (root : ℕ) (w : Directions) → AreDirections l.g l.d root w
-      → AreTurned l.g w l.dir l.aims (length l.initial.costs) l.x-index l.all_costs;
-  linked : (root : ℕ) (w : Directions) → AreDirections l.g l.d root w
-      → AreLinked l.g w l.dir l.aims (length l.initial.costs) l.x-index l.all_links;
+  turned : (root : ℕ) (w : Directions) → AreDirections l.aiming.graph.now l.aiming.directed.now root w
+      → AreTurned l.aiming.graph.now w l.aiming.dir l.aiming.aims.now (length l.initial.costs) l.x-index l.all_costs;
+  linked : (root : ℕ) (w : Directions) → AreDirections l.aiming.graph.now l.aiming.directed.now root w
+      → AreLinked l.aiming.graph.now w l.aiming.dir l.aiming.aims.now (length l.initial.costs) l.x-index l.all_links;
 }

@@ -17,6 +17,6 @@ loop-j-preserved c =
     get_or_from_slice_get c.args.aims.now j c.index-aims-j.result 0
     (slice_get_read c.args.aims.now (length c.args.aims.now) j c.index-aims-j.result refl within_aims c.index-aims-j.is) in
     rw (c.lesser.ensures, c.link_of_lesser.ensures)
-    (one_taken (λ i cost. cost ≡ left_onward c.args.x (slice_index c.args.aims.now i) (slice_index c.args.left.now i)) c.args.metric c.args.link
-    c.args.costs.now c.args.links.now j costs links c.left_onward.result old c.index-links-j.result c.loop-j.invariant (c.left_onward.ensures ∙ ap (λ (t : ℕ). left_onward c.args.x t (get_or c.args.left.now j 0)) (sym aim_is)) (slice_get-get_or costs j 0 within)
+    (one_taken (λ i cost. cost ≡ left_onward c.args.leg.now.node (slice_index c.args.aims.now i) (slice_index c.args.left.now i)) c.args.leg.now.end.metric c.args.leg.now.end.link
+    c.args.costs.now c.args.links.now j costs links c.left_onward.result old c.index-links-j.result c.loop-j.invariant (c.left_onward.ensures ∙ ap (λ (t : ℕ). left_onward c.args.leg.now.node t (get_or c.args.left.now j 0)) (sym aim_is)) (slice_get-get_or costs j 0 within)
     (slice_get_read links (length links) j c.index-links-j.result refl within_links c.index-links-j.is))

@@ -13,12 +13,12 @@ use Rattle.inc_dec_spf.proofs.WaysOn.{no_way_on, way_on}
 use Rattle.inc_dec_spf.proofs.ways.take_ways.Goals as goal
 use Rattle.inc_dec_spf.proofs.ways.take_ways.Goals.{then-is_wanted+then-leads_on, else-is_wanted, else-is_wanted-via-then-is_wanted+else-leads_on, else-is_wanted-via-else-is_wanted}
 
-pub take_end-requires-clause-block : goal.take_end-requires-clause-block
-take_end-requires-clause-block c =
-    let g = c.args.g.now in
-    let d = c.args.d.now in
-    let w = c.requires.directed.directions in
-    let are = c.requires.directed.are in
+pub take_leg-requires-clause-block : goal.take_leg-requires-clause-block
+take_leg-requires-clause-block c =
+    let g = c.args.aiming.now.graph.now in
+    let d = c.args.aiming.now.directed.now in
+    let w = c.requires.aiming.directed.directions in
+    let are = c.requires.aiming.directed.are in
     let place = c.loop-end.end-index in
     let ends = c.ends-end-items.result.now in
     let end = c.end-item.result in
@@ -27,21 +27,21 @@ take_end-requires-clause-block c =
       there = slice_get_read ends (length ends) place end refl c.loop-end-test.true c.end-item.is;
       marked = c.mark-mark.ensures;
     } in
-    let onward = end_leads g c.args.x place ends end c.requires.kept marked.list marked.there in
-    let it = inside_of_link g c.requires.directed.root w end.link c.args.x end.to (record { kept = c.requires.kept; ordered = are.ordered }) onward in
+    let onward = end_leads g c.args.x place ends end c.requires.aiming.kept marked.list marked.there in
+    let it = inside_of_link g c.requires.aiming.directed.root w end.link c.args.x end.to (record { kept = c.requires.aiming.kept; ordered = are.ordered }) onward in
     subst (λ (b : ℕ). b < length g.ids)
-    (it.in_block ∙ sym (marked_block g d w c.args.x place ends end c.mark-mark.result c.requires.kept are.says marked))
+    (it.in_block ∙ sym (marked_block g d w c.args.x place ends end c.mark-mark.result c.requires.aiming.kept are.says marked))
     (are.ordered.heads.block_within it.m it.within)
 
 pub loop-end-preserved : goal.loop-end-preserved
 loop-end-preserved c =
-    let g = c.args.g.now in
-    let d = c.args.d.now in
+    let g = c.args.aiming.now.graph.now in
+    let d = c.args.aiming.now.directed.now in
     let place = c.loop-end.end-index in
     let ends = c.ends-end-items.result.now in
     let end = c.end-item.result in
     let mark = c.mark-mark.result in
-    let block = c.place.result.block in
+    let kept = c.place-kept.result.block in
     let marked : IsMarkedEnd g d c.args.x place ends end mark = record {
       list = c.ends-end-items.ensures.value;
       there = slice_get_read ends (length ends) place end refl c.loop-end-test.true c.end-item.is;
@@ -49,26 +49,26 @@ loop-end-preserved c =
     } in
     elim c.if-is_wanted.branch [
       | then-is_wanted+then-leads_on t ↦ rw (t.costs-is, t.links-is) (record {
-        one_each = (t.take_end.ensures.taken c.requires.directed.directions c.requires.directed.are.says).one_cost_each ∙ c.loop-end.invariant.one_each;
-        one_link_each = (t.take_end.ensures.taken c.requires.directed.directions c.requires.directed.are.says).one_link_each
+        one_each = (t.take_leg.ensures.taken c.requires.aiming.directed.directions c.requires.aiming.directed.are.says).one_cost_each ∙ c.loop-end.invariant.one_each;
+        one_link_each = (t.take_leg.ensures.taken c.requires.aiming.directed.directions c.requires.aiming.directed.are.says).one_link_each
             ∙ c.loop-end.invariant.one_link_each;
-        most = most_kept _ end.metric end.link c.loop-end.costs c.loop-end.links t.take_end.new.costs t.take_end.new.links
+        most = most_kept _ end.metric end.link c.loop-end.costs c.loop-end.links t.take_leg.new.costs t.take_leg.new.links
             (c.loop-end.invariant.one_link_each ∙ sym c.loop-end.invariant.one_each)
-            (t.take_end.ensures.taken c.requires.directed.directions c.requires.directed.are.says) c.loop-end.invariant.most;
+            (t.take_leg.ensures.taken c.requires.aiming.directed.directions c.requires.aiming.directed.are.says) c.loop-end.invariant.most;
         least = λ root bound w are low_bound ready.
             let on =
-            way_on g d root w c.args.dir c.args.own c.args.x place block ends end mark (record { kept = c.requires.kept; ordered = are.ordered }) are.says
-            marked (block_of_node g d w c.args.x c.place.result are.says c.requires.node c.place.ensures) (c.is_wanted.ensures.wanted t.if-is_wanted.true)
+            way_on g d root w c.args.aiming.now.dir c.args.own c.args.x place kept ends end mark (record { kept = c.requires.aiming.kept; ordered = are.ordered }) are.says
+            marked (block_of_node g d w c.args.x c.place-kept.result are.says c.requires.node c.place-kept.ensures) (c.is_wanted.ensures.wanted t.if-is_wanted.true)
             (c.is_wanted.ensures.kept_to t.if-is_wanted.true) (sym t.leads_on.ensures ∙ t.if-leads_on.true) in
             let width = length c.args.costs.now in
-            let inside = marked_block g d w c.args.x place ends end mark c.requires.kept are.says marked in
-            all_taken_over g w c.args.dir c.args.own c.args.aims.now width c.args.all.now bound c.args.x place ends end c.loop-end.costs c.loop-end.links
-            t.take_end.new.costs t.take_end.new.links low_bound t.take_end.ensures.small c.loop-end.invariant.one_each c.loop-end.invariant.one_link_each on
-            (step_ready g w c.args.dir c.args.own c.args.aims.now width c.args.all.now bound c.args.x place ends end ready on)
-            (subst (λ (b : ℕ). AreTaken (IsLeftAt w c.args.own c.args.x c.args.aims.now width c.args.all.now b end.to) end.metric end.link c.loop-end.costs c.loop-end.links
-            t.take_end.new.costs t.take_end.new.links) inside
-            (subst (λ (n : ℕ). AreTaken (IsLeftAt w c.args.own c.args.x c.args.aims.now n c.args.all.now mark.block end.to) end.metric end.link c.loop-end.costs
-            c.loop-end.links t.take_end.new.costs t.take_end.new.links) c.loop-end.invariant.one_each (t.take_end.ensures.taken w are.says)))
+            let inside = marked_block g d w c.args.x place ends end mark c.requires.aiming.kept are.says marked in
+            all_taken_over g w c.args.aiming.now.dir c.args.own c.args.aiming.now.aims.now width c.args.all.now bound c.args.x place ends end c.loop-end.costs c.loop-end.links
+            t.take_leg.new.costs t.take_leg.new.links low_bound t.take_leg.ensures.small c.loop-end.invariant.one_each c.loop-end.invariant.one_link_each on
+            (step_ready g w c.args.aiming.now.dir c.args.own c.args.aiming.now.aims.now width c.args.all.now bound c.args.x place ends end ready on)
+            (subst (λ (b : ℕ). AreTaken (IsLeftAt w c.args.own c.args.x c.args.aiming.now.aims.now width c.args.all.now b end.to) end.metric end.link c.loop-end.costs c.loop-end.links
+            t.take_leg.new.costs t.take_leg.new.links) inside
+            (subst (λ (n : ℕ). AreTaken (IsLeftAt w c.args.own c.args.x c.args.aiming.now.aims.now n c.args.all.now mark.block end.to) end.metric end.link c.loop-end.costs
+            c.loop-end.links t.take_leg.new.costs t.take_leg.new.links) c.loop-end.invariant.one_each (t.take_leg.ensures.taken w are.says)))
             (c.loop-end.invariant.least root bound w are low_bound ready);
       })
       | else-is_wanted t ↦ rw (t.costs-is, t.links-is) (record {
@@ -76,9 +76,9 @@ loop-end-preserved c =
         one_link_each = c.loop-end.invariant.one_link_each;
         most = c.loop-end.invariant.most;
         least = λ root bound w are low_bound ready.
-            all_passed g w c.args.dir c.args.own c.args.aims.now (length c.args.costs.now) bound c.args.x place ends c.loop-end.costs c.loop-end.links
-            (no_way_on g d root w c.args.dir c.args.own c.args.x place block ends end mark (record { kept = c.requires.kept; ordered = are.ordered }) are.says
-            marked (block_of_node g d w c.args.x c.place.result are.says c.requires.node c.place.ensures)
+            all_passed g w c.args.aiming.now.dir c.args.own c.args.aiming.now.aims.now (length c.args.costs.now) bound c.args.x place ends c.loop-end.costs c.loop-end.links
+            (no_way_on g d root w c.args.aiming.now.dir c.args.own c.args.x place kept ends end mark (record { kept = c.requires.aiming.kept; ordered = are.ordered }) are.says
+            marked (block_of_node g d w c.args.x c.place-kept.result are.says c.requires.node c.place-kept.ensures)
             (elim t.else-is_wanted.branch [
               | else-is_wanted-via-then-is_wanted+else-leads_on t' ↦ inr (sym t'.leads_on.ensures ∙ t'.if-leads_on.false)
               | else-is_wanted-via-else-is_wanted t' ↦
@@ -92,6 +92,6 @@ pub returns-clause-least : goal.returns-clause-least
 returns-clause-least c = λ root bound w ends are low_bound ready list.
     let same : c.ends-end-items.result.now ≡ ends = same_Some c.ends-end-items.result.now ends (sym c.ends-end-items.ensures.value ∙ list) in
     let all : c.loop-end.end-index ≡ length c.ends-end-items.result.now = omega (arith, c.loop-end-test.false, c.loop-end.auto.end-index-end) in
-    subst (λ (es : List End). AreLeast c.args.g.now w c.args.dir c.args.own c.args.aims.now (length c.args.costs.now) bound c.args.x es (length es) c.loop-end.costs c.loop-end.links) same
-    (subst (λ (n : ℕ). AreLeast c.args.g.now w c.args.dir c.args.own c.args.aims.now (length c.args.costs.now) bound c.args.x c.ends-end-items.result.now n c.loop-end.costs c.loop-end.links)
+    subst (λ (es : List End). AreLeast c.args.aiming.now.graph.now w c.args.aiming.now.dir c.args.own c.args.aiming.now.aims.now (length c.args.costs.now) bound c.args.x es (length es) c.loop-end.costs c.loop-end.links) same
+    (subst (λ (n : ℕ). AreLeast c.args.aiming.now.graph.now w c.args.aiming.now.dir c.args.own c.args.aiming.now.aims.now (length c.args.costs.now) bound c.args.x c.ends-end-items.result.now n c.loop-end.costs c.loop-end.links)
     all (c.loop-end.invariant.least root bound w are low_bound ready))

@@ -7,10 +7,10 @@ use Rattle.inc_dec_spf.proofs.ways.take_ways.Given as goal
 
 abbrev pub invariant-loop-end : goal.invariant-loop-end
 invariant-loop-end l = record {
-  one_each : length l.costs ≡ length l.initial.costs;
-  one_link_each : length l.links ≡ length l.initial.costs;
+  one_each : length l.costs ≡ length l.fn.costs;
+  one_link_each : length l.links ≡ length l.fn.costs;
   most : (j cost : ℕ) → slice_get l.costs j ≡ Some cost → cost ≤ far;
-  least : (root bound : ℕ) (w : Directions) → AreDirections l.g l.d root w → bound < 2 ^ 30
-      → AreReady l.g w l.dir l.own l.aims (length l.initial.costs) bound l.all l.x
-      → AreLeast l.g w l.dir l.own l.aims (length l.initial.costs) bound l.x l.end-items l.end-index l.costs l.links;
+  least : (root bound : ℕ) (w : Directions) → AreDirections l.aiming.graph.now l.aiming.directed.now root w → bound < 2 ^ 30
+      → AreReady l.aiming.graph.now w l.aiming.dir l.own l.aiming.aims.now (length l.fn.costs) bound l.all l.x
+      → AreLeast l.aiming.graph.now w l.aiming.dir l.own l.aiming.aims.now (length l.fn.costs) bound l.x l.end-items l.end-index l.costs l.links;
 }

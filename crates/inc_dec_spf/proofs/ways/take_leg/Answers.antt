@@ -6,36 +6,36 @@ use Rattle.inc_dec_spf.specs.Side.{cost_at}
 use Rattle.inc_dec_spf.specs.Ways.{Back, Home, Onward}
 use Rattle.inc_dec_spf.proofs.EndsOffered.{block_of_node}
 use Rattle.inc_dec_spf.proofs.SideBySide.{onward_or_back, range_index, range_most, row_within, taken_by}
-use Rattle.inc_dec_spf.proofs.ways.take_end.Goals as goal
+use Rattle.inc_dec_spf.proofs.ways.take_leg.Goals as goal
 
 pub returns-then-ne-clause-taken : goal.returns-then-ne-clause-taken
 returns-then-ne-clause-taken c = λ w says.
-    let named = block_of_node c.args.g.now c.args.d.now w c.args.end.now.to c.place.result says c.requires.node c.place.ensures in
-    let aims = c.args.aims.now in
+    let named = block_of_node c.args.aiming.now.graph.now c.args.aiming.now.directed.now w c.args.leg.now.end.to c.place.result says c.requires.node c.place.ensures in
+    let aims = c.args.aiming.now.aims.now in
     let width = length c.args.costs.now in
-    let outside : w.block c.args.end.now.to ≢ c.args.block = λ inside.
-    let no : c.ne.result ≡ false = rw (eq-eqb c.place.result.block c.args.block (named ∙ inside)) at c.ne.ensures in
+    let outside : w.block c.args.leg.now.end.to ≢ c.args.leg.now.block = λ inside.
+    let no : c.ne.result ≡ false = rw (eq-eqb c.place.result.block c.args.leg.now.block (named ∙ inside)) at c.ne.ensures in
     let yes = c.if-ne.true in (cc) in
     let room : c.get.result * width + width ≤ length aims =
-    row_within c.get.result (length c.args.g.now.ids) width (length aims) c.requires.aims (omega (arith, c.requires.block, c.get.ensures.value)) in
-    taken_by _ _ c.args.end.now.metric c.args.end.now.link c.args.costs.now c.args.links.now c.take_last.new.costs c.take_last.new.links
+    row_within c.get.result (length c.args.aiming.now.graph.now.ids) width (length aims) c.requires.aiming.aims (omega (arith, c.requires.block, c.get.ensures.value)) in
+    taken_by _ _ c.args.leg.now.end.metric c.args.leg.now.end.link c.args.costs.now c.args.links.now c.take_last.new.costs c.take_last.new.links
     (λ j left below is.
-    Home outside (is ∙ ap (λ (t : ℕ). cost_at c.args.end.now.to t)
+    Home outside (is ∙ ap (λ (t : ℕ). cost_at c.args.leg.now.end.to t)
     (range_index aims (c.get.result * width) width j room below ∙ ap (λ (b : ℕ). slice_index aims (b * width + j)) c.get.ensures.value)))
     c.take_last.ensures.taken
 
 pub returns-then-own-clause-taken : goal.returns-then-own-clause-taken
 returns-then-own-clause-taken c = λ w says.
-    let named = block_of_node c.args.g.now c.args.d.now w c.args.end.now.to c.place.result says c.requires.node c.place.ensures in
+    let named = block_of_node c.args.aiming.now.graph.now c.args.aiming.now.directed.now w c.args.leg.now.end.to c.place.result says c.requires.node c.place.ensures in
     let all = c.args.all.now in
     let width = length c.args.costs.now in
-    let inside : c.place.result.block ≡ c.args.block = elim (cases_eq c.place.result.block c.args.block) [
+    let inside : c.place.result.block ≡ c.args.leg.now.block = elim (cases_eq c.place.result.block c.args.leg.now.block) [
       | inl same ↦ same
-      | inr other ↦ let yes : c.ne.result ≡ true = rw (ne_eqb c.place.result.block c.args.block other) at c.ne.ensures in let no = c.if-ne.false in absurd (cc)
+      | inr other ↦ let yes : c.ne.result ≡ true = rw (ne_eqb c.place.result.block c.args.leg.now.block other) at c.ne.ensures in let no = c.if-ne.false in absurd (cc)
     ] in
     let room : c.get-2.result * width + width ≤ length all =
-    row_within c.get-2.result (length c.args.g.now.ids) width (length all) c.requires.rows (omega (arith, c.requires.node, c.get-2.ensures.value)) in
-    taken_by _ _ c.args.end.now.metric c.args.end.now.link c.args.costs.now c.args.links.now c.take_over.new.costs c.take_over.new.links
+    row_within c.get-2.result (length c.args.aiming.now.graph.now.ids) width (length all) c.requires.rows (omega (arith, c.requires.node, c.get-2.ensures.value)) in
+    taken_by _ _ c.args.leg.now.end.metric c.args.leg.now.end.link c.args.costs.now c.args.links.now c.take_over.new.costs c.take_over.new.links
     (λ j left below is.
     let it = range_most all (c.get-2.result * width) width j left room is in
     Onward (sym named ∙ inside) (λ all_blocks. let own = c.if-own.true in absurd (cc))
@@ -44,23 +44,23 @@ returns-then-own-clause-taken c = λ w says.
 
 pub returns-else-own-clause-taken : goal.returns-else-own-clause-taken
 returns-else-own-clause-taken c = λ w says.
-    let named = block_of_node c.args.g.now c.args.d.now w c.args.end.now.to c.place.result says c.requires.node c.place.ensures in
-    let aims = c.args.aims.now in
+    let named = block_of_node c.args.aiming.now.graph.now c.args.aiming.now.directed.now w c.args.leg.now.end.to c.place.result says c.requires.node c.place.ensures in
+    let aims = c.args.aiming.now.aims.now in
     let all = c.args.all.now in
     let width = length c.args.costs.now in
-    let inside : c.place.result.block ≡ c.args.block = elim (cases_eq c.place.result.block c.args.block) [
+    let inside : c.place.result.block ≡ c.args.leg.now.block = elim (cases_eq c.place.result.block c.args.leg.now.block) [
       | inl same ↦ same
-      | inr other ↦ let yes : c.ne.result ≡ true = rw (ne_eqb c.place.result.block c.args.block other) at c.ne.ensures in let no = c.if-ne.false in absurd (cc)
+      | inr other ↦ let yes : c.ne.result ≡ true = rw (ne_eqb c.place.result.block c.args.leg.now.block other) at c.ne.ensures in let no = c.if-ne.false in absurd (cc)
     ] in
     let room_aims : c.get.result * width + width ≤ length aims =
-    row_within c.get.result (length c.args.g.now.ids) width (length aims) c.requires.aims (omega (arith, c.requires.block, c.get.ensures.value)) in
+    row_within c.get.result (length c.args.aiming.now.graph.now.ids) width (length aims) c.requires.aiming.aims (omega (arith, c.requires.block, c.get.ensures.value)) in
     let room : c.get-2.result * width + width ≤ length all =
-    row_within c.get-2.result (length c.args.g.now.ids) width (length all) c.requires.rows (omega (arith, c.requires.node, c.get-2.ensures.value)) in
-    taken_by _ _ c.args.end.now.metric c.args.end.now.link c.args.costs.now c.args.links.now c.take_onward.new.costs c.take_onward.new.links
+    row_within c.get-2.result (length c.args.aiming.now.graph.now.ids) width (length all) c.requires.rows (omega (arith, c.requires.node, c.get-2.ensures.value)) in
+    taken_by _ _ c.args.leg.now.end.metric c.args.leg.now.end.link c.args.costs.now c.args.links.now c.take_onward.new.costs c.take_onward.new.links
     (λ j left below is.
     let aim_is = range_index aims (c.get.result * width) width j room_aims below ∙ ap (λ (b : ℕ). slice_index aims (b * width + j)) c.get.ensures.value in
     let left_is = range_index all (c.get-2.result * width) width j room below in
-    elim (onward_or_back c.args.x (slice_index (slice_range aims (c.get.result * width) (c.get.result * width + width)) j)
+    elim (onward_or_back c.args.leg.now.node (slice_index (slice_range aims (c.get.result * width) (c.get.result * width + width)) j)
     (slice_index (slice_range all (c.get-2.result * width) (c.get-2.result * width + width)) j) left is) [
       | inl back ↦ Back c.if-own.false (sym aim_is ∙ back.0) back.1
       | inr on ↦

@@ -1,13 +1,13 @@
 use Rattle.std.proofs.Common.{◌≡◌, ◌≢◌, ◌<◌, ◌+◌, ◌-◌, ◌*◌, ◌∙◌, ℕ, Option, Some, get_or, length, slice_get, sym, ap, subst, arith}
 use Rattle.std.specs.Option.{option_map}
 use Rattle.std.proofs.lemmas.Bool.{eqb-false, eqb-true}
-use Rattle.inc_dec_spf.specs.declared.reach.Known.{Known}
+use Rattle.inc_dec_spf.specs.declared.reach.Hop.{Hop}
 use Rattle.inc_dec_spf.specs.Fan.{IsOpen, known_by}
 use Rattle.inc_dec_spf.specs.FanEntries.{FanEntries, fan_entries}
 use Rattle.inc_dec_spf.specs.Known.{hop_of}
 use Rattle.inc_dec_spf.specs.LeastPath.{IsHop, NotReached}
 use Rattle.inc_dec_spf.proofs.EntryRead.{entry_read}
-use Rattle.inc_dec_spf.proofs.fan.Fan.way.Goals as goal
+use Rattle.inc_dec_spf.proofs.fan.Fan.hop.Goals as goal
 
 pub returns-then-eq : goal.returns-then-eq
 returns-then-eq c = λ w dir opened.
@@ -43,9 +43,9 @@ returns c = λ w dir opened.
     (c.index-2.ensures ∙ ap (λ (i : ℕ). get_or places i c.index-2.result.now) at) in
     let it = now.each j t ends below (omega (arith, is_s, c.requires.source)) c.requires.target
     (subst (λ (v : ℕ). slice_get graph.ends v ≡ Some ends) (sym is_s) c.ends.ensures.value) in
-    let known : c.known_by.result ≡ known_by ends (get_or costs (t * width + j) 0) (get_or places (t * width + j) 0) =
-    c.known_by.ensures ∙ ap (λ (x : ℕ). known_by ends x c.index-2.result.now) cost
-    ∙ ap (λ (p : ℕ). known_by ends (get_or costs (t * width + j) 0) p) place in
-    subst (λ (o : Option Known). IsHop graph w dir c.args.s t (option_map hop_of o)) (sym known)
+    let known : c.hop_by.result ≡ option_map hop_of (known_by ends (get_or costs (t * width + j) 0) (get_or places (t * width + j) 0)) =
+    c.hop_by.ensures ∙ ap (λ (x : ℕ). option_map hop_of (known_by ends x c.index-2.result.now)) cost
+    ∙ ap (λ (p : ℕ). option_map hop_of (known_by ends (get_or costs (t * width + j) 0) p)) place in
+    subst (λ (o : Option Hop). IsHop graph w dir c.args.s t o) (sym known)
     (subst (λ (v : ℕ). IsHop graph w dir v t (option_map hop_of (known_by ends (get_or costs (t * width + j) 0) (get_or places (t * width + j) 0)))) is_s
     (it.hop (λ same. two (sym (sym is_s ∙ same)))))

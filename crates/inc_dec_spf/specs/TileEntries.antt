@@ -1,0 +1,20 @@
+-- The entries of a tile.
+use Rattle.std.specs.Prelude.{◌≡◌, ◌≤◌, ◌*◌, ℕ, List, Some, length, slice_get}
+use Rattle.inc_dec_spf.specs.Rest.{far}
+
+-- for each of so many nodes, and for each of so many places side by side, a cost and a link
+pub record TileEntries : Type 0 where
+  pub nodes : ℕ
+  pub width : ℕ
+  pub costs : List ℕ
+  pub links : List ℕ
+
+abbrev pub tile_entries : ℕ → ℕ → List ℕ → List ℕ → TileEntries
+tile_entries nodes width costs links = record { nodes = nodes; width = width; costs = costs; links = links }
+
+-- there are as many, no cost is more than far, and there is room for those of one node
+pub record AreTileEntries (nodes width room : ℕ) (costs links : List ℕ) : Type 0 where
+  pub one_cost_each : length costs ≡ nodes * width
+  pub one_link_each : length links ≡ nodes * width
+  pub most : (i cost : ℕ) → slice_get costs i ≡ Some cost → cost ≤ far
+  pub one_place_each : room ≡ width

@@ -1,0 +1,15 @@
+//! What a tile is aimed by.
+
+use crate::reach::Dir;
+use mrt_graph::{Directed, Graph, NodeNo};
+
+/// A graph with its directions; up or down; the nodes by the turns of the other direction; and what the blocks aim at, side by
+/// side: the aims of block k stand from k times their number on.
+#[derive(Clone, Copy)]
+pub struct Aiming<'a> {
+    pub graph: &'a Graph,
+    pub directed: &'a Directed,
+    pub dir: Dir,
+    pub turns: &'a [NodeNo],
+    pub aims: &'a [NodeNo],
+}
