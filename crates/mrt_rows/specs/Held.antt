@@ -13,8 +13,8 @@ use Rattle.mrt_rows.specs.Put.{AreHeadsMarked, AreHomes}
 -- what the blocks aim at for the destinations in their places, and tiles that are aimed so
 pub record AreTilesAimed (g : Topology) (root : ℕ) (w : Directions) (held : Columns) : Type 0 where
   pub aims : AreBlockAims g root w held.targets.items held.aims.items
-  pub up : IsAimed g w Up held.aims.items held.width held.up
-  pub down : IsAimed g w Down held.aims.items held.width held.down
+  pub up : IsAimed g w Up held.aims.items held.up
+  pub down : IsAimed g w Down held.aims.items held.down
 
 -- the nodes by their turns, marks on the heads of blocks, the sole links, the links and the rows home of all nodes, room
 -- for each node and each destination side by side, and tiles, which are aimed where a node stands among these

@@ -20,7 +20,7 @@ use crate::homes::{home_rows, homes_of};
 use crate::members::Home;
 use crate::row_over::{Source, row_over};
 use crate::soles::take_soles;
-use inc_dec_spf::{Dir, NO_LINK, Tile, nodes_by_turn};
+use inc_dec_spf::{Aiming, Dir, NO_LINK, Tile, nodes_by_turn};
 use mrt_graph::{Column, Directed, Graph, LinkNo, NoMemory, NodeNo, Row, Tag};
 use std::alloc::Global;
 
@@ -214,9 +214,22 @@ impl Columns {
         ensures targets { self.new.targets ≡ self.old.targets }
     {
         put_block_aims(g, root, d, &self.targets, &mut self.aims);
-        self.up.aim(g, d, Dir::Up, &self.against_order, &self.heads, &self.aims);
-        self.down
-            .aim(g, d, Dir::Down, &self.by_order, &self.heads, &self.aims);
+        let up = Aiming {
+            graph: g,
+            directed: d,
+            dir: Dir::Up,
+            turns: self.against_order.as_slice(),
+            aims: self.aims.as_slice(),
+        };
+        self.up.aim(&up, &self.heads);
+        let down = Aiming {
+            graph: g,
+            directed: d,
+            dir: Dir::Down,
+            turns: self.by_order.as_slice(),
+            aims: self.aims.as_slice(),
+        };
+        self.down.aim(&down, &self.heads);
     }
 
     /// Puts the nodes below others on the way from `to` to the root.
@@ -322,8 +335,8 @@ impl Columns {
         requires place { aim.at < self.now.width }
         requires held { (w : Directions) → Says g.now d.now w → AreHeld g.now root w self.now }
         ensures { (w : Directions) → Says g.now d.now w
-            → IsAimed g.now w Up self.now.aims.items self.now.width self.now.up
-            → IsAimed g.now w Down self.now.aims.items self.now.width self.now.down
+            → IsAimed g.now w Up self.now.aims.items self.now.up
+            → IsAimed g.now w Down self.now.aims.items self.now.down
             → IsAimOf g.now w (aim_at self.now.aims.items self.now.width aim.at) s aim.node
             → IsNearRow g.now root w s aim.node result }
     {

@@ -15,7 +15,7 @@ ghost use Rattle.mrt_rows.specs.Put.{AreHeadsMarked, AreHomes};
 use crate::block_aims::put_heads;
 use crate::members::Home;
 use crate::row_over::end_row;
-use inc_dec_spf::{Dir, NO_LINK, Tile};
+use inc_dec_spf::{Aiming, Dir, NO_LINK, Tile};
 use mrt_graph::{Directed, Graph, LinkNo, NoMemory, NodeNo, Row, Tag};
 use std::alloc::Global;
 
@@ -43,10 +43,23 @@ pub fn homes_of(
     let count = g.node_count() as usize;
     let mut aims = vec![in alloc; NodeNo::new(0); count]?;
     put_heads(g, d, 1, &mut aims);
+    let aims = aims.as_slice();
     let mut up = Tile::new(alloc, g, 1)?;
-    up.aim(g, d, Dir::Up, against_order, heads, &aims);
+    let aiming = Aiming {
+        graph: g,
+        directed: d,
+        dir: Dir::Up,
+        turns: against_order,
+        aims,
+    };
+    up.aim(&aiming, heads);
     let mut down = Tile::new(alloc, g, 1)?;
-    down.aim(g, d, Dir::Down, by_order, heads, &aims);
+    let aiming = Aiming {
+        dir: Dir::Down,
+        turns: by_order,
+        ..aiming
+    };
+    down.aim(&aiming, heads);
     let none = LinkNo::new(NO_LINK);
     let mut homes = vec![in alloc; Home {
         up: none,
@@ -64,7 +77,7 @@ fn take_homes(g: &Graph, up: &Tile, down: &Tile, homes: &mut [Home])
     requires one_each { length homes.old ≡ length g.now.ids }
     ensures one_each { length homes.new ≡ length g.now.ids }
     ensures homes { (root : ℕ) (w : Directions) (aims : List ℕ) → IsOrderedGadag g.now root w
-        → AreHeadAims g.now w 1 aims → IsAimed g.now w Up aims 1 up.now → IsAimed g.now w Down aims 1 down.now
+        → AreHeadAims g.now w 1 aims → IsAimed g.now w Up aims up.now → IsAimed g.now w Down aims down.now
         → AreHomes g.now w homes.new }
 {
     for n in 0..g.node_count() {

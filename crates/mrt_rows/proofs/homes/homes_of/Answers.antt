@@ -1,4 +1,4 @@
-use Rattle.std.proofs.Common.{◌∙◌, ℕ, List, sym, subst}
+use Rattle.std.proofs.Common.{rules, ◌≡◌, ◌*◌, ◌∙◌, ℕ, List, length, sym, ap, subst, arith}
 use Rattle.std.proofs.lemmas.List.{with_items_is}
 use Rattle.inc_dec_spf.specs.declared.reach.Dir.TheVariants.{Down, Up}
 use Rattle.inc_dec_spf.specs.Tile.{IsAimed}
@@ -8,14 +8,42 @@ use Rattle.mrt_rows.proofs.OrderedGraphs.{graph_of}
 use Rattle.mrt_rows.proofs.Sharing.{others_in_one_block}
 use Rattle.mrt_rows.proofs.homes.homes_of.Goals as goal
 
+pub aim-requires-clause-aiming : goal.aim-requires-clause-aiming
+aim-requires-clause-aiming c =
+    let g = c.args.g.now in
+    let same = c.as_slice-aims.ensures.value ∙ with_items_is c.in_ok-aims.aims c.put_heads.new.aims (c.put_heads.ensures.room ∙ c.deref_mut.ensures.len) in
+    let made : length c.in_ok-aims.aims.items ≡ c.node_count-count.result = search rules in
+    let single : length g.ids ≡ length g.ids * 1 = omega arith in
+    record {
+      kept = c.requires.kept;
+      directed = c.requires.directed;
+      turns = c.requires.against_order;
+      aims = ap (λ (xs : List ℕ). length xs) same ∙ c.put_heads.ensures.room ∙ ap (λ (xs : List ℕ). length xs) c.deref_mut.ensures.value ∙ made
+          ∙ c.node_count-count.ensures.count ∙ single ∙ ap (λ (n : ℕ). length g.ids * n) (sym c.in_ok-up.ensures.width);
+    }
+
+pub aim-requires-2-clause-aiming : goal.aim-requires-2-clause-aiming
+aim-requires-2-clause-aiming c =
+    let g = c.args.g.now in
+    let same = c.as_slice-aims.ensures.value ∙ with_items_is c.in_ok-aims.aims c.put_heads.new.aims (c.put_heads.ensures.room ∙ c.deref_mut.ensures.len) in
+    let made : length c.in_ok-aims.aims.items ≡ c.node_count-count.result = search rules in
+    let single : length g.ids ≡ length g.ids * 1 = omega arith in
+    record {
+      kept = c.requires.kept;
+      directed = c.requires.directed;
+      turns = c.requires.by_order;
+      aims = ap (λ (xs : List ℕ). length xs) same ∙ c.put_heads.ensures.room ∙ ap (λ (xs : List ℕ). length xs) c.deref_mut.ensures.value ∙ made
+          ∙ c.node_count-count.ensures.count ∙ single ∙ ap (λ (n : ℕ). length g.ids * n) (sym c.in_ok-down.ensures.width);
+    }
+
 pub returns-clause-homes : goal.returns-clause-homes
 returns-clause-homes c = λ root w are marked.
     let g = c.args.g.now in
     let others = others_in_one_block (graph_of g root w c.args.d.now c.requires.kept are) c.args.heads.now marked in
     let put = c.put_heads.new.aims in
-    let aims_same = with_items_is c.in_ok-aims.aims put (c.put_heads.ensures.room ∙ c.deref_mut.ensures.len) in
-    let up = subst (λ (xs : List ℕ). IsAimed g w Up xs 1 c.aim.new.self) (c.deref.ensures.value ∙ aims_same) (c.aim.ensures.aimed root w are others) in
-    let down = subst (λ (xs : List ℕ). IsAimed g w Down xs 1 c.aim-2.new.self) (c.deref-2.ensures.value ∙ aims_same) (c.aim-2.ensures.aimed root w are others) in
+    let aims_same = c.as_slice-aims.ensures.value ∙ with_items_is c.in_ok-aims.aims put (c.put_heads.ensures.room ∙ c.deref_mut.ensures.len) in
+    let up = subst (λ (xs : List ℕ). IsAimed g w Up xs c.aim.new.self) aims_same (c.aim.ensures.aimed root w are others) in
+    let down = subst (λ (xs : List ℕ). IsAimed g w Down xs c.aim-2.new.self) aims_same (c.aim-2.ensures.aimed root w are others) in
     let same = with_items_is c.in_ok-homes.homes c.take_homes.new.homes (c.take_homes.auto.homes ∙ c.deref_mut-2.ensures.len) in
     subst (λ (homes : List Home). AreHomes g w homes) (sym same)
     (c.take_homes.ensures.homes root w put are.ordered (c.put_heads.ensures.heads root w are) up down)

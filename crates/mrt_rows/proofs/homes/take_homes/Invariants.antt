@@ -12,5 +12,5 @@ abbrev pub invariant-loop-n : goal.invariant-loop-n
 invariant-loop-n l = record {
   one_each : length l.homes ≡ length l.g.ids;
   homes : (root v : ℕ) (w : Directions) (aims : List ℕ) (home : Home) → IsOrderedGadag l.g root w → AreHeadAims l.g w 1 aims
-      → IsAimed l.g w Up aims 1 l.up → IsAimed l.g w Down aims 1 l.down → v < l.n → slice_get l.homes v ≡ Some home → IsHome l.g w v home;
+      → IsAimed l.g w Up aims l.up → IsAimed l.g w Down aims l.down → v < l.n → slice_get l.homes v ≡ Some home → IsHome l.g w v home;
 }

@@ -5,7 +5,7 @@ use Rattle.link_direction.specs.Directions.{Directions}
 use Rattle.inc_dec_spf.specs.declared.reach.Dir.TheVariants.{Down, Up}
 use Rattle.inc_dec_spf.specs.FirstLink.{AreOthersInOneBlock}
 use Rattle.inc_dec_spf.specs.HasDirections.{AreDirections}
-use Rattle.inc_dec_spf.specs.Tile.{IsAimed, IsTile}
+use Rattle.inc_dec_spf.specs.Tile.{IsAimed}
 use Rattle.inc_dec_spf.specs.Turns.{AreTurns}
 use Rattle.mrt_rows.specs.Chain.{AreBlockAims}
 use Rattle.mrt_rows.proofs.Climbing.{graph_by}
@@ -27,53 +27,57 @@ put_block_aims-requires-clause-room c =
     ap (λ (xs : List ℕ). length xs) c.deref_mut.ensures.value ∙ held.places
     ∙ ap (λ (k : ℕ). length c.args.g.now.ids * k) (sym held.a_target_each ∙ ap (λ (ts : List ℕ). length ts) (sym c.deref.ensures.value))
 
-pub aim-requires : goal.aim-requires
-aim-requires c =
+pub aim-requires-clause-aiming : goal.aim-requires-clause-aiming
+aim-requires-clause-aiming c =
     let g = c.args.g.now in
     let says = c.requires.directed.says in
-    let w = c.requires.directed.directions in
+    let held = c.requires.held c.requires.directed.directions says in
     let put = c.put_block_aims.new.aims in
-    let same = c.deref-4.ensures.value ∙ with_items_is c.args.self.now.aims put (c.put_block_aims.ensures.room ∙ c.deref_mut.ensures.len) in (
-      c.requires.kept,
-      (
-        record { root = c.args.root; directions = w; are = record { says = says; ordered = c.requires.directed.ordered } },
-        (
-          (λ root w are. subst (λ (turns : List ℕ). AreTurns g w Down turns) (sym c.deref-2.ensures.value) (c.requires.held w are.says).against_order),
-          (
-            ap (λ (marks : List Bool). length marks) c.deref-3.ensures.value ∙ (c.requires.held w says).a_mark_each,
-            (
-              ap (λ (xs : List ℕ). length xs) same ∙ c.put_block_aims.ensures.room ∙ ap (λ (xs : List ℕ). length xs) c.deref_mut.ensures.value
-                  ∙ (c.requires.held w says).places ∙ ap (λ (k : ℕ). length g.ids * k) (sym (c.requires.held w says).up.links),
-              subst (λ (k : ℕ). IsTile g k c.args.self.now.up) (sym (c.requires.held w says).up.links) (c.requires.held w says).up,
-            ),
-          ),
-        ),
-      ),
-    )
+    let same = c.as_slice-2.ensures.value ∙ with_items_is c.args.self.now.aims put (c.put_block_aims.ensures.room ∙ c.deref_mut.ensures.len) in
+    record {
+      kept = c.requires.kept;
+      directed = record {
+        root = c.args.root;
+        directions = c.requires.directed.directions;
+        are = record { says = says; ordered = c.requires.directed.ordered };
+      };
+      turns = λ root w are. subst (λ (turns : List ℕ). AreTurns g w Down turns) (sym c.as_slice.ensures.value) (c.requires.held w are.says).against_order;
+      aims = ap (λ (xs : List ℕ). length xs) same ∙ c.put_block_aims.ensures.room ∙ ap (λ (xs : List ℕ). length xs) c.deref_mut.ensures.value ∙ held.places
+          ∙ ap (λ (k : ℕ). length g.ids * k) (sym held.up.width);
+    }
 
-pub aim-requires-2 : goal.aim-requires-2
-aim-requires-2 c =
+pub aim-requires-clause-nodes : goal.aim-requires-clause-nodes
+aim-requires-clause-nodes c = (c.requires.held c.requires.directed.directions c.requires.directed.says).up.nodes
+
+pub aim-requires-clause-heads : goal.aim-requires-clause-heads
+aim-requires-clause-heads c =
+    ap (λ (marks : List Bool). length marks) c.deref-2.ensures.value ∙ (c.requires.held c.requires.directed.directions c.requires.directed.says).a_mark_each
+
+pub aim-requires-2-clause-aiming : goal.aim-requires-2-clause-aiming
+aim-requires-2-clause-aiming c =
     let g = c.args.g.now in
     let says = c.requires.directed.says in
-    let w = c.requires.directed.directions in
+    let held = c.requires.held c.requires.directed.directions says in
     let put = c.put_block_aims.new.aims in
-    let same = c.deref-7.ensures.value ∙ with_items_is c.args.self.now.aims put (c.put_block_aims.ensures.room ∙ c.deref_mut.ensures.len) in (
-      c.requires.kept,
-      (
-        record { root = c.args.root; directions = w; are = record { says = says; ordered = c.requires.directed.ordered } },
-        (
-          (λ root w are. subst (λ (turns : List ℕ). AreTurns g w Up turns) (sym c.deref-5.ensures.value) (c.requires.held w are.says).by_order),
-          (
-            ap (λ (marks : List Bool). length marks) c.deref-6.ensures.value ∙ (c.requires.held w says).a_mark_each,
-            (
-              ap (λ (xs : List ℕ). length xs) same ∙ c.put_block_aims.ensures.room ∙ ap (λ (xs : List ℕ). length xs) c.deref_mut.ensures.value
-                  ∙ (c.requires.held w says).places ∙ ap (λ (k : ℕ). length g.ids * k) (sym (c.requires.held w says).down.links),
-              subst (λ (k : ℕ). IsTile g k c.args.self.now.down) (sym (c.requires.held w says).down.links) (c.requires.held w says).down,
-            ),
-          ),
-        ),
-      ),
-    )
+    let same = c.as_slice-4.ensures.value ∙ with_items_is c.args.self.now.aims put (c.put_block_aims.ensures.room ∙ c.deref_mut.ensures.len) in
+    record {
+      kept = c.requires.kept;
+      directed = record {
+        root = c.args.root;
+        directions = c.requires.directed.directions;
+        are = record { says = says; ordered = c.requires.directed.ordered };
+      };
+      turns = λ root w are. subst (λ (turns : List ℕ). AreTurns g w Up turns) (sym c.as_slice-3.ensures.value) (c.requires.held w are.says).by_order;
+      aims = ap (λ (xs : List ℕ). length xs) same ∙ c.put_block_aims.ensures.room ∙ ap (λ (xs : List ℕ). length xs) c.deref_mut.ensures.value ∙ held.places
+          ∙ ap (λ (k : ℕ). length g.ids * k) (sym held.down.width);
+    }
+
+pub aim-requires-2-clause-nodes : goal.aim-requires-2-clause-nodes
+aim-requires-2-clause-nodes c = (c.requires.held c.requires.directed.directions c.requires.directed.says).down.nodes
+
+pub aim-requires-2-clause-heads : goal.aim-requires-2-clause-heads
+aim-requires-2-clause-heads c =
+    ap (λ (marks : List Bool). length marks) c.deref-3.ensures.value ∙ (c.requires.held c.requires.directed.directions c.requires.directed.says).a_mark_each
 
 pub returns-clause-held : goal.returns-clause-held
 returns-clause-held c = λ w says.
@@ -84,12 +88,11 @@ returns-clause-held c = λ w says.
     let held = c.requires.held w says in
     let put = c.put_block_aims.new.aims in
     let same = with_items_is c.args.self.now.aims put (c.put_block_aims.ensures.room ∙ c.deref_mut.ensures.len) in
-    let others : AreOthersInOneBlock g w c.deref-3.result.now =
-    subst (λ (marks : List Bool). AreOthersInOneBlock g w marks) (sym c.deref-3.ensures.value)
-    (others_in_one_block og c.args.self.now.heads.items held.marked) in
-    let others_down : AreOthersInOneBlock g w c.deref-6.result.now =
-    subst (λ (marks : List Bool). AreOthersInOneBlock g w marks) (sym c.deref-6.ensures.value)
-    (others_in_one_block og c.args.self.now.heads.items held.marked) in
+    let others = others_in_one_block og c.args.self.now.heads.items held.marked in
+    let others_up : AreOthersInOneBlock g w c.deref-2.result.now =
+    subst (λ (marks : List Bool). AreOthersInOneBlock g w marks) (sym c.deref-2.ensures.value) others in
+    let others_down : AreOthersInOneBlock g w c.deref-3.result.now =
+    subst (λ (marks : List Bool). AreOthersInOneBlock g w marks) (sym c.deref-3.ensures.value) others in
     record {
       by_order = held.by_order;
       against_order = held.against_order;
@@ -103,14 +106,12 @@ returns-clause-held c = λ w says.
       one_below_each = held.one_below_each;
       some_places = held.some_places;
       places = ap (λ (xs : List ℕ). length xs) same ∙ c.put_block_aims.ensures.room ∙ ap (λ (xs : List ℕ). length xs) c.deref_mut.ensures.value ∙ held.places;
-      up = subst (λ (k : ℕ). IsTile g k c.aim.new.self) held.up.links c.aim.ensures.tile;
-      down = subst (λ (k : ℕ). IsTile g k c.aim-2.new.self) held.down.links c.aim-2.ensures.tile;
+      up = record { nodes = c.aim.ensures.nodes ∙ held.up.nodes; width = c.aim.ensures.width ∙ held.up.width };
+      down = record { nodes = c.aim-2.ensures.nodes ∙ held.down.nodes; width = c.aim-2.ensures.width ∙ held.down.width };
       a_target_each = held.a_target_each;
       aimed = λ j t at inside. record {
         aims = aims_moved g root w _ _ put _ c.deref.ensures.value same (c.put_block_aims.ensures.aims w says);
-        up = subst (λ (xs : List ℕ). IsAimed g w Up xs c.args.self.now.width c.aim.new.self) c.deref-4.ensures.value
-            (subst (λ (k : ℕ). IsAimed g w Up c.deref-4.result.now k c.aim.new.self) held.up.links (c.aim.ensures.aimed root w are others));
-        down = subst (λ (xs : List ℕ). IsAimed g w Down xs c.args.self.now.width c.aim-2.new.self) c.deref-7.ensures.value
-            (subst (λ (k : ℕ). IsAimed g w Down c.deref-7.result.now k c.aim-2.new.self) held.down.links (c.aim-2.ensures.aimed root w are others_down));
+        up = subst (λ (xs : List ℕ). IsAimed g w Up xs c.aim.new.self) c.as_slice-2.ensures.value (c.aim.ensures.aimed root w are others_up);
+        down = subst (λ (xs : List ℕ). IsAimed g w Down xs c.aim-2.new.self) c.as_slice-4.ensures.value (c.aim-2.ensures.aimed root w are others_down);
       };
     }

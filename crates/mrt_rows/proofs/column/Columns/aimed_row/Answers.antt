@@ -7,11 +7,10 @@ use Rattle.mrt_graph.specs.declared.gadag.Place.{Place}
 use Rattle.mrt_graph.specs.DirectedLists.{DirectedLists}
 use Rattle.mrt_graph.specs.Topology.{Topology}
 use Rattle.inc_dec_spf.specs.declared.reach.Dir.{Dir}
-use Rattle.inc_dec_spf.specs.declared.tile.Tile.{Tile}
 use Rattle.inc_dec_spf.specs.BlockAims.{IsAimOf, aim_at}
 use Rattle.inc_dec_spf.specs.FirstLink.{IsFirstLink}
 use Rattle.inc_dec_spf.specs.Tile.{IsAimed}
-use Rattle.inc_dec_spf.proofs.SideBySide.{row_within}
+use Rattle.inc_dec_spf.specs.TileEntries.{TileEntries}
 use Rattle.mrt_rows.specs.declared.members.Home.{Home}
 use Rattle.mrt_rows.specs.NearOf.{AreSoles, IsNearRow, IsPlaceOf, IsSoleOf}
 use Rattle.mrt_rows.specs.Put.{AreHomes, IsHome, ShareMoreLinks}
@@ -35,13 +34,13 @@ home_at g w homes i v home are one_each named within is =
     are.each v home (subst (λ (x : ℕ). slice_get homes x ≡ Some home) named
     (slice_get-get_or homes i home (omega (arith, named, within, one_each)) ∙ ap (λ (x : Home). Some x) (sym is)))
 
-first_link : (g : Topology) (w : Directions) (dir : Dir) (tile : Tile) (aims links : List ℕ) (width s t j link : ℕ) → IsAimed g w dir aims width tile
-    → IsAimOf g w (aim_at aims width j) s t → s < length g.ids → t < length g.ids → j < width → length tile.links.items ≡ width → slice_get links j ≡ Some link
-    → ((i x : ℕ) → slice_get links i ≡ Some x → slice_get tile.all_links.items (s * length tile.links.items + i) ≡ Some x)
+first_link : (g : Topology) (w : Directions) (dir : Dir) (tile : TileEntries) (aims links : List ℕ) (width s t j link : ℕ) → IsAimed g w dir aims tile
+    → IsAimOf g w (aim_at aims width j) s t → s < length g.ids → t < length g.ids → j < width → tile.width ≡ width → slice_get links j ≡ Some link
+    → ((i x : ℕ) → slice_get links i ≡ Some x → slice_get tile.links (s * tile.width + i) ≡ Some x)
     → ShareMoreLinks g w s t → IsFirstLink g w dir s t link
 first_link g w dir tile aims links width s t j link aimed aim s_within t_within below wide at there shares =
-    (aimed.each s s_within).each j t shares.block shares.head link below t_within shares.share aim
-    (subst (λ (k : ℕ). slice_get tile.all_links.items (s * k + j) ≡ Some link) wide (there j link at))
+    (aimed.each s s_within).each j t shares.block shares.head link (omega (arith, below, wide)) t_within shares.share
+    (subst (λ (k : ℕ). IsAimOf g w (aim_at aims k j) s t) (sym wide) aim) (there j link at)
 
 pub index-requires : goal.index-requires
 index-requires c =
@@ -59,26 +58,20 @@ index-requires-4 c =
     omega (arith, c.args.self.now.soles.small, c.get.ensures.value, c.requires.aim, held.soles.one_each)
 
 pub links_of-requires : goal.links_of-requires
-links_of-requires c =
-    let held = c.requires.held c.requires.directed.directions c.requires.directed.says in
-    rw (held.up.links, held.up.all_links) (row_within c.args.s (length c.args.g.now.ids) c.args.self.now.width (length c.args.g.now.ids * c.args.self.now.width) refl
-    c.requires.source)
+links_of-requires c = omega (arith, (c.requires.held c.requires.directed.directions c.requires.directed.says).up.nodes, c.requires.source)
 
 pub bounds-links_of-aim : goal.bounds-links_of-aim
 bounds-links_of-aim c =
     let held = c.requires.held c.requires.directed.directions c.requires.directed.says in
-    omega (arith, c.links_of.ensures.one_each, held.up.links, c.requires.place)
+    omega (arith, c.links_of.ensures.one_each, held.up.width, c.requires.place)
 
 pub links_of-requires-2 : goal.links_of-requires-2
-links_of-requires-2 c =
-    let held = c.requires.held c.requires.directed.directions c.requires.directed.says in
-    rw (held.down.links, held.down.all_links) (row_within c.args.s (length c.args.g.now.ids) c.args.self.now.width (length c.args.g.now.ids * c.args.self.now.width) refl
-    c.requires.source)
+links_of-requires-2 c = omega (arith, (c.requires.held c.requires.directed.directions c.requires.directed.says).down.nodes, c.requires.source)
 
 pub bounds-links_of-aim-2 : goal.bounds-links_of-aim-2
 bounds-links_of-aim-2 c =
     let held = c.requires.held c.requires.directed.directions c.requires.directed.says in
-    omega (arith, c.links_of-2.ensures.one_each, held.down.links, c.requires.place)
+    omega (arith, c.links_of-2.ensures.one_each, held.down.width, c.requires.place)
 
 pub index-requires-3 : goal.index-requires-3
 index-requires-3 c =
@@ -114,10 +107,10 @@ returns c = λ w says up down aimed.
     let below = c.requires.place in
     let ups = c.links_of.result.now in
     let downs = c.links_of-2.result.now in
-    let at_up = slice_get_read ups (length ups) j c.index-links_of-aim.result refl (omega (arith, c.links_of.ensures.one_each, held.up.links, below))
+    let at_up = slice_get_read ups (length ups) j c.index-links_of-aim.result refl (omega (arith, c.links_of.ensures.one_each, held.up.width, below))
     c.index-links_of-aim.is in
     let at_down = slice_get_read downs (length downs) j c.index-links_of-aim-2.result refl
-    (omega (arith, c.links_of-2.ensures.one_each, held.down.links, below)) c.index-links_of-aim-2.is in
+    (omega (arith, c.links_of-2.ensures.one_each, held.down.width, below)) c.index-links_of-aim-2.is in
     c.row_over.ensures g c.args.root w c.requires.kept og.ordered
     (record {
       within = c.requires.source;
@@ -128,7 +121,7 @@ returns c = λ w says up down aimed.
     })
     c.requires.aim (place_is g d w aim c.place.result says c.requires.aim c.place.ensures)
     (sole_at g w columns.soles.items c.get.result aim c.index-4.result.now held.soles c.get.ensures.value c.requires.aim c.index-4.ensures)
-    (first_link g w _ columns.up columns.aims.items ups columns.width s aim j c.index-links_of-aim.result up aimed c.requires.source c.requires.aim below held.up.links at_up
+    (first_link g w _ columns.up columns.aims.items ups columns.width s aim j c.index-links_of-aim.result up aimed c.requires.source c.requires.aim below held.up.width at_up
     c.links_of.ensures.there)
-    (first_link g w _ columns.down columns.aims.items downs columns.width s aim j c.index-links_of-aim-2.result down aimed c.requires.source c.requires.aim below held.down.links
+    (first_link g w _ columns.down columns.aims.items downs columns.width s aim j c.index-links_of-aim-2.result down aimed c.requires.source c.requires.aim below held.down.width
     at_down c.links_of-2.ensures.there)
