@@ -12,7 +12,7 @@ ghost use Rattle.inc_dec_spf.specs.declared.reach.Hop.{Hop};
 ghost use Rattle.inc_dec_spf.specs.LeastPath.{IsHop, IsReachTo};
 ghost use Rattle.inc_dec_spf.specs.Path.{Path};
 
-/// Laws: of what a node has for another one, a hop or none, there is exactly one.
+/// Laws: of what a node has for a node in one of the two directions, a hop or none, there is exactly one.
 pub fn one_hop_for_each_node()
     ensures some { (g : Topology) (root s t : ℕ) (w : Directions) (dir : Dir)
         → IsTopology g → IsOrderedGadag g root w → s < length g.ids → t < length g.ids

@@ -17,7 +17,7 @@ use primary_alt::Primary;
 use std::alloc::Global;
 use text_parts::{push, push_count, push_node};
 
-/// As many bytes as a line of a table has at most.
+/// No line of a table has more bytes.
 const LONGEST_LINE: usize = 192;
 
 /// The first line of a router's table: the router, the GADAG root, and how many nodes and links the island has.

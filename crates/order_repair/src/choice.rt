@@ -44,7 +44,8 @@ pub fn order_choice(
     requires failed { IsWithin g.now failed }
     ensures choice { (root : ℕ) (w : Directions) → AreHops g.now d.now root w source up.now down.now
         → IsBetween g.now w source to failed → IsOrderChoice g.now root w source to failed result }
-    // By the rows of the graph's certificate the walk of this color reaches its end, and does not use what has failed.
+    // By the rows of the graph's certificate the walk of this color reaches its end, and does not use what has failed, where
+    // that lies between the two.
     ensures arrives { (root : ℕ) (w : Directions) (file : CertFile)
         → AreHops g.now d.now root w source up.now down.now
         → IsDirectedFrom g.now root d.now → IsCertOf g.now root file → IsBetween g.now w source to failed

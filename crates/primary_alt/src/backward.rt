@@ -182,7 +182,7 @@ fn wait(
     Ok(())
 }
 
-/// Whether these arcs are one alone, which leaves `u`.
+/// True only where each of these arcs leaves `u`: where they are one alone, and it does.
 fn is_one_from(row: &[Arc], u: Spot) -> bool
     ensures { IsTrue result → (arc : Arc) → Contains row.now arc → arc.tail ≡ u }
 {

@@ -33,7 +33,10 @@ pub use primary_law::{
     primaries_lead_nearer, primaries_reach_their_destinations,
 };
 pub use repair::{alternate, alternate_by, alternate_on, is_between};
-pub use repair_law::{a_color_given_goes_round, a_sound_column_goes_round, one_alternate_each};
+pub use repair_law::{
+    a_color_given_goes_round, a_sound_column_goes_round, no_alternate_for_ends_and_what_separates,
+    one_alternate_each,
+};
 pub use routes::Routes;
 pub use routes_law::{routes_lead_nearer, routes_reach_their_destinations};
 pub use searches::Searches;

@@ -27,7 +27,7 @@ pub fn alternate(
     requires source { source < length g.now.ids }
     requires target { to < length g.now.ids }
     ensures color { IsAlternate g.now.links (length g.now.ids) (row_of c.now) source to failed result }
-    // There is none exactly where one of the two ends has failed, or what separates them.
+    // Of two different nodes there is none exactly where an element has failed that is one of them, or separates them.
     ensures none { (x : Element) → failed ≡ Some x → source ≢ to
         → (result ≡ None) ↔ ((¬ IsNeitherEnd x source to) ⊎ Separates g.now.links x source to) }
 {
@@ -48,7 +48,7 @@ pub fn alternate_on(
     requires source { source < length g.now.ids }
     ensures color { IsAlternate g.now.links (length g.now.ids) (rows_of_column c.now) source to
         failed result }
-    // There is none exactly where one of the two ends has failed, or what separates them.
+    // Of two different nodes there is none exactly where an element has failed that is one of them, or separates them.
     ensures none { (x : Element) → failed ≡ Some x → source ≢ to
         → (result ≡ None) ↔ ((¬ IsNeitherEnd x source to) ⊎ Separates g.now.links x source to) }
 {
@@ -68,8 +68,11 @@ pub fn alternate_by<R: RowsOf>(
     requires sound { (at : ℕ) → at < length g.now.ids → at ≢ to
         → SoundFor g.now.links (length g.now.ids) (R.rows rows.now) at to }
     requires source { source < length g.now.ids }
-    ensures { IsAlternate g.now.links (length g.now.ids) (R.rows rows.now) source to
+    ensures color { IsAlternate g.now.links (length g.now.ids) (R.rows rows.now) source to
         failed result }
+    // Of two different nodes there is none exactly where an element has failed that is one of them, or separates them.
+    ensures none { (x : Element) → failed ≡ Some x → source ≢ to
+        → (result ≡ None) ↔ ((¬ IsNeitherEnd x source to) ⊎ Separates g.now.links x source to) }
 {
     match failed {
         None => Some(Color::Blue),

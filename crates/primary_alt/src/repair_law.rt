@@ -1,6 +1,6 @@
-//! What an alternate gives, where the certificate is accepted.
+//! What an alternate gives, by the rows of an accepted certificate, and by any that are sound.
 
-ghost use Rattle.std.specs.Prelude.{◌≡◌, ◌≢◌, ◌<◌, ℕ, List, Option, Some, length};
+ghost use Rattle.std.specs.Prelude.{◌≡◌, ◌≢◌, ◌<◌, ◌⊎◌, ◌↔◌, ℕ, List, Option, Some, None, length};
 ghost use Rattle.mrt_graph.specs.declared.cert.CertFile.{CertFile};
 ghost use Rattle.mrt_graph.specs.declared.cert.Color.{Color};
 ghost use Rattle.mrt_graph.specs.declared.cert.Row.{Row};
@@ -12,6 +12,8 @@ ghost use Rattle.mrt_graph.specs.Certificate.{row_of};
 ghost use Rattle.mrt_graph.specs.Column.{ColumnSound, rows_of_column};
 ghost use Rattle.mrt_graph.specs.ColorWalk.{color_walk};
 ghost use Rattle.mrt_graph.specs.Rows.{Rows};
+ghost use Rattle.mrt_graph.specs.Separates.{IsNeitherEnd, Separates};
+ghost use Rattle.mrt_graph.specs.Sound.{SoundFor};
 ghost use Rattle.mrt_graph.specs.Topology.{Topology};
 ghost use Rattle.mrt_graph.specs.Walk.{Walk};
 
@@ -28,6 +30,13 @@ pub fn a_color_given_goes_round()
         → (x : Element) (color : Color)
         → IsAlternate g.links (length g.ids) (row_of file.cert) s t (Some x) (Some color)
         → ¬ UsesOn g.links (length g.ids) (row_of file.cert) s t x color }
+{}
+
+/// A law: by sound rows there is no alternate exactly where the failed element is one of the two ends, or separates them.
+pub fn no_alternate_for_ends_and_what_separates()
+    ensures { (links : List Link) (n : ℕ) (rows : Rows) (s t : ℕ) → SoundFor links n rows s t
+        → (x : Element) (answer : Option Color) → IsAlternate links n rows s t (Some x) answer
+        → (answer ≡ None) ↔ ((¬ IsNeitherEnd x s t) ⊎ Separates links x s t) }
 {}
 
 /// A law: for each failure there is one alternate.

@@ -35,7 +35,7 @@ returns-in-Some-alternate_by g c =
       failed = c.args.failed.now;
       kept = refl;
       is = subst (λ (o : Option Element). IsAlternate c.args.parts.now.island.now.links (length c.args.parts.now.island.now.ids) (g.R.RowsOf.rows c.args.parts.now.rows.now) c.in-Some.at c.in-Some-node_of.to o (Some c.in-Some-alternate_by.color))
-          c.element_of.ensures c.in-Some-alternate_by.ensures;
+          c.element_of.ensures c.in-Some-alternate_by.ensures.color;
     })
 
 pub returns-in-None : goal.returns-in-None
@@ -48,5 +48,5 @@ returns-in-None g c =
       failed = c.args.failed.now;
       kept = refl;
       is = subst (λ (o : Option Element). IsAlternate c.args.parts.now.island.now.links (length c.args.parts.now.island.now.ids) (g.R.RowsOf.rows c.args.parts.now.rows.now) c.in-Some.at c.in-Some-node_of.to o None)
-          c.element_of.ensures c.in-None.ensures;
+          c.element_of.ensures c.in-None.ensures.color;
     })
