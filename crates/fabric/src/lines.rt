@@ -1,6 +1,6 @@
 //! The texts of answers.
 
-ghost use Rattle.std.specs.Prelude.{◌≡◌, ◌≤◌, ◌+◌, ◌++◌, [], IfOk, Some, Ok, length};
+ghost use Rattle.std.specs.Prelude.{◌≡◌, ◌≤◌, ◌+◌, ◌++◌, [], IfOk, OnErr, Some, Ok, length};
 ghost use Rattle.arrayvec.specs.ArrayVec.{array_vec_len};
 ghost use Rattle.std.specs.Option.{option_map};
 ghost use Rattle.fabric.specs.OutcomeText.{
@@ -43,8 +43,9 @@ pub fn push_answer_line(
     answer: Result<Outcome, Refused>,
 ) -> Result<(), NoMemory>
     requires { IsTellable area.now.ids answer }
-    ensures { IfOk result (λ _. option_map (λ line. text.old.items ++ line)
+    ensures added { IfOk result (λ _. option_map (λ line. text.old.items ++ line)
         (answer_line area.now.ids answer) ≡ Some text.new.items) }
+    ensures err { OnErr result (text.new.items ≡ text.old.items) }
 {
     let mut line = ArrayVec::new();
     put_answer(&mut line, area, answer);

@@ -1,6 +1,6 @@
 //! The lines of answers.
 
-ghost use Rattle.std.specs.Prelude.{◌≡◌, ◌++◌, OnOk};
+ghost use Rattle.std.specs.Prelude.{◌≡◌, ◌++◌, OnOk, OnErr};
 ghost use Rattle.flood_core.specs.declared.answer.Answer.TheVariants as answers;
 ghost use Rattle.flood_script.specs.FloodTexts.{answer_line, verdict_line};
 
@@ -13,7 +13,7 @@ use text_parts::{push, push_number};
 ///
 /// # Errors
 ///
-/// [`NoMemory`] where there was none for the text.
+/// [`NoMemory`] where there was none for the text. The text may have a part of the line then.
 pub fn push_answer(text: &mut Vec<u8>, answer: Answer) -> Result<(), NoMemory>
     ensures { OnOk result (text.new.items ≡ text.old.items ++ answer_line answer) }
 {
@@ -44,7 +44,8 @@ fn push_changed(text: &mut Vec<u8>, count: u32, sent: Option<u32>) -> Result<(),
 ///
 /// [`NoMemory`] where there was none for the text.
 pub fn push_verdict(text: &mut Vec<u8>, verdict: Verdict) -> Result<(), NoMemory>
-    ensures { OnOk result (text.new.items ≡ text.old.items ++ verdict_line verdict) }
+    ensures added { OnOk result (text.new.items ≡ text.old.items ++ verdict_line verdict) }
+    ensures err { OnErr result (text.new.items ≡ text.old.items) }
 {
     match verdict {
         Verdict::None => push(text, b"none\n"),

@@ -1,6 +1,7 @@
 use std::alloc::{AllocError, AllocFailed};
 
-/// The error of a public call that found no memory. Nothing that was lent for writing has changed.
+/// The error of a public call that found no memory. Where the call does not say what is left, nothing that was lent for
+/// writing has changed.
 #[derive(Clone, Copy, Debug, PartialEq, Eq)]
 pub struct NoMemory;
 

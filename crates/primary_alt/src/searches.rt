@@ -56,6 +56,10 @@ impl<'a> Searches<'a> {
     /// holds before is forgotten.
     ///
     /// It takes time in proportion to the arcs, times the logarithm of their number.
+    ///
+    /// # Errors
+    ///
+    /// [`NoMemory`] where there was none. What the list holds then means nothing.
     pub fn distances(&mut self, s: Spot, known: &mut Vec<Option<u32>>) -> Result<(), NoMemory>
         requires one_each { length known.old.items ≡ length self.old.ids }
         requires node { s < length self.old.ids }

@@ -13,4 +13,4 @@ pub returns-clause-told : goal.returns-clause-told
 returns-clause-told g c =
     tells c.push_answer_line.result (parts_of g.R.RowsOf.rows c.args.fabric.now.tables) c.args.area.now c.args.fabric.now.state
     c.apply-answer.new.self.state c.args.event c.apply-answer.result c.args.text.now.items
-    c.push_answer_line.new.text.items c.requires.area c.apply-answer.ensures.step c.push_answer_line.ensures
+    c.push_answer_line.new.text.items c.requires.area c.apply-answer.ensures.step c.push_answer_line.ensures.added
