@@ -1,14 +1,15 @@
 -- LSAs that move to the front of their list.
-use Rattle.std.proofs.Common.{◌≡◌, ◌∙◌, ◌<◌, ◌≤◌, ◌+◌, ◌++◌, ℕ, zero, suc, Bool, true, false, not, List, [], ◌∷◌, Option, Some, None, length, map, take, drop, set, get_or, slice_get, if◌then◌else◌, refl, sym, ap, subst, inl, inr, arith}
+use Rattle.std.proofs.Common.{◌≡◌, ◌∙◌, ◌<◌, ◌≤◌, ◌+◌, ◌++◌, ℕ, zero, suc, Bool, true, false, not, List, [], ◌∷◌, Option, Some, None, length, map, take, set, get_or, slice_get, if◌then◌else◌, refl, sym, ap, subst, inl, inr, arith}
 use Rattle.std.specs.List.{swap, list_any, position_or_len, AllByRecursion, IsDistinct}
 use Rattle.std.specs.Option.{option_map}
 use Rattle.std.proofs.lemmas.Bool.{cases_lt, not-false, not-true}
-use Rattle.std.proofs.lemmas.List.{drop-set-lt, length-set, length-take-le, length_push, map_push, take-set, take-set-le, take_more_set}
+use Rattle.std.proofs.lemmas.List.{length-set, length-take-le, length_push, map_push, take-set, take-set-le, take_more_set}
 use Rattle.std.proofs.lemmas.List.Edits.{swap_is}
 use Rattle.std.proofs.lemmas.Option.{get_or_from_slice_get, slice_get-map}
 use Rattle.mrt_graph.proofs.Members.{all_append}
 use Rattle.ospf_lsa.specs.declared.lsa.Lsa.{Lsa}
 use Rattle.lsdb.specs.declared.change.Change.{Change}
+use Rattle.lsdb.specs.declared.change.Change.TheVariants.{Added}
 use Rattle.lsdb.specs.declared.key.Key.{Key}
 use Rattle.lsdb.specs.Entries.{Entry}
 use Rattle.lsdb.specs.Installing.{change_of, changed, installed, IsKept}
@@ -52,14 +53,6 @@ joined_by_swap {X = X} xs n place x there behind inside =
           ∙ ap (λ (y : X). take n xs ++ y ∷ [])
           (ap (λ (i : ℕ). get_or xs i x) (sym same) ∙ get_or_from_slice_get xs place x x there)
     ]
-
--- what stands after the place stays
-pub rest_stays : {X : Type 0} (xs : List X) (i place : ℕ) (d : X) → i ≤ place → place < length xs
-    → drop (place + 1) (swap xs i place) ≡ drop (place + 1) xs
-rest_stays xs i place d behind inside =
-    ap (drop (place + 1)) (sym (swap_is xs i place d (omega (arith, behind, inside)) inside))
-    ∙ drop-set-lt (place + 1) (set xs i (get_or xs place d)) place (get_or xs i d) (omega arith)
-    ∙ drop-set-lt (place + 1) xs i (get_or xs place d) (omega (arith, behind))
 
 -- what holds of each element holds after one is written
 pub all_written : {X : Type 0} (P : X → Type 0) (xs : List X) (i : ℕ) (x : X) → AllByRecursion P xs → P x
@@ -144,6 +137,19 @@ pub keys_stay : (keys keys' : List Key) (key : Key) (is_new : Bool)
 keys_stay keys keys' key is_new inserted told old =
     inserted ∙ chosen (list_any (same_key key) keys) keys (keys ++ key ∷ []) (not-false _ (sym told ∙ old))
 
+-- an LSA of a new key is added
+pub added_new : (keys : List Key) (key : Key) (lsas : List Lsa) (places : List (Option ℕ)) (lsa : Lsa) (is_new : Bool)
+    → IsStore keys (front lsas places) places → key ≡ key_of lsa
+    → is_new ≡ not (list_any (same_key key) keys) → is_new ≡ true
+    → installed (entries_of (front lsas places) places) lsa
+    ≡ (entries_of (front lsas places) places ++ record { lsa = lsa; differing = None } ∷ [], Added)
+added_new keys key lsas places lsa is_new store of_key told new =
+    installed_new (entries_of (front lsas places) places) lsa
+    (subst (λ (k : Key). list_any (is_entry_of k) (entries_of (front lsas places) places) ≡ false) of_key
+    (lacking key keys (front lsas places) places
+    (record { entries = entries_of (front lsas places) places; greatest = None }) store refl
+    ∙ not-true _ (sym told ∙ new)))
+
 pub entries_joined : (keys : List Key) (key : Key) (lsas lsas' : List Lsa) (places places' : List (Option ℕ)) (place : ℕ)
     (lsa : Lsa) (is_new : Bool) → IsStore keys (front lsas places) places
     → slice_get lsas place ≡ Some lsa → length places ≤ place → place < length lsas
@@ -151,16 +157,12 @@ pub entries_joined : (keys : List Key) (key : Key) (lsas lsas' : List Lsa) (plac
     → is_new ≡ not (list_any (same_key key) keys) → is_new ≡ true
     → entries_of (front lsas' places') places' ≡ (installed (entries_of (front lsas places) places) lsa).0
 entries_joined keys key lsas lsas' places places' place lsa is_new store there behind inside is more of_key told new =
-    let none : list_any (is_entry_of (key_of lsa)) (entries_of (front lsas places) places) ≡ false =
-    subst (λ (k : Key). list_any (is_entry_of k) (entries_of (front lsas places) places) ≡ false) of_key
-    (lacking key keys (front lsas places) places
-    (record { entries = entries_of (front lsas places) places; greatest = None }) store refl
-    ∙ not-true _ (sym told ∙ new)) in
     ap (λ (ls : List Lsa). entries_of ls places')
     (front_added lsas lsas' places places' place lsa there behind inside is more)
     ∙ ap (entries_of (front lsas places ++ lsa ∷ [])) more
     ∙ entries_added (front lsas places) places lsa None store.noted
-    ∙ sym (ap (λ (r : List Entry × Change). r.0) (installed_new (entries_of (front lsas places) places) lsa none))
+    ∙ sym (ap (λ (r : List Entry × Change). r.0)
+    (added_new keys key lsas places lsa is_new store of_key told new))
 
 -- the entry that an insert finds
 pub met : (keys : List Key) (key : Key) (lsas : List Lsa) (places : List (Option ℕ)) (number : ℕ) (lsa : Lsa)
@@ -186,7 +188,7 @@ met_key lsas places number lsa found =
     ∙ ap (option_map key_of) (parts_of (front lsas places) places number found.entry found.there).lsa
     ∙ ap (λ (k : Key). Some k) (key_is (key_of lsa) (key_of found.entry.lsa) found.same)
 
-pub met_read : (lsas : List Lsa) (places : List (Option ℕ)) (number : ℕ) (lsa read : Lsa)
+met_read : (lsas : List Lsa) (places : List (Option ℕ)) (number : ℕ) (lsa read : Lsa)
     → (found : Found (key_of lsa) (entries_of (front lsas places) places) number)
     → read ≡ get_or lsas number read → read ≡ found.entry.lsa
 met_read lsas places number lsa read found is =
@@ -195,11 +197,44 @@ met_read lsas places number lsa read found is =
     (read_at_front lsas (length places) number found.entry.lsa
     (parts_of (front lsas places) places number found.entry found.there).lsa)
 
-pub entries_turned : (es after : List Entry) (number : ℕ) (lsa : Lsa) (change : Change)
-    → (found : Found (key_of lsa) es number) → change ≡ change_of found.entry.lsa lsa
-    → after ≡ set es number (changed found.entry lsa change) → after ≡ (installed es lsa).0
-entries_turned es after number lsa change found is turned =
-    turned
-    ∙ ap (λ (c : Change). set es number (changed found.entry lsa c)) is
-    ∙ sym (ap (λ (r : List Entry × Change). r.0)
-    (installed_there es lsa number found.entry found.there found.same found.first))
+-- what an LSA is to that entry is what installing it tells
+pub change_told : (lsas : List Lsa) (places : List (Option ℕ)) (number place : ℕ) (lsa read own : Lsa) (change : Change)
+    → (found : Found (key_of lsa) (entries_of (front lsas places) places) number) → read ≡ get_or lsas number read
+    → slice_get lsas place ≡ Some lsa → own ≡ get_or lsas place own → change ≡ change_of read own
+    → installed (entries_of (front lsas places) places) lsa
+    ≡ (set (entries_of (front lsas places) places) number (changed found.entry lsa change), change)
+change_told lsas places number place lsa read own change found is there is' told =
+    let same : change ≡ change_of found.entry.lsa lsa =
+    told
+    ∙ ap (λ (l : Lsa). change_of l own) (met_read lsas places number lsa read found is)
+    ∙ ap (change_of found.entry.lsa) (is' ∙ get_or_from_slice_get lsas place lsa own there) in
+    installed_there (entries_of (front lsas places) places) lsa number found.entry found.there found.same found.first
+    ∙ ap (λ (c : Change). (set (entries_of (front lsas places) places) number (changed found.entry lsa c), c)) (sym same)
+
+-- a list with one LSA more than places: the others are its front, and the LSA stands after them
+pub record OneMore (lsas all : List Lsa) (places : List (Option ℕ)) (place : ℕ) (lsa : Lsa) : Type 0 where
+  pub others : front all places ≡ lsas
+  pub there : slice_get all place ≡ Some lsa
+  pub behind : length places ≤ place
+  pub inside : place < length all
+
+front_of_all : (lsas : List Lsa) (places : List (Option ℕ)) (lsa : Lsa) → length places ≡ length lsas
+    → front (lsas ++ lsa ∷ []) places ≡ lsas
+front_of_all [] [] lsa even = refl
+front_of_all [] (p ∷ places) lsa even = absurd (omega (arith, even))
+front_of_all (x ∷ lsas) [] lsa even = absurd (omega (arith, even))
+front_of_all (x ∷ lsas) (p ∷ places) lsa even =
+    ap (λ (rest : List Lsa). x ∷ rest) (front_of_all lsas places lsa (omega (arith, even)))
+
+last_there : (lsas : List Lsa) (lsa : Lsa) → slice_get (lsas ++ lsa ∷ []) (length lsas) ≡ Some lsa
+last_there [] lsa = refl
+last_there (x ∷ lsas) lsa = last_there lsas lsa
+
+pub one_more : (lsas all : List Lsa) (places : List (Option ℕ)) (place : ℕ) (lsa : Lsa) → length places ≡ length lsas
+    → all ≡ lsas ++ lsa ∷ [] → place ≡ length lsas → OneMore lsas all places place lsa
+one_more lsas all places place lsa even more at = record {
+  others = ap (λ (ls : List Lsa). front ls places) more ∙ front_of_all lsas places lsa even;
+  there = ap (λ (ls : List Lsa). slice_get ls place) more ∙ ap (slice_get (lsas ++ lsa ∷ [])) at ∙ last_there lsas lsa;
+  behind = omega (arith, even, at);
+  inside = omega (arith, at, ap length more, length_push lsas lsa);
+}

@@ -12,7 +12,7 @@ ghost use Rattle.lsdb.specs.Store.{entries_of, front, IsStore};
 use crate::change::{Change, Conflict};
 use crate::conflicts::least;
 use crate::key::Key;
-use crate::meet::meet;
+use crate::meet::install_at;
 use file_key::FileKey;
 use indexmap::IndexSet;
 use mrt_graph::NoMemory;
@@ -104,16 +104,15 @@ impl Lsdb {
         ensures greatest { OnOk result (self.new.greatest ≡ Some lsa.at) }
         ensures err { OnErr result (self.new ≡ self.old) }
     {
-        self.lsas.reserve(1)?;
-        self.differing.reserve(1)?;
-        let (place, is_new) = self.keys.insert_full(Key::of(&lsa))?;
-        self.greatest = Some(lsa.at);
-        if is_new {
-            self.lsas.push_reserved(lsa);
-            self.differing.push_reserved(None);
-            return Ok(Change::Added);
-        }
-        Ok(meet(&mut self.lsas, &mut self.differing, place, lsa))
+        let at = lsa.at;
+        let place = self.lsas.len();
+        self.lsas.push(lsa)?;
+        let met = install_at(&mut self.keys, &mut self.lsas, &mut self.differing, place);
+        let count = self.differing.len();
+        self.lsas.truncate(count);
+        let change = met?;
+        self.greatest = Some(at);
+        Ok(change)
     }
 
     /// A refusal where two newest instances of one key differ in more than their places and ages; of several such

@@ -1,17 +1,21 @@
 //! An instance meets the one of its key that is there.
 
-ghost use Rattle.std.specs.Prelude.{◌≡◌, ◌+◌, ◌<◌, ◌≤◌, ℕ, Option, None, Some, if◌then◌else◌, drop, length, map, slice_get, slice_set};
+ghost use Rattle.std.specs.Prelude.{◌≡◌, ◌+◌, ◌<◌, ◌≤◌, ℕ, IfOk, OnErr, OnOk, Option, None, Some, if◌then◌else◌, drop, length, map, slice_get, slice_set};
 ghost use Rattle.std.specs.List.{AllByRecursion};
 ghost use Rattle.std.specs.Option.{is_some};
 ghost use Rattle.ospf_lsa.specs.declared.lsa.Lsa.{Lsa};
 ghost use Rattle.lsdb.specs.Entries.{Entry};
-ghost use Rattle.lsdb.specs.Installing.{change_of, changed, IsKept};
+ghost use Rattle.lsdb.specs.Installing.{change_of, changed, installed, IsKept};
 ghost use Rattle.lsdb.specs.Keys.{key_of};
 ghost use Rattle.lsdb.specs.Newest.{same_but_age};
-ghost use Rattle.lsdb.specs.Store.{entries_of, front};
+ghost use Rattle.lsdb.specs.Store.{entries_of, front, IsStore};
 
 use crate::change::Change;
 use crate::compare::{compare_ranks, same};
+use crate::key::Key;
+use file_key::FileKey;
+use indexmap::IndexSet;
+use mrt_graph::NoMemory;
 use ospf_lsa::Lsa;
 use std::cmp::Ordering;
 
@@ -36,63 +40,46 @@ fn alike(there: &Lsa, lsa: &Lsa) -> Change
     }
 }
 
-/// Lets an instance meet the entry at this place, which is of its key, and tells what it changed.
-pub fn meet(lsas: &mut Vec<Lsa>, differing: &mut Vec<Option<u32>>, place: usize, lsa: Lsa) -> Change
-    requires inside { place < length lsas.old.items }
-    requires noted { length differing.old.items ≡ length lsas.old.items }
-    requires key { slice_get (map key_of lsas.old.items) place ≡ Some (key_of lsa) }
-    requires kept { AllByRecursion IsKept lsas.old.items }
-    requires may_stand { IsKept lsa }
-    ensures change { (entry : Entry)
-        → slice_get (entries_of lsas.old.items differing.old.items) place ≡ Some entry
-        → result ≡ change_of entry.lsa lsa }
-    ensures entries { (entry : Entry)
-        → slice_get (entries_of lsas.old.items differing.old.items) place ≡ Some entry
-        → entries_of lsas.new.items differing.new.items
-        ≡ slice_set (entries_of lsas.old.items differing.old.items) place
-        (changed entry lsa (change_of entry.lsa lsa)) }
-    ensures keys { map key_of lsas.new.items ≡ map key_of lsas.old.items }
-    ensures noted { length differing.new.items ≡ length lsas.new.items }
-    ensures kept { AllByRecursion IsKept lsas.new.items }
-{
-    let change = change_of(&lsas[place], &lsa);
-    turn(lsas, differing, place, lsa, change);
-    change
-}
-
-/// Changes the entry at this place, whose key the instance has.
-fn turn(
+/// Installs the LSA at this place of a list, and tells what it changed. The LSAs of the database stand at the front of the
+/// list, and those between them and this place are no longer wanted. After a refusal nothing has changed.
+pub fn install_at(
+    keys: &mut IndexSet<Key, FileKey>,
     lsas: &mut Vec<Lsa>,
     differing: &mut Vec<Option<u32>>,
     place: usize,
-    lsa: Lsa,
-    change: Change,
-)
+) -> Result<Change, NoMemory>
+    requires behind { length differing.old.items ≤ place }
     requires inside { place < length lsas.old.items }
-    requires noted { length differing.old.items ≡ length lsas.old.items }
-    requires key { slice_get (map key_of lsas.old.items) place ≡ Some (key_of lsa) }
-    requires kept { AllByRecursion IsKept lsas.old.items }
-    requires may_stand { IsKept lsa }
-    ensures entries { (entry : Entry)
-        → slice_get (entries_of lsas.old.items differing.old.items) place ≡ Some entry
-        → entries_of lsas.new.items differing.new.items
-        ≡ slice_set (entries_of lsas.old.items differing.old.items) place (changed entry lsa change) }
-    ensures keys { map key_of lsas.new.items ≡ map key_of lsas.old.items }
-    ensures noted { length differing.new.items ≡ length lsas.new.items }
-    ensures kept { AllByRecursion IsKept lsas.new.items }
+    requires store { IsStore keys.old.keys (front lsas.old.items differing.old.items) differing.old.items }
+    requires kept { (lsa : Lsa) → slice_get lsas.old.items place ≡ Some lsa → IsKept lsa }
+    ensures change { IfOk result (λ change. (lsa : Lsa) → slice_get lsas.old.items place ≡ Some lsa
+        → change ≡ (installed (entries_of (front lsas.old.items differing.old.items) differing.old.items) lsa).1) }
+    ensures entries { OnOk result ((lsa : Lsa) → slice_get lsas.old.items place ≡ Some lsa
+        → entries_of (front lsas.new.items differing.new.items) differing.new.items
+        ≡ (installed (entries_of (front lsas.old.items differing.old.items) differing.old.items) lsa).0) }
+    ensures store { OnOk result
+        (IsStore keys.new.keys (front lsas.new.items differing.new.items) differing.new.items) }
+    ensures behind { OnOk result (length differing.new.items ≤ place + 1) }
+    ensures count { OnOk result (length lsas.new.items ≡ length lsas.old.items) }
+    ensures rest { OnOk result (drop (place + 1) lsas.new.items ≡ drop (place + 1) lsas.old.items) }
+    ensures err_keys { OnErr result (keys.new.keys ≡ keys.old.keys) }
+    ensures err_lsas { OnErr result (lsas.new.items ≡ lsas.old.items) }
+    ensures err_differing { OnErr result (differing.new.items ≡ differing.old.items) }
 {
-    match change {
-        Change::Replaced => {
-            lsas[place] = lsa;
-            differing[place] = None;
-        }
-        Change::Clash => note(differing, place, lsa.at),
-        Change::Added | Change::Older | Change::Same => {}
+    differing.reserve(1)?;
+    let (number, is_new) = keys.insert_full(Key::of(&lsas[place]))?;
+    if is_new {
+        lsas.swap(differing.len(), place);
+        differing.push_reserved(None);
+        return Ok(Change::Added);
     }
+    let change = change_of(&lsas[number], &lsas[place]);
+    turn(lsas, differing, number, place, change);
+    Ok(change)
 }
 
 /// Changes the entry of this number at the front of the list, whose key the instance at this place has.
-pub fn turn_at_front(
+fn turn(
     lsas: &mut Vec<Lsa>,
     differing: &mut Vec<Option<u32>>,
     number: usize,
