@@ -14,6 +14,7 @@ pub mod ColumnRows
 pub mod Counting
 pub mod Filling
 pub mod HeadWays
+pub mod HeldColumns
 pub mod HomeRows
 pub mod HopsExist
 pub mod LinesHold

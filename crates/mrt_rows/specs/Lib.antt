@@ -1,6 +1,8 @@
 pub mod CertOf
 pub mod Chain
 pub mod ColumnOf
+pub mod ColumnParts
+pub mod Common
 pub mod DirectedFrom
 pub mod FirstLinks
 pub mod Held
@@ -8,6 +10,7 @@ pub mod Making
 pub mod NearOf
 pub mod Put
 pub mod Rooted
+pub mod RootedParts
 pub mod RowLines
 pub mod RowsFound
 pub mod RowsOf

@@ -1,5 +1,6 @@
 -- What makes the rows of a graph from a root, source after source.
 use Rattle.std.specs.Prelude.{◌≡◌, ◌<◌, ℕ, length}
+use Rattle.mrt_graph.specs.DirectedLists.{DirectedLists}
 use Rattle.mrt_graph.specs.Topology.{Topology}
 use Rattle.link_direction.specs.Directions.{Directions, Says}
 use Rattle.inc_dec_spf.specs.declared.reach.Dir.{Dir}
@@ -12,14 +13,10 @@ use Rattle.mrt_rows.specs.DirectedFrom.{IsDirectedFrom}
 use Rattle.mrt_rows.specs.NearOf.{AreSoles}
 use Rattle.mrt_rows.specs.RowsFound.{RowsFound}
 
--- so many sources are taken side by side
-abbrev pub fan_width : ℕ
-fan_width = 64
-
 -- a fan of the graph has so many sources, and is open from the nodes from one number on
-pub record IsFanFrom (g : Topology) (w : Directions) (dir : Dir) (first : ℕ) (fan : FanEntries) : Type 0 where
+pub record IsFanFrom (g : Topology) (w : Directions) (dir : Dir) (places first : ℕ) (fan : FanEntries) : Type 0 where
   pub nodes : fan.nodes ≡ length g.ids
-  pub width : fan.width ≡ fan_width
+  pub width : fan.width ≡ places
   pub is_open : IsOpen g w dir first fan
 
 -- what is held between two sources: the nodes by their turns, the sole links, room for the links to each node, and two
@@ -28,19 +25,25 @@ pub record AreFans (g : Topology) (w : Directions) (held : Making) : Type 0 wher
   pub by_order : AreTurns g w Up held.by_order.items
   pub against_order : AreTurns g w Down held.against_order.items
   pub soles : AreSoles g w held.links.soles.items
-  pub up : IsFanFrom g w Up held.first held.up
-  pub down : IsFanFrom g w Down held.first held.down
+  pub up : IsFanFrom g w Up held.width held.first held.up
+  pub down : IsFanFrom g w Down held.width held.first held.down
   pub one_up_each : length held.links.up.items ≡ length g.ids
   pub one_down_each : length held.links.down.items ≡ length g.ids
 
--- this makes the links of each source: by the directions from the root, and by what is held between sources
-pub record MakeLinks (g : Topology) (held : Making) : Type 0 where
-  pub root_within : held.root < length g.ids
-  pub directed : IsDirectedFrom g held.root held.directed
-  pub fans : (w : Directions) → Says g held.directed w → AreFans g w held
+-- this makes the links of each source, some sources side by side: by the directions, and by what is held between sources
+pub record MakeLinks (g : Topology) (d : DirectedLists) (held : Making) : Type 0 where
+  pub some : 0 < held.width
+  pub fans : (w : Directions) → Says g d w → AreFans g w held
 
--- these make the rows of the graph from their root: there is what makes the links of each source, and room for the rows
--- of one
+-- so many sources are taken side by side
+abbrev pub sources : ℕ
+sources = 64
+
+-- these make the rows of the graph from their root: there are the directions from it, what makes the links of each source, and
+-- room for the rows of one
 pub record MakeRows (g : Topology) (rows : RowsFound) : Type 0 where
-  pub making : MakeLinks g rows.making
+  pub root_within : rows.root < length g.ids
+  pub directed : IsDirectedFrom g rows.root rows.directed
+  pub making : MakeLinks g rows.directed rows.making
+  pub width : rows.making.width ≡ sources
   pub room : rows.room ≡ length g.ids

@@ -2,12 +2,12 @@
 use Rattle.std.specs.Prelude.{◌<◌, length}
 use Rattle.mrt_graph.specs.Topology.{Topology}
 use Rattle.link_direction.specs.Directions.{Directions, Says}
-use Rattle.mrt_rows.specs.declared.rooted.RootedColumns.{RootedColumns}
 use Rattle.mrt_rows.specs.DirectedFrom.{IsDirectedFrom}
 use Rattle.mrt_rows.specs.Held.{AreHeld}
+use Rattle.mrt_rows.specs.RootedParts.{RootedParts}
 
 -- these make the columns of the graph from their root: by its directions, and by what is held between columns
-pub record MakeColumns (g : Topology) (rooted : RootedColumns) : Type 0 where
+pub record MakeColumns (g : Topology) (rooted : RootedParts) : Type 0 where
   pub root_within : rooted.root < length g.ids
   pub directed : IsDirectedFrom g rooted.root rooted.directed
   pub held : (w : Directions) → Says g rooted.directed w → AreHeld g rooted.root w rooted.columns

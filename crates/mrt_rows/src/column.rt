@@ -10,19 +10,17 @@ ghost use Rattle.inc_dec_spf.specs.BlockAims.{IsAimOf, aim_at};
 ghost use Rattle.inc_dec_spf.specs.Tile.{IsAimed};
 ghost use Rattle.mrt_rows.specs.Chain.{AreBelow, IsRowAim};
 ghost use Rattle.mrt_rows.specs.ColumnOf.{IsColumnOf, IsRowIn};
-ghost use Rattle.mrt_rows.specs.Held.{AreHeld, AreHeldFor};
+ghost use Rattle.mrt_rows.specs.Held.{AreHeld, AreHeldFor, destinations};
 ghost use Rattle.mrt_rows.specs.NearOf.{IsNearRow};
 
 use crate::block_aims::put_block_aims;
 use crate::chain::put_below;
-use crate::heads::mark_heads;
-use crate::homes::{home_rows, homes_of};
-use crate::members::Home;
+use crate::common::{Common, common_of};
 use crate::row_over::{Source, row_over};
-use crate::soles::take_soles;
-use inc_dec_spf::{Aiming, Dir, NO_LINK, Tile, nodes_by_turn};
-use mrt_graph::{Column, Directed, Graph, LinkNo, NoMemory, NodeNo, Row, Tag};
+use inc_dec_spf::{Aiming, Dir, Tile};
+use mrt_graph::{Column, Directed, Graph, NoMemory, NodeNo, Row, Tag};
 use std::alloc::Global;
+use std::marker::Model;
 
 /// So many destinations are taken side by side.
 pub(crate) const WIDTH: u16 = 64;
@@ -34,31 +32,35 @@ struct Target {
     at: usize,
 }
 
-/// What the columns of all destinations have in common, and the room in which they are made: so many destinations, what
-/// the blocks aim at for them, and tiles that are aimed so.
+/// What the columns of all destinations have in common, and the room in which they are made: the nodes below others on the way
+/// from one of them; some destinations side by side, what the blocks aim at for them, and tiles that are aimed so.
 #[derive(Drop)]
 pub struct Columns {
-    pub by_order: Vec<NodeNo>,
-    pub against_order: Vec<NodeNo>,
-    pub heads: Vec<bool>,
-    pub soles: Vec<LinkNo>,
-    pub homes: Vec<Home>,
-    pub home_rows: Vec<Row>,
-    pub below: Vec<Option<NodeNo>>,
-    pub width: u16,
-    pub targets: Vec<NodeNo>,
-    pub aims: Vec<NodeNo>,
-    pub up: Tile,
-    pub down: Tile,
+    common: Common,
+    below: Vec<Option<NodeNo>>,
+    targets: Vec<NodeNo>,
+    aims: Vec<NodeNo>,
+    up: Tile,
+    down: Tile,
+}
+
+impl Model for Columns {
+    ghost use Rattle.mrt_rows.specs.ColumnParts.{ColumnParts, column_parts};
+
+    ghost Value = { ColumnParts };
+
+    ghost view = { λ columns. column_parts columns.common columns.below.items columns.targets.items columns.aims.items
+        columns.up columns.down };
 }
 
 impl Columns {
-    /// What the columns have in common.
+    /// What the columns have in common, and room for 64 destinations side by side.
     ///
     /// It takes time in proportion to the nodes and the links.
     pub fn new(alloc: Global, g: &Graph, root: NodeNo, d: &Directed) -> Result<Columns, NoMemory>
         requires { SaysOrdered g.now root d.now }
-        ensures { (w : Directions) → Says g.now d.now w → IfOk result (AreHeld g.now root w) }
+        ensures held { (w : Directions) → Says g.now d.now w → IfOk result (AreHeld g.now root w) }
+        ensures width { IfOk result (λ columns. length columns.targets ≡ destinations) }
     {
         let columns = Columns::side_by_side(alloc, g, root, d, WIDTH)?;
         Ok(columns)
@@ -74,17 +76,11 @@ impl Columns {
     ) -> Result<Columns, NoMemory>
         requires ordered { SaysOrdered g.now root d.now }
         requires some { 0 < width }
-        ensures { (w : Directions) → Says g.now d.now w → IfOk result (AreHeld g.now root w) }
+        ensures held { (w : Directions) → Says g.now d.now w → IfOk result (AreHeld g.now root w) }
+        ensures width { IfOk result (λ columns. length columns.targets ≡ width) }
     {
         let count = g.node_count();
-        let by_order = nodes_by_turn(alloc, g, d, Dir::Up)?;
-        let against_order = nodes_by_turn(alloc, g, d, Dir::Down)?;
-        let mut heads = vec![in alloc; false; count as usize]?;
-        mark_heads(g, d, &mut heads);
-        let mut soles = vec![in alloc; LinkNo::new(NO_LINK); count as usize]?;
-        take_soles(g, d, &mut soles);
-        let homes = homes_of(alloc, g, d, &by_order, &against_order, &heads)?;
-        let home_rows = home_rows(alloc, g, &soles, &homes)?;
+        let common = common_of(alloc, g, d)?;
         let below = vec![in alloc; None; count as usize]?;
         // there is no such node, so nothing is aimed at yet
         let targets = vec![in alloc; NodeNo::new(count); width as usize]?;
@@ -92,14 +88,8 @@ impl Columns {
         let up = Tile::new(alloc, g, width)?;
         let down = Tile::new(alloc, g, width)?;
         Ok(Columns {
-            by_order,
-            against_order,
-            heads,
-            soles,
-            homes,
-            home_rows,
+            common,
             below,
-            width,
             targets,
             aims,
             up,
@@ -124,6 +114,7 @@ impl Columns {
         requires to { to < length g.now.ids }
         requires held { (w : Directions) → Says g.now d.now w → AreHeld g.now root w self.old }
         ensures held { (w : Directions) → Says g.now d.now w → AreHeld g.now root w self.new }
+        ensures width { length self.new.targets ≡ length self.old.targets }
         ensures rows { (w : Directions) → Says g.now d.now w
             → IfOk result (λ column. IsColumnOf g.now root w to column) }
         ensures sound { IfOk result (λ column. ColumnSound g.now.links (length g.now.ids) column to) }
@@ -148,6 +139,7 @@ impl Columns {
         requires held { (w : Directions) → Says g.now d.now w → AreHeld g.now root w self.old }
         requires one_each { length rows.old ≡ length g.now.ids }
         ensures held { (w : Directions) → Says g.now d.now w → AreHeld g.now root w self.new }
+        ensures width { length self.new.targets ≡ length self.old.targets }
         ensures one_each { length rows.new ≡ length rows.old }
         ensures rows { (w : Directions) → Says g.now d.now w → IsColumnOf g.now root w to rows.new }
     {
@@ -165,7 +157,8 @@ impl Columns {
         requires to { to < length g.now.ids }
         requires held { (w : Directions) → Says g.now d.now w → AreHeld g.now root w self.old }
         ensures held { (w : Directions) → Says g.now d.now w → AreHeld g.now root w self.new }
-        ensures place { slice_get self.new.targets.items result ≡ Some to }
+        ensures width { length self.new.targets ≡ length self.old.targets }
+        ensures place { slice_get self.new.targets result ≡ Some to }
     {
         match place_of(&self.targets, to) {
             Some(at) => at,
@@ -197,6 +190,7 @@ impl Columns {
         requires one_each { length marks.now ≡ length g.now.ids }
         requires held { (w : Directions) → Says g.now d.now w → AreHeld g.now root w self.old }
         ensures held { (w : Directions) → Says g.now d.now w → AreHeld g.now root w self.new }
+        ensures width { length self.new.targets ≡ length self.old.targets }
     {
         if place_of(&self.targets, from).is_none() {
             take_marked(marks, g.node_count(), from, &mut self.targets);
@@ -208,7 +202,7 @@ impl Columns {
     fn aim_tiles(&mut self, g: &Graph, root: NodeNo, d: &Directed)
         requires kept { IsTopology g.now }
         requires directed { SaysOrdered g.now root d.now }
-        requires within { (j t : ℕ) → slice_get self.old.targets.items j ≡ Some t → t < length g.now.ids }
+        requires within { (j t : ℕ) → slice_get self.old.targets j ≡ Some t → t < length g.now.ids }
         requires held { (w : Directions) → Says g.now d.now w → AreHeldFor g.now root w self.old [] }
         ensures held { (w : Directions) → Says g.now d.now w → AreHeld g.now root w self.new }
         ensures targets { self.new.targets ≡ self.old.targets }
@@ -218,18 +212,18 @@ impl Columns {
             graph: g,
             directed: d,
             dir: Dir::Up,
-            turns: self.against_order.as_slice(),
+            turns: self.common.against_order.as_slice(),
             aims: self.aims.as_slice(),
         };
-        self.up.aim(&up, &self.heads);
+        self.up.aim(&up, &self.common.heads);
         let down = Aiming {
             graph: g,
             directed: d,
             dir: Dir::Down,
-            turns: self.by_order.as_slice(),
+            turns: self.common.by_order.as_slice(),
             aims: self.aims.as_slice(),
         };
-        self.down.aim(&down, &self.heads);
+        self.down.aim(&down, &self.common.heads);
     }
 
     /// Puts the nodes below others on the way from `to` to the root.
@@ -241,7 +235,7 @@ impl Columns {
         ensures held { (w : Directions) → Says g.now d.now w → AreHeld g.now root w self.new }
         ensures targets { self.new.targets ≡ self.old.targets }
         ensures below { (w : Directions) → Says g.now d.now w
-            → AreBelow g.now root w to self.new.below.items }
+            → AreBelow g.now root w to self.new.below }
     {
         put_below(g, root, d, to, &mut self.below);
     }
@@ -253,8 +247,8 @@ impl Columns {
         requires to { to.node < length g.now.ids }
         requires held { (w : Directions) → Says g.now d.now w → AreHeld g.now root w self.now }
         requires below { (w : Directions) → Says g.now d.now w
-            → AreBelow g.now root w to.node self.now.below.items }
-        requires place { slice_get self.now.targets.items to.at ≡ Some to.node }
+            → AreBelow g.now root w to.node self.now.below }
+        requires place { slice_get self.now.targets to.at ≡ Some to.node }
         requires one_each { length rows.old ≡ length g.now.ids }
         requires none { slice_get rows.old to.node ≡ Some None }
         ensures { (w : Directions) → Says g.now d.now w → IsColumnOf g.now root w to.node rows.new }
@@ -276,8 +270,8 @@ impl Columns {
         requires two { s ≢ to.node }
         requires held { (w : Directions) → Says g.now d.now w → AreHeld g.now root w self.now }
         requires below { (w : Directions) → Says g.now d.now w
-            → AreBelow g.now root w to.node self.now.below.items }
-        requires place { slice_get self.now.targets.items to.at ≡ Some to.node }
+            → AreBelow g.now root w to.node self.now.below }
+        requires place { slice_get self.now.targets to.at ≡ Some to.node }
         ensures { (w : Directions) → Says g.now d.now w → IsRowIn g.now root w s to.node result }
     {
         let aim = self.aim_of(g, root, d, s, to.node);
@@ -303,8 +297,8 @@ impl Columns {
         requires source { s < length g.now.ids }
         requires to { to < length g.now.ids }
         requires below { (w : Directions) → Says g.now d.now w
-            → AreBelow g.now root w to self.now.below.items }
-        ensures { (w : Directions) → Says g.now d.now w → IsRowAim w self.now.below.items s result }
+            → AreBelow g.now root w to self.now.below }
+        ensures { (w : Directions) → Says g.now d.now w → IsRowAim w self.now.below s result }
     {
         if let Some(under) = self.below[s.get() as usize] {
             return under;
@@ -332,30 +326,30 @@ impl Columns {
         requires source { s < length g.now.ids }
         requires aim { aim.node < length g.now.ids }
         requires two { s ≢ aim.node }
-        requires place { aim.at < self.now.width }
+        requires place { aim.at < length self.now.targets }
         requires held { (w : Directions) → Says g.now d.now w → AreHeld g.now root w self.now }
         ensures { (w : Directions) → Says g.now d.now w
-            → IsAimed g.now w Up self.now.aims.items self.now.up
-            → IsAimed g.now w Down self.now.aims.items self.now.down
-            → IsAimOf g.now w (aim_at self.now.aims.items self.now.width aim.at) s aim.node
+            → IsAimed g.now w Up self.now.aims self.now.up
+            → IsAimed g.now w Down self.now.aims self.now.down
+            → IsAimOf g.now w (aim_at self.now.aims (length self.now.targets) aim.at) s aim.node
             → IsNearRow g.now root w s aim.node result }
     {
         let at = s.get() as usize;
         let here = d.place(s);
         if here.head == aim.node {
-            return Some(self.home_rows[at]);
+            return Some(self.common.home_rows[at]);
         }
         let source = Source {
             node: s,
             place: here,
-            sole: self.soles[at],
-            home: self.homes[at],
+            sole: self.common.soles[at],
+            home: self.common.homes[at],
         };
         row_over(
             &source,
             aim.node,
             &d.place(aim.node),
-            self.soles[aim.node.get() as usize],
+            self.common.soles[aim.node.get() as usize],
             self.up.links_of(s)[aim.at],
             self.down.links_of(s)[aim.at],
         )

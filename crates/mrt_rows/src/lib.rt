@@ -6,6 +6,7 @@ mod block_aims;
 mod certificate;
 mod chain;
 mod column;
+mod common;
 mod directed;
 mod first_links;
 mod heads;

@@ -1,36 +1,27 @@
-//! What makes the rows of a graph from a root.
+//! What makes the links of each source.
 
 ghost use Rattle.std.specs.Prelude.{◌≡◌, ◌<◌, ◌≤◌, ◌+◌, ℕ, IfOk, false, length};
-ghost use Rattle.mrt_graph.specs.declared.cert.CertFile.{CertFile};
 ghost use Rattle.mrt_graph.specs.GraphInvariant.{IsTopology};
-ghost use Rattle.link_direction.specs.Directions.{Directions, Says};
-ghost use Rattle.link_direction.specs.OrderedGadag.{SaysOrdered};
+ghost use Rattle.link_direction.specs.Directions.{Directions};
 ghost use Rattle.inc_dec_spf.specs.declared.reach.Dir.TheVariants.{Down, Up};
 ghost use Rattle.inc_dec_spf.specs.HasDirections.{AreDirections, HasDirections};
-ghost use Rattle.mrt_rows.specs.CertOf.{IsCertOf};
 ghost use Rattle.mrt_rows.specs.FirstLinks.{AreFirstLinks};
 ghost use Rattle.mrt_rows.specs.Making.{MakeLinks};
 ghost use Rattle.mrt_rows.specs.Put.{ShareMoreLinks};
 
-use crate::directed::directions;
 use crate::first_links::FirstLinks;
-use crate::rows_law::columns_are_of_one_certificate;
 use crate::soles::take_soles;
 use inc_dec_spf::{Dir, Fan, NO_LINK, is_sole, nodes_by_turn};
 use mrt_graph::{Directed, Graph, LinkNo, NoMemory, NodeNo};
 use std::alloc::Global;
 
-/// So many sources are taken side by side.
-pub const SOURCES: u16 = 64;
-
-/// The root, the graph's directions from it, what all sources have in common, and the links of one of them. The fans are
-/// open from the nodes from number `first` on, from none where there is no such node.
+/// What all sources of a graph have in common, so many of them side by side, and the links of one. The fans are open from the
+/// nodes from number `first` on, from none where there is no such node.
 #[derive(Drop)]
 pub struct Making {
-    pub root: NodeNo,
-    pub directed: Directed,
     pub by_order: Vec<NodeNo>,
     pub against_order: Vec<NodeNo>,
+    pub width: u16,
     pub first: u16,
     pub up: Fan,
     pub down: Fan,
@@ -38,36 +29,32 @@ pub struct Making {
 }
 
 impl Making {
-    /// What makes the rows of a graph from a root. There is a certificate of the two, though it is not made.
-    pub fn new(alloc: Global, g: &Graph, root: NodeNo) -> Result<Making, NoMemory>
-        requires { root < length g.now.ids }
-        ensures root { IfOk result (λ making. making.root ≡ root) }
-        ensures made { IfOk result (MakeLinks g.now) }
-        ensures cert { IfOk result (λ _. (file : CertFile) × IsCertOf g.now root file) }
-        ensures kept { IfOk result (λ _. IsTopology g.now) }
+    /// What makes the links of each source, so many of them side by side.
+    pub fn new(alloc: Global, g: &Graph, d: &Directed, width: u16) -> Result<Making, NoMemory>
+        requires directed { HasDirections g.now d.now }
+        requires some { 0 < width }
+        ensures made { IfOk result (MakeLinks g.now d.now) }
+        ensures width { IfOk result (λ making. making.width ≡ width) }
     {
-        columns_are_of_one_certificate();
-        let directed = directions(alloc, g, root)?;
         let count = g.node_count();
-        let by_order = nodes_by_turn(alloc, g, &directed, Dir::Up)?;
-        let against_order = nodes_by_turn(alloc, g, &directed, Dir::Down)?;
+        let by_order = nodes_by_turn(alloc, g, d, Dir::Up)?;
+        let against_order = nodes_by_turn(alloc, g, d, Dir::Down)?;
         let none = LinkNo::new(NO_LINK);
         let mut soles = vec![in alloc; none; count as usize]?;
-        take_soles(g, &directed, &mut soles);
-        let up = Fan::new(alloc, g, SOURCES)?;
-        let down = Fan::new(alloc, g, SOURCES)?;
+        take_soles(g, d, &mut soles);
+        let up = Fan::new(alloc, g, width)?;
+        let down = Fan::new(alloc, g, width)?;
         let up_links = vec![in alloc; none; count as usize]?;
         let down_links = vec![in alloc; none; count as usize]?;
         Ok(Making {
-            root,
-            directed,
             by_order,
             against_order,
+            width,
             first: count,
             up,
             down,
             links: FirstLinks {
-                source: root,
+                source: NodeNo::new(0),
                 up: up_links,
                 down: down_links,
                 soles,
@@ -77,20 +64,19 @@ impl Making {
 
     /// Takes the links by which s begins the least paths up and down to all nodes, where it lies in a block of more than one
     /// link.
-    pub fn take_links(&mut self, g: &Graph, s: NodeNo)
-        requires made { MakeLinks g.now self.old }
+    pub fn take_links(&mut self, g: &Graph, d: &Directed, s: NodeNo)
+        requires made { MakeLinks g.now d.now self.old }
         requires kept { IsTopology g.now }
-        requires directed { HasDirections g.now self.old.directed }
+        requires directed { HasDirections g.now d.now }
         requires s { s < length g.now.ids }
-        ensures root { self.new.root ≡ self.old.root }
-        ensures directed { self.new.directed ≡ self.old.directed }
-        ensures made { MakeLinks g.now self.new }
+        ensures width { self.new.width ≡ self.old.width }
+        ensures made { MakeLinks g.now d.now self.new }
         ensures source { self.new.links.source ≡ s }
-        ensures links { AreFirstLinks g.now self.new.directed self.new.links }
+        ensures links { AreFirstLinks g.now d.now self.new.links }
     {
         self.links.source = s;
-        if has_more_links(g, &self.directed, s) {
-            self.open(g, s);
+        if has_more_links(g, d, s) {
+            self.open(g, d, s);
             let first = NodeNo::new(self.first);
             self.up.put_links(g, first, s, &mut self.links.up);
             self.down.put_links(g, first, s, &mut self.links.down);
@@ -98,26 +84,24 @@ impl Making {
     }
 
     /// Opens the fans from as many nodes as they have places for, s among them, unless they are open so.
-    fn open(&mut self, g: &Graph, s: NodeNo)
-        requires made { MakeLinks g.now self.old }
+    fn open(&mut self, g: &Graph, d: &Directed, s: NodeNo)
+        requires made { MakeLinks g.now d.now self.old }
         requires kept { IsTopology g.now }
-        requires directed { HasDirections g.now self.old.directed }
+        requires directed { HasDirections g.now d.now }
         requires s { s < length g.now.ids }
-        ensures root { self.new.root ≡ self.old.root }
-        ensures directed { self.new.directed ≡ self.old.directed }
-        ensures made { MakeLinks g.now self.new }
+        ensures width { self.new.width ≡ self.old.width }
+        ensures made { MakeLinks g.now d.now self.new }
         ensures source { self.new.links.source ≡ self.old.links.source }
         ensures from { self.new.first ≤ s }
-        ensures among { s < self.new.first + SOURCES }
+        ensures among { s < self.new.first + self.new.width }
     {
-        if self.first <= s.get() && s.get() - self.first < SOURCES {
+        if self.first <= s.get() && s.get() - self.first < self.width {
             return;
         }
-        let first = s.get() / SOURCES * SOURCES;
+        let first = s.get() - s.get() % self.width;
         let at = NodeNo::new(first);
-        self.up.open(g, &self.directed, Dir::Up, &self.by_order, at);
-        self.down
-            .open(g, &self.directed, Dir::Down, &self.against_order, at);
+        self.up.open(g, d, Dir::Up, &self.by_order, at);
+        self.down.open(g, d, Dir::Down, &self.against_order, at);
         self.first = first;
     }
 }

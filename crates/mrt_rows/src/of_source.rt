@@ -6,9 +6,8 @@ ghost use Rattle.link_direction.specs.OrderedGadag.{SaysOrdered};
 ghost use Rattle.mrt_rows.specs.RowsOf.{AreRowsOf};
 ghost use Rattle.mrt_rows.specs.Table.{rows_in};
 
-use crate::first_links::first_links;
+use crate::making::Making;
 use crate::table::fill;
-use inc_dec_spf::{Dir, nodes_by_turn};
 use mrt_graph::{Directed, Graph, NoMemory, NodeNo, Row};
 use std::alloc::Global;
 
@@ -27,10 +26,11 @@ pub fn rows_of(
     ensures { (w : Directions) → Says g.now d.now w
         → IfOk result (λ rows. AreRowsOf g.now root w source rows.items) }
 {
-    let nodes = nodes_by_turn(alloc, g, d, Dir::Up)?;
-    let links = first_links(alloc, g, d, source)?;
-    let mut table = vec![in alloc; None; g.node_count() as usize]?;
-    fill(g, root, d, &nodes, &links, &mut table);
+    let count = g.node_count() as usize;
+    let mut making = Making::new(alloc, g, d, 1)?;
+    making.take_links(g, d, source);
+    let mut table = vec![in alloc; None; count]?;
+    fill(g, root, d, &making.by_order, &making.links, &mut table);
     let rows = rows_in(alloc, &table)?;
     Ok(rows)
 }

@@ -17,13 +17,22 @@ use crate::words::{all_links, all_nodes};
 use link_direction::directions_are_ordered;
 use mrt_graph::{CertLink, CertNode, Column, Directed, Graph, NoMemory, NodeNo};
 use std::alloc::Global;
+use std::marker::Model;
 
 /// What makes the columns of a graph: the root, the graph's directions from it, and what all columns have in common.
 #[derive(Drop)]
 pub struct RootedColumns {
-    pub root: NodeNo,
-    pub directed: Directed,
-    pub columns: Columns,
+    root: NodeNo,
+    directed: Directed,
+    columns: Columns,
+}
+
+impl Model for RootedColumns {
+    ghost use Rattle.mrt_rows.specs.RootedParts.{RootedParts, rooted_parts};
+
+    ghost Value = { RootedParts };
+
+    ghost view = { λ rooted. rooted_parts rooted.root rooted.directed rooted.columns };
 }
 
 impl RootedColumns {

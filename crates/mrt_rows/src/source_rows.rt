@@ -1,23 +1,31 @@
 //! The rows of a graph from a root, source after source.
 
-ghost use Rattle.std.specs.Prelude.{◌≡◌, ◌<◌, IfOk, length};
+ghost use Rattle.std.specs.Prelude.{◌≡◌, ◌<◌, [], IfOk, length};
 ghost use Rattle.mrt_graph.specs.declared.cert.CertFile.{CertFile};
 ghost use Rattle.mrt_graph.specs.GraphInvariant.{IsTopology};
 ghost use Rattle.mrt_rows.specs.CertOf.{IsCertOf};
 ghost use Rattle.mrt_rows.specs.Making.{MakeRows};
 ghost use Rattle.mrt_rows.specs.NearOf.{near_rows_of};
 
+use crate::directed::directions;
 use crate::making::Making;
 use crate::row_over::put_near_rows;
+use crate::rows_law::columns_are_of_one_certificate;
 use crate::words::{all_links, all_nodes};
 use inc_dec_spf::NO_LINK;
-use mrt_graph::{CertLink, CertNode, Graph, LinkNo, NoMemory, NodeNo, Row, Tag};
+use mrt_graph::{CertLink, CertNode, Directed, Graph, LinkNo, NoMemory, NodeNo, Row, Tag};
 use std::alloc::Global;
 use std::marker::Model;
 
-/// The rows of a graph from a root, source after source: what makes them, and room for those of one source.
+/// So many sources are taken side by side.
+const SOURCES: u16 = 64;
+
+/// The rows of a graph from a root, source after source: the root, the graph's directions from it, what makes the rows, and
+/// room for those of one source.
 #[derive(Drop)]
 pub struct SourceRows {
+    root: NodeNo,
+    directed: Directed,
     making: Making,
     room: Vec<Row>,
     count: usize,
@@ -29,7 +37,8 @@ impl Model for SourceRows {
 
     ghost Value = { RowsFound };
 
-    ghost view = { λ rows. rows_found rows.making (length rows.room.items) (take rows.count rows.room.items) };
+    ghost view = { λ rows. rows_found rows.root rows.directed rows.making (length rows.room.items)
+        (take rows.count rows.room.items) };
 
     ghost invariant = { λ rows. rows.count ≤ length rows.room.items };
 }
@@ -42,10 +51,13 @@ impl SourceRows {
         requires { root < length g.now.ids }
         ensures root { IfOk result (λ rows. rows.root ≡ root) }
         ensures made { IfOk result (MakeRows g.now) }
+        ensures rows { IfOk result (λ rows. rows.rows ≡ []) }
         ensures cert { IfOk result (λ _. (file : CertFile) × IsCertOf g.now root file) }
         ensures kept { IfOk result (λ _. IsTopology g.now) }
     {
-        let making = Making::new(alloc, g, root)?;
+        columns_are_of_one_certificate();
+        let directed = directions(alloc, g, root)?;
+        let making = Making::new(alloc, g, &directed, SOURCES)?;
         let none = LinkNo::new(NO_LINK);
         let row = Row {
             blue: none,
@@ -54,6 +66,8 @@ impl SourceRows {
         };
         let room = vec![in alloc; row; g.node_count() as usize]?;
         Ok(SourceRows {
+            root,
+            directed,
             making,
             room,
             count: 0,
@@ -76,8 +90,8 @@ impl SourceRows {
     {
         // what each graph keeps is told by reading it
         let _count = g.node_count();
-        self.making.take_links(g, s);
-        self.count = put_near_rows(g, &self.making.directed, &self.making.links, &mut self.room);
+        self.making.take_links(g, &self.directed, s);
+        self.count = put_near_rows(g, &self.directed, &self.making.links, &mut self.room);
     }
 
     /// The words of the graph's certificate on all nodes.
@@ -87,7 +101,7 @@ impl SourceRows {
             → IfOk result (λ nodes. nodes.items ≡ file.cert.nodes) }
     {
         let _count = g.node_count();
-        let nodes = all_nodes(alloc, g, &self.making.directed)?;
+        let nodes = all_nodes(alloc, g, &self.directed)?;
         Ok(nodes)
     }
 
@@ -99,7 +113,7 @@ impl SourceRows {
     {
         // what each graph keeps is told by reading it
         let _count = g.node_count();
-        let links = all_links(alloc, g, &self.making.directed)?;
+        let links = all_links(alloc, g, &self.directed)?;
         Ok(links)
     }
 

@@ -16,7 +16,7 @@ loop-n-init c =
     record {
       room = made ∙ ap (λ (n : ℕ). n * (n - 1)) c.node_count-count.ensures.count;
       one_each = made_column ∙ c.node_count-count.ensures.count;
-      held = c.in_ok-columns.ensures;
+      held = c.in_ok-columns.ensures.held;
       done = λ w says s t s_within t_within below. absurd (omega (arith, below));
     }
 

@@ -1,4 +1,4 @@
-use Rattle.std.proofs.Common.{◌≢◌, ◌∙◌, ℕ, Option, sym, subst, arith}
+use Rattle.std.proofs.Common.{◌≢◌, ◌∙◌, Option, length, sym, subst}
 use Rattle.std.proofs.lemmas.Bool.{eqb-false, eqb-true}
 use Rattle.std.proofs.lemmas.Option.{slice_get_within}
 use Rattle.mrt_graph.specs.declared.cert.Row.{Row}
@@ -16,7 +16,7 @@ aimed_row-requires-clause-aim c =
     let w = c.requires.directed.directions in
     let says = c.requires.directed.says in
     let og = graph_by c.args.g.now c.args.root c.args.d.now w c.requires.kept c.requires.directed says in
-    aim_within og c.args.to.node c.requires.to c.args.self.now.below.items (c.requires.below w says) c.args.s c.aim_of-aim.result c.requires.source
+    aim_within og c.args.to.node c.requires.to c.args.self.now.below (c.requires.below w says) c.args.s c.aim_of-aim.result c.requires.source
     (c.aim_of-aim.ensures w says)
 
 pub aimed_row-requires-clause-two : goal.aimed_row-requires-clause-two
@@ -24,13 +24,11 @@ aimed_row-requires-clause-two c = λ same.
     let w = c.requires.directed.directions in
     let says = c.requires.directed.says in
     let og = graph_by c.args.g.now c.args.root c.args.d.now w c.requires.kept c.requires.directed says in
-    aim_apart og c.args.to.node c.requires.to c.args.self.now.below.items (c.requires.below w says) c.args.s c.aim_of-aim.result c.requires.source c.requires.two
+    aim_apart og c.args.to.node c.requires.to c.args.self.now.below (c.requires.below w says) c.args.s c.aim_of-aim.result c.requires.source c.requires.two
     (c.aim_of-aim.ensures w says) (sym same)
 
 pub aimed_row-requires-clause-place : goal.aimed_row-requires-clause-place
-aimed_row-requires-clause-place c =
-    let held = c.requires.held c.requires.directed.directions c.requires.directed.says in
-    omega (arith, slice_get_within c.args.self.now.targets.items c.args.to.at c.args.to.node c.requires.place, held.a_target_each)
+aimed_row-requires-clause-place c = slice_get_within c.args.self.now.targets c.args.to.at c.args.to.node c.requires.place
 
 pub returns-in_err-row : goal.returns-in_err-row
 returns-in_err-row c = λ w says.
@@ -39,16 +37,15 @@ returns-in_err-row c = λ w says.
     let j = c.args.to.at in
     let s = c.args.s in
     let aim = c.aim_of-aim.result in
-    let below = held.below.items in
+    let below = held.below in
     let og = graph_by g c.args.root c.args.d.now w c.requires.kept c.requires.directed says in
     let are_below = c.requires.below w says in
     let is = c.aim_of-aim.ensures w says in
     let apart : s ≢ aim = λ same. aim_apart og c.args.to.node c.requires.to below are_below s aim c.requires.source c.requires.two is (sym same) in
     let aimed = (c.requires.held w says).aimed j c.args.to.node c.requires.place c.requires.to in
-    let ways : AreWayAims g c.args.root w c.args.to.node (aim_at held.aims.items held.width j) =
-    subst (λ (k : ℕ). AreWayAims g c.args.root w c.args.to.node (aim_at held.aims.items k j)) (c.requires.held w says).a_target_each
-    (aimed.aims.each j c.args.to.node c.requires.place) in
-    let it = aim_of_blocks og c.args.to.node c.requires.to below are_below (aim_at held.aims.items held.width j) ways s aim c.requires.source c.requires.two is in
+    let ways : AreWayAims g c.args.root w c.args.to.node (aim_at held.aims (length held.targets) j) =
+    aimed.aims.each j c.args.to.node c.requires.place in
+    let it = aim_of_blocks og c.args.to.node c.requires.to below are_below (aim_at held.aims (length held.targets) j) ways s aim c.requires.source c.requires.two is in
     let near = c.aimed_row.ensures w says aimed.up aimed.down it in
     absurd (some_near og c.args.to.node c.requires.to below are_below s aim c.requires.source c.requires.two apart is
     (subst (λ (o : Option Row). IsNearRow g c.args.root w s aim o) c.in_err-row.was near))
@@ -60,16 +57,15 @@ returns-then-eq c = λ w says.
     let j = c.args.to.at in
     let s = c.args.s in
     let aim = c.aim_of-aim.result in
-    let below = held.below.items in
+    let below = held.below in
     let og = graph_by g c.args.root c.args.d.now w c.requires.kept c.requires.directed says in
     let are_below = c.requires.below w says in
     let is = c.aim_of-aim.ensures w says in
     let apart : s ≢ aim = λ same. aim_apart og c.args.to.node c.requires.to below are_below s aim c.requires.source c.requires.two is (sym same) in
     let aimed = (c.requires.held w says).aimed j c.args.to.node c.requires.place c.requires.to in
-    let ways : AreWayAims g c.args.root w c.args.to.node (aim_at held.aims.items held.width j) =
-    subst (λ (k : ℕ). AreWayAims g c.args.root w c.args.to.node (aim_at held.aims.items k j)) (c.requires.held w says).a_target_each
-    (aimed.aims.each j c.args.to.node c.requires.place) in
-    let it = aim_of_blocks og c.args.to.node c.requires.to below are_below (aim_at held.aims.items held.width j) ways s aim c.requires.source c.requires.two is in
+    let ways : AreWayAims g c.args.root w c.args.to.node (aim_at held.aims (length held.targets) j) =
+    aimed.aims.each j c.args.to.node c.requires.place in
+    let it = aim_of_blocks og c.args.to.node c.requires.to below are_below (aim_at held.aims (length held.targets) j) ways s aim c.requires.source c.requires.two is in
     let near = c.aimed_row.ensures w says aimed.up aimed.down it in
     row_at_aim og c.args.to.node c.requires.to below are_below s aim c.requires.source c.requires.two apart is c.in_ok-row.row
     (eqb-true aim c.args.to.node (sym c.eq.ensures ∙ c.if-eq.true))
@@ -82,16 +78,15 @@ returns c = λ w says.
     let j = c.args.to.at in
     let s = c.args.s in
     let aim = c.aim_of-aim.result in
-    let below = held.below.items in
+    let below = held.below in
     let og = graph_by g c.args.root c.args.d.now w c.requires.kept c.requires.directed says in
     let are_below = c.requires.below w says in
     let is = c.aim_of-aim.ensures w says in
     let apart : s ≢ aim = λ same. aim_apart og c.args.to.node c.requires.to below are_below s aim c.requires.source c.requires.two is (sym same) in
     let aimed = (c.requires.held w says).aimed j c.args.to.node c.requires.place c.requires.to in
-    let ways : AreWayAims g c.args.root w c.args.to.node (aim_at held.aims.items held.width j) =
-    subst (λ (k : ℕ). AreWayAims g c.args.root w c.args.to.node (aim_at held.aims.items k j)) (c.requires.held w says).a_target_each
-    (aimed.aims.each j c.args.to.node c.requires.place) in
-    let it = aim_of_blocks og c.args.to.node c.requires.to below are_below (aim_at held.aims.items held.width j) ways s aim c.requires.source c.requires.two is in
+    let ways : AreWayAims g c.args.root w c.args.to.node (aim_at held.aims (length held.targets) j) =
+    aimed.aims.each j c.args.to.node c.requires.place in
+    let it = aim_of_blocks og c.args.to.node c.requires.to below are_below (aim_at held.aims (length held.targets) j) ways s aim c.requires.source c.requires.two is in
     let near = c.aimed_row.ensures w says aimed.up aimed.down it in
     row_from_aim og c.args.to.node c.requires.to below are_below s aim c.requires.source c.requires.two apart is c.in_ok-row.row
     (eqb-false aim c.args.to.node (sym c.eq.ensures ∙ c.if-eq.false))

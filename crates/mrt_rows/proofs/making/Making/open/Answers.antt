@@ -1,4 +1,5 @@
 use Rattle.std.proofs.Common.{◌∙◌, ℕ, List, sym, subst, arith}
+use Rattle.std.proofs.Math.Nat.{mod-lt}
 use Rattle.inc_dec_spf.specs.declared.reach.Dir.TheVariants.{Down, Up}
 use Rattle.inc_dec_spf.specs.Fan.{IsOpen}
 use Rattle.inc_dec_spf.specs.Turns.{AreTurns}
@@ -27,12 +28,11 @@ open-requires-2-clause-nodes c = (c.requires.made.fans c.requires.directed.direc
 
 pub returns-clause-made : goal.returns-clause-made
 returns-clause-made c = record {
-  root_within = c.requires.made.root_within;
-  directed = c.requires.made.directed;
+  some = c.requires.made.some;
   fans = λ w says.
       let g = c.args.g.now in
       let held = c.requires.made.fans w says in
-      let are = directions_are g c.args.self.now.directed w c.requires.kept c.requires.directed says in
+      let are = directions_are g c.args.d.now w c.requires.kept c.requires.directed says in
       record {
         by_order = held.by_order;
         against_order = held.against_order;
@@ -51,3 +51,8 @@ returns-clause-made c = record {
         one_down_each = held.one_down_each;
       };
 }
+
+pub returns-clause-among : goal.returns-clause-among
+returns-clause-among c =
+    let below = mod-lt c.get-3.result {m = c.args.self.now.width} c.requires.made.some in
+    omega (arith, below, c.get-2.ensures.value, c.get-3.ensures.value)

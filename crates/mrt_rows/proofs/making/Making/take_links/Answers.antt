@@ -1,13 +1,11 @@
 use Rattle.std.proofs.Common.{◌≡◌, ◌<◌, ◌∙◌, ℕ, List, length, sym, ap, subst, arith}
 use Rattle.std.proofs.lemmas.List.{with_items_is}
 use Rattle.std.proofs.lemmas.Option.{slice_get_within}
-use Rattle.mrt_graph.specs.DirectedLists.{DirectedLists}
 use Rattle.mrt_graph.specs.Topology.{Topology}
-use Rattle.link_direction.specs.Directions.{Directions, Says}
+use Rattle.link_direction.specs.Directions.{Directions}
 use Rattle.inc_dec_spf.specs.declared.reach.Dir.{Dir}
 use Rattle.inc_dec_spf.specs.declared.reach.Dir.TheVariants.{Down, Up}
 use Rattle.inc_dec_spf.specs.Fan.{HasFirstLinks, IsOpen}
-use Rattle.inc_dec_spf.specs.HasDirections.{HasDirections}
 use Rattle.mrt_rows.specs.NearOf.{AreLinked}
 use Rattle.mrt_rows.proofs.making.Making.take_links.Goals as goal
 
@@ -19,38 +17,32 @@ linked g w dir s source links after same from has =
 
 pub put_links-requires-clause-among : goal.put_links-requires-clause-among
 put_links-requires-clause-among c =
-    let says = subst (λ (d : DirectedLists). Says c.args.g.now d c.requires.directed.directions) (sym c.open.ensures.directed) c.requires.directed.are.says in
-    let held = c.open.ensures.made.fans c.requires.directed.directions says in
+    let held = c.open.ensures.made.fans c.requires.directed.directions c.requires.directed.are.says in
     omega (arith, c.new-first.ensures, c.open.ensures.among, held.up.width)
 
 pub put_links-requires-clause-one_each : goal.put_links-requires-clause-one_each
 put_links-requires-clause-one_each c =
-    let says = subst (λ (d : DirectedLists). Says c.args.g.now d c.requires.directed.directions) (sym c.open.ensures.directed) c.requires.directed.are.says in
-    let held = c.open.ensures.made.fans c.requires.directed.directions says in
+    let held = c.open.ensures.made.fans c.requires.directed.directions c.requires.directed.are.says in
     ap (λ (xs : List ℕ). length xs) c.deref_mut.ensures.value ∙ held.one_up_each
 
 pub put_links-requires-clause-nodes : goal.put_links-requires-clause-nodes
 put_links-requires-clause-nodes c =
-    let says = subst (λ (d : DirectedLists). Says c.args.g.now d c.requires.directed.directions) (sym c.open.ensures.directed) c.requires.directed.are.says in
-    let held = c.open.ensures.made.fans c.requires.directed.directions says in
+    let held = c.open.ensures.made.fans c.requires.directed.directions c.requires.directed.are.says in
     held.up.nodes
 
 pub put_links-requires-then-has_more_links-clause-among : goal.put_links-requires-then-has_more_links-clause-among
 put_links-requires-then-has_more_links-clause-among c =
-    let says = subst (λ (d : DirectedLists). Says c.args.g.now d c.requires.directed.directions) (sym c.open.ensures.directed) c.requires.directed.are.says in
-    let held = c.open.ensures.made.fans c.requires.directed.directions says in
+    let held = c.open.ensures.made.fans c.requires.directed.directions c.requires.directed.are.says in
     omega (arith, c.new-first.ensures, c.open.ensures.among, held.down.width)
 
 pub put_links-requires-then-has_more_links-clause-one_each : goal.put_links-requires-then-has_more_links-clause-one_each
 put_links-requires-then-has_more_links-clause-one_each c =
-    let says = subst (λ (d : DirectedLists). Says c.args.g.now d c.requires.directed.directions) (sym c.open.ensures.directed) c.requires.directed.are.says in
-    let held = c.open.ensures.made.fans c.requires.directed.directions says in
+    let held = c.open.ensures.made.fans c.requires.directed.directions c.requires.directed.are.says in
     ap (λ (xs : List ℕ). length xs) c.deref_mut-then-has_more_links.ensures.value ∙ held.one_down_each
 
 pub put_links-requires-then-has_more_links-clause-nodes : goal.put_links-requires-then-has_more_links-clause-nodes
 put_links-requires-then-has_more_links-clause-nodes c =
-    let says = subst (λ (d : DirectedLists). Says c.args.g.now d c.requires.directed.directions) (sym c.open.ensures.directed) c.requires.directed.are.says in
-    let held = c.open.ensures.made.fans c.requires.directed.directions says in
+    let held = c.open.ensures.made.fans c.requires.directed.directions c.requires.directed.are.says in
     held.down.nodes
 
 pub returns-then-has_more_links-clause-made : goal.returns-then-has_more_links-clause-made
@@ -59,8 +51,7 @@ returns-then-has_more_links-clause-made c =
     let down_same = with_items_is c.open.new.self.links.down c.put_links-then-has_more_links.new.links
     (c.put_links-then-has_more_links.auto.links ∙ c.deref_mut-then-has_more_links.ensures.len) in
     record {
-      root_within = c.open.ensures.made.root_within;
-      directed = c.open.ensures.made.directed;
+      some = c.open.ensures.made.some;
       fans = λ w says.
           let held = c.open.ensures.made.fans w says in
           record {
@@ -81,8 +72,7 @@ returns-then-has_more_links-clause-source c = c.open.ensures.source
 pub returns-then-has_more_links-clause-links : goal.returns-then-has_more_links-clause-links
 returns-then-has_more_links-clause-links c =
     let g = c.args.g.now in
-    let has : HasDirections g c.open.new.self.directed =
-    subst (λ (d : DirectedLists). HasDirections g d) (sym c.open.ensures.directed) c.requires.directed in
+    let has = c.requires.directed in
     let own = c.open.ensures.made.fans has.directions has.are.says in
     let up_same = with_items_is c.open.new.self.links.up c.put_links.new.links (c.put_links.auto.links ∙ c.deref_mut.ensures.len) in
     let down_same = with_items_is c.open.new.self.links.down c.put_links-then-has_more_links.new.links
@@ -110,8 +100,7 @@ returns-then-has_more_links-clause-links c =
 -- what makes rows, for this source
 pub open-requires-clause-made : goal.open-requires-clause-made
 open-requires-clause-made c = record {
-  root_within = c.requires.made.root_within;
-  directed = c.requires.made.directed;
+  some = c.requires.made.some;
   fans = λ w says.
       let held = c.requires.made.fans w says in
       record {
@@ -127,8 +116,7 @@ open-requires-clause-made c = record {
 
 pub returns-else-has_more_links-clause-made : goal.returns-else-has_more_links-clause-made
 returns-else-has_more_links-clause-made c = record {
-  root_within = c.requires.made.root_within;
-  directed = c.requires.made.directed;
+  some = c.requires.made.some;
   fans = λ w says.
       let held = c.requires.made.fans w says in
       record {

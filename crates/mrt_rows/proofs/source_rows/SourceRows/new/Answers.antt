@@ -1,5 +1,24 @@
 use Rattle.std.proofs.Common.{rules}
+use Rattle.mrt_rows.proofs.SourceCert.{directions_from}
 use Rattle.mrt_rows.proofs.source_rows.SourceRows.new.Goals as goal
 
+pub new-requires-clause-directed : goal.new-requires-clause-directed
+new-requires-clause-directed c =
+    directions_from c.args.g.now c.args.root c.in_ok-directed.directed c.directions.ensures.kept c.requires c.in_ok-directed.ensures.made
+
 pub returns-clause-made : goal.returns-clause-made
-returns-clause-made c = record { making = c.in_ok-making.ensures.made; room = search rules }
+returns-clause-made c = record {
+  root_within = c.requires;
+  directed = c.in_ok-directed.ensures.made;
+  making = c.in_ok-making.ensures.made;
+  width = c.in_ok-making.ensures.width;
+  room = search rules;
+}
+
+pub returns-clause-cert : goal.returns-clause-cert
+returns-clause-cert c =
+    let made = c.in_ok-directed.ensures.made in
+    let ordered = c.in_ok-directed.ensures.ordered in
+    let found = c.columns_are_of_one_certificate.ensures c.args.g.now c.args.root made.tree made.gadag c.in_ok-directed.directed ordered.directions
+    c.directions.ensures.kept c.requires made.searched made.by_ears made.in_order ordered.says in
+    (found.0, found.1)
