@@ -4,6 +4,7 @@ pub mod FormAnswers
 pub mod FromFiles
 pub mod Held
 pub mod NeverSaid
+pub mod OfWords
 pub mod OneExit
 pub mod SurveyExits
 pub mod ToldAlike
