@@ -26,16 +26,21 @@ fn are_copied(alloc: Global, bytes: &[u8], count: usize) -> Option<bool> {
     Some(lsas.len() == count)
 }
 
+/// Files, and how many LSAs each has.
+fn files() -> [(&'static [u8], usize); 6] {
+    [
+        (&ALONE, 1),
+        (&STUB, 1),
+        (&ENTRIES, 1),
+        (&TRIANGLE, 3),
+        (&NETWORK, 1),
+        (&OTHER, 1),
+    ]
+}
+
 #[test]
 fn copies_are_equal(rt: HostRuntime) {
-    for (bytes, count) in [
-        (ALONE.as_slice(), 1),
-        (STUB.as_slice(), 1),
-        (ENTRIES.as_slice(), 1),
-        (TRIANGLE.as_slice(), 3),
-        (NETWORK.as_slice(), 1),
-        (OTHER.as_slice(), 1),
-    ] {
+    for (bytes, count) in files() {
         let are_copied = are_copied(rt.alloc(), bytes, count);
         assert!(rt; are_copied == Some(true), "{} bytes", bytes.len());
     }

@@ -1,9 +1,9 @@
 //! The database of three routers, each linked to both others, with two older instances of the first, in every order.
 
-ghost use Rattle.std.specs.Prelude.{◌≡◌, IfOk, false};
+ghost use Rattle.std.specs.Prelude.{◌≡◌, ◌<◌, IfOk, OnOk, Some, false};
 ghost use Rattle.std.specs.List.{list_any};
 ghost use Rattle.ospf_lsa.specs.Lsas.{has_zero_metric};
-ghost use Rattle.lsdb.specs.Installing.{IsKept};
+ghost use Rattle.lsdb.specs.Installing.{IsBehind, IsKept};
 
 use crate::installing::put;
 use lsdb::Lsdb;
@@ -111,12 +111,21 @@ fn lsa(alloc: Global, at: u32, instance: &Instance) -> Result<Lsa, NoMemory>
     })
 }
 
+/// Installs one of the instances, at a place.
+fn put_instance(alloc: Global, lsdb: &mut Lsdb, place: u32, number: usize) -> Result<(), NoMemory>
+    requires number { number < 5 }
+    requires behind { IsBehind lsdb.old.greatest place }
+    ensures { OnOk result (lsdb.new.greatest ≡ Some place) }
+{
+    let lsa = lsa(alloc, place, &INSTANCES[number])?;
+    put(lsdb, lsa)
+}
+
 /// The instances in this order, each at its place in the order.
 fn filled(alloc: Global, order: [usize; 5]) -> Result<Lsdb, NoMemory> {
     let mut lsdb = Lsdb::new(alloc);
     for place in 0..5 {
-        let number = order[place as usize] % 5;
-        put(&mut lsdb, lsa(alloc, place, &INSTANCES[number])?)?;
+        put_instance(alloc, &mut lsdb, place, order[place as usize] % 5)?;
     }
     Ok(lsdb)
 }
@@ -155,7 +164,10 @@ fn are_expected(alloc: Global, newest: &[Lsa]) -> Result<bool, NoMemory> {
 
 fn is_settled_as_expected(alloc: Global, number: usize) -> Result<bool, NoMemory> {
     let lsdb = filled(alloc, order(number))?;
-    Ok(lsdb.settled().is_ok() && are_expected(alloc, lsdb.newest())?)
+    if lsdb.settled().is_err() {
+        return Ok(false);
+    }
+    are_expected(alloc, lsdb.newest())
 }
 
 #[test]

@@ -1,10 +1,12 @@
 //! Packets that reach routers by a script.
 
+use crate::databases::area_in;
 use crate::update_files::{LAN_PACKETS, OLDER_FIRST, PACKETS};
-use area_graph::build_area;
+use area_graph::Area;
 use file_key::FileKey;
 use flood_core::{SharedLsdb, read_updates};
 use flood_script::{Compare, FloodScriptError, Verdict, flood_text, read_flood_script};
+use lsdb::Lsdb;
 use mrt_graph::{Kind, NoMemory, NodeId};
 use std::alloc::Global;
 
@@ -33,17 +35,28 @@ fn verdict_of(one: Option<u16>, other: Option<u16>) -> Verdict {
     }
 }
 
-fn nodes(alloc: Global, database: &SharedLsdb, router: u32) -> Option<u16> {
-    if !database.is_settled() {
-        return None;
-    }
-    let copy = database.copied(alloc).ok()?;
-    let area = build_area(alloc, &copy).ok()?;
+/// How many nodes an area has, if the router is one of them.
+fn nodes_of(area: &Area, router: u32) -> Option<u16> {
     area.find(NodeId {
         kind: Kind::Router,
         number: router,
     })?;
     Some(area.count())
+}
+
+fn nodes_in(alloc: Global, database: &Lsdb, router: u32) -> Option<u16> {
+    let area = area_in(alloc, database)?;
+    nodes_of(&area, router)
+}
+
+fn nodes(alloc: Global, database: &SharedLsdb, router: u32) -> Option<u16> {
+    if !database.is_settled() {
+        return None;
+    }
+    match database.copied(alloc) {
+        Ok(copy) => nodes_in(alloc, &copy, router),
+        Err(_) => None,
+    }
 }
 
 /// The text of a script over packets.
@@ -56,54 +69,47 @@ fn text_of(alloc: Global, packets: &[u8], script: &[u8]) -> Option<Vec<u8>> {
     flood_text(alloc, FileKey::of(packets), updates, &script, &ByNodes).ok()
 }
 
-fn gives(alloc: Global, packets: &[u8], script: &[u8], wanted: &[u8]) -> bool {
-    match text_of(alloc, packets, script) {
-        None => false,
-        Some(text) => text.as_slice() == wanted,
-    }
-}
-
 /// Packets, a script over them, and its text.
 struct Run {
     packets: &'static [u8],
-    script: &'static [u8],
-    text: &'static [u8],
+    script: &'static str,
+    text: &'static str,
 }
 
 const RUNS: &[Run] = &[
     Run {
         packets: &PACKETS,
-        script: b"routers 2\ndeliver 0 0\ndeliver 0 0\ndeliver 2 1\nsame 0 1 3.3.3.3\nsame 0 1 1.1.1.1\ndeliver 1 1\ndeliver 3 1\nsame 0 1 1.1.1.1\ndeliver 9 0\ndeliver 0 5\n",
-        text: b"changed 3 sent 3\nchanged 0\nchanged 2 sent 4\ndifferent\nnone\nchanged 1 sent 5\nchanged 0\nsame\nrefused no-such-packet\nrefused no-such-router\n",
+        script: "routers 2\ndeliver 0 0\ndeliver 0 0\ndeliver 2 1\nsame 0 1 3.3.3.3\nsame 0 1 1.1.1.1\ndeliver 1 1\ndeliver 3 1\nsame 0 1 1.1.1.1\ndeliver 9 0\ndeliver 0 5\n",
+        text: "changed 3 sent 3\nchanged 0\nchanged 2 sent 4\ndifferent\nnone\nchanged 1 sent 5\nchanged 0\nsame\nrefused no-such-packet\nrefused no-such-router\n",
     },
     // another order, and what was sent on in turn
     Run {
         packets: &PACKETS,
-        script: b"routers 3\ndeliver 2 0\ndeliver 1 0\ndeliver 4 1\ndeliver 3 1\ndeliver 0 2\nsame 0 1 2.2.2.2\nsame 1 2 2.2.2.2\n",
-        text: b"changed 2 sent 3\nchanged 1 sent 4\nchanged 1 sent 5\nchanged 2 sent 6\nchanged 3 sent 7\nsame\nsame\n",
+        script: "routers 3\ndeliver 2 0\ndeliver 1 0\ndeliver 4 1\ndeliver 3 1\ndeliver 0 2\nsame 0 1 2.2.2.2\nsame 1 2 2.2.2.2\n",
+        text: "changed 2 sent 3\nchanged 1 sent 4\nchanged 1 sent 5\nchanged 2 sent 6\nchanged 3 sent 7\nsame\nsame\n",
     },
     // of both numbers that are not there the packet's is told
     Run {
         packets: &PACKETS,
-        script: b"routers 1\ndeliver 3 1\n",
-        text: b"refused no-such-packet\n",
+        script: "routers 1\ndeliver 3 1\n",
+        text: "refused no-such-packet\n",
     },
     Run {
         packets: &PACKETS,
-        script: b"routers 1\n",
-        text: b"",
+        script: "routers 1\n",
+        text: "",
     },
     // what is new beside an older instance is sent on alone; what a router had before is not
     Run {
         packets: &OLDER_FIRST,
-        script: b"routers 2\ndeliver 0 0\ndeliver 1 0\ndeliver 3 1\ndeliver 1 1\ndeliver 5 0\ndeliver 0 1\n",
-        text: b"changed 1 sent 2\nchanged 1 sent 3\nchanged 1 sent 4\nchanged 1 sent 5\nchanged 0\nchanged 1 sent 6\n",
+        script: "routers 2\ndeliver 0 0\ndeliver 1 0\ndeliver 3 1\ndeliver 1 1\ndeliver 5 0\ndeliver 0 1\n",
+        text: "changed 1 sent 2\nchanged 1 sent 3\nchanged 1 sent 4\nchanged 1 sent 5\nchanged 0\nchanged 1 sent 6\n",
     },
     // a network-LSA and entries for types of service; LSAs of other types are passed over
     Run {
         packets: LAN_PACKETS,
-        script: b"routers 2\ndeliver 0 0\nsame 0 0 3.3.3.3\ndeliver 1 1\nsame 0 1 4.4.4.4\ndeliver 2 1\ndeliver 3 1\nsame 0 1 1.1.1.1\ndeliver 5 0\n",
-        text: b"changed 5 sent 3\nsame\nchanged 2 sent 4\ndifferent\nchanged 3 sent 5\nchanged 0\nsame\nchanged 0\n",
+        script: "routers 2\ndeliver 0 0\nsame 0 0 3.3.3.3\ndeliver 1 1\nsame 0 1 4.4.4.4\ndeliver 2 1\ndeliver 3 1\nsame 0 1 1.1.1.1\ndeliver 5 0\n",
+        text: "changed 5 sent 3\nsame\nchanged 2 sent 4\ndifferent\nchanged 3 sent 5\nchanged 0\nsame\nchanged 0\n",
     },
 ];
 
@@ -111,29 +117,36 @@ fn runs() -> &'static [Run] {
     RUNS
 }
 
+fn gives_its_text(alloc: Global, run: &Run) -> bool {
+    match text_of(alloc, run.packets, run.script.as_bytes()) {
+        None => false,
+        Some(text) => text.as_slice() == run.text.as_bytes(),
+    }
+}
+
 #[test]
 fn scripts_have_their_texts(rt: HostRuntime) {
     for (place, run) in runs().iter().enumerate() {
-        let is_so = gives(rt.alloc(), run.packets, run.script, run.text);
+        let is_so = gives_its_text(rt.alloc(), run);
         assert!(rt; is_so, "run {place}");
     }
 }
 
 /// Scripts, and the first line of each that is not as it should be.
-fn scripts() -> &'static [(&'static [u8], Option<u32>)] {
+fn scripts() -> &'static [(&'static str, Option<u32>)] {
     &[
-        (b"", Some(1)),
-        (b"# none\n", Some(2)),
-        (b"routers 0\n", Some(1)),
-        (b"routers 65\n", Some(1)),
-        (b"routers 64\n", None),
-        (b"\t \nrouters 2\ndeliver 0\n", Some(3)),
-        (b"routers 2\nrouters 2\n", Some(2)),
-        (b"routers 2\nsame 0 1 1.1.1.1\nsame 0 2 1.1.1.1\n", Some(3)),
-        (b"routers 2\nsame 0 1 1.1.1\n", Some(2)),
-        (b"routers 2\ndeliver 4294967296 0\n", Some(2)),
-        (b"routers 2\ndeliver 0 65536\n", Some(2)),
-        (b"routers 2\ndeliver 4294967295 65535", None),
+        ("", Some(1)),
+        ("# none\n", Some(2)),
+        ("routers 0\n", Some(1)),
+        ("routers 65\n", Some(1)),
+        ("routers 64\n", None),
+        ("\t \nrouters 2\ndeliver 0\n", Some(3)),
+        ("routers 2\nrouters 2\n", Some(2)),
+        ("routers 2\nsame 0 1 1.1.1.1\nsame 0 2 1.1.1.1\n", Some(3)),
+        ("routers 2\nsame 0 1 1.1.1\n", Some(2)),
+        ("routers 2\ndeliver 4294967296 0\n", Some(2)),
+        ("routers 2\ndeliver 0 65536\n", Some(2)),
+        ("routers 2\ndeliver 4294967295 65535", None),
     ]
 }
 
@@ -150,6 +163,6 @@ fn fault_of(alloc: Global, script: &[u8]) -> Option<u32> {
 #[test]
 fn the_first_wrong_line_is_told(rt: HostRuntime) {
     for (script, wanted) in scripts() {
-        assert_eq!(rt; fault_of(rt.alloc(), script), *wanted);
+        assert_eq!(rt; fault_of(rt.alloc(), script.as_bytes()), *wanted);
     }
 }

@@ -1,6 +1,6 @@
 //! Instances of the LSAs of one router and of two, and what a database says of them.
 
-ghost use Rattle.std.specs.Prelude.{◌≡◌};
+ghost use Rattle.std.specs.Prelude.{◌≡◌, IfOk, Some};
 ghost use Rattle.lsdb.specs.Installing.{IsKept};
 
 use crate::installing::put;
@@ -75,11 +75,31 @@ fn follows(lsdb: &Lsdb, change: Change) -> bool {
     lsdb.settled() == settled && lsdb.newest().len() == count
 }
 
-fn is_changed_so(alloc: Global, second: Instance, change: Change) -> Result<bool, NoMemory> {
+/// A database of the first instance.
+fn first_alone(alloc: Global) -> Result<Lsdb, NoMemory>
+    ensures { IfOk result (λ lsdb. lsdb.greatest ≡ Some 0) }
+{
     let mut lsdb = Lsdb::new(alloc);
     put(&mut lsdb, lsa(alloc, 0, FIRST))?;
+    Ok(lsdb)
+}
+
+/// Whether a second instance changes it so.
+fn changes_so(
+    alloc: Global,
+    lsdb: &mut Lsdb,
+    second: Instance,
+    change: Change,
+) -> Result<bool, NoMemory>
+    requires { lsdb.old.greatest ≡ Some 0 }
+{
     let found = lsdb.install(lsa(alloc, 24, second))?;
-    Ok(found == change && follows(&lsdb, change))
+    Ok(found == change && follows(lsdb, change))
+}
+
+fn is_changed_so(alloc: Global, second: Instance, change: Change) -> Result<bool, NoMemory> {
+    let mut lsdb = first_alone(alloc)?;
+    changes_so(alloc, &mut lsdb, second, change)
 }
 
 #[test]

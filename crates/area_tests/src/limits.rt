@@ -2,14 +2,22 @@
 
 use crate::many_routers::{Many, database_of};
 use area_graph::{Area, AreaError, build_area};
+use lsdb::Lsdb;
+use mrt_graph::NoMemory;
 use mrt_island::{IslandError, Profile, find_island};
 use std::alloc::Global;
 
-fn area_of(alloc: Global, many: Many) -> Result<Area, AreaError> {
-    let database = database_of(alloc, many)?;
+fn area_in(alloc: Global, database: &Lsdb) -> Result<Area, AreaError> {
     match database.settled() {
-        Ok(()) => build_area(alloc, &database),
+        Ok(()) => build_area(alloc, database),
         Err(_) => Err(AreaError::NoMemory),
+    }
+}
+
+fn area_of(alloc: Global, many: Many) -> Result<Area, AreaError> {
+    match database_of(alloc, many) {
+        Ok(database) => area_in(alloc, &database),
+        Err(NoMemory) => Err(AreaError::NoMemory),
     }
 }
 
@@ -63,18 +71,23 @@ fn areas_have_4096_nodes_and_32768_arcs_at_most(rt: HostRuntime) {
     }
 }
 
-/// The counts of nodes and links of the island of router 0, where so many routers are in a ring.
+/// The counts of nodes and links of the island of router 0.
+fn counts_in(alloc: Global, area: &Area) -> Result<(u16, u16), IslandError> {
+    let island = find_island(alloc, area, &Profile::empty(alloc), 0)?;
+    Ok((island.graph.node_count(), island.graph.link_count()))
+}
+
+/// The same, where so many routers are in a ring.
 fn island_counts(alloc: Global, routers: u32) -> Result<(u16, u16), IslandError> {
     let ring = Many {
         routers,
         in_ring: true,
         linked: 0,
     };
-    let Ok(area) = area_of(alloc, ring) else {
-        return Err(IslandError::NoMemory);
-    };
-    let island = find_island(alloc, &area, &Profile::empty(alloc), 0)?;
-    Ok((island.graph.node_count(), island.graph.link_count()))
+    match area_of(alloc, ring) {
+        Ok(area) => counts_in(alloc, &area),
+        Err(_) => Err(IslandError::NoMemory),
+    }
 }
 
 #[test]

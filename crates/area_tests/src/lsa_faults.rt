@@ -4,10 +4,13 @@ use crate::lsa_files::{NETWORK, TRIANGLE};
 use ospf_lsa::{LsaError, LsaKind, read_lsas, sums};
 use std::alloc::Global;
 
+/// Two places with the bytes that are put there.
+type Places = ((usize, u8), (usize, u8));
+
 /// The triangle's bytes with others in their places.
-fn spoilt(places: &[(usize, u8)]) -> [u8; 144] {
+fn spoilt(places: Places) -> [u8; 144] {
     let mut bytes = TRIANGLE;
-    for &(place, byte) in places {
+    for (place, byte) in [places.0, places.1] {
         if place < bytes.len() {
             bytes[place] = byte;
         }
@@ -54,31 +57,29 @@ fn has_no_fault(alloc: Global, bytes: &[u8; 144]) -> bool {
     read_lsas(alloc, bytes).is_ok()
 }
 
-/// Two places with the bytes that are put there, before the checksums are made anew.
-type Places = &'static [(usize, u8)];
-
+/// Places that are changed before the checksums are made anew.
 const RECORDS: &[(Places, u32, LsaKind)] = &[
-    (&[(18, 0), (19, 19)], 0, LsaKind::Length),
-    (&[(66, 0), (67, 19)], 48, LsaKind::Length),
-    (&[(115, 49), (115, 49)], 96, LsaKind::Truncated),
-    (&[(15, 0), (15, 0)], 0, LsaKind::ReservedSequence),
-    (&[(15, 0), (7, 0)], 0, LsaKind::ReservedSequence),
-    (&[(51, 5), (63, 0)], 48, LsaKind::ReservedSequence),
-    (&[(55, 3), (55, 3)], 48, LsaKind::IdMismatch),
-    (&[(55, 3), (95, 0)], 48, LsaKind::IdMismatch),
-    (&[(71, 1), (71, 1)], 48, LsaKind::Body),
-    (&[(71, 3), (71, 3)], 48, LsaKind::Body),
-    (&[(71, 1), (83, 0)], 48, LsaKind::Body),
-    (&[(22, 0xff), (23, 0xff)], 0, LsaKind::Body),
-    (&[(33, 1), (33, 1)], 0, LsaKind::Body),
-    (&[(45, 1), (45, 1)], 0, LsaKind::Body),
-    (&[(35, 0), (35, 0)], 0, LsaKind::ZeroMetric),
-    (&[(47, 0), (47, 0)], 0, LsaKind::ZeroMetric),
-    (&[(44, 2), (47, 0)], 0, LsaKind::ZeroMetric),
-    (&[(95, 0), (103, 2)], 48, LsaKind::ZeroMetric),
+    (((18, 0), (19, 19)), 0, LsaKind::Length),
+    (((66, 0), (67, 19)), 48, LsaKind::Length),
+    (((115, 49), (115, 49)), 96, LsaKind::Truncated),
+    (((15, 0), (15, 0)), 0, LsaKind::ReservedSequence),
+    (((15, 0), (7, 0)), 0, LsaKind::ReservedSequence),
+    (((51, 5), (63, 0)), 48, LsaKind::ReservedSequence),
+    (((55, 3), (55, 3)), 48, LsaKind::IdMismatch),
+    (((55, 3), (95, 0)), 48, LsaKind::IdMismatch),
+    (((71, 1), (71, 1)), 48, LsaKind::Body),
+    (((71, 3), (71, 3)), 48, LsaKind::Body),
+    (((71, 1), (83, 0)), 48, LsaKind::Body),
+    (((22, 0xff), (23, 0xff)), 0, LsaKind::Body),
+    (((33, 1), (33, 1)), 0, LsaKind::Body),
+    (((45, 1), (45, 1)), 0, LsaKind::Body),
+    (((35, 0), (35, 0)), 0, LsaKind::ZeroMetric),
+    (((47, 0), (47, 0)), 0, LsaKind::ZeroMetric),
+    (((44, 2), (47, 0)), 0, LsaKind::ZeroMetric),
+    (((95, 0), (103, 2)), 48, LsaKind::ZeroMetric),
     // of two records the first, whatever its fault
-    (&[(35, 0), (63, 0)], 0, LsaKind::ZeroMetric),
-    (&[(55, 3), (114, 0xff)], 48, LsaKind::IdMismatch),
+    (((35, 0), (63, 0)), 0, LsaKind::ZeroMetric),
+    (((55, 3), (114, 0xff)), 48, LsaKind::IdMismatch),
 ];
 
 fn records() -> &'static [(Places, u32, LsaKind)] {
@@ -88,7 +89,7 @@ fn records() -> &'static [(Places, u32, LsaKind)] {
 #[test]
 fn a_spoilt_record_is_named(rt: HostRuntime) {
     for (places, at, kind) in records() {
-        let bytes = renewed(spoilt(places));
+        let bytes = renewed(spoilt(*places));
         assert!(rt;
             has_fault(rt.alloc(), &bytes, *at, *kind),
             "the fault at {at}"
@@ -98,14 +99,14 @@ fn a_spoilt_record_is_named(rt: HostRuntime) {
 
 /// The same without checksums made anew.
 const CHECKSUMS: &[(Places, u32)] = &[
-    (&[(16, 0), (17, 0)], 0),
-    (&[(64, 0xa5), (64, 0xa5)], 48),
-    (&[(65, 0x6b), (113, 0)], 48),
-    (&[(98, 3), (98, 3)], 96),
-    (&[(143, 11), (108, 0)], 96),
+    (((16, 0), (17, 0)), 0),
+    (((64, 0xa5), (64, 0xa5)), 48),
+    (((65, 0x6b), (113, 0)), 48),
+    (((98, 3), (98, 3)), 96),
+    (((143, 11), (108, 0)), 96),
     // before the later faults of the same record
-    (&[(15, 0), (7, 0)], 0),
-    (&[(71, 1), (83, 0)], 48),
+    (((15, 0), (7, 0)), 0),
+    (((71, 1), (83, 0)), 48),
 ];
 
 fn checksums() -> &'static [(Places, u32)] {
@@ -115,27 +116,27 @@ fn checksums() -> &'static [(Places, u32)] {
 #[test]
 fn a_spoilt_checksum_is_named(rt: HostRuntime) {
     for (places, at) in checksums() {
-        let is_so = has_fault(rt.alloc(), &spoilt(places), *at, LsaKind::Checksum);
+        let is_so = has_fault(rt.alloc(), &spoilt(*places), *at, LsaKind::Checksum);
         assert!(rt; is_so, "the fault at {at}");
     }
 }
 
 const UNSPOILT: &[Places] = &[
     // any age, options, flags and spare byte; a negative and a positive sequence number
-    &[(0, 0xff), (1, 0xff)],
-    &[(2, 0), (2, 0)],
-    &[(20, 0xff), (21, 0xff)],
-    &[(12, 0xff), (12, 0xff)],
-    &[(12, 0), (12, 0)],
+    ((0, 0xff), (1, 0xff)),
+    ((2, 0), (2, 0)),
+    ((20, 0xff), (21, 0xff)),
+    ((12, 0xff), (12, 0xff)),
+    ((12, 0), (12, 0)),
     // metric 0 of a stub and of a virtual link
-    &[(44, 3), (47, 0)],
-    &[(44, 4), (47, 0)],
+    ((44, 3), (47, 0)),
+    ((44, 4), (47, 0)),
     // two links with one ID
-    &[(36, 2), (39, 2)],
+    ((36, 2), (39, 2)),
     // other types, also where link state ID and advertising router differ
-    &[(51, 2), (55, 3)],
-    &[(51, 5), (55, 3)],
-    &[(51, 0), (71, 9)],
+    ((51, 2), (55, 3)),
+    ((51, 5), (55, 3)),
+    ((51, 0), (71, 9)),
 ];
 
 fn unspoilt() -> &'static [Places] {
@@ -145,10 +146,10 @@ fn unspoilt() -> &'static [Places] {
 #[test]
 fn other_bytes_are_no_fault(rt: HostRuntime) {
     for places in unspoilt() {
-        assert!(rt; has_no_fault(rt.alloc(), &renewed(spoilt(places))));
+        assert!(rt; has_no_fault(rt.alloc(), &renewed(spoilt(*places))));
     }
     // the age is not covered by the checksum
-    assert!(rt; has_no_fault(rt.alloc(), &spoilt(&[(0, 0x0e), (1, 0x10)])));
+    assert!(rt; has_no_fault(rt.alloc(), &spoilt(((0, 0x0e), (1, 0x10)))));
 }
 
 /// The network's LSA with another length and the checksum of that.

@@ -1,8 +1,8 @@
 //! Databases of many routers: in a ring, or without links but between two of them.
 
-ghost use Rattle.std.specs.Prelude.{◌≡◌, IfOk, false};
+ghost use Rattle.std.specs.Prelude.{◌≡◌, IfOk, OnOk, Some, false};
 ghost use Rattle.std.specs.List.{list_any};
-ghost use Rattle.lsdb.specs.Installing.{IsKept};
+ghost use Rattle.lsdb.specs.Installing.{IsBehind, IsKept};
 ghost use Rattle.ospf_lsa.specs.Lsas.{has_zero_metric};
 
 use crate::installing::put;
@@ -89,11 +89,20 @@ fn lsa(alloc: Global, number: u32, to: &[u32]) -> Result<Lsa, NoMemory>
     })
 }
 
+/// Installs a router, at the place of its own number.
+fn put_router(alloc: Global, database: &mut Lsdb, many: Many, number: u32) -> Result<(), NoMemory>
+    requires { IsBehind database.old.greatest number }
+    ensures { OnOk result (database.new.greatest ≡ Some number) }
+{
+    let to = neighbours(alloc, many, number)?;
+    let lsa = lsa(alloc, number, &to)?;
+    put(database, lsa)
+}
+
 pub fn database_of(alloc: Global, many: Many) -> Result<Lsdb, NoMemory> {
     let mut database = Lsdb::new(alloc);
     for number in 0..many.routers {
-        let to = neighbours(alloc, many, number)?;
-        put(&mut database, lsa(alloc, number, &to)?)?;
+        put_router(alloc, &mut database, many, number)?;
     }
     Ok(database)
 }

@@ -13,108 +13,97 @@ fn profile_of(alloc: Global, text: &[u8]) -> Result<Profile, ProfileError> {
 
 /// A file, and its first line with a fault.
 struct Spoilt {
-    text: &'static [u8],
+    text: &'static str,
     line: u32,
     kind: ProfileKind,
 }
 
 const SPOILT: &[Spoilt] = &[
     Spoilt {
-        text: b"priority 1.1.1.1 10\npriority 1.1.1.1 10\n",
+        text: "priority 1.1.1.1 10\npriority 1.1.1.1 10\n",
         line: 2,
         kind: ProfileKind::Repeated,
     },
     Spoilt {
-        text: b"priority 1.1.1.1 10\n# again\n\npriority\t1.1.1.1  20",
+        text: "priority 1.1.1.1 10\n# again\n\npriority\t1.1.1.1  20",
         line: 4,
         kind: ProfileKind::Repeated,
     },
     Spoilt {
-        text: b"no-mrt 1.1.1.1\nno-mrt 2.2.2.2\nno-mrt 1.1.1.1",
+        text: "no-mrt 1.1.1.1\nno-mrt 2.2.2.2\nno-mrt 1.1.1.1",
         line: 3,
         kind: ProfileKind::Repeated,
     },
     Spoilt {
-        text: b"ineligible 1.1.1.1 0.0.0.1\nineligible 1.1.1.1 0.0.0.2\nineligible 1.1.1.1 0.0.0.1\n",
+        text: "ineligible 1.1.1.1 0.0.0.1\nineligible 1.1.1.1 0.0.0.2\nineligible 1.1.1.1 0.0.0.1\n",
         line: 3,
         kind: ProfileKind::Repeated,
     },
     Spoilt {
-        text: b"priority 1.1.1 10",
+        text: "priority 1.1.1 10",
         line: 1,
         kind: ProfileKind::Address,
     },
     Spoilt {
-        text: b"priority 1.1.1 256",
+        text: "priority 1.1.1 256",
         line: 1,
         kind: ProfileKind::Address,
     },
     Spoilt {
-        text: b"ineligible 1.1.1.1 7",
+        text: "ineligible 1.1.1.1 7",
         line: 1,
         kind: ProfileKind::Address,
     },
     Spoilt {
-        text: b"no-mrt 1.1.1.01",
+        text: "no-mrt 1.1.1.01",
         line: 1,
         kind: ProfileKind::Address,
     },
     Spoilt {
-        text: b"priority 1.1.1.1 256",
+        text: "priority 1.1.1.1 256",
         line: 1,
         kind: ProfileKind::Number,
     },
     Spoilt {
-        text: b"priority 1.1.1.1 010",
+        text: "priority 1.1.1.1 010",
         line: 1,
         kind: ProfileKind::Number,
     },
     Spoilt {
-        text: b"weight 1.1.1.1 2",
+        text: "weight 1.1.1.1 2",
         line: 1,
         kind: ProfileKind::Words,
     },
     Spoilt {
-        text: b"priority 1.1.1.1",
+        text: "priority 1.1.1.1",
         line: 1,
         kind: ProfileKind::Words,
     },
     Spoilt {
-        text: b"priority 1.1.1.1 2 3",
+        text: "priority 1.1.1.1 2 3",
         line: 1,
         kind: ProfileKind::Words,
     },
     Spoilt {
-        text: b"no-mrt 1.1.1.1 2.2.2.2",
+        text: "no-mrt 1.1.1.1 2.2.2.2",
         line: 1,
         kind: ProfileKind::Words,
     },
     Spoilt {
-        text: b"\nno-mrt",
+        text: "\nno-mrt",
         line: 2,
         kind: ProfileKind::Words,
-    },
-    Spoilt {
-        text: b"# \x80 may stand here\nno-mrt 1.1.1.1 \x80\n",
-        line: 2,
-        kind: ProfileKind::Bytes,
     },
     // One of two carriage returns stays, and so does one at the end of a file without a line feed.
     Spoilt {
-        text: b"no-mrt 1.1.1.1\r\nno-mrt 2.2.2.2\r\r\n",
+        text: "no-mrt 1.1.1.1\r\nno-mrt 2.2.2.2\r\r\n",
         line: 2,
         kind: ProfileKind::Bytes,
     },
     Spoilt {
-        text: b"no-mrt 1.1.1.1\r",
+        text: "no-mrt 1.1.1.1\r",
         line: 1,
         kind: ProfileKind::Bytes,
-    },
-    // The first line with a fault is told, not the first fault in the order of the kinds.
-    Spoilt {
-        text: b"priority 1.1.1.1 300\nno-mrt\nno-mrt 1.1.1.1 \x80\n",
-        line: 1,
-        kind: ProfileKind::Number,
     },
 ];
 
@@ -133,7 +122,27 @@ fn the_first_fault_is_told(rt: HostRuntime) {
             line: spoilt.line,
             kind: spoilt.kind,
         };
-        assert_eq!(rt; fault_of(rt.alloc(), spoilt.text), Some(fault));
+        assert_eq!(rt; fault_of(rt.alloc(), spoilt.text.as_bytes()), Some(fault));
+    }
+}
+
+#[test]
+fn the_first_fault_is_told_of_bytes_that_are_no_text(rt: HostRuntime) {
+    for (text, line, kind) in [
+        (
+            b"# \x80 may stand here\nno-mrt 1.1.1.1 \x80\n".as_slice(),
+            2,
+            ProfileKind::Bytes,
+        ),
+        // The first line with a fault is told, not the first fault in the order of the kinds.
+        (
+            b"priority 1.1.1.1 300\nno-mrt\nno-mrt 1.1.1.1 \x80\n".as_slice(),
+            1,
+            ProfileKind::Number,
+        ),
+    ] {
+        let fault = ProfileError::Fault { line, kind };
+        assert_eq!(rt; fault_of(rt.alloc(), text), Some(fault));
     }
 }
 

@@ -42,83 +42,97 @@ struct Case {
     numbers: &'static [Option<u16>],
 }
 
-const CASES: &[Case] = &[
-    Case {
-        name: "at one end",
-        database: AT_1,
-        router: 0x0101_0101,
-        nodes: 3,
-        links: 2,
-        root: 0x0303_0303,
-        numbers: &[Some(0), None, Some(1)],
-    },
-    Case {
-        name: "at the other end",
-        database: AT_3,
-        router: 0x0101_0101,
-        nodes: 3,
-        links: 2,
-        root: 0x0303_0303,
-        numbers: &[Some(0), None, Some(1)],
-    },
-    Case {
-        name: "at both ends",
-        database: AT_BOTH,
-        router: 0x0101_0101,
-        nodes: 3,
-        links: 2,
-        root: 0x0303_0303,
-        numbers: &[Some(0), None, Some(1)],
-    },
-    Case {
-        name: "a metric below it",
-        database: BELOW,
-        router: 0x0101_0101,
-        nodes: 3,
-        links: 3,
-        root: 0x0303_0303,
-        numbers: &[Some(0), Some(1), Some(2)],
-    },
-    Case {
-        name: "a router that is not for transit",
-        database: MAINTAINED,
-        router: 0x0202_0202,
-        nodes: 1,
-        links: 0,
-        root: 0x0202_0202,
-        numbers: &[None, None, None],
-    },
-    Case {
-        name: "its neighbours",
-        database: MAINTAINED,
-        router: 0x0101_0101,
-        nodes: 2,
-        links: 1,
-        root: 0x0303_0303,
-        numbers: &[None, Some(0), None],
-    },
-    Case {
-        name: "on a LAN",
-        database: ON_LAN,
-        router: 0x0101_0101,
-        nodes: 4,
-        links: 4,
-        root: 0x0404_0404,
-        numbers: &[Some(0), Some(1), Some(2), None, Some(3)],
-    },
-    Case {
-        name: "the router that is not for transit on a LAN",
-        database: ON_LAN,
-        router: 0x0303_0303,
-        nodes: 1,
-        links: 0,
-        root: 0x0303_0303,
-        numbers: &[None, None, None, None, None],
-    },
-];
+const ONE_END: &Case = &Case {
+    name: "at one end",
+    database: AT_1,
+    router: 0x0101_0101,
+    nodes: 3,
+    links: 2,
+    root: 0x0303_0303,
+    numbers: &[Some(0), None, Some(1)],
+};
 
-fn cases() -> &'static [Case] {
-    CASES
+const OTHER_END: &Case = &Case {
+    name: "at the other end",
+    database: AT_3,
+    router: 0x0101_0101,
+    nodes: 3,
+    links: 2,
+    root: 0x0303_0303,
+    numbers: &[Some(0), None, Some(1)],
+};
+
+const BOTH_ENDS: &Case = &Case {
+    name: "at both ends",
+    database: AT_BOTH,
+    router: 0x0101_0101,
+    nodes: 3,
+    links: 2,
+    root: 0x0303_0303,
+    numbers: &[Some(0), None, Some(1)],
+};
+
+const METRIC_BELOW: &Case = &Case {
+    name: "a metric below it",
+    database: BELOW,
+    router: 0x0101_0101,
+    nodes: 3,
+    links: 3,
+    root: 0x0303_0303,
+    numbers: &[Some(0), Some(1), Some(2)],
+};
+
+const NOT_FOR_TRANSIT: &Case = &Case {
+    name: "a router that is not for transit",
+    database: MAINTAINED,
+    router: 0x0202_0202,
+    nodes: 1,
+    links: 0,
+    root: 0x0202_0202,
+    numbers: &[None, None, None],
+};
+
+const NEIGHBOURS: &Case = &Case {
+    name: "its neighbours",
+    database: MAINTAINED,
+    router: 0x0101_0101,
+    nodes: 2,
+    links: 1,
+    root: 0x0303_0303,
+    numbers: &[None, Some(0), None],
+};
+
+const LAN: &Case = &Case {
+    name: "on a LAN",
+    database: ON_LAN,
+    router: 0x0101_0101,
+    nodes: 4,
+    links: 4,
+    root: 0x0404_0404,
+    numbers: &[Some(0), Some(1), Some(2), None, Some(3)],
+};
+
+const NOT_FOR_TRANSIT_ON_LAN: &Case = &Case {
+    name: "the router that is not for transit on a LAN",
+    database: ON_LAN,
+    router: 0x0303_0303,
+    nodes: 1,
+    links: 0,
+    root: 0x0303_0303,
+    numbers: &[None, None, None, None, None],
+};
+
+fn cases() -> [&'static Case; 8] {
+    [
+        ONE_END,
+        OTHER_END,
+        BOTH_ENDS,
+        METRIC_BELOW,
+        NOT_FOR_TRANSIT,
+        NEIGHBOURS,
+        LAN,
+        NOT_FOR_TRANSIT_ON_LAN,
+    ]
 }
 
 /// Whether this node of an island is that router.
