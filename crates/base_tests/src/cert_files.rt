@@ -127,9 +127,9 @@ fn fields_are_where_they_belong(rt: HostRuntime) {
     assert!(rt; is_read_as_triangle(rt.alloc(), &TRIANGLE) == Ok(true));
 }
 
-/// The triangle's bytes with one or two others in their places.
-fn spoilt(places: &[(usize, u8)]) -> [u8; 98] {
-    let mut bytes = TRIANGLE;
+/// A triangle's bytes with others in their places.
+pub fn spoilt(triangle: [u8; 98], places: &[(usize, u8)]) -> [u8; 98] {
+    let mut bytes = triangle;
     for &(place, byte) in places {
         if place < bytes.len() {
             bytes[place] = byte;
@@ -147,42 +147,46 @@ fn has_fault(alloc: Global, bytes: &[u8], at: u32, kind: CertKind) -> bool {
 }
 
 /// Two places with the bytes that are put there, and the fault that is told then.
-type Told = (&'static [(usize, u8)], u32, CertKind);
+type Told = ((usize, u8), (usize, u8), u32, CertKind);
 
 const SPOILT: &[Told] = &[
-    (&[(0, 0), (0, 0)], 0, CertKind::Magic),
-    (&[(3, 0), (9, 9)], 0, CertKind::Magic),
-    (&[(5, 0), (5, 0)], 4, CertKind::Magic),
-    (&[(5, 3), (5, 3)], 4, CertKind::Magic),
-    (&[(4, 1), (5, 1)], 4, CertKind::Magic),
-    (&[(6, 0), (7, 0)], 6, CertKind::Range),
-    (&[(6, 8), (7, 1)], 6, CertKind::Range),
-    (&[(8, 0x20), (9, 1)], 8, CertKind::Range),
-    (&[(14, 0), (14, 0)], 14, CertKind::Range),
-    (&[(14, 3), (14, 3)], 14, CertKind::Range),
-    (&[(20, 0), (20, 0)], 19, CertKind::Range),
-    (&[(20, 4), (20, 4)], 19, CertKind::Range),
-    (&[(22, 3), (24, 3)], 21, CertKind::Range),
-    (&[(24, 3), (25, 3)], 23, CertKind::Range),
-    (&[(47, 1), (47, 1)], 49, CertKind::Range),
-    (&[(50, 0), (50, 0)], 49, CertKind::Range),
-    (&[(50, 3), (50, 3)], 49, CertKind::Range),
-    (&[(52, 3), (52, 3)], 51, CertKind::Range),
-    (&[(53, 3), (53, 3)], 53, CertKind::Range),
-    (&[(68, 0), (69, 3)], 68, CertKind::Range),
-    (&[(71, 3), (72, 7)], 70, CertKind::Range),
-    (&[(72, 7), (72, 7)], 72, CertKind::Tag),
+    ((0, 0), (0, 0), 0, CertKind::Magic),
+    ((3, 0), (9, 9), 0, CertKind::Magic),
+    ((5, 0), (5, 0), 4, CertKind::Magic),
+    ((5, 3), (5, 3), 4, CertKind::Magic),
+    ((4, 1), (5, 1), 4, CertKind::Magic),
+    ((6, 0), (7, 0), 6, CertKind::Range),
+    ((6, 8), (7, 1), 6, CertKind::Range),
+    ((8, 0x20), (9, 1), 8, CertKind::Range),
+    ((14, 0), (14, 0), 14, CertKind::Range),
+    ((14, 3), (14, 3), 14, CertKind::Range),
+    ((20, 0), (20, 0), 19, CertKind::Range),
+    ((20, 4), (20, 4), 19, CertKind::Range),
+    ((22, 3), (24, 3), 21, CertKind::Range),
+    ((24, 3), (25, 3), 23, CertKind::Range),
+    ((47, 1), (47, 1), 49, CertKind::Range),
+    ((50, 0), (50, 0), 49, CertKind::Range),
+    ((50, 3), (50, 3), 49, CertKind::Range),
+    ((52, 3), (52, 3), 51, CertKind::Range),
+    ((53, 3), (53, 3), 53, CertKind::Range),
+    ((68, 0), (69, 3), 68, CertKind::Range),
+    ((71, 3), (72, 7), 70, CertKind::Range),
+    ((72, 7), (72, 7), 72, CertKind::Tag),
 ];
 
 fn spoilt_ones() -> &'static [Told] {
     SPOILT
 }
 
+fn is_named(alloc: Global, told: Told) -> bool {
+    let (one, other, at, kind) = told;
+    has_fault(alloc, &spoilt(TRIANGLE, &[one, other]), at, kind)
+}
+
 #[test]
 fn a_spoilt_field_is_named(rt: HostRuntime) {
-    for (places, at, kind) in spoilt_ones() {
-        let is_so = has_fault(rt.alloc(), &spoilt(places), *at, *kind);
-        assert!(rt; is_so, "the fault at {at}");
+    for &told in spoilt_ones() {
+        assert!(rt; is_named(rt.alloc(), told), "the fault at {}", told.2);
     }
 }
 
@@ -192,18 +196,26 @@ fn is_cut_at(alloc: Global, start: u32, length: u32) -> bool {
     has_fault(alloc, cut, start, CertKind::Truncated)
 }
 
+/// Whether it is, cut anywhere in a field.
+fn is_cut_within(alloc: Global, start: u32, end: u32) -> bool {
+    for length in start..end {
+        if !is_cut_at(alloc, start, length) {
+            return false;
+        }
+    }
+    true
+}
+
+fn starts() -> &'static [u32] {
+    &STARTS
+}
+
 #[test]
 fn a_cut_field_is_named(rt: HostRuntime) {
-    for pair in STARTS.windows(2) {
-        let [start, end] = pair else {
-            continue;
-        };
-        for length in *start..*end {
-            assert!(rt;
-                is_cut_at(rt.alloc(), *start, length),
-                "cut to {length} bytes"
-            );
-        }
+    let starts = starts();
+    for k in 1..starts.len() {
+        let is_so = is_cut_within(rt.alloc(), starts[k - 1], starts[k]);
+        assert!(rt; is_so, "field {k}");
     }
 }
 

@@ -1,48 +1,21 @@
 //! The certificate of a triangle, read in pieces and put to a sink.
 
 use crate::cert_files::TRIANGLE;
-use cert_format::{
-    CertError, CertFault, CertKind, CertReader, WritableCert, read_cert, write_cert,
-};
+use crate::cert_steps::sink_failing;
+use crate::cert_versions::is_written_again;
+use cert_format::{CertError, CertFault, CertKind, CertReader, WritableCert, read_cert};
 use mrt_graph::NoMemory;
-use mrt_io::{MemSink, PutError};
+use mrt_io::PutError;
 use std::alloc::Global;
 
 fn whole() -> &'static [u8] {
     &TRIANGLE
 }
 
-/// The bytes of the file that was read.
-fn rewritten(alloc: Global, reader: CertReader) -> Result<Vec<u8>, CertError> {
-    let file = reader.finish()?;
-    match write_cert(alloc, &file) {
-        Ok(text) => Ok(text),
-        Err(NoMemory) => Err(CertError::NoMemory),
-    }
-}
-
-/// The bytes of the file that two pieces come to.
-fn from_two(alloc: Global, first: &[u8], second: &[u8]) -> Result<Vec<u8>, CertError> {
-    let mut reader = CertReader::new(alloc);
-    reader.feed(first)?;
-    reader.feed(second)?;
-    rewritten(alloc, reader)
-}
-
-/// Whether the triangle's bytes, cut in two there, give a file with these bytes.
-fn is_read_cut_at(alloc: Global, at: usize) -> bool {
-    let bytes = whole();
-    let (first, second) = bytes.split_at(bytes.len().min(at));
-    match from_two(alloc, first, second) {
-        Ok(text) => text.as_slice() == bytes,
-        Err(_) => false,
-    }
-}
-
 #[test]
 fn a_stream_is_cut_anywhere(rt: HostRuntime) {
     for at in 0..99 {
-        assert!(rt; is_read_cut_at(rt.alloc(), at), "cut at {at}");
+        assert!(rt; is_written_again(rt.alloc(), whole(), at), "cut at {at}");
     }
 }
 
@@ -76,27 +49,30 @@ fn a_fault_is_answered_at_its_last_byte_and_ever_after(rt: HostRuntime) {
     assert!(rt; are_bytes_answered(rt.alloc()));
 }
 
-/// The answer of a sink of seven bytes a call whose call of this number fails, and what it gained.
-fn put_failing(alloc: Global, fails: u32, taken: usize) -> Result<bool, CertError> {
-    let file = read_cert(alloc, whole())?;
-    let Ok(mut sink) = sink_failing(alloc, fails) else {
-        return Err(CertError::NoMemory);
+/// Whether a sink of seven bytes a call, whose call of this number fails, answers so and gains so much.
+fn puts_so(alloc: Global, writable: WritableCert, fails: u32, taken: usize) -> bool {
+    match sink_failing(alloc, 98, fails) {
+        Ok(mut sink) => {
+            let answer = writable.put(&mut sink);
+            is_put(answer, taken) && sink.bytes() == front(whole(), taken)
+        }
+        Err(NoMemory) => false,
+    }
+}
+
+fn put_failing(alloc: Global, fails: u32, taken: usize) -> bool {
+    let Ok(file) = read_cert(alloc, whole()) else {
+        return false;
     };
-    let Ok(writable) = WritableCert::new(alloc, file) else {
-        return Err(CertError::NoMemory);
-    };
-    let answer = writable.put(&mut sink);
-    Ok(is_put(answer, taken) && sink.bytes() == front(whole(), taken))
+    match WritableCert::new(alloc, file) {
+        Ok(writable) => puts_so(alloc, writable, fails, taken),
+        Err(NoMemory) => false,
+    }
 }
 
 /// So many bytes of them at most.
 fn front(bytes: &[u8], count: usize) -> &[u8] {
     &bytes[..bytes.len().min(count)]
-}
-
-fn sink_failing(alloc: Global, fails: u32) -> Result<MemSink, NoMemory> {
-    let fails = vec![in alloc; fails]?;
-    MemSink::new(alloc, 98, 7, fails)
 }
 
 /// Whether so many bytes were taken before a failure, or all.
@@ -110,7 +86,7 @@ fn is_put(answer: Result<(), PutError>, taken: usize) -> bool {
 #[test]
 fn a_certificate_is_put_up_to_the_failure(rt: HostRuntime) {
     for fails in 0..15 {
-        let is_so = put_failing(rt.alloc(), fails, 7 * fails as usize) == Ok(true);
+        let is_so = put_failing(rt.alloc(), fails, 7 * fails as usize);
         assert!(rt; is_so, "call {fails}");
     }
 }

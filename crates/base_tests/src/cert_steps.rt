@@ -47,10 +47,10 @@ fn put_parts(
     writer.finish(sink)
 }
 
-/// A sink of seven bytes a call whose call of this number fails.
-fn sink_failing(alloc: Global, fails: u32) -> Result<MemSink, NoMemory> {
+/// A sink with so much room, of seven bytes a call, whose call of this number fails.
+pub fn sink_failing(alloc: Global, room: u32, fails: u32) -> Result<MemSink, NoMemory> {
     let fails = vec![in alloc; fails]?;
-    MemSink::new(alloc, 110, 7, fails)
+    MemSink::new(alloc, room, 7, fails)
 }
 
 /// The answer where the rows of the file are cut there, and what the sink gained.
@@ -61,7 +61,7 @@ fn put_cut_at(
     fails: u32,
 ) -> Result<(Result<(), PutError>, MemSink), CertError> {
     let file = read_cert(alloc, bytes)?;
-    let Ok(mut sink) = sink_failing(alloc, fails) else {
+    let Ok(mut sink) = sink_failing(alloc, 110, fails) else {
         return Err(CertError::NoMemory);
     };
     let rows = file.cert.rows();

@@ -3,7 +3,7 @@
 ghost use Rattle.std.specs.Prelude.{IfOk};
 ghost use Rattle.cert_format.specs.Limits.{IsCertFile};
 
-use crate::cert_files::{LINE, TRIANGLE};
+use crate::cert_files::{LINE, TRIANGLE, spoilt};
 use cert_format::{CertError, CertKind, CertReader, read_cert, write_cert};
 use mrt_graph::{CertFile, NoMemory};
 use std::alloc::Global;
@@ -83,7 +83,7 @@ fn rewritten(alloc: Global, bytes: &[u8], at: usize) -> Result<Vec<u8>, CertErro
 }
 
 /// Whether the file, cut in two there, is written again as it was.
-fn is_written_again(alloc: Global, bytes: &[u8], at: usize) -> bool {
+pub fn is_written_again(alloc: Global, bytes: &[u8], at: usize) -> bool {
     match rewritten(alloc, bytes, at) {
         Ok(text) => text.as_slice() == bytes,
         Err(_) => false,
@@ -126,17 +126,6 @@ fn the_rows_that_are_left_out_are_those_of_version_one(rt: HostRuntime) {
     }
 }
 
-/// The triangle's bytes with others in their places.
-fn spoilt(places: &[(usize, u8)]) -> [u8; 98] {
-    let mut bytes = TRIANGLE_TWO;
-    for &(place, byte) in places {
-        if place < bytes.len() {
-            bytes[place] = byte;
-        }
-    }
-    bytes
-}
-
 /// Places with the bytes that are put there, and the fault that is told then.
 type Told = (&'static [(usize, u8)], u32, CertKind);
 
@@ -172,7 +161,7 @@ fn has_fault(alloc: Global, bytes: &[u8], cut: usize, at: u32, kind: CertKind) -
 #[test]
 fn a_spoilt_field_is_named_however_the_file_is_cut(rt: HostRuntime) {
     for (places, at, kind) in spoilt_ones() {
-        let bytes = spoilt(places);
+        let bytes = spoilt(TRIANGLE_TWO, places);
         for cut in 0..99 {
             let is_so = has_fault(rt.alloc(), &bytes, cut, *at, *kind);
             assert!(rt; is_so, "the fault at {at}, cut at {cut}");

@@ -19,74 +19,75 @@ struct Case {
     ends: &'static [&'static [EndTold]],
 }
 
-const CASES: &[Case] = &[
-    Case {
-        name: "one node alone",
-        count: 1,
-        links: &[],
-        ends: &[&[]],
-    },
-    // The router at node i has link data 0.0.0.j towards router j.
-    Case {
-        name: "a triangle",
-        count: 3,
-        links: &[
-            (0, 1, 10, 10, 2, 1),
-            (0, 2, 10, 10, 3, 1),
-            (1, 2, 10, 10, 3, 2),
-        ],
-        ends: &[
-            &[(0, 1, 10, 2), (1, 2, 10, 3)],
-            &[(0, 0, 10, 1), (2, 2, 10, 3)],
-            &[(1, 0, 10, 1), (2, 1, 10, 2)],
-        ],
-    },
-    Case {
-        name: "parallel links",
-        count: 2,
-        links: &[
-            (0, 1, 20, 5, 1, 1),
-            (0, 1, 10, 30, 2, 2),
-            (0, 1, 10, 5, 3, 3),
-        ],
-        ends: &[
-            &[(1, 1, 10, 2), (2, 1, 10, 3), (0, 1, 20, 1)],
-            &[(0, 0, 5, 1), (2, 0, 5, 3), (1, 0, 30, 2)],
-        ],
-    },
-    // More ends than lie in one place with the node's list.
-    Case {
-        name: "a star",
-        count: 7,
-        links: &[
-            (0, 1, 7, 1, 0, 0),
-            (0, 2, 3, 1, 0, 0),
-            (0, 3, 7, 1, 0, 0),
-            (0, 4, 1, 1, 0, 0),
-            (0, 5, 3, 1, 0, 0),
-            (0, 6, 9, 1, 0, 0),
-        ],
-        ends: &[
-            &[
-                (3, 4, 1, 0),
-                (1, 2, 3, 0),
-                (4, 5, 3, 0),
-                (0, 1, 7, 0),
-                (2, 3, 7, 0),
-                (5, 6, 9, 0),
-            ],
-            &[(0, 0, 1, 0)],
-            &[(1, 0, 1, 0)],
-            &[(2, 0, 1, 0)],
-            &[(3, 0, 1, 0)],
-            &[(4, 0, 1, 0)],
-            &[(5, 0, 1, 0)],
-        ],
-    },
-];
+const ONE_ALONE: &Case = &Case {
+    name: "one node alone",
+    count: 1,
+    links: &[],
+    ends: &[&[]],
+};
 
-fn cases() -> &'static [Case] {
-    CASES
+/// The router at node i has link data 0.0.0.j towards router j.
+const TRIANGLE: &Case = &Case {
+    name: "a triangle",
+    count: 3,
+    links: &[
+        (0, 1, 10, 10, 2, 1),
+        (0, 2, 10, 10, 3, 1),
+        (1, 2, 10, 10, 3, 2),
+    ],
+    ends: &[
+        &[(0, 1, 10, 2), (1, 2, 10, 3)],
+        &[(0, 0, 10, 1), (2, 2, 10, 3)],
+        &[(1, 0, 10, 1), (2, 1, 10, 2)],
+    ],
+};
+
+const PARALLEL: &Case = &Case {
+    name: "parallel links",
+    count: 2,
+    links: &[
+        (0, 1, 20, 5, 1, 1),
+        (0, 1, 10, 30, 2, 2),
+        (0, 1, 10, 5, 3, 3),
+    ],
+    ends: &[
+        &[(1, 1, 10, 2), (2, 1, 10, 3), (0, 1, 20, 1)],
+        &[(0, 0, 5, 1), (2, 0, 5, 3), (1, 0, 30, 2)],
+    ],
+};
+
+/// More ends than lie in one place with the node's list.
+const STAR: &Case = &Case {
+    name: "a star",
+    count: 7,
+    links: &[
+        (0, 1, 7, 1, 0, 0),
+        (0, 2, 3, 1, 0, 0),
+        (0, 3, 7, 1, 0, 0),
+        (0, 4, 1, 1, 0, 0),
+        (0, 5, 3, 1, 0, 0),
+        (0, 6, 9, 1, 0, 0),
+    ],
+    ends: &[
+        &[
+            (3, 4, 1, 0),
+            (1, 2, 3, 0),
+            (4, 5, 3, 0),
+            (0, 1, 7, 0),
+            (2, 3, 7, 0),
+            (5, 6, 9, 0),
+        ],
+        &[(0, 0, 1, 0)],
+        &[(1, 0, 1, 0)],
+        &[(2, 0, 1, 0)],
+        &[(3, 0, 1, 0)],
+        &[(4, 0, 1, 0)],
+        &[(5, 0, 1, 0)],
+    ],
+};
+
+fn cases() -> [&'static Case; 4] {
+    [ONE_ALONE, TRIANGLE, PARALLEL, STAR]
 }
 
 fn links_told(alloc: Global, told: &[LinkTold]) -> Result<Vec<LinkIn>, NoMemory> {

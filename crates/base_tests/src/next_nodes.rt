@@ -56,8 +56,8 @@ fn are_next(g: &Graph, c: &Cert) -> bool
 }
 
 fn is_so(rt: &impl Abort, alloc: Global) -> Result<bool, GraphError> {
-    let graph = graph_of(rt, alloc, &TRIANGLE)?;
-    let file = file(rt, alloc, &TRIANGLE)?;
+    let graph = graph_of(rt, alloc, TRIANGLE)?;
+    let file = file(rt, alloc, TRIANGLE)?;
     let root = NodeNo::new(TRIANGLE.root);
     assert!(rt; root.get() < graph.node_count());
     assert_accepted(rt, &graph, root, &file);

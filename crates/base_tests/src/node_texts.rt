@@ -3,18 +3,18 @@
 use mrt_graph::{Kind, NodeId, NodeText, read_address};
 
 /// Each identifier is below the next one.
-const IDS: &[(Kind, u32, &[u8])] = &[
-    (Kind::Router, 0, b"0.0.0.0"),
-    (Kind::Router, 1, b"0.0.0.1"),
-    (Kind::Router, 0x0101_0101, b"1.1.1.1"),
-    (Kind::Network, 0x0101_0101, b"net:1.1.1.1"),
-    (Kind::Router, 0x0a00_0004, b"10.0.0.4"),
-    (Kind::Router, 0xff00_ff00, b"255.0.255.0"),
-    (Kind::Router, 0xffff_ffff, b"255.255.255.255"),
-    (Kind::Network, 0xffff_ffff, b"net:255.255.255.255"),
+const IDS: &[(Kind, u32, &str)] = &[
+    (Kind::Router, 0, "0.0.0.0"),
+    (Kind::Router, 1, "0.0.0.1"),
+    (Kind::Router, 0x0101_0101, "1.1.1.1"),
+    (Kind::Network, 0x0101_0101, "net:1.1.1.1"),
+    (Kind::Router, 0x0a00_0004, "10.0.0.4"),
+    (Kind::Router, 0xff00_ff00, "255.0.255.0"),
+    (Kind::Router, 0xffff_ffff, "255.255.255.255"),
+    (Kind::Network, 0xffff_ffff, "net:255.255.255.255"),
 ];
 
-fn ids() -> &'static [(Kind, u32, &'static [u8])] {
+fn ids() -> &'static [(Kind, u32, &'static str)] {
     IDS
 }
 
@@ -30,12 +30,12 @@ fn read_of(kind: Kind, number: u32) -> Option<u32> {
 fn texts(rt: HostRuntime) {
     for &(kind, number, text) in ids() {
         let named = NodeText::new(NodeId { kind, number });
-        assert_eq!(rt; named.bytes(), text);
-        assert_eq!(rt; read_address(text), read_of(kind, number));
+        assert_eq!(rt; named.bytes(), text.as_bytes());
+        assert_eq!(rt; read_address(text.as_bytes()), read_of(kind, number));
     }
 }
 
-fn is_ascending(ids: &[(Kind, u32, &[u8])]) -> bool {
+fn is_ascending(ids: &[(Kind, u32, &str)]) -> bool {
     let mut last = None;
     for &(kind, number, _) in ids {
         let id = NodeId { kind, number };

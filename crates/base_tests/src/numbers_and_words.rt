@@ -3,120 +3,116 @@
 use mrt_graph::{first_line, first_word, is_passed_over, read_address, read_number};
 
 struct Case {
-    text: &'static [u8],
+    text: &'static str,
     number: Option<u32>,
 }
 
 const NUMBERS: &[Case] = &[
     Case {
-        text: b"0",
+        text: "0",
         number: Some(0),
     },
     Case {
-        text: b"7",
+        text: "7",
         number: Some(7),
     },
     Case {
-        text: b"10",
+        text: "10",
         number: Some(10),
     },
     Case {
-        text: b"4294967295",
+        text: "4294967295",
         number: Some(0xffff_ffff),
     },
     Case {
-        text: b"4294967296",
+        text: "4294967296",
         number: None,
     },
     Case {
-        text: b"99999999999",
+        text: "99999999999",
         number: None,
     },
     Case {
-        text: b"00",
+        text: "00",
         number: None,
     },
     Case {
-        text: b"01",
+        text: "01",
         number: None,
     },
     Case {
-        text: b"+1",
+        text: "+1",
         number: None,
     },
     Case {
-        text: b"-1",
+        text: "-1",
         number: None,
     },
     Case {
-        text: b"1 ",
+        text: "1 ",
         number: None,
     },
     Case {
-        text: b"1\xff",
-        number: None,
-    },
-    Case {
-        text: b"",
+        text: "",
         number: None,
     },
 ];
 
 const ADDRESSES: &[Case] = &[
     Case {
-        text: b"0.0.0.0",
+        text: "0.0.0.0",
         number: Some(0),
     },
     Case {
-        text: b"1.2.3.4",
+        text: "1.2.3.4",
         number: Some(0x0102_0304),
     },
     Case {
-        text: b"255.255.255.255",
+        text: "255.255.255.255",
         number: Some(0xffff_ffff),
     },
     Case {
-        text: b"01.1.1.1",
+        text: "01.1.1.1",
         number: None,
     },
     Case {
-        text: b"1.1.1.1.",
+        text: "1.1.1.1.",
         number: None,
     },
     Case {
-        text: b"1.1.1.1.1",
+        text: "1.1.1.1.1",
         number: None,
     },
     Case {
-        text: b"1.1.1",
+        text: "1.1.1",
         number: None,
     },
     Case {
-        text: b"1..1.1",
+        text: "1..1.1",
         number: None,
     },
     Case {
-        text: b".1.1.1",
+        text: ".1.1.1",
         number: None,
     },
     Case {
-        text: b"256.1.1.1",
+        text: "256.1.1.1",
         number: None,
     },
     Case {
-        text: b"1.1.1.256",
+        text: "1.1.1.256",
         number: None,
     },
     Case {
-        text: b" 1.1.1.1",
+        text: " 1.1.1.1",
         number: None,
     },
     Case {
-        text: b"net:1.1.1.1",
+        text: "net:1.1.1.1",
         number: None,
     },
     Case {
-        text: b"",
+        text: "",
         number: None,
     },
 ];
@@ -132,10 +128,11 @@ fn addresses() -> &'static [Case] {
 #[test]
 fn numbers_and_addresses(rt: HostRuntime) {
     for case in numbers() {
-        assert_eq!(rt; read_number(case.text), case.number);
+        assert_eq!(rt; read_number(case.text.as_bytes()), case.number);
     }
+    assert!(rt; read_number(b"1\xff").is_none());
     for case in addresses() {
-        assert_eq!(rt; read_address(case.text), case.number);
+        assert_eq!(rt; read_address(case.text.as_bytes()), case.number);
     }
 }
 
@@ -148,46 +145,50 @@ struct Line {
 /// The lines of this text, in their order.
 const TEXT: &[u8] = b"a  b\tc\r\n\n# x\x80\r\n \t\n\r\r\n\t#\n last\r";
 
-const LINES: &[Line] = &[
-    Line {
-        bytes: b"a  b\tc",
-        passed_over: false,
-        words: &[b"a", b"b", b"c"],
-    },
-    Line {
-        bytes: b"",
-        passed_over: true,
-        words: &[],
-    },
-    Line {
-        bytes: b"# x\x80",
-        passed_over: true,
-        words: &[b"#", b"x\x80"],
-    },
-    Line {
-        bytes: b" \t",
-        passed_over: true,
-        words: &[],
-    },
-    Line {
-        bytes: b"\r",
-        passed_over: false,
-        words: &[b"\r"],
-    },
-    Line {
-        bytes: b"\t#",
-        passed_over: false,
-        words: &[b"#"],
-    },
-    Line {
-        bytes: b" last\r",
-        passed_over: false,
-        words: &[b"last\r"],
-    },
-];
+const THREE_WORDS: &Line = &Line {
+    bytes: b"a  b\tc",
+    passed_over: false,
+    words: &[b"a", b"b", b"c"],
+};
 
-fn lines() -> &'static [Line] {
-    LINES
+const EMPTY: &Line = &Line {
+    bytes: b"",
+    passed_over: true,
+    words: &[],
+};
+
+const COMMENT: &Line = &Line {
+    bytes: b"# x\x80",
+    passed_over: true,
+    words: &[b"#", b"x\x80"],
+};
+
+const BLANK: &Line = &Line {
+    bytes: b" \t",
+    passed_over: true,
+    words: &[],
+};
+
+const RETURN: &Line = &Line {
+    bytes: b"\r",
+    passed_over: false,
+    words: &[b"\r"],
+};
+
+const MARK: &Line = &Line {
+    bytes: b"\t#",
+    passed_over: false,
+    words: &[b"#"],
+};
+
+const LAST: &Line = &Line {
+    bytes: b" last\r",
+    passed_over: false,
+    words: &[b"last\r"],
+};
+
+fn lines() -> [&'static Line; 7] {
+    [THREE_WORDS, EMPTY, COMMENT, BLANK, RETURN, MARK, LAST]
 }
 
 /// Whether the line has these words and no others.
@@ -212,9 +213,9 @@ fn is_line(bytes: &[u8], line: &Line) -> bool {
 }
 
 /// Whether the text has these lines and no others.
-fn has_lines(text: &[u8], lines: &[Line]) -> bool {
+fn has_lines(text: &[u8], lines: &[&Line]) -> bool {
     let mut text = text;
-    for line in lines {
+    for &line in lines {
         match first_line(text) {
             None => return false,
             Some((bytes, rest)) => {
@@ -230,6 +231,6 @@ fn has_lines(text: &[u8], lines: &[Line]) -> bool {
 
 #[test]
 fn lines_and_words(rt: HostRuntime) {
-    assert!(rt; has_lines(TEXT, lines()));
+    assert!(rt; has_lines(TEXT, &lines()));
     assert!(rt; has_lines(b"", &[]));
 }

@@ -73,16 +73,23 @@ fn is_answer(answer: Result<Vec<u8>, Stop>, wanted: Result<&[u8], Stop>) -> bool
 
 const NOT_OPENED: Result<&[u8], Stop> = Err(Stop::NotOpened(OpenError::Failed));
 
+/// The name of a file, the call that fails, and the file or the stop.
+type Opened = (&'static [u8], u32, Result<&'static [u8], Stop>);
+
+fn opened_ones() -> [Opened; 6] {
+    [
+        (b"seven", 5, Ok(b"sevens!")),
+        (b"seven", 0, NOT_OPENED),
+        (b"seven", 1, Err(Stop::Failed { after: 0 })),
+        (b"seven", 3, Err(Stop::Failed { after: 6 })),
+        (b"seven", 4, Err(Stop::Failed { after: 7 })),
+        (b"eight", 5, NOT_OPENED),
+    ]
+}
+
 #[test]
 fn pieces_of_files_in_memory(rt: HostRuntime) {
-    for (name, fails, wanted) in [
-        (b"seven".as_slice(), 5, Ok(b"sevens!".as_slice())),
-        (b"seven".as_slice(), 0, NOT_OPENED),
-        (b"seven".as_slice(), 1, Err(Stop::Failed { after: 0 })),
-        (b"seven".as_slice(), 3, Err(Stop::Failed { after: 6 })),
-        (b"seven".as_slice(), 4, Err(Stop::Failed { after: 7 })),
-        (b"eight".as_slice(), 5, NOT_OPENED),
-    ] {
+    for (name, fails, wanted) in opened_ones() {
         let answer = held(rt.alloc(), name, fails);
         assert!(rt; is_answer(answer, wanted), "{fails}");
     }

@@ -7,9 +7,9 @@ use text_parts::{push, push_count, push_hop, push_node, push_number};
 /// What is put there.
 #[derive(Clone, Copy)]
 enum Part {
-    Bytes(&'static [u8]),
+    Bytes(&'static str),
     Count(u16),
-    Number(&'static [u8], u64),
+    Number(&'static str, u64),
     Node(NodeId),
     Hop(NodeId, u32),
 }
@@ -25,37 +25,37 @@ const NETWORK: NodeId = NodeId {
 };
 
 /// A part, and the text `to` with it.
-const TEXTS: &[(Part, &[u8])] = &[
-    (Part::Bytes(b""), b"to"),
-    (Part::Bytes(b" blue"), b"to blue"),
-    (Part::Count(0), b"to0"),
-    (Part::Count(65535), b"to65535"),
-    (Part::Number(b" nodes ", 7), b"to nodes 7"),
-    (Part::Number(b"", u64::MAX), b"to18446744073709551615"),
-    (Part::Node(ROUTER), b"to1.2.3.4"),
-    (Part::Node(NETWORK), b"tonet:10.0.0.4"),
-    (Part::Hop(ROUTER, 9), b"to1.2.3.4/0.0.0.9"),
-    (Part::Hop(NETWORK, 0x0a00_0001), b"tonet:10.0.0.4/10.0.0.1"),
+const TEXTS: &[(Part, &str)] = &[
+    (Part::Bytes(""), "to"),
+    (Part::Bytes(" blue"), "to blue"),
+    (Part::Count(0), "to0"),
+    (Part::Count(65535), "to65535"),
+    (Part::Number(" nodes ", 7), "to nodes 7"),
+    (Part::Number("", u64::MAX), "to18446744073709551615"),
+    (Part::Node(ROUTER), "to1.2.3.4"),
+    (Part::Node(NETWORK), "tonet:10.0.0.4"),
+    (Part::Hop(ROUTER, 9), "to1.2.3.4/0.0.0.9"),
+    (Part::Hop(NETWORK, 0x0a00_0001), "tonet:10.0.0.4/10.0.0.1"),
 ];
 
-fn texts() -> &'static [(Part, &'static [u8])] {
+fn texts() -> &'static [(Part, &'static str)] {
     TEXTS
 }
 
 fn put(text: &mut Vec<u8>, part: Part) -> Result<(), NoMemory> {
     match part {
-        Part::Bytes(bytes) => push(text, bytes),
+        Part::Bytes(more) => push(text, more.as_bytes()),
         Part::Count(count) => push_count(text, count),
-        Part::Number(word, number) => push_number(text, word, number),
+        Part::Number(word, number) => push_number(text, word.as_bytes(), number),
         Part::Node(id) => push_node(text, id),
         Part::Hop(far, link_data) => push_hop(text, far, link_data),
     }
 }
 
-fn is_text(alloc: Global, part: Part, wanted: &[u8]) -> Result<bool, NoMemory> {
+fn is_text(alloc: Global, part: Part, wanted: &str) -> Result<bool, NoMemory> {
     let mut text = Vec::from_slice(alloc, b"to")?;
     put(&mut text, part)?;
-    Ok(text.as_slice() == wanted)
+    Ok(text.as_slice() == wanted.as_bytes())
 }
 
 #[test]

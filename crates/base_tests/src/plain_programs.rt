@@ -1,5 +1,7 @@
 //! The plain programs on small islands by hand.
 
+ghost use Rattle.mrt_plain.specs.Within.{AreWithin};
+
 use crate::plain_islands::{Island, links_between, parts_of, told_of};
 use crate::router_graphs::plain_graph;
 use mrt_graph::{Color, Element, GraphError, Link, LinkNo, NoMemory, NodeNo};
@@ -9,28 +11,28 @@ use std::process::Abort;
 
 const TRIANGLE_LINKS: &[(u16, u16)] = &[(0, 1), (0, 2), (1, 2)];
 
-const TRIANGLE: Island = Island {
+const TRIANGLE: &Island = &Island {
     routers: 3,
     pairs: TRIANGLE_LINKS,
     rows: &[(0, 1), (0, 1), (2, 0), (2, 0), (1, 2), (1, 2)],
 };
 
 /// The same but for the blue link of router 3 for router 1, by which blue goes to and fro.
-const LOOPING: Island = Island {
+const LOOPING: &Island = &Island {
     routers: 3,
     pairs: TRIANGLE_LINKS,
     rows: &[(0, 1), (0, 1), (2, 0), (2, 0), (2, 2), (1, 2)],
 };
 
 /// The same but for the blue link of router 1 for router 2, which is not one of router 1.
-const UNTOUCHED: Island = Island {
+const UNTOUCHED: &Island = &Island {
     routers: 3,
     pairs: TRIANGLE_LINKS,
     rows: &[(2, 1), (0, 1), (2, 0), (2, 0), (1, 2), (1, 2)],
 };
 
 /// The same but for the red link of router 1 for router 2, which is the blue one too.
-const ONE_COLOR: Island = Island {
+const ONE_COLOR: &Island = &Island {
     routers: 3,
     pairs: TRIANGLE_LINKS,
     rows: &[(0, 0), (0, 1), (2, 0), (2, 0), (1, 2), (1, 2)],
@@ -39,7 +41,7 @@ const ONE_COLOR: Island = Island {
 const LINE_LINKS: &[(u16, u16)] = &[(0, 1), (1, 2), (2, 3)];
 
 /// Each row has one link for both colors.
-const LINE: Island = Island {
+const LINE: &Island = &Island {
     routers: 4,
     pairs: LINE_LINKS,
     rows: &[
@@ -60,19 +62,19 @@ const LINE: Island = Island {
 
 const PARALLEL_LINKS: &[(u16, u16)] = &[(0, 1), (0, 1)];
 
-const PARALLEL: Island = Island {
+const PARALLEL: &Island = &Island {
     routers: 2,
     pairs: PARALLEL_LINKS,
     rows: &[(1, 0), (0, 1)],
 };
 
-const PARALLEL_ONE_COLOR: Island = Island {
+const PARALLEL_ONE_COLOR: &Island = &Island {
     routers: 2,
     pairs: PARALLEL_LINKS,
     rows: &[(1, 1), (0, 1)],
 };
 
-const ONE_LINK: Island = Island {
+const ONE_LINK: &Island = &Island {
     routers: 2,
     pairs: &[(0, 1)],
     rows: &[(0, 0), (0, 0)],
@@ -80,7 +82,7 @@ const ONE_LINK: Island = Island {
 
 /// Routers 1, 2 and 3 have a link to each of routers 4 and 5; rows of router 1, and of routers 4 and 5 on the way, for
 /// router 3.
-const CROSSED: Island = Island {
+const CROSSED: &Island = &Island {
     routers: 5,
     pairs: &[(0, 3), (0, 4), (1, 3), (1, 4), (2, 3), (2, 4)],
     rows: &[
@@ -111,7 +113,7 @@ const TWO_TRIANGLES_LINKS: &[(u16, u16)] = &[(0, 1), (0, 2), (1, 2), (2, 3), (2,
 
 /// Two triangles that share router 3: the colors go from router 1 to router 3 by two ways, and from there to router 5
 /// by one link.
-const ONE_WAY: Island = Island {
+const ONE_WAY: &Island = &Island {
     routers: 5,
     pairs: TWO_TRIANGLES_LINKS,
     rows: &[
@@ -139,7 +141,7 @@ const ONE_WAY: Island = Island {
 };
 
 /// The same, but the colors go on from router 3 by two ways again.
-const TWO_WAYS: Island = Island {
+const TWO_WAYS: &Island = &Island {
     routers: 5,
     pairs: TWO_TRIANGLES_LINKS,
     rows: &[
@@ -166,19 +168,17 @@ const TWO_WAYS: Island = Island {
     ],
 };
 
-const SOUNDNESS: &[(Island, bool)] = &[
-    (TRIANGLE, true),
-    (LOOPING, false),
-    (UNTOUCHED, false),
-    (ONE_COLOR, false),
-    (LINE, true),
-    (PARALLEL, true),
-    (PARALLEL_ONE_COLOR, false),
-    (ONE_LINK, true),
-];
-
-fn soundness() -> &'static [(Island, bool)] {
-    SOUNDNESS
+fn soundness() -> [(&'static Island, bool); 8] {
+    [
+        (TRIANGLE, true),
+        (LOOPING, false),
+        (UNTOUCHED, false),
+        (ONE_COLOR, false),
+        (LINE, true),
+        (PARALLEL, true),
+        (PARALLEL_ONE_COLOR, false),
+        (ONE_LINK, true),
+    ]
 }
 
 fn is_sound(rt: &impl Abort, alloc: Global, island: &Island) -> Result<bool, NoMemory> {
@@ -188,15 +188,17 @@ fn is_sound(rt: &impl Abort, alloc: Global, island: &Island) -> Result<bool, NoM
 
 #[test]
 fn sound_rows(rt: HostRuntime) {
-    for (place, (island, wanted)) in soundness().iter().enumerate() {
+    let islands = soundness();
+    for place in 0..8 {
+        let (island, wanted) = islands[place];
         let found = is_sound(&rt, rt.alloc(), island);
-        assert!(rt; found == Ok(*wanted), "case {place}");
+        assert!(rt; found == Ok(wanted), "case {place}");
     }
 }
 
 /// A color walk: the links that it takes and the nodes that it meets.
 struct Walk {
-    island: Island,
+    island: &'static Island,
     color: Color,
     from: u16,
     to: u16,
@@ -204,83 +206,99 @@ struct Walk {
     nodes: &'static [u16],
 }
 
-const WALKS: &[Walk] = &[
-    Walk {
-        island: TRIANGLE,
-        color: Color::Blue,
-        from: 0,
-        to: 1,
-        links: &[0],
-        nodes: &[0, 1],
-    },
-    Walk {
-        island: TRIANGLE,
-        color: Color::Blue,
-        from: 2,
-        to: 1,
-        links: &[1, 0],
-        nodes: &[2, 0, 1],
-    },
-    Walk {
-        island: TRIANGLE,
-        color: Color::Red,
-        from: 2,
-        to: 1,
-        links: &[2],
-        nodes: &[2, 1],
-    },
-    Walk {
-        island: TRIANGLE,
-        color: Color::Red,
-        from: 1,
-        to: 1,
-        links: &[],
-        nodes: &[1],
-    },
-    Walk {
-        island: LOOPING,
-        color: Color::Blue,
-        from: 1,
-        to: 0,
-        links: &[2, 2, 2],
-        nodes: &[1, 2, 1, 2],
-    },
-    Walk {
-        island: UNTOUCHED,
-        color: Color::Blue,
-        from: 0,
-        to: 1,
-        links: &[],
-        nodes: &[0],
-    },
-    Walk {
-        island: LINE,
-        color: Color::Red,
-        from: 0,
-        to: 3,
-        links: &[0, 1, 2],
-        nodes: &[0, 1, 2, 3],
-    },
-    Walk {
-        island: CROSSED,
-        color: Color::Blue,
-        from: 0,
-        to: 2,
-        links: &[1, 5],
-        nodes: &[0, 4, 2],
-    },
-    Walk {
-        island: CROSSED,
-        color: Color::Red,
-        from: 0,
-        to: 2,
-        links: &[0, 4],
-        nodes: &[0, 3, 2],
-    },
-];
+const BLUE_OVER_A_LINK: &Walk = &Walk {
+    island: TRIANGLE,
+    color: Color::Blue,
+    from: 0,
+    to: 1,
+    links: &[0],
+    nodes: &[0, 1],
+};
 
-fn walks() -> &'static [Walk] {
-    WALKS
+const BLUE_AROUND: &Walk = &Walk {
+    island: TRIANGLE,
+    color: Color::Blue,
+    from: 2,
+    to: 1,
+    links: &[1, 0],
+    nodes: &[2, 0, 1],
+};
+
+const RED_OVER_A_LINK: &Walk = &Walk {
+    island: TRIANGLE,
+    color: Color::Red,
+    from: 2,
+    to: 1,
+    links: &[2],
+    nodes: &[2, 1],
+};
+
+const TO_ITSELF: &Walk = &Walk {
+    island: TRIANGLE,
+    color: Color::Red,
+    from: 1,
+    to: 1,
+    links: &[],
+    nodes: &[1],
+};
+
+const TO_AND_FRO: &Walk = &Walk {
+    island: LOOPING,
+    color: Color::Blue,
+    from: 1,
+    to: 0,
+    links: &[2, 2, 2],
+    nodes: &[1, 2, 1, 2],
+};
+
+const NOWHERE: &Walk = &Walk {
+    island: UNTOUCHED,
+    color: Color::Blue,
+    from: 0,
+    to: 1,
+    links: &[],
+    nodes: &[0],
+};
+
+const ALONG_A_LINE: &Walk = &Walk {
+    island: LINE,
+    color: Color::Red,
+    from: 0,
+    to: 3,
+    links: &[0, 1, 2],
+    nodes: &[0, 1, 2, 3],
+};
+
+const BLUE_CROSSED: &Walk = &Walk {
+    island: CROSSED,
+    color: Color::Blue,
+    from: 0,
+    to: 2,
+    links: &[1, 5],
+    nodes: &[0, 4, 2],
+};
+
+const RED_CROSSED: &Walk = &Walk {
+    island: CROSSED,
+    color: Color::Red,
+    from: 0,
+    to: 2,
+    links: &[0, 4],
+    nodes: &[0, 3, 2],
+};
+
+fn walks() -> [&'static Walk; 9] {
+    [
+        BLUE_OVER_A_LINK,
+        BLUE_AROUND,
+        RED_OVER_A_LINK,
+        TO_ITSELF,
+        TO_AND_FRO,
+        NOWHERE,
+        ALONG_A_LINE,
+        BLUE_CROSSED,
+        RED_CROSSED,
+    ]
 }
 
 /// Whether the numbers of links are these.
@@ -310,7 +328,7 @@ fn are_nodes(nodes: &[NodeNo], wanted: &[u16]) -> bool {
 }
 
 fn goes_as_told(rt: &impl Abort, alloc: Global, walk: &Walk) -> Result<bool, NoMemory> {
-    let island = &walk.island;
+    let island = walk.island;
     assert!(rt; walk.from < island.routers && walk.to < island.routers);
     let parts = parts_of(rt, alloc, island)?;
     let (s, t) = (NodeNo::new(walk.from), NodeNo::new(walk.to));
@@ -320,111 +338,47 @@ fn goes_as_told(rt: &impl Abort, alloc: Global, walk: &Walk) -> Result<bool, NoM
 
 #[test]
 fn color_walks(rt: HostRuntime) {
-    for (place, walk) in walks().iter().enumerate() {
+    for walk in walks() {
         let is_so = goes_as_told(&rt, rt.alloc(), walk);
-        assert!(rt; is_so == Ok(true), "case {place}");
+        assert!(rt; is_so == Ok(true), "{} to {}", walk.from, walk.to);
     }
 }
 
-/// Whether the colors arrive, and whether they are apart.
-struct Pair {
-    island: Island,
+/// Two routers of an island, and whether blue arrives, whether red does, and whether the two are apart.
+type Pair = (&'static Island, u16, u16, (bool, bool, bool));
+
+fn pairs() -> [Pair; 8] {
+    [
+        (TRIANGLE, 2, 0, (true, true, true)),
+        (LOOPING, 1, 0, (false, true, true)),
+        (UNTOUCHED, 0, 1, (false, true, true)),
+        (ONE_COLOR, 0, 1, (true, true, false)),
+        (ONE_COLOR, 0, 0, (true, true, true)),
+        (LINE, 0, 3, (true, true, true)),
+        (ONE_WAY, 0, 4, (true, true, false)),
+        (TWO_WAYS, 0, 4, (true, true, true)),
+    ]
+}
+
+/// What is found of two routers of an island.
+fn found_of(
+    rt: &impl Abort,
+    alloc: Global,
+    island: &Island,
     from: u16,
     to: u16,
-    blue: bool,
-    red: bool,
-    apart: bool,
-}
-
-const PAIRS: &[Pair] = &[
-    Pair {
-        island: TRIANGLE,
-        from: 2,
-        to: 0,
-        blue: true,
-        red: true,
-        apart: true,
-    },
-    Pair {
-        island: LOOPING,
-        from: 1,
-        to: 0,
-        blue: false,
-        red: true,
-        apart: true,
-    },
-    Pair {
-        island: UNTOUCHED,
-        from: 0,
-        to: 1,
-        blue: false,
-        red: true,
-        apart: true,
-    },
-    Pair {
-        island: ONE_COLOR,
-        from: 0,
-        to: 1,
-        blue: true,
-        red: true,
-        apart: false,
-    },
-    Pair {
-        island: ONE_COLOR,
-        from: 0,
-        to: 0,
-        blue: true,
-        red: true,
-        apart: true,
-    },
-    Pair {
-        island: LINE,
-        from: 0,
-        to: 3,
-        blue: true,
-        red: true,
-        apart: true,
-    },
-    Pair {
-        island: ONE_WAY,
-        from: 0,
-        to: 4,
-        blue: true,
-        red: true,
-        apart: false,
-    },
-    Pair {
-        island: TWO_WAYS,
-        from: 0,
-        to: 4,
-        blue: true,
-        red: true,
-        apart: true,
-    },
-];
-
-fn pairs() -> &'static [Pair] {
-    PAIRS
-}
-
-/// Whether blue arrives, whether red does, and whether the two are apart.
-fn found_of(rt: &impl Abort, alloc: Global, pair: &Pair) -> Result<(bool, bool, bool), NoMemory> {
-    let island = &pair.island;
-    assert!(rt; pair.from < island.routers && pair.to < island.routers);
+) -> Result<(bool, bool, bool), NoMemory> {
+    assert!(rt; from < island.routers && to < island.routers);
     let parts = parts_of(rt, alloc, island)?;
-    let (s, t) = (NodeNo::new(pair.from), NodeNo::new(pair.to));
+    let (s, t) = (NodeNo::new(from), NodeNo::new(to));
     told_of(alloc, &parts.links, &parts.cert, s, t)
 }
 
 #[test]
 fn arrives_and_apart(rt: HostRuntime) {
-    for (place, pair) in pairs().iter().enumerate() {
-        let found = found_of(&rt, rt.alloc(), pair);
-        assert_eq!(rt;
-            found,
-            Ok((pair.blue, pair.red, pair.apart)),
-            "case {place}"
-        );
+    for (island, from, to, wanted) in pairs() {
+        let found = found_of(&rt, rt.alloc(), island, from, to);
+        assert_eq!(rt; found, Ok(wanted), "{from} to {to}");
     }
 }
 
@@ -435,14 +389,19 @@ enum Told {
     Node(u16),
 }
 
-/// Whether an element separates two routers, among so many with links between these.
+/// Whether an element separates two routers.
 struct Cut {
-    routers: u16,
-    pairs: &'static [(u16, u16)],
     element: Told,
     from: u16,
     to: u16,
     separates: bool,
+}
+
+/// So many routers with links between these, and what separates some of them.
+struct Cuts {
+    routers: u16,
+    pairs: &'static [(u16, u16)],
+    cuts: &'static [Cut],
 }
 
 const RING_LINKS: &[(u16, u16)] = &[(0, 1), (0, 4), (1, 2), (2, 3), (3, 4)];
@@ -450,196 +409,203 @@ const RING_LINKS: &[(u16, u16)] = &[(0, 1), (0, 4), (1, 2), (2, 3), (3, 4)];
 /// Routers 1 and 2 in a row, and routers 3 and 4, at router 5.
 const STAR_LINKS: &[(u16, u16)] = &[(0, 1), (1, 4), (2, 4), (3, 4)];
 
-/// The last eight: the ends themselves, one node as both ends, numbers that nothing has, and nodes that no walk joins.
-const CUTS: &[Cut] = &[
-    Cut {
-        routers: 5,
-        pairs: TWO_TRIANGLES_LINKS,
-        element: Told::Node(2),
-        from: 0,
-        to: 4,
-        separates: true,
-    },
-    Cut {
-        routers: 5,
-        pairs: TWO_TRIANGLES_LINKS,
-        element: Told::Node(1),
-        from: 0,
-        to: 4,
-        separates: false,
-    },
-    Cut {
-        routers: 5,
-        pairs: TWO_TRIANGLES_LINKS,
-        element: Told::Node(3),
-        from: 0,
-        to: 4,
-        separates: false,
-    },
-    Cut {
-        routers: 5,
-        pairs: TWO_TRIANGLES_LINKS,
-        element: Told::Node(2),
-        from: 0,
-        to: 1,
-        separates: false,
-    },
-    Cut {
-        routers: 5,
-        pairs: TWO_TRIANGLES_LINKS,
-        element: Told::Link(1),
-        from: 0,
-        to: 4,
-        separates: false,
-    },
-    Cut {
-        routers: 5,
-        pairs: TWO_TRIANGLES_LINKS,
-        element: Told::Link(4),
-        from: 0,
-        to: 4,
-        separates: false,
-    },
-    Cut {
-        routers: 2,
-        pairs: PARALLEL_LINKS,
-        element: Told::Link(0),
-        from: 0,
-        to: 1,
-        separates: false,
-    },
-    Cut {
-        routers: 2,
-        pairs: PARALLEL_LINKS,
-        element: Told::Link(1),
-        from: 1,
-        to: 0,
-        separates: false,
-    },
-    Cut {
-        routers: 2,
-        pairs: &[(0, 1)],
-        element: Told::Link(0),
-        from: 0,
-        to: 1,
-        separates: true,
-    },
-    Cut {
-        routers: 5,
-        pairs: STAR_LINKS,
-        element: Told::Link(0),
-        from: 0,
-        to: 2,
-        separates: true,
-    },
-    Cut {
-        routers: 5,
-        pairs: STAR_LINKS,
-        element: Told::Link(0),
-        from: 1,
-        to: 2,
-        separates: false,
-    },
-    Cut {
-        routers: 5,
-        pairs: STAR_LINKS,
-        element: Told::Node(4),
-        from: 2,
-        to: 3,
-        separates: true,
-    },
-    Cut {
-        routers: 5,
-        pairs: STAR_LINKS,
-        element: Told::Node(4),
-        from: 0,
-        to: 1,
-        separates: false,
-    },
-    Cut {
-        routers: 5,
-        pairs: RING_LINKS,
-        element: Told::Node(1),
-        from: 0,
-        to: 2,
-        separates: false,
-    },
-    Cut {
-        routers: 5,
-        pairs: RING_LINKS,
-        element: Told::Link(0),
-        from: 0,
-        to: 1,
-        separates: false,
-    },
-    Cut {
-        routers: 4,
-        pairs: LINE_LINKS,
-        element: Told::Node(0),
-        from: 0,
-        to: 3,
-        separates: false,
-    },
-    Cut {
-        routers: 4,
-        pairs: LINE_LINKS,
-        element: Told::Node(3),
-        from: 0,
-        to: 3,
-        separates: false,
-    },
-    Cut {
-        routers: 4,
-        pairs: LINE_LINKS,
-        element: Told::Node(1),
-        from: 0,
-        to: 0,
-        separates: false,
-    },
-    Cut {
-        routers: 4,
-        pairs: LINE_LINKS,
-        element: Told::Link(0),
-        from: 0,
-        to: 0,
-        separates: false,
-    },
-    Cut {
-        routers: 4,
-        pairs: LINE_LINKS,
-        element: Told::Link(9),
-        from: 0,
-        to: 3,
-        separates: false,
-    },
-    Cut {
-        routers: 4,
-        pairs: LINE_LINKS,
-        element: Told::Node(9),
-        from: 0,
-        to: 3,
-        separates: false,
-    },
-    Cut {
-        routers: 3,
-        pairs: &[(0, 1)],
-        element: Told::Link(0),
-        from: 0,
-        to: 2,
-        separates: true,
-    },
-    Cut {
-        routers: 3,
-        pairs: &[(0, 1)],
-        element: Told::Node(1),
-        from: 0,
-        to: 2,
-        separates: true,
-    },
-];
+const TWO_TRIANGLES_CUTS: &Cuts = &Cuts {
+    routers: 5,
+    pairs: TWO_TRIANGLES_LINKS,
+    cuts: &[
+        Cut {
+            element: Told::Node(2),
+            from: 0,
+            to: 4,
+            separates: true,
+        },
+        Cut {
+            element: Told::Node(1),
+            from: 0,
+            to: 4,
+            separates: false,
+        },
+        Cut {
+            element: Told::Node(3),
+            from: 0,
+            to: 4,
+            separates: false,
+        },
+        Cut {
+            element: Told::Node(2),
+            from: 0,
+            to: 1,
+            separates: false,
+        },
+        Cut {
+            element: Told::Link(1),
+            from: 0,
+            to: 4,
+            separates: false,
+        },
+        Cut {
+            element: Told::Link(4),
+            from: 0,
+            to: 4,
+            separates: false,
+        },
+    ],
+};
 
-fn cuts() -> &'static [Cut] {
-    CUTS
+const PARALLEL_CUTS: &Cuts = &Cuts {
+    routers: 2,
+    pairs: PARALLEL_LINKS,
+    cuts: &[
+        Cut {
+            element: Told::Link(0),
+            from: 0,
+            to: 1,
+            separates: false,
+        },
+        Cut {
+            element: Told::Link(1),
+            from: 1,
+            to: 0,
+            separates: false,
+        },
+    ],
+};
+
+const ONE_LINK_CUTS: &Cuts = &Cuts {
+    routers: 2,
+    pairs: &[(0, 1)],
+    cuts: &[Cut {
+        element: Told::Link(0),
+        from: 0,
+        to: 1,
+        separates: true,
+    }],
+};
+
+const STAR_CUTS: &Cuts = &Cuts {
+    routers: 5,
+    pairs: STAR_LINKS,
+    cuts: &[
+        Cut {
+            element: Told::Link(0),
+            from: 0,
+            to: 2,
+            separates: true,
+        },
+        Cut {
+            element: Told::Link(0),
+            from: 1,
+            to: 2,
+            separates: false,
+        },
+        Cut {
+            element: Told::Node(4),
+            from: 2,
+            to: 3,
+            separates: true,
+        },
+        Cut {
+            element: Told::Node(4),
+            from: 0,
+            to: 1,
+            separates: false,
+        },
+    ],
+};
+
+const RING_CUTS: &Cuts = &Cuts {
+    routers: 5,
+    pairs: RING_LINKS,
+    cuts: &[
+        Cut {
+            element: Told::Node(1),
+            from: 0,
+            to: 2,
+            separates: false,
+        },
+        Cut {
+            element: Told::Link(0),
+            from: 0,
+            to: 1,
+            separates: false,
+        },
+    ],
+};
+
+/// The ends themselves, one node as both ends, and numbers that nothing has.
+const LINE_CUTS: &Cuts = &Cuts {
+    routers: 4,
+    pairs: LINE_LINKS,
+    cuts: &[
+        Cut {
+            element: Told::Node(0),
+            from: 0,
+            to: 3,
+            separates: false,
+        },
+        Cut {
+            element: Told::Node(3),
+            from: 0,
+            to: 3,
+            separates: false,
+        },
+        Cut {
+            element: Told::Node(1),
+            from: 0,
+            to: 0,
+            separates: false,
+        },
+        Cut {
+            element: Told::Link(0),
+            from: 0,
+            to: 0,
+            separates: false,
+        },
+        Cut {
+            element: Told::Link(9),
+            from: 0,
+            to: 3,
+            separates: false,
+        },
+        Cut {
+            element: Told::Node(9),
+            from: 0,
+            to: 3,
+            separates: false,
+        },
+    ],
+};
+
+/// Nodes that no walk joins.
+const APART_CUTS: &Cuts = &Cuts {
+    routers: 3,
+    pairs: &[(0, 1)],
+    cuts: &[
+        Cut {
+            element: Told::Link(0),
+            from: 0,
+            to: 2,
+            separates: true,
+        },
+        Cut {
+            element: Told::Node(1),
+            from: 0,
+            to: 2,
+            separates: true,
+        },
+    ],
+};
+
+fn all_cuts() -> [&'static Cuts; 7] {
+    [
+        TWO_TRIANGLES_CUTS,
+        PARALLEL_CUTS,
+        ONE_LINK_CUTS,
+        STAR_CUTS,
+        RING_CUTS,
+        LINE_CUTS,
+        APART_CUTS,
+    ]
 }
 
 fn element(told: Told) -> Element {
@@ -649,18 +615,51 @@ fn element(told: Told) -> Element {
     }
 }
 
-fn is_separated(rt: &impl Abort, alloc: Global, cut: &Cut) -> Result<bool, NoMemory> {
-    assert!(rt; cut.from < cut.routers && cut.to < cut.routers);
-    let links = links_between(rt, alloc, cut.routers, cut.pairs)?;
+fn is_separated(
+    rt: &impl Abort,
+    alloc: Global,
+    routers: u16,
+    links: &[Link],
+    cut: &Cut,
+) -> Result<bool, NoMemory>
+    requires { AreWithin routers links.now }
+{
+    assert!(rt; cut.from < routers && cut.to < routers);
     let (s, t) = (NodeNo::new(cut.from), NodeNo::new(cut.to));
-    separates(alloc, &links, cut.routers, element(cut.element), s, t)
+    separates(alloc, links, routers, element(cut.element), s, t)
+}
+
+/// The number of the first element that is told otherwise.
+fn first_other_over(
+    rt: &impl Abort,
+    alloc: Global,
+    told: &Cuts,
+    links: &[Link],
+) -> Result<Option<usize>, NoMemory>
+    requires { AreWithin told.now.routers links.now }
+{
+    for (number, cut) in told.cuts.iter().enumerate() {
+        if is_separated(rt, alloc, told.routers, links, cut)? != cut.separates {
+            return Ok(Some(number));
+        }
+    }
+    Ok(None)
+}
+
+fn first_other(rt: &impl Abort, alloc: Global, told: &Cuts) -> Result<Option<usize>, NoMemory> {
+    let links = links_between(rt, alloc, told.routers, told.pairs)?;
+    first_other_over(rt, alloc, told, &links)
 }
 
 #[test]
 fn separating(rt: HostRuntime) {
-    for (place, cut) in cuts().iter().enumerate() {
-        let found = is_separated(&rt, rt.alloc(), cut);
-        assert!(rt; found == Ok(cut.separates), "case {place}");
+    for told in all_cuts() {
+        assert_eq!(rt;
+            first_other(&rt, rt.alloc(), told),
+            Ok(None),
+            "{} routers",
+            told.routers
+        );
     }
 }
 

@@ -30,7 +30,7 @@ pub struct Island {
 }
 
 /// Three routers, each two of them joined; the root is router 3.
-pub const TRIANGLE: Island = Island {
+pub const TRIANGLE: &Island = &Island {
     name: "triangle",
     routers: 3,
     root: 2,
@@ -94,7 +94,7 @@ pub const TRIANGLE: Island = Island {
 };
 
 /// Four routers in a line; the root is router 4.
-pub const LINE: Island = Island {
+pub const LINE: &Island = &Island {
     name: "line",
     routers: 4,
     root: 3,
@@ -147,7 +147,7 @@ pub const LINE: Island = Island {
 
 /// A block with a node in no order with either router, routers that hang on it at a member and at its head or beyond, and
 /// parallel links.
-pub const ALL_PLACES: Island = Island {
+pub const ALL_PLACES: &Island = &Island {
     name: "all places",
     routers: 8,
     root: 1,

@@ -133,7 +133,7 @@ fn first_other_text(
 
 #[test]
 fn texts_of_small_islands(rt: HostRuntime) {
-    for island in [&TRIANGLE, &LINE, &ALL_PLACES] {
+    for island in [TRIANGLE, LINE, ALL_PLACES] {
         assert_eq!(&rt;
             first_other(&rt, rt.alloc(), island),
             Ok(None),
@@ -163,51 +163,35 @@ fn rows_of(
 type OutsTold = (Option<u16>, Option<u16>);
 
 /// An island, two routers that a prefix is attached to, and the rows of its nodes.
-struct Attached {
-    island: &'static Island,
-    a: u16,
-    b: u16,
-    rows: &'static [OutsTold],
+type Attached = (&'static Island, u16, u16, &'static [OutsTold]);
+
+fn attached_ones() -> [Attached; 3] {
+    [
+        (TRIANGLE, 0, 1, TRIANGLE_ROWS),
+        (LINE, 0, 1, LINE_ROWS),
+        (ALL_PLACES, 4, 6, ALL_PLACES_ROWS),
+    ]
 }
 
-const ATTACHED: &[Attached] = &[
-    Attached {
-        island: &TRIANGLE,
-        a: 0,
-        b: 1,
-        rows: &[(None, Some(1)), (Some(2), None), (Some(1), Some(2))],
-    },
-    Attached {
-        island: &LINE,
-        a: 0,
-        b: 1,
-        rows: &[
-            (Some(0), None),
-            (None, Some(0)),
-            (Some(1), Some(1)),
-            (Some(2), Some(2)),
-        ],
-    },
-    Attached {
-        island: &ALL_PLACES,
-        a: 4,
-        b: 6,
-        rows: &[
-            (Some(1), Some(2)),
-            (Some(0), Some(0)),
-            (Some(4), Some(1)),
-            (Some(3), Some(3)),
-            (None, Some(4)),
-            (Some(2), Some(9)),
-            (Some(9), None),
-            (Some(6), Some(11)),
-        ],
-    },
+const TRIANGLE_ROWS: &[OutsTold] = &[(None, Some(1)), (Some(2), None), (Some(1), Some(2))];
+
+const LINE_ROWS: &[OutsTold] = &[
+    (Some(0), None),
+    (None, Some(0)),
+    (Some(1), Some(1)),
+    (Some(2), Some(2)),
 ];
 
-fn attached_ones() -> &'static [Attached] {
-    ATTACHED
-}
+const ALL_PLACES_ROWS: &[OutsTold] = &[
+    (Some(1), Some(2)),
+    (Some(0), Some(0)),
+    (Some(4), Some(1)),
+    (Some(3), Some(3)),
+    (None, Some(4)),
+    (Some(2), Some(9)),
+    (Some(9), None),
+    (Some(6), Some(11)),
+];
 
 fn out_told(link: Option<u16>) -> Out {
     match link {
@@ -232,20 +216,27 @@ fn are_rows(rows: &[ProxyRow], told: &[OutsTold]) -> bool {
     true
 }
 
-fn has_rows(rt: &impl Abort, alloc: Global, case: &Attached) -> Result<bool, GraphError> {
-    let graph = graph_of(rt, alloc, case.island)?;
-    let file = file(rt, alloc, case.island)?;
-    match rows_of(rt, alloc, &graph, case.island.root, &file, case.a, case.b) {
-        Ok(rows) => Ok(are_rows(&rows, case.rows)),
+fn has_rows(
+    rt: &impl Abort,
+    alloc: Global,
+    island: &Island,
+    a: u16,
+    b: u16,
+    told: &[OutsTold],
+) -> Result<bool, GraphError> {
+    let graph = graph_of(rt, alloc, island)?;
+    let file = file(rt, alloc, island)?;
+    match rows_of(rt, alloc, &graph, island.root, &file, a, b) {
+        Ok(rows) => Ok(are_rows(&rows, told)),
         Err(_) => Ok(false),
     }
 }
 
 #[test]
 fn rows_of_small_islands(rt: HostRuntime) {
-    for case in attached_ones() {
-        let is_so = has_rows(&rt, rt.alloc(), case);
-        assert!(&rt; is_so == Ok(true), "{}", case.island.name);
+    for (island, a, b, told) in attached_ones() {
+        let is_so = has_rows(&rt, rt.alloc(), island, a, b, told);
+        assert!(&rt; is_so == Ok(true), "{}", island.name);
     }
 }
 
@@ -415,7 +406,7 @@ fn all_are_sound(rt: &impl Abort, alloc: Global, island: &Island) -> Result<bool
 
 #[test]
 fn plain_programs_find_the_rows_sound(rt: HostRuntime) {
-    for island in [&TRIANGLE, &LINE, &ALL_PLACES] {
+    for island in [TRIANGLE, LINE, ALL_PLACES] {
         assert_eq!(&rt;
             all_are_sound(&rt, rt.alloc(), island),
             Ok(true),
