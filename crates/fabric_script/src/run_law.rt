@@ -8,7 +8,7 @@ ghost use Rattle.fabric_script.specs.RunTexts.{IsScriptText, IsTraceText};
 
 use fabric::one_answer_each;
 
-/// Laws: a script has one text, and so has a trace.
+/// Laws: a script has one text at most, and so has a trace.
 pub fn one_text_each()
     ensures script { (parts : FabricParts) → ArePartsKept parts → (script : Script) (text other : List ℕ)
         → IsScriptText parts script text → IsScriptText parts script other → text ≡ other }

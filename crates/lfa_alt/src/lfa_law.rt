@@ -7,7 +7,7 @@ ghost use Rattle.primary_alt.specs.Routers.{IsRouter};
 ghost use Rattle.lfa_alt.specs.declared.alternate.Lfa.{Lfa};
 ghost use Rattle.lfa_alt.specs.LoopFree.{IsLfa};
 
-/// A law: a router has one answer for each node, a loop-free alternate or none.
+/// A law: a router has one answer at most for each node, a loop-free alternate or none.
 pub fn one_loop_free_alternate_each()
     ensures { (area : AreaParts) (s t : ℕ) (entry other : Option Lfa) → IsLfa area s t entry
         → IsLfa area s t other → entry ≡ other }

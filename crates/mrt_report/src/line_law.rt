@@ -11,7 +11,7 @@ ghost use Rattle.mrt_report.specs.Lines.{IsLine};
 
 use primary_alt::one_alternate_each;
 
-/// A law: a router has one line on a destination, by these rows and this primary.
+/// A law: a router has one line at most on a destination, by these rows and this primary.
 pub fn one_line_each()
     ensures { (parts : LineParts) (to : ℕ) (primary : Primary) (text other : List ℕ)
         → IsTopology parts.island → IsLine parts to primary text → IsLine parts to primary other

@@ -19,7 +19,7 @@ pub fn lines_make_the_table()
         → IsTableText parts root (head ++ concat lines) }
 {}
 
-/// A law: a router has one table.
+/// A law: a router has one table at most.
 pub fn one_table_each()
     ensures { (parts : TableParts) (root : ℕ) (text other : List ℕ) → IsArea parts.area
         → IsTopology parts.island → IsTableText parts root text → IsTableText parts root other

@@ -31,7 +31,7 @@ pub struct RouterLink {
     pub metric: u16,
 }
 
-/// A link takes as much room as its bytes in a file without its TOS entries.
+/// A link without its TOS entries takes as much room as its bytes in a file.
 const _: () = prove!(size_of::<RouterLink>() == 12);
 
 /// What stands after the header of an LSA.

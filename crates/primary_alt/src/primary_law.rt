@@ -11,7 +11,7 @@ ghost use Rattle.primary_alt.specs.Primaries.{IsPrimary};
 ghost use Rattle.primary_alt.specs.PrimaryHops.{HopsReach};
 ghost use Rattle.primary_alt.specs.Routers.{IsRouter};
 
-/// A law: a node has one entry for each node.
+/// A law: a node has one entry at most for each node.
 pub fn one_primary_each()
     ensures { (area : AreaParts) (s t : ℕ) (entry other : Option Primary)
         → IsPrimary area s t entry → IsPrimary area s t other → entry ≡ other }
