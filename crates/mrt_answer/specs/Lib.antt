@@ -1,4 +1,5 @@
 pub mod Answers
+pub mod Attached
 pub mod Certified
 pub mod Computed
 pub mod Database

@@ -4,6 +4,7 @@
 ghost use Rattle.std.specs.Prelude.{◌≡◌, ◌<◌, ◌≤◌, ◌↔◌, ◌/◌, ℕ, Some, IfOk, IfErr, IsTrue, Contains, filter, length, slice_get};
 ghost use Rattle.area_graph.specs.Fits.{Fits};
 ghost use Rattle.mrt_graph.specs.Search.{IsMarked};
+ghost use Rattle.mrt_answer.specs.Input.{Input};
 ghost use Rattle.mrt_answer.specs.PacketTables.{AreTablesTo, IsAreaAndIsland, IsWanted};
 ghost use Rattle.mrt_answer.specs.Packets.{GivesRun, IsScriptGiven, IsTraceGiven};
 ghost use Rattle.mrt_answer.specs.Refusals.{HasNone, IsRunRefusal};
@@ -120,12 +121,30 @@ pub(crate) fn trace(alloc: Global, given: &Given, trace: &Trace) -> Result<Text,
     ensures given { IfOk result (HasText (IsTraceGiven given.now trace.now)) }
     ensures refused { IfErr result (HasNone given.now trace.now.from) }
 {
-    texts_by_rows_for_destinations();
     let net = area_and_island(alloc, given, trace.from)?;
-    let spots = destination_of(alloc, &net.area, trace)?;
-    let Tables { routes, rows } = tables_to(alloc, &net, &spots)?;
-    let text = trace_text(alloc, &net.area, &net.island.graph, &rows, &routes, trace)?;
+    let text = trace_in(alloc, &net, trace)?;
     Ok(Text::Bytes(text))
+}
+
+/// The same, in an area and an island.
+fn trace_in(alloc: Global, net: &AreaAndIsland, trace: &Trace) -> Result<Vec<u8>, NoMemory>
+    requires fits { Fits net.now.area net.now.island.graph net.now.island.link_of }
+    requires root { net.now.island.root < length net.now.island.graph.ids }
+    ensures { (input : Input) → IsAreaAndIsland input trace.now.from net.now
+        → IfOk result (λ text. IsTraceGiven input trace.now text.items) }
+{
+    texts_by_rows_for_destinations();
+    let spots = destination_of(alloc, &net.area, trace)?;
+    let tables = tables_to(alloc, net, &spots)?;
+    let island = &net.island.graph;
+    trace_text(
+        alloc,
+        &net.area,
+        island,
+        &tables.rows,
+        &tables.routes,
+        trace,
+    )
 }
 
 /// The answers to the events of the script that the bytes are.
@@ -144,10 +163,29 @@ fn run_of(alloc: Global, given: &Given, script: &Script) -> Result<Text, Exit>
     ensures given { IfOk result (HasText (IsScriptGiven given.now script.now)) }
     ensures refused { IfErr result (HasNone given.now script.now.router) }
 {
-    texts_by_rows_for_destinations();
     let net = area_and_island(alloc, given, script.router)?;
-    let spots = destinations(alloc, &net.area, script)?;
-    let Tables { routes, rows } = tables_to(alloc, &net, &spots)?;
-    let text = script_text(alloc, &net.area, &net.island.graph, &rows, &routes, script)?;
+    let text = run_in(alloc, &net, script)?;
     Ok(Text::Bytes(text))
+}
+
+/// The same, in an area and an island.
+fn run_in(alloc: Global, net: &AreaAndIsland, script: &Script) -> Result<Vec<u8>, NoMemory>
+    requires fits { Fits net.now.area net.now.island.graph net.now.island.link_of }
+    requires root { net.now.island.root < length net.now.island.graph.ids }
+    requires room { 1 ≤ script.now.room }
+    ensures { (input : Input) → IsAreaAndIsland input script.now.router net.now
+        → IfOk result (λ text. IsScriptGiven input script.now text.items) }
+{
+    texts_by_rows_for_destinations();
+    let spots = destinations(alloc, &net.area, script)?;
+    let tables = tables_to(alloc, net, &spots)?;
+    let island = &net.island.graph;
+    script_text(
+        alloc,
+        &net.area,
+        island,
+        &tables.rows,
+        &tables.routes,
+        script,
+    )
 }

@@ -3,6 +3,10 @@
 ghost use Rattle.std.specs.Prelude.{◌≡◌, ◌≢◌, ◌<◌, IfOk, IfErr, IfSome, Contains, Some, length, slice_get};
 ghost use Rattle.std.specs.Option.{IfNone};
 ghost use Rattle.area_graph.specs.Nodes.{router as router_node};
+ghost use Rattle.mrt_rows.specs.Rooted.{MakeColumns};
+ghost use Rattle.proxy_rows.specs.ProxyRows.{AreProxyRows};
+ghost use Rattle.mrt_answer.specs.Attached.{IsAttachedBy};
+ghost use Rattle.mrt_answer.specs.Computed.{HasComputed};
 ghost use Rattle.mrt_answer.specs.Proxied.{HasNoProxyOf, HasProxy, IsProxyOf};
 ghost use Rattle.mrt_answer.specs.Refusals.{IsProxyRefusal};
 ghost use Rattle.mrt_answer.specs.TextBytes.{HasText};
@@ -12,8 +16,9 @@ use crate::given::Given;
 use crate::island::island_in;
 use crate::text::Text;
 use mrt_exit::Exit;
-use mrt_graph::{Graph, Kind, NodeId, NodeNo};
-use proxy_rows::{attach, proxy_rows_at, proxy_text_of};
+use mrt_graph::{CertNode, Graph, Kind, NoMemory, NodeId, NodeNo};
+use mrt_rows::RootedColumns;
+use proxy_rows::{Attachment, ProxyRow, attach, proxy_rows_at, proxy_text_of};
 use std::alloc::Global;
 
 /// The rows of all nodes of a router's island for a prefix that is attached to two routers of it.
@@ -55,15 +60,53 @@ fn proxy_between(
     ensures refused { IfErr result (HasNoProxyOf graph.now root a b) }
 {
     let mut columns = columns_of(alloc, graph, root, 1)?;
+    proxy_by(alloc, graph, root, &mut columns, a, b)
+}
+
+/// The same, by what makes the columns of that certificate.
+fn proxy_by(
+    alloc: Global,
+    graph: &Graph,
+    root: NodeNo,
+    columns: &mut RootedColumns,
+    a: NodeNo,
+    b: NodeNo,
+) -> Result<Text, Exit>
+    requires root { root < length graph.now.ids }
+    requires made { MakeColumns graph.now columns.old }
+    requires computed { HasComputed graph.now root columns.old }
+    requires first { a < length graph.now.ids }
+    requires second { b < length graph.now.ids }
+    requires different { a ≢ b }
+    ensures proxied { IfOk result (HasText (IsProxyOf graph.now root a b)) }
+    ensures refused { IfErr result (HasNoProxyOf graph.now root a b) }
+{
     let nodes = columns.nodes(alloc, graph)?;
     let Some(at) = attach(&nodes, a, b) else {
         return Err(Exit::NoCommonBlock);
     };
-    let links = columns.links(alloc, graph)?;
-    let column = columns.to(alloc, graph, at.head)?;
-    let rows = proxy_rows_at(alloc, graph, &nodes, &links, &at, &column)?;
+    let rows = rows_at(alloc, graph, columns, &nodes, &at)?;
     let text = proxy_text_of(alloc, graph, root, a, b, &rows)?;
     Ok(Text::Bytes(text))
+}
+
+/// The rows at an attachment, by the words on all links and by the column for its head.
+fn rows_at(
+    alloc: Global,
+    graph: &Graph,
+    columns: &mut RootedColumns,
+    nodes: &[CertNode],
+    at: &Attachment,
+) -> Result<Vec<ProxyRow>, NoMemory>
+    requires made { MakeColumns graph.now columns.old }
+    requires head { at.now.head < length graph.now.ids }
+    requires attached { IsAttachedBy graph.now columns.old nodes.now at.now }
+    ensures { (by : IsAttachedBy graph.now columns.old nodes.now at.now)
+        → IfOk result (λ rows. AreProxyRows graph.now by.own.file.cert by.a by.b rows.items) }
+{
+    let links = columns.links(alloc, graph)?;
+    let column = columns.to(alloc, graph, at.head)?;
+    proxy_rows_at(alloc, graph, nodes, &links, at, &column)
 }
 
 /// The number of a router of the graph, if it is one.

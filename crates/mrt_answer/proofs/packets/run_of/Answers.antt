@@ -1,44 +1,11 @@
-use Rattle.std.proofs.Common.{ℕ, List, subst}
-use Rattle.std.specs.Prelude.{Contains}
-use Rattle.mrt_graph.specs.Certificate.{row_of}
-use Rattle.fabric_script.proofs.ServedEvents.{agree_at_destinations, served_at_destinations}
-use Rattle.mrt_answer.specs.PacketTables.{AreTablesTo}
-use Rattle.mrt_answer.proofs.PacketsServed.{agrees, are_whole, parts, served, whole}
 use Rattle.mrt_answer.proofs.Refusals.{root_within}
 use Rattle.mrt_answer.proofs.packets.run_of.Goals as goal
 
-pub tables_to-requires-clause-fits : goal.tables_to-requires-clause-fits
-tables_to-requires-clause-fits c = c.in_ok-net.ensures.is.fits
+pub run_in-requires-clause-fits : goal.run_in-requires-clause-fits
+run_in-requires-clause-fits c = c.in_ok-net.ensures.is.fits
 
-pub tables_to-requires-clause-root : goal.tables_to-requires-clause-root
-tables_to-requires-clause-root c = root_within _ _ _ _ _ _ c.in_ok-net.ensures.is.island
-
-pub script_text-requires-clause-routed : goal.script_text-requires-clause-routed
-script_text-requires-clause-routed c = c.in_ok-routes.ensures.routed
-
-pub tables_to-requires-clause-within : goal.tables_to-requires-clause-within
-tables_to-requires-clause-within c = λ t among.
-    c.in_ok-spots.ensures.within t (subst (λ (xs : List ℕ). Contains xs t) c.deref.ensures.value among)
-
-pub script_text-requires-clause-served : goal.script_text-requires-clause-served
-script_text-requires-clause-served c =
-    let net = c.in_ok-net.net in
-    let spots = c.in_ok-spots.spots.items in
-    let tables = c.in_ok-routes.field-0 in
-    let made : AreTablesTo net spots tables = subst (λ (xs : List ℕ). AreTablesTo net xs tables) c.deref.ensures.value c.in_ok-routes.ensures in
-    served_at_destinations (parts net spots tables made) tables.routes c.args.script.now.events spots c.in_ok-spots.ensures.are
-    (λ t among. served net spots tables made t (λ within. among))
+pub run_in-requires-clause-root : goal.run_in-requires-clause-root
+run_in-requires-clause-root c = root_within _ _ _ _ _ _ c.in_ok-net.ensures.is.island
 
 pub returns-clause-given : goal.returns-clause-given
-returns-clause-given c =
-    let net = c.in_ok-net.net in
-    let spots = c.in_ok-spots.spots.items in
-    let tables = c.in_ok-routes.field-0 in
-    let made : AreTablesTo net spots tables = subst (λ (xs : List ℕ). AreTablesTo net xs tables) c.deref.ensures.value c.in_ok-routes.ensures in (
-      whole net spots tables made,
-      are_whole net spots tables made c.args.given.now c.args.script.now.router c.in_ok-net.ensures.is,
-      c.texts_by_rows_for_destinations.ensures.script (parts net spots tables made) (row_of made.file.cert) c.args.script.now
-          (agree_at_destinations (parts net spots tables made) (row_of made.file.cert) c.args.script.now.events spots c.in_ok-spots.ensures.are
-          (λ t among. agrees net spots tables made t (λ within. among)))
-          c.in_ok-text.text.items c.in_ok-text.ensures,
-    )
+returns-clause-given c = c.in_ok-text.ensures c.args.given.now c.in_ok-net.ensures.is
