@@ -2,14 +2,19 @@
 
 ghost use Rattle.std.specs.Prelude.{◌≡◌, ◌<◌, IfOk, length, map};
 ghost use Rattle.std.specs.Option.{option_map};
+ghost use Rattle.area_graph.specs.AreaInvariant.{IsArea};
 ghost use Rattle.mrt_graph.specs.GraphInvariant.{IsNetwork};
 ghost use Rattle.primary_alt.specs.DistancesFrom.{AreDistancesFrom};
 ghost use Rattle.primary_alt.specs.Primaries.{ArePrimaries};
+ghost use Rattle.lfa_alt.specs.Destinations.{AreDestinations};
 ghost use Rattle.lfa_alt.specs.LoopFree.{AreLfas, alternate_of};
+ghost use Rattle.lfa_alt.specs.Ways.{AreWays};
 
 use crate::alternate::{FreeCandidate, Lfa};
+use crate::destination::Destination;
 use crate::destinations::destinations;
 use crate::offering::{Near, best_of};
+use crate::way::Way;
 use crate::ways::ways;
 use area_graph::{Area, Spot};
 use mrt_graph::NoMemory;
@@ -48,10 +53,30 @@ pub fn alternates(
     let arcs = all_arcs(alloc, area)?;
     let destinations = destinations(alloc, area, &arcs, source, &from.primaries, &from.distances)?;
     let ways = ways(alloc, area, &arcs, source)?;
+    alternates_by(alloc, area, source, &from.distances, &destinations, &ways)
+}
+
+/// The same, by what is asked of each node and by the ways of the source.
+fn alternates_by(
+    alloc: Global,
+    area: &Area,
+    source: Spot,
+    distances: &[Option<u32>],
+    destinations: &[Option<Destination>],
+    ways: &[Way],
+) -> Result<Vec<Option<Lfa>>, NoMemory>
+    requires kept { IsArea area.now }
+    requires within { source < length area.now.ids }
+    requires distances { AreDistancesFrom area.now.arcs source distances.now }
+    requires one_each { length distances.now ≡ length area.now.ids }
+    requires destinations { AreDestinations area.now source destinations.now }
+    requires ways { AreWays area.now source ways.now }
+    ensures { IfOk result (λ entries. AreLfas area.now source entries.items) }
+{
     let mut searches = Searches::new(alloc, area)?;
-    let known = Vec::from_slice(alloc, &from.distances)?;
+    let known = Vec::from_slice(alloc, distances)?;
     let near = Near { at: source, known };
-    let best = best_of(alloc, &mut searches, near, source, &destinations, &ways)?;
+    let best = best_of(alloc, &mut searches, near, source, destinations, ways)?;
     lfas(alloc, &best)
 }
 
