@@ -8,7 +8,6 @@ use Rattle.mrt_graph.specs.Topology.{Topology}
 use Rattle.link_direction.specs.Directions.{Directions}
 use Rattle.inc_dec_spf.specs.declared.reach.Dir.{Dir}
 use Rattle.inc_dec_spf.specs.BlockAims.{aim_at}
-use Rattle.inc_dec_spf.specs.FirstLink.{no_link}
 use Rattle.inc_dec_spf.specs.LeastPath.{HasMoreLinks}
 use Rattle.inc_dec_spf.specs.Path.{LeadsOn, cost_of}
 use Rattle.inc_dec_spf.specs.Rest.{IsRestCost, Rest, far}
@@ -93,14 +92,6 @@ way_passed Begins ends count cost link none so_far = record {
     | inl same ↦ absurd (none other (subst (λ (p : ℕ). Begins p other) same begins))
     | inr apart ↦ so_far.least place other (omega (arith, early, apart)) begins
   ];
-}
-
-pub no_way_yet : (Begins : ℕ → ℕ → Type 0) (ends : List End) (link : ℕ) → link ≡ no_link → IsLeastWay Begins ends 0 far link
-no_way_yet Begins ends link none = record {
-  most = omega arith;
-  reached = λ below. absurd (omega (arith, below));
-  unreached = λ above. none;
-  least = λ place other early. absurd (omega (arith, early));
 }
 
 -- at the head of the block nothing is left, or nothing leads on

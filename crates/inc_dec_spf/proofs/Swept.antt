@@ -1,6 +1,5 @@
 -- The sweep goes on, turn by turn.
-use Rattle.std.proofs.Common.{◌≡◌, ◌<◌, ◌≤◌, ◌+◌, ◌∙◌, ℕ, zero, suc, List, Option, Some, None, length, slice_get, inl, inr, refl, sym, subst, arith}
-use Rattle.std.specs.Prelude.{replicate}
+use Rattle.std.proofs.Common.{◌≡◌, ◌<◌, ◌≤◌, ◌+◌, ◌∙◌, ℕ, List, Option, Some, length, slice_get, inl, inr, refl, sym, subst, arith}
 use Rattle.std.proofs.lemmas.Bool.{cases_lt}
 use Rattle.std.proofs.lemmas.Option.{same_Some}
 use Rattle.mrt_graph.specs.declared.link.End.{End}
@@ -36,12 +35,6 @@ sweep_begun g root w dir s before after kept one_each blank are = record {
   where
     offer : (v : ℕ) (way : Known) → slice_get after v ≡ Some (Some way) → IsFirstOffer g w dir s v way
     offer v way at = elim (are.from v way at) [ inl old ↦ absurd (blank v way old) | inr new ↦ new ]
-
--- nothing is known at first
-pub nothing_known : (n v : ℕ) (way : Known) → slice_get (replicate n None) v ≡ Some (Some way) → ⊥
-nothing_known zero v way at = cc
-nothing_known (suc n) zero way at = cc
-nothing_known (suc n) (suc v) way at = nothing_known n v way at
 
 -- one more turn
 pub turn_taken : (g : Topology) (root : ℕ) (w : Directions) (dir : Dir) (s x i : ℕ) (before after : List (Option Known)) → IsOrdered g root w
