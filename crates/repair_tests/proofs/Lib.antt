@@ -1,2 +1,1 @@
-mod Ahead
 mod SoundColumns

@@ -1,47 +1,35 @@
 //! Databases and areas of files of LSAs.
 
-ghost use Rattle.std.specs.Prelude.{◌≡◌, None, IfSome};
-ghost use Rattle.lsdb.specs.Conflicts.{least_conflict};
-ghost use Rattle.ospf_lsa.specs.Lsas.{AreLsas};
-
 use area_graph::{Area, build_area};
-use lsdb::{Lsdb, an_lsa_without_a_fault_may_be_installed};
-use mrt_graph::NoMemory;
-use ospf_lsa::{Lsa, read_lsas};
+use file_key::FileKey;
+use lsdb::{Lsdb, database_of};
+use ospf_lsa::read_lsas;
 use std::alloc::Global;
 
 /// The most bytes that are read as LSAs.
 const MOST: usize = 8_388_608;
 
-/// A database of the LSAs that are a router's or a network's.
-fn installed(alloc: Global, lsas: Vec<Lsa>) -> Result<Lsdb, NoMemory>
-    requires { AreLsas 0 lsas.items }
-{
-    an_lsa_without_a_fault_may_be_installed();
-    let mut database = Lsdb::new(alloc);
-    for lsa in lsas {
-        if lsa.kind == 1 || lsa.kind == 2 {
-            database.install(lsa)?;
-        }
-    }
-    Ok(database)
-}
-
-/// The settled database of bytes.
-fn database(alloc: Global, bytes: &[u8]) -> Option<Lsdb>
-    ensures { IfSome result (λ database. least_conflict database.entries ≡ None) }
-{
+/// The database of bytes.
+fn database(alloc: Global, bytes: &[u8]) -> Option<Lsdb> {
     if MOST < bytes.len() {
         return None;
     }
-    let lsas = read_lsas(alloc, bytes).ok()?;
-    let database = installed(alloc, lsas).ok()?;
-    database.settled().ok()?;
-    Some(database)
+    match read_lsas(alloc, bytes) {
+        Ok(lsas) => database_of(alloc, FileKey::of(bytes), lsas).ok(),
+        Err(_) => None,
+    }
+}
+
+/// The area of a database, where that is settled.
+fn area_in(alloc: Global, database: &Lsdb) -> Option<Area> {
+    match database.settled() {
+        Ok(()) => build_area(alloc, database).ok(),
+        Err(_) => None,
+    }
 }
 
 /// The area of bytes.
 pub fn area_of(alloc: Global, bytes: &[u8]) -> Option<Area> {
     let database = database(alloc, bytes)?;
-    build_area(alloc, &database).ok()
+    area_in(alloc, &database)
 }

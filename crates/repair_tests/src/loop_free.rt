@@ -48,111 +48,129 @@ struct Case {
     told: &'static [Told],
 }
 
-const CASES: &[Case] = &[
-    // Routers 1, 2 and 3, each joined to the others: each is reached over the other one.
-    Case {
-        source: 0,
-        bytes: TRIANGLE,
-        told: &[None, Some((1, None, 2, false)), Some((0, None, 1, false))],
-    },
-    // A ring of four routers: the one across is reached round the primary's next, and its neighbours cannot be.
-    Case {
-        source: 0,
-        bytes: RING,
-        told: &[None, None, Some((1, None, 3, true)), None],
-    },
-    // A LAN of four routers, of which 1 and 2 are joined by a link too: candidates over the LAN, and a network as a
-    // destination.
-    Case {
-        source: 0,
-        bytes: LAN,
-        told: &[
-            None,
-            Some((1, Some(7), 1, false)),
-            Some((0, None, 1, false)),
-            Some((0, None, 1, false)),
-            Some((0, None, 1, false)),
-        ],
-    },
-    // Two parallel links: the bond of the primary is left out, its parallel is not. Behind them one that protects the
-    // primary's next comes before a cheaper one that does not.
-    Case {
-        source: 0,
-        bytes: PARALLEL,
-        told: &[
-            None,
-            Some((1, None, 1, false)),
-            Some((0, None, 1, false)),
-            Some((2, None, 2, true)),
-        ],
-    },
-    // Equal sums: the first arc decides.
-    Case {
-        source: 0,
-        bytes: EQUAL,
-        told: &[
-            None,
-            Some((2, None, 2, false)),
-            Some((0, None, 1, false)),
-            None,
-            Some((1, None, 3, true)),
-            Some((1, None, 3, true)),
-            Some((1, None, 3, true)),
-        ],
-    },
-    // Two LANs: the source is on both, and second arcs decide.
-    Case {
-        source: 0,
-        bytes: LANS,
-        told: &[
-            None,
-            Some((2, Some(17), 2, false)),
-            Some((2, Some(17), 2, false)),
-            Some((2, Some(18), 3, false)),
-            Some((2, Some(19), 4, true)),
-            None,
-            Some((2, Some(17), 2, false)),
-            Some((2, None, 7, true)),
-        ],
-    },
-    // A source that is not the first node.
-    Case {
-        source: 1,
-        bytes: BETWEEN,
-        told: &[Some((4, None, 0, false)), None, None, None],
-    },
-    // Neither a router at MaxAge nor one without an LSA is a neighbour.
-    Case {
-        source: 0,
-        bytes: GONE,
-        told: &[None, Some((1, None, 2, false)), Some((0, None, 1, false))],
-    },
-    // Many listings on one network: over each first arc, the least second one.
-    Case {
-        source: 0,
-        bytes: LISTED,
-        told: &[
-            None,
-            Some((2, Some(15), 1, false)),
-            Some((1, Some(19), 2, false)),
-            Some((2, None, 3, false)),
-        ],
-    },
-    // And of the other router.
-    Case {
-        source: 1,
-        bytes: LISTED,
-        told: &[
-            Some((6, Some(11), 0, false)),
-            None,
-            Some((6, Some(19), 2, false)),
-            Some((6, None, 3, false)),
-        ],
-    },
-];
+/// Routers 1, 2 and 3, each joined to the others: each is reached over the other one.
+const OF_A_TRIANGLE: &Case = &Case {
+    source: 0,
+    bytes: TRIANGLE,
+    told: &[None, Some((1, None, 2, false)), Some((0, None, 1, false))],
+};
 
-fn cases() -> &'static [Case] {
-    CASES
+/// A ring of four routers: the one across is reached round the primary's next, and its neighbours cannot be.
+const OF_A_RING: &Case = &Case {
+    source: 0,
+    bytes: RING,
+    told: &[None, None, Some((1, None, 3, true)), None],
+};
+
+/// A LAN of four routers, of which 1 and 2 are joined by a link too: candidates over the LAN, and a network as a
+/// destination.
+const OF_A_LAN: &Case = &Case {
+    source: 0,
+    bytes: LAN,
+    told: &[
+        None,
+        Some((1, Some(7), 1, false)),
+        Some((0, None, 1, false)),
+        Some((0, None, 1, false)),
+        Some((0, None, 1, false)),
+    ],
+};
+
+/// Two parallel links: the bond of the primary is left out, its parallel is not. Behind them one that protects the
+/// primary's next comes before a cheaper one that does not.
+const PAST_A_PARALLEL_LINK: &Case = &Case {
+    source: 0,
+    bytes: PARALLEL,
+    told: &[
+        None,
+        Some((1, None, 1, false)),
+        Some((0, None, 1, false)),
+        Some((2, None, 2, true)),
+    ],
+};
+
+/// Equal sums: the first arc decides.
+const OF_EQUAL_SUMS: &Case = &Case {
+    source: 0,
+    bytes: EQUAL,
+    told: &[
+        None,
+        Some((2, None, 2, false)),
+        Some((0, None, 1, false)),
+        None,
+        Some((1, None, 3, true)),
+        Some((1, None, 3, true)),
+        Some((1, None, 3, true)),
+    ],
+};
+
+/// Two LANs: the source is on both, and second arcs decide.
+const OF_TWO_LANS: &Case = &Case {
+    source: 0,
+    bytes: LANS,
+    told: &[
+        None,
+        Some((2, Some(17), 2, false)),
+        Some((2, Some(17), 2, false)),
+        Some((2, Some(18), 3, false)),
+        Some((2, Some(19), 4, true)),
+        None,
+        Some((2, Some(17), 2, false)),
+        Some((2, None, 7, true)),
+    ],
+};
+
+/// A source that is not the first node.
+const OF_ANOTHER_NODE: &Case = &Case {
+    source: 1,
+    bytes: BETWEEN,
+    told: &[Some((4, None, 0, false)), None, None, None],
+};
+
+/// Neither a router at MaxAge nor one without an LSA is a neighbour.
+const PAST_THE_GONE: &Case = &Case {
+    source: 0,
+    bytes: GONE,
+    told: &[None, Some((1, None, 2, false)), Some((0, None, 1, false))],
+};
+
+/// Many listings on one network: over each first arc, the least second one.
+const OF_MANY_LISTINGS: &Case = &Case {
+    source: 0,
+    bytes: LISTED,
+    told: &[
+        None,
+        Some((2, Some(15), 1, false)),
+        Some((1, Some(19), 2, false)),
+        Some((2, None, 3, false)),
+    ],
+};
+
+/// And of the other router.
+const OF_MANY_LISTINGS_BESIDE: &Case = &Case {
+    source: 1,
+    bytes: LISTED,
+    told: &[
+        Some((6, Some(11), 0, false)),
+        None,
+        Some((6, Some(19), 2, false)),
+        Some((6, None, 3, false)),
+    ],
+};
+
+fn cases() -> [&'static Case; 10] {
+    [
+        OF_A_TRIANGLE,
+        OF_A_RING,
+        OF_A_LAN,
+        PAST_A_PARALLEL_LINK,
+        OF_EQUAL_SUMS,
+        OF_TWO_LANS,
+        OF_ANOTHER_NODE,
+        PAST_THE_GONE,
+        OF_MANY_LISTINGS,
+        OF_MANY_LISTINGS_BESIDE,
+    ]
 }
 
 fn told(entry: Option<Lfa>) -> Told {
@@ -194,37 +212,37 @@ fn is_so(alloc: Global, case: &Case) -> Option<bool> {
 struct Text {
     source: u16,
     bytes: &'static [u8],
-    text: &'static [u8],
+    text: &'static str,
 }
 
 const TEXTS: &[Text] = &[
     Text {
         source: 0,
         bytes: TRIANGLE,
-        text: b"lfa 1.1.1.1 nodes 3\n2.2.2.2 primary 2.2.2.2/0.0.0.2 lfa 3.3.3.3/0.0.0.3 next 3.3.3.3 link\n3.3.3.3 primary 3.3.3.3/0.0.0.3 lfa 2.2.2.2/0.0.0.2 next 2.2.2.2 link\n",
+        text: "lfa 1.1.1.1 nodes 3\n2.2.2.2 primary 2.2.2.2/0.0.0.2 lfa 3.3.3.3/0.0.0.3 next 3.3.3.3 link\n3.3.3.3 primary 3.3.3.3/0.0.0.3 lfa 2.2.2.2/0.0.0.2 next 2.2.2.2 link\n",
     },
     Text {
         source: 0,
         bytes: RING,
-        text: b"lfa 1.1.1.1 nodes 4\n2.2.2.2 primary 2.2.2.2/0.0.0.2 lfa none\n3.3.3.3 primary 2.2.2.2/0.0.0.2 lfa 4.4.4.4/0.0.0.4 next 4.4.4.4 node\n4.4.4.4 primary 4.4.4.4/0.0.0.4 lfa none\n",
+        text: "lfa 1.1.1.1 nodes 4\n2.2.2.2 primary 2.2.2.2/0.0.0.2 lfa none\n3.3.3.3 primary 2.2.2.2/0.0.0.2 lfa 4.4.4.4/0.0.0.4 next 4.4.4.4 node\n4.4.4.4 primary 4.4.4.4/0.0.0.4 lfa none\n",
     },
     // over a LAN, and to it
     Text {
         source: 0,
         bytes: LAN,
-        text: b"lfa 1.1.1.1 nodes 5\n2.2.2.2 primary 2.2.2.2/0.0.0.2 lfa net:10.0.0.4/10.0.0.1 next 2.2.2.2 link\n3.3.3.3 primary net:10.0.0.4/10.0.0.1 lfa 2.2.2.2/0.0.0.2 next 2.2.2.2 link\n4.4.4.4 primary net:10.0.0.4/10.0.0.1 lfa 2.2.2.2/0.0.0.2 next 2.2.2.2 link\nnet:10.0.0.4 primary net:10.0.0.4/10.0.0.1 lfa 2.2.2.2/0.0.0.2 next 2.2.2.2 link\n",
+        text: "lfa 1.1.1.1 nodes 5\n2.2.2.2 primary 2.2.2.2/0.0.0.2 lfa net:10.0.0.4/10.0.0.1 next 2.2.2.2 link\n3.3.3.3 primary net:10.0.0.4/10.0.0.1 lfa 2.2.2.2/0.0.0.2 next 2.2.2.2 link\n4.4.4.4 primary net:10.0.0.4/10.0.0.1 lfa 2.2.2.2/0.0.0.2 next 2.2.2.2 link\nnet:10.0.0.4 primary net:10.0.0.4/10.0.0.1 lfa 2.2.2.2/0.0.0.2 next 2.2.2.2 link\n",
     },
     // no line on nodes that no walk leads to
     Text {
         source: 0,
         bytes: APART,
-        text: b"lfa 0.0.0.1 nodes 4\n0.0.0.2 primary 0.0.0.2/0.0.0.2 lfa none\n",
+        text: "lfa 0.0.0.1 nodes 4\n0.0.0.2 primary 0.0.0.2/0.0.0.2 lfa none\n",
     },
     // of another router than the first one, and a network's line between routers' lines
     Text {
         source: 1,
         bytes: BETWEEN,
-        text: b"lfa 0.0.0.2 nodes 4\n0.0.0.1 primary net:0.0.0.5/10.0.0.2 lfa 0.0.0.1/0.0.0.1 next 0.0.0.1 link\nnet:0.0.0.5 primary net:0.0.0.5/10.0.0.2 lfa none\n0.0.0.9 primary net:0.0.0.5/10.0.0.2 lfa none\n",
+        text: "lfa 0.0.0.2 nodes 4\n0.0.0.1 primary net:0.0.0.5/10.0.0.2 lfa 0.0.0.1/0.0.0.1 next 0.0.0.1 link\nnet:0.0.0.5 primary net:0.0.0.5/10.0.0.2 lfa none\n0.0.0.9 primary net:0.0.0.5/10.0.0.2 lfa none\n",
     },
 ];
 
@@ -245,7 +263,7 @@ fn text_of(alloc: Global, area: &Area, source: Spot) -> Option<Vec<u8>> {
 fn has_text(alloc: Global, case: &Text) -> Option<bool> {
     let area = area_of(alloc, case.bytes)?;
     let text = text_of(alloc, &area, Spot::new(case.source))?;
-    Some(text.as_slice() == case.text)
+    Some(text.as_slice() == case.text.as_bytes())
 }
 
 #[test]

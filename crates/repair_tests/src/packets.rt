@@ -26,98 +26,108 @@ struct Case {
     bytes: &'static [u8],
     room: u16,
     happenings: &'static [Happening],
-    text: &'static [u8],
+    text: &'static str,
 }
 
-const CASES: &[Case] = &[
-    // a packet is switched where its link has failed, while another is on its way
-    Case {
-        bytes: TRIANGLE,
-        room: 2,
-        happenings: &[
-            Happening::Inject(1, 0, Entry::Repair),
-            Happening::Inject(0, 2, Entry::Blue),
-            Happening::Step(1),
-            Happening::FailBond(0),
-            Happening::Step(0),
-            Happening::Step(0),
-            Happening::FailNode(2),
-            Happening::Step(0),
-            Happening::Step(1),
-            Happening::Step(1),
-            Happening::Inject(0, 1, Entry::Red),
-            Happening::Step(9),
-        ],
-        text: b"entered 0\nentered 1\nmoved 2.2.2.2\nfailed\nswitched blue\nmoved 3.3.3.3\nrefused second-failure\ndelivered 1.1.1.1\ndelivered 3.3.3.3\nrefused ended\nrefused full\nrefused no-such-packet\n",
-    },
-    // a router fails with a packet in it
-    Case {
-        bytes: TRIANGLE,
-        room: 1,
-        happenings: &[
-            Happening::Inject(0, 2, Entry::Blue),
-            Happening::Step(0),
-            Happening::FailNode(1),
-            Happening::Step(0),
-        ],
-        text: b"entered 0\nmoved 2.2.2.2\nfailed\nlost inside\n",
-    },
-    // the failed router separates
-    Case {
-        bytes: LINE,
-        room: 1,
-        happenings: &[
-            Happening::FailNode(1),
-            Happening::Inject(0, 3, Entry::Repair),
-            Happening::Step(0),
-        ],
-        text: b"failed\nentered 0\nlost no-alternate\n",
-    },
-    // the destination has failed
-    Case {
-        bytes: LINE,
-        room: 1,
-        happenings: &[
-            Happening::FailNode(3),
-            Happening::Inject(0, 3, Entry::Repair),
-            Happening::Step(0),
-            Happening::Step(0),
-            Happening::Step(0),
-        ],
-        text: b"failed\nentered 0\nmoved 2.2.2.2\nmoved 3.3.3.3\nlost is-destination\n",
-    },
-    // a color is cut
-    Case {
-        bytes: LINE,
-        room: 1,
-        happenings: &[
-            Happening::FailNode(2),
-            Happening::Inject(0, 3, Entry::Blue),
-            Happening::Step(0),
-            Happening::Step(0),
-        ],
-        text: b"failed\nentered 0\nmoved 2.2.2.2\nlost color-cut\n",
-    },
-    // over a network in one step; the network fails; no packet enters at it, and one for it is lost
-    Case {
-        bytes: LAN,
-        room: 3,
-        happenings: &[
-            Happening::Inject(0, 2, Entry::Repair),
-            Happening::Step(0),
-            Happening::Inject(0, 2, Entry::Repair),
-            Happening::FailNode(4),
-            Happening::Step(1),
-            Happening::Inject(4, 0, Entry::Repair),
-            Happening::Inject(1, 4, Entry::Repair),
-            Happening::Step(2),
-        ],
-        text: b"entered 0\ndelivered 3.3.3.3\nentered 1\nfailed\nlost no-alternate\nrefused no-such-place\nentered 2\nlost is-destination\n",
-    },
-];
+/// A packet is switched where its link has failed, while another is on its way.
+const SWITCHED: &Case = &Case {
+    bytes: TRIANGLE,
+    room: 2,
+    happenings: &[
+        Happening::Inject(1, 0, Entry::Repair),
+        Happening::Inject(0, 2, Entry::Blue),
+        Happening::Step(1),
+        Happening::FailBond(0),
+        Happening::Step(0),
+        Happening::Step(0),
+        Happening::FailNode(2),
+        Happening::Step(0),
+        Happening::Step(1),
+        Happening::Step(1),
+        Happening::Inject(0, 1, Entry::Red),
+        Happening::Step(9),
+    ],
+    text: "entered 0\nentered 1\nmoved 2.2.2.2\nfailed\nswitched blue\nmoved 3.3.3.3\nrefused second-failure\ndelivered 1.1.1.1\ndelivered 3.3.3.3\nrefused ended\nrefused full\nrefused no-such-packet\n",
+};
 
-fn cases() -> &'static [Case] {
-    CASES
+/// A router fails with a packet in it.
+const LOST_INSIDE: &Case = &Case {
+    bytes: TRIANGLE,
+    room: 1,
+    happenings: &[
+        Happening::Inject(0, 2, Entry::Blue),
+        Happening::Step(0),
+        Happening::FailNode(1),
+        Happening::Step(0),
+    ],
+    text: "entered 0\nmoved 2.2.2.2\nfailed\nlost inside\n",
+};
+
+/// The failed router separates.
+const SEPARATED: &Case = &Case {
+    bytes: LINE,
+    room: 1,
+    happenings: &[
+        Happening::FailNode(1),
+        Happening::Inject(0, 3, Entry::Repair),
+        Happening::Step(0),
+    ],
+    text: "failed\nentered 0\nlost no-alternate\n",
+};
+
+/// The destination has failed.
+const DESTINATION_FAILED: &Case = &Case {
+    bytes: LINE,
+    room: 1,
+    happenings: &[
+        Happening::FailNode(3),
+        Happening::Inject(0, 3, Entry::Repair),
+        Happening::Step(0),
+        Happening::Step(0),
+        Happening::Step(0),
+    ],
+    text: "failed\nentered 0\nmoved 2.2.2.2\nmoved 3.3.3.3\nlost is-destination\n",
+};
+
+/// A color is cut.
+const CUT: &Case = &Case {
+    bytes: LINE,
+    room: 1,
+    happenings: &[
+        Happening::FailNode(2),
+        Happening::Inject(0, 3, Entry::Blue),
+        Happening::Step(0),
+        Happening::Step(0),
+    ],
+    text: "failed\nentered 0\nmoved 2.2.2.2\nlost color-cut\n",
+};
+
+/// Over a network in one step; the network fails; no packet enters at it, and one for it is lost.
+const OVER_A_NETWORK: &Case = &Case {
+    bytes: LAN,
+    room: 3,
+    happenings: &[
+        Happening::Inject(0, 2, Entry::Repair),
+        Happening::Step(0),
+        Happening::Inject(0, 2, Entry::Repair),
+        Happening::FailNode(4),
+        Happening::Step(1),
+        Happening::Inject(4, 0, Entry::Repair),
+        Happening::Inject(1, 4, Entry::Repair),
+        Happening::Step(2),
+    ],
+    text: "entered 0\ndelivered 3.3.3.3\nentered 1\nfailed\nlost no-alternate\nrefused no-such-place\nentered 2\nlost is-destination\n",
+};
+
+fn cases() -> [&'static Case; 6] {
+    [
+        SWITCHED,
+        LOST_INSIDE,
+        SEPARATED,
+        DESTINATION_FAILED,
+        CUT,
+        OVER_A_NETWORK,
+    ]
 }
 
 fn event(happening: Happening) -> Event {
@@ -166,13 +176,13 @@ fn is_so(alloc: Global, case: &Case) -> Result<bool, NoMemory> {
         return Ok(false);
     }
     let text = text_of(alloc, &network, case)?;
-    Ok(text.as_slice() == case.text)
+    Ok(text.as_slice() == case.text.as_bytes())
 }
 
 #[test]
 fn packets_through_a_failure(rt: HostRuntime) {
-    for (place, case) in cases().iter().enumerate() {
+    for case in cases() {
         let is_so = is_so(rt.alloc(), case);
-        assert!(rt; is_so == Ok(true), "case {place}");
+        assert!(rt; is_so == Ok(true), "{}", case.text);
     }
 }
