@@ -25,6 +25,3 @@ links-requires c = c.requires.made
 
 pub to-requires-clause-made : goal.to-requires-clause-made
 to-requires-clause-made c = c.requires.made
-
-pub to-requires-clause-to : goal.to-requires-clause-to
-to-requires-clause-to c = c.requires.head
