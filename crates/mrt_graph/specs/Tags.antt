@@ -1,5 +1,6 @@
 -- Which tag a row has. The tags are this project's; the next hops that they stand for are those of RFC 7811, section 5.7.
-use Rattle.std.specs.Prelude.{◌==◌, ℕ, Bool}
+use Rattle.std.specs.Prelude.{◌==◌, ℕ, Bool, not}
+use Rattle.mrt_graph.specs.declared.cert.Row.{Row}
 use Rattle.mrt_graph.specs.declared.cert.Tag.{Tag}
 use Rattle.mrt_graph.specs.declared.cert.Tag.TheVariants.{Sole, Head, Top, Below, Above, Unordered, Carried}
 
@@ -16,3 +17,7 @@ tag_number Carried = 6
 -- whether two tags are one
 abbrev pub same_tag : Tag → Tag → Bool
 same_tag tag other = tag_number tag == tag_number other
+
+-- a row that is not Carried is near: its source and its destination have a block in common
+abbrev pub is_near : Row → Bool
+is_near row = not (same_tag row.tag Carried)

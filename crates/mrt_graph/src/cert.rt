@@ -3,6 +3,7 @@
 ghost use Rattle.std.specs.Prelude.{◌≡◌, ◌≢◌, ◌<◌, ◌≤◌, ◌-◌, ◌*◌};
 ghost use Rattle.mrt_graph.specs.RowPlace.{place_of_row};
 
+use crate::gadag::Place;
 use crate::node_id::NodeId;
 use crate::numbers::{LinkNo, NodeNo};
 use std::marker::Model;
@@ -42,6 +43,18 @@ pub struct Row {
     pub tag: Tag,
 }
 
+impl Row {
+    ghost use Rattle.std.specs.Prelude.{◌≡◌};
+    ghost use Rattle.mrt_graph.specs.Tags.{is_near};
+
+    /// Whether it is not carried.
+    pub fn is_near(&self) -> bool
+        ensures { result ≡ is_near self.now }
+    {
+        !matches!(self.tag, Tag::Carried)
+    }
+}
+
 // As many bytes as in a file.
 const _: () = prove!(size_of::<Row>() == 5);
 
@@ -52,6 +65,21 @@ pub struct CertNode {
     pub order: u16,
     pub head: NodeNo,
     pub block: NodeNo,
+}
+
+impl CertNode {
+    ghost use Rattle.std.specs.Prelude.{◌≡◌};
+    ghost use Rattle.mrt_graph.specs.Related.{place_of};
+
+    /// Its head and its block.
+    pub fn place(&self) -> Place
+        ensures { result ≡ place_of self.now }
+    {
+        Place {
+            head: self.head,
+            block: self.block,
+        }
+    }
 }
 
 /// A certificate's words on one link.
@@ -177,8 +205,9 @@ impl Cert {
     }
 }
 
-/// Where the row of `s` for `t` stands among the rows of that many nodes.
-fn row_place(count: usize, s: NodeNo, t: NodeNo) -> usize
+/// Where the row of `s` for `t` stands among the rows of that many nodes: by ascending source, then by ascending
+/// destination, the source left out.
+pub fn row_place(count: usize, s: NodeNo, t: NodeNo) -> usize
     requires count { count ≤ 65535 }
     requires source { s < count }
     requires target { t < count }

@@ -62,6 +62,7 @@ impl Graph {
     };
     ghost use Rattle.mrt_graph.specs.Certificate.{row_of};
     ghost use Rattle.mrt_graph.specs.Hop.{color_hop};
+    ghost use Rattle.mrt_graph.specs.Leads.{leads};
     ghost use Rattle.mrt_graph.specs.GraphInvariant.{AreEnds, IsLink, IsTopology};
     ghost use Rattle.mrt_graph.specs.NewGraph.{AreGraphParts, IsGraphOf, IsTooLarge, too_large};
 
@@ -123,6 +124,14 @@ impl Graph {
         ensures within { IsLink self.now.ids result }
     {
         self.links[e.get() as usize]
+    }
+
+    /// The other node of a link that touches `n`.
+    pub fn other_node(&self, e: LinkNo, n: NodeNo) -> NodeNo
+        requires { IsSome (leads self.now.links e n) }
+        ensures { leads self.now.links e n ≡ Some result }
+    {
+        self.link(e).far_node(n).unwrap()
     }
 
     /// The interfaces of a node, ordered by metric, then by the neighbour's identifier, then by link number.

@@ -17,13 +17,14 @@ mod node_id;
 mod node_search;
 mod node_text;
 mod numbers;
+mod related;
 mod rows_of;
 mod seq;
 mod text_lines;
 mod text_numbers;
 mod tree;
 
-pub use cert::{Cert, CertFile, CertLink, CertNode, Color, Role, Row, Tag};
+pub use cert::{Cert, CertFile, CertLink, CertNode, Color, Role, Row, Tag, row_place};
 pub use cert_law::{
     accepted_files_are_foldable, accepted_implies_sound, accepted_or_one_first_fault,
     accepted_rows_lead_on,
@@ -40,6 +41,7 @@ pub use node_id::{Kind, NodeId};
 pub use node_search::NodeSearch;
 pub use node_text::{NodeText, push_node_text};
 pub use numbers::{LinkNo, NodeNo};
+pub use related::{Relation, are_unrelated, below_carrier, relation_of};
 pub use rows_of::RowsOf;
 pub use seq::Seq;
 pub use text_lines::{first_line, first_word, is_passed_over};
