@@ -1,5 +1,5 @@
 -- What is read once for many rows.
-use Rattle.std.specs.Prelude.{◌≡◌, ◌<◌, ◌*◌, ◌-◌, ℕ, Some, IfSome, length, slice_get}
+use Rattle.std.specs.Prelude.{◌≡◌, ◌<◌, ℕ, Some, IfSome, length, slice_get}
 use Rattle.cert_checker.specs.declared.known_node.KnownNode.{KnownNode}
 use Rattle.cert_checker.specs.declared.hops.Hop.{Hop}
 use Rattle.cert_checker.specs.declared.hops.Hops.{Hops}
@@ -7,11 +7,10 @@ use Rattle.mrt_graph.specs.Certificate.{Certificate}
 use Rattle.mrt_graph.specs.Leads.{leads}
 use Rattle.mrt_graph.specs.Topology.{Topology}
 
--- a node of the certificate, with its words on it, and the place of its first row
+-- a node of the certificate, with its words on it
 pub record IsKnown (c : Certificate) (node : KnownNode) : Type 0 where
   pub within : node.number < length c.nodes
   pub words : slice_get c.nodes node.number ≡ Some node.words
-  pub start : node.start ≡ node.number * (length c.nodes - 1)
 
 -- the link leads from s to a node, and that node is known
 pub record IsHop (g : Topology) (c : Certificate) (s : ℕ) (hop : Hop) : Type 0 where

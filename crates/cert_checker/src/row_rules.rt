@@ -8,15 +8,14 @@ ghost use Rattle.mrt_graph.specs.declared.cert.Tag.TheVariants.{Carried};
 ghost use Rattle.mrt_graph.specs.BothThere.{both};
 ghost use Rattle.mrt_graph.specs.Certificate.{row_of};
 ghost use Rattle.mrt_graph.specs.RowRules.{carried_row, carrier, near_row, row_rule, same_links};
-ghost use Rattle.mrt_graph.specs.Related.{are_unrelated};
 ghost use Rattle.mrt_graph.specs.SameGraph.{SameCounts};
 ghost use Rattle.mrt_graph.specs.Tags.{same_tag};
 
 use crate::hops::{Hop, Hops, hop_by};
-use crate::known_node::{KnownNode, row_for};
+use crate::known_node::KnownNode;
 use crate::near_rows::keeps_near_rule;
 use crate::row_words::number_of;
-use mrt_graph::{Cert, Graph, NodeNo, Row, Tag};
+use mrt_graph::{Cert, Graph, NodeNo, Row, Tag, are_unrelated, below_carrier};
 
 /// Whether a row keeps its rule, and the hops that serve the next row.
 #[derive(Drop)]
@@ -91,17 +90,7 @@ fn carried(c: &Cert, root: NodeNo, s: &KnownNode, t: NodeNo, row: &Row) -> bool
     requires target { t < length c.now.nodes }
     ensures { result ≡ carried_row c.now root s.now.number t row.now }
 {
-    unrelated(c, s, t) && has_links_for(c, s, carrier_of(c, root, s, t), row)
-}
-
-fn unrelated(c: &Cert, s: &KnownNode, t: NodeNo) -> bool
-    requires source { IsKnown c.now s.now }
-    requires target { t < length c.now.nodes }
-    ensures { result ≡ are_unrelated c.now s.now.number t }
-{
-    let from = s.words;
-    let to = c.node(t);
-    from.block != to.block && from.head != t && to.head != s.number
+    are_unrelated(c.nodes(), s.number, t) && has_links_for(c, s, carrier_of(c, root, s, t), row)
 }
 
 /// The node for which `s` has the links that it has for `t`.
@@ -111,11 +100,8 @@ fn carrier_of(c: &Cert, root: NodeNo, s: &KnownNode, t: NodeNo) -> NodeNo
     ensures value { carrier c.now root s.now.number t ≡ Some result }
     ensures within { result < length c.now.nodes }
 {
-    if t == root {
-        c.node(s.number).head
-    } else {
-        c.node(t).head
-    }
+    let below = below_carrier(root, s.number, t);
+    c.node(below).head
 }
 
 /// Whether the row has the links of the row of `s` for `w`.
@@ -127,6 +113,6 @@ fn has_links_for(c: &Cert, s: &KnownNode, w: NodeNo, row: &Row) -> bool
     if s.number == w {
         return false;
     }
-    let other = row_for(c, s, w);
+    let other = c.row(s.number, w);
     row.blue == other.blue && row.red == other.red
 }

@@ -7,7 +7,7 @@ ghost use Rattle.mrt_graph.specs.SameGraph.{SameCounts};
 
 use crate::fault::Fault;
 use crate::hops::Hops;
-use crate::known_node::{KnownNode, known_node, row_for};
+use crate::known_node::{KnownNode, known_node};
 use crate::row_rules::judge_rule;
 use crate::row_words::number_of;
 use mrt_graph::{Cert, Graph, NodeNo};
@@ -106,7 +106,7 @@ fn judge_row(g: &Graph, c: &Cert, root: NodeNo, s: &KnownNode, t: NodeNo, last: 
             hops: last,
         };
     }
-    let row = row_for(c, s, t);
+    let row = c.row(s.number, t);
     let judged = judge_rule(g, c, root, s, t, &row, last);
     if judged.keeps {
         return RowJudged {

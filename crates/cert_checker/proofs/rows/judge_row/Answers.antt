@@ -5,16 +5,16 @@ use Rattle.cert_checker.proofs.rows.judge_row.Goals as goal
 
 pub returns-then-judged : goal.returns-then-judged
 returns-then-judged c = record {
-  judged = keeps_tag c.args.g.now c.args.root c.args.c.now c.args.s.now.number c.args.t c.row_for-row.result
-      (eqb-false _ _ (sym c.eq.ensures ∙ c.if-eq.false)) c.row_for-row.ensures.value
+  judged = keeps_tag c.args.g.now c.args.root c.args.c.now c.args.s.now.number c.args.t c.row-row.result
+      (eqb-false _ _ (sym c.eq.ensures ∙ c.if-eq.false)) c.row-row.ensures.value
       (sym c.judge_rule-judged.ensures.keeps ∙ c.if-judged.true);
   hops = c.judge_rule-judged.ensures.hops;
 }
 
 pub returns : goal.returns
 returns c = record {
-  judged = breaks_tag c.args.g.now c.args.root c.args.c.now c.args.s.now.number c.args.t c.row_for-row.result
-      (eqb-false _ _ (sym c.eq.ensures ∙ c.if-eq.false)) c.row_for-row.ensures.value
+  judged = breaks_tag c.args.g.now c.args.root c.args.c.now c.args.s.now.number c.args.t c.row-row.result
+      (eqb-false _ _ (sym c.eq.ensures ∙ c.if-eq.false)) c.row-row.ensures.value
       _ c.number_of.ensures.number (sym c.judge_rule-judged.ensures.keeps ∙ c.if-judged.false);
   hops = c.judge_rule-judged.ensures.hops;
 }
