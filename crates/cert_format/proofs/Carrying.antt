@@ -1,13 +1,12 @@
 -- Carried rows that get their links, of one node after another, and for one node in the order from the top down.
 use Rattle.std.proofs.Common.{◌≡◌, ◌≢◌, ◌∙◌, ◌<◌, ◌≤◌, ◌+◌, ◌-◌, ◌*◌, ◌==◌, ◌&&◌, ◌||◌, ℕ, zero, suc, Bool, true, false, not, List, [], ◌∷◌, Option, Some, None, filter, length, map, get_or, set, slice_get, nat_lt, if◌then◌else◌, inl, inr, refl, sym, ap, subst, arith}
 use Rattle.std.proofs.Math.Nat.{mul-le-mul_right}
-use Rattle.std.proofs.lemmas.Bool.{and_from, and_parts, cases_Bool, cases_eq, cases_lt, eq-eqb, both_ways, false≢true, ltb-true, not-true}
+use Rattle.std.proofs.lemmas.Bool.{and_from, and_parts, cases_Bool, cases_eq, cases_lt, eq-eqb, both_ways, false≢true, false_from_ne_true, ltb-true, not-true}
 use Rattle.std.proofs.lemmas.List.{length-map}
 use Rattle.std.proofs.lemmas.Option.{same_Some, slice_get-map, slice_get_read, slice_get_within}
 use Rattle.std.specs.Option.{option_and_then, option_map, option_map_or}
-use Rattle.mrt_graph.specs.BothThere.{are_different}
 use Rattle.mrt_graph.specs.Certificate.{Certificate, are_two, certificate_of, row_of}
-use Rattle.mrt_graph.specs.CertWords.{block_of, head_of}
+use Rattle.mrt_graph.specs.CertWords.{head_of}
 use Rattle.mrt_graph.specs.declared.cert.CertNode.{CertNode}
 use Rattle.mrt_graph.specs.declared.cert.Row.{Row}
 use Rattle.mrt_graph.specs.declared.cert.Tag.TheVariants.{Carried}
@@ -15,12 +14,12 @@ use Rattle.mrt_graph.specs.Foldable.{is_folded, rows_folded}
 use Rattle.mrt_graph.specs.Related.{are_unrelated}
 use Rattle.mrt_graph.specs.RowPlace.{place_of_row}
 use Rattle.mrt_graph.specs.RowRules.{carrier, same_links}
-use Rattle.mrt_graph.specs.Tags.{same_tag}
+use Rattle.mrt_graph.specs.Tags.{is_near, same_tag}
 use Rattle.mrt_graph.proofs.ListPlaces.{set_elsewhere, set_there}
 use Rattle.mrt_graph.proofs.ListTests.{there}
+use Rattle.mrt_graph.proofs.Relations.{not_with_lower, unrelated_tells}
 use Rattle.mrt_graph.proofs.RowPlaces.{column_above, column_below, row_at}
 use Rattle.cert_format.specs.Down.{IsDown}
-use Rattle.cert_format.specs.Folded.{is_near}
 use Rattle.cert_format.specs.Unfolding.{AreSettledBefore, marks_of}
 use Rattle.cert_format.proofs.OneUnfolding.{carrier_far, carrier_home, chain_ends, under_head}
 use Rattle.cert_format.proofs.Pairs.{pairs_length, related_at}
@@ -219,14 +218,7 @@ rows_many nodes rows marks = sym (length-map rows is_near) ∙ ap length marks �
 
 -- a head and a node under it are related
 over_head : (c : Certificate) (s t : ℕ) → head_of c t ≡ Some s → are_unrelated c s t ≡ false
-over_head c s t is = elim (cases_Bool (are_unrelated c s t)) [
-  | inr near ↦ near
-  | inl far ↦
-      let heads = (and_parts (are_different (block_of c s) (block_of c t)) _ far).1 in
-      let second = (and_parts (are_different (head_of c s) (Some t)) _ heads).1 in
-      let same : not (s == s) ≡ true = subst (λ (o : Option ℕ). are_different o (Some s) ≡ true) is second in
-      absurd (false≢true (sym (ap not (eq-eqb s s refl)) ∙ same))
-]
+over_head c s t is = false_from_ne_true (are_unrelated c s t) (λ far. not_with_lower c s t is (unrelated_tells c s t far))
 
 module _ (nodes : List CertNode) (down : List ℕ) (it : IsDown (certificate_of nodes [] []) down) where
   abbrev c : Certificate
@@ -236,12 +228,9 @@ module _ (nodes : List CertNode) (down : List ℕ) (it : IsDown (certificate_of 
   pub first_top : (t : ℕ) → slice_get down 0 ≡ Some t → t ≡ it.top
   first_top t at = elim (it.headed 0 t at) [ inl same ↦ same | inr before ↦ absurd (omega (arith, before.before)) ]
 
-  pub later_other : (i t : ℕ) → i ≢ 0 → slice_get down i ≡ Some t → t ≢ it.top
-  later_other i t some at = λ same.
-      let within = slice_get_within down i t at in
-      let front = there down 0 (omega (arith, within, some)) in
-      let first = front.1 ∙ ap (λ (x : ℕ). Some x) (first_top front.0 front.1 ∙ sym same) in
-      some (it.once i 0 t at first)
+  -- so the carrier is the one by that node
+  pub by_top : (r s t h : ℕ) → slice_get down 0 ≡ Some r → carrier c r s t ≡ Some h → carrier c it.top s t ≡ Some h
+  by_top r s t h at by = subst (λ (x : ℕ). carrier c x s t ≡ Some h) (first_top r at) by
 
   pub node_within : (i t : ℕ) → slice_get down i ≡ Some t → t < length nodes
   node_within i t at = elim (it.headed i t at) [

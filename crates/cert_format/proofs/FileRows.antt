@@ -12,10 +12,10 @@ use Rattle.mrt_graph.specs.declared.cert.CertFile.{CertFile}
 use Rattle.mrt_graph.specs.declared.cert.Row.{Row}
 use Rattle.mrt_graph.specs.Certificate.{Certificate, IsCertRow}
 use Rattle.mrt_graph.specs.Foldable.{IsFoldable}
-use Rattle.mrt_graph.specs.Tags.{tag_number}
+use Rattle.mrt_graph.specs.Tags.{is_near, tag_number}
 use Rattle.mrt_graph.proofs.RowPlaces.{placed, row_at}
 use Rattle.mrt_graph.proofs.Tallies.{length_is_tally, tally_map}
-use Rattle.cert_format.specs.Folded.{is_near, related_pairs}
+use Rattle.cert_format.specs.Folded.{related_pairs}
 use Rattle.cert_format.specs.Limits.{IsCertFile, IsOfVersion}
 use Rattle.cert_format.specs.Reading.{IsFileRow}
 use Rattle.cert_format.specs.Unfolding.{set_marks}

@@ -12,7 +12,7 @@ use Rattle.mrt_graph.specs.declared.cert.Row.{Row}
 use Rattle.mrt_graph.specs.declared.cert.Tag.TheVariants.{Carried}
 use Rattle.mrt_graph.proofs.ListTests.{all_at, there}
 use Rattle.cert_format.specs.Down.{IsDown}
-use Rattle.cert_format.specs.Folded.{is_near}
+use Rattle.mrt_graph.specs.Tags.{is_near}
 use Rattle.cert_format.specs.Unfolding.{AreNear, AreSettledBefore, AreSpread, IsSettled, IsUnfolded, carried, marks_of, set_marks}
 use Rattle.cert_format.proofs.Carrying.{all_before, carried_before, carrier_self, far_told, near_before, node_within, other_stays, rows_many, self_before, set_near, set_tests}
 use Rattle.cert_format.proofs.OneUnfolding.{carrier_far, carrier_home}

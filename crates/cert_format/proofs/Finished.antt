@@ -21,7 +21,7 @@ use Rattle.cert_format.specs.Limits.{HasNumber, IsCertFile, IsOfVersion}
 use Rattle.cert_format.specs.Parts.{Parts, IsWhole, text_of_header, next_size, no_parts, text_of}
 use Rattle.cert_format.specs.Progress.{IsReading}
 use Rattle.cert_format.specs.Down.{IsDown}
-use Rattle.cert_format.specs.Folded.{is_near}
+use Rattle.mrt_graph.specs.Tags.{is_near}
 use Rattle.cert_format.specs.Reading.{IsFileRow, IsHeader, IsListOf, IsNode}
 use Rattle.cert_format.specs.Unfolding.{AreNear, IsUnfolded, marks_of, set_marks}
 use Rattle.cert_format.specs.Versions.{all_rows, is_version, row_count, rows_in, tag_count}

@@ -1,6 +1,6 @@
 -- The rows that are not Carried, and the nodes, fix all rows of a foldable certificate.
-use Rattle.std.proofs.Common.{◌≡◌, ◌≢◌, ◌⊎◌, ◌∙◌, ◌==◌, ◌<◌, ◌*◌, ◌-◌, nat_lt, ℕ, zero, suc, true, false, not, List, [], ◌∷◌, Option, Some, None, filter, length, slice_get, inl, inr, refl, sym, ap, subst, arith}
-use Rattle.std.proofs.lemmas.Bool.{and_parts, cases_Bool, cases_eq, eq-eqb, eqb-true, ltb-true, ne_eqb, false≢true}
+use Rattle.std.proofs.Common.{◌≡◌, ◌≢◌, ◌∙◌, ◌==◌, ◌<◌, ◌*◌, ◌-◌, nat_lt, ℕ, zero, suc, true, false, not, List, [], ◌∷◌, Option, Some, None, filter, length, slice_get, inl, inr, refl, sym, ap, subst, arith}
+use Rattle.std.proofs.lemmas.Bool.{and_parts, cases_Bool, cases_eq, eq-eqb, eqb-true, ltb-true, ne_eqb, false≢true, false_from_ne_true}
 use Rattle.std.proofs.lemmas.List.{same_lists}
 use Rattle.std.proofs.lemmas.Option.{get_or_from_slice_get, same_Some}
 use Rattle.std.specs.Option.{option_and_then}
@@ -8,17 +8,17 @@ use Rattle.mrt_graph.specs.declared.cert.CertLink.{CertLink}
 use Rattle.mrt_graph.specs.declared.cert.CertNode.{CertNode}
 use Rattle.mrt_graph.specs.declared.cert.Row.{Row}
 use Rattle.mrt_graph.specs.declared.cert.Tag.TheVariants.{Carried}
-use Rattle.mrt_graph.specs.BothThere.{are_different, are_equal}
+use Rattle.mrt_graph.specs.BothThere.{are_equal}
 use Rattle.mrt_graph.specs.Certificate.{Certificate, are_two, certificate_of, row_of}
-use Rattle.mrt_graph.specs.CertWords.{block_of, head_of}
+use Rattle.mrt_graph.specs.CertWords.{head_of}
 use Rattle.mrt_graph.specs.Foldable.{IsFoldable, comes_to, in_chain, is_folded, is_own_head}
-use Rattle.cert_format.specs.Folded.{is_near}
+use Rattle.mrt_graph.specs.Tags.{is_near, same_tag}
 use Rattle.mrt_graph.specs.Related.{are_unrelated}
 use Rattle.mrt_graph.specs.RowPlace.{place_of_row}
 use Rattle.mrt_graph.specs.RowRules.{carrier, same_links}
-use Rattle.mrt_graph.specs.Tags.{same_tag}
 use Rattle.mrt_graph.proofs.FirstPlaces.{one_first}
 use Rattle.mrt_graph.proofs.ListTests.{some_passes, there}
+use Rattle.mrt_graph.proofs.Relations.{not_with_head, unrelated_tells}
 use Rattle.mrt_graph.proofs.RowPlaces.{placed, row_at}
 use Rattle.mrt_graph.proofs.TestFacts.{row_of_two, tag_is, unless}
 
@@ -164,15 +164,7 @@ carrier_home c r s t same = rw (eq-eqb t r same) refl
 
 -- a node and its head are related
 pub under_head : (c : Certificate) (s h : ℕ) → head_of c s ≡ Some h → are_unrelated c s h ≡ false
-under_head c s h is = go (cases_Bool (are_unrelated c s h))
-  where
-    go : (are_unrelated c s h ≡ true) ⊎ (are_unrelated c s h ≡ false) → are_unrelated c s h ≡ false
-    go (inr near) = near
-    go (inl far) =
-        let heads = (and_parts (are_different (block_of c s) (block_of c h)) _ far).1 in
-        let first = (and_parts (are_different (head_of c s) (Some h)) _ heads).0 in
-        let same : not (h == h) ≡ true = subst (λ (o : Option ℕ). are_different o (Some h) ≡ true) is first in
-        absurd (false≢true (sym (ap not (eq-eqb h h refl)) ∙ same))
+under_head c s h is = false_from_ne_true (are_unrelated c s h) (λ far. not_with_head c s h is (unrelated_tells c s h far))
 
 module _ (nodes : List CertNode) (links more : List CertLink) (rows others : List Row)
     (count : length rows ≡ length nodes * (length nodes - 1)) (other_count : length others ≡ length nodes * (length nodes - 1))

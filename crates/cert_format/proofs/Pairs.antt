@@ -1,15 +1,15 @@
 -- Of each pair of nodes whether it is related, at the place of its row.
-use Rattle.std.proofs.Common.{◌≡◌, ◌≢◌, ◌∙◌, ◌<◌, ◌≤◌, ◌+◌, ◌-◌, ◌*◌, ◌==◌, ◌&&◌, ℕ, zero, suc, Bool, true, false, not, List, [], ◌∷◌, ◌++◌, Option, Some, None, filter, length, map, slice_get, inl, inr, refl, sym, ap, arith, length-append}
+use Rattle.std.proofs.Common.{◌≡◌, ◌≢◌, ◌∙◌, ◌<◌, ◌≤◌, ◌+◌, ◌-◌, ◌*◌, ◌==◌, ℕ, zero, suc, Bool, true, false, not, List, [], ◌∷◌, ◌++◌, Option, Some, None, filter, length, map, slice_get, inl, inr, refl, sym, ap, arith, length-append}
 use Rattle.std.specs.List.{flat_map, range_with_len}
 use Rattle.std.proofs.lemmas.Bool.{cases_lt, ne_eqb, eq-eqb}
 use Rattle.std.proofs.lemmas.List.FromFn.{length-range_with_len}
 use Rattle.std.proofs.lemmas.Option.{slice_get-map}
 use Rattle.std.proofs.lemmas.List.{append-nil}
 use Rattle.std.proofs.lemmas.List.Concat.{flat_map-append}
-use Rattle.mrt_graph.specs.BothThere.{are_different}
+use Rattle.mrt_graph.specs.declared.cert.CertNode.{CertNode}
+use Rattle.mrt_graph.specs.BothThere.{both}
 use Rattle.mrt_graph.specs.Certificate.{Certificate}
-use Rattle.mrt_graph.specs.CertWords.{block_of, head_of}
-use Rattle.mrt_graph.specs.Related.{are_unrelated}
+use Rattle.mrt_graph.specs.Related.{are_unrelated, is_apart, place_of, relation}
 use Rattle.mrt_graph.specs.RowPlace.{place_of_row}
 use Rattle.mrt_graph.proofs.ListPlaces.{at_left}
 use Rattle.mrt_graph.proofs.RowPlaces.{column_above, column_below}
@@ -148,11 +148,11 @@ few_set marks = omega (arith, length-filter (λ (mark : Bool). mark) marks, coun
 
 -- a node is related to itself
 related_self : (c : Certificate) (s : ℕ) → not (are_unrelated c s s) ≡ true
-related_self c s = go (block_of c s)
+related_self c s = go (slice_get c.nodes s)
   where
-    go : (o : Option ℕ) → not (are_different o o && (are_different (head_of c s) (Some s) && are_different (head_of c s) (Some s))) ≡ true
+    go : (o : Option CertNode) → not (both (λ here there. is_apart (relation s (place_of here) s (place_of there))) o o) ≡ true
     go None = refl
-    go (Some k) = rw (eq-eqb k k refl) refl
+    go (Some node) = rw (eq-eqb node.block node.block refl) refl
 
 marks_tally : (test : ℕ → Bool) (ts : List ℕ) → set_marks (map test ts) ≡ tally test ts
 marks_tally test ts = length_is_tally (λ (mark : Bool). mark) (map test ts) ∙ tally_map (λ (mark : Bool). mark) test ts

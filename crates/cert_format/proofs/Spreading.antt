@@ -13,7 +13,7 @@ use Rattle.mrt_graph.specs.RowPlace.{place_of_row}
 use Rattle.mrt_graph.proofs.ListPlaces.{set_elsewhere}
 use Rattle.mrt_graph.proofs.ListTests.{all_at, there}
 use Rattle.mrt_graph.proofs.RowPlaces.{column_above, column_below}
-use Rattle.cert_format.specs.Folded.{is_near}
+use Rattle.mrt_graph.specs.Tags.{is_near}
 use Rattle.cert_format.specs.Unfolding.{AreBlank, AreNear, AreSpread, IsSpreading, carried, marks_of, set_marks}
 use Rattle.cert_format.proofs.Pairs.{at_right, few_set, pairs_length, related_at}
 

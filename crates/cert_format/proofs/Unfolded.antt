@@ -14,7 +14,7 @@ use Rattle.mrt_graph.proofs.Filters.{kept_at}
 use Rattle.mrt_graph.proofs.ListTests.{all_at, there}
 use Rattle.mrt_graph.proofs.RowPlaces.{placed, row_at}
 use Rattle.cert_format.specs.Down.{IsDown}
-use Rattle.cert_format.specs.Folded.{is_near}
+use Rattle.mrt_graph.specs.Tags.{is_near}
 use Rattle.cert_format.specs.Unfolding.{AreNear, AreSpread, IsUnfolded}
 use Rattle.cert_format.proofs.Carrying.{near_settled, row_is_at, rows_many, self_settled}
 use Rattle.cert_format.proofs.Spreading.{place_within}

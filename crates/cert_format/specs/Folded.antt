@@ -2,12 +2,9 @@
 use Rattle.std.specs.Prelude.{◌==◌, ℕ, zero, suc, Bool, List, Option, Some, None, not, filter, length, map, if◌then◌else◌}
 use Rattle.std.specs.List.{flat_map, range_with_len}
 use Rattle.std.specs.Option.{option_map_or, option_or}
-use Rattle.mrt_graph.specs.declared.cert.Row.{Row}
-use Rattle.mrt_graph.specs.declared.cert.Tag.TheVariants.{Carried}
 use Rattle.mrt_graph.specs.Certificate.{Certificate}
 use Rattle.mrt_graph.specs.Foldable.{comes_to, is_own_head}
 use Rattle.mrt_graph.specs.Related.{are_unrelated}
-use Rattle.mrt_graph.specs.Tags.{same_tag}
 
 -- the least number below n that passes a test
 abbrev pub least : (ℕ → Bool) → ℕ → Option ℕ
@@ -28,7 +25,3 @@ related_to c s =
 -- of each node and each other one whether they are related, by ascending source, then by ascending destination
 abbrev pub related_pairs : Certificate → List Bool
 related_pairs c = flat_map (related_to c) (range_with_len 0 (length c.nodes))
-
--- a row that is not Carried
-abbrev pub is_near : Row → Bool
-is_near row = not (same_tag row.tag Carried)

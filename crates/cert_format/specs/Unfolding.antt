@@ -8,7 +8,8 @@ use Rattle.mrt_graph.specs.declared.cert.Tag.TheVariants.{Carried}
 use Rattle.mrt_graph.specs.Certificate.{IsCertRow, certificate_of}
 use Rattle.mrt_graph.specs.Foldable.{IsFoldable, rows_folded}
 use Rattle.cert_format.specs.Down.{IsDown}
-use Rattle.cert_format.specs.Folded.{is_near, related_pairs}
+use Rattle.mrt_graph.specs.Tags.{is_near}
+use Rattle.cert_format.specs.Folded.{related_pairs}
 use Rattle.cert_format.specs.Versions.{all_rows}
 
 -- how many of the marks are set

@@ -3,7 +3,8 @@ use Rattle.std.specs.Prelude.{◌==◌, ◌||◌, ◌*◌, ◌-◌, ℕ, Bool, L
 use Rattle.mrt_graph.specs.declared.cert.CertNode.{CertNode}
 use Rattle.mrt_graph.specs.declared.cert.Row.{Row}
 use Rattle.mrt_graph.specs.Certificate.{certificate_of}
-use Rattle.cert_format.specs.Folded.{head_fault, is_near, related_pairs}
+use Rattle.mrt_graph.specs.Tags.{is_near}
+use Rattle.cert_format.specs.Folded.{head_fault, related_pairs}
 
 -- the two versions
 abbrev pub is_version : ℕ → Bool

@@ -5,7 +5,7 @@ ghost use Rattle.mrt_graph.specs.Certificate.{certificate_of};
 ghost use Rattle.mrt_graph.specs.Related.{are_unrelated};
 ghost use Rattle.cert_format.specs.Folded.{related_pairs, related_to};
 
-use mrt_graph::CertNode;
+use mrt_graph::{CertNode, NodeNo, are_unrelated};
 
 /// How many pairs of a node and another one are related.
 ///
@@ -38,16 +38,12 @@ fn count_related_to(nodes: &[CertNode], s: usize) -> usize
     count - 1
 }
 
-/// Whether two nodes are related: they have one block, or one is the other's head.
+/// Whether two nodes have a block in common.
 pub fn are_related(nodes: &[CertNode], s: usize, t: usize) -> bool
+    requires few { length nodes.now ≤ 65535 }
     requires source { s < length nodes.now }
     requires target { t < length nodes.now }
     ensures { result ≡ not (are_unrelated (certificate_of nodes.now [] []) s t) }
 {
-    let a = &nodes[s];
-    let b = &nodes[t];
-    if a.block == b.block {
-        return true;
-    }
-    a.head.get() as usize == t || b.head.get() as usize == s
+    !are_unrelated(nodes, NodeNo::new(s as u16), NodeNo::new(t as u16))
 }

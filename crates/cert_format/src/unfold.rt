@@ -3,12 +3,10 @@
 ghost use Rattle.std.specs.Prelude.{◌≡◌, ◌≢◌, ◌<◌, ◌≤◌, ◌+◌, ◌-◌, ◌*◌, ◌++◌, ℕ, List, [], IsTrue, IsFalse, Some, filter, length, map, replicate, slice_get, slice_set, take, vec_capacity};
 ghost use Rattle.std.specs.List.{AllByRecursion, slice_index_or};
 ghost use Rattle.mrt_graph.specs.Certificate.{IsCertNode, certificate_of};
-ghost use Rattle.mrt_graph.specs.CertWords.{head_of};
-ghost use Rattle.mrt_graph.specs.RowPlace.{place_of_row};
 ghost use Rattle.mrt_graph.specs.RowRules.{carrier};
 ghost use Rattle.mrt_graph.specs.declared.cert.Row.{Row};
 ghost use Rattle.cert_format.specs.Down.{IsDown};
-ghost use Rattle.cert_format.specs.Folded.{is_near};
+ghost use Rattle.mrt_graph.specs.Tags.{is_near};
 ghost use Rattle.cert_format.specs.Unfolding.{
   AreBlank,
   AreNear,
@@ -24,8 +22,7 @@ ghost use Rattle.cert_format.specs.Unfolding.{
 ghost use Rattle.cert_format.specs.Versions.{all_rows};
 
 use crate::related::are_related;
-use crate::versions::is_near;
-use mrt_graph::{CertNode, LinkNo, NodeNo, Row, Tag};
+use mrt_graph::{CertNode, LinkNo, NodeNo, Row, Tag, below_carrier, row_place};
 
 /// Fills in the rows of unrelated nodes, where those of related ones are there. There is room for them.
 ///
@@ -41,7 +38,7 @@ pub fn unfold(rows: &mut Vec<Row>, nodes: &[CertNode], down: &[NodeNo])
 {
     if spread(rows, nodes) {
         for s in 0..nodes.len() {
-            carry_from(rows, nodes, down, s);
+            carry_from(rows, nodes, down, NodeNo::new(s as u16));
         }
     }
 }
@@ -136,7 +133,7 @@ fn spread_one(rows: &mut [Row], place: usize, near: usize, left: usize, related:
 }
 
 /// Gives the Carried rows of one node their links.
-fn carry_from(rows: &mut Vec<Row>, nodes: &[CertNode], down: &[NodeNo], s: usize)
+fn carry_from(rows: &mut Vec<Row>, nodes: &[CertNode], down: &[NodeNo], s: NodeNo)
     requires few { length nodes.now ≤ 65535 }
     requires within { s < length nodes.now }
     requires kept { AllByRecursion (IsCertNode (length nodes.now)) nodes.now }
@@ -157,7 +154,7 @@ fn carry_from(rows: &mut Vec<Row>, nodes: &[CertNode], down: &[NodeNo], s: usize
 }
 
 /// Gives a Carried row the links of the row for the carrier, which has its own.
-fn carry_one(rows: &mut Vec<Row>, nodes: &[CertNode], down: &[NodeNo], s: usize, i: usize)
+fn carry_one(rows: &mut Vec<Row>, nodes: &[CertNode], down: &[NodeNo], s: NodeNo, i: usize)
     requires few { length nodes.now ≤ 65535 }
     requires within { s < length nodes.now }
     requires place { i < length down.now }
@@ -175,10 +172,11 @@ fn carry_one(rows: &mut Vec<Row>, nodes: &[CertNode], down: &[NodeNo], s: usize,
     let t = node_at(nodes, down, i);
     let place = row_place(nodes.len(), s, t);
     let row = rows[place];
-    if is_near(&row) {
+    if row.is_near() {
         return;
     }
-    let by = carrier_at(nodes, down, s, i);
+    let top = node_at(nodes, down, 0);
+    let by = carrier_of(nodes, top, s, t);
     let from = rows[row_place(nodes.len(), s, by)];
     rows[place] = Row {
         blue: from.blue,
@@ -188,49 +186,23 @@ fn carry_one(rows: &mut Vec<Row>, nodes: &[CertNode], down: &[NodeNo], s: usize,
 }
 
 /// The node at a place from the top down.
-fn node_at(nodes: &[CertNode], down: &[NodeNo], i: usize) -> usize
+fn node_at(nodes: &[CertNode], down: &[NodeNo], i: usize) -> NodeNo
     requires place { i < length down.now }
     requires down { IsDown (certificate_of nodes.now [] []) down.now }
     ensures value { slice_get down.now i ≡ Some result }
     ensures within { result < length nodes.now }
 {
-    down[i].get() as usize
+    down[i]
 }
 
-/// The carrier for the row of `s` for the node at a place from the top down. The top stands first.
-fn carrier_at(nodes: &[CertNode], down: &[NodeNo], s: usize, i: usize) -> usize
-    requires within { s < length nodes.now }
-    requires place { i < length down.now }
+/// The carrier of `s` for `t`, where this node is the top.
+fn carrier_of(nodes: &[CertNode], top: NodeNo, s: NodeNo, t: NodeNo) -> NodeNo
+    requires source { s < length nodes.now }
+    requires target { t < length nodes.now }
     requires kept { AllByRecursion (IsCertNode (length nodes.now)) nodes.now }
-    requires down { IsDown (certificate_of nodes.now [] []) down.now }
-    ensures value { (it : IsDown (certificate_of nodes.now [] []) down.now) (t : ℕ) → slice_get down.now i ≡ Some t
-        → carrier (certificate_of nodes.now [] []) it.top s t ≡ Some result }
+    ensures value { carrier (certificate_of nodes.now [] []) top s t ≡ Some result }
     ensures within { result < length nodes.now }
 {
-    if i == 0 {
-        return head_at(nodes, s);
-    }
-    head_at(nodes, node_at(nodes, down, i))
-}
-
-fn head_at(nodes: &[CertNode], v: usize) -> usize
-    requires within { v < length nodes.now }
-    requires kept { AllByRecursion (IsCertNode (length nodes.now)) nodes.now }
-    ensures value { head_of (certificate_of nodes.now [] []) v ≡ Some result }
-    ensures within { result < length nodes.now }
-{
-    nodes[v].head.get() as usize
-}
-
-/// Where the row of `s` for `t` stands among the rows of so many nodes.
-fn row_place(count: usize, s: usize, t: usize) -> usize
-    requires count { count ≤ 65535 }
-    requires source { s < count }
-    requires target { t < count }
-    requires different { s ≢ t }
-    ensures place { result ≡ place_of_row count s t }
-    ensures within { result < all_rows count }
-{
-    let column = if t < s { t } else { t - 1 };
-    s * (count - 1) + column
+    let below = below_carrier(top, s, t);
+    nodes[below.get() as usize].head
 }

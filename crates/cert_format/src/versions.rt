@@ -1,10 +1,9 @@
 //! What the two versions of a certificate file differ in.
 
 ghost use Rattle.std.specs.Prelude.{◌≡◌, ◌≤◌};
-ghost use Rattle.cert_format.specs.Folded.{is_near};
 ghost use Rattle.cert_format.specs.Versions.{most_links, most_nodes, stands_in, tag_count};
 
-use mrt_graph::{Row, Tag};
+use mrt_graph::Row;
 
 /// How many nodes a file has at most.
 pub fn most_nodes(version: u16) -> u32
@@ -34,12 +33,5 @@ pub fn tag_count(version: u16) -> u8
 pub fn stands_in(version: u16, row: &Row) -> bool
     ensures { result ≡ stands_in version row.now }
 {
-    version == 1 || is_near(row)
-}
-
-/// Whether a row is not Carried.
-pub fn is_near(row: &Row) -> bool
-    ensures { result ≡ is_near row.now }
-{
-    !matches!(row.tag, Tag::Carried)
+    version == 1 || row.is_near()
 }

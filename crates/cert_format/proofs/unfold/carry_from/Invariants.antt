@@ -1,7 +1,7 @@
 use Rattle.std.proofs.Common.{◌≡◌, ◌≢◌, [], ℕ, filter, map}
 use Rattle.mrt_graph.specs.Certificate.{certificate_of}
 use Rattle.cert_format.specs.Down.{IsDown}
-use Rattle.cert_format.specs.Folded.{is_near}
+use Rattle.mrt_graph.specs.Tags.{is_near}
 use Rattle.cert_format.specs.Unfolding.{AreSettledBefore, IsSettled}
 use Rattle.cert_format.proofs.unfold.carry_from.Given as goal
 

@@ -1,6 +1,6 @@
 use Rattle.std.proofs.Common.{◌≢◌, ◌∙◌, ℕ, Some, refl, sym, ap, arith}
 use Rattle.mrt_graph.specs.declared.cert.Tag.TheVariants.{Carried}
-use Rattle.cert_format.proofs.Carrying.{carried_before, carrier_self, far_told, left_is, left_within, near_before, other_stays, set_near, set_tests}
+use Rattle.cert_format.proofs.Carrying.{by_top, carried_before, carrier_self, far_told, left_is, left_within, near_before, other_stays, set_near, set_tests}
 use Rattle.cert_format.proofs.unfold.carry_one.Goals as goal
 
 pub index-requires : goal.index-requires
@@ -20,7 +20,7 @@ row_place-requires-clause-different c = λ same.
     let two : c.node_at-t.result ≢ c.args.s = λ same. c.requires.other (at ∙ ap (λ (x : ℕ). Some x) same) in
     let left = left_is c.args.nodes.now c.args.rows.now.items c.args.s c.node_at-t.result c.row_place-place.result c.index.result.now c.requires.marks c.row_place-place.ensures.place c.row_place-place.ensures.within c.index.ensures in
     let far = far_told c.args.nodes.now c.args.rows.now.items c.args.s c.node_at-t.result c.index.result.now c.requires.marks c.requires.within c.node_at-t.ensures.within two left.placed (sym c.is_near.ensures ∙ c.if-is_near.false) in
-    carrier_self c.args.nodes.now c.args.down.now c.requires.down c.args.s c.args.i c.node_at-t.result c.carrier_at-by.result c.requires.within at two far (c.carrier_at-by.ensures.value c.requires.down c.node_at-t.result at) (sym same)
+    carrier_self c.args.nodes.now c.args.down.now c.requires.down c.args.s c.args.i c.node_at-t.result c.carrier_of-by.result c.requires.within at two far (by_top c.args.nodes.now c.args.down.now c.requires.down c.node_at-top.result c.args.s c.node_at-t.result c.carrier_of-by.result c.node_at-top.ensures.value c.carrier_of-by.ensures.value) (sym same)
 
 pub index-from-requires : goal.index-from-requires
 index-from-requires c =
@@ -53,8 +53,8 @@ returns-clause-before c = λ it before.
     let at = c.node_at-t.ensures.value in
     let two : c.node_at-t.result ≢ c.args.s = λ same. c.requires.other (at ∙ ap (λ (x : ℕ). Some x) same) in
     let left = left_is nodes rows c.args.s c.node_at-t.result c.row_place-place.result c.index.result.now c.requires.marks c.row_place-place.ensures.place c.row_place-place.ensures.within c.index.ensures in
-    let from = left_is nodes rows c.args.s c.carrier_at-by.result c.row_place.result c.index-from.result.now c.requires.marks c.row_place.ensures.place c.row_place.ensures.within c.index-from.ensures in
+    let from = left_is nodes rows c.args.s c.carrier_of-by.result c.row_place.result c.index-from.result.now c.requires.marks c.row_place.ensures.place c.row_place.ensures.within c.index-from.ensures in
     let far = far_told nodes rows c.args.s c.node_at-t.result c.index.result.now c.requires.marks c.requires.within c.node_at-t.ensures.within two left.placed (sym c.is_near.ensures ∙ c.if-is_near.false) in
     rw c.row_place-place.ensures.place
-    (carried_before nodes c.args.down.now it rows c.args.s c.args.i c.node_at-t.result c.carrier_at-by.result c.index-from.result.now c.requires.marks c.requires.within at two far
-    (c.carrier_at-by.ensures.value it c.node_at-t.result at) c.carrier_at-by.ensures.within from.placed before)
+    (carried_before nodes c.args.down.now it rows c.args.s c.args.i c.node_at-t.result c.carrier_of-by.result c.index-from.result.now c.requires.marks c.requires.within at two far
+    (by_top nodes c.args.down.now it c.node_at-top.result c.args.s c.node_at-t.result c.carrier_of-by.result c.node_at-top.ensures.value c.carrier_of-by.ensures.value) c.carrier_of-by.ensures.within from.placed before)

@@ -7,9 +7,9 @@ use Rattle.cert_format.proofs.unfold.unfold.Goals as goal
 pub loop-s-preserved : goal.loop-s-preserved
 loop-s-preserved c = record {
   spread = record { same = c.carry_from.ensures.near ∙ c.loop-s.invariant.spread.same; marks = c.carry_from.ensures.marks ∙ c.loop-s.invariant.spread.marks };
-  settled = λ it a b below b_in. elim (cases_eq a c.loop-s.s) [
+  settled = λ it a b below b_in. elim (cases_eq a c.new.result) [
     | inl here ↦ subst (λ (x : ℕ). IsSettled c.args.nodes.now c.args.down.now it c.carry_from.new.rows.items x b) (sym here) (c.carry_from.ensures.here it b b_in)
-    | inr other ↦ c.carry_from.ensures.others it a b other (c.loop-s.invariant.settled it a b (omega (arith, below, other)) b_in)
+    | inr other ↦ c.carry_from.ensures.others it a b other (c.loop-s.invariant.settled it a b (omega (arith, below, other, c.new.ensures)) b_in)
   ];
 }
 
