@@ -1,15 +1,16 @@
 -- Two nodes with a block in common, by their order.
-use Rattle.std.proofs.Common.{◌≡◌, ◌≢◌, ◌<◌, ◌==◌, ◌&&◌, ◌∙◌, ℕ, true, false, not, Option, Some, slice_get, length, inl, inr, refl, sym, ap, subst, arith, Bool}
-use Rattle.std.proofs.lemmas.Bool.{cases_eq, and_parts, cases_Bool, eq-eqb, lt-ltb, or_right}
+use Rattle.std.proofs.Common.{◌≡◌, ◌≢◌, ◌<◌, ◌∙◌, ℕ, true, false, List, [], Option, Some, slice_get, length, inl, inr, refl, sym, ap, subst, arith}
+use Rattle.std.proofs.lemmas.Bool.{cases_eq, eq-eqb, false_from_ne_true, false≢true, lt-ltb, or_right}
 use Rattle.std.proofs.lemmas.Bool.Decides.{eqb_tells}
 use Rattle.std.proofs.lemmas.Option.{slice_get_within}
 use Rattle.std.specs.Option.{option_map, unwrap_or}
 use Rattle.mrt_graph.specs.declared.cert.CertNode.{CertNode}
-use Rattle.mrt_graph.specs.Certificate.{Certificate}
+use Rattle.mrt_graph.specs.Certificate.{Certificate, certificate_of}
 use Rattle.mrt_graph.specs.Related.{are_unrelated, is_common_block}
 use Rattle.mrt_graph.specs.Topology.{Topology}
 use Rattle.mrt_graph.proofs.AcceptedBlocks.{blocks}
 use Rattle.mrt_graph.proofs.Blocks.{Words, Blocks}
+use Rattle.mrt_graph.proofs.Relations.{unrelated_holds, unrelated_tells}
 use Rattle.mrt_graph.proofs.WordsOf.{words_of}
 use Rattle.proxy_rows.specs.declared.attachment.Attachment.{Attachment}
 use Rattle.mrt_graph.specs.AcceptedFor.{IsAcceptedFor}
@@ -22,14 +23,9 @@ words g c accepted = words_of g.links accepted.root c
 pub blocks_of : (g : Topology) (c : Certificate) (accepted : IsAcceptedFor g c) → Blocks (words g c accepted)
 blocks_of g c accepted = blocks g accepted.root _ accepted.accepted
 
--- two nodes have no block in common
-abbrev pub are_apart : ℕ → ℕ → CertNode → CertNode → Bool
-are_apart a b one other = not (one.block == other.block) && (not (one.head == b) && not (other.head == a))
-
--- two nodes are unrelated where they are apart
-pub unrelated_is : (c : Certificate) (a b : ℕ) (one other : CertNode) → slice_get c.nodes a ≡ Some one → slice_get c.nodes b ≡ Some other
-    → are_unrelated c a b ≡ are_apart a b one other
-unrelated_is c a b one other at_a at_b = rw (at_a, at_b) refl
+-- what is unrelated by the words on nodes is so by any certificate of them
+pub unrelated_in : (c : Certificate) (nodes : List CertNode) (a b : ℕ) → c.nodes ≡ nodes → are_unrelated c a b ≡ are_unrelated (certificate_of nodes [] []) a b
+unrelated_in c nodes a b same = ap (λ (them : List CertNode). are_unrelated (certificate_of them [] []) a b) same
 
 -- the head of a node is one
 pub head_there : (g : Topology) (c : Certificate) → IsAcceptedFor g c → (a : ℕ) (one : CertNode) → slice_get c.nodes a ≡ Some one → one.head < length c.nodes
@@ -54,7 +50,7 @@ head_before g c accepted a b one other at_a at_b differ head less =
     ]
 
 common : (g : Topology) (c : Certificate) → IsAcceptedFor g c → (a b : ℕ) (one other : CertNode)
-    → slice_get c.nodes a ≡ Some one → slice_get c.nodes b ≡ Some other → a ≢ b → are_apart a b one other ≡ false
+    → slice_get c.nodes a ≡ Some one → slice_get c.nodes b ≡ Some other → a ≢ b → are_unrelated c a b ≡ false
     → one.order < other.order → is_common_block c a b (Some other.block) ≡ true
 common g c accepted a b one other at_a at_b differ near less =
     elim (eqb_tells one.block other.block) [
@@ -63,14 +59,14 @@ common g c accepted a b one other at_a at_b differ near less =
         | inl down ↦ rw (at_a, at_b, apart.0, down.0, eq-eqb other.block other.block refl) (or_right _ _ refl)
         | inr not_down ↦ elim (eqb_tells one.head b) [
           | inl up ↦ absurd (head_before g c accepted a b one other at_a at_b differ up.1 less)
-          | inr not_up ↦ let clash = rw (apart.0, not_down.0, not_up.0) at near in absurd (cc)
+          | inr not_up ↦ let clash = rw (at_a, at_b, apart.0, not_down.0, not_up.0) at near in absurd (cc)
         ]
       ]
     ]
 
 -- the one with the lower order first
 pub attached : (g : Topology) (c : Certificate) → IsAcceptedFor g c → (a b : ℕ) (one other : CertNode)
-    → slice_get c.nodes a ≡ Some one → slice_get c.nodes b ≡ Some other → a ≢ b → are_apart a b one other ≡ false
+    → slice_get c.nodes a ≡ Some one → slice_get c.nodes b ≡ Some other → a ≢ b → are_unrelated c a b ≡ false
     → one.order < other.order
     → IsAttachment c a b (record { lower = a; upper = b; block = other.block; head = other.head })
 attached g c accepted a b one other at_a at_b differ near less = record {
@@ -93,25 +89,25 @@ turned c a b at is = record {
   headed = is.headed;
 }
 
-apart_turned : (a b : ℕ) (one other : CertNode) → are_apart a b one other ≡ false → are_apart b a other one ≡ false
-apart_turned a b one other near =
-    elim (cases_Bool (are_apart b a other one)) [
-      | inr same ↦ same
-      | inl apart ↦
-          let first = and_parts (not (other.block == one.block)) _ apart in
-          let later = and_parts (not (other.head == a)) _ first.1 in
-          elim (eqb_tells one.block other.block) [
-            | inl peers ↦ let clash = rw (eq-eqb other.block one.block (sym peers.1)) at first.0 in absurd (cc)
-            | inr other_blocks ↦ let clash = rw (other_blocks.0, later.0, later.1) at near in absurd (cc)
-          ]
-    ]
+near_turned : (c : Certificate) (a b : ℕ) → are_unrelated c a b ≡ false → are_unrelated c b a ≡ false
+near_turned c a b near = false_from_ne_true (are_unrelated c b a) (λ apart.
+    let far = unrelated_tells c b a apart in
+    false≢true (sym near ∙ unrelated_holds c a b (record {
+      here = far.there;
+      there = far.here;
+      at_here = far.at_there;
+      at_there = far.at_here;
+      blocks = λ same. far.blocks (sym same);
+      not_under = far.not_over;
+      not_over = far.not_under;
+    })))
 
 pub attached_turned : (g : Topology) (c : Certificate) → IsAcceptedFor g c → (a b : ℕ) (one other : CertNode)
-    → slice_get c.nodes a ≡ Some one → slice_get c.nodes b ≡ Some other → a ≢ b → are_apart a b one other ≡ false
+    → slice_get c.nodes a ≡ Some one → slice_get c.nodes b ≡ Some other → a ≢ b → are_unrelated c a b ≡ false
     → other.order < one.order
     → IsAttachment c a b (record { lower = b; upper = a; block = one.block; head = one.head })
 attached_turned g c accepted a b one other at_a at_b differ near less =
-    turned c b a _ (attached g c accepted b a other one at_b at_a (λ same. differ (sym same)) (apart_turned a b one other near) less)
+    turned c b a _ (attached g c accepted b a other one at_b at_a (λ same. differ (sym same)) (near_turned c a b near) less)
 
 -- two nodes do not have one order
 pub orders_differ : (g : Topology) (c : Certificate) → IsAcceptedFor g c → (a b : ℕ) (one other : CertNode)

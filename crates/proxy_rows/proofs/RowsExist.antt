@@ -28,7 +28,7 @@ use Rattle.proxy_rows.specs.Ends.{NoneBefore}
 use Rattle.proxy_rows.specs.Ground.{IsGround}
 use Rattle.proxy_rows.specs.ProxyRows.{AreProxyRows, AreRowsOf, IsHeadBlue, Itself, ToLow, IsOnward, IsPlainToLow, IsProxyRow, OfHead, OfLow, OfHigh, OfOther, IsSideOut, Here, Over}
 use Rattle.proxy_rows.specs.Sides.{IsIn, Router, Onward, IsMember, IsOfBlock, goes_on, router_of}
-use Rattle.proxy_rows.proofs.Attaching.{are_apart, attached, attached_turned, orders_differ, words}
+use Rattle.proxy_rows.proofs.Attaching.{attached, attached_turned, orders_differ, words}
 use Rattle.proxy_rows.proofs.BlockRows.{high_member, low_member, to_high}
 use Rattle.proxy_rows.proofs.FirstEnds.{end_within, none_at_all, none_more}
 use Rattle.proxy_rows.proofs.Grounds.{b, counts, head_within, is_higher, is_lower, is_member, member_block}
@@ -259,11 +259,10 @@ attachment_there g c accepted a b a_within b_within differ related =
     let same = (accepted.accepted GraphRule).counts.nodes in
     let one = there c.nodes a (omega (arith, a_within, same)) in
     let other = there c.nodes b (omega (arith, b_within, same)) in
-    let near : are_apart a b one.0 other.0 ≡ false = rw (one.1, other.1) at related in
     let apart = orders_differ g c accepted a b one.0 other.0 one.1 other.1 differ in
     elim (cases_lt one.0.order other.0.order) [
-      | inl less ↦ (_, attached g c accepted a b one.0 other.0 one.1 other.1 differ near less)
-      | inr above ↦ (_, attached_turned g c accepted a b one.0 other.0 one.1 other.1 differ near (omega (arith, above, apart)))
+      | inl less ↦ (_, attached g c accepted a b one.0 other.0 one.1 other.1 differ related less)
+      | inr above ↦ (_, attached_turned g c accepted a b one.0 other.0 one.1 other.1 differ related (omega (arith, above, apart)))
     ]
 
 pub rows_or_none : (g : Topology) (c : Certificate) (a b : ℕ) → IsTopology g → IsAcceptedFor g c → a < length g.ids → b < length g.ids → a ≢ b

@@ -1,19 +1,6 @@
 //! The two routers, by their order, and the block that they have in common.
 
-ghost use Rattle.std.specs.Prelude.{
-  ◌≡◌,
-  ◌≢◌,
-  ◌<◌,
-  ◌≤◌,
-  ◌==◌,
-  ◌&&◌,
-  ◌↔◌,
-  IsNone,
-  IfSome,
-  true,
-  not,
-  length,
-};
+ghost use Rattle.std.specs.Prelude.{◌≡◌, ◌≢◌, ◌<◌, ◌≤◌, ◌↔◌, IsNone, IfSome, true, length};
 ghost use Rattle.mrt_graph.specs.AcceptedFor.{IsAcceptedFor};
 ghost use Rattle.mrt_graph.specs.Certificate.{Certificate};
 ghost use Rattle.mrt_graph.specs.Related.{are_unrelated};
@@ -21,7 +8,7 @@ ghost use Rattle.mrt_graph.specs.Topology.{Topology};
 ghost use Rattle.proxy_rows.specs.Attachment.{IsAttachment};
 
 use crate::words::node_at;
-use mrt_graph::{CertNode, NodeNo};
+use mrt_graph::{CertNode, NodeNo, are_unrelated};
 
 /// The router with the lower order and the other one, their common block and its head.
 #[derive(Clone, Copy)]
@@ -46,20 +33,12 @@ pub fn attach(nodes: &[CertNode], a: NodeNo, b: NodeNo) -> Option<Attachment>
     ensures none { (c : Certificate) → c.nodes ≡ nodes.now
         → (IsNone result ↔ (are_unrelated c a b ≡ true)) }
 {
-    let one = node_at(nodes, a);
-    let other = node_at(nodes, b);
-    if are_apart(a, b, &one, &other) {
+    if are_unrelated(nodes, a, b) {
         return None;
     }
+    let one = node_at(nodes, a);
+    let other = node_at(nodes, b);
     Some(in_order(a, b, &one, &other))
-}
-
-/// Whether two nodes have no block in common.
-fn are_apart(a: NodeNo, b: NodeNo, one: &CertNode, other: &CertNode) -> bool
-    ensures { result ≡ (not (one.now.block == other.now.block)
-        && (not (one.now.head == b) && not (other.now.head == a))) }
-{
-    one.block != other.block && one.head != b && other.head != a
 }
 
 /// Two nodes by their order, with the block of the one with the greater order, and its head.
