@@ -26,7 +26,6 @@ ghost use Rattle.std.specs.Prelude.{
 ghost use Rattle.std.specs.List.{AllByRecursion};
 ghost use Rattle.mrt_graph.specs.declared.link.End.{End};
 ghost use Rattle.mrt_graph.specs.GraphInvariant.{IsTopology};
-ghost use Rattle.mrt_graph.specs.Leads.{leads};
 ghost use Rattle.mrt_graph.specs.TreeWords.{number_of};
 ghost use Rattle.lowpoint_dfs.specs.Subtree.{parent_of};
 ghost use Rattle.lowpoint_dfs.specs.Finding.{
@@ -179,13 +178,5 @@ fn parent(g: &Graph, nodes: &[TreeNode], v: NodeNo) -> NodeNo
     ensures { parent_of g.now nodes.now v ≡ Some result }
 {
     let link = nodes[v.get() as usize].parent.unwrap();
-    other_node(g, link, v)
-}
-
-/// The other node of a link that touches v.
-fn other_node(g: &Graph, link: LinkNo, v: NodeNo) -> NodeNo
-    requires { IsSome (leads g.now.links link v) }
-    ensures { leads g.now.links link v ≡ Some result }
-{
-    g.link(link).far_node(v).unwrap()
+    g.other_node(link, v)
 }
