@@ -14,7 +14,7 @@ use Rattle.gadag_ears.specs.declared.growing.Growing.{Growing}
 use Rattle.gadag_ears.specs.declared.kind.EarKind.{EarKind}
 use Rattle.gadag_ears.specs.Ear.{Ear, ear_of, IsBegun, IsNextEar, new_nodes}
 use Rattle.gadag_ears.specs.EarOrder.{Grown, IsEarOrder}
-use Rattle.gadag_ears.specs.Growing.{AreEntered, AreListed, AreWaysAndRoles, IsLeaving, IsMarked, IsPlaceOfEar, IsTurn, IsWay, StartsEar}
+use Rattle.gadag_ears.specs.Growing.{AreEntered, AreListed, AreWaysAndRoles, IsLeaving, IsMarked, IsPlaceOfEar, IsEarTurn, IsEarWay, StartsEar}
 use Rattle.gadag_ears.specs.HeadAndBlock.{ArePlaces, BeginsBlock, HasPlace, IsPlacedAs}
 use Rattle.gadag_ears.specs.Marking.{AreEarMarked, IsMarkable}
 use Rattle.gadag_ears.specs.declared.kind.EarKind.TheVariants.{Child}
@@ -31,7 +31,7 @@ use Rattle.gadag_ears.proofs.TurnsKept.{AreKept, all_kept, brought_at, kept_next
 abbrev pub listed_in : ℕ → Growing → List ℕ
 listed_in x growing = growing.order.items ++ x ∷ reverse growing.waiting.items
 
-pub turn_kept : (g : Topology) (root : ℕ) (tree : List TreeNode) (x : ℕ) (growing : Growing) → (turn : IsTurn g root tree x growing)
+pub turn_kept : (g : Topology) (root : ℕ) (tree : List TreeNode) (x : ℕ) (growing : Growing) → (turn : IsEarTurn g root tree x growing)
     → AreKept g tree growing.order.items x (reverse growing.waiting.items)
 turn_kept g root tree x growing turn =
     all_kept g root tree growing.order.items x (reverse growing.waiting.items) turn.ears (facts_of g root tree turn.searched) turn.ordered
@@ -72,8 +72,8 @@ pub record IsFoundEar (g : Topology) (root : ℕ) (tree : List TreeNode) (x : �
   pub way : IsUnderWay g root tree (growing.order.items ++ x ∷ reverse growing.waiting.items) x ear
 
 pub ear_of_way : (g : Topology) (root : ℕ) (tree : List TreeNode) (kind : EarKind) (growing : Growing) (x link first stop : ℕ) (end : End) (new : List ℕ)
-    → IsTurn g root tree x growing → IsBegun g tree (growing.order.items ++ x ∷ reverse growing.waiting.items) x end kind → link ≡ end.link → first ≡ end.to
-    → IsWay g tree kind (growing.order.items ++ x ∷ reverse growing.waiting.items) first new stop → IsFoundEar g root tree x growing kind link first stop new
+    → IsEarTurn g root tree x growing → IsBegun g tree (growing.order.items ++ x ∷ reverse growing.waiting.items) x end kind → link ≡ end.link → first ≡ end.to
+    → IsEarWay g tree kind (growing.order.items ++ x ∷ reverse growing.waiting.items) first new stop → IsFoundEar g root tree x growing kind link first stop new
 ear_of_way g root tree kind growing x link first stop end new turn begun over to way =
     let facts = facts_of g root tree turn.searched in
     let kept = turn_kept g root tree x growing turn in
@@ -202,11 +202,11 @@ waiting_grown waiting waiting' new is =
 
 -- the whole step
 pub turn_grown : (g : Topology) (root : ℕ) (tree : List TreeNode) (x : ℕ) (growing after : Growing) (kind : EarKind) (link first stop head block : ℕ) (new : List ℕ)
-    → IsTurn g root tree x growing → (found : IsFoundEar g root tree x growing kind link first stop new)
+    → IsEarTurn g root tree x growing → (found : IsFoundEar g root tree x growing kind link first stop new)
     → IsPlaceOfEar kind x first stop growing.places.items (record { head = head; block = block })
     → after.order ≡ growing.order → after.waiting.items ≡ growing.waiting.items ++ reverse new
     → AreEntered growing.listed.items growing.places.items head block new after.listed.items after.places.items
-    → AreEarMarked g tree found.ear growing.marks.items after.marks.items → IsTurn g root tree x after
+    → AreEarMarked g tree found.ear growing.marks.items after.marks.items → IsEarTurn g root tree x after
 turn_grown g root tree x growing after kind link first stop head block new turn found place order waiting entered marked =
     let facts = facts_of g root tree turn.searched in
     let over = growing.order.items in

@@ -17,7 +17,7 @@ use Rattle.gadag_ears.specs.LinkMarks.{IsOfOneLink, IsOnEar, Onward, Out}
 use Rattle.gadag_ears.specs.Marking.{GoesOver, IsMarkable}
 use Rattle.gadag_ears.proofs.CutLists.{in_turn, kept_in, put_in, turned}
 use Rattle.gadag_ears.proofs.EarWalk.{GoesNearer, IsGoing, begins, goes_nearer, next_there, next_within, rank}
-use Rattle.gadag_ears.proofs.NextEar.{FromNew, FromStart, FromStop, Heads, IsBrought, IsHung, IsReady, brought}
+use Rattle.gadag_ears.proofs.NextEar.{FromNew, FromStart, FromStop, Heads, IsBrought, IsHung, IsClosedUp, brought}
 use Rattle.gadag_ears.proofs.SearchFacts.{AreFacts}
 use Rattle.gadag_ears.proofs.TurnsKept.{all_kept, link_of_next, ready}
 
@@ -49,7 +49,7 @@ pub record IsUnderWay (g : Topology) (root : ℕ) (tree : List TreeNode) (listed
   pub next : IsNextEar g tree listed x ear
   pub going : IsGoing g tree listed x ear.first next.end.link ear.first 0 ear.kind
 
-pub under_way : (g : Topology) (root : ℕ) (tree : List TreeNode) (listed : List ℕ) (x : ℕ) (ear : Ear) → AreFacts g root tree → IsReady g tree listed x
+pub under_way : (g : Topology) (root : ℕ) (tree : List TreeNode) (listed : List ℕ) (x : ℕ) (ear : Ear) → AreFacts g root tree → IsClosedUp g tree listed x
     → IsNextEar g tree listed x ear → IsUnderWay g root tree listed x ear
 under_way g root tree listed x ear facts ready next = record {
   facts = facts;

@@ -14,7 +14,7 @@ use Rattle.lowpoint_dfs.specs.Subtree.{IsInSubtree, Itself, parent_of}
 use Rattle.gadag_ears.specs.declared.kind.EarKind.{EarKind}
 use Rattle.gadag_ears.specs.declared.kind.EarKind.TheVariants.{Child, Neighbour}
 use Rattle.gadag_ears.specs.Ear.{GoesOn, IsBegun, ToChild, ToNeighbour, next_node}
-use Rattle.gadag_ears.specs.Growing.{AreListed, IsLeaving, IsWay}
+use Rattle.gadag_ears.specs.Growing.{AreListed, IsLeaving, IsEarWay}
 use Rattle.gadag_ears.proofs.ChildEars.{IsChildStart, IsOnWay, down_on_way, low_above, way_lower}
 use Rattle.gadag_ears.proofs.FromSearch.{facts_of}
 use Rattle.gadag_ears.proofs.NeighbourEars.{IsClimbing, IsNeighbourStart, climbs}
@@ -210,7 +210,7 @@ walks_nearer g tree kind listed first here k w walking is none =
 -- what is left of the way goes on
 abbrev pub SoFar : Topology → List TreeNode → EarKind → List Bool → ℕ → List ℕ → ℕ → Type 0
 SoFar g tree kind listed first new here = (nodes us : List ℕ) (stop : ℕ) → AreListed listed nodes → GoesOn g tree kind nodes here us stop
-    → IsWay g tree kind nodes first (new ++ here ∷ us) stop
+    → IsEarWay g tree kind nodes first (new ++ here ∷ us) stop
 
 pub so_far_begins : (g : Topology) (tree : List TreeNode) (kind : EarKind) (listed : List Bool) (first : ℕ) (new : List ℕ) → new ≡ []
     → SoFar g tree kind listed first new first

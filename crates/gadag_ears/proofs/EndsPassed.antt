@@ -30,7 +30,7 @@ use Rattle.gadag_ears.specs.declared.growing.Growing.{Growing}
 use Rattle.gadag_ears.specs.declared.kind.EarKind.TheVariants.{Child, Neighbour}
 use Rattle.gadag_ears.specs.Ear.{LeadsToChild, ToChild, ToNeighbour}
 use Rattle.gadag_ears.specs.EarOrder.{Begun, IsEarOrder, Turned}
-use Rattle.gadag_ears.specs.Growing.{AreAllMarked, AreListed, AreWaysAndRoles, HasSearch, HasTurn, IsAtEnd, IsBeginning, IsEnded, IsMarked, IsTurn, StartsEar}
+use Rattle.gadag_ears.specs.Growing.{AreAllMarked, AreListed, AreWaysAndRoles, HasSearch, HasTurn, IsAtEnd, IsBeginning, IsEnded, IsMarked, IsEarTurn, StartsEar}
 use Rattle.gadag_ears.specs.HeadAndBlock.{ArePlaces}
 use Rattle.gadag_ears.proofs.CutLists.{in_turn, turned}
 use Rattle.gadag_ears.proofs.EarBrought.{room_for_new, turn_kept}
@@ -41,12 +41,12 @@ pub end_within : (g : Topology) (x k : ℕ) (ends : List End) (end : End) → Is
     → end.to < length g.ids
 end_within g x k ends end kept list there = (all_at (IsEnd (length g.ids) g.links x) ends k end (kept.ends_kept x ends list).kept there).to
 
-pub here_within : (g : Topology) (root : ℕ) (tree : List TreeNode) (x : ℕ) (growing : Growing) → IsTurn g root tree x growing → x < length g.ids
+pub here_within : (g : Topology) (root : ℕ) (tree : List TreeNode) (x : ℕ) (growing : Growing) → IsEarTurn g root tree x growing → x < length g.ids
 here_within g root tree x growing turn =
     (turn_kept g root tree x growing turn).within x (in_turn growing.order.items x (reverse growing.waiting.items))
 
 -- a node without a mark is outside
-pub outside_of : (g : Topology) (root : ℕ) (tree : List TreeNode) (x : ℕ) (growing : Growing) (v : ℕ) → IsTurn g root tree x growing
+pub outside_of : (g : Topology) (root : ℕ) (tree : List TreeNode) (x : ℕ) (growing : Growing) (v : ℕ) → IsEarTurn g root tree x growing
     → ¬ IsMarked growing.listed.items v → ¬ Contains (growing.order.items ++ x ∷ reverse growing.waiting.items) v
 outside_of g root tree x growing v turn none c = none ((turn.listed v).1 c)
 
@@ -106,7 +106,7 @@ one_more_passed IsPassed IsPassed' ends k end there still passed now j other ear
 
 -- when all ends have been passed, all children have their marks
 pub children_marked : (g : Topology) (root : ℕ) (tree : List TreeNode) (x : ℕ) (growing : Growing) (listed : List Bool) (ends : List End) (k : ℕ)
-    → IsTurn g root tree x growing → slice_get g.ends x ≡ Some ends → length ends ≤ k
+    → IsEarTurn g root tree x growing → slice_get g.ends x ≡ Some ends → length ends ≤ k
     → ArePassed (λ end. parent_of g tree end.to ≡ Some x → IsMarked listed end.to) ends k → (v : ℕ) → parent_of g tree v ≡ Some x → IsMarked listed v
 children_marked g root tree x growing listed ends k turn list all passed v parent =
     let facts = facts_of g root tree turn.searched in
@@ -123,14 +123,14 @@ children_marked g root tree x growing listed ends k turn list all passed v paren
         go (Some e) is = (e, is)
 
 -- the turn goes on to the next node
-done_in : (g : Topology) (root : ℕ) (tree : List TreeNode) (x : ℕ) (growing : Growing) → IsTurn g root tree x growing → AreAllMarked g x growing.listed.items
+done_in : (g : Topology) (root : ℕ) (tree : List TreeNode) (x : ℕ) (growing : Growing) → IsEarTurn g root tree x growing → AreAllMarked g x growing.listed.items
     → IsDone g (growing.order.items ++ x ∷ reverse growing.waiting.items) x
 done_in g root tree x growing turn done =
     record { ends = done.ends; list = done.list; all_inside = λ k end at. (turn.listed end.to).0 (done.marked k end at) }
 
-turn_on : (g : Topology) (root : ℕ) (tree : List TreeNode) (x y : ℕ) (growing after : Growing) → IsTurn g root tree x growing
+turn_on : (g : Topology) (root : ℕ) (tree : List TreeNode) (x y : ℕ) (growing after : Growing) → IsEarTurn g root tree x growing
     → AreAllMarked g x growing.listed.items → after.order.items ≡ growing.order.items ++ x ∷ [] → growing.waiting.items ≡ after.waiting.items ++ y ∷ []
-    → after.listed.items ≡ growing.listed.items → after.places.items ≡ growing.places.items → after.marks.items ≡ growing.marks.items → IsTurn g root tree y after
+    → after.listed.items ≡ growing.listed.items → after.places.items ≡ growing.places.items → after.marks.items ≡ growing.marks.items → IsEarTurn g root tree y after
 turn_on g root tree x y growing after turn done order waiting listed places marks =
     let later : reverse growing.waiting.items ≡ y ∷ reverse after.waiting.items =
     ap (λ (xs : List ℕ). reverse xs) waiting ∙ reverse-append after.waiting.items (y ∷ []) in
@@ -154,7 +154,7 @@ turn_on g root tree x y growing after turn done order waiting listed places mark
       marked = subst (λ (xs : List Mark). AreWaysAndRoles g tree turn.ears xs) (sym marks) turn.marked;
     }
 
-turns_end : (g : Topology) (root : ℕ) (tree : List TreeNode) (x : ℕ) (growing after : Growing) → IsTurn g root tree x growing
+turns_end : (g : Topology) (root : ℕ) (tree : List TreeNode) (x : ℕ) (growing after : Growing) → IsEarTurn g root tree x growing
     → AreAllMarked g x growing.listed.items → after.order.items ≡ growing.order.items ++ x ∷ [] → growing.waiting.items ≡ []
     → after.places.items ≡ growing.places.items → after.marks.items ≡ growing.marks.items → IsEnded g root tree after
 turns_end g root tree x growing after turn done order waiting places marks =
@@ -184,26 +184,26 @@ empty_of (x ∷ xs) none = absurd (none (omega arith))
 
 -- where the pop gives a node it has the next turn
 pub next_turn : (g : Topology) (tree : List TreeNode) (x : ℕ) (start growing after : Growing) (o : Option ℕ)
-    → ((root : ℕ) → IsTurn g root tree x start → IsTurn g root tree x growing) → AreAllMarked g x growing.listed.items
+    → ((root : ℕ) → IsEarTurn g root tree x start → IsEarTurn g root tree x growing) → AreAllMarked g x growing.listed.items
     → after.order.items ≡ growing.order.items ++ x ∷ [] → growing.waiting.items ≡ after.waiting.items ++ option_to_list o
     → after.listed.items ≡ growing.listed.items → after.places.items ≡ growing.places.items → after.marks.items ≡ growing.marks.items
-    → IfSome o (λ next. (root : ℕ) → IsTurn g root tree x start → IsTurn g root tree next after)
+    → IfSome o (λ next. (root : ℕ) → IsEarTurn g root tree x start → IsEarTurn g root tree next after)
 next_turn g tree x start growing after None on done order waiting listed places marks = tt
 next_turn g tree x start growing after (Some y) on done order waiting listed places marks =
     λ root turn. turn_on g root tree x y growing after (on root turn) done order waiting listed places marks
 
 -- and where it gives none all turns are over
 pub no_turn : (g : Topology) (tree : List TreeNode) (x : ℕ) (start growing after : Growing) (o : Option ℕ)
-    → ((root : ℕ) → IsTurn g root tree x start → IsTurn g root tree x growing) → AreAllMarked g x growing.listed.items
+    → ((root : ℕ) → IsEarTurn g root tree x start → IsEarTurn g root tree x growing) → AreAllMarked g x growing.listed.items
     → after.order.items ≡ growing.order.items ++ x ∷ [] → (0 < length growing.waiting.items → IsSome o)
-    → after.places.items ≡ growing.places.items → after.marks.items ≡ growing.marks.items → IfNone o ((root : ℕ) → IsTurn g root tree x start → IsEnded g root tree after)
+    → after.places.items ≡ growing.places.items → after.marks.items ≡ growing.marks.items → IfNone o ((root : ℕ) → IsEarTurn g root tree x start → IsEnded g root tree after)
 no_turn g tree x start growing after (Some y) on done order some places marks = tt
 no_turn g tree x start growing after None on done order some places marks =
     λ root turn. turns_end g root tree x growing after (on root turn) done order
     (empty_of growing.waiting.items (λ more. let is = some more in cc)) places marks
 
 -- there is room for the node whose turn is over
-pub room_here : (g : Topology) (root : ℕ) (tree : List TreeNode) (x : ℕ) (growing : Growing) → IsTurn g root tree x growing
+pub room_here : (g : Topology) (root : ℕ) (tree : List TreeNode) (x : ℕ) (growing : Growing) → IsEarTurn g root tree x growing
     → length growing.order.items < length g.ids
 room_here g root tree x growing turn =
     let few = room_for_new g tree growing.order.items x growing.waiting.items [] (turn_kept g root tree x growing turn) in omega (arith, few)
@@ -231,7 +231,7 @@ none_marked g tree mark unset plain = record {
 }
 
 pub begins_at_root : (g : Topology) (root : ℕ) (tree : List TreeNode) (growing : Growing) → IsBeginning g root growing → root < length g.ids
-    → IsSearchTree g root tree → IsTurn g root tree root growing
+    → IsSearchTree g root tree → IsEarTurn g root tree root growing
 begins_at_root g root tree growing beginning within search =
     let root_place : Place = record { head = root; block = root } in
     let alone : growing.order.items ++ root ∷ reverse growing.waiting.items ≡ root ∷ [] =

@@ -37,7 +37,7 @@ pub record IsBrought (g : Topology) (tree : List TreeNode) (listed : List ℕ) (
   pub touches : leads g.links ear.link ear.start ≡ Some ear.first
 
 -- the list before an ear
-pub record IsReady (g : Topology) (tree : List TreeNode) (listed : List ℕ) (x : ℕ) : Type 0 where
+pub record IsClosedUp (g : Topology) (tree : List TreeNode) (listed : List ℕ) (x : ℕ) : Type 0 where
   pub in_list : Contains listed x
   pub closed : (v p : ℕ) → Contains listed v → parent_of g tree v ≡ Some p → Contains listed p
 
@@ -65,7 +65,7 @@ child_stops g tree ear us kind child rise (AtLow number lower above) = elim (cas
   | inr other ↦ FromStart child other (sym number) above
 ]
 
-child_brings : (g : Topology) (root : ℕ) (tree : List TreeNode) (listed : List ℕ) (ear : Ear) → AreFacts g root tree → IsReady g tree listed ear.start
+child_brings : (g : Topology) (root : ℕ) (tree : List TreeNode) (listed : List ℕ) (ear : Ear) → AreFacts g root tree → IsClosedUp g tree listed ear.start
     → ear.kind ≡ Child → leads g.links ear.link ear.start ≡ Some ear.first → ¬ Contains listed ear.first → parent_of g tree ear.first ≡ Some ear.start
     → GoesOn g tree Child listed ear.first ear.others ear.stop → IsBrought g tree listed ear
 child_brings g root tree listed ear facts ready kind touches out child goes =
@@ -94,7 +94,7 @@ child_brings g root tree listed ear facts ready kind touches out child goes =
     }
 
 -- a neighbour ear
-neighbour_brings : (g : Topology) (root : ℕ) (tree : List TreeNode) (listed : List ℕ) (ear : Ear) → AreFacts g root tree → IsReady g tree listed ear.start
+neighbour_brings : (g : Topology) (root : ℕ) (tree : List TreeNode) (listed : List ℕ) (ear : Ear) → AreFacts g root tree → IsClosedUp g tree listed ear.start
     → leads g.links ear.link ear.start ≡ Some ear.first → ¬ Contains listed ear.first → ((v : ℕ) → parent_of g tree v ≡ Some ear.start → Contains listed v)
     → GoesOn g tree Neighbour listed ear.first ear.others ear.stop → IsBrought g tree listed ear
 neighbour_brings g root tree listed ear facts ready touches out children goes =
@@ -129,20 +129,20 @@ first_leads g root tree x ear Asked end facts first from over to =
     ∙ end_leads g x first.place first.ends end facts.kept first.list first.there ∙ ap (λ (w : ℕ). Some w) (sym to)
 
 by_kind : (g : Topology) (root : ℕ) (tree : List TreeNode) (listed : List ℕ) (x : ℕ) (ear : Ear) (end : End) (kind : EarKind) → AreFacts g root tree
-    → IsReady g tree listed x → ear.kind ≡ kind → IsBegun g tree listed x end kind → ear.start ≡ x → ear.link ≡ end.link → ear.first ≡ end.to
+    → IsClosedUp g tree listed x → ear.kind ≡ kind → IsBegun g tree listed x end kind → ear.start ≡ x → ear.link ≡ end.link → ear.first ≡ end.to
     → GoesOn g tree kind listed ear.first ear.others ear.stop → IsBrought g tree listed ear
 by_kind g root tree listed x ear end kind facts ready is (ToChild first) from over to goes =
-    child_brings g root tree listed ear facts (subst (λ (w : ℕ). IsReady g tree listed w) (sym from) ready) is
+    child_brings g root tree listed ear facts (subst (λ (w : ℕ). IsClosedUp g tree listed w) (sym from) ready) is
     (first_leads g root tree x ear (LeadsToChild g tree listed x) end facts first from over to)
     (λ c. first.asked.0 (subst (λ (w : ℕ). Contains listed w) to c))
     (ap (λ (w : ℕ). parent_of g tree w) to ∙ first.asked.1 ∙ ap (λ (w : ℕ). Some w) (sym from)) goes
 by_kind g root tree listed x ear end kind facts ready is (ToNeighbour children first) from over to goes =
-    neighbour_brings g root tree listed ear facts (subst (λ (w : ℕ). IsReady g tree listed w) (sym from) ready)
+    neighbour_brings g root tree listed ear facts (subst (λ (w : ℕ). IsClosedUp g tree listed w) (sym from) ready)
     (first_leads g root tree x ear (λ end. ¬ Contains listed end.to) end facts first from over to)
     (λ c. first.asked (subst (λ (w : ℕ). Contains listed w) to c))
     (λ v parent. children v (parent ∙ ap (λ (w : ℕ). Some w) from)) goes
 
 pub brought : (g : Topology) (root : ℕ) (tree : List TreeNode) (listed : List ℕ) (x : ℕ) (ear : Ear) → AreFacts g root tree
-    → IsReady g tree listed x → IsNextEar g tree listed x ear → IsBrought g tree listed ear
+    → IsClosedUp g tree listed x → IsNextEar g tree listed x ear → IsBrought g tree listed ear
 brought g root tree listed x ear facts ready next =
     by_kind g root tree listed x ear next.end ear.kind facts ready refl next.begun next.from next.over next.to next.onward

@@ -18,7 +18,7 @@ use Rattle.mrt_graph.proofs.ListTests.{there}
 use Rattle.lowpoint_dfs.specs.Subtree.{HasParent, Itself, parent_of}
 use Rattle.gadag_ears.specs.declared.kind.EarKind.{EarKind}
 use Rattle.gadag_ears.specs.declared.kind.EarKind.TheVariants.{Child}
-use Rattle.gadag_ears.specs.BlockLinks.{HasMoreLinks, HasOneLink}
+use Rattle.gadag_ears.specs.BlockLinks.{IsOfClosingLink, IsOfSoleLink}
 use Rattle.gadag_ears.specs.CommonBlock.{FirstIsHead, IsCommonBlock, OfBoth, SecondIsHead}
 use Rattle.gadag_ears.specs.Ear.{Ear, IsBegun, ToChild, ToNeighbour, last_node, onward_link}
 use Rattle.gadag_ears.specs.Gadag.{IsGadag}
@@ -165,7 +165,7 @@ place_there places v k is = go (slice_get places v) refl is
 
 pub one_link_block : (g : Topology) (root : ℕ) (tree : List TreeNode) (gadag : GadagLists) → AreFacts g root tree → (it : IsGadag g root tree gadag)
     → (ear : Ear) → Contains it.ears ear → IsKnown g root tree ear → IsOfOneLink tree ear → link_block_at gadag.marks ear.link ≡ Some ear.first
-    → HasOneLink gadag.places gadag.marks ear.first
+    → IsOfSoleLink gadag.places gadag.marks ear.first
 one_link_block g root tree gadag facts it ear among way one in_block =
     let by_low = placed_by_low g root tree gadag.order it.ears gadag.places facts it.are_ears it.places in
     let lone = lone_ear g root tree ear facts way one in
@@ -199,12 +199,12 @@ first_in_block g root tree gadag facts it ear among begins way =
 
 -- the links of a block
 pub block_links : (g : Topology) (root : ℕ) (tree : List TreeNode) (gadag : GadagLists) → AreFacts g root tree → IsGadag g root tree gadag
-    → (v k : ℕ) → v < length g.ids → v ≢ root → block_at gadag.places v ≡ Some k → HasOneLink gadag.places gadag.marks k ⊎ HasMoreLinks gadag.marks k
+    → (v k : ℕ) → v < length g.ids → v ≢ root → block_at gadag.places v ≡ Some k → IsOfSoleLink gadag.places gadag.marks k ⊎ IsOfClosingLink gadag.marks k
 block_links g root tree gadag facts it v k within other block =
     let begun = begun_block g root tree gadag facts it v k within other block in
     let first = first_in_block g root tree gadag facts it begun.ear begun.among begun.begins begun.way in
     elim (cases_eq begun.last.link begun.ear.link) [
-      | inl same ↦ inl (subst (λ (n : ℕ). HasOneLink gadag.places gadag.marks n) begun.names
+      | inl same ↦ inl (subst (λ (n : ℕ). IsOfSoleLink gadag.places gadag.marks n) begun.names
           (one_link_block g root tree gadag facts it begun.ear begun.among begun.way (subst (λ (e : ℕ). IsLastOfBlock tree begun.ear e) same begun.last.last) first))
       | inr differs ↦ inr (record {
         link = begun.last.link;

@@ -16,7 +16,7 @@ use Rattle.gadag_ears.specs.declared.kind.EarKind.{EarKind}
 use Rattle.gadag_ears.specs.Ear.{Ear, GoesOn, IsNextEar, last_node, new_nodes, next_node, onward_link}
 use Rattle.gadag_ears.specs.EarOrder.{Begun, Grown, IsEarOrder, Turned}
 use Rattle.gadag_ears.proofs.CutLists.{After, Before, Here, StandsIn, in_turn, kept_in, not_after, put_cases, put_in, stands_in, times_put, turned}
-use Rattle.gadag_ears.proofs.NextEar.{FromNew, FromStart, FromStop, Heads, IsBrought, IsHung, IsReady, brought}
+use Rattle.gadag_ears.proofs.NextEar.{FromNew, FromStart, FromStop, Heads, IsBrought, IsHung, IsClosedUp, brought}
 use Rattle.gadag_ears.proofs.Once.{none_of, one_alone, times}
 use Rattle.gadag_ears.proofs.SearchFacts.{AreFacts, one_parent}
 
@@ -29,7 +29,7 @@ pub record AreKept (g : Topology) (tree : List TreeNode) (over : List ℕ) (x : 
   pub neighbours : (u e v : ℕ) → Contains over u → leads g.links e u ≡ Some v → Contains (over ++ x ∷ later) v
   pub waits : (v p : ℕ) → Contains (over ++ x ∷ later) v → parent_of g tree v ≡ Some p → Contains later p → low_of tree v < number_of tree p
 
-pub ready : (g : Topology) (tree : List TreeNode) (over : List ℕ) (x : ℕ) (later : List ℕ) → AreKept g tree over x later → IsReady g tree (over ++ x ∷ later) x
+pub ready : (g : Topology) (tree : List TreeNode) (over : List ℕ) (x : ℕ) (later : List ℕ) → AreKept g tree over x later → IsClosedUp g tree (over ++ x ∷ later) x
 ready g tree over x later kept = record { in_list = in_turn over x later; closed = kept.closed }
 
 kept_begun : (g : Topology) (root : ℕ) (tree : List TreeNode) → AreFacts g root tree → AreKept g tree [] root []

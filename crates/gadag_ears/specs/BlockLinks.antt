@@ -6,7 +6,7 @@ use Rattle.mrt_graph.specs.declared.gadag.Place.{Place}
 use Rattle.mrt_graph.specs.GadagWords.{block_at, link_block_at, role_at}
 
 -- block k has one link, which is sole, and one node, which names it
-pub record HasOneLink (places : List Place) (marks : List Mark) (k : ℕ) : Type 0 where
+pub record IsOfSoleLink (places : List Place) (marks : List Mark) (k : ℕ) : Type 0 where
   pub link : ℕ
   pub in_block : link_block_at marks link ≡ Some k
   pub sole : role_at marks link ≡ Some Sole
@@ -14,7 +14,7 @@ pub record HasOneLink (places : List Place) (marks : List Mark) (k : ℕ) : Type
   pub no_other_node : (v : ℕ) → block_at places v ≡ Some k → v ≡ k
 
 -- block k has more than one link; one of them is closing, and all others are plain
-pub record HasMoreLinks (marks : List Mark) (k : ℕ) : Type 0 where
+pub record IsOfClosingLink (marks : List Mark) (k : ℕ) : Type 0 where
   pub link : ℕ
   pub in_block : link_block_at marks link ≡ Some k
   pub closing : role_at marks link ≡ Some Closing

@@ -28,7 +28,7 @@ abbrev pub AreListed : List Bool → List ℕ → Type 0
 AreListed listed nodes = (v : ℕ) → IsMarked listed v ↔ Contains nodes v
 
 -- the way of an ear over these new nodes
-pub record IsWay (g : Topology) (tree : List TreeNode) (kind : EarKind) (nodes : List ℕ) (first : ℕ)
+pub record IsEarWay (g : Topology) (tree : List TreeNode) (kind : EarKind) (nodes : List ℕ) (first : ℕ)
     (new : List ℕ) (stop : ℕ) : Type 0 where
   pub others : List ℕ
   pub are : new ≡ first ∷ others
@@ -68,7 +68,7 @@ pub record AreWaysAndRoles (g : Topology) (tree : List TreeNode) (ears : List Ea
   pub roles : HaveRoles g tree ears marks
 
 -- in the turn of x
-pub record IsTurn (g : Topology) (root : ℕ) (tree : List TreeNode) (x : ℕ) (growing : Growing) : Type 0 where
+pub record IsEarTurn (g : Topology) (root : ℕ) (tree : List TreeNode) (x : ℕ) (growing : Growing) : Type 0 where
   pub searched : IsSearched g root tree
   pub ears : List Ear
   pub ordered : IsEarOrder g root tree growing.order.items x (reverse growing.waiting.items) ears
@@ -82,7 +82,7 @@ pub record IsTurn (g : Topology) (root : ℕ) (tree : List TreeNode) (x : ℕ) (
 pub record StartsEar (g : Topology) (tree : List TreeNode) (kind : EarKind) (growing : Growing) (x link first : ℕ)
     : Type 0 where
   pub root : ℕ
-  pub turn : IsTurn g root tree x growing
+  pub turn : IsEarTurn g root tree x growing
   pub end : End
   pub begun : IsBegun g tree (growing.order.items ++ x ∷ reverse growing.waiting.items) x end kind
   pub over : link ≡ end.link
@@ -105,7 +105,7 @@ pub record AreEntered (listed : List Bool) (places : List Place) (head block : �
   pub others : (v : ℕ) → ¬ Contains some v → slice_get places' v ≡ slice_get places v
 
 -- some of the new nodes, the last ones, have their place, and wait for their turns
-pub record IsEntered (before : Growing) (head block : ℕ) (some : List ℕ) (after : Growing) : Type 0 where
+pub record HasEntered (before : Growing) (head block : ℕ) (some : List ℕ) (after : Growing) : Type 0 where
   pub order : after.order ≡ before.order
   pub added : after.added ≡ before.added
   pub marks : after.marks ≡ before.marks
@@ -121,7 +121,7 @@ pub record HasSearch (g : Topology) (tree : List TreeNode) : Type 0 where
 -- the turn of x, for some root
 pub record HasTurn (g : Topology) (tree : List TreeNode) (x : ℕ) (growing : Growing) : Type 0 where
   pub root : ℕ
-  pub turn : IsTurn g root tree x growing
+  pub turn : IsEarTurn g root tree x growing
 
 -- the nodes to which the ends of x lead have their marks
 pub record AreAllMarked (g : Topology) (x : ℕ) (listed : List Bool) : Type 0 where

@@ -6,7 +6,7 @@ use Rattle.mrt_graph.specs.GadagWords.{block_at, head_at, link_block_at, role_at
 use Rattle.mrt_graph.specs.Leads.{leads}
 use Rattle.mrt_graph.specs.Tails.{tail_at}
 use Rattle.mrt_graph.specs.Topology.{Topology}
-use Rattle.gadag_ears.specs.BlockLinks.{HasOneLink}
+use Rattle.gadag_ears.specs.BlockLinks.{IsOfSoleLink}
 use Rattle.gadag_ears.specs.Counted.{IsCounted}
 
 -- link e lies in the block of node v
@@ -37,4 +37,4 @@ pub data GoesOnFrom (g : Topology) (gadag : GadagLists) (v : ℕ) : Type 0 where
   ToMember : (link to : ℕ) → IsCounted g gadag.marks link v to → IsInBlockOf gadag link v → IsInBlockOf gadag link to
       → GoesOnFrom g gadag v
   ToHead : (link : ℕ) → ClosesBlock g gadag link v → GoesOnFrom g gadag v
-  Alone : block_at gadag.places v ≡ Some v → HasOneLink gadag.places gadag.marks v → GoesOnFrom g gadag v
+  Alone : block_at gadag.places v ≡ Some v → IsOfSoleLink gadag.places gadag.marks v → GoesOnFrom g gadag v

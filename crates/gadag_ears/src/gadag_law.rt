@@ -9,7 +9,7 @@ ghost use Rattle.mrt_graph.specs.GadagWords.{block_at, link_block_at, role_at, w
 ghost use Rattle.mrt_graph.specs.GraphInvariant.{IsTopology};
 ghost use Rattle.mrt_graph.specs.Topology.{Topology};
 ghost use Rattle.lowpoint_dfs.specs.SearchTree.{IsSearchTree};
-ghost use Rattle.gadag_ears.specs.BlockLinks.{HasMoreLinks, HasOneLink};
+ghost use Rattle.gadag_ears.specs.BlockLinks.{IsOfClosingLink, IsOfSoleLink};
 ghost use Rattle.gadag_ears.specs.Counted.{IsCounted};
 ghost use Rattle.gadag_ears.specs.Gadag.{IsGadag};
 ghost use Rattle.gadag_ears.specs.Members.{ClosesBlock, GoesOnFrom, HasLinkInto};
@@ -67,7 +67,7 @@ pub fn one_sole_or_closing_link_a_block()
     ensures links { (g : Topology) (root : ℕ) (tree : List TreeNode) (gadag : GadagLists)
         → IsTopology g → root < length g.ids → IsSearchTree g root tree → IsGadag g root tree gadag
         → (v block : ℕ) → v < length g.ids → v ≢ root → block_at gadag.places v ≡ Some block
-        → HasOneLink gadag.places gadag.marks block ⊎ HasMoreLinks gadag.marks block }
+        → IsOfSoleLink gadag.places gadag.marks block ⊎ IsOfClosingLink gadag.marks block }
     ensures none_of_root { (g : Topology) (root : ℕ) (tree : List TreeNode) (gadag : GadagLists)
         → IsTopology g → root < length g.ids → IsSearchTree g root tree → IsGadag g root tree gadag
         → (e : ℕ) → e < length g.links → link_block_at gadag.marks e ≢ Some root }

@@ -21,10 +21,10 @@ ghost use Rattle.mrt_graph.specs.GraphInvariant.{IsTopology};
 ghost use Rattle.lowpoint_dfs.specs.SearchTree.{IsSearchTree};
 ghost use Rattle.gadag_ears.specs.Growing.{
   HasRoom,
-  IsEntered,
+  HasEntered,
   IsMarked,
   IsPlaceOfEar,
-  IsTurn,
+  IsEarTurn,
   StartsEar,
 };
 ghost use Rattle.gadag_ears.specs.declared.kind.EarKind.TheVariants.{Child};
@@ -58,7 +58,7 @@ pub fn grow(
 )
     requires starts { StartsEar g.now tree.now kind growing.old x link first }
     requires room { HasRoom (length g.now.ids) growing.old }
-    ensures turn { (root : ℕ) → IsTurn g.now root tree.now x growing.old → IsTurn g.now root tree.now x growing.new }
+    ensures turn { (root : ℕ) → IsEarTurn g.now root tree.now x growing.old → IsEarTurn g.now root tree.now x growing.new }
     ensures room { HasRoom (length g.now.ids) growing.new }
     ensures order { growing.new.order ≡ growing.old.order }
     ensures grows { (v : ℕ) → IsMarked growing.old.listed.items v → IsMarked growing.new.listed.items v }
@@ -110,7 +110,7 @@ fn enter_all(growing: &mut Growing, head: NodeNo, block: NodeNo)
     requires one_place_each { length growing.old.places.items ≡ length growing.old.listed.items }
     requires room { length growing.old.waiting.items + length growing.old.added.items
         ≤ vec_capacity growing.old.waiting }
-    ensures { IsEntered growing.old head block growing.old.added.items growing.new }
+    ensures { HasEntered growing.old head block growing.old.added.items growing.new }
 {
     'entry: for k in (0..growing.added.len()).rev() {
         let node = growing.added[k];

@@ -45,7 +45,7 @@ pub fn mark_ear(
 {
     let last_node = new[new.len() - 1];
     let last = onward(tree, kind, last_node);
-    if is_sole(begins, last, link) {
+    if is_of_one_link(begins, last, link) {
         set_mark(g, marks, x, link, Role::Sole);
         return;
     }
@@ -55,7 +55,8 @@ pub fn mark_ear(
     }
 }
 
-fn is_sole(begins: bool, last: LinkNo, link: LinkNo) -> bool
+/// Whether an ear goes out and comes back by one link.
+fn is_of_one_link(begins: bool, last: LinkNo, link: LinkNo) -> bool
     ensures { IsTrue result ↔ (IsTrue begins × (last ≡ link)) }
 {
     begins && last == link

@@ -24,21 +24,21 @@ ghost use Rattle.gadag_ears.specs.Growing.{
   IsAtEnd,
   IsEnded,
   IsMarked,
-  IsTurn,
+  IsEarTurn,
 };
 
 use crate::growing::{Growing, grow};
 use crate::kind::EarKind;
-use crate::walk::{is_listed, other_node};
+use crate::walk::is_listed;
 use mrt_graph::{End, Graph, NodeNo, Tree};
 
 /// The turn of x. It answers the node whose turn is next, None where all turns are over.
 pub fn take_turn(g: &Graph, tree: &Tree, growing: &mut Growing, x: NodeNo) -> Option<NodeNo>
     requires turn { HasTurn g.now tree.now x growing.old }
     requires room { HasRoom (length g.now.ids) growing.old }
-    ensures onward { IfSome result (λ next. (root : ℕ) → IsTurn g.now root tree.now x growing.old
-        → IsTurn g.now root tree.now next growing.new) }
-    ensures ended { IfNone result ((root : ℕ) → IsTurn g.now root tree.now x growing.old
+    ensures onward { IfSome result (λ next. (root : ℕ) → IsEarTurn g.now root tree.now x growing.old
+        → IsEarTurn g.now root tree.now next growing.new) }
+    ensures ended { IfNone result ((root : ℕ) → IsEarTurn g.now root tree.now x growing.old
         → IsEnded g.now root tree.now growing.new) }
     ensures room { HasRoom (length g.now.ids) growing.new }
     ensures longer { length growing.new.order.items ≡ length growing.old.order.items + 1 }
@@ -53,8 +53,8 @@ pub fn take_turn(g: &Graph, tree: &Tree, growing: &mut Growing, x: NodeNo) -> Op
 fn child_ears(g: &Graph, tree: &Tree, growing: &mut Growing, x: NodeNo)
     requires turn { HasTurn g.now tree.now x growing.old }
     requires room { HasRoom (length g.now.ids) growing.old }
-    ensures turn { (root : ℕ) → IsTurn g.now root tree.now x growing.old
-        → IsTurn g.now root tree.now x growing.new }
+    ensures turn { (root : ℕ) → IsEarTurn g.now root tree.now x growing.old
+        → IsEarTurn g.now root tree.now x growing.new }
     ensures room { HasRoom (length g.now.ids) growing.new }
     ensures order { growing.new.order ≡ growing.old.order }
     ensures children { (v : ℕ) → parent_of g.now tree.now v ≡ Some x
@@ -72,8 +72,8 @@ fn child_ear(g: &Graph, tree: &Tree, growing: &mut Growing, x: NodeNo, end: &End
     requires room { HasRoom (length g.now.ids) growing.old }
     requires at { IsAtEnd g.now (λ other. parent_of g.now tree.now other.to ≡ Some x
         → IsMarked growing.old.listed.items other.to) x end.now }
-    ensures turn { (root : ℕ) → IsTurn g.now root tree.now x growing.old
-        → IsTurn g.now root tree.now x growing.new }
+    ensures turn { (root : ℕ) → IsEarTurn g.now root tree.now x growing.old
+        → IsEarTurn g.now root tree.now x growing.new }
     ensures room { HasRoom (length g.now.ids) growing.new }
     ensures order { growing.new.order ≡ growing.old.order }
     ensures grows { (v : ℕ) → IsMarked growing.old.listed.items v → IsMarked growing.new.listed.items v }
@@ -91,8 +91,8 @@ fn neighbour_ears(g: &Graph, tree: &Tree, growing: &mut Growing, x: NodeNo)
     requires room { HasRoom (length g.now.ids) growing.old }
     requires children { (v : ℕ) → parent_of g.now tree.now v ≡ Some x
         → IsMarked growing.old.listed.items v }
-    ensures turn { (root : ℕ) → IsTurn g.now root tree.now x growing.old
-        → IsTurn g.now root tree.now x growing.new }
+    ensures turn { (root : ℕ) → IsEarTurn g.now root tree.now x growing.old
+        → IsEarTurn g.now root tree.now x growing.new }
     ensures room { HasRoom (length g.now.ids) growing.new }
     ensures order { growing.new.order ≡ growing.old.order }
     ensures done { AreAllMarked g.now x growing.new.listed.items }
@@ -110,8 +110,8 @@ fn neighbour_ear(g: &Graph, tree: &Tree, growing: &mut Growing, x: NodeNo, end: 
     requires children { (v : ℕ) → parent_of g.now tree.now v ≡ Some x
         → IsMarked growing.old.listed.items v }
     requires at { IsAtEnd g.now (λ other. IsMarked growing.old.listed.items other.to) x end.now }
-    ensures turn { (root : ℕ) → IsTurn g.now root tree.now x growing.old
-        → IsTurn g.now root tree.now x growing.new }
+    ensures turn { (root : ℕ) → IsEarTurn g.now root tree.now x growing.old
+        → IsEarTurn g.now root tree.now x growing.new }
     ensures room { HasRoom (length g.now.ids) growing.new }
     ensures order { growing.new.order ≡ growing.old.order }
     ensures grows { (v : ℕ) → IsMarked growing.old.listed.items v → IsMarked growing.new.listed.items v }
@@ -144,7 +144,7 @@ fn is_parent(g: &Graph, tree: &Tree, x: NodeNo, v: NodeNo) -> bool
     ensures { IsTrue result ↔ (parent_of g.now tree.now v ≡ Some x) }
 {
     match tree.node(v).parent {
-        Some(link) => other_node(g, link, v) == x,
+        Some(link) => g.other_node(link, v) == x,
         None => false,
     }
 }

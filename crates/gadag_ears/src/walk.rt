@@ -18,12 +18,12 @@ ghost use Rattle.std.specs.Prelude.{
   slice_index_or,
   vec_capacity,
 };
-ghost use Rattle.mrt_graph.specs.Leads.{leads};
 ghost use Rattle.gadag_ears.specs.Ear.{next_node};
-ghost use Rattle.gadag_ears.specs.Growing.{AreListed, IsLeaving, IsWay};
+ghost use Rattle.gadag_ears.specs.Growing.{AreListed, IsLeaving, IsEarWay};
 
 use crate::kind::EarKind;
-use mrt_graph::{Graph, LinkNo, NodeNo, Tree};
+use crate::marking::onward;
+use mrt_graph::{Graph, NodeNo, Tree};
 
 /// Goes on from the first node of an ear to the first node that is listed; it answers that node, and leaves the
 /// nodes on the way, the new ones, in `new`.
@@ -38,7 +38,7 @@ pub fn walk(
     requires leaving { IsLeaving g.now tree.now kind listed.now first }
     requires room { length g.now.ids ≤ vec_capacity new.old }
     ensures way { (nodes : List ℕ) → AreListed listed.now nodes
-        → IsWay g.now tree.now kind nodes first new.new.items result }
+        → IsEarWay g.now tree.now kind nodes first new.new.items result }
     ensures room { vec_capacity new.new ≡ vec_capacity new.old }
 {
     new.clear();
@@ -59,20 +59,8 @@ fn next_on(g: &Graph, tree: &Tree, kind: EarKind, here: NodeNo) -> NodeNo
     requires some { IsSome (next_node g.now tree.now kind here) }
     ensures { next_node g.now tree.now kind here ≡ Some result }
 {
-    let node = tree.node(here);
-    let link = match kind {
-        EarKind::Child => node.low_link.unwrap(),
-        EarKind::Neighbour => node.parent.unwrap(),
-    };
-    other_node(g, link, here)
-}
-
-/// The other node of a link that touches v.
-pub fn other_node(g: &Graph, link: LinkNo, v: NodeNo) -> NodeNo
-    requires { IsSome (leads g.now.links link v) }
-    ensures { leads g.now.links link v ≡ Some result }
-{
-    g.link(link).far_node(v).unwrap()
+    let link = onward(tree, kind, here);
+    g.other_node(link, here)
 }
 
 /// Whether a node is listed.

@@ -6,7 +6,7 @@ use Rattle.mrt_graph.specs.Topology.{Topology}
 use Rattle.mrt_graph.proofs.Members.{contains_first}
 use Rattle.gadag_ears.specs.declared.growing.Growing.{Growing}
 use Rattle.gadag_ears.specs.declared.kind.EarKind.{EarKind}
-use Rattle.gadag_ears.specs.Growing.{AreListed, IsLeaving, IsPlaceOfEar, IsTurn, IsWay, StartsEar}
+use Rattle.gadag_ears.specs.Growing.{AreListed, IsLeaving, IsPlaceOfEar, IsEarTurn, IsEarWay, StartsEar}
 use Rattle.gadag_ears.specs.Ear.{Ear, ear_of}
 use Rattle.gadag_ears.specs.Marking.{AreEarMarked, IsMarkable}
 use Rattle.mrt_graph.specs.declared.gadag.Mark.{Mark}
@@ -16,8 +16,8 @@ use Rattle.gadag_ears.proofs.growing.grow.Goals as goal
 
 -- the ear that was found, for each root of which this is a turn
 found_ear : (g : Topology) (root : ℕ) (tree : List TreeNode) (kind : EarKind) (growing : Growing) (x link first stop : ℕ) (new : List ℕ) (listed : List Bool)
-    → listed ≡ growing.listed.items → StartsEar g tree kind growing x link first → IsTurn g root tree x growing
-    → ((nodes : List ℕ) → AreListed listed nodes → IsWay g tree kind nodes first new stop) → IsFoundEar g root tree x growing kind link first stop new
+    → listed ≡ growing.listed.items → StartsEar g tree kind growing x link first → IsEarTurn g root tree x growing
+    → ((nodes : List ℕ) → AreListed listed nodes → IsEarWay g tree kind nodes first new stop) → IsFoundEar g root tree x growing kind link first stop new
 found_ear g root tree kind growing x link first stop new listed same starts turn way =
     ear_of_way g root tree kind growing x link first stop starts.end new turn starts.begun starts.over starts.to
     (way (growing.order.items ++ x ∷ reverse growing.waiting.items)

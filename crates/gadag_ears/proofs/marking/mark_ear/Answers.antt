@@ -17,9 +17,9 @@ onward-last-requires-clause-some c =
 pub set_mark-requires-clause-link : goal.set_mark-requires-clause-link
 set_mark-requires-clause-link c = (link_there c.args.g.now c.args.link c.args.x c.requires.can.to c.requires.can.touches).within
 
-pub returns-then-is_sole-clause-marked : goal.returns-then-is_sole-clause-marked
-returns-then-is_sole-clause-marked c = λ first stop others are begins.
-    let sole = c.is_sole.ensures.0 c.if-is_sole.true in
+pub returns-then-is_of_one_link-clause-marked : goal.returns-then-is_of_one_link-clause-marked
+returns-then-is_of_one_link-clause-marked c = λ first stop others are begins.
+    let sole = c.is_of_one_link.ensures.0 c.if-is_of_one_link.true in
     ear_sole c.args.g.now c.args.tree.now c.args.kind c.args.x c.args.link c.args.new.now c.args.begins first stop others c.index-new-new.result c.onward-last.result
     c.args.marks.now.items c.set_mark.new.marks.items c.requires.can c.requires.one_each c.index-new-new.is c.onward-last.ensures sole.1 are (begins.0 sole.0)
     c.set_mark.ensures
@@ -27,7 +27,7 @@ returns-then-is_sole-clause-marked c = λ first stop others are begins.
 pub mark_way-requires-clause-not_sole : goal.mark_way-requires-clause-not_sole
 mark_way-requires-clause-not_sole c =
     none_sole c.args.g.now c.args.tree.now c.args.kind c.args.x c.args.link c.args.new.now c.args.begins c.index-new-new.result c.onward-last.result
-    c.requires.can c.index-new-new.is c.onward-last.ensures (iff_false c.is_sole.ensures c.if-is_sole.false)
+    c.requires.can c.index-new-new.is c.onward-last.ensures (iff_false c.is_of_one_link.ensures c.if-is_of_one_link.false)
 
 pub set_mark-requires-then-begins-clause-link : goal.set_mark-requires-then-begins-clause-link
 set_mark-requires-then-begins-clause-link c =
@@ -39,7 +39,7 @@ pub returns-then-begins-clause-marked : goal.returns-then-begins-clause-marked
 returns-then-begins-clause-marked c = λ first stop others are begins.
     ear_closed c.args.g.now c.args.tree.now c.args.kind c.args.x c.args.link c.args.new.now c.args.begins first stop others c.index-new-new.result c.onward-last.result
     c.args.marks.now.items c.mark_way.new.marks.items c.set_mark-then-begins.new.marks.items c.requires.can c.requires.one_each c.index-new-new.is
-    c.onward-last.ensures (λ same. iff_false c.is_sole.ensures c.if-is_sole.false (c.if-begins.true, same)) are (begins.0 c.if-begins.true)
+    c.onward-last.ensures (λ same. iff_false c.is_of_one_link.ensures c.if-is_of_one_link.false (c.if-begins.true, same)) are (begins.0 c.if-begins.true)
     c.mark_way.ensures c.set_mark-then-begins.ensures
 
 pub returns-else-begins-clause-marked : goal.returns-else-begins-clause-marked

@@ -1,12 +1,12 @@
 use Rattle.std.proofs.Common.{◌≡◌, ℕ, Some, length}
 use Rattle.lowpoint_dfs.specs.Subtree.{parent_of}
-use Rattle.gadag_ears.specs.Growing.{HasRoom, HasTurn, IsMarked, IsTurn}
+use Rattle.gadag_ears.specs.Growing.{HasRoom, HasTurn, IsMarked, IsEarTurn}
 use Rattle.gadag_ears.proofs.EndsPassed.{ArePassed}
 use Rattle.gadag_ears.proofs.turn.neighbour_ears.Given as goal
 
 abbrev pub invariant-loop-end : goal.invariant-loop-end
 invariant-loop-end l = record {
-  turn : (root : ℕ) → IsTurn l.g root l.tree l.x l.initial.growing → IsTurn l.g root l.tree l.x l.growing;
+  turn : (root : ℕ) → IsEarTurn l.g root l.tree l.x l.initial.growing → IsEarTurn l.g root l.tree l.x l.growing;
   has_turn : HasTurn l.g l.tree l.x l.growing;
   has_room : HasRoom (length l.g.ids) l.growing;
   same_order : l.growing.order ≡ l.initial.growing.order;

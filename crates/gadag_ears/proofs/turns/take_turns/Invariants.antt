@@ -1,10 +1,10 @@
 use Rattle.std.proofs.Common.{◌-◌, length}
-use Rattle.gadag_ears.specs.Growing.{HasRoom, IsTurn}
+use Rattle.gadag_ears.specs.Growing.{HasRoom, IsEarTurn}
 use Rattle.gadag_ears.proofs.turns.take_turns.Given as goal
 
 abbrev pub invariant-loop-next : goal.invariant-loop-next
 invariant-loop-next l = record {
-  turn : IsTurn l.g l.fn.root l.tree l.here l.growing;
+  turn : IsEarTurn l.g l.fn.root l.tree l.here l.growing;
   has_room : HasRoom (length l.g.ids) l.growing;
 }
 
