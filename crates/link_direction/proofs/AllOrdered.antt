@@ -20,7 +20,7 @@ use Rattle.lowpoint_dfs.proofs.WholeTree.{leads_within}
 use Rattle.gadag_ears.specs.CommonBlock.{FirstIsHead, IsCommonBlock, OfBoth, SecondIsHead}
 use Rattle.gadag_ears.proofs.CommonBlocks.{leads_elsewhere}
 use Rattle.gadag_ears.proofs.LinkBlocks.{leads_over}
-use Rattle.link_direction.specs.BlockOfTwo.{FromHead, HaveInCommon, Peers, ToHead}
+use Rattle.link_direction.specs.CommonBlock.{FromHead, HaveCommonBlock, Peers, ToHead}
 use Rattle.link_direction.specs.Directions.{Directions}
 use Rattle.link_direction.specs.OrderedGadag.{AreHeads, AreLinks, AreOrders, IsOrderedGadag}
 use Rattle.link_direction.proofs.Answered.{IsAnswered, block_said, counted_rises, head_said, lies_said, not_of_root, one_number, order_few, role_said, root_block, root_head, same_head, stands_at}
@@ -80,7 +80,7 @@ directed g root gadag d w e a within =
     ]
 
 in_common : (g : Topology) (root : ℕ) (gadag : GadagLists) (d : DirectedLists) (w : Directions) (u v k : ℕ) → IsAnswered g root gadag d w
-    → u < length g.ids → v < length g.ids → IsCommonBlock gadag.places u v k → (h : ℕ) × HaveInCommon w u v k h
+    → u < length g.ids → v < length g.ids → IsCommonBlock gadag.places u v k → (h : ℕ) × HaveCommonBlock w u v k h
 in_common g root gadag d w u v k a u_in v_in (OfBoth one two) =
     let of_u = same_Some (w.block u) k (sym (block_said g root gadag d w u a u_in) ∙ one) in
     let of_v = same_Some (w.block v) k (sym (block_said g root gadag d w v a v_in) ∙ two) in
@@ -97,7 +97,7 @@ in_common g root gadag d w u v k a u_in v_in (SecondIsHead block head) = (
 )
 
 common : (g : Topology) (root : ℕ) (gadag : GadagLists) (d : DirectedLists) (w : Directions) (e u v : ℕ) → IsAnswered g root gadag d w
-    → leads g.links e u ≡ Some v → (h : ℕ) × HaveInCommon w u v (w.lies_in e) h
+    → leads g.links e u ≡ Some v → (h : ℕ) × HaveCommonBlock w u v (w.lies_in e) h
 common g root gadag d w e u v a onward =
     let e_within = link_within g e u v onward in
     let both = leads_within g e u v a.facts.kept onward in

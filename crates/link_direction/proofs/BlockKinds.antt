@@ -10,7 +10,7 @@ use Rattle.mrt_graph.specs.GadagWords.{link_block_at, role_at}
 use Rattle.mrt_graph.specs.Tails.{tail_at}
 use Rattle.mrt_graph.specs.Topology.{Topology}
 use Rattle.lowpoint_dfs.proofs.WholeTree.{leads_within}
-use Rattle.gadag_ears.specs.BlockLinks.{HasMoreLinks, HasOneLink}
+use Rattle.gadag_ears.specs.BlockLinks.{IsOfClosingLink, IsOfSoleLink}
 use Rattle.gadag_ears.specs.Members.{Alone, GoesOnFrom, ToHead, ToMember}
 use Rattle.gadag_ears.proofs.BlockLinks.{block_there}
 use Rattle.link_direction.specs.Directions.{Directions}
@@ -33,7 +33,7 @@ is_block g root gadag d w e k a within is = lies_said g root gadag d w e a withi
 
 -- the block of a sole link
 pub sole_link : (g : Topology) (root : ℕ) (gadag : GadagLists) (d : DirectedLists) (w : Directions) (m : ℕ) → IsAnswered g root gadag d w
-    → m < length g.ids → HasOneLink gadag.places gadag.marks (w.block m) → HasSoleLink g w m
+    → m < length g.ids → IsOfSoleLink gadag.places gadag.marks (w.block m) → HasSoleLink g w m
 sole_link g root gadag d w m a within it =
     let e_within = in_block_within g root gadag d w it.link (w.block m) a it.in_block in
     record {
@@ -48,7 +48,7 @@ sole_link g root gadag d w m a within it =
     }
 
 -- a block does not have one link and more
-not_both : (g : Topology) (root : ℕ) (gadag : GadagLists) (k : ℕ) → HasOneLink gadag.places gadag.marks k → HasMoreLinks gadag.marks k → ⊥
+not_both : (g : Topology) (root : ℕ) (gadag : GadagLists) (k : ℕ) → IsOfSoleLink gadag.places gadag.marks k → IsOfClosingLink gadag.marks k → ⊥
 not_both g root gadag k one more =
     more.another_link (one.no_other_link more.another more.another_in_block ∙ sym (one.no_other_link more.link more.in_block))
 
@@ -58,7 +58,7 @@ data Leaves (g : Topology) (w : Directions) (closing v : ℕ) : Type 0 where
   Onward : (to : ℕ) → to < length g.ids → w.block to ≡ w.block v → w.order v < w.order to → IsLeft g w v → Leaves g w closing v
 
 leaves : (g : Topology) (root : ℕ) (gadag : GadagLists) (d : DirectedLists) (w : Directions) (k v : ℕ) → IsAnswered g root gadag d w
-    → v < length g.ids → w.block v ≡ k → (more : HasMoreLinks gadag.marks k) → GoesOnFrom g gadag v → Leaves g w more.link v
+    → v < length g.ids → w.block v ≡ k → (more : IsOfClosingLink gadag.marks k) → GoesOnFrom g gadag v → Leaves g w more.link v
 leaves g root gadag d w k v a within of_block more (ToMember link to counted link_in to_in) =
     let e_within = link_within g link v to counted.to in
     let to_within = (leads_within g link v to a.facts.kept counted.to).1 in
@@ -85,11 +85,11 @@ leaves g root gadag d w k v a within of_block more (ToHead link closes) =
     plain_or_closing same = cc
 leaves g root gadag d w k v a within of_block more (Alone block one) =
     let named : v ≡ k = same_Some v k (sym block ∙ block_said g root gadag d w v a within ∙ ap (λ (n : ℕ). Some n) of_block) in
-    absurd (not_both g root gadag k (subst (λ (n : ℕ). HasOneLink gadag.places gadag.marks n) named one) more)
+    absurd (not_both g root gadag k (subst (λ (n : ℕ). IsOfSoleLink gadag.places gadag.marks n) named one) more)
 
 -- the tail of the closing link has the greatest order
 greatest_by : (left : ℕ) (g : Topology) (root : ℕ) (gadag : GadagLists) (d : DirectedLists) (w : Directions) (m v : ℕ) → IsAnswered g root gadag d w
-    → m < length g.ids → m ≢ root → v < length g.ids → w.block v ≡ w.block m → (more : HasMoreLinks gadag.marks (w.block m))
+    → m < length g.ids → m ≢ root → v < length g.ids → w.block v ≡ w.block m → (more : IsOfClosingLink gadag.marks (w.block m))
     → length g.ids + 1 ≤ w.order v + left → w.order v ≤ w.order (w.tail more.link)
 greatest_by zero g root gadag d w m v a m_within other within of_block more few =
     absurd (omega (arith, few, order_few g root gadag d w v a within))
@@ -102,7 +102,7 @@ greatest_by (suc left) g root gadag d w m v a m_within other within of_block mor
 
 -- the block of a closing link
 pub closing_link : (g : Topology) (root : ℕ) (gadag : GadagLists) (d : DirectedLists) (w : Directions) (m : ℕ) → IsAnswered g root gadag d w
-    → m < length g.ids → m ≢ root → HasMoreLinks gadag.marks (w.block m) → HasClosingLink g w m
+    → m < length g.ids → m ≢ root → IsOfClosingLink gadag.marks (w.block m) → HasClosingLink g w m
 closing_link g root gadag d w m a within other more =
     let e_within = in_block_within g root gadag d w more.link (w.block m) a more.in_block in
     let closes = a.facts.closing more.link more.closing in

@@ -13,7 +13,7 @@ use Rattle.mrt_graph.specs.GraphInvariant.{IsTopology}
 use Rattle.mrt_graph.specs.Topology.{Topology}
 use Rattle.mrt_graph.specs.TreeWords.{low_of, number_of}
 use Rattle.lowpoint_dfs.specs.Subtree.{parent_of}
-use Rattle.gadag_ears.specs.BlockLinks.{HasMoreLinks, HasOneLink}
+use Rattle.gadag_ears.specs.BlockLinks.{IsOfClosingLink, IsOfSoleLink}
 use Rattle.gadag_ears.specs.Counted.{IsCounted}
 use Rattle.gadag_ears.specs.HeadAndBlock.{HasPlace}
 use Rattle.gadag_ears.specs.LinkMarks.{LiesInBlock}
@@ -51,7 +51,7 @@ pub record AreGadagFacts (g : Topology) (root : ℕ) (gadag : GadagLists) : Type
   pub goes_on : (v : ℕ) → v < length g.ids → v ≢ root → GoesOnFrom g gadag v
   pub closing : (e : ℕ) → role_at gadag.marks e ≡ Some Closing → (v : ℕ) × ClosesBlock g gadag e v
   pub links : (v k : ℕ) → v < length g.ids → v ≢ root → block_at gadag.places v ≡ Some k
-      → HasOneLink gadag.places gadag.marks k ⊎ HasMoreLinks gadag.marks k
+      → IsOfSoleLink gadag.places gadag.marks k ⊎ IsOfClosingLink gadag.marks k
   pub lies : (e : ℕ) → e < length g.links → LiesInBlock g gadag.places gadag.marks e
   pub of_root : HasPlace gadag.places root root root
   pub alone : (v : ℕ) → v < length g.ids → block_at gadag.places v ≡ Some root → v ≡ root

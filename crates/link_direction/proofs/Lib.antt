@@ -19,4 +19,5 @@ pub mod PassedEnds
 pub mod QueueEnds
 pub mod SaidOf
 pub mod TakenOff
+pub mod TwoNodes
 pub mod WaysGiven

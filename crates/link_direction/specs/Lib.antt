@@ -1,4 +1,4 @@
-pub mod BlockOfTwo
+pub mod CommonBlock
 pub mod Counting
 pub mod Directed
 pub mod Directions

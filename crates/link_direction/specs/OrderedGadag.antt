@@ -4,7 +4,7 @@ use Rattle.mrt_graph.specs.declared.cert.Role.TheVariants.{Closing, Sole}
 use Rattle.mrt_graph.specs.DirectedLists.{DirectedLists}
 use Rattle.mrt_graph.specs.Leads.{leads}
 use Rattle.mrt_graph.specs.Topology.{Topology}
-use Rattle.link_direction.specs.BlockOfTwo.{HaveInCommon}
+use Rattle.link_direction.specs.CommonBlock.{HaveCommonBlock}
 use Rattle.link_direction.specs.Directions.{Directions, Says}
 
 -- a link leads from u to v, and lies in this block
@@ -78,7 +78,7 @@ pub record AreHeads (n root : ℕ) (w : Directions) : Type 0 where
 -- it is closing
 pub record AreLinks (g : Topology) (w : Directions) : Type 0 where
   pub directed : (e : ℕ) → e < length g.links → (v : ℕ) × (leads g.links e (w.tail e) ≡ Some v)
-  pub common : (e u v : ℕ) → leads g.links e u ≡ Some v → (h : ℕ) × HaveInCommon w u v (w.lies_in e) h
+  pub common : (e u v : ℕ) → leads g.links e u ≡ Some v → (h : ℕ) × HaveCommonBlock w u v (w.lies_in e) h
   pub forward : (e u v : ℕ) → leads g.links e u ≡ Some v → w.tail e ≡ u → w.role e ≢ Closing → w.order u < w.order v
 
 -- a GADAG with its order: but for closing links it is without cycles, and each block but the root's has one link, or

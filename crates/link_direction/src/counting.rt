@@ -53,7 +53,7 @@ fn entered(g: &Graph, marks: &[Mark], e: LinkNo) -> Option<NodeNo>
 }
 
 /// Whether a counted link leads over this end to the node at its other end.
-pub fn leads_on(g: &Graph, marks: &[Mark], end: &End) -> bool
+pub fn counts_over(g: &Graph, marks: &[Mark], end: &End) -> bool
     requires link { end.now.link < length g.now.links }
     requires marks { length marks.now ≡ length g.now.links }
     ensures { IsTrue result ↔ (entered_by g.now marks.now end.now.link ≡ Some end.now.to) }

@@ -26,7 +26,7 @@ ghost use Rattle.link_direction.specs.Counting.{IsEndOf, IsTurn, IsTurnOfEnd, Is
 ghost use Rattle.link_direction.specs.FromEars.{IsFromEars};
 ghost use Rattle.link_direction.specs.GadagOrder.{IsWholeOrder};
 
-use crate::counting::{entering, leads_on};
+use crate::counting::{counts_over, entering};
 use mrt_graph::{End, Graph, Mark, NoMemory, NodeNo};
 use std::alloc::Global;
 
@@ -96,7 +96,7 @@ fn pass_end(
         → slice_get order.new.items place ≡ Some x }
     ensures room { vec_capacity order.new ≡ vec_capacity order.old }
 {
-    if leads_on(g, marks, end) {
+    if counts_over(g, marks, end) {
         take_off(counts, order, end.to);
     }
 }

@@ -4,8 +4,8 @@ use Rattle.link_direction.proofs.EndPassed.{at_end, no_end, grown, room_for, pas
 use Rattle.link_direction.proofs.TakenOff.{end_kept, some_left}
 use Rattle.link_direction.proofs.ordering.pass_end.Goals as goal
 
-pub leads_on-requires-clause-link : goal.leads_on-requires-clause-link
-leads_on-requires-clause-link c =
+pub counts_over-requires-clause-link : goal.counts_over-requires-clause-link
+counts_over-requires-clause-link c =
     let turn = c.requires.turn in
     (end_kept c.args.g.now c.args.x turn.passed c.args.end.now turn.turn.under_way.kept turn.end_here).link
 
@@ -23,29 +23,29 @@ take_off-requires-clause-some c =
     let turn = c.requires.turn in
     some_left c.args.g.now turn.turn.root c.args.marks.now turn.turn.place turn.passed c.args.counts.now.items c.args.order.now.items c.args.x c.args.end.now
     (at_end c.args.g.now turn.turn.root c.args.marks.now turn.turn.place turn.passed c.args.counts.now.items c.args.order.now.items c.args.x c.args.end.now
-    turn.turn.under_way turn.turn.here turn.end_here (c.leads_on.ensures.0 c.if-leads_on.true))
+    turn.turn.under_way turn.turn.here turn.end_here (c.counts_over.ensures.0 c.if-counts_over.true))
 
 pub take_off-requires-clause-room : goal.take_off-requires-clause-room
 take_off-requires-clause-room c =
     let turn = c.requires.turn in
     let few = room_for c.args.g.now turn.turn.root c.args.marks.now turn.turn.place turn.passed c.args.counts.now.items c.args.order.now.items c.args.x c.args.end.now
     (at_end c.args.g.now turn.turn.root c.args.marks.now turn.turn.place turn.passed c.args.counts.now.items c.args.order.now.items c.args.x c.args.end.now
-    turn.turn.under_way turn.turn.here turn.end_here (c.leads_on.ensures.0 c.if-leads_on.true)) in
+    turn.turn.under_way turn.turn.here turn.end_here (c.counts_over.ensures.0 c.if-counts_over.true)) in
     omega (arith, few, c.requires.room)
 
-pub returns-then-leads_on-clause-on : goal.returns-then-leads_on-clause-on
-returns-then-leads_on-clause-on c = λ root place passed here end_here state.
+pub returns-then-counts_over-clause-on : goal.returns-then-counts_over-clause-on
+returns-then-counts_over-clause-on c = λ root place passed here end_here state.
     pass_over c.args.g.now root c.args.marks.now place passed c.args.counts.now.items c.take_off.new.counts.items c.args.order.now.items c.take_off.new.order.items
     c.args.x c.args.end.now
     (at_end c.args.g.now root c.args.marks.now place passed c.args.counts.now.items c.args.order.now.items c.args.x c.args.end.now state here end_here
-    (c.leads_on.ensures.0 c.if-leads_on.true)) c.take_off.ensures.counts c.take_off.ensures.put c.take_off.ensures.kept
+    (c.counts_over.ensures.0 c.if-counts_over.true)) c.take_off.ensures.counts c.take_off.ensures.put c.take_off.ensures.kept
 
-pub returns-then-leads_on-clause-here : goal.returns-then-leads_on-clause-here
-returns-then-leads_on-clause-here c = λ place here.
+pub returns-then-counts_over-clause-here : goal.returns-then-counts_over-clause-here
+returns-then-counts_over-clause-here c = λ place here.
     grown c.args.order.now.items c.take_off.new.order.items c.args.end.now.to (slice_index_or c.args.counts.now.items c.args.end.now.to 0) place c.args.x
     c.take_off.ensures.put c.take_off.ensures.kept here
 
-pub returns-else-leads_on-clause-on : goal.returns-else-leads_on-clause-on
-returns-else-leads_on-clause-on c = λ root place passed here end_here state.
+pub returns-else-counts_over-clause-on : goal.returns-else-counts_over-clause-on
+returns-else-counts_over-clause-on c = λ root place passed here end_here state.
     no_end c.args.g.now root c.args.marks.now place passed c.args.counts.now.items c.args.order.now.items c.args.x c.args.end.now state here end_here
-    (iff_false c.leads_on.ensures c.if-leads_on.false)
+    (iff_false c.counts_over.ensures c.if-counts_over.false)
