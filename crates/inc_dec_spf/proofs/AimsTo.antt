@@ -4,7 +4,7 @@ use Rattle.std.specs.Prelude.{replicate}
 use Rattle.std.proofs.lemmas.Bool.{cases_eq}
 use Rattle.std.proofs.lemmas.Option.{same_Some}
 use Rattle.mrt_graph.specs.Topology.{Topology}
-use Rattle.link_direction.specs.BlockOfTwo.{FromHead, HaveInCommon, Peers, ToHead}
+use Rattle.link_direction.specs.CommonBlock.{FromHead, HaveCommonBlock, Peers, ToHead}
 use Rattle.link_direction.specs.Directions.{Directions}
 use Rattle.inc_dec_spf.specs.declared.reach.Dir.{Dir}
 use Rattle.inc_dec_spf.specs.declared.reach.Hop.{Hop}
@@ -39,7 +39,7 @@ module _ (g : Topology) (root : ℕ) (w : Directions) (is : IsOrdered g root w) 
   ]
 
   -- over its own block a node that has one in common with t is aimed at t, if not at itself
-  own : (s k h : ℕ) → s < length g.ids → HaveInCommon w s t k h → aim (w.block s) ≢ s → aim (w.block s) ≡ t
+  own : (s k h : ℕ) → s < length g.ids → HaveCommonBlock w s t k h → aim (w.block s) ≢ s → aim (w.block s) ≡ t
   own s k h within (Peers a b c) onward = ap aim (a ∙ sym b) ∙ are.at_target
   own s k h within (ToHead a b c) onward = over_own s within b
   own s k h within (FromHead a b c) onward = elim (cases_eq (w.block s) (w.block t)) [
@@ -49,7 +49,7 @@ module _ (g : Topology) (root : ℕ) (w : Directions) (is : IsOrdered g root w) 
   ]
 
   -- the node above the head of t has no block in common with t
-  above_apart : (s k h : ℕ) → s < length g.ids → s ≡ w.head (w.head t) → w.head t ≢ root → HaveInCommon w s t k h → ⊥
+  above_apart : (s k h : ℕ) → s < length g.ids → s ≡ w.head (w.head t) → w.head t ≢ root → HaveCommonBlock w s t k h → ⊥
   above_apart s k h within above below (Peers a b c) =
       let same = is.ordered.heads.one_head s t within t_within (a ∙ sym b) in
       omega (arith, is.ordered.heads.lower (w.head t) top_within below, head_low s within, ap w.order same, ap w.order above)
@@ -59,7 +59,7 @@ module _ (g : Topology) (root : ℕ) (w : Directions) (is : IsOrdered g root w) 
       omega (arith, is.ordered.heads.lower (w.head t) top_within below, ap w.order b, ap w.order above)
 
   -- so is it over the blocks whose head it is
-  under : (s u k h : ℕ) → s < length g.ids → u < length g.ids → s ≢ u → w.head u ≡ s → HaveInCommon w s t k h → aim (w.block u) ≢ s
+  under : (s u k h : ℕ) → s < length g.ids → u < length g.ids → s ≢ u → w.head u ≡ s → HaveCommonBlock w s t k h → aim (w.block u) ≢ s
       → aim (w.block u) ≡ t
   under s u k h within u_within apart head common onward = elim (cases_eq (w.block u) (w.block t)) [
     | inl same ↦ ap aim same ∙ are.at_target
@@ -76,18 +76,18 @@ module _ (g : Topology) (root : ℕ) (w : Directions) (is : IsOrdered g root w) 
     ]
   ]
 
-  pub aims_at : (s k h : ℕ) → s < length g.ids → HaveInCommon w s t k h → IsAimOf g w aim s t
+  pub aims_at : (s k h : ℕ) → s < length g.ids → HaveCommonBlock w s t k h → IsAimOf g w aim s t
   aims_at s k h within common = record {
     aimed = λ b top other. over b top other;
     alone = λ u b top u_within apart other onward. go u b top u_within apart other onward;
   }
     where
-      over : (b top : ℕ) → HaveInCommon w s t b top → aim b ≡ t
+      over : (b top : ℕ) → HaveCommonBlock w s t b top → aim b ≡ t
       over b top (Peers x y z) = ap aim (sym y) ∙ are.at_target
       over b top (ToHead x y z) = ap aim (sym x) ∙ over_own s within y
       over b top (FromHead x y z) = ap aim (sym x) ∙ are.at_target
 
-      go : (u b top : ℕ) → u < length g.ids → s ≢ u → HaveInCommon w s u b top → aim b ≢ s → aim b ≡ t
+      go : (u b top : ℕ) → u < length g.ids → s ≢ u → HaveCommonBlock w s u b top → aim b ≢ s → aim b ≡ t
       go u b top u_within apart (Peers x y z) onward = ap aim (sym x) ∙ own s k h within common (λ back. onward (ap aim (sym x) ∙ back))
       go u b top u_within apart (ToHead x y z) onward = ap aim (sym x) ∙ own s k h within common (λ back. onward (ap aim (sym x) ∙ back))
       go u b top u_within apart (FromHead x y z) onward =
@@ -98,7 +98,7 @@ pub record HaveMet (w : Directions) (s t : ℕ) : Type 0 where
   pub k : ℕ
   pub h : ℕ
   pub two : s ≢ t
-  pub common : HaveInCommon w s t k h
+  pub common : HaveCommonBlock w s t k h
 
 pub have_met : (w : Directions) (s t : ℕ) (b : Bool) → b ≡ true → IsMeeting w s t b → HaveMet w s t
 have_met w s t true is (Meets k h two common) = record { k = k; h = h; two = two; common = common }

@@ -4,7 +4,10 @@ use Rattle.std.proofs.lemmas.Bool.{cases_eq}
 use Rattle.mrt_graph.specs.declared.link.End.{End}
 use Rattle.mrt_graph.specs.Topology.{Topology}
 use Rattle.mrt_graph.proofs.EndsAt.{list_of_ends}
-use Rattle.link_direction.specs.BlockOfTwo.{FromHead, HaveInCommon, Peers, ToHead}
+use Rattle.link_direction.specs.CommonBlock.{FromHead, HaveCommonBlock, Peers, ToHead}
+use Rattle.mrt_graph.specs.declared.related.Relation.{Relation}
+use Rattle.mrt_graph.specs.declared.related.Relation.TheVariants as relations
+use Rattle.link_direction.proofs.TwoNodes as nodes
 use Rattle.link_direction.specs.Directions.{Directions}
 use Rattle.link_direction.specs.OrderedGadag.{HasSoleLink}
 use Rattle.inc_dec_spf.specs.declared.reach.Dir.{Dir}
@@ -82,7 +85,7 @@ module _ (g : Topology) (root : ℕ) (w : Directions) (is : IsOrdered g root w) 
   abbrev HasHop : Type 0
   HasHop = (hop : Option Hop) × IsHop g w dir s t hop
 
-  by_least : (k h : ℕ) → IsClosed g root w k h → s ≢ t → HaveInCommon w s t k h → Least g w dir k h s t → HasHop
+  by_least : (k h : ℕ) → IsClosed g root w k h → s ≢ t → HaveCommonBlock w s t k h → Least g w dir k h s t → HasHop
   by_least k h closed two common (Found hop least) = (
     Some hop,
     Reached k h hop (record { two = two; common = common; more = more_links g root w k h is closed }) least,
@@ -96,7 +99,7 @@ module _ (g : Topology) (root : ℕ) (w : Directions) (is : IsOrdered g root w) 
   )
 
   -- a block of one link gives none
-  by_sole : (m : ℕ) → s ≢ t → HaveInCommon w s t (w.block m) (w.head m) → HasSoleLink g w m → HasHop
+  by_sole : (m : ℕ) → s ≢ t → HaveCommonBlock w s t (w.block m) (w.head m) → HasSoleLink g w m → HasHop
   by_sole m two common sole = (
     None,
     NotReached (λ j i path shares leads.
@@ -106,7 +109,7 @@ module _ (g : Topology) (root : ℕ) (w : Directions) (is : IsOrdered g root w) 
   )
 
   -- in the block of m
-  in_block : (m : ℕ) → m < length g.ids → m ≢ root → s ≢ t → HaveInCommon w s t (w.block m) (w.head m)
+  in_block : (m : ℕ) → m < length g.ids → m ≢ root → s ≢ t → HaveCommonBlock w s t (w.block m) (w.head m)
       → (IsClosed g root w (w.block m) (w.head m) → Least g w dir (w.block m) (w.head m) s t) → HasHop
   in_block m within other two common least = elim (is.ordered.blocks m within other) [
     | inl sole ↦ by_sole m two common sole
@@ -126,31 +129,22 @@ module _ (g : Topology) (root : ℕ) (w : Directions) (is : IsOrdered g root w) 
   below_not_root x y two head = λ at_root.
       two (at_root ∙ sym is.ordered.heads.root_head ∙ ap w.head (sym at_root) ∙ head)
 
-  none_common : w.block s ≢ w.block t → w.head s ≢ t → w.head t ≢ s → (k h : ℕ) → HaveInCommon w s t k h → ⊥
-  none_common apart not_head not_top k h (Peers at_s at_t head) = apart (at_s ∙ sym at_t)
-  none_common apart not_head not_top k h (ToHead at_s head is_head) = not_head head
-  none_common apart not_head not_top k h (FromHead at_t head is_head) = not_top head
-
   of_two : s ≢ t → HasHop
-  of_two two = elim (cases_eq (w.block s) (w.block t)) [
-    | inl same ↦
-        in_block s s_within (peer_not_root two same) two (Peers refl (sym same) refl)
-        (λ closed. least_inside g root w is (w.block s) (w.head s) closed dir t s s_within refl)
-    | inr apart ↦ elim (cases_eq (w.head s) t) [
-      | inl head ↦
+  of_two two = let is = nodes.of_two w s t in by is.0 is.1
+    where
+      by : (r : Relation) → nodes.Relates w s t r → HasHop
+      by relations.OneBlock same =
+          in_block s s_within (peer_not_root two same) two (Peers refl (sym same) refl)
+          (λ closed. least_inside g root w is (w.block s) (w.head s) closed dir t s s_within refl)
+      by relations.ToHead head =
           in_block s s_within (below_not_root s t two head) two (ToHead refl head (sym head))
           (λ closed. least_inside g root w is (w.block s) (w.head s) closed dir t s s_within refl)
-      | inr not_head ↦ elim (cases_eq (w.head t) s) [
-        | inl top ↦
-            in_block t t_within (below_not_root t s (λ back. two (sym back)) top) two (FromHead refl top (sym top))
-            (λ closed.
-            subst (λ (x : ℕ). Least g w dir (w.block t) (w.head t) x t) top
-            (least_from_head g root w is (w.block t) (w.head t) closed dir t))
-        | inr not_top ↦
-            (None, NotReached (λ k h path shares leads. none_common apart not_head not_top k h shares.common))
-      ]
-    ]
-  ]
+      by relations.FromHead top =
+          in_block t t_within (below_not_root t s (λ back. two (sym back)) top) two (FromHead refl top (sym top))
+          (λ closed.
+          subst (λ (x : ℕ). Least g w dir (w.block t) (w.head t) x t) top
+          (least_from_head g root w is (w.block t) (w.head t) closed dir t))
+      by relations.Apart none = (None, NotReached (λ k h path shares leads. none k h shares.common))
 
   pub some_hop : HasHop
   some_hop = elim (cases_eq s t) [

@@ -10,7 +10,7 @@ use Rattle.mrt_graph.specs.Leads.{leads}
 use Rattle.mrt_graph.specs.Topology.{Topology}
 use Rattle.mrt_graph.proofs.EndsAt.{end_leads}
 use Rattle.mrt_graph.proofs.Hops.{lead_back}
-use Rattle.link_direction.specs.BlockOfTwo.{HaveInCommon, Peers, ToHead, FromHead}
+use Rattle.link_direction.specs.CommonBlock.{HaveCommonBlock, Peers, ToHead, FromHead}
 use Rattle.link_direction.specs.Directions.{Directions}
 use Rattle.link_direction.specs.OrderedGadag.{HasClosingLink, IsOrderedGadag}
 use Rattle.inc_dec_spf.specs.declared.reach.Dir.{Dir}
@@ -51,7 +51,7 @@ inside_of_link g root w e u v is onward =
     apart : u ≢ v
     apart = leads_elsewhere g e u v is.kept onward
 
-    go : (h : ℕ) → HaveInCommon w u v (w.lies_in e) h → IsInside g root w (w.lies_in e)
+    go : (h : ℕ) → HaveCommonBlock w u v (w.lies_in e) h → IsInside g root w (w.lies_in e)
     go h (Peers at_u at_v head) = elim (cases_eq u root) [
       | inl same ↦ record { m = v; within = within.1; not_root = λ v_root. apart (same ∙ sym v_root); in_block = at_v }
       | inr other ↦ record { m = u; within = within.0; not_root = other; in_block = at_u }
@@ -106,7 +106,7 @@ leads_inside g root w k h e u v is closed onward in_block =
     within : (u < length g.ids) × (v < length g.ids)
     within = leads_within g e u v is.kept onward
 
-    go : (top : ℕ) → HaveInCommon w u v (w.lies_in e) top → (w.block v ≡ k) ⊎ (v ≡ h)
+    go : (top : ℕ) → HaveCommonBlock w u v (w.lies_in e) top → (w.block v ≡ k) ⊎ (v ≡ h)
     go top (Peers at_u at_v head) = inl (at_v ∙ in_block)
     go top (ToHead at_u head is_head) = inr (sym head ∙ head_of_member g root w k h u is closed within.0 (at_u ∙ in_block))
     go top (FromHead at_v head is_head) = inl (at_v ∙ in_block)

@@ -8,7 +8,7 @@ use Rattle.link_direction.specs.Directions.{Directions}
 use Rattle.inc_dec_spf.specs.declared.reach.Dir.{Dir}
 use Rattle.inc_dec_spf.specs.Fan.{HasOffered, known_at, known_by, lane}
 use Rattle.inc_dec_spf.specs.Known.{AreOffered, Known}
-use Rattle.inc_dec_spf.specs.Offers.{GoesOn, IsTurnOffer}
+use Rattle.inc_dec_spf.specs.Offers.{PassesOn, IsTurnOffer}
 use Rattle.inc_dec_spf.specs.Rest.{far}
 use Rattle.inc_dec_spf.proofs.Lanes.{far_none, lane_at, lane_past}
 use Rattle.inc_dec_spf.proofs.Swept.{none_from, turn_offers}
@@ -49,9 +49,9 @@ idle_turn g w dir s x width ends costs places j within all =
 
 -- for the source s at place j, what is known of x, where a path that comes to x goes on; else nothing is
 pub record IsFromAt (w : Directions) (s x width : ℕ) (costs places from_costs from_places : List ℕ) (j : ℕ) : Type 0 where
-  pub cost : GoesOn w s x → slice_index from_costs j ≡ slice_index costs (x * width + j)
-  pub place : GoesOn w s x → slice_index from_places j ≡ slice_index places (x * width + j)
-  pub stays : ¬ GoesOn w s x → slice_index from_costs j ≡ far
+  pub cost : PassesOn w s x → slice_index from_costs j ≡ slice_index costs (x * width + j)
+  pub place : PassesOn w s x → slice_index from_places j ≡ slice_index places (x * width + j)
+  pub stays : ¬ PassesOn w s x → slice_index from_costs j ≡ far
 
 -- the turn of x, in one lane: where a path that comes to x goes on, x offers what is known of it; else nothing
 pub lane_turn : (g : Topology) (w : Directions) (dir : Dir) (s x width : ℕ) (ends : List End) (costs places from_costs from_places costs' places' : List ℕ) (j : ℕ)
@@ -66,7 +66,7 @@ lane_turn g w dir s x width ends costs places from_costs from_places costs' plac
       | inr not_source ↦ elim (cases_eq x (w.head s)) [
         | inl at_head ↦ stopped (λ on. on.not_head at_head)
         | inr not_head ↦
-            let on : GoesOn w s x = record { not_source = not_source; not_head = not_head } in
+            let on : PassesOn w s x = record { not_source = not_source; not_head = not_head } in
             gone on (known_at ends width costs places j x) refl
       ]
     ]
@@ -84,14 +84,14 @@ lane_turn g w dir s x width ends costs places from_costs from_places costs' plac
     stays None none has' = has'
     stays (Some way) none has' = absurd (cc)
 
-    stopped : ¬ GoesOn w s x → AreOffered (IsTurnOffer g w dir s x before) before after
+    stopped : ¬ PassesOn w s x → AreOffered (IsTurnOffer g w dir s x before) before after
     stopped not_on =
         let none = far_none ends (get_or from_costs j 0) (get_or from_places j 0) (omega (arith, from.stays not_on)) in
         subst (λ (xs : List (Option Known)). AreOffered (IsTurnOffer g w dir s x before) before xs)
         (sym (stays (known_by ends (get_or from_costs j 0) (get_or from_places j 0)) none has))
         (none_from g w dir s x before (λ on way at. not_on on))
 
-    gone : GoesOn w s x → (o : Option Known) → known_at ends width costs places j x ≡ o → AreOffered (IsTurnOffer g w dir s x before) before after
+    gone : PassesOn w s x → (o : Option Known) → known_at ends width costs places j x ≡ o → AreOffered (IsTurnOffer g w dir s x before) before after
     gone on o is = by_entry o is
         (subst (λ (e : Option Known). HasOffered g w dir x e before after)
         (ap (λ (c : ℕ). known_by ends c (get_or from_places j 0)) (from.cost on)

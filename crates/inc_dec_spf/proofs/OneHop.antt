@@ -6,12 +6,12 @@ use Rattle.std.proofs.lemmas.Option.{same_Some, slice_get-get_or}
 use Rattle.mrt_graph.specs.declared.link.End.{End}
 use Rattle.mrt_graph.specs.FirstEnd.{IsFirstEnd}
 use Rattle.mrt_graph.specs.Topology.{Topology}
-use Rattle.link_direction.specs.BlockOfTwo.{HaveInCommon, Peers, ToHead, FromHead}
+use Rattle.link_direction.specs.CommonBlock.{HaveCommonBlock, Peers, ToHead, FromHead}
 use Rattle.link_direction.specs.Directions.{Directions}
 use Rattle.inc_dec_spf.specs.declared.reach.Dir.{Dir}
 use Rattle.inc_dec_spf.specs.declared.reach.Dir.TheVariants.{Down, Up}
 use Rattle.inc_dec_spf.specs.declared.reach.Hop.{Hop}
-use Rattle.inc_dec_spf.specs.LeastPath.{BeginsPath, IsHop, IsLeastPath, IsReachTo, NotReached, Reached, ShareBlock}
+use Rattle.inc_dec_spf.specs.LeastPath.{BeginsPath, IsHop, IsLeastPath, IsReachTo, NotReached, Reached, HaveCommonBlockOfMore}
 use Rattle.inc_dec_spf.specs.Path.{Path}
 use Rattle.inc_dec_spf.specs.Turns.{turn_of}
 use Rattle.inc_dec_spf.proofs.InBlocks.{Home, IsClosed, IsOrdered, Later, Onto, member_not_head, step_from_member}
@@ -23,7 +23,7 @@ pub data Side (w : Directions) (s t k h : ℕ) : Type 0 where
   Own : w.block s ≡ k → w.head s ≡ h → (w.block t ≡ k) ⊎ (w.head s ≡ t) → Side w s t k h
   Below : w.block t ≡ k → w.head t ≡ h → w.head t ≡ s → Side w s t k h
 
-side_of : (w : Directions) (s t k h : ℕ) → HaveInCommon w s t k h → Side w s t k h
+side_of : (w : Directions) (s t k h : ℕ) → HaveCommonBlock w s t k h → Side w s t k h
 side_of w s t k h (Peers at_s at_t head) = Own at_s head (inl at_t)
 side_of w s t k h (ToHead at_s head is_head) = Own at_s (head ∙ is_head) (inr head)
 side_of w s t k h (FromHead at_t head is_head) = Below at_t (head ∙ is_head) head
@@ -63,7 +63,7 @@ not_both_sides g root w s t is s_within t_within two near under = elim near [
 
 -- two nodes have one block in common
 pub one_block : (g : Topology) (root : ℕ) (w : Directions) (s t k h k' h' : ℕ) → IsOrdered g root w → s < length g.ids → t < length g.ids → s ≢ t
-    → HaveInCommon w s t k h → HaveInCommon w s t k' h' → (k ≡ k') × (h ≡ h')
+    → HaveCommonBlock w s t k h → HaveCommonBlock w s t k' h' → (k ≡ k') × (h ≡ h')
 one_block g root w s t k h k' h' is s_within t_within two one other =
     go (side_of w s t k h one) (side_of w s t k' h' other)
   where
@@ -135,13 +135,13 @@ path_later g root w dir k h x t end (next ∷ more) is closed inside other path 
 
 -- nodes of one block share that block
 pub inside_both : (g : Topology) (root : ℕ) (w : Directions) (s k h t : ℕ) → IsOrdered g root w → s < length g.ids → t < length g.ids → w.block s ≡ w.block t
-    → ShareBlock g w s t k h → AreIn g root w s k h t × (w.block s ≡ k) × (t ≢ h)
+    → HaveCommonBlockOfMore g w s t k h → AreIn g root w s k h t × (w.block s ≡ k) × (t ≢ h)
 inside_both g root w s k h t is s_within t_within peers share = (are, at.0, at.1)
   where
     are : AreIn g root w s k h t
     are = are_in g root w s k h t is s_within t_within share
 
-    own : (k' h' : ℕ) → HaveInCommon w s t k' h' → w.block s ≡ k'
+    own : (k' h' : ℕ) → HaveCommonBlock w s t k' h' → w.block s ≡ k'
     own k' h' (Peers at_s at_t head) = at_s
     own k' h' (ToHead at_s head is_head) = at_s
     own k' h' (FromHead at_t head is_head) = peers ∙ at_t

@@ -5,7 +5,7 @@ use Rattle.mrt_graph.specs.DirectedLists.{DirectedLists}
 use Rattle.mrt_graph.specs.GraphInvariant.{IsTopology}
 use Rattle.mrt_graph.specs.Leads.{leads}
 use Rattle.mrt_graph.specs.Topology.{Topology}
-use Rattle.link_direction.specs.BlockOfTwo.{HaveInCommon, Peers, ToHead, FromHead}
+use Rattle.link_direction.specs.CommonBlock.{HaveCommonBlock, Peers, ToHead, FromHead}
 use Rattle.link_direction.specs.Directions.{Directions, Says}
 use Rattle.link_direction.specs.OrderedGadag.{AreHeads, AreLinks, AreOrders, HasClosingLink, HasSoleLink, IsEntered, IsLeft, IsOrderedGadag}
 use Rattle.inc_dec_spf.specs.HasDirections.{AreDirections, HasDirections}
@@ -28,6 +28,16 @@ said_alike g d w v one other = record {
   tails = λ e within. same_Some (w.tail e) (v.tail e) (sym (one.tails e within) ∙ other.tails e within);
   roles = λ e within. same_Some (w.role e) (v.role e) (sym (one.roles e within) ∙ other.roles e within);
   link_blocks = λ e within. same_Some (w.lies_in e) (v.lies_in e) (sym (one.link_blocks e within) ∙ other.link_blocks e within);
+}
+
+pub alike_back : (g : Topology) (w v : Directions) → AreAlike g w v → AreAlike g v w
+alike_back g w v alike = record {
+  orders = λ a a_within. sym (alike.orders a a_within);
+  heads = λ a a_within. sym (alike.heads a a_within);
+  blocks = λ a a_within. sym (alike.blocks a a_within);
+  tails = λ e e_within. sym (alike.tails e e_within);
+  roles = λ e e_within. sym (alike.roles e e_within);
+  link_blocks = λ e e_within. sym (alike.link_blocks e e_within);
 }
 
 orders_too : (g : Topology) (root : ℕ) (w v : Directions) → AreAlike g w v → root < length g.ids → AreOrders (length g.ids) root w → AreOrders (length g.ids) root v
@@ -57,7 +67,7 @@ heads_too g root w v alike within are = record {
       sym (alike.heads x inside_x) ∙ are.one_head x y inside_x inside_y (alike.blocks x inside_x ∙ same ∙ sym (alike.blocks y inside_y)) ∙ alike.heads y inside_y;
 }
 
-common_too : (g : Topology) (w v : Directions) (x y k h : ℕ) → AreAlike g w v → x < length g.ids → y < length g.ids → HaveInCommon w x y k h → HaveInCommon v x y k h
+pub common_too : (g : Topology) (w v : Directions) (x y k h : ℕ) → AreAlike g w v → x < length g.ids → y < length g.ids → HaveCommonBlock w x y k h → HaveCommonBlock v x y k h
 common_too g w v x y k h alike inside_x inside_y (Peers at_x at_y head) =
     Peers (sym (alike.blocks x inside_x) ∙ at_x) (sym (alike.blocks y inside_y) ∙ at_y) (sym (alike.heads x inside_x) ∙ head)
 common_too g w v x y k h alike inside_x inside_y (ToHead at_x head is_head) =
@@ -73,7 +83,7 @@ links_too g w v kept alike are = record {
       let inside = leads_within g e x y kept onward in
       let it = are.common e x y onward in (
         it.0,
-        subst (λ (k : ℕ). HaveInCommon v x y k it.0) (alike.link_blocks e (link_within g e x y kept onward))
+        subst (λ (k : ℕ). HaveCommonBlock v x y k it.0) (alike.link_blocks e (link_within g e x y kept onward))
             (common_too g w v x y (w.lies_in e) it.0 alike inside.0 inside.1 it.1),
       );
   forward = λ e x y onward away not_closing.

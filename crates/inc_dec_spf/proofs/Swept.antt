@@ -10,7 +10,7 @@ use Rattle.link_direction.specs.Directions.{Directions}
 use Rattle.inc_dec_spf.specs.declared.reach.Dir.{Dir}
 use Rattle.inc_dec_spf.specs.Known.{AreOffered, IsKnown, Known}
 use Rattle.inc_dec_spf.specs.Path.{IsStep}
-use Rattle.inc_dec_spf.specs.Offers.{GoesOn, IsFirstOffer, IsFurtherOffer, IsTurnOffer}
+use Rattle.inc_dec_spf.specs.Offers.{PassesOn, IsFirstOffer, IsFurtherOffer, IsTurnOffer}
 use Rattle.inc_dec_spf.specs.Sweep.{First, Further, IsSwept, IsWay}
 use Rattle.inc_dec_spf.specs.Turns.{AreTurns, turn_of}
 use Rattle.inc_dec_spf.proofs.InBlocks.{IsOrdered, move_of}
@@ -72,7 +72,7 @@ turn_taken g root w dir s x i before after is within here only swept are = recor
     n = length g.ids
 
     -- what is known of a node that has had its turn stays
-    unchanged : (y : ℕ) → y < n → turn_of dir n w y < i + 1 → GoesOn w s y → (from : Known) → slice_get after y ≡ Some (Some from) → slice_get before y ≡ Some (Some from)
+    unchanged : (y : ℕ) → y < n → turn_of dir n w y < i + 1 → PassesOn w s y → (from : Known) → slice_get after y ≡ Some (Some from) → slice_get before y ≡ Some (Some from)
     unchanged y inside early on from at = elim (are.from y from at) [
       | inl old ↦ old
       | inr new ↦ elim (later_or_end g root w dir s x y new.from from is (swept.sound x new.from new.there) new.goes_on new.offer) [
@@ -102,13 +102,13 @@ all_known g w dir s i known kept all swept v way (Further x from before on offer
     ])
 
 -- a node of which nothing is known, or from which no path goes on, offers nothing
-pub none_from : (g : Topology) (w : Directions) (dir : Dir) (s x : ℕ) (known : List (Option Known)) → (GoesOn w s x → (from : Known) → slice_get known x ≡ Some (Some from) → ⊥)
+pub none_from : (g : Topology) (w : Directions) (dir : Dir) (s x : ℕ) (known : List (Option Known)) → (PassesOn w s x → (from : Known) → slice_get known x ≡ Some (Some from) → ⊥)
     → AreOffered (IsTurnOffer g w dir s x known) known known
 none_from g w dir s x known none =
     none_offered (IsTurnOffer g w dir s x known) known (λ v way offer. none offer.goes_on offer.from offer.there)
 
 -- a node offers what its ends lead on to
-pub turn_offers : (g : Topology) (w : Directions) (dir : Dir) (s x : ℕ) (from : Known) (before after : List (Option Known)) → GoesOn w s x
+pub turn_offers : (g : Topology) (w : Directions) (dir : Dir) (s x : ℕ) (from : Known) (before after : List (Option Known)) → PassesOn w s x
     → slice_get before x ≡ Some (Some from) → AreOffered (IsFurtherOffer g w dir x from) before after → AreOffered (IsTurnOffer g w dir s x before) before after
 turn_offers g w dir s x from before after on at are =
     offers_same (IsFurtherOffer g w dir x from) (IsTurnOffer g w dir s x before) before after

@@ -5,10 +5,10 @@ use Rattle.std.proofs.lemmas.Option.{same_Some, slice_get_within}
 use Rattle.mrt_graph.specs.declared.link.End.{End}
 use Rattle.mrt_graph.specs.Topology.{Topology}
 use Rattle.mrt_graph.proofs.Hops.{lead_back}
-use Rattle.link_direction.specs.BlockOfTwo.{HaveInCommon}
+use Rattle.link_direction.specs.CommonBlock.{HaveCommonBlock}
 use Rattle.link_direction.specs.Directions.{Directions}
 use Rattle.inc_dec_spf.specs.declared.reach.Dir.{Dir}
-use Rattle.inc_dec_spf.specs.LeastPath.{BeginsPath, HasMoreLinks, IsHop, NotReached, Reached, ShareBlock}
+use Rattle.inc_dec_spf.specs.LeastPath.{BeginsPath, HasMoreLinks, IsHop, NotReached, Reached, HaveCommonBlockOfMore}
 use Rattle.inc_dec_spf.specs.Path.{IsStep, Path, cost_of}
 use Rattle.inc_dec_spf.specs.Rest.{IsRestCost, Rest, far}
 use Rattle.inc_dec_spf.specs.Side.{IsLeastWay, hop_by}
@@ -150,23 +150,23 @@ module _ (g : Topology) (root : ℕ) (w : Directions) (is : IsOrdered g root w) 
 
   -- the least way over all ends is the hop; so is the least one within the own block, where there is no other common one
   pub least_hop : (dir : Dir) (own : Bool) (s t : ℕ) (aim : ℕ → ℕ) (cost link : ℕ) (ends : List End) → s < length g.ids
-      → slice_get g.ends s ≡ Some ends → s ≢ t → ((k h : ℕ) → ShareBlock g w s t k h → own ≡ true → k ≡ w.block s)
-      → ((k h : ℕ) → ShareBlock g w s t k h → aim k ≡ t)
-      → ((u k h : ℕ) → u < length g.ids → s ≢ u → HaveInCommon w s u k h → (own ≡ true → k ≡ w.block s) → (own ≡ false → aim k ≢ s) → aim k ≡ t)
+      → slice_get g.ends s ≡ Some ends → s ≢ t → ((k h : ℕ) → HaveCommonBlockOfMore g w s t k h → own ≡ true → k ≡ w.block s)
+      → ((k h : ℕ) → HaveCommonBlockOfMore g w s t k h → aim k ≡ t)
+      → ((u k h : ℕ) → u < length g.ids → s ≢ u → HaveCommonBlock w s u k h → (own ≡ true → k ≡ w.block s) → (own ≡ false → aim k ≢ s) → aim k ≡ t)
       → IsLeastWay (BeginsAt g w dir own s aim) ends (length ends) cost link → IsHop g w dir s t (hop_by cost link)
   least_hop dir own s t aim cost link ends within list two kept_to aimed alone least = elim (cases_Bool (nat_lt cost far)) [
     | inl is_less ↦ rw is_less (reached (ltb-true cost far is_less))
     | inr is_not ↦ rw is_not (NotReached (λ k h path share is_path. none k h path share is_path (ltb-false cost far is_not)))
   ]
     where
-      begun : (k h place : ℕ) (end : End) (others : List End) → IsClosed g root w k h → ShareBlock g w s t k h → slice_get ends place ≡ Some end
+      begun : (k h place : ℕ) (end : End) (others : List End) → IsClosed g root w k h → HaveCommonBlockOfMore g w s t k h → slice_get ends place ≡ Some end
           → Path g w dir k h s (end ∷ others) t → BeginsAt g w dir own s aim place (cost_of (end ∷ others))
       begun k h place end others closed share there path =
           path_is_way dir own k h s aim place ends end others closed share.more (kept_to k h share)
           (λ all_blocks same. two (sym same ∙ aimed k h share)) list there
           (subst (λ (y : ℕ). Path g w dir k h s (end ∷ others) y) (sym (aimed k h share)) path)
 
-      at_most : (k h : ℕ) (path : List End) → IsClosed g root w k h → ShareBlock g w s t k h → Path g w dir k h s path t
+      at_most : (k h : ℕ) (path : List End) → IsClosed g root w k h → HaveCommonBlockOfMore g w s t k h → Path g w dir k h s path t
           → (cost ≤ cost_of path) × (cost < far)
       at_most k h [] closed share path = absurd path
       at_most k h (end ∷ others) closed share path =
@@ -176,7 +176,7 @@ module _ (g : Topology) (root : ℕ) (w : Directions) (is : IsOrdered g root w) 
           least.least step.place (cost_of (end ∷ others)) (slice_get_within ends step.place end there)
           (begun k h step.place end others closed share there path)
 
-      none : (k h : ℕ) (path : List End) → ShareBlock g w s t k h → Path g w dir k h s path t → far ≤ cost → ⊥
+      none : (k h : ℕ) (path : List End) → HaveCommonBlockOfMore g w s t k h → Path g w dir k h s path t → far ≤ cost → ⊥
       none k h path share is_path not_less =
           let are = are_in g root w s k h t is within (path_ends_within dir k h s t path is_path) share in
           omega (arith, not_less, (at_most k h path are.closed share is_path).1)
@@ -192,7 +192,7 @@ module _ (g : Topology) (root : ℕ) (w : Directions) (is : IsOrdered g root w) 
           let common = is.ordered.links.common it.begins.end.link s it.begins.end.to move.onward in
           let aim_is : aim k ≡ t =
           alone it.begins.end.to k common.0 move.to_within move.apart
-          (subst (λ (b : ℕ). HaveInCommon w s it.begins.end.to b common.0) it.begins.in_block common.1) it.begins.kept_to it.begins.onward in
+          (subst (λ (b : ℕ). HaveCommonBlock w s it.begins.end.to b common.0) it.begins.in_block common.1) it.begins.kept_to it.begins.onward in
           let path =
           subst (λ (y : ℕ). Path g w dir k h s (it.begins.end ∷ it.begins.others) y) aim_is
           (way_is_path dir own s aim it.place cost h it.begins found.1) in

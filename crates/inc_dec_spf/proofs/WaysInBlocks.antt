@@ -8,7 +8,7 @@ use Rattle.link_direction.specs.Directions.{Directions}
 use Rattle.inc_dec_spf.specs.declared.reach.Dir.{Dir}
 use Rattle.inc_dec_spf.specs.Known.{Known}
 use Rattle.inc_dec_spf.specs.Path.{IsStep, Path, cost_of}
-use Rattle.inc_dec_spf.specs.Offers.{GoesOn, IsFirstOffer, IsFurtherOffer}
+use Rattle.inc_dec_spf.specs.Offers.{PassesOn, IsFirstOffer, IsFurtherOffer}
 use Rattle.inc_dec_spf.specs.Sweep.{First, Further, IsWay}
 use Rattle.inc_dec_spf.specs.Turns.{turn_of}
 use Rattle.inc_dec_spf.proofs.InBlocks.{Home, IsClosed, IsOrdered, Later, Onto, closed_of_link, head_of_member, head_lower, leads_inside, member_not_head, move_of, step_from_head, step_from_member}
@@ -22,7 +22,7 @@ pub record AreIn (g : Topology) (root : ℕ) (w : Directions) (s k h v : ℕ) : 
   pub target_within : v < length g.ids
 
 -- paths go on from nodes of the block that are not the source, since they are not the head
-pub goes_on_inside : (g : Topology) (root : ℕ) (w : Directions) (s k h x : ℕ) → IsOrdered g root w → AreIn g root w s k h x → GoesOn w s x → w.block x ≡ k
+pub goes_on_inside : (g : Topology) (root : ℕ) (w : Directions) (s k h x : ℕ) → IsOrdered g root w → AreIn g root w s k h x → PassesOn w s x → w.block x ≡ k
 goes_on_inside g root w s k h x is are on = elim are.target [
   | inl inside ↦ inside
   | inr home ↦ elim are.source [
@@ -124,8 +124,8 @@ path_of_way g root w dir s v way is (Further x from before on offer) =
     }
 
 -- a further offer leads to a node with a later turn, or to one from which no path goes on
-pub later_or_end : (g : Topology) (root : ℕ) (w : Directions) (dir : Dir) (s x v : ℕ) (from way : Known) → IsOrdered g root w → IsWay g w dir s x from → GoesOn w s x
-    → IsFurtherOffer g w dir x from v way → (turn_of dir (length g.ids) w x < turn_of dir (length g.ids) w v) ⊎ (GoesOn w s v → ⊥)
+pub later_or_end : (g : Topology) (root : ℕ) (w : Directions) (dir : Dir) (s x v : ℕ) (from way : Known) → IsOrdered g root w → IsWay g w dir s x from → PassesOn w s x
+    → IsFurtherOffer g w dir x from v way → (turn_of dir (length g.ids) w x < turn_of dir (length g.ids) w v) ⊎ (PassesOn w s v → ⊥)
 later_or_end g root w dir s x v from way is before on offer =
     let it = path_of_way g root w dir s x from is before in
     let inside : w.block x ≡ it.k = goes_on_inside g root w s it.k it.h x is it.are on in
@@ -133,7 +133,7 @@ later_or_end g root w dir s x v from way is before on offer =
     go it.k it.h it.are (step_from_member g root w dir it.k it.h x offer.end is it.are.closed inside step)
   where
     go : (k h : ℕ) → AreIn g root w s k h x → Onto dir (length g.ids) w k h x offer.end.to
-        → (turn_of dir (length g.ids) w x < turn_of dir (length g.ids) w v) ⊎ (GoesOn w s v → ⊥)
+        → (turn_of dir (length g.ids) w x < turn_of dir (length g.ids) w v) ⊎ (PassesOn w s v → ⊥)
     go k h are (Later block later) = inl (subst (λ (y : ℕ). turn_of dir (length g.ids) w x < turn_of dir (length g.ids) w y) offer.to later)
     go k h are (Home home) = inr (λ next. elim are.source [
       | inl member ↦ next.not_head (sym offer.to ∙ home ∙ sym (head_of_member g root w k h s is are.closed are.source_within member))
@@ -149,7 +149,7 @@ pub record IsOnTheWay (g : Topology) (w : Directions) (dir : Dir) (s k h x : ℕ
 turn_differs : (dir : Dir) (n : ℕ) (w : Directions) (s x : ℕ) → turn_of dir n w s < turn_of dir n w x → x ≢ s
 turn_differs dir n w s x less same = omega (arith, less, ap (λ (y : ℕ). turn_of dir n w y) same)
 
-on_the_way : (g : Topology) (root : ℕ) (w : Directions) (dir : Dir) (s k h v x : ℕ) → IsOrdered g root w → AreIn g root w s k h v → IsOnTheWay g w dir s k h x → GoesOn w s x
+on_the_way : (g : Topology) (root : ℕ) (w : Directions) (dir : Dir) (s k h v x : ℕ) → IsOrdered g root w → AreIn g root w s k h v → IsOnTheWay g w dir s k h x → PassesOn w s x
 on_the_way g root w dir s k h v x is are way = record {
   not_source = elim way.ahead [
     | inl head ↦ λ same. not_head (same ∙ head)

@@ -40,14 +40,14 @@ pub record IsFurtherOffer (g : Topology) (w : Directions) (dir : Dir) (x : ℕ) 
   pub link : way.link ≡ from.link
 
 -- a path from source s that comes to node x goes on: x is not the source, and not the head of the source's block
-pub record GoesOn (w : Directions) (s x : ℕ) : Type 0 where
+pub record PassesOn (w : Directions) (s x : ℕ) : Type 0 where
   pub not_source : x ≢ s
   pub not_head : x ≢ w.head s
 
 -- what x offers in its turn
 pub record IsTurnOffer (g : Topology) (w : Directions) (dir : Dir) (s x : ℕ) (known : List (Option Known)) (v : ℕ)
     (way : Known) : Type 0 where
-  pub goes_on : GoesOn w s x
+  pub goes_on : PassesOn w s x
   pub from : Known
   pub there : slice_get known x ≡ Some (Some from)
   pub offer : IsFurtherOffer g w dir x from v way

@@ -6,7 +6,7 @@ use Rattle.link_direction.specs.Directions.{Directions}
 use Rattle.inc_dec_spf.specs.declared.fan.Opening.{Opening}
 use Rattle.inc_dec_spf.specs.Fan.{lane}
 use Rattle.inc_dec_spf.specs.HasDirections.{AreDirections, HasDirections}
-use Rattle.inc_dec_spf.specs.Offers.{GoesOn}
+use Rattle.inc_dec_spf.specs.Offers.{PassesOn}
 use Rattle.inc_dec_spf.specs.Rest.{far}
 use Rattle.inc_dec_spf.specs.Sweep.{IsSwept}
 use Rattle.inc_dec_spf.specs.Turns.{AreTurns}
@@ -29,7 +29,7 @@ AreSweptTo opening i width costs places =
 -- for the sources whose paths that come to x go on, what was known stays; for the others nothing is known
 pub record AreKeptOnward (opening : Opening) (x : ℕ) (costs places costs' places' : List ℕ) : Type 0 where
   pub stays : (root j : ℕ) (w : Directions) → AreDirections opening.graph.now opening.directed.now root w → j < length costs
-      → opening.first + j < length opening.graph.now.ids → ¬ GoesOn w (opening.first + j) x → slice_index costs' j ≡ far
+      → opening.first + j < length opening.graph.now.ids → ¬ PassesOn w (opening.first + j) x → slice_index costs' j ≡ far
   pub goes : (root j : ℕ) (w : Directions) → AreDirections opening.graph.now opening.directed.now root w → j < length costs
-      → opening.first + j < length opening.graph.now.ids → GoesOn w (opening.first + j) x
+      → opening.first + j < length opening.graph.now.ids → PassesOn w (opening.first + j) x
       → (slice_index costs' j ≡ slice_index costs j) × (slice_index places' j ≡ slice_index places j)

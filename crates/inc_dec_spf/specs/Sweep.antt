@@ -4,13 +4,13 @@ use Rattle.mrt_graph.specs.Topology.{Topology}
 use Rattle.link_direction.specs.Directions.{Directions}
 use Rattle.inc_dec_spf.specs.declared.reach.Dir.{Dir}
 use Rattle.inc_dec_spf.specs.Known.{IsKnown, Known}
-use Rattle.inc_dec_spf.specs.Offers.{GoesOn, IsFirstOffer, IsFurtherOffer, IsTurnOffer}
+use Rattle.inc_dec_spf.specs.Offers.{PassesOn, IsFirstOffer, IsFurtherOffer, IsTurnOffer}
 use Rattle.inc_dec_spf.specs.Turns.{turn_of}
 
 -- ways from source s, each an offer more than the one before it
 pub data IsWay (g : Topology) (w : Directions) (dir : Dir) (s : ℕ) : ℕ → Known → Type 0 where
   First : {v : ℕ} {way : Known} → IsFirstOffer g w dir s v way → IsWay g w dir s v way
-  Further : {v : ℕ} {way : Known} (x : ℕ) (from : Known) → IsWay g w dir s x from → GoesOn w s x
+  Further : {v : ℕ} {way : Known} (x : ℕ) (from : Known) → IsWay g w dir s x from → PassesOn w s x
       → IsFurtherOffer g w dir x from v way → IsWay g w dir s v way
 
 -- after i turns: only ways are known, and what the source and those nodes offered

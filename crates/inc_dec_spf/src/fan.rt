@@ -10,7 +10,7 @@ ghost use Rattle.inc_dec_spf.specs.Opening.{AreKeptOnward, AreSweptTo, IsOpening
 ghost use Rattle.inc_dec_spf.specs.HasDirections.{AreDirections, HasDirections};
 ghost use Rattle.inc_dec_spf.specs.Known.{hop_of};
 ghost use Rattle.inc_dec_spf.specs.LeastPath.{IsHop};
-ghost use Rattle.inc_dec_spf.specs.Offers.{GoesOn};
+ghost use Rattle.inc_dec_spf.specs.Offers.{PassesOn};
 ghost use Rattle.inc_dec_spf.specs.Rest.{far};
 ghost use Rattle.inc_dec_spf.specs.Turns.{AreTurns};
 
@@ -384,9 +384,9 @@ fn is_stop(opening: &Opening, source: NodeNo, x: NodeNo) -> bool
     requires opening { IsOpening opening.now }
     requires source { source < length opening.now.graph.now.ids }
     ensures goes { result ≡ false → (root : ℕ) (w : Directions)
-        → AreDirections opening.now.graph.now opening.now.directed.now root w → GoesOn w source x }
+        → AreDirections opening.now.graph.now opening.now.directed.now root w → PassesOn w source x }
     ensures stops { result ≡ true → (root : ℕ) (w : Directions)
-        → AreDirections opening.now.graph.now opening.now.directed.now root w → ¬ GoesOn w source x }
+        → AreDirections opening.now.graph.now opening.now.directed.now root w → ¬ PassesOn w source x }
 {
     source == x || opening.directed.place(source).head == x
 }

@@ -4,6 +4,7 @@
 mod aiming;
 mod beside;
 mod fan;
+mod head_aims;
 mod least_paths;
 mod offers;
 mod own_costs;
@@ -17,6 +18,7 @@ mod ways;
 
 pub use aiming::Aiming;
 pub use fan::Fan;
+pub use head_aims::put_heads;
 pub use least_paths::spf;
 pub use offers::is_sole;
 pub use path_law::{

@@ -1,6 +1,6 @@
 //! Least paths to one node.
 
-ghost use Rattle.std.specs.Prelude.{◌≡◌, ◌<◌, ℕ, IfOk, length, slice_index};
+ghost use Rattle.std.specs.Prelude.{◌≡◌, ◌<◌, ℕ, IfOk, length};
 ghost use Rattle.mrt_graph.specs.Topology.{Topology};
 ghost use Rattle.link_direction.specs.Directions.{Directions, Says};
 ghost use Rattle.inc_dec_spf.specs.BlockAims.{AreAimsTo, IsMeeting, aim_at};
@@ -8,10 +8,11 @@ ghost use Rattle.inc_dec_spf.specs.HasDirections.{AreDirections, HasDirections};
 ghost use Rattle.inc_dec_spf.specs.LeastPath.{IsReachTo};
 
 use crate::aiming::Aiming;
+use crate::head_aims::put_heads;
 use crate::reach::{Dir, Reach};
 use crate::tile::Tile;
 use crate::turns::nodes_by_turn;
-use mrt_graph::{Directed, Graph, NoMemory, NodeNo};
+use mrt_graph::{Directed, Graph, NoMemory, NodeNo, relation_of};
 use std::alloc::Global;
 
 /// The least paths to a node from every node with which it has a block of more than one link in common, up or down.
@@ -72,25 +73,11 @@ fn put_aims(g: &Graph, d: &Directed, target: NodeNo, aims: &mut [NodeNo])
     ensures aims { (root : ℕ) (w : Directions) → AreDirections g.now d.now root w
         → AreAimsTo g.now w target (aim_at aims.new 1 0) }
 {
-    put_heads(g, d, aims);
+    put_heads(g, d, 1, aims);
     let there = d.place(target);
     let above = d.place(there.head);
     aims[above.block.get() as usize] = there.head;
     aims[there.block.get() as usize] = target;
-}
-
-/// Each block aims at its head.
-fn put_heads(g: &Graph, d: &Directed, aims: &mut [NodeNo])
-    requires directed { HasDirections g.now d.now }
-    requires one_each { length aims.old ≡ length g.now.ids }
-    ensures one_each { length aims.new ≡ length g.now.ids }
-    ensures heads { (root y : ℕ) (w : Directions) → AreDirections g.now d.now root w → y < length g.now.ids
-        → slice_index aims.new (w.block y) ≡ w.head y }
-{
-    for n in 0..g.node_count() {
-        let place = d.place(NodeNo::new(n));
-        aims[place.block.get() as usize] = place.head;
-    }
 }
 
 /// Whether s is another node than the target, and has a block in common with it.
@@ -104,14 +91,5 @@ fn meets(d: &Directed, s: NodeNo, target: NodeNo) -> bool
     }
     let here = d.place(s);
     let there = d.place(target);
-    if here.block == there.block {
-        return true;
-    }
-    if here.head == target {
-        return true;
-    }
-    if there.head == s {
-        return true;
-    }
-    false
+    !relation_of(s, &here, target, &there).is_apart()
 }

@@ -1,7 +1,7 @@
 use Rattle.std.proofs.Common.{◌≡◌, ◌≢◌, ◌<◌, ◌+◌, ◌∙◌, ℕ, List, get_or, length, length-set, set, sym, subst, inl, inr, arith}
 use Rattle.std.proofs.lemmas.Bool.{cases_eq}
 use Rattle.inc_dec_spf.specs.Fan.{AreCosts, AreLow, no_place}
-use Rattle.inc_dec_spf.specs.Offers.{GoesOn}
+use Rattle.inc_dec_spf.specs.Offers.{PassesOn}
 use Rattle.inc_dec_spf.specs.Rest.{far}
 use Rattle.inc_dec_spf.proofs.Lanes.{read_other, read_set}
 use Rattle.inc_dec_spf.proofs.fan.forget_stopped.Goals as goal
@@ -59,7 +59,7 @@ loop-j-preserved c =
         goes = λ root k w are on.
             let other : k ≢ j = λ same.
             c.is_stop.ensures.stops t.if-is_stop.true root w are
-            (subst (λ (v : ℕ). GoesOn w v x) (omega (arith, source, same)) on) in
+            (subst (λ (v : ℕ). PassesOn w v x) (omega (arith, source, same)) on) in
             let so_far = c.loop-j.invariant.goes root k w are on in (
               read_other c.loop-j.from_costs j k far other ∙ so_far.0,
               read_other c.loop-j.from_places j k no_place other ∙ so_far.1,
@@ -71,7 +71,7 @@ loop-j-preserved c =
         low = c.loop-j.invariant.low;
         stays = λ root k w are below not_on. elim (cases_eq k j) [
           | inl same ↦
-              absurd (not_on (subst (λ (v : ℕ). GoesOn w v x) (omega (arith, source, same)) (c.is_stop.ensures.goes t.if-is_stop.false root w are)))
+              absurd (not_on (subst (λ (v : ℕ). PassesOn w v x) (omega (arith, source, same)) (c.is_stop.ensures.goes t.if-is_stop.false root w are)))
           | inr other ↦ c.loop-j.invariant.stays root k w are (omega (arith, below, other)) not_on
         ];
         goes = c.loop-j.invariant.goes;

@@ -3,12 +3,12 @@ use Rattle.std.proofs.lemmas.Option.{same_Some, slice_get-get_or}
 use Rattle.mrt_graph.specs.Topology.{Topology}
 use Rattle.link_direction.specs.Directions.{Directions}
 use Rattle.inc_dec_spf.specs.Fan.{AreStops}
-use Rattle.inc_dec_spf.specs.Offers.{GoesOn}
+use Rattle.inc_dec_spf.specs.Offers.{PassesOn}
 use Rattle.inc_dec_spf.proofs.fan.keep_onward.Goals as goal
 
 -- a path goes on from a node that is not marked
 not_stopped : (g : Topology) (w : Directions) (first width x j : ℕ) (stops : List Bool) → AreStops g w first width stops → slice_get stops x ≡ Some false
-    → j < width → first + j < length g.ids → GoesOn w (first + j) x
+    → j < width → first + j < length g.ids → PassesOn w (first + j) x
 not_stopped g w first width x j stops are clear below inside = record {
   not_source = λ same.
       let marked = are.sources j below inside in
