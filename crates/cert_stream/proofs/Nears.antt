@@ -8,7 +8,8 @@ use Rattle.std.proofs.lemmas.List.Elements.{filter-append}
 use Rattle.std.specs.List.{flat_map}
 use Rattle.mrt_graph.specs.declared.cert.Row.{Row}
 use Rattle.mrt_graph.specs.Certificate.{Certificate}
-use Rattle.mrt_rows.specs.NearOf.{is_near, near_rows_before, near_rows_of}
+use Rattle.mrt_graph.specs.Tags.{is_near}
+use Rattle.mrt_rows.specs.NearOf.{near_rows_before, near_rows_of}
 use Rattle.cert_format.specs.CertText.{row_text}
 use Rattle.cert_format.specs.Putting.{Puts, Writer}
 use Rattle.cert_format.specs.Versions.{rows_in}

@@ -11,7 +11,8 @@ use Rattle.mrt_graph.specs.declared.cert.Row.{Row}
 use Rattle.mrt_graph.specs.Certificate.{Certificate}
 use Rattle.mrt_graph.specs.Topology.{Topology}
 use Rattle.mrt_rows.specs.CertOf.{IsCertOf}
-use Rattle.mrt_rows.specs.NearOf.{is_near, near_rows_before, near_rows_of}
+use Rattle.mrt_graph.specs.Tags.{is_near}
+use Rattle.mrt_rows.specs.NearOf.{near_rows_before, near_rows_of}
 use Rattle.cert_format.specs.CertText.{cert_text, header_text, link_text, node_text, row_text}
 use Rattle.cert_format.specs.Versions.{rows_in}
 use Rattle.cert_stream.specs.Same.{HaveSameParts, HaveSameRows}

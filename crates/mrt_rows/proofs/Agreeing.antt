@@ -14,27 +14,19 @@ use Rattle.mrt_graph.specs.Certificate.{row_of}
 use Rattle.mrt_graph.specs.GraphInvariant.{IsTopology}
 use Rattle.mrt_graph.specs.Topology.{Topology}
 use Rattle.mrt_graph.proofs.EndsAt.{end_leads}
-use Rattle.link_direction.specs.BlockOfTwo.{FromHead, HaveInCommon, Peers, ToHead}
+use Rattle.link_direction.specs.CommonBlock.{FromHead, HaveCommonBlock, Peers, ToHead}
 use Rattle.link_direction.specs.Directions.{Directions}
 use Rattle.inc_dec_spf.specs.declared.reach.Dir.{Dir}
 use Rattle.inc_dec_spf.specs.declared.reach.Dir.TheVariants.{Down, Up}
 use Rattle.inc_dec_spf.specs.declared.reach.Hop.{Hop}
-use Rattle.inc_dec_spf.specs.LeastPath.{BeginsPath, HasMoreLinks, IsHop, IsLeastPath, NotReached, Reached, ShareBlock}
+use Rattle.inc_dec_spf.specs.LeastPath.{BeginsPath, HasMoreLinks, IsHop, IsLeastPath, NotReached, Reached, HaveCommonBlockOfMore}
 use Rattle.inc_dec_spf.specs.Path.{IsStep, LeadsOn, Path}
-use Rattle.inc_dec_spf.proofs.SameDirections.{AreAlike}
+use Rattle.inc_dec_spf.proofs.SameDirections.{AreAlike, alike_back, common_too}
 use Rattle.mrt_rows.specs.CertOf.{Tells, link_words, node_words}
 use Rattle.mrt_rows.specs.RowLines.{AreMembers, BeginsOver, HasLinksFor, HasOneLink, LineOf}
 use Rattle.mrt_rows.proofs.OrderedGraphs.{Within, within}
-
-alike_back : (g : Topology) (w v : Directions) → AreAlike g w v → AreAlike g v w
-alike_back g w v alike = record {
-  orders = λ a a_within. sym (alike.orders a a_within);
-  heads = λ a a_within. sym (alike.heads a a_within);
-  blocks = λ a a_within. sym (alike.blocks a a_within);
-  tails = λ e e_within. sym (alike.tails e e_within);
-  roles = λ e e_within. sym (alike.roles e e_within);
-  link_blocks = λ e e_within. sym (alike.link_blocks e e_within);
-}
+use Rattle.mrt_rows.proofs.Carriers.{at_below}
+use Rattle.mrt_graph.specs.Related.{below_carrier}
 
 module _ (g : Topology) (kept : IsTopology g) (w v : Directions) (alike : AreAlike g w v) where
   leads_too : (dir : Dir) (s : ℕ) (end : End) → end.link < length g.links → LeadsOn w dir s end → LeadsOn v dir s end
@@ -64,14 +56,6 @@ module _ (g : Topology) (kept : IsTopology g) (w v : Directions) (alike : AreAli
   path_too dir k h s (end ∷ next ∷ more) t path =
       (step_too dir k s end path.0, path.1, path_too dir k h end.to (next ∷ more) t path.2)
 
-  pub common_too : (s t k h : ℕ) → s < length g.ids → t < length g.ids → HaveInCommon w s t k h → HaveInCommon v s t k h
-  common_too s t k h s_within t_within (Peers a b c) =
-      Peers (sym (alike.blocks s s_within) ∙ a) (sym (alike.blocks t t_within) ∙ b) (sym (alike.heads s s_within) ∙ c)
-  common_too s t k h s_within t_within (ToHead a b c) =
-      ToHead (sym (alike.blocks s s_within) ∙ a) (sym (alike.heads s s_within) ∙ b) c
-  common_too s t k h s_within t_within (FromHead a b c) =
-      FromHead (sym (alike.blocks t t_within) ∙ a) (sym (alike.heads t t_within) ∙ b) c
-
   more_too : (k : ℕ) → HasMoreLinks g w k → HasMoreLinks g v k
   more_too k more = record {
     one = more.one;
@@ -83,10 +67,10 @@ module _ (g : Topology) (kept : IsTopology g) (w v : Directions) (alike : AreAli
     differ = more.differ;
   }
 
-  share_too : (s t k h : ℕ) → s < length g.ids → t < length g.ids → ShareBlock g w s t k h → ShareBlock g v s t k h
+  pub share_too : (s t k h : ℕ) → s < length g.ids → t < length g.ids → HaveCommonBlockOfMore g w s t k h → HaveCommonBlockOfMore g v s t k h
   share_too s t k h s_within t_within shares = record {
     two = shares.two;
-    common = common_too s t k h s_within t_within shares.common;
+    common = common_too g w v s t k h alike s_within t_within shares.common;
     more = more_too k shares.more;
   }
 
@@ -149,7 +133,7 @@ module _ (g : Topology) (kept : IsTopology g) (w v : Directions) (alike : AreAli
       target = sym (alike.blocks t t_within) ∙ are.target;
     }
 
-    home_range : (k h : ℕ) → HaveInCommon w s t k h → h < length g.ids
+    home_range : (k h : ℕ) → HaveCommonBlock w s t k h → h < length g.ids
     home_range k h (Peers a b c) = subst (λ (x : ℕ). x < length g.ids) c head_within
     home_range k h (ToHead a b c) = subst (λ (x : ℕ). x < length g.ids) c t_within
     home_range k h (FromHead a b c) = subst (λ (x : ℕ). x < length g.ids) c s_within
@@ -162,7 +146,7 @@ module _ (g : Topology) (kept : IsTopology g) (w v : Directions) (alike : AreAli
     line_too tags.Sole root rows row line = record {
       block = line.block;
       head = line.head;
-      common = common_too g kept w v alike s t line.block line.head s_within t_within line.common;
+      common = common_too g w v s t line.block line.head alike s_within t_within line.common;
       one_link = one_too line.block row.blue line.one_link;
       red = line.red;
     }
@@ -207,10 +191,11 @@ module _ (g : Topology) (kept : IsTopology g) (w v : Directions) (alike : AreAli
       red = home_too Up line.block line.head row.red line.members line.red;
     }
     line_too tags.Carried root rows row line = record {
-      apart = λ k h common. line.apart k h (common_too g kept v w
-          (alike_back g w v alike) s t k h s_within t_within common);
-      to_other = λ other. subst (λ (x : ℕ). HasLinksFor rows x row) (alike.heads t t_within) (line.to_other other);
-      to_root = λ at_root. subst (λ (x : ℕ). HasLinksFor rows x row) (alike.heads s s_within) (line.to_root at_root);
+      apart = λ k h common. line.apart k h (common_too g v w s t k h
+          (alike_back g w v alike) s_within t_within common);
+      carried = subst (λ (x : ℕ). HasLinksFor rows x row)
+          (alike.heads (below_carrier root s t) (at_below (λ (x : ℕ). x < length g.ids) root s t (λ other. t_within) (λ at_root. s_within)))
+          line.carried;
     }
 
   -- and of whole files

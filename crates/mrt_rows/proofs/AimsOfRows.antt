@@ -2,7 +2,7 @@
 use Rattle.std.proofs.Common.{◌≡◌, ◌≢◌, ◌∙◌, ◌<◌, ℕ, List, Option, Some, None, length, slice_get, inl, inr, refl, sym, ap, subst, arith}
 use Rattle.std.proofs.lemmas.Bool.{cases_eq}
 use Rattle.std.proofs.lemmas.Option.{same_Some}
-use Rattle.link_direction.specs.BlockOfTwo.{FromHead, HaveInCommon, Peers, ToHead}
+use Rattle.link_direction.specs.CommonBlock.{FromHead, HaveCommonBlock, Peers, ToHead}
 use Rattle.link_direction.specs.Directions.{Directions}
 use Rattle.inc_dec_spf.specs.BlockAims.{IsAimOf}
 use Rattle.inc_dec_spf.proofs.OneHop.{one_block}
@@ -25,7 +25,7 @@ module _ (og : OrderedGraph) where
   ]
 
   -- the root lies in no block with another node but those that it heads
-  root_heads : (s u k h : ℕ) → s ≡ og.root → u < n → s ≢ u → HaveInCommon w s u k h → k ≢ w.block s
+  root_heads : (s u k h : ℕ) → s ≡ og.root → u < n → s ≢ u → HaveCommonBlock w s u k h → k ≢ w.block s
   root_heads s u k h at_root u_within two (Peers a b c) same =
       two (at_root ∙ sym (root_of_block u u_within (b ∙ same ∙ ap w.block at_root)))
   root_heads s u k h at_root u_within two (ToHead a b c) same =
@@ -43,7 +43,7 @@ module _ (og : OrderedGraph) where
     alone = λ u k h u_within apart common onward. go u k h u_within common onward;
   }
     where
-      go : (u k h : ℕ) → u < n → HaveInCommon w s u k h → aim k ≢ s → aim k ≡ w.head s
+      go : (u k h : ℕ) → u < n → HaveCommonBlock w s u k h → aim k ≢ s → aim k ≡ w.head s
       go u k h u_within (Peers a b c) onward = ap aim (sym a) ∙ heads s within
       go u k h u_within (ToHead a b c) onward = ap aim (sym a) ∙ heads s within
       go u k h u_within (FromHead a b c) onward = absurd (onward (ap aim (sym a) ∙ heads u u_within ∙ b))
@@ -74,7 +74,7 @@ module _ (og : OrderedGraph) where
 
     -- in its own block, where none is below it
     of_block : (s a : ℕ) → s < n → s ≢ t → slice_get below s ≡ Some None → IsRowAim w below s a
-        → (aim (w.block s) ≡ a) × ((h : ℕ) × HaveInCommon w s a (w.block s) h) × (a < n) → IsAimOf og.g w aim s a
+        → (aim (w.block s) ≡ a) × ((h : ℕ) × HaveCommonBlock w s a (w.block s) h) × (a < n) → IsAimOf og.g w aim s a
     of_block s a within two none row_aim it = record {
       aimed = λ k h common.
           let one = one_block og.g og.root w s a k h (w.block s) it.1.0 (is_ordered og) within it.2
@@ -83,7 +83,7 @@ module _ (og : OrderedGraph) where
       alone = λ u k h u_within apart common onward. go u k h u_within common onward;
     }
       where
-        go : (u k h : ℕ) → u < n → HaveInCommon w s u k h → aim k ≢ s → aim k ≡ a
+        go : (u k h : ℕ) → u < n → HaveCommonBlock w s u k h → aim k ≢ s → aim k ≡ a
         go u k h u_within (Peers x y z) onward = ap aim (sym x) ∙ it.0
         go u k h u_within (ToHead x y z) onward = ap aim (sym x) ∙ it.0
         go u k h u_within (FromHead x y z) onward =
@@ -109,14 +109,14 @@ module _ (og : OrderedGraph) where
         a_apart : a ≢ s
         a_apart = aim_apart og t t_within below are s a within two (Under at)
 
-        own : (k u h : ℕ) → u < n → s ≢ u → HaveInCommon w s u k h → k ≡ w.block s → aim k ≡ s
+        own : (k u h : ℕ) → u < n → s ≢ u → HaveCommonBlock w s u k h → k ≡ w.block s → aim k ≡ s
         own k u h u_within apart common same = elim (cases_eq s og.root) [
           | inl at_root ↦ absurd (root_heads s u k h at_root u_within apart common same)
           | inr other ↦
               ap aim same ∙ aims.on s (subst (λ (v : ℕ). Climbs og.root w t v) it.2 (climb_on og.root w t a it.0 it.1)) other
         ]
 
-        go : (u k h : ℕ) → u < n → s ≢ u → HaveInCommon w s u k h → aim k ≢ s → aim k ≡ a
+        go : (u k h : ℕ) → u < n → s ≢ u → HaveCommonBlock w s u k h → aim k ≢ s → aim k ≡ a
         go u k h u_within apart (Peers x y z) onward = absurd (onward (own k u h u_within apart (Peers x y z) (sym x)))
         go u k h u_within apart (ToHead x y z) onward = absurd (onward (own k u h u_within apart (ToHead x y z) (sym x)))
         go u k h u_within apart (FromHead x y z) onward =
@@ -135,6 +135,6 @@ module _ (og : OrderedGraph) where
             absurd (no_peer (aim (w.block s))
             (ap (λ (v : ℕ). slice_get below v) (sym head) ∙ are.all (aim (w.block s)) it.climbs it.not_root) it.in_block)
       ],
-      (w.head s, subst (λ (v : ℕ). HaveInCommon w s v (w.block s) (w.head s)) (sym home) (ToHead refl refl refl)),
+      (w.head s, subst (λ (v : ℕ). HaveCommonBlock w s v (w.block s) (w.head s)) (sym home) (ToHead refl refl refl)),
       subst (λ (v : ℕ). v < n) (sym home) (og.ordered.heads.head_within s within),
     )

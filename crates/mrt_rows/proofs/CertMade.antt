@@ -1,6 +1,5 @@
 -- The certificate of the rows of all nodes and of the words on nodes and links.
 use Rattle.std.proofs.Common.{◌≡◌, ◌≢◌, ◌⊎◌, ◌∙◌, ◌<◌, ◌≤◌, ◌-◌, ◌*◌, ℕ, zero, suc, List, [], ◌∷◌, Option, Some, length, slice_get, refl, sym, ap, subst, inl, inr, arith}
-use Rattle.std.proofs.lemmas.Bool.{cases_eq}
 use Rattle.std.proofs.lemmas.Option.{same_Some, slice_get_within}
 use Rattle.std.specs.List.{AllByRecursion}
 use Rattle.mrt_graph.specs.declared.cert.CertLink.{CertLink}
@@ -13,7 +12,7 @@ use Rattle.mrt_graph.specs.declared.node_id.NodeId.{NodeId}
 use Rattle.mrt_graph.specs.Certificate.{IsCertificate, IsCertLink, IsCertNode, IsCertRow, certificate_of}
 use Rattle.mrt_graph.specs.GraphInvariant.{IsLink}
 use Rattle.mrt_graph.proofs.ListTests.{all_at, there}
-use Rattle.link_direction.specs.BlockOfTwo.{FromHead, HaveInCommon, Peers, ToHead}
+use Rattle.link_direction.specs.CommonBlock.{FromHead, HaveCommonBlock, Peers, ToHead}
 use Rattle.inc_dec_spf.specs.declared.reach.Dir.TheVariants.{Down, Up}
 use Rattle.mrt_rows.specs.CertOf.{AreLinkWords, AreNodeWords, Tells, file_of, link_words, node_words}
 use Rattle.mrt_rows.specs.RowLines.{CarriedLine, HasLinksFor, LineOf}
@@ -22,6 +21,8 @@ use Rattle.mrt_rows.proofs.AllRows.{row_is}
 use Rattle.mrt_rows.proofs.OrderedGraphs.{OrderedGraph, within}
 use Rattle.mrt_rows.proofs.OtherLines.{begins_in, home_in}
 use Rattle.mrt_graph.proofs.RowPlaces.{placed}
+use Rattle.mrt_rows.proofs.Carriers.{at_below}
+use Rattle.mrt_graph.specs.Related.{below_carrier}
 
 -- what holds at each place holds of all
 pub all_by_places : {X : Type 0} (P : X → Type 0) (xs : List X) → ((i : ℕ) (x : X) → slice_get xs i ≡ Some x → P x)
@@ -82,19 +83,14 @@ module _ (og : OrderedGraph) where
         }
 
     range_at : (t : ℕ) → t < n → s ≢ t
-        → (((k h : ℕ) → ¬ HaveInCommon og.w s t k h) → (t ≢ og.root → InRange (og.w.head t)) × (t ≡ og.root
-        → InRange (og.w.head s)))
-        → InRange t
+        → (((k h : ℕ) → ¬ HaveCommonBlock og.w s t k h) → InRange (og.w.head (below_carrier og.root s t))) → InRange t
     range_at t t_within two far row is =
         let it = has t t_within two in
         let same : it.row ≡ row = same_Some it.row row (sym it.is ∙ is) in
         subst (λ (r : Row). IsCertRow (length og.g.links) r) same
         (elim (near_range it.row.tag s t rows it.row s_within t_within it.line) [
           | inl near ↦ near
-          | inr line ↦ elim (cases_eq t og.root) [
-            | inl at_root ↦ carried_range (og.w.head s) it.row ((far line.apart).1 at_root) (line.to_root at_root)
-            | inr other ↦ carried_range (og.w.head t) it.row ((far line.apart).0 other) (line.to_other other)
-          ]
+          | inr line ↦ carried_range (og.w.head (below_carrier og.root s t)) it.row (far line.apart) line.carried
         ])
 
     head_range : s ≢ og.root → InRange (og.w.head s)
@@ -107,13 +103,12 @@ module _ (og : OrderedGraph) where
     range_by : (left t : ℕ) → t < n → s ≢ t → og.w.order t ≤ left → InRange t
     range_by zero t t_within two few = absurd (omega (arith, og.ordered.orders.from_one t t_within, few))
     range_by (suc left) t t_within two few =
-        range_at t t_within two (λ apart. (
-          λ other.
-              let lower = og.ordered.heads.lower t t_within other in
-              range_by left (og.w.head t) (og.ordered.heads.head_within t t_within)
-              (λ same. apart (og.w.block t) s (FromHead refl (sym same) refl)) (omega (arith, lower, few)),
-          λ at_root. head_range (λ s_root. two (s_root ∙ sym at_root)),
-        ))
+        range_at t t_within two (λ apart. at_below (λ (x : ℕ). InRange (og.w.head x)) og.root s t
+        (λ other.
+        let lower = og.ordered.heads.lower t t_within other in
+        range_by left (og.w.head t) (og.ordered.heads.head_within t t_within)
+        (λ same. apart (og.w.block t) s (FromHead refl (sym same) refl)) (omega (arith, lower, few)))
+        (λ at_root. head_range (λ s_root. two (s_root ∙ sym at_root))))
 
     pub in_range : (t : ℕ) → t < n → s ≢ t → InRange t
     in_range t t_within two = range_by (og.w.order t) t t_within two (omega arith)
@@ -143,7 +138,7 @@ module _ (og : OrderedGraph) where
         let common = og.ordered.links.common e (og.w.tail e) away.0 away.1 in
         go (og.w.tail e) away.0 common.0 range.from range.to common.1
       where
-        go : (u v h : ℕ) → u < n → v < n → HaveInCommon og.w u v (og.w.lies_in e) h → og.w.lies_in e < n
+        go : (u v h : ℕ) → u < n → v < n → HaveCommonBlock og.w u v (og.w.lies_in e) h → og.w.lies_in e < n
         go u v h u_within v_within (Peers a b c) =
             subst (λ (x : ℕ). x < n) a (og.ordered.heads.block_within u u_within)
         go u v h u_within v_within (ToHead a b c) =

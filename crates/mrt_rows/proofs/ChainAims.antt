@@ -2,8 +2,8 @@
 use Rattle.std.proofs.Common.{◌≡◌, ◌≢◌, ◌⊎◌, ◌∙◌, ◌<◌, ◌≤◌, ℕ, List, Option, Some, None, length, slice_get, inl, inr, refl, sym, ap, subst, arith}
 use Rattle.std.proofs.lemmas.Bool.{cases_eq}
 use Rattle.std.proofs.lemmas.Option.{same_Some}
-use Rattle.link_direction.specs.BlockOfTwo as two
-use Rattle.link_direction.specs.BlockOfTwo.{HaveInCommon, Peers, ToHead}
+use Rattle.link_direction.specs.CommonBlock as two
+use Rattle.link_direction.specs.CommonBlock.{HaveCommonBlock, Peers, ToHead}
 use Rattle.link_direction.specs.Directions.{Directions}
 use Rattle.mrt_rows.specs.Chain.{AreBelow, AtHome, Beside, ByHead, Climbs, IsRowAim, There, Under}
 use Rattle.mrt_rows.proofs.CarriedRows.{FromHead, FromOwnHead, IsCarriedTo, Near}
@@ -83,7 +83,7 @@ module _ (og : OrderedGraph) where
 
     -- none of the nodes before the aim has a block in common with s
     under_apart : (s aim b k h : ℕ) → s < n → Climbs og.root w t aim → aim ≢ og.root → w.head aim ≡ s → Climbs og.root w t b → b ≢ aim
-        → Climbs og.root w b aim → HaveInCommon w s b k h → ⊥
+        → Climbs og.root w b aim → HaveCommonBlock w s b k h → ⊥
     under_apart s aim b k h s_within to_aim aim_other head to_b apart from_b common =
         let b_within = (climb_low t b t_within to_b).0 in
         let aim_within = (climb_low t aim t_within to_aim).0 in
@@ -93,7 +93,7 @@ module _ (og : OrderedGraph) where
         let s_low = ap w.order head in go b_within low under s_low on.0 common
       where
         go : b < n → w.order aim ≤ w.order (w.head b) → w.order (w.head aim) < w.order aim → w.order (w.head aim) ≡ w.order s → b ≢ og.root
-            → HaveInCommon w s b k h → ⊥
+            → HaveCommonBlock w s b k h → ⊥
         go b_within low under s_low b_other (Peers at_s at_b top) =
             let same = og.ordered.heads.one_head s b s_within b_within (at_s ∙ sym at_b) in
             omega (arith, low, under, s_low, head_low s s_within, ap w.order same)
@@ -102,7 +102,7 @@ module _ (og : OrderedGraph) where
         go b_within low under s_low b_other (two.FromHead at_b top is_top) = omega (arith, low, under, s_low, ap w.order top)
 
     beside_apart : (s aim b k h : ℕ) → s < n → Climbs og.root w t aim → aim ≢ og.root → w.block aim ≡ w.block s → slice_get below s ≡ Some None
-        → Climbs og.root w t b → b ≢ aim → Climbs og.root w b aim → HaveInCommon w s b k h → ⊥
+        → Climbs og.root w t b → b ≢ aim → Climbs og.root w b aim → HaveCommonBlock w s b k h → ⊥
     beside_apart s aim b k h s_within to_aim aim_other peers none to_b apart from_b common =
         let b_within = (climb_low t b t_within to_b).0 in
         let aim_within = (climb_low t aim t_within to_aim).0 in
@@ -110,7 +110,7 @@ module _ (og : OrderedGraph) where
         let low = (climb_low (w.head b) aim (og.ordered.heads.head_within b b_within) on.1).1 in
         go b_within aim_within low (og.ordered.heads.lower aim aim_within aim_other) on.0 common
       where
-        go : b < n → aim < n → w.order aim ≤ w.order (w.head b) → w.order (w.head aim) < w.order aim → b ≢ og.root → HaveInCommon w s b k h → ⊥
+        go : b < n → aim < n → w.order aim ≤ w.order (w.head b) → w.order (w.head aim) < w.order aim → b ≢ og.root → HaveCommonBlock w s b k h → ⊥
         go b_within aim_within low under b_other (Peers at_s at_b top) = apart (one_in_block b aim to_b to_aim (at_b ∙ sym at_s ∙ sym peers))
         go b_within aim_within low under b_other (ToHead at_s top is_top) =
             let same = og.ordered.heads.one_head aim s aim_within s_within peers in
@@ -121,7 +121,7 @@ module _ (og : OrderedGraph) where
 
     home_apart : (s b k h : ℕ) → s < n → s ≢ t → slice_get below s ≡ Some None
         → ((c : ℕ) → slice_get below (w.head s) ≡ Some (Some c) → w.block c ≢ w.block s) → Climbs og.root w t b → b ≢ w.head s
-        → HaveInCommon w s b k h → ⊥
+        → HaveCommonBlock w s b k h → ⊥
     home_apart s b k h s_within apart none no_peer to_b not_head common = go common
       where
         s_other : s ≢ og.root
@@ -130,7 +130,7 @@ module _ (og : OrderedGraph) where
         b_within : b < n
         b_within = (climb_low t b t_within to_b).0
 
-        go : HaveInCommon w s b k h → ⊥
+        go : HaveCommonBlock w s b k h → ⊥
         go (Peers at_s at_b top) =
             let b_other : b ≢ og.root = λ b_root.
             og.ordered.heads.alone s s_within s_other (at_s ∙ sym at_b ∙ ap w.block b_root ∙ og.ordered.heads.root_block) in
@@ -143,18 +143,18 @@ module _ (og : OrderedGraph) where
             let same = same_Some None (Some b) (sym none ∙ there) in (cc)
 
     -- up to a node on the way
-    carried_up : (s c aim k h : ℕ) → HaveInCommon w s aim k h → Climbs og.root w t c → Climbs og.root w c aim
-        → ((b j i : ℕ) → Climbs og.root w t b → b ≢ aim → Climbs og.root w b aim → HaveInCommon w s b j i → ⊥) → IsCarriedTo og.root w s c aim
-    carried_up s c aim k h common to_c (There same) apart = Near k h (subst (λ (v : ℕ). HaveInCommon w s v k h) (sym same) common) (sym same)
+    carried_up : (s c aim k h : ℕ) → HaveCommonBlock w s aim k h → Climbs og.root w t c → Climbs og.root w c aim
+        → ((b j i : ℕ) → Climbs og.root w t b → b ≢ aim → Climbs og.root w b aim → HaveCommonBlock w s b j i → ⊥) → IsCarriedTo og.root w s c aim
+    carried_up s c aim k h common to_c (There same) apart = Near k h (subst (λ (v : ℕ). HaveCommonBlock w s v k h) (sym same) common) (sym same)
     carried_up s c aim k h common to_c (ByHead other rest) apart = elim (cases_eq c aim) [
-      | inl same ↦ Near k h (subst (λ (v : ℕ). HaveInCommon w s v k h) (sym same) common) (sym same)
+      | inl same ↦ Near k h (subst (λ (v : ℕ). HaveCommonBlock w s v k h) (sym same) common) (sym same)
       | inr differ ↦
           FromHead (λ j i. apart c j i to_c differ (ByHead other rest)) other
           (carried_up s (w.head c) aim k h common (climb_on og.root w t c to_c other) rest apart)
     ]
 
     -- up to the root
-    carried_home : (s c : ℕ) → Climbs og.root w t c → Climbs og.root w c og.root → ((b j i : ℕ) → Climbs og.root w t b → HaveInCommon w s b j i → ⊥)
+    carried_home : (s c : ℕ) → Climbs og.root w t c → Climbs og.root w c og.root → ((b j i : ℕ) → Climbs og.root w t b → HaveCommonBlock w s b j i → ⊥)
         → IsCarriedTo og.root w s c (w.head s)
     carried_home s c to_c (There same) apart = FromOwnHead (λ j i. apart c j i to_c) same refl
     carried_home s c to_c (ByHead other rest) apart =
@@ -225,10 +225,10 @@ module _ (og : OrderedGraph) where
         omega (arith, og.ordered.heads.lower s within (not_root s apart none), ap w.order (sym home ∙ same))
 
     -- s and its aim have a block in common
-    pub aim_near : (s aim : ℕ) → IsRowAim w below s aim → (k : ℕ) × (h : ℕ) × HaveInCommon w s aim k h
+    pub aim_near : (s aim : ℕ) → IsRowAim w below s aim → (k : ℕ) × (h : ℕ) × HaveCommonBlock w s aim k h
     aim_near s aim (Under at) = let it = are.is_below s aim at in (w.block aim, s, two.FromHead refl it.2 refl)
     aim_near s aim (Beside none at peers) = (w.block s, w.head s, Peers refl peers refl)
-    aim_near s aim (AtHome none no_peer same) = (w.block s, w.head s, subst (λ (a : ℕ). HaveInCommon w s a (w.block s) (w.head s)) (sym same) (ToHead refl refl refl))
+    aim_near s aim (AtHome none no_peer same) = (w.block s, w.head s, subst (λ (a : ℕ). HaveCommonBlock w s a (w.block s) (w.head s)) (sym same) (ToHead refl refl refl))
 
     pub aim_within : (s aim : ℕ) → s < n → IsRowAim w below s aim → aim < n
     aim_within s aim within (Under at) = (climb_low t aim t_within (are.is_below s aim at).0).0

@@ -3,11 +3,12 @@ use Rattle.std.proofs.Common.{◌≡◌, ◌≢◌, ◌∙◌, ◌<◌, ◌≤�
 use Rattle.std.proofs.lemmas.Bool.{cases_eq}
 use Rattle.std.proofs.lemmas.Option.{same_Some, slice_get_within}
 use Rattle.mrt_graph.specs.declared.cert.Row.{Row}
-use Rattle.link_direction.specs.BlockOfTwo.{FromHead, ToHead}
+use Rattle.link_direction.specs.CommonBlock.{FromHead, ToHead}
 use Rattle.inc_dec_spf.specs.declared.reach.Dir.TheVariants.{Up}
 use Rattle.inc_dec_spf.specs.Turns.{AreTurns}
-use Rattle.mrt_rows.specs.Table.{IsIn, IsReady, IsTable, StayIn}
+use Rattle.mrt_rows.specs.Table.{IsIn, HasCarrier, IsTable, StayIn}
 use Rattle.mrt_rows.proofs.OrderedGraphs.{OrderedGraph}
+use Rattle.mrt_rows.proofs.Carriers.{at_below}
 
 pub stays_in : (table after : List (Option Row)) (t : ℕ) → StayIn table after → IsIn table t → IsIn after t
 stays_in table after t stay it = record { row = it.row; is = stay t it.row it.is }
@@ -23,13 +24,12 @@ module _ (og : OrderedGraph) (s : ℕ) (s_within : s < length og.g.ids) where
   pub record Put (t : ℕ) (table after : List (Option Row)) : Type 0 where
     pub stay : StayIn table after
     pub table_is : IsTable og.g og.root og.w s table → IsTable og.g og.root og.w s after
-    pub there : IsReady og.root og.w s t table → s ≢ t → IsIn after t
+    pub there : HasCarrier og.root og.w s t table → s ≢ t → IsIn after t
 
   -- the row for the head of s is never carried
-  home_ready : (table : List (Option Row)) → IsReady og.root og.w s (og.w.head s) table
+  home_ready : (table : List (Option Row)) → HasCarrier og.root og.w s (og.w.head s) table
   home_ready table = record {
-    to_other = λ other apart. absurd (apart (og.w.block s) (og.w.head s) (ToHead refl refl refl));
-    to_root = λ at_root apart. absurd (apart (og.w.block s) (og.w.head s) (ToHead refl refl refl));
+    from = λ apart. absurd (apart (og.w.block s) (og.w.head s) (ToHead refl refl refl));
   }
 
   pub filling_begun : (nodes : List ℕ) (table after : List (Option Row)) → IsTable og.g og.root og.w s table
@@ -45,9 +45,9 @@ module _ (og : OrderedGraph) (s : ℕ) (s_within : s < length og.g.ids) where
   -- the rows that one may be carried from are there
   module _ (nodes : List ℕ) (turns : AreTurns og.g og.w Up nodes) where
     ready_at : (i v : ℕ) (table : List (Option Row)) → slice_get nodes i ≡ Some v → s ≢ v → IsFilling nodes i table
-        → IsReady og.root og.w s v table
+        → HasCarrier og.root og.w s v table
     ready_at i v table at two filling = record {
-      to_other = λ other apart.
+      from = λ apart. at_below (λ (x : ℕ). IsIn table (og.w.head x)) og.root s v (λ other.
           let v_within = turns.within i v at in
           let lower = og.ordered.heads.lower v v_within other in
           let head_within = og.ordered.heads.head_within v v_within in
@@ -55,8 +55,8 @@ module _ (og : OrderedGraph) (s : ℕ) (s_within : s < length og.g.ids) where
           let low = og.ordered.orders.from_one (og.w.head v) head_within in
           filling.over (og.w.order (og.w.head v) - 1) (og.w.head v) (omega (arith, place, lower, low))
           (turns.of_each (og.w.head v) head_within)
-          (λ same. apart (og.w.block v) s (FromHead refl (sym same) refl));
-      to_root = λ at_root apart. filling.home (λ s_root. two (s_root ∙ sym at_root));
+          (λ same. apart (og.w.block v) s (FromHead refl (sym same) refl)))
+          (λ at_root. filling.home (λ s_root. two (s_root ∙ sym at_root)));
     }
 
     pub filling_on : (i v : ℕ) (table after : List (Option Row)) → slice_get nodes i ≡ Some v → IsFilling nodes i table

@@ -2,12 +2,12 @@
 use Rattle.std.proofs.Common.{◌≡◌, ◌≢◌, ◌<◌, ℕ, Some, length, refl, ap, subst, arith}
 use Rattle.mrt_graph.specs.declared.cert.Row.{Row}
 use Rattle.mrt_graph.specs.declared.cert.Tag.TheVariants as tags
-use Rattle.link_direction.specs.BlockOfTwo.{ToHead}
+use Rattle.link_direction.specs.CommonBlock.{ToHead}
 use Rattle.inc_dec_spf.specs.FirstLink.{no_link}
 use Rattle.inc_dec_spf.specs.LeastPath.{HasMoreLinks}
 use Rattle.mrt_rows.specs.declared.members.Home.{Home}
 use Rattle.mrt_rows.specs.NearOf.{IsNearRow, IsSoleOf}
-use Rattle.mrt_rows.specs.Put.{IsHome, ShareMoreLinks}
+use Rattle.mrt_rows.specs.Put.{IsHome, AreInCommonBlockOfMore}
 use Rattle.mrt_rows.proofs.OrderedGraphs.{OrderedGraph, one_common}
 use Rattle.mrt_rows.proofs.RowOver.{over_head, sole_of}
 
@@ -15,7 +15,7 @@ module _ (og : OrderedGraph) (s : ℕ) (within : s < length og.g.ids) (other : s
   apart : s ≢ og.w.head s
   apart same = omega (arith, og.ordered.heads.lower s within other, ap og.w.order same)
 
-  more : ShareMoreLinks og.g og.w s (og.w.head s) → HasMoreLinks og.g og.w (og.w.block s)
+  more : AreInCommonBlockOfMore og.g og.w s (og.w.head s) → HasMoreLinks og.g og.w (og.w.block s)
   more shares =
       let one = one_common og s (og.w.head s) shares.block shares.head (og.w.block s) (og.w.head s) within (og.ordered.heads.head_within s within) apart
       shares.share.common (ToHead refl refl refl) in

@@ -3,6 +3,7 @@ pub mod AimsOfRows
 pub mod AllRows
 pub mod BlocksHold
 pub mod CarriedRows
+pub mod Carriers
 pub mod CertAccepted
 pub mod CertMade
 pub mod CertOfColumns

@@ -15,7 +15,7 @@ use Rattle.mrt_graph.specs.Leads.{leads}
 use Rattle.mrt_graph.specs.Roles.{is_closing, is_plain}
 use Rattle.mrt_graph.specs.RowRules.{closing_to_head, higher_beside, higher_tagged, lower_beside, lower_tagged, near_row, plain_to_head}
 use Rattle.mrt_graph.proofs.Hops.{lead_back}
-use Rattle.link_direction.specs.BlockOfTwo.{FromHead, HaveInCommon, Peers, ToHead}
+use Rattle.link_direction.specs.CommonBlock.{FromHead, HaveCommonBlock, Peers, ToHead}
 use Rattle.inc_dec_spf.specs.declared.reach.Dir.{Dir}
 use Rattle.inc_dec_spf.specs.declared.reach.Dir.TheVariants.{Down, Up}
 use Rattle.inc_dec_spf.specs.LeastPath.{HasMoreLinks}
@@ -39,14 +39,14 @@ pub record Passes (og : OrderedGraph) (file : CertFile) (tag : Tag) (s t : ℕ) 
 
 -- where t is the head of the common block, it is the head of s; and the other way round
 pub head_of_source : (og : OrderedGraph) (s t k h : ℕ) → s < length og.g.ids → t < length og.g.ids → s ≢ t
-    → HaveInCommon og.w s t k h → t ≡ h → (og.w.head s ≡ t) × (k ≡ og.w.block s)
+    → HaveCommonBlock og.w s t k h → t ≡ h → (og.w.head s ≡ t) × (k ≡ og.w.block s)
 head_of_source og s t k h s_within t_within two (Peers a b c) at_head =
     absurd (peers_not_head og s t s_within t_within two (a ∙ sym b) (c ∙ sym at_head))
 head_of_source og s t k h s_within t_within two (ToHead a b c) at_head = (b, sym a)
 head_of_source og s t k h s_within t_within two (FromHead a b c) at_head = absurd (two (c ∙ sym at_head))
 
 pub head_of_target : (og : OrderedGraph) (s t k h : ℕ) → s < length og.g.ids → t < length og.g.ids → s ≢ t
-    → HaveInCommon og.w s t k h → s ≡ h → (og.w.head t ≡ s) × (k ≡ og.w.block t)
+    → HaveCommonBlock og.w s t k h → s ≡ h → (og.w.head t ≡ s) × (k ≡ og.w.block t)
 head_of_target og s t k h s_within t_within two (Peers a b c) at_head =
     let one = og.ordered.heads.one_head s t s_within t_within (a ∙ sym b) in
     absurd (peers_not_head og t s t_within s_within (λ same. two (sym same)) (b ∙ sym a) (sym one ∙ c ∙ sym at_head))

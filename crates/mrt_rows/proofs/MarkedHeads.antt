@@ -5,7 +5,7 @@ use Rattle.mrt_graph.specs.declared.cert.Role.TheVariants.{Sole}
 use Rattle.mrt_graph.specs.declared.link.Link.{Link}
 use Rattle.mrt_graph.specs.Leads.{far_node}
 use Rattle.mrt_graph.proofs.Hops.{far_ends}
-use Rattle.link_direction.specs.BlockOfTwo.{FromHead, HaveInCommon, Peers, ToHead}
+use Rattle.link_direction.specs.CommonBlock.{FromHead, HaveCommonBlock, Peers, ToHead}
 use Rattle.inc_dec_spf.specs.LeastPath.{HasMoreLinks}
 use Rattle.inc_dec_spf.proofs.InBlocks.{inside_of_link}
 use Rattle.mrt_rows.specs.Put.{AreHeadsMarked}
@@ -32,7 +32,7 @@ not_own_head og v v_within more same =
 
 -- of the nodes of a link one lies in its block
 head_of_one : (og : OrderedGraph) (e u x v h : ℕ) → Within og.g e u x → v < length og.g.ids → og.w.lies_in e ≡ og.w.block v
-    → HaveInCommon og.w u x (og.w.lies_in e) h → (og.w.head u ≡ og.w.head v) ⊎ (og.w.head x ≡ og.w.head v)
+    → HaveCommonBlock og.w u x (og.w.lies_in e) h → (og.w.head u ≡ og.w.head v) ⊎ (og.w.head x ≡ og.w.head v)
 head_of_one og e u x v h range v_within in_block (Peers a b c) =
     inl (og.ordered.heads.one_head u v range.from v_within (a ∙ in_block))
 head_of_one og e u x v h range v_within in_block (ToHead a b c) =

@@ -1,7 +1,7 @@
 -- The rows that first links make.
 use Rattle.std.proofs.Common.{◌≡◌, ◌≢◌, ◌<◌, ℕ, length, refl, sym, subst}
 use Rattle.mrt_graph.specs.declared.cert.Tag.TheVariants as tags
-use Rattle.link_direction.specs.BlockOfTwo.{FromHead, ToHead}
+use Rattle.link_direction.specs.CommonBlock.{FromHead, ToHead}
 use Rattle.inc_dec_spf.specs.declared.reach.Dir.{Dir}
 use Rattle.inc_dec_spf.specs.declared.reach.Dir.TheVariants.{Down, Up}
 use Rattle.inc_dec_spf.specs.FirstLink.{Begins, BeginsNone, IsFirstLink, no_link}

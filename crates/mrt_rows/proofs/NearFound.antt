@@ -6,20 +6,20 @@ use Rattle.mrt_graph.specs.declared.cert.Tag.{Tag}
 use Rattle.mrt_graph.specs.declared.cert.Tag.TheVariants as tags
 use Rattle.mrt_graph.specs.declared.gadag.Place.{Place}
 use Rattle.mrt_graph.specs.DirectedLists.{DirectedLists}
-use Rattle.mrt_graph.specs.Tags.{same_tag}
+use Rattle.mrt_graph.specs.Tags.{is_near, same_tag}
 use Rattle.mrt_graph.specs.Topology.{Topology}
-use Rattle.link_direction.specs.BlockOfTwo.{ToHead}
+use Rattle.link_direction.specs.CommonBlock.{ToHead}
 use Rattle.link_direction.specs.Directions.{Directions, Says}
 use Rattle.inc_dec_spf.specs.declared.reach.Dir.TheVariants.{Down, Up}
 use Rattle.inc_dec_spf.specs.LeastPath.{HasMoreLinks}
 use Rattle.mrt_rows.specs.declared.members.Home.{Home}
-use Rattle.mrt_rows.specs.NearOf.{Apart, AreLinked, InCommon, IsNearRow, IsPlaceOf, is_near, near_first, near_in}
-use Rattle.mrt_rows.specs.Put.{IsHome, ShareMoreLinks}
+use Rattle.mrt_rows.specs.NearOf.{Apart, AreLinked, InCommon, IsNearRow, IsPlaceOf, near_first, near_in}
+use Rattle.mrt_rows.specs.Put.{IsHome, AreInCommonBlockOfMore}
 use Rattle.mrt_rows.specs.RowLines.{LineOf}
 use Rattle.mrt_rows.specs.RowsOf.{HasRow}
 use Rattle.mrt_rows.proofs.CarriedRows.{carried_tag, row_near}
 use Rattle.mrt_rows.proofs.MarkedHeads.{not_own_head}
-use Rattle.mrt_rows.proofs.NearRows.{place_says}
+use Rattle.link_direction.proofs.TwoNodes.{place_says}
 use Rattle.mrt_rows.proofs.OrderedGraphs.{OrderedGraph}
 
 -- a row that is not carried is near
@@ -102,7 +102,7 @@ home_linked og s up down home s_within ups downs at_up at_down = record {
   down = λ more. downs.each (og.w.head s) home.down at_down (shares more);
 }
   where
-    shares : HasMoreLinks og.g og.w (og.w.block s) → ShareMoreLinks og.g og.w s (og.w.head s)
+    shares : HasMoreLinks og.g og.w (og.w.block s) → AreInCommonBlockOfMore og.g og.w s (og.w.head s)
     shares more = record {
       block = og.w.block s;
       head = og.w.head s;

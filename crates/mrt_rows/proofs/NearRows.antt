@@ -1,33 +1,16 @@
 -- What two nodes have in common, as their places tell.
-use Rattle.std.proofs.Common.{◌≡◌, ◌≢◌, ◌∙◌, ◌<◌, ℕ, Option, Some, length, slice_get, refl, sym, ap, inl, inr}
-use Rattle.std.proofs.lemmas.Option.{same_Some}
-use Rattle.std.specs.Option.{option_map}
-use Rattle.mrt_graph.specs.declared.gadag.Place.{Place}
-use Rattle.mrt_graph.specs.DirectedLists.{DirectedLists}
-use Rattle.mrt_graph.specs.Topology.{Topology}
-use Rattle.link_direction.specs.BlockOfTwo.{FromHead, HaveInCommon, Peers, ToHead}
-use Rattle.link_direction.specs.Directions.{Directions, Says}
+use Rattle.std.proofs.Common.{◌≡◌, ◌≢◌, ◌<◌, ℕ, length, refl, sym, inl, inr}
+use Rattle.link_direction.specs.CommonBlock.{HaveCommonBlock, Peers}
 use Rattle.mrt_rows.specs.RowLines.{AreMembers, HasOneLink}
 use Rattle.mrt_rows.specs.Put.{NoneOfOneLink}
 use Rattle.mrt_rows.proofs.OrderedGraphs.{OrderedGraph, not_root_of_peers}
 use Rattle.mrt_rows.proofs.Ways.{Inside, Ring, inside_itself}
 use Rattle.mrt_rows.proofs.WaysBegun.{peers, share}
 
--- what a list of places says of a node
-pub place_says : (g : Topology) (d : DirectedLists) (w : Directions) (v : ℕ) (place : Place) → Says g d w
-    → v < length g.ids
-    → slice_get d.places v ≡ Some place → (place.head ≡ w.head v) × (place.block ≡ w.block v)
-place_says g d w v place says within is = (
-  same_Some place.head (w.head v)
-      (sym (ap (λ (o : Option Place). option_map (λ p. p.head) o) is) ∙ says.heads v within),
-  same_Some place.block (w.block v)
-      (sym (ap (λ (o : Option Place). option_map (λ p. p.block) o) is) ∙ says.blocks v within),
-)
-
 module _ (og : OrderedGraph) (s t : ℕ) (s_within : s < length og.g.ids) (t_within : t < length og.g.ids) (two : s ≢ t)
     (more : NoneOfOneLink og.g og.w s t) where
   -- the block of m, which the two have in common
-  pub ring_by : (m h : ℕ) → m < length og.g.ids → m ≢ og.root → HaveInCommon og.w s t (og.w.block m) h → Ring og m
+  pub ring_by : (m h : ℕ) → m < length og.g.ids → m ≢ og.root → HaveCommonBlock og.w s t (og.w.block m) h → Ring og m
   ring_by m h inside other common = elim (og.ordered.blocks m inside other) [
     | inl sole ↦
         let one : HasOneLink og.g og.w (og.w.block m) sole.link =
@@ -53,13 +36,3 @@ module _ (og : OrderedGraph) (s t : ℕ) (s_within : s < length og.g.ids) (t_wit
       source = refl;
       target = sym same;
     }
-
--- where neither is the other's head, and they have two blocks, they have none in common
-pub none_common : (w : Directions) (s t : ℕ) → w.head s ≢ t → w.head t ≢ s → w.block s ≢ w.block t → (k h : ℕ)
-    → ¬ HaveInCommon w s t k h
-none_common w s t not_head not_top differ k h common = go common
-  where
-    go : HaveInCommon w s t k h → ⊥
-    go (Peers a b c) = differ (a ∙ sym b)
-    go (ToHead a b c) = not_head b
-    go (FromHead a b c) = not_top b

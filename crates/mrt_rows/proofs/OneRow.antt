@@ -1,19 +1,20 @@
 -- There is one row of a node for another one.
-use Rattle.std.proofs.Common.{◌≡◌, ◌≢◌, ◌∙◌, ◌<◌, ◌≤◌, ℕ, zero, suc, Option, Some, length, refl, sym, ap, subst, inl, inr, arith}
-use Rattle.std.proofs.lemmas.Bool.{cases_eq}
+use Rattle.std.proofs.Common.{◌≡◌, ◌≢◌, ◌∙◌, ◌<◌, ◌≤◌, ℕ, zero, suc, Option, Some, length, refl, sym, ap, subst, arith}
 use Rattle.std.proofs.lemmas.Option.{same_Some}
 use Rattle.mrt_graph.specs.declared.cert.Row.{Row}
 use Rattle.mrt_graph.specs.declared.cert.Tag.{Tag}
 use Rattle.mrt_graph.specs.declared.cert.Tag.TheVariants as tags
-use Rattle.link_direction.specs.BlockOfTwo.{FromHead, HaveInCommon, Peers, ToHead}
+use Rattle.link_direction.specs.CommonBlock.{FromHead, HaveCommonBlock, Peers, ToHead}
 use Rattle.inc_dec_spf.specs.declared.reach.Dir.{Dir}
 use Rattle.inc_dec_spf.specs.declared.reach.Dir.TheVariants.{Down, Up}
-use Rattle.inc_dec_spf.specs.LeastPath.{ShareBlock}
+use Rattle.inc_dec_spf.specs.LeastPath.{HaveCommonBlockOfMore}
 use Rattle.mrt_rows.specs.RowLines.{AreMembers, BeginsOver, CarriedLine, HasLinksFor, HasOneLink, LineOf}
 use Rattle.mrt_rows.specs.RowsOf.{HasRow}
 use Rattle.mrt_rows.proofs.LinesHold.{head_of_source, head_of_target}
 use Rattle.mrt_rows.proofs.OneHop.{one_link, way_or_none}
 use Rattle.mrt_rows.proofs.OrderedGraphs.{OrderedGraph, one_common, peers_not_head}
+use Rattle.mrt_rows.proofs.Carriers.{at_below}
+use Rattle.mrt_graph.specs.Related.{below_carrier}
 
 pub row_same : (a b : Row) → a.blue ≡ b.blue → a.red ≡ b.red → a.tag ≡ b.tag → a ≡ b
 row_same a b blue red tag = λ i. record { blue = blue i; red = red i; tag = tag i }
@@ -21,24 +22,24 @@ row_same a b blue red tag = λ i. record { blue = blue i; red = red i; tag = tag
 module _ (og : OrderedGraph) (s t : ℕ) (s_within : s < length og.g.ids) (t_within : t < length og.g.ids)
     (two : s ≢ t) where
   -- no two lines are met at once
-  one_or_more : (k h j i link : ℕ) → HaveInCommon og.w s t k h → HasOneLink og.g og.w k link
-      → ShareBlock og.g og.w s t j i → ⊥
+  one_or_more : (k h j i link : ℕ) → HaveCommonBlock og.w s t k h → HasOneLink og.g og.w k link
+      → HaveCommonBlockOfMore og.g og.w s t j i → ⊥
   one_or_more k h j i link common one shares =
       let same = one_common og s t j i k h s_within t_within two shares.common common in
       shares.more.differ (one.no_other shares.more.one shares.more.one_within (shares.more.one_in_block ∙ same.0)
       ∙ sym (one.no_other shares.more.other shares.more.other_within (shares.more.other_in_block ∙ same.0)))
 
-  head_or_top : (k h j i : ℕ) → ShareBlock og.g og.w s t k h → t ≡ h → ShareBlock og.g og.w s t j i → s ≡ i → ⊥
+  head_or_top : (k h j i : ℕ) → HaveCommonBlockOfMore og.g og.w s t k h → t ≡ h → HaveCommonBlockOfMore og.g og.w s t j i → s ≡ i → ⊥
   head_or_top k h j i one t_head other s_head =
       let same = one_common og s t k h j i s_within t_within two one.common other.common in
       two (s_head ∙ sym same.1 ∙ sym t_head)
 
-  head_or_member : (k h j i : ℕ) → ShareBlock og.g og.w s t k h → t ≡ h → AreMembers og.g og.w s t j i → ⊥
+  head_or_member : (k h j i : ℕ) → HaveCommonBlockOfMore og.g og.w s t k h → t ≡ h → AreMembers og.g og.w s t j i → ⊥
   head_or_member k h j i shares t_head are =
       let head = head_of_source og s t k h s_within t_within two shares.common t_head in
       peers_not_head og s t s_within t_within two (are.source ∙ sym are.target) head.0
 
-  top_or_member : (k h j i : ℕ) → ShareBlock og.g og.w s t k h → s ≡ h → AreMembers og.g og.w s t j i → ⊥
+  top_or_member : (k h j i : ℕ) → HaveCommonBlockOfMore og.g og.w s t k h → s ≡ h → AreMembers og.g og.w s t j i → ⊥
   top_or_member k h j i shares s_head are =
       let head = head_of_target og s t k h s_within t_within two shares.common s_head in
       peers_not_head og t s t_within s_within (λ same. two (sym same)) (are.target ∙ sym are.source) head.0
@@ -51,7 +52,7 @@ module _ (og : OrderedGraph) (s t : ℕ) (s_within : s < length og.g.ids) (t_wit
   home_within : (k h : ℕ) → AreMembers og.g og.w s t k h → h < length og.g.ids
   home_within k h are = go are.share.common
     where
-      go : HaveInCommon og.w s t k h → h < length og.g.ids
+      go : HaveCommonBlock og.w s t k h → h < length og.g.ids
       go (Peers a b c) =
           subst (λ (x : ℕ). x < length og.g.ids) c (og.ordered.heads.head_within s s_within)
       go (ToHead a b c) = subst (λ (x : ℕ). x < length og.g.ids) c t_within
@@ -172,10 +173,11 @@ module _ (og : OrderedGraph) (s : ℕ) (s_within : s < length og.g.ids) (rows ot
   abbrev n : ℕ
   n = length og.g.ids
 
+  abbrev Alike : ℕ → Type 0
+  Alike x = rows (og.w.head x) ≡ others (og.w.head x)
+
   same_at : (t : ℕ) → t < n → s ≢ t
-      → (((k h : ℕ) → ¬ HaveInCommon og.w s t k h) → (t ≢ og.root
-      → rows (og.w.head t) ≡ others (og.w.head t)) × (t ≡ og.root → rows (og.w.head s) ≡ others (og.w.head s)))
-      → rows t ≡ others t
+      → (((k h : ℕ) → ¬ HaveCommonBlock og.w s t k h) → Alike (below_carrier og.root s t)) → rows t ≡ others t
   same_at t t_within two far =
       let a = has t t_within two in
       let b = other_has t t_within two in
@@ -192,13 +194,8 @@ module _ (og : OrderedGraph) (s : ℕ) (s_within : s < length og.g.ids) (rows ot
           )
 
       from : (a b : Row) → CarriedLine og.root og.w s rows t a → CarriedLine og.root og.w s others t b
-          → (t ≢ og.root → rows (og.w.head t) ≡ others (og.w.head t)) × (t ≡ og.root
-          → rows (og.w.head s) ≡ others (og.w.head s))
-          → (a.blue ≡ b.blue) × (a.red ≡ b.red)
-      from a b x y far = elim (cases_eq t og.root) [
-        | inl at_root ↦ linked (og.w.head s) a b (x.to_root at_root) (y.to_root at_root) (far.1 at_root)
-        | inr other ↦ linked (og.w.head t) a b (x.to_other other) (y.to_other other) (far.0 other)
-      ]
+          → Alike (below_carrier og.root s t) → (a.blue ≡ b.blue) × (a.red ≡ b.red)
+      from a b x y far = linked (og.w.head (below_carrier og.root s t)) a b x.carried y.carried far
 
   -- the row for the head of s is a near one
   same_for_head : s ≢ og.root → rows (og.w.head s) ≡ others (og.w.head s)
@@ -211,13 +208,12 @@ module _ (og : OrderedGraph) (s : ℕ) (s_within : s < length og.g.ids) (rows ot
   same_by : (left t : ℕ) → t < n → s ≢ t → og.w.order t ≤ left → rows t ≡ others t
   same_by zero t t_within two few = absurd (omega (arith, og.ordered.orders.from_one t t_within, few))
   same_by (suc left) t t_within two few =
-      same_at t t_within two (λ apart. (
-        λ other.
-            let lower = og.ordered.heads.lower t t_within other in
-            same_by left (og.w.head t) (og.ordered.heads.head_within t t_within)
-            (λ same. apart (og.w.block t) s (FromHead refl (sym same) refl)) (omega (arith, lower, few)),
-        λ at_root. same_for_head (λ s_root. two (s_root ∙ sym at_root)),
-      ))
+      same_at t t_within two (λ apart. at_below Alike og.root s t
+      (λ other.
+      let lower = og.ordered.heads.lower t t_within other in
+      same_by left (og.w.head t) (og.ordered.heads.head_within t t_within)
+      (λ same. apart (og.w.block t) s (FromHead refl (sym same) refl)) (omega (arith, lower, few)))
+      (λ at_root. same_for_head (λ s_root. two (s_root ∙ sym at_root))))
 
   pub one_row : (t : ℕ) → t < n → s ≢ t → rows t ≡ others t
   one_row t t_within two = same_by (og.w.order t) t t_within two (omega arith)

@@ -1,17 +1,13 @@
 -- A graph with a GADAG in order: its links, its ends, and the blocks that nodes have in common.
-use Rattle.std.proofs.Common.{◌≡◌, ◌≢◌, ◌⊎◌, ◌∙◌, ◌<◌, ℕ, Option, Some, None, length, slice_get, refl, sym, ap, inl, inr, arith}
-use Rattle.std.proofs.lemmas.Option.{slice_get_within}
-use Rattle.std.specs.Option.{option_and_then}
+use Rattle.std.proofs.Common.{◌≡◌, ◌≢◌, ◌⊎◌, ◌∙◌, ◌<◌, ℕ, Some, length, sym, ap, arith}
 use Rattle.mrt_graph.specs.declared.link.End.{End}
-use Rattle.mrt_graph.specs.declared.link.Link.{Link}
 use Rattle.mrt_graph.specs.DirectedLists.{DirectedLists}
-use Rattle.mrt_graph.specs.GraphInvariant.{IsLink, IsTopology}
-use Rattle.mrt_graph.specs.Leads.{far_node, leads}
+use Rattle.mrt_graph.specs.GraphInvariant.{IsTopology}
+use Rattle.mrt_graph.specs.Leads.{leads}
 use Rattle.mrt_graph.specs.Topology.{Topology}
 use Rattle.mrt_graph.proofs.EndsAt.{end_leads, leads_end, list_of_ends}
-use Rattle.mrt_graph.proofs.Hops.{far_ends, same_ends}
-use Rattle.mrt_graph.proofs.ListTests.{all_at}
-use Rattle.link_direction.specs.BlockOfTwo.{FromHead, HaveInCommon, Peers, ToHead}
+use Rattle.mrt_graph.proofs.Hops.{same_ends}
+use Rattle.link_direction.specs.CommonBlock.{FromHead, HaveCommonBlock, Peers, ToHead}
 use Rattle.link_direction.specs.Directions.{Directions}
 use Rattle.link_direction.specs.OrderedGadag.{IsOrderedGadag}
 use Rattle.inc_dec_spf.specs.declared.reach.Dir.{Dir}
@@ -19,6 +15,8 @@ use Rattle.inc_dec_spf.specs.declared.reach.Dir.TheVariants.{Down, Up}
 use Rattle.inc_dec_spf.specs.HasDirections.{AreDirections}
 use Rattle.inc_dec_spf.specs.Path.{IsStep, LeadsOn}
 use Rattle.inc_dec_spf.proofs.InBlocks.{IsOrdered}
+use Rattle.inc_dec_spf.proofs.Marks.{leads_elsewhere, leads_within, link_within}
+use Rattle.inc_dec_spf.proofs.OneHop.{one_block}
 
 -- a graph, its root, and what a GADAG with its order says
 pub record OrderedGraph : Type 0 where
@@ -44,27 +42,9 @@ pub record Within (g : Topology) (e u v : ℕ) : Type 0 where
   pub differ : u ≢ v
 
 pub within : (g : Topology) (e u v : ℕ) → IsTopology g → leads g.links e u ≡ Some v → Within g e u v
-within g e u v kept onward = go (slice_get g.links e) refl onward
-  where
-    go : (o : Option Link) → slice_get g.links e ≡ o → option_and_then (far_node u) o ≡ Some v → Within g e u v
-    go None is there = cc
-    go (Some link) is there =
-        let it : IsLink g.ids link = all_at (IsLink g.ids) g.links e link kept.links_kept is in
-        let e_within = slice_get_within g.links e link is in
-        elim (far_ends link u v there) [
-          | inl up ↦ record {
-            link = e_within;
-            from = omega (arith, up.0, up.1, it.ascending, it.upper);
-            to = omega (arith, up.1, it.upper);
-            differ = λ same. omega (arith, up.0, up.1, it.ascending, same);
-          }
-          | inr down ↦ record {
-            link = e_within;
-            from = omega (arith, down.0, it.upper);
-            to = omega (arith, down.0, down.1, it.ascending, it.upper);
-            differ = λ same. omega (arith, down.0, down.1, it.ascending, same);
-          }
-        ]
+within g e u v kept onward =
+    let both = leads_within g e u v kept onward in
+    record { link = link_within g e u v kept onward; from = both.0; to = both.1; differ = leads_elsewhere g e u v kept onward }
 
 -- where the link of a step leads
 pub step_leads : (og : OrderedGraph) (dir : Dir) (k s : ℕ) (end : End) → IsStep og.g og.w dir k s end
@@ -143,25 +123,12 @@ module _ (og : OrderedGraph) where
       omega (arith, u_lower, v_lower, ap og.w.order head, ap og.w.order back)
 
   -- two nodes have one block in common at most
-  pub one_common : (u v k h j i : ℕ) → u < n → v < n → u ≢ v → HaveInCommon og.w u v k h → HaveInCommon og.w u v j i
+  pub one_common : (u v k h j i : ℕ) → u < n → v < n → u ≢ v → HaveCommonBlock og.w u v k h → HaveCommonBlock og.w u v j i
       → (k ≡ j) × (h ≡ i)
-  one_common u v k h j i u_within v_within differ (Peers a b c) (Peers d e f) = (sym a ∙ d, sym c ∙ f)
-  one_common u v k h j i u_within v_within differ (Peers a b c) (ToHead d e f) =
-      absurd (peers_not_head u v u_within v_within differ (a ∙ sym b) e)
-  one_common u v k h j i u_within v_within differ (Peers a b c) (FromHead d e f) =
-      absurd (peers_not_head v u v_within u_within (λ same. differ (sym same)) (b ∙ sym a) e)
-  one_common u v k h j i u_within v_within differ (ToHead a b c) (Peers d e f) =
-      absurd (peers_not_head u v u_within v_within differ (d ∙ sym e) b)
-  one_common u v k h j i u_within v_within differ (ToHead a b c) (ToHead d e f) = (sym a ∙ d, sym c ∙ f)
-  one_common u v k h j i u_within v_within differ (ToHead a b c) (FromHead d e f) =
-      absurd (one_is_head u v u_within v_within differ b e)
-  one_common u v k h j i u_within v_within differ (FromHead a b c) (Peers d e f) =
-      absurd (peers_not_head v u v_within u_within (λ same. differ (sym same)) (e ∙ sym d) b)
-  one_common u v k h j i u_within v_within differ (FromHead a b c) (ToHead d e f) =
-      absurd (one_is_head u v u_within v_within differ e b)
-  one_common u v k h j i u_within v_within differ (FromHead a b c) (FromHead d e f) = (sym a ∙ d, sym c ∙ f)
+  one_common u v k h j i u_within v_within differ one other =
+      one_block og.g og.root og.w u v k h j i (is_ordered og) u_within v_within differ one other
 
-  pub common_back : (u v k h : ℕ) → u < n → v < n → HaveInCommon og.w u v k h → HaveInCommon og.w v u k h
+  pub common_back : (u v k h : ℕ) → u < n → v < n → HaveCommonBlock og.w u v k h → HaveCommonBlock og.w v u k h
   common_back u v k h u_within v_within (Peers a b c) =
       Peers b a (sym (og.ordered.heads.one_head u v u_within v_within (a ∙ sym b)) ∙ c)
   common_back u v k h u_within v_within (ToHead a b c) = FromHead a b c

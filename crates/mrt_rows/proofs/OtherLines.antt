@@ -1,7 +1,7 @@
 -- Rows of blocks with one link, carried rows, and the blocks that the links of rows lie in.
-use Rattle.std.proofs.Common.{◌≡◌, ◌≢◌, ◌∙◌, ◌<◌, ℕ, true, false, List, [], ◌∷◌, Option, Some, length, refl, sym, ap, subst, inl, inr}
-use Rattle.std.proofs.lemmas.Bool.{and_from, cases_eq, eq-eqb, ne_eqb, or_left, or_right}
-use Rattle.std.specs.Option.{option_and_then, option_map_or}
+use Rattle.std.proofs.Common.{◌≡◌, ◌≢◌, ◌∙◌, ◌<◌, ℕ, true, false, List, [], ◌∷◌, Option, Some, None, length, slice_get, refl, sym, ap, subst, inl, inr}
+use Rattle.std.proofs.lemmas.Bool.{and_from, eq-eqb, or_left, or_right}
+use Rattle.std.specs.Option.{option_and_then, option_map, option_map_or}
 use Rattle.mrt_graph.specs.declared.cert.CertFile.{CertFile}
 use Rattle.mrt_graph.specs.declared.cert.Role.TheVariants as roles
 use Rattle.mrt_graph.specs.declared.cert.Row.{Row}
@@ -11,10 +11,10 @@ use Rattle.mrt_graph.specs.declared.link.End.{End}
 use Rattle.mrt_graph.specs.Certificate.{Certificate, row_of}
 use Rattle.mrt_graph.specs.CertWords.{block_of, head_of, link_block}
 use Rattle.mrt_graph.specs.Leads.{leads}
-use Rattle.mrt_graph.specs.Related.{are_unrelated, is_common_block}
+use Rattle.mrt_graph.specs.Related.{are_unrelated, below_carrier, is_common_block}
 use Rattle.mrt_graph.specs.RowRules.{carried_row, carrier, lies_in_block, same_links}
 use Rattle.mrt_graph.proofs.Hops.{lead_back}
-use Rattle.link_direction.specs.BlockOfTwo.{FromHead, HaveInCommon, Peers, ToHead}
+use Rattle.link_direction.specs.CommonBlock.{FromHead, HaveCommonBlock, Peers, ToHead}
 use Rattle.link_direction.specs.OrderedGadag.{HasSoleLink}
 use Rattle.inc_dec_spf.specs.declared.reach.Dir.{Dir}
 use Rattle.inc_dec_spf.specs.declared.reach.Dir.TheVariants.{Down, Up}
@@ -23,11 +23,20 @@ use Rattle.inc_dec_spf.specs.LeastPath.{BeginsPath, IsHop, Reached}
 use Rattle.inc_dec_spf.specs.Path.{IsStep, Path}
 use Rattle.mrt_rows.specs.CertOf.{Tells}
 use Rattle.mrt_rows.specs.RowLines.{AreMembers, BeginsOver, CarriedLine, HasLinksFor, HasOneLink, LineOf, SoleLine}
-use Rattle.mrt_rows.proofs.CertSays.{block_is, different_test, equal_test, head_is, link_block_is, sole_test}
+use Rattle.mrt_rows.proofs.CertSays.{block_is, equal_test, head_is, link_block_is, sole_test}
 use Rattle.mrt_rows.proofs.LinesHold.{Passes, has_head, with_head}
 use Rattle.mrt_rows.proofs.OrderedGraphs.{OrderedGraph, not_root_of_peers, step_leads, within}
 use Rattle.mrt_rows.proofs.Ways.{begun, inside_itself}
 use Rattle.mrt_rows.proofs.WaysBegun.{members, over_leads, way_over}
+use Rattle.mrt_graph.specs.declared.cert.CertNode.{CertNode}
+use Rattle.mrt_graph.proofs.Relations.{unrelated_holds}
+use Rattle.mrt_rows.proofs.Carriers.{at_below}
+use Rattle.std.proofs.lemmas.Option.{same_Some}
+
+-- a node of which something is known is there
+there_is : (f : CertNode → ℕ) (o : Option CertNode) (k : ℕ) → option_map f o ≡ Some k → (node : CertNode) × (o ≡ Some node) × (f node ≡ k)
+there_is f (Some node) k is = (node, refl, same_Some (f node) k is)
+there_is f None k is = cc
 
 -- a block with one link, which is sole
 pub sole_of : (og : OrderedGraph) (m link : ℕ) → m < length og.g.ids → m ≢ og.root
@@ -49,7 +58,7 @@ sole_leads og m inside it =
     go away.0 away.1 common.0 common.1
   where
     go : (v : ℕ) → leads og.g.links it.link (og.w.tail it.link) ≡ Some v → (i : ℕ)
-        → HaveInCommon og.w (og.w.tail it.link) v (og.w.lies_in it.link) i
+        → HaveCommonBlock og.w (og.w.tail it.link) v (og.w.lies_in it.link) i
         → leads og.g.links it.link m ≡ Some (og.w.head m)
     go v onward i (Peers a b c) =
         let in_range = within og.g it.link (og.w.tail it.link) v og.kept onward in
@@ -81,7 +90,7 @@ between_of og m s t link it over onward = record {
 }
 
 pub one_link_between : (og : OrderedGraph) (s t k h link : ℕ) → s < length og.g.ids → t < length og.g.ids → s ≢ t
-    → HaveInCommon og.w s t k h → HasOneLink og.g og.w k link → OneLinkBetween og s t link
+    → HaveCommonBlock og.w s t k h → HasOneLink og.g og.w k link → OneLinkBetween og s t link
 one_link_between og s t k h link s_within t_within two (Peers a b c) one =
     let other = not_root_of_peers og t s t_within s_within (λ same. two (sym same)) (b ∙ sym a) in
     let it = sole_of og s link s_within other (subst (λ (x : ℕ). HasOneLink og.g og.w x link) (sym a) one) in
@@ -103,7 +112,7 @@ one_link_between og s t k h link s_within t_within two (FromHead a b c) one =
 pub record InCommon (og : OrderedGraph) (s t link : ℕ) : Type 0 where
   pub block : ℕ
   pub head : ℕ
-  pub common : HaveInCommon og.w s t block head
+  pub common : HaveCommonBlock og.w s t block head
   pub within : link < length og.g.links
   pub in_block : og.w.lies_in link ≡ block
 
@@ -157,7 +166,7 @@ module _ (og : OrderedGraph) (file : CertFile) (tells : Tells og.g og.root og.w 
 
   module _ (s t : ℕ) (s_within : s < n) (t_within : t < n) (two : s ≢ t) where
     -- the common block
-    pub common_test : (k h : ℕ) (o : Option ℕ) → HaveInCommon og.w s t k h → o ≡ Some k → is_common_block c s t o ≡ true
+    pub common_test : (k h : ℕ) (o : Option ℕ) → HaveCommonBlock og.w s t k h → o ≡ Some k → is_common_block c s t o ≡ true
     common_test k h o (Peers a b d) is =
         or_left _ _ (and_from _ _
         (equal_test (block_of c s) (block_of c t) (og.w.block s) (og.w.block t) (block_is og file tells s s_within)
@@ -188,17 +197,23 @@ module _ (og : OrderedGraph) (file : CertFile) (tells : Tells og.g og.root og.w 
         }
 
     -- Carried
-    unrelated : ((k h : ℕ) → ¬ HaveInCommon og.w s t k h) → are_unrelated c s t ≡ true
+    unrelated : ((k h : ℕ) → ¬ HaveCommonBlock og.w s t k h) → are_unrelated c s t ≡ true
     unrelated apart =
-        let one = og.ordered.heads.one_head in
-        and_from _ _ (different_test (block_of c s) (block_of c t) (og.w.block s) (og.w.block t)
-        (block_is og file tells s s_within) (block_is og file tells t t_within)
-        (λ same. apart (og.w.block s) (og.w.head s) (Peers refl (sym same) refl)))
-        (and_from _ _
-        (different_test (head_of c s) (Some t) (og.w.head s) t (head_is og file tells s s_within) refl
-        (λ head. apart (og.w.block s) t (ToHead refl head refl)))
-        (different_test (head_of c t) (Some s) (og.w.head t) s (head_is og file tells t t_within) refl
-        (λ head. apart (og.w.block t) s (FromHead refl head refl))))
+        let here = there_is (λ node. node.block) (slice_get c.nodes s) (og.w.block s) (block_is og file tells s s_within) in
+        let there = there_is (λ node. node.block) (slice_get c.nodes t) (og.w.block t) (block_is og file tells t t_within) in
+        let own_head : here.0.head ≡ og.w.head s = same_Some here.0.head (og.w.head s)
+        (sym (ap (λ (o : Option CertNode). option_map (λ node. node.head) o) here.1) ∙ head_is og file tells s s_within) in
+        let its_head : there.0.head ≡ og.w.head t = same_Some there.0.head (og.w.head t)
+        (sym (ap (λ (o : Option CertNode). option_map (λ node. node.head) o) there.1) ∙ head_is og file tells t t_within) in
+        unrelated_holds c s t (record {
+          here = here.0;
+          there = there.0;
+          at_here = here.1;
+          at_there = there.1;
+          blocks = λ same. apart (og.w.block s) (og.w.head s) (Peers refl (sym there.2 ∙ sym same ∙ here.2) refl);
+          not_under = λ head. apart (og.w.block s) t (ToHead refl (sym own_head ∙ head) refl);
+          not_over = λ head. apart (og.w.block t) s (FromHead refl (sym its_head ∙ head) refl);
+        })
 
     same_row_links : (u : ℕ) → HasLinksFor (row_of c s) u row → (o : Option ℕ) → o ≡ Some u
         → option_map_or (same_links row) (option_and_then (row_of c s) o) false ≡ true
@@ -207,14 +222,10 @@ module _ (og : OrderedGraph) (file : CertFile) (tells : Tells og.g og.root og.w 
 
     pub carried_passes : CarriedLine og.root og.w s (row_of c s) t row → carried_row c og.root s t row ≡ true
     carried_passes line =
-        and_from _ _ (unrelated line.apart) (elim (cases_eq t og.root) [
-          | inl at_root ↦
-              same_row_links (og.w.head s) (line.to_root at_root) (carrier c og.root s t)
-              (rw (eq-eqb t og.root at_root) (head_is og file tells s s_within))
-          | inr other ↦
-              same_row_links (og.w.head t) (line.to_other other) (carrier c og.root s t)
-              (rw (ne_eqb t og.root other) (head_is og file tells t t_within))
-        ])
+        let below = below_carrier og.root s t in
+        let within : below < n = at_below (λ (x : ℕ). x < n) og.root s t (λ other. t_within) (λ at_root. s_within) in
+        and_from _ _ (unrelated line.apart)
+        (same_row_links (og.w.head below) line.carried (carrier c og.root s t) (head_is og file tells below within))
 
     -- the blocks of both links
     link_in : (link : ℕ) → InCommon og s t link → is_common_block c s t (link_block c link) ≡ true

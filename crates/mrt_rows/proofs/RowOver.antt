@@ -1,18 +1,18 @@
 -- The row for a node with which the source has a block in common, by first links and sole links.
-use Rattle.std.proofs.Common.{◌≡◌, ◌≢◌, ◌<◌, ℕ, Some, None, length, refl, sym, subst, inl, inr}
+use Rattle.std.proofs.Common.{◌≡◌, ◌≢◌, ◌<◌, ℕ, Some, length, refl, sym, subst, inl, inr}
 use Rattle.std.proofs.lemmas.Bool.{cases_eq}
 use Rattle.mrt_graph.specs.declared.cert.Row.{Row}
 use Rattle.mrt_graph.specs.declared.cert.Tag.TheVariants as tags
-use Rattle.link_direction.specs.BlockOfTwo.{FromHead, HaveInCommon, Peers, ToHead}
+use Rattle.link_direction.specs.CommonBlock.{FromHead, HaveCommonBlock, Peers, ToHead}
 use Rattle.inc_dec_spf.specs.declared.reach.Dir.TheVariants.{Down, Up}
 use Rattle.inc_dec_spf.specs.FirstLink.{IsFirstLink, no_link}
 use Rattle.mrt_rows.specs.declared.members.Home.{Home}
-use Rattle.mrt_rows.specs.NearOf.{Apart, InCommon, IsNearRow, IsSoleOf}
-use Rattle.mrt_rows.specs.Put.{IsHome, IsMemberRow, IsOwnRow, NoneOfOneLink, ShareMoreLinks}
+use Rattle.mrt_rows.specs.NearOf.{InCommon, IsNearRow, IsSoleOf}
+use Rattle.mrt_rows.specs.Put.{IsHome, IsMemberRow, IsOwnRow, NoneOfOneLink, AreInCommonBlockOfMore}
 use Rattle.mrt_rows.specs.RowLines.{HasOneLink}
 use Rattle.mrt_rows.proofs.LinesHold.{has_head}
 use Rattle.mrt_rows.proofs.MemberRows.{head_row, top_row}
-use Rattle.mrt_rows.proofs.NearRows.{are_members, none_common, ring_by}
+use Rattle.mrt_rows.proofs.NearRows.{are_members, ring_by}
 use Rattle.mrt_rows.proofs.OrderedGraphs.{OrderedGraph, one_common}
 use Rattle.mrt_rows.proofs.Sharing.{none_of_peers}
 use Rattle.mrt_rows.proofs.WaysBegun.{more_of}
@@ -22,19 +22,19 @@ abbrev pub sole_of : ℕ → Row
 sole_of e = record { blue = e; red = e; tag = tags.Sole }
 
 module _ (og : OrderedGraph) (s t : ℕ) (s_within : s < length og.g.ids) (t_within : t < length og.g.ids) (two : s ≢ t) (up down : ℕ)
-    (is_up : ShareMoreLinks og.g og.w s t → IsFirstLink og.g og.w Up s t up)
-    (is_down : ShareMoreLinks og.g og.w s t → IsFirstLink og.g og.w Down s t down) where
+    (is_up : AreInCommonBlockOfMore og.g og.w s t → IsFirstLink og.g og.w Up s t up)
+    (is_down : AreInCommonBlockOfMore og.g og.w s t → IsFirstLink og.g og.w Down s t down) where
   pub over_peers : (home : Home) (row : Row) → og.w.block s ≡ og.w.block t → IsHome og.g og.w s home → IsMemberRow up down home row
       → IsNearRow og.g og.root og.w s t (Some row)
   over_peers home row same is_home is =
       let more = none_of_peers og s t s_within t_within two same in
       let members = are_members og s t s_within t_within two more same in
-      let shares : ShareMoreLinks og.g og.w s t = record { block = og.w.block s; head = og.w.head s; share = members.share } in
+      let shares : AreInCommonBlockOfMore og.g og.w s t = record { block = og.w.block s; head = og.w.head s; share = members.share } in
       InCommon row (og.w.block s) (og.w.head s) (Peers refl (sym same) refl)
       (is.own og.g og.root s t og.w og.kept og.ordered s_within t_within two same (is_up shares) (is_down shares) is_home)
 
   -- where the block of two nodes has no sole link, it has more than one
-  no_sole : (m h : ℕ) → HaveInCommon og.w s t (og.w.block m) h → ((e : ℕ) → HasOneLink og.g og.w (og.w.block m) e → ⊥) → NoneOfOneLink og.g og.w s t
+  no_sole : (m h : ℕ) → HaveCommonBlock og.w s t (og.w.block m) h → ((e : ℕ) → HasOneLink og.g og.w (og.w.block m) e → ⊥) → NoneOfOneLink og.g og.w s t
   no_sole m h common none = λ k i link other one.
       none link (subst (λ (x : ℕ). HasOneLink og.g og.w x link)
       (one_common og s t k i (og.w.block m) h s_within t_within two other common).0 one)
@@ -46,7 +46,7 @@ module _ (og : OrderedGraph) (s t : ℕ) (s_within : s < length og.g.ids) (t_wit
         | inl none ↦
             let more = no_sole s t common (is.none none) in
             let ring = ring_by og s t s_within t_within two more s t s_within (has_head og s t two head) common in
-            let shares : ShareMoreLinks og.g og.w s t =
+            let shares : AreInCommonBlockOfMore og.g og.w s t =
             record { block = og.w.block s; head = t; share = record { two = two; common = common; more = more_of og s ring } } in
             subst (λ (r : Row). IsOwnRow og.g og.root og.w s t r) (sym (by_links none))
             (head_row og s t s_within t_within two more up down (is_up shares) (is_down shares) head)
@@ -55,7 +55,7 @@ module _ (og : OrderedGraph) (s t : ℕ) (s_within : s < length og.g.ids) (t_wit
             (record { line = λ rows. record { block = og.w.block s; head = t; common = common; one_link = is.sole some; red = refl } })
       ])
     where
-      common : HaveInCommon og.w s t (og.w.block s) t
+      common : HaveCommonBlock og.w s t (og.w.block s) t
       common = ToHead refl head refl
 
   pub over_top : (sole : ℕ) (row : Row) → og.w.head t ≡ s → IsSoleOf og.g og.w t sole → (sole ≢ no_link → row ≡ sole_of sole)
@@ -65,7 +65,7 @@ module _ (og : OrderedGraph) (s t : ℕ) (s_within : s < length og.g.ids) (t_wit
         | inl none ↦
             let more = no_sole t s common (is.none none) in
             let ring = ring_by og s t s_within t_within two more t s t_within (has_head og t s (λ same. two (sym same)) head) common in
-            let shares : ShareMoreLinks og.g og.w s t =
+            let shares : AreInCommonBlockOfMore og.g og.w s t =
             record { block = og.w.block t; head = s; share = record { two = two; common = common; more = more_of og t ring } } in
             subst (λ (r : Row). IsOwnRow og.g og.root og.w s t r) (sym (by_links none))
             (top_row og s t s_within t_within two more up down (is_up shares) (is_down shares) head)
@@ -74,8 +74,5 @@ module _ (og : OrderedGraph) (s t : ℕ) (s_within : s < length og.g.ids) (t_wit
             (record { line = λ rows. record { block = og.w.block t; head = s; common = common; one_link = is.sole some; red = refl } })
       ])
     where
-      common : HaveInCommon og.w s t (og.w.block t) s
+      common : HaveCommonBlock og.w s t (og.w.block t) s
       common = FromHead refl head refl
-
-  pub over_none : og.w.head s ≢ t → og.w.head t ≢ s → og.w.block s ≢ og.w.block t → IsNearRow og.g og.root og.w s t None
-  over_none not_head not_top differ = Apart (none_common og.w s t not_head not_top differ)

@@ -4,21 +4,24 @@ use Rattle.std.proofs.lemmas.Bool.{cases_eq, cases_lt}
 use Rattle.mrt_graph.specs.declared.cert.Row.{Row}
 use Rattle.mrt_graph.specs.declared.cert.Tag.{Tag}
 use Rattle.mrt_graph.specs.declared.cert.Tag.TheVariants as tags
-use Rattle.link_direction.specs.BlockOfTwo.{FromHead, HaveInCommon, Peers, ToHead}
+use Rattle.link_direction.specs.CommonBlock.{FromHead, HaveCommonBlock, Peers, ToHead}
 use Rattle.link_direction.specs.OrderedGadag.{HasClosingLink, HasSoleLink}
 use Rattle.inc_dec_spf.specs.declared.reach.Dir.TheVariants.{Down, Up}
 use Rattle.inc_dec_spf.specs.FirstLink.{IsFirstLink, no_link}
 use Rattle.mrt_rows.specs.declared.members.Home.{Home}
 use Rattle.mrt_rows.specs.NearOf.{Apart, InCommon, IsNearRow}
 use Rattle.mrt_rows.specs.Put.{IsHome, IsOwnRow, NoneOfOneLink}
-use Rattle.mrt_rows.specs.RowLines.{LineOf}
+use Rattle.mrt_rows.specs.RowLines.{HasLinksFor, LineOf}
 use Rattle.mrt_rows.specs.RowsOf.{HasRow}
 use Rattle.mrt_rows.proofs.HopsExist.{has_link}
 use Rattle.mrt_rows.proofs.LinesHold.{has_head}
 use Rattle.mrt_rows.proofs.MemberRows.{above_row, below_row, head_row, top_row, unordered_row}
-use Rattle.mrt_rows.proofs.NearRows.{none_common}
+use Rattle.link_direction.proofs.TwoNodes.{Relates, of_two}
 use Rattle.mrt_rows.proofs.OneRow.{near_lines}
 use Rattle.mrt_rows.proofs.OrderedGraphs.{OrderedGraph, one_common, within}
+use Rattle.mrt_rows.proofs.Carriers.{below_other, below_root}
+use Rattle.mrt_graph.specs.declared.related.Relation.{Relation}
+use Rattle.mrt_graph.specs.declared.related.Relation.TheVariants as relations
 
 module _ (og : OrderedGraph) (s : ℕ) (s_within : s < length og.g.ids) where
   abbrev n : ℕ
@@ -30,7 +33,7 @@ module _ (og : OrderedGraph) (s : ℕ) (s_within : s < length og.g.ids) where
     HasNear = (near : Option Row) × IsNearRow og.g og.root og.w s t near
 
     -- a block with more than one link has no one link
-    more_than_one : (m h : ℕ) → HasClosingLink og.g og.w m → HaveInCommon og.w s t (og.w.block m) h
+    more_than_one : (m h : ℕ) → HasClosingLink og.g og.w m → HaveCommonBlock og.w s t (og.w.block m) h
         → NoneOfOneLink og.g og.w s t
     more_than_one m h closed common k i link other = λ one.
         let same = one_common og s t k i (og.w.block m) h s_within t_within two other common in
@@ -41,7 +44,7 @@ module _ (og : OrderedGraph) (s : ℕ) (s_within : s < length og.g.ids) where
         let another = one.no_other closed.another closed.another_within (closed.another_in_block ∙ sym same.0) in
         closed.another_link (another ∙ sym closing)
 
-    sole_near : (m h : ℕ) → HasSoleLink og.g og.w m → HaveInCommon og.w s t (og.w.block m) h → HasNear
+    sole_near : (m h : ℕ) → HasSoleLink og.g og.w m → HaveCommonBlock og.w s t (og.w.block m) h → HasNear
     sole_near m h sole common =
         let row : Row = record { blue = sole.link; red = sole.link; tag = tags.Sole } in (
           Some row,
@@ -56,7 +59,7 @@ module _ (og : OrderedGraph) (s : ℕ) (s_within : s < length og.g.ids) where
           }),
         )
 
-    in_block_of : (m h : ℕ) → m < n → m ≢ og.root → HaveInCommon og.w s t (og.w.block m) h
+    in_block_of : (m h : ℕ) → m < n → m ≢ og.root → HaveCommonBlock og.w s t (og.w.block m) h
         → (NoneOfOneLink og.g og.w s t → HasNear) → HasNear
     in_block_of m h inside other common closed_near = elim (og.ordered.blocks m inside other) [
       | inl sole ↦ sole_near m h sole common
@@ -75,56 +78,56 @@ module _ (og : OrderedGraph) (s : ℕ) (s_within : s < length og.g.ids) where
     ]
 
     has_near : HasNear
-    has_near =
-        let up = has_link og Up s t s_within t_within in
-        let down = has_link og Down s t s_within t_within in
-        elim (cases_eq (og.w.head s) t) [
-          | inl head ↦
-              let common = ToHead refl head refl in
-              in_block_of s t s_within (has_head og s t two head) common
-              (λ more. (
-                _,
-                InCommon (record { blue = up.0; red = down.0; tag = tags.Head }) (og.w.block s) t common
-                    (head_row og s t s_within t_within two more up.0 down.0 up.1 down.1 head),
-              ))
-          | inr not_head ↦ elim (cases_eq (og.w.head t) s) [
-            | inl top ↦
-                let common = FromHead refl top refl in
-                in_block_of t s t_within (has_head og t s (λ back. two (sym back)) top) common
-                (λ more. (
-                  _,
-                  InCommon (record { blue = up.0; red = down.0; tag = tags.Top }) (og.w.block t) s common
-                      (top_row og s t s_within t_within two more up.0 down.0 up.1 down.1 top),
-                ))
-            | inr not_top ↦ elim (cases_eq (og.w.block s) (og.w.block t)) [
-              | inl same ↦
-                  let head_within = og.ordered.heads.head_within s s_within in
-                  let up_home = has_link og Up s (og.w.head s) s_within head_within in
-                  let down_home = has_link og Down s (og.w.head s) s_within head_within in
-                  let row =
-                  peer_near (record { up = up_home.0; down = down_home.0 }) up.0 down.0 same up.1 down.1
-                  (record { up = λ more. up_home.1; down = λ more. down_home.1 }) in
-                  (Some row.0, InCommon row.0 (og.w.block s) (og.w.head s) (Peers refl (sym same) refl) row.1)
-              | inr apart ↦ (None, Apart (none_common og.w s t not_head not_top apart))
-            ]
-          ]
-        ]
+    has_near = let is = of_two og.w s t in by is.0 is.1
+      where
+        by : (r : Relation) → Relates og.w s t r → HasNear
+        by relations.OneBlock same =
+            let up = has_link og Up s t s_within t_within in
+            let down = has_link og Down s t s_within t_within in
+            let head_within = og.ordered.heads.head_within s s_within in
+            let up_home = has_link og Up s (og.w.head s) s_within head_within in
+            let down_home = has_link og Down s (og.w.head s) s_within head_within in
+            let row =
+            peer_near (record { up = up_home.0; down = down_home.0 }) up.0 down.0 same up.1 down.1
+            (record { up = λ more. up_home.1; down = λ more. down_home.1 }) in
+            (Some row.0, InCommon row.0 (og.w.block s) (og.w.head s) (Peers refl (sym same) refl) row.1)
+        by relations.ToHead head =
+            let up = has_link og Up s t s_within t_within in
+            let down = has_link og Down s t s_within t_within in
+            let common = ToHead refl head refl in
+            in_block_of s t s_within (has_head og s t two head) common
+            (λ more. (
+              _,
+              InCommon (record { blue = up.0; red = down.0; tag = tags.Head }) (og.w.block s) t common
+                  (head_row og s t s_within t_within two more up.0 down.0 up.1 down.1 head),
+            ))
+        by relations.FromHead top =
+            let up = has_link og Up s t s_within t_within in
+            let down = has_link og Down s t s_within t_within in
+            let common = FromHead refl top refl in
+            in_block_of t s t_within (has_head og t s (λ back. two (sym back)) top) common
+            (λ more. (
+              _,
+              InCommon (record { blue = up.0; red = down.0; tag = tags.Top }) (og.w.block t) s common
+                  (top_row og s t s_within t_within two more up.0 down.0 up.1 down.1 top),
+            ))
+        by relations.Apart none = (None, Apart none)
 
   -- the row for t: a near one, or one carried again and again
   data RowIs : ℕ → Row → Type 0 where
     OfBlock : {t : ℕ} {row : Row} → row.tag ≢ tags.Carried → ((rows : ℕ → Option Row)
         → LineOf row.tag og.g og.root og.w s rows t row)
         → RowIs t row
-    FromOther : {t : ℕ} {row : Row} → ((k h : ℕ) → ¬ HaveInCommon og.w s t k h) → t ≢ og.root
+    FromOther : {t : ℕ} {row : Row} → ((k h : ℕ) → ¬ HaveCommonBlock og.w s t k h) → t ≢ og.root
         → row.tag ≡ tags.Carried → (other : Row)
         → RowIs (og.w.head t) other → row.blue ≡ other.blue → row.red ≡ other.red → RowIs t row
-    ForRoot : {t : ℕ} {row : Row} → ((k h : ℕ) → ¬ HaveInCommon og.w s t k h) → t ≡ og.root
+    ForRoot : {t : ℕ} {row : Row} → ((k h : ℕ) → ¬ HaveCommonBlock og.w s t k h) → t ≡ og.root
         → row.tag ≡ tags.Carried → (other : Row)
         → RowIs (og.w.head s) other → row.blue ≡ other.blue → row.red ≡ other.red → RowIs t row
 
   -- a near row is of a common block
   near_common : (tag : Tag) (rows : ℕ → Option Row) (t : ℕ) (row : Row) → tag ≢ tags.Carried
-      → LineOf tag og.g og.root og.w s rows t row → ((k h : ℕ) → ¬ HaveInCommon og.w s t k h) → ⊥
+      → LineOf tag og.g og.root og.w s rows t row → ((k h : ℕ) → ¬ HaveCommonBlock og.w s t k h) → ⊥
   near_common tags.Sole rows t row near line apart = apart line.block line.head line.common
   near_common tags.Head rows t row near line apart = apart line.block line.head line.share.common
   near_common tags.Top rows t row near line apart = apart line.block line.head line.share.common
@@ -182,7 +185,7 @@ module _ (og : OrderedGraph) (s : ℕ) (s_within : s < length og.g.ids) where
   HasIs t = (row : Row) × RowIs t row
 
   by_near : (t : ℕ) (near : Option Row) → t < n → s ≢ t → IsNearRow og.g og.root og.w s t near
-      → (((k h : ℕ) → ¬ HaveInCommon og.w s t k h) → (t ≢ og.root → HasIs (og.w.head t)) × (t ≡ og.root
+      → (((k h : ℕ) → ¬ HaveCommonBlock og.w s t k h) → (t ≢ og.root → HasIs (og.w.head t)) × (t ≡ og.root
       → HasIs (og.w.head s)))
       → HasIs t
   by_near t (Some row) t_within two (InCommon row' k h common own) far = (
@@ -249,13 +252,12 @@ module _ (og : OrderedGraph) (s : ℕ) (s_within : s < length og.g.ids) where
       let same = one_is (og.w.head t) from there.0 within differ is there.2 in
       subst (λ (tag : Tag). LineOf tag og.g og.root og.w s (λ u. (rows_at u).0) t row) (sym carried) (record {
         apart = apart;
-        to_other = λ elsewhere. record {
+        carried = subst (λ (x : ℕ). HasLinksFor (λ u. (rows_at u).0) (og.w.head x) row) (sym (below_other og.root s t other)) (record {
           other = there.0;
           is = there.1;
           blue = blue ∙ ap (λ (r : Row). r.blue) same;
           red = red ∙ ap (λ (r : Row). r.red) same;
-        };
-        to_root = λ at_root. absurd (other at_root);
+        });
       })
   line_by t row t_within two (ForRoot apart at_root carried from is blue red) =
       let within = og.ordered.heads.head_within s s_within in
@@ -264,13 +266,12 @@ module _ (og : OrderedGraph) (s : ℕ) (s_within : s < length og.g.ids) where
       let same = one_is (og.w.head s) from there.0 within differ is there.2 in
       subst (λ (tag : Tag). LineOf tag og.g og.root og.w s (λ u. (rows_at u).0) t row) (sym carried) (record {
         apart = apart;
-        to_other = λ elsewhere. absurd (elsewhere at_root);
-        to_root = λ root. record {
+        carried = subst (λ (x : ℕ). HasLinksFor (λ u. (rows_at u).0) (og.w.head x) row) (sym (below_root og.root s t at_root)) (record {
           other = there.0;
           is = there.1;
           blue = blue ∙ ap (λ (r : Row). r.blue) same;
           red = red ∙ ap (λ (r : Row). r.red) same;
-        };
+        });
       })
 
   pub some_rows : (rows : ℕ → Option Row) × ((t : ℕ) → t < n → s ≢ t → HasRow og.g og.root og.w s rows t)

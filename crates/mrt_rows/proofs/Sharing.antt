@@ -1,9 +1,9 @@
 -- What nodes with a block in common share.
 use Rattle.std.proofs.Common.{◌≡◌, ◌≢◌, ◌∙◌, ◌<◌, ℕ, Bool, false, true, List, Some, length, slice_get, refl, sym, ap, subst, inl, inr}
 use Rattle.std.proofs.lemmas.Option.{same_Some}
-use Rattle.link_direction.specs.BlockOfTwo.{FromHead, HaveInCommon, Peers, ToHead}
+use Rattle.link_direction.specs.CommonBlock.{FromHead, HaveCommonBlock, Peers, ToHead}
 use Rattle.inc_dec_spf.specs.FirstLink.{AreOthersInOneBlock}
-use Rattle.inc_dec_spf.specs.LeastPath.{HasMoreLinks, ShareBlock}
+use Rattle.inc_dec_spf.specs.LeastPath.{HasMoreLinks, HaveCommonBlockOfMore}
 use Rattle.mrt_rows.specs.Put.{AreHeadsMarked, NoneOfOneLink}
 use Rattle.mrt_rows.proofs.OrderedGraphs.{OrderedGraph, not_root_of_peers, one_common, within}
 
@@ -22,7 +22,7 @@ module _ (og : OrderedGraph) (s t : ℕ) (s_within : s < length og.g.ids) (t_wit
       ]
 
   -- a block of more than one link is the only one
-  pub none_of_share : (k h : ℕ) → ShareBlock og.g og.w s t k h → NoneOfOneLink og.g og.w s t
+  pub none_of_share : (k h : ℕ) → HaveCommonBlockOfMore og.g og.w s t k h → NoneOfOneLink og.g og.w s t
   none_of_share k h share j i link common one =
       let same = (one_common og s t k h j i s_within t_within two share.common common).0 in
       let more = share.more in
@@ -35,7 +35,7 @@ others_in_one_block og marks heads = record {
   each = λ v within unmarked. record { only = λ t k h t_within share. go v t k h t_within unmarked share.more share.common };
 }
   where
-    go : (v t k h : ℕ) → t < length og.g.ids → slice_get marks v ≡ Some false → HasMoreLinks og.g og.w k → HaveInCommon og.w v t k h
+    go : (v t k h : ℕ) → t < length og.g.ids → slice_get marks v ≡ Some false → HasMoreLinks og.g og.w k → HaveCommonBlock og.w v t k h
         → k ≡ og.w.block v
     go v t k h t_within unmarked more (Peers a b c) = sym a
     go v t k h t_within unmarked more (ToHead a b c) = sym a

@@ -8,11 +8,12 @@ use Rattle.mrt_graph.specs.declared.cert.Tag.{Tag}
 use Rattle.mrt_graph.specs.declared.cert.Tag.TheVariants as tags
 use Rattle.mrt_graph.specs.Topology.{Topology}
 use Rattle.mrt_graph.proofs.ListPlaces.{set_elsewhere, set_there}
-use Rattle.link_direction.specs.BlockOfTwo.{HaveInCommon}
+use Rattle.link_direction.specs.CommonBlock.{HaveCommonBlock}
 use Rattle.link_direction.specs.Directions.{Directions}
 use Rattle.mrt_rows.specs.NearOf.{Apart, InCommon, IsNearRow}
 use Rattle.mrt_rows.specs.RowLines.{HasLinksFor, LineOf}
-use Rattle.mrt_rows.specs.Table.{IsIn, IsReady, IsRowFor, IsTable, StayIn, carried, in_table}
+use Rattle.mrt_rows.specs.Table.{IsIn, HasCarrier, IsRowFor, IsTable, StayIn, carried, in_table}
+use Rattle.mrt_graph.specs.Related.{below_carrier}
 
 pub in_set_same : (table : List (Option Row)) (i : ℕ) (o : Option Row) → i < length table
     → in_table (set table i o) i ≡ o
@@ -83,14 +84,8 @@ line_kept tags.Above g root w s rows after t row stay line = line
 line_kept tags.Unordered g root w s rows after t row stay line = line
 line_kept tags.Carried g root w s rows after t row stay line = record {
   apart = line.apart;
-  to_other = λ other. links_kept rows after (w.head t) row stay (line.to_other other);
-  to_root = λ at_root. links_kept rows after (w.head s) row stay (line.to_root at_root);
+  carried = links_kept rows after (w.head (below_carrier root s t)) row stay line.carried;
 }
-
--- the node from which the row for t is carried
-pub record IsCarrier (root : ℕ) (w : Directions) (s t from : ℕ) : Type 0 where
-  pub to_other : t ≢ root → from ≡ w.head t
-  pub to_root : t ≡ root → from ≡ w.head s
 
 module _ (g : Topology) (root : ℕ) (w : Directions) (s t : ℕ) (table : List (Option Row)) where
   -- a near row is the row
@@ -102,8 +97,8 @@ module _ (g : Topology) (root : ℕ) (w : Directions) (s t : ℕ) (table : List 
   }
 
   -- and where there is none, the carried one
-  carried_line : (from : ℕ) (o : Option Row) (rows : ℕ → Option Row) (row : Row) → IsCarrier root w s t from
-      → ((k h : ℕ) → ¬ HaveInCommon w s t k h)
+  carried_line : (from : ℕ) (o : Option Row) (rows : ℕ → Option Row) (row : Row) → from ≡ w.head (below_carrier root s t)
+      → ((k h : ℕ) → ¬ HaveCommonBlock w s t k h)
       → in_table table from ≡ o → ((u : ℕ) (other : Row) → in_table table u ≡ Some other → rows u ≡ Some other)
       → carried o ≡ Some row → LineOf row.tag g root w s rows t row
   carried_line from None rows row carrier apart is stay made = absurd (cc)
@@ -111,34 +106,20 @@ module _ (g : Topology) (root : ℕ) (w : Directions) (s t : ℕ) (table : List 
       let same : record { blue = other.blue; red = other.red; tag = tags.Carried } ≡ row = same_Some _ row made in
       subst (λ (r : Row). LineOf r.tag g root w s rows t r) same (record {
         apart = apart;
-        to_other = λ elsewhere. record {
+        carried = record {
           other = other;
-          is = stay (w.head t) other (subst (λ (x : ℕ). in_table table x ≡ Some other) (carrier.to_other elsewhere) is);
-          blue = refl;
-          red = refl;
-        };
-        to_root = λ at_root. record {
-          other = other;
-          is = stay (w.head s) other (subst (λ (x : ℕ). in_table table x ≡ Some other) (carrier.to_root at_root) is);
+          is = stay (w.head (below_carrier root s t)) other (subst (λ (x : ℕ). in_table table x ≡ Some other) carrier is);
           blue = refl;
           red = refl;
         };
       })
 
-  carried_from : (from : ℕ) → IsCarrier root w s t from → ((k h : ℕ) → ¬ HaveInCommon w s t k h)
-      → IsReady root w s t table
-      → IsIn table from
-  carried_from from carrier apart ready = elim (cases_eq t root) [
-    | inl at_root ↦ subst (λ (x : ℕ). IsIn table x) (sym (carrier.to_root at_root)) (ready.to_root at_root apart)
-    | inr other ↦ subst (λ (x : ℕ). IsIn table x) (sym (carrier.to_other other)) (ready.to_other other apart)
-  ]
-
-  pub carried_is : (from : ℕ) → IsCarrier root w s t from → IsNearRow g root w s t None
+  pub carried_is : (from : ℕ) → from ≡ w.head (below_carrier root s t) → IsNearRow g root w s t None
       → IsRowFor g root w s t table (carried (in_table table from))
   carried_is from carrier (Apart apart) = record {
     line = λ rows row stay made. carried_line from (in_table table from) rows row carrier apart refl stay made;
     there = λ ready.
-        let there = carried_from from carrier apart ready in
+        let there = subst (λ (x : ℕ). IsIn table x) (sym carrier) (ready.from apart) in
         (record { blue = there.row.blue; red = there.row.red; tag = tags.Carried }, ap carried there.is);
   }
 
@@ -163,5 +144,5 @@ module _ (g : Topology) (root : ℕ) (w : Directions) (s t : ℕ) (table : List 
     }
 
     -- and has it, where the row that it may be carried from is there
-    pub put_in : IsReady root w s t table → IsIn (set table t found) t
+    pub put_in : HasCarrier root w s t table → IsIn (set table t found) t
     put_in ready = let new = is.there ready in record { row = new.0; is = in_set_same table t found within ∙ new.1 }

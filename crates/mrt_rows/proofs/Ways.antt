@@ -6,7 +6,7 @@ use Rattle.mrt_graph.specs.declared.cert.Role.TheVariants.{Closing, Plain, Sole}
 use Rattle.mrt_graph.specs.declared.link.End.{End}
 use Rattle.mrt_graph.specs.Leads.{leads}
 use Rattle.mrt_graph.proofs.Hops.{lead_back}
-use Rattle.link_direction.specs.BlockOfTwo.{FromHead, HaveInCommon, Peers, ToHead}
+use Rattle.link_direction.specs.CommonBlock.{FromHead, HaveCommonBlock, Peers, ToHead}
 use Rattle.link_direction.specs.OrderedGadag.{HasClosingLink}
 use Rattle.inc_dec_spf.specs.declared.reach.Dir.{Dir}
 use Rattle.inc_dec_spf.specs.declared.reach.Dir.TheVariants.{Down, Up}
@@ -135,7 +135,7 @@ module _ (og : OrderedGraph) (m : ℕ) (ring : Ring og m) where
       forward : og.w.role e ≡ Plain → og.w.order u < og.w.order v
       forward plain = og.ordered.links.forward e u v onward tail (λ closing. cc)
 
-      plainly : (i : ℕ) → og.w.role e ≡ Plain → HaveInCommon og.w u v (og.w.lies_in e) i → Directs og m top e u v
+      plainly : (i : ℕ) → og.w.role e ≡ Plain → HaveCommonBlock og.w u v (og.w.lies_in e) i → Directs og m top e u v
       plainly i plain (Peers a b c) =
           Inner (record { within = in_range.from; block = a ∙ block }) (record {
             within = in_range.to;

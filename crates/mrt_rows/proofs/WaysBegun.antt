@@ -2,10 +2,10 @@
 use Rattle.std.proofs.Common.{◌≡◌, ◌≢◌, ◌∙◌, ◌<◌, ℕ, List, ◌∷◌, Some, length, refl, sym, subst, inl, inr}
 use Rattle.mrt_graph.specs.declared.link.End.{End}
 use Rattle.mrt_graph.specs.Leads.{leads}
-use Rattle.link_direction.specs.BlockOfTwo.{HaveInCommon, Peers}
+use Rattle.link_direction.specs.CommonBlock.{HaveCommonBlock, Peers}
 use Rattle.inc_dec_spf.specs.declared.reach.Dir.{Dir}
 use Rattle.inc_dec_spf.specs.declared.reach.Hop.{Hop}
-use Rattle.inc_dec_spf.specs.LeastPath.{BeginsPath, HasMoreLinks, IsHop, IsLeastPath, NotReached, Reached, ShareBlock}
+use Rattle.inc_dec_spf.specs.LeastPath.{BeginsPath, HasMoreLinks, IsHop, IsLeastPath, NotReached, Reached, HaveCommonBlockOfMore}
 use Rattle.inc_dec_spf.specs.Path.{Path}
 use Rattle.mrt_rows.specs.RowLines.{AreMembers, BeginsOver, NoWay}
 use Rattle.mrt_rows.proofs.OrderedGraphs.{OrderedGraph, not_root_of_peers, one_common, step_leads, within}
@@ -23,7 +23,7 @@ pub record Sharing (og : OrderedGraph) (m s t : ℕ) : Type 0 where
   pub source : s < length og.g.ids
   pub target : t < length og.g.ids
   pub two : s ≢ t
-  pub common : HaveInCommon og.w s t (og.w.block m) (og.w.head m)
+  pub common : HaveCommonBlock og.w s t (og.w.block m) (og.w.head m)
 
 module _ (og : OrderedGraph) where
   abbrev n : ℕ
@@ -50,7 +50,7 @@ module _ (og : OrderedGraph) where
     differ = ring.closed.another_link;
   }
 
-  pub share : (m s t : ℕ) → Ring og m → Sharing og m s t → ShareBlock og.g og.w s t (og.w.block m) (og.w.head m)
+  pub share : (m s t : ℕ) → Ring og m → Sharing og m s t → HaveCommonBlockOfMore og.g og.w s t (og.w.block m) (og.w.head m)
   share m s t ring sharing = record { two = sharing.two; common = sharing.common; more = more_of m ring }
 
   -- two nodes of the block share it
@@ -87,7 +87,7 @@ module _ (og : OrderedGraph) where
           sharing.common in
           in_block m dir s t link k h hop same.0 same.1 over least
 
-  pub no_way : (m : ℕ) (dir : Dir) (s t : ℕ) → ShareBlock og.g og.w s t (og.w.block m) (og.w.head m)
+  pub no_way : (m : ℕ) (dir : Dir) (s t : ℕ) → HaveCommonBlockOfMore og.g og.w s t (og.w.block m) (og.w.head m)
       → NoWay og.g og.w dir s t → Way og m dir s t → ⊥
   no_way m dir s t shares (NotReached none) way = none (og.w.block m) (og.w.head m) way.path shares way.is
 

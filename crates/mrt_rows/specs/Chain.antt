@@ -36,10 +36,6 @@ pub record AreWayAims (g : Topology) (root : ℕ) (w : Directions) (t : ℕ) (ai
   pub on : (c : ℕ) → Climbs root w t c → c ≢ root → aim (w.block c) ≡ c
   pub off : (y : ℕ) → y < length g.ids → (aim (w.block y) ≡ w.head y) ⊎ IsOnWay root w t y (aim (w.block y))
 
--- each block aims at its head, at each of so many places
-pub record AreHeadAims (g : Topology) (w : Directions) (width : ℕ) (aims : List ℕ) : Type 0 where
-  pub each : (j y : ℕ) → j < width → y < length g.ids → aim_at aims width j (w.block y) ≡ w.head y
-
 -- at each place, the blocks aim so for the destination there
 pub record AreBlockAims (g : Topology) (root : ℕ) (w : Directions) (targets aims : List ℕ) : Type 0 where
   pub each : (j t : ℕ) → slice_get targets j ≡ Some t → AreWayAims g root w t (aim_at aims (length targets) j)

@@ -1,21 +1,16 @@
 -- The near rows of a certificate, source after source: those that are not Carried.
-use Rattle.std.specs.Prelude.{◌≡◌, ◌≢◌, ◌-◌, ◌*◌, ◌++◌, ℕ, zero, suc, Bool, List, [], ◌∷◌, Option, Some, None, drop, filter, length, not, slice_get, take}
+use Rattle.std.specs.Prelude.{◌≡◌, ◌≢◌, ◌-◌, ◌*◌, ◌++◌, ℕ, zero, suc, List, [], ◌∷◌, Option, Some, None, drop, filter, length, slice_get, take}
 use Rattle.mrt_graph.specs.declared.cert.Row.{Row}
-use Rattle.mrt_graph.specs.declared.cert.Tag.TheVariants.{Carried}
 use Rattle.mrt_graph.specs.declared.gadag.Place.{Place}
 use Rattle.mrt_graph.specs.Certificate.{Certificate}
-use Rattle.mrt_graph.specs.Tags.{same_tag}
+use Rattle.mrt_graph.specs.Tags.{is_near}
 use Rattle.mrt_graph.specs.Topology.{Topology}
-use Rattle.link_direction.specs.BlockOfTwo.{HaveInCommon}
+use Rattle.link_direction.specs.CommonBlock.{HaveCommonBlock}
 use Rattle.link_direction.specs.Directions.{Directions}
 use Rattle.inc_dec_spf.specs.declared.reach.Dir.{Dir}
 use Rattle.inc_dec_spf.specs.FirstLink.{IsFirstLink, no_link}
-use Rattle.mrt_rows.specs.Put.{IsOwnRow, ShareMoreLinks}
+use Rattle.mrt_rows.specs.Put.{IsOwnRow, AreInCommonBlockOfMore}
 use Rattle.mrt_rows.specs.RowLines.{HasOneLink}
-
--- a row that is not Carried
-abbrev pub is_near : Row → Bool
-is_near row = not (same_tag row.tag Carried)
 
 -- of the rows of node s in a certificate, those that are near, by ascending destination
 abbrev pub near_rows_of : Certificate → ℕ → List Row
@@ -37,8 +32,8 @@ near_first rows (suc t) = near_first rows t ++ near_in (rows t)
 
 -- the row of s for t, where they have a block in common
 pub data IsNearRow (g : Topology) (root : ℕ) (w : Directions) (s t : ℕ) : Option Row → Type 0 where
-  InCommon : (row : Row) (k h : ℕ) → HaveInCommon w s t k h → IsOwnRow g root w s t row → IsNearRow g root w s t (Some row)
-  Apart : ((k h : ℕ) → ¬ HaveInCommon w s t k h) → IsNearRow g root w s t None
+  InCommon : (row : Row) (k h : ℕ) → HaveCommonBlock w s t k h → IsOwnRow g root w s t row → IsNearRow g root w s t (Some row)
+  Apart : ((k h : ℕ) → ¬ HaveCommonBlock w s t k h) → IsNearRow g root w s t None
 
 -- the one link of v's block; none where it has more links, or v is the root
 pub record IsSoleOf (g : Topology) (w : Directions) (v link : ℕ) : Type 0 where
@@ -61,4 +56,4 @@ pub record IsPlaceOf (w : Directions) (v : ℕ) (place : Place) : Type 0 where
 
 -- the links by which s begins the least paths to the nodes with which it has a block of more than one link in common
 pub record AreLinked (g : Topology) (w : Directions) (dir : Dir) (s : ℕ) (links : List ℕ) : Type 0 where
-  pub each : (t link : ℕ) → slice_get links t ≡ Some link → ShareMoreLinks g w s t → IsFirstLink g w dir s t link
+  pub each : (t link : ℕ) → slice_get links t ≡ Some link → AreInCommonBlockOfMore g w s t → IsFirstLink g w dir s t link

@@ -3,24 +3,24 @@ use Rattle.std.specs.Prelude.{◌≡◌, ◌≢◌, ◌<◌, ℕ, Bool, true, Li
 use Rattle.mrt_graph.specs.declared.cert.Row.{Row}
 use Rattle.mrt_graph.specs.GraphInvariant.{IsTopology}
 use Rattle.mrt_graph.specs.Topology.{Topology}
-use Rattle.link_direction.specs.BlockOfTwo.{HaveInCommon}
+use Rattle.link_direction.specs.CommonBlock.{HaveCommonBlock}
 use Rattle.link_direction.specs.Directions.{Directions}
 use Rattle.link_direction.specs.OrderedGadag.{IsOrderedGadag}
 use Rattle.inc_dec_spf.specs.declared.reach.Dir.TheVariants.{Down, Up}
 use Rattle.inc_dec_spf.specs.FirstLink.{IsFirstLink}
-use Rattle.inc_dec_spf.specs.LeastPath.{HasMoreLinks, ShareBlock}
+use Rattle.inc_dec_spf.specs.LeastPath.{HasMoreLinks, HaveCommonBlockOfMore}
 use Rattle.mrt_rows.specs.declared.members.Home.{Home}
 use Rattle.mrt_rows.specs.RowLines.{HasOneLink, LineOf}
 
 -- s and t have a block of more than one link in common
-pub record ShareMoreLinks (g : Topology) (w : Directions) (s t : ℕ) : Type 0 where
+pub record AreInCommonBlockOfMore (g : Topology) (w : Directions) (s t : ℕ) : Type 0 where
   pub block : ℕ
   pub head : ℕ
-  pub share : ShareBlock g w s t block head
+  pub share : HaveCommonBlockOfMore g w s t block head
 
 -- the common block of s and t, if they have one, has more than one link
 abbrev pub NoneOfOneLink : Topology → Directions → ℕ → ℕ → Type 0
-NoneOfOneLink g w s t = (k h link : ℕ) → HaveInCommon w s t k h → ¬ HasOneLink g w k link
+NoneOfOneLink g w s t = (k h link : ℕ) → HaveCommonBlock w s t k h → ¬ HasOneLink g w k link
 
 -- the head of each block of more than one link is marked
 pub record AreHeadsMarked (g : Topology) (w : Directions) (marks : List Bool) : Type 0 where

@@ -1,16 +1,17 @@
 -- The table of rows, a record a line: what the row of a node s for another node t is. In each line the block is the one
 -- that s and t have in common.
-use Rattle.std.specs.Prelude.{◌≡◌, ◌≢◌, ◌<◌, ℕ, Option, Some, None, length}
+use Rattle.std.specs.Prelude.{◌≡◌, ◌<◌, ℕ, Option, Some, None, length}
 use Rattle.mrt_graph.specs.declared.cert.Row.{Row}
 use Rattle.mrt_graph.specs.declared.cert.Tag.{Tag}
 use Rattle.mrt_graph.specs.declared.cert.Tag.TheVariants.{Sole, Head, Top, Below, Above, Unordered, Carried}
+use Rattle.mrt_graph.specs.Related.{below_carrier}
 use Rattle.mrt_graph.specs.Topology.{Topology}
-use Rattle.link_direction.specs.BlockOfTwo.{HaveInCommon}
+use Rattle.link_direction.specs.CommonBlock.{HaveCommonBlock}
 use Rattle.link_direction.specs.Directions.{Directions}
 use Rattle.inc_dec_spf.specs.declared.reach.Dir.{Dir}
 use Rattle.inc_dec_spf.specs.declared.reach.Dir.TheVariants.{Down, Up}
 use Rattle.inc_dec_spf.specs.declared.reach.Hop.{Hop}
-use Rattle.inc_dec_spf.specs.LeastPath.{IsHop, ShareBlock}
+use Rattle.inc_dec_spf.specs.LeastPath.{IsHop, HaveCommonBlockOfMore}
 
 -- block k has this link, and no other
 pub record HasOneLink (g : Topology) (w : Directions) (k link : ℕ) : Type 0 where
@@ -30,7 +31,7 @@ NoWay g w dir s t = IsHop g w dir s t None
 
 -- s and t are members of a block of more than one link, whose head is h
 pub record AreMembers (g : Topology) (w : Directions) (s t k h : ℕ) : Type 0 where
-  pub share : ShareBlock g w s t k h
+  pub share : HaveCommonBlockOfMore g w s t k h
   pub source : w.block s ≡ k
   pub target : w.block t ≡ k
 
@@ -45,7 +46,7 @@ pub record HasLinksFor (rows : ℕ → Option Row) (u : ℕ) (row : Row) : Type 
 pub record SoleLine (g : Topology) (w : Directions) (s t : ℕ) (row : Row) : Type 0 where
   pub block : ℕ
   pub head : ℕ
-  pub common : HaveInCommon w s t block head
+  pub common : HaveCommonBlock w s t block head
   pub one_link : HasOneLink g w block row.blue
   pub red : row.red ≡ row.blue
 
@@ -53,7 +54,7 @@ pub record SoleLine (g : Topology) (w : Directions) (s t : ℕ) (row : Row) : Ty
 pub record HeadLine (g : Topology) (w : Directions) (s t : ℕ) (row : Row) : Type 0 where
   pub block : ℕ
   pub head : ℕ
-  pub share : ShareBlock g w s t block head
+  pub share : HaveCommonBlockOfMore g w s t block head
   pub at_head : t ≡ head
   pub blue : BeginsOver g w Up s t row.blue
   pub red : BeginsOver g w Down s t row.red
@@ -62,7 +63,7 @@ pub record HeadLine (g : Topology) (w : Directions) (s t : ℕ) (row : Row) : Ty
 pub record TopLine (g : Topology) (w : Directions) (s t : ℕ) (row : Row) : Type 0 where
   pub block : ℕ
   pub head : ℕ
-  pub share : ShareBlock g w s t block head
+  pub share : HaveCommonBlockOfMore g w s t block head
   pub at_head : s ≡ head
   pub blue : BeginsOver g w Up s t row.blue
   pub red : BeginsOver g w Down s t row.red
@@ -95,12 +96,11 @@ pub record UnorderedLine (g : Topology) (w : Directions) (s t : ℕ) (row : Row)
   pub blue : BeginsOver g w Down s head row.blue
   pub red : BeginsOver g w Up s head row.red
 
--- Carried: they have no block in common. Blue and red are those of the row of s for the head of t or, where t is the
--- root, of the row of s for the head of s
+-- Carried: they have no block in common. Blue and red are those of the row of s for the carrier, the head of t or, where t
+-- is the root, the head of s
 pub record CarriedLine (root : ℕ) (w : Directions) (s : ℕ) (rows : ℕ → Option Row) (t : ℕ) (row : Row) : Type 0 where
-  pub apart : (k h : ℕ) → ¬ HaveInCommon w s t k h
-  pub to_other : t ≢ root → HasLinksFor rows (w.head t) row
-  pub to_root : t ≡ root → HasLinksFor rows (w.head s) row
+  pub apart : (k h : ℕ) → ¬ HaveCommonBlock w s t k h
+  pub carried : HasLinksFor rows (w.head (below_carrier root s t)) row
 
 -- the line of a tag, for the row of s for t among these rows of s
 abbrev pub LineOf : Tag → Topology → ℕ → Directions → ℕ → (ℕ → Option Row) → ℕ → Row → Type 0

@@ -1,10 +1,11 @@
 -- The rows of a source by destination, as they come about.
-use Rattle.std.specs.Prelude.{◌≡◌, ◌≢◌, ℕ, List, [], ◌∷◌, Option, Some, None, slice_get}
+use Rattle.std.specs.Prelude.{◌≡◌, ℕ, List, [], ◌∷◌, Option, Some, None, slice_get}
 use Rattle.std.specs.Option.{option_and_then}
 use Rattle.mrt_graph.specs.declared.cert.Row.{Row}
 use Rattle.mrt_graph.specs.declared.cert.Tag.TheVariants.{Carried}
+use Rattle.mrt_graph.specs.Related.{below_carrier}
 use Rattle.mrt_graph.specs.Topology.{Topology}
-use Rattle.link_direction.specs.BlockOfTwo.{HaveInCommon}
+use Rattle.link_direction.specs.CommonBlock.{HaveCommonBlock}
 use Rattle.link_direction.specs.Directions.{Directions}
 use Rattle.mrt_rows.specs.RowLines.{LineOf}
 
@@ -27,9 +28,8 @@ pub record IsTable (g : Topology) (root : ℕ) (w : Directions) (s : ℕ) (table
   pub lines : (t : ℕ) (row : Row) → in_table table t ≡ Some row → LineOf row.tag g root w s (in_table table) t row
 
 -- where the row for t is carried, that row is in the table which it is carried from
-pub record IsReady (root : ℕ) (w : Directions) (s t : ℕ) (table : List (Option Row)) : Type 0 where
-  pub to_other : t ≢ root → ((k h : ℕ) → ¬ HaveInCommon w s t k h) → IsIn table (w.head t)
-  pub to_root : t ≡ root → ((k h : ℕ) → ¬ HaveInCommon w s t k h) → IsIn table (w.head s)
+pub record HasCarrier (root : ℕ) (w : Directions) (s t : ℕ) (table : List (Option Row)) : Type 0 where
+  pub from : ((k h : ℕ) → ¬ HaveCommonBlock w s t k h) → IsIn table (w.head (below_carrier root s t))
 
 -- what is found for t among these rows: a row as its line says, in each table that has these rows; and there is one
 -- where the row that it may be carried from is there
@@ -38,7 +38,7 @@ pub record IsRowFor (g : Topology) (root : ℕ) (w : Directions) (s t : ℕ) (ta
   pub line : (rows : ℕ → Option Row) (row : Row)
       → ((u : ℕ) (other : Row) → in_table table u ≡ Some other → rows u ≡ Some other)
       → found ≡ Some row → LineOf row.tag g root w s rows t row
-  pub there : IsReady root w s t table → (row : Row) × (found ≡ Some row)
+  pub there : HasCarrier root w s t table → (row : Row) × (found ≡ Some row)
 
 -- the rows of a table by ascending destination
 abbrev pub rows_in : List (Option Row) → List Row

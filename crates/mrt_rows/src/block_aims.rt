@@ -1,13 +1,13 @@
 //! What the blocks aim at, for some destinations side by side.
 
-ghost use Rattle.std.specs.Prelude.{◌≡◌, ◌≢◌, ◌<◌, ◌≤◌, ◌+◌, ◌*◌, ◌⊎◌, ℕ, Some, length, slice_get, slice_index};
+ghost use Rattle.std.specs.Prelude.{◌≡◌, ◌≢◌, ◌<◌, ◌*◌, ℕ, Some, length, slice_get};
 ghost use Rattle.mrt_graph.specs.GraphInvariant.{IsTopology};
 ghost use Rattle.link_direction.specs.Directions.{Directions, Says};
 ghost use Rattle.link_direction.specs.OrderedGadag.{SaysOrdered};
 ghost use Rattle.inc_dec_spf.specs.BlockAims.{aim_at};
-ghost use Rattle.inc_dec_spf.specs.HasDirections.{AreDirections, HasDirections};
-ghost use Rattle.mrt_rows.specs.Chain.{AreBlockAims, AreHeadAims, AreWayAims};
+ghost use Rattle.mrt_rows.specs.Chain.{AreBlockAims, AreWayAims};
 
+use inc_dec_spf::put_heads;
 use mrt_graph::{Directed, Graph, NodeNo};
 
 /// One of so many places side by side.
@@ -38,34 +38,6 @@ pub fn put_block_aims(
     for at in 0..width {
         let lane = Lane { width, at };
         put_way(g, root, d, targets[at], lane, aims);
-    }
-}
-
-/// Each block aims at its head, at each of so many places.
-pub fn put_heads(g: &Graph, d: &Directed, width: usize, aims: &mut [NodeNo])
-    requires kept { IsTopology g.now }
-    requires directed { HasDirections g.now d.now }
-    requires room { length aims.old ≡ length g.now.ids * width }
-    ensures room { length aims.new ≡ length aims.old }
-    ensures heads { (root : ℕ) (w : Directions) → AreDirections g.now d.now root w
-        → AreHeadAims g.now w width aims.new }
-{
-    for n in 0..g.node_count() {
-        let place = d.place(NodeNo::new(n));
-        put_all(place.block.get() as usize * width, width, place.head, aims);
-    }
-}
-
-/// Puts a node at so many places from `at` on.
-fn put_all(at: usize, width: usize, node: NodeNo, aims: &mut [NodeNo])
-    requires { at + width ≤ length aims.old }
-    ensures room { length aims.new ≡ length aims.old }
-    ensures there { (j : ℕ) → j < width → slice_index aims.new (at + j) ≡ node }
-    ensures elsewhere { (i : ℕ) → (i < at) ⊎ (at + width ≤ i)
-        → slice_index aims.new i ≡ slice_index aims.old i }
-{
-    for j in 0..width {
-        aims[at + j] = node;
     }
 }
 

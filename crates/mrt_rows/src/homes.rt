@@ -4,18 +4,17 @@ ghost use Rattle.std.specs.Prelude.{◌≡◌, ◌<◌, ◌*◌, ℕ, IfOk, List
 ghost use Rattle.mrt_graph.specs.GraphInvariant.{IsTopology};
 ghost use Rattle.link_direction.specs.Directions.{Directions};
 ghost use Rattle.link_direction.specs.OrderedGadag.{IsOrderedGadag};
+ghost use Rattle.inc_dec_spf.specs.BlockAims.{AreHeadAims};
 ghost use Rattle.inc_dec_spf.specs.declared.reach.Dir.TheVariants.{Down, Up};
 ghost use Rattle.inc_dec_spf.specs.HasDirections.{AreDirections, HasDirections};
 ghost use Rattle.inc_dec_spf.specs.Tile.{IsAimed, IsTile};
 ghost use Rattle.inc_dec_spf.specs.Turns.{AreTurns};
-ghost use Rattle.mrt_rows.specs.Chain.{AreHeadAims};
 ghost use Rattle.mrt_rows.specs.NearOf.{AreHomeRows, AreSoles};
 ghost use Rattle.mrt_rows.specs.Put.{AreHeadsMarked, AreHomes};
 
-use crate::block_aims::put_heads;
 use crate::members::Home;
 use crate::row_over::end_row;
-use inc_dec_spf::{Aiming, Dir, NO_LINK, Tile};
+use inc_dec_spf::{Aiming, Dir, NO_LINK, Tile, put_heads};
 use mrt_graph::{Directed, Graph, LinkNo, NoMemory, NodeNo, Row, Tag};
 use std::alloc::Global;
 

@@ -3,7 +3,7 @@
 ghost use Rattle.std.specs.Prelude.{◌≡◌, ◌≢◌, ◌<◌, ◌-◌, ◌*◌, length, slice_set};
 ghost use Rattle.mrt_graph.specs.RowPlace.{place_of_row};
 
-use mrt_graph::{NodeNo, Row};
+use mrt_graph::{NodeNo, Row, row_place};
 
 /// Puts the row of s for t at its place among those of `count` nodes.
 pub fn put(count: u16, s: NodeNo, t: NodeNo, row: Row, rows: &mut [Row])
@@ -13,11 +13,5 @@ pub fn put(count: u16, s: NodeNo, t: NodeNo, row: Row, rows: &mut [Row])
     requires room { length rows.old ≡ count * (count - 1) }
     ensures { rows.new ≡ slice_set rows.old (place_of_row count s t) row }
 {
-    let start = s.get() as usize * (count as usize - 1);
-    let column = t.get() as usize;
-    if t.get() < s.get() {
-        rows[start + column] = row;
-    } else {
-        rows[start + column - 1] = row;
-    }
+    rows[row_place(count as usize, s, t)] = row;
 }

@@ -11,7 +11,7 @@ ghost use Rattle.inc_dec_spf.specs.declared.reach.Dir.TheVariants.{Down, Up};
 ghost use Rattle.inc_dec_spf.specs.FirstLink.{IsFirstLink, no_link};
 ghost use Rattle.inc_dec_spf.specs.HasDirections.{AreDirections};
 ghost use Rattle.mrt_rows.specs.NearOf.{IsNearRow, IsPlaceOf, IsSoleOf, near_first};
-ghost use Rattle.mrt_rows.specs.Put.{ShareMoreLinks};
+ghost use Rattle.mrt_rows.specs.Put.{AreInCommonBlockOfMore};
 ghost use Rattle.mrt_rows.specs.FirstLinks.{AreFirstLinks};
 ghost use Rattle.mrt_rows.specs.RowsOf.{HasRow};
 ghost use Rattle.mrt_rows.specs.Source.{IsSourceBy};
@@ -19,7 +19,7 @@ ghost use Rattle.mrt_rows.specs.Source.{IsSourceBy};
 use crate::first_links::FirstLinks;
 use crate::members::{Home, member_row};
 use inc_dec_spf::NO_LINK;
-use mrt_graph::{Directed, Graph, LinkNo, NodeNo, Place, Row, Tag};
+use mrt_graph::{Directed, Graph, LinkNo, NodeNo, Place, Relation, Row, Tag, relation_of};
 
 /// A node, with what its rows for all others are made from: its place, the sole link of its block, and its links home.
 #[derive(Clone, Copy)]
@@ -43,20 +43,16 @@ pub fn row_over(
     requires { source.now.node ≢ t }
     ensures { (g : Topology) (root : ℕ) (w : Directions) → IsTopology g → IsOrderedGadag g root w
         → IsSourceBy g w source.now → t < length g.ids → IsPlaceOf w t there.now → IsSoleOf g w t sole
-        → (ShareMoreLinks g w source.now.node t → IsFirstLink g w Up source.now.node t up)
-        → (ShareMoreLinks g w source.now.node t → IsFirstLink g w Down source.now.node t down)
+        → (AreInCommonBlockOfMore g w source.now.node t → IsFirstLink g w Up source.now.node t up)
+        → (AreInCommonBlockOfMore g w source.now.node t → IsFirstLink g w Down source.now.node t down)
         → IsNearRow g root w source.now.node t result }
 {
-    if source.place.block == there.block {
-        return Some(member_row(up, down, &source.home));
+    match relation_of(source.node, &source.place, t, there) {
+        Relation::OneBlock => Some(member_row(up, down, &source.home)),
+        Relation::ToHead => Some(end_row(source.sole, up, down, Tag::Head)),
+        Relation::FromHead => Some(end_row(sole, up, down, Tag::Top)),
+        Relation::Apart => None,
     }
-    if source.place.head == t {
-        return Some(end_row(source.sole, up, down, Tag::Head));
-    }
-    if there.head == source.node {
-        return Some(end_row(sole, up, down, Tag::Top));
-    }
-    None
 }
 
 /// The row over a sole link, or with this tag where there is none.

@@ -18,7 +18,8 @@ ghost use Rattle.link_direction.specs.Directions.{Directions, Says};
 ghost use Rattle.link_direction.specs.OrderedGadag.{IsOrderedGadag};
 ghost use Rattle.mrt_rows.specs.CertOf.{IsCertOf, Tells};
 ghost use Rattle.mrt_rows.specs.ColumnOf.{HasColumns, IsColumnOf};
-ghost use Rattle.mrt_rows.specs.NearOf.{is_near, near_rows_before, near_rows_of};
+ghost use Rattle.mrt_graph.specs.Tags.{is_near};
+ghost use Rattle.mrt_rows.specs.NearOf.{near_rows_before, near_rows_of};
 ghost use Rattle.mrt_rows.specs.RowsOf.{HasRow};
 
 use gadag_ears::one_gadag;

@@ -1,16 +1,17 @@
 //! The rows of a source by destination.
 
 ghost use Rattle.std.specs.Prelude.{◌≡◌, ◌≢◌, ◌<◌, ℕ, None, length};
+ghost use Rattle.mrt_graph.specs.Related.{below_carrier};
 ghost use Rattle.link_direction.specs.Directions.{Directions};
 ghost use Rattle.inc_dec_spf.specs.HasDirections.{AreDirections, HasDirections};
 ghost use Rattle.mrt_rows.specs.FirstLinks.{AreFirstLinks};
-ghost use Rattle.mrt_rows.specs.Table.{IsIn, IsReady, IsRowFor, IsTable, StayIn, carried, in_table};
+ghost use Rattle.mrt_rows.specs.Table.{IsIn, HasCarrier, IsRowFor, IsTable, StayIn, carried, in_table};
 ghost use Rattle.inc_dec_spf.specs.declared.reach.Dir.TheVariants.{Up};
 ghost use Rattle.inc_dec_spf.specs.Turns.{AreTurns};
 
 use crate::first_links::FirstLinks;
 use crate::row_over::near_row;
-use mrt_graph::{Directed, Graph, NodeNo, Row, Tag};
+use mrt_graph::{Directed, Graph, NodeNo, Row, Tag, below_carrier};
 
 /// Fills an empty table with the rows of a source for all other nodes.
 ///
@@ -59,7 +60,7 @@ fn put_row(
         → IsTable g.now root w links.now.source table.old.items
         → IsTable g.now root w links.now.source table.new.items }
     ensures put { (w : Directions) → AreDirections g.now d.now root w
-        → IsReady root w links.now.source t table.old.items → links.now.source ≢ t
+        → HasCarrier root w links.now.source t table.old.items → links.now.source ≢ t
         → IsIn table.new.items t }
 {
     if t == links.source {
@@ -95,19 +96,17 @@ fn row_for(
     carried_row(table, carrier(g, root, d, links.source, t))
 }
 
-/// The node for which `s` has the links that it has for `t`, where they have no block in common.
+/// The carrier of `s` for `t`, where they have no block in common.
 fn carrier(g: &Graph, root: NodeNo, d: &Directed, s: NodeNo, t: NodeNo) -> NodeNo
     requires directed { HasDirections g.now d.now }
     requires source { s < length g.now.ids }
     requires target { t < length g.now.ids }
-    ensures other { (from : ℕ) (w : Directions) → AreDirections g.now d.now from w → t ≢ root
-        → result ≡ w.head t }
-    ensures at_root { (from : ℕ) (w : Directions) → AreDirections g.now d.now from w → t ≡ root
-        → result ≡ w.head s }
+    ensures value { (from : ℕ) (w : Directions) → AreDirections g.now d.now from w
+        → result ≡ w.head (below_carrier root s t) }
     ensures within { result < length g.now.ids }
 {
-    let headed = if t == root { s } else { t };
-    d.place(headed).head
+    let below = below_carrier(root, s, t);
+    d.place(below).head
 }
 
 /// The row of the table for that node, as a carried one.

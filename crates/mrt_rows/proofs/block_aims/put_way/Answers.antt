@@ -5,7 +5,7 @@ use Rattle.std.proofs.lemmas.Option.{get_or_from_slice_get}
 use Rattle.inc_dec_spf.specs.BlockAims.{aim_at}
 use Rattle.inc_dec_spf.proofs.SideBySide.{row_within}
 use Rattle.mrt_rows.proofs.Climbing.{graph_by}
-use Rattle.mrt_rows.proofs.NearRows.{place_says}
+use Rattle.link_direction.proofs.TwoNodes.{place_says}
 use Rattle.mrt_rows.proofs.WayAims.{IsGone, aim_beside, aim_elsewhere, aim_there, all_gone, none_gone, one_gone}
 use Rattle.mrt_rows.proofs.block_aims.put_way.Goals as goal
 

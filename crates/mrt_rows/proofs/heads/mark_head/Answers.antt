@@ -1,7 +1,7 @@
 use Rattle.std.proofs.Common.{◌≡◌, ◌∙◌, ◌<◌, ℕ, true, Some, length, set, slice_get, sym, subst, inl, inr, arith}
 use Rattle.std.proofs.lemmas.Bool.{cases_eq}
 use Rattle.mrt_graph.proofs.ListPlaces.{set_elsewhere, set_there}
-use Rattle.mrt_rows.proofs.NearRows.{place_says}
+use Rattle.link_direction.proofs.TwoNodes.{place_says}
 use Rattle.mrt_rows.proofs.heads.mark_head.Goals as goal
 
 pub returns-clause-head : goal.returns-clause-head

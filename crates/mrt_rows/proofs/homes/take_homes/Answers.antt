@@ -3,16 +3,15 @@ use Rattle.std.proofs.lemmas.Bool.{cases_eq}
 use Rattle.std.proofs.lemmas.List.{length-set}
 use Rattle.std.proofs.lemmas.Option.{same_Some, slice_get_read, slice_get_within}
 use Rattle.mrt_graph.proofs.ListPlaces.{set_elsewhere, set_there}
-use Rattle.link_direction.specs.BlockOfTwo.{ToHead}
+use Rattle.link_direction.specs.CommonBlock.{ToHead}
 use Rattle.inc_dec_spf.specs.declared.reach.Dir.{Dir}
 use Rattle.inc_dec_spf.specs.declared.reach.Dir.TheVariants.{Down, Up}
-use Rattle.inc_dec_spf.specs.BlockAims.{IsAimOf, aim_at}
+use Rattle.inc_dec_spf.specs.BlockAims.{AreHeadAims, IsAimOf, aim_at}
 use Rattle.inc_dec_spf.specs.FirstLink.{IsFirstLink}
 use Rattle.inc_dec_spf.specs.LeastPath.{HasMoreLinks}
 use Rattle.inc_dec_spf.specs.Tile.{IsAimed}
 use Rattle.inc_dec_spf.specs.TileEntries.{TileEntries}
 use Rattle.mrt_rows.specs.declared.members.Home.{Home}
-use Rattle.mrt_rows.specs.Chain.{AreHeadAims}
 use Rattle.mrt_rows.specs.Put.{IsHome}
 use Rattle.mrt_rows.proofs.AimsOfRows.{home_aim}
 use Rattle.mrt_rows.proofs.MarkedHeads.{not_own_head}

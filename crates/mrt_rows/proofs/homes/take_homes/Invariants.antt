@@ -4,7 +4,7 @@ use Rattle.link_direction.specs.OrderedGadag.{IsOrderedGadag}
 use Rattle.inc_dec_spf.specs.declared.reach.Dir.TheVariants.{Down, Up}
 use Rattle.inc_dec_spf.specs.Tile.{IsAimed}
 use Rattle.mrt_rows.specs.declared.members.Home.{Home}
-use Rattle.mrt_rows.specs.Chain.{AreHeadAims}
+use Rattle.inc_dec_spf.specs.BlockAims.{AreHeadAims}
 use Rattle.mrt_rows.specs.Put.{IsHome}
 use Rattle.mrt_rows.proofs.homes.take_homes.Given as goal
 

@@ -2,7 +2,7 @@ use Rattle.std.proofs.Common.{◌≡◌, ◌∙◌, ◌+◌, ◌-◌, ◌*◌, �
 use Rattle.std.proofs.Math.Seq.{take-add}
 use Rattle.std.proofs.lemmas.List.Elements.{filter-append}
 use Rattle.mrt_graph.specs.declared.cert.Row.{Row}
-use Rattle.mrt_rows.specs.NearOf.{is_near}
+use Rattle.mrt_graph.specs.Tags.{is_near}
 use Rattle.mrt_rows.proofs.rows_law.near_rows_are_those_of_each_node.Goals as goal
 
 pub returns-clause-more : goal.returns-clause-more

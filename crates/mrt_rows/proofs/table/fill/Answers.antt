@@ -1,7 +1,7 @@
 use Rattle.std.proofs.Common.{◌≡◌, ℕ, Some, length, slice_get, refl, subst}
 use Rattle.std.proofs.lemmas.Option.{slice_get_read}
 use Rattle.mrt_rows.proofs.Filling.{Put, filled, filling_begun, filling_on}
-use Rattle.mrt_rows.proofs.NearRows.{place_says}
+use Rattle.link_direction.proofs.TwoNodes.{place_says}
 use Rattle.mrt_rows.proofs.OrderedGraphs.{graph_of}
 use Rattle.mrt_rows.proofs.table.fill.Goals as goal
 

@@ -12,9 +12,6 @@ pub returns : goal.returns
 returns c = λ w are.
     rw c.carried_row.ensures
     (carried_is c.args.g.now c.args.root w c.args.links.now.source c.args.t c.args.table.now c.carrier.result
-    (record {
-      to_other = λ other. c.carrier.ensures.other c.args.root w are other;
-      to_root = λ at_root. c.carrier.ensures.at_root c.args.root w are at_root;
-    })
+    (c.carrier.ensures.value c.args.root w are)
     (subst (λ (o : Option Row). IsNearRow c.args.g.now c.args.root w c.args.links.now.source c.args.t o) c.in_default.is
     (c.near_row.ensures c.args.root w are)))

@@ -6,7 +6,7 @@ use Rattle.mrt_rows.specs.Chain.{AreBelow, AtHome, Beside, IsRowAim, Under}
 use Rattle.mrt_rows.specs.ColumnParts.{ColumnParts}
 use Rattle.mrt_rows.proofs.ChainAims.{climb_low}
 use Rattle.mrt_rows.proofs.Climbing.{graph_by}
-use Rattle.mrt_rows.proofs.NearRows.{place_says}
+use Rattle.link_direction.proofs.TwoNodes.{place_says}
 use Rattle.mrt_rows.proofs.column.Columns.aim_of.Goals as goal
 
 read : (below : List (Option ℕ)) (i v : ℕ) (o : Option ℕ) → i ≡ v → v < length below → o ≡ get_or below i o → slice_get below v ≡ Some o

@@ -15,10 +15,10 @@ use Rattle.inc_dec_spf.specs.TileEntries.{TileEntries}
 use Rattle.mrt_rows.specs.declared.members.Home.{Home}
 use Rattle.mrt_rows.specs.ColumnParts.{ColumnParts}
 use Rattle.mrt_rows.specs.NearOf.{AreSoles, IsNearRow, IsPlaceOf, IsSoleOf}
-use Rattle.mrt_rows.specs.Put.{AreHomes, IsHome, ShareMoreLinks}
+use Rattle.mrt_rows.specs.Put.{AreHomes, IsHome, AreInCommonBlockOfMore}
 use Rattle.mrt_rows.proofs.Climbing.{graph_by}
 use Rattle.mrt_rows.proofs.HeldColumns.{held_inside}
-use Rattle.mrt_rows.proofs.NearRows.{place_says}
+use Rattle.link_direction.proofs.TwoNodes.{place_says}
 use Rattle.mrt_rows.proofs.column.Columns.aimed_row.Goals as goal
 
 place_is : (g : Topology) (d : DirectedLists) (w : Directions) (s : ℕ) (place : Place) → Says g d w → s < length g.ids → slice_get d.places s ≡ Some place
@@ -40,7 +40,7 @@ home_at g w homes i v home are one_each named within is =
 first_link : (g : Topology) (w : Directions) (dir : Dir) (tile : TileEntries) (aims links : List ℕ) (width s t j link : ℕ) → IsAimed g w dir aims tile
     → IsAimOf g w (aim_at aims width j) s t → s < length g.ids → t < length g.ids → j < width → tile.width ≡ width → slice_get links j ≡ Some link
     → ((i x : ℕ) → slice_get links i ≡ Some x → slice_get tile.links (s * tile.width + i) ≡ Some x)
-    → ShareMoreLinks g w s t → IsFirstLink g w dir s t link
+    → AreInCommonBlockOfMore g w s t → IsFirstLink g w dir s t link
 first_link g w dir tile aims links width s t j link aimed aim s_within t_within below wide at there shares =
     (aimed.each s s_within).each j t shares.block shares.head link (omega (arith, below, wide)) t_within shares.share
     (subst (λ (k : ℕ). IsAimOf g w (aim_at aims k j) s t) (sym wide) aim) (there j link at)
