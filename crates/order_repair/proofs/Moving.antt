@@ -5,7 +5,7 @@ use Rattle.mrt_graph.specs.declared.cert.Color.TheVariants.{Blue, Red}
 use Rattle.mrt_graph.specs.declared.cert.Row.{Row}
 use Rattle.mrt_graph.specs.declared.cert.Tag.{Tag}
 use Rattle.mrt_graph.specs.Rows.{link_of_color}
-use Rattle.link_direction.specs.BlockOfTwo.{FromHead, ToHead}
+use Rattle.link_direction.specs.CommonBlock.{FromHead, ToHead}
 use Rattle.inc_dec_spf.specs.declared.reach.Dir.{Dir}
 use Rattle.inc_dec_spf.specs.declared.reach.Dir.TheVariants.{Down, Up}
 use Rattle.inc_dec_spf.specs.Against.{against}

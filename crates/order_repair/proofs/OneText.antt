@@ -1,5 +1,5 @@
 -- There is exactly one text on the repairs by order of a router.
-use Rattle.std.proofs.Common.{◌≡◌, ◌⊎◌, ◌∙◌, ◌++◌, ◌<◌, ℕ, List, [], Option, Some, None, codes, length, slice_get, refl, sym, ap, subst, inl, inr}
+use Rattle.std.proofs.Common.{◌≡◌, ◌≢◌, ◌⊎◌, ◌∙◌, ◌++◌, ◌<◌, ℕ, List, [], Option, None, codes, length, refl, sym, ap, subst, inl, inr}
 use Rattle.std.proofs.lemmas.Bool.{cases_eq}
 use Rattle.std.proofs.lemmas.Option.{slice_get_within}
 use Rattle.mrt_graph.specs.declared.cert.Color.{Color}
@@ -11,7 +11,8 @@ use Rattle.mrt_graph.specs.Separates.{IsNeitherEnd}
 use Rattle.mrt_graph.specs.Spelling.{node_text}
 use Rattle.mrt_graph.proofs.ListTests.{there}
 use Rattle.inc_dec_spf.specs.declared.reach.Dir.TheVariants.{Down, Up}
-use Rattle.inc_dec_spf.specs.LeastPath.{ShareBlock}
+use Rattle.inc_dec_spf.specs.declared.reach.Hop.{Hop}
+use Rattle.inc_dec_spf.specs.LeastPath.{HaveCommonBlockOfMore, IsHop}
 use Rattle.mrt_rows.proofs.HopsExist.{has_hop}
 use Rattle.mrt_rows.proofs.OrderedGraphs.{OrderedGraph, one_common}
 use Rattle.text_parts.specs.Parts.{AreParts}
@@ -21,6 +22,9 @@ use Rattle.order_repair.specs.OrderText.{AtEnd, Colored, IsHead, IsLetter, IsLin
 use Rattle.order_repair.specs.Tagging.{IsTagFor, NotShared, Tagged}
 use Rattle.order_repair.proofs.OneChoice.{one_choice, some_choice}
 use Rattle.order_repair.proofs.TagFound.{head_found, none_found, peer_found, top_found}
+use Rattle.mrt_graph.specs.declared.related.Relation.{Relation}
+use Rattle.mrt_graph.specs.declared.related.Relation.TheVariants as relations
+use Rattle.link_direction.proofs.TwoNodes.{Relates, of_two}
 
 module _ (og : OrderedGraph) (s : ℕ) (s_within : s < length og.g.ids) where
   abbrev n : ℕ
@@ -41,7 +45,7 @@ module _ (og : OrderedGraph) (s : ℕ) (s_within : s < length og.g.ids) where
       let root = there og.g.ids og.root og.ordered.root_within in
       (_, record { router = router.0; router_is = router.1; root_id = root.0; root_is = root.1; spelled = refl })
 
-  module _ (t k h : ℕ) (t_within : t < n) (shares : ShareBlock og.g og.w s t k h) where
+  module _ (t k h : ℕ) (t_within : t < n) (shares : HaveCommonBlockOfMore og.g og.w s t k h) where
     one_letter : (x : Element) (text other : List ℕ) → IsLetter og.g og.root og.w s t k h x text
         → IsLetter og.g og.root og.w s t k h x other → text ≡ other
     one_letter x text other (NotOfIt none) (NotOfIt none') = refl
@@ -161,20 +165,20 @@ module _ (og : OrderedGraph) (s : ℕ) (s_within : s < length og.g.ids) where
   some_tag : (t : ℕ) → t < n → (tag : Option Tag) × IsTagFor og.g og.root og.w s t tag
   some_tag t t_within = elim (cases_eq s t) [
     | inl same ↦ (None, NotShared (λ k h shares. shares.two same))
-    | inr two ↦
-        let up = has_hop og Up s t s_within t_within in
-        let down = has_hop og Down s t s_within t_within in
-        elim (cases_eq (og.w.head s) t) [
-          | inl head ↦ (_, head_found og s t s_within t_within two up.0 up.1 head)
-          | inr not_head ↦ elim (cases_eq (og.w.head t) s) [
-            | inl top ↦ (_, top_found og s t s_within t_within two up.0 up.1 top)
-            | inr not_top ↦ elim (cases_eq (og.w.block s) (og.w.block t)) [
-              | inl same ↦ (_, peer_found og s t s_within t_within two same up.0 down.0 up.1 down.1)
-              | inr apart ↦ (None, none_found og s t s_within t_within two not_head not_top apart)
-            ]
-          ]
-        ]
+    | inr two ↦ let is = of_two og.w s t in by two is.0 is.1
   ]
+    where
+      up : (hop : Option Hop) × IsHop og.g og.w Up s t hop
+      up = has_hop og Up s t s_within t_within
+
+      down : (hop : Option Hop) × IsHop og.g og.w Down s t hop
+      down = has_hop og Down s t s_within t_within
+
+      by : s ≢ t → (r : Relation) → Relates og.w s t r → (tag : Option Tag) × IsTagFor og.g og.root og.w s t tag
+      by two relations.OneBlock same = (_, peer_found og s t s_within t_within two same up.0 down.0 up.1 down.1)
+      by two relations.ToHead head = (_, head_found og s t s_within t_within two up.0 up.1 head)
+      by two relations.FromHead top = (_, top_found og s t s_within t_within two up.0 up.1 top)
+      by two relations.Apart none = (None, none_found og s t s_within t_within two none)
 
   some_part : (t : ℕ) → t < n → (text : List ℕ) × IsPartOn og.g og.root og.w s t text
   some_part t t_within = go (some_tag t t_within)

@@ -10,8 +10,8 @@ use Rattle.mrt_graph.specs.declared.link.Element.{Element}
 use Rattle.mrt_graph.specs.DirectedLists.{DirectedLists}
 use Rattle.mrt_graph.specs.Topology.{Topology}
 use Rattle.link_direction.specs.Directions.{Directions, Says}
-use Rattle.inc_dec_spf.specs.LeastPath.{ShareBlock}
-use Rattle.mrt_rows.proofs.NearRows.{place_says}
+use Rattle.inc_dec_spf.specs.LeastPath.{HaveCommonBlockOfMore}
+use Rattle.link_direction.proofs.TwoNodes.{place_says}
 use Rattle.mrt_rows.proofs.OrderedGraphs.{OrderedGraph}
 use Rattle.mrt_rows.proofs.Ways.{Inside, Ring, inside_head}
 use Rattle.order_repair.specs.Blocks.{IsPair}
@@ -62,6 +62,6 @@ module _ (og : OrderedGraph) (d : DirectedLists) (says : Says og.g d og.w) (s t 
         row = row;
         its_row = its_row;
         tag_is = tag_is;
-        share = subst (λ (x : ℕ). ShareBlock og.g og.w s t place.block x) (it.head ∙ sym at.1)
-            (subst (λ (x : ℕ). ShareBlock og.g og.w s t x h) (it.block ∙ sym at.0) shares);
+        share = subst (λ (x : ℕ). HaveCommonBlockOfMore og.g og.w s t place.block x) (it.head ∙ sym at.1)
+            (subst (λ (x : ℕ). HaveCommonBlockOfMore og.g og.w s t x h) (it.block ∙ sym at.0) shares);
       }

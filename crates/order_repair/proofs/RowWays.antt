@@ -3,7 +3,7 @@ use Rattle.std.proofs.Common.{◌≡◌, ◌∙◌, ℕ, ◌∷◌, Option, sym,
 use Rattle.mrt_graph.specs.declared.cert.Row.{Row}
 use Rattle.mrt_graph.specs.declared.cert.Tag.{Tag}
 use Rattle.mrt_graph.specs.declared.cert.Tag.TheVariants as tags
-use Rattle.link_direction.specs.BlockOfTwo.{FromHead, HaveInCommon, Peers, ToHead}
+use Rattle.link_direction.specs.CommonBlock.{FromHead, HaveCommonBlock, Peers, ToHead}
 use Rattle.inc_dec_spf.specs.declared.reach.Dir.{Dir}
 use Rattle.inc_dec_spf.specs.declared.reach.Dir.TheVariants.{Down, Up}
 use Rattle.mrt_rows.specs.RowLines.{AreMembers, BeginsOver, LineOf, SoleLine}
@@ -39,12 +39,12 @@ module _ (og : OrderedGraph) (m : ℕ) (ring : Ring og m) (u t : ℕ) (sharing :
   pub standing : Standing og m u t
   standing = go sharing.common
     where
-      go : HaveInCommon og.w u t (og.w.block m) (og.w.head m) → Standing og m u t
+      go : HaveCommonBlock og.w u t (og.w.block m) (og.w.head m) → Standing og m u t
       go (Peers a b c) = Beside (record { within = sharing.source; block = a }) (record { within = sharing.target; block = b })
       go (ToHead a b c) = Under (record { within = sharing.source; block = a }) c
       go (FromHead a b c) = Over c (record { within = sharing.target; block = a })
 
-  same : (k h : ℕ) → HaveInCommon og.w u t k h → (k ≡ og.w.block m) × (h ≡ og.w.head m)
+  same : (k h : ℕ) → HaveCommonBlock og.w u t k h → (k ≡ og.w.block m) × (h ≡ og.w.head m)
   same k h common =
       one_common og u t k h (og.w.block m) (og.w.head m) sharing.source sharing.target sharing.two common sharing.common
 

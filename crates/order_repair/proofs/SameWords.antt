@@ -16,10 +16,10 @@ use Rattle.link_direction.specs.OrderedGadag.{IsOrderedGadag}
 use Rattle.inc_dec_spf.specs.declared.reach.Dir.{Dir}
 use Rattle.inc_dec_spf.specs.declared.reach.Dir.TheVariants.{Down, Up}
 use Rattle.inc_dec_spf.specs.declared.reach.Hop.{Hop}
-use Rattle.inc_dec_spf.specs.LeastPath.{BeginsPath, IsHop, NotReached, Reached, ShareBlock}
+use Rattle.inc_dec_spf.specs.LeastPath.{BeginsPath, IsHop, NotReached, Reached, HaveCommonBlockOfMore}
 use Rattle.inc_dec_spf.specs.Path.{Path}
-use Rattle.inc_dec_spf.proofs.SameDirections.{AreAlike}
-use Rattle.mrt_rows.proofs.Agreeing.{common_too, line_too, path_too}
+use Rattle.inc_dec_spf.proofs.SameDirections.{AreAlike, alike_back}
+use Rattle.mrt_rows.proofs.Agreeing.{line_too, path_too, share_too}
 use Rattle.mrt_rows.proofs.HopsExist.{has_hop}
 use Rattle.mrt_rows.proofs.OrderedGraphs.{OrderedGraph, within}
 use Rattle.text_parts.specs.Parts.{AreParts}
@@ -39,16 +39,6 @@ lies_on g w v alike k h (elements.Node f) lies = record {
     | inl block ↦ inl (sym (alike.blocks f lies.within) ∙ block)
     | inr home ↦ inr home
   ];
-}
-
-pub alike_back : (g : Topology) (w v : Directions) → AreAlike g w v → AreAlike g v w
-alike_back g w v alike = record {
-  orders = λ a a_within. sym (alike.orders a a_within);
-  heads = λ a a_within. sym (alike.heads a a_within);
-  blocks = λ a a_within. sym (alike.blocks a a_within);
-  tails = λ e e_within. sym (alike.tails e e_within);
-  roles = λ e e_within. sym (alike.roles e e_within);
-  link_blocks = λ e e_within. sym (alike.link_blocks e e_within);
 }
 
 where_too : (P Q : Type 0) (this : Color) (Rest Rest' : Color → Type 0) (color : Color) → (P → Q) → (Q → P)
@@ -74,21 +64,6 @@ parts_too IsPart IsPart' (suc n) text each is = (
 module _ (g : Topology) (root : ℕ) (kept : IsTopology g) (w v : Directions) (alike : AreAlike g w v)
     (heads : (x : ℕ) → x < length g.ids → w.head x < length g.ids)
     (hops : (dir : Dir) (s x : ℕ) → s < length g.ids → x < length g.ids → (hop : Option Hop) × IsHop g v dir s x hop) where
-  share_on : (s t k h : ℕ) → s < length g.ids → t < length g.ids → ShareBlock g w s t k h → ShareBlock g v s t k h
-  share_on s t k h s_within t_within shares = record {
-    two = shares.two;
-    common = common_too g kept w v alike s t k h s_within t_within shares.common;
-    more = record {
-      one = shares.more.one;
-      other = shares.more.other;
-      one_within = shares.more.one_within;
-      other_within = shares.more.other_within;
-      one_in_block = sym (alike.link_blocks shares.more.one shares.more.one_within) ∙ shares.more.one_in_block;
-      other_in_block = sym (alike.link_blocks shares.more.other shares.more.other_within) ∙ shares.more.other_in_block;
-      differ = shares.more.differ;
-    };
-  }
-
   -- paths lead where they lead
   leads_on : (dir : Dir) (s x : ℕ) → s < length g.ids → x < length g.ids → LeadsTo g w dir s x → LeadsTo g v dir s x
   leads_on dir s x s_within x_within it = go it.hop it.reached (hops dir s x s_within x_within)
@@ -97,10 +72,10 @@ module _ (g : Topology) (root : ℕ) (kept : IsTopology g) (w v : Directions) (a
       go hop (Reached k h hop' shares least) (Some other, is) = record { hop = other; reached = is }
       go hop (Reached k h hop' shares least) (None, is) =
           let first : BeginsPath g w dir k h s x hop'.cost least.end = least.first.asked in
-          absurd (none is k h (least.end ∷ first.others) (share_on s x k h s_within x_within shares)
+          absurd (none is k h (least.end ∷ first.others) (share_too g kept w v alike s x k h s_within x_within shares)
           (path_too g kept w v alike dir k h s (least.end ∷ first.others) x first.is_path))
         where
-          none : IsHop g v dir s x None → (k h : ℕ) (path : List End) → ShareBlock g v s x k h → Path g v dir k h s path x → ⊥
+          none : IsHop g v dir s x None → (k h : ℕ) (path : List End) → HaveCommonBlockOfMore g v s x k h → Path g v dir k h s path x → ⊥
           none (NotReached never) k h path shares is = never k h path shares is
 
   row_on : (s t : ℕ) (row : Row) → s < length g.ids → IsRowFor g root w s t row → IsRowFor g root v s t row
@@ -140,11 +115,11 @@ module _ (one : OrderedGraph) (v : Directions) (ordered : IsOrderedGadag one.g o
   hops_v dir s x s_within x_within =
       has_hop (record { g = one.g; root = one.root; w = v; kept = one.kept; ordered = ordered }) dir s x s_within x_within
 
-  share_there : (s t k h : ℕ) → s < n → t < n → ShareBlock g w s t k h → ShareBlock g v s t k h
-  share_there s t k h = share_on g root one.kept w v alike one.ordered.heads.head_within hops_v s t k h
+  share_there : (s t k h : ℕ) → s < n → t < n → HaveCommonBlockOfMore g w s t k h → HaveCommonBlockOfMore g v s t k h
+  share_there s t k h = share_too g one.kept w v alike s t k h
 
-  share_back : (s t k h : ℕ) → s < n → t < n → ShareBlock g v s t k h → ShareBlock g w s t k h
-  share_back s t k h = share_on g root one.kept v w back ordered.heads.head_within hops_w s t k h
+  share_back : (s t k h : ℕ) → s < n → t < n → HaveCommonBlockOfMore g v s t k h → HaveCommonBlockOfMore g w s t k h
+  share_back s t k h = share_too g one.kept v w back s t k h
 
   leads_there : (dir : Dir) (s x : ℕ) → s < n → x < n → LeadsTo g w dir s x → LeadsTo g v dir s x
   leads_there dir s x = leads_on g root one.kept w v alike one.ordered.heads.head_within hops_v dir s x

@@ -3,10 +3,10 @@
 ghost use Rattle.std.specs.Prelude.{◌≡◌, ◌<◌, ℕ, IfSome, length};
 ghost use Rattle.link_direction.specs.Directions.{Directions};
 ghost use Rattle.order_repair.specs.Source.{AreHops, IsSource};
-ghost use Rattle.order_repair.specs.Tagging.{IsNearTag, IsTagFor, peer_tag, tag_where};
+ghost use Rattle.order_repair.specs.Tagging.{IsTagOfMore, IsTagFor, peer_tag, tag_where};
 
 use inc_dec_spf::{Hop, Reach};
-use mrt_graph::{Directed, Graph, NodeNo, Tag};
+use mrt_graph::{Directed, Graph, NodeNo, Relation, Tag, relation_of};
 
 /// The tag of the row of `s` for `t`, where they share a block of more than one link; `None` where they do not.
 pub fn tag_for(
@@ -21,23 +21,19 @@ pub fn tag_for(
     requires to { t < length g.now.ids }
     ensures tag { (root : ℕ) (w : Directions) → AreHops g.now d.now root w s up.now down.now
         → IsTagFor g.now root w s t result }
-    ensures near { IfSome result IsNearTag }
+    ensures near { IfSome result IsTagOfMore }
 {
     if s == t {
         return None;
     }
     let here = d.place(s);
     let there = d.place(t);
-    if here.head == t {
-        return tag_where(up.hop(t), Tag::Head);
+    match relation_of(s, &here, t, &there) {
+        Relation::OneBlock => Some(peer_tag(up.hop(t), down.hop(t))),
+        Relation::ToHead => tag_where(up.hop(t), Tag::Head),
+        Relation::FromHead => tag_where(up.hop(t), Tag::Top),
+        Relation::Apart => None,
     }
-    if there.head == s {
-        return tag_where(up.hop(t), Tag::Top);
-    }
-    if here.block == there.block {
-        return Some(peer_tag(up.hop(t), down.hop(t)));
-    }
-    None
 }
 
 /// This tag, where there is a hop.

@@ -1,7 +1,7 @@
 use Rattle.std.proofs.Common.{◌∙◌, sym}
 use Rattle.std.proofs.lemmas.Bool.{eqb-true}
 use Rattle.inc_dec_spf.specs.declared.reach.Dir.TheVariants.{Up}
-use Rattle.mrt_rows.proofs.NearRows.{place_says}
+use Rattle.link_direction.proofs.TwoNodes.{place_says}
 use Rattle.order_repair.proofs.link_line.is_over.Goals as goal
 
 pub returns-then-eq : goal.returns-then-eq
