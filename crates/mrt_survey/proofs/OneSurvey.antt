@@ -9,7 +9,8 @@ use Rattle.mrt_graph.proofs.Filters.{filter_agree_in}
 use Rattle.mrt_graph.proofs.Members.{same_tests}
 use Rattle.mrt_survey.specs.Counting.{AreSoMany}
 use Rattle.mrt_survey.specs.Separating.{SeparatesTwo}
-use Rattle.mrt_survey.specs.SurveyText.{HasLink, IsSurveyText, block_line, is_carried, is_common, island_line, row_line, sum_line}
+use Rattle.mrt_graph.specs.Tags.{is_near}
+use Rattle.mrt_survey.specs.SurveyText.{HasLink, IsSurveyText, block_line, is_carried, island_line, row_line, sum_line}
 use Rattle.mrt_survey.proofs.MadeBounds.{all_range}
 
 -- so many have a property in one way only
@@ -34,6 +35,6 @@ one_survey number g root c text other a b =
     a.spelled
     ∙ (λ i. island_line number (length g.ids) (length g.links) (id i)
     ++ (block_line (blocks i) (length (filter (λ link. is_sole link.role) c.links)) (separating i)
-    ++ (row_line (length (filter is_common c.rows)) (length (filter is_carried c.rows))
+    ++ (row_line (length (filter is_near c.rows)) (length (filter is_carried c.rows))
     ++ sum_line (sum_by (λ row. row.blue) c.rows) (sum_by (λ row. row.red) c.rows))))
     ∙ sym b.spelled

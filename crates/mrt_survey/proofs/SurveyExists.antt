@@ -14,7 +14,8 @@ use Rattle.mrt_graph.proofs.Members.{listed_or_not}
 use Rattle.mrt_survey.specs.BlockHeads.{HeadsBlocks, AsMember, AsRoot, HeadsTwo, IsHeadOf}
 use Rattle.mrt_survey.specs.Counting.{AreSoMany}
 use Rattle.mrt_survey.specs.Separating.{SeparatesTwo}
-use Rattle.mrt_survey.specs.SurveyText.{HasLink, IsSurveyText, block_line, is_carried, is_common, island_line, row_line, sum_line}
+use Rattle.mrt_graph.specs.Tags.{is_near}
+use Rattle.mrt_survey.specs.SurveyText.{HasLink, IsSurveyText, block_line, is_carried, island_line, row_line, sum_line}
 use Rattle.mrt_survey.proofs.HeadsMarked.{root_in_graph}
 use Rattle.mrt_survey.proofs.SeparatingHeads.{separating_heads, told_there}
 
@@ -139,7 +140,7 @@ some_survey number g root c is =
     let separating = counted (SeparatesTwo g.links (length g.ids)) (length g.ids) separates_or_not in (
       island_line number (length g.ids) (length g.links) id.0
           ++ (block_line blocks.0 (length (filter (λ link. is_sole link.role) c.links)) separating.0
-          ++ (row_line (length (filter is_common c.rows)) (length (filter is_carried c.rows))
+          ++ (row_line (length (filter is_near c.rows)) (length (filter is_carried c.rows))
           ++ sum_line (sum_by (λ row. row.blue) c.rows) (sum_by (λ row. row.red) c.rows))),
       record {
         root_id = id.0;

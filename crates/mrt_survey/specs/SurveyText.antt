@@ -1,5 +1,5 @@
 -- The text of a survey.
-use Rattle.std.specs.Prelude.{◌≡◌, ◌++◌, ℕ, Bool, not, List, Some, codes, decimal, length, slice_get, Contains, map}
+use Rattle.std.specs.Prelude.{◌≡◌, ◌++◌, ℕ, Bool, List, Some, codes, decimal, length, slice_get, Contains, map}
 use Rattle.std.specs.List.{filter, sum_by}
 use Rattle.mrt_graph.specs.declared.cert.CertLink.{CertLink}
 use Rattle.mrt_graph.specs.declared.cert.Row.{Row}
@@ -8,7 +8,7 @@ use Rattle.mrt_graph.specs.declared.node_id.NodeId.{NodeId}
 use Rattle.mrt_graph.specs.Certificate.{Certificate}
 use Rattle.mrt_graph.specs.Roles.{is_sole}
 use Rattle.mrt_graph.specs.Spelling.{node_text}
-use Rattle.mrt_graph.specs.Tags.{same_tag}
+use Rattle.mrt_graph.specs.Tags.{is_near, same_tag}
 use Rattle.mrt_graph.specs.Topology.{Topology}
 use Rattle.mrt_survey.specs.Counting.{AreSoMany}
 use Rattle.mrt_survey.specs.Separating.{SeparatesTwo}
@@ -20,10 +20,6 @@ HasLink links k = Contains (map (λ link. link.block) links) k
 -- a row whose source and destination have no block in common
 abbrev pub is_carried : Row → Bool
 is_carried row = same_tag row.tag Carried
-
--- any other row
-abbrev pub is_common : Row → Bool
-is_common row = not (is_carried row)
 
 -- the number that the network was made from, how many nodes and links it has, and its root
 abbrev pub island_line : ℕ → ℕ → ℕ → NodeId → List ℕ
@@ -57,5 +53,5 @@ pub record IsSurveyText (number : ℕ) (g : Topology) (root : ℕ) (c : Certific
   pub spelled : text
       ≡ island_line number (length g.ids) (length g.links) root_id
       ++ (block_line blocks (length (filter (λ link. is_sole link.role) c.links)) separating
-      ++ (row_line (length (filter is_common c.rows)) (length (filter is_carried c.rows))
+      ++ (row_line (length (filter is_near c.rows)) (length (filter is_carried c.rows))
       ++ sum_line (sum_by (λ row. row.blue) c.rows) (sum_by (λ row. row.red) c.rows)))
