@@ -1,3 +1,5 @@
 pub mod Adds
 pub mod Hops
 pub mod Parts
+pub mod TextRead
+pub mod TextRule

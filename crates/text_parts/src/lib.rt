@@ -1,6 +1,15 @@
-//! What the texts of the program are made of: bytes, numbers, node names and hops, put at the end of a text.
+//! Texts, both ways: what the texts of the program are made of, put at the end of a text, and texts that are read line by
+//! line.
 #![tactic(auto)]
 
+mod line;
+mod line_error;
 mod parts;
+mod reading;
+mod text_law;
 
+pub use line::{Line, line_of, put, put_address, put_number};
+pub use line_error::LineError;
 pub use parts::{push, push_count, push_hop, push_node, push_number};
+pub use reading::{TakesLines, text_of};
+pub use text_law::lines_are_a_text_or_have_a_fault;
