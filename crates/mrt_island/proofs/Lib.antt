@@ -6,7 +6,6 @@ pub mod Fitting
 pub mod Flagging
 pub mod GraphOfIsland
 pub mod Joined
-pub mod LinesRead
 pub mod LinkNumbers
 pub mod LinkParts
 pub mod OneIsland

@@ -1,17 +1,19 @@
 //! A whole profile file.
 
-ghost use Rattle.std.specs.Prelude.{◌≡◌, ◌≤◌, ◌<◌, ◌++◌, ◌^◌, ℕ, None, Some, Ok, Err, IfOk, OnOk, length};
-ghost use Rattle.std.specs.Option.{option_to_list};
+ghost use Rattle.std.specs.Prelude.{◌≡◌, ◌≤◌, ℕ, Ok, Err, IfOk, List, length};
+ghost use Rattle.std.specs.Result.{result_map_both};
 ghost use Rattle.mrt_graph.specs.TextLines.{text_lines};
 ghost use Rattle.mrt_island.specs.declared.profile_error.ProfileKind.{ProfileKind};
-ghost use Rattle.mrt_island.specs.ProfileFaults.{AreFaultless, IsFirstFault, OrNoMemory, ReadsLines, TellsFault, fault_behind, setting_of, settings_of};
+ghost use Rattle.mrt_island.specs.declared.setting.Setting.{Setting};
+ghost use Rattle.mrt_island.specs.ProfileFaults.{AreSettings, IsFirstFault, OrNoMemory, error_of};
 
 use crate::profile::Profile;
 use crate::profile_error::{ProfileError, ProfileKind};
 use crate::profile_line::read_setting;
 use file_key::FileKey;
-use mrt_graph::{NoMemory, first_line, is_passed_over};
+use mrt_graph::NoMemory;
 use std::alloc::Global;
+use text_parts::{LineError, TakesLines, text_of};
 
 /// The profile of a file. There are at most 33,554,432 bytes; no bytes are a profile without settings.
 ///
@@ -31,51 +33,51 @@ use std::alloc::Global;
 pub fn read_profile(alloc: Global, bytes: &[u8]) -> Result<Profile, ProfileError>
     requires { length bytes.now ≤ 33554432 }
     // What is read is what the lines say, none of which has a fault.
-    ensures found { IfOk result (λ profile. AreFaultless (text_lines bytes.now) × (profile ≡ settings_of (text_lines bytes.now))) }
+    ensures found { IfOk result (AreSettings (text_lines bytes.now)) }
     // Where no line has a fault, it is read.
-    ensures only { AreFaultless (text_lines bytes.now) → OrNoMemory result (Ok (settings_of (text_lines bytes.now))) }
+    ensures only { (settings : List Setting) → AreSettings (text_lines bytes.now) settings → OrNoMemory result (Ok settings) }
     // A fault is the first one, and the first one is told.
     ensures fault { (line : ℕ) (kind : ProfileKind) → result ≡ Err (ProfileError.Fault line kind) → IsFirstFault (text_lines bytes.now) line kind }
     ensures faulty { (line : ℕ) (kind : ProfileKind) → IsFirstFault (text_lines bytes.now) line kind → OrNoMemory result (Err (ProfileError.Fault line kind)) }
 {
-    read_lines(alloc, bytes)
+    told(text_of(bytes, Profile::keyed(alloc, FileKey::of(bytes))))
 }
 
-/// The profile with its one exact answer, from which the clauses of [`read_profile`] follow.
-fn read_lines(alloc: Global, bytes: &[u8]) -> Result<Profile, ProfileError>
-    requires { length bytes.now ≤ 33554432 }
-    ensures { ReadsLines (text_lines bytes.now) result }
+/// What was read, with the error of profiles.
+fn told(read: Result<Profile, LineError<ProfileKind>>) -> Result<Profile, ProfileError>
+    ensures { result ≡ result_map_both (λ profile. profile) error_of read }
 {
-    let mut profile = Profile::keyed(alloc, FileKey::of(bytes));
-    let mut rest = bytes;
-    let mut number = 0;
-    while let Some((line, behind)) = first_line(rest) {
-        number += 1;
-        take_line(&mut profile, number, line)?;
-        rest = behind;
+    match read {
+        Ok(profile) => Ok(profile),
+        Err(LineError::Fault { line, fault }) => Err(ProfileError::Fault { line, kind: fault }),
+        Err(LineError::NoMemory) => Err(ProfileError::NoMemory),
     }
-    Ok(profile)
 }
 
-/// Takes in the line with this number.
-fn take_line(profile: &mut Profile, number: u32, line: &[u8]) -> Result<(), ProfileError>
-    ensures faultless { OnOk result (fault_behind profile.old line.now ≡ None) }
-    ensures taken { OnOk result (profile.new ≡ profile.old ++ option_to_list (setting_of line.now)) }
-    ensures fault { TellsFault (fault_behind profile.old line.now) number result }
-{
-    if is_passed_over(line) {
-        return Ok(());
+impl TakesLines for Profile {
+    ghost use Rattle.mrt_island.specs.ProfileFaults.{profile_rule};
+
+    type Text = Profile;
+
+    type Fault = ProfileKind;
+
+    ghost rule = { profile_rule };
+
+    fn take(&mut self, line: &[u8]) -> Result<Result<(), ProfileKind>, NoMemory> {
+        match read_setting(line) {
+            Err(kind) => Ok(Err(kind)),
+            Ok(setting) => {
+                let is_new = self.add(setting)?;
+                Ok(if is_new {
+                    Ok(())
+                } else {
+                    Err(ProfileKind::Repeated)
+                })
+            }
+        }
     }
-    let fault = match read_setting(line) {
-        Err(kind) => kind,
-        Ok(setting) => match profile.add(setting) {
-            Err(NoMemory) => return Err(ProfileError::NoMemory),
-            Ok(true) => return Ok(()),
-            Ok(false) => ProfileKind::Repeated,
-        },
-    };
-    Err(ProfileError::Fault {
-        line: number,
-        kind: fault,
-    })
+
+    fn end(self) -> Result<Profile, ProfileKind> {
+        Ok(self)
+    }
 }
