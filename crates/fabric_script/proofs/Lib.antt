@@ -3,7 +3,6 @@ pub mod Entered
 pub mod FewBonds
 pub mod Gathered
 pub mod LeastRoom
-pub mod LinesTaken
 pub mod NamesRead
 pub mod NamesSpelled
 pub mod NotThere

@@ -1,42 +1,41 @@
 -- The lines of a script, taken in one after another.
-use Rattle.std.specs.Prelude.{◌≡◌, ◌+◌, ◌++◌, ℕ, List, [], ◌∷◌, Option, Some, None, Result, Ok, Err, if◌then◌else◌}
-use Rattle.std.specs.Option.{option_map}
-use Rattle.mrt_graph.specs.TextLines.{is_passed_over}
+use Rattle.std.specs.Prelude.{◌++◌, ℕ, List, [], ◌∷◌, Option, Some, None}
+use Rattle.std.specs.Option.{ok_or, option_map}
+use Rattle.text_parts.specs.TextRule.{TextRule}
 use Rattle.fabric_script.specs.declared.event.ScriptEvent.{ScriptEvent}
 use Rattle.fabric_script.specs.declared.line.Start.{Start}
 use Rattle.fabric_script.specs.declared.script.Script.{Script}
-use Rattle.fabric_script.specs.declared.script_error.ScriptError.{ScriptError}
-use Rattle.fabric_script.specs.declared.script_error.ScriptError.TheVariants.{Fault, NoMemory}
 use Rattle.fabric_script.specs.ScriptLines.{event_in, start_in}
 
--- what lines say: their first line, if there was one, and the events after it
+-- what lines say: the first of them, if there was one, and the events after it
 pub record Said : Type 0 where
   pub start : Option Start
   pub events : List ScriptEvent
 
--- lines that say so much
 abbrev pub said : Option Start → List ScriptEvent → Said
 said start events = record { start = start; events = events }
 
--- after one more line that is not passed over
-abbrev pub after_told : List ℕ → Option Start → List ScriptEvent → Option Said
-after_told line None events = option_map (λ start. said (Some start) events) (start_in line)
-after_told line (Some start) events =
-    option_map (λ event. said (Some start) (events ++ event ∷ [])) (event_in line)
+abbrev pub nothing_said : Said
+nothing_said = said None []
 
--- after one more line; none where it is not as it should be
-abbrev pub after_line : List ℕ → Option Start → List ScriptEvent → Option Said
-after_line line start events =
-    if is_passed_over line then Some (said start events) else after_told line start events
+-- what is said after one more line: the first one says the router and the room, and each later one an event
+abbrev pub after_told : Option Start → List ScriptEvent → List ℕ → Option Said
+after_told None events line = option_map (λ start. said (Some start) events) (start_in line)
+after_told (Some start) events line = option_map (λ event. said (Some start) (events ++ event ∷ [])) (event_in line)
 
--- taking in the line with this number fails where it is not as it should be, or for want of memory
-abbrev pub IsRefused : Option Said → ℕ → Result (Unit {0}) ScriptError → Type 0
-IsRefused after number (Ok done) = Unit {0}
-IsRefused after number (Err (Fault line)) = (line ≡ number) × (after ≡ None)
-IsRefused after number (Err NoMemory) = Unit {0}
+-- the script that ends there; there is none without a first line
+abbrev pub script_of : Option Start → List ScriptEvent → Option Script
+script_of None events = None
+script_of (Some start) events = Some (record { router = start.router; room = start.room; events = events })
 
--- what reading comes to at the end, after so many lines: a script, or where there was no first line a fault after them all
-abbrev pub ScriptOf : Option Start → List ScriptEvent → ℕ → Result Script ScriptError → Type 0
-ScriptOf None events lines answer = answer ≡ Err (Fault (lines + 1))
-ScriptOf (Some start) events lines answer =
-    answer ≡ Ok (record { router = start.router; room = start.room; events = events })
+-- what is wrong with a line, or with a text that ends: there is no more to tell
+abbrev pub wrong : Unit {0}
+wrong = tt
+
+-- how a script is read
+abbrev pub script_rule : TextRule Said Script (Unit {0})
+script_rule = record {
+  start = nothing_said;
+  after = λ so_far line. ok_or (after_told so_far.start so_far.events line) wrong;
+  ends = λ so_far. ok_or (script_of so_far.start so_far.events) wrong;
+}

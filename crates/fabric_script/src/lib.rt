@@ -15,6 +15,7 @@ mod script;
 mod script_error;
 mod script_law;
 mod stepping;
+mod taking;
 mod telling;
 mod trace;
 

@@ -1,17 +1,16 @@
 //! A whole script file.
 
-ghost use Rattle.std.specs.Prelude.{◌≡◌, ◌≤◌, ◌+◌, ◌<◌, ◌^◌, ℕ, Ok, Err, IfOk, OnOk, Some, length};
+ghost use Rattle.std.specs.Prelude.{◌≡◌, ◌≤◌, ℕ, Ok, Err, IfOk, length};
+ghost use Rattle.std.specs.Result.{result_map_both};
 ghost use Rattle.mrt_graph.specs.TextLines.{text_lines};
 ghost use Rattle.fabric_script.specs.declared.script.Script.{Script};
-ghost use Rattle.fabric_script.specs.ScriptFaults.{IsFirstFault, IsScript, OrNoMemory, ReadsLines};
-ghost use Rattle.fabric_script.specs.Taking.{IsRefused, ScriptOf, after_line, said};
+ghost use Rattle.fabric_script.specs.ScriptFaults.{IsFirstFault, IsScript, OrNoMemory, error_of};
 
-use crate::event::ScriptEvent;
-use crate::line::{Start, read_event, read_start};
 use crate::script::Script;
 use crate::script_error::ScriptError;
-use mrt_graph::{Seq, first_line, is_passed_over};
+use crate::taking::Taken;
 use std::alloc::Global;
+use text_parts::{LineError, text_of};
 
 /// The script of a file. There are at most 33,554,432 bytes.
 ///
@@ -39,65 +38,16 @@ pub fn read_script(alloc: Global, bytes: &[u8]) -> Result<Script, ScriptError>
     ensures fault { (line : ℕ) → result ≡ Err (ScriptError.Fault line) → IsFirstFault (text_lines bytes.now) line }
     ensures faulty { (line : ℕ) → IsFirstFault (text_lines bytes.now) line → OrNoMemory result (Err (ScriptError.Fault line)) }
 {
-    read_lines(alloc, bytes)
+    told(text_of(bytes, Taken::none(alloc)))
 }
 
-/// The script with its one exact answer, from which the clauses of [`read_script`] follow.
-#[inline(never)]
-fn read_lines(alloc: Global, bytes: &[u8]) -> Result<Script, ScriptError>
-    requires { length bytes.now ≤ 33554432 }
-    ensures { ReadsLines (text_lines bytes.now) result }
+/// What was read, with the error of scripts.
+fn told(read: Result<Script, LineError<()>>) -> Result<Script, ScriptError>
+    ensures { result ≡ result_map_both (λ script. script) error_of read }
 {
-    let mut start = None;
-    let mut events = Vec::new(alloc);
-    let mut rest = bytes;
-    let mut number = 0;
-    while let Some((line, behind)) = first_line(rest) {
-        number += 1;
-        take_line(line, number, &mut start, &mut events)?;
-        rest = behind;
+    match read {
+        Ok(script) => Ok(script),
+        Err(LineError::Fault { line, .. }) => Err(ScriptError::Fault { line }),
+        Err(LineError::NoMemory) => Err(ScriptError::NoMemory),
     }
-    script_of(start, events, number)
-}
-
-/// The script of a first line, if there was one, and of the events after it, after so many lines.
-fn script_of(
-    start: Option<Start>,
-    events: Vec<ScriptEvent>,
-    lines: u32,
-) -> Result<Script, ScriptError>
-    requires { lines < 2 ^ 31 }
-    ensures { ScriptOf start events.items lines result }
-{
-    let Some(start) = start else {
-        return Err(ScriptError::Fault { line: lines + 1 });
-    };
-    Ok(Script {
-        router: start.router,
-        room: start.room,
-        events: Seq::from_vec(events),
-    })
-}
-
-/// Takes in the line with this number.
-fn take_line(
-    line: &[u8],
-    number: u32,
-    start: &mut Option<Start>,
-    events: &mut Vec<ScriptEvent>,
-) -> Result<(), ScriptError>
-    ensures taken { OnOk result (after_line line.now start.old events.old.items
-        ≡ Some (said start.new events.new.items)) }
-    ensures refused { IsRefused (after_line line.now start.old events.old.items) number result }
-{
-    if is_passed_over(line) {
-        return Ok(());
-    }
-    let fault = ScriptError::Fault { line: number };
-    if start.is_none() {
-        *start = Some(read_start(line).ok_or(fault)?);
-        return Ok(());
-    }
-    events.push(read_event(line).ok_or(fault)?)?;
-    Ok(())
 }
