@@ -1,4 +1,4 @@
-pub mod LinesTaken
+pub mod MayRun
 pub mod TextsTold
 pub mod ComparedInState
 pub mod OneText

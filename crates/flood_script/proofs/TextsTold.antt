@@ -14,7 +14,8 @@ use Rattle.flood_core.specs.Receiving.{after_all, topology}
 use Rattle.flood_script.specs.declared.script.FloodLine.{FloodLine}
 use Rattle.flood_script.specs.declared.script.FloodLine.TheVariants.{Deliver, Same}
 use Rattle.flood_script.specs.declared.verdict.Verdict.{Verdict}
-use Rattle.flood_script.specs.FloodScripts.{IsAmong, deliveries_in}
+use Rattle.flood_script.specs.Deliveries.{deliveries_in}
+use Rattle.flood_script.specs.FloodScripts.{IsAmong}
 use Rattle.flood_script.specs.FloodTexts.{IsFloodText, IsLineText, after_line}
 
 pub drop_next : {X : Type 0} (xs : List X) (i : ℕ) (d : X) → i < length xs

@@ -1,3 +1,4 @@
+pub mod Deliveries
 pub mod FloodLines
 pub mod FloodScripts
 pub mod Taking

@@ -8,6 +8,7 @@ mod lines;
 mod reading;
 mod script;
 mod script_law;
+mod taking;
 mod telling;
 mod text_law;
 mod verdict;

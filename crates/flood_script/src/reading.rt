@@ -1,21 +1,18 @@
 //! A whole script file.
 
-ghost use Rattle.std.specs.Prelude.{◌≡◌, ◌≤◌, ◌<◌, ◌^◌, ◌+◌, ◌++◌, ◌∷◌, [], ℕ, Ok, Err, IfOk, OnOk, Some, List, length};
+ghost use Rattle.std.specs.Prelude.{◌≡◌, ◌≤◌, ℕ, Ok, Err, IfOk, length};
 ghost use Rattle.std.specs.List.{AllByRecursion};
+ghost use Rattle.std.specs.Result.{result_map_both};
 ghost use Rattle.mrt_graph.specs.TextLines.{text_lines};
-ghost use Rattle.flood_script.specs.declared.script.FloodLine.{FloodLine};
 ghost use Rattle.flood_script.specs.declared.script.FloodScript.{FloodScript};
-ghost use Rattle.flood_script.specs.FloodScripts.{IsAmong, IsFirstFault, IsScript, OrNoMemory, ReadsLines, deliveries_in};
-ghost use Rattle.flood_script.specs.Taking.{IsRefused, ScriptOf, after_line, after_more, may_follow, said};
+ghost use Rattle.flood_script.specs.Deliveries.{deliveries_in};
+ghost use Rattle.flood_script.specs.FloodScripts.{IsAmong, IsFirstFault, IsScript, OrNoMemory, error_of};
 
 use crate::error::FloodScriptError;
-use crate::line::{read_line, read_routers};
-use crate::script::{FloodLine, FloodScript};
-use mrt_graph::{Seq, first_line, is_passed_over};
+use crate::script::FloodScript;
+use crate::taking::Taken;
 use std::alloc::Global;
-
-/// How many deliveries a script may have.
-const DELIVERIES: u32 = 65_535;
+use text_parts::{LineError, text_of};
 
 /// The script of a file. There are at most 33,554,432 bytes.
 ///
@@ -48,95 +45,16 @@ pub fn read_flood_script(alloc: Global, bytes: &[u8]) -> Result<FloodScript, Flo
     ensures few { IfOk result (λ script. deliveries_in script.lines ≤ 65535) }
     ensures among { IfOk result (λ script. AllByRecursion (IsAmong script.routers) script.lines) }
 {
-    read_lines(alloc, bytes)
+    told(text_of(bytes, Taken::none(alloc)))
 }
 
-/// The script with its one exact answer, from which the clauses of [`read_flood_script`] follow.
-#[inline(never)]
-fn read_lines(alloc: Global, bytes: &[u8]) -> Result<FloodScript, FloodScriptError>
-    requires { length bytes.now ≤ 33554432 }
-    ensures { ReadsLines (text_lines bytes.now) result }
+/// What was read, with the error of scripts of deliveries.
+fn told(read: Result<FloodScript, LineError<()>>) -> Result<FloodScript, FloodScriptError>
+    ensures { result ≡ result_map_both (λ script. script) error_of read }
 {
-    let mut routers = None;
-    let mut lines = Vec::new(alloc);
-    let mut deliveries = 0;
-    let mut rest = bytes;
-    let mut number = 0;
-    while let Some((line, behind)) = first_line(rest) {
-        number += 1;
-        deliveries = take_line(line, number, &mut routers, &mut lines, deliveries)?;
-        rest = behind;
-    }
-    script_of(routers, lines, number)
-}
-
-/// The script of so many routers, if a line said so, and of the lines after it, after so many lines in all.
-fn script_of(
-    routers: Option<u16>,
-    lines: Vec<FloodLine>,
-    count: u32,
-) -> Result<FloodScript, FloodScriptError>
-    requires { count < 2 ^ 31 }
-    ensures { ScriptOf routers lines.items count result }
-{
-    let Some(routers) = routers else {
-        return Err(FloodScriptError::Fault { line: count + 1 });
-    };
-    Ok(FloodScript {
-        routers,
-        lines: Seq::from_vec(lines),
-    })
-}
-
-/// Takes in the line with this number, after lines with so many deliveries, and counts these.
-fn take_line(
-    line: &[u8],
-    number: u32,
-    routers: &mut Option<u16>,
-    lines: &mut Vec<FloodLine>,
-    deliveries: u32,
-) -> Result<u32, FloodScriptError>
-    requires counted { deliveries ≡ deliveries_in lines.old.items }
-    requires few { deliveries ≤ 65535 }
-    ensures taken { OnOk result (after_line line.now routers.old lines.old.items
-        ≡ Some (said routers.new lines.new.items)) }
-    ensures refused { IsRefused (after_line line.now routers.old lines.old.items) number result }
-    ensures counted { IfOk result (λ deliveries. deliveries ≡ deliveries_in lines.new.items) }
-{
-    if is_passed_over(line) {
-        return Ok(deliveries);
-    }
-    let fault = FloodScriptError::Fault { line: number };
-    let Some(count) = *routers else {
-        *routers = Some(read_routers(line).ok_or(fault)?);
-        return Ok(deliveries);
-    };
-    let told = read_line(line).ok_or(fault)?;
-    if !may_follow(count, deliveries, told) {
-        return Err(fault);
-    }
-    lines.push(told)?;
-    Ok(counted(deliveries, told))
-}
-
-/// Whether a line may follow others with so many deliveries, where there are so many routers.
-fn may_follow(count: u16, deliveries: u32, line: FloodLine) -> bool
-    ensures { (lines : List FloodLine) → deliveries ≡ deliveries_in lines → result ≡ may_follow count lines line }
-{
-    match line {
-        FloodLine::Deliver { .. } => deliveries < DELIVERIES,
-        FloodLine::Same { one, other, .. } => one < count && other < count,
-    }
-}
-
-/// So many deliveries, and the line if it is one.
-fn counted(deliveries: u32, line: FloodLine) -> u32
-    requires { deliveries ≤ 65535 }
-    ensures { (lines : List FloodLine) → deliveries ≡ deliveries_in lines
-        → result ≡ deliveries_in (lines ++ line ∷ []) }
-{
-    match line {
-        FloodLine::Deliver { .. } => deliveries + 1,
-        FloodLine::Same { .. } => deliveries,
+    match read {
+        Ok(script) => Ok(script),
+        Err(LineError::Fault { line, .. }) => Err(FloodScriptError::Fault { line }),
+        Err(LineError::NoMemory) => Err(FloodScriptError::NoMemory),
     }
 }
