@@ -1,7 +1,7 @@
 -- What the bytes of each file hold, they hold in one way, or they have one first fault, and never both.
-use Rattle.std.proofs.Common.{◌≡◌, ◌∙◌, ◌<◌, ◌≤◌, ◌⊎◌, ◌-◌, ◌+◌, ℕ, Bool, true, false, List, [], ◌∷◌, Option, Some, None, refl, sym, ap, subst, inl, inr, arith}
+use Rattle.std.proofs.Common.{◌≡◌, ◌∙◌, ◌≤◌, ◌+◌, ℕ, Bool, true, false, List, [], ◌∷◌, Option, Some, None, refl, sym, ap, subst, arith}
 use Rattle.std.specs.Option.{option_map_or}
-use Rattle.std.proofs.lemmas.Bool.{cases_lt}
+use Rattle.text_parts.proofs.LinesTaken.{never_both as never_both_by, one_fault as one_fault_by, one_text as one_text_by}
 use Rattle.cert_format.specs.CertText.{cert_text}
 use Rattle.cert_format.specs.FirstFault.{first_fault}
 use Rattle.cert_format.specs.Limits.{IsCertFile}
@@ -16,7 +16,7 @@ use Rattle.lsdb.specs.Orders.{newest_in}
 use Rattle.lsdb.specs.declared.change.Conflict.{Conflict as Clash}
 use Rattle.mrt_graph.specs.declared.cert.CertFile.{CertFile}
 use Rattle.mrt_graph.specs.TextLines.{text_lines}
-use Rattle.mrt_island.specs.ProfileFaults.{IsFirstFault as IsFirstLineFault, fault_at}
+use Rattle.mrt_island.specs.ProfileFaults.{IsFirstFault as IsFirstLineFault, profile_rule}
 use Rattle.mrt_island.specs.declared.profile_error.ProfileKind.{ProfileKind}
 use Rattle.mrt_island.specs.declared.setting.Setting.{Setting}
 use Rattle.ospf_lsa.specs.LsaText.{lsa_length, lsas_text}
@@ -119,38 +119,16 @@ module _ (laws : DatabaseLaws) where
 
 pub no_bad_profile : (bytes : List ℕ) (settings : List Setting) (line : ℕ) (kind : ProfileKind)
     → IsProfile bytes settings → IsFirstLineFault (text_lines bytes) line kind → ⊥
-no_bad_profile bytes settings line kind one bad =
-    let none = one.faultless (line - 1) in
-    let some = bad.fault in
-    absurd cc
+no_bad_profile bytes = never_both_by profile_rule (text_lines bytes)
 
 pub one_profile : (bytes : List ℕ) (settings others : List Setting) → IsProfile bytes settings
     → IsProfile bytes others → settings ≡ others
-one_profile bytes settings others one other = one.said ∙ sym other.said
-
-before_first : (lines : List (List ℕ)) (line number : ℕ) (kind other : ProfileKind)
-    → IsFirstLineFault lines line kind → IsFirstLineFault lines number other → line - 1 < number - 1 → ⊥
-before_first lines line number kind other one two before =
-    let none = two.first (line - 1) before in
-    let some = one.fault in
-    absurd cc
+one_profile bytes = one_text_by profile_rule (text_lines bytes)
 
 pub one_bad_profile : (lines : List (List ℕ)) (line number : ℕ) (kind other : ProfileKind)
     → IsFirstLineFault lines line kind → IsFirstLineFault lines number other
     → (line ≡ number) × (kind ≡ other)
-one_bad_profile lines line number kind other one two = go (cases_lt (line - 1) (number - 1))
-    (cases_lt (number - 1) (line - 1))
-  where
-    go : (line - 1 < number - 1) ⊎ (number - 1 ≤ line - 1) → (number - 1 < line - 1) ⊎ (line - 1 ≤ number - 1)
-        → (line ≡ number) × (kind ≡ other)
-    go (inl before) after = absurd (before_first lines line number kind other one two before)
-    go (inr le) (inl after) = absurd (before_first lines number line other kind two one after)
-    go (inr le) (inr ge) =
-        let same : line ≡ number = omega (arith, le, ge, one.counted, two.counted) in (
-          same,
-          held_once kind other (fault_at lines (number - 1)) (ap (λ (n : ℕ). fault_at lines (n - 1)) (sym same) ∙
-              one.fault) two.fault,
-        )
+one_bad_profile = one_fault_by profile_rule
 
 -- ---- certificates
 

@@ -7,7 +7,7 @@ use Rattle.area_graph.specs.Parts.{AreaParts}
 use Rattle.lsdb.specs.Entries.{Entry}
 use Rattle.mrt_graph.specs.Topology.{Topology}
 use Rattle.mrt_graph.specs.TextLines.{text_lines}
-use Rattle.mrt_island.specs.ProfileFaults.{AreFaultless, settings_of}
+use Rattle.mrt_island.specs.ProfileFaults.{AreSettings}
 use Rattle.mrt_island.specs.IslandOf.{IsIsland}
 use Rattle.mrt_island.specs.Policy.{Policy, policy_of}
 use Rattle.mrt_island.specs.declared.setting.Setting.{Setting}
@@ -15,9 +15,8 @@ use Rattle.ospf_lsa.specs.declared.lsa.Lsa.{Lsa}
 use Rattle.lsdb.specs.Database.{IsDatabase}
 
 -- the bytes are a profile, no line of which has a fault, and this is what its lines say
-pub record IsProfile (bytes : List ℕ) (settings : List Setting) : Type 0 where
-  pub faultless : AreFaultless (text_lines bytes)
-  pub said : settings ≡ settings_of (text_lines bytes)
+abbrev pub IsProfile : List ℕ → List Setting → Type 0
+IsProfile bytes settings = AreSettings (text_lines bytes) settings
 
 -- the newest LSAs, and the settings of the profile
 pub record Input : Type 0 where

@@ -4,7 +4,8 @@ ghost use Rattle.std.specs.Prelude.{◌≤◌, [], IfOk, IfErr, length, vec_len}
 ghost use Rattle.std.specs.List.{AllByRecursion};
 ghost use Rattle.flood_core.specs.Receiving.{MayFlood};
 ghost use Rattle.flood_core.specs.Updates.{AreUpdates};
-ghost use Rattle.flood_script.specs.FloodScripts.{IsAmong, IsScript, deliveries_in};
+ghost use Rattle.flood_script.specs.Deliveries.{deliveries_in};
+ghost use Rattle.flood_script.specs.FloodScripts.{IsAmong, IsScript};
 ghost use Rattle.mrt_graph.specs.TextLines.{text_lines};
 ghost use Rattle.mrt_words.specs.FloodRead.{flood_bytes};
 ghost use Rattle.mrt_answer.specs.Flooded.{GivesFlood};

@@ -22,7 +22,3 @@ returns-in_err-read_profile-clause-none c =
     (HasNoProfile c.args.bytes.now)
     (told c.args.bytes.now c.in_err-read_profile.field-0.0
     (λ line kind is. c.in_err-read_profile.ensures.fault line kind (ap (λ (error : ProfileError). Err error) is)))
-
-pub returns-clause-profile : goal.returns-clause-profile
-returns-clause-profile c =
-    record { faultless = c.in_ok-read_profile.ensures.found.0; said = c.in_ok-read_profile.ensures.found.1 }
