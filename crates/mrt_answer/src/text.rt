@@ -7,8 +7,8 @@ ghost use Rattle.mrt_answer.specs.TextBytes.{IsTextOf};
 
 use cert_format::WritableCert;
 use cert_stream::CertStream;
-use mrt_exit::Line;
 use mrt_io::{PutError, Sink, put_all};
+use text_parts::Line;
 
 /// A line in a fixed array, bytes for which memory was taken, or a certificate whose bytes are still to be made: of one that
 /// was read, or of one whose rows are still to be found.

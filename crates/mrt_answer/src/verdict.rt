@@ -10,9 +10,10 @@ use crate::given::Given;
 use crate::island::island_in;
 use crate::text::Text;
 use cert_checker::{Verdict, check};
-use mrt_exit::{Exit, Line, line_of, push, push_address, push_decimal};
+use mrt_exit::Exit;
 use mrt_graph::{CertFile, Graph, NodeNo, accepted_implies_sound};
 use std::alloc::Global;
+use text_parts::{Line, line_of, put, put_address, put_number};
 
 /// The accepted line, where the certificate is accepted for the island of its root.
 pub(crate) fn verdict(alloc: Global, given: &Given, file: &CertFile) -> Result<Text, Exit>
@@ -43,11 +44,11 @@ fn accepted_line(root: u32, nodes: u16, links: u16) -> Line
     ensures { result.items ≡ line_of_accepted root nodes links }
 {
     let mut line = line_of(b"accepted root ");
-    push_address(&mut line, root);
-    push(&mut line, b" nodes ");
-    push_decimal(&mut line, u64::from(nodes));
-    push(&mut line, b" links ");
-    push_decimal(&mut line, u64::from(links));
-    push(&mut line, b"\n");
+    put_address(&mut line, root);
+    put(&mut line, b" nodes ");
+    put_number(&mut line, u64::from(nodes));
+    put(&mut line, b" links ");
+    put_number(&mut line, u64::from(links));
+    put(&mut line, b"\n");
     line
 }

@@ -8,12 +8,12 @@ ghost use Rattle.mrt_exit.specs.Exits.{
   database_line,
 };
 
-use crate::line::{Line, line_of, push, push_address, push_decimal};
 use crate::words::{words_of_kind, words_of_line, words_of_record, words_of_update, words_of_what};
 use cert_format::CertKind;
 use flood_core::UpdateKind;
 use mrt_island::ProfileKind;
 use ospf_lsa::LsaKind;
+use text_parts::{Line, line_of, put, put_address, put_number};
 
 /// What can be too large.
 #[derive(Clone, Copy, Debug, PartialEq, Eq)]
@@ -157,10 +157,10 @@ fn numbered(text: &[u8], words: &[u8], before: &[u8], number: u64) -> Line
     ensures { result.items ≡ text.now ++ words.now ++ before.now ++ decimal number ++ codes "\n" }
 {
     let mut line = line_of(text);
-    push(&mut line, words);
-    push(&mut line, before);
-    push_decimal(&mut line, number);
-    push(&mut line, b"\n");
+    put(&mut line, words);
+    put(&mut line, before);
+    put_number(&mut line, number);
+    put(&mut line, b"\n");
     line
 }
 
@@ -168,12 +168,12 @@ fn no(rule: u8, a: u16, b: u16) -> Line
     ensures { result.items ≡ codes "mrt: no: rule " ++ decimal rule ++ codes " at " ++ decimal a ++ codes " " ++ decimal b ++ codes "\n" }
 {
     let mut line = line_of(b"mrt: no: rule ");
-    push_decimal(&mut line, u64::from(rule));
-    push(&mut line, b" at ");
-    push_decimal(&mut line, u64::from(a));
-    push(&mut line, b" ");
-    push_decimal(&mut line, u64::from(b));
-    push(&mut line, b"\n");
+    put_number(&mut line, u64::from(rule));
+    put(&mut line, b" at ");
+    put_number(&mut line, u64::from(a));
+    put(&mut line, b" ");
+    put_number(&mut line, u64::from(b));
+    put(&mut line, b"\n");
     line
 }
 
@@ -195,10 +195,10 @@ fn conflict(at: u32, first: u32) -> Line
     ensures { result.items ≡ codes "mrt: bad database: conflict at " ++ decimal at ++ codes " with " ++ decimal first ++ codes "\n" }
 {
     let mut line = line_of(b"mrt: bad database: conflict at ");
-    push_decimal(&mut line, u64::from(at));
-    push(&mut line, b" with ");
-    push_decimal(&mut line, u64::from(first));
-    push(&mut line, b"\n");
+    put_number(&mut line, u64::from(at));
+    put(&mut line, b" with ");
+    put_number(&mut line, u64::from(first));
+    put(&mut line, b"\n");
     line
 }
 
@@ -206,7 +206,7 @@ fn not_there(number: u32) -> Line
     ensures { result.items ≡ codes "mrt: not there: " ++ address_text number ++ codes "\n" }
 {
     let mut line = line_of(b"mrt: not there: ");
-    push_address(&mut line, number);
-    push(&mut line, b"\n");
+    put_address(&mut line, number);
+    put(&mut line, b"\n");
     line
 }

@@ -3,10 +3,8 @@
 
 mod exit;
 mod fault;
-mod line;
 mod telling;
 mod words;
 
 pub use exit::{DbKind, Exit, What};
-pub use line::{Line, line_of, push, push_address, push_decimal};
 pub use telling::tell;
