@@ -21,6 +21,7 @@ use arrayvec::ArrayVec;
 use itoa::Buffer;
 use mrt_graph::{Color, NoMemory, NodeId, push_node_text};
 use std::alloc::Global;
+use text_parts::put;
 
 /// The line that tells an answer. An area node in the answer is in range.
 pub fn outcome_line(
@@ -88,15 +89,6 @@ fn put_outcome(line: &mut ArrayVec<u8, 32>, area: &Area, outcome: Outcome)
         Outcome::Lost(loss) => put_words(line, b"lost ", loss_word(loss)),
         Outcome::Failed => put(line, b"failed"),
     }
-}
-
-/// Puts bytes after a line.
-fn put(line: &mut ArrayVec<u8, 32>, part: &[u8])
-    requires { array_vec_len line.old + length part.now ≤ 32 }
-    ensures value { line.new.items ≡ line.old.items ++ part.now }
-    ensures len { array_vec_len line.new ≡ array_vec_len line.old + length part.now }
-{
-    line.try_extend_from_slice(part).unwrap();
 }
 
 /// Puts two parts into an empty line.
