@@ -23,6 +23,7 @@ pub mod InOrder
 pub mod InterfaceOrder
 pub mod Leads
 pub mod NewGraph
+pub mod NodeIds
 pub mod NodeOrder
 pub mod Places
 pub mod Reachable

@@ -6,6 +6,7 @@ ghost use Rattle.mrt_graph.specs.EndsOfLinks.{pair_of};
 use crate::cert::{Cert, Color};
 use crate::graph_ends::{EndList, end_lists};
 use crate::graph_error::GraphError;
+use crate::id_places::place_of;
 use crate::link::{End, Link, LinkIn};
 use crate::no_memory::NoMemory;
 use crate::node_id::NodeId;
@@ -145,12 +146,12 @@ impl Graph {
 
     /// The node of this identifier, if there is one.
     ///
-    /// It looks at the identifiers one after another, so it takes time in proportion to the nodes.
+    /// It is a binary search among the nodes.
     pub fn find(&self, id: NodeId) -> Option<NodeNo>
         ensures found { IfSome result (λ n. slice_get self.now.ids n ≡ Some id) }
         ensures none { IsNone result ↔ (Contains self.now.ids id → ⊥) }
     {
-        let place = self.ids.iter().position(|other| *other == id)?;
+        let place = place_of(&self.ids, id)?;
         Some(NodeNo::new(place as u16))
     }
 

@@ -22,6 +22,31 @@ pub struct NodeId {
     pub number: u32,
 }
 
+impl NodeId {
+    ghost use Rattle.std.specs.Prelude.{◌≡◌};
+    ghost use Rattle.mrt_graph.specs.NodeIds.{network, router};
+
+    /// What names the router of this ID.
+    pub fn router(number: u32) -> NodeId
+        ensures { result ≡ router number }
+    {
+        NodeId {
+            kind: Kind::Router,
+            number,
+        }
+    }
+
+    /// What names the network of this designated router's interface address.
+    pub fn network(number: u32) -> NodeId
+        ensures { result ≡ network number }
+    {
+        NodeId {
+            kind: Kind::Network,
+            number,
+        }
+    }
+}
+
 impl Ord for NodeId {
     ghost use Rattle.mrt_graph.specs.NodeOrder.{node_id_cmp};
 
