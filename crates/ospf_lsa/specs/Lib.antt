@@ -1,3 +1,4 @@
+pub mod AreaLsas
 pub mod Checksum
 pub mod Faults
 pub mod Header

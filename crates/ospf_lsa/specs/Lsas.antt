@@ -9,11 +9,11 @@ use Rattle.ospf_lsa.specs.declared.lsa.Body.TheVariants.{Router, Network, Other}
 use Rattle.ospf_lsa.specs.declared.lsa.Lsa.{Lsa}
 use Rattle.ospf_lsa.specs.Checksum.{is_good}
 use Rattle.ospf_lsa.specs.LsaText.{lsa_length, covered_text}
-use Rattle.ospf_lsa.specs.Types.{router_lsa, network_lsa}
+use Rattle.ospf_lsa.specs.Types.{network_lsa, point_to_point, router_lsa, transit}
 
 -- a link to a router (type 1) or to a transit network (type 2) with metric 0
 abbrev pub has_zero_metric : RouterLink → Bool
-has_zero_metric link = (link.metric == 0) && ((link.kind == 1) || (link.kind == 2))
+has_zero_metric link = (link.metric == 0) && ((link.kind == point_to_point) || (link.kind == transit))
 
 -- a number of 32 bits
 abbrev pub Is32Bits : ℕ → Type 0

@@ -9,6 +9,13 @@ router_lsa = 1
 abbrev pub network_lsa : ℕ
 network_lsa = 2
 
+-- the type of a link to another router, and of one to a transit network (RFC 2328, section A.4.2)
+abbrev pub point_to_point : ℕ
+point_to_point = 1
+
+abbrev pub transit : ℕ
+transit = 2
+
 -- MaxAge, in seconds (RFC 2328, appendix B)
 abbrev pub max_age : ℕ
 max_age = 3600

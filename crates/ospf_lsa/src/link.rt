@@ -7,7 +7,7 @@ ghost use Rattle.ospf_lsa.specs.Reading.{first_link, link_length, links_in};
 ghost use Rattle.ospf_lsa.specs.Lsas.{has_zero_metric};
 
 use crate::field::{add_numbers, after, number_8, number_16, number_32};
-use crate::lsa::RouterLink;
+use crate::lsa::{POINT_TO_POINT, RouterLink, TRANSIT};
 use std::alloc::{AllocError, Global};
 
 /// How many bytes a link has without its TOS entries.
@@ -77,5 +77,5 @@ pub fn any_zero_metric(links: &[RouterLink]) -> bool
 fn is_zero_metric(link: &RouterLink) -> bool
     ensures { result ≡ has_zero_metric link.now }
 {
-    link.metric == 0 && (link.kind == 1 || link.kind == 2)
+    link.metric == 0 && (link.kind == POINT_TO_POINT || link.kind == TRANSIT)
 }

@@ -1,6 +1,7 @@
 //! Link state advertisements (RFC 2328, section A.4).
 
 ghost use Rattle.std.specs.Prelude.{◌≡◌};
+ghost use Rattle.ospf_lsa.specs.AreaLsas.{is_topology};
 ghost use Rattle.ospf_lsa.specs.MaxAge.{is_at_max_age};
 
 use mrt_graph::Seq;
@@ -10,6 +11,12 @@ pub const ROUTER_LSA: u8 = 1;
 
 /// The LS type of a network-LSA (RFC 2328, section A.4.1).
 pub const NETWORK_LSA: u8 = 2;
+
+/// The type of a link to another router (RFC 2328, section A.4.2).
+pub const POINT_TO_POINT: u8 = 1;
+
+/// The type of a link to a transit network (RFC 2328, section A.4.2).
+pub const TRANSIT: u8 = 2;
 
 /// MaxAge, in seconds (RFC 2328, appendix B).
 const MAX_AGE: u16 = 3600;
@@ -82,5 +89,12 @@ impl Lsa {
         ensures { result ≡ is_at_max_age self.now }
     {
         MAX_AGE <= self.age % SECONDS
+    }
+
+    /// Whether it is a router-LSA or a network-LSA, of which an area is made.
+    pub fn is_topology(&self) -> bool
+        ensures { result ≡ is_topology self.now }
+    {
+        self.kind == ROUTER_LSA || self.kind == NETWORK_LSA
     }
 }
