@@ -1,7 +1,8 @@
 -- What the bytes of a database hold.
-use Rattle.std.specs.Prelude.{◌≡◌, ◌||◌, ◌==◌, ℕ, Bool, List}
+use Rattle.std.specs.Prelude.{◌≡◌, ℕ, List}
 use Rattle.std.specs.List.{filter}
 use Rattle.ospf_lsa.specs.declared.lsa.Lsa.{Lsa}
+use Rattle.ospf_lsa.specs.AreaLsas.{is_topology}
 use Rattle.ospf_lsa.specs.LsaText.{lsas_text}
 use Rattle.ospf_lsa.specs.Lsas.{AreLsas}
 use Rattle.lsdb.specs.Newest.{IsSettled}
@@ -12,13 +13,9 @@ pub record HoldsLsas (bytes : List ℕ) (lsas : List Lsa) : Type 0 where
   pub each : AreLsas 0 lsas
   pub spelled : bytes ≡ lsas_text lsas
 
--- whether an LSA enters the database: router-LSAs (type 1) and network-LSAs (type 2) do
-abbrev pub enters : Lsa → Bool
-enters lsa = (lsa.kind == 1) || (lsa.kind == 2)
-
--- the LSAs that enter the database
+-- the LSAs that enter the database: router-LSAs (type 1) and network-LSAs (type 2)
 abbrev pub entering : List Lsa → List Lsa
-entering lsas = filter enters lsas
+entering lsas = filter is_topology lsas
 
 -- the bytes are LSAs, of those that enter the database no two newest instances contradict each other, and these are the newest ones
 pub record IsDatabase (bytes : List ℕ) (newest : List Lsa) : Type 0 where

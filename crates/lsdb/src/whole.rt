@@ -3,7 +3,7 @@
 ghost use Rattle.std.specs.Prelude.{◌≡◌, IfOk};
 ghost use Rattle.ospf_lsa.specs.declared.lsa.Lsa.{Lsa};
 ghost use Rattle.ospf_lsa.specs.Lsas.{AreLsas};
-ghost use Rattle.lsdb.specs.Database.{entering, enters};
+ghost use Rattle.lsdb.specs.Database.{entering};
 ghost use Rattle.lsdb.specs.Entries.{entries_in};
 
 use crate::laws::{an_lsa_without_a_fault_may_be_installed, entries_are_those_of_the_list};
@@ -12,7 +12,7 @@ use crate::meet::install_at;
 use file_key::FileKey;
 use indexmap::IndexSet;
 use mrt_graph::NoMemory;
-use ospf_lsa::{Lsa, NETWORK_LSA, ROUTER_LSA};
+use ospf_lsa::Lsa;
 use std::alloc::Global;
 
 /// The database of the LSAs that a reader gave of a file: the router-LSAs and network-LSAs among them, installed one after
@@ -31,18 +31,11 @@ pub fn database_of(alloc: Global, file: FileKey, lsas: Vec<Lsa>) -> Result<Lsdb,
     let mut differing = Vec::new(alloc);
     let mut greatest = None;
     for place in 0..list.len() {
-        if !enters(&list[place]) {
+        if !list[place].is_topology() {
             continue;
         }
         greatest = Some(list[place].at);
         install_at(&mut keys, &mut list, &mut differing, place)?;
     }
     Ok(Lsdb::at_front(keys, list, differing, greatest))
-}
-
-/// Whether an LSA is one that enters the database.
-fn enters(lsa: &Lsa) -> bool
-    ensures { result ≡ enters lsa.now }
-{
-    lsa.kind == ROUTER_LSA || lsa.kind == NETWORK_LSA
 }
