@@ -16,7 +16,8 @@ use Rattle.flood_core.specs.Routers.{Router}
 use Rattle.flood_core.specs.declared.update.Update.{Update}
 use Rattle.flood_core.specs.FloodState.{FloodState, started}
 use Rattle.flood_core.specs.FloodStep.{answer_of, delivered, reached, sent_on}
-use Rattle.flood_core.specs.Receiving.{after_all, is_topology, news, topology, MayFlood}
+use Rattle.ospf_lsa.specs.AreaLsas.{is_topology}
+use Rattle.flood_core.specs.Receiving.{after_all, news, topology, MayFlood}
 use Rattle.flood_core.specs.Runs.{Delivery, after_deliveries, after_delivery, brought, brought_by, lsas_at, lsas_of, sent, sent_after, sent_in, WasDelivered}
 use Rattle.flood_core.proofs.Covered.{has_left, has_right, has_either}
 use Rattle.flood_core.proofs.InTurn.{after_append, news_append}

@@ -5,7 +5,8 @@ use Rattle.std.proofs.lemmas.List.{append-nil}
 use Rattle.ospf_lsa.specs.declared.lsa.Lsa.{Lsa}
 use Rattle.lsdb.specs.Installing.{IsBehind, IsKept}
 use Rattle.flood_core.specs.Routers.{Router}
-use Rattle.flood_core.specs.Receiving.{after_all, after_one, is_news, is_topology, news, topology}
+use Rattle.ospf_lsa.specs.AreaLsas.{is_topology}
+use Rattle.flood_core.specs.Receiving.{after_all, after_one, is_news, news, topology}
 
 -- ---- lists of LSAs of types 1 and 2
 

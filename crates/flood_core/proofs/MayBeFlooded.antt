@@ -14,7 +14,8 @@ use Rattle.lsdb.specs.Installing.{IsKept}
 use Rattle.lsdb.proofs.Readings.{read_is_kept}
 use Rattle.flood_core.specs.declared.update.Update.{Update}
 use Rattle.flood_core.specs.PacketFields.{length_field}
-use Rattle.flood_core.specs.Receiving.{is_topology, topology, MayFlood}
+use Rattle.ospf_lsa.specs.AreaLsas.{is_topology}
+use Rattle.flood_core.specs.Receiving.{topology, MayFlood}
 use Rattle.flood_core.specs.Updates.{AreUpdates, IsUpdate, placed_from}
 
 -- an LSA has at least 20 bytes

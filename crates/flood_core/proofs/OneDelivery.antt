@@ -13,7 +13,8 @@ use Rattle.flood_core.specs.Routers.{Router}
 use Rattle.flood_core.specs.declared.update.Update.{Update}
 use Rattle.flood_core.specs.FloodState.{FloodState, IsFlood, IsRouter}
 use Rattle.flood_core.specs.FloodStep.{answer_of, delivered, reached, sent_on}
-use Rattle.flood_core.specs.Receiving.{after_all, after_one, is_news, is_topology, news, topology, MayFlood}
+use Rattle.ospf_lsa.specs.AreaLsas.{is_topology}
+use Rattle.flood_core.specs.Receiving.{after_all, after_one, is_news, news, topology, MayFlood}
 
 -- ---- lists
 

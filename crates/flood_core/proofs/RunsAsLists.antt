@@ -24,7 +24,8 @@ use Rattle.flood_core.specs.Routers.{Router}
 use Rattle.flood_core.specs.declared.update.Update.{Update}
 use Rattle.flood_core.specs.Databases.{after_installs, empty_database}
 use Rattle.flood_core.specs.FloodState.{FloodState, database_of, started}
-use Rattle.flood_core.specs.Receiving.{after_all, after_one, is_topology, new_router, news, topology, MayFlood}
+use Rattle.ospf_lsa.specs.AreaLsas.{is_topology}
+use Rattle.flood_core.specs.Receiving.{after_all, after_one, new_router, news, topology, MayFlood}
 use Rattle.flood_core.specs.Runs.{Delivery, after_deliveries, brought, delivered_to, lsas_of, numbered, same_instance, sent, AreNewestOfTheSame, IsFlooded}
 use Rattle.flood_core.proofs.Bringing.{AreAfter, after_run, all_of_file, all_packets, brought_of_file, came, kept_topology, packet_of, router_at_start, sent_found, stays, brought_are_topology}
 use Rattle.flood_core.proofs.Converging.{IsCover, cover_settled, covers_agree, kept_numbered, numbered_has}

@@ -3,17 +3,13 @@
 use Rattle.std.specs.Prelude.{◌≤◌, ◌+◌, ◌||◌, ◌==◌, ℕ, Bool, true, false, List, [], ◌∷◌, length, if◌then◌else◌}
 use Rattle.std.specs.List.{AllByRecursion, filter}
 use Rattle.ospf_lsa.specs.declared.lsa.Lsa.{Lsa}
-use Rattle.ospf_lsa.specs.Types.{router_lsa, network_lsa}
+use Rattle.ospf_lsa.specs.AreaLsas.{is_topology}
 use Rattle.lsdb.specs.declared.change.Change.{Change}
 use Rattle.lsdb.specs.declared.change.Change.TheVariants.{Added, Replaced, Older, Same, Clash}
 use Rattle.lsdb.specs.Installing.{installed, IsKept}
 use Rattle.flood_core.specs.Routers.{Router}
 use Rattle.flood_core.specs.declared.update.Update.{Update}
 use Rattle.flood_core.specs.Databases.{after_install, empty_database}
-
--- whether an LSA is a router-LSA or a network-LSA, of which the area is made
-abbrev pub is_topology : Lsa → Bool
-is_topology lsa = (lsa.kind == router_lsa) || (lsa.kind == network_lsa)
 
 -- the LSAs of types 1 and 2
 abbrev pub topology : List Lsa → List Lsa

@@ -5,13 +5,14 @@ ghost use Rattle.std.specs.List.{AllByRecursion};
 ghost use Rattle.ospf_lsa.specs.declared.lsa.Lsa.{Lsa};
 ghost use Rattle.lsdb.specs.Installing.{IsBehind, IsKept};
 ghost use Rattle.flood_core.specs.Numbers.{lsa_in, lsas_by, router_in, AreNumbers, IsStored};
-ghost use Rattle.flood_core.specs.Receiving.{after_all, after_one, is_news, is_topology, new_router, news, topology};
+ghost use Rattle.ospf_lsa.specs.AreaLsas.{is_topology};
+ghost use Rattle.flood_core.specs.Receiving.{after_all, after_one, is_news, new_router, news, topology};
 
 use crate::store::Store;
 use file_key::FileKey;
 use lsdb::Change;
 use mrt_graph::NoMemory;
-use ospf_lsa::{Lsa, NETWORK_LSA, ROUTER_LSA};
+use ospf_lsa::Lsa;
 use std::alloc::Global;
 
 /// A router's database, and how many LSAs of types 1 and 2 have arrived for it.
@@ -108,6 +109,5 @@ fn is_topology(lsas: &[Lsa], number: u32) -> bool
     requires { number < length lsas.now }
     ensures { result ≡ is_topology (lsa_in lsas.now number) }
 {
-    let lsa = &lsas[number as usize];
-    lsa.kind == ROUTER_LSA || lsa.kind == NETWORK_LSA
+    lsas[number as usize].is_topology()
 }
