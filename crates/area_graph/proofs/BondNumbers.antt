@@ -19,7 +19,7 @@ use Rattle.area_graph.specs.Pairing.{pairs_upto, bonds_upto}
 use Rattle.area_graph.proofs.Apart.{Once}
 use Rattle.area_graph.proofs.OneBond.{from_tells, not_both, of_either, of_itself, of_no_pair, of_one_bond, of_one_pair, of_partner, tells}
 use Rattle.area_graph.proofs.OrderedMembers.{has_in_order}
-use Rattle.area_graph.proofs.Placing.{no_place}
+use Rattle.mrt_graph.proofs.IdPlaces.{no_place}
 use Rattle.area_graph.proofs.Partners.{partner_back, partner_is}
 
 -- ---- places in lists

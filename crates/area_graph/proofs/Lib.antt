@@ -1,5 +1,4 @@
 pub mod Naming
-pub mod Placing
 pub mod Slices
 pub mod Apart
 pub mod Ways
@@ -11,8 +10,8 @@ pub mod KeptBonds
 pub mod Kept
 pub mod Speaking
 pub mod EveryOrder
+pub mod FewBonds
 pub mod Foremost
-pub mod SameIds
 pub mod Alongside
 pub mod OneOfEachNode
 pub mod LiveOnes

@@ -26,10 +26,11 @@ use Rattle.area_graph.specs.NumberedBonds.{same_entry}
 use Rattle.area_graph.specs.NumberedEntries.{by_number, entries, entries_from, numbered_entry}
 use Rattle.area_graph.specs.Entries.{Entry, entries_of, entries_of_links, entries_of_listed, entry_of_link, far_of}
 use Rattle.area_graph.specs.Listed.{IsEntry, AreEntries}
-use Rattle.area_graph.specs.Nodes.{router, network, node_of, number_of, live, speaks, speakers, nodes}
+use Rattle.area_graph.specs.Nodes.{node_of, live, speaks, speakers, nodes}
+use Rattle.mrt_graph.specs.NodeIds.{router, network, number_of}
 use Rattle.area_graph.specs.declared.entry.NumberedEntry.{NumberedEntry}
 use Rattle.area_graph.proofs.OneOfEachNode.{of_router, of_network}
-use Rattle.area_graph.proofs.Placing.{number_found}
+use Rattle.mrt_graph.proofs.IdPlaces.{number_found}
 
 -- ---- what is known of each entry that the LSA of a node lists
 

@@ -16,14 +16,15 @@ use Rattle.area_graph.specs.declared.entry.NumberedEntry.{NumberedEntry}
 use Rattle.area_graph.specs.Arcs.{arcs}
 use Rattle.area_graph.specs.AreaOf.{area_of}
 use Rattle.area_graph.specs.Entries.{Entry, entries, entries_in, entries_of, entries_of_links, entries_of_listed, far_of}
-use Rattle.area_graph.specs.Nodes.{node_of, nodes, number_of, speakers}
+use Rattle.area_graph.specs.Nodes.{node_of, nodes, speakers}
+use Rattle.mrt_graph.specs.NodeIds.{number_of}
 use Rattle.area_graph.specs.NumberedArcs.{arcs_among as n_arcs_among}
 use Rattle.area_graph.specs.NumberedArea.{arcs_of, bonds_of}
 use Rattle.area_graph.specs.NumberedEntries.{by_number, entries as n_entries, entries_from}
 use Rattle.area_graph.proofs.Alongside.{zip_append}
 use Rattle.area_graph.proofs.ByNumber.{IsNumbered, IsOfNode, leads_on, area_alike, arcs_alike}
 use Rattle.area_graph.proofs.ListedApart.{StandFrom, stand_from}
-use Rattle.area_graph.proofs.Placing.{place_of_one}
+use Rattle.mrt_graph.proofs.IdPlaces.{place_of_one}
 
 -- the entries of a node's LSA are of that node
 from_by : (own : NodeId) (place : ℕ) (link : RouterLink) (o : Option NodeId) (rest : List Entry) → AllByRecursion (λ e. e.from ≡ own) rest

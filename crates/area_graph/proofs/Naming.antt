@@ -15,9 +15,9 @@ use Rattle.mrt_graph.proofs.NodeIds.{one_place}
 use Rattle.area_graph.specs.declared.area_types.Arc.{Arc}
 use Rattle.area_graph.specs.AreaInvariant.{IsArea}
 use Rattle.area_graph.specs.Named.{IsNamed, has_name, bond_named}
-use Rattle.area_graph.specs.Nodes.{router}
+use Rattle.mrt_graph.specs.NodeIds.{router}
 use Rattle.area_graph.specs.Parts.{AreaParts}
-use Rattle.area_graph.proofs.SameIds.{one_node, same_itself}
+use Rattle.mrt_graph.proofs.SameIds.{one_node, same_itself}
 
 contained : (ids : List NodeId) (k : ℕ) (id : NodeId) → slice_get ids k ≡ Some id → Contains ids id
 contained ids k id at = subst (Contains ids) (get_or_from_slice_get ids k id id at) (Contains-get_or ids k id (slice_get_within ids k id at))

@@ -27,7 +27,7 @@ use Rattle.area_graph.proofs.EveryOrder.{chosen}
 use Rattle.area_graph.proofs.Foremost.{foremost, greatest_first_total, none_over}
 use Rattle.area_graph.proofs.ListedApart.{are_entries}
 use Rattle.area_graph.proofs.OneOfEachNode.{by_node, live_differ, lsa_cmp}
-use Rattle.area_graph.proofs.SameIds.{ties_are_same}
+use Rattle.mrt_graph.proofs.SameIds.{ties_are_same}
 
 -- the test of a speaker, in the words of orders
 same_test : (lsas : List Lsa) → none_over by_node (λ lsa. lsa.router) lsas ≡ speaks lsas

@@ -22,12 +22,13 @@ use Rattle.lsdb.specs.Installing.{IsKept}
 use Rattle.lsdb.specs.Keys.{key_of, same_key, AreDistinct}
 use Rattle.ospf_lsa.specs.MaxAge.{is_at_max_age}
 use Rattle.lsdb.specs.declared.key.Key.{Key}
-use Rattle.area_graph.specs.Nodes.{router, network, node_of, live, is_above, speaks, speakers, nodes}
+use Rattle.area_graph.specs.Nodes.{node_of, live, is_above, speaks, speakers, nodes}
+use Rattle.mrt_graph.specs.NodeIds.{router, network}
 use Rattle.area_graph.specs.Speaking.{IsSpeakerOf}
 use Rattle.area_graph.specs.declared.speaker.Speaker.{Speaker}
 use Rattle.area_graph.proofs.Alongside.{zip_any, zip_filter, zip_map, zip_in_order, zip_distinct}
 use Rattle.area_graph.proofs.Foremost.{is_over, none_over, greatest_first, AreForemost, foremost}
-use Rattle.area_graph.proofs.SameIds.{one_node, ties_are_same, equal_numbers}
+use Rattle.mrt_graph.proofs.SameIds.{one_node, ties_are_same, equal_numbers}
 
 -- ---- LSAs that may stand in a database
 

@@ -28,7 +28,7 @@ use Rattle.area_graph.specs.Entries.{entries_of, entries_in}
 use Rattle.area_graph.specs.Nodes.{node_of, live, is_above, speaks, speakers}
 use Rattle.area_graph.specs.Parts.{AreaParts}
 use Rattle.area_graph.proofs.OneOfEachNode.{one_id, one_kind}
-use Rattle.area_graph.proofs.SameIds.{flipped, same_itself}
+use Rattle.mrt_graph.proofs.SameIds.{flipped, same_itself}
 use Rattle.area_graph.proofs.OrderedMembers.{has_in_order, tally_in_order}
 
 age_by : (b : Bool) → nat_le 3600 ((if b then 3600 else 0) % 2 ^ 15) ≡ b

@@ -9,7 +9,8 @@ use Rattle.area_graph.specs.declared.area_types.Bond.{Bond}
 use Rattle.area_graph.specs.Arcs.{arcs, arc_cmp}
 use Rattle.area_graph.specs.Bonds.{bond_of, bonds, partner}
 use Rattle.area_graph.specs.Entries.{Entry}
-use Rattle.area_graph.specs.Nodes.{nodes, number_of}
+use Rattle.area_graph.specs.Nodes.{nodes}
+use Rattle.mrt_graph.specs.NodeIds.{number_of}
 use Rattle.area_graph.specs.Parts.{AreaParts}
 
 -- the number of a node: its place among the nodes (their count, which is the number of none, where it is not one of

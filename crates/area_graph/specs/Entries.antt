@@ -4,10 +4,12 @@ use Rattle.std.specs.Prelude.{◌++◌, ◌+◌, ◌==◌, ℕ, List, [], ◌∷
 use Rattle.std.specs.Option.{option_map, option_to_list}
 use Rattle.mrt_graph.specs.declared.node_id.NodeId.{NodeId}
 use Rattle.ospf_lsa.specs.declared.lsa.RouterLink.{RouterLink}
+use Rattle.ospf_lsa.specs.Types.{point_to_point, transit}
 use Rattle.ospf_lsa.specs.declared.lsa.Body.{Body}
 use Rattle.ospf_lsa.specs.declared.lsa.Body.TheVariants.{Router, Network, Other}
 use Rattle.ospf_lsa.specs.declared.lsa.Lsa.{Lsa}
-use Rattle.area_graph.specs.Nodes.{router, network, node_of, speakers}
+use Rattle.area_graph.specs.Nodes.{node_of, speakers}
+use Rattle.mrt_graph.specs.NodeIds.{router, network}
 
 -- what an LSA lists and leads from its node to another one: a link of a router, or a router of a network; its place is
 -- that among all that the LSA lists, from 0
@@ -22,8 +24,8 @@ pub record Entry : Type 0 where
 -- 2) to that network; any other nowhere
 abbrev pub far_of : ℕ → RouterLink → Option NodeId
 far_of own link =
-    if link.kind == 1 then (if link.id == own then None else Some (router link.id))
-    else (if link.kind == 2 then Some (network link.id) else None)
+    if link.kind == point_to_point then (if link.id == own then None else Some (router link.id))
+    else (if link.kind == transit then Some (network link.id) else None)
 
 -- the entry for a link that stands at that place in the LSA of a router, if it leads somewhere
 abbrev pub entry_of_link : NodeId → ℕ → RouterLink → Option Entry

@@ -1,25 +1,19 @@
 -- The nodes of an area, and the LSA that speaks for each (RFC 2328, section 16.1).
-use Rattle.std.specs.Prelude.{ℕ, Bool, not, ◌&&◌, ◌==◌, nat_lt, List, map, Option, if◌then◌else◌}
-use Rattle.std.specs.List.{filter, list_any, position}
+use Rattle.std.specs.Prelude.{ℕ, Bool, not, ◌&&◌, ◌==◌, nat_lt, List, map, if◌then◌else◌}
+use Rattle.std.specs.List.{filter, list_any}
 use Rattle.std.specs.Ordering.{on}
 use Rattle.mrt_graph.specs.NodeOrder.{node_id_cmp}
-use Rattle.mrt_graph.specs.declared.node_id.Kind.TheVariants as kinds
 use Rattle.mrt_graph.specs.declared.node_id.NodeId.{NodeId}
+use Rattle.mrt_graph.specs.NodeIds.{router, network}
 use Rattle.mrt_graph.specs.SameGraph.{same_id}
 use Rattle.mrt_graph.specs.InOrder.{in_order}
 use Rattle.ospf_lsa.specs.declared.lsa.Lsa.{Lsa}
 use Rattle.ospf_lsa.specs.MaxAge.{is_at_max_age}
-
--- the router of that ID, and the network of that designated router's interface address
-abbrev pub router : ℕ → NodeId
-router number = record { kind = kinds.Router; number = number }
-
-abbrev pub network : ℕ → NodeId
-network number = record { kind = kinds.Network; number = number }
+use Rattle.ospf_lsa.specs.Types.{router_lsa}
 
 -- the node that an LSA of a database is of: a router for a router-LSA, a network for a network-LSA
 abbrev pub node_of : Lsa → NodeId
-node_of lsa = if lsa.kind == 1 then router lsa.id else network lsa.id
+node_of lsa = if lsa.kind == router_lsa then router lsa.id else network lsa.id
 
 -- the LSAs that are not at MaxAge
 abbrev pub live : List Lsa → List Lsa
@@ -41,7 +35,3 @@ speakers lsas = in_order (on node_of node_id_cmp) (filter (speaks (live lsas)) (
 -- the nodes of an area, by ascending identifier
 abbrev pub nodes : List Lsa → List NodeId
 nodes lsas = map node_of (speakers lsas)
-
--- a node's number: its place among the nodes
-abbrev pub number_of : List NodeId → NodeId → Option ℕ
-number_of ids id = position (same_id id) ids

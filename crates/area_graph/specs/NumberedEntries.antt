@@ -6,7 +6,8 @@ use Rattle.mrt_graph.specs.declared.node_id.NodeId.{NodeId}
 use Rattle.ospf_lsa.specs.declared.lsa.Lsa.{Lsa}
 use Rattle.area_graph.specs.declared.entry.NumberedEntry.{NumberedEntry}
 use Rattle.area_graph.specs.Entries.{Entry, entries_of}
-use Rattle.area_graph.specs.Nodes.{node_of, nodes, number_of, speakers}
+use Rattle.area_graph.specs.Nodes.{node_of, nodes, speakers}
+use Rattle.mrt_graph.specs.NodeIds.{number_of}
 
 -- an entry of node number `tail` by numbers; none where the node that it leads to is not there
 abbrev pub numbered_entry : List NodeId → ℕ → Entry → Option NumberedEntry

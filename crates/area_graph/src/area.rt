@@ -9,8 +9,7 @@ ghost use Rattle.area_graph.specs.Starts.{AreStarts};
 
 use crate::area_types::{Arc, Bond};
 use crate::numbers::{ArcNo, BondNo, Spot};
-use crate::places::place_of;
-use mrt_graph::{Kind, NodeId};
+use mrt_graph::{NodeId, place_of};
 use std::marker::Model;
 
 /// The graph of an OSPF area (RFC 2328, section 16.1): routers and transit networks, the arcs between them, and the
@@ -127,11 +126,7 @@ impl Area {
         ensures bond { result ≡ bond_named self.now router link_data }
         ensures none { IsNone result ↔ ((arc : Arc) → IsNamed self.now router link_data arc → ⊥) }
     {
-        let id = NodeId {
-            kind: Kind::Router,
-            number: router,
-        };
-        let place = place_of(&self.ids, id)?;
+        let place = place_of(&self.ids, NodeId::router(router))?;
         let spot = Spot::new(place as u16);
         with_data(
             row(&self.arcs, &self.starts, self.ids.len(), spot),

@@ -12,17 +12,10 @@ ghost use Rattle.area_graph.specs.Speaking.{IsSpeakerOf};
 
 use crate::area_error::AreaError;
 use crate::entry::NumberedEntry;
-use crate::places::place_of;
 use crate::speaker::Speaker;
-use mrt_graph::{Kind, NodeId};
-use ospf_lsa::{Body, Lsa, RouterLink};
+use mrt_graph::{NodeId, place_of};
+use ospf_lsa::{Body, Lsa, POINT_TO_POINT, RouterLink, TRANSIT};
 use std::alloc::Global;
-
-/// A link to another router.
-const POINT_TO_POINT: u8 = 1;
-
-/// A link to a transit network.
-const TRANSIT: u8 = 2;
 
 /// The entries of the LSAs that speak for the nodes.
 pub fn entries(
@@ -179,15 +172,11 @@ fn of_link(
 fn far_end(own: NodeId, link: &RouterLink) -> Option<NodeId>
     ensures { result ≡ far_of own.number link.now }
 {
-    let kind = match link.kind {
-        POINT_TO_POINT if link.id != own.number => Kind::Router,
-        TRANSIT => Kind::Network,
-        _ => return None,
-    };
-    Some(NodeId {
-        kind,
-        number: link.id,
-    })
+    match link.kind {
+        POINT_TO_POINT if link.id != own.number => Some(NodeId::router(link.id)),
+        TRANSIT => Some(NodeId::network(link.id)),
+        _ => None,
+    }
 }
 
 /// The entry for a router that a network lists, if it is a node.
@@ -198,13 +187,7 @@ fn of_listed(ids: &[NodeId], tail: usize, place: usize, router: u32) -> Option<N
     requires place { place < 2 ^ 32 }
     ensures { (own : NodeId) → result ≡ numbered_entry ids.now tail (entry_of_listed own place router) }
 {
-    let far = place_of(
-        ids,
-        NodeId {
-            kind: Kind::Router,
-            number: router,
-        },
-    )?;
+    let far = place_of(ids, NodeId::router(router))?;
     Some(NumberedEntry {
         tail: tail as u32,
         far: far as u32,

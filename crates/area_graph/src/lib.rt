@@ -13,7 +13,6 @@ mod laws;
 mod listing;
 mod numbers;
 mod pairing;
-mod places;
 mod size;
 mod speaker;
 mod speakers;

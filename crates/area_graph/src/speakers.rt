@@ -12,7 +12,7 @@ ghost use Rattle.area_graph.specs.Speaking.{IsSpeakerOf};
 
 use crate::area_error::AreaError;
 use crate::speaker::Speaker;
-use mrt_graph::{Kind, NodeId};
+use mrt_graph::NodeId;
 use ospf_lsa::{Lsa, ROUTER_LSA};
 use std::alloc::Global;
 
@@ -70,13 +70,9 @@ fn is_live(lsa: &Lsa) -> bool
 fn node(lsa: &Lsa) -> NodeId
     ensures { result ≡ node_of lsa.now }
 {
-    let kind = if lsa.kind == ROUTER_LSA {
-        Kind::Router
+    if lsa.kind == ROUTER_LSA {
+        NodeId::router(lsa.id)
     } else {
-        Kind::Network
-    };
-    NodeId {
-        kind,
-        number: lsa.id,
+        NodeId::network(lsa.id)
     }
 }
