@@ -17,7 +17,7 @@ use Rattle.mrt_island.specs.Members.{IsInside}
 use Rattle.mrt_island.specs.Numbering.{AreFlagNumbers, AreLinkNumbers, flagged, flags_set, ids_of, is_link, link_by, links_of}
 use Rattle.mrt_island.specs.IslandOf.{IsIsland}
 use Rattle.mrt_island.specs.Rooting.{IsRoot}
-use Rattle.mrt_island.proofs.Bounds.{pairs_few}
+use Rattle.area_graph.proofs.FewBonds.{pairs_few}
 use Rattle.mrt_island.proofs.Counting.{flagged_filter}
 use Rattle.mrt_island.proofs.LinkNumbers.{are_numbers, link_numbers, links_numbered, numbers_from}
 

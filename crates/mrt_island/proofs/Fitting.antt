@@ -20,7 +20,7 @@ use Rattle.mrt_island.specs.Policy.{Policy}
 use Rattle.mrt_island.specs.Numbering.{flags_set, ids_of, is_link, link_by, links_of}
 use Rattle.mrt_graph.proofs.ListTests.{all_at, there as there_at}
 use Rattle.mrt_graph.proofs.Tallies.{one_if}
-use Rattle.mrt_island.proofs.Bounds.{no_bond}
+use Rattle.area_graph.proofs.FewBonds.{no_bond}
 use Rattle.mrt_island.proofs.Counting.{IsFrom, flagged_filter, flagged_from, length_flagged, set_none, set_one}
 use Rattle.mrt_island.proofs.LinkNumbers.{length_numbers, link_numbers, numbers_from}
 use Rattle.mrt_island.proofs.LinkParts.{IsChosen, is_chosen, same_id}

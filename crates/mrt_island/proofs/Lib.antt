@@ -1,5 +1,4 @@
 pub mod Assembling
-pub mod Bounds
 pub mod Choosing
 pub mod Counting
 pub mod Fitting

@@ -5,7 +5,7 @@ use Rattle.mrt_graph.specs.Leads.{far_node}
 use Rattle.mrt_graph.specs.Reachable.{Reachable}
 use Rattle.mrt_graph.specs.Search.{IsMarked}
 use Rattle.area_graph.specs.declared.area_types.Bond.{Bond}
-use Rattle.area_graph.specs.Nodes.{router as router_node}
+use Rattle.mrt_graph.specs.NodeIds.{router as router_node}
 use Rattle.area_graph.specs.Parts.{AreaParts}
 use Rattle.mrt_island.specs.Policy.{Policy}
 use Rattle.mrt_island.specs.Eligible.{is_eligible}

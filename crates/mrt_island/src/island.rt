@@ -4,7 +4,7 @@ ghost use Rattle.std.specs.Prelude.{◌≡◌, ◌≤◌, ◌↔◌, ℕ, false,
 ghost use Rattle.mrt_graph.specs.NewGraph.{AreGraphParts, IsGraphOf};
 ghost use Rattle.area_graph.specs.AreaInvariant.{IsArea};
 ghost use Rattle.area_graph.specs.Fits.{Fits};
-ghost use Rattle.area_graph.specs.Nodes.{router as router_node};
+ghost use Rattle.mrt_graph.specs.NodeIds.{router as router_node};
 ghost use Rattle.mrt_island.specs.IslandOf.{IsIsland};
 ghost use Rattle.mrt_island.specs.Members.{IsInside};
 ghost use Rattle.mrt_island.specs.declared.island_error.IslandError.TheVariants.{NoMemory as no_memory};

@@ -3,7 +3,7 @@
 ghost use Rattle.std.specs.Prelude.{◌≡◌, ℕ, List, Option, Contains};
 ghost use Rattle.mrt_graph.specs.Topology.{Topology};
 ghost use Rattle.area_graph.specs.AreaInvariant.{IsArea};
-ghost use Rattle.area_graph.specs.Nodes.{router as router_node};
+ghost use Rattle.mrt_graph.specs.NodeIds.{router as router_node};
 ghost use Rattle.area_graph.specs.Parts.{AreaParts};
 ghost use Rattle.mrt_island.specs.IslandOf.{IsIsland};
 ghost use Rattle.mrt_island.specs.Policy.{Policy};

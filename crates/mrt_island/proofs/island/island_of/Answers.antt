@@ -8,7 +8,7 @@ use Rattle.mrt_graph.specs.NodeOrder.{node_id_cmp}
 use Rattle.mrt_island.specs.Numbering.{ids_of, is_link, links_of}
 use Rattle.mrt_island.specs.Rooting.{HasRouter, IsRoot}
 use Rattle.mrt_island.proofs.Assembling.{ids_made, links_few, links_made, made_island, nodes_few, numbers_made}
-use Rattle.mrt_island.proofs.Bounds.{bonds_few}
+use Rattle.area_graph.proofs.FewBonds.{bonds_few}
 use Rattle.mrt_island.proofs.Counting.{ascend_flagged, length_flagged}
 use Rattle.mrt_island.proofs.Fitting.{island_fits}
 use Rattle.mrt_island.proofs.GraphOfIsland.{graph_parts, has_router}
