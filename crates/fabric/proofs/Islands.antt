@@ -5,8 +5,8 @@ use Rattle.std.specs.Option.{option_and_then, option_map}
 use Rattle.std.proofs.lemmas.Bool.{eq-eqb, eqb-true}
 use Rattle.std.proofs.lemmas.Option.{get_or_from_slice_get, same_Some, slice_get_within}
 use Rattle.area_graph.specs.Fits.{names}
-use Rattle.area_graph.specs.Nodes.{number_of}
-use Rattle.area_graph.proofs.Placing.{number_found, place_of_one}
+use Rattle.mrt_graph.specs.NodeIds.{number_of}
+use Rattle.mrt_graph.proofs.IdPlaces.{number_found, place_of_one}
 use Rattle.std.specs.List.Sorted.{IsStrictlySortedBy}
 use Rattle.mrt_graph.specs.NodeOrder.{node_id_cmp}
 use Rattle.mrt_graph.proofs.ListPlaces.{contains_at, place_of}

@@ -1,6 +1,5 @@
 pub mod ByDestinations
 pub mod Entered
-pub mod FewBonds
 pub mod Gathered
 pub mod LeastRoom
 pub mod NamesRead

@@ -3,9 +3,9 @@ use Rattle.std.proofs.Common.{◌≡◌, ◌<◌, ◌∙◌, ◌↔◌, ℕ, Opt
 use Rattle.std.specs.Prelude.{IsNone}
 use Rattle.std.specs.Option.{unwrap_or}
 use Rattle.area_graph.proofs.Naming.{none_named}
-use Rattle.area_graph.proofs.Placing.{contained_by_number}
+use Rattle.mrt_graph.proofs.IdPlaces.{contained_by_number}
 use Rattle.area_graph.specs.Named.{IsNamed, bond_named}
-use Rattle.area_graph.specs.Nodes.{number_of, router}
+use Rattle.mrt_graph.specs.NodeIds.{number_of, router}
 use Rattle.area_graph.specs.Parts.{AreaParts}
 use Rattle.area_graph.specs.declared.area_types.Arc.{Arc}
 use Rattle.fabric.specs.Answers.{FailedBefore, HasElement, IsFailAnswer, IsInjectAnswer, IsKept, GetsNumber, MayEnter, MayNotEnter, NoRoom, NotThere}

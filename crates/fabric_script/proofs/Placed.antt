@@ -3,9 +3,9 @@ use Rattle.std.proofs.Common.{◌≡◌, ◌↔◌, refl, ℕ, Option, Some, Non
 use Rattle.std.specs.Prelude.{IfSome, IsNone}
 use Rattle.std.specs.Option.{unwrap_or}
 use Rattle.std.proofs.lemmas.Option.{get_or_from_slice_get, none-some, same_Some, slice_get_within}
-use Rattle.area_graph.proofs.Placing.{contained_by_number, place_of_one}
+use Rattle.mrt_graph.proofs.IdPlaces.{contained_by_number, place_of_one}
 use Rattle.area_graph.specs.AreaInvariant.{IsArea}
-use Rattle.area_graph.specs.Nodes.{number_of}
+use Rattle.mrt_graph.specs.NodeIds.{number_of}
 use Rattle.area_graph.specs.Parts.{AreaParts}
 use Rattle.fabric_script.specs.NamedEvents.{spot_of}
 use Rattle.mrt_graph.specs.declared.node_id.NodeId.{NodeId}

@@ -2,7 +2,7 @@
 use Rattle.std.specs.Prelude.{⊤, ℕ, Contains, length}
 use Rattle.std.specs.Option.{unwrap_or}
 use Rattle.area_graph.specs.Named.{IsNamed, bond_named}
-use Rattle.area_graph.specs.Nodes.{number_of, router}
+use Rattle.mrt_graph.specs.NodeIds.{number_of, router}
 use Rattle.area_graph.specs.declared.area_types.Arc.{Arc}
 use Rattle.area_graph.specs.Parts.{AreaParts}
 use Rattle.fabric.specs.declared.event.Event.{Event}

@@ -1,5 +1,5 @@
 use Rattle.std.proofs.Common.{◌≡◌, arith, ap, length}
-use Rattle.fabric_script.proofs.FewBonds.{bonds_few}
+use Rattle.area_graph.proofs.FewBonds.{bonds_few}
 use Rattle.fabric_script.proofs.of_area.bond_of.Goals as goal
 
 pub overflow_cast-bonds : goal.overflow_cast-bonds
