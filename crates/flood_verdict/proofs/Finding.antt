@@ -3,7 +3,7 @@ use Rattle.std.proofs.Common.{◌≡◌, ℕ, List, Option, Some, None, Result, 
 use Rattle.std.specs.Prelude.{Contains, IfOk}
 use Rattle.area_graph.specs.AreaInvariant.{IsArea}
 use Rattle.area_graph.specs.AreaSize.{IsTooLarge}
-use Rattle.area_graph.specs.Nodes.{router as router_node}
+use Rattle.mrt_graph.specs.NodeIds.{router as router_node}
 use Rattle.area_graph.specs.Parts.{AreaParts}
 use Rattle.cert_stream.specs.Stream.{Stream}
 use Rattle.lsdb.specs.Conflicts.{least_conflict}

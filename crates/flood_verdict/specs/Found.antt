@@ -1,6 +1,6 @@
 -- What is found of a router in a database. No contract of a public function cites it.
 use Rattle.std.specs.Prelude.{◌≡◌, ◌⊎◌, ℕ, false, List, Option, Some, None, Contains}
-use Rattle.area_graph.specs.Nodes.{router as router_node}
+use Rattle.mrt_graph.specs.NodeIds.{router as router_node}
 use Rattle.area_graph.specs.Parts.{AreaParts}
 use Rattle.cert_stream.specs.Stream.{Stream}
 use Rattle.lsdb.specs.Entries.{Database}

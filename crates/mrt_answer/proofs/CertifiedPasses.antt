@@ -4,7 +4,7 @@ use Rattle.std.specs.Prelude.{◌&&◌, Contains, slice_get}
 use Rattle.std.specs.Option.{option_map_or}
 use Rattle.std.proofs.lemmas.Bool.{and_parts, eqb-true}
 use Rattle.area_graph.specs.AreaInvariant.{IsArea}
-use Rattle.area_graph.specs.Nodes.{router as router_node}
+use Rattle.mrt_graph.specs.NodeIds.{router as router_node}
 use Rattle.area_graph.specs.Parts.{AreaParts}
 use Rattle.cert_format.specs.CertText.{cert_text}
 use Rattle.cert_format.specs.Limits.{IsCertFile}

@@ -4,7 +4,7 @@ use Rattle.std.specs.Prelude.{Contains, IfErr, IfOk}
 use Rattle.std.specs.List.{AllByRecursion}
 use Rattle.area_graph.specs.AreaOf.{area_of}
 use Rattle.area_graph.specs.AreaSize.{IsTooLarge}
-use Rattle.area_graph.specs.Nodes.{router as router_node}
+use Rattle.mrt_graph.specs.NodeIds.{router as router_node}
 use Rattle.lsdb.specs.Conflicts.{least_conflict}
 use Rattle.lsdb.specs.Entries.{Database, Entry, entries_in}
 use Rattle.lsdb.specs.Installing.{IsKept}
@@ -22,7 +22,8 @@ use Rattle.mrt_survey.specs.SurveyText.{IsSurveyText}
 use Rattle.mrt_exit.specs.declared.exit.DbKind.{DbKind}
 use Rattle.mrt_exit.specs.declared.exit.Exit.{Exit}
 use Rattle.mrt_exit.specs.declared.exit.Exit.TheVariants as exits
-use Rattle.lsdb.specs.Database.{IsDatabase, entering, enters}
+use Rattle.ospf_lsa.specs.AreaLsas.{is_topology as enters}
+use Rattle.lsdb.specs.Database.{IsDatabase, entering}
 use Rattle.mrt_answer.specs.Database.{IsBadDatabase}
 use Rattle.mrt_words.specs.Form.{IsNetworkSize}
 use Rattle.mrt_answer.specs.Input.{Input, IsInput, area, input_of}

@@ -5,7 +5,7 @@ use Rattle.std.proofs.lemmas.Bool.{eqb-true, or_cases}
 use Rattle.area_graph.specs.AreaInvariant.{IsArea}
 use Rattle.area_graph.specs.AreaOf.{area_of}
 use Rattle.area_graph.specs.AreaSize.{IsTooLarge}
-use Rattle.area_graph.specs.Nodes.{router as router_node}
+use Rattle.mrt_graph.specs.NodeIds.{router as router_node}
 use Rattle.area_graph.specs.Parts.{AreaParts}
 use Rattle.mrt_graph.specs.Accepted.{Accepted}
 use Rattle.mrt_graph.specs.Certificate.{row_of}
@@ -41,7 +41,8 @@ use Rattle.mrt_words.specs.FileBytes.{FileBytes}
 use Rattle.mrt_answer.specs.Answers.{GivesFor, GivesOver, IsRefusedOver, IsRefusedTask}
 use Rattle.mrt_answer.specs.LoopFree.{HasLoopFree}
 use Rattle.mrt_answer.specs.Certified.{IsCertified, IsComputed}
-use Rattle.lsdb.specs.Database.{IsDatabase, entering, enters}
+use Rattle.ospf_lsa.specs.AreaLsas.{is_topology as enters}
+use Rattle.lsdb.specs.Database.{IsDatabase, entering}
 use Rattle.mrt_answer.specs.Database.{IsBadDatabase}
 use Rattle.mrt_words.specs.Form.{IsNetworkSize, Task, Check, Certify, Table, Trace, Fabric, Upgrade, Lfa, Order, Proxy}
 use Rattle.mrt_answer.specs.Input.{Input, HasAreaWithin, HasIsland, IsAbsent, IsInput, IsMissing, area, policy}

@@ -1,7 +1,7 @@
 -- Two routers of an island have one text on a prefix that is attached to them, or there is one reason for none.
 use Rattle.std.proofs.Common.{◌≡◌, ◌∙◌, ◌<◌, ◌⊎◌, ℕ, true, List, length, sym, subst, inl, inr}
 use Rattle.std.specs.Prelude.{Contains, Some, slice_get}
-use Rattle.area_graph.specs.Nodes.{router}
+use Rattle.mrt_graph.specs.NodeIds.{router}
 use Rattle.mrt_graph.specs.declared.cert.CertFile.{CertFile}
 use Rattle.mrt_graph.specs.Certificate.{Certificate}
 use Rattle.mrt_graph.specs.GraphInvariant.{IsTopology}

@@ -5,7 +5,7 @@ use Rattle.mrt_graph.specs.declared.node_id.NodeId.{NodeId}
 use Rattle.std.proofs.lemmas.Option.{get_or_from_slice_get, slice_get_within}
 use Rattle.std.proofs.lemmas.List.Elements.{Contains-get_or}
 use Rattle.area_graph.specs.AreaInvariant.{IsArea}
-use Rattle.area_graph.specs.Nodes.{router}
+use Rattle.mrt_graph.specs.NodeIds.{router}
 use Rattle.area_graph.specs.Parts.{AreaParts}
 use Rattle.mrt_graph.specs.Topology.{Topology}
 use Rattle.mrt_island.specs.IslandOf.{IsIsland}

@@ -3,8 +3,8 @@ use Rattle.std.proofs.Common.{◌≡◌, ◌<◌, ◌∙◌, ℕ, List, Option, 
 use Rattle.std.specs.Prelude.{Contains}
 use Rattle.std.specs.Option.{unwrap_or}
 use Rattle.std.proofs.lemmas.Option.{slice_get_within}
-use Rattle.area_graph.proofs.Placing.{number_found}
-use Rattle.area_graph.specs.Nodes.{number_of}
+use Rattle.mrt_graph.proofs.IdPlaces.{number_found}
+use Rattle.mrt_graph.specs.NodeIds.{number_of}
 use Rattle.area_graph.specs.Parts.{AreaParts}
 use Rattle.fabric.specs.FabricParts.{ArePartsKept, FabricParts, node_at}
 use Rattle.fabric.specs.SameRows.{AgreeFor}

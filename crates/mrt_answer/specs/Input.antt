@@ -2,7 +2,7 @@
 use Rattle.std.specs.Prelude.{◌≡◌, ◌⊎◌, ℕ, false, List, Option, Contains, length, map}
 use Rattle.area_graph.specs.AreaOf.{area_of}
 use Rattle.area_graph.specs.AreaSize.{IsTooLarge}
-use Rattle.area_graph.specs.Nodes.{router}
+use Rattle.mrt_graph.specs.NodeIds.{router}
 use Rattle.area_graph.specs.Parts.{AreaParts}
 use Rattle.lsdb.specs.Entries.{Entry}
 use Rattle.mrt_graph.specs.Topology.{Topology}

@@ -1,6 +1,6 @@
 -- The text on a router's loop-free alternates.
 use Rattle.std.specs.Prelude.{◌≡◌, ℕ, List, Some, slice_get}
-use Rattle.area_graph.specs.Nodes.{router}
+use Rattle.mrt_graph.specs.NodeIds.{router}
 use Rattle.lfa_alt.specs.LfaText.{IsLfaText}
 use Rattle.mrt_answer.specs.Input.{Input, HasAreaWithin, area}
 

@@ -1,6 +1,6 @@
 -- The rows for a prefix that is attached to two routers of an island.
 use Rattle.std.specs.Prelude.{◌≡◌, ◌⊎◌, ℕ, true, List, Contains, Some, slice_get}
-use Rattle.area_graph.specs.Nodes.{router}
+use Rattle.mrt_graph.specs.NodeIds.{router}
 use Rattle.mrt_graph.specs.declared.cert.CertFile.{CertFile}
 use Rattle.mrt_graph.specs.Related.{are_unrelated}
 use Rattle.mrt_graph.specs.Topology.{Topology}

@@ -1,7 +1,7 @@
 //! What holds of answers.
 
 ghost use Rattle.std.specs.Prelude.{◌≡◌, ◌≤◌, ℕ, List, Contains, length};
-ghost use Rattle.area_graph.specs.Nodes.{router as router_node};
+ghost use Rattle.mrt_graph.specs.NodeIds.{router as router_node};
 ghost use Rattle.fabric.specs.FabricParts.{ArePartsKept, FabricParts};
 ghost use Rattle.fabric.specs.Served.{AreRowsOn};
 ghost use Rattle.fabric.specs.declared.event.Event.{Event};

@@ -1,7 +1,7 @@
 //! `order DB PROFILE ROUTER`: a router's repairs by order.
 
 ghost use Rattle.std.specs.Prelude.{◌≡◌, ◌<◌, None, Contains, IfOk, IfErr, length};
-ghost use Rattle.area_graph.specs.Nodes.{router as router_node};
+ghost use Rattle.mrt_graph.specs.NodeIds.{router as router_node};
 ghost use Rattle.mrt_answer.specs.Ordered.{HasOrder, IsOrderOf};
 ghost use Rattle.mrt_answer.specs.Refusals.{HasNone};
 ghost use Rattle.mrt_answer.specs.TextBytes.{HasText};

@@ -2,7 +2,7 @@
 
 ghost use Rattle.std.specs.Prelude.{◌≡◌, ◌≤◌, ℕ, List, [], map};
 ghost use Rattle.std.specs.List.{range_with_len};
-ghost use Rattle.area_graph.specs.Nodes.{router as router_node};
+ghost use Rattle.mrt_graph.specs.NodeIds.{router as router_node};
 ghost use Rattle.mrt_survey.specs.MadeLsas.{made_lsas};
 ghost use Rattle.ospf_lsa.specs.LsaText.{lsas_text};
 ghost use Rattle.ospf_lsa.specs.declared.lsa.Lsa.{Lsa};

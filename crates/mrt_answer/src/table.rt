@@ -2,7 +2,7 @@
 
 ghost use Rattle.std.specs.Prelude.{◌≡◌, ◌≢◌, ◌<◌, Contains, IfOk, IfErr, length};
 ghost use Rattle.area_graph.specs.Fits.{Fits};
-ghost use Rattle.area_graph.specs.Nodes.{router as router_node};
+ghost use Rattle.mrt_graph.specs.NodeIds.{router as router_node};
 ghost use Rattle.mrt_graph.specs.declared.cert.CertFile.{CertFile};
 ghost use Rattle.mrt_graph.specs.GraphInvariant.{IsNetwork};
 ghost use Rattle.text_parts.specs.Adds.{Adds};

@@ -23,7 +23,8 @@ use Rattle.area_graph.specs.AreaOf.{arc_from, area_of}
 use Rattle.area_graph.specs.AreaSize.{IsTooLarge}
 use Rattle.area_graph.specs.Arcs.{arc_cmp, arcs, is_arc, pairing_cmp}
 use Rattle.area_graph.specs.Entries.{Entry, entries, entries_in, entries_of_links, entry_of_link}
-use Rattle.area_graph.specs.Nodes.{is_above, live, node_of, nodes, router as router_node, speakers, speaks}
+use Rattle.area_graph.specs.Nodes.{is_above, live, node_of, nodes, speakers, speaks}
+use Rattle.mrt_graph.specs.NodeIds.{router as router_node}
 use Rattle.mrt_survey.specs.declared.made_link.MadeLink.{MadeLink}
 use Rattle.mrt_survey.specs.MadeLinks.{made_links}
 use Rattle.mrt_survey.specs.MadeLsas.{ends_of, lsa_of, made_lsas}

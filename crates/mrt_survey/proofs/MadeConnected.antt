@@ -23,9 +23,9 @@ use Rattle.area_graph.specs.AreaOf.{area_of, bond_by, bond_from, place_among}
 use Rattle.area_graph.specs.Arcs.{arcs}
 use Rattle.area_graph.specs.Bonds.{bonds, pairs, partner, singles, tells_pair}
 use Rattle.area_graph.specs.Entries.{Entry}
-use Rattle.area_graph.specs.Nodes.{number_of, router as router_node}
+use Rattle.mrt_graph.specs.NodeIds.{number_of, router as router_node}
 use Rattle.area_graph.specs.Parts.{AreaParts}
-use Rattle.area_graph.proofs.Placing.{number_found, place_of_one}
+use Rattle.mrt_graph.proofs.IdPlaces.{number_found, place_of_one}
 use Rattle.mrt_island.specs.Eligible.{is_eligible, may_end}
 use Rattle.mrt_island.specs.IslandOf.{IsIsland}
 use Rattle.mrt_island.specs.Members.{Joins, nodes_of}

@@ -15,7 +15,7 @@ use Rattle.area_graph.specs.AreaOf.{bond_by, bond_from}
 use Rattle.area_graph.specs.Arcs.{arcs, is_arc, pairing_cmp}
 use Rattle.area_graph.specs.Bonds.{are_partners, partner}
 use Rattle.area_graph.specs.Entries.{Entry, entries, entries_in, entries_of_links, entry_of_link, far_of}
-use Rattle.area_graph.specs.Nodes.{router as router_node}
+use Rattle.mrt_graph.specs.NodeIds.{router as router_node}
 use Rattle.area_graph.proofs.ListedApart.{all_with}
 use Rattle.mrt_island.specs.Eligible.{is_for_transit}
 use Rattle.mrt_survey.specs.declared.made_link.MadeLink.{MadeLink}

@@ -19,7 +19,7 @@ use Rattle.ospf_lsa.specs.LsaText.{lsa_length}
 use Rattle.area_graph.specs.Arcs.{answers, arcs, is_arc, pairing_cmp, parallel_cmp}
 use Rattle.area_graph.specs.Bonds.{are_partners, partner, same_direction, turn_of}
 use Rattle.area_graph.specs.Entries.{Entry, entries, entries_in, entries_of_links, entry_of_link, far_of}
-use Rattle.area_graph.specs.Nodes.{router as router_node}
+use Rattle.mrt_graph.specs.NodeIds.{router as router_node}
 use Rattle.mrt_survey.specs.declared.made_link.MadeLink.{MadeLink}
 use Rattle.mrt_survey.specs.MadeLinks.{made_links}
 use Rattle.mrt_survey.specs.MadeLsas.{end_at, ends_of, link_to, lsa_of, made_lsas}

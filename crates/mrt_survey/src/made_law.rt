@@ -4,7 +4,7 @@ ghost use Rattle.std.specs.Prelude.{◌≡◌, ◌≤◌, ◌*◌, ℕ, List, []
 ghost use Rattle.std.specs.List.{AllByRecursion, range_with_len};
 ghost use Rattle.area_graph.specs.AreaOf.{area_of};
 ghost use Rattle.area_graph.specs.AreaSize.{IsTooLarge};
-ghost use Rattle.area_graph.specs.Nodes.{router as router_node};
+ghost use Rattle.mrt_graph.specs.NodeIds.{router as router_node};
 ghost use Rattle.ospf_lsa.specs.Lsas.{AreLsas};
 ghost use Rattle.mrt_graph.specs.Topology.{Topology};
 ghost use Rattle.lsdb.specs.Conflicts.{least_conflict};

@@ -1,7 +1,7 @@
 -- By the column of a certificate a color goes on from each node.
 use Rattle.std.proofs.Common.{◌≡◌, ◌≢◌, ◌∙◌, ◌<◌, ℕ, List, Option, Some, IsSome, Result, Ok, Err, IfOk, length, slice_get, sym, ap, subst}
 use Rattle.std.specs.Option.{option_and_then, option_map_or}
-use Rattle.area_graph.specs.Nodes.{router}
+use Rattle.mrt_graph.specs.NodeIds.{router}
 use Rattle.mrt_graph.specs.declared.cert.CertFile.{CertFile}
 use Rattle.mrt_graph.specs.declared.cert.Color.{Color}
 use Rattle.mrt_graph.specs.declared.cert.Row.{Row}

@@ -1,7 +1,7 @@
 -- The two next hops of a router for another one.
 use Rattle.std.specs.Prelude.{◌≡◌, ℕ, List, [], Option, Some, length, slice_get}
 use Rattle.area_graph.specs.AreaOf.{area_of}
-use Rattle.area_graph.specs.Nodes.{router}
+use Rattle.mrt_graph.specs.NodeIds.{router}
 use Rattle.lsdb.specs.Database.{IsDatabase}
 use Rattle.mrt_graph.specs.declared.cert.CertFile.{CertFile}
 use Rattle.mrt_graph.specs.declared.cert.Color.{Color}

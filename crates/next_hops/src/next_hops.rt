@@ -1,7 +1,7 @@
 //! From the bytes of a database to a router's two next hops.
 
 ghost use Rattle.std.specs.Prelude.{◌≡◌, ◌≢◌, ◌≤◌, ◌<◌, None, IfOk, Some, length, map, slice_get};
-ghost use Rattle.area_graph.specs.Nodes.{router as router_node};
+ghost use Rattle.mrt_graph.specs.NodeIds.{router as router_node};
 ghost use Rattle.lsdb.specs.Conflicts.{least_conflict};
 ghost use Rattle.lsdb.specs.Database.{IsDatabase};
 ghost use Rattle.next_hops.specs.NextHops.{AreNextHops, AreNextHopsIn};

@@ -1,6 +1,6 @@
 use Rattle.std.proofs.Common.{◌≡◌, Some, refl, inl, slice_get, subst}
 use Rattle.std.specs.Prelude.{Contains}
-use Rattle.area_graph.specs.Nodes.{router as router_node}
+use Rattle.mrt_graph.specs.NodeIds.{router as router_node}
 use Rattle.area_graph.specs.Parts.{AreaParts}
 use Rattle.lfa_alt.specs.LfaText.{IsLfaText}
 use Rattle.mrt_words.proofs.HandedOn.{handed_on}

@@ -1,7 +1,7 @@
 use Rattle.std.proofs.Common.{◌≡◌, ℕ, Option, Some, slice_get, subst}
 use Rattle.std.specs.Prelude.{IfSome}
 use Rattle.std.proofs.lemmas.Option.{slice_get_within}
-use Rattle.area_graph.specs.Nodes.{router as router_node}
+use Rattle.mrt_graph.specs.NodeIds.{router as router_node}
 use Rattle.mrt_words.proofs.HandedOn.{if_ok}
 use Rattle.mrt_answer.proofs.Tables.{is_found}
 use Rattle.mrt_answer.proofs.order.order_of.Goals as goal

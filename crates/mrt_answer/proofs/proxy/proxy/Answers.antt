@@ -1,6 +1,6 @@
 use Rattle.std.proofs.Common.{refl, inl, inr}
 use Rattle.std.proofs.lemmas.Option.{slice_get_within}
-use Rattle.area_graph.specs.Nodes.{router as router_node}
+use Rattle.mrt_graph.specs.NodeIds.{router as router_node}
 use Rattle.mrt_answer.specs.Input.{HasIsland, Input}
 use Rattle.mrt_answer.specs.Refusals.{IsProxyRefusal}
 use Rattle.mrt_answer.proofs.OneVerdict.{contained}
