@@ -1,6 +1,6 @@
 pub mod HandedOn
 pub mod Pieces
+pub mod Readings
 pub mod Spelled
 pub mod Spelling
-pub mod Unread
 pub mod Works

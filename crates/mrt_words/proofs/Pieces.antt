@@ -1,17 +1,17 @@
 -- A certificate file that is fed to a reader in pieces.
-use Rattle.std.proofs.Common.{◌≡◌, ◌∙◌, ◌≤◌, ◌<◌, ◌+◌, ◌-◌, ◌++◌, ℕ, List, [], ◌∷◌, Option, Some, None, Ok, length, refl, sym, ap, subst, append_assoc, append-nil, arith}
+use Rattle.std.proofs.Common.{◌≡◌, ◌∙◌, ◌≤◌, ◌<◌, ◌+◌, ◌-◌, ◌++◌, ℕ, List, [], ◌∷◌, Option, Some, None, Ok, length, refl, sym, ap, subst, inl, inr, append_assoc, append-nil, arith}
 use Rattle.std.proofs.lemmas.Grind.{common_steps}
 use Rattle.std.specs.Prelude.{IfSome, IsSome}
 use Rattle.std.specs.List.{flat_map}
 use Rattle.cert_format.specs.Stream.{Progress, fed, fed_all}
 use Rattle.mrt_io.specs.Counts.{Rose, last_count}
-use Rattle.mrt_io.specs.Holding.{Files, IsFileOf, IsTooLong}
+use Rattle.mrt_io.specs.Holding.{Files, IsFileOf, IsKnownThere, IsTooLong}
 use Rattle.mrt_io.specs.Left.{IsLeftOf, IsTakenOff}
 use Rattle.mrt_exit.specs.declared.exit.Exit.{Exit}
 use Rattle.mrt_exit.specs.declared.exit.Exit.TheVariants as exits
 use Rattle.mrt_words.specs.Files.{NamedFile, IsReadAs}
 use Rattle.mrt_words.specs.Pieces.{IsFedOn, IsFedSoFar}
-use Rattle.mrt_words.specs.Unread.{IsStopped, IsUnread, IsUnreadOrFault}
+use Rattle.mrt_words.specs.Reading.{IsDue, IsDueOrFault, IsStopped, IsUnread}
 
 -- two pieces, one after the other, are fed as one
 pub fed_twice : ((pieces : List (List ℕ)) → fed_all (Ok []) pieces ≡ fed (Ok []) (flat_map (λ piece. piece) pieces))
@@ -106,27 +106,35 @@ fed_too_long held file left now reader room whole so_far full = (
   over_limit held file.name file.limit left now so_far.seen whole so_far.taken (omega (arith, so_far.counted, full)),
 )
 
+-- where a file is held of which it is told what is left, that is told
+pub told_left : (held : Option Files) (name : List ℕ) (left : Option (List ℕ)) → IsLeftOf held name left
+    → IsKnownThere held name → IsSome left
+told_left None name left whole known = absurd known
+told_left (Some files) name None whole known = absurd whole
+told_left (Some files) name (Some all) whole known = refl
+
 -- a file that could not be read on is unread
 pub stopped_unread : (held : Option Files) (file : NamedFile) (before between now : ℕ) (exit : Exit)
-    → before ≤ between → IsStopped file between now exit → IsUnreadOrFault held file before now exit
-stopped_unread held file before between now (exits.ReadFault word) le said = (said.0, omega (arith, le, said.1))
-stopped_unread held file before between now exits.NoMemory le said = tt
+    → before ≤ between → IsStopped file between now exit
+    → IsDueOrFault (IsUnread held file) held (file ∷ []) before now exit
+stopped_unread held file before between now (exits.ReadFault word) le said = (inl said.0, omega (arith, le, said.1))
+stopped_unread held file before between now exits.NoMemory le said = inr refl
 stopped_unread held file before between now exit le said = absurd said
 
 pub stopped_calm : (held : Option Files) (file : NamedFile) (before between now : ℕ) (exit : Exit)
-    → before ≤ between → (Rose before now → ⊥) → IsStopped file between now exit → IsUnread held file exit
+    → before ≤ between → (Rose before now → ⊥) → IsStopped file between now exit → IsDue (IsUnread held file) exit
 stopped_calm held file before between now (exits.ReadFault word) le calm said =
     absurd (calm (omega (arith, le, said.1)))
-stopped_calm held file before between now exits.NoMemory le calm said = tt
+stopped_calm held file before between now exits.NoMemory le calm said = inr refl
 stopped_calm held file before between now exit le calm said = absurd said
 
 -- over a shelf of which it is told what is left, and that then has no fault
 pub stopped_healthy : (held : Option Files) (file : NamedFile) (left : Option (List ℕ)) (before between now : ℕ)
     (exit : Exit) → IsLeftOf held file.name left → before ≤ between → before < last_count
-    → (IsSome left → now ≡ before) → IsStopped file between now exit → IsUnread held file exit
-stopped_healthy None file left before between now (exits.ReadFault word) whole le below same said = (said.0, tt)
+    → (IsSome left → now ≡ before) → IsStopped file between now exit → IsDue (IsUnread held file) exit
+stopped_healthy None file left before between now (exits.ReadFault word) whole le below same said = inl (said.0, tt)
 stopped_healthy (Some files) file None before between now (exits.ReadFault word) whole le below same said = absurd whole
 stopped_healthy (Some files) file (Some all) before between now (exits.ReadFault word) whole le below same said =
     absurd (omega (arith, le, below, same refl, said.1))
-stopped_healthy held file left before between now exits.NoMemory whole le below same said = tt
+stopped_healthy held file left before between now exits.NoMemory whole le below same said = inr refl
 stopped_healthy held file left before between now exit whole le below same said = absurd said

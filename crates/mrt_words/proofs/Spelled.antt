@@ -1,17 +1,23 @@
 -- The form of the words is one that they spell, and it is as it has to be.
 use Rattle.std.proofs.Common.{◌≡◌, ◌≢◌, ◌==◌, ℕ, Bool, true, false, List, [], ◌∷◌, Option, Some, None, inl, inr, length, refl, sym, ap, subst}
-use Rattle.std.specs.Prelude.{◌&&◌, ◌≤◌, IfSome, codes, nat_le, nat_lt, if◌then◌else◌}
+use Rattle.std.specs.Prelude.{◌&&◌, IfSome, codes, nat_le, nat_lt, if◌then◌else◌}
 use Rattle.std.specs.Option.{option_and_then, option_map, option_or}
 use Rattle.std.specs.Str.{bytes_eq}
 use Rattle.std.proofs.lemmas.Bool.{eqb-false, leb-true}
 use Rattle.std.proofs.lemmas.Slice.Eq.{bytes_eq-Decides}
 use Rattle.fabric_script.specs.declared.event.FailureName.{FailureName}
-use Rattle.fabric_script.specs.declared.trace.Trace.{Trace as PacketTrace}
 use Rattle.fabric_script.specs.Names.{failure_in, node_in}
 use Rattle.fabric_script.specs.ScriptLines.{entry_in}
 use Rattle.mrt_graph.specs.Spelling.{address_in, number_in}
-use Rattle.mrt_words.specs.Form.{FileForm, FloodForm, Form, OfFiles, Survey, Flood, Task, Check, Certify, Table, Trace, Fabric, Upgrade, Order, Proxy, Lfa, IsNetworkSize, IsTaskWithin, file_form_of, file_name, flood_of, form_of, lfa_of, nodes_in, other_form_of, profile_name, proxy_of, survey_of, task_form_of, task_in, task_of, trace_of}
-use Rattle.mrt_words.specs.Spellings.{AreFailureWords, AreFloodWords, AreLfaWords, AreNameWords, AreProxyWords, AreRouterWords, AreSurveyWords, AreTaskWords, AreTraceWords, AreWordsOf, AreWordsUnderProfile, NamesProfile}
+use Rattle.mrt_words.specs.declared.form.FileForm.{FileForm}
+use Rattle.mrt_words.specs.declared.form.FloodForm.{FloodForm}
+use Rattle.mrt_words.specs.declared.form.Form.{Form}
+use Rattle.mrt_words.specs.declared.form.Form.TheVariants.{OfFiles, Flood}
+use Rattle.mrt_words.specs.declared.task.RouterTask.{RouterTask}
+use Rattle.mrt_words.specs.declared.task.RouterTask.TheVariants.{Certify, Table, Order, Proxy}
+use Rattle.mrt_words.specs.declared.task.Task.TheVariants.{OfRouter, Check, Fabric, Upgrade}
+use Rattle.mrt_words.specs.Form.{Task, IsNetworkSize, IsTaskWithin, file_form_of, file_task_in, flood_of, form_of, lfa_of, name_in, nodes_in, other_form_of, profile_name, proxy_in, router_in, router_task_in, survey_of, task_form_of, task_in, trace_in, trace_of}
+use Rattle.mrt_words.specs.Spellings.{AreFailureWords, AreFloodWords, AreNameWords, AreRouterWords, AreTaskWords, AreWordsOf, NamesProfile}
 
 -- a test that holds, and what comes where it does; else what comes next
 branch : {A : Type 0} (P : A → Type 0) (b : Bool) (one other : Option A) → (b ≡ true → IfSome one P) → IfSome other P
@@ -44,51 +50,45 @@ named (byte ∷ bytes) is = λ same. cc
 command_is : (command key : List ℕ) (words : List (List ℕ)) → bytes_eq command key ≡ true → command ∷ words ≡ key ∷ words
 command_is command key words same = ap (λ (c : List ℕ). c ∷ words) ((bytes_eq-Decides command key).0 same)
 
-name_words : (P : Task → Type 0) (make : List ℕ → Task) (command key last : List ℕ) → bytes_eq command key ≡ true
-    → ((name : List ℕ) → AreNameWords key name (command ∷ last ∷ []) → P (make name)) → IfSome (option_map make (file_name last)) P
-name_words P make command key last same each =
-    made P make (file_name last) (λ name is. each name (go (nat_lt 0 (length last)) refl name is))
+name_words : (P : Task → Type 0) (make : List ℕ → Task) (command key : List ℕ) (words : List (List ℕ)) → bytes_eq command key ≡ true
+    → ((name : List ℕ) → AreNameWords key name (command ∷ words) → P (make name)) → IfSome (option_map make (name_in words)) P
+name_words P make command key [] same each = tt
+name_words P make command key (last ∷ []) same each = go (nat_lt 0 (length last)) refl
   where
-    go : (b : Bool) → nat_lt 0 (length last) ≡ b → (name : List ℕ) → (if b then Some last else None) ≡ Some name
-        → AreNameWords key name (command ∷ last ∷ [])
-    go false short name is = cc
-    go true long name is =
-        subst (λ (word : List ℕ). AreNameWords key word (command ∷ last ∷ [])) (same_word is)
-        (command_is command key (last ∷ []) same, named last long)
-      where
-        same_word : Some last ≡ Some name → last ≡ name
-        same_word there = cc
+    go : (b : Bool) → nat_lt 0 (length last) ≡ b → IfSome (option_map make (if b then Some last else None)) P
+    go true long = each last (command_is command key (last ∷ []) same, named last long)
+    go false short = tt
+name_words P make command key (last ∷ more ∷ words) same each = tt
 
-router_words : (P : Task → Type 0) (make : ℕ → Task) (command key last : List ℕ) → bytes_eq command key ≡ true
-    → ((router : ℕ) → AreRouterWords key router (command ∷ last ∷ []) → P (make router)) → IfSome (option_map make (address_in last)) P
-router_words P make command key last same each =
+router_words : (P : RouterTask → Type 0) (make : ℕ → RouterTask) (command key : List ℕ) (words : List (List ℕ)) → bytes_eq command key ≡ true
+    → ((router : ℕ) → AreRouterWords key router (command ∷ words) → P (make router)) → IfSome (option_map make (router_in words)) P
+router_words P make command key [] same each = tt
+router_words P make command key (last ∷ []) same each =
     made P make (address_in last) (λ router is. each router (last, command_is command key (last ∷ []) same, is))
+router_words P make command key (last ∷ more ∷ words) same each = tt
 
 -- the task of a command and of what follows is one that they spell
 abbrev Spelled : List (List ℕ) → Task → Type 0
 Spelled words task = AreTaskWords task words
 
-last_spelled : (command last : List ℕ) → IfSome (task_of command last) (Spelled (command ∷ last ∷ []))
-last_spelled command last =
-    let P = Spelled (command ∷ last ∷ []) in
-    branch P (bytes_eq command (codes "check")) _ _
-    (λ same. name_words P (λ certificate. Check certificate) command (codes "check") last same (λ name are. are))
-    (branch P (bytes_eq command (codes "certify")) _ _
-    (λ same. router_words P (λ router. Certify router) command (codes "certify") last same (λ router are. are))
-    (branch P (bytes_eq command (codes "table")) _ _
-    (λ same. router_words P (λ router. Table router) command (codes "table") last same (λ router are. are))
-    (branch P (bytes_eq command (codes "fabric")) _ _
-    (λ same. name_words P (λ script. Fabric script) command (codes "fabric") last same (λ name are. are))
-    (branch P (bytes_eq command (codes "upgrade")) _ _
-    (λ same. name_words P (λ certificate. Upgrade certificate) command (codes "upgrade") last same (λ name are. are))
-    (branch P (bytes_eq command (codes "order")) _ _
-    (λ same. router_words P (λ router. Order router) command (codes "order") last same (λ router are. are)) tt)))))
+abbrev RouterSpelled : List (List ℕ) → RouterTask → Type 0
+RouterSpelled words task = AreTaskWords (OfRouter task) words
 
-trace_spelled : (command from to entry : List ℕ) (failed : Option FailureName) (words : List (List ℕ))
+file_task_spelled : (command : List ℕ) (words : List (List ℕ)) → IfSome (file_task_in command words) (Spelled (command ∷ words))
+file_task_spelled command words =
+    let P = Spelled (command ∷ words) in
+    branch P (bytes_eq command (codes "check")) _ _
+    (λ same. name_words P (λ certificate. Check certificate) command (codes "check") words same (λ name are. are))
+    (branch P (bytes_eq command (codes "upgrade")) _ _
+    (λ same. name_words P (λ certificate. Upgrade certificate) command (codes "upgrade") words same (λ name are. are))
+    (branch P (bytes_eq command (codes "fabric")) _ _
+    (λ same. name_words P (λ script. Fabric script) command (codes "fabric") words same (λ name are. are)) tt))
+
+trace_of_spelled : (command from to entry : List ℕ) (failed : Option FailureName) (words : List (List ℕ))
     → bytes_eq command (codes "trace") ≡ true → AreFailureWords failed words
-    → IfSome (trace_of from to entry failed) (Spelled (command ∷ from ∷ to ∷ entry ∷ words))
-trace_spelled command from to entry failed words same fails =
-    let P = Spelled (command ∷ from ∷ to ∷ entry ∷ words) in
+    → IfSome (trace_of from to entry failed) (RouterSpelled (command ∷ from ∷ to ∷ entry ∷ words))
+trace_of_spelled command from to entry failed words same fails =
+    let P = RouterSpelled (command ∷ from ∷ to ∷ entry ∷ words) in
     next P _ (address_in from)
     (λ router from_is. next P _ (node_in to)
     (λ node to_is. made P _ (entry_in entry)
@@ -104,10 +104,24 @@ trace_spelled command from to entry failed words same fails =
       failed_are = fails;
     })))
 
-proxy_spelled : (command router first second : List ℕ) → bytes_eq command (codes "proxy") ≡ true
-    → IfSome (proxy_of router first second) (Spelled (command ∷ router ∷ first ∷ second ∷ []))
-proxy_spelled command router first second same =
-    let P = Spelled (command ∷ router ∷ first ∷ second ∷ []) in
+trace_spelled : (command : List ℕ) (words : List (List ℕ)) → bytes_eq command (codes "trace") ≡ true
+    → IfSome (trace_in words) (RouterSpelled (command ∷ words))
+trace_spelled command [] same = tt
+trace_spelled command (from ∷ []) same = tt
+trace_spelled command (from ∷ to ∷ []) same = tt
+trace_spelled command (from ∷ to ∷ entry ∷ []) same = trace_of_spelled command from to entry None [] same refl
+trace_spelled command (from ∷ to ∷ entry ∷ failed ∷ []) same =
+    next (RouterSpelled (command ∷ from ∷ to ∷ entry ∷ failed ∷ [])) _ (failure_in failed)
+    (λ name is. trace_of_spelled command from to entry (Some name) (failed ∷ []) same (failed, refl, is))
+trace_spelled command (from ∷ to ∷ entry ∷ failed ∷ more ∷ words) same = tt
+
+proxy_spelled : (command : List ℕ) (words : List (List ℕ)) → bytes_eq command (codes "proxy") ≡ true
+    → IfSome (proxy_in words) (RouterSpelled (command ∷ words))
+proxy_spelled command [] same = tt
+proxy_spelled command (router ∷ []) same = tt
+proxy_spelled command (router ∷ first ∷ []) same = tt
+proxy_spelled command (router ∷ first ∷ second ∷ []) same =
+    let P = RouterSpelled (command ∷ router ∷ first ∷ second ∷ []) in
     next P _ (address_in router)
     (λ number router_is. next P _ (address_in first)
     (λ one first_is. next P _ (address_in second)
@@ -115,7 +129,7 @@ proxy_spelled command router first second same =
   where
     go : (number one other : ℕ) → address_in router ≡ Some number → address_in first ≡ Some one → address_in second ≡ Some other
         → (b : Bool) → (one == other) ≡ b
-        → IfSome (if b then None else Some (Proxy number one other)) (Spelled (command ∷ router ∷ first ∷ second ∷ []))
+        → IfSome (if b then None else Some (Proxy number one other)) (RouterSpelled (command ∷ router ∷ first ∷ second ∷ []))
     go number one other router_is first_is second_is true is = tt
     go number one other router_is first_is second_is false is = record {
       address = router;
@@ -127,21 +141,31 @@ proxy_spelled command router first second same =
       second_is = second_is;
       different = eqb-false one other is;
     }
+proxy_spelled command (router ∷ first ∷ second ∷ more ∷ words) same = tt
+
+router_task_spelled : (command : List ℕ) (words : List (List ℕ)) → IfSome (router_task_in command words) (RouterSpelled (command ∷ words))
+router_task_spelled command words =
+    let P = RouterSpelled (command ∷ words) in
+    branch P (bytes_eq command (codes "certify")) _ _
+    (λ same. router_words P (λ router. Certify router) command (codes "certify") words same (λ router are. are))
+    (branch P (bytes_eq command (codes "table")) _ _
+    (λ same. router_words P (λ router. Table router) command (codes "table") words same (λ router are. are))
+    (branch P (bytes_eq command (codes "order")) _ _
+    (λ same. router_words P (λ router. Order router) command (codes "order") words same (λ router are. are))
+    (branch P (bytes_eq command (codes "trace")) _ _ (λ same. trace_spelled command words same)
+    (branch P (bytes_eq command (codes "proxy")) _ _ (λ same. proxy_spelled command words same) tt))))
+
+mapped : {A B : Type 0} (P : A → Type 0) (Q : B → Type 0) (make : A → B) (o : Option A) → ((a : A) → P a → Q (make a)) → IfSome o P
+    → IfSome (option_map make o) Q
+mapped P Q make None each is = tt
+mapped P Q make (Some a) each is = each a is
 
 task_spelled : (command : List ℕ) (words : List (List ℕ)) → IfSome (task_in command words) (Spelled (command ∷ words))
-task_spelled command [] = tt
-task_spelled command (last ∷ []) = last_spelled command last
-task_spelled command (from ∷ to ∷ []) = tt
-task_spelled command (from ∷ to ∷ entry ∷ []) =
-    let P = Spelled (command ∷ from ∷ to ∷ entry ∷ []) in
-    branch P (bytes_eq command (codes "trace")) _ _ (λ same. trace_spelled command from to entry None [] same refl)
-    (branch P (bytes_eq command (codes "proxy")) _ _ (λ same. proxy_spelled command from to entry same) tt)
-task_spelled command (from ∷ to ∷ entry ∷ failed ∷ []) =
-    let P = Spelled (command ∷ from ∷ to ∷ entry ∷ failed ∷ []) in
-    branch P (bytes_eq command (codes "trace")) _ _
-    (λ same. next P _ (failure_in failed)
-    (λ name is. trace_spelled command from to entry (Some name) (failed ∷ []) same (failed, refl, is))) tt
-task_spelled command (from ∷ to ∷ entry ∷ failed ∷ more ∷ words) = tt
+task_spelled command words =
+    or_else (Spelled (command ∷ words)) (file_task_in command words) (option_map (λ task. OfRouter task) (router_task_in command words))
+    (file_task_spelled command words)
+    (mapped (RouterSpelled (command ∷ words)) (Spelled (command ∷ words)) (λ task. OfRouter task) (router_task_in command words)
+    (λ task are. are) (router_task_spelled command words))
 
 profile_is : (word : List ℕ) → word ≢ [] → NamesProfile (profile_name word) word
 profile_is word some = go (bytes_eq word (codes "-")) refl
@@ -257,11 +281,6 @@ flood_spelled (command ∷ updates ∷ profile ∷ script ∷ []) =
     }) tt
 flood_spelled (command ∷ updates ∷ profile ∷ script ∷ more ∷ words) = tt
 
-mapped : {A B : Type 0} (P : A → Type 0) (Q : B → Type 0) (make : A → B) (o : Option A) → ((a : A) → P a → Q (make a)) → IfSome o P
-    → IfSome (option_map make o) Q
-mapped P Q make None each is = tt
-mapped P Q make (Some a) each is = each a is
-
 pub file_spelled : (words : List (List ℕ)) → IfSome (file_form_of words) (FileSpelled words)
 file_spelled words = or_else (FileSpelled words) (task_form_of words) (lfa_of words) (under_profile words) (lfa_spelled words)
 
@@ -276,15 +295,8 @@ form_spelled words =
 
 -- a task that is spelled is as it has to be
 task_within : (task : Task) (words : List (List ℕ)) → AreTaskWords task words → IsTaskWithin task
-task_within (Check certificate) words are = tt
-task_within (Certify router) words are = tt
-task_within (Table router) words are = tt
-task_within (Trace trace) words are = tt
-task_within (Fabric script) words are = tt
-task_within (Upgrade certificate) words are = tt
-task_within (Lfa router) words are = tt
-task_within (Order router) words are = tt
-task_within (Proxy router first second) words are = are.different
+task_within (OfRouter (Proxy router first second)) words are = are.different
+task_within task words are = tt
 
 spelled_within : (words : List (List ℕ)) (form : FileForm) → FileSpelled words form → IsTaskWithin form.task
 spelled_within words form (inl are) = task_within form.task (are.command ∷ are.more) are.task_is

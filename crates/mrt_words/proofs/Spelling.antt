@@ -1,24 +1,27 @@
 -- Words that spell a form have that form.
-use Rattle.std.proofs.Common.{◌≡◌, ◌≢◌, ◌==◌, ◌∙◌, ℕ, Bool, true, false, List, [], ◌∷◌, Option, Some, None, inl, inr, length, arith, refl, sym, ap, subst}
-use Rattle.std.specs.Prelude.{◌&&◌, ◌≤◌, IfSome, codes, nat_le, nat_lt, if◌then◌else◌}
-use Rattle.std.specs.Option.{option_and_then, option_map, option_or}
+use Rattle.std.proofs.Common.{◌≡◌, ◌≢◌, ◌==◌, ◌∙◌, ℕ, Bool, true, false, List, [], ◌∷◌, Option, Some, None, inl, inr, length, arith, refl, ap}
+use Rattle.std.specs.Prelude.{◌&&◌, ◌≤◌, codes, nat_le, nat_lt, if◌then◌else◌}
+use Rattle.std.specs.Option.{option_and_then, option_map}
 use Rattle.std.specs.Str.{bytes_eq}
 use Rattle.std.proofs.lemmas.Bool.{eqb-true, le-leb, lt-ltb}
 use Rattle.std.proofs.lemmas.Slice.Eq.{bytes_eq-Decides}
 use Rattle.fabric_script.specs.declared.event.FailureName.{FailureName}
 use Rattle.fabric_script.specs.declared.trace.Trace.{Trace as PacketTrace}
-use Rattle.fabric_script.specs.Names.{failure_in, node_in}
+use Rattle.fabric_script.specs.Names.{node_in}
 use Rattle.fabric_script.specs.ScriptLines.{entry_in}
 use Rattle.mrt_graph.specs.Spelling.{address_in, number_in}
-use Rattle.mrt_words.specs.Form.{FileForm, FloodForm, Form, OfFiles, Survey, Flood, Task, Check, Certify, Table, Trace, Fabric, Upgrade, Order, Proxy, Lfa, IsNetworkSize, file_form_of, file_name, flood_of, form_of, lfa_of, nodes_in, other_form_of, profile_name, proxy_of, survey_of, task_form_of, task_in, task_of, trace_of}
-use Rattle.mrt_words.specs.Spellings.{AreFailureWords, AreFloodWords, AreLfaWords, AreNameWords, AreProxyWords, AreRouterWords, AreSurveyWords, AreTaskWords, AreTraceWords, AreWordsOf, AreWordsUnderProfile, NamesProfile}
+use Rattle.mrt_words.specs.declared.form.FileForm.{FileForm}
+use Rattle.mrt_words.specs.declared.form.Form.{Form}
+use Rattle.mrt_words.specs.declared.form.Form.TheVariants.{OfFiles, Survey, Flood}
+use Rattle.mrt_words.specs.declared.task.RouterTask.{RouterTask}
+use Rattle.mrt_words.specs.declared.task.RouterTask.TheVariants.{Certify, Table, Trace, Order, Proxy, Lfa}
+use Rattle.mrt_words.specs.declared.task.Task.TheVariants.{OfRouter, Check, Fabric, Upgrade}
+use Rattle.mrt_words.specs.Form.{Task, IsNetworkSize, file_form_of, form_of, nodes_in, profile_name, task_form_of, task_in, trace_in, trace_of}
+use Rattle.mrt_words.specs.Spellings.{AreFailureWords, AreLfaWords, AreTaskWords, AreWordsOf, AreWordsUnderProfile, NamesProfile}
 
 long : (word : List ℕ) → word ≢ [] → nat_lt 0 (length word) ≡ true
 long [] some = absurd (some refl)
 long (byte ∷ bytes) some = lt-ltb 0 (length (byte ∷ bytes)) (omega arith)
-
-file_is : (name : List ℕ) → name ≢ [] → file_name name ≡ Some name
-file_is name some = ap (λ (b : Bool). if b then Some name else None) (long name some)
 
 -- the task of words, the first of which is the command
 abbrev task_words : List (List ℕ) → Option Task
@@ -31,10 +34,10 @@ trace_is trace from to entry from_is to_is entry_is = rw (from_is, to_is, entry_
 
 failing : (trace : PacketTrace) (from to entry : List ℕ) (failed : Option FailureName) (words : List (List ℕ)) → AreFailureWords failed words
     → trace_of from to entry failed ≡ Some (Trace trace)
-    → task_words (codes "trace" ∷ from ∷ to ∷ entry ∷ words) ≡ Some (Trace trace)
-failing trace from to entry None words are is = ap (λ (more : List (List ℕ)). task_words (codes "trace" ∷ from ∷ to ∷ entry ∷ more)) are ∙ is
+    → trace_in (from ∷ to ∷ entry ∷ words) ≡ Some (Trace trace)
+failing trace from to entry None words are is = ap (λ (more : List (List ℕ)). trace_in (from ∷ to ∷ entry ∷ more)) are ∙ is
 failing trace from to entry (Some failed) words are is =
-    ap (λ (more : List (List ℕ)). task_words (codes "trace" ∷ from ∷ to ∷ entry ∷ more)) are.1
+    ap (λ (more : List (List ℕ)). trace_in (from ∷ to ∷ entry ∷ more)) are.1
     ∙ ap (option_and_then (λ (name : FailureName). trace_of from to entry (Some name))) are.2 ∙ is
 
 different : (one other : ℕ) → one ≢ other → (one == other) ≡ false
@@ -45,20 +48,19 @@ different one other apart = go (one == other) refl
     go true is = absurd (apart (eqb-true one other is))
 
 task_is : (task : Task) (words : List (List ℕ)) → AreTaskWords task words → task_words words ≡ Some task
-task_is (Check name) words are = ap task_words are.0 ∙ ap (option_map (λ (word : List ℕ). Check word)) (file_is name are.1)
-task_is (Certify router) words are = ap task_words are.1 ∙ ap (option_map (λ (number : ℕ). Certify number)) are.2
-task_is (Table router) words are = ap task_words are.1 ∙ ap (option_map (λ (number : ℕ). Table number)) are.2
-task_is (Trace trace) words are =
+task_is (Check name) words are = ap task_words are.0 ∙ rw (long name are.1) refl
+task_is (Upgrade name) words are = ap task_words are.0 ∙ rw (long name are.1) refl
+task_is (Fabric name) words are = ap task_words are.0 ∙ rw (long name are.1) refl
+task_is (OfRouter (Certify router)) words are = ap task_words are.1 ∙ rw are.2 refl
+task_is (OfRouter (Table router)) words are = ap task_words are.1 ∙ rw are.2 refl
+task_is (OfRouter (Order router)) words are = ap task_words are.1 ∙ rw are.2 refl
+task_is (OfRouter (Lfa router)) words are = absurd are
+task_is (OfRouter (Trace trace)) words are =
     ap task_words are.are
-    ∙ failing trace are.from are.to are.entry trace.failed are.failed are.failed_are (trace_is trace are.from are.to are.entry are.from_is are.to_is are.entry_is)
-task_is (Fabric name) words are = ap task_words are.0 ∙ ap (option_map (λ (word : List ℕ). Fabric word)) (file_is name are.1)
-task_is (Upgrade name) words are = ap task_words are.0 ∙ ap (option_map (λ (word : List ℕ). Upgrade word)) (file_is name are.1)
-task_is (Lfa router) words are = absurd are
-task_is (Order router) words are = ap task_words are.1 ∙ ap (option_map (λ (number : ℕ). Order number)) are.2
-task_is (Proxy router first second) words are = ap task_words are.are ∙ proxy_is
-  where
-    proxy_is : proxy_of are.address are.one are.other ≡ Some (Proxy router first second)
-    proxy_is = rw (are.router_is, are.first_is, are.second_is, different first second are.different) refl
+    ∙ ap (option_map (λ (task : RouterTask). OfRouter task)) (failing trace are.from are.to are.entry trace.failed are.failed are.failed_are
+    (trace_is trace are.from are.to are.entry are.from_is are.to_is are.entry_is))
+task_is (OfRouter (Proxy router first second)) words are =
+    ap task_words are.are ∙ rw (are.router_is, are.first_is, are.second_is, different first second are.different) refl
 
 profile_word : (profile : Option (List ℕ)) (word : List ℕ) → NamesProfile profile word → (profile_name word ≡ profile) × (nat_lt 0 (length word) ≡ true)
 profile_word None word is = (ap profile_name is, ap (λ (w : List ℕ). nat_lt 0 (length w)) is)

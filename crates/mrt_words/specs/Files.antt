@@ -23,7 +23,12 @@ use Rattle.mrt_exit.specs.declared.exit.Exit.{Exit}
 use Rattle.mrt_exit.specs.declared.exit.Exit.TheVariants.{TooLarge, ReadFault}
 use Rattle.mrt_exit.specs.declared.exit.What.{What}
 use Rattle.mrt_exit.specs.declared.exit.What.TheVariants.{DatabaseFile, UpdatesFile, ProfileFile, CertificateFile, ScriptFile}
-use Rattle.mrt_words.specs.Form.{FileForm, FloodForm, Form, OfFiles, Survey, Flood, Task, Check, Certify, Table, Trace, Fabric, Upgrade, Lfa, Order, Proxy}
+use Rattle.mrt_words.specs.declared.form.FileForm.{FileForm}
+use Rattle.mrt_words.specs.declared.form.FloodForm.{FloodForm}
+use Rattle.mrt_words.specs.declared.form.Form.{Form}
+use Rattle.mrt_words.specs.declared.form.Form.TheVariants.{OfFiles, Survey, Flood}
+use Rattle.mrt_words.specs.declared.task.Task.TheVariants.{Check, Fabric, Upgrade, OfRouter}
+use Rattle.mrt_words.specs.Form.{Task}
 
 -- a file that the words name: the place of its name among them, its name, what it is, and how many bytes it may have
 pub record NamedFile : Type 0 where
@@ -51,14 +56,9 @@ script_file name = record { place = 3; name = name; what = ScriptFile; limit = 3
 -- the file that a task names, if it names one
 abbrev pub task_file : Task → Option NamedFile
 task_file (Check certificate) = Some (certificate_file certificate)
-task_file (Certify router) = None
-task_file (Table router) = None
-task_file (Trace trace) = None
-task_file (Fabric script) = Some (script_file script)
 task_file (Upgrade certificate) = Some (certificate_file certificate)
-task_file (Lfa router) = None
-task_file (Order router) = None
-task_file (Proxy router first second) = None
+task_file (Fabric script) = Some (script_file script)
+task_file (OfRouter task) = None
 
 -- the names in a form: a first file, a profile, if it names one, and a last file, if it names one
 pub record Names : Type 0 where

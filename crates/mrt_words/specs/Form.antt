@@ -1,79 +1,52 @@
--- The forms of the words.
+-- The forms of the words: what each asks for, and how the words are read.
 use Rattle.std.specs.Prelude.{◌&&◌, ◌==◌, ◌≢◌, ◌≤◌, ℕ, List, [], ◌∷◌, Option, Some, None}
 use Rattle.std.specs.Prelude.{codes, length, nat_le, nat_lt, if◌then◌else◌}
 use Rattle.std.specs.Option.{option_and_then, option_map, option_or}
 use Rattle.std.specs.Str.{bytes_eq}
 use Rattle.fabric_script.specs.declared.event.FailureName.{FailureName}
-use Rattle.fabric_script.specs.declared.trace.Trace.{Trace as PacketTrace}
 use Rattle.fabric_script.specs.Names.{failure_in, node_in}
 use Rattle.fabric_script.specs.ScriptLines.{entry_in}
 use Rattle.mrt_graph.specs.Spelling.{address_in, number_in}
+use Rattle.mrt_words.specs.declared.form.FileForm.{FileForm}
+use Rattle.mrt_words.specs.declared.form.FloodForm.{FloodForm}
+use Rattle.mrt_words.specs.declared.form.Form.{Form}
+use Rattle.mrt_words.specs.declared.form.Form.TheVariants.{OfFiles, Survey, Flood}
+use Rattle.mrt_words.specs.declared.task.RouterTask.{RouterTask}
+use Rattle.mrt_words.specs.declared.task.RouterTask.TheVariants.{Certify, Table, Trace, Lfa, Order, Proxy}
+use Rattle.mrt_words.specs.declared.task.Task.{Task as TaskOver}
+use Rattle.mrt_words.specs.declared.task.Task.TheVariants.{Check, Upgrade, Fabric, OfRouter}
 
--- what is asked of a database: to check a certificate, to give that of a router's island, to give a router's table, to
--- trace a packet, to run a script of events, to give a certificate in version 2, to give a router's loop-free
--- alternates or its repairs by order, or to give the rows for a prefix that is attached to two routers of its island
-pub data Task : Type 0 where
-  Check : (certificate : List ℕ) → Task
-  Certify : (router : ℕ) → Task
-  Table : (router : ℕ) → Task
-  Trace : (trace : PacketTrace) → Task
-  Fabric : (script : List ℕ) → Task
-  Upgrade : (certificate : List ℕ) → Task
-  Lfa : (router : ℕ) → Task
-  Order : (router : ℕ) → Task
-  Proxy : (router first second : ℕ) → Task
-
--- a form over files: what is asked of a database under a profile; without one, under the empty profile
-pub record FileForm : Type 0 where
-  pub database : List ℕ
-  pub profile : Option (List ℕ)
-  pub task : Task
-
--- a form over packets: what a script of deliveries comes to over the packets of a file, under a profile; without one, under
--- the empty profile
-pub record FloodForm : Type 0 where
-  pub updates : List ℕ
-  pub profile : Option (List ℕ)
-  pub script : List ℕ
-
--- what the words ask for: something of the files that they name, the survey of a network that is made from a number and
--- has so many routers, or the answers to deliveries of packets
-pub data Form : Type 0 where
-  OfFiles : (form : FileForm) → Form
-  Survey : (number nodes : ℕ) → Form
-  Flood : (form : FloodForm) → Form
+-- what is asked of a database, a certificate or a script by the name of its file
+abbrev pub Task : Type 0
+Task = TaskOver (List ℕ) (List ℕ)
 
 -- the task asks for the verdict on a certificate
 abbrev pub AsksVerdictTask : Task → Type 0
 AsksVerdictTask (Check certificate) = Unit {0}
-AsksVerdictTask (Certify router) = ⊥
-AsksVerdictTask (Table router) = ⊥
-AsksVerdictTask (Trace trace) = ⊥
-AsksVerdictTask (Fabric script) = ⊥
 AsksVerdictTask (Upgrade certificate) = Unit {0}
-AsksVerdictTask (Lfa router) = ⊥
-AsksVerdictTask (Order router) = ⊥
-AsksVerdictTask (Proxy router first second) = ⊥
+AsksVerdictTask _ = ⊥
 
 -- the form asks for the verdict on a certificate
 abbrev pub AsksVerdict : Form → Type 0
 AsksVerdict (OfFiles form) = AsksVerdictTask form.task
-AsksVerdict (Survey number nodes) = ⊥
-AsksVerdict (Flood form) = ⊥
+AsksVerdict _ = ⊥
 
 -- the form is a survey
 abbrev pub IsSurvey : Form → Type 0
-IsSurvey (OfFiles form) = ⊥
 IsSurvey (Survey number nodes) = Unit {0}
-IsSurvey (Flood form) = ⊥
+IsSurvey _ = ⊥
 
 -- a network of so many routers can be made
 abbrev pub IsNetworkSize : ℕ → Type 0
 IsNetworkSize nodes = (4 ≤ nodes) × (nodes ≤ 2048)
 
 -- the two routers of a prefix differ
+abbrev pub IsRouterTaskWithin : RouterTask → Type 0
+IsRouterTaskWithin (Proxy router first second) = first ≢ second
+IsRouterTaskWithin _ = Unit {0}
+
 abbrev pub IsTaskWithin : Task → Type 0
-IsTaskWithin (Proxy router first second) = first ≢ second
+IsTaskWithin (OfRouter asked) = IsRouterTaskWithin asked
 IsTaskWithin _ = Unit {0}
 
 -- a survey is of a network that can be made, and a task is as it has to be
@@ -87,46 +60,53 @@ abbrev pub profile_name : List ℕ → Option (List ℕ)
 profile_name word = if bytes_eq word (codes "-") then None else Some word
 
 -- the name of a file, which is not empty
-abbrev pub file_name : List ℕ → Option (List ℕ)
-file_name word = if nat_lt 0 (length word) then Some word else None
+abbrev pub name_in : List (List ℕ) → Option (List ℕ)
+name_in (name ∷ []) = if nat_lt 0 (length name) then Some name else None
+name_in _ = None
 
--- a command and its last word: `check` or `upgrade` with a name, `certify`, `table` or `order` with a router's address, or
--- `fabric` with a name
-abbrev pub task_of : List ℕ → List ℕ → Option Task
-task_of command last =
-    if bytes_eq command (codes "check") then option_map (λ certificate. Check certificate) (file_name last)
-    else (if bytes_eq command (codes "certify") then option_map (λ router. Certify router) (address_in last)
-    else (if bytes_eq command (codes "table") then option_map (λ router. Table router) (address_in last)
-    else (if bytes_eq command (codes "fabric") then option_map (λ script. Fabric script) (file_name last)
-    else (if bytes_eq command (codes "upgrade") then option_map (λ certificate. Upgrade certificate) (file_name last)
-    else (if bytes_eq command (codes "order") then option_map (λ router. Order router) (address_in last) else None)))))
+-- a router's address
+abbrev pub router_in : List (List ℕ) → Option ℕ
+router_in (router ∷ []) = address_in router
+router_in _ = None
 
--- from a router to a node, how a packet enters, and what has failed, if anything has
-abbrev pub trace_of : List ℕ → List ℕ → List ℕ → Option FailureName → Option Task
+-- from a router to a node, how a packet enters, then nothing or what has failed
+abbrev pub trace_of : List ℕ → List ℕ → List ℕ → Option FailureName → Option RouterTask
 trace_of from to entry failed =
     option_and_then (λ router. option_and_then (λ node. option_map (λ how. Trace (record { from = router; to = node; entry = how; failed = failed }))
     (entry_in entry)) (node_in to)) (address_in from)
 
+abbrev pub trace_in : List (List ℕ) → Option RouterTask
+trace_in (from ∷ to ∷ entry ∷ []) = trace_of from to entry None
+trace_in (from ∷ to ∷ entry ∷ failed ∷ []) = option_and_then (λ name. trace_of from to entry (Some name)) (failure_in failed)
+trace_in _ = None
+
 -- the address of a router, and those of two others, which differ
-abbrev pub proxy_of : List ℕ → List ℕ → List ℕ → Option Task
-proxy_of router first second =
+abbrev pub proxy_in : List (List ℕ) → Option RouterTask
+proxy_in (router ∷ first ∷ second ∷ []) =
     option_and_then (λ number. option_and_then (λ one. option_and_then (λ other. if one == other then None else Some (Proxy number one other))
     (address_in second)) (address_in first)) (address_in router)
+proxy_in _ = None
 
--- what follows the names of a database and of a profile: one word more, `trace` with three or four, or `proxy` with three
+-- what follows the names of a database and of a profile, by the command: the tasks that name a file, and those that name none
+abbrev pub file_task_in : List ℕ → List (List ℕ) → Option Task
+file_task_in command words =
+    if bytes_eq command (codes "check") then option_map (λ certificate. Check certificate) (name_in words)
+    else (if bytes_eq command (codes "upgrade") then option_map (λ certificate. Upgrade certificate) (name_in words)
+    else (if bytes_eq command (codes "fabric") then option_map (λ script. Fabric script) (name_in words) else None))
+
+abbrev pub router_task_in : List ℕ → List (List ℕ) → Option RouterTask
+router_task_in command words =
+    if bytes_eq command (codes "certify") then option_map (λ router. Certify router) (router_in words)
+    else (if bytes_eq command (codes "table") then option_map (λ router. Table router) (router_in words)
+    else (if bytes_eq command (codes "order") then option_map (λ router. Order router) (router_in words)
+    else (if bytes_eq command (codes "trace") then trace_in words
+    else (if bytes_eq command (codes "proxy") then proxy_in words else None))))
+
 abbrev pub task_in : List ℕ → List (List ℕ) → Option Task
-task_in command (last ∷ []) = task_of command last
-task_in command (from ∷ to ∷ entry ∷ []) =
-    if bytes_eq command (codes "trace") then trace_of from to entry None
-    else (if bytes_eq command (codes "proxy") then proxy_of from to entry else None)
-task_in command (from ∷ to ∷ entry ∷ failed ∷ []) =
-    if bytes_eq command (codes "trace") then option_and_then (λ name. trace_of from to entry (Some name)) (failure_in failed)
-    else None
-task_in command _ = None
+task_in command words =
+    option_or (file_task_in command words) (option_map (λ task. OfRouter task) (router_task_in command words))
 
--- `check DB PROFILE CERT`, `certify DB PROFILE ROUTER`, `table DB PROFILE ROUTER`, `trace DB PROFILE FROM TO blue`, or `red`
--- or `repair`, then nothing or `FAIL`, `fabric DB PROFILE SCRIPT`, `upgrade DB PROFILE CERT`, `order DB PROFILE ROUTER`, or
--- `proxy DB PROFILE ROUTER A B`; no name is empty
+-- a command, the names of a database and of a profile, neither of them empty, and what else the task has
 abbrev pub task_form_of : List (List ℕ) → Option FileForm
 task_form_of (command ∷ database ∷ profile ∷ words) =
     if nat_lt 0 (length database) && nat_lt 0 (length profile)
@@ -138,7 +118,7 @@ task_form_of _ = None
 abbrev pub lfa_of : List (List ℕ) → Option FileForm
 lfa_of (command ∷ database ∷ router ∷ []) =
     if bytes_eq command (codes "lfa") && nat_lt 0 (length database)
-    then option_map (λ number. record { database = database; profile = None; task = Lfa number }) (address_in router)
+    then option_map (λ number. record { database = database; profile = None; task = OfRouter (Lfa number) }) (address_in router)
     else None
 lfa_of _ = None
 

@@ -1,10 +1,8 @@
-pub mod Asked
 pub mod CertSpelling
 pub mod FileBytes
 pub mod Files
-pub mod FloodRead
 pub mod Form
 pub mod Kept
 pub mod Pieces
+pub mod Reading
 pub mod Spellings
-pub mod Unread

@@ -5,7 +5,13 @@ use Rattle.fabric_script.specs.declared.trace.Trace.{Trace as PacketTrace}
 use Rattle.fabric_script.specs.Names.{failure_in, node_in}
 use Rattle.fabric_script.specs.ScriptLines.{entry_in}
 use Rattle.mrt_graph.specs.Spelling.{address_in, number_in}
-use Rattle.mrt_words.specs.Form.{FileForm, FloodForm, Form, OfFiles, Survey, Flood, Task, Check, Certify, Table, Trace, Fabric, Upgrade, Lfa, Order, Proxy, IsNetworkSize}
+use Rattle.mrt_words.specs.declared.form.FileForm.{FileForm}
+use Rattle.mrt_words.specs.declared.form.FloodForm.{FloodForm}
+use Rattle.mrt_words.specs.declared.form.Form.{Form}
+use Rattle.mrt_words.specs.declared.form.Form.TheVariants.{OfFiles, Survey, Flood}
+use Rattle.mrt_words.specs.declared.task.RouterTask.TheVariants.{Certify, Table, Trace, Lfa, Order, Proxy}
+use Rattle.mrt_words.specs.declared.task.Task.TheVariants.{Check, Fabric, Upgrade, OfRouter}
+use Rattle.mrt_words.specs.Form.{Task, IsNetworkSize}
 
 -- the word stands for a profile: its name, which is not empty, or `-` for none
 abbrev pub NamesProfile : Option (List ℕ) → List ℕ → Type 0
@@ -52,14 +58,14 @@ pub record AreProxyWords (router first second : ℕ) (words : List (List ℕ)) :
 -- the words of a task, without the names of the database and of the profile; `lfa` has no profile
 abbrev pub AreTaskWords : Task → List (List ℕ) → Type 0
 AreTaskWords (Check certificate) words = AreNameWords (codes "check") certificate words
-AreTaskWords (Certify router) words = AreRouterWords (codes "certify") router words
-AreTaskWords (Table router) words = AreRouterWords (codes "table") router words
-AreTaskWords (Trace trace) words = AreTraceWords trace words
+AreTaskWords (OfRouter (Certify router)) words = AreRouterWords (codes "certify") router words
+AreTaskWords (OfRouter (Table router)) words = AreRouterWords (codes "table") router words
+AreTaskWords (OfRouter (Trace trace)) words = AreTraceWords trace words
 AreTaskWords (Fabric script) words = AreNameWords (codes "fabric") script words
 AreTaskWords (Upgrade certificate) words = AreNameWords (codes "upgrade") certificate words
-AreTaskWords (Lfa router) words = ⊥
-AreTaskWords (Order router) words = AreRouterWords (codes "order") router words
-AreTaskWords (Proxy router first second) words = AreProxyWords router first second words
+AreTaskWords (OfRouter (Lfa router)) words = ⊥
+AreTaskWords (OfRouter (Order router)) words = AreRouterWords (codes "order") router words
+AreTaskWords (OfRouter (Proxy router first second)) words = AreProxyWords router first second words
 
 -- the command, the names of the database and of the profile, and what else the task has; no name is empty
 pub record AreWordsUnderProfile (form : FileForm) (words : List (List ℕ)) : Type 0 where
@@ -78,7 +84,7 @@ pub record AreLfaWords (form : FileForm) (words : List (List ℕ)) : Type 0 wher
   pub are : words ≡ codes "lfa" ∷ form.database ∷ address ∷ []
   pub named : form.database ≢ []
   pub no_profile : form.profile ≡ None
-  pub task_is : form.task ≡ Lfa router
+  pub task_is : form.task ≡ OfRouter (Lfa router)
   pub router_is : address_in address ≡ Some router
 
 -- `survey NUMBER NODES`, of a size that a network can have

@@ -1,14 +1,12 @@
 //! Reading a certificate file, in pieces.
 
 ghost use Rattle.std.specs.Prelude.{◌≡◌, ◌≤◌, ◌<◌, ◌-◌, ◌^◌, ◌++◌, ℕ, List, [], Ok, IfOk, IfErr, IfSome, OnOk, IsSome, length};
-ghost use Rattle.mrt_io.specs.Counts.{Rose};
-ghost use Rattle.mrt_io.specs.Holding.{IsKnownThere};
 ghost use Rattle.mrt_io.specs.Left.{IsLeftOf};
 ghost use Rattle.cert_format.specs.Stream.{fed};
 ghost use Rattle.mrt_words.specs.Files.{IsReadAs};
 ghost use Rattle.mrt_words.specs.Kept.{IsCertRead};
 ghost use Rattle.mrt_words.specs.Pieces.{IsFedOn};
-ghost use Rattle.mrt_words.specs.Unread.{IsStopped, IsUnread, IsUnreadOrFault};
+ghost use Rattle.mrt_words.specs.Reading.{IsStopped, ReadsFile};
 
 use crate::named_file::NamedFile;
 use cert_format::{CertError, CertFault, CertReader, any_pieces};
@@ -30,19 +28,8 @@ pub(crate) fn read_certificate_file<F: Shelf>(
     file: &NamedFile<'_>,
 ) -> Result<Result<CertFile, CertFault>, Exit>
     requires { file.now.limit < 2 ^ 32 - 1 }
-    ensures read { IfOk result (λ certificate. (bytes : List ℕ) × IsReadAs (F.held shelf.old) file.now bytes
-        × IsCertRead bytes certificate) }
-    ensures refused { IfErr result (IsUnreadOrFault (F.held shelf.old) file.now (F.faults shelf.old) (F.faults shelf.new)) }
-
-    // Where no count rose, and over a healthy shelf, a refusal is due to the files that are held.
-    ensures calm { (Rose (F.faults shelf.old) (F.faults shelf.new) → ⊥) → IfErr result (IsUnread (F.held shelf.old) file.now) }
-    ensures healthy { F.healthy shelf.old → IfErr result (IsUnread (F.held shelf.old) file.now) }
-
-    ensures count { F.faults shelf.old ≤ F.faults shelf.new }
-    ensures unchanged { F.held shelf.new ≡ F.held shelf.old }
-    ensures no_fault { F.healthy shelf.old → IsKnownThere (F.held shelf.old) file.now.name
-        → F.faults shelf.new ≡ F.faults shelf.old }
-    ensures stays_healthy { F.healthy shelf.old → IsKnownThere (F.held shelf.old) file.now.name → F.healthy shelf.new }
+    ensures { ReadsFile F.held F.faults F.healthy shelf.old shelf.new file.now
+        (λ held certificate. (bytes : List ℕ) × IsReadAs held file.now bytes × IsCertRead bytes certificate) result }
 {
     open_file(alloc, shelf, file)?;
     let reader = read_to_end(alloc, shelf, file)?;
@@ -53,14 +40,7 @@ pub(crate) fn read_certificate_file<F: Shelf>(
 fn open_file<F: Shelf>(alloc: Global, shelf: &mut F, file: &NamedFile<'_>) -> Result<(), Exit>
     ensures open { OnOk result (F.is_open shelf.new) }
     ensures left { OnOk result (IsLeftOf (F.held shelf.old) file.now.name (F.left shelf.new)) }
-    ensures refused { IfErr result (IsUnreadOrFault (F.held shelf.old) file.now (F.faults shelf.old) (F.faults shelf.new)) }
-    ensures calm { (Rose (F.faults shelf.old) (F.faults shelf.new) → ⊥) → IfErr result (IsUnread (F.held shelf.old) file.now) }
-    ensures healthy { F.healthy shelf.old → IfErr result (IsUnread (F.held shelf.old) file.now) }
-    ensures count { F.faults shelf.old ≤ F.faults shelf.new }
-    ensures unchanged { F.held shelf.new ≡ F.held shelf.old }
-    ensures no_fault { F.healthy shelf.old → IsKnownThere (F.held shelf.old) file.now.name
-        → F.faults shelf.new ≡ F.faults shelf.old }
-    ensures stays_healthy { F.healthy shelf.old → IsKnownThere (F.held shelf.old) file.now.name → F.healthy shelf.new }
+    ensures opens { ReadsFile F.held F.faults F.healthy shelf.old shelf.new file.now (λ held _. Unit {0}) result }
 {
     match shelf.open(alloc, file.name) {
         Ok(()) => Ok(()),
@@ -78,15 +58,8 @@ fn read_to_end<F: Shelf>(
     requires limit { file.now.limit < 2 ^ 32 - 1 }
     requires open { F.is_open shelf.old }
     requires left { IsLeftOf (F.held shelf.old) file.now.name (F.left shelf.old) }
-    ensures read { IfOk result (λ reader. (bytes : List ℕ) × IsReadAs (F.held shelf.old) file.now bytes
-        × (reader ≡ fed (Ok []) bytes)) }
-    ensures refused { IfErr result (IsUnreadOrFault (F.held shelf.old) file.now (F.faults shelf.old) (F.faults shelf.new)) }
-    ensures calm { (Rose (F.faults shelf.old) (F.faults shelf.new) → ⊥) → IfErr result (IsUnread (F.held shelf.old) file.now) }
-    ensures healthy { F.healthy shelf.old → IfErr result (IsUnread (F.held shelf.old) file.now) }
-    ensures count { F.faults shelf.old ≤ F.faults shelf.new }
-    ensures unchanged { F.held shelf.new ≡ F.held shelf.old }
-    ensures no_fault { F.healthy shelf.old → IsSome (F.left shelf.old) → F.faults shelf.new ≡ F.faults shelf.old }
-    ensures stays_healthy { F.healthy shelf.old → IsSome (F.left shelf.old) → F.healthy shelf.new }
+    ensures { ReadsFile F.held F.faults F.healthy shelf.old shelf.new file.now
+        (λ held reader. (bytes : List ℕ) × IsReadAs held file.now bytes × (reader ≡ fed (Ok []) bytes)) result }
 {
     let mut piece = zeros(alloc, PIECE)?;
     read_in_pieces(alloc, shelf, file, piece.as_mut_slice())
@@ -103,15 +76,8 @@ fn read_in_pieces<F: Shelf>(
     requires piece { length piece.old ≡ 65536 }
     requires open { F.is_open shelf.old }
     requires left { IsLeftOf (F.held shelf.old) file.now.name (F.left shelf.old) }
-    ensures read { IfOk result (λ reader. (bytes : List ℕ) × IsReadAs (F.held shelf.old) file.now bytes
-        × (reader ≡ fed (Ok []) bytes)) }
-    ensures refused { IfErr result (IsUnreadOrFault (F.held shelf.old) file.now (F.faults shelf.old) (F.faults shelf.new)) }
-    ensures calm { (Rose (F.faults shelf.old) (F.faults shelf.new) → ⊥) → IfErr result (IsUnread (F.held shelf.old) file.now) }
-    ensures healthy { F.healthy shelf.old → IfErr result (IsUnread (F.held shelf.old) file.now) }
-    ensures count { F.faults shelf.old ≤ F.faults shelf.new }
-    ensures unchanged { F.held shelf.new ≡ F.held shelf.old }
-    ensures no_fault { F.healthy shelf.old → IsSome (F.left shelf.old) → F.faults shelf.new ≡ F.faults shelf.old }
-    ensures stays_healthy { F.healthy shelf.old → IsSome (F.left shelf.old) → F.healthy shelf.new }
+    ensures { ReadsFile F.held F.faults F.healthy shelf.old shelf.new file.now
+        (λ held reader. (bytes : List ℕ) × IsReadAs held file.now bytes × (reader ≡ fed (Ok []) bytes)) result }
 {
     any_pieces();
     let mut reader = CertReader::new(alloc);

@@ -2,14 +2,18 @@
 #![tactic(auto)]
 
 mod certificate_file;
+mod file_name;
 mod files_read;
+mod form;
 mod named_file;
 mod reading;
+mod task;
 mod words;
 mod words_law;
-mod work;
 
+pub use file_name::FileName;
 pub use files_read::{FilesRead, FloodRead, read_files, read_flood_files};
-pub use words::{FileForm, FloodForm, Form, Task, read_form};
+pub use form::{FileForm, FloodForm, Form};
+pub use task::{RouterTask, Task, Work};
+pub use words::read_form;
 pub use words_law::words_spell_one_form;
-pub use work::Work;

@@ -3,6 +3,7 @@
 ghost use Rattle.std.specs.Prelude.{◌≡◌};
 ghost use Rattle.mrt_words.specs.Files.{certificate_file, database_file, profile_file, script_file, updates_file};
 
+use crate::file_name::FileName;
 use mrt_exit::What;
 use mrt_io::Word;
 use std::marker::Model;
@@ -40,56 +41,56 @@ impl<'a> Model for NamedFile<'a> {
 }
 
 impl<'a> NamedFile<'a> {
-    pub(crate) fn database(name: &'a Word) -> NamedFile<'a>
+    pub(crate) fn database(name: &FileName<'a>) -> NamedFile<'a>
         ensures { result ≡ database_file name.now }
     {
         NamedFile {
             place: 1,
-            name,
+            name: name.word(),
             what: What::DatabaseFile,
             limit: DATABASE_LIMIT,
         }
     }
 
-    pub(crate) fn updates(name: &'a Word) -> NamedFile<'a>
+    pub(crate) fn updates(name: &FileName<'a>) -> NamedFile<'a>
         ensures { result ≡ updates_file name.now }
     {
         NamedFile {
             place: 1,
-            name,
+            name: name.word(),
             what: What::UpdatesFile,
             limit: UPDATES_LIMIT,
         }
     }
 
-    pub(crate) fn profile(name: &'a Word) -> NamedFile<'a>
+    pub(crate) fn profile(name: &FileName<'a>) -> NamedFile<'a>
         ensures { result ≡ profile_file name.now }
     {
         NamedFile {
             place: 2,
-            name,
+            name: name.word(),
             what: What::ProfileFile,
             limit: PROFILE_LIMIT,
         }
     }
 
-    pub(crate) fn certificate(name: &'a Word) -> NamedFile<'a>
+    pub(crate) fn certificate(name: &FileName<'a>) -> NamedFile<'a>
         ensures { result ≡ certificate_file name.now }
     {
         NamedFile {
             place: 3,
-            name,
+            name: name.word(),
             what: What::CertificateFile,
             limit: CERTIFICATE_LIMIT,
         }
     }
 
-    pub(crate) fn script(name: &'a Word) -> NamedFile<'a>
+    pub(crate) fn script(name: &FileName<'a>) -> NamedFile<'a>
         ensures { result ≡ script_file name.now }
     {
         NamedFile {
             place: 3,
-            name,
+            name: name.word(),
             what: What::ScriptFile,
             limit: SCRIPT_LIMIT,
         }

@@ -1,21 +1,18 @@
 //! Reading the files that the words name.
 
-ghost use Rattle.std.specs.Prelude.{◌≡◌, ◌≤◌, ◌<◌, ◌-◌, ◌^◌, ℕ, List, IfOk, IfErr, IfSome};
-ghost use Rattle.std.specs.Option.{IsSomeAnd, option_map};
-ghost use Rattle.mrt_io.specs.Counts.{Rose};
-ghost use Rattle.mrt_io.specs.Holding.{IsKnownThere};
-ghost use Rattle.mrt_words.specs.Asked.{task_asked};
+ghost use Rattle.std.specs.Prelude.{◌≡◌, ◌<◌, ◌-◌, ◌^◌, ℕ, List, Option};
+ghost use Rattle.std.specs.Option.{option_map, option_to_list};
 ghost use Rattle.mrt_words.specs.FileBytes.{IsLastRead, IsProfileRead};
 ghost use Rattle.mrt_words.specs.Files.{IsReadAs, profile_file, task_file};
 ghost use Rattle.mrt_words.specs.Kept.{IsWorkFor};
-ghost use Rattle.mrt_words.specs.Unread.{IsUnread, IsUnreadOrFault};
+ghost use Rattle.mrt_words.specs.Reading.{ReadsFile, ReadsFiles};
 
 use crate::certificate_file::read_certificate_file;
+use crate::file_name::FileName;
 use crate::named_file::NamedFile;
-use crate::words::Task;
-use crate::work::Work;
+use crate::task::{Task, Work};
 use mrt_exit::Exit;
-use mrt_io::{Shelf, ShelfError, Word};
+use mrt_io::{Shelf, ShelfError};
 use std::alloc::Global;
 
 /// The bytes of a file.
@@ -25,18 +22,8 @@ pub(crate) fn read_file<F: Shelf>(
     file: &NamedFile<'_>,
 ) -> Result<Vec<u8>, Exit>
     requires { file.now.limit < 2 ^ 32 - 1 }
-    ensures read { IfOk result (λ bytes. IsReadAs (F.held shelf.old) file.now bytes.items) }
-    ensures refused { IfErr result (IsUnreadOrFault (F.held shelf.old) file.now (F.faults shelf.old) (F.faults shelf.new)) }
-
-    // Where no count rose, and over a healthy shelf, a refusal is due to the files that are held.
-    ensures calm { (Rose (F.faults shelf.old) (F.faults shelf.new) → ⊥) → IfErr result (IsUnread (F.held shelf.old) file.now) }
-    ensures healthy { F.healthy shelf.old → IfErr result (IsUnread (F.held shelf.old) file.now) }
-
-    ensures count { F.faults shelf.old ≤ F.faults shelf.new }
-    ensures unchanged { F.held shelf.new ≡ F.held shelf.old }
-    ensures no_fault { F.healthy shelf.old → IsKnownThere (F.held shelf.old) file.now.name
-        → F.faults shelf.new ≡ F.faults shelf.old }
-    ensures stays_healthy { F.healthy shelf.old → IsKnownThere (F.held shelf.old) file.now.name → F.healthy shelf.new }
+    ensures { ReadsFile F.held F.faults F.healthy shelf.old shelf.new file.now
+        (λ held bytes. IsReadAs held file.now bytes.items) result }
 {
     match shelf.read(alloc, file.name, file.limit) {
         Ok(bytes) => Ok(bytes),
@@ -53,21 +40,10 @@ pub(crate) fn read_file<F: Shelf>(
 pub(crate) fn read_profile_file<F: Shelf>(
     alloc: Global,
     shelf: &mut F,
-    profile: Option<&Word>,
+    profile: &Option<FileName<'_>>,
 ) -> Result<Vec<u8>, Exit>
-    ensures read { IfOk result (λ bytes. IsProfileRead (F.held shelf.old) (option_map (λ name. name.now) profile.entry) bytes.items) }
-    ensures refused { IfErr result (λ exit. IsSomeAnd (option_map (λ name. name.now) profile.entry)
-        (λ name. IsUnreadOrFault (F.held shelf.old) (profile_file name) (F.faults shelf.old) (F.faults shelf.new) exit)) }
-    ensures calm { (Rose (F.faults shelf.old) (F.faults shelf.new) → ⊥)
-        → IfErr result (λ exit. IsSomeAnd (option_map (λ name. name.now) profile.entry) (λ name. IsUnread (F.held shelf.old) (profile_file name) exit)) }
-    ensures healthy { F.healthy shelf.old
-        → IfErr result (λ exit. IsSomeAnd (option_map (λ name. name.now) profile.entry) (λ name. IsUnread (F.held shelf.old) (profile_file name) exit)) }
-    ensures count { F.faults shelf.old ≤ F.faults shelf.new }
-    ensures unchanged { F.held shelf.new ≡ F.held shelf.old }
-    ensures no_fault { F.healthy shelf.old → IfSome (option_map (λ name. name.now) profile.entry) (IsKnownThere (F.held shelf.old))
-        → F.faults shelf.new ≡ F.faults shelf.old }
-    ensures stays_healthy { F.healthy shelf.old → IfSome (option_map (λ name. name.now) profile.entry) (IsKnownThere (F.held shelf.old))
-        → F.healthy shelf.new }
+    ensures { ReadsFiles F.held F.faults F.healthy shelf.old shelf.new (option_to_list (option_map profile_file profile.now))
+        (λ held bytes. IsProfileRead held profile.now bytes.items) result }
 {
     match profile {
         None => Ok(Vec::new(alloc)),
@@ -79,48 +55,21 @@ pub(crate) fn read_profile_file<F: Shelf>(
 pub(crate) fn read_task_file<F: Shelf>(
     alloc: Global,
     shelf: &mut F,
-    task: Task<'_>,
+    task: &Task<FileName<'_>, FileName<'_>>,
 ) -> Result<Work, Exit>
-    ensures read { IfOk result (λ work. (last : List ℕ)
-        × IsLastRead (F.held shelf.old) (task_file (task_asked task.entry)) last × IsWorkFor (task_asked task.entry) last work) }
-    ensures refused { IfErr result (λ exit. IsSomeAnd (task_file (task_asked task.entry))
-        (λ file. IsUnreadOrFault (F.held shelf.old) file (F.faults shelf.old) (F.faults shelf.new) exit)) }
-    ensures calm { (Rose (F.faults shelf.old) (F.faults shelf.new) → ⊥)
-        → IfErr result (λ exit. IsSomeAnd (task_file (task_asked task.entry)) (λ file. IsUnread (F.held shelf.old) file exit)) }
-    ensures healthy { F.healthy shelf.old
-        → IfErr result (λ exit. IsSomeAnd (task_file (task_asked task.entry)) (λ file. IsUnread (F.held shelf.old) file exit)) }
-    ensures count { F.faults shelf.old ≤ F.faults shelf.new }
-    ensures unchanged { F.held shelf.new ≡ F.held shelf.old }
-    ensures no_fault { F.healthy shelf.old
-        → IfSome (task_file (task_asked task.entry)) (λ file. IsKnownThere (F.held shelf.old) file.name)
-        → F.faults shelf.new ≡ F.faults shelf.old }
-    ensures stays_healthy { F.healthy shelf.old
-        → IfSome (task_file (task_asked task.entry)) (λ file. IsKnownThere (F.held shelf.old) file.name)
-        → F.healthy shelf.new }
+    ensures { ReadsFiles F.held F.faults F.healthy shelf.old shelf.new (option_to_list (task_file task.now))
+        (λ held work. (last : List ℕ) × IsLastRead held (task_file task.now) last × IsWorkFor task.now last work) result }
 {
     match task {
-        Task::Check { certificate } => Ok(Work::Check {
+        Task::Check { certificate } => Ok(Task::Check {
             certificate: read_certificate_file(alloc, shelf, &NamedFile::certificate(certificate))?,
         }),
-        Task::Upgrade { certificate } => Ok(Work::Upgrade {
+        Task::Upgrade { certificate } => Ok(Task::Upgrade {
             certificate: read_certificate_file(alloc, shelf, &NamedFile::certificate(certificate))?,
         }),
-        Task::Certify { router } => Ok(Work::Certify { router }),
-        Task::Table { router } => Ok(Work::Table { router }),
-        Task::Trace { trace } => Ok(Work::Trace { trace }),
-        Task::Lfa { router } => Ok(Work::Lfa { router }),
-        Task::Order { router } => Ok(Work::Order { router }),
-        Task::Proxy {
-            router,
-            first,
-            second,
-        } => Ok(Work::Proxy {
-            router,
-            first,
-            second,
-        }),
-        Task::Fabric { script } => Ok(Work::Fabric {
+        Task::Fabric { script } => Ok(Task::Fabric {
             script: read_file(alloc, shelf, &NamedFile::script(script))?,
         }),
+        Task::OfRouter(asked) => Ok(Task::OfRouter(*asked)),
     }
 }

@@ -1,7 +1,9 @@
-use Rattle.std.proofs.Common.{◌∙◌, ◌+◌, ap, arith}
+use Rattle.std.proofs.Common.{◌∙◌, ◌+◌, ap, inl, arith}
 use Rattle.std.proofs.lemmas.Grind.{common_steps}
+use Rattle.mrt_exit.specs.declared.exit.Exit.TheVariants.{TooLarge}
 use Rattle.mrt_words.specs.Files.{NamedFile}
-use Rattle.mrt_words.proofs.Pieces.{fed_more, fed_too_long, still_told}
+use Rattle.mrt_words.specs.Reading.{IsUnread}
+use Rattle.mrt_words.proofs.Pieces.{fed_more, fed_too_long, still_told, told_left}
 use Rattle.mrt_words.proofs.certificate_file.read_in_pieces.Goals as goal
 
 pub loop-room-preserved : goal.loop-room-preserved
@@ -21,23 +23,22 @@ loop-room-preserved g c =
           (still_told _ _ _ before.so_far.taken told);
     }
 
-pub returns-clause-refused : goal.returns-clause-refused
-returns-clause-refused g c = (
-  ap (λ (f : NamedFile). f.what) c.file.view_is,
-  ap (λ (f : NamedFile). f.limit + 1) c.file.view_is,
-  (fed_too_long _ c.args.file.now _ _ _ _ c.requires.left c.loop-room.invariant.so_far c.loop-room-test.false).2,
-)
-
-pub returns-clause-calm : goal.returns-clause-calm
-returns-clause-calm g c = λ calm. (
-  ap (λ (f : NamedFile). f.what) c.file.view_is,
-  ap (λ (f : NamedFile). f.limit + 1) c.file.view_is,
-  (fed_too_long _ c.args.file.now _ _ _ _ c.requires.left c.loop-room.invariant.so_far c.loop-room-test.false).2,
-)
-
-pub returns-clause-healthy : goal.returns-clause-healthy
-returns-clause-healthy g c = λ healthy. (
-  ap (λ (f : NamedFile). f.what) c.file.view_is,
-  ap (λ (f : NamedFile). f.limit + 1) c.file.view_is,
-  (fed_too_long _ c.args.file.now _ _ _ _ c.requires.left c.loop-room.invariant.so_far c.loop-room-test.false).2,
-)
+pub returns : goal.returns
+returns g c =
+    let held = g.F.Shelf.held c.args.shelf.now in
+    let before = c.loop-room.invariant in
+    let long : IsUnread held c.args.file.now (TooLarge c.file.inside.what (c.file.inside.limit + 1)) = (
+      ap (λ (f : NamedFile). f.what) c.file.view_is,
+      ap (λ (f : NamedFile). f.limit + 1) c.file.view_is,
+      (fed_too_long _ c.args.file.now _ _ _ _ c.requires.left before.so_far c.loop-room-test.false).2,
+    ) in
+    record {
+      read = tt;
+      refused = inl long;
+      calm = λ calm. inl long;
+      in_health = λ well. inl long;
+      count = before.count;
+      unchanged = before.unchanged;
+      no_fault = λ well there. before.no_fault well (told_left held c.args.file.now.name _ c.requires.left there.0);
+      stays_healthy = λ well there. before.stays_healthy well (told_left held c.args.file.now.name _ c.requires.left there.0);
+    }

@@ -1,6 +1,7 @@
 use Rattle.std.proofs.Common.{Option, sym, subst}
 use Rattle.std.specs.Prelude.{IfSome}
-use Rattle.mrt_words.specs.Form.{FileForm, IsTaskWithin}
+use Rattle.mrt_words.specs.declared.form.FileForm.{FileForm}
+use Rattle.mrt_words.specs.Form.{IsTaskWithin}
 use Rattle.mrt_words.proofs.Spelled.{form_within}
 use Rattle.mrt_words.proofs.words.read_form.Goals as goal
 

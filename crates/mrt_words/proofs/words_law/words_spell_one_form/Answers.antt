@@ -1,6 +1,6 @@
-use Rattle.std.proofs.Common.{◌≡◌, ℕ, List, Option, Some, subst}
+use Rattle.std.proofs.Common.{Option, subst}
 use Rattle.std.specs.Prelude.{IfSome}
-use Rattle.mrt_words.specs.Form.{Form, form_of}
+use Rattle.mrt_words.specs.declared.form.Form.{Form}
 use Rattle.mrt_words.specs.Spellings.{AreWordsOf}
 use Rattle.mrt_words.proofs.Spelled.{form_spelled}
 use Rattle.mrt_words.proofs.Spelling.{form_is}
