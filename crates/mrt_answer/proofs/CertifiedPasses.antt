@@ -19,7 +19,8 @@ use Rattle.mrt_island.specs.Policy.{Policy}
 use Rattle.mrt_words.specs.FileBytes.{FileBytes, with_last}
 use Rattle.mrt_answer.specs.Answers.{GivesOver}
 use Rattle.mrt_answer.specs.Certified.{IsCertified}
-use Rattle.mrt_words.specs.Form.{Check, Certify, Upgrade}
+use Rattle.mrt_words.specs.declared.task.RouterTask.TheVariants.{Certify}
+use Rattle.mrt_words.specs.declared.task.Task.TheVariants.{Check, Upgrade, OfRouter}
 use Rattle.mrt_answer.specs.Input.{Input, HasIsland, IsInput, area, policy}
 use Rattle.mrt_words.specs.CertSpelling.{IsSpellingOf}
 use Rattle.mrt_answer.specs.Upgraded.{upgraded}
@@ -71,7 +72,7 @@ module _ (areas : AreaLaws) (each : EachRouterLaw) where
       }
 
   -- the check of what was written says yes
-  pub accepts : (bytes : FileBytes) (router : ℕ) (certificate text : List ℕ) → (over : GivesOver (Certify router) bytes text)
+  pub accepts : (bytes : FileBytes) (router : ℕ) (certificate text : List ℕ) → (over : GivesOver (OfRouter (Certify router)) bytes text)
       → (line : List ℕ) × GivesOver (Check certificate) (with_last bytes text) line
   accepts bytes router certificate text over =
       let file : CertFile = over.gives.certificate.file in (
@@ -97,7 +98,7 @@ module _ (areas : AreaLaws) (each : EachRouterLaw) where
       )
 
   -- the upgrade of what was written gives it as it is: it is of version 2
-  pub upgrades : (bytes : FileBytes) (router : ℕ) (certificate text : List ℕ) → GivesOver (Certify router) bytes text
+  pub upgrades : (bytes : FileBytes) (router : ℕ) (certificate text : List ℕ) → GivesOver (OfRouter (Certify router)) bytes text
       → GivesOver (Upgrade certificate) (with_last bytes text) text
   upgrades bytes router certificate text over =
       let file : CertFile = over.gives.certificate.file in
@@ -125,7 +126,7 @@ module _ (areas : AreaLaws) (each : EachRouterLaw) where
       }
 
 -- what was written is within the limit of a certificate's file
-pub short : LongestLaw → (bytes : FileBytes) (router : ℕ) (text : List ℕ) → GivesOver (Certify router) bytes text
+pub short : LongestLaw → (bytes : FileBytes) (router : ℕ) (text : List ℕ) → GivesOver (OfRouter (Certify router)) bytes text
     → length text ≤ 134217728
 short longest bytes router text over =
     let at_most = longest over.gives.certificate.file over.gives.certificate.spelled.within in

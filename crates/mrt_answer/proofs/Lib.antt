@@ -17,6 +17,7 @@ pub mod PacketsServed
 pub mod ProxyBetween
 pub mod Refusals
 pub mod Tables
+pub mod TaskSays
 pub mod TextsHeld
 pub mod ToldAlike
 pub mod Upgrades

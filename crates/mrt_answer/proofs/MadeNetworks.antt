@@ -28,10 +28,11 @@ use Rattle.mrt_answer.specs.Database.{IsBadDatabase}
 use Rattle.mrt_words.specs.Form.{IsNetworkSize}
 use Rattle.mrt_answer.specs.Input.{Input, IsInput, area, input_of}
 use Rattle.mrt_answer.specs.Islands.{HasNoIslandFor}
-use Rattle.mrt_answer.specs.Refusals.{HasNoDatabase, HasNone}
+use Rattle.mrt_answer.specs.Refusals.{HasNoDatabase}
 use Rattle.mrt_answer.specs.Surveyed.{IsSummedUp, made_input}
 use Rattle.mrt_answer.specs.Tabled.{IsComputedFile}
 use Rattle.mrt_answer.proofs.OneVerdict.{no_large_area}
+use Rattle.mrt_words.specs.Reading.{IsDue}
 
 -- the laws of the layers below on the LSAs, on the area and on the islands of a network
 pub record NetworkLaws : Type 0 where
@@ -125,16 +126,16 @@ newest_of_made (Ok database) bytes number nodes is only held =
 newest_of_made (Err error) bytes number nodes is only held = tt
 
 memory_of_island : (input : Input) (router : ℕ) (exit : Exit)
-    → ((exit : Exit) → HasNoIslandFor input router exit → ⊥) → HasNone input router exit → exit ≡ exits.NoMemory
+    → ((exit : Exit) → HasNoIslandFor input router exit → ⊥) → IsDue (HasNoIslandFor input router) exit → exit ≡ exits.NoMemory
 memory_of_island input router exit has (inl none) = absurd (has exit none)
 memory_of_island input router exit has (inr memory) = memory
 
 pub memory_of_islands : {T : Type 0} (answer : Result T Exit) (input given : Input) (router : ℕ) → given ≡ input
-    → ((exit : Exit) → HasNoIslandFor input router exit → ⊥) → IfErr answer (HasNone given router)
+    → ((exit : Exit) → HasNoIslandFor input router exit → ⊥) → IfErr answer (IsDue (HasNoIslandFor given router))
     → IfErr answer (λ exit. exit ≡ exits.NoMemory)
 memory_of_islands (Ok t) input given router same has said = tt
 memory_of_islands (Err exit) input given router same has said =
-    memory_of_island input router exit has (subst (λ (it : Input). HasNone it router exit) same said)
+    memory_of_island input router exit has (subst (λ (it : Input). IsDue (HasNoIslandFor it router) exit) same said)
 
 -- where a database holds the LSAs of a network, and a profile nothing, they hold what is surveyed
 pub made_input_is : (entries : List Entry) (settings : List Setting) (number nodes : ℕ)

@@ -44,7 +44,9 @@ use Rattle.mrt_answer.specs.Certified.{IsCertified, IsComputed}
 use Rattle.ospf_lsa.specs.AreaLsas.{is_topology as enters}
 use Rattle.lsdb.specs.Database.{IsDatabase, entering}
 use Rattle.mrt_answer.specs.Database.{IsBadDatabase}
-use Rattle.mrt_words.specs.Form.{IsNetworkSize, Task, Check, Certify, Table, Trace, Fabric, Upgrade, Lfa, Order, Proxy}
+use Rattle.mrt_words.specs.declared.task.RouterTask.TheVariants.{Certify, Table, Trace, Lfa, Order, Proxy}
+use Rattle.mrt_words.specs.declared.task.Task.TheVariants.{Check, Fabric, Upgrade, OfRouter}
+use Rattle.mrt_words.specs.Form.{IsNetworkSize, Task}
 use Rattle.mrt_answer.specs.Input.{Input, HasAreaWithin, HasIsland, IsAbsent, IsInput, IsMissing, area, policy}
 use Rattle.mrt_words.specs.CertSpelling.{IsSpellingOf}
 use Rattle.mrt_answer.specs.Islands.{HasNoIslandFor, HasNoRouterFor, HasNoneFor}
@@ -522,40 +524,40 @@ module _ (laws : Laws) where
       one_task : (task : Task) (exit other : Exit) → IsRefusedTask task input last exit
           → IsRefusedTask task input last other → exit ≡ other
       one_task (Check certificate) exit other one two = one_verdict last exit other one two
-      one_task (Certify router) exit other one two = one_none (IsMissing (policy input) (area input) router) router exit other one two
-      one_task (Table router) exit other one two = one_none (IsMissing (policy input) (area input) router) router exit other one two
-      one_task (Trace trace) exit other one two = one_none (IsMissing (policy input) (area input) trace.from) trace.from exit other one two
+      one_task (OfRouter (Certify router)) exit other one two = one_none (IsMissing (policy input) (area input) router) router exit other one two
+      one_task (OfRouter (Table router)) exit other one two = one_none (IsMissing (policy input) (area input) router) router exit other one two
+      one_task (OfRouter (Trace trace)) exit other one two = one_none (IsMissing (policy input) (area input) trace.from) trace.from exit other one two
       one_task (Fabric script) exit other one two = one_no_run last exit other one two
       one_task (Upgrade certificate) exit other one two = one_verdict last exit other one two
-      one_task (Lfa router) exit other one two = one_none (IsAbsent (area input) router) router exit other one two
-      one_task (Order router) exit other one two = one_none (IsMissing (policy input) (area input) router) router exit other one two
-      one_task (Proxy router first second) exit other one two = one_no_proxy router first second exit other one two
+      one_task (OfRouter (Lfa router)) exit other one two = one_none (IsAbsent (area input) router) router exit other one two
+      one_task (OfRouter (Order router)) exit other one two = one_none (IsMissing (policy input) (area input) router) router exit other one two
+      one_task (OfRouter (Proxy router first second)) exit other one two = one_no_proxy router first second exit other one two
 
       no_task : (task : Task) (text : List ℕ) (exit : Exit) → GivesFor task input last text
           → IsRefusedTask task input last exit → ⊥
       no_task (Check certificate) text exit taken refused = no_verdict_given last text exit taken refused
-      no_task (Certify router) text exit taken refused = no_refusal_certified router text exit taken refused
-      no_task (Table router) text exit taken refused = no_refusal_tabled router text exit taken refused
-      no_task (Trace trace) text exit taken refused =
+      no_task (OfRouter (Certify router)) text exit taken refused = no_refusal_certified router text exit taken refused
+      no_task (OfRouter (Table router)) text exit taken refused = no_refusal_tabled router text exit taken refused
+      no_task (OfRouter (Trace trace)) text exit taken refused =
           no_refusal_parts trace.from taken.0 exit taken.1 refused
       no_task (Fabric script) text exit taken refused = no_run_given last text exit taken refused
       no_task (Upgrade certificate) text exit taken refused = no_upgrade_given last text exit taken refused
-      no_task (Lfa router) text exit taken refused = no_refusal_loop_free router text exit taken refused
-      no_task (Order router) text exit taken refused =
+      no_task (OfRouter (Lfa router)) text exit taken refused = no_refusal_loop_free router text exit taken refused
+      no_task (OfRouter (Order router)) text exit taken refused =
           no_island_none router taken.graph taken.root exit taken.island refused
-      no_task (Proxy router first second) text exit taken refused = no_refusal_proxied router first second text exit taken refused
+      no_task (OfRouter (Proxy router first second)) text exit taken refused = no_refusal_proxied router first second text exit taken refused
 
       one_task_text : (task : Task) (text other : List ℕ) → GivesFor task input last text
           → GivesFor task input last other → text ≡ other
       one_task_text (Check certificate) text other one two = one_verdict_text last text other one two
-      one_task_text (Certify router) text other one two = one_certified router text other one two
-      one_task_text (Table router) text other one two = one_tabled router text other one two
-      one_task_text (Trace trace) text other one two = one_trace trace text other one two
+      one_task_text (OfRouter (Certify router)) text other one two = one_certified router text other one two
+      one_task_text (OfRouter (Table router)) text other one two = one_tabled router text other one two
+      one_task_text (OfRouter (Trace trace)) text other one two = one_trace trace text other one two
       one_task_text (Fabric script) text other one two = one_run_text last text other one two
       one_task_text (Upgrade certificate) text other one two = one_upgrade_text last text other one two
-      one_task_text (Lfa router) text other one two = one_loop_free router text other one two
-      one_task_text (Order router) text other one two = one_order router text other one two
-      one_task_text (Proxy router first second) text other one two = one_proxied router first second text other one two
+      one_task_text (OfRouter (Lfa router)) text other one two = one_loop_free router text other one two
+      one_task_text (OfRouter (Order router)) text other one two = one_order router text other one two
+      one_task_text (OfRouter (Proxy router first second)) text other one two = one_proxied router first second text other one two
 
   -- ---- over the bytes of the files
 

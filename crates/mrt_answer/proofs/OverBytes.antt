@@ -4,13 +4,15 @@ use Rattle.std.specs.Prelude.{IfErr, IfOk}
 use Rattle.mrt_exit.specs.declared.exit.Exit.{Exit}
 use Rattle.mrt_exit.specs.declared.exit.Exit.TheVariants as exits
 use Rattle.mrt_words.specs.FileBytes.{FileBytes}
-use Rattle.mrt_words.specs.Form.{Task, Check, Certify, Table, Trace, Fabric, Upgrade, Lfa, Order, Proxy}
+use Rattle.mrt_words.specs.Form.{Task}
 use Rattle.mrt_answer.specs.declared.text.Text.{Text}
-use Rattle.mrt_answer.specs.Answers.{GivesFor, GivesOver}
+use Rattle.mrt_answer.specs.Answers.{GivesFor, GivesOver, IsRefusedTask}
 use Rattle.mrt_answer.specs.Input.{Input, IsInput}
-use Rattle.mrt_answer.specs.Refusals.{HasNoInput, IsAnswerOver, IsTaskRefusal}
+use Rattle.mrt_answer.specs.Refusals.{HasNoInput, IsAnswerOver}
 use Rattle.mrt_answer.specs.TextBytes.{HasText}
+use Rattle.mrt_answer.proofs.TaskSays.{task_says}
 use Rattle.mrt_answer.proofs.TextsHeld.{answer_has_also}
+use Rattle.mrt_words.specs.Reading.{IsDue}
 
 -- a text for what the bytes hold is one over the bytes
 pub gives_over : (answer : Result Text Exit) (task : Task) (bytes : FileBytes)
@@ -22,7 +24,7 @@ gives_over answer task bytes input given said =
 
 -- what is said by a task is said of the bytes
 task_over : (task : Task) (bytes : FileBytes) (input : Input) → IsInput bytes.first bytes.profile input
-    → (exit : Exit) → IsTaskRefusal task input bytes.last exit → IsAnswerOver task bytes exit
+    → (exit : Exit) → IsDue (IsRefusedTask task input bytes.last) exit → IsAnswerOver task bytes exit
 task_over task bytes input given exit (inr memory) = subst (IsAnswerOver task bytes) (sym memory) (inr refl)
 task_over task bytes input given (exits.BadCertificate at kind) (inl said) = inl (input, given, said)
 task_over task bytes input given (exits.BadScript line) (inl said) = inl (input, given, said)
@@ -30,19 +32,11 @@ task_over task bytes input given (exits.TooLarge what size) (inl said) = inl (in
 task_over task bytes input given (exits.NotThere number) (inl said) = inl (input, given, said)
 task_over task bytes input given (exits.No rule a b) (inl said) = inl (input, given, said)
 task_over task bytes input given exits.NoCommonBlock (inl said) = inl (input, given, said)
-task_over (Check certificate) bytes input given exit (inl said) = absurd said.2
-task_over (Certify router) bytes input given exit (inl said) = absurd said
-task_over (Table router) bytes input given exit (inl said) = absurd said
-task_over (Trace trace) bytes input given exit (inl said) = absurd said
-task_over (Fabric script) bytes input given exit (inl said) = absurd said.2
-task_over (Upgrade certificate) bytes input given exit (inl said) = absurd said.2
-task_over (Lfa router) bytes input given exit (inl said) = absurd said
-task_over (Order router) bytes input given exit (inl said) = absurd said
-task_over (Proxy router first second) bytes input given exit (inl said) = absurd said
+task_over task bytes input given exit (inl said) = absurd (task_says task input bytes.last exit said)
 
 pub tasks_over : {T : Type 0} (answer : Result T Exit) (task : Task) (bytes : FileBytes) (input : Input)
     → IsInput bytes.first bytes.profile input
-    → IfErr answer (IsTaskRefusal task input bytes.last) → IfErr answer (IsAnswerOver task bytes)
+    → IfErr answer (IsDue (IsRefusedTask task input bytes.last)) → IfErr answer (IsAnswerOver task bytes)
 tasks_over (Ok t) task bytes input given said = tt
 tasks_over (Err exit) task bytes input given said = task_over task bytes input given exit said
 

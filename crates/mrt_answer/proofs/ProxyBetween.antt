@@ -17,11 +17,11 @@ use Rattle.mrt_exit.specs.declared.exit.Exit.TheVariants as exits
 use Rattle.mrt_answer.specs.declared.text.Text.{Text}
 use Rattle.mrt_answer.specs.Computed.{HasComputed}
 use Rattle.mrt_answer.specs.Input.{HasIsland, Input}
-use Rattle.mrt_answer.specs.Proxied.{HasNoProxyOf, HasProxy, IsProxyOf}
-use Rattle.mrt_answer.specs.Refusals.{IsProxyRefusal}
+use Rattle.mrt_answer.specs.Proxied.{HasNoProxyOf, HasProxy, IsProxyOf, HasNoProxy}
 use Rattle.mrt_answer.specs.TextBytes.{HasText}
 use Rattle.mrt_answer.proofs.OneProxy.{accepted_for}
 use Rattle.mrt_answer.proofs.TextsHeld.{answer_has_also}
+use Rattle.mrt_words.specs.Reading.{IsDue}
 
 module _ (input : Input) (number first second : ℕ) (graph : Topology) (root : ℕ) (island : HasIsland input number graph root) (a b : ℕ)
     (first_is : slice_get graph.ids a ≡ Some (router_node first)) (second_is : slice_get graph.ids b ≡ Some (router_node second)) where
@@ -42,7 +42,7 @@ module _ (input : Input) (number first second : ℕ) (graph : Topology) (root : 
     spelled = of.spelled;
   }) answer given
 
-  refusal : (exit : Exit) → HasNoProxyOf graph root a b exit → IsProxyRefusal input number first second exit
+  refusal : (exit : Exit) → HasNoProxyOf graph root a b exit → IsDue (HasNoProxy input number first second) exit
   refusal exits.NoCommonBlock none = inl (
     record {
       graph = graph;
@@ -61,7 +61,7 @@ module _ (input : Input) (number first second : ℕ) (graph : Topology) (root : 
   refusal exit none = absurd none
 
   pub refused : (answer : Result Text Exit) → IfErr answer (HasNoProxyOf graph root a b)
-      → IfErr answer (IsProxyRefusal input number first second)
+      → IfErr answer (IsDue (HasNoProxy input number first second))
   refused (Ok text) none = tt
   refused (Err exit) none = refusal exit none
 

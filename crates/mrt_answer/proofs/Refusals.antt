@@ -17,17 +17,19 @@ use Rattle.mrt_exit.specs.declared.exit.Exit.TheVariants as exits
 use Rattle.lsdb.specs.Database.{IsDatabase}
 use Rattle.ospf_lsa.specs.declared.lsa.Lsa.{Lsa}
 use Rattle.mrt_exit.specs.Faults.{certificate_exit}
-use Rattle.mrt_answer.specs.Islands.{HasNoneFor}
+use Rattle.mrt_answer.specs.Islands.{HasNoneFor, HasNoIslandFor}
 use Rattle.mrt_answer.specs.Input.{Input, HasAreaWithin, HasIsland, area, policy}
 use Rattle.mrt_words.specs.CertSpelling.{IsSpellingOf}
 use Rattle.mrt_words.specs.Kept.{IsCertRead}
-use Rattle.mrt_answer.specs.Refusals.{HasNoArea, HasNoIsland, HasNone, HasNoDatabase, HasNoInput, HasNoProfile, HasNoScript, IsVerdictRefusal, IsRejected, IsRunRefusal, IsVerdictFor, IsProxyRefusal}
+use Rattle.mrt_answer.specs.Refusals.{HasNoArea, HasNoIsland, HasNoDatabase, HasNoInput, HasNoProfile, HasNoScript, IsRejected}
 use Rattle.mrt_answer.specs.declared.text.Text.{Text}
-use Rattle.mrt_answer.specs.Packets.{GivesRun, IsScriptGiven}
+use Rattle.mrt_answer.specs.Packets.{GivesRun, IsScriptGiven, IsNoRun}
 use Rattle.mrt_answer.specs.TextBytes.{HasText}
 use Rattle.mrt_answer.specs.Upgraded.{GivesUpgrade, IsUpgradeFor}
-use Rattle.mrt_answer.specs.Verdict.{GivesVerdict, IsYesFor}
+use Rattle.mrt_answer.specs.Verdict.{GivesVerdict, IsYesFor, IsNoVerdict, IsRefusedFor}
 use Rattle.mrt_answer.proofs.TextsHeld.{answer_has_also}
+use Rattle.mrt_answer.specs.Proxied.{HasNoProxy}
+use Rattle.mrt_words.specs.Reading.{IsDue}
 
 pub area_refused : (Missing : Type 0) (input : Input) (router : ℕ) (exit : Exit) → HasNoArea (area input) exit
     → HasNoneFor Missing input router exit ⊎ (exit ≡ exits.NoMemory)
@@ -36,40 +38,40 @@ area_refused Missing input router exits.NoMemory said = inr refl
 area_refused Missing input router exit said = absurd said
 
 pub island_refused : (input : Input) (router : ℕ) → HasAreaWithin input → (exit : Exit)
-    → HasNoIsland (policy input) (area input) router exit → HasNone input router exit
+    → HasNoIsland (policy input) (area input) router exit → IsDue (HasNoIslandFor input router) exit
 island_refused input router within (exits.NotThere number) said = inl (within, said.0, said.1)
 island_refused input router within exits.NoMemory said = inr refl
 island_refused input router within exit said = absurd said
 
 pub islands_refused : {T : Type 0} (answer : Result T Exit) (input : Input) (router : ℕ) → HasAreaWithin input
-    → IfErr answer (HasNoIsland (policy input) (area input) router) → IfErr answer (HasNone input router)
+    → IfErr answer (HasNoIsland (policy input) (area input) router) → IfErr answer (IsDue (HasNoIslandFor input router))
 islands_refused (Ok t) input router within said = tt
 islands_refused (Err exit) input router within said = island_refused input router within exit said
 
 -- where the root of a certificate has no island
-pub none_for : (input : Input) (file : CertFile) (exit : Exit) → HasNone input file.root exit
-    → IsVerdictFor input file exit
+pub none_for : (input : Input) (file : CertFile) (exit : Exit) → IsDue (HasNoIslandFor input file.root) exit
+    → IsDue (IsRefusedFor input file) exit
 none_for input file exit (inr memory) = inr memory
 none_for input file (exits.TooLarge what size) (inl said) = inl said
 none_for input file (exits.NotThere number) (inl said) = inl said
 none_for input file exit (inl said) = absurd said
 
 -- where a router has no island, there are no rows for a prefix of two routers
-pub no_proxy : (input : Input) (router first second : ℕ) (exit : Exit) → HasNone input router exit
-    → IsProxyRefusal input router first second exit
+pub no_proxy : (input : Input) (router first second : ℕ) (exit : Exit) → IsDue (HasNoIslandFor input router) exit
+    → IsDue (HasNoProxy input router first second) exit
 no_proxy input router first second exit (inr memory) = inr memory
 no_proxy input router first second (exits.TooLarge what size) (inl said) = inl said
 no_proxy input router first second (exits.NotThere number) (inl said) = inl (inl said)
 no_proxy input router first second exit (inl said) = absurd said
 
 pub rejected : (input : Input) (file : CertFile) (graph : Topology) (root : ℕ) → HasIsland input file.root graph root
-    → (exit : Exit) → IsRejected graph root file exit → IsVerdictFor input file exit
+    → (exit : Exit) → IsRejected graph root file exit → IsDue (IsRefusedFor input file) exit
 rejected input file graph root island (exits.No rule a b) said = inl (graph, root, island, said)
 rejected input file graph root island exit said = absurd said
 
 -- what is said of the certificate is said of its bytes
 verdict_of_bytes : (input : Input) (bytes : List ℕ) (file : CertFile) → IsSpellingOf bytes file → (exit : Exit)
-    → IsVerdictFor input file exit → IsVerdictRefusal input bytes exit
+    → IsDue (IsRefusedFor input file) exit → IsDue (IsNoVerdict input bytes) exit
 verdict_of_bytes input bytes file is exit (inr memory) = inr memory
 verdict_of_bytes input bytes file is (exits.TooLarge what size) (inl said) = inl (file, is, said)
 verdict_of_bytes input bytes file is (exits.NotThere number) (inl said) = inl (file, is, said)
@@ -77,7 +79,7 @@ verdict_of_bytes input bytes file is (exits.No rule a b) (inl said) = inl (file,
 verdict_of_bytes input bytes file is exit (inl said) = absurd said
 
 pub verdicts_of_bytes : {T : Type 0} (answer : Result T Exit) (input : Input) (bytes : List ℕ) (file : CertFile)
-    → IsSpellingOf bytes file → IfErr answer (IsVerdictFor input file) → IfErr answer (IsVerdictRefusal input bytes)
+    → IsSpellingOf bytes file → IfErr answer (IsDue (IsRefusedFor input file)) → IfErr answer (IsDue (IsNoVerdict input bytes))
 verdicts_of_bytes (Ok t) input bytes file is said = tt
 verdicts_of_bytes (Err exit) input bytes file is said = verdict_of_bytes input bytes file is exit said
 
@@ -98,20 +100,20 @@ upgrades_given answer input bytes file is said =
 
 -- the first fault of the bytes of a certificate
 pub bad_bytes : (input : Input) (bytes : List ℕ) (fault : CertFault) → IsCertRead bytes (Err fault)
-    → IsVerdictRefusal input bytes (certificate_exit fault)
+    → IsDue (IsNoVerdict input bytes) (certificate_exit fault)
 bad_bytes input bytes fault said = inl said
 
 -- what is said of a script's router is said of the script's bytes
 run_of_bytes : (input : Input) (bytes : List ℕ) (script : Script) → IsScript (text_lines bytes) script → (exit : Exit)
-    → HasNone input script.router exit → IsRunRefusal input bytes exit
+    → IsDue (HasNoIslandFor input script.router) exit → IsDue (IsNoRun input bytes) exit
 run_of_bytes input bytes script is exit (inr memory) = inr memory
 run_of_bytes input bytes script is (exits.TooLarge what size) (inl said) = inl (script, is, said)
 run_of_bytes input bytes script is (exits.NotThere number) (inl said) = inl (script, is, said)
 run_of_bytes input bytes script is exit (inl said) = absurd said
 
 pub runs_of_bytes : {T : Type 0} (answer : Result T Exit) (input : Input) (bytes : List ℕ) (script : Script)
-    → IsScript (text_lines bytes) script → IfErr answer (HasNone input script.router)
-    → IfErr answer (IsRunRefusal input bytes)
+    → IsScript (text_lines bytes) script → IfErr answer (IsDue (HasNoIslandFor input script.router))
+    → IfErr answer (IsDue (IsNoRun input bytes))
 runs_of_bytes (Ok t) input bytes script is said = tt
 runs_of_bytes (Err exit) input bytes script is said = run_of_bytes input bytes script is exit said
 
@@ -123,7 +125,7 @@ runs_given answer input bytes script is said =
     answer_has_also (IsScriptGiven input script) (GivesRun input bytes) (λ text given. (script, is, given)) answer said
 
 -- a line of a script's bytes that is not as it should be
-pub bad_lines : (input : Input) (bytes : List ℕ) (exit : Exit) → HasNoScript bytes exit → IsRunRefusal input bytes exit
+pub bad_lines : (input : Input) (bytes : List ℕ) (exit : Exit) → HasNoScript bytes exit → IsDue (IsNoRun input bytes) exit
 bad_lines input bytes (exits.BadScript line) said = inl said
 bad_lines input bytes exits.NoMemory said = inr refl
 bad_lines input bytes exit said = absurd said

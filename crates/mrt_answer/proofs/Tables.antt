@@ -1,6 +1,6 @@
 -- The router of a table, and the root of its island.
-use Rattle.std.proofs.Common.{◌≡◌, ◌∙◌, ℕ, List, [], Option, None, Some, slice_get, refl, sym, ap, subst}
-use Rattle.std.specs.Prelude.{◌↔◌, Contains, IsNone, IsSome}
+use Rattle.std.proofs.Common.{◌≡◌, ◌∙◌, ℕ, List, [], Option, Some, slice_get, refl, sym, ap, subst}
+use Rattle.std.specs.Prelude.{Contains}
 use Rattle.std.specs.Option.{option_map}
 use Rattle.std.proofs.lemmas.Option.{same_Some}
 use Rattle.mrt_graph.specs.NodeIds.{router}
@@ -33,11 +33,6 @@ pub not_network : (ids : List NodeId) (place number : ℕ) → slice_get ids pla
 not_network ids place number at = λ network.
     two_kinds kinds.Router refl
     (same_Some kinds.Router kinds.Network (sym (ap (option_map (λ (id : NodeId). id.kind)) at) ∙ network))
-
--- a node that is there is found
-pub is_found : {T : Type 0} (found : Option T) (There : Type 0) → (IsNone found ↔ (There → ⊥)) → There → IsSome found
-is_found None There none there = absurd (none.0 refl there)
-is_found (Some place) There none there = refl
 
 -- the root of an island is a router
 pub root_is_router : (policy : Policy) (area : AreaParts) (number : ℕ) (graph : Topology) (root : ℕ)

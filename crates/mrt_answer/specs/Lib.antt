@@ -3,6 +3,7 @@ pub mod Attached
 pub mod Certified
 pub mod Computed
 pub mod Database
+pub mod Finding
 pub mod Flooded
 pub mod Input
 pub mod Islands

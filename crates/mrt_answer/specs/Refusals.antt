@@ -6,7 +6,7 @@ use Rattle.flood_script.specs.FloodScripts.{IsFirstFault as IsFirstFaultOfDelive
 use Rattle.mrt_exit.specs.declared.exit.Exit.{Exit}
 use Rattle.mrt_exit.specs.declared.exit.Exit.TheVariants.{No, BadDatabase, BadProfile, BadScript, BadUpdate, TooLarge, NotThere, ReadFault, NoMemory}
 use Rattle.mrt_words.specs.FileBytes.{FileBytes}
-use Rattle.mrt_answer.specs.Answers.{IsRefusedOver, IsRefusedTask}
+use Rattle.mrt_answer.specs.Answers.{IsRefusedOver}
 use Rattle.mrt_answer.specs.Flooded.{IsRefusedFlood}
 use Rattle.mrt_words.specs.Form.{Task}
 use Rattle.area_graph.specs.Parts.{AreaParts}
@@ -19,11 +19,8 @@ use Rattle.mrt_island.specs.ProfileFaults.{IsFirstFault}
 use Rattle.lsdb.specs.Database.{IsDatabase}
 use Rattle.ospf_lsa.specs.declared.lsa.Lsa.{Lsa}
 use Rattle.mrt_answer.specs.Database.{IsBadDatabase}
-use Rattle.mrt_answer.specs.Input.{Input, IsMissing}
-use Rattle.mrt_answer.specs.Islands.{HasNoIslandFor, HasNoRouterFor, IsLargeArea}
-use Rattle.mrt_answer.specs.Packets.{IsNoRun}
-use Rattle.mrt_answer.specs.Proxied.{HasNoProxy}
-use Rattle.mrt_answer.specs.Verdict.{IsNoVerdict, IsRefusedFor}
+use Rattle.mrt_answer.specs.Input.{IsMissing}
+use Rattle.mrt_answer.specs.Islands.{IsLargeArea}
 
 -- what is wrong with a database's bytes, or there was no memory
 abbrev pub HasNoDatabase : List ℕ → Exit → Type 0
@@ -80,26 +77,6 @@ abbrev pub IsRejected : Topology → ℕ → CertFile → Exit → Type 0
 IsRejected graph root file (No rule a b) = FirstFault graph root file rule a b
 IsRejected graph root file _ = ⊥
 
--- what is said of a router where it has no island, or there was no memory
-abbrev pub HasNone : Input → ℕ → Exit → Type 0
-HasNone input router exit = HasNoIslandFor input router exit ⊎ (exit ≡ NoMemory)
-
--- what is said of a router where it is not in the area, or there was no memory
-abbrev pub HasNoSuch : Input → ℕ → Exit → Type 0
-HasNoSuch input router exit = HasNoRouterFor input router exit ⊎ (exit ≡ NoMemory)
-
--- what is said where there are no rows for a prefix of two routers, or there was no memory
-abbrev pub IsProxyRefusal : Input → ℕ → ℕ → ℕ → Exit → Type 0
-IsProxyRefusal input router first second exit = HasNoProxy input router first second exit ⊎ (exit ≡ NoMemory)
-
--- what is said of a certificate, or there was no memory
-abbrev pub IsVerdictFor : Input → CertFile → Exit → Type 0
-IsVerdictFor input file exit = IsRefusedFor input file exit ⊎ (exit ≡ NoMemory)
-
--- what is said by a task, or there was no memory
-abbrev pub IsTaskRefusal : Task → Input → List ℕ → Exit → Type 0
-IsTaskRefusal task input last exit = IsRefusedTask task input last exit ⊎ (exit ≡ NoMemory)
-
 -- what is said of the bytes of files, or there was no memory; no file is named in it
 abbrev pub IsAnswerBy : (FileBytes → Exit → Type 0) → FileBytes → Exit → Type 0
 IsAnswerBy Says bytes (ReadFault word) = ⊥
@@ -111,11 +88,3 @@ IsAnswerOver task bytes exit = IsAnswerBy (IsRefusedOver task) bytes exit
 
 abbrev pub IsAnswerOfFlood : FileBytes → Exit → Type 0
 IsAnswerOfFlood bytes exit = IsAnswerBy IsRefusedFlood bytes exit
-
--- what is said of the bytes of a certificate, or there was no memory
-abbrev pub IsVerdictRefusal : Input → List ℕ → Exit → Type 0
-IsVerdictRefusal input certificate exit = IsNoVerdict input certificate exit ⊎ (exit ≡ NoMemory)
-
--- what is said of the bytes of a script, or there was no memory
-abbrev pub IsRunRefusal : Input → List ℕ → Exit → Type 0
-IsRunRefusal input script exit = IsNoRun input script exit ⊎ (exit ≡ NoMemory)

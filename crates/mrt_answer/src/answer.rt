@@ -1,30 +1,28 @@
 //! What comes of the files that were read.
 
-ghost use Rattle.std.specs.Prelude.{◌≡◌, ◌≤◌, ℕ, List, IfOk, IfErr, vec_len};
+ghost use Rattle.std.specs.Prelude.{◌≤◌, ℕ, List, IfOk, IfErr, vec_len};
 ghost use Rattle.mrt_words.specs.FileBytes.{FileBytes};
-ghost use Rattle.mrt_words.specs.Form.{Task};
-ghost use Rattle.mrt_words.specs.Kept.{AreBytesOf, IsWorkWithin, IsCertRead, IsWorkFor};
-ghost use Rattle.mrt_answer.specs.Answers.{GivesFor, GivesOver};
-ghost use Rattle.mrt_answer.specs.Refusals.{IsAnswerOver, IsVerdictRefusal, IsTaskRefusal};
+ghost use Rattle.mrt_words.specs.Form.{IsRouterTaskWithin, Task as NamedTask};
+ghost use Rattle.mrt_words.specs.Kept.{AreBytesOf, IsWorkWithin, IsWorkFor};
+ghost use Rattle.mrt_answer.specs.Answers.{GivesFor, GivesOf, GivesOver, IsRefusedOf, IsRefusedTask};
+ghost use Rattle.mrt_answer.specs.Refusals.{IsAnswerOver};
 ghost use Rattle.mrt_answer.specs.TextBytes.{HasText};
-ghost use Rattle.mrt_answer.specs.Upgraded.{GivesUpgrade};
-ghost use Rattle.mrt_answer.specs.Verdict.{GivesVerdict};
+ghost use Rattle.mrt_words.specs.Reading.{IsDue};
 
 use crate::certificate::certificate;
 use crate::given::Given;
 use crate::input::given_of;
 use crate::loop_free::loop_free;
 use crate::order::order;
-use crate::packets::{run_of_bytes, trace};
 use crate::proxy::proxy;
+use crate::run::run_of_bytes;
 use crate::table::table;
 use crate::text::Text;
-use crate::upgrade::upgrade;
-use crate::verdict::verdict;
-use cert_format::CertFault;
+use crate::trace::trace;
+use crate::upgrade::upgraded;
+use crate::verdict::checked;
 use mrt_exit::Exit;
-use mrt_graph::CertFile;
-use mrt_words::{FilesRead, Work};
+use mrt_words::{FilesRead, RouterTask, Task, Work};
 use std::alloc::Global;
 
 /// The text of what is to be done with the files that were read.
@@ -32,9 +30,9 @@ pub fn answer_of_files(alloc: Global, files: FilesRead) -> Result<Text, Exit>
     requires database { vec_len files.database ≤ 8388608 }
     requires profile { vec_len files.profile ≤ 33554432 }
     requires work { IsWorkWithin files.work }
-    ensures text { (task : Task) (bytes : FileBytes) → AreBytesOf task files bytes
+    ensures text { (task : NamedTask) (bytes : FileBytes) → AreBytesOf task files bytes
         → IfOk result (HasText (GivesOver task bytes)) }
-    ensures refused { (task : Task) (bytes : FileBytes) → AreBytesOf task files bytes
+    ensures refused { (task : NamedTask) (bytes : FileBytes) → AreBytesOf task files bytes
         → IfErr result (IsAnswerOver task bytes) }
 {
     let given = given_of(alloc, &files.database, &files.profile)?;
@@ -44,54 +42,31 @@ pub fn answer_of_files(alloc: Global, files: FilesRead) -> Result<Text, Exit>
 /// The same, where database and profile have no fault.
 fn answer_for(alloc: Global, work: Work, given: &Given) -> Result<Text, Exit>
     requires { IsWorkWithin work }
-    ensures text { (task : Task) (last : List ℕ) → IsWorkFor task last work
+    ensures text { (task : NamedTask) (last : List ℕ) → IsWorkFor task last work
         → IfOk result (HasText (GivesFor task given.now last)) }
-    ensures refused { (task : Task) (last : List ℕ) → IsWorkFor task last work
-        → IfErr result (IsTaskRefusal task given.now last) }
+    ensures refused { (task : NamedTask) (last : List ℕ) → IsWorkFor task last work
+        → IfErr result (IsDue (IsRefusedTask task given.now last)) }
 {
     match work {
-        Work::Check { certificate } => check(alloc, given, certificate),
-        Work::Certify { router } => certificate(alloc, given, router),
-        Work::Table { router } => table(alloc, given, router),
-        Work::Upgrade { certificate } => upgraded(alloc, given, certificate),
-        Work::Order { router } => order(alloc, given, router),
-        Work::Proxy {
-            router,
-            first,
-            second,
-        } => proxy(alloc, given, router, first, second),
-        Work::Lfa { router } => loop_free(alloc, given, router),
-        Work::Trace { trace: asked } => trace(alloc, given, &asked),
-        Work::Fabric { script } => run_of_bytes(alloc, given, &script),
+        Task::Check { certificate } => checked(alloc, given, certificate),
+        Task::Upgrade { certificate } => upgraded(alloc, given, certificate),
+        Task::Fabric { script } => run_of_bytes(alloc, given, &script),
+        Task::OfRouter(asked) => answer_of_router(alloc, given, asked),
     }
 }
 
-/// The accepted line, where there is a certificate and it is accepted for the island of its root.
-fn check(
-    alloc: Global,
-    given: &Given,
-    certificate: Result<CertFile, CertFault>,
-) -> Result<Text, Exit>
-    ensures text { (bytes : List ℕ) → IsCertRead bytes certificate
-        → IfOk result (HasText (GivesVerdict given.now bytes)) }
-    ensures refused { (bytes : List ℕ) → IsCertRead bytes certificate
-        → IfErr result (IsVerdictRefusal given.now bytes) }
+/// The same, where no other file is named.
+fn answer_of_router(alloc: Global, given: &Given, task: RouterTask) -> Result<Text, Exit>
+    requires { IsRouterTaskWithin task }
+    ensures text { IfOk result (HasText (GivesOf task given.now)) }
+    ensures refused { IfErr result (IsDue (IsRefusedOf task given.now)) }
 {
-    let file = certificate?;
-    verdict(alloc, given, &file)
-}
-
-/// The certificate in version 2, where there is one and it is accepted for the island of its root.
-fn upgraded(
-    alloc: Global,
-    given: &Given,
-    certificate: Result<CertFile, CertFault>,
-) -> Result<Text, Exit>
-    ensures text { (bytes : List ℕ) → IsCertRead bytes certificate
-        → IfOk result (HasText (GivesUpgrade given.now bytes)) }
-    ensures refused { (bytes : List ℕ) → IsCertRead bytes certificate
-        → IfErr result (IsVerdictRefusal given.now bytes) }
-{
-    let file = certificate?;
-    upgrade(alloc, given, file)
+    match task {
+        RouterTask::Certify { router } => certificate(alloc, given, router),
+        RouterTask::Table { router } => table(alloc, given, router),
+        RouterTask::Trace { trace: asked } => trace(alloc, given, &asked),
+        RouterTask::Lfa { router } => loop_free(alloc, given, router),
+        RouterTask::Order { router } => order(alloc, given, router),
+        RouterTask::Proxy { router, one, other } => proxy(alloc, given, router, one, other),
+    }
 }

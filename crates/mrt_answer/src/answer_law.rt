@@ -9,7 +9,9 @@ ghost use Rattle.flood_verdict.specs.Alike.{ComparesAlike, IsToldAlike};
 ghost use Rattle.flood_verdict.specs.Says.{Says};
 ghost use Rattle.mrt_exit.specs.declared.exit.Exit.{Exit};
 ghost use Rattle.mrt_words.specs.FileBytes.{FileBytes, with_last};
-ghost use Rattle.mrt_words.specs.Form.{Task, Check, Certify, Upgrade};
+ghost use Rattle.mrt_words.specs.declared.task.RouterTask.TheVariants.{Certify};
+ghost use Rattle.mrt_words.specs.declared.task.Task.TheVariants.{Check, Upgrade, OfRouter};
+ghost use Rattle.mrt_words.specs.Form.{Task};
 ghost use Rattle.mrt_answer.specs.Answers.{GivesOver, IsRefusedOver};
 ghost use Rattle.mrt_answer.specs.Certified.{IsCertified};
 ghost use Rattle.mrt_answer.specs.Flooded.{GivesFlood, HoldsFlood, IsRefusedFlood};
@@ -89,11 +91,11 @@ pub fn one_answer_comes()
 /// Laws: the text of a certificate that is computed passes a check and an upgrade over the same database and profile, and it is
 /// within the limit of a certificate's file.
 pub fn what_is_certified_passes()
-    ensures check { (bytes : FileBytes) (router : ℕ) (certificate text : List ℕ) → GivesOver (Certify router) bytes text
+    ensures check { (bytes : FileBytes) (router : ℕ) (certificate text : List ℕ) → GivesOver (OfRouter (Certify router)) bytes text
         → (line : List ℕ) × GivesOver (Check certificate) (with_last bytes text) line }
-    ensures upgrade { (bytes : FileBytes) (router : ℕ) (certificate text : List ℕ) → GivesOver (Certify router) bytes text
+    ensures upgrade { (bytes : FileBytes) (router : ℕ) (certificate text : List ℕ) → GivesOver (OfRouter (Certify router)) bytes text
         → GivesOver (Upgrade certificate) (with_last bytes text) text }
-    ensures short { (bytes : FileBytes) (router : ℕ) (text : List ℕ) → GivesOver (Certify router) bytes text
+    ensures short { (bytes : FileBytes) (router : ℕ) (text : List ℕ) → GivesOver (OfRouter (Certify router)) bytes text
         → length text ≤ 134217728 }
 {
     an_lsa_without_a_fault_may_be_installed();

@@ -2,8 +2,9 @@
 
 ghost use Rattle.std.specs.Prelude.{◌≡◌, None, IfOk, IfErr};
 ghost use Rattle.mrt_answer.specs.Certified.{IsCertified};
-ghost use Rattle.mrt_answer.specs.Refusals.{HasNone};
 ghost use Rattle.mrt_answer.specs.TextBytes.{HasText};
+ghost use Rattle.mrt_answer.specs.Islands.{HasNoIslandFor};
+ghost use Rattle.mrt_words.specs.Reading.{IsDue};
 
 use crate::given::Given;
 use crate::island::island_in;
@@ -18,7 +19,7 @@ use std::alloc::Global;
 /// The certificate that is computed for the island of a router, the rows of which are found as they are written.
 pub(crate) fn certificate(alloc: Global, given: &Given, router: u32) -> Result<Text, Exit>
     ensures certified { IfOk result (HasText (IsCertified given.now router)) }
-    ensures refused { IfErr result (HasNone given.now router) }
+    ensures refused { IfErr result (IsDue (HasNoIslandFor given.now router)) }
 {
     certificates_are_accepted();
     accepted_implies_sound();

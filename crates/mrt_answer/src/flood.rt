@@ -7,7 +7,7 @@ ghost use Rattle.flood_core.specs.Updates.{AreUpdates};
 ghost use Rattle.flood_script.specs.Deliveries.{deliveries_in};
 ghost use Rattle.flood_script.specs.FloodScripts.{IsAmong, IsScript};
 ghost use Rattle.mrt_graph.specs.TextLines.{text_lines};
-ghost use Rattle.mrt_words.specs.FloodRead.{flood_bytes};
+ghost use Rattle.mrt_words.specs.Kept.{flood_bytes};
 ghost use Rattle.mrt_answer.specs.Flooded.{GivesFlood};
 ghost use Rattle.mrt_answer.specs.Refusals.{HasNoFloodScript, HasNoUpdates, IsAnswerOfFlood};
 ghost use Rattle.mrt_answer.specs.TextBytes.{HasText};

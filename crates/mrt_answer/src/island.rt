@@ -8,7 +8,9 @@ ghost use Rattle.lsdb.specs.Conflicts.{least_conflict};
 ghost use Rattle.mrt_island.specs.IslandOf.{IsIsland};
 ghost use Rattle.mrt_island.specs.Policy.{policy_of};
 ghost use Rattle.mrt_answer.specs.Input.{HasAreaWithin, HasIsland, area, policy};
-ghost use Rattle.mrt_answer.specs.Refusals.{HasNoArea, HasNoIsland, HasNone};
+ghost use Rattle.mrt_answer.specs.Refusals.{HasNoArea, HasNoIsland};
+ghost use Rattle.mrt_answer.specs.Islands.{HasNoIslandFor};
+ghost use Rattle.mrt_words.specs.Reading.{IsDue};
 
 use crate::given::Given;
 use area_graph::{Area, build_area};
@@ -20,7 +22,7 @@ use std::alloc::Global;
 /// The island of a router under the profile.
 pub(crate) fn island_in(alloc: Global, given: &Given, router: u32) -> Result<Island, Exit>
     ensures island { IfOk result (λ island. HasIsland given.now router island.graph island.root) }
-    ensures refused { IfErr result (HasNone given.now router) }
+    ensures refused { IfErr result (IsDue (HasNoIslandFor given.now router)) }
 {
     let area = area_of(alloc, given)?;
     island_of(alloc, &area, given, router)

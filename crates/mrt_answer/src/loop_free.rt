@@ -3,29 +3,24 @@
 ghost use Rattle.std.specs.Prelude.{◌≡◌, ◌<◌, List, None, IfOk, IfErr};
 ghost use Rattle.mrt_island.specs.declared.setting.Setting.{Setting};
 ghost use Rattle.mrt_answer.specs.LoopFree.{HasLoopFree};
-ghost use Rattle.mrt_answer.specs.Refusals.{HasNoSuch};
 ghost use Rattle.mrt_answer.specs.TextBytes.{HasText};
+ghost use Rattle.mrt_answer.specs.Islands.{HasNoRouterFor};
+ghost use Rattle.mrt_words.specs.Reading.{IsDue};
 
+use crate::finding::spot_of;
 use crate::given::Given;
 use crate::island::area_of;
 use crate::text::Text;
 use lfa_alt::lfa_text;
 use mrt_exit::Exit;
-use mrt_graph::{Kind, NodeId};
 use std::alloc::Global;
 
 /// The text on the loop-free alternates of a router of the area, whatever the profile says.
 pub(crate) fn loop_free(alloc: Global, given: &Given, router: u32) -> Result<Text, Exit>
     ensures given { IfOk result (HasText (HasLoopFree given.now router)) }
-    ensures refused { IfErr result (HasNoSuch given.now router) }
+    ensures refused { IfErr result (IsDue (HasNoRouterFor given.now router)) }
 {
     let area = area_of(alloc, given)?;
-    let own = NodeId {
-        kind: Kind::Router,
-        number: router,
-    };
-    let Some(spot) = area.find(own) else {
-        return Err(Exit::NotThere { number: router });
-    };
+    let spot = spot_of(&area, router)?;
     Ok(Text::Bytes(lfa_text(alloc, &area, spot)?))
 }

@@ -1,16 +1,18 @@
 //! `order DB PROFILE ROUTER`: a router's repairs by order.
 
-ghost use Rattle.std.specs.Prelude.{◌≡◌, ◌<◌, None, Contains, IfOk, IfErr, length};
-ghost use Rattle.mrt_graph.specs.NodeIds.{router as router_node};
+ghost use Rattle.std.specs.Prelude.{◌≡◌, ◌<◌, ℕ, None, IfOk, IfErr, length};
+ghost use Rattle.mrt_answer.specs.Finding.{IsAt};
 ghost use Rattle.mrt_answer.specs.Ordered.{HasOrder, IsOrderOf};
-ghost use Rattle.mrt_answer.specs.Refusals.{HasNone};
 ghost use Rattle.mrt_answer.specs.TextBytes.{HasText};
+ghost use Rattle.mrt_answer.specs.Islands.{HasNoIslandFor};
+ghost use Rattle.mrt_words.specs.Reading.{IsDue};
 
+use crate::finding::node_of;
 use crate::given::Given;
 use crate::island::island_in;
 use crate::text::Text;
 use mrt_exit::Exit;
-use mrt_graph::{Graph, Kind, NoMemory, NodeId, NodeNo};
+use mrt_graph::{Graph, NoMemory, NodeNo};
 use mrt_rows::directions;
 use order_repair::order_text;
 use std::alloc::Global;
@@ -18,24 +20,21 @@ use std::alloc::Global;
 /// The text on the repairs by order of a router in its island.
 pub(crate) fn order(alloc: Global, given: &Given, router: u32) -> Result<Text, Exit>
     ensures ordered { IfOk result (HasText (HasOrder given.now router)) }
-    ensures refused { IfErr result (HasNone given.now router) }
+    ensures refused { IfErr result (IsDue (HasNoIslandFor given.now router)) }
 {
     let island = island_in(alloc, given, router)?;
-    let text = order_of(alloc, &island.graph, island.root, router)?;
+    let source = node_of(&island.graph, router)?;
+    let text = order_of(alloc, &island.graph, island.root, source)?;
     Ok(Text::Bytes(text))
 }
 
 /// The text on the repairs by order of a router of a graph.
-fn order_of(alloc: Global, graph: &Graph, root: NodeNo, router: u32) -> Result<Vec<u8>, NoMemory>
+fn order_of(alloc: Global, graph: &Graph, root: NodeNo, source: NodeNo) -> Result<Vec<u8>, NoMemory>
     requires root { root < length graph.now.ids }
-    requires inside { Contains graph.now.ids (router_node router) }
-    ensures { IfOk result (λ text. IsOrderOf graph.now root router text.items) }
+    requires source { source < length graph.now.ids }
+    ensures { (router : ℕ) → IsAt graph.now.ids router source
+        → IfOk result (λ text. IsOrderOf graph.now root router text.items) }
 {
-    let own = NodeId {
-        kind: Kind::Router,
-        number: router,
-    };
-    let source = graph.find(own).unwrap();
     let directed = directions(alloc, graph, root)?;
     order_text(alloc, graph, root, &directed, source)
 }

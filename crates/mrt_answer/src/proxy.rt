@@ -1,22 +1,21 @@
 //! `proxy DB PROFILE ROUTER A B`: the rows for a prefix that is attached to two routers.
 
-ghost use Rattle.std.specs.Prelude.{◌≡◌, ◌≢◌, ◌<◌, IfOk, IfErr, IfSome, Contains, Some, length, slice_get};
-ghost use Rattle.std.specs.Option.{IfNone};
-ghost use Rattle.mrt_graph.specs.NodeIds.{router as router_node};
+ghost use Rattle.std.specs.Prelude.{◌≡◌, ◌≢◌, ◌<◌, IfOk, IfErr, length};
 ghost use Rattle.mrt_rows.specs.Rooted.{MakeColumns};
 ghost use Rattle.proxy_rows.specs.ProxyRows.{AreProxyRows};
 ghost use Rattle.mrt_answer.specs.Attached.{IsAttachedBy};
 ghost use Rattle.mrt_answer.specs.Computed.{HasComputed};
-ghost use Rattle.mrt_answer.specs.Proxied.{HasNoProxyOf, HasProxy, IsProxyOf};
-ghost use Rattle.mrt_answer.specs.Refusals.{IsProxyRefusal};
+ghost use Rattle.mrt_answer.specs.Proxied.{HasNoProxyOf, HasProxy, IsProxyOf, HasNoProxy};
 ghost use Rattle.mrt_answer.specs.TextBytes.{HasText};
+ghost use Rattle.mrt_words.specs.Reading.{IsDue};
 
 use crate::columns::columns_of;
+use crate::finding::node_of;
 use crate::given::Given;
 use crate::island::island_in;
 use crate::text::Text;
 use mrt_exit::Exit;
-use mrt_graph::{CertNode, Graph, Kind, NoMemory, NodeId, NodeNo};
+use mrt_graph::{CertNode, Graph, NoMemory, NodeNo};
 use mrt_rows::RootedColumns;
 use proxy_rows::{Attachment, ProxyRow, attach, proxy_rows_at, proxy_text_of};
 use std::alloc::Global;
@@ -31,16 +30,12 @@ pub(crate) fn proxy(
 ) -> Result<Text, Exit>
     requires { first ≢ second }
     ensures proxied { IfOk result (HasText (HasProxy given.now router first second)) }
-    ensures refused { IfErr result (IsProxyRefusal given.now router first second) }
+    ensures refused { IfErr result (IsDue (HasNoProxy given.now router first second)) }
 {
     let island = island_in(alloc, given, router)?;
     let graph = &island.graph;
-    let Some(a) = router_in(graph, first) else {
-        return Err(Exit::NotThere { number: first });
-    };
-    let Some(b) = router_in(graph, second) else {
-        return Err(Exit::NotThere { number: second });
-    };
+    let a = node_of(graph, first)?;
+    let b = node_of(graph, second)?;
     proxy_between(alloc, graph, island.root, a, b)
 }
 
@@ -107,15 +102,4 @@ fn rows_at(
     let links = columns.links(alloc, graph)?;
     let column = columns.to(alloc, graph, at.head)?;
     proxy_rows_at(alloc, graph, nodes, &links, at, &column)
-}
-
-/// The number of a router of the graph, if it is one.
-fn router_in(graph: &Graph, router: u32) -> Option<NodeNo>
-    ensures there { IfSome result (λ node. slice_get graph.now.ids node ≡ Some (router_node router)) }
-    ensures absent { IfNone result (Contains graph.now.ids (router_node router) → ⊥) }
-{
-    graph.find(NodeId {
-        kind: Kind::Router,
-        number: router,
-    })
 }

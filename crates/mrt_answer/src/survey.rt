@@ -6,9 +6,10 @@ ghost use Rattle.mrt_graph.specs.Topology.{Topology};
 ghost use Rattle.mrt_survey.specs.MadeLsas.{made_lsas};
 ghost use Rattle.mrt_words.specs.Form.{IsNetworkSize};
 ghost use Rattle.mrt_answer.specs.Input.{HasIsland};
-ghost use Rattle.mrt_answer.specs.Refusals.{HasNone};
 ghost use Rattle.mrt_answer.specs.Surveyed.{IsSummedUp, IsSurveyed, made_input};
 ghost use Rattle.mrt_answer.specs.TextBytes.{HasText};
+ghost use Rattle.mrt_answer.specs.Islands.{HasNoIslandFor};
+ghost use Rattle.mrt_words.specs.Reading.{IsDue};
 
 use crate::given::Given;
 use crate::input::database_of;
@@ -39,7 +40,7 @@ pub fn answer_of_survey(alloc: Global, number: u32, nodes: u16) -> Result<Text, 
 fn survey_of(alloc: Global, number: u32, given: &Given) -> Result<Text, Exit>
     ensures text { IfOk result (HasText (λ text. (graph : Topology) × (root : ℕ) × HasIsland given.now 1 graph root
         × IsSummedUp number graph root text)) }
-    ensures refused { IfErr result (HasNone given.now 1) }
+    ensures refused { IfErr result (IsDue (HasNoIslandFor given.now 1)) }
 {
     let island = island_in(alloc, given, 1)?;
     let text = summed_up(alloc, number, &island.graph, island.root)?;

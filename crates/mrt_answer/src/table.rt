@@ -1,8 +1,6 @@
 //! `table DB PROFILE ROUTER`: what a router installs.
 
-ghost use Rattle.std.specs.Prelude.{◌≡◌, ◌≢◌, ◌<◌, Contains, IfOk, IfErr, length};
-ghost use Rattle.area_graph.specs.Fits.{Fits};
-ghost use Rattle.mrt_graph.specs.NodeIds.{router as router_node};
+ghost use Rattle.std.specs.Prelude.{◌≡◌, ◌≢◌, ◌<◌, IfOk, IfErr, length};
 ghost use Rattle.mrt_graph.specs.declared.cert.CertFile.{CertFile};
 ghost use Rattle.mrt_graph.specs.GraphInvariant.{IsNetwork};
 ghost use Rattle.text_parts.specs.Adds.{Adds};
@@ -11,18 +9,20 @@ ghost use Rattle.mrt_report.specs.ByColumn.{IsLineByColumn};
 ghost use Rattle.mrt_report.specs.TableText.{IsTableText};
 ghost use Rattle.mrt_rows.specs.CertOf.{IsCertOf};
 ghost use Rattle.mrt_rows.specs.Rooted.{MakeColumns};
-ghost use Rattle.mrt_answer.specs.Refusals.{HasNone};
 ghost use Rattle.mrt_answer.specs.TableMade.{AreParts, with_cert};
-ghost use Rattle.mrt_answer.specs.Tabled.{IsTableOf, IsTabled};
+ghost use Rattle.mrt_answer.specs.Tabled.{IsComputedFile, IsTabled};
 ghost use Rattle.mrt_answer.specs.TextBytes.{HasText};
+ghost use Rattle.mrt_answer.specs.Islands.{HasNoIslandFor};
+ghost use Rattle.mrt_words.specs.Reading.{IsDue};
 
 use crate::columns::columns_of;
+use crate::finding::{node_of, spot_of};
 use crate::given::Given;
 use crate::island::{area_of, island_of};
 use crate::text::Text;
 use area_graph::Area;
 use mrt_exit::Exit;
-use mrt_graph::{Graph, Kind, LinkNo, NoMemory, NodeId, NodeNo};
+use mrt_graph::{Graph, LinkNo, NoMemory, NodeNo};
 use mrt_report::{lines_make_the_table, primary_for, push_table_line, table_head};
 use mrt_rows::RootedColumns;
 use primary_alt::{Primary, primaries};
@@ -43,47 +43,39 @@ struct Parts<'a> {
 /// repairs it.
 pub(crate) fn table(alloc: Global, given: &Given, router: u32) -> Result<Text, Exit>
     ensures tabled { IfOk result (HasText (IsTabled given.now router)) }
-    ensures refused { IfErr result (HasNone given.now router) }
+    ensures refused { IfErr result (IsDue (HasNoIslandFor given.now router)) }
 {
     let area = area_of(alloc, given)?;
     let island = island_of(alloc, &area, given, router)?;
-    let link_of = island.link_of.as_slice();
-    let text = table_of(alloc, &area, &island.graph, island.root, link_of, router)?;
-    Ok(Text::Bytes(text))
-}
-
-/// The table of a router of an island, by the rows of its certificate, of which one column at a time is made, and by the
-/// router's primaries.
-fn table_of(
-    alloc: Global,
-    area: &Area,
-    graph: &Graph,
-    root: NodeNo,
-    link_of: &[Option<LinkNo>],
-    router: u32,
-) -> Result<Vec<u8>, NoMemory>
-    requires root { root < length graph.now.ids }
-    requires root_router { ¬ IsNetwork graph.now.ids root }
-    requires fits { Fits area.now graph.now link_of.now }
-    requires inside { Contains graph.now.ids (router_node router) }
-    ensures { IfOk result (λ text. IsTableOf area.now graph.now root link_of.now router text.items) }
-{
-    let own = NodeId {
-        kind: Kind::Router,
-        number: router,
-    };
-    let source = graph.find(own).unwrap();
-    let spot = area.find(own).unwrap();
-    let primaries = primaries(alloc, area, spot)?;
-    let mut columns = columns_of(alloc, graph, root, graph.node_count() as usize)?;
+    let source = node_of(&island.graph, router)?;
+    let spot = spot_of(&area, router)?;
+    let primaries = primaries(alloc, &area, spot)?;
     let parts = Parts {
-        area,
-        island: graph,
-        link_of,
+        area: &area,
+        island: &island.graph,
+        link_of: island.link_of.as_slice(),
         source,
         primaries: &primaries,
     };
-    table_text(alloc, root, &parts, &mut columns)
+    let text = table_of(alloc, island.root, &parts)?;
+    Ok(Text::Bytes(text))
+}
+
+/// The table that is made from these parts, by the rows of the island's certificate, of which one column at a time is made.
+fn table_of(alloc: Global, root: NodeNo, parts: &Parts) -> Result<Vec<u8>, NoMemory>
+    requires root { root < length parts.now.island.now.ids }
+    requires root_router { ¬ IsNetwork parts.now.island.now.ids root }
+    requires kept { AreParts parts.now }
+    ensures { IfOk result (λ text. (file : CertFile) × IsComputedFile parts.now.island.now root file
+        × IsTableText (with_cert parts.now file.cert) root text.items) }
+{
+    let mut columns = columns_of(
+        alloc,
+        parts.island,
+        root,
+        parts.island.node_count() as usize,
+    )?;
+    table_text(alloc, root, parts, &mut columns)
 }
 
 /// The text of a table: its head, and a line on each other node.

@@ -1,15 +1,17 @@
 //! `upgrade DB PROFILE CERT`: an accepted certificate in version 2.
 
-ghost use Rattle.std.specs.Prelude.{◌≡◌, None, IfOk, IfErr};
-ghost use Rattle.mrt_answer.specs.Refusals.{IsVerdictFor};
-ghost use Rattle.mrt_answer.specs.Upgraded.{IsUpgradeFor};
+ghost use Rattle.std.specs.Prelude.{◌≡◌, ℕ, List, None, IfOk, IfErr};
+ghost use Rattle.mrt_words.specs.Kept.{IsCertRead};
+ghost use Rattle.mrt_answer.specs.Upgraded.{GivesUpgrade, IsUpgradeFor};
 ghost use Rattle.mrt_answer.specs.TextBytes.{HasText};
+ghost use Rattle.mrt_words.specs.Reading.{IsDue};
+ghost use Rattle.mrt_answer.specs.Verdict.{IsNoVerdict, IsRefusedFor};
 
 use crate::given::Given;
 use crate::island::island_in;
 use crate::text::Text;
 use crate::verdict::judge;
-use cert_format::WritableCert;
+use cert_format::{CertFault, WritableCert};
 use mrt_exit::Exit;
 use mrt_graph::{CertFile, accepted_files_are_foldable, accepted_implies_sound};
 use std::alloc::Global;
@@ -17,10 +19,25 @@ use std::alloc::Global;
 /// The version of the files that it writes.
 const WRITTEN: u16 = 2;
 
+/// The certificate in version 2, where there is one and it is accepted for the island of its root.
+pub(crate) fn upgraded(
+    alloc: Global,
+    given: &Given,
+    certificate: Result<CertFile, CertFault>,
+) -> Result<Text, Exit>
+    ensures text { (bytes : List ℕ) → IsCertRead bytes certificate
+        → IfOk result (HasText (GivesUpgrade given.now bytes)) }
+    ensures refused { (bytes : List ℕ) → IsCertRead bytes certificate
+        → IfErr result (IsDue (IsNoVerdict given.now bytes)) }
+{
+    let file = certificate?;
+    upgrade(alloc, given, file)
+}
+
 /// The certificate in version 2, where it is accepted for the island of its root.
-pub(crate) fn upgrade(alloc: Global, given: &Given, file: CertFile) -> Result<Text, Exit>
+fn upgrade(alloc: Global, given: &Given, file: CertFile) -> Result<Text, Exit>
     ensures upgraded { IfOk result (HasText (IsUpgradeFor given.now file)) }
-    ensures refused { IfErr result (IsVerdictFor given.now file) }
+    ensures refused { IfErr result (IsDue (IsRefusedFor given.now file)) }
 {
     accepted_files_are_foldable();
     accepted_implies_sound();

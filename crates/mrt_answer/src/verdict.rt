@@ -1,24 +1,42 @@
-//! The verdict on a certificate file.
+//! `check DB PROFILE CERT`: the verdict on a certificate file.
 
-ghost use Rattle.std.specs.Prelude.{◌≡◌, ◌<◌, None, IfOk, IfErr, length};
+ghost use Rattle.std.specs.Prelude.{◌≡◌, ◌<◌, ℕ, List, None, IfOk, IfErr, length};
+ghost use Rattle.mrt_words.specs.Kept.{IsCertRead};
 ghost use Rattle.mrt_graph.specs.Accepted.{Accepted};
-ghost use Rattle.mrt_answer.specs.Refusals.{IsRejected, IsVerdictFor};
-ghost use Rattle.mrt_answer.specs.Verdict.{IsYesFor, accepted_line as line_of_accepted};
+ghost use Rattle.mrt_answer.specs.Refusals.{IsRejected};
+ghost use Rattle.mrt_answer.specs.Verdict.{GivesVerdict, IsYesFor, accepted_line as line_of_accepted, IsNoVerdict, IsRefusedFor};
 ghost use Rattle.mrt_answer.specs.TextBytes.{HasText};
+ghost use Rattle.mrt_words.specs.Reading.{IsDue};
 
 use crate::given::Given;
 use crate::island::island_in;
 use crate::text::Text;
 use cert_checker::{Verdict, check};
+use cert_format::CertFault;
 use mrt_exit::Exit;
 use mrt_graph::{CertFile, Graph, NodeNo, accepted_implies_sound};
 use std::alloc::Global;
 use text_parts::{Line, line_of, put, put_address, put_number};
 
+/// The accepted line, where there is a certificate and it is accepted for the island of its root.
+pub(crate) fn checked(
+    alloc: Global,
+    given: &Given,
+    certificate: Result<CertFile, CertFault>,
+) -> Result<Text, Exit>
+    ensures text { (bytes : List ℕ) → IsCertRead bytes certificate
+        → IfOk result (HasText (GivesVerdict given.now bytes)) }
+    ensures refused { (bytes : List ℕ) → IsCertRead bytes certificate
+        → IfErr result (IsDue (IsNoVerdict given.now bytes)) }
+{
+    let file = certificate?;
+    verdict(alloc, given, &file)
+}
+
 /// The accepted line, where the certificate is accepted for the island of its root.
-pub(crate) fn verdict(alloc: Global, given: &Given, file: &CertFile) -> Result<Text, Exit>
+fn verdict(alloc: Global, given: &Given, file: &CertFile) -> Result<Text, Exit>
     ensures accepted { IfOk result (HasText (IsYesFor given.now file.now)) }
-    ensures refused { IfErr result (IsVerdictFor given.now file.now) }
+    ensures refused { IfErr result (IsDue (IsRefusedFor given.now file.now)) }
 {
     accepted_implies_sound();
     let island = island_in(alloc, given, file.root)?;

@@ -7,12 +7,22 @@ use Rattle.flood_script.specs.FloodTexts.{IsFloodText}
 use Rattle.flood_verdict.specs.Says.{Says}
 use Rattle.mrt_graph.specs.TextLines.{text_lines}
 use Rattle.mrt_island.specs.declared.setting.Setting.{Setting}
-use Rattle.mrt_words.specs.FloodRead.{flood_bytes}
+use Rattle.mrt_words.specs.Kept.{flood_bytes}
 use Rattle.mrt_answer.specs.Input.{IsProfile}
-use Rattle.mrt_answer.specs.Refusals.{HasNoFloodScript, IsAnswerOfFlood}
-use Rattle.mrt_answer.proofs.Floods.{script_refused}
+use Rattle.mrt_answer.specs.Refusals.{HasNoFloodScript, HasNoProfile, IsAnswerOfFlood}
+use Rattle.mrt_answer.proofs.Floods.{profile_refused, script_refused}
 use Rattle.mrt_words.proofs.HandedOn.{handed_on}
 use Rattle.mrt_answer.proofs.flood.answer_of_flood.Goals as goal
+
+pub returns-in_err-profile-clause-refused : goal.returns-in_err-profile-clause-refused
+returns-in_err-profile-clause-refused c =
+    let bytes = flood_bytes c.args.files.now in
+    let updates = c.in_ok-updates.updates.items in
+    let exit = c.in_err-profile.field-0.0 in
+    handed_on c.from_residual-in_err-profile.result exit c.from_residual-in_err-profile.ensures.1 (IsAnswerOfFlood bytes)
+    (profile_refused bytes updates
+    (subst (λ (b : List ℕ). AreUpdates 0 b updates []) c.deref.ensures.value c.in_ok-updates.ensures.updates) exit
+    (subst (λ (b : List ℕ). HasNoProfile b exit) c.deref-2.ensures.value c.in_err-profile.ensures.none))
 
 pub returns-in_err-script-clause-refused : goal.returns-in_err-script-clause-refused
 returns-in_err-script-clause-refused c =

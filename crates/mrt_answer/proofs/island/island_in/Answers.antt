@@ -4,15 +4,17 @@ use Rattle.area_graph.specs.Parts.{AreaParts}
 use Rattle.mrt_island.specs.IslandOf.{IsIsland}
 use Rattle.mrt_answer.specs.Input.{area, policy}
 use Rattle.mrt_answer.specs.Input.{IsMissing}
-use Rattle.mrt_answer.specs.Refusals.{HasNoIsland, HasNone}
+use Rattle.mrt_answer.specs.Refusals.{HasNoIsland}
 use Rattle.mrt_words.proofs.HandedOn.{handed_on, if_ok}
 use Rattle.mrt_answer.proofs.Refusals.{area_refused, islands_refused}
 use Rattle.mrt_answer.proofs.island.island_in.Goals as goal
+use Rattle.mrt_answer.specs.Islands.{HasNoIslandFor}
+use Rattle.mrt_words.specs.Reading.{IsDue}
 
 pub returns-in_err-area-clause-refused : goal.returns-in_err-area-clause-refused
 returns-in_err-area-clause-refused c =
     let input = c.args.given.now in
-    handed_on c.from_residual.result c.in_err-area.field-0.0 c.from_residual.ensures.1 (HasNone input c.args.router)
+    handed_on c.from_residual.result c.in_err-area.field-0.0 c.from_residual.ensures.1 (IsDue (HasNoIslandFor input c.args.router))
     (area_refused (IsMissing (policy input) (area input) c.args.router) input c.args.router c.in_err-area.field-0.0
     c.in_err-area.ensures.refused)
 

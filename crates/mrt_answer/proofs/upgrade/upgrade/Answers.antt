@@ -2,12 +2,13 @@ use Rattle.std.proofs.Common.{ap, inr, refl, arith}
 use Rattle.cert_format.specs.CertText.{cert_text}
 use Rattle.mrt_graph.specs.declared.cert.CertFile.{CertFile}
 use Rattle.mrt_graph.specs.Rules.{GraphRule}
-use Rattle.mrt_answer.specs.Refusals.{IsVerdictFor}
 use Rattle.mrt_answer.specs.Upgraded.{IsUpgrade, upgraded}
 use Rattle.mrt_words.proofs.HandedOn.{handed_on}
 use Rattle.mrt_answer.proofs.Refusals.{none_for, rejected, root_in_island}
 use Rattle.mrt_answer.proofs.Upgrades.{upgraded_accepted}
 use Rattle.mrt_answer.proofs.upgrade.upgrade.Goals as goal
+use Rattle.mrt_words.specs.Reading.{IsDue}
+use Rattle.mrt_answer.specs.Verdict.{IsRefusedFor}
 
 pub judge-requires : goal.judge-requires
 judge-requires c = root_in_island _ _ _ _ c.in_ok-island.ensures.island
@@ -41,7 +42,7 @@ pub returns-in_err-island-clause-refused : goal.returns-in_err-island-clause-ref
 returns-in_err-island-clause-refused c =
     let input = c.args.given.now in
     handed_on c.from_residual.result c.in_err-island.field-0.0 c.from_residual.ensures.1
-    (IsVerdictFor input c.args.file)
+    (IsDue (IsRefusedFor input c.args.file))
     (none_for input c.args.file c.in_err-island.field-0.0 c.in_err-island.ensures.refused)
 
 pub returns-in_err-judge-clause-refused : goal.returns-in_err-judge-clause-refused
@@ -49,6 +50,6 @@ returns-in_err-judge-clause-refused c =
     let input = c.args.given.now in
     let exit = c.in_err-judge.field-0.0 in
     handed_on c.from_residual-in_err-judge.result exit c.from_residual-in_err-judge.ensures.1
-    (IsVerdictFor input c.args.file)
+    (IsDue (IsRefusedFor input c.args.file))
     (rejected input c.args.file c.in_ok-island.island.graph c.in_ok-island.island.root c.in_ok-island.ensures.island exit
     c.in_err-judge.ensures.refused)

@@ -4,7 +4,7 @@ use Rattle.mrt_graph.specs.declared.cert.CertFile.{CertFile}
 use Rattle.mrt_words.specs.CertSpelling.{IsSpellingOf}
 use Rattle.mrt_words.specs.Kept.{IsCertRead}
 use Rattle.mrt_answer.proofs.Refusals.{verdicts_given, verdicts_of_bytes}
-use Rattle.mrt_answer.proofs.answer.check.Goals as goal
+use Rattle.mrt_answer.proofs.verdict.checked.Goals as goal
 
 -- the bytes of a certificate without a fault spell it
 spelled : (c : goal.After-drop-file-3) (bytes : List ℕ) → IsCertRead bytes c.args.certificate → IsSpellingOf bytes c.in_ok-file.file

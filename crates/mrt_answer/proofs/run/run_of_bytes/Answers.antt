@@ -1,14 +1,15 @@
 use Rattle.mrt_answer.specs.Input.{Input}
-use Rattle.mrt_answer.specs.Refusals.{IsRunRefusal}
 use Rattle.mrt_answer.proofs.Refusals.{bad_lines, runs_given, runs_of_bytes}
 use Rattle.mrt_words.proofs.HandedOn.{handed_on}
-use Rattle.mrt_answer.proofs.packets.run_of_bytes.Goals as goal
+use Rattle.mrt_answer.proofs.run.run_of_bytes.Goals as goal
+use Rattle.mrt_words.specs.Reading.{IsDue}
+use Rattle.mrt_answer.specs.Packets.{IsNoRun}
 
 pub returns-in_err-script-clause-refused : goal.returns-in_err-script-clause-refused
 returns-in_err-script-clause-refused c =
     let input : Input = c.args.given.now in
     handed_on c.from_residual.result c.in_err-script.field-0.0 c.from_residual.ensures.1
-    (IsRunRefusal input c.args.bytes.now) (bad_lines input c.args.bytes.now c.in_err-script.field-0.0 c.in_err-script.ensures.none)
+    (IsDue (IsNoRun input c.args.bytes.now)) (bad_lines input c.args.bytes.now c.in_err-script.field-0.0 c.in_err-script.ensures.none)
 
 pub returns-clause-refused : goal.returns-clause-refused
 returns-clause-refused c =

@@ -6,7 +6,7 @@ use Rattle.fabric_script.specs.NamedEvents.{spot_of}
 use Rattle.mrt_answer.specs.PacketTables.{AreTablesTo}
 use Rattle.mrt_words.proofs.HandedOn.{if_ok}
 use Rattle.mrt_answer.proofs.PacketsServed.{agrees, are_whole, parts, served, spot_stands, whole}
-use Rattle.mrt_answer.proofs.packets.trace_in.Goals as goal
+use Rattle.mrt_answer.proofs.trace.trace_in.Goals as goal
 
 pub tables_to-requires-clause-fits : goal.tables_to-requires-clause-fits
 tables_to-requires-clause-fits c = c.requires.fits

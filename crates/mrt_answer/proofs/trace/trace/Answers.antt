@@ -1,5 +1,5 @@
 use Rattle.mrt_answer.proofs.Refusals.{root_within}
-use Rattle.mrt_answer.proofs.packets.trace.Goals as goal
+use Rattle.mrt_answer.proofs.trace.trace.Goals as goal
 
 pub trace_in-requires-clause-fits : goal.trace_in-requires-clause-fits
 trace_in-requires-clause-fits c = c.in_ok-net.ensures.is.fits

@@ -3,8 +3,8 @@ use Rattle.fabric_script.proofs.Placed.{found_node}
 use Rattle.mrt_graph.proofs.ListPlaces.{contains_at}
 use Rattle.mrt_graph.proofs.Members.{contains_none}
 use Rattle.mrt_graph.proofs.Searching.{one_in_one}
-use Rattle.mrt_answer.proofs.packets.destination_of.Goals.{in-Some+in_ok-push, in_default}
-use Rattle.mrt_answer.proofs.packets.destination_of.Goals as goal
+use Rattle.mrt_answer.proofs.trace.destination_of.Goals.{in-Some+in_ok-push, in_default}
+use Rattle.mrt_answer.proofs.trace.destination_of.Goals as goal
 
 pub returns : goal.returns
 returns c = λ t.

@@ -1,0 +1,62 @@
+//! `fabric DB PROFILE SCRIPT`: packets, step by step through the events of a script.
+
+ghost use Rattle.std.specs.Prelude.{◌≡◌, ◌<◌, ◌≤◌, IfOk, IfErr, length};
+ghost use Rattle.area_graph.specs.Fits.{Fits};
+ghost use Rattle.mrt_answer.specs.Input.{Input};
+ghost use Rattle.mrt_answer.specs.PacketTables.{IsAreaAndIsland};
+ghost use Rattle.mrt_answer.specs.Packets.{GivesRun, IsScriptGiven, IsNoRun};
+ghost use Rattle.mrt_answer.specs.TextBytes.{HasText};
+ghost use Rattle.mrt_answer.specs.Islands.{HasNoIslandFor};
+ghost use Rattle.mrt_words.specs.Reading.{IsDue};
+
+use crate::given::Given;
+use crate::input::script_of;
+use crate::packets::{AreaAndIsland, area_and_island, tables_to};
+use crate::text::Text;
+use fabric_script::{Script, destinations, script_text, texts_by_rows_for_destinations};
+use mrt_exit::Exit;
+use mrt_graph::NoMemory;
+use std::alloc::Global;
+
+/// The answers to the events of the script that the bytes are.
+pub(crate) fn run_of_bytes(alloc: Global, given: &Given, bytes: &[u8]) -> Result<Text, Exit>
+    requires limit { length bytes.now ≤ 33554432 }
+    ensures given { IfOk result (HasText (GivesRun given.now bytes.now)) }
+    ensures refused { IfErr result (IsDue (IsNoRun given.now bytes.now)) }
+{
+    let script = script_of(alloc, bytes)?;
+    run_of(alloc, given, &script)
+}
+
+/// The answers to the events of a script.
+fn run_of(alloc: Global, given: &Given, script: &Script) -> Result<Text, Exit>
+    requires room { 1 ≤ script.now.room }
+    ensures given { IfOk result (HasText (IsScriptGiven given.now script.now)) }
+    ensures refused { IfErr result (IsDue (HasNoIslandFor given.now script.now.router)) }
+{
+    let net = area_and_island(alloc, given, script.router)?;
+    let text = run_in(alloc, &net, script)?;
+    Ok(Text::Bytes(text))
+}
+
+/// The same, in an area and an island.
+fn run_in(alloc: Global, net: &AreaAndIsland, script: &Script) -> Result<Vec<u8>, NoMemory>
+    requires fits { Fits net.now.area net.now.island.graph net.now.island.link_of }
+    requires root { net.now.island.root < length net.now.island.graph.ids }
+    requires room { 1 ≤ script.now.room }
+    ensures { (input : Input) → IsAreaAndIsland input script.now.router net.now
+        → IfOk result (λ text. IsScriptGiven input script.now text.items) }
+{
+    texts_by_rows_for_destinations();
+    let spots = destinations(alloc, &net.area, script)?;
+    let tables = tables_to(alloc, net, &spots)?;
+    let island = &net.island.graph;
+    script_text(
+        alloc,
+        &net.area,
+        island,
+        &tables.rows,
+        &tables.routes,
+        script,
+    )
+}
