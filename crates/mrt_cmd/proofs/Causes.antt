@@ -10,9 +10,10 @@ use Rattle.mrt_cmd.specs.Causes.{HasCause, HasNoText, IsAnswered, IsOutputCalm, 
 use Rattle.mrt_cmd.specs.Comes.{Comes, Gives, GivesText, IsRefused, NamesHeld, Refuses}
 use Rattle.mrt_exit.specs.Exits.{line_of}
 use Rattle.mrt_words.specs.Files.{MayFail, files_of}
-use Rattle.mrt_words.specs.Form.{Form, AsksVerdict, form_of}
+use Rattle.mrt_words.specs.declared.form.Form.{Form}
+use Rattle.mrt_words.specs.Form.{AsksVerdict, form_of}
 use Rattle.mrt_cmd.specs.Headline.{IsPassed}
-use Rattle.mrt_cmd.specs.Reading.{IsRefusalOrFault}
+use Rattle.mrt_words.specs.Reading.{IsDueOrFault}
 use Rattle.mrt_exit.specs.Telling.{GainedLine, IsCutShort}
 use Rattle.mrt_cmd.specs.Run.{IsHealthyForText, WritesNothing}
 use Rattle.mrt_cmd.proofs.Exactly.{ComesOnce, exactly as exactly_one, exactly_missing, none_missing}
@@ -33,7 +34,7 @@ module _ (only : OnlyAVerdict) (words : List (List ℕ)) (shelf : ShelfInCall) (
   of_words : (exit : Exit) → Refuses shelf.held form exit → IsRefused shelf.held words exit
   of_words exit refused = subst (λ (it : Option Form). IsSomeAnd it (λ f. Refuses shelf.held f exit)) is refused
 
-  pub refused_words : (exit : Exit) → IsRefusalOrFault shelf.held form shelf.faults shelf.faults_now exit
+  pub refused_words : (exit : Exit) → IsDueOrFault (Refuses shelf.held form) shelf.held (files_of form) shelf.faults shelf.faults_now exit
       → HasNoText words shelf exit
   refused_words exits.Done said =
       absurd (not_of_form shelf.held form shelf.faults shelf.faults_now exits.Done OfDone said)
@@ -53,7 +54,7 @@ module _ (only : OnlyAVerdict) (words : List (List ℕ)) (shelf : ShelfInCall) (
 -- of what came of the form
 pub refused_over_words : {T : Type 0} (result : Result T Exit) → OnlyAVerdict → (words : List (List ℕ)) (shelf : ShelfInCall)
     (form : Form) → Some form ≡ form_of words
-    → IfErr result (IsRefusalOrFault shelf.held form shelf.faults shelf.faults_now) → IfErr result (HasNoText words shelf)
+    → IfErr result (IsDueOrFault (Refuses shelf.held form) shelf.held (files_of form) shelf.faults shelf.faults_now) → IfErr result (HasNoText words shelf)
 refused_over_words (Ok text) only words shelf form is said = tt
 refused_over_words (Err exit) only words shelf form is said = refused_words only words shelf form is exit said
 

@@ -7,9 +7,12 @@ use Rattle.mrt_exit.specs.declared.exit.Exit.{Exit}
 use Rattle.mrt_exit.specs.declared.exit.Exit.TheVariants as exits
 use Rattle.mrt_words.specs.FileBytes.{FileBytes}
 use Rattle.mrt_answer.specs.Answers.{IsRefusedOver}
+use Rattle.mrt_answer.proofs.TaskSays.{task_says}
 use Rattle.mrt_cmd.specs.Comes.{Comes, Gives, GivesText, MissesAt, Refuses}
 use Rattle.mrt_words.specs.Files.{IsFirstMissing, files_of}
-use Rattle.mrt_words.specs.Form.{Form, OfFiles, Survey, Flood, Task, Check, Certify, Table, Trace, Fabric, Upgrade, Lfa, Order, Proxy, form_of}
+use Rattle.mrt_words.specs.declared.form.Form.{Form}
+use Rattle.mrt_words.specs.declared.form.Form.TheVariants.{OfFiles, Survey, Flood}
+use Rattle.mrt_words.specs.Form.{Task, form_of}
 use Rattle.mrt_cmd.specs.Run.{WritesNothing}
 
 -- one exit comes of the words at most
@@ -27,15 +30,7 @@ exactly (Some files) words result once (inr memory) told = inl memory
 
 -- what is said of the bytes names no file
 never_missing : (task : Task) (bytes : FileBytes) (word : ℕ) → IsRefusedOver task bytes (exits.ReadFault word) → ⊥
-never_missing (Check certificate) bytes word said = said.2.2
-never_missing (Certify router) bytes word said = said.2
-never_missing (Table router) bytes word said = said.2
-never_missing (Trace trace) bytes word said = said.2
-never_missing (Fabric script) bytes word said = said.2.2
-never_missing (Upgrade certificate) bytes word said = said.2.2
-never_missing (Lfa router) bytes word said = said.2
-never_missing (Order router) bytes word said = said.2
-never_missing (Proxy router first second) bytes word said = said.2
+never_missing task bytes word said = task_says task said.0 bytes.last (exits.ReadFault word) said.2
 
 -- a file that is not held is what comes of the words just where it is the first that is not
 missing_comes : (files : Files) (form : Option Form) (word : ℕ)

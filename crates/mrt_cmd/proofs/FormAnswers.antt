@@ -1,75 +1,95 @@
--- Texts and refusals of the bytes of a form's files, as those of the form.
-use Rattle.std.proofs.Common.{◌≡◌, ◌⊎◌, ℕ, Option, Result, Ok, Err, refl, inl, inr}
+-- What comes of the bytes of a form's files, as what comes of the form.
+use Rattle.std.proofs.Common.{◌≡◌, ◌≤◌, ◌⊎◌, ℕ, List, [], Option, Result, Ok, Err, refl, sym, subst, inl, inr, arith}
 use Rattle.std.specs.Prelude.{IfErr, IfOk}
+use Rattle.std.specs.Result.{IsErrAnd}
 use Rattle.mrt_exit.specs.declared.exit.Exit.{Exit}
 use Rattle.mrt_exit.specs.declared.exit.Exit.TheVariants as exits
 use Rattle.mrt_io.specs.Holding.{Files}
+use Rattle.mrt_words.specs.declared.form.Form.{Form}
+use Rattle.mrt_words.specs.declared.form.Form.TheVariants.{Survey}
 use Rattle.mrt_words.specs.FileBytes.{FileBytes, AreRead}
-use Rattle.mrt_words.specs.Files.{Names, IsRefusedBy, MayFail, files_in, files_of, flood_names, task_names}
-use Rattle.mrt_words.specs.Form.{FileForm, FloodForm, Form, OfFiles, Flood}
-use Rattle.mrt_words.specs.Unread.{AreUnread, AreUnreadOrFault}
+use Rattle.mrt_words.specs.Files.{NamedFile, Names, IsRefusedBy, files_in, files_of}
+use Rattle.mrt_words.specs.Reading.{IsDue, IsDueOrFault, ReadsAs, ReadsFiles}
+use Rattle.mrt_words.proofs.Readings.{errs, if_err, reads_also, reads_none}
 use Rattle.mrt_answer.specs.declared.text.Text.{Text}
-use Rattle.mrt_answer.specs.Answers.{GivesOver}
-use Rattle.mrt_answer.specs.Flooded.{GivesFlood}
 use Rattle.mrt_answer.specs.Refusals.{IsAnswerBy}
+use Rattle.mrt_answer.specs.Surveyed.{IsSurveyed}
 use Rattle.mrt_answer.specs.TextBytes.{HasText}
 use Rattle.mrt_answer.proofs.TextsHeld.{answer_has_also}
-use Rattle.mrt_cmd.specs.Comes.{Gives, Refuses, RefusesFrom}
-use Rattle.mrt_cmd.specs.Reading.{IsRefusal, IsRefusalOrFault}
+use Rattle.mrt_cmd.specs.Comes.{Gives, GivesFrom, Refuses, RefusesFrom}
 
--- a text over the bytes that were read is what the form gives
-pub gives_form : (answer : Result Text Exit) (held : Option Files) (form : FileForm)
-    (bytes : FileBytes) → AreRead held (task_names form) bytes → IfOk answer (HasText (GivesOver form.task bytes))
-    → IfOk answer (HasText (Gives held (OfFiles form)))
-gives_form answer held form bytes read said =
-    answer_has_also (GivesOver form.task bytes) (Gives held (OfFiles form)) (λ text gives. (bytes, read, gives)) answer said
+module _ {S : Type 0} (held : S → Option Files) (faults : S → ℕ) (healthy : S → Type 0) where
+  -- a call reads these files, and gives the form's text or is refused as the form is
+  abbrev IsOfForm : S → S → Form → List NamedFile → Result Text Exit → Type 0
+  IsOfForm old new form named answer =
+      ReadsAs held faults healthy old new named (λ told exit. Refuses told form exit)
+      (λ told text. HasText (Gives told form) text) answer
 
--- the answers are a text of the form
-pub gives_flood : (answer : Result Text Exit) (held : Option Files) (form : FloodForm) (bytes : FileBytes)
-    → AreRead held (flood_names form) bytes → IfOk answer (HasText (GivesFlood bytes))
-    → IfOk answer (HasText (Gives held (Flood form)))
-gives_flood answer held form bytes read said =
-    answer_has_also (GivesFlood bytes) (Gives held (Flood form)) (λ text gives. (bytes, read, gives)) answer said
+  module _ (old new : S) (form : Form) (names : Names) (Tells : FileBytes → List ℕ → Type 0) (Says : FileBytes → Exit → Type 0)
+      (gives : (text : List ℕ) → GivesFrom (held old) names Tells text → Gives (held old) form text)
+      (refuses : (exit : Exit) → RefusesFrom (held old) names Says exit → Refuses (held old) form exit)
+      {T : Type 0} (Kept : Option Files → T → Type 0) where
+    -- where the files were read
+    module _ (bytes : FileBytes) (read : AreRead (held old) names bytes) where
+      said : (exit : Exit) → Says bytes exit ⊎ (exit ≡ exits.NoMemory) → IsDue (Refuses (held old) form) exit
+      said exit (inl refused) = inl (refuses exit (inr (bytes, read, refused)))
+      said exit (inr memory) = inr memory
 
--- what is said of the bytes of a form's files that were read is a refusal of the form
-module _ (held : Option Files) (form : Form) (names : Names) (Says : FileBytes → Exit → Type 0)
-    (is : (exit : Exit) → RefusesFrom held names Says exit → Refuses held form exit) (bytes : FileBytes)
-    (read : AreRead held names bytes) where
-  refusal_over : (exit : Exit) → Says bytes exit ⊎ (exit ≡ exits.NoMemory) → IsRefusal held form exit
-  refusal_over exit (inl refused) = inl (is exit (inr (bytes, read, refused)))
-  refusal_over exit (inr memory) = inr memory
+      due : (exit : Exit) → IsAnswerBy Says bytes exit → IsDue (Refuses (held old) form) exit
+      due (exits.ReadFault word) refused = absurd refused
+      due exit refused = said exit refused
 
-  calm_refusal : (exit : Exit) → IsAnswerBy Says bytes exit → IsRefusal held form exit
-  calm_refusal (exits.ReadFault word) said = absurd said
-  calm_refusal exit said = refusal_over exit said
+      or_fault : (exit : Exit) → IsAnswerBy Says bytes exit
+          → IsDueOrFault (Refuses (held old) form) (held old) (files_in names) (faults old) (faults new) exit
+      or_fault (exits.ReadFault word) refused = absurd refused
+      or_fault exit refused = due exit refused
 
-  -- a refusal of a form that names no file is so also where the shelf may have failed
-  or_fault : (before now : ℕ) (exit : Exit) → IsAnswerBy Says bytes exit → IsRefusalOrFault held form before now exit
-  or_fault before now (exits.ReadFault word) said = absurd said
-  or_fault before now exit said = calm_refusal exit said
+      pub answers : (files : T) → ReadsFiles held faults healthy old new (files_in names) Kept (Ok files)
+          → (answer : Result Text Exit) → IfOk answer (HasText (Tells bytes)) → IfErr answer (IsAnswerBy Says bytes)
+          → IsOfForm old new form (files_in names) answer
+      answers files reads answer text refused = record {
+        read = answer_has_also (Tells bytes) (Gives (held old) form) (λ t given. gives t (bytes, read, given)) answer text;
+        refused = if_err answer (IsAnswerBy Says bytes) _ or_fault refused;
+        calm = λ calm. if_err answer (IsAnswerBy Says bytes) _ due refused;
+        in_health = λ well. if_err answer (IsAnswerBy Says bytes) _ due refused;
+        count = reads.count;
+        unchanged = reads.unchanged;
+        no_fault = reads.no_fault;
+        stays_healthy = reads.stays_healthy;
+      }
 
-  -- of an answer
-  pub calm_over : {T : Type 0} (answer : Result T Exit) → IfErr answer (IsAnswerBy Says bytes)
-      → IfErr answer (IsRefusal held form)
-  calm_over (Ok t) said = tt
-  calm_over (Err exit) said = calm_refusal exit said
+    -- where they were not
+    pub unread : (exit : Exit) → ReadsFiles held faults healthy old new (files_in names) Kept (Err exit)
+        → (answer : Result Text Exit) → IsErrAnd answer (λ told. told ≡ exit) → IsOfForm old new form (files_in names) answer
+    unread exit reads answer is =
+        let Wants = λ (told : Option Files) (text : Text). HasText (Gives told form) text in
+        errs held faults healthy old new (files_in names) (λ told e. Refuses told form e) Wants answer exit is
+        (reads_also held faults healthy old new (files_in names) (files_in names) (λ told e. IsRefusedBy told (files_in names) e)
+        (λ told e. Refuses told form e) Wants Wants (Err exit) (λ t given. given) (λ e refused. refuses e (inl refused))
+        (λ word may. may) (λ there. there)
+        (reads_none held faults healthy old new (files_in names) (λ told e. IsRefusedBy told (files_in names) e) Kept Wants exit reads))
 
-  pub refused_over : {T : Type 0} (answer : Result T Exit) (before now : ℕ) → IfErr answer (IsAnswerBy Says bytes)
-      → IfErr answer (IsRefusalOrFault held form before now)
-  refused_over (Ok t) before now said = tt
-  refused_over (Err exit) before now said = or_fault before now exit said
+  -- a survey reads no file
+  pub surveys : (at : S) (form : Form) (number nodes : ℕ) → form ≡ Survey number nodes → (answer : Result Text Exit)
+      → IfOk answer (HasText (IsSurveyed number nodes)) → IfErr answer (λ exit. exit ≡ exits.NoMemory)
+      → IsOfForm at at form (files_of form) answer
+  surveys at form number nodes is answer text none =
+      subst (λ (f : Form). IsOfForm at at f (files_of f) answer) (sym is) survey
+    where
+      of_memory : (exit : Exit) → exit ≡ exits.NoMemory
+          → IsDueOrFault (Refuses (held at) (Survey number nodes)) (held at) [] (faults at) (faults at) exit
+      of_memory exit memory =
+          subst (λ (e : Exit). IsDueOrFault (Refuses (held at) (Survey number nodes)) (held at) [] (faults at) (faults at) e)
+          (sym memory) (inr refl)
 
--- files that were not read are a refusal of the form
-module _ (held : Option Files) (form : Form) (names : Names)
-    (is : (exit : Exit) → IsRefusedBy held (files_in names) exit → Refuses held form exit)
-    (may : (word : ℕ) → MayFail held (files_in names) word → MayFail held (files_of form) word) where
-  pub unread_refused : (exit : Exit) → AreUnread held names exit → IsRefusal held form exit
-  unread_refused exit (inl refused) = inl (is exit refused)
-  unread_refused exit (inr memory) = inr memory
-
-  pub unread_or_fault : (before now : ℕ) (exit : Exit) → AreUnreadOrFault held names before now exit
-      → IsRefusalOrFault held form before now exit
-  unread_or_fault before now (exits.ReadFault word) said = (may word said.0, said.1)
-  unread_or_fault before now (exits.TooLarge what size) said = unread_refused (exits.TooLarge what size) said
-  unread_or_fault before now exits.NoMemory said = inr refl
-  unread_or_fault before now exit said = unread_refused exit said
+      survey : IsOfForm at at (Survey number nodes) [] answer
+      survey = record {
+        read = text;
+        refused = if_err answer (λ exit. exit ≡ exits.NoMemory) _ of_memory none;
+        calm = λ calm. if_err answer (λ exit. exit ≡ exits.NoMemory) _ (λ exit memory. inr memory) none;
+        in_health = λ well. if_err answer (λ exit. exit ≡ exits.NoMemory) _ (λ exit memory. inr memory) none;
+        count = omega arith;
+        unchanged = refl;
+        no_fault = λ well there. refl;
+        stays_healthy = λ well there. well;
+      }

@@ -12,7 +12,12 @@ use Rattle.mrt_cmd.specs.Causes.{HasNoText, IsOfBytes, ShelfInCall}
 use Rattle.mrt_words.specs.FileBytes.{AreRead, IsLastRead, IsProfileRead}
 use Rattle.mrt_cmd.specs.Comes.{Gives, GivesText, IsRefused, NamesHeld, Refuses}
 use Rattle.mrt_words.specs.Files.{NamedFile, Names, AreThere, SaysOneOf, files_in, files_of, flood_names, profile_file, task_file, task_names}
-use Rattle.mrt_words.specs.Form.{FileForm, FloodForm, Form, OfFiles, Survey, Flood, Task, Check, Certify, Table, Trace, Fabric, Upgrade, Lfa, Order, Proxy, form_of}
+use Rattle.mrt_words.specs.declared.form.FileForm.{FileForm}
+use Rattle.mrt_words.specs.declared.form.FloodForm.{FloodForm}
+use Rattle.mrt_words.specs.declared.form.Form.{Form}
+use Rattle.mrt_words.specs.declared.form.Form.TheVariants.{OfFiles, Survey, Flood}
+use Rattle.mrt_words.specs.declared.task.Task.TheVariants.{Check, Fabric, Upgrade, OfRouter}
+use Rattle.mrt_words.specs.Form.{Task, form_of}
 use Rattle.mrt_cmd.proofs.WrittenPasses.{unread_says_one}
 
 -- files that were read are held
@@ -47,23 +52,13 @@ of_files form = ((λ size of. of), go form.profile form.task)
         → AllByRecursion (λ file. IsOfFile file.what)
         (option_to_list (option_map profile_file profile) ++ option_to_list (task_file task))
     go None (Check certificate) = ((λ size of. of), tt)
-    go None (Certify router) = tt
-    go None (Table router) = tt
-    go None (Trace trace) = tt
-    go None (Fabric script) = ((λ size of. of), tt)
     go None (Upgrade certificate) = ((λ size of. of), tt)
-    go None (Lfa router) = tt
-    go None (Order router) = tt
-    go None (Proxy router first second) = tt
+    go None (Fabric script) = ((λ size of. of), tt)
+    go None (OfRouter task) = tt
     go (Some name) (Check certificate) = ((λ size of. of), ((λ size of. of), tt))
-    go (Some name) (Certify router) = ((λ size of. of), tt)
-    go (Some name) (Table router) = ((λ size of. of), tt)
-    go (Some name) (Trace trace) = ((λ size of. of), tt)
-    go (Some name) (Fabric script) = ((λ size of. of), ((λ size of. of), tt))
     go (Some name) (Upgrade certificate) = ((λ size of. of), ((λ size of. of), tt))
-    go (Some name) (Lfa router) = ((λ size of. of), tt)
-    go (Some name) (Order router) = ((λ size of. of), tt)
-    go (Some name) (Proxy router first second) = ((λ size of. of), tt)
+    go (Some name) (Fabric script) = ((λ size of. of), ((λ size of. of), tt))
+    go (Some name) (OfRouter task) = ((λ size of. of), tt)
 
 of_packets : (form : FloodForm) → AllByRecursion (λ file. IsOfFile file.what) (files_in (flood_names form))
 of_packets form = ((λ size of. of), go form.profile)

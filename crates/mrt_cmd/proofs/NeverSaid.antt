@@ -5,16 +5,15 @@ use Rattle.mrt_exit.specs.declared.exit.Exit.{Exit}
 use Rattle.mrt_exit.specs.declared.exit.Exit.TheVariants as exits
 use Rattle.mrt_exit.specs.declared.exit.What.{What}
 use Rattle.mrt_words.specs.FileBytes.{FileBytes}
-use Rattle.mrt_answer.specs.Answers.{IsRefusedOver, IsRefusedTask}
-use Rattle.mrt_words.specs.Files.{NamedFile, IsRefusedBy, SaysOneOf, files_in, flood_names, task_names}
+use Rattle.mrt_words.specs.Reading.{IsDue, IsDueOrFault}
+use Rattle.mrt_answer.specs.Answers.{IsRefusedOver}
+use Rattle.mrt_answer.proofs.TaskSays.{task_says}
+use Rattle.mrt_cmd.specs.Comes.{Refuses}
+use Rattle.mrt_words.specs.Files.{NamedFile, IsRefusedBy, SaysOneOf, files_in, files_of, flood_names, task_names}
 use Rattle.mrt_answer.specs.Flooded.{IsRefusedFlood}
-use Rattle.mrt_words.specs.Form.{Form, OfFiles, Survey, Flood, Task, Check, Certify, Table, Trace, Fabric, Upgrade, Lfa, Order, Proxy}
-use Rattle.mrt_answer.specs.Input.{Input}
-use Rattle.mrt_answer.specs.Islands.{HasNoneFor}
-use Rattle.mrt_answer.specs.Packets.{IsNoRun}
-use Rattle.mrt_answer.specs.Proxied.{HasNoProxy}
-use Rattle.mrt_cmd.specs.Reading.{IsRefusal, IsRefusalOrFault}
-use Rattle.mrt_answer.specs.Verdict.{IsNoVerdict}
+use Rattle.mrt_words.specs.declared.form.Form.{Form}
+use Rattle.mrt_words.specs.declared.form.Form.TheVariants.{OfFiles, Survey, Flood}
+use Rattle.mrt_words.specs.Form.{Task}
 use Rattle.mrt_cmd.proofs.WrittenPasses.{unread_says_one}
 
 pub data IsUnsaid : Exit → Type 0 where
@@ -49,51 +48,17 @@ not_of_reading None named exit unsaid said = not_of_files named exit unsaid said
 not_of_reading (Some files) named exit unsaid said =
     not_of_files named exit unsaid (unread_says_one files named exit said)
 
-not_of_missing : (Missing : Type 0) (input : Input) (router : ℕ) (exit : Exit) → IsUnsaid exit
-    → HasNoneFor Missing input router exit → ⊥
-not_of_missing Missing input router exit OfDone said = said
-not_of_missing Missing input router exit OfUsage said = said
-not_of_missing Missing input router exit OfOutput said = said
-
-not_of_proxy : (input : Input) (number first second : ℕ) (exit : Exit) → IsUnsaid exit
-    → HasNoProxy input number first second exit → ⊥
-not_of_proxy input number first second exit OfDone said = said
-not_of_proxy input number first second exit OfUsage said = said
-not_of_proxy input number first second exit OfOutput said = said
-
-not_of_verdict : (input : Input) (bytes : List ℕ) (exit : Exit) → IsUnsaid exit → IsNoVerdict input bytes exit → ⊥
-not_of_verdict input bytes exit OfDone said = said.2
-not_of_verdict input bytes exit OfUsage said = said.2
-not_of_verdict input bytes exit OfOutput said = said.2
-
-not_of_run : (input : Input) (bytes : List ℕ) (exit : Exit) → IsUnsaid exit → IsNoRun input bytes exit → ⊥
-not_of_run input bytes exit OfDone said = said.2
-not_of_run input bytes exit OfUsage said = said.2
-not_of_run input bytes exit OfOutput said = said.2
-
-not_of_task : (task : Task) (input : Input) (last : List ℕ) (exit : Exit) → IsUnsaid exit
-    → IsRefusedTask task input last exit → ⊥
-not_of_task (Check certificate) input last exit unsaid said = not_of_verdict input last exit unsaid said
-not_of_task (Certify router) input last exit unsaid said = not_of_missing _ input router exit unsaid said
-not_of_task (Table router) input last exit unsaid said = not_of_missing _ input router exit unsaid said
-not_of_task (Trace trace) input last exit unsaid said = not_of_missing _ input trace.from exit unsaid said
-not_of_task (Fabric script) input last exit unsaid said = not_of_run input last exit unsaid said
-not_of_task (Upgrade certificate) input last exit unsaid said = not_of_verdict input last exit unsaid said
-not_of_task (Lfa router) input last exit unsaid said = not_of_missing _ input router exit unsaid said
-not_of_task (Order router) input last exit unsaid said = not_of_missing _ input router exit unsaid said
-not_of_task (Proxy router first second) input last exit unsaid said = not_of_proxy input router first second exit unsaid said
-
 not_of_bytes : (task : Task) (bytes : FileBytes) (exit : Exit) → IsUnsaid exit → IsRefusedOver task bytes exit → ⊥
-not_of_bytes task bytes exit OfDone said = not_of_task task said.0 bytes.last exits.Done OfDone said.2
-not_of_bytes task bytes exit OfUsage said = not_of_task task said.0 bytes.last exits.Usage OfUsage said.2
-not_of_bytes task bytes exit OfOutput said = not_of_task task said.0 bytes.last _ OfOutput said.2
+not_of_bytes task bytes exit OfDone said = task_says task said.0 bytes.last exits.Done said.2
+not_of_bytes task bytes exit OfUsage said = task_says task said.0 bytes.last exits.Usage said.2
+not_of_bytes task bytes exit OfOutput said = task_says task said.0 bytes.last _ said.2
 
 not_of_flood : (bytes : FileBytes) (exit : Exit) → IsUnsaid exit → IsRefusedFlood bytes exit → ⊥
 not_of_flood bytes exit OfDone said = said
 not_of_flood bytes exit OfUsage said = said
 not_of_flood bytes exit OfOutput said = said
 
-not_of_refusal : (held : Option Files) (form : Form) (exit : Exit) → IsUnsaid exit → IsRefusal held form exit → ⊥
+not_of_refusal : (held : Option Files) (form : Form) (exit : Exit) → IsUnsaid exit → IsDue (Refuses held form) exit → ⊥
 not_of_refusal held (OfFiles form) exit unsaid (inl (inl said)) = not_of_reading held (files_in (task_names form)) exit unsaid said
 not_of_refusal held (OfFiles form) exit unsaid (inl (inr said)) = not_of_bytes form.task said.0 exit unsaid said.2
 not_of_refusal held (Survey number nodes) exit unsaid (inl said) = said
@@ -102,7 +67,7 @@ not_of_refusal held (Flood form) exit unsaid (inl (inr said)) = not_of_flood sai
 not_of_refusal held form exit unsaid (inr memory) = not_memory exit unsaid memory
 
 pub not_of_form : (held : Option Files) (form : Form) (before now : ℕ) (exit : Exit) → IsUnsaid exit
-    → IsRefusalOrFault held form before now exit → ⊥
+    → IsDueOrFault (Refuses held form) held (files_of form) before now exit → ⊥
 not_of_form held form before now exit OfDone said = not_of_refusal held form exits.Done OfDone said
 not_of_form held form before now exit OfUsage said = not_of_refusal held form exits.Usage OfUsage said
 not_of_form held form before now exit OfOutput said = not_of_refusal held form _ OfOutput said

@@ -6,11 +6,12 @@ use Rattle.mrt_io.specs.Holding.{Files}
 use Rattle.mrt_exit.specs.declared.exit.Exit.{Exit}
 use Rattle.mrt_exit.specs.declared.exit.Exit.TheVariants as exits
 use Rattle.mrt_words.specs.Files.{AreThere, files_of}
-use Rattle.mrt_words.specs.Form.{Form, IsSurvey, form_of}
+use Rattle.mrt_words.specs.declared.form.Form.{Form}
+use Rattle.mrt_words.specs.Form.{IsSurvey, form_of}
 use Rattle.mrt_answer.specs.declared.text.Text.{Text}
 use Rattle.mrt_answer.specs.TextBytes.{HasText}
 use Rattle.mrt_cmd.specs.Comes.{Comes, Gives, GivesText, NamesHeld, Refuses}
-use Rattle.mrt_cmd.specs.Reading.{IsRefusal}
+use Rattle.mrt_words.specs.Reading.{IsDue}
 
 module _ (held : Option Files) (words : List (List ℕ)) (form : Form) (is : Some form ≡ form_of words) where
   pub text_of_words : (answer : Result Text Exit) → IfOk answer (HasText (Gives held form))
@@ -18,7 +19,7 @@ module _ (held : Option Files) (words : List (List ℕ)) (form : Form) (is : Som
   text_of_words answer given =
       subst (λ (it : Option Form). IfOk answer (HasText (λ text. IsSomeAnd it (λ f. Gives held f text)))) is given
 
-  pub comes_of_words : {T : Type 0} (answer : Result T Exit) → IfErr answer (IsRefusal held form)
+  pub comes_of_words : {T : Type 0} (answer : Result T Exit) → IfErr answer (IsDue (Refuses held form))
       → IfErr answer (λ exit. Comes held words exit ⊎ (exit ≡ exits.NoMemory))
   comes_of_words (Ok t) said = tt
   comes_of_words (Err exit) (inl refused) =

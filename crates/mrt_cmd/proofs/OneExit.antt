@@ -7,7 +7,9 @@ use Rattle.mrt_exit.specs.declared.exit.Exit.{Exit}
 use Rattle.mrt_exit.specs.declared.exit.Exit.TheVariants as exits
 use Rattle.mrt_words.specs.FileBytes.{FileBytes}
 use Rattle.mrt_words.specs.Files.{flood_names, task_names}
-use Rattle.mrt_words.specs.Form.{Form, OfFiles, Survey, Flood, Task}
+use Rattle.mrt_words.specs.declared.form.Form.{Form}
+use Rattle.mrt_words.specs.declared.form.Form.TheVariants.{OfFiles, Survey, Flood}
+use Rattle.mrt_words.specs.Form.{Task}
 use Rattle.mrt_answer.specs.Answers.{GivesOver, IsRefusedOver}
 use Rattle.mrt_answer.specs.Flooded.{GivesFlood, IsRefusedFlood}
 use Rattle.mrt_answer.specs.Surveyed.{IsSurveyed}

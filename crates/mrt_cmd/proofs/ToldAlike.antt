@@ -6,7 +6,8 @@ use Rattle.flood_verdict.specs.Says.{Says}
 use Rattle.mrt_io.specs.Holding.{Files}
 use Rattle.mrt_words.specs.FileBytes.{FileBytes}
 use Rattle.mrt_words.specs.Files.{flood_names}
-use Rattle.mrt_words.specs.Form.{Form, Flood}
+use Rattle.mrt_words.specs.declared.form.Form.{Form}
+use Rattle.mrt_words.specs.declared.form.Form.TheVariants.{Flood}
 use Rattle.mrt_answer.specs.Flooded.{GivesFlood, HoldsFlood}
 use Rattle.mrt_cmd.specs.Comes.{Gives, GivesText}
 use Rattle.mrt_cmd.specs.Headline.{FloodsAlike}

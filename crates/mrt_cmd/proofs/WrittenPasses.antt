@@ -8,11 +8,17 @@ use Rattle.mrt_io.specs.Holding.{Files}
 use Rattle.mrt_exit.specs.declared.exit.Exit.{Exit}
 use Rattle.mrt_exit.specs.declared.exit.Exit.TheVariants as exits
 use Rattle.mrt_words.specs.FileBytes.{FileBytes, AreRead, IsProfileRead, with_last}
-use Rattle.mrt_answer.specs.Answers.{GivesOver, IsRefusedOver}
+use Rattle.mrt_answer.specs.Answers.{GivesOver}
+use Rattle.mrt_answer.proofs.TaskSays.{task_says}
 use Rattle.mrt_cmd.specs.Comes.{Gives, GivesText, Refuses}
 use Rattle.mrt_graph.specs.Spelling.{address_in}
 use Rattle.mrt_words.specs.Files.{NamedFile, SaysOneOf, files_in, flood_names, refusal_of, task_names}
-use Rattle.mrt_words.specs.Form.{FileForm, Form, OfFiles, Survey, Flood, Task, Check, Certify, Table, Trace, Fabric, Upgrade, Lfa, Order, Proxy, AsksVerdict, AsksVerdictTask, profile_name}
+use Rattle.mrt_words.specs.declared.form.FileForm.{FileForm}
+use Rattle.mrt_words.specs.declared.form.Form.{Form}
+use Rattle.mrt_words.specs.declared.form.Form.TheVariants.{OfFiles, Survey, Flood}
+use Rattle.mrt_words.specs.declared.task.RouterTask.TheVariants.{Certify}
+use Rattle.mrt_words.specs.declared.task.Task.TheVariants.{Check, Upgrade, OfRouter}
+use Rattle.mrt_words.specs.Form.{Task, AsksVerdict, AsksVerdictTask, profile_name}
 use Rattle.mrt_cmd.specs.Headline.{ChecksWritten, IsPassed, profile_held}
 use Rattle.mrt_cmd.specs.Run.{WritesNothing}
 
@@ -23,11 +29,11 @@ form_with database profile task = record { database = database; profile = profil
 -- words that certify give the text of a router's certificate
 record IsCertifyForm (held : Option Files) (database profile text : List ℕ) : Type 0 where
   router : ℕ
-  gives : Gives held (OfFiles (form_with database profile (Certify router))) text
+  gives : Gives held (OfFiles (form_with database profile (OfRouter (Certify router)))) text
 
 certify_form : (held : Option Files) (database profile text : List ℕ) (named : Bool) (address : Option ℕ)
     → IsSomeAnd (option_or (option_map (λ form. OfFiles form) (option_or
-    (if named then option_map (λ task. form_with database profile task) (option_map (λ router. Certify router) address)
+    (if named then option_map (λ task. form_with database profile task) (option_map (λ task. OfRouter task) (option_map (λ router. Certify router) address))
     else None) None)) None) (λ form. Gives held form text) → IsCertifyForm held database profile text
 certify_form held database profile text true (Some router) given = record { router = router; gives = given }
 certify_form held database profile text true None given = absurd given
@@ -71,11 +77,11 @@ profile_is files word bytes held short = go (profile_name word) held
 
 -- the laws of the layer below on what was written
 pub record PassLaws : Type 0 where
-  pub check : (bytes : FileBytes) (router : ℕ) (certificate text : List ℕ) → GivesOver (Certify router) bytes text
+  pub check : (bytes : FileBytes) (router : ℕ) (certificate text : List ℕ) → GivesOver (OfRouter (Certify router)) bytes text
       → (line : List ℕ) × GivesOver (Check certificate) (with_last bytes text) line
-  pub upgrade : (bytes : FileBytes) (router : ℕ) (certificate text : List ℕ) → GivesOver (Certify router) bytes text
+  pub upgrade : (bytes : FileBytes) (router : ℕ) (certificate text : List ℕ) → GivesOver (OfRouter (Certify router)) bytes text
       → GivesOver (Upgrade certificate) (with_last bytes text) text
-  pub short : (bytes : FileBytes) (router : ℕ) (text : List ℕ) → GivesOver (Certify router) bytes text
+  pub short : (bytes : FileBytes) (router : ℕ) (text : List ℕ) → GivesOver (OfRouter (Certify router)) bytes text
       → length text ≤ 134217728
 
 -- the words give a text
@@ -87,9 +93,9 @@ written_passes laws files words w =
     (nat_lt 0 (length w.written.database) && nat_lt 0 (length w.written.profile)) (address_in w.written.router)
     w.written.gave in
     let bytes : FileBytes = certify.gives.0 in
-    let read : AreRead (Some w.written.files) (task_names (form_with w.written.database w.written.profile (Certify certify.router))) bytes =
+    let read : AreRead (Some w.written.files) (task_names (form_with w.written.database w.written.profile (OfRouter (Certify certify.router)))) bytes =
     certify.gives.1 in
-    let over : GivesOver (Certify certify.router) bytes w.written.text = certify.gives.2 in
+    let over : GivesOver (OfRouter (Certify certify.router)) bytes w.written.text = certify.gives.2 in
     let short = laws.short bytes certify.router w.written.text over in
     let kept : FileBytes = with_last bytes w.written.text in
     let profile_read : IsProfileRead (Some files) (profile_name w.profile) bytes.profile =
@@ -156,18 +162,8 @@ only_verdict None form rule a b (inl refused) = absurd (none_says_no (files_in (
 only_verdict (Some files) form rule a b (inl refused) =
     absurd (none_says_no (files_in (task_names form)) rule a b
     (unread_says_one files (files_in (task_names form)) (exits.No rule a b) refused))
-only_verdict held form rule a b (inr refused) = go form.task refused.2
-  where
-    go : (task : Task) → IsRefusedOver task refused.0 (exits.No rule a b) → AsksVerdictTask task
-    go (Check certificate) said = tt
-    go (Certify router) said = absurd said.2
-    go (Table router) said = absurd said.2
-    go (Trace trace) said = absurd said.2
-    go (Fabric script) said = absurd said.2.2
-    go (Upgrade certificate) said = tt
-    go (Lfa router) said = absurd said.2
-    go (Order router) said = absurd said.2
-    go (Proxy router first second) said = absurd said.2
+only_verdict held form rule a b (inr refused) =
+    task_says form.task refused.2.0 refused.0.last (exits.No rule a b) refused.2.2
 
 pub only_verdict_words : (held : Option Files) (form : Option Form) (rule a b : ℕ)
     → IsSomeAnd form (λ it. Refuses held it (exits.No rule a b)) → IsSomeAnd form AsksVerdict

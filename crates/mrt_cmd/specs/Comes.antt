@@ -8,7 +8,9 @@ use Rattle.mrt_words.specs.FileBytes.{FileBytes, AreRead}
 use Rattle.mrt_answer.specs.Answers.{GivesOver, IsRefusedOver}
 use Rattle.mrt_words.specs.Files.{Names, files_in, files_of, flood_names, task_names, IsFirstMissing, IsRefusedBy, MayFail, AreThere}
 use Rattle.mrt_answer.specs.Flooded.{GivesFlood, IsRefusedFlood}
-use Rattle.mrt_words.specs.Form.{Form, OfFiles, Survey, Flood, form_of}
+use Rattle.mrt_words.specs.declared.form.Form.{Form}
+use Rattle.mrt_words.specs.declared.form.Form.TheVariants.{OfFiles, Survey, Flood}
+use Rattle.mrt_words.specs.Form.{form_of}
 use Rattle.mrt_answer.specs.Surveyed.{IsSurveyed}
 
 -- the text that is said of the bytes of such files

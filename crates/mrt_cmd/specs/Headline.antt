@@ -10,7 +10,9 @@ use Rattle.mrt_words.specs.FileBytes.{AreRead}
 use Rattle.mrt_cmd.specs.Comes.{GivesText}
 use Rattle.mrt_words.specs.Files.{flood_names}
 use Rattle.mrt_answer.specs.Flooded.{HoldsFlood}
-use Rattle.mrt_words.specs.Form.{FloodForm, Flood, form_of, profile_name}
+use Rattle.mrt_words.specs.declared.form.FloodForm.{FloodForm}
+use Rattle.mrt_words.specs.declared.form.Form.TheVariants.{Flood}
+use Rattle.mrt_words.specs.Form.{form_of, profile_name}
 
 -- what a word for a profile stands for: no bytes where it names none, else those that are held
 abbrev pub profile_held : Files → List ℕ → Option (List ℕ)

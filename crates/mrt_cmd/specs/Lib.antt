@@ -1,5 +1,4 @@
 pub mod Causes
 pub mod Comes
 pub mod Headline
-pub mod Reading
 pub mod Run

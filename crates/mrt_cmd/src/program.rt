@@ -12,14 +12,14 @@ ghost use Rattle.flood_verdict.specs.Says.{Says};
 ghost use Rattle.mrt_island.specs.declared.profile_error.ProfileKind.{ProfileKind};
 ghost use Rattle.mrt_exit.specs.declared.exit.DbKind.{DbKind};
 ghost use Rattle.mrt_exit.specs.declared.exit.What.{What};
-ghost use Rattle.mrt_words.specs.Asked.{asked, files_asked, flood_asked};
 ghost use Rattle.mrt_cmd.specs.Causes.{HasNoText, IsAnswered};
-ghost use Rattle.mrt_cmd.specs.Comes.{Comes, FailsAt, Gives, GivesText, IsRefused, MissesAt, NamesHeld};
+ghost use Rattle.mrt_cmd.specs.Comes.{Comes, FailsAt, Gives, GivesText, IsRefused, MissesAt, NamesHeld, Refuses};
 ghost use Rattle.mrt_exit.specs.Exits.{line_of};
-ghost use Rattle.mrt_words.specs.Files.{AreThere, files_of};
-ghost use Rattle.mrt_words.specs.Form.{AsksVerdict, IsSurvey, IsTaskWithin, IsWithin, Flood, OfFiles, form_of};
+ghost use Rattle.mrt_words.specs.Files.{files_in, files_of, flood_names, task_names};
+ghost use Rattle.mrt_words.specs.declared.form.Form.TheVariants.{Flood, OfFiles};
+ghost use Rattle.mrt_words.specs.Form.{AsksVerdict, IsSurvey, IsTaskWithin, IsWithin, form_of};
+ghost use Rattle.mrt_words.specs.Reading.{ReadsAs};
 ghost use Rattle.mrt_cmd.specs.Headline.{ChecksWritten, FloodsAlike, IsPassed};
-ghost use Rattle.mrt_cmd.specs.Reading.{IsRefusal, IsRefusalOrFault};
 ghost use Rattle.mrt_answer.specs.TextBytes.{HasText, IsTextOf};
 ghost use Rattle.mrt_exit.specs.Telling.{GainedLine, IsCutShort};
 ghost use Rattle.mrt_cmd.specs.Run.{IsExitOfSurvey, IsHealthyForText, IsUndisturbed, WritesNothing};
@@ -196,71 +196,39 @@ fn text_for<F: Shelf>(alloc: Global, words: &[Word], shelf: &mut F) -> Result<Te
     only_a_verdict_says_no();
     match read_form(words) {
         None => Err(Exit::Usage),
-        Some(form) => text_of(alloc, form, shelf),
+        Some(form) => text_of(alloc, &form, shelf),
     }
 }
 
 /// The text that a form gives.
-fn text_of<F: Shelf>(alloc: Global, form: Form<'_>, shelf: &mut F) -> Result<Text, Exit>
-    requires { IsWithin (asked form) }
-    ensures text { IfOk result (HasText (Gives (F.held shelf.old) (asked form.entry))) }
-    ensures refused { IfErr result (IsRefusalOrFault (F.held shelf.old) (asked form.entry) (F.faults shelf.old) (F.faults shelf.new)) }
-    ensures calm { (Rose (F.faults shelf.old) (F.faults shelf.new) → ⊥) → IfErr result (IsRefusal (F.held shelf.old) (asked form.entry)) }
-    ensures healthy { F.healthy shelf.old → IfErr result (IsRefusal (F.held shelf.old) (asked form.entry)) }
-    ensures count { F.faults shelf.old ≤ F.faults shelf.new }
-    ensures unchanged { F.held shelf.new ≡ F.held shelf.old }
-    ensures no_fault { F.healthy shelf.old → AreThere (F.held shelf.old) (files_of (asked form.entry))
-        → F.faults shelf.new ≡ F.faults shelf.old }
-    ensures stays_healthy { F.healthy shelf.old → AreThere (F.held shelf.old) (files_of (asked form.entry))
-        → F.healthy shelf.new }
-    ensures survey { IsSurvey (asked form.entry) → IfErr result (λ exit. exit ≡ Exit.NoMemory) }
-    ensures survey_reads_nothing { IsSurvey (asked form.entry) → shelf.new ≡ shelf.old }
+fn text_of<F: Shelf>(alloc: Global, form: &Form<'_>, shelf: &mut F) -> Result<Text, Exit>
+    requires { IsWithin form.now }
+    ensures reads { ReadsAs F.held F.faults F.healthy shelf.old shelf.new (files_of form.now)
+        (λ held exit. Refuses held form.now exit) (λ held text. HasText (Gives held form.now) text) result }
+    ensures survey { IsSurvey form.now → IfErr result (λ exit. exit ≡ Exit.NoMemory) }
+    ensures survey_reads_nothing { IsSurvey form.now → shelf.new ≡ shelf.old }
 {
     match form {
         Form::OfFiles(form) => text_of_files(alloc, form, shelf),
-        Form::Survey { number, nodes } => answer_of_survey(alloc, number, nodes),
-        Form::Flood(form) => text_of_flood(alloc, &form, shelf),
+        Form::Survey { number, nodes } => answer_of_survey(alloc, *number, *nodes),
+        Form::Flood(form) => text_of_flood(alloc, form, shelf),
     }
 }
 
 /// The text that a form over files gives.
-fn text_of_files<F: Shelf>(alloc: Global, form: FileForm<'_>, shelf: &mut F) -> Result<Text, Exit>
-    requires { IsTaskWithin (files_asked form).task }
-    ensures text { IfOk result (HasText (Gives (F.held shelf.old) (OfFiles (files_asked form.entry)))) }
-    ensures refused { IfErr result (IsRefusalOrFault (F.held shelf.old) (OfFiles (files_asked form.entry))
-        (F.faults shelf.old) (F.faults shelf.new)) }
-    ensures calm { (Rose (F.faults shelf.old) (F.faults shelf.new) → ⊥)
-        → IfErr result (IsRefusal (F.held shelf.old) (OfFiles (files_asked form.entry))) }
-    ensures healthy { F.healthy shelf.old
-        → IfErr result (IsRefusal (F.held shelf.old) (OfFiles (files_asked form.entry))) }
-    ensures count { F.faults shelf.old ≤ F.faults shelf.new }
-    ensures unchanged { F.held shelf.new ≡ F.held shelf.old }
-    ensures no_fault { F.healthy shelf.old → AreThere (F.held shelf.old) (files_of (OfFiles (files_asked form.entry)))
-        → F.faults shelf.new ≡ F.faults shelf.old }
-    ensures stays_healthy { F.healthy shelf.old → AreThere (F.held shelf.old) (files_of (OfFiles (files_asked form.entry)))
-        → F.healthy shelf.new }
+fn text_of_files<F: Shelf>(alloc: Global, form: &FileForm<'_>, shelf: &mut F) -> Result<Text, Exit>
+    requires { IsTaskWithin form.now.task }
+    ensures { ReadsAs F.held F.faults F.healthy shelf.old shelf.new (files_in (task_names form.now))
+        (λ held exit. Refuses held (OfFiles form.now) exit) (λ held text. HasText (Gives held (OfFiles form.now)) text) result }
 {
-    let files = read_files(alloc, shelf, &form)?;
+    let files = read_files(alloc, shelf, form)?;
     answer_of_files(alloc, files)
 }
 
 /// The text that a form over packets gives.
 fn text_of_flood<F: Shelf>(alloc: Global, form: &FloodForm<'_>, shelf: &mut F) -> Result<Text, Exit>
-    ensures text { IfOk result (HasText (Gives (F.held shelf.old) (Flood (flood_asked form.now)))) }
-    ensures refused { IfErr result (IsRefusalOrFault (F.held shelf.old) (Flood (flood_asked form.now))
-        (F.faults shelf.old) (F.faults shelf.new)) }
-    ensures calm { (Rose (F.faults shelf.old) (F.faults shelf.new) → ⊥)
-        → IfErr result (IsRefusal (F.held shelf.old) (Flood (flood_asked form.now))) }
-    ensures healthy { F.healthy shelf.old
-        → IfErr result (IsRefusal (F.held shelf.old) (Flood (flood_asked form.now))) }
-    ensures count { F.faults shelf.old ≤ F.faults shelf.new }
-    ensures unchanged { F.held shelf.new ≡ F.held shelf.old }
-    ensures no_fault { F.healthy shelf.old
-        → AreThere (F.held shelf.old) (files_of (Flood (flood_asked form.now)))
-        → F.faults shelf.new ≡ F.faults shelf.old }
-    ensures stays_healthy { F.healthy shelf.old
-        → AreThere (F.held shelf.old) (files_of (Flood (flood_asked form.now)))
-        → F.healthy shelf.new }
+    ensures { ReadsAs F.held F.faults F.healthy shelf.old shelf.new (files_in (flood_names form.now))
+        (λ held exit. Refuses held (Flood form.now) exit) (λ held text. HasText (Gives held (Flood form.now)) text) result }
 {
     let files = read_flood_files(alloc, shelf, form)?;
     answer_of_flood(alloc, &files)

@@ -58,57 +58,45 @@ returns-in-Ok-clause-comes g c = (returns-in-Ok-clause-answered g c).complete
 pub returns-in-Ok-clause-exactly : goal.returns-in-Ok-clause-exactly
 returns-in-Ok-clause-exactly g c = (returns-in-Ok-clause-answered g c).exactly
 
--- an exit that is that of something written to the output is none on which nothing is
-never : (put told exit : Exit) → (WritesNothing put → ⊥) → told ≡ put → told ≡ exit → WritesNothing exit → ⊥
-never put told exit kind same is nothing = kind (subst WritesNothing (sym (sym same ∙ is)) nothing)
+-- an exit of something written to the output is none on which nothing is
+never : (g : Over) (c : goal.After-tell g) (exit : Exit) → WritesNothing exit → c.tell.result ≡ exit → ⊥
+never g c exit nothing is = c.put_text.ensures.kind (subst WritesNothing (sym (sym c.tell.ensures.same ∙ is)) nothing)
 
 pub returns-in-Ok-clause-usage_reads_nothing : goal.returns-in-Ok-clause-usage_reads_nothing
-returns-in-Ok-clause-usage_reads_nothing g c = λ is.
-    absurd (never c.put_text.result c.tell.result exits.Usage c.put_text.ensures.kind c.tell.ensures.same is tt)
+returns-in-Ok-clause-usage_reads_nothing g c = λ is. absurd (never g c exits.Usage tt is)
 
 pub returns-in-Ok-clause-read_fault : goal.returns-in-Ok-clause-read_fault
-returns-in-Ok-clause-read_fault g c = λ word is.
-    absurd (never c.put_text.result c.tell.result (exits.ReadFault word) c.put_text.ensures.kind c.tell.ensures.same is tt)
+returns-in-Ok-clause-read_fault g c = λ word is. absurd (never g c (exits.ReadFault word) tt is)
 
 pub returns-in-Ok-clause-too_large : goal.returns-in-Ok-clause-too_large
-returns-in-Ok-clause-too_large g c = λ what size is.
-    absurd (never c.put_text.result c.tell.result (exits.TooLarge what size) c.put_text.ensures.kind c.tell.ensures.same is tt)
+returns-in-Ok-clause-too_large g c = λ what size is. absurd (never g c (exits.TooLarge what size) tt is)
 
 pub returns-in-Ok-clause-bad_database : goal.returns-in-Ok-clause-bad_database
-returns-in-Ok-clause-bad_database g c = λ at kind is.
-    absurd (never c.put_text.result c.tell.result (exits.BadDatabase at kind) c.put_text.ensures.kind c.tell.ensures.same is tt)
+returns-in-Ok-clause-bad_database g c = λ at kind is. absurd (never g c (exits.BadDatabase at kind) tt is)
 
 pub returns-in-Ok-clause-bad_profile : goal.returns-in-Ok-clause-bad_profile
-returns-in-Ok-clause-bad_profile g c = λ line kind is.
-    absurd (never c.put_text.result c.tell.result (exits.BadProfile line kind) c.put_text.ensures.kind c.tell.ensures.same is tt)
+returns-in-Ok-clause-bad_profile g c = λ line kind is. absurd (never g c (exits.BadProfile line kind) tt is)
 
 pub returns-in-Ok-clause-bad_certificate : goal.returns-in-Ok-clause-bad_certificate
-returns-in-Ok-clause-bad_certificate g c = λ at kind is.
-    absurd (never c.put_text.result c.tell.result (exits.BadCertificate at kind) c.put_text.ensures.kind c.tell.ensures.same is tt)
+returns-in-Ok-clause-bad_certificate g c = λ at kind is. absurd (never g c (exits.BadCertificate at kind) tt is)
 
 pub returns-in-Ok-clause-bad_update : goal.returns-in-Ok-clause-bad_update
-returns-in-Ok-clause-bad_update g c = λ at kind is.
-    absurd (never c.put_text.result c.tell.result (exits.BadUpdate at kind) c.put_text.ensures.kind c.tell.ensures.same is tt)
+returns-in-Ok-clause-bad_update g c = λ at kind is. absurd (never g c (exits.BadUpdate at kind) tt is)
 
 pub returns-in-Ok-clause-bad_script : goal.returns-in-Ok-clause-bad_script
-returns-in-Ok-clause-bad_script g c = λ line is.
-    absurd (never c.put_text.result c.tell.result (exits.BadScript line) c.put_text.ensures.kind c.tell.ensures.same is tt)
+returns-in-Ok-clause-bad_script g c = λ line is. absurd (never g c (exits.BadScript line) tt is)
 
 pub returns-in-Ok-clause-not_there : goal.returns-in-Ok-clause-not_there
-returns-in-Ok-clause-not_there g c = λ number is.
-    absurd (never c.put_text.result c.tell.result (exits.NotThere number) c.put_text.ensures.kind c.tell.ensures.same is tt)
+returns-in-Ok-clause-not_there g c = λ number is. absurd (never g c (exits.NotThere number) tt is)
 
 pub returns-in-Ok-clause-no : goal.returns-in-Ok-clause-no
-returns-in-Ok-clause-no g c = λ rule a b is.
-    absurd (never c.put_text.result c.tell.result (exits.No rule a b) c.put_text.ensures.kind c.tell.ensures.same is tt)
+returns-in-Ok-clause-no g c = λ rule a b is. absurd (never g c (exits.No rule a b) tt is)
 
 pub returns-in-Ok-clause-no_from_a_verdict_alone : goal.returns-in-Ok-clause-no_from_a_verdict_alone
-returns-in-Ok-clause-no_from_a_verdict_alone g c = λ rule a b is.
-    absurd (never c.put_text.result c.tell.result (exits.No rule a b) c.put_text.ensures.kind c.tell.ensures.same is tt)
+returns-in-Ok-clause-no_from_a_verdict_alone g c = λ rule a b is. absurd (never g c (exits.No rule a b) tt is)
 
 pub returns-in-Ok-clause-writes_nothing : goal.returns-in-Ok-clause-writes_nothing
-returns-in-Ok-clause-writes_nothing g c = λ nothing.
-    absurd (never c.put_text.result c.tell.result c.tell.result c.put_text.ensures.kind c.tell.ensures.same refl nothing)
+returns-in-Ok-clause-writes_nothing g c = λ nothing. absurd (never g c c.tell.result nothing refl)
 
 pub returns-in-Ok-clause-silent : goal.returns-in-Ok-clause-silent
 returns-in-Ok-clause-silent g c = λ is. c.tell.ensures.silent (sym c.tell.ensures.same ∙ is)

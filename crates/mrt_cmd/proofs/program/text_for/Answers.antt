@@ -1,5 +1,4 @@
 use Rattle.std.proofs.Common.{◌≡◌, inl, inr}
-use Rattle.mrt_words.specs.Asked.{asked}
 use Rattle.mrt_cmd.proofs.Causes.{refused_over_words}
 use Rattle.mrt_cmd.proofs.OfWords.{comes_of_words, survey_of_words, text_of_words, there_of_words}
 use Rattle.mrt_cmd.proofs.program.text_for.Goals as goal
@@ -14,36 +13,42 @@ returns-in-Some-clause-cause g c =
       faults = g.F.Shelf.faults c.args.shelf.now;
       faults_now = g.F.Shelf.faults c.text_of.new.shelf;
       untouched = c.text_of.new.shelf ≡ c.args.shelf.now;
-    }) (asked c.in-Some.form) c.in-Some.ensures.form c.text_of.ensures.refused
+    }) c.in-Some.form c.in-Some.ensures.form c.text_of.ensures.reads.refused
 
 pub returns-in-Some-clause-text : goal.returns-in-Some-clause-text
 returns-in-Some-clause-text g c =
-    text_of_words _ c.args.words.now (asked c.in-Some.form) c.in-Some.ensures.form c.text_of.result c.text_of.ensures.text
+    text_of_words _ c.args.words.now c.in-Some.form c.in-Some.ensures.form c.text_of.result c.text_of.ensures.reads.read
 
 pub returns-in-Some-clause-comes : goal.returns-in-Some-clause-comes
 returns-in-Some-clause-comes g c = λ spared. elim spared [
-  | inl calm ↦ comes_of_words _ c.args.words.now (asked c.in-Some.form) c.in-Some.ensures.form c.text_of.result
-      (c.text_of.ensures.calm calm)
-  | inr healthy ↦ comes_of_words _ c.args.words.now (asked c.in-Some.form) c.in-Some.ensures.form c.text_of.result
-      (c.text_of.ensures.healthy healthy)
+  | inl calm ↦ comes_of_words _ c.args.words.now c.in-Some.form c.in-Some.ensures.form c.text_of.result
+      (c.text_of.ensures.reads.calm calm)
+  | inr healthy ↦ comes_of_words _ c.args.words.now c.in-Some.form c.in-Some.ensures.form c.text_of.result
+      (c.text_of.ensures.reads.in_health healthy)
 ]
 
 pub returns-in-Some-clause-no_fault : goal.returns-in-Some-clause-no_fault
 returns-in-Some-clause-no_fault g c = λ healthy there.
-    c.text_of.ensures.no_fault healthy
-    (there_of_words _ c.args.words.now (asked c.in-Some.form) c.in-Some.ensures.form there)
+    c.text_of.ensures.reads.no_fault healthy
+    (there_of_words _ c.args.words.now c.in-Some.form c.in-Some.ensures.form there)
 
 pub returns-in-Some-clause-stays_healthy : goal.returns-in-Some-clause-stays_healthy
 returns-in-Some-clause-stays_healthy g c = λ healthy there.
-    c.text_of.ensures.stays_healthy healthy
-    (there_of_words _ c.args.words.now (asked c.in-Some.form) c.in-Some.ensures.form there)
+    c.text_of.ensures.reads.stays_healthy healthy
+    (there_of_words _ c.args.words.now c.in-Some.form c.in-Some.ensures.form there)
 
 pub returns-in-Some-clause-survey : goal.returns-in-Some-clause-survey
 returns-in-Some-clause-survey g c = λ surveys.
     c.text_of.ensures.survey
-    (survey_of_words (g.F.Shelf.held c.args.shelf.now) c.args.words.now (asked c.in-Some.form) c.in-Some.ensures.form surveys)
+    (survey_of_words (g.F.Shelf.held c.args.shelf.now) c.args.words.now c.in-Some.form c.in-Some.ensures.form surveys)
 
 pub returns-in-Some-clause-survey_reads_nothing : goal.returns-in-Some-clause-survey_reads_nothing
 returns-in-Some-clause-survey_reads_nothing g c = λ surveys.
     c.text_of.ensures.survey_reads_nothing
-    (survey_of_words (g.F.Shelf.held c.args.shelf.now) c.args.words.now (asked c.in-Some.form) c.in-Some.ensures.form surveys)
+    (survey_of_words (g.F.Shelf.held c.args.shelf.now) c.args.words.now c.in-Some.form c.in-Some.ensures.form surveys)
+
+pub returns-in-Some-clause-count : goal.returns-in-Some-clause-count
+returns-in-Some-clause-count g c = c.text_of.ensures.reads.count
+
+pub returns-in-Some-clause-unchanged : goal.returns-in-Some-clause-unchanged
+returns-in-Some-clause-unchanged g c = c.text_of.ensures.reads.unchanged
