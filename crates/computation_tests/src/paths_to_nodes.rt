@@ -185,7 +185,7 @@ fn are_columns(
 }
 
 /// Whether a source has for each target what each target is told of the source.
-fn is_one_from(
+fn agrees_with_targets(
     rt: &impl Abort,
     alloc: Global,
     g: &Graph,
@@ -216,7 +216,7 @@ fn are_one(
     requires { HasDirections g.now d.now }
 {
     for source in 0..g.node_count() {
-        if !is_one_from(rt, alloc, g, d, source, dir)? {
+        if !agrees_with_targets(rt, alloc, g, d, source, dir)? {
             return Ok(false);
         }
     }
