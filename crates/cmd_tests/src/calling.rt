@@ -1,6 +1,6 @@
 //! Calls of the top call over devices in memory.
 
-ghost use Rattle.std.specs.Prelude.{◌≤◌, IfOk, length};
+ghost use Rattle.std.specs.Prelude.{◌≡◌, ◌≤◌, IfOk, length};
 ghost use Rattle.mrt_io.specs.Memory.{HasDistinctNames};
 ghost use Rattle.mrt_io.specs.Named.{named};
 
@@ -91,9 +91,22 @@ pub fn left_by(
     devices: Devices,
     err: Devices,
 ) -> Result<Left, NoMemory> {
-    let mut shelf = shelf(alloc, files, devices.read)?;
-    let mut out = sink(alloc, devices)?;
-    let mut err = sink(alloc, err)?;
+    let out = sink(alloc, devices)?;
+    let err = sink(alloc, err)?;
+    left_over(alloc, words, files, devices.read, out, err)
+}
+
+/// The same over these outputs, where this call of the shelf fails.
+fn left_over(
+    alloc: Global,
+    words: &[&str],
+    files: Files<'_>,
+    read: u32,
+    out: MemSink,
+    err: MemSink,
+) -> Result<Left, NoMemory> {
+    let (mut out, mut err) = (out, err);
+    let mut shelf = shelf(alloc, files, read)?;
     let exit = exit_of(alloc, words, &mut shelf, &mut out, &mut err)?;
     Ok(Left { exit, out, err })
 }
@@ -133,22 +146,22 @@ pub fn calmly(alloc: Global, words: &[&str], files: Files<'_>) -> Result<Left, N
     left_on(alloc, words, files, calm(1000))
 }
 
+/// A file under a name.
+fn named_file(alloc: Global, name: &[u8], bytes: &[u8]) -> Result<(Word, Vec<u8>), NoMemory>
+    ensures { IfOk result (λ file. file.0 ≡ name.now) }
+{
+    let name = Word::new(alloc, name)?;
+    let bytes = Vec::from_slice(alloc, bytes)?;
+    Ok((name, bytes))
+}
+
 fn named_files(alloc: Global, files: Files<'_>) -> Result<Vec<(Word, Vec<u8>)>, NoMemory>
     ensures { IfOk result (λ files. HasDistinctNames (named files.items)) }
 {
     let mut list = Vec::new(alloc);
-    list.push((
-        Word::new(alloc, b"db")?,
-        Vec::from_slice(alloc, files.database)?,
-    ))?;
-    list.push((
-        Word::new(alloc, b"prof")?,
-        Vec::from_slice(alloc, files.profile)?,
-    ))?;
-    list.push((
-        Word::new(alloc, b"cert")?,
-        Vec::from_slice(alloc, files.certificate)?,
-    ))?;
+    list.push(named_file(alloc, b"db", files.database)?)?;
+    list.push(named_file(alloc, b"prof", files.profile)?)?;
+    list.push(named_file(alloc, b"cert", files.certificate)?)?;
     Ok(list)
 }
 

@@ -27,99 +27,109 @@ struct Written {
     certificate: &'static [u8],
 }
 
-const WRITTEN: &[Written] = &[
-    Written {
-        name: "one router",
-        words: OF_1,
-        database: ROUTER,
-        profile: "",
-        certificate: CERTIFICATE_2,
-    },
-    Written {
-        name: "a stub link",
-        words: OF_1,
-        database: STUB,
-        profile: "",
-        certificate: CERTIFICATE_2,
-    },
-    Written {
-        name: "a triangle",
-        words: OF_1,
-        database: TRIANGLE,
-        profile: "",
-        certificate: TRIANGLE_CERTIFICATE_2,
-    },
-    Written {
-        name: "another root",
-        words: OF_1_UNDER,
-        database: TRIANGLE,
-        profile: "priority 1.1.1.1 10\n",
-        certificate: TRIANGLE_FROM_1_2,
-    },
-    Written {
-        name: "a line",
-        words: OF_1,
-        database: LINE,
-        profile: "",
-        certificate: LINE_CERTIFICATE_2,
-    },
-    Written {
-        name: "a router without its neighbour",
-        words: OF_1_UNDER,
-        database: LINE,
-        profile: "no-mrt 2.2.2.2\n",
-        certificate: CERTIFICATE_2,
-    },
-    Written {
-        name: "three links",
-        words: OF_1,
-        database: THREE_LINKS,
-        profile: "",
-        certificate: THREE_LINKS_CERTIFICATE_2,
-    },
-    Written {
-        name: "five routers, the last of the block joined to the root",
-        words: OF_1,
-        database: FIVE,
-        profile: "",
-        certificate: FIVE_COMPUTED_2,
-    },
-    Written {
-        name: "a ring",
-        words: OF_1,
-        database: RING,
-        profile: "",
-        certificate: RING_COMPUTED_2,
-    },
-    Written {
-        name: "a LAN",
-        words: OF_1,
-        database: LAN,
-        profile: "",
-        certificate: LAN_CERTIFICATE_2,
-    },
-    Written {
-        name: "the sample",
-        words: &["certify", "db", "prof", "10.255.1.4"],
-        database: SAMPLE,
-        profile: SAMPLE_PROFILE,
-        certificate: SAMPLE_CERTIFICATE_2,
-    },
-    Written {
-        name: "the first of two islands",
-        words: OF_1,
-        database: TWO_TREES,
-        profile: "",
-        certificate: FIRST_TREE_2,
-    },
-    Written {
-        name: "the second of two islands",
-        words: &["certify", "db", "-", "3.3.3.3"],
-        database: TWO_TREES,
-        profile: "",
-        certificate: SECOND_TREE_2,
-    },
-];
+const ONE_ROUTER: &Written = &Written {
+    name: "one router",
+    words: OF_1,
+    database: ROUTER,
+    profile: "",
+    certificate: CERTIFICATE_2,
+};
+
+const A_STUB_LINK: &Written = &Written {
+    name: "a stub link",
+    words: OF_1,
+    database: STUB,
+    profile: "",
+    certificate: CERTIFICATE_2,
+};
+
+const A_TRIANGLE: &Written = &Written {
+    name: "a triangle",
+    words: OF_1,
+    database: TRIANGLE,
+    profile: "",
+    certificate: TRIANGLE_CERTIFICATE_2,
+};
+
+const ANOTHER_ROOT: &Written = &Written {
+    name: "another root",
+    words: OF_1_UNDER,
+    database: TRIANGLE,
+    profile: "priority 1.1.1.1 10\n",
+    certificate: TRIANGLE_FROM_1_2,
+};
+
+const A_LINE: &Written = &Written {
+    name: "a line",
+    words: OF_1,
+    database: LINE,
+    profile: "",
+    certificate: LINE_CERTIFICATE_2,
+};
+
+const A_ROUTER_WITHOUT_ITS_NEIGHBOUR: &Written = &Written {
+    name: "a router without its neighbour",
+    words: OF_1_UNDER,
+    database: LINE,
+    profile: "no-mrt 2.2.2.2\n",
+    certificate: CERTIFICATE_2,
+};
+
+const OF_THREE_LINKS: &Written = &Written {
+    name: "three links",
+    words: OF_1,
+    database: THREE_LINKS,
+    profile: "",
+    certificate: THREE_LINKS_CERTIFICATE_2,
+};
+
+const FIVE_ROUTERS: &Written = &Written {
+    name: "five routers, the last of the block joined to the root",
+    words: OF_1,
+    database: FIVE,
+    profile: "",
+    certificate: FIVE_COMPUTED_2,
+};
+
+const A_RING: &Written = &Written {
+    name: "a ring",
+    words: OF_1,
+    database: RING,
+    profile: "",
+    certificate: RING_COMPUTED_2,
+};
+
+const A_LAN: &Written = &Written {
+    name: "a LAN",
+    words: OF_1,
+    database: LAN,
+    profile: "",
+    certificate: LAN_CERTIFICATE_2,
+};
+
+const THE_SAMPLE: &Written = &Written {
+    name: "the sample",
+    words: &["certify", "db", "prof", "10.255.1.4"],
+    database: SAMPLE,
+    profile: SAMPLE_PROFILE,
+    certificate: SAMPLE_CERTIFICATE_2,
+};
+
+const THE_FIRST_OF_TWO_ISLANDS: &Written = &Written {
+    name: "the first of two islands",
+    words: OF_1,
+    database: TWO_TREES,
+    profile: "",
+    certificate: FIRST_TREE_2,
+};
+
+const THE_SECOND_OF_TWO_ISLANDS: &Written = &Written {
+    name: "the second of two islands",
+    words: &["certify", "db", "-", "3.3.3.3"],
+    database: TWO_TREES,
+    profile: "",
+    certificate: SECOND_TREE_2,
+};
 
 const REFUSED: &[Case] = &[
     Case {
@@ -158,8 +168,22 @@ const REFUSED: &[Case] = &[
     },
 ];
 
-fn written_ones() -> &'static [Written] {
-    WRITTEN
+fn written_ones() -> [&'static Written; 13] {
+    [
+        ONE_ROUTER,
+        A_STUB_LINK,
+        A_TRIANGLE,
+        ANOTHER_ROOT,
+        A_LINE,
+        A_ROUTER_WITHOUT_ITS_NEIGHBOUR,
+        OF_THREE_LINKS,
+        FIVE_ROUTERS,
+        A_RING,
+        A_LAN,
+        THE_SAMPLE,
+        THE_FIRST_OF_TWO_ISLANDS,
+        THE_SECOND_OF_TWO_ISLANDS,
+    ]
 }
 
 fn is_written(alloc: Global, case: &Written) -> bool {

@@ -108,97 +108,111 @@ island 1.1.1.1 1\n",
     },
 ];
 
-const REFUSED: &[Case] = &[
-    Case {
-        name: "no first line",
-        words: FABRIC,
-        database: TRIANGLE,
-        profile: "",
-        certificate: b"# a remark\n",
-        exit: Exit::BadScript { line: 2 },
-        out: "",
-        err: "mrt: bad script on line 2\n",
+const NO_FIRST_LINE: &Case = &Case {
+    name: "no first line",
+    words: FABRIC,
+    database: TRIANGLE,
+    profile: "",
+    certificate: b"# a remark\n",
+    exit: Exit::BadScript { line: 2 },
+    out: "",
+    err: "mrt: bad script on line 2\n",
+};
+
+const A_WORD_TOO_MANY: &Case = &Case {
+    name: "a word too many",
+    words: FABRIC,
+    database: TRIANGLE,
+    profile: "",
+    certificate: b"island 1.1.1.1 1\nstep 0 0\n",
+    exit: Exit::BadScript { line: 2 },
+    out: "",
+    err: "mrt: bad script on line 2\n",
+};
+
+const NO_BYTES: &Case = &Case {
+    name: "no bytes",
+    words: FABRIC,
+    database: TRIANGLE,
+    profile: "",
+    certificate: b"",
+    exit: Exit::BadScript { line: 1 },
+    out: "",
+    err: "mrt: bad script on line 1\n",
+};
+
+const ROOM_FOR_NONE: &Case = &Case {
+    name: "room for none",
+    words: FABRIC,
+    database: TRIANGLE,
+    profile: "",
+    certificate: b"island 1.1.1.1 0\n",
+    exit: Exit::BadScript { line: 1 },
+    out: "",
+    err: "mrt: bad script on line 1\n",
+};
+
+const A_WORD_THAT_IS_NONE: &Case = &Case {
+    name: "a word that is none",
+    words: FABRIC,
+    database: TRIANGLE,
+    profile: "",
+    certificate: b"island 1.1.1.1 1\ninject 1.1.1.1 3.3.3.3 blue\nstop 0\nfail 2.2.2.2\nstep 0\n",
+    exit: Exit::BadScript { line: 3 },
+    out: "",
+    err: "mrt: bad script on line 3\n",
+};
+
+const A_NUMBER_OF_TOO_MANY_DIGITS: &Case = &Case {
+    name: "a number of too many digits",
+    words: FABRIC,
+    database: TRIANGLE,
+    profile: "",
+    certificate: b"island 1.1.1.1 1\nstep 99999999999\n",
+    exit: Exit::BadScript { line: 2 },
+    out: "",
+    err: "mrt: bad script on line 2\n",
+};
+
+const A_ROUTER_THAT_IS_NOT_THERE: &Case = &Case {
+    name: "a router that is not there",
+    words: FABRIC,
+    database: TRIANGLE,
+    profile: "",
+    certificate: b"island 9.9.9.9 1\n",
+    exit: Exit::NotThere {
+        number: 0x0909_0909,
     },
-    Case {
-        name: "a word too many",
-        words: FABRIC,
-        database: TRIANGLE,
-        profile: "",
-        certificate: b"island 1.1.1.1 1\nstep 0 0\n",
-        exit: Exit::BadScript { line: 2 },
-        out: "",
-        err: "mrt: bad script on line 2\n",
-    },
-    Case {
-        name: "no bytes",
-        words: FABRIC,
-        database: TRIANGLE,
-        profile: "",
-        certificate: b"",
-        exit: Exit::BadScript { line: 1 },
-        out: "",
-        err: "mrt: bad script on line 1\n",
-    },
-    Case {
-        name: "room for none",
-        words: FABRIC,
-        database: TRIANGLE,
-        profile: "",
-        certificate: b"island 1.1.1.1 0\n",
-        exit: Exit::BadScript { line: 1 },
-        out: "",
-        err: "mrt: bad script on line 1\n",
-    },
-    Case {
-        name: "a word that is none",
-        words: FABRIC,
-        database: TRIANGLE,
-        profile: "",
-        certificate: b"island 1.1.1.1 1\ninject 1.1.1.1 3.3.3.3 blue\nstop 0\nfail 2.2.2.2\nstep 0\n",
-        exit: Exit::BadScript { line: 3 },
-        out: "",
-        err: "mrt: bad script on line 3\n",
-    },
-    Case {
-        name: "a number of too many digits",
-        words: FABRIC,
-        database: TRIANGLE,
-        profile: "",
-        certificate: b"island 1.1.1.1 1\nstep 99999999999\n",
-        exit: Exit::BadScript { line: 2 },
-        out: "",
-        err: "mrt: bad script on line 2\n",
-    },
-    Case {
-        name: "a router that is not there",
-        words: FABRIC,
-        database: TRIANGLE,
-        profile: "",
-        certificate: b"island 9.9.9.9 1\n",
-        exit: Exit::NotThere {
-            number: 0x0909_0909,
-        },
-        out: "",
-        err: "mrt: not there: 9.9.9.9\n",
-    },
-    Case {
-        name: "no script",
-        words: &["fabric", "db", "-", "x"],
-        database: TRIANGLE,
-        profile: "",
-        certificate: b"",
-        exit: Exit::ReadFault { word: 3 },
-        out: "",
-        err: "mrt: read fault: word 3\n",
-    },
-];
+    out: "",
+    err: "mrt: not there: 9.9.9.9\n",
+};
+
+const NO_SCRIPT: &Case = &Case {
+    name: "no script",
+    words: &["fabric", "db", "-", "x"],
+    database: TRIANGLE,
+    profile: "",
+    certificate: b"",
+    exit: Exit::ReadFault { word: 3 },
+    out: "",
+    err: "mrt: read fault: word 3\n",
+};
 
 fn scripts() -> &'static [Answered] {
     SCRIPTS
 }
 
-fn refused() -> &'static [Case] {
-    REFUSED
+fn refused() -> [&'static Case; 8] {
+    [
+        NO_FIRST_LINE,
+        A_WORD_TOO_MANY,
+        NO_BYTES,
+        ROOM_FOR_NONE,
+        A_WORD_THAT_IS_NONE,
+        A_NUMBER_OF_TOO_MANY_DIGITS,
+        A_ROUTER_THAT_IS_NOT_THERE,
+        NO_SCRIPT,
+    ]
 }
 
 #[test]

@@ -37,265 +37,299 @@ const TWO: &[u8] =
 const ON_LAN: &[u8] =
     b"\x00\x01\x02\x01\x01\x01\x01\x01\x01\x01\x01\x01\x80\x00\x00\x01\x4e\xb8\x00\x30\x00\x00\x00\x02\x0a\x00\x00\x04\x0a\x00\x00\x01\x02\x00\x00\x0a\x02\x02\x02\x02\x00\x00\x00\x02\x01\x00\x00\x0a\x00\x01\x02\x01\x02\x02\x02\x02\x02\x02\x02\x02\x80\x00\x00\x01\xa3\x5f\x00\x30\x00\x00\x00\x02\x0a\x00\x00\x04\x0a\x00\x00\x02\x02\x00\x00\x0a\x01\x01\x01\x01\x00\x00\x00\x01\x01\x00\x00\x0a\x00\x01\x02\x01\x03\x03\x03\x03\x03\x03\x03\x03\x80\x00\x00\x01\xdd\x43\x00\x24\x00\x00\x00\x01\x0a\x00\x00\x04\x0a\x00\x00\x03\x02\x00\xff\xff\x00\x01\x02\x01\x04\x04\x04\x04\x04\x04\x04\x04\x80\x00\x00\x01\x54\xb9\x00\x24\x00\x00\x00\x01\x0a\x00\x00\x04\x0a\x00\x00\x04\x02\x00\x00\x0a\x00\x01\x02\x02\x0a\x00\x00\x04\x04\x04\x04\x04\x80\x00\x00\x01\xa4\x67\x00\x28\xff\xff\xff\x00\x04\x04\x04\x04\x01\x01\x01\x01\x02\x02\x02\x02\x03\x03\x03\x03";
 
-const CASES: &[Case] = &[
-    Case {
-        name: "the link is out",
-        words: &["table", "db", "-", "1.1.1.1"],
-        database: AT_1,
-        profile: "",
-        certificate: b"",
-        exit: Exit::Done,
-        out: "\
+const THE_LINK_IS_OUT: &Case = &Case {
+    name: "the link is out",
+    words: &["table", "db", "-", "1.1.1.1"],
+    database: AT_1,
+    profile: "",
+    certificate: b"",
+    exit: Exit::Done,
+    out: "\
 router 1.1.1.1 root 3.3.3.3 nodes 3 links 2\n\
 2.2.2.2 sole blue 2.2.2.2/0.0.0.2 red 2.2.2.2/0.0.0.2 primary 2.2.2.2/0.0.0.2 repair --\n\
 3.3.3.3 carried blue 2.2.2.2/0.0.0.2 red 2.2.2.2/0.0.0.2 primary 2.2.2.2/0.0.0.2 repair --\n",
-        err: "",
-    },
-    Case {
-        name: "it is out by its other end, and a primary goes over it",
-        words: &["table", "db", "-", "1.1.1.1"],
-        database: AT_3,
-        profile: "",
-        certificate: b"",
-        exit: Exit::Done,
-        out: "\
+    err: "",
+};
+
+const IT_IS_OUT_BY_ITS_OTHER_END: &Case = &Case {
+    name: "it is out by its other end, and a primary goes over it",
+    words: &["table", "db", "-", "1.1.1.1"],
+    database: AT_3,
+    profile: "",
+    certificate: b"",
+    exit: Exit::Done,
+    out: "\
 router 1.1.1.1 root 3.3.3.3 nodes 3 links 2\n\
 2.2.2.2 sole blue 2.2.2.2/0.0.0.2 red 2.2.2.2/0.0.0.2 primary 2.2.2.2/0.0.0.2 repair --\n\
 3.3.3.3 carried blue 2.2.2.2/0.0.0.2 red 2.2.2.2/0.0.0.2 primary 3.3.3.3/0.0.0.3 repair b-\n",
-        err: "",
-    },
-    Case {
-        name: "a primary goes over it at its metric, since a detour costs more",
-        words: &["table", "db", "-", "1.1.1.1"],
-        database: AT_BOTH,
-        profile: "",
-        certificate: b"",
-        exit: Exit::Done,
-        out: "\
+    err: "",
+};
+
+const A_PRIMARY_GOES_OVER_IT_AT_ITS_METRIC: &Case = &Case {
+    name: "a primary goes over it at its metric, since a detour costs more",
+    words: &["table", "db", "-", "1.1.1.1"],
+    database: AT_BOTH,
+    profile: "",
+    certificate: b"",
+    exit: Exit::Done,
+    out: "\
 router 1.1.1.1 root 3.3.3.3 nodes 3 links 2\n\
 2.2.2.2 sole blue 2.2.2.2/0.0.0.2 red 2.2.2.2/0.0.0.2 primary 2.2.2.2/0.0.0.2 repair --\n\
 3.3.3.3 carried blue 2.2.2.2/0.0.0.2 red 2.2.2.2/0.0.0.2 primary 3.3.3.3/0.0.0.3 repair b-\n",
-        err: "",
-    },
-    Case {
-        name: "a metric below it",
-        words: &["table", "db", "-", "1.1.1.1"],
-        database: BELOW,
-        profile: "",
-        certificate: b"",
-        exit: Exit::Done,
-        out: "\
+    err: "",
+};
+
+const A_METRIC_BELOW_IT: &Case = &Case {
+    name: "a metric below it",
+    words: &["table", "db", "-", "1.1.1.1"],
+    database: BELOW,
+    profile: "",
+    certificate: b"",
+    exit: Exit::Done,
+    out: "\
 router 1.1.1.1 root 3.3.3.3 nodes 3 links 3\n\
 2.2.2.2 above blue 3.3.3.3/0.0.0.3 red 2.2.2.2/0.0.0.2 primary 2.2.2.2/0.0.0.2 repair b-\n\
 3.3.3.3 head blue 3.3.3.3/0.0.0.3 red 2.2.2.2/0.0.0.2 primary 2.2.2.2/0.0.0.2 repair bb\n",
-        err: "",
-    },
-    Case {
-        name: "a router in maintenance",
-        words: &["table", "db", "-", "2.2.2.2"],
-        database: MAINTAINED,
-        profile: "",
-        certificate: b"",
-        exit: Exit::Done,
-        out: "\
+    err: "",
+};
+
+const A_ROUTER_IN_MAINTENANCE: &Case = &Case {
+    name: "a router in maintenance",
+    words: &["table", "db", "-", "2.2.2.2"],
+    database: MAINTAINED,
+    profile: "",
+    certificate: b"",
+    exit: Exit::Done,
+    out: "\
 router 2.2.2.2 root 2.2.2.2 nodes 1 links 0\n",
-        err: "",
-    },
-    Case {
-        name: "its neighbours",
-        words: &["table", "db", "-", "1.1.1.1"],
-        database: MAINTAINED,
-        profile: "",
-        certificate: b"",
-        exit: Exit::Done,
-        out: "\
+    err: "",
+};
+
+const ITS_NEIGHBOURS: &Case = &Case {
+    name: "its neighbours",
+    words: &["table", "db", "-", "1.1.1.1"],
+    database: MAINTAINED,
+    profile: "",
+    certificate: b"",
+    exit: Exit::Done,
+    out: "\
 router 1.1.1.1 root 3.3.3.3 nodes 2 links 1\n\
 3.3.3.3 sole blue 3.3.3.3/0.0.0.3 red 3.3.3.3/0.0.0.3 primary 3.3.3.3/0.0.0.3 repair --\n",
-        err: "",
-    },
-    Case {
-        name: "a router on a LAN is out",
-        words: &["table", "db", "-", "1.1.1.1"],
-        database: ON_LAN,
-        profile: "",
-        certificate: b"",
-        exit: Exit::Done,
-        out: "\
+    err: "",
+};
+
+const A_ROUTER_ON_A_LAN_IS_OUT: &Case = &Case {
+    name: "a router on a LAN is out",
+    words: &["table", "db", "-", "1.1.1.1"],
+    database: ON_LAN,
+    profile: "",
+    certificate: b"",
+    exit: Exit::Done,
+    out: "\
 router 1.1.1.1 root 4.4.4.4 nodes 4 links 4\n\
 2.2.2.2 below blue 2.2.2.2/0.0.0.2 red net:10.0.0.4/10.0.0.1 primary 2.2.2.2/0.0.0.2 repair r-\n\
 4.4.4.4 carried blue 2.2.2.2/0.0.0.2 red net:10.0.0.4/10.0.0.1 primary net:10.0.0.4/10.0.0.1 repair b---\n\
 net:10.0.0.4 head blue 2.2.2.2/0.0.0.2 red net:10.0.0.4/10.0.0.1 primary net:10.0.0.4/10.0.0.1 repair b-\n",
-        err: "",
-    },
-    Case {
-        name: "the router that is out of the LAN",
-        words: &["table", "db", "-", "3.3.3.3"],
-        database: ON_LAN,
-        profile: "",
-        certificate: b"",
-        exit: Exit::Done,
-        out: "\
-router 3.3.3.3 root 3.3.3.3 nodes 1 links 0\n",
-        err: "",
-    },
-    Case {
-        name: "the certificate from before",
-        words: CHECK,
-        database: AT_1,
-        profile: "",
-        certificate: TRIANGLE_CERTIFICATE,
-        exit: Exit::No {
-            rule: 1,
-            a: 0,
-            b: 2,
-        },
-        out: "",
-        err: "mrt: no: rule 1 at 0 2\n",
-    },
-    Case {
-        name: "the certificate from before, by the other end",
-        words: CHECK,
-        database: AT_3,
-        profile: "",
-        certificate: TRIANGLE_CERTIFICATE,
-        exit: Exit::No {
-            rule: 1,
-            a: 0,
-            b: 2,
-        },
-        out: "",
-        err: "mrt: no: rule 1 at 0 2\n",
-    },
-    Case {
-        name: "the certificate from before, by a metric below it",
-        words: CHECK,
-        database: BELOW,
-        profile: "",
-        certificate: TRIANGLE_CERTIFICATE,
-        exit: Exit::Done,
-        out: "accepted root 3.3.3.3 nodes 3 links 3\n",
-        err: "",
-    },
-];
+    err: "",
+};
 
-const TRACES: &[Answered] = &[
-    Answered {
-        name: "over the link",
-        words: &["trace", "db", "-", "1.1.1.1", "2.2.2.2", "repair"],
-        database: TWO,
-        profile: "",
-        script: "",
-        answers: "\
+const THE_ROUTER_THAT_IS_OUT_OF_THE_LAN: &Case = &Case {
+    name: "the router that is out of the LAN",
+    words: &["table", "db", "-", "3.3.3.3"],
+    database: ON_LAN,
+    profile: "",
+    certificate: b"",
+    exit: Exit::Done,
+    out: "\
+router 3.3.3.3 root 3.3.3.3 nodes 1 links 0\n",
+    err: "",
+};
+
+const THE_CERTIFICATE_FROM_BEFORE: &Case = &Case {
+    name: "the certificate from before",
+    words: CHECK,
+    database: AT_1,
+    profile: "",
+    certificate: TRIANGLE_CERTIFICATE,
+    exit: Exit::No {
+        rule: 1,
+        a: 0,
+        b: 2,
+    },
+    out: "",
+    err: "mrt: no: rule 1 at 0 2\n",
+};
+
+const THE_CERTIFICATE_FROM_BEFORE_BY_THE_OTHER_END: &Case = &Case {
+    name: "the certificate from before, by the other end",
+    words: CHECK,
+    database: AT_3,
+    profile: "",
+    certificate: TRIANGLE_CERTIFICATE,
+    exit: Exit::No {
+        rule: 1,
+        a: 0,
+        b: 2,
+    },
+    out: "",
+    err: "mrt: no: rule 1 at 0 2\n",
+};
+
+const THE_CERTIFICATE_FROM_BEFORE_BY_A_METRIC: &Case = &Case {
+    name: "the certificate from before, by a metric below it",
+    words: CHECK,
+    database: BELOW,
+    profile: "",
+    certificate: TRIANGLE_CERTIFICATE,
+    exit: Exit::Done,
+    out: "accepted root 3.3.3.3 nodes 3 links 3\n",
+    err: "",
+};
+
+const OVER_THE_LINK: &Answered = &Answered {
+    name: "over the link",
+    words: &["trace", "db", "-", "1.1.1.1", "2.2.2.2", "repair"],
+    database: TWO,
+    profile: "",
+    script: "",
+    answers: "\
 entered 0\n\
 delivered 2.2.2.2\n",
-    },
-    Answered {
-        name: "the link has failed, and nothing repairs it",
-        words: &[
-            "trace",
-            "db",
-            "-",
-            "1.1.1.1",
-            "2.2.2.2",
-            "repair",
-            "link:1.1.1.1/0.0.0.2",
-        ],
-        database: TWO,
-        profile: "",
-        script: "",
-        answers: "\
+};
+
+const THE_LINK_HAS_FAILED: &Answered = &Answered {
+    name: "the link has failed, and nothing repairs it",
+    words: &[
+        "trace",
+        "db",
+        "-",
+        "1.1.1.1",
+        "2.2.2.2",
+        "repair",
+        "link:1.1.1.1/0.0.0.2",
+    ],
+    database: TWO,
+    profile: "",
+    script: "",
+    answers: "\
 failed\n\
 entered 0\n\
 lost outside\n",
-    },
-    Answered {
-        name: "from a router in maintenance",
-        words: &["trace", "db", "-", "2.2.2.2", "3.3.3.3", "repair"],
-        database: MAINTAINED,
-        profile: "",
-        script: "",
-        answers: "\
+};
+
+const FROM_A_ROUTER_IN_MAINTENANCE: &Answered = &Answered {
+    name: "from a router in maintenance",
+    words: &["trace", "db", "-", "2.2.2.2", "3.3.3.3", "repair"],
+    database: MAINTAINED,
+    profile: "",
+    script: "",
+    answers: "\
 entered 0\n\
 delivered 3.3.3.3\n",
-    },
-    Answered {
-        name: "to it",
-        words: &["trace", "db", "-", "1.1.1.1", "2.2.2.2", "repair"],
-        database: MAINTAINED,
-        profile: "",
-        script: "",
-        answers: "\
+};
+
+const TO_IT: &Answered = &Answered {
+    name: "to it",
+    words: &["trace", "db", "-", "1.1.1.1", "2.2.2.2", "repair"],
+    database: MAINTAINED,
+    profile: "",
+    script: "",
+    answers: "\
 entered 0\n\
 delivered 2.2.2.2\n",
-    },
-    Answered {
-        name: "through it, where there is no other way",
-        words: &["trace", "db", "-", "1.1.1.1", "3.3.3.3", "repair"],
-        database: PASSED,
-        profile: "",
-        script: "",
-        answers: "\
+};
+
+const THROUGH_IT: &Answered = &Answered {
+    name: "through it, where there is no other way",
+    words: &["trace", "db", "-", "1.1.1.1", "3.3.3.3", "repair"],
+    database: PASSED,
+    profile: "",
+    script: "",
+    answers: "\
 entered 0\n\
 moved 2.2.2.2\n\
 delivered 3.3.3.3\n",
-    },
-    Answered {
-        name: "no repair goes through it",
-        words: &[
-            "trace",
-            "db",
-            "-",
-            "1.1.1.1",
-            "3.3.3.3",
-            "repair",
-            "link:1.1.1.1/0.0.0.3",
-        ],
-        database: MAINTAINED,
-        profile: "",
-        script: "",
-        answers: "\
+};
+
+const NO_REPAIR_GOES_THROUGH_IT: &Answered = &Answered {
+    name: "no repair goes through it",
+    words: &[
+        "trace",
+        "db",
+        "-",
+        "1.1.1.1",
+        "3.3.3.3",
+        "repair",
+        "link:1.1.1.1/0.0.0.3",
+    ],
+    database: MAINTAINED,
+    profile: "",
+    script: "",
+    answers: "\
 failed\n\
 entered 0\n\
 lost no-alternate\n",
-    },
-    Answered {
-        name: "it is in no other island",
-        words: &["trace", "db", "-", "1.1.1.1", "2.2.2.2", "blue"],
-        database: MAINTAINED,
-        profile: "",
-        script: "",
-        answers: "\
+};
+
+const IT_IS_IN_NO_OTHER_ISLAND: &Answered = &Answered {
+    name: "it is in no other island",
+    words: &["trace", "db", "-", "1.1.1.1", "2.2.2.2", "blue"],
+    database: MAINTAINED,
+    profile: "",
+    script: "",
+    answers: "\
 refused no-such-place\n",
-    },
-    Answered {
-        name: "a failed primary over the link is repaired in the island",
-        words: &[
-            "trace",
-            "db",
-            "-",
-            "1.1.1.1",
-            "3.3.3.3",
-            "repair",
-            "link:1.1.1.1/0.0.0.3",
-        ],
-        database: AT_3,
-        profile: "",
-        script: "",
-        answers: "\
+};
+
+const A_FAILED_PRIMARY_OVER_THE_LINK: &Answered = &Answered {
+    name: "a failed primary over the link is repaired in the island",
+    words: &[
+        "trace",
+        "db",
+        "-",
+        "1.1.1.1",
+        "3.3.3.3",
+        "repair",
+        "link:1.1.1.1/0.0.0.3",
+    ],
+    database: AT_3,
+    profile: "",
+    script: "",
+    answers: "\
 failed\n\
 entered 0\n\
 switched blue\n\
 moved 2.2.2.2\n\
 delivered 3.3.3.3\n",
-    },
-];
+};
 
-fn cases() -> &'static [Case] {
-    CASES
+fn cases() -> [&'static Case; 11] {
+    [
+        THE_LINK_IS_OUT,
+        IT_IS_OUT_BY_ITS_OTHER_END,
+        A_PRIMARY_GOES_OVER_IT_AT_ITS_METRIC,
+        A_METRIC_BELOW_IT,
+        A_ROUTER_IN_MAINTENANCE,
+        ITS_NEIGHBOURS,
+        A_ROUTER_ON_A_LAN_IS_OUT,
+        THE_ROUTER_THAT_IS_OUT_OF_THE_LAN,
+        THE_CERTIFICATE_FROM_BEFORE,
+        THE_CERTIFICATE_FROM_BEFORE_BY_THE_OTHER_END,
+        THE_CERTIFICATE_FROM_BEFORE_BY_A_METRIC,
+    ]
 }
 
-fn traces() -> &'static [Answered] {
-    TRACES
+fn traces() -> [&'static Answered; 8] {
+    [
+        OVER_THE_LINK,
+        THE_LINK_HAS_FAILED,
+        FROM_A_ROUTER_IN_MAINTENANCE,
+        TO_IT,
+        THROUGH_IT,
+        NO_REPAIR_GOES_THROUGH_IT,
+        IT_IS_IN_NO_OTHER_ISLAND,
+        A_FAILED_PRIMARY_OVER_THE_LINK,
+    ]
 }
 
 #[test]

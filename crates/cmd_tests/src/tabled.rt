@@ -20,144 +20,151 @@ struct Example {
     table: &'static str,
 }
 
-const EXAMPLES: &[Example] = &[
-    Example {
-        name: "a triangle",
-        words: &["table", "db", "-", "2.2.2.2"],
-        database: TRIANGLE,
-        profile: "",
-        table: "\
+const A_TRIANGLE: &Example = &Example {
+    name: "a triangle",
+    words: &["table", "db", "-", "2.2.2.2"],
+    database: TRIANGLE,
+    profile: "",
+    table: "\
 router 2.2.2.2 root 3.3.3.3 nodes 3 links 3\n\
 1.1.1.1 above blue 3.3.3.3/0.0.0.3 red 1.1.1.1/0.0.0.1 primary 1.1.1.1/0.0.0.1 repair b-\n\
 3.3.3.3 head blue 3.3.3.3/0.0.0.3 red 1.1.1.1/0.0.0.1 primary 3.3.3.3/0.0.0.3 repair r-\n",
-    },
-    Example {
-        name: "a line",
-        words: &["table", "db", "-", "1.1.1.1"],
-        database: LINE,
-        profile: "",
-        table: "\
+};
+
+const A_LINE: &Example = &Example {
+    name: "a line",
+    words: &["table", "db", "-", "1.1.1.1"],
+    database: LINE,
+    profile: "",
+    table: "\
 router 1.1.1.1 root 4.4.4.4 nodes 4 links 3\n\
 2.2.2.2 sole blue 2.2.2.2/0.0.0.2 red 2.2.2.2/0.0.0.2 primary 2.2.2.2/0.0.0.2 repair --\n\
 3.3.3.3 carried blue 2.2.2.2/0.0.0.2 red 2.2.2.2/0.0.0.2 primary 2.2.2.2/0.0.0.2 repair --\n\
 4.4.4.4 carried blue 2.2.2.2/0.0.0.2 red 2.2.2.2/0.0.0.2 primary 2.2.2.2/0.0.0.2 repair --\n",
-    },
-    Example {
-        name: "three links",
-        words: &["table", "db", "-", "1.1.1.1"],
-        database: THREE_LINKS,
-        profile: "",
-        table: "\
+};
+
+const OF_THREE_LINKS: &Example = &Example {
+    name: "three links",
+    words: &["table", "db", "-", "1.1.1.1"],
+    database: THREE_LINKS,
+    profile: "",
+    table: "\
 router 1.1.1.1 root 2.2.2.2 nodes 2 links 3\n\
 2.2.2.2 head blue 2.2.2.2/0.0.0.2 red 2.2.2.2/0.0.0.1 primary 2.2.2.2/0.0.0.1 repair b-\n",
-    },
-    Example {
-        name: "two triangles",
-        words: &["table", "db", "-", "1.1.1.1"],
-        database: TWO_TRIANGLES,
-        profile: "",
-        table: "\
+};
+
+const OF_TWO_TRIANGLES: &Example = &Example {
+    name: "two triangles",
+    words: &["table", "db", "-", "1.1.1.1"],
+    database: TWO_TRIANGLES,
+    profile: "",
+    table: "\
 router 1.1.1.1 root 5.5.5.5 nodes 5 links 6\n\
 2.2.2.2 below blue 2.2.2.2/0.0.0.2 red 3.3.3.3/0.0.0.3 primary 2.2.2.2/0.0.0.2 repair r-\n\
 3.3.3.3 head blue 2.2.2.2/0.0.0.2 red 3.3.3.3/0.0.0.3 primary 3.3.3.3/0.0.0.3 repair b-\n\
 4.4.4.4 carried blue 2.2.2.2/0.0.0.2 red 3.3.3.3/0.0.0.3 primary 3.3.3.3/0.0.0.3 repair b-\n\
 5.5.5.5 carried blue 2.2.2.2/0.0.0.2 red 3.3.3.3/0.0.0.3 primary 3.3.3.3/0.0.0.3 repair b-\n",
-    },
-    Example {
-        name: "a root that cuts",
-        words: &["table", "db", "-", "1.1.1.1"],
-        database: CUT,
-        profile: "",
-        table: "\
+};
+
+const A_ROOT_THAT_CUTS: &Example = &Example {
+    name: "a root that cuts",
+    words: &["table", "db", "-", "1.1.1.1"],
+    database: CUT,
+    profile: "",
+    table: "\
 router 1.1.1.1 root 9.9.9.9 nodes 5 links 4\n\
 2.2.2.2 sole blue 2.2.2.2/0.0.0.2 red 2.2.2.2/0.0.0.2 primary 2.2.2.2/0.0.0.2 repair --\n\
 3.3.3.3 carried blue 2.2.2.2/0.0.0.2 red 2.2.2.2/0.0.0.2 primary 2.2.2.2/0.0.0.2 repair --\n\
 4.4.4.4 carried blue 2.2.2.2/0.0.0.2 red 2.2.2.2/0.0.0.2 primary 2.2.2.2/0.0.0.2 repair --\n\
 9.9.9.9 carried blue 2.2.2.2/0.0.0.2 red 2.2.2.2/0.0.0.2 primary 2.2.2.2/0.0.0.2 repair --\n",
-    },
-    Example {
-        name: "an unordered pair, and two shortest paths of one cost",
-        words: &["table", "db", "-", "1.1.1.1"],
-        database: CROSSED,
-        profile: "",
-        table: "\
+};
+
+const AN_UNORDERED_PAIR: &Example = &Example {
+    name: "an unordered pair, and two shortest paths of one cost",
+    words: &["table", "db", "-", "1.1.1.1"],
+    database: CROSSED,
+    profile: "",
+    table: "\
 router 1.1.1.1 root 5.5.5.5 nodes 5 links 6\n\
 2.2.2.2 below blue 4.4.4.4/0.0.0.4 red 5.5.5.5/0.0.0.5 primary 4.4.4.4/0.0.0.4 repair rr\n\
 3.3.3.3 unordered blue 5.5.5.5/0.0.0.5 red 4.4.4.4/0.0.0.4 primary 4.4.4.4/0.0.0.4 repair bb\n\
 4.4.4.4 below blue 4.4.4.4/0.0.0.4 red 5.5.5.5/0.0.0.5 primary 4.4.4.4/0.0.0.4 repair r-\n\
 5.5.5.5 head blue 4.4.4.4/0.0.0.4 red 5.5.5.5/0.0.0.5 primary 5.5.5.5/0.0.0.5 repair b-\n",
-    },
-    Example {
-        name: "a LAN, with second arcs",
-        words: &["table", "db", "-", "1.1.1.1"],
-        database: LAN,
-        profile: "",
-        table: "\
+};
+
+const A_LAN: &Example = &Example {
+    name: "a LAN, with second arcs",
+    words: &["table", "db", "-", "1.1.1.1"],
+    database: LAN,
+    profile: "",
+    table: "\
 router 1.1.1.1 root 4.4.4.4 nodes 5 links 5\n\
 2.2.2.2 below blue 2.2.2.2/0.0.0.2 red net:10.0.0.4/10.0.0.1 primary 2.2.2.2/0.0.0.2 repair r-\n\
 3.3.3.3 carried blue 2.2.2.2/0.0.0.2 red net:10.0.0.4/10.0.0.1 primary net:10.0.0.4/10.0.0.1 repair b---\n\
 4.4.4.4 carried blue 2.2.2.2/0.0.0.2 red net:10.0.0.4/10.0.0.1 primary net:10.0.0.4/10.0.0.1 repair b---\n\
 net:10.0.0.4 head blue 2.2.2.2/0.0.0.2 red net:10.0.0.4/10.0.0.1 primary net:10.0.0.4/10.0.0.1 repair b-\n",
-    },
-    Example {
-        name: "a LAN in a ring",
-        words: &["table", "db", "-", "2.2.2.2"],
-        database: LAN_IN_RING,
-        profile: "",
-        table: "\
+};
+
+const A_LAN_IN_A_RING: &Example = &Example {
+    name: "a LAN in a ring",
+    words: &["table", "db", "-", "2.2.2.2"],
+    database: LAN_IN_RING,
+    profile: "",
+    table: "\
 router 2.2.2.2 root 4.4.4.4 nodes 5 links 6\n\
 1.1.1.1 below blue net:10.0.0.3/10.0.0.2 red 4.4.4.4/0.0.0.4 primary net:10.0.0.3/10.0.0.2 repair rrr-\n\
 3.3.3.3 unordered blue 4.4.4.4/0.0.0.4 red net:10.0.0.3/10.0.0.2 primary net:10.0.0.3/10.0.0.2 repair bbb-\n\
 4.4.4.4 head blue net:10.0.0.3/10.0.0.2 red 4.4.4.4/0.0.0.4 primary 4.4.4.4/0.0.0.4 repair b-\n\
 net:10.0.0.3 below blue net:10.0.0.3/10.0.0.2 red 4.4.4.4/0.0.0.4 primary net:10.0.0.3/10.0.0.2 repair r-\n",
-    },
-    Example {
-        name: "a link that one side alone lists",
-        words: &["table", "db", "-", "1.1.1.1"],
-        database: ONE_SIDED,
-        profile: "",
-        table: "\
+};
+
+const A_LINK_THAT_ONE_SIDE_ALONE_LISTS: &Example = &Example {
+    name: "a link that one side alone lists",
+    words: &["table", "db", "-", "1.1.1.1"],
+    database: ONE_SIDED,
+    profile: "",
+    table: "\
 router 1.1.1.1 root 1.1.1.1 nodes 1 links 0\n",
-    },
-    Example {
-        name: "another root",
-        words: &["table", "db", "prof", "1.1.1.1"],
-        database: TRIANGLE,
-        profile: "priority 1.1.1.1 10",
-        table: "\
+};
+
+const ANOTHER_ROOT: &Example = &Example {
+    name: "another root",
+    words: &["table", "db", "prof", "1.1.1.1"],
+    database: TRIANGLE,
+    profile: "priority 1.1.1.1 10",
+    table: "\
 router 1.1.1.1 root 1.1.1.1 nodes 3 links 3\n\
 2.2.2.2 top blue 2.2.2.2/0.0.0.2 red 3.3.3.3/0.0.0.3 primary 2.2.2.2/0.0.0.2 repair r-\n\
 3.3.3.3 top blue 2.2.2.2/0.0.0.2 red 3.3.3.3/0.0.0.3 primary 3.3.3.3/0.0.0.3 repair b-\n",
-    },
-    Example {
-        name: "a router without its neighbour",
-        words: &["table", "db", "prof", "1.1.1.1"],
-        database: LINE,
-        profile: "no-mrt 2.2.2.2",
-        table: "\
+};
+
+const A_ROUTER_WITHOUT_ITS_NEIGHBOUR: &Example = &Example {
+    name: "a router without its neighbour",
+    words: &["table", "db", "prof", "1.1.1.1"],
+    database: LINE,
+    profile: "no-mrt 2.2.2.2",
+    table: "\
 router 1.1.1.1 root 1.1.1.1 nodes 1 links 0\n",
-    },
-    Example {
-        name: "a primary outside the island",
-        words: &["table", "db", "prof", "1.1.1.1"],
-        database: SQUARE,
-        profile: "ineligible 1.1.1.1 0.0.0.9",
-        table: "\
+};
+
+const A_PRIMARY_OUTSIDE_THE_ISLAND: &Example = &Example {
+    name: "a primary outside the island",
+    words: &["table", "db", "prof", "1.1.1.1"],
+    database: SQUARE,
+    profile: "ineligible 1.1.1.1 0.0.0.9",
+    table: "\
 router 1.1.1.1 root 4.4.4.4 nodes 4 links 4\n\
 2.2.2.2 above blue 3.3.3.3/0.0.0.3 red 2.2.2.2/0.0.0.2 primary 2.2.2.2/0.0.0.2 repair b-\n\
 3.3.3.3 below blue 3.3.3.3/0.0.0.3 red 2.2.2.2/0.0.0.2 primary 3.3.3.3/0.0.0.9 repair b-\n\
 4.4.4.4 head blue 3.3.3.3/0.0.0.3 red 2.2.2.2/0.0.0.2 primary 3.3.3.3/0.0.0.9 repair br\n",
-    },
-];
+};
 
-/// The sample in `crates/mrt/data`: a LAN, parallel links, and a link that the profile keeps out of the island.
-const OF_SAMPLE: &[Example] = &[
-    Example {
-        name: "10.255.1.1 of the sample",
-        words: &["table", "db", "prof", "10.255.1.1"],
-        database: SAMPLE,
-        profile: SAMPLE_PROFILE,
-        table: "\
+const SAMPLE_1: &Example = &Example {
+    name: "10.255.1.1 of the sample",
+    words: &["table", "db", "prof", "10.255.1.1"],
+    database: SAMPLE,
+    profile: SAMPLE_PROFILE,
+    table: "\
 router 10.255.1.1 root 10.255.1.1 nodes 7 links 8\n\
 10.255.1.2 top blue net:198.51.100.4/198.51.100.1 red 10.255.1.5/192.0.2.1 primary net:198.51.100.4/198.51.100.1 repair rrr-\n\
 10.255.1.3 carried blue net:198.51.100.4/198.51.100.1 red 10.255.1.5/192.0.2.1 primary net:198.51.100.4/198.51.100.1 repair r---\n\
@@ -165,13 +172,14 @@ router 10.255.1.1 root 10.255.1.1 nodes 7 links 8\n\
 10.255.1.5 top blue net:198.51.100.4/198.51.100.1 red 10.255.1.5/192.0.2.1 primary net:198.51.100.4/198.51.100.1 repair rrbb\n\
 10.255.1.6 carried blue net:198.51.100.4/198.51.100.1 red 10.255.1.5/192.0.2.1 primary net:198.51.100.4/198.51.100.1 repair r---\n\
 net:198.51.100.4 top blue net:198.51.100.4/198.51.100.1 red 10.255.1.5/192.0.2.1 primary net:198.51.100.4/198.51.100.1 repair r-\n",
-    },
-    Example {
-        name: "10.255.1.2 of the sample",
-        words: &["table", "db", "prof", "10.255.1.2"],
-        database: SAMPLE,
-        profile: SAMPLE_PROFILE,
-        table: "\
+};
+
+const SAMPLE_2: &Example = &Example {
+    name: "10.255.1.2 of the sample",
+    words: &["table", "db", "prof", "10.255.1.2"],
+    database: SAMPLE,
+    profile: SAMPLE_PROFILE,
+    table: "\
 router 10.255.1.2 root 10.255.1.1 nodes 7 links 8\n\
 10.255.1.1 head blue 10.255.1.5/192.0.2.5 red net:198.51.100.4/198.51.100.2 primary net:198.51.100.4/198.51.100.2 repair bbb-\n\
 10.255.1.3 carried blue 10.255.1.5/192.0.2.5 red net:198.51.100.4/198.51.100.2 primary net:198.51.100.4/198.51.100.2 repair b---\n\
@@ -179,13 +187,14 @@ router 10.255.1.2 root 10.255.1.1 nodes 7 links 8\n\
 10.255.1.5 below blue 10.255.1.5/192.0.2.5 red net:198.51.100.4/198.51.100.2 primary net:198.51.100.4/198.51.100.2 repair bbbb\n\
 10.255.1.6 carried blue 10.255.1.5/192.0.2.5 red net:198.51.100.4/198.51.100.2 primary net:198.51.100.4/198.51.100.2 repair b---\n\
 net:198.51.100.4 above blue 10.255.1.5/192.0.2.5 red net:198.51.100.4/198.51.100.2 primary net:198.51.100.4/198.51.100.2 repair b-\n",
-    },
-    Example {
-        name: "10.255.1.3 of the sample",
-        words: &["table", "db", "prof", "10.255.1.3"],
-        database: SAMPLE,
-        profile: SAMPLE_PROFILE,
-        table: "\
+};
+
+const SAMPLE_3: &Example = &Example {
+    name: "10.255.1.3 of the sample",
+    words: &["table", "db", "prof", "10.255.1.3"],
+    database: SAMPLE,
+    profile: SAMPLE_PROFILE,
+    table: "\
 router 10.255.1.3 root 10.255.1.1 nodes 7 links 8\n\
 10.255.1.1 carried blue net:198.51.100.4/198.51.100.3 red net:198.51.100.4/198.51.100.3 primary net:198.51.100.4/198.51.100.3 repair --b-\n\
 10.255.1.2 carried blue net:198.51.100.4/198.51.100.3 red net:198.51.100.4/198.51.100.3 primary net:198.51.100.4/198.51.100.3 repair --r-\n\
@@ -193,13 +202,14 @@ router 10.255.1.3 root 10.255.1.1 nodes 7 links 8\n\
 10.255.1.5 carried blue net:198.51.100.4/198.51.100.3 red net:198.51.100.4/198.51.100.3 primary net:198.51.100.4/198.51.100.3 repair --bb\n\
 10.255.1.6 sole blue 10.255.1.6/192.0.2.17 red 10.255.1.6/192.0.2.17 primary 10.255.1.6/192.0.2.17 repair --\n\
 net:198.51.100.4 sole blue net:198.51.100.4/198.51.100.3 red net:198.51.100.4/198.51.100.3 primary net:198.51.100.4/198.51.100.3 repair --\n",
-    },
-    Example {
-        name: "10.255.1.4 of the sample",
-        words: &["table", "db", "prof", "10.255.1.4"],
-        database: SAMPLE,
-        profile: SAMPLE_PROFILE,
-        table: "\
+};
+
+const SAMPLE_4: &Example = &Example {
+    name: "10.255.1.4 of the sample",
+    words: &["table", "db", "prof", "10.255.1.4"],
+    database: SAMPLE,
+    profile: SAMPLE_PROFILE,
+    table: "\
 router 10.255.1.4 root 10.255.1.1 nodes 7 links 8\n\
 10.255.1.1 carried blue net:198.51.100.4/198.51.100.4 red net:198.51.100.4/198.51.100.4 primary net:198.51.100.4/198.51.100.4 repair --b-\n\
 10.255.1.2 carried blue net:198.51.100.4/198.51.100.4 red net:198.51.100.4/198.51.100.4 primary net:198.51.100.4/198.51.100.4 repair --r-\n\
@@ -207,13 +217,14 @@ router 10.255.1.4 root 10.255.1.1 nodes 7 links 8\n\
 10.255.1.5 carried blue net:198.51.100.4/198.51.100.4 red net:198.51.100.4/198.51.100.4 primary 10.255.1.5/192.0.2.13 repair b-\n\
 10.255.1.6 carried blue net:198.51.100.4/198.51.100.4 red net:198.51.100.4/198.51.100.4 primary net:198.51.100.4/198.51.100.4 repair ----\n\
 net:198.51.100.4 sole blue net:198.51.100.4/198.51.100.4 red net:198.51.100.4/198.51.100.4 primary net:198.51.100.4/198.51.100.4 repair --\n",
-    },
-    Example {
-        name: "10.255.1.5 of the sample",
-        words: &["table", "db", "prof", "10.255.1.5"],
-        database: SAMPLE,
-        profile: SAMPLE_PROFILE,
-        table: "\
+};
+
+const SAMPLE_5: &Example = &Example {
+    name: "10.255.1.5 of the sample",
+    words: &["table", "db", "prof", "10.255.1.5"],
+    database: SAMPLE,
+    profile: SAMPLE_PROFILE,
+    table: "\
 router 10.255.1.5 root 10.255.1.1 nodes 7 links 8\n\
 10.255.1.1 head blue 10.255.1.1/192.0.2.2 red 10.255.1.2/192.0.2.6 primary 10.255.1.4/192.0.2.14 repair bb\n\
 10.255.1.2 above blue 10.255.1.1/192.0.2.2 red 10.255.1.2/192.0.2.6 primary 10.255.1.4/192.0.2.14 repair bb\n\
@@ -221,13 +232,14 @@ router 10.255.1.5 root 10.255.1.1 nodes 7 links 8\n\
 10.255.1.4 carried blue 10.255.1.1/192.0.2.2 red 10.255.1.2/192.0.2.6 primary 10.255.1.4/192.0.2.14 repair b-\n\
 10.255.1.6 carried blue 10.255.1.1/192.0.2.2 red 10.255.1.2/192.0.2.6 primary 10.255.1.4/192.0.2.14 repair bb\n\
 net:198.51.100.4 above blue 10.255.1.1/192.0.2.2 red 10.255.1.2/192.0.2.6 primary 10.255.1.4/192.0.2.14 repair bb\n",
-    },
-    Example {
-        name: "10.255.1.6 of the sample",
-        words: &["table", "db", "prof", "10.255.1.6"],
-        database: SAMPLE,
-        profile: SAMPLE_PROFILE,
-        table: "\
+};
+
+const SAMPLE_6: &Example = &Example {
+    name: "10.255.1.6 of the sample",
+    words: &["table", "db", "prof", "10.255.1.6"],
+    database: SAMPLE,
+    profile: SAMPLE_PROFILE,
+    table: "\
 router 10.255.1.6 root 10.255.1.1 nodes 7 links 8\n\
 10.255.1.1 carried blue 10.255.1.3/192.0.2.18 red 10.255.1.3/192.0.2.18 primary 10.255.1.3/192.0.2.18 repair --\n\
 10.255.1.2 carried blue 10.255.1.3/192.0.2.18 red 10.255.1.3/192.0.2.18 primary 10.255.1.3/192.0.2.18 repair --\n\
@@ -235,8 +247,7 @@ router 10.255.1.6 root 10.255.1.1 nodes 7 links 8\n\
 10.255.1.4 carried blue 10.255.1.3/192.0.2.18 red 10.255.1.3/192.0.2.18 primary 10.255.1.3/192.0.2.18 repair --\n\
 10.255.1.5 carried blue 10.255.1.3/192.0.2.18 red 10.255.1.3/192.0.2.18 primary 10.255.1.3/192.0.2.18 repair --\n\
 net:198.51.100.4 carried blue 10.255.1.3/192.0.2.18 red 10.255.1.3/192.0.2.18 primary 10.255.1.3/192.0.2.18 repair --\n",
-    },
-];
+};
 
 const REFUSED: &[Case] = &[
     Case {
@@ -285,12 +296,26 @@ const REFUSED: &[Case] = &[
     },
 ];
 
-fn examples() -> &'static [Example] {
-    EXAMPLES
+fn examples() -> [&'static Example; 12] {
+    [
+        A_TRIANGLE,
+        A_LINE,
+        OF_THREE_LINKS,
+        OF_TWO_TRIANGLES,
+        A_ROOT_THAT_CUTS,
+        AN_UNORDERED_PAIR,
+        A_LAN,
+        A_LAN_IN_A_RING,
+        A_LINK_THAT_ONE_SIDE_ALONE_LISTS,
+        ANOTHER_ROOT,
+        A_ROUTER_WITHOUT_ITS_NEIGHBOUR,
+        A_PRIMARY_OUTSIDE_THE_ISLAND,
+    ]
 }
 
-fn of_sample() -> &'static [Example] {
-    OF_SAMPLE
+/// The sample in `crates/mrt/data`: a LAN, parallel links, and a link that the profile keeps out of the island.
+fn of_sample() -> [&'static Example; 6] {
+    [SAMPLE_1, SAMPLE_2, SAMPLE_3, SAMPLE_4, SAMPLE_5, SAMPLE_6]
 }
 
 fn refused() -> &'static [Case] {

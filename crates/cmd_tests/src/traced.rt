@@ -9,271 +9,288 @@ use mrt_cmd::Exit;
 use mrt_graph::NoMemory;
 use std::alloc::Global;
 
-const TRACES: &[Answered] = &[
-    Answered {
-        name: "blue around a triangle",
-        words: &["trace", "db", "-", "3.3.3.3", "2.2.2.2", "blue"],
-        database: TRIANGLE,
-        profile: "",
-        script: "",
-        answers: "\
+const BLUE_AROUND_A_TRIANGLE: &Answered = &Answered {
+    name: "blue around a triangle",
+    words: &["trace", "db", "-", "3.3.3.3", "2.2.2.2", "blue"],
+    database: TRIANGLE,
+    profile: "",
+    script: "",
+    answers: "\
 entered 0\n\
 moved 1.1.1.1\n\
 delivered 2.2.2.2\n",
-    },
-    Answered {
-        name: "red, one hop",
-        words: &["trace", "db", "-", "3.3.3.3", "2.2.2.2", "red"],
-        database: TRIANGLE,
-        profile: "",
-        script: "",
-        answers: "\
+};
+
+const RED_ONE_HOP: &Answered = &Answered {
+    name: "red, one hop",
+    words: &["trace", "db", "-", "3.3.3.3", "2.2.2.2", "red"],
+    database: TRIANGLE,
+    profile: "",
+    script: "",
+    answers: "\
 entered 0\n\
 delivered 2.2.2.2\n",
-    },
-    Answered {
-        name: "no color past a node that cuts",
-        words: &[
-            "trace", "db", "-", "1.1.1.1", "4.4.4.4", "repair", "2.2.2.2",
-        ],
-        database: LINE,
-        profile: "",
-        script: "",
-        answers: "\
+};
+
+const NO_COLOR_PAST_A_NODE_THAT_CUTS: &Answered = &Answered {
+    name: "no color past a node that cuts",
+    words: &[
+        "trace", "db", "-", "1.1.1.1", "4.4.4.4", "repair", "2.2.2.2",
+    ],
+    database: LINE,
+    profile: "",
+    script: "",
+    answers: "\
 failed\n\
 entered 0\n\
 lost no-alternate\n",
-    },
-    Answered {
-        name: "the destination has failed",
-        words: &[
-            "trace", "db", "-", "1.1.1.1", "4.4.4.4", "repair", "4.4.4.4",
-        ],
-        database: LINE,
-        profile: "",
-        script: "",
-        answers: "\
+};
+
+const THE_DESTINATION_HAS_FAILED: &Answered = &Answered {
+    name: "the destination has failed",
+    words: &[
+        "trace", "db", "-", "1.1.1.1", "4.4.4.4", "repair", "4.4.4.4",
+    ],
+    database: LINE,
+    profile: "",
+    script: "",
+    answers: "\
 failed\n\
 entered 0\n\
 moved 2.2.2.2\n\
 moved 3.3.3.3\n\
 lost is-destination\n",
-    },
-    Answered {
-        name: "a color is cut",
-        words: &["trace", "db", "-", "1.1.1.1", "4.4.4.4", "blue", "3.3.3.3"],
-        database: LINE,
-        profile: "",
-        script: "",
-        answers: "\
+};
+
+const A_COLOR_IS_CUT: &Answered = &Answered {
+    name: "a color is cut",
+    words: &["trace", "db", "-", "1.1.1.1", "4.4.4.4", "blue", "3.3.3.3"],
+    database: LINE,
+    profile: "",
+    script: "",
+    answers: "\
 failed\n\
 entered 0\n\
 moved 2.2.2.2\n\
 lost color-cut\n",
-    },
-    Answered {
-        name: "a failure outside the island",
-        words: &[
-            "trace",
-            "db",
-            "prof",
-            "1.1.1.1",
-            "4.4.4.4",
-            "repair",
-            "link:3.3.3.3/0.0.0.4",
-        ],
-        database: LINE,
-        profile: "no-mrt 3.3.3.3\n",
-        script: "",
-        answers: "\
+};
+
+const A_FAILURE_OUTSIDE_THE_ISLAND: &Answered = &Answered {
+    name: "a failure outside the island",
+    words: &[
+        "trace",
+        "db",
+        "prof",
+        "1.1.1.1",
+        "4.4.4.4",
+        "repair",
+        "link:3.3.3.3/0.0.0.4",
+    ],
+    database: LINE,
+    profile: "no-mrt 3.3.3.3\n",
+    script: "",
+    answers: "\
 failed\n\
 entered 0\n\
 moved 2.2.2.2\n\
 moved 3.3.3.3\n\
 lost outside\n",
-    },
-    Answered {
-        name: "past the first link",
-        words: &[
-            "trace",
-            "db",
-            "-",
-            "1.1.1.1",
-            "4.4.4.4",
-            "repair",
-            "link:1.1.1.1/10.0.0.1",
-        ],
-        database: LAN_IN_RING,
-        profile: "",
-        script: "",
-        answers: "\
+};
+
+const PAST_THE_FIRST_LINK: &Answered = &Answered {
+    name: "past the first link",
+    words: &[
+        "trace",
+        "db",
+        "-",
+        "1.1.1.1",
+        "4.4.4.4",
+        "repair",
+        "link:1.1.1.1/10.0.0.1",
+    ],
+    database: LAN_IN_RING,
+    profile: "",
+    script: "",
+    answers: "\
 failed\n\
 entered 0\n\
 switched blue\n\
 delivered 4.4.4.4\n",
-    },
-    Answered {
-        name: "past the LAN",
-        words: &[
-            "trace",
-            "db",
-            "-",
-            "1.1.1.1",
-            "4.4.4.4",
-            "repair",
-            "net:10.0.0.3",
-        ],
-        database: LAN_IN_RING,
-        profile: "",
-        script: "",
-        answers: "\
+};
+
+const PAST_THE_LAN: &Answered = &Answered {
+    name: "past the LAN",
+    words: &[
+        "trace",
+        "db",
+        "-",
+        "1.1.1.1",
+        "4.4.4.4",
+        "repair",
+        "net:10.0.0.3",
+    ],
+    database: LAN_IN_RING,
+    profile: "",
+    script: "",
+    answers: "\
 failed\n\
 entered 0\n\
 switched blue\n\
 delivered 4.4.4.4\n",
-    },
-    Answered {
-        name: "past a router's link to the LAN",
-        words: &[
-            "trace",
-            "db",
-            "-",
-            "1.1.1.1",
-            "4.4.4.4",
-            "repair",
-            "link:2.2.2.2/10.0.0.2",
-        ],
-        database: LAN_IN_RING,
-        profile: "",
-        script: "",
-        answers: "\
+};
+
+const PAST_A_LINK_TO_THE_LAN: &Answered = &Answered {
+    name: "past a router's link to the LAN",
+    words: &[
+        "trace",
+        "db",
+        "-",
+        "1.1.1.1",
+        "4.4.4.4",
+        "repair",
+        "link:2.2.2.2/10.0.0.2",
+    ],
+    database: LAN_IN_RING,
+    profile: "",
+    script: "",
+    answers: "\
 failed\n\
 entered 0\n\
 switched blue\n\
 delivered 4.4.4.4\n",
-    },
-    Answered {
-        name: "past the second router",
-        words: &[
-            "trace", "db", "-", "1.1.1.1", "4.4.4.4", "repair", "2.2.2.2",
-        ],
-        database: LAN_IN_RING,
-        profile: "",
-        script: "",
-        answers: "\
+};
+
+const PAST_THE_SECOND_ROUTER: &Answered = &Answered {
+    name: "past the second router",
+    words: &[
+        "trace", "db", "-", "1.1.1.1", "4.4.4.4", "repair", "2.2.2.2",
+    ],
+    database: LAN_IN_RING,
+    profile: "",
+    script: "",
+    answers: "\
 failed\n\
 entered 0\n\
 switched blue\n\
 delivered 4.4.4.4\n",
-    },
-    Answered {
-        name: "a failure that the area does not have",
-        words: &["trace", "db", "-", "3.3.3.3", "2.2.2.2", "blue", "9.9.9.9"],
-        database: TRIANGLE,
-        profile: "",
-        script: "",
-        answers: "\
+};
+
+const A_FAILURE_THAT_THE_AREA_DOES_NOT_HAVE: &Answered = &Answered {
+    name: "a failure that the area does not have",
+    words: &["trace", "db", "-", "3.3.3.3", "2.2.2.2", "blue", "9.9.9.9"],
+    database: TRIANGLE,
+    profile: "",
+    script: "",
+    answers: "\
 refused no-such-place\n\
 entered 0\n\
 moved 1.1.1.1\n\
 delivered 2.2.2.2\n",
-    },
-    Answered {
-        name: "past a node that cuts",
-        words: &["trace", "db", "-", "1.1.1.1", "3.3.3.3", "blue"],
-        database: CUT,
-        profile: "",
-        script: "",
-        answers: "\
+};
+
+const PAST_A_NODE_THAT_CUTS: &Answered = &Answered {
+    name: "past a node that cuts",
+    words: &["trace", "db", "-", "1.1.1.1", "3.3.3.3", "blue"],
+    database: CUT,
+    profile: "",
+    script: "",
+    answers: "\
 entered 0\n\
 moved 2.2.2.2\n\
 moved 9.9.9.9\n\
 delivered 3.3.3.3\n",
-    },
-    Answered {
-        name: "to a network",
-        words: &["trace", "db", "-", "1.1.1.1", "net:10.0.0.4", "repair"],
-        database: LAN,
-        profile: "",
-        script: "",
-        answers: "\
+};
+
+const TO_A_NETWORK: &Answered = &Answered {
+    name: "to a network",
+    words: &["trace", "db", "-", "1.1.1.1", "net:10.0.0.4", "repair"],
+    database: LAN,
+    profile: "",
+    script: "",
+    answers: "\
 entered 0\n\
 delivered net:10.0.0.4\n",
-    },
-    Answered {
-        name: "blue to a network",
-        words: &["trace", "db", "-", "1.1.1.1", "net:10.0.0.4", "blue"],
-        database: LAN,
-        profile: "",
-        script: "",
-        answers: "\
+};
+
+const BLUE_TO_A_NETWORK: &Answered = &Answered {
+    name: "blue to a network",
+    words: &["trace", "db", "-", "1.1.1.1", "net:10.0.0.4", "blue"],
+    database: LAN,
+    profile: "",
+    script: "",
+    answers: "\
 entered 0\n\
 moved 2.2.2.2\n\
 delivered net:10.0.0.4\n",
-    },
-    Answered {
-        name: "blue to an unordered node",
-        words: &["trace", "db", "-", "1.1.1.1", "3.3.3.3", "blue"],
-        database: CROSSED,
-        profile: "",
-        script: "",
-        answers: "\
+};
+
+const BLUE_TO_AN_UNORDERED_NODE: &Answered = &Answered {
+    name: "blue to an unordered node",
+    words: &["trace", "db", "-", "1.1.1.1", "3.3.3.3", "blue"],
+    database: CROSSED,
+    profile: "",
+    script: "",
+    answers: "\
 entered 0\n\
 moved 5.5.5.5\n\
 delivered 3.3.3.3\n",
-    },
-    Answered {
-        name: "red to an unordered node",
-        words: &["trace", "db", "-", "1.1.1.1", "3.3.3.3", "red"],
-        database: CROSSED,
-        profile: "",
-        script: "",
-        answers: "\
+};
+
+const RED_TO_AN_UNORDERED_NODE: &Answered = &Answered {
+    name: "red to an unordered node",
+    words: &["trace", "db", "-", "1.1.1.1", "3.3.3.3", "red"],
+    database: CROSSED,
+    profile: "",
+    script: "",
+    answers: "\
 entered 0\n\
 moved 4.4.4.4\n\
 delivered 3.3.3.3\n",
-    },
-    Answered {
-        name: "to a router that the area lacks",
-        words: &["trace", "db", "-", "3.3.3.3", "9.9.9.9", "blue"],
-        database: TRIANGLE,
-        profile: "",
-        script: "",
-        answers: "\
+};
+
+const TO_A_ROUTER_THAT_THE_AREA_LACKS: &Answered = &Answered {
+    name: "to a router that the area lacks",
+    words: &["trace", "db", "-", "3.3.3.3", "9.9.9.9", "blue"],
+    database: TRIANGLE,
+    profile: "",
+    script: "",
+    answers: "\
 refused no-such-place\n",
-    },
-    Answered {
-        name: "to a router that the area lacks, after a failure",
-        words: &[
-            "trace", "db", "-", "3.3.3.3", "9.9.9.9", "repair", "1.1.1.1",
-        ],
-        database: TRIANGLE,
-        profile: "",
-        script: "",
-        answers: "\
+};
+
+const TO_A_ROUTER_THAT_THE_AREA_LACKS_AFTER_A_FAILURE: &Answered = &Answered {
+    name: "to a router that the area lacks, after a failure",
+    words: &[
+        "trace", "db", "-", "3.3.3.3", "9.9.9.9", "repair", "1.1.1.1",
+    ],
+    database: TRIANGLE,
+    profile: "",
+    script: "",
+    answers: "\
 failed\n\
 refused no-such-place\n",
-    },
-    Answered {
-        name: "no walk",
-        words: &["trace", "db", "-", "1.1.1.1", "2.2.2.2", "repair"],
-        database: ONE_SIDED,
-        profile: "",
-        script: "",
-        answers: "\
+};
+
+const NO_WALK: &Answered = &Answered {
+    name: "no walk",
+    words: &["trace", "db", "-", "1.1.1.1", "2.2.2.2", "repair"],
+    database: ONE_SIDED,
+    profile: "",
+    script: "",
+    answers: "\
 entered 0\n\
 lost no-route\n",
-    },
-    Answered {
-        name: "a color outside the island",
-        words: &["trace", "db", "-", "1.1.1.1", "2.2.2.2", "blue"],
-        database: ONE_SIDED,
-        profile: "",
-        script: "",
-        answers: "\
+};
+
+const A_COLOR_OUTSIDE_THE_ISLAND: &Answered = &Answered {
+    name: "a color outside the island",
+    words: &["trace", "db", "-", "1.1.1.1", "2.2.2.2", "blue"],
+    database: ONE_SIDED,
+    profile: "",
+    script: "",
+    answers: "\
 refused no-such-place\n",
-    },
-];
+};
 
 const REFUSED: &[Case] = &[
     Case {
@@ -322,8 +339,29 @@ const REFUSED: &[Case] = &[
     },
 ];
 
-fn traces() -> &'static [Answered] {
-    TRACES
+fn traces() -> [&'static Answered; 20] {
+    [
+        BLUE_AROUND_A_TRIANGLE,
+        RED_ONE_HOP,
+        NO_COLOR_PAST_A_NODE_THAT_CUTS,
+        THE_DESTINATION_HAS_FAILED,
+        A_COLOR_IS_CUT,
+        A_FAILURE_OUTSIDE_THE_ISLAND,
+        PAST_THE_FIRST_LINK,
+        PAST_THE_LAN,
+        PAST_A_LINK_TO_THE_LAN,
+        PAST_THE_SECOND_ROUTER,
+        A_FAILURE_THAT_THE_AREA_DOES_NOT_HAVE,
+        PAST_A_NODE_THAT_CUTS,
+        TO_A_NETWORK,
+        BLUE_TO_A_NETWORK,
+        BLUE_TO_AN_UNORDERED_NODE,
+        RED_TO_AN_UNORDERED_NODE,
+        TO_A_ROUTER_THAT_THE_AREA_LACKS,
+        TO_A_ROUTER_THAT_THE_AREA_LACKS_AFTER_A_FAILURE,
+        NO_WALK,
+        A_COLOR_OUTSIDE_THE_ISLAND,
+    ]
 }
 
 fn refused() -> &'static [Case] {

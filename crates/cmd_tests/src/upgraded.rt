@@ -188,156 +188,176 @@ fn certificates_of_both_versions(rt: HostRuntime) {
     }
 }
 
-const REFUSED: &[Case] = &[
-    Case {
-        name: "another root",
-        words: UPGRADE,
-        database: TRIANGLE,
-        profile: "",
-        certificate: TRIANGLE_FROM_1,
-        exit: Exit::No {
-            rule: 2,
-            a: 2,
-            b: 2,
-        },
-        out: "",
-        err: "mrt: no: rule 2 at 2 2\n",
+const ANOTHER_ROOT: &Case = &Case {
+    name: "another root",
+    words: UPGRADE,
+    database: TRIANGLE,
+    profile: "",
+    certificate: TRIANGLE_FROM_1,
+    exit: Exit::No {
+        rule: 2,
+        a: 2,
+        b: 2,
     },
-    Case {
-        name: "no certificate",
-        words: UPGRADE,
-        database: TRIANGLE,
-        profile: "",
-        certificate: b"",
-        exit: Exit::BadCertificate {
-            at: 0,
-            kind: CertKind::Truncated,
-        },
-        out: "",
-        err: "mrt: bad certificate: truncated at 0\n",
-    },
-    Case {
-        name: "heads in a circle in version 1",
-        words: UPGRADE,
-        database: TRIANGLE,
-        profile: "",
-        certificate: TRIANGLE_IN_CIRCLE,
-        exit: Exit::No {
-            rule: 3,
-            a: 0,
-            b: 0,
-        },
-        out: "",
-        err: "mrt: no: rule 3 at 0 0\n",
-    },
-    Case {
-        name: "heads in a circle in version 2",
-        words: UPGRADE,
-        database: TRIANGLE,
-        profile: "",
-        certificate: TRIANGLE_IN_CIRCLE_2,
-        exit: Exit::BadCertificate {
-            at: 21,
-            kind: CertKind::Heads,
-        },
-        out: "",
-        err: "mrt: bad certificate: heads at 21\n",
-    },
-    Case {
-        name: "a check of heads in a circle",
-        words: CHECK,
-        database: TRIANGLE,
-        profile: "",
-        certificate: TRIANGLE_IN_CIRCLE_2,
-        exit: Exit::BadCertificate {
-            at: 21,
-            kind: CertKind::Heads,
-        },
-        out: "",
-        err: "mrt: bad certificate: heads at 21\n",
-    },
-    Case {
-        name: "two closing links, checked",
-        words: CHECK,
-        database: FIVE,
-        profile: "",
-        certificate: FIVE_CERTIFICATE_2,
-        exit: Exit::No {
-            rule: 6,
-            a: 0,
-            b: 0,
-        },
-        out: "",
-        err: "mrt: no: rule 6 at 0 0\n",
-    },
-    Case {
-        name: "two closing links, upgraded from version 1",
-        words: UPGRADE,
-        database: FIVE,
-        profile: "",
-        certificate: FIVE_CERTIFICATE,
-        exit: Exit::No {
-            rule: 6,
-            a: 0,
-            b: 0,
-        },
-        out: "",
-        err: "mrt: no: rule 6 at 0 0\n",
-    },
-    Case {
-        name: "two closing links, upgraded from version 2",
-        words: UPGRADE,
-        database: FIVE,
-        profile: "",
-        certificate: FIVE_CERTIFICATE_2,
-        exit: Exit::No {
-            rule: 6,
-            a: 0,
-            b: 0,
-        },
-        out: "",
-        err: "mrt: no: rule 6 at 0 0\n",
-    },
-    Case {
-        name: "another router, checked",
-        words: CHECK,
-        database: ROUTER,
-        profile: "",
-        certificate: OTHER_2,
-        exit: Exit::NotThere {
-            number: 0x0202_0202,
-        },
-        out: "",
-        err: "mrt: not there: 2.2.2.2\n",
-    },
-    Case {
-        name: "another router, upgraded from version 1",
-        words: UPGRADE,
-        database: ROUTER,
-        profile: "",
-        certificate: OTHER,
-        exit: Exit::NotThere {
-            number: 0x0202_0202,
-        },
-        out: "",
-        err: "mrt: not there: 2.2.2.2\n",
-    },
-    Case {
-        name: "another router, upgraded from version 2",
-        words: UPGRADE,
-        database: ROUTER,
-        profile: "",
-        certificate: OTHER_2,
-        exit: Exit::NotThere {
-            number: 0x0202_0202,
-        },
-        out: "",
-        err: "mrt: not there: 2.2.2.2\n",
-    },
-];
+    out: "",
+    err: "mrt: no: rule 2 at 2 2\n",
+};
 
-fn refused() -> &'static [Case] {
-    REFUSED
+const NO_CERTIFICATE: &Case = &Case {
+    name: "no certificate",
+    words: UPGRADE,
+    database: TRIANGLE,
+    profile: "",
+    certificate: b"",
+    exit: Exit::BadCertificate {
+        at: 0,
+        kind: CertKind::Truncated,
+    },
+    out: "",
+    err: "mrt: bad certificate: truncated at 0\n",
+};
+
+const HEADS_IN_A_CIRCLE_IN_VERSION_1: &Case = &Case {
+    name: "heads in a circle in version 1",
+    words: UPGRADE,
+    database: TRIANGLE,
+    profile: "",
+    certificate: TRIANGLE_IN_CIRCLE,
+    exit: Exit::No {
+        rule: 3,
+        a: 0,
+        b: 0,
+    },
+    out: "",
+    err: "mrt: no: rule 3 at 0 0\n",
+};
+
+const HEADS_IN_A_CIRCLE_IN_VERSION_2: &Case = &Case {
+    name: "heads in a circle in version 2",
+    words: UPGRADE,
+    database: TRIANGLE,
+    profile: "",
+    certificate: TRIANGLE_IN_CIRCLE_2,
+    exit: Exit::BadCertificate {
+        at: 21,
+        kind: CertKind::Heads,
+    },
+    out: "",
+    err: "mrt: bad certificate: heads at 21\n",
+};
+
+const A_CHECK_OF_HEADS_IN_A_CIRCLE: &Case = &Case {
+    name: "a check of heads in a circle",
+    words: CHECK,
+    database: TRIANGLE,
+    profile: "",
+    certificate: TRIANGLE_IN_CIRCLE_2,
+    exit: Exit::BadCertificate {
+        at: 21,
+        kind: CertKind::Heads,
+    },
+    out: "",
+    err: "mrt: bad certificate: heads at 21\n",
+};
+
+const TWO_CLOSING_LINKS: &Case = &Case {
+    name: "two closing links, checked",
+    words: CHECK,
+    database: FIVE,
+    profile: "",
+    certificate: FIVE_CERTIFICATE_2,
+    exit: Exit::No {
+        rule: 6,
+        a: 0,
+        b: 0,
+    },
+    out: "",
+    err: "mrt: no: rule 6 at 0 0\n",
+};
+
+const TWO_CLOSING_LINKS_UPGRADED_FROM_1: &Case = &Case {
+    name: "two closing links, upgraded from version 1",
+    words: UPGRADE,
+    database: FIVE,
+    profile: "",
+    certificate: FIVE_CERTIFICATE,
+    exit: Exit::No {
+        rule: 6,
+        a: 0,
+        b: 0,
+    },
+    out: "",
+    err: "mrt: no: rule 6 at 0 0\n",
+};
+
+const TWO_CLOSING_LINKS_UPGRADED_FROM_2: &Case = &Case {
+    name: "two closing links, upgraded from version 2",
+    words: UPGRADE,
+    database: FIVE,
+    profile: "",
+    certificate: FIVE_CERTIFICATE_2,
+    exit: Exit::No {
+        rule: 6,
+        a: 0,
+        b: 0,
+    },
+    out: "",
+    err: "mrt: no: rule 6 at 0 0\n",
+};
+
+const ANOTHER_ROUTER: &Case = &Case {
+    name: "another router, checked",
+    words: CHECK,
+    database: ROUTER,
+    profile: "",
+    certificate: OTHER_2,
+    exit: Exit::NotThere {
+        number: 0x0202_0202,
+    },
+    out: "",
+    err: "mrt: not there: 2.2.2.2\n",
+};
+
+const ANOTHER_ROUTER_UPGRADED_FROM_1: &Case = &Case {
+    name: "another router, upgraded from version 1",
+    words: UPGRADE,
+    database: ROUTER,
+    profile: "",
+    certificate: OTHER,
+    exit: Exit::NotThere {
+        number: 0x0202_0202,
+    },
+    out: "",
+    err: "mrt: not there: 2.2.2.2\n",
+};
+
+const ANOTHER_ROUTER_UPGRADED_FROM_2: &Case = &Case {
+    name: "another router, upgraded from version 2",
+    words: UPGRADE,
+    database: ROUTER,
+    profile: "",
+    certificate: OTHER_2,
+    exit: Exit::NotThere {
+        number: 0x0202_0202,
+    },
+    out: "",
+    err: "mrt: not there: 2.2.2.2\n",
+};
+
+fn refused() -> [&'static Case; 11] {
+    [
+        ANOTHER_ROOT,
+        NO_CERTIFICATE,
+        HEADS_IN_A_CIRCLE_IN_VERSION_1,
+        HEADS_IN_A_CIRCLE_IN_VERSION_2,
+        A_CHECK_OF_HEADS_IN_A_CIRCLE,
+        TWO_CLOSING_LINKS,
+        TWO_CLOSING_LINKS_UPGRADED_FROM_1,
+        TWO_CLOSING_LINKS_UPGRADED_FROM_2,
+        ANOTHER_ROUTER,
+        ANOTHER_ROUTER_UPGRADED_FROM_1,
+        ANOTHER_ROUTER_UPGRADED_FROM_2,
+    ]
 }
 
 #[test]

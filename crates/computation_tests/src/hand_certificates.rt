@@ -24,73 +24,74 @@ struct Case {
     links_said: &'static [LinkSaid],
 }
 
-const CASES: &[Case] = &[
-    Case {
-        name: "a triangle",
-        count: 3,
-        routers: 3,
-        links: &[(0, 1, 10, 10), (0, 2, 10, 10), (1, 2, 10, 10)],
-        root: 2,
-        nodes_said: &[(2, 2, 0), (3, 2, 0), (1, 2, 2)],
-        links_said: &[(0, Role::Plain), (0, Role::Plain), (0, Role::Closing)],
-    },
-    Case {
-        name: "a line of four routers",
-        count: 4,
-        routers: 4,
-        links: &[(0, 1, 10, 10), (1, 2, 10, 10), (2, 3, 10, 10)],
-        root: 3,
-        nodes_said: &[(4, 1, 0), (3, 2, 1), (2, 3, 2), (1, 3, 3)],
-        links_said: &[(0, Role::Sole), (1, Role::Sole), (2, Role::Sole)],
-    },
-    Case {
-        name: "routers 1 to 3 with links to 4 and to 5",
-        count: 5,
-        routers: 5,
-        links: &[
-            (0, 3, 10, 10),
-            (0, 4, 10, 10),
-            (1, 3, 10, 10),
-            (1, 4, 10, 10),
-            (2, 3, 10, 10),
-            (2, 4, 10, 10),
-        ],
-        root: 4,
-        nodes_said: &[(2, 4, 0), (5, 4, 0), (3, 4, 0), (4, 4, 0), (1, 4, 4)],
-        links_said: &[
-            (0, Role::Plain),
-            (0, Role::Plain),
-            (0, Role::Plain),
-            (0, Role::Closing),
-            (0, Role::Plain),
-            (0, Role::Plain),
-        ],
-    },
-    Case {
-        name: "a network as a cut node, and a link beside it",
-        count: 5,
-        routers: 4,
-        links: &[
-            (0, 1, 10, 10),
-            (0, 4, 10, 0),
-            (1, 4, 10, 0),
-            (2, 4, 10, 0),
-            (3, 4, 10, 0),
-        ],
-        root: 3,
-        nodes_said: &[(3, 4, 0), (5, 4, 0), (4, 4, 2), (1, 3, 3), (2, 3, 4)],
-        links_said: &[
-            (0, Role::Plain),
-            (0, Role::Plain),
-            (0, Role::Closing),
-            (2, Role::Sole),
-            (4, Role::Sole),
-        ],
-    },
-];
+const TRIANGLE: &Case = &Case {
+    name: "a triangle",
+    count: 3,
+    routers: 3,
+    links: &[(0, 1, 10, 10), (0, 2, 10, 10), (1, 2, 10, 10)],
+    root: 2,
+    nodes_said: &[(2, 2, 0), (3, 2, 0), (1, 2, 2)],
+    links_said: &[(0, Role::Plain), (0, Role::Plain), (0, Role::Closing)],
+};
 
-fn cases() -> &'static [Case] {
-    CASES
+const LINE: &Case = &Case {
+    name: "a line of four routers",
+    count: 4,
+    routers: 4,
+    links: &[(0, 1, 10, 10), (1, 2, 10, 10), (2, 3, 10, 10)],
+    root: 3,
+    nodes_said: &[(4, 1, 0), (3, 2, 1), (2, 3, 2), (1, 3, 3)],
+    links_said: &[(0, Role::Sole), (1, Role::Sole), (2, Role::Sole)],
+};
+
+const THREE_BETWEEN_TWO: &Case = &Case {
+    name: "routers 1 to 3 with links to 4 and to 5",
+    count: 5,
+    routers: 5,
+    links: &[
+        (0, 3, 10, 10),
+        (0, 4, 10, 10),
+        (1, 3, 10, 10),
+        (1, 4, 10, 10),
+        (2, 3, 10, 10),
+        (2, 4, 10, 10),
+    ],
+    root: 4,
+    nodes_said: &[(2, 4, 0), (5, 4, 0), (3, 4, 0), (4, 4, 0), (1, 4, 4)],
+    links_said: &[
+        (0, Role::Plain),
+        (0, Role::Plain),
+        (0, Role::Plain),
+        (0, Role::Closing),
+        (0, Role::Plain),
+        (0, Role::Plain),
+    ],
+};
+
+const NETWORK: &Case = &Case {
+    name: "a network as a cut node, and a link beside it",
+    count: 5,
+    routers: 4,
+    links: &[
+        (0, 1, 10, 10),
+        (0, 4, 10, 0),
+        (1, 4, 10, 0),
+        (2, 4, 10, 0),
+        (3, 4, 10, 0),
+    ],
+    root: 3,
+    nodes_said: &[(3, 4, 0), (5, 4, 0), (4, 4, 2), (1, 3, 3), (2, 3, 4)],
+    links_said: &[
+        (0, Role::Plain),
+        (0, Role::Plain),
+        (0, Role::Closing),
+        (2, Role::Sole),
+        (4, Role::Sole),
+    ],
+};
+
+fn cases() -> [&'static Case; 4] {
+    [TRIANGLE, LINE, THREE_BETWEEN_TWO, NETWORK]
 }
 
 fn cert_of(rt: &impl Abort, alloc: Global, g: &Graph, root: u16) -> Result<Cert, NoMemory> {

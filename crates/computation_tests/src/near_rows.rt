@@ -1,5 +1,6 @@
 //! The near rows of source after source, and the words on nodes and links, beside the certificate.
 
+ghost use Rattle.std.specs.Prelude.{◌<◌, length};
 ghost use Rattle.mrt_rows.specs.Making.{MakeRows};
 
 use crate::hand_graphs::{graph_told, ring};
@@ -58,12 +59,22 @@ fn rows_agree(
     Ok(found.as_slice() == near.as_slice())
 }
 
+/// Whether both agree with it.
+fn agree(alloc: Global, g: &Graph, root: NodeNo, cert: &Cert) -> Result<bool, NoMemory>
+    requires { root < length g.now.ids }
+{
+    let mut rows = SourceRows::new(alloc, g, root)?;
+    if !rows_agree(alloc, g, &mut rows, cert)? {
+        return Ok(false);
+    }
+    words_agree(alloc, g, &rows, cert)
+}
+
 /// Whether both agree with the certificate of a graph.
 fn agrees(rt: &impl Abort, alloc: Global, g: &Graph, root: u16) -> Result<bool, NoMemory> {
     assert!(rt; root < g.node_count());
     let cert = compute(alloc, g, NodeNo::new(root))?;
-    let mut rows = SourceRows::new(alloc, g, NodeNo::new(root))?;
-    Ok(rows_agree(alloc, g, &mut rows, &cert)? && words_agree(alloc, g, &rows, &cert)?)
+    agree(alloc, g, NodeNo::new(root), &cert)
 }
 
 fn is_so(rt: &impl Abort, alloc: Global, case: &Case) -> Result<bool, GraphError> {

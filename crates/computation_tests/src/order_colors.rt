@@ -7,7 +7,7 @@ ghost use Rattle.order_repair.specs.Failed.{IsWithin};
 use crate::hand_graphs::{LinkTold, graph_told};
 use crate::hand_paths::{directed_of, reach_of};
 use inc_dec_spf::{Dir, Reach};
-use mrt_graph::{Color, Directed, Element, Graph, GraphError, LinkNo, NodeNo};
+use mrt_graph::{Color, Directed, Element, Graph, GraphError, LinkNo, NoMemory, NodeNo};
 use order_repair::order_choice;
 use std::alloc::Global;
 use std::process::Abort;
@@ -27,39 +27,38 @@ struct Case {
     colors: &'static [Told],
 }
 
-const CASES: &[Case] = &[
-    Case {
-        name: "a triangle",
-        count: 3,
-        links: &[(0, 1, 10, 10), (0, 2, 10, 10), (1, 2, 10, 10)],
-        root: 2,
-        source: 1,
-        colors: &[(0, b"--r", b"brr"), (2, b"b--", b"bbr")],
-    },
-    Case {
-        name: "routers 1 to 3 with links to 4 and to 5: 1 and 3 are unordered",
-        count: 5,
-        links: &[
-            (0, 3, 10, 10),
-            (0, 4, 10, 10),
-            (1, 3, 10, 10),
-            (1, 4, 10, 10),
-            (2, 3, 10, 10),
-            (2, 4, 10, 10),
-        ],
-        root: 4,
-        source: 0,
-        colors: &[
-            (1, b"--rrb", b"rbrbrb"),
-            (2, b"-b-br", b"brbbbr"),
-            (3, b"-br-b", b"rbbbrb"),
-            (4, b"-rrr-", b"rbrrrb"),
-        ],
-    },
-];
+const TRIANGLE: &Case = &Case {
+    name: "a triangle",
+    count: 3,
+    links: &[(0, 1, 10, 10), (0, 2, 10, 10), (1, 2, 10, 10)],
+    root: 2,
+    source: 1,
+    colors: &[(0, b"--r", b"brr"), (2, b"b--", b"bbr")],
+};
 
-fn cases() -> &'static [Case] {
-    CASES
+const THREE_BETWEEN_TWO: &Case = &Case {
+    name: "routers 1 to 3 with links to 4 and to 5: 1 and 3 are unordered",
+    count: 5,
+    links: &[
+        (0, 3, 10, 10),
+        (0, 4, 10, 10),
+        (1, 3, 10, 10),
+        (1, 4, 10, 10),
+        (2, 3, 10, 10),
+        (2, 4, 10, 10),
+    ],
+    root: 4,
+    source: 0,
+    colors: &[
+        (1, b"--rrb", b"rbrbrb"),
+        (2, b"-b-br", b"brbbbr"),
+        (3, b"-br-b", b"rbbbrb"),
+        (4, b"-rrr-", b"rbrrrb"),
+    ],
+};
+
+fn cases() -> [&'static Case; 2] {
+    [TRIANGLE, THREE_BETWEEN_TWO]
 }
 
 /// A source, with what it has for each node, up and down.
@@ -196,18 +195,31 @@ fn are_colors(g: &Graph, d: &Directed, source: &Source, colors: &[Told]) -> bool
     true
 }
 
-fn is_so(rt: &impl Abort, alloc: Global, case: &Case) -> Result<bool, GraphError> {
-    let g = graph_told(rt, alloc, case.count, case.count, case.links)?;
-    let d = directed_of(rt, alloc, &g, case.root)?;
+/// Whether they are those of a case, by the GADAG of its graph.
+fn are_told(
+    rt: &impl Abort,
+    alloc: Global,
+    g: &Graph,
+    d: &Directed,
+    case: &Case,
+) -> Result<bool, NoMemory>
+    requires { HasDirections g.now d.now }
+{
     assert!(rt; case.source < g.node_count());
-    let up = reach_of(rt, alloc, &g, &d, case.source, Dir::Up)?;
-    let down = reach_of(rt, alloc, &g, &d, case.source, Dir::Down)?;
+    let up = reach_of(rt, alloc, g, d, case.source, Dir::Up)?;
+    let down = reach_of(rt, alloc, g, d, case.source, Dir::Down)?;
     let source = Source {
         node: NodeNo::new(case.source),
         up,
         down,
     };
-    Ok(are_colors(&g, &d, &source, case.colors))
+    Ok(are_colors(g, d, &source, case.colors))
+}
+
+fn is_so(rt: &impl Abort, alloc: Global, case: &Case) -> Result<bool, GraphError> {
+    let g = graph_told(rt, alloc, case.count, case.count, case.links)?;
+    let d = directed_of(rt, alloc, &g, case.root)?;
+    Ok(are_told(rt, alloc, &g, &d, case)?)
 }
 
 #[test]

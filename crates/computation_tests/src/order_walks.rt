@@ -186,6 +186,32 @@ fn rounds_all(
 }
 
 /// Whether those from a node to each other one do.
+fn rounds_to_each(
+    alloc: Global,
+    g: &Graph,
+    links: &[Link],
+    d: &Directed,
+    cert: &Cert,
+    up: &Reach,
+    down: &Reach,
+    s: NodeNo,
+) -> Result<bool, NoMemory>
+    requires within { AreWithin (length g.now.ids) links.now }
+    requires count { length cert.now.nodes ≡ length g.now.ids }
+    requires directed { HasDirections g.now d.now }
+    requires one_up_each { length up.now ≡ length g.now.ids }
+    requires one_down_each { length down.now ≡ length g.now.ids }
+    requires source { s < length g.now.ids }
+{
+    for t in 0..g.node_count() {
+        if !rounds_all(alloc, g, links, d, cert, up, down, s, NodeNo::new(t))? {
+            return Ok(false);
+        }
+    }
+    Ok(true)
+}
+
+/// The same, with what the node has for each one.
 fn rounds_from(
     rt: &impl Abort,
     alloc: Global,
@@ -194,7 +220,7 @@ fn rounds_from(
     d: &Directed,
     cert: &Cert,
     s: u16,
-) -> Result<bool, GraphError>
+) -> Result<bool, NoMemory>
     requires within { AreWithin (length g.now.ids) links.now }
     requires count { length cert.now.nodes ≡ length g.now.ids }
     requires directed { HasDirections g.now d.now }
@@ -202,22 +228,7 @@ fn rounds_from(
     assert!(rt; s < g.node_count());
     let up = reach_of(rt, alloc, g, d, s, Dir::Up)?;
     let down = reach_of(rt, alloc, g, d, s, Dir::Down)?;
-    for t in 0..g.node_count() {
-        if !rounds_all(
-            alloc,
-            g,
-            links,
-            d,
-            cert,
-            &up,
-            &down,
-            NodeNo::new(s),
-            NodeNo::new(t),
-        )? {
-            return Ok(false);
-        }
-    }
-    Ok(true)
+    rounds_to_each(alloc, g, links, d, cert, &up, &down, NodeNo::new(s))
 }
 
 /// Whether those from each node do.
@@ -228,7 +239,7 @@ fn rounds_each(
     links: &[Link],
     d: &Directed,
     cert: &Cert,
-) -> Result<bool, GraphError>
+) -> Result<bool, NoMemory>
     requires within { AreWithin (length g.now.ids) links.now }
     requires count { length cert.now.nodes ≡ length g.now.ids }
     requires directed { HasDirections g.now d.now }
@@ -241,13 +252,26 @@ fn rounds_each(
     Ok(true)
 }
 
+/// Whether those by the GADAG of a graph do, beside the walks on the rows of its certificate.
+fn rounds_by(
+    rt: &impl Abort,
+    alloc: Global,
+    g: &Graph,
+    d: &Directed,
+    root: u16,
+) -> Result<bool, NoMemory>
+    requires { HasDirections g.now d.now }
+{
+    assert!(rt; root < g.node_count());
+    let cert = compute(alloc, g, NodeNo::new(root))?;
+    let links = graph_links(alloc, g)?;
+    rounds_each(rt, alloc, g, &links, d, &cert)
+}
+
 fn is_so(rt: &impl Abort, alloc: Global, case: &Case) -> Result<bool, GraphError> {
     let g = graph_told(rt, alloc, case.count, case.routers, case.links)?;
     let d = directed_of(rt, alloc, &g, case.root)?;
-    assert!(rt; case.root < g.node_count());
-    let cert = compute(alloc, &g, NodeNo::new(case.root))?;
-    let links = graph_links(alloc, &g)?;
-    rounds_each(rt, alloc, &g, &links, &d, &cert)
+    Ok(rounds_by(rt, alloc, &g, &d, case.root)?)
 }
 
 #[test]

@@ -15,71 +15,63 @@ struct Side {
     root: u16,
 }
 
-/// Two graphs with their roots, and whether their certificates are the same.
-struct Case {
-    name: &'static str,
-    one: &'static Side,
-    other: &'static Side,
-    is_same: bool,
-}
-
-const ALONE: Side = Side {
+const ALONE: &Side = &Side {
     count: 1,
     routers: 1,
     links: &[],
     root: 0,
 };
 
-const PAIR: Side = Side {
+const PAIR: &Side = &Side {
     count: 2,
     routers: 2,
     links: &[(0, 1, 10, 10)],
     root: 0,
 };
 
-const FARTHER_PAIR: Side = Side {
+const FARTHER_PAIR: &Side = &Side {
     count: 2,
     routers: 2,
     links: &[(0, 1, 20, 7)],
     root: 0,
 };
 
-const PAIR_WITH_TWO_LINKS: Side = Side {
+const PAIR_WITH_TWO_LINKS: &Side = &Side {
     count: 2,
     routers: 2,
     links: &[(0, 1, 10, 10), (0, 1, 10, 10)],
     root: 0,
 };
 
-const TRIANGLE: Side = Side {
+const TRIANGLE: &Side = &Side {
     count: 3,
     routers: 3,
     links: &[(0, 1, 10, 10), (0, 2, 10, 10), (1, 2, 10, 10)],
     root: 2,
 };
 
-const FROM_ROUTER_1: Side = Side {
+const FROM_ROUTER_1: &Side = &Side {
     count: 3,
     routers: 3,
     links: &[(0, 1, 10, 10), (0, 2, 10, 10), (1, 2, 10, 10)],
     root: 0,
 };
 
-const WITH_A_NETWORK: Side = Side {
+const WITH_A_NETWORK: &Side = &Side {
     count: 3,
     routers: 2,
     links: &[(0, 1, 10, 10), (0, 2, 10, 10), (1, 2, 10, 10)],
     root: 2,
 };
 
-const LINE: Side = Side {
+const LINE: &Side = &Side {
     count: 3,
     routers: 3,
     links: &[(0, 1, 10, 10), (1, 2, 10, 10)],
     root: 2,
 };
 
-const LONGER_LINE: Side = Side {
+const LONGER_LINE: &Side = &Side {
     count: 4,
     routers: 4,
     links: &[(0, 1, 10, 10), (1, 2, 10, 10), (2, 3, 10, 10)],
@@ -88,7 +80,7 @@ const LONGER_LINE: Side = Side {
 
 // Routers 1 to 3 with links to 4 and to 5. Two paths go up from router 5, the root, to router 4: over 1, with a cost of
 // 20, and over 3, with one of 30.
-const NEARER_OVER_1: Side = Side {
+const NEARER_OVER_1: &Side = &Side {
     count: 5,
     routers: 5,
     links: &[
@@ -103,7 +95,7 @@ const NEARER_OVER_1: Side = Side {
 };
 
 // The same but for one metric, by which the path over 1 costs 25.
-const NEARER_OVER_1_YET: Side = Side {
+const NEARER_OVER_1_YET: &Side = &Side {
     count: 5,
     routers: 5,
     links: &[
@@ -119,7 +111,7 @@ const NEARER_OVER_1_YET: Side = Side {
 
 // The same but for this metric, by which the path over 1 costs 40. Each router has its interfaces in the same order, so
 // nodes and links of the certificate are the same, but blue of router 5 for 4 is the link to 3 in place of that to 1.
-const NEARER_OVER_3: Side = Side {
+const NEARER_OVER_3: &Side = &Side {
     count: 5,
     routers: 5,
     links: &[
@@ -133,83 +125,44 @@ const NEARER_OVER_3: Side = Side {
     root: 4,
 };
 
-const CASES: &[Case] = &[
-    Case {
-        name: "one node alone twice",
-        one: &ALONE,
-        other: &ALONE,
-        is_same: true,
-    },
-    Case {
-        name: "a triangle twice",
-        one: &TRIANGLE,
-        other: &TRIANGLE,
-        is_same: true,
-    },
-    Case {
-        name: "two paths up twice",
-        one: &NEARER_OVER_1,
-        other: &NEARER_OVER_1,
-        is_same: true,
-    },
-    Case {
-        name: "one node more",
-        one: &ALONE,
-        other: &PAIR,
-        is_same: false,
-    },
-    Case {
-        name: "one node less",
-        one: &LONGER_LINE,
-        other: &LINE,
-        is_same: false,
-    },
-    Case {
-        name: "a second link beside the first",
-        one: &PAIR,
-        other: &PAIR_WITH_TWO_LINKS,
-        is_same: false,
-    },
-    Case {
-        name: "a link less",
-        one: &TRIANGLE,
-        other: &LINE,
-        is_same: false,
-    },
-    Case {
-        name: "another root",
-        one: &TRIANGLE,
-        other: &FROM_ROUTER_1,
-        is_same: false,
-    },
-    Case {
-        name: "a network in place of a router",
-        one: &TRIANGLE,
-        other: &WITH_A_NETWORK,
-        is_same: false,
-    },
-    Case {
-        name: "a pair with other metrics",
-        one: &PAIR,
-        other: &FARTHER_PAIR,
-        is_same: true,
-    },
-    Case {
-        name: "a metric by which no path becomes the least",
-        one: &NEARER_OVER_1,
-        other: &NEARER_OVER_1_YET,
-        is_same: true,
-    },
-    Case {
-        name: "a metric by which the other path becomes the least",
-        one: &NEARER_OVER_1,
-        other: &NEARER_OVER_3,
-        is_same: false,
-    },
-];
+/// A name, two graphs with their roots, and whether their certificates are the same.
+type Case = (&'static str, &'static Side, &'static Side, bool);
 
-fn cases() -> &'static [Case] {
-    CASES
+fn cases() -> [Case; 12] {
+    [
+        ("one node alone twice", ALONE, ALONE, true),
+        ("a triangle twice", TRIANGLE, TRIANGLE, true),
+        ("two paths up twice", NEARER_OVER_1, NEARER_OVER_1, true),
+        ("one node more", ALONE, PAIR, false),
+        ("one node less", LONGER_LINE, LINE, false),
+        (
+            "a second link beside the first",
+            PAIR,
+            PAIR_WITH_TWO_LINKS,
+            false,
+        ),
+        ("a link less", TRIANGLE, LINE, false),
+        ("another root", TRIANGLE, FROM_ROUTER_1, false),
+        (
+            "a network in place of a router",
+            TRIANGLE,
+            WITH_A_NETWORK,
+            false,
+        ),
+        ("a pair with other metrics", PAIR, FARTHER_PAIR, true),
+        (
+            "a metric by which no path becomes the least",
+            NEARER_OVER_1,
+            NEARER_OVER_1_YET,
+            true,
+        ),
+        (
+            "a metric by which the other path becomes the least",
+            NEARER_OVER_1,
+            NEARER_OVER_3,
+            false,
+        ),
+    ]
 }
 
 fn stream_of(rt: &impl Abort, alloc: Global, side: &Side) -> Result<CertStream, GraphError> {
@@ -218,16 +171,18 @@ fn stream_of(rt: &impl Abort, alloc: Global, side: &Side) -> Result<CertStream, 
     Ok(CertStream::new(alloc, g, NodeNo::new(side.root))?)
 }
 
-fn is_so(rt: &impl Abort, alloc: Global, case: &Case) -> Result<bool, GraphError> {
-    let one = stream_of(rt, alloc, case.one)?;
-    let other = stream_of(rt, alloc, case.other)?;
-    Ok(one.is_same(other) == case.is_same)
+/// Whether the certificates of two graphs are the same.
+fn are_same(rt: &impl Abort, alloc: Global, one: &Side, other: &Side) -> Result<bool, GraphError> {
+    let one = stream_of(rt, alloc, one)?;
+    let other = stream_of(rt, alloc, other)?;
+    Ok(one.is_same(other))
 }
 
 #[test]
 fn streams_compared(rt: HostRuntime) -> Result<(), Fail> {
-    for case in cases() {
-        assert!(rt; is_so(&rt, rt.alloc(), case)?, "{}", case.name);
+    for (name, one, other, is_same) in cases() {
+        let found = are_same(&rt, rt.alloc(), one, other)?;
+        assert!(rt; found == is_same, "{name}");
     }
     Ok(())
 }

@@ -64,13 +64,28 @@ fn case_graph(rt: &impl Abort, alloc: Global, case: &Case) -> Result<Graph, Grap
     graph_told(rt, alloc, case.count, case.routers, case.links)
 }
 
+/// What a sink gains of the certificate of a case.
+fn sink_of(rt: &impl Abort, alloc: Global, case: &Case) -> Result<Option<MemSink>, GraphError> {
+    let g = case_graph(rt, alloc, case)?;
+    Ok(put_of(rt, alloc, g, case.root)?)
+}
+
+/// Whether these bytes are its certificate.
+fn is_read_of(
+    rt: &impl Abort,
+    alloc: Global,
+    case: &Case,
+    bytes: &[u8],
+) -> Result<bool, GraphError> {
+    let g = case_graph(rt, alloc, case)?;
+    Ok(is_read(rt, alloc, &g, case.root, bytes)?)
+}
+
 fn is_so(rt: &impl Abort, alloc: Global, case: &Case) -> Result<bool, GraphError> {
-    let g = case_graph(rt, alloc, case)?;
-    let Some(sink) = put_of(rt, alloc, g, case.root)? else {
-        return Ok(false);
-    };
-    let g = case_graph(rt, alloc, case)?;
-    Ok(is_read(rt, alloc, &g, case.root, sink.bytes())?)
+    match sink_of(rt, alloc, case)? {
+        Some(sink) => is_read_of(rt, alloc, case, sink.bytes()),
+        None => Ok(false),
+    }
 }
 
 #[test]
@@ -81,13 +96,34 @@ fn streams_beside_computed_certificates(rt: HostRuntime) -> Result<(), Fail> {
     Ok(())
 }
 
+/// What a sink gains of the certificate of a ring.
+fn ring_sink(
+    rt: &impl Abort,
+    alloc: Global,
+    count: u16,
+    root: u16,
+) -> Result<Option<MemSink>, GraphError> {
+    let g = ring(rt, alloc, count)?;
+    Ok(put_of(rt, alloc, g, root)?)
+}
+
+/// Whether these bytes are its certificate.
+fn is_read_of_ring(
+    rt: &impl Abort,
+    alloc: Global,
+    count: u16,
+    root: u16,
+    bytes: &[u8],
+) -> Result<bool, GraphError> {
+    let g = ring(rt, alloc, count)?;
+    Ok(is_read(rt, alloc, &g, root, bytes)?)
+}
+
 fn is_ring_so(rt: &impl Abort, alloc: Global, count: u16, root: u16) -> Result<bool, GraphError> {
-    let g = ring(rt, alloc, count)?;
-    let Some(sink) = put_of(rt, alloc, g, root)? else {
-        return Ok(false);
-    };
-    let g = ring(rt, alloc, count)?;
-    Ok(is_read(rt, alloc, &g, root, sink.bytes())?)
+    match ring_sink(rt, alloc, count, root)? {
+        Some(sink) => is_read_of_ring(rt, alloc, count, root, sink.bytes()),
+        None => Ok(false),
+    }
 }
 
 /// More bytes than one piece.

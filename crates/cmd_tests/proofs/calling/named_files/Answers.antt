@@ -15,6 +15,8 @@ three_names first second third x y z is_db is_prof is_cert =
 
 pub returns : goal.returns
 returns c =
+    let one = c.in_ok-named_file.field-0 in
+    let two = c.in_ok-named_file-2.field-0 in
+    let three = c.in_ok-named_file-3.field-0 in
     rw (c.in_ok-push-3.ensures.items, c.in_ok-push-2.ensures.items, c.in_ok-push.ensures.items, c.new-list.ensures.items)
-    (three_names _ _ _ c.in_ok-from_slice.field-0 c.in_ok-from_slice-2.field-0 c.in_ok-from_slice-3.field-0 c.in_ok-new.ensures c.in_ok-new-2.ensures
-    c.in_ok-new-3.ensures)
+    (three_names one.0 two.0 three.0 one.1 two.1 three.1 c.in_ok-named_file.ensures c.in_ok-named_file-2.ensures c.in_ok-named_file-3.ensures)
