@@ -21,18 +21,24 @@ one_end g x j k ends end other kept list at_j at_k same =
     let one : length (filter on ends) ≡ 1 = omega (arith, once, count_is_tally on ends, length_is_tally on ends) in
     one_passes on ends j k end other one at_j (eq-eqb end.link end.link refl) at_k (eq-eqb other.link end.link (sym same))
 
-pub passed_more : (g : Topology) (order : List ℕ) (place passed e u : ℕ) → IsPassed g order place passed e u → IsPassed g order place (passed + 1) e u
-passed_more g order place passed e u it = record {
+-- what has been passed has been passed at another place too, in a list with the same node there
+passed_at : (g : Topology) (order : List ℕ) (place passed e u : ℕ) (others : List ℕ) (later more : ℕ) (it : IsPassed g order place passed e u)
+    → slice_get others it.at ≡ Some u → (it.at < later) ⊎ ((it.at ≡ later) × (it.end_at < more)) → IsPassed g others later more e u
+passed_at g order place passed e u others later more it node before = record {
   at = it.at;
-  node = it.node;
+  node = node;
   ends = it.ends;
   list = it.list;
   end_at = it.end_at;
   end = it.end;
   there = it.there;
   over = it.over;
-  before = elim it.before [ inl earlier ↦ inl earlier | inr same ↦ inr (same.0, omega (arith, same.1)) ];
+  before = before;
 }
+
+pub passed_more : (g : Topology) (order : List ℕ) (place passed e u : ℕ) → IsPassed g order place passed e u → IsPassed g order place (passed + 1) e u
+passed_more g order place passed e u it = passed_at g order place passed e u order place (passed + 1) it it.node
+    (elim it.before [ inl earlier ↦ inl earlier | inr same ↦ inr (same.0, omega (arith, same.1)) ])
 
 pub passed_here : (g : Topology) (order : List ℕ) (place passed x : ℕ) (end : End) → slice_get order place ≡ Some x → IsEndOf g x passed end
     → IsPassed g order place (passed + 1) end.link x
@@ -68,17 +74,7 @@ passed_cases g order place passed e u x end here it one = elim one.before [
 ]
   where
     before : (one.at < place) ⊎ ((one.at ≡ place) × (one.end_at < passed)) → IsPassed g order place passed e u
-    before b = record {
-      at = one.at;
-      node = one.node;
-      ends = one.ends;
-      list = one.list;
-      end_at = one.end_at;
-      end = one.end;
-      there = one.there;
-      over = one.over;
-      before = b;
-    }
+    before b = passed_at g order place (passed + 1) e u order place passed one one.node b
 
 -- an end whose turn it is has not been passed
 pub not_passed_here : (g : Topology) (order : List ℕ) (place passed x : ℕ) (end : End) → IsTopology g → StandOnce order
@@ -93,68 +89,33 @@ not_passed_here g order place passed x end kept once here it one =
 -- a longer list
 pub passed_in_longer : (g : Topology) (order : List ℕ) (v place passed e u : ℕ) → IsPassed g order place passed e u
     → IsPassed g (order ++ v ∷ []) place passed e u
-passed_in_longer g order v place passed e u it = record {
-  at = it.at;
-  node = at_left order (v ∷ []) it.at u it.node;
-  ends = it.ends;
-  list = it.list;
-  end_at = it.end_at;
-  end = it.end;
-  there = it.there;
-  over = it.over;
-  before = it.before;
-}
+passed_in_longer g order v place passed e u it = passed_at g order place passed e u (order ++ v ∷ []) place passed it
+    (at_left order (v ∷ []) it.at u it.node) it.before
 
 pub passed_in_shorter : (g : Topology) (order : List ℕ) (v place passed e u : ℕ) → place < length order
     → IsPassed g (order ++ v ∷ []) place passed e u → IsPassed g order place passed e u
-passed_in_shorter g order v place passed e u inside it = record {
-  at = it.at;
-  node = elim (pushed_at order v u it.at it.node) [
-    | inl there ↦ there
-    | inr last ↦ absurd (elim it.before [ inl earlier ↦ omega (arith, earlier, last.0, inside) | inr same ↦ omega (arith, same.0, last.0, inside) ])
-  ];
-  ends = it.ends;
-  list = it.list;
-  end_at = it.end_at;
-  end = it.end;
-  there = it.there;
-  over = it.over;
-  before = it.before;
-}
+passed_in_shorter g order v place passed e u inside it = passed_at g (order ++ v ∷ []) place passed e u order place passed it
+    (elim (pushed_at order v u it.at it.node) [
+      | inl there ↦ there
+      | inr last ↦ absurd (elim it.before [ inl earlier ↦ omega (arith, earlier, last.0, inside) | inr same ↦ omega (arith, same.0, last.0, inside) ])
+    ])
+    it.before
 
 -- when all ends of a node are passed its turn is over
 pub turn_passed : (g : Topology) (order : List ℕ) (place x e u : ℕ) (ends : List End) → slice_get order place ≡ Some x → slice_get g.ends x ≡ Some ends
     → IsPassed g order (place + 1) 0 e u → IsPassed g order place (length ends) e u
-turn_passed g order place x e u ends here list it = record {
-  at = it.at;
-  node = it.node;
-  ends = it.ends;
-  list = it.list;
-  end_at = it.end_at;
-  end = it.end;
-  there = it.there;
-  over = it.over;
-  before = elim (cases_eq it.at place) [
-    | inl same ↦
-        let at_x : u ≡ x = same_Some u x (sym it.node ∙ subst (λ (k : ℕ). slice_get order k ≡ Some x) (sym same) here) in
-        let lists : it.ends ≡ ends = same_Some it.ends ends (sym it.list ∙ subst (λ (w : ℕ). slice_get g.ends w ≡ Some ends) (sym at_x) list) in
-        inr (same, subst (λ (es : List End). it.end_at < length es) lists (slice_get_within it.ends it.end_at it.end it.there))
-    | inr other ↦ inl (elim it.before [ inl earlier ↦ omega (arith, earlier, other) | inr next ↦ absurd (omega (arith, next.1)) ])
-  ];
-}
+turn_passed g order place x e u ends here list it = passed_at g order (place + 1) 0 e u order place (length ends) it it.node
+    (elim (cases_eq it.at place) [
+      | inl same ↦
+          let at_x : u ≡ x = same_Some u x (sym it.node ∙ subst (λ (k : ℕ). slice_get order k ≡ Some x) (sym same) here) in
+          let lists : it.ends ≡ ends = same_Some it.ends ends (sym it.list ∙ subst (λ (w : ℕ). slice_get g.ends w ≡ Some ends) (sym at_x) list) in
+          inr (same, subst (λ (es : List End). it.end_at < length es) lists (slice_get_within it.ends it.end_at it.end it.there))
+      | inr other ↦ inl (elim it.before [ inl earlier ↦ omega (arith, earlier, other) | inr next ↦ absurd (omega (arith, next.1)) ])
+    ])
 
 pub passed_in_turn : (g : Topology) (order : List ℕ) (place passed e u : ℕ) → IsPassed g order place passed e u → IsPassed g order (place + 1) 0 e u
-passed_in_turn g order place passed e u it = record {
-  at = it.at;
-  node = it.node;
-  ends = it.ends;
-  list = it.list;
-  end_at = it.end_at;
-  end = it.end;
-  there = it.there;
-  over = it.over;
-  before = inl (elim it.before [ inl earlier ↦ omega (arith, earlier) | inr same ↦ omega (arith, same.0) ]);
-}
+passed_in_turn g order place passed e u it = passed_at g order place passed e u order (place + 1) 0 it it.node
+    (inl (elim it.before [ inl earlier ↦ omega (arith, earlier) | inr same ↦ omega (arith, same.0) ]))
 
 -- a link of a node before the place has been passed
 pub passed_before : (g : Topology) (order : List ℕ) (place passed at e u v : ℕ) → IsTopology g → u < length g.ids → slice_get order at ≡ Some u
