@@ -30,7 +30,7 @@ use Rattle.gadag_ears.specs.declared.growing.Growing.{Growing}
 use Rattle.gadag_ears.specs.declared.kind.EarKind.TheVariants.{Child, Neighbour}
 use Rattle.gadag_ears.specs.Ear.{LeadsToChild, ToChild, ToNeighbour}
 use Rattle.gadag_ears.specs.EarOrder.{Begun, IsEarOrder, Turned}
-use Rattle.gadag_ears.specs.Growing.{AreAllMarked, AreListed, AreWaysAndRoles, HasSearch, HasTurn, IsAtEnd, IsBeginning, IsEnded, IsMarked, IsEarTurn, StartsEar}
+use Rattle.gadag_ears.specs.Growing.{AreAllMarked, AreListed, AreWaysAndRoles, HasRoom, HasSearch, HasTurn, IsAtEnd, IsBeginning, IsEnded, IsMarked, IsEarTurn, StartsEar}
 use Rattle.gadag_ears.specs.HeadAndBlock.{ArePlaces}
 use Rattle.gadag_ears.proofs.CutLists.{in_turn, turned}
 use Rattle.gadag_ears.proofs.EarBrought.{room_for_new, turn_kept}
@@ -103,6 +103,30 @@ one_more_passed IsPassed IsPassed' ends k end there still passed now j other ear
       let same : end ≡ other = same_Some end other (sym there ∙ subst (λ (i : ℕ). slice_get ends i ≡ Some other) here at) in
       subst IsPassed' same now
 ]
+
+pub at_end : (g : Topology) (x place : ℕ) (IsPassed : End → Type 0) (ends : List End) (end : End) → slice_get g.ends x ≡ Some ends
+    → slice_get ends place ≡ Some end → ArePassed IsPassed ends place → IsAtEnd g IsPassed x end
+at_end g x place IsPassed ends end list there passed = record { ends = ends; list = list; place = place; there = there; passed = passed }
+
+-- since the turn of x began there were ears, and it is still its turn
+pub record IsInTurn (g : Topology) (tree : List TreeNode) (x : ℕ) (start growing : Growing) : Type 0 where
+  pub turn : (root : ℕ) → IsEarTurn g root tree x start → IsEarTurn g root tree x growing
+  pub has_turn : HasTurn g tree x growing
+  pub has_room : HasRoom (length g.ids) growing
+  pub same_order : growing.order ≡ start.order
+
+pub turn_begun : {g : Topology} {tree : List TreeNode} {x : ℕ} {start : Growing} → HasTurn g tree x start → HasRoom (length g.ids) start → IsInTurn g tree x start start
+turn_begun has_turn has_room = record { turn = λ root turn. turn; has_turn = has_turn; has_room = has_room; same_order = refl }
+
+pub turn_still : {g : Topology} {tree : List TreeNode} {x : ℕ} {start growing after : Growing} → IsInTurn g tree x start growing
+    → ((root : ℕ) → IsEarTurn g root tree x growing → IsEarTurn g root tree x after) → HasRoom (length g.ids) after → after.order ≡ growing.order
+    → IsInTurn g tree x start after
+turn_still it turn has_room same_order = record {
+  turn = λ root from_start. turn root (it.turn root from_start);
+  has_turn = record { root = it.has_turn.root; turn = turn it.has_turn.root it.has_turn.turn };
+  has_room = has_room;
+  same_order = same_order ∙ it.same_order;
+}
 
 -- when all ends have been passed, all children have their marks
 pub children_marked : (g : Topology) (root : ℕ) (tree : List TreeNode) (x : ℕ) (growing : Growing) (listed : List Bool) (ends : List End) (k : ℕ)

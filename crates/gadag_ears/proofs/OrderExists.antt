@@ -4,6 +4,7 @@ use Rattle.std.specs.Prelude.{Contains}
 use Rattle.std.proofs.lemmas.Option.{same_Some, slice_get_within}
 use Rattle.mrt_graph.specs.declared.link.End.{End}
 use Rattle.mrt_graph.specs.declared.tree.TreeNode.{TreeNode}
+use Rattle.mrt_graph.specs.FirstEnd.{IsFirstEnd}
 use Rattle.mrt_graph.specs.Topology.{Topology}
 use Rattle.mrt_graph.proofs.EndsAt.{leads_end, list_of_ends}
 use Rattle.mrt_graph.proofs.FewNumbers.{few_numbers}
@@ -46,6 +47,11 @@ first_or_none Asked tells (end ∷ ends) = elim (tells end) [
     | inr none ↦ inr (none_at Asked end ends (length ends) not_here none)
   ]
 ]
+
+first_end : (g : Topology) (x : ℕ) (Asked : End → Type 0) (ends : List End) → slice_get g.ends x ≡ Some ends → (it : IsFirstOf Asked ends)
+    → IsFirstEnd g Asked x it.end
+first_end g x Asked ends list it =
+    record { ends = ends; list = list; place = it.place; there = it.there; asked = it.asked; none_before = it.none_before }
 
 child_tells : (g : Topology) (tree : List TreeNode) (listed : List ℕ) (x : ℕ) (end : End) → LeadsToChild g tree listed x end ⊎ (¬ LeadsToChild g tree listed x end)
 child_tells g tree listed x end = elim (listed_or_not listed end.to) [
@@ -92,26 +98,14 @@ step g root tree over x later ears facts ordered =
     let list = list_of_ends g x facts.kept (kept.within x (in_turn over x later)) in
     elim (first_or_none (LeadsToChild g tree (over ++ x ∷ later) x) (child_tells g tree (over ++ x ∷ later) x) list.0) [
       | inl it ↦
-          let ear = ear_exists g root tree over x later ears it.end Child facts ordered (ToChild (record {
-            ends = list.0;
-            list = list.1;
-            place = it.place;
-            there = it.there;
-            asked = it.asked;
-            none_before = it.none_before;
-          })) in
+          let first = first_end g x (LeadsToChild g tree (over ++ x ∷ later) x) list.0 list.1 it in
+          let ear = ear_exists g root tree over x later ears it.end Child facts ordered (ToChild first) in
           inl (record { ear = ear.0; next = ear.3 })
       | inr no_child ↦ elim (first_or_none (λ end. ¬ Contains (over ++ x ∷ later) end.to) (outside_tells (over ++ x ∷ later)) list.0) [
         | inl it ↦
+            let first = first_end g x (λ end. ¬ Contains (over ++ x ∷ later) end.to) list.0 list.1 it in
             let ear = ear_exists g root tree over x later ears it.end Neighbour facts ordered
-            (ToNeighbour (children_in g root tree (over ++ x ∷ later) x list.0 facts list.1 no_child) (record {
-              ends = list.0;
-              list = list.1;
-              place = it.place;
-              there = it.there;
-              asked = it.asked;
-              none_before = it.none_before;
-            })) in
+            (ToNeighbour (children_in g root tree (over ++ x ∷ later) x list.0 facts list.1 no_child) first) in
             inl (record { ear = ear.0; next = ear.3 })
         | inr none ↦ inr (record { ends = list.0; list = list.1; all_inside = all_listed (over ++ x ∷ later) list.0 none })
       ]

@@ -1,20 +1,6 @@
 //! What holds of the ears of each graph.
 
-ghost use Rattle.std.specs.Prelude.{
-  ◌≡◌,
-  ◌<◌,
-  ◌≤◌,
-  ◌⊎◌,
-  ◌++◌,
-  ◌∷◌,
-  ◌==◌,
-  ℕ,
-  List,
-  Some,
-  Contains,
-  count_by,
-  length,
-};
+ghost use Rattle.std.specs.Prelude.{◌≡◌, ◌<◌, ◌≤◌, ◌⊎◌, ◌++◌, ◌∷◌, ◌==◌, ℕ, List, Some, Contains, count_by, length};
 ghost use Rattle.mrt_graph.specs.declared.gadag.Place.{Place};
 ghost use Rattle.mrt_graph.specs.declared.link.End.{End};
 ghost use Rattle.mrt_graph.specs.declared.tree.TreeNode.{TreeNode};

@@ -1,21 +1,6 @@
 //! The marks of an ear's links.
 
-ghost use Rattle.std.specs.Prelude.{
-  ◌≡◌,
-  ◌≢◌,
-  ◌<◌,
-  ◌↔◌,
-  ◌∷◌,
-  ℕ,
-  List,
-  IsTrue,
-  IsSome,
-  Some,
-  Contains,
-  length,
-  slice_get,
-  slice_set,
-};
+ghost use Rattle.std.specs.Prelude.{◌≡◌, ◌≢◌, ◌<◌, ◌↔◌, ◌∷◌, ℕ, List, IsTrue, IsSome, Some, Contains, length, slice_get, slice_set};
 ghost use Rattle.mrt_graph.specs.declared.link.Link.{Link};
 ghost use Rattle.mrt_graph.specs.Leads.{leads};
 ghost use Rattle.gadag_ears.specs.Ear.{ear_of, last_node, onward_link};

@@ -2,10 +2,8 @@ use Rattle.gadag_ears.proofs.FromSearch.{facts_of}
 use Rattle.gadag_ears.proofs.MemberLinks.{link_into, none_into_root}
 use Rattle.gadag_ears.proofs.gadag_law.each_node_but_the_root_is_entered.Goals as goal
 
-pub returns-clause-others : goal.returns-clause-others
-returns-clause-others c = λ g root tree gadag kept within search it.
-    link_into g root tree gadag (facts_of g root tree (record { kept = kept; within = within; search = search })) it
-
-pub returns-clause-root : goal.returns-clause-root
-returns-clause-root c = λ g root tree gadag kept within search it.
-    none_into_root g root tree gadag (facts_of g root tree (record { kept = kept; within = within; search = search })) it
+pub returns : goal.returns
+returns c = record {
+  others = λ g root tree gadag kept within search it. link_into g root tree gadag (facts_of g root tree (record { kept = kept; within = within; search = search })) it;
+  root = λ g root tree gadag kept within search it. none_into_root g root tree gadag (facts_of g root tree (record { kept = kept; within = within; search = search })) it;
+}

@@ -1,8 +1,8 @@
-use Rattle.std.proofs.Common.{◌≡◌, ◌∙◌, Some, length, refl, arith}
+use Rattle.std.proofs.Common.{◌≡◌, Some, length, refl, arith}
 use Rattle.std.proofs.lemmas.Option.{slice_get_read}
 use Rattle.lowpoint_dfs.specs.Subtree.{parent_of}
 use Rattle.gadag_ears.specs.Growing.{IsMarked}
-use Rattle.gadag_ears.proofs.EndsPassed.{children_marked, here_within, one_more_passed}
+use Rattle.gadag_ears.proofs.EndsPassed.{at_end, children_marked, here_within, one_more_passed, turn_begun, turn_still}
 use Rattle.gadag_ears.proofs.turn.child_ears.Goals as goal
 
 pub ends-ends-requires : goal.ends-ends-requires
@@ -10,33 +10,21 @@ ends-ends-requires c = here_within c.args.g.now c.requires.turn.root c.args.tree
 
 pub loop-end-init : goal.loop-end-init
 loop-end-init c = record {
-  turn = λ root turn. turn;
-  has_turn = c.requires.turn;
-  has_room = c.requires.room;
-  same_order = refl;
+  in_turn = turn_begun c.requires.turn c.requires.room;
   passed = λ j end early at. absurd (omega (arith, early));
 }
 
 pub child_ear-requires-clause-at : goal.child_ear-requires-clause-at
-child_ear-requires-clause-at c = record {
-  ends = c.ends-ends.result.now;
-  list = c.ends-ends.ensures.value;
-  place = c.loop-end.end-index;
-  there = slice_get_read c.ends-ends.result.now (length c.ends-ends.result.now) c.loop-end.end-index c.end-item.result refl c.loop-end-test.true c.end-item.is;
-  passed = c.loop-end.invariant.passed;
-}
+child_ear-requires-clause-at c =
+    let ends = c.ends-ends.result.now in
+    at_end c.args.g.now c.args.x c.loop-end.end-index (λ end. parent_of c.args.g.now c.args.tree.now end.to ≡ Some c.args.x → IsMarked c.loop-end.growing.listed.items end.to) ends c.end-item.result c.ends-ends.ensures.value
+    (slice_get_read ends (length ends) c.loop-end.end-index c.end-item.result refl c.loop-end-test.true c.end-item.is) c.loop-end.invariant.passed
 
 pub loop-end-preserved : goal.loop-end-preserved
 loop-end-preserved c =
     let there = slice_get_read c.ends-ends.result.now (length c.ends-ends.result.now) c.loop-end.end-index c.end-item.result refl c.loop-end-test.true c.end-item.is in
     record {
-      turn = λ root turn. c.child_ear.ensures.turn root (c.loop-end.invariant.turn root turn);
-      has_turn = record {
-        root = c.loop-end.invariant.has_turn.root;
-        turn = c.child_ear.ensures.turn c.loop-end.invariant.has_turn.root c.loop-end.invariant.has_turn.turn;
-      };
-      has_room = c.child_ear.ensures.room;
-      same_order = c.child_ear.ensures.order ∙ c.loop-end.invariant.same_order;
+      in_turn = turn_still c.loop-end.invariant.in_turn c.child_ear.ensures.turn c.child_ear.ensures.room c.child_ear.ensures.order;
       passed = one_more_passed (λ end. parent_of c.args.g.now c.args.tree.now end.to ≡ Some c.args.x → IsMarked c.loop-end.growing.listed.items end.to)
           (λ end. parent_of c.args.g.now c.args.tree.now end.to ≡ Some c.args.x → IsMarked c.child_ear.new.growing.listed.items end.to)
           c.ends-ends.result.now c.loop-end.end-index c.end-item.result there

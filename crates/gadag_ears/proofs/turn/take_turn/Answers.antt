@@ -13,33 +13,19 @@ push_reserved-requires c =
     (c.neighbour_ears.ensures.turn c.requires.turn.root (c.child_ears.ensures.turn c.requires.turn.root c.requires.turn.turn)) in
     omega (arith, few, c.neighbour_ears.ensures.room.order)
 
+-- when x has its place in the order and the next one has left the waiting
+abbrev after_turn : goal.After-pop → Growing
+after_turn c = record c.neighbour_ears.new.growing { order = c.push_reserved.new.self; waiting = c.pop.new.self }
+
 pub returns-clause-onward : goal.returns-clause-onward
 returns-clause-onward c =
-    let growing = c.neighbour_ears.new.growing in
-    let after : Growing = record {
-      order = c.push_reserved.new.self;
-      waiting = c.pop.new.self;
-      listed = growing.listed;
-      places = growing.places;
-      marks = growing.marks;
-      added = growing.added;
-    } in
-    next_turn c.args.g.now c.args.tree.now c.args.x c.args.growing.now growing after c.pop.result
+    next_turn c.args.g.now c.args.tree.now c.args.x c.args.growing.now c.neighbour_ears.new.growing (after_turn c) c.pop.result
     (λ root turn. c.neighbour_ears.ensures.turn root (c.child_ears.ensures.turn root turn)) c.neighbour_ears.ensures.done
     c.push_reserved.ensures.items c.pop.ensures.items refl refl refl
 
 pub returns-clause-ended : goal.returns-clause-ended
 returns-clause-ended c =
-    let growing = c.neighbour_ears.new.growing in
-    let after : Growing = record {
-      order = c.push_reserved.new.self;
-      waiting = c.pop.new.self;
-      listed = growing.listed;
-      places = growing.places;
-      marks = growing.marks;
-      added = growing.added;
-    } in
-    no_turn c.args.g.now c.args.tree.now c.args.x c.args.growing.now growing after c.pop.result
+    no_turn c.args.g.now c.args.tree.now c.args.x c.args.growing.now c.neighbour_ears.new.growing (after_turn c) c.pop.result
     (λ root turn. c.neighbour_ears.ensures.turn root (c.child_ears.ensures.turn root turn)) c.neighbour_ears.ensures.done
     c.push_reserved.ensures.items (λ more. c.pop.ensures.variant.1 (omega (arith, more))) refl refl
 
