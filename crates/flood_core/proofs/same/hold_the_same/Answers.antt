@@ -1,22 +1,28 @@
-use Rattle.std.proofs.Common.{◌∙◌, ◌<◌, ◌≤◌, length, refl, sym, ap, arith}
+use Rattle.std.proofs.Common.{◌≡◌, ◌∙◌, ◌<◌, ◌≤◌, ℕ, List, length, get_or, refl, sym, ap, arith}
+use Rattle.std.specs.List.{AllByRecursion}
 use Rattle.std.proofs.lemmas.Bool.{true≢false}
 use Rattle.lsdb.specs.Orders.{without_place}
+use Rattle.ospf_lsa.specs.declared.lsa.Lsa.{Lsa}
 use Rattle.flood_core.specs.declared.held.Held.{Held}
+use Rattle.flood_core.specs.Numbers.{lsa_in}
 use Rattle.flood_core.proofs.Numbered.{all_at, lsa_read}
 use Rattle.flood_core.proofs.SameLsas.{one_differs, same_all, same_more}
 use Rattle.flood_core.proofs.same.hold_the_same.Goals as goal
+
+-- an LSA that a place of a store has, as it was read by its number
+lsa_at : (lsas : List Lsa) (held : List Held) (place : ℕ) (h : Held) (x : Lsa) → AllByRecursion (λ h. h.number < length lsas) held
+    → place < length held → h ≡ get_or held place h → x ≡ get_or lsas h.number x → x ≡ lsa_in lsas h.number
+lsa_at lsas held place h x numbers within there is =
+    lsa_read lsas h.number x (all_at (λ (h : Held). h.number < length lsas) held place h numbers within there) is
 
 pub returns-then-not-are_alike : goal.returns-then-not-are_alike
 returns-then-not-are_alike c =
     let within : c.loop-place.place < length c.args.store.now.held.items = omega arith in
     let within' : c.loop-place.place < length c.args.other.now.held.items = omega arith in
-    let one = lsa_read c.args.lsas.now c.index.result.now.number c.index-lsas-index.result
-    (all_at (λ (h : Held). h.number < length c.args.lsas.now) c.args.store.now.held.items c.loop-place.place
-    c.index.result.now c.requires.stored.numbers within c.index.ensures) c.index-lsas-index.is in
-    let other = lsa_read c.args.others.now c.index-in-loop-place.result.now.number c.index-others-index.result
-    (all_at (λ (h : Held). h.number < length c.args.others.now) c.args.other.now.held.items c.loop-place.place
-    c.index-in-loop-place.result.now c.requires.other_stored.numbers within' c.index-in-loop-place.ensures)
-    c.index-others-index.is in (
+    let one = lsa_at c.args.lsas.now c.args.store.now.held.items c.loop-place.place c.index.result.now c.index-lsas-index.result
+    c.requires.stored.numbers within c.index.ensures c.index-lsas-index.is in
+    let other = lsa_at c.args.others.now c.args.other.now.held.items c.loop-place.place c.index-in-loop-place.result.now
+    c.index-others-index.result c.requires.other_stored.numbers within' c.index-in-loop-place.ensures c.index-others-index.is in (
       λ is. absurd cc,
       λ all.
           absurd (true≢false
@@ -33,13 +39,10 @@ pub loop-place-preserved : goal.loop-place-preserved
 loop-place-preserved c =
     let within : c.loop-place.place < length c.args.store.now.held.items = omega arith in
     let within' : c.loop-place.place < length c.args.other.now.held.items = omega arith in
-    let one = lsa_read c.args.lsas.now c.index.result.now.number c.index-lsas-index.result
-    (all_at (λ (h : Held). h.number < length c.args.lsas.now) c.args.store.now.held.items c.loop-place.place
-    c.index.result.now c.requires.stored.numbers within c.index.ensures) c.index-lsas-index.is in
-    let other = lsa_read c.args.others.now c.index-in-loop-place.result.now.number c.index-others-index.result
-    (all_at (λ (h : Held). h.number < length c.args.others.now) c.args.other.now.held.items c.loop-place.place
-    c.index-in-loop-place.result.now c.requires.other_stored.numbers within' c.index-in-loop-place.ensures)
-    c.index-others-index.is in
+    let one = lsa_at c.args.lsas.now c.args.store.now.held.items c.loop-place.place c.index.result.now c.index-lsas-index.result
+    c.requires.stored.numbers within c.index.ensures c.index-lsas-index.is in
+    let other = lsa_at c.args.others.now c.args.other.now.held.items c.loop-place.place c.index-in-loop-place.result.now
+    c.index-others-index.result c.requires.other_stored.numbers within' c.index-in-loop-place.ensures c.index-others-index.is in
     same_more c.args.lsas.now c.args.others.now c.args.store.now.held.items c.args.other.now.held.items
     c.loop-place.place c.index.result.now c.index-in-loop-place.result.now c.loop-place.invariant within within'
     c.index.ensures c.index-in-loop-place.ensures
