@@ -1,15 +1,16 @@
 -- The row of a node for a destination has the links of its row for what it aims at.
-use Rattle.std.proofs.Common.{◌≡◌, ◌≢◌, ◌∙◌, ◌<◌, ℕ, Option, Some, length, refl, sym, ap, subst}
+use Rattle.std.proofs.Common.{◌≡◌, ◌≢◌, ◌∙◌, ◌<◌, ℕ, Option, Some, length, refl, sym, ap, subst, inl, inr}
+use Rattle.std.proofs.lemmas.Bool.{cases_eq}
 use Rattle.std.proofs.lemmas.Option.{same_Some}
 use Rattle.mrt_graph.specs.declared.cert.Row.{Row}
 use Rattle.mrt_graph.specs.declared.cert.Tag.{Tag}
 use Rattle.mrt_graph.specs.declared.cert.Tag.TheVariants as tags
+use Rattle.mrt_graph.specs.Related.{below_carrier}
 use Rattle.link_direction.specs.CommonBlock as two
 use Rattle.link_direction.specs.CommonBlock.{HaveCommonBlock}
 use Rattle.link_direction.specs.Directions.{Directions}
-use Rattle.mrt_rows.specs.RowLines.{CarriedLine, HasLinksFor, LineOf}
-use Rattle.mrt_rows.specs.RowsOf.{HasRow}
-use Rattle.mrt_rows.specs.Table.{carried}
+use Rattle.mrt_rows.specs.RowLines.{CarriedLine, LineOf}
+use Rattle.mrt_rows.specs.RowsOf.{HasRow, carried}
 use Rattle.mrt_rows.proofs.OneRow.{near_lines, row_same}
 use Rattle.mrt_rows.proofs.OrderedGraphs.{OrderedGraph}
 use Rattle.mrt_rows.proofs.Carriers.{below_other, below_root}
@@ -39,55 +40,32 @@ module _ (og : OrderedGraph) (s : ℕ) (s_within : s < length og.g.ids) (rows : 
   carried_line t row line apart =
       subst (λ (T : Tag). LineOf T og.g og.root og.w s rows t row) (carried_tag t row row.tag line apart) line
 
-  -- a row with the links of another one
-  pub record HasThese (t : ℕ) (near : Row) : Type 0 where
-    pub row : Row
-    pub is : rows t ≡ Some row
-    pub blue : row.blue ≡ near.blue
-    pub red : row.red ≡ near.red
-
-  linked : (t u : ℕ) (row near : Row) → rows t ≡ Some row → HasLinksFor rows u row → HasThese u near → HasThese t near
-  linked t u row near is x it =
-      let same = same_Some x.other it.row (sym x.is ∙ it.is) in
-      record {
-        row = row;
-        is = is;
-        blue = x.blue ∙ ap (λ (r : Row). r.blue) same ∙ it.blue;
-        red = x.red ∙ ap (λ (r : Row). r.red) same ∙ it.red;
-      }
-
-  pub links_carried : (t aim : ℕ) (near : Row) → t < length og.g.ids → s ≢ t → IsCarriedTo og.root og.w s t aim → rows aim ≡ Some near → HasThese t near
-  links_carried t aim near t_within apart (Near k h common same) at =
-      record { row = near; is = ap rows (sym same) ∙ at; blue = refl; red = refl }
-  links_carried t aim near t_within apart (FromHead none other rest) at =
+  -- then it is that for the carrier, carried
+  pub row_from : (t : ℕ) (other : Row) → t < length og.g.ids → s ≢ t → ((k h : ℕ) → HaveCommonBlock og.w s t k h → ⊥)
+      → rows (og.w.head (below_carrier og.root s t)) ≡ Some other → rows t ≡ carried (Some other)
+  row_from t other t_within apart none at =
       let it = has t t_within apart in
-      let line = carried_line t it.row it.line none in
-      linked t (og.w.head t) it.row near it.is (subst (λ (x : ℕ). HasLinksFor rows (og.w.head x) it.row) (below_other og.root s t other) line.carried)
-      (links_carried (og.w.head t) aim near (og.ordered.heads.head_within t t_within)
-      (λ same. none (og.w.block t) s (two.FromHead refl (sym same) refl)) rest at)
-  links_carried t aim near t_within apart (FromOwnHead none at_root same) at =
-      let it = has t t_within apart in
-      let line = carried_line t it.row it.line none in
-      linked t (og.w.head s) it.row near it.is (subst (λ (x : ℕ). HasLinksFor rows (og.w.head x) it.row) (below_root og.root s t at_root) line.carried)
-      (record { row = near; is = ap rows (sym same) ∙ at; blue = refl; red = refl })
+      let links = (carried_line t it.row it.line none).carried in
+      let same = same_Some links.other other (sym links.is ∙ at) in
+      it.is ∙ ap (λ (r : Row). Some r)
+      (row_same it.row (record { blue = other.blue; red = other.red; tag = tags.Carried }) (links.blue ∙ ap (λ (r : Row). r.blue) same)
+      (links.red ∙ ap (λ (r : Row). r.red) same) (carried_tag t it.row it.row.tag it.line none))
 
-  tag_far : (t aim : ℕ) → t < length og.g.ids → s ≢ t → aim ≢ t → IsCarriedTo og.root og.w s t aim → (row : Row) → rows t ≡ Some row → row.tag ≡ tags.Carried
-  tag_far t aim t_within apart differ (Near k h common same) row is = absurd (differ same)
-  tag_far t aim t_within apart differ (FromHead none other rest) row is =
-      let it = has t t_within apart in
-      ap (λ (r : Row). r.tag) (same_Some row it.row (sym is ∙ it.is)) ∙ carried_tag t it.row it.row.tag it.line none
-  tag_far t aim t_within apart differ (FromOwnHead none at_root same) row is =
-      let it = has t t_within apart in
-      ap (λ (r : Row). r.tag) (same_Some row it.row (sym is ∙ it.is)) ∙ carried_tag t it.row it.row.tag it.line none
-
-  -- the row is that for the aim, carried
+  -- and that for the aim, carried
   pub row_carried : (t aim : ℕ) (near : Row) → t < length og.g.ids → s ≢ t → aim ≢ t → IsCarriedTo og.root og.w s t aim → rows aim ≡ Some near
       → rows t ≡ carried (Some near)
-  row_carried t aim near t_within apart differ to at =
-      let it = links_carried t aim near t_within apart to at in
-      it.is ∙ ap (λ (r : Row). Some r)
-      (row_same it.row (record { blue = near.blue; red = near.red; tag = tags.Carried }) it.blue it.red
-      (tag_far t aim t_within apart differ to it.row it.is))
+  row_carried t aim near t_within apart differ (Near k h common same) at = absurd (differ same)
+  row_carried t aim near t_within apart differ (FromHead none other rest) at =
+      let by = ap (λ (x : ℕ). rows (og.w.head x)) (below_other og.root s t other) in
+      elim (cases_eq aim (og.w.head t)) [
+        | inl same ↦ row_from t near t_within apart none (by ∙ ap rows (sym same) ∙ at)
+        | inr further ↦
+            row_from t (record { blue = near.blue; red = near.red; tag = tags.Carried }) t_within apart none
+            (by ∙ row_carried (og.w.head t) aim near (og.ordered.heads.head_within t t_within)
+            (λ same. none (og.w.block t) s (two.FromHead refl (sym same) refl)) further rest at)
+      ]
+  row_carried t aim near t_within apart differ (FromOwnHead none at_root same) at =
+      row_from t near t_within apart none (ap (λ (x : ℕ). rows (og.w.head x)) (below_root og.root s t at_root) ∙ ap rows (sym same) ∙ at)
 
   -- and that for the aim is what the table says of two nodes with a common block
   pub row_near : (t k h : ℕ) (row : Row) → t < length og.g.ids → (apart : s ≢ t) → HaveCommonBlock og.w s t k h

@@ -5,8 +5,7 @@ use Rattle.mrt_graph.specs.declared.cert.Tag.TheVariants as tags
 use Rattle.mrt_rows.specs.NearOf.{Apart, InCommon, IsNearRow}
 use Rattle.mrt_rows.specs.Chain.{AreBelow, IsRowAim}
 use Rattle.mrt_rows.specs.ColumnOf.{IsRowIn}
-use Rattle.mrt_rows.specs.RowsOf.{HasRow}
-use Rattle.mrt_rows.specs.Table.{carried}
+use Rattle.mrt_rows.specs.RowsOf.{HasRow, carried}
 use Rattle.mrt_rows.proofs.CarriedRows.{row_carried, row_near}
 use Rattle.mrt_rows.proofs.ChainAims.{aim_near, aim_within, carried_to}
 use Rattle.mrt_rows.proofs.OrderedGraphs.{OrderedGraph}

@@ -1,82 +1,153 @@
--- A table on the way to the rows for all nodes, in the order of the nodes.
-use Rattle.std.proofs.Common.{◌≡◌, ◌≢◌, ◌∙◌, ◌<◌, ◌≤◌, ◌+◌, ◌-◌, ℕ, List, Option, Some, length, slice_get, refl, sym, ap, subst, inl, inr, arith}
-use Rattle.std.proofs.lemmas.Bool.{cases_eq}
-use Rattle.std.proofs.lemmas.Option.{same_Some, slice_get_within}
+-- The rows of a source for all other nodes, put in the order of these.
+use Rattle.std.proofs.Common.{◌≡◌, ◌≢◌, ◌∙◌, ◌<◌, ◌≤◌, ◌+◌, ◌-◌, ℕ, List, Option, Some, None, get_or, length, set, slice_get, unwrap_or, refl, sym, ap, subst, inl, inr, arith}
+use Rattle.std.specs.List.{remove}
+use Rattle.std.proofs.lemmas.Bool.{cases_eq, cases_lt, le-ltb, lt-ltb, ne_eqb}
+use Rattle.std.proofs.lemmas.List.Edits.{get_or-remove_above, get_or-remove_below, length-remove}
+use Rattle.std.proofs.lemmas.Option.{same_Some, slice_get-get_or, slice_get_within}
 use Rattle.mrt_graph.specs.declared.cert.Row.{Row}
-use Rattle.link_direction.specs.CommonBlock.{FromHead, ToHead}
+use Rattle.mrt_graph.specs.declared.cert.Tag.TheVariants as tags
+use Rattle.mrt_graph.specs.Related.{below_carrier}
+use Rattle.mrt_graph.proofs.ListPlaces.{set_elsewhere, set_there}
+use Rattle.link_direction.specs.CommonBlock.{FromHead, HaveCommonBlock}
 use Rattle.inc_dec_spf.specs.declared.reach.Dir.TheVariants.{Up}
 use Rattle.inc_dec_spf.specs.Turns.{AreTurns}
-use Rattle.mrt_rows.specs.Table.{IsIn, HasCarrier, IsTable, StayIn}
+use Rattle.mrt_rows.specs.ColumnOf.{IsRowIn}
+use Rattle.mrt_rows.specs.NearOf.{Apart, InCommon, IsNearRow}
+use Rattle.mrt_rows.specs.RowsOf.{AreRowsOf, carried, rows_for}
+use Rattle.mrt_rows.proofs.CarriedRows.{row_from, row_near}
+use Rattle.mrt_rows.proofs.Carriers.{below_other, below_root}
 use Rattle.mrt_rows.proofs.OrderedGraphs.{OrderedGraph}
-use Rattle.mrt_rows.proofs.Carriers.{at_below}
-
-pub stays_in : (table after : List (Option Row)) (t : ℕ) → StayIn table after → IsIn table t → IsIn after t
-stays_in table after t stay it = record { row = it.row; is = stay t it.row it.is }
+use Rattle.mrt_rows.proofs.WholeCert.{each_has, each_row, line_moved}
 
 module _ (og : OrderedGraph) (s : ℕ) (s_within : s < length og.g.ids) where
-  -- the table once so many nodes have had their turns
-  pub record IsFilling (nodes : List ℕ) (count : ℕ) (table : List (Option Row)) : Type 0 where
-    pub table_is : IsTable og.g og.root og.w s table
-    pub home : s ≢ og.root → IsIn table (og.w.head s)
-    pub over : (j v : ℕ) → j < count → slice_get nodes j ≡ Some v → s ≢ v → IsIn table v
+  -- the nodes that have had their turns have their rows
+  pub record IsFilling (nodes : List ℕ) (count : ℕ) (rows : List Row) : Type 0 where
+    pub over : (j v : ℕ) → j < count → slice_get nodes j ≡ Some v → s ≢ v → IsRowIn og.g og.root og.w s v (slice_get rows v)
 
-  -- a row put into it
-  pub record Put (t : ℕ) (table after : List (Option Row)) : Type 0 where
-    pub stay : StayIn table after
-    pub table_is : IsTable og.g og.root og.w s table → IsTable og.g og.root og.w s after
-    pub there : HasCarrier og.root og.w s t table → s ≢ t → IsIn after t
-
-  -- the row for the head of s is never carried
-  home_ready : (table : List (Option Row)) → HasCarrier og.root og.w s (og.w.head s) table
-  home_ready table = record {
-    from = λ apart. absurd (apart (og.w.block s) (og.w.head s) (ToHead refl refl refl));
+  -- a near row is the row
+  near_in : (t : ℕ) (row : Row) → t < length og.g.ids → s ≢ t → IsNearRow og.g og.root og.w s t (Some row)
+      → IsRowIn og.g og.root og.w s t (Some row)
+  near_in t row t_within two (InCommon row' k h common own) = record {
+    row = row;
+    is = refl;
+    each = λ rows has. row_near og s s_within rows has t k h row t_within two common (own.line rows);
   }
 
-  pub filling_begun : (nodes : List ℕ) (table after : List (Option Row)) → IsTable og.g og.root og.w s table
-      → Put (og.w.head s) table after → IsFilling nodes 0 after
-  filling_begun nodes table after was put = record {
-    table_is = put.table_is was;
-    home = λ other.
-        let lower = og.ordered.heads.lower s s_within other in
-        put.there (home_ready table) (λ same. omega (arith, lower, ap og.w.order same));
-    over = λ j v below. absurd (omega (arith, below));
-  }
+  home_in : (home : Row) → s ≢ og.root → IsNearRow og.g og.root og.w s (og.w.head s) (Some home)
+      → IsRowIn og.g og.root og.w s (og.w.head s) (Some home)
+  home_in home other near =
+      near_in (og.w.head s) home (og.ordered.heads.head_within s s_within)
+      (λ same. omega (arith, og.ordered.heads.lower s s_within other, ap og.w.order same)) near
 
-  -- the rows that one may be carried from are there
-  module _ (nodes : List ℕ) (turns : AreTurns og.g og.w Up nodes) where
-    ready_at : (i v : ℕ) (table : List (Option Row)) → slice_get nodes i ≡ Some v → s ≢ v → IsFilling nodes i table
-        → HasCarrier og.root og.w s v table
-    ready_at i v table at two filling = record {
-      from = λ apart. at_below (λ (x : ℕ). IsIn table (og.w.head x)) og.root s v (λ other.
-          let v_within = turns.within i v at in
-          let lower = og.ordered.heads.lower v v_within other in
-          let head_within = og.ordered.heads.head_within v v_within in
-          let place = turns.by_turn i v at in
-          let low = og.ordered.orders.from_one (og.w.head v) head_within in
-          filling.over (og.w.order (og.w.head v) - 1) (og.w.head v) (omega (arith, place, lower, low))
-          (turns.of_each (og.w.head v) head_within)
-          (λ same. apart (og.w.block v) s (FromHead refl (sym same) refl)))
-          (λ at_root. filling.home (λ s_root. two (s_root ∙ sym at_root)));
-    }
+  -- and where there is none, that for the carrier, carried
+  row_or : (t : ℕ) (o near : Option Row) (from : Row) → t < length og.g.ids → s ≢ t → IsNearRow og.g og.root og.w s t near
+      → Some from ≡ carried o
+      → (((k h : ℕ) → ¬ HaveCommonBlock og.w s t k h) → IsRowIn og.g og.root og.w s (og.w.head (below_carrier og.root s t)) o)
+      → IsRowIn og.g og.root og.w s t (Some (unwrap_or near from))
+  row_or t o (Some row) from t_within two near made far = near_in t row t_within two near
+  row_or t o None from t_within two (Apart apart) made far =
+      let it = far apart in
+      record {
+        row = from;
+        is = refl;
+        each = λ rows has.
+            row_from og s s_within rows has t it.row t_within two apart (it.each rows has) ∙ ap carried (sym it.is) ∙ sym made;
+      }
 
-    pub filling_on : (i v : ℕ) (table after : List (Option Row)) → slice_get nodes i ≡ Some v → IsFilling nodes i table
-        → Put v table after → IsFilling nodes (i + 1) after
-    filling_on i v table after at filling put = record {
-      table_is = put.table_is filling.table_is;
-      home = λ other. stays_in table after (og.w.head s) put.stay (filling.home other);
+  module _ (nodes : List ℕ) (turns : AreTurns og.g og.w Up nodes) (i v : ℕ) (at : slice_get nodes i ≡ Some v) (rows : List Row)
+      (filling : IsFilling nodes i rows) where
+    -- the source has no row for itself
+    pub filling_past : s ≡ v → IsFilling nodes (i + 1) rows
+    filling_past same = record {
       over = λ j u below at_j two. elim (cases_eq j i) [
-        | inl same ↦
-            let one : u ≡ v = same_Some u v (sym at_j ∙ subst (λ (x : ℕ). slice_get nodes x ≡ Some v) (sym same) at) in
-            let differ : s ≢ v = λ back. two (back ∙ sym one) in
-            subst (λ (x : ℕ). IsIn after x) (sym one) (put.there (ready_at i v table at differ filling) differ)
-        | inr other ↦
-            stays_in table after u put.stay (filling.over j u (omega (arith, below, other)) at_j two)
+        | inl here ↦ absurd (two (same ∙ same_Some v u (sym at ∙ ap (slice_get nodes) (sym here) ∙ at_j)))
+        | inr other ↦ filling.over j u (omega (arith, below, other)) at_j two
       ];
     }
 
-    pub filled : (count : ℕ) (table : List (Option Row)) → length nodes ≤ count → IsFilling nodes count table → (t : ℕ)
-        → t < length og.g.ids → s ≢ t → IsIn table t
-    filled count table all filling t t_within two =
-        let at = turns.of_each t t_within in
-        filling.over (og.w.order t - 1) t
-        (omega (arith, slice_get_within nodes (og.w.order t - 1) t at, all)) at two
+    -- the row for v
+    module _ (two : s ≢ v) (home from : Row) (near : Option Row) (is : IsNearRow og.g og.root og.w s v near)
+        (is_home : s ≢ og.root → IsNearRow og.g og.root og.w s (og.w.head s) (Some home))
+        (at_root : v ≡ og.root → Some from ≡ carried (Some home))
+        (elsewhere : v ≢ og.root → Some from ≡ carried (slice_get rows (og.w.head v))) where
+      row_for : IsRowIn og.g og.root og.w s v (Some (unwrap_or near from))
+      row_for = elim (cases_eq v og.root) [
+        | inl same ↦
+            row_or v (Some home) near from v_within two is (at_root same)
+            (λ apart. subst (λ (x : ℕ). IsRowIn og.g og.root og.w s (og.w.head x) (Some home)) (sym (below_root og.root s v same))
+            (let other : s ≢ og.root = λ s_root. two (s_root ∙ sym same) in home_in home other (is_home other)))
+        | inr other ↦
+            row_or v (slice_get rows (og.w.head v)) near from v_within two is (elsewhere other)
+            (λ apart. subst (λ (x : ℕ). IsRowIn og.g og.root og.w s (og.w.head x) (slice_get rows (og.w.head v)))
+            (sym (below_other og.root s v other)) (head_in other (λ same. apart (og.w.block v) s (FromHead refl (sym same) refl))))
+      ]
+        where
+          v_within : v < length og.g.ids
+          v_within = turns.within i v at
+
+          head_in : v ≢ og.root → s ≢ og.w.head v → IsRowIn og.g og.root og.w s (og.w.head v) (slice_get rows (og.w.head v))
+          head_in other apart =
+              let head_within = og.ordered.heads.head_within v v_within in
+              filling.over (og.w.order (og.w.head v) - 1) (og.w.head v)
+              (omega (arith, turns.by_turn i v at, og.ordered.heads.lower v v_within other, og.ordered.orders.from_one (og.w.head v) head_within))
+              (turns.of_each (og.w.head v) head_within) apart
+
+      pub filling_on : length rows ≡ length og.g.ids → IsFilling nodes (i + 1) (set rows v (unwrap_or near from))
+      filling_on one_each = record {
+        over = λ j u below at_j apart. elim (cases_eq u v) [
+          | inl same ↦
+              subst (λ (x : ℕ). IsRowIn og.g og.root og.w s x (slice_get (set rows v (unwrap_or near from)) x)) (sym same)
+              (subst (λ (o : Option Row). IsRowIn og.g og.root og.w s v o)
+              (sym (set_there rows v (unwrap_or near from) (omega (arith, turns.within i v at, one_each)))) row_for)
+          | inr other ↦
+              let later : j ≢ i = λ here. other (same_Some u v (sym at_j ∙ ap (slice_get nodes) here ∙ at)) in
+              subst (λ (o : Option Row). IsRowIn og.g og.root og.w s u o) (sym (set_elsewhere rows v u (unwrap_or near from) other))
+              (filling.over j u (omega (arith, below, later)) at_j apart)
+        ];
+      }
+
+  -- all have had their turns
+  pub filled : (nodes : List ℕ) → AreTurns og.g og.w Up nodes → (count : ℕ) (rows : List Row) → length nodes ≤ count → IsFilling nodes count rows
+      → (t : ℕ) → t < length og.g.ids → s ≢ t → IsRowIn og.g og.root og.w s t (slice_get rows t)
+  filled nodes turns count rows all filling t t_within two =
+      let at = turns.of_each t t_within in
+      filling.over (og.w.order t - 1) t (omega (arith, slice_get_within nodes (og.w.order t - 1) t at, all)) at two
+
+-- the rows by destination, without the place of the source
+abbrev no_row : Row
+no_row = record { blue = 0; red = 0; tag = tags.Carried }
+
+for_removed : (s t : ℕ) (rows : List Row) → s < length rows → t < length rows → s ≢ t → rows_for s (remove rows s) t ≡ slice_get rows t
+for_removed s t rows s_within t_within two = elim (cases_lt t s) [
+  | inl below ↦
+      rw (ne_eqb t s (λ same. two (sym same)), lt-ltb t s below)
+      (slice_get-get_or (remove rows s) t no_row (omega (arith, below, s_within, length-remove rows s s_within))
+      ∙ ap (λ (row : Row). Some row) (get_or-remove_below rows s no_row t below s_within) ∙ sym (slice_get-get_or rows t no_row t_within))
+  | inr above ↦
+      let next : t - 1 + 1 ≡ t = omega (arith, above, two) in
+      rw (ne_eqb t s (λ same. two (sym same)), le-ltb t s above)
+      (slice_get-get_or (remove rows s) (t - 1) no_row (omega (arith, above, two, t_within, length-remove rows s s_within))
+      ∙ ap (λ (row : Row). Some row) (get_or-remove_above rows s no_row (t - 1) (omega (arith, above, two)) s_within
+      ∙ ap (λ (k : ℕ). get_or rows k no_row) next)
+      ∙ sym (slice_get-get_or rows t no_row t_within))
+]
+
+pub rows_removed : (og : OrderedGraph) (s : ℕ) (rows : List Row) → s < length og.g.ids → length rows ≡ length og.g.ids
+    → ((t : ℕ) → t < length og.g.ids → s ≢ t → IsRowIn og.g og.root og.w s t (slice_get rows t))
+    → AreRowsOf og.g og.root og.w s (remove rows s)
+rows_removed og s rows s_within one_each each = record {
+  one_each = length-remove rows s (omega (arith, s_within, one_each)) ∙ one_each;
+  each = λ t t_within two.
+      let it = each_has og s t s_within t_within two in
+      record {
+        row = it.row;
+        is = found t t_within two ∙ it.is;
+        line = line_moved og it.row.tag s t (each_row og s) (rows_for s (remove rows s)) it.row s_within t_within two found it.line;
+      };
+}
+  where
+    found : (t : ℕ) → t < length og.g.ids → s ≢ t → rows_for s (remove rows s) t ≡ each_row og s t
+    found t t_within two =
+        let it = each t t_within two in
+        for_removed s t rows (omega (arith, s_within, one_each)) (omega (arith, t_within, one_each)) two
+        ∙ it.is ∙ sym (it.each (each_row og s) (λ u within apart. each_has og s u s_within within apart))

@@ -43,8 +43,6 @@ pub mod SoleBlocks
 pub mod SoleRows
 pub mod SoundColumns
 pub mod SourceCert
-pub mod TableRows
-pub mod Tables
 pub mod WayAims
 pub mod Ways
 pub mod WaysBegun

@@ -1,5 +1,6 @@
 -- The near rows of a source, one destination after another.
-use Rattle.std.proofs.Common.{◌≡◌, ◌≢◌, ◌∙◌, ◌<◌, ◌+◌, ◌++◌, ℕ, zero, suc, true, List, [], ◌∷◌, Option, Some, None, length, not, set, slice_get, take, get_or, refl, sym, ap, subst, arith, append-nil}
+use Rattle.std.proofs.Common.{◌≡◌, ◌≢◌, ◌∙◌, ◌<◌, ◌+◌, ◌++◌, ◌==◌, ℕ, Bool, false, zero, suc, true, List, [], ◌∷◌, Option, Some, None, length, not, set, slice_get, take, get_or, refl, sym, ap, subst, arith, append-nil, inl, inr}
+use Rattle.std.proofs.lemmas.Bool.{cases_eq, ne_eqb}
 use Rattle.std.proofs.lemmas.Option.{slice_get_read}
 use Rattle.mrt_graph.specs.declared.cert.Row.{Row}
 use Rattle.mrt_graph.specs.declared.cert.Tag.{Tag}
@@ -84,6 +85,13 @@ own_found s rows room found t same none so_far =
     let next : suc t ≡ t + 1 = omega arith in
     so_far ∙ sym (append-nil (near_first rows t)) ∙ ap (λ (xs : List Row). near_first rows t ++ xs) (sym (ap near_in (ap rows same ∙ none)))
     ∙ ap (near_first rows) next
+
+-- two nodes that do not differ
+pub same_by : (a b : ℕ) (differ : Bool) → differ ≡ not (a == b) → differ ≡ false → a ≡ b
+same_by a b differ is fails = elim (cases_eq a b) [
+  | inl same ↦ same
+  | inr other ↦ let yes : differ ≡ true = rw (ne_eqb a b other) at is in absurd (cc)
+]
 
 -- what was read at a place
 pub read_at : (xs : List ℕ) (i at x : ℕ) → i < length xs → at ≡ i → x ≡ get_or xs at x → slice_get xs i ≡ Some x

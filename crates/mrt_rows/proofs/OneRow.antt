@@ -12,6 +12,7 @@ use Rattle.mrt_rows.specs.RowLines.{AreMembers, BeginsOver, CarriedLine, HasLink
 use Rattle.mrt_rows.specs.RowsOf.{HasRow}
 use Rattle.mrt_rows.proofs.LinesHold.{head_of_source, head_of_target}
 use Rattle.mrt_rows.proofs.OneHop.{one_link, way_or_none}
+use Rattle.mrt_rows.proofs.Sharing.{none_of_share}
 use Rattle.mrt_rows.proofs.OrderedGraphs.{OrderedGraph, one_common, peers_not_head}
 use Rattle.mrt_rows.proofs.Carriers.{at_below}
 use Rattle.mrt_graph.specs.Related.{below_carrier}
@@ -24,10 +25,7 @@ module _ (og : OrderedGraph) (s t : ℕ) (s_within : s < length og.g.ids) (t_wit
   -- no two lines are met at once
   one_or_more : (k h j i link : ℕ) → HaveCommonBlock og.w s t k h → HasOneLink og.g og.w k link
       → HaveCommonBlockOfMore og.g og.w s t j i → ⊥
-  one_or_more k h j i link common one shares =
-      let same = one_common og s t j i k h s_within t_within two shares.common common in
-      shares.more.differ (one.no_other shares.more.one shares.more.one_within (shares.more.one_in_block ∙ same.0)
-      ∙ sym (one.no_other shares.more.other shares.more.other_within (shares.more.other_in_block ∙ same.0)))
+  one_or_more k h j i link common one shares = none_of_share og s t s_within t_within two j i shares k h link common one
 
   head_or_top : (k h j i : ℕ) → HaveCommonBlockOfMore og.g og.w s t k h → t ≡ h → HaveCommonBlockOfMore og.g og.w s t j i → s ≡ i → ⊥
   head_or_top k h j i one t_head other s_head =

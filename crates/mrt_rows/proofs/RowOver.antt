@@ -39,40 +39,31 @@ module _ (og : OrderedGraph) (s t : ℕ) (s_within : s < length og.g.ids) (t_wit
       none link (subst (λ (x : ℕ). HasOneLink og.g og.w x link)
       (one_common og s t k i (og.w.block m) h s_within t_within two other common).0 one)
 
+  -- over a sole link, or by the first links, where m is the one that lies in the block
+  over_end : (m h sole : ℕ) (row other : Row) → m < length og.g.ids → m ≢ og.root → HaveCommonBlock og.w s t (og.w.block m) h
+      → IsSoleOf og.g og.w m sole → (sole ≢ no_link → row ≡ sole_of sole) → (sole ≡ no_link → row ≡ other)
+      → (NoneOfOneLink og.g og.w s t → AreInCommonBlockOfMore og.g og.w s t → IsOwnRow og.g og.root og.w s t other)
+      → IsNearRow og.g og.root og.w s t (Some row)
+  over_end m h sole row other within not_root common is by_sole by_links own =
+      InCommon row (og.w.block m) h common (elim (cases_eq sole no_link) [
+        | inl none ↦
+            let more = no_sole m h common (is.none none) in
+            let ring = ring_by og s t s_within t_within two more m h within not_root common in
+            subst (λ (r : Row). IsOwnRow og.g og.root og.w s t r) (sym (by_links none))
+            (own more (record { block = og.w.block m; head = h; share = record { two = two; common = common; more = more_of og m ring } }))
+        | inr some ↦
+            subst (λ (r : Row). IsOwnRow og.g og.root og.w s t r) (sym (by_sole some))
+            (record { line = λ rows. record { block = og.w.block m; head = h; common = common; one_link = is.sole some; red = refl } })
+      ])
+
   pub over_head : (sole : ℕ) (row : Row) → og.w.head s ≡ t → IsSoleOf og.g og.w s sole → (sole ≢ no_link → row ≡ sole_of sole)
       → (sole ≡ no_link → row ≡ record { blue = up; red = down; tag = tags.Head }) → IsNearRow og.g og.root og.w s t (Some row)
   over_head sole row head is by_sole by_links =
-      InCommon row (og.w.block s) t common (elim (cases_eq sole no_link) [
-        | inl none ↦
-            let more = no_sole s t common (is.none none) in
-            let ring = ring_by og s t s_within t_within two more s t s_within (has_head og s t two head) common in
-            let shares : AreInCommonBlockOfMore og.g og.w s t =
-            record { block = og.w.block s; head = t; share = record { two = two; common = common; more = more_of og s ring } } in
-            subst (λ (r : Row). IsOwnRow og.g og.root og.w s t r) (sym (by_links none))
-            (head_row og s t s_within t_within two more up down (is_up shares) (is_down shares) head)
-        | inr some ↦
-            subst (λ (r : Row). IsOwnRow og.g og.root og.w s t r) (sym (by_sole some))
-            (record { line = λ rows. record { block = og.w.block s; head = t; common = common; one_link = is.sole some; red = refl } })
-      ])
-    where
-      common : HaveCommonBlock og.w s t (og.w.block s) t
-      common = ToHead refl head refl
+      over_end s t sole row (record { blue = up; red = down; tag = tags.Head }) s_within (has_head og s t two head) (ToHead refl head refl) is by_sole by_links
+      (λ more shares. head_row og s t s_within t_within two more up down (is_up shares) (is_down shares) head)
 
   pub over_top : (sole : ℕ) (row : Row) → og.w.head t ≡ s → IsSoleOf og.g og.w t sole → (sole ≢ no_link → row ≡ sole_of sole)
       → (sole ≡ no_link → row ≡ record { blue = up; red = down; tag = tags.Top }) → IsNearRow og.g og.root og.w s t (Some row)
   over_top sole row head is by_sole by_links =
-      InCommon row (og.w.block t) s common (elim (cases_eq sole no_link) [
-        | inl none ↦
-            let more = no_sole t s common (is.none none) in
-            let ring = ring_by og s t s_within t_within two more t s t_within (has_head og t s (λ same. two (sym same)) head) common in
-            let shares : AreInCommonBlockOfMore og.g og.w s t =
-            record { block = og.w.block t; head = s; share = record { two = two; common = common; more = more_of og t ring } } in
-            subst (λ (r : Row). IsOwnRow og.g og.root og.w s t r) (sym (by_links none))
-            (top_row og s t s_within t_within two more up down (is_up shares) (is_down shares) head)
-        | inr some ↦
-            subst (λ (r : Row). IsOwnRow og.g og.root og.w s t r) (sym (by_sole some))
-            (record { line = λ rows. record { block = og.w.block t; head = s; common = common; one_link = is.sole some; red = refl } })
-      ])
-    where
-      common : HaveCommonBlock og.w s t (og.w.block t) s
-      common = FromHead refl head refl
+      over_end t s sole row (record { blue = up; red = down; tag = tags.Top }) t_within (has_head og t s (λ same. two (sym same)) head) (FromHead refl head refl)
+      is by_sole by_links (λ more shares. top_row og s t s_within t_within two more up down (is_up shares) (is_down shares) head)

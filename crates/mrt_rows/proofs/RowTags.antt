@@ -1,5 +1,5 @@
 -- The tag of a row of a node for another one of its block: by the paths between the two.
-use Rattle.std.proofs.Common.{◌≡◌, ◌≢◌, ◌⊎◌, ◌∙◌, ℕ, ◌∷◌, Option, refl, sym, inl, inr, arith}
+use Rattle.std.proofs.Common.{◌≡◌, ◌≢◌, ◌⊎◌, ◌∙◌, ℕ, ◌∷◌, Option, refl, inl, inr, arith}
 use Rattle.mrt_graph.specs.declared.cert.Row.{Row}
 use Rattle.mrt_graph.specs.declared.cert.Tag.{Tag}
 use Rattle.mrt_graph.specs.declared.cert.Tag.TheVariants as tags
@@ -7,7 +7,8 @@ use Rattle.inc_dec_spf.specs.declared.reach.Dir.{Dir}
 use Rattle.inc_dec_spf.specs.declared.reach.Dir.TheVariants.{Down, Up}
 use Rattle.inc_dec_spf.specs.LeastPath.{HaveCommonBlockOfMore}
 use Rattle.mrt_rows.specs.RowLines.{LineOf, SoleLine}
-use Rattle.mrt_rows.proofs.OrderedGraphs.{OrderedGraph, one_common, within}
+use Rattle.mrt_rows.proofs.OrderedGraphs.{OrderedGraph, one_common}
+use Rattle.mrt_rows.proofs.Sharing.{none_of_share}
 use Rattle.mrt_rows.proofs.Ways.{Inside, Ring, Way, down_falls, not_head, up_rises}
 use Rattle.mrt_rows.proofs.WaysBegun.{Sharing, WayOver, no_way, peers, share, way_over}
 
@@ -30,17 +31,7 @@ module _ (og : OrderedGraph) (m : ℕ) (ring : Ring og m) (s t : ℕ) (source : 
 
   not_sole : (row : Row) → SoleLine og.g og.w s t row → ⊥
   not_sole row line =
-      let same =
-      one_common og s t line.block line.head (og.w.block m) (og.w.head m) source.within target.within two line.common
-      sharing.common in
-      let closing =
-      line.one_link.no_other ring.closed.link
-      (within og.g ring.closed.link ring.closed.greatest (og.w.head m) og.kept ring.closed.over.leads_on).link
-      (ring.closed.over.in_block ∙ sym same.0) in
-      let another =
-      line.one_link.no_other ring.closed.another ring.closed.another_within
-      (ring.closed.another_in_block ∙ sym same.0) in
-      ring.closed.another_link (another ∙ sym closing)
+      none_of_share og s t source.within target.within two (og.w.block m) (og.w.head m) shared line.block line.head row.blue line.common line.one_link
 
   same_head : (k h : ℕ) → HaveCommonBlockOfMore og.g og.w s t k h → h ≡ og.w.head m
   same_head k h shares =

@@ -16,4 +16,3 @@ pub mod RowsFound
 pub mod RowsOf
 pub mod RowsTo
 pub mod Source
-pub mod Table

@@ -1,9 +1,8 @@
 -- What makes the rows of a graph from a root, source after source.
-use Rattle.std.specs.Prelude.{◌≡◌, ◌<◌, ℕ, length}
+use Rattle.std.specs.Prelude.{◌≡◌, ◌<◌, ℕ, List, length}
 use Rattle.mrt_graph.specs.DirectedLists.{DirectedLists}
 use Rattle.mrt_graph.specs.Topology.{Topology}
 use Rattle.link_direction.specs.Directions.{Directions, Says}
-use Rattle.inc_dec_spf.specs.declared.reach.Dir.{Dir}
 use Rattle.inc_dec_spf.specs.declared.reach.Dir.TheVariants.{Down, Up}
 use Rattle.inc_dec_spf.specs.Fan.{IsOpen}
 use Rattle.inc_dec_spf.specs.FanEntries.{FanEntries}
@@ -13,27 +12,31 @@ use Rattle.mrt_rows.specs.DirectedFrom.{IsDirectedFrom}
 use Rattle.mrt_rows.specs.NearOf.{AreSoles}
 use Rattle.mrt_rows.specs.RowsFound.{RowsFound}
 
--- a fan of the graph has so many sources, and is open from the nodes from one number on
-pub record IsFanFrom (g : Topology) (w : Directions) (dir : Dir) (places first : ℕ) (fan : FanEntries) : Type 0 where
+-- a fan of the graph has so many sources
+pub record IsFanOf (g : Topology) (places : ℕ) (fan : FanEntries) : Type 0 where
   pub nodes : fan.nodes ≡ length g.ids
   pub width : fan.width ≡ places
-  pub is_open : IsOpen g w dir first fan
 
--- what is held between two sources: the nodes by their turns, the sole links, room for the links to each node, and two
--- fans, which are open from the nodes from one number on
-pub record AreFans (g : Topology) (w : Directions) (held : Making) : Type 0 where
-  pub by_order : AreTurns g w Up held.by_order.items
-  pub against_order : AreTurns g w Down held.against_order.items
-  pub soles : AreSoles g w held.links.soles.items
-  pub up : IsFanFrom g w Up held.width held.first held.up
-  pub down : IsFanFrom g w Down held.width held.first held.down
-  pub one_up_each : length held.links.up.items ≡ length g.ids
-  pub one_down_each : length held.links.down.items ≡ length g.ids
+-- by these directions: the nodes by their turns, the sole links, and two fans, which are open from the nodes from one number
+-- on
+pub record AreFans (g : Topology) (w : Directions) (first : ℕ) (nodes back sole_links : List ℕ) (ups downs : FanEntries) : Type 0 where
+  pub by_order : AreTurns g w Up nodes
+  pub against_order : AreTurns g w Down back
+  pub soles : AreSoles g w sole_links
+  pub up : IsOpen g w Up first ups
+  pub down : IsOpen g w Down first downs
 
--- this makes the links of each source, some sources side by side: by the directions, and by what is held between sources
+-- this makes the links of each source, some sources side by side: two fans, room for the links to each node, and by the
+-- directions, what is held between sources
 pub record MakeLinks (g : Topology) (d : DirectedLists) (held : Making) : Type 0 where
   pub some : 0 < held.width
-  pub fans : (w : Directions) → Says g d w → AreFans g w held
+  pub up : IsFanOf g held.width held.up
+  pub down : IsFanOf g held.width held.down
+  pub one_up_each : length held.links.up.items ≡ length g.ids
+  pub one_down_each : length held.links.down.items ≡ length g.ids
+  pub one_sole_each : length held.links.soles.items ≡ length g.ids
+  pub fans : (w : Directions) → Says g d w
+      → AreFans g w held.first held.by_order.items held.against_order.items held.links.soles.items held.up held.down
 
 -- so many sources are taken side by side
 abbrev pub sources : ℕ

@@ -21,7 +21,6 @@ mod rows_law;
 mod rows_to;
 mod soles;
 mod source_rows;
-mod table;
 mod words;
 
 pub use certificate::compute;

@@ -1,14 +1,21 @@
 //! The rows of one node.
 
-ghost use Rattle.std.specs.Prelude.{◌≡◌, ◌<◌, IfOk, length};
+ghost use Rattle.std.specs.Prelude.{◌≡◌, ◌≢◌, ◌<◌, ℕ, IfOk, Some, length, slice_get};
+ghost use Rattle.mrt_graph.specs.declared.cert.Row.{Row};
 ghost use Rattle.link_direction.specs.Directions.{Directions, Says};
 ghost use Rattle.link_direction.specs.OrderedGadag.{SaysOrdered};
-ghost use Rattle.mrt_rows.specs.RowsOf.{AreRowsOf};
-ghost use Rattle.mrt_rows.specs.Table.{rows_in};
+ghost use Rattle.inc_dec_spf.specs.declared.reach.Dir.TheVariants.{Up};
+ghost use Rattle.inc_dec_spf.specs.HasDirections.{AreDirections, HasDirections};
+ghost use Rattle.inc_dec_spf.specs.Turns.{AreTurns};
+ghost use Rattle.mrt_rows.specs.ColumnOf.{IsRowIn};
+ghost use Rattle.mrt_rows.specs.FirstLinks.{AreFirstLinks};
+ghost use Rattle.mrt_rows.specs.RowsOf.{AreRowsOf, carried};
 
+use crate::first_links::FirstLinks;
 use crate::making::Making;
-use crate::table::fill;
-use mrt_graph::{Directed, Graph, NoMemory, NodeNo, Row};
+use crate::row_over::{end_row, row_home, row_to, source_of};
+use inc_dec_spf::NO_LINK;
+use mrt_graph::{Directed, Graph, LinkNo, NoMemory, NodeNo, Row, Tag};
 use std::alloc::Global;
 
 /// The rows of `source` for all other nodes, by ascending destination.
@@ -29,21 +36,59 @@ pub fn rows_of(
     let count = g.node_count() as usize;
     let mut making = Making::new(alloc, g, d, 1)?;
     making.take_links(g, d, source);
-    let mut table = vec![in alloc; None; count]?;
-    fill(g, root, d, &making.by_order, &making.links, &mut table);
-    let rows = rows_in(alloc, &table)?;
+    let none = LinkNo::new(NO_LINK);
+    let no_row = end_row(none, none, none, Tag::Carried);
+    let mut rows = vec![in alloc; no_row; count]?;
+    put_rows(g, root, d, &making.by_order, &making.links, &mut rows);
+    rows.remove(source.get() as usize);
     Ok(rows)
 }
 
-/// The rows of a table, in its order.
-fn rows_in(alloc: Global, table: &[Option<Row>]) -> Result<Vec<Row>, NoMemory>
-    ensures { IfOk result (λ rows. rows.items ≡ rows_in table.now) }
+/// Puts the rows of a source for all other nodes, each at the place of its destination.
+///
+/// A row may be carried from the row for its destination's head, which has a lower order; and the row for the root from
+/// that for the head of the source.
+fn put_rows(
+    g: &Graph,
+    root: NodeNo,
+    d: &Directed,
+    nodes: &[NodeNo],
+    links: &FirstLinks,
+    rows: &mut [Row],
+)
+    requires links { AreFirstLinks g.now d.now links.now }
+    requires nodes { (from : ℕ) (w : Directions) → AreDirections g.now d.now from w
+        → AreTurns g.now w Up nodes.now }
+    requires one_each { length rows.old ≡ length g.now.ids }
+    ensures one_each { length rows.new ≡ length g.now.ids }
+    ensures rows { (w : Directions) (t : ℕ) → AreDirections g.now d.now root w → t < length g.now.ids
+        → links.now.source ≢ t → IsRowIn g.now root w links.now.source t (slice_get rows.new t) }
 {
-    let mut rows = Vec::with_capacity(alloc, table.len())?;
-    for row in table {
-        if let Some(row) = row {
-            rows.push_reserved(*row);
+    let source = source_of(g, d, links);
+    let home = row_home(&source);
+    for t in nodes {
+        if *t != links.source {
+            let from = carried_from(g, root, d, &home, *t, rows);
+            let near = row_to(g, d, links, &source, *t);
+            rows[t.get() as usize] = near.unwrap_or(from);
         }
     }
-    Ok(rows)
+}
+
+/// The row for `t` as it is carried: from that for the head of `t` or, where it is the root, from the row home.
+fn carried_from(g: &Graph, root: NodeNo, d: &Directed, home: &Row, t: NodeNo, rows: &[Row]) -> Row
+    requires directed { HasDirections g.now d.now }
+    requires target { t < length g.now.ids }
+    requires one_each { length rows.now ≡ length g.now.ids }
+    ensures at_root { t ≡ root → Some result ≡ carried (Some home.now) }
+    ensures elsewhere { (from : ℕ) (w : Directions) → AreDirections g.now d.now from w → t ≢ root
+        → Some result ≡ carried (slice_get rows.now (w.head t)) }
+{
+    let head = d.place(t).head.get() as usize;
+    let row = if t == root { *home } else { rows[head] };
+    Row {
+        blue: row.blue,
+        red: row.red,
+        tag: Tag::Carried,
+    }
 }

@@ -1,6 +1,6 @@
 //! The rows of one node for the nodes with which it has a block in common.
 
-ghost use Rattle.std.specs.Prelude.{◌≡◌, ◌≢◌, ◌<◌, ◌≤◌, ℕ, Option, None, Some, length, slice_get, take};
+ghost use Rattle.std.specs.Prelude.{◌≡◌, ◌≢◌, ◌<◌, ◌≤◌, ℕ, Option, None, Some, length, take};
 ghost use Rattle.mrt_graph.specs.declared.cert.Row.{Row};
 ghost use Rattle.mrt_graph.specs.declared.cert.Tag.TheVariants.{Sole};
 ghost use Rattle.mrt_graph.specs.GraphInvariant.{IsTopology};
@@ -70,20 +70,8 @@ pub fn end_row(sole: LinkNo, blue: LinkNo, red: LinkNo, tag: Tag) -> Row
     Row { blue, red, tag }
 }
 
-/// The row of a source for t, by its links. `None` where they have no block in common.
-pub fn near_row(g: &Graph, d: &Directed, links: &FirstLinks, t: NodeNo) -> Option<Row>
-    requires links { AreFirstLinks g.now d.now links.now }
-    requires target { t < length g.now.ids }
-    requires two { links.now.source ≢ t }
-    ensures { (root : ℕ) (w : Directions) → AreDirections g.now d.now root w
-        → IsNearRow g.now root w links.now.source t result }
-{
-    let source = source_of(g, d, links);
-    row_to(g, d, links, &source, t)
-}
-
 /// The source of these links.
-fn source_of(g: &Graph, d: &Directed, links: &FirstLinks) -> Source
+pub fn source_of(g: &Graph, d: &Directed, links: &FirstLinks) -> Source
     requires { AreFirstLinks g.now d.now links.now }
     ensures node { result.node ≡ links.now.source }
     ensures source { (root : ℕ) (w : Directions) → AreDirections g.now d.now root w → IsSourceBy g.now w result }
@@ -103,8 +91,23 @@ fn source_of(g: &Graph, d: &Directed, links: &FirstLinks) -> Source
     }
 }
 
-/// The row of the source of these links for t.
-fn row_to(g: &Graph, d: &Directed, links: &FirstLinks, source: &Source, t: NodeNo) -> Option<Row>
+/// The row of a source for the head of its block. That of the root, which is its own head, says nothing.
+pub fn row_home(source: &Source) -> Row
+    ensures { (g : Topology) (root : ℕ) (w : Directions) → IsTopology g → IsOrderedGadag g root w
+        → IsSourceBy g w source.now → source.now.node ≢ root
+        → IsNearRow g root w source.now.node (w.head source.now.node) (Some result) }
+{
+    end_row(source.sole, source.home.up, source.home.down, Tag::Head)
+}
+
+/// The row of the source of these links for t. `None` where they have no block in common.
+pub fn row_to(
+    g: &Graph,
+    d: &Directed,
+    links: &FirstLinks,
+    source: &Source,
+    t: NodeNo,
+) -> Option<Row>
     requires links { AreFirstLinks g.now d.now links.now }
     requires node { source.now.node ≡ links.now.source }
     requires source { (root : ℕ) (w : Directions) → AreDirections g.now d.now root w → IsSourceBy g.now w source.now }

@@ -1,44 +1,43 @@
-use Rattle.std.proofs.Common.{rules, ◌≡◌, ◌∙◌, ℕ, List, Option, None, ap, arith, sym, subst}
-use Rattle.std.specs.Prelude.{replicate}
+use Rattle.std.proofs.Common.{rules, ◌≡◌, ◌≢◌, ◌∙◌, ◌<◌, ℕ, List, length, slice_get, sym, ap, subst}
+use Rattle.std.specs.List.{remove}
+use Rattle.std.proofs.lemmas.List.{with_items_is}
 use Rattle.mrt_graph.specs.declared.cert.Row.{Row}
 use Rattle.inc_dec_spf.specs.declared.reach.Dir.TheVariants.{Up}
 use Rattle.inc_dec_spf.specs.HasDirections.{HasDirections}
 use Rattle.inc_dec_spf.specs.Turns.{AreTurns}
 use Rattle.inc_dec_spf.proofs.SameDirections.{directions_are}
+use Rattle.mrt_rows.specs.ColumnOf.{IsRowIn}
 use Rattle.mrt_rows.specs.RowsOf.{AreRowsOf}
-use Rattle.mrt_rows.specs.Table.{in_table, rows_in}
-use Rattle.mrt_rows.proofs.TableRows.{IsFull, none_in, rows_of_table}
+use Rattle.mrt_rows.proofs.Filling.{rows_removed}
+use Rattle.mrt_rows.proofs.OrderedGraphs.{graph_of}
 use Rattle.mrt_rows.proofs.of_source.rows_of.Goals as goal
 
-pub fill-requires-clause-empty : goal.fill-requires-clause-empty
-fill-requires-clause-empty c = λ t.
-    let blank : c.in_ok-table.table.items ≡ replicate c.node_count-count.result None = c.in_ok-table.ensures.items_if_clones_equal (search rules) in
-    subst (λ (xs : List (Option Row)). in_table xs t ≡ None) (sym blank) (none_in c.node_count-count.result t)
-
-pub fill-requires-clause-nodes : goal.fill-requires-clause-nodes
-fill-requires-clause-nodes c = λ from w are.
+pub put_rows-requires-clause-nodes : goal.put_rows-requires-clause-nodes
+put_rows-requires-clause-nodes c = λ from w are.
     subst (λ (xs : List ℕ). AreTurns c.args.g.now w Up xs) (sym c.deref.ensures.value) (c.take_links.ensures.made.fans w are.says).by_order
+
+pub put_rows-requires-clause-one_each : goal.put_rows-requires-clause-one_each
+put_rows-requires-clause-one_each c =
+    let made : length c.in_ok-rows.rows.items ≡ c.node_count-count.result = search rules in
+    ap (λ (xs : List Row). length xs) c.deref_mut.ensures.value ∙ made ∙ c.node_count-count.ensures.count
 
 pub returns : goal.returns
 returns c = λ w says.
     let g = c.args.g.now in
     let root = c.args.root in
-    let table = c.fill.new.table.items in
-    let links = c.take_links.new.self.links in
+    let d = c.args.d.now in
+    let s = c.args.source in
     let source = c.take_links.ensures.links in
-    let has : HasDirections g c.args.d.now = record {
+    let has : HasDirections g d = record {
       root = root;
       directions = c.requires.directed.directions;
       are = (record { says = c.requires.directed.says; ordered = c.requires.directed.ordered });
     } in
-    let are = directions_are g c.args.d.now w source.kept has says in
-    let filled = c.fill.ensures.table w are in
-    let full : IsFull links.source table = record {
-      within = omega (arith, source.within, c.fill.ensures.one_each);
-      own = filled.own;
-      each = λ t t_within two. c.fill.ensures.all w are t (omega (arith, t_within, c.fill.ensures.one_each)) two;
-    } in
-    subst (λ (xs : List Row). AreRowsOf g root w c.args.source xs)
-    (sym (c.in_ok-rows.ensures ∙ ap (λ (xs : List (Option Row)). rows_in xs) c.deref-2.ensures.value))
-    (subst (λ (s : ℕ). AreRowsOf g root w s (rows_in table)) c.take_links.ensures.source
-    (rows_of_table g root w links.source table filled full c.fill.ensures.one_each))
+    let are = directions_are g d w source.kept has says in
+    let put = c.put_rows.new.rows in
+    let same = with_items_is c.in_ok-rows.rows put (c.put_rows.auto.rows ∙ c.deref_mut.ensures.len) in
+    let all = subst (λ (v : ℕ). (t : ℕ) → t < length g.ids → v ≢ t → IsRowIn g root w v t (slice_get put t)) c.take_links.ensures.source
+    (λ t t_within two. c.put_rows.ensures.rows w t are t_within two) in
+    subst (λ (xs : List Row). AreRowsOf g root w s xs)
+    (sym (c.remove.ensures.items ∙ ap (λ (xs : List Row). remove xs c.get.result) same ∙ ap (λ (i : ℕ). remove put i) c.get.ensures.value))
+    (rows_removed (graph_of g root w d source.kept are) s put c.requires.source c.put_rows.ensures.one_each all)

@@ -1,21 +1,11 @@
-use Rattle.std.proofs.Common.{◌≡◌, ◌≢◌, ◌∙◌, ◌==◌, ◌<◌, ◌+◌, ℕ, Bool, true, false, Option, length, length-set, not, set, take, refl, sym, subst, inl, inr, arith}
-use Rattle.std.proofs.lemmas.Bool.{cases_eq, eqb-false, ne_eqb}
+use Rattle.std.proofs.Common.{◌≡◌, ◌≢◌, ◌∙◌, ◌==◌, ◌<◌, ◌+◌, ℕ, Option, length, length-set, set, take, sym, subst, arith}
+use Rattle.std.proofs.lemmas.Bool.{eqb-false, not-true}
 use Rattle.mrt_graph.specs.declared.cert.Row.{Row}
 use Rattle.mrt_rows.specs.NearOf.{IsNearRow, near_first}
-use Rattle.mrt_rows.proofs.NearFound.{none_found, own_found, some_found}
+use Rattle.mrt_rows.proofs.NearFound.{none_found, own_found, same_by, some_found}
 use Rattle.mrt_rows.proofs.OrderedGraphs.{graph_of}
 use Rattle.mrt_rows.proofs.row_over.put_near_rows.Goals as goal
 use Rattle.mrt_rows.proofs.row_over.put_near_rows.Goals.{then-ne+in-Some, then-ne+in_default, else-ne}
-
-not-true : (b : Bool) → not b ≡ true → b ≡ false
-not-true true is = cc
-not-true false is = refl
-
-same_by : (a b : ℕ) (differ : Bool) → differ ≡ not (a == b) → differ ≡ false → a ≡ b
-same_by a b differ is fails = elim (cases_eq a b) [
-  | inl same ↦ same
-  | inr other ↦ let yes : differ ≡ true = rw (ne_eqb a b other) at is in absurd (cc)
-]
 
 pub row_to-requires-clause-two : goal.row_to-requires-clause-two
 row_to-requires-clause-two c = λ same.

@@ -20,6 +20,11 @@ returns-clause-made c =
     let past : length g.ids ≤ c.node_count-count.result = omega (arith, c.node_count-count.ensures.count) in
     record {
       some = c.requires.some;
+      up = record { nodes = c.in_ok-up.ensures.nodes; width = c.in_ok-up.ensures.width };
+      down = record { nodes = c.in_ok-down.ensures.nodes; width = c.in_ok-down.ensures.width };
+      one_up_each = search rules;
+      one_down_each = search rules;
+      one_sole_each = search rules;
       fans = λ w says.
           let has = c.requires.directed in
           let are = directions_are g c.args.d.now w c.node_count-count.ensures.kept has says in
@@ -27,17 +32,7 @@ returns-clause-made c =
             by_order = c.in_ok-by_order.ensures has.root w are;
             against_order = c.in_ok-against_order.ensures has.root w are;
             soles = subst (λ (xs : List ℕ). AreSoles g w xs) (sym same) (c.take_soles.ensures has.root w are);
-            up = record {
-              nodes = c.in_ok-up.ensures.nodes;
-              width = c.in_ok-up.ensures.width;
-              is_open = open_from_none g w _ c.node_count-count.result c.in_ok-up.up past;
-            };
-            down = record {
-              nodes = c.in_ok-down.ensures.nodes;
-              width = c.in_ok-down.ensures.width;
-              is_open = open_from_none g w _ c.node_count-count.result c.in_ok-down.down past;
-            };
-            one_up_each = search rules;
-            one_down_each = search rules;
+            up = open_from_none g w _ c.node_count-count.result c.in_ok-up.up past;
+            down = open_from_none g w _ c.node_count-count.result c.in_ok-down.down past;
           };
     }

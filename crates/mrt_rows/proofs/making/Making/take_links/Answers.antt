@@ -16,54 +16,26 @@ linked g w dir s source links after same from has =
     (subst (λ (xs : List ℕ). AreLinked g w dir s xs) (sym same) (record { each = λ t link at shares. has.each t link at shares.share.two }))
 
 pub put_links-requires-clause-among : goal.put_links-requires-clause-among
-put_links-requires-clause-among c =
-    let held = c.open.ensures.made.fans c.requires.directed.directions c.requires.directed.are.says in
-    omega (arith, c.new-first.ensures, c.open.ensures.among, held.up.width)
-
-pub put_links-requires-clause-one_each : goal.put_links-requires-clause-one_each
-put_links-requires-clause-one_each c =
-    let held = c.open.ensures.made.fans c.requires.directed.directions c.requires.directed.are.says in
-    ap (λ (xs : List ℕ). length xs) c.deref_mut.ensures.value ∙ held.one_up_each
-
-pub put_links-requires-clause-nodes : goal.put_links-requires-clause-nodes
-put_links-requires-clause-nodes c =
-    let held = c.open.ensures.made.fans c.requires.directed.directions c.requires.directed.are.says in
-    held.up.nodes
+put_links-requires-clause-among c = omega (arith, c.new-first.ensures, c.open.ensures.among, c.open.ensures.made.up.width)
 
 pub put_links-requires-then-has_more_links-clause-among : goal.put_links-requires-then-has_more_links-clause-among
-put_links-requires-then-has_more_links-clause-among c =
-    let held = c.open.ensures.made.fans c.requires.directed.directions c.requires.directed.are.says in
-    omega (arith, c.new-first.ensures, c.open.ensures.among, held.down.width)
-
-pub put_links-requires-then-has_more_links-clause-one_each : goal.put_links-requires-then-has_more_links-clause-one_each
-put_links-requires-then-has_more_links-clause-one_each c =
-    let held = c.open.ensures.made.fans c.requires.directed.directions c.requires.directed.are.says in
-    ap (λ (xs : List ℕ). length xs) c.deref_mut-then-has_more_links.ensures.value ∙ held.one_down_each
-
-pub put_links-requires-then-has_more_links-clause-nodes : goal.put_links-requires-then-has_more_links-clause-nodes
-put_links-requires-then-has_more_links-clause-nodes c =
-    let held = c.open.ensures.made.fans c.requires.directed.directions c.requires.directed.are.says in
-    held.down.nodes
+put_links-requires-then-has_more_links-clause-among c = omega (arith, c.new-first.ensures, c.open.ensures.among, c.open.ensures.made.down.width)
 
 pub returns-then-has_more_links-clause-made : goal.returns-then-has_more_links-clause-made
 returns-then-has_more_links-clause-made c =
+    let made = c.open.ensures.made in
     let up_same = with_items_is c.open.new.self.links.up c.put_links.new.links (c.put_links.auto.links ∙ c.deref_mut.ensures.len) in
     let down_same = with_items_is c.open.new.self.links.down c.put_links-then-has_more_links.new.links
     (c.put_links-then-has_more_links.auto.links ∙ c.deref_mut-then-has_more_links.ensures.len) in
     record {
-      some = c.open.ensures.made.some;
-      fans = λ w says.
-          let held = c.open.ensures.made.fans w says in
-          record {
-            by_order = held.by_order;
-            against_order = held.against_order;
-            soles = held.soles;
-            up = held.up;
-            down = held.down;
-            one_up_each = ap (λ (xs : List ℕ). length xs) up_same ∙ c.put_links.auto.links ∙ ap (λ (xs : List ℕ). length xs) c.deref_mut.ensures.value ∙ held.one_up_each;
-            one_down_each = ap (λ (xs : List ℕ). length xs) down_same ∙ c.put_links-then-has_more_links.auto.links
-                ∙ ap (λ (xs : List ℕ). length xs) c.deref_mut-then-has_more_links.ensures.value ∙ held.one_down_each;
-          };
+      some = made.some;
+      up = made.up;
+      down = made.down;
+      one_up_each = ap (λ (xs : List ℕ). length xs) up_same ∙ c.put_links.auto.links ∙ ap (λ (xs : List ℕ). length xs) c.deref_mut.ensures.value ∙ made.one_up_each;
+      one_down_each = ap (λ (xs : List ℕ). length xs) down_same ∙ c.put_links-then-has_more_links.auto.links
+          ∙ ap (λ (xs : List ℕ). length xs) c.deref_mut-then-has_more_links.ensures.value ∙ made.one_down_each;
+      one_sole_each = made.one_sole_each;
+      fans = made.fans;
     }
 
 pub returns-then-has_more_links-clause-source : goal.returns-then-has_more_links-clause-source
@@ -72,87 +44,50 @@ returns-then-has_more_links-clause-source c = c.open.ensures.source
 pub returns-then-has_more_links-clause-links : goal.returns-then-has_more_links-clause-links
 returns-then-has_more_links-clause-links c =
     let g = c.args.g.now in
-    let has = c.requires.directed in
-    let own = c.open.ensures.made.fans has.directions has.are.says in
     let up_same = with_items_is c.open.new.self.links.up c.put_links.new.links (c.put_links.auto.links ∙ c.deref_mut.ensures.len) in
     let down_same = with_items_is c.open.new.self.links.down c.put_links-then-has_more_links.new.links
     (c.put_links-then-has_more_links.auto.links ∙ c.deref_mut-then-has_more_links.ensures.len) in
     record {
       kept = c.requires.kept;
-      directed = has;
+      directed = c.requires.directed;
       within = subst (λ (v : ℕ). v < length g.ids) (sym c.open.ensures.source) c.requires.s;
-      one_up_each = ap (λ (xs : List ℕ). length xs) up_same ∙ c.put_links.auto.links ∙ ap (λ (xs : List ℕ). length xs) c.deref_mut.ensures.value ∙ own.one_up_each;
+      one_up_each = ap (λ (xs : List ℕ). length xs) up_same ∙ c.put_links.auto.links ∙ ap (λ (xs : List ℕ). length xs) c.deref_mut.ensures.value ∙ c.open.ensures.made.one_up_each;
       one_down_each = ap (λ (xs : List ℕ). length xs) down_same ∙ c.put_links-then-has_more_links.auto.links
-          ∙ ap (λ (xs : List ℕ). length xs) c.deref_mut-then-has_more_links.ensures.value ∙ own.one_down_each;
-      one_sole_each = own.soles.one_each;
+          ∙ ap (λ (xs : List ℕ). length xs) c.deref_mut-then-has_more_links.ensures.value ∙ c.open.ensures.made.one_down_each;
+      one_sole_each = c.open.ensures.made.one_sole_each;
       are = λ root w are.
           let held = c.open.ensures.made.fans w are.says in
           record {
             up = linked g w Up c.args.s _ c.put_links.new.links _ up_same c.open.ensures.source
-                (c.put_links.ensures w Up (subst (λ (first : ℕ). IsOpen g w Up first c.open.new.self.up) (sym c.new-first.ensures) held.up.is_open));
+                (c.put_links.ensures w Up (subst (λ (first : ℕ). IsOpen g w Up first c.open.new.self.up) (sym c.new-first.ensures) held.up));
             down = linked g w Down c.args.s _ c.put_links-then-has_more_links.new.links _ down_same c.open.ensures.source
                 (c.put_links-then-has_more_links.ensures w Down
-                (subst (λ (first : ℕ). IsOpen g w Down first c.open.new.self.down) (sym c.new-first.ensures) held.down.is_open));
+                (subst (λ (first : ℕ). IsOpen g w Down first c.open.new.self.down) (sym c.new-first.ensures) held.down));
             soles = held.soles;
           };
     }
 
--- what makes rows, for this source
-pub open-requires-clause-made : goal.open-requires-clause-made
-open-requires-clause-made c = record {
-  some = c.requires.made.some;
-  fans = λ w says.
-      let held = c.requires.made.fans w says in
-      record {
-        by_order = held.by_order;
-        against_order = held.against_order;
-        soles = held.soles;
-        up = held.up;
-        down = held.down;
-        one_up_each = held.one_up_each;
-        one_down_each = held.one_down_each;
-      };
-}
-
-pub returns-else-has_more_links-clause-made : goal.returns-else-has_more_links-clause-made
-returns-else-has_more_links-clause-made c = record {
-  some = c.requires.made.some;
-  fans = λ w says.
-      let held = c.requires.made.fans w says in
-      record {
-        by_order = held.by_order;
-        against_order = held.against_order;
-        soles = held.soles;
-        up = held.up;
-        down = held.down;
-        one_up_each = held.one_up_each;
-        one_down_each = held.one_down_each;
-      };
-}
-
 pub returns-else-has_more_links-clause-links : goal.returns-else-has_more_links-clause-links
 returns-else-has_more_links-clause-links c =
     let g = c.args.g.now in
-    let has = c.requires.directed in
-    let own = c.requires.made.fans has.directions has.are.says in
+    let made = c.requires.made in
+    let none = c.has_more_links.ensures c.if-has_more_links.false in
     record {
       kept = c.requires.kept;
-      directed = has;
+      directed = c.requires.directed;
       within = c.requires.s;
-      one_up_each = own.one_up_each;
-      one_down_each = own.one_down_each;
-      one_sole_each = own.soles.one_each;
+      one_up_each = made.one_up_each;
+      one_down_each = made.one_down_each;
+      one_sole_each = made.one_sole_each;
       are = λ root w are. record {
         up = record {
           each = λ t link at shares.
-              absurd (c.has_more_links.ensures c.if-has_more_links.false root t w are
-              (omega (arith, slice_get_within c.args.self.now.links.up.items t link at, own.one_up_each)) shares);
+              absurd (none root t w are (omega (arith, slice_get_within c.args.self.now.links.up.items t link at, made.one_up_each)) shares);
         };
         down = record {
           each = λ t link at shares.
-              absurd (c.has_more_links.ensures c.if-has_more_links.false root t w are
-              (omega (arith, slice_get_within c.args.self.now.links.down.items t link at, own.one_down_each)) shares);
+              absurd (none root t w are (omega (arith, slice_get_within c.args.self.now.links.down.items t link at, made.one_down_each)) shares);
         };
-        soles = (c.requires.made.fans w are.says).soles;
+        soles = (made.fans w are.says).soles;
       };
     }
