@@ -1,5 +1,5 @@
 -- What has a block in common with a target aims at it.
-use Rattle.std.proofs.Common.{◌≡◌, ◌≢◌, ◌∙◌, ◌<◌, ◌≤◌, ℕ, zero, suc, Bool, true, false, Option, Some, None, length, slice_get, inl, inr, sym, ap, arith}
+use Rattle.std.proofs.Common.{◌≡◌, ◌≢◌, ◌∙◌, ◌<◌, ◌≤◌, ℕ, zero, suc, Bool, true, false, Option, Some, None, length, slice_get, inl, inr, refl, sym, ap, arith}
 use Rattle.std.specs.Prelude.{replicate}
 use Rattle.std.proofs.lemmas.Bool.{cases_eq}
 use Rattle.std.proofs.lemmas.Option.{same_Some}
@@ -114,3 +114,9 @@ pub none_blank : (n s : ℕ) (hop : Option Hop) → slice_get (replicate n None)
 none_blank zero s hop at = cc
 none_blank (suc n) zero hop at = sym (same_Some None hop at)
 none_blank (suc n) (suc s) hop at = none_blank n s hop at
+
+-- where all are marked, each is
+pub all_marked : (n k : ℕ) → k < n → slice_get (replicate n true) k ≡ Some true
+all_marked zero k below = absurd (omega (arith, below))
+all_marked (suc n) zero below = refl
+all_marked (suc n) (suc k) below = all_marked n k (omega (arith, below))

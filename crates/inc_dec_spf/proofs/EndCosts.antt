@@ -8,11 +8,10 @@ use Rattle.mrt_graph.specs.Topology.{Topology}
 use Rattle.link_direction.specs.Directions.{Directions}
 use Rattle.inc_dec_spf.specs.declared.reach.Dir.{Dir}
 use Rattle.inc_dec_spf.specs.BlockAims.{aim_at}
-use Rattle.inc_dec_spf.specs.LeastPath.{HasMoreLinks}
 use Rattle.inc_dec_spf.specs.Path.{LeadsOn, cost_of}
 use Rattle.inc_dec_spf.specs.Rest.{IsRestCost, Rest, far}
 use Rattle.inc_dec_spf.specs.Side.{AreTaken, IsLeastWay, cost_at, lesser, link_of_lesser}
-use Rattle.inc_dec_spf.specs.Ways.{AreLeast, AreReady, AtHead, Back, BeginsAt, HasHeadBy, Home, Inside, IsLeftAt, IsReadyFrom, Onward}
+use Rattle.inc_dec_spf.specs.Ways.{AreLeast, AreReady, AtHead, Back, BeginsAt, HasHeadBy, Home, Inside, IsLeftAt, IsReadyFrom, IsWanted, Onward}
 
 -- what is known of the ways that begin with one end, when `left` is left after it
 pub record IsEndCost (Begins : ℕ → ℕ → Type 0) (place left metric bound : ℕ) : Type 0 where
@@ -113,9 +112,9 @@ pub record IsLeftCost (g : Topology) (w : Directions) (dir : Dir) (own : Bool) (
   pub rest : (own ≡ false → aim k ≢ x) → IsRestCost g w dir k h y (aim k) left
 
 pub left_cost : (g : Topology) (w : Directions) (dir : Dir) (own : Bool) (x : ℕ) (aims : List ℕ) (width : ℕ) (all : List ℕ) (k y j left bound : ℕ)
-    → HasMoreLinks g w k → x ≢ y → j < width → (w.block y ≡ k → IsReadyFrom g w dir aims width bound all y)
+    → x ≢ y → j < width → (w.block y ≡ k → IsReadyFrom g w dir aims width bound all y)
     → IsLeftAt w own x aims width all k y j left → (h : ℕ) × IsLeftCost g w dir own x (aim_at aims width j) k h y left bound
-left_cost g w dir own x aims width all k y j left bound more apart within ready (Onward inside on at) =
+left_cost g w dir own x aims width all k y j left bound apart within ready (Onward inside on at) =
     let from = ready inside in (
       w.head y,
       record {
@@ -123,10 +122,10 @@ left_cost g w dir own x aims width all k y j left bound more apart within ready 
         small = from.small j left within at;
         onward = λ below. on;
         rest = λ _. subst (λ (b : ℕ). IsRestCost g w dir b (w.head y) y (aim_at aims width j b) left) inside
-            (from.each j left within at (subst (λ (b : ℕ). HasMoreLinks g w b) (sym inside) more));
+            (from.each j left within at);
       },
     )
-left_cost g w dir own x aims width all k y j left bound more apart within ready (Home other is) = (
+left_cost g w dir own x aims width all k y j left bound apart within ready (Home other is) = (
   y,
   record {
     head = AtHead other refl;
@@ -141,7 +140,7 @@ left_cost g w dir own x aims width all k y j left bound more apart within ready 
       | inl same ↦ let zero_is : c ≡ 0 = rw (eq-eqb y (aim_at aims width j k) same) at is in (same, zero_is)
       | inr differ ↦ let far_is : c ≡ far = rw (ne_eqb y (aim_at aims width j k) differ) at is in absurd (omega (arith, far_is, below))
     ]
-left_cost g w dir own x aims width all k y j left bound more apart within ready (Back all_blocks same is) =
+left_cost g w dir own x aims width all k y j left bound apart within ready (Back all_blocks same is) =
     let head = head_of (w.block y) refl in (
       head.0,
       record {
@@ -166,18 +165,18 @@ one_head_by w k h top y (AtHead a b) (Inside c d) = absurd (a c)
 one_head_by w k h top y (AtHead a b) (AtHead c d) = sym b ∙ d
 
 -- an end over which ways lead on
-pub record IsWayOn (g : Topology) (w : Directions) (dir : Dir) (own : Bool) (x place : ℕ) (ends : List End) (end : End) : Type 0 where
+pub record IsWayOn (g : Topology) (w : Directions) (wanted : List Bool) (dir : Dir) (own : Bool) (x place : ℕ) (ends : List End) (end : End) : Type 0 where
   pub list : slice_get g.ends x ≡ Some ends
   pub there : slice_get ends place ≡ Some end
   pub leads_on : LeadsOn w dir x end
-  pub more : HasMoreLinks g w (w.lies_in end.link)
+  pub in_wanted : IsWanted g w wanted (w.lies_in end.link)
   pub kept_to : own ≡ true → w.lies_in end.link ≡ w.block x
   pub elsewhere : x ≢ end.to
 
-pub end_cost : (g : Topology) (w : Directions) (dir : Dir) (own : Bool) (x : ℕ) (aim : ℕ → ℕ) (place left h bound : ℕ) (ends : List End) (end : End)
-    → IsWayOn g w dir own x place ends end → IsLeftCost g w dir own x aim (w.lies_in end.link) h end.to left bound
-    → IsEndCost (BeginsAt g w dir own x aim) place left end.metric bound
-end_cost g w dir own x aim place left h bound ends end on is = record {
+pub end_cost : (g : Topology) (w : Directions) (wanted : List Bool) (dir : Dir) (own : Bool) (x : ℕ) (aim : ℕ → ℕ) (place left h bound : ℕ) (ends : List End) (end : End)
+    → IsWayOn g w wanted dir own x place ends end → IsLeftCost g w dir own x aim (w.lies_in end.link) h end.to left bound
+    → IsEndCost (BeginsAt g w wanted dir own x aim) place left end.metric bound
+end_cost g w wanted dir own x aim place left h bound ends end on is = record {
   small = is.small;
   reached = λ below.
       let it = (is.rest (is.onward below)).reached below in
@@ -190,7 +189,7 @@ end_cost g w dir own x aim place left h bound ends end on is = record {
         h = h;
         in_block = refl;
         leads_on = on.leads_on;
-        more = on.more;
+        in_wanted = on.in_wanted;
         kept_to = on.kept_to;
         onward = is.onward below;
         head = is.head;
@@ -218,12 +217,12 @@ end_cost g w dir own x aim place left h bound ends end on is = record {
 }
 
 -- the step for all places
-pub all_taken_over : (g : Topology) (w : Directions) (dir : Dir) (own : Bool) (aims : List ℕ) (width : ℕ) (all : List ℕ) (bound x count : ℕ) (ends : List End) (end : End)
-    (costs links costs' links' : List ℕ) → bound < 2 ^ 30 → end.metric < 65536 → length costs ≡ width → length links ≡ width → IsWayOn g w dir own x count ends end
+pub all_taken_over : (g : Topology) (w : Directions) (wanted : List Bool) (dir : Dir) (own : Bool) (aims : List ℕ) (width : ℕ) (all : List ℕ) (bound x count : ℕ) (ends : List End) (end : End)
+    (costs links costs' links' : List ℕ) → bound < 2 ^ 30 → end.metric < 65536 → length costs ≡ width → length links ≡ width → IsWayOn g w wanted dir own x count ends end
     → (w.block end.to ≡ w.lies_in end.link → IsReadyFrom g w dir aims width bound all end.to)
     → AreTaken (IsLeftAt w own x aims width all (w.lies_in end.link) end.to) end.metric end.link costs links costs' links'
-    → AreLeast g w dir own aims width bound x ends count costs links → AreLeast g w dir own aims width bound x ends (count + 1) costs' links'
-all_taken_over g w dir own aims width all bound x count ends end costs links costs' links' low_bound fits one_each one_link_each on ready taken so_far = record {
+    → AreLeast g w wanted dir own aims width bound x ends count costs links → AreLeast g w wanted dir own aims width bound x ends (count + 1) costs' links'
+all_taken_over g w wanted dir own aims width all bound x count ends end costs links costs' links' low_bound fits one_each one_link_each on ready taken so_far = record {
   each = λ j cost' link' at' at_link'.
       let within : j < length costs = omega (arith, slice_get_within costs' j cost' at', taken.one_cost_each) in
       let within_links : j < length links = omega (arith, within, one_each, one_link_each) in
@@ -234,10 +233,10 @@ all_taken_over g w dir own aims width all bound x count ends end costs links cos
       let it = taken.each j old old_link at at_link in
       let cost_is = same_Some cost' (lesser (it.0 + end.metric) old) (sym at' ∙ it.2) in
       let link_is = same_Some link' (link_of_lesser (it.0 + end.metric) old end.link old_link) (sym at_link' ∙ it.3) in
-      let left = left_cost g w dir own x aims width all (w.lies_in end.link) end.to j it.0 bound on.more on.elsewhere (omega (arith, within, one_each)) ready it.1 in
+      let left = left_cost g w dir own x aims width all (w.lies_in end.link) end.to j it.0 bound on.elsewhere (omega (arith, within, one_each)) ready it.1 in
       rw (cost_is, link_is)
-      (way_taken (BeginsAt g w dir own x (aim_at aims width j)) ends count old old_link it.0 bound end low_bound fits on.there
-      (end_cost g w dir own x (aim_at aims width j) count it.0 left.0 bound ends end on left.1) (so_far.each j old old_link at at_link));
+      (way_taken (BeginsAt g w wanted dir own x (aim_at aims width j)) ends count old old_link it.0 bound end low_bound fits on.there
+      (end_cost g w wanted dir own x (aim_at aims width j) count it.0 left.0 bound ends end on left.1) (so_far.each j old old_link at at_link));
   small = λ j cost' at' below.
       let within : j < length costs = omega (arith, slice_get_within costs' j cost' at', taken.one_cost_each) in
       let within_links : j < length links = omega (arith, within, one_each, one_link_each) in
@@ -245,7 +244,7 @@ all_taken_over g w dir own aims width all bound x count ends end costs links cos
       let at = slice_get-get_or costs j 0 within in
       let it = taken.each j old (get_or links j 0) at (slice_get-get_or links j 0 within_links) in
       let cost_is = same_Some cost' (lesser (it.0 + end.metric) old) (sym at' ∙ it.2) in
-      let left = left_cost g w dir own x aims width all (w.lies_in end.link) end.to j it.0 bound on.more on.elsewhere (omega (arith, within, one_each)) ready it.1 in
+      let left = left_cost g w dir own x aims width all (w.lies_in end.link) end.to j it.0 bound on.elsewhere (omega (arith, within, one_each)) ready it.1 in
       small_lesser (it.0 + end.metric) old cost' cost_is (λ low. let small = left.1.small (omega (arith, low)) in omega (arith, small, fits)) (so_far.small j old at)
       below;
 }
@@ -256,19 +255,19 @@ all_taken_over g w dir own aims width all bound x count ends end costs links cos
       | inr is_not ↦ let one : c ≡ b = rw is_not at is in omega (arith, one, other_small (omega (arith, one, below)))
     ]
 
-pub all_passed : (g : Topology) (w : Directions) (dir : Dir) (own : Bool) (aims : List ℕ) (width bound x count : ℕ) (ends : List End) (costs links : List ℕ)
-    → ((aim : ℕ → ℕ) (other : ℕ) → BeginsAt g w dir own x aim count other → ⊥) → AreLeast g w dir own aims width bound x ends count costs links
-    → AreLeast g w dir own aims width bound x ends (count + 1) costs links
-all_passed g w dir own aims width bound x count ends costs links none so_far = record {
+pub all_passed : (g : Topology) (w : Directions) (wanted : List Bool) (dir : Dir) (own : Bool) (aims : List ℕ) (width bound x count : ℕ) (ends : List End) (costs links : List ℕ)
+    → ((aim : ℕ → ℕ) (other : ℕ) → BeginsAt g w wanted dir own x aim count other → ⊥) → AreLeast g w wanted dir own aims width bound x ends count costs links
+    → AreLeast g w wanted dir own aims width bound x ends (count + 1) costs links
+all_passed g w wanted dir own aims width bound x count ends costs links none so_far = record {
   each = λ j cost link at at_link.
-      way_passed (BeginsAt g w dir own x (aim_at aims width j)) ends count cost link (none (aim_at aims width j)) (so_far.each j cost link at at_link);
+      way_passed (BeginsAt g w wanted dir own x (aim_at aims width j)) ends count cost link (none (aim_at aims width j)) (so_far.each j cost link at at_link);
   small = so_far.small;
 }
 
 -- what the end leads to in its block is known
-pub step_ready : (g : Topology) (w : Directions) (dir : Dir) (own : Bool) (aims : List ℕ) (width : ℕ) (all : List ℕ) (bound x place : ℕ) (ends : List End) (end : End)
-    → AreReady g w dir own aims width bound all x → IsWayOn g w dir own x place ends end → w.block end.to ≡ w.lies_in end.link
+pub step_ready : (g : Topology) (w : Directions) (wanted : List Bool) (dir : Dir) (own : Bool) (aims : List ℕ) (width : ℕ) (all : List ℕ) (bound x place : ℕ) (ends : List End) (end : End)
+    → AreReady g w wanted dir own aims width bound all x → IsWayOn g w wanted dir own x place ends end → w.block end.to ≡ w.lies_in end.link
     → IsReadyFrom g w dir aims width bound all end.to
-step_ready g w dir own aims width all bound x place ends end ready on inside =
-    ready.each (w.lies_in end.link) end on.more
+step_ready g w wanted dir own aims width all bound x place ends end ready on inside =
+    ready.each (w.lies_in end.link) end on.in_wanted
     (record { ends = ends; list = on.list; place = place; there = on.there; in_block = refl; leads_on = on.leads_on }) on.kept_to inside

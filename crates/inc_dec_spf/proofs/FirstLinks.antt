@@ -23,10 +23,11 @@ use Rattle.inc_dec_spf.proofs.SideBySide.{row_within}
 use Rattle.inc_dec_spf.proofs.WaysArePaths.{least_hop}
 
 module _ (g : Topology) (root : ℕ) (w : Directions) (is : IsOrdered g root w) where
-  pub first_link : (dir : Dir) (own : Bool) (s t k h : ℕ) (aim : ℕ → ℕ) (cost link : ℕ) (ends : List End) → s < length g.ids → t < length g.ids
-      → slice_get g.ends s ≡ Some ends → HaveCommonBlockOfMore g w s t k h → (own ≡ true → k ≡ w.block s) → IsAimOf g w aim s t
-      → IsLeastWay (BeginsAt g w dir own s aim) ends (length ends) cost link → IsFirstLink g w dir s t link
-  first_link dir own s t k h aim cost link ends within t_within list share kept_to it_aims least = elim (cases_Bool (nat_lt cost far)) [
+  pub first_link : (wanted : List Bool) (dir : Dir) (own : Bool) (s t k h : ℕ) (aim : ℕ → ℕ) (cost link : ℕ) (ends : List End) → s < length g.ids → t < length g.ids
+      → slice_get g.ends s ≡ Some ends → HaveCommonBlockOfMore g w s t k h → (own ≡ true → k ≡ w.block s)
+      → slice_get wanted k ≡ Some true → IsAimOf g w aim s t
+      → IsLeastWay (BeginsAt g w wanted dir own s aim) ends (length ends) cost link → IsFirstLink g w dir s t link
+  first_link wanted dir own s t k h aim cost link ends within t_within list share kept_to marked it_aims least = elim (cases_Bool (nat_lt cost far)) [
     | inl is_less ↦
         let it = least.reached (ltb-true cost far is_less) in
         let few = link_within g it.end.link s it.end.to is.kept (end_leads g s it.place ends it.end is.kept list it.there) in
@@ -46,18 +47,19 @@ module _ (g : Topology) (root : ℕ) (w : Directions) (is : IsOrdered g root w) 
 
       hop : IsHop g w dir s t (hop_by cost link)
       hop =
-          least_hop g root w is dir own s t aim cost link ends within list share.two (λ k' h' other own_only. same_block k' h' other ∙ kept_to own_only)
+          least_hop g root w is wanted dir own s t aim cost link ends within list share.two (λ k' h' other own_only. same_block k' h' other ∙ kept_to own_only)
+          (λ k' h' other. subst (λ (b : ℕ). slice_get wanted b ≡ Some true) (sym (same_block k' h' other)) marked)
           (λ k' h' other. it_aims.aimed k' h' other.common) alone least
 
   -- the links of a node, kept from its place on
-  pub links_kept : (dir : Dir) (own : Bool) (s : ℕ) (aims : List ℕ) (width bound : ℕ) (ends : List End) (costs links all : List ℕ) → s < length g.ids
+  pub links_kept : (wanted : List Bool) (dir : Dir) (own : Bool) (s : ℕ) (aims : List ℕ) (width bound : ℕ) (ends : List End) (costs links all : List ℕ) → s < length g.ids
       → slice_get g.ends s ≡ Some ends → length costs ≡ width → length links ≡ width
       → ((t k h : ℕ) → t < length g.ids → HaveCommonBlockOfMore g w s t k h → own ≡ true → k ≡ w.block s)
-      → AreLeast g w dir own aims width bound s ends (length ends) costs links
-      → ((j : ℕ) → j < length links → slice_get all (s * width + j) ≡ slice_get links j) → HasLinksAt g w dir aims width all s
-  links_kept dir own s aims width bound ends costs links all within list one_cost_each one_link_each kept_to least there = record {
-    each = λ j t k h link below inside share it_aims at.
-        first_link dir own s t k h (aim_at aims width j) (get_or costs j 0) link ends within inside list share (kept_to t k h inside share) it_aims
+      → AreLeast g w wanted dir own aims width bound s ends (length ends) costs links
+      → ((j : ℕ) → j < length links → slice_get all (s * width + j) ≡ slice_get links j) → HasLinksAt g w wanted dir aims width all s
+  links_kept wanted dir own s aims width bound ends costs links all within list one_cost_each one_link_each kept_to least there = record {
+    each = λ j t k h link below inside share marked it_aims at.
+        first_link wanted dir own s t k h (aim_at aims width j) (get_or costs j 0) link ends within inside list share (kept_to t k h inside share) marked it_aims
         (least.each j (get_or costs j 0) link (slice_get-get_or costs j 0 (omega (arith, below, one_cost_each)))
         (sym (there j (omega (arith, below, one_link_each))) ∙ at));
   }
@@ -70,42 +72,62 @@ places_apart y x width j other within = elim (cases_lt y x) [
 ]
 
 -- the links of the other nodes stay
-pub links_stay : (g : Topology) (w : Directions) (dir : Dir) (aims : List ℕ) (width y x many : ℕ) (all after : List ℕ) → y ≢ x → many ≡ width
-    → ((i : ℕ) → (i < x * width) ⊎ (x * width + many ≤ i) → slice_get after i ≡ slice_get all i) → HasLinksAt g w dir aims width all y
-    → HasLinksAt g w dir aims width after y
-links_stay g w dir aims width y x many all after other same elsewhere has = record {
-  each = λ j t k h link below inside share it_aims at.
-      has.each j t k h link below inside share it_aims
+pub links_stay : (g : Topology) (w : Directions) (wanted : List Bool) (dir : Dir) (aims : List ℕ) (width y x many : ℕ) (all after : List ℕ) → y ≢ x → many ≡ width
+    → ((i : ℕ) → (i < x * width) ⊎ (x * width + many ≤ i) → slice_get after i ≡ slice_get all i) → HasLinksAt g w wanted dir aims width all y
+    → HasLinksAt g w wanted dir aims width after y
+links_stay g w wanted dir aims width y x many all after other same elsewhere has = record {
+  each = λ j t k h link below inside share marked it_aims at.
+      has.each j t k h link below inside share marked it_aims
       (sym (elsewhere (y * width + j) (subst (λ (n : ℕ). (y * width + j < x * width) ⊎ (x * width + n ≤ y * width + j)) (sym same)
       (places_apart y x width j other below))) ∙ at);
 }
 
 -- the links in equal lists
-pub links_moved : (g : Topology) (w : Directions) (dir : Dir) (aims : List ℕ) (width other : ℕ) (all after : List ℕ) (s : ℕ) → other ≡ width → after ≡ all
-    → HasLinksAt g w dir aims width all s → HasLinksAt g w dir aims other after s
-links_moved g w dir aims width other all after s wide same has =
-    subst (λ (n : ℕ). HasLinksAt g w dir aims n after s) (sym wide) (subst (λ (xs : List ℕ). HasLinksAt g w dir aims width xs s) (sym same) has)
+pub links_moved : (g : Topology) (w : Directions) (wanted : List Bool) (dir : Dir) (aims : List ℕ) (width other : ℕ) (all after : List ℕ) (s : ℕ) → other ≡ width → after ≡ all
+    → HasLinksAt g w wanted dir aims width all s → HasLinksAt g w wanted dir aims other after s
+links_moved g w wanted dir aims width other all after s wide same has =
+    subst (λ (n : ℕ). HasLinksAt g w wanted dir aims n after s) (sym wide) (subst (λ (xs : List ℕ). HasLinksAt g w wanted dir aims width xs s) (sym same) has)
 
 -- the links of the nodes that had their turns are there
-pub record AreLinked (g : Topology) (w : Directions) (dir : Dir) (aims : List ℕ) (width i : ℕ) (all : List ℕ) : Type 0 where
-  pub each : (y : ℕ) → y < length g.ids → turn_of (against dir) (length g.ids) w y < i → LiesInOneBlock g w y → HasLinksAt g w dir aims width all y
+pub record AreLinked (g : Topology) (w : Directions) (wanted : List Bool) (dir : Dir) (aims : List ℕ) (width i : ℕ) (all : List ℕ) : Type 0 where
+  pub each : (y : ℕ) → y < length g.ids → turn_of (against dir) (length g.ids) w y < i → LiesInOneBlock g w y → HasLinksAt g w wanted dir aims width all y
 
 -- those of the node at turn i too
-pub one_linked : (g : Topology) (root : ℕ) (w : Directions) (dir : Dir) → IsOrdered g root w → (turns : List ℕ) → AreTurns g w (against dir) turns
+pub one_linked : (g : Topology) (root : ℕ) (w : Directions) (wanted : List Bool) (dir : Dir) → IsOrdered g root w → (turns : List ℕ) → AreTurns g w (against dir) turns
     → (aims : List ℕ) (width i x : ℕ) → slice_get turns i ≡ Some x → (bound : ℕ) (ends : List End) (costs links all after : List ℕ) → slice_get g.ends x ≡ Some ends
-    → length costs ≡ width → length links ≡ width → AreLeast g w dir true aims width bound x ends (length ends) costs links
+    → length costs ≡ width → length links ≡ width → AreLeast g w wanted dir true aims width bound x ends (length ends) costs links
     → ((j : ℕ) → j < length links → slice_get after (x * width + j) ≡ slice_get links j)
-    → ((p : ℕ) → (p < x * width) ⊎ (x * width + length links ≤ p) → slice_get after p ≡ slice_get all p) → AreLinked g w dir aims width i all
-    → AreLinked g w dir aims width (i + 1) after
-one_linked g root w dir is turns are aims width i x at bound ends costs links all after list one_cost_each one_link_each least there elsewhere linked = record {
+    → ((p : ℕ) → (p < x * width) ⊎ (x * width + length links ≤ p) → slice_get after p ≡ slice_get all p) → AreLinked g w wanted dir aims width i all
+    → AreLinked g w wanted dir aims width (i + 1) after
+one_linked g root w wanted dir is turns are aims width i x at bound ends costs links all after list one_cost_each one_link_each least there elsewhere linked = record {
   each = λ y within early one. elim (cases_eq y x) [
     | inl same ↦
-        subst (λ (v : ℕ). HasLinksAt g w dir aims width after v) (sym same)
-        (links_kept g root w is dir true x aims width bound ends costs links after (are.within i x at) list one_cost_each one_link_each
+        subst (λ (v : ℕ). HasLinksAt g w wanted dir aims width after v) (sym same)
+        (links_kept g root w is wanted dir true x aims width bound ends costs links after (are.within i x at) list one_cost_each one_link_each
         (λ t k h inside share own. subst (λ (v : ℕ). k ≡ w.block v) same (one.only t k h inside (subst (λ (v : ℕ). HaveCommonBlockOfMore g w v t k h) (sym same) share))) least there)
     | inr other ↦
-        links_stay g w dir aims width y x (length links) all after other one_link_each elsewhere
+        links_stay g w wanted dir aims width y x (length links) all after other one_link_each elsewhere
         (linked.each y within (omega (arith, early, not_now y within other)) one)
+  ];
+}
+  where
+    not_now : (y : ℕ) → y < length g.ids → y ≢ x → turn_of (against dir) (length g.ids) w y ≢ i
+    not_now y within other same =
+        other (same_Some y x (sym (are.of_each y within) ∙ subst (λ (t : ℕ). slice_get turns t ≡ Some x) (sym same) at))
+
+-- a node whose block is not wanted, and which lies in no other one of more than one link, has none
+pub passed_linked : (g : Topology) (w : Directions) (wanted : List Bool) (dir : Dir) (turns : List ℕ) → AreTurns g w (against dir) turns
+    → (aims : List ℕ) (width i x : ℕ) (all : List ℕ) → slice_get turns i ≡ Some x → slice_get wanted (w.block x) ≡ Some false
+    → AreLinked g w wanted dir aims width i all → AreLinked g w wanted dir aims width (i + 1) all
+passed_linked g w wanted dir turns are aims width i x all at unmarked linked = record {
+  each = λ y within early one. elim (cases_eq y x) [
+    | inl same ↦ record {
+      each = λ j t k h link below inside share marked it_aims at_j.
+          let block_is : w.block x ≡ k = ap w.block (sym same) ∙ sym (one.only t k h inside share) in
+          let no : false ≡ true = same_Some false true (sym unmarked ∙ ap (λ (b : ℕ). slice_get wanted b) block_is ∙ marked) in
+          absurd (cc);
+    }
+    | inr other ↦ linked.each y within (omega (arith, early, not_now y within other)) one
   ];
 }
   where

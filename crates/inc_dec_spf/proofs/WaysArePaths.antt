@@ -8,11 +8,11 @@ use Rattle.mrt_graph.proofs.Hops.{lead_back}
 use Rattle.link_direction.specs.CommonBlock.{HaveCommonBlock}
 use Rattle.link_direction.specs.Directions.{Directions}
 use Rattle.inc_dec_spf.specs.declared.reach.Dir.{Dir}
-use Rattle.inc_dec_spf.specs.LeastPath.{BeginsPath, HasMoreLinks, IsHop, NotReached, Reached, HaveCommonBlockOfMore}
+use Rattle.inc_dec_spf.specs.LeastPath.{BeginsPath, IsHop, NotReached, Reached, HaveCommonBlockOfMore}
 use Rattle.inc_dec_spf.specs.Path.{IsStep, Path, cost_of}
 use Rattle.inc_dec_spf.specs.Rest.{IsRestCost, Rest, far}
 use Rattle.inc_dec_spf.specs.Side.{IsLeastWay, hop_by}
-use Rattle.inc_dec_spf.specs.Ways.{AtHead, BeginsAt, HasHeadBy, Inside}
+use Rattle.inc_dec_spf.specs.Ways.{AtHead, BeginsAt, HasHeadBy, Inside, IsWanted}
 use Rattle.inc_dec_spf.proofs.InBlocks.{IsClosed, IsOrdered, head_of_member, leads_inside, member_not_head, move_of}
 use Rattle.inc_dec_spf.proofs.Reached.{are_in, closed_of_more, first_step, share_it}
 use Rattle.inc_dec_spf.proofs.WaysInBlocks.{AreIn}
@@ -70,8 +70,8 @@ module _ (g : Topology) (root : ℕ) (w : Directions) (is : IsOrdered g root w) 
   same_head k h top y (AtHead a b) (AtHead c d) = sym b ∙ d
 
   -- the step that a way begins with
-  pub step_by : (dir : Dir) (own : Bool) (x : ℕ) (aim : ℕ → ℕ) (place cost : ℕ) (begins : BeginsAt g w dir own x aim place cost) → IsStep g w dir begins.k x begins.end
-  step_by dir own x aim place cost begins = record {
+  pub step_by : (wanted : List Bool) (dir : Dir) (own : Bool) (x : ℕ) (aim : ℕ → ℕ) (place cost : ℕ) (begins : BeginsAt g w wanted dir own x aim place cost) → IsStep g w dir begins.k x begins.end
+  step_by wanted dir own x aim place cost begins = record {
     ends = begins.ends;
     list = begins.list;
     place = place;
@@ -81,19 +81,19 @@ module _ (g : Topology) (root : ℕ) (w : Directions) (is : IsOrdered g root w) 
   }
 
   -- a way is a path
-  pub way_is_path : (dir : Dir) (own : Bool) (x : ℕ) (aim : ℕ → ℕ) (place cost h : ℕ) (begins : BeginsAt g w dir own x aim place cost)
+  pub way_is_path : (wanted : List Bool) (dir : Dir) (own : Bool) (x : ℕ) (aim : ℕ → ℕ) (place cost h : ℕ) (begins : BeginsAt g w wanted dir own x aim place cost)
       → IsClosed g root w begins.k h → Path g w dir begins.k h x (begins.end ∷ begins.others) (aim begins.k)
-  way_is_path dir own x aim place cost h begins closed =
-      let step = step_by dir own x aim place cost begins in
+  way_is_path wanted dir own x aim place cost h begins closed =
+      let step = step_by wanted dir own x aim place cost begins in
       let same = same_head begins.k begins.h h begins.end.to begins.head (head_by dir begins.k h x begins.end closed step) in
       path_of_rest g w dir begins.k h x (aim begins.k) begins.end begins.others step
       (subst (λ (top : ℕ). Rest g w dir begins.k top begins.end.to begins.others (aim begins.k)) same begins.rest)
 
   -- a path is a way
-  pub path_is_way : (dir : Dir) (own : Bool) (k h x : ℕ) (aim : ℕ → ℕ) (place : ℕ) (ends : List End) (end : End) (others : List End)
-      → IsClosed g root w k h → HasMoreLinks g w k → (own ≡ true → k ≡ w.block x) → (own ≡ false → aim k ≢ x) → slice_get g.ends x ≡ Some ends → slice_get ends place ≡ Some end
-      → Path g w dir k h x (end ∷ others) (aim k) → BeginsAt g w dir own x aim place (cost_of (end ∷ others))
-  path_is_way dir own k h x aim place ends end others closed more kept_to onward list there path =
+  pub path_is_way : (wanted : List Bool) (dir : Dir) (own : Bool) (k h x : ℕ) (aim : ℕ → ℕ) (place : ℕ) (ends : List End) (end : End) (others : List End)
+      → IsClosed g root w k h → IsWanted g w wanted k → (own ≡ true → k ≡ w.block x) → (own ≡ false → aim k ≢ x) → slice_get g.ends x ≡ Some ends → slice_get ends place ≡ Some end
+      → Path g w dir k h x (end ∷ others) (aim k) → BeginsAt g w wanted dir own x aim place (cost_of (end ∷ others))
+  path_is_way wanted dir own k h x aim place ends end others closed in_wanted kept_to onward list there path =
       let step = first_step g w dir k h x (aim k) end others path in
       record {
         ends = ends;
@@ -104,7 +104,7 @@ module _ (g : Topology) (root : ℕ) (w : Directions) (is : IsOrdered g root w) 
         h = h;
         in_block = step.in_block;
         leads_on = step.leads_on;
-        more = more;
+        in_wanted = in_wanted;
         kept_to = kept_to;
         onward = onward;
         head = head_by dir k h x end closed step;
@@ -114,11 +114,11 @@ module _ (g : Topology) (root : ℕ) (w : Directions) (is : IsOrdered g root w) 
       }
 
   -- the least way within the own block has the least cost of what is left
-  pub own_rest : (dir : Dir) (x : ℕ) (aim : ℕ → ℕ) (cost link : ℕ) (ends : List End) → x < length g.ids → slice_get g.ends x ≡ Some ends
-      → x ≢ aim (w.block x) → HasMoreLinks g w (w.block x) → IsLeastWay (BeginsAt g w dir true x aim) ends (length ends) cost link
+  pub own_rest : (wanted : List Bool) (dir : Dir) (x : ℕ) (aim : ℕ → ℕ) (cost link : ℕ) (ends : List End) → x < length g.ids → slice_get g.ends x ≡ Some ends
+      → x ≢ aim (w.block x) → IsWanted g w wanted (w.block x) → IsLeastWay (BeginsAt g w wanted dir true x aim) ends (length ends) cost link
       → IsRestCost g w dir (w.block x) (w.head x) x (aim (w.block x)) cost
-  own_rest dir x aim cost link ends within list two more least =
-      let found = closed_of_more g root w (w.block x) is more in
+  own_rest wanted dir x aim cost link ends within list two in_wanted least =
+      let found = closed_of_more g root w (w.block x) is in_wanted.more in
       let head = head_of_member g root w (w.block x) found.0 x is found.1 within refl in
       let closed : IsClosed g root w (w.block x) (w.head x) = subst (λ (y : ℕ). IsClosed g root w (w.block x) y) (sym head) found.1 in
       record {
@@ -126,7 +126,7 @@ module _ (g : Topology) (root : ℕ) (w : Directions) (is : IsOrdered g root w) 
             let it = least.reached below in
             let k_is : it.begins.k ≡ w.block x = it.begins.kept_to refl in
             let path =
-            way_is_path dir true x aim it.place cost (w.head x) it.begins
+            way_is_path wanted dir true x aim it.place cost (w.head x) it.begins
             (subst (λ (k : ℕ). IsClosed g root w k (w.head x)) (sym k_is) closed) in (
               it.begins.end ∷ it.begins.others,
               (
@@ -146,23 +146,24 @@ module _ (g : Topology) (root : ℕ) (w : Directions) (is : IsOrdered g root w) 
           let same = same_Some step.ends ends (sym step.list ∙ list) in
           let there : slice_get ends step.place ≡ Some end = subst (λ (es : List End). slice_get es step.place ≡ Some end) same step.there in
           least.least step.place (cost_of (end ∷ others)) (slice_get_within ends step.place end there)
-          (path_is_way dir true (w.block x) (w.head x) x aim step.place ends end others closed more (λ kept. refl) (λ all_blocks. (cc)) list there rest.1)
+          (path_is_way wanted dir true (w.block x) (w.head x) x aim step.place ends end others closed in_wanted (λ kept. refl) (λ all_blocks. (cc)) list there rest.1)
 
   -- the least way over all ends is the hop; so is the least one within the own block, where there is no other common one
-  pub least_hop : (dir : Dir) (own : Bool) (s t : ℕ) (aim : ℕ → ℕ) (cost link : ℕ) (ends : List End) → s < length g.ids
+  pub least_hop : (wanted : List Bool) (dir : Dir) (own : Bool) (s t : ℕ) (aim : ℕ → ℕ) (cost link : ℕ) (ends : List End) → s < length g.ids
       → slice_get g.ends s ≡ Some ends → s ≢ t → ((k h : ℕ) → HaveCommonBlockOfMore g w s t k h → own ≡ true → k ≡ w.block s)
+      → ((k h : ℕ) → HaveCommonBlockOfMore g w s t k h → slice_get wanted k ≡ Some true)
       → ((k h : ℕ) → HaveCommonBlockOfMore g w s t k h → aim k ≡ t)
       → ((u k h : ℕ) → u < length g.ids → s ≢ u → HaveCommonBlock w s u k h → (own ≡ true → k ≡ w.block s) → (own ≡ false → aim k ≢ s) → aim k ≡ t)
-      → IsLeastWay (BeginsAt g w dir own s aim) ends (length ends) cost link → IsHop g w dir s t (hop_by cost link)
-  least_hop dir own s t aim cost link ends within list two kept_to aimed alone least = elim (cases_Bool (nat_lt cost far)) [
+      → IsLeastWay (BeginsAt g w wanted dir own s aim) ends (length ends) cost link → IsHop g w dir s t (hop_by cost link)
+  least_hop wanted dir own s t aim cost link ends within list two kept_to marked aimed alone least = elim (cases_Bool (nat_lt cost far)) [
     | inl is_less ↦ rw is_less (reached (ltb-true cost far is_less))
     | inr is_not ↦ rw is_not (NotReached (λ k h path share is_path. none k h path share is_path (ltb-false cost far is_not)))
   ]
     where
       begun : (k h place : ℕ) (end : End) (others : List End) → IsClosed g root w k h → HaveCommonBlockOfMore g w s t k h → slice_get ends place ≡ Some end
-          → Path g w dir k h s (end ∷ others) t → BeginsAt g w dir own s aim place (cost_of (end ∷ others))
+          → Path g w dir k h s (end ∷ others) t → BeginsAt g w wanted dir own s aim place (cost_of (end ∷ others))
       begun k h place end others closed share there path =
-          path_is_way dir own k h s aim place ends end others closed share.more (kept_to k h share)
+          path_is_way wanted dir own k h s aim place ends end others closed (record { more = share.more; marked = marked k h share }) (kept_to k h share)
           (λ all_blocks same. two (sym same ∙ aimed k h share)) list there
           (subst (λ (y : ℕ). Path g w dir k h s (end ∷ others) y) (sym (aimed k h share)) path)
 
@@ -184,10 +185,10 @@ module _ (g : Topology) (root : ℕ) (w : Directions) (is : IsOrdered g root w) 
       reached : cost < far → IsHop g w dir s t (Some (record { cost = cost; link = link }))
       reached below =
           let it = least.reached below in
-          let found = closed_of_more g root w it.begins.k is it.begins.more in
+          let found = closed_of_more g root w it.begins.k is it.begins.in_wanted.more in
           let k = it.begins.k in
           let h = found.0 in
-          let step = step_by dir own s aim it.place cost it.begins in
+          let step = step_by wanted dir own s aim it.place cost it.begins in
           let move = move_of g w dir k s it.begins.end is.kept step in
           let common = is.ordered.links.common it.begins.end.link s it.begins.end.to move.onward in
           let aim_is : aim k ≡ t =
@@ -195,7 +196,7 @@ module _ (g : Topology) (root : ℕ) (w : Directions) (is : IsOrdered g root w) 
           (subst (λ (b : ℕ). HaveCommonBlock w s it.begins.end.to b common.0) it.begins.in_block common.1) it.begins.kept_to it.begins.onward in
           let path =
           subst (λ (y : ℕ). Path g w dir k h s (it.begins.end ∷ it.begins.others) y) aim_is
-          (way_is_path dir own s aim it.place cost h it.begins found.1) in
+          (way_is_path wanted dir own s aim it.place cost h it.begins found.1) in
           let same_list = same_Some it.begins.ends ends (sym it.begins.list ∙ list) in
           let same : it.begins.end ≡ it.end =
           same_Some it.begins.end it.end
@@ -216,7 +217,7 @@ module _ (g : Topology) (root : ℕ) (w : Directions) (is : IsOrdered g root w) 
                   (record { others = it.begins.others; is_path = path; costs = it.begins.costs });
               none_before = λ place other early at begins_path.
                   it.none_before place early
-                  (subst (λ (c : ℕ). BeginsAt g w dir own s aim place c) begins_path.costs
+                  (subst (λ (c : ℕ). BeginsAt g w wanted dir own s aim place c) begins_path.costs
                   (begun k h place other begins_path.others found.1 share at begins_path.is_path));
             };
             over = it.over;

@@ -1,5 +1,5 @@
 -- The links by which nodes begin least paths, to some nodes side by side.
-use Rattle.std.specs.Prelude.{◌≡◌, ◌≢◌, ◌<◌, ◌+◌, ◌*◌, ℕ, Bool, false, List, Some, None, length, slice_get}
+use Rattle.std.specs.Prelude.{◌≡◌, ◌≢◌, ◌<◌, ◌+◌, ◌*◌, ℕ, Bool, false, true, List, Some, None, length, slice_get}
 use Rattle.link_direction.specs.Directions.{Directions}
 use Rattle.mrt_graph.specs.Topology.{Topology}
 use Rattle.inc_dec_spf.specs.declared.reach.Dir.{Dir}
@@ -25,7 +25,7 @@ pub record LiesInOneBlock (g : Topology) (w : Directions) (v : ℕ) : Type 0 whe
 pub record AreOthersInOneBlock (g : Topology) (w : Directions) (marks : List Bool) : Type 0 where
   pub each : (v : ℕ) → v < length g.ids → slice_get marks v ≡ Some false → LiesInOneBlock g w v
 
--- the links of node s are there, at so many places, for what it aims at over a block of more than one link
-pub record HasLinksAt (g : Topology) (w : Directions) (dir : Dir) (aims : List ℕ) (width : ℕ) (links : List ℕ) (s : ℕ) : Type 0 where
-  pub each : (j t k h link : ℕ) → j < width → t < length g.ids → HaveCommonBlockOfMore g w s t k h → IsAimOf g w (aim_at aims width j) s t
-      → slice_get links (s * width + j) ≡ Some link → IsFirstLink g w dir s t link
+-- the links of node s are there, at so many places, for what it aims at over a wanted block of more than one link
+pub record HasLinksAt (g : Topology) (w : Directions) (wanted : List Bool) (dir : Dir) (aims : List ℕ) (width : ℕ) (links : List ℕ) (s : ℕ) : Type 0 where
+  pub each : (j t k h link : ℕ) → j < width → t < length g.ids → HaveCommonBlockOfMore g w s t k h → slice_get wanted k ≡ Some true
+      → IsAimOf g w (aim_at aims width j) s t → slice_get links (s * width + j) ≡ Some link → IsFirstLink g w dir s t link

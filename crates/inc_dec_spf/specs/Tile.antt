@@ -1,5 +1,5 @@
 -- A tile: the links by which all nodes begin the least paths to some nodes side by side.
-use Rattle.std.specs.Prelude.{◌≡◌, ◌<◌, ℕ, List, length}
+use Rattle.std.specs.Prelude.{◌≡◌, ◌<◌, ℕ, Bool, List, length}
 use Rattle.mrt_graph.specs.Topology.{Topology}
 use Rattle.link_direction.specs.Directions.{Directions}
 use Rattle.inc_dec_spf.specs.declared.reach.Dir.{Dir}
@@ -11,6 +11,6 @@ pub record IsTile (g : Topology) (places : ℕ) (tile : TileEntries) : Type 0 wh
   pub nodes : tile.nodes ≡ length g.ids
   pub width : tile.width ≡ places
 
--- it is aimed so: it has the links of all nodes
-pub record IsAimed (g : Topology) (w : Directions) (dir : Dir) (aims : List ℕ) (tile : TileEntries) : Type 0 where
-  pub each : (s : ℕ) → s < length g.ids → HasLinksAt g w dir aims tile.width tile.links s
+-- it is aimed so: it has the links of all nodes over the wanted blocks
+pub record IsAimed (g : Topology) (w : Directions) (wanted : List Bool) (dir : Dir) (aims : List ℕ) (tile : TileEntries) : Type 0 where
+  pub each : (s : ℕ) → s < length g.ids → HasLinksAt g w wanted dir aims tile.width tile.links s

@@ -15,9 +15,14 @@ pub data HasHeadBy (w : Directions) (k h y : ℕ) : Type 0 where
   Inside : w.block y ≡ k → w.head y ≡ h → HasHeadBy w k h y
   AtHead : w.block y ≢ k → y ≡ h → HasHeadBy w k h y
 
--- with the end of x at this place begins a path of this cost to what its block aims at, in a block of more than one link;
+-- block k has more than one link, and is marked
+pub record IsWanted (g : Topology) (w : Directions) (wanted : List Bool) (k : ℕ) : Type 0 where
+  pub more : HasMoreLinks g w k
+  pub marked : slice_get wanted k ≡ Some true
+
+-- with the end of x at this place begins a path of this cost to what its block aims at, in a block that is wanted;
 -- in that of x, where it is kept to its own block, else in one that does not aim at x itself
-pub record BeginsAt (g : Topology) (w : Directions) (dir : Dir) (own : Bool) (x : ℕ) (aim : ℕ → ℕ) (place cost : ℕ) : Type 0 where
+pub record BeginsAt (g : Topology) (w : Directions) (wanted : List Bool) (dir : Dir) (own : Bool) (x : ℕ) (aim : ℕ → ℕ) (place cost : ℕ) : Type 0 where
   pub ends : List End
   pub list : slice_get g.ends x ≡ Some ends
   pub end : End
@@ -26,7 +31,7 @@ pub record BeginsAt (g : Topology) (w : Directions) (dir : Dir) (own : Bool) (x 
   pub h : ℕ
   pub in_block : w.lies_in end.link ≡ k
   pub leads_on : LeadsOn w dir x end
-  pub more : HasMoreLinks g w k
+  pub in_wanted : IsWanted g w wanted k
   pub kept_to : own ≡ true → k ≡ w.block x
   pub onward : own ≡ false → aim k ≢ x
   pub head : HasHeadBy w k h end.to
@@ -44,18 +49,18 @@ pub data IsLeftAt (w : Directions) (own : Bool) (x : ℕ) (aims : List ℕ) (wid
 
 -- the costs of a node from its own block are known, and at most so high
 pub record IsReadyFrom (g : Topology) (w : Directions) (dir : Dir) (aims : List ℕ) (width bound : ℕ) (all : List ℕ) (y : ℕ) : Type 0 where
-  pub each : (j left : ℕ) → j < width → slice_get all (y * width + j) ≡ Some left → HasMoreLinks g w (w.block y)
+  pub each : (j left : ℕ) → j < width → slice_get all (y * width + j) ≡ Some left
       → IsRestCost g w dir (w.block y) (w.head y) y (aim_at aims width j (w.block y)) left
   pub small : (j left : ℕ) → j < width → slice_get all (y * width + j) ≡ Some left → left < far → left ≤ bound
 
--- so for each node to which an end leads on in its block
-pub record AreReady (g : Topology) (w : Directions) (dir : Dir) (own : Bool) (aims : List ℕ) (width bound : ℕ) (all : List ℕ) (x : ℕ) : Type 0 where
-  pub each : (k : ℕ) (end : End) → HasMoreLinks g w k → IsStep g w dir k x end → (own ≡ true → k ≡ w.block x)
+-- so for each node to which an end leads on in its block, where that is wanted
+pub record AreReady (g : Topology) (w : Directions) (wanted : List Bool) (dir : Dir) (own : Bool) (aims : List ℕ) (width bound : ℕ) (all : List ℕ) (x : ℕ) : Type 0 where
+  pub each : (k : ℕ) (end : End) → IsWanted g w wanted k → IsStep g w dir k x end → (own ≡ true → k ≡ w.block x)
       → w.block end.to ≡ k → IsReadyFrom g w dir aims width bound all end.to
 
 -- the least ways over the first ends, at each place
-pub record AreLeast (g : Topology) (w : Directions) (dir : Dir) (own : Bool) (aims : List ℕ) (width bound x : ℕ) (ends : List End) (count : ℕ)
+pub record AreLeast (g : Topology) (w : Directions) (wanted : List Bool) (dir : Dir) (own : Bool) (aims : List ℕ) (width bound x : ℕ) (ends : List End) (count : ℕ)
     (costs links : List ℕ) : Type 0 where
   pub each : (j cost link : ℕ) → slice_get costs j ≡ Some cost → slice_get links j ≡ Some link
-      → IsLeastWay (BeginsAt g w dir own x (aim_at aims width j)) ends count cost link
+      → IsLeastWay (BeginsAt g w wanted dir own x (aim_at aims width j)) ends count cost link
   pub small : (j cost : ℕ) → slice_get costs j ≡ Some cost → cost < far → cost ≤ bound + 65535

@@ -6,14 +6,14 @@ ghost use Rattle.inc_dec_spf.specs.Aiming.{IsAiming};
 ghost use Rattle.inc_dec_spf.specs.FirstLink.{HasLinksAt, LiesInOneBlock};
 ghost use Rattle.inc_dec_spf.specs.HasDirections.{AreDirections};
 ghost use Rattle.inc_dec_spf.specs.Rest.{far};
-ghost use Rattle.inc_dec_spf.specs.Ways.{IsReadyFrom};
+ghost use Rattle.inc_dec_spf.specs.Ways.{IsReadyFrom, IsWanted};
 
 use crate::aiming::Aiming;
 use crate::ways::take_ways;
 use mrt_graph::{LinkNo, NodeNo};
 
-/// Takes the least costs of each node, in its own block, to the aims of its block, side by side, and the links by
-/// which it begins the ways of these costs.
+/// Takes the least costs of each node, in its own block where that is wanted, to the aims of its block, side by side, and the
+/// links by which it begins the ways of these costs.
 ///
 /// The turns are those of the other direction, so whatever a node leads to has its turn before it.
 pub fn take_own_ways(
@@ -35,19 +35,22 @@ pub fn take_own_ways(
     ensures most { (i cost : ℕ) → slice_get all_costs.new i ≡ Some cost → cost ≤ far }
     ensures ready { (root y : ℕ) (w : Directions) → AreDirections aiming.now.graph.now aiming.now.directed.now root w
         → y < length aiming.now.graph.now.ids
+        → IsWanted aiming.now.graph.now w aiming.now.wanted.now (w.block y)
         → IsReadyFrom aiming.now.graph.now w aiming.now.dir aiming.now.aims.now (length costs.old)
         (65536 * length aiming.now.graph.now.ids) all_costs.new y }
     ensures links { (root y : ℕ) (w : Directions) → AreDirections aiming.now.graph.now aiming.now.directed.now root w
         → y < length aiming.now.graph.now.ids → LiesInOneBlock aiming.now.graph.now w y
-        → HasLinksAt aiming.now.graph.now w aiming.now.dir aiming.now.aims.now (length costs.old) all_links.new y }
+        → HasLinksAt aiming.now.graph.now w aiming.now.wanted.now aiming.now.dir aiming.now.aims.now (length costs.old) all_links.new y }
 {
     for x in aiming.turns {
-        take_ways(aiming, *x, true, all_costs, costs, links);
         let block = aiming.directed.place(*x).block.get() as usize;
-        arrive(block * costs.len(), *x, aiming.aims, costs);
-        let at = x.get() as usize * costs.len();
-        keep(at, costs, all_costs);
-        keep(at, links, all_links);
+        if aiming.wanted[block] {
+            take_ways(aiming, *x, true, all_costs, costs, links);
+            arrive(block * costs.len(), *x, aiming.aims, costs);
+            let at = x.get() as usize * costs.len();
+            keep(at, costs, all_costs);
+            keep(at, links, all_links);
+        }
     }
 }
 

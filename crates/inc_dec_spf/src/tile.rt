@@ -1,12 +1,12 @@
 //! Tiles: the links by which all nodes begin the least paths to some nodes side by side.
 
-ghost use Rattle.std.specs.Prelude.{◌≡◌, ◌≢◌, ◌<◌, ◌+◌, ◌*◌, ℕ, IfOk, Some, length, slice_get};
+ghost use Rattle.std.specs.Prelude.{◌≡◌, ◌≢◌, ◌<◌, ◌+◌, ◌*◌, ℕ, IfOk, Some, length, slice_get, true};
 ghost use Rattle.link_direction.specs.Directions.{Directions};
 ghost use Rattle.inc_dec_spf.specs.Aiming.{AreOwnCosts, IsAiming};
 ghost use Rattle.inc_dec_spf.specs.BlockAims.{IsAimOf, aim_at};
 ghost use Rattle.inc_dec_spf.specs.FirstLink.{AreOthersInOneBlock, HasLinksAt, LiesInOneBlock};
 ghost use Rattle.inc_dec_spf.specs.HasDirections.{AreDirections};
-ghost use Rattle.inc_dec_spf.specs.LeastPath.{IsHop};
+ghost use Rattle.inc_dec_spf.specs.LeastPath.{HaveCommonBlockOfMore, IsHop};
 ghost use Rattle.inc_dec_spf.specs.Side.{hop_by};
 ghost use Rattle.inc_dec_spf.specs.Tile.{IsAimed, IsTile};
 
@@ -63,9 +63,10 @@ impl Tile {
         })
     }
 
-    /// Takes the links of all nodes to what their blocks aim at. Each node that is not marked in `heads` lies in one block.
+    /// Takes the links of all nodes, over the wanted blocks, to what these aim at. Each node that is not marked in `heads` has no
+    /// other block of more than one link than its own.
     ///
-    /// It takes time in proportion to the ends of all nodes times the width.
+    /// It takes time in proportion to the nodes, and to the ends of those in the wanted blocks and of the heads times the width.
     pub fn aim(&mut self, aiming: &Aiming, heads: &[bool])
         requires aiming { IsAiming aiming.now self.old.width }
         requires nodes { self.old.nodes ≡ length aiming.now.graph.now.ids }
@@ -74,7 +75,7 @@ impl Tile {
         ensures width { self.new.width ≡ self.old.width }
         ensures aimed { (root : ℕ) (w : Directions) → AreDirections aiming.now.graph.now aiming.now.directed.now root w
             → AreOthersInOneBlock aiming.now.graph.now w heads.now
-            → IsAimed aiming.now.graph.now w aiming.now.dir aiming.now.aims.now self.new }
+            → IsAimed aiming.now.graph.now w aiming.now.wanted.now aiming.now.dir aiming.now.aims.now self.new }
     {
         self.take_costs(aiming);
         for n in 0..aiming.graph.node_count() {
@@ -84,8 +85,8 @@ impl Tile {
         }
     }
 
-    /// Takes the costs of all nodes, each in its own block, to what the block aims at, and the links of those that lie in one
-    /// block.
+    /// Takes the costs of all nodes, each in its own block where that is wanted, to what the block aims at, and the links of those
+    /// that have no other block of more than one link.
     pub(crate) fn take_costs(&mut self, aiming: &Aiming)
         requires aiming { IsAiming aiming.now self.old.width }
         requires nodes { self.old.nodes ≡ length aiming.now.graph.now.ids }
@@ -95,7 +96,7 @@ impl Tile {
             → AreOwnCosts aiming.now w self.new }
         ensures links { (root y : ℕ) (w : Directions) → AreDirections aiming.now.graph.now aiming.now.directed.now root w
             → y < length aiming.now.graph.now.ids → LiesInOneBlock aiming.now.graph.now w y
-            → HasLinksAt aiming.now.graph.now w aiming.now.dir aiming.now.aims.now self.new.width self.new.links y }
+            → HasLinksAt aiming.now.graph.now w aiming.now.wanted.now aiming.now.dir aiming.now.aims.now self.new.width self.new.links y }
     {
         take_own_ways(
             aiming,
@@ -106,7 +107,7 @@ impl Tile {
         );
     }
 
-    /// Takes the links of s in all its blocks, where the costs of all nodes were taken.
+    /// Takes the links of s in all its wanted blocks, where the costs of all nodes were taken.
     fn take_links(&mut self, aiming: &Aiming, s: NodeNo)
         requires aiming { IsAiming aiming.now self.old.width }
         requires nodes { self.old.nodes ≡ length aiming.now.graph.now.ids }
@@ -116,10 +117,10 @@ impl Tile {
         ensures costs { self.new.costs ≡ self.old.costs }
         ensures links { (root : ℕ) (w : Directions) → AreDirections aiming.now.graph.now aiming.now.directed.now root w
             → AreOwnCosts aiming.now w self.old
-            → HasLinksAt aiming.now.graph.now w aiming.now.dir aiming.now.aims.now self.new.width self.new.links s }
+            → HasLinksAt aiming.now.graph.now w aiming.now.wanted.now aiming.now.dir aiming.now.aims.now self.new.width self.new.links s }
         ensures others { (y : ℕ) (w : Directions) → y ≢ s
-            → HasLinksAt aiming.now.graph.now w aiming.now.dir aiming.now.aims.now self.old.width self.old.links y
-            → HasLinksAt aiming.now.graph.now w aiming.now.dir aiming.now.aims.now self.new.width self.new.links y }
+            → HasLinksAt aiming.now.graph.now w aiming.now.wanted.now aiming.now.dir aiming.now.aims.now self.old.width self.old.links y
+            → HasLinksAt aiming.now.graph.now w aiming.now.wanted.now aiming.now.dir aiming.now.aims.now self.new.width self.new.links y }
     {
         take_ways(
             aiming,
@@ -133,8 +134,8 @@ impl Tile {
         keep(at, &self.links, &mut self.all_links);
     }
 
-    /// The hop of s to the first of what its blocks aim at, in all its blocks that do not aim at s itself, where the costs of
-    /// all nodes were taken.
+    /// The hop of s to the first of what its blocks aim at, in all its wanted blocks that do not aim at s itself, where the costs
+    /// of all nodes were taken.
     pub(crate) fn hop_from(&mut self, aiming: &Aiming, s: NodeNo) -> Option<Hop>
         requires aiming { IsAiming aiming.now self.old.width }
         requires nodes { self.old.nodes ≡ length aiming.now.graph.now.ids }
@@ -145,7 +146,9 @@ impl Tile {
         ensures costs { self.new.costs ≡ self.old.costs }
         ensures hop { (root t : ℕ) (w : Directions) → AreDirections aiming.now.graph.now aiming.now.directed.now root w
             → AreOwnCosts aiming.now w self.old
-            → s ≢ t → IsAimOf aiming.now.graph.now w (aim_at aiming.now.aims.now self.old.width 0) s t
+            → s ≢ t
+            → ((k h : ℕ) → HaveCommonBlockOfMore aiming.now.graph.now w s t k h → slice_get aiming.now.wanted.now k ≡ Some true)
+            → IsAimOf aiming.now.graph.now w (aim_at aiming.now.aims.now self.old.width 0) s t
             → IsHop aiming.now.graph.now w aiming.now.dir s t result }
     {
         take_ways(

@@ -32,12 +32,14 @@ pub fn spf_to(
     let count = g.node_count();
     let turns = nodes_by_turn(alloc, g, d, dir.against())?;
     let aims = aims_to(alloc, g, d, target)?;
+    let wanted = vec![in alloc; true; count as usize]?;
     let aiming = Aiming {
         graph: g,
         directed: d,
         dir,
         turns: turns.as_slice(),
         aims: aims.as_slice(),
+        wanted: wanted.as_slice(),
     };
     let mut tile = Tile::new(alloc, g, 1)?;
     tile.take_costs(&aiming);

@@ -16,7 +16,7 @@ use crate::offers::leads_on;
 use crate::side::{FAR, Leg, NO_LINK, take_last, take_onward, take_over};
 use mrt_graph::{LinkNo, NodeNo, Role};
 
-/// Takes the least ways from x over its ends to the aims side by side, of which each block has its own.
+/// Takes the least ways from x over its ends in the wanted blocks to the aims side by side, of which each block has its own.
 pub fn take_ways(
     aiming: &Aiming,
     x: NodeNo,
@@ -35,9 +35,9 @@ pub fn take_ways(
     ensures most { (j cost : ℕ) → slice_get costs.new j ≡ Some cost → cost ≤ far }
     ensures least { (root bound : ℕ) (w : Directions) (ends : List End)
         → AreDirections aiming.now.graph.now aiming.now.directed.now root w → bound < 2 ^ 30
-        → AreReady aiming.now.graph.now w aiming.now.dir own aiming.now.aims.now (length costs.old) bound all.now x
+        → AreReady aiming.now.graph.now w aiming.now.wanted.now aiming.now.dir own aiming.now.aims.now (length costs.old) bound all.now x
         → slice_get aiming.now.graph.now.ends x ≡ Some ends
-        → AreLeast aiming.now.graph.now w aiming.now.dir own aiming.now.aims.now (length costs.old) bound x ends
+        → AreLeast aiming.now.graph.now w aiming.now.wanted.now aiming.now.dir own aiming.now.aims.now (length costs.old) bound x ends
         (length ends) costs.new links.new }
 {
     forget(costs, links);
@@ -45,7 +45,10 @@ pub fn take_ways(
     for end in aiming.graph.ends(x) {
         let mark = aiming.directed.mark(end.link);
         let block = mark.block;
-        if is_wanted(mark.role, block, kept, own) && leads_on(aiming.dir, mark.way, x, end.to) {
+        let marked = aiming.wanted[block.get() as usize];
+        if is_wanted(mark.role, marked, block, kept, own)
+            && leads_on(aiming.dir, mark.way, x, end.to)
+        {
             let leg = Leg {
                 node: x,
                 own,
@@ -68,14 +71,15 @@ fn forget(costs: &mut [u32], links: &mut [LinkNo])
     links.fill(LinkNo::new(NO_LINK));
 }
 
-/// Whether ways over a link of this role and block are wanted: it is not sole and, where they are kept to block `kept`,
-/// lies in it.
-fn is_wanted(role: Role, block: NodeNo, kept: NodeNo, own: bool) -> bool
+/// Whether ways over a link of this role and block are wanted, where its block is marked or not: it is, the link is not sole
+/// and, where they are kept to block `kept`, lies in it.
+fn is_wanted(role: Role, marked: bool, block: NodeNo, kept: NodeNo, own: bool) -> bool
     ensures wanted { IsTrue result → role ≢ Sole }
+    ensures marked { IsTrue result → marked ≡ true }
     ensures kept_to { IsTrue result → own ≡ true → block ≡ kept }
-    ensures all { role ≢ Sole → (own ≡ true → block ≡ kept) → IsTrue result }
+    ensures all { role ≢ Sole → marked ≡ true → (own ≡ true → block ≡ kept) → IsTrue result }
 {
-    !matches!(role, Role::Sole) && (!own || block == kept)
+    marked && !matches!(role, Role::Sole) && (!own || block == kept)
 }
 
 /// Takes the ways over one end. None leads on from the block's head.

@@ -14,7 +14,7 @@ invariant-loop-x l = record {
   all_links : length l.all_links ≡ length l.aiming.graph.now.ids * length l.initial.costs;
   most : (i cost : ℕ) → slice_get l.all_costs i ≡ Some cost → cost ≤ far;
   turned : (root : ℕ) (w : Directions) → AreDirections l.aiming.graph.now l.aiming.directed.now root w
-      → AreTurned l.aiming.graph.now w l.aiming.dir l.aiming.aims.now (length l.initial.costs) l.x-index l.all_costs;
+      → AreTurned l.aiming.graph.now w l.aiming.wanted.now l.aiming.dir l.aiming.aims.now (length l.initial.costs) l.x-index l.all_costs;
   linked : (root : ℕ) (w : Directions) → AreDirections l.aiming.graph.now l.aiming.directed.now root w
-      → AreLinked l.aiming.graph.now w l.aiming.dir l.aiming.aims.now (length l.initial.costs) l.x-index l.all_links;
+      → AreLinked l.aiming.graph.now w l.aiming.wanted.now l.aiming.dir l.aiming.aims.now (length l.initial.costs) l.x-index l.all_links;
 }

@@ -11,6 +11,6 @@ invariant-loop-end l = record {
   one_link_each : length l.links ≡ length l.fn.costs;
   most : (j cost : ℕ) → slice_get l.costs j ≡ Some cost → cost ≤ far;
   least : (root bound : ℕ) (w : Directions) → AreDirections l.aiming.graph.now l.aiming.directed.now root w → bound < 2 ^ 30
-      → AreReady l.aiming.graph.now w l.aiming.dir l.own l.aiming.aims.now (length l.fn.costs) bound l.all l.x
-      → AreLeast l.aiming.graph.now w l.aiming.dir l.own l.aiming.aims.now (length l.fn.costs) bound l.x l.end-items l.end-index l.costs l.links;
+      → AreReady l.aiming.graph.now w l.aiming.wanted.now l.aiming.dir l.own l.aiming.aims.now (length l.fn.costs) bound l.all l.x
+      → AreLeast l.aiming.graph.now w l.aiming.wanted.now l.aiming.dir l.own l.aiming.aims.now (length l.fn.costs) bound l.x l.end-items l.end-index l.costs l.links;
 }

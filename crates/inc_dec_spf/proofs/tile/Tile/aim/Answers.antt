@@ -39,7 +39,7 @@ loop-n-preserved c =
                 own_costs_of aiming w after c.loop-n.self.width c.loop-n.self.costs t.take_links.ensures.width t.take_links.ensures.costs (before.costs root w are).each;
             marked = λ root s w are below is. elim (cases_eq s n) [
               | inl last ↦
-                  subst (λ (v : ℕ). HasLinksAt aiming.graph.now w aiming.dir aiming.aims.now after.width after.links v) (at ∙ sym last)
+                  subst (λ (v : ℕ). HasLinksAt aiming.graph.now w aiming.wanted.now aiming.dir aiming.aims.now after.width after.links v) (at ∙ sym last)
                   (t.take_links.ensures.links root w are (before.costs root w are))
               | inr other ↦ t.take_links.ensures.others s w (λ back. other (back ∙ at)) (before.marked root s w are (omega (arith, below, other)) is)
             ];

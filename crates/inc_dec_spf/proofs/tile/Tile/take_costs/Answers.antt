@@ -17,7 +17,7 @@ returns-clause-costs c = λ root w are.
     let all = with_items_is tile.all_costs c.take_own_ways.new.all_costs (c.take_own_ways.ensures.all_costs ∙ c.deref_mut.ensures.len) in
     let costs = with_items_is tile.costs c.take_own_ways.new.costs (c.take_own_ways.ensures.one_each ∙ c.deref_mut-3.ensures.len) in
     own_costs_of c.args.aiming.now w _ (length c.deref_mut-3.result.now) c.take_own_ways.new.all_costs
-    (ap (λ (xs : List ℕ). length xs) costs ∙ c.take_own_ways.ensures.one_each) all (λ y within. c.take_own_ways.ensures.ready root y w are within)
+    (ap (λ (xs : List ℕ). length xs) costs ∙ c.take_own_ways.ensures.one_each) all (λ y within in_wanted. c.take_own_ways.ensures.ready root y w are within in_wanted)
 
 pub returns-clause-links : goal.returns-clause-links
 returns-clause-links c = λ root y w are within one.
@@ -25,5 +25,5 @@ returns-clause-links c = λ root y w are within one.
     let tile = c.self.inside in
     let all = with_items_is tile.all_links c.take_own_ways.new.all_links (c.take_own_ways.ensures.all_links ∙ c.deref_mut-2.ensures.len) in
     let costs = with_items_is tile.costs c.take_own_ways.new.costs (c.take_own_ways.ensures.one_each ∙ c.deref_mut-3.ensures.len) in
-    links_moved aiming.graph.now w aiming.dir aiming.aims.now (length c.deref_mut-3.result.now) _ c.take_own_ways.new.all_links _ y
+    links_moved aiming.graph.now w aiming.wanted.now aiming.dir aiming.aims.now (length c.deref_mut-3.result.now) _ c.take_own_ways.new.all_links _ y
     (ap (λ (xs : List ℕ). length xs) costs ∙ c.take_own_ways.ensures.one_each) all (c.take_own_ways.ensures.links root y w are within one)

@@ -60,8 +60,8 @@ returns-clause-links c = λ root w are known.
     let own_is = c.deref-2.ensures.value ∙ links_is in
     let len_is : c.len.result ≡ width = omega (arith, c.len.ensures, tile.costs.ok.0, wide) in
     let place : c.get.result * c.len.result ≡ s * width = ap (λ (n : ℕ). c.get.result * n) len_is ∙ ap (λ (y : ℕ). y * width) c.get.ensures.value in
-    links_moved g w aiming.dir aiming.aims.now width _ c.keep.new.all _ s (ap (λ (xs : List ℕ). length xs) costs_is ∙ c.take_ways.ensures.one_each) all_is
-    (links_kept g root w is aiming.dir false s aiming.aims.now width (65536 * length g.ids) ends.0 c.take_ways.new.costs c.take_ways.new.links c.keep.new.all
+    links_moved g w aiming.wanted.now aiming.dir aiming.aims.now width _ c.keep.new.all _ s (ap (λ (xs : List ℕ). length xs) costs_is ∙ c.take_ways.ensures.one_each) all_is
+    (links_kept g root w is aiming.wanted.now aiming.dir false s aiming.aims.now width (65536 * length g.ids) ends.0 c.take_ways.new.costs c.take_ways.new.links c.keep.new.all
     c.requires.node ends.1 c.take_ways.ensures.one_each c.take_ways.ensures.one_link_each (λ t k h inside share own. (cc)) least
     (λ j below. subst (λ (p : ℕ). slice_get c.keep.new.all (p + j) ≡ slice_get c.take_ways.new.links j) place
     (subst (λ (xs : List ℕ). slice_get c.keep.new.all (c.get.result * c.len.result + j) ≡ slice_get xs j) own_is
@@ -82,8 +82,8 @@ returns-clause-others c = λ y w other has.
     let many : length c.deref-2.result.now ≡ width = ap (λ (xs : List ℕ). length xs) own_is ∙ c.take_ways.ensures.one_link_each ∙ wide in
     let len_is : c.len.result ≡ width = omega (arith, c.len.ensures, tile.costs.ok.0) in
     let place : c.get.result * c.len.result ≡ s * width = ap (λ (n : ℕ). c.get.result * n) len_is ∙ ap (λ (v : ℕ). v * width) c.get.ensures.value in
-    let before = subst (λ (e : TileEntries). HasLinksAt g w aiming.dir aiming.aims.now e.width e.links y) (sym c.self.view_is) has in
-    let before_all = subst (λ (xs : List ℕ). HasLinksAt g w aiming.dir aiming.aims.now width xs y) (sym c.deref_mut-3.ensures.value) before in
-    links_moved g w aiming.dir aiming.aims.now width _ c.keep.new.all _ y (ap (λ (xs : List ℕ). length xs) costs_is ∙ c.take_ways.ensures.one_each ∙ wide) all_is
-    (links_stay g w aiming.dir aiming.aims.now width y s (length c.deref-2.result.now) c.deref_mut-3.result.now c.keep.new.all other many
+    let before = subst (λ (e : TileEntries). HasLinksAt g w aiming.wanted.now aiming.dir aiming.aims.now e.width e.links y) (sym c.self.view_is) has in
+    let before_all = subst (λ (xs : List ℕ). HasLinksAt g w aiming.wanted.now aiming.dir aiming.aims.now width xs y) (sym c.deref_mut-3.ensures.value) before in
+    links_moved g w aiming.wanted.now aiming.dir aiming.aims.now width _ c.keep.new.all _ y (ap (λ (xs : List ℕ). length xs) costs_is ∙ c.take_ways.ensures.one_each ∙ wide) all_is
+    (links_stay g w aiming.wanted.now aiming.dir aiming.aims.now width y s (length c.deref-2.result.now) c.deref_mut-3.result.now c.keep.new.all other many
     (λ p out. c.keep.ensures.elsewhere p (subst (λ (q : ℕ). (p < q) ⊎ (q + length c.deref-2.result.now ≤ p)) (sym place) out)) before_all)
