@@ -2,3 +2,4 @@ mod Nears
 mod OneFile
 mod Whole
 mod OneGraph
+mod StillStream

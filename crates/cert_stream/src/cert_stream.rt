@@ -62,11 +62,7 @@ impl CertStream {
         ensures within { IfOk result (λ _. (file : CertFile) → IsCertOf graph root file → IsCertFile file) }
         ensures kept { IfOk result (λ _. IsTopology graph) }
     {
-        let rows = SourceRows::new(alloc, &graph, root)?;
-        let nodes = rows.nodes(alloc, &graph)?;
-        let links = rows.links(alloc, &graph)?;
         let number = graph.id(root).number;
-        numbers_fit(number, &nodes);
         let writer = CertWriter::new(
             alloc,
             VERSION,
@@ -74,6 +70,10 @@ impl CertStream {
             graph.link_count(),
             number,
         )?;
+        let rows = SourceRows::new(alloc, &graph, root)?;
+        let nodes = rows.nodes(alloc, &graph)?;
+        let links = rows.links(alloc, &graph)?;
+        numbers_fit(number, &nodes);
         Ok(CertStream {
             graph,
             root,
@@ -135,23 +135,24 @@ impl CertStream {
         ensures { (file second : CertFile) → IsCertOf self.graph self.root file
             → IsCertOf other.graph other.root second → (IsTrue result ↔ (file ≡ second)) }
     {
+        // (each is held by this call alone, so that it is dropped at one place)
+        let mut one = self;
+        let mut other = other;
+        one.tells_the_same(&mut other)
+    }
+
+    /// Whether two certificates are the same, as [`CertStream::is_same`].
+    fn tells_the_same(&mut self, other: &mut CertStream) -> bool
+        ensures { (file second : CertFile) → IsCertOf self.old.graph self.old.root file
+            → IsCertOf other.old.graph other.old.root second → (IsTrue result ↔ (file ≡ second)) }
+    {
         one_spelling();
         one_certificate();
-        if self.is_of_the_same(&other) {
+        if self.is_of_the_same(other) {
             return true;
         }
-        let has_same_parts = self.has_same_parts(&other);
-        let CertStream {
-            graph,
-            mut rows,
-            ..
-        } = self;
-        let CertStream {
-            graph: other_graph,
-            rows: mut others,
-            ..
-        } = other;
-        has_same_parts && are_rows_same(&graph, &mut rows, &other_graph, &mut others)
+        self.has_same_parts(other)
+            && are_rows_same(&self.graph, &mut self.rows, &other.graph, &mut other.rows)
     }
 
     /// Whether both are of one graph and one root.

@@ -100,7 +100,11 @@ pub fn are_rows_same(
     requires made { MakeRows g.now rows.old }
     requires others_made { MakeRows other.now others.old }
     requires count { length g.now.ids ≡ length other.now.ids }
-    ensures { (file second : CertFile) → IsCertOf g.now rows.old.root file
+    ensures root { rows.new.root ≡ rows.old.root }
+    ensures others_root { others.new.root ≡ others.old.root }
+    ensures made { MakeRows g.now rows.new }
+    ensures others_made { MakeRows other.now others.new }
+    ensures same { (file second : CertFile) → IsCertOf g.now rows.old.root file
         → IsCertOf other.now others.old.root second
         → (IsTrue result ↔ HaveSameRows (length g.now.ids) file.cert second.cert) }
 {

@@ -3,8 +3,8 @@ use Rattle.mrt_rows.specs.CertOf.{IsCertOf}
 use Rattle.cert_stream.proofs.OneFile.{more_rows, other_rows}
 use Rattle.cert_stream.proofs.same.are_rows_same.Goals as goal
 
-pub returns-then-not-has_same_rows : goal.returns-then-not-has_same_rows
-returns-then-not-has_same_rows c = λ file second is second_is.
+pub returns-then-not-has_same_rows-clause-same : goal.returns-then-not-has_same_rows-clause-same
+returns-then-not-has_same_rows-clause-same c = λ file second is second_is.
     let now : IsCertOf c.args.g.now c.loop-s.rows.root file = subst (λ (r : ℕ). IsCertOf c.args.g.now r file) (sym c.loop-s.invariant.root) is in
     let second_now : IsCertOf c.args.other.now c.loop-s.others.root second = subst (λ (r : ℕ). IsCertOf c.args.other.now r second) (sym c.loop-s.invariant.others_root) second_is in
     let within : c.loop-s.s < length c.args.g.now.ids = omega arith in
