@@ -12,16 +12,11 @@ loop-k-preserved c = record {
       c.is_between.ensures c.push_reserved.ensures.items c.loop-k.invariant.so_far;
 }
 
-pub is_between-requires-clause-a : goal.is_between-requires-clause-a
-is_between-requires-clause-a c =
-    let bonds = c.args.bonds.now in
+pub is_between-requires : goal.is_between-requires
+is_between-requires c =
     let many = length c.args.inside.now in
-    subst (λ (bond : Bond). bond.a < many) (sym c.index-bonds-k.is)
-    (All-from_recursion (λ (bond : Bond). (bond.a < many) × (bond.b < many)) bonds c.requires.within c.loop-k.k c.index-bonds-k.result c.loop-k-test.true).0
-
-pub is_between-requires-clause-b : goal.is_between-requires-clause-b
-is_between-requires-clause-b c =
-    let bonds = c.args.bonds.now in
-    let many = length c.args.inside.now in
-    subst (λ (bond : Bond). bond.b < many) (sym c.index-bonds-k.is)
-    (All-from_recursion (λ (bond : Bond). (bond.a < many) × (bond.b < many)) bonds c.requires.within c.loop-k.k c.index-bonds-k.result c.loop-k-test.true).1
+    let both = All-from_recursion (λ (bond : Bond). (bond.a < many) × (bond.b < many)) c.args.bonds.now c.requires.within c.loop-k.k c.index-bonds-k.result c.loop-k-test.true in
+    record {
+      a = subst (λ (bond : Bond). bond.a < many) (sym c.index-bonds-k.is) both.0;
+      b = subst (λ (bond : Bond). bond.b < many) (sym c.index-bonds-k.is) both.1;
+    }

@@ -12,7 +12,6 @@ use Rattle.area_graph.proofs.FewBonds.{bonds_few}
 use Rattle.mrt_island.proofs.Counting.{ascend_flagged, length_flagged}
 use Rattle.mrt_island.proofs.Fitting.{island_fits}
 use Rattle.mrt_island.proofs.GraphOfIsland.{graph_parts, has_router}
-use Rattle.mrt_island.proofs.LinkNumbers.{link_numbers}
 use Rattle.mrt_island.specs.Policy.{policy_of}
 use Rattle.mrt_island.proofs.island.island_of.Goals as goal
 
@@ -52,34 +51,27 @@ graph-requires-clause-parts c =
     (subst (λ (l : List LinkIn). AreGraphParts (ids_of c.args.area.now c.args.extent.now.nodes.items) l) (sym links)
     (graph_parts (policy_of c.args.profile.now) c.args.area.now c.requires.extent.router c.args.extent.now.nodes.items c.requires.kept c.requires.extent.those))
 
-pub returns-clause-island : goal.returns-clause-island
-returns-clause-island c = λ router those.
-    let ids : c.in_ok-ids.ids.items ≡ ids_of c.args.area.now c.args.extent.now.nodes.items =
-    ids_made c.args.area.now c.args.extent.now.nodes.items c.deref.result.now c.in_ok-ids.ids.items c.in_ok-ids.ensures c.deref.ensures.value in
-    let links : c.in_ok-links.links.items ≡ links_of (policy_of c.args.profile.now) c.args.area.now c.args.extent.now.nodes.items =
-    links_made (policy_of c.args.profile.now) c.args.area.now c.args.extent.now.nodes.items c.args.extent.now.links.items c.deref-2.result.now c.deref-3.result.now c.args.bonds.now c.in_ok-links.links.items
+pub returns : goal.returns
+returns c =
+    let policy = policy_of c.args.profile.now in
+    let area = c.args.area.now in
+    let nodes = c.args.extent.now.nodes.items in
+    let ids = ids_made area nodes c.deref.result.now c.in_ok-ids.ids.items c.in_ok-ids.ensures c.deref.ensures.value in
+    let links = links_made policy area nodes c.args.extent.now.links.items c.deref-2.result.now c.deref-3.result.now c.args.bonds.now c.in_ok-links.links.items
     c.in_ok-links.ensures c.deref-2.ensures.value c.deref-3.ensures.value c.requires.bonds c.requires.extent.between in
-    let numbers : c.from_vec.result ≡ link_numbers (policy_of c.args.profile.now) c.args.area.now c.args.extent.now.nodes.items =
-    c.from_vec.ensures ∙ numbers_made (policy_of c.args.profile.now) c.args.area.now c.args.extent.now.nodes.items c.args.extent.now.links.items c.deref-4.result.now c.in_ok-link_of.link_of.items
+    let numbers = c.from_vec.ensures ∙ numbers_made policy area nodes c.args.extent.now.links.items c.deref-4.result.now c.in_ok-link_of.link_of.items
     c.in_ok-link_of.ensures c.deref-4.ensures.value c.requires.extent.between in
-    made_island (policy_of c.args.profile.now) c.args.area.now router c.args.extent.now.nodes.items c.in_ok-ids.ids.items c.in_ok-links.links.items c.in_ok-graph.graph c.root-root.result c.from_vec.result
-    those ids links numbers c.in_ok-graph.ensures
-    (subst (λ (l : List NodeId). IsRoot (policy_of c.args.profile.now) l c.root-root.result) c.deref-5.ensures.value c.root-root.ensures)
-
-pub returns-clause-fits : goal.returns-clause-fits
-returns-clause-fits c =
-    let ids : c.in_ok-ids.ids.items ≡ ids_of c.args.area.now c.args.extent.now.nodes.items =
-    ids_made c.args.area.now c.args.extent.now.nodes.items c.deref.result.now c.in_ok-ids.ids.items c.in_ok-ids.ensures c.deref.ensures.value in
-    let links : c.in_ok-links.links.items ≡ links_of (policy_of c.args.profile.now) c.args.area.now c.args.extent.now.nodes.items =
-    links_made (policy_of c.args.profile.now) c.args.area.now c.args.extent.now.nodes.items c.args.extent.now.links.items c.deref-2.result.now c.deref-3.result.now c.args.bonds.now c.in_ok-links.links.items
-    c.in_ok-links.ensures c.deref-2.ensures.value c.deref-3.ensures.value c.requires.bonds c.requires.extent.between in
-    let numbers : c.from_vec.result ≡ link_numbers (policy_of c.args.profile.now) c.args.area.now c.args.extent.now.nodes.items =
-    c.from_vec.ensures ∙ numbers_made (policy_of c.args.profile.now) c.args.area.now c.args.extent.now.nodes.items c.args.extent.now.links.items c.deref-4.result.now c.in_ok-link_of.link_of.items
-    c.in_ok-link_of.ensures c.deref-4.ensures.value c.requires.extent.between in
-    island_fits (policy_of c.args.profile.now) c.args.area.now c.args.extent.now.nodes.items c.in_ok-graph.graph c.from_vec.result c.requires.kept c.requires.extent.those.one_each
-    (subst (λ (l : List NodeId). IsGraphOf l (links_of (policy_of c.args.profile.now) c.args.area.now c.args.extent.now.nodes.items) c.in_ok-graph.graph) ids
-    (subst (λ (l : List LinkIn). IsGraphOf c.in_ok-ids.ids.items l c.in_ok-graph.graph) links c.in_ok-graph.ensures))
-    numbers
+    record {
+      island = λ router those.
+          made_island policy area router nodes c.in_ok-ids.ids.items c.in_ok-links.links.items c.in_ok-graph.graph c.root-root.result c.from_vec.result
+          those ids links numbers c.in_ok-graph.ensures
+          (subst (λ (l : List NodeId). IsRoot policy l c.root-root.result) c.deref-5.ensures.value c.root-root.ensures);
+      fits = island_fits policy area nodes c.in_ok-graph.graph c.from_vec.result c.requires.kept c.requires.extent.those.one_each
+          (subst (λ (l : List NodeId). IsGraphOf l (links_of policy area nodes) c.in_ok-graph.graph) ids
+          (subst (λ (l : List LinkIn). IsGraphOf c.in_ok-ids.ids.items l c.in_ok-graph.graph) links c.in_ok-graph.ensures))
+          numbers;
+      refused = tt;
+    }
 
 pub graph-requires-clause-nodes : goal.graph-requires-clause-nodes
 graph-requires-clause-nodes c =
