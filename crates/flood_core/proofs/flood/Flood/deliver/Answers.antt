@@ -4,50 +4,15 @@ use Rattle.flood_core.specs.Numbers.{flood_in}
 use Rattle.flood_core.proofs.NumberedDelivery.{HasReceived, answer_on, deliverable, few_new, flood_on, not_refused, received_of, sent_of_new, state_on}
 use Rattle.flood_core.proofs.flood.Flood.deliver.Goals as goal
 
-pub receive-requires-clause-stored : goal.receive-requires-clause-stored
-receive-requires-clause-stored c =
-    (deliverable c.self.inside.lsas.items c.self.inside.packets.items c.self.inside.routers.items c.self.inside.changed
+pub receive-requires : goal.receive-requires
+receive-requires c =
+    let it = deliverable c.self.inside.lsas.items c.self.inside.packets.items c.self.inside.routers.items c.self.inside.changed
     c.args.packet c.from-2.result c.index-update.result.now c.index_mut.result.now c.self.invariant
     (omega (arith, c.if-as_slice-packet.false, ap length c.as_slice.ensures.value))
     (omega (arith, c.if-as_slice-from.false, ap length c.as_slice-2.ensures.value, c.from.ensures, c.from-2.ensures))
     c.index-update.ensures c.index_mut.ensures.value c.as_slice-3.result.now c.as_slice-numbers.result.now
-    c.as_slice-3.ensures.value c.as_slice-numbers.ensures.value).stored
-
-pub receive-requires-clause-numbers : goal.receive-requires-clause-numbers
-receive-requires-clause-numbers c =
-    (deliverable c.self.inside.lsas.items c.self.inside.packets.items c.self.inside.routers.items c.self.inside.changed
-    c.args.packet c.from-2.result c.index-update.result.now c.index_mut.result.now c.self.invariant
-    (omega (arith, c.if-as_slice-packet.false, ap length c.as_slice.ensures.value))
-    (omega (arith, c.if-as_slice-from.false, ap length c.as_slice-2.ensures.value, c.from.ensures, c.from-2.ensures))
-    c.index-update.ensures c.index_mut.ensures.value c.as_slice-3.result.now c.as_slice-numbers.result.now
-    c.as_slice-3.ensures.value c.as_slice-numbers.ensures.value).are_numbers
-
-pub receive-requires-clause-kept : goal.receive-requires-clause-kept
-receive-requires-clause-kept c =
-    (deliverable c.self.inside.lsas.items c.self.inside.packets.items c.self.inside.routers.items c.self.inside.changed
-    c.args.packet c.from-2.result c.index-update.result.now c.index_mut.result.now c.self.invariant
-    (omega (arith, c.if-as_slice-packet.false, ap length c.as_slice.ensures.value))
-    (omega (arith, c.if-as_slice-from.false, ap length c.as_slice-2.ensures.value, c.from.ensures, c.from-2.ensures))
-    c.index-update.ensures c.index_mut.ensures.value c.as_slice-3.result.now c.as_slice-numbers.result.now
-    c.as_slice-3.ensures.value c.as_slice-numbers.ensures.value).kept
-
-pub receive-requires-clause-behind : goal.receive-requires-clause-behind
-receive-requires-clause-behind c =
-    (deliverable c.self.inside.lsas.items c.self.inside.packets.items c.self.inside.routers.items c.self.inside.changed
-    c.args.packet c.from-2.result c.index-update.result.now c.index_mut.result.now c.self.invariant
-    (omega (arith, c.if-as_slice-packet.false, ap length c.as_slice.ensures.value))
-    (omega (arith, c.if-as_slice-from.false, ap length c.as_slice-2.ensures.value, c.from.ensures, c.from-2.ensures))
-    c.index-update.ensures c.index_mut.ensures.value c.as_slice-3.result.now c.as_slice-numbers.result.now
-    c.as_slice-3.ensures.value c.as_slice-numbers.ensures.value).behind
-
-pub receive-requires-clause-room : goal.receive-requires-clause-room
-receive-requires-clause-room c =
-    (deliverable c.self.inside.lsas.items c.self.inside.packets.items c.self.inside.routers.items c.self.inside.changed
-    c.args.packet c.from-2.result c.index-update.result.now c.index_mut.result.now c.self.invariant
-    (omega (arith, c.if-as_slice-packet.false, ap length c.as_slice.ensures.value))
-    (omega (arith, c.if-as_slice-from.false, ap length c.as_slice-2.ensures.value, c.from.ensures, c.from-2.ensures))
-    c.index-update.ensures c.index_mut.ensures.value c.as_slice-3.result.now c.as_slice-numbers.result.now
-    c.as_slice-3.ensures.value c.as_slice-numbers.ensures.value).room
+    c.as_slice-3.ensures.value c.as_slice-numbers.ensures.value in
+    record { stored = it.stored; numbers = it.are_numbers; kept = it.kept; behind = it.behind; room = it.room }
 
 pub send_on-requires-clause-few : goal.send_on-requires-clause-few
 send_on-requires-clause-few c =

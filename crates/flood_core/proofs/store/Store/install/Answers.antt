@@ -27,28 +27,8 @@ meet-requires-clause-there c =
     c.requires.stored.numbers)
     (omega (arith, within, ap length c.reserve.ensures.items)) c.index_mut.ensures.value
 
-pub returns-then-is_new-clause-change : goal.returns-then-is_new-clause-change
-returns-then-is_new-clause-change c =
-    let lsas = c.args.lsas.now in
-    let is = c.of.ensures ∙ ap key_of (lsa_read lsas c.args.number c.index-lsas-number.result c.requires.number c.index-lsas-number.is) in
-    (new_by lsas c.args.self.now.keys.keys c.args.self.now.held.items c.in_ok-place.is_new c.args.self.now.greatest
-    c.args.number c.args.at c.of.result c.new.result is c.requires.stored.entries c.in_ok-place.ensures.added
-    c.if-is_new.true c.new.ensures).told
-
-pub returns-then-is_new-clause-after : goal.returns-then-is_new-clause-after
-returns-then-is_new-clause-after c =
-    let lsas = c.args.lsas.now in
-    let is = c.of.ensures ∙ ap key_of (lsa_read lsas c.args.number c.index-lsas-number.result c.requires.number c.index-lsas-number.is) in
-    let new = new_by lsas c.args.self.now.keys.keys c.args.self.now.held.items c.in_ok-place.is_new c.args.self.now.greatest
-    c.args.number c.args.at c.of.result c.new.result is c.requires.stored.entries c.in_ok-place.ensures.added
-    c.if-is_new.true c.new.ensures in
-    ap (with_greatest c.args.at)
-    (ap (entries_by lsas)
-    (c.push_reserved.ensures.items ∙ ap (λ (hs : List Held). hs ++ c.new.result ∷ []) c.reserve.ensures.items)
-    ∙ new.turns)
-
-pub returns-then-is_new-clause-stored : goal.returns-then-is_new-clause-stored
-returns-then-is_new-clause-stored c =
+pub returns-then-is_new : goal.returns-then-is_new
+returns-then-is_new c =
     let lsas = c.args.lsas.now in
     let is = c.of.ensures ∙ ap key_of (lsa_read lsas c.args.number c.index-lsas-number.result c.requires.number c.index-lsas-number.is) in
     let new = new_by lsas c.args.self.now.keys.keys c.args.self.now.held.items c.in_ok-place.is_new c.args.self.now.greatest
@@ -56,43 +36,20 @@ returns-then-is_new-clause-stored c =
     c.if-is_new.true c.new.ensures in
     let items = c.push_reserved.ensures.items ∙ ap (λ (hs : List Held). hs ++ c.new.result ∷ []) c.reserve.ensures.items in
     record {
-      entries = subst (λ (hs : List Held). IsSharedStore c.insert_full.new.self.keys (entries_by lsas hs) (Some c.args.at)) (sym items)
-          (new.kept c.insert_full.new.self.keys c.args.self.now.greatest c.requires.stored.entries c.in_ok-place.ensures.keys
-          c.requires.behind c.requires.small c.requires.kept);
-      numbers = subst (λ (hs : List Held). AllByRecursion (λ (h : Held). h.number < length lsas) hs) (sym items)
-          (all_append (λ (h : Held). h.number < length lsas) c.args.self.now.held.items (c.new.result ∷ [])
-          c.requires.stored.numbers (subst (λ (h : Held). h.number < length lsas) (sym c.new.ensures) c.requires.number, tt));
+      change = new.told;
+      after = ap (with_greatest c.args.at) (ap (entries_by lsas) items ∙ new.turns);
+      stored = record {
+        entries = subst (λ (hs : List Held). IsSharedStore c.insert_full.new.self.keys (entries_by lsas hs) (Some c.args.at)) (sym items)
+            (new.kept c.insert_full.new.self.keys c.args.self.now.greatest c.requires.stored.entries c.in_ok-place.ensures.keys
+            c.requires.behind c.requires.small c.requires.kept);
+        numbers = subst (λ (hs : List Held). AllByRecursion (λ (h : Held). h.number < length lsas) hs) (sym items)
+            (all_append (λ (h : Held). h.number < length lsas) c.args.self.now.held.items (c.new.result ∷ [])
+            c.requires.stored.numbers (subst (λ (h : Held). h.number < length lsas) (sym c.new.ensures) c.requires.number, tt));
+      };
     }
 
-pub returns-clause-change : goal.returns-clause-change
-returns-clause-change c =
-    let lsas = c.args.lsas.now in
-    let is = c.of.ensures ∙ ap key_of (lsa_read lsas c.args.number c.index-lsas-number.result c.requires.number c.index-lsas-number.is) in
-    let within = there_by lsas c.args.self.now.keys.keys c.args.self.now.held.items c.in_ok-place.place c.in_ok-place.is_new
-    c.args.self.now.greatest c.args.number c.of.result is c.requires.stored.entries c.in_ok-place.ensures.added
-    c.if-is_new.false c.in_ok-place.ensures.index in
-    (met_by lsas c.args.self.now.keys.keys c.args.self.now.held.items c.reserve.new.self.items c.in_ok-place.place
-    c.in_ok-place.is_new c.args.self.now.greatest c.args.number c.args.at c.of.result c.index_mut.result.now c.meet.new.self
-    c.meet.result is c.requires.stored.entries c.reserve.ensures.items c.in_ok-place.ensures.added c.if-is_new.false
-    c.in_ok-place.ensures.index (omega (arith, within, ap length c.reserve.ensures.items)) c.index_mut.ensures.value
-    c.meet.ensures.change c.meet.ensures.after).told
-
-pub returns-clause-after : goal.returns-clause-after
-returns-clause-after c =
-    let lsas = c.args.lsas.now in
-    let is = c.of.ensures ∙ ap key_of (lsa_read lsas c.args.number c.index-lsas-number.result c.requires.number c.index-lsas-number.is) in
-    let within = there_by lsas c.args.self.now.keys.keys c.args.self.now.held.items c.in_ok-place.place c.in_ok-place.is_new
-    c.args.self.now.greatest c.args.number c.of.result is c.requires.stored.entries c.in_ok-place.ensures.added
-    c.if-is_new.false c.in_ok-place.ensures.index in
-    ap (with_greatest c.args.at)
-    (met_by lsas c.args.self.now.keys.keys c.args.self.now.held.items c.reserve.new.self.items c.in_ok-place.place
-    c.in_ok-place.is_new c.args.self.now.greatest c.args.number c.args.at c.of.result c.index_mut.result.now c.meet.new.self
-    c.meet.result is c.requires.stored.entries c.reserve.ensures.items c.in_ok-place.ensures.added c.if-is_new.false
-    c.in_ok-place.ensures.index (omega (arith, within, ap length c.reserve.ensures.items)) c.index_mut.ensures.value
-    c.meet.ensures.change c.meet.ensures.after).turns
-
-pub returns-clause-stored : goal.returns-clause-stored
-returns-clause-stored c =
+pub returns : goal.returns
+returns c =
     let lsas = c.args.lsas.now in
     let is = c.of.ensures ∙ ap key_of (lsa_read lsas c.args.number c.index-lsas-number.result c.requires.number c.index-lsas-number.is) in
     let within = there_by lsas c.args.self.now.keys.keys c.args.self.now.held.items c.in_ok-place.place c.in_ok-place.is_new
@@ -104,10 +61,14 @@ returns-clause-stored c =
     c.in_ok-place.ensures.index (omega (arith, within, ap length c.reserve.ensures.items)) c.index_mut.ensures.value
     c.meet.ensures.change c.meet.ensures.after in
     record {
-      entries = met.kept c.insert_full.new.self.keys c.args.self.now.greatest c.requires.stored.entries
-          c.in_ok-place.ensures.keys c.requires.behind c.requires.kept;
-      numbers = all_set (λ (h : Held). h.number < length lsas) c.reserve.new.self.items c.in_ok-place.place c.meet.new.self
-          (subst (λ (hs : List Held). AllByRecursion (λ (h : Held). h.number < length lsas) hs) (sym c.reserve.ensures.items)
-          c.requires.stored.numbers)
-          c.meet.ensures.within;
+      change = met.told;
+      after = ap (with_greatest c.args.at) met.turns;
+      stored = record {
+        entries = met.kept c.insert_full.new.self.keys c.args.self.now.greatest c.requires.stored.entries
+            c.in_ok-place.ensures.keys c.requires.behind c.requires.kept;
+        numbers = all_set (λ (h : Held). h.number < length lsas) c.reserve.new.self.items c.in_ok-place.place c.meet.new.self
+            (subst (λ (hs : List Held). AllByRecursion (λ (h : Held). h.number < length lsas) hs) (sym c.reserve.ensures.items)
+            c.requires.stored.numbers)
+            c.meet.ensures.within;
+      };
     }
