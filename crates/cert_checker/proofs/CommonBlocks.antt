@@ -1,8 +1,9 @@
 -- The block of a link that leads from one node to another, by the rules on the graph, on heads and on the blocks of
 -- links.
-use Rattle.std.proofs.Common.{◌≡◌, ◌⊎◌, ◌∙◌, ◌==◌, ◌&&◌, ◌<◌, ℕ, true, false, not, List, Option, Some, None, length, slice_get, inl, inr, refl, sym, ap, subst, arith}
+use Rattle.std.proofs.Common.{◌≡◌, ◌⊎◌, ◌∙◌, ◌==◌, ◌&&◌, ◌<◌, ℕ, true, false, not, List, Option, Some, length, map, slice_get, inl, inr, refl, sym, ap, subst, arith}
 use Rattle.std.proofs.lemmas.Bool.{and_from, and_parts, cases_eq, or_cases, or_left, or_right, eq-eqb, ne_eqb, eqb-true, ltb-true}
-use Rattle.std.proofs.lemmas.Option.{option_and_then_some, slice_get_within}
+use Rattle.std.proofs.lemmas.List.{length-map}
+use Rattle.std.proofs.lemmas.Option.{option_and_then_some, slice_get-map, slice_get_within}
 use Rattle.std.specs.Option.{option_and_then, option_map}
 use Rattle.std.specs.Prelude.{nat_lt}
 use Rattle.mrt_graph.specs.declared.cert.CertLink.{CertLink}
@@ -94,11 +95,7 @@ common_test c s t k (FromHead down is) =
 -- a node of which something is known is there
 node_there : (f : CertNode → ℕ) (nodes : List CertNode) (a k : ℕ) → option_map f (slice_get nodes a) ≡ Some k
     → a < length nodes
-node_there f nodes a k is = go (slice_get nodes a) refl is
-  where
-    go : (o : Option CertNode) → slice_get nodes a ≡ o → option_map f o ≡ Some k → a < length nodes
-    go None found is = cc
-    go (Some node) found is = slice_get_within nodes a node found
+node_there f nodes a k is = omega (arith, slice_get_within (map f nodes) a k (slice_get-map f nodes a ∙ is), length-map nodes f)
 
 module _ (c : Certificate) (root : ℕ) (heads : HeadsHold c root) where
   -- the order of b is less than that of a
