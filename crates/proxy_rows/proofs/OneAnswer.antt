@@ -1,5 +1,5 @@
 -- Two routers have one list of proxy rows.
-use Rattle.std.proofs.Common.{◌≡◌, ◌∙◌, ℕ, true, List, Some, get_or, slice_get, inl, inr, refl, sym, ap, subst, arith}
+use Rattle.std.proofs.Common.{◌≡◌, ◌<◌, ◌∙◌, ℕ, true, List, Some, get_or, slice_get, inl, inr, refl, sym, ap, subst, arith}
 use Rattle.std.proofs.lemmas.Bool.{cases_lt}
 use Rattle.std.proofs.lemmas.List.{same_lists}
 use Rattle.std.proofs.lemmas.Option.{same_Some, slice_get-get_or}
@@ -31,31 +31,28 @@ use Rattle.proxy_rows.proofs.BlockRows.{high_member, low_member, low_not_high}
 use Rattle.proxy_rows.proofs.Grounds.{block_is, head_is, head_no_member}
 use Rattle.proxy_rows.proofs.HeadLinks.{red_link}
 
+-- of two numbers neither of which is less
+one_place : (n m : ℕ) → ¬ (n < m) → ¬ (m < n) → n ≡ m
+one_place n m not_less not_more = elim (cases_lt n m) [
+  | inl less ↦ absurd (not_less less)
+  | inr late ↦ elim (cases_lt m n) [ inl more ↦ absurd (not_more more) | inr now ↦ omega (arith, late, now) ]
+]
+
 -- a node's first end that has what is asked for is one
 one_first : (g : Topology) (Asked : End → Type 0) (v : ℕ) (one other : End) → IsFirstEnd g Asked v one → IsFirstEnd g Asked v other → one ≡ other
 one_first g Asked v one other a b =
     let ends : a.ends ≡ b.ends = same_Some a.ends b.ends (sym a.list ∙ b.list) in
     let a_there : slice_get b.ends a.place ≡ Some one = subst (λ (xs : List End). slice_get xs a.place ≡ Some one) ends a.there in
     let b_there : slice_get a.ends b.place ≡ Some other = subst (λ (xs : List End). slice_get xs b.place ≡ Some other) (sym ends) b.there in
-    elim (cases_lt a.place b.place) [
-      | inl early ↦ absurd (b.none_before a.place one early a_there a.asked)
-      | inr late ↦ elim (cases_lt b.place a.place) [
-        | inl early ↦ absurd (a.none_before b.place other early b_there b.asked)
-        | inr now ↦ same_Some one other (sym a_there ∙ subst (λ (k : ℕ). slice_get b.ends k ≡ Some other) (omega (arith, late, now)) b.there)
-      ]
-    ]
+    let same : a.place ≡ b.place =
+    one_place a.place b.place (λ early. b.none_before a.place one early a_there a.asked) (λ early. a.none_before b.place other early b_there b.asked) in
+    same_Some one other (sym a_there ∙ subst (λ (k : ℕ). slice_get b.ends k ≡ Some other) (sym same) b.there)
 
 -- a way enters at one node
 one_entry : (c : Certificate) (at : Attachment) (s x y : ℕ) → IsEntry c at s x → IsEntry c at s y → x ≡ y
-one_entry c at s x y (First n _ is belongs before) (First m _ is' belongs' before') = elim (cases_lt n m) [
-  | inl early ↦ absurd (before' n x early is belongs)
-  | inr late ↦ elim (cases_lt m n) [
-    | inl early ↦ absurd (before m y early is' belongs')
-    | inr now ↦
-        let here : m ≡ n = omega (arith, late, now) in
-        same_Some x y (sym is ∙ subst (λ (k : ℕ). in_chain c k s ≡ Some y) here is')
-  ]
-]
+one_entry c at s x y (First n _ is belongs before) (First m _ is' belongs' before') =
+    let same : n ≡ m = one_place n m (λ early. before' n x early is belongs) (λ early. before m y early is' belongs') in
+    same_Some x y (sym is ∙ subst (λ (k : ℕ). in_chain c k s ≡ Some y) (sym same) is')
 one_entry c at s x y (First n _ is belongs before) (none_of_it _ same none) = absurd (none n x is belongs)
 one_entry c at s x y (none_of_it _ same none) (First n _ is belongs before) = absurd (none n y is belongs)
 one_entry c at s x y (none_of_it _ same none) (none_of_it _ same' none') = same ∙ sym same'
