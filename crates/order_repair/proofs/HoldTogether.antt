@@ -7,24 +7,14 @@ use Rattle.mrt_graph.specs.ColorWalk.{color_walk}
 use Rattle.inc_dec_spf.specs.LeastPath.{HaveCommonBlockOfMore}
 use Rattle.mrt_rows.proofs.OrderedGraphs.{OrderedGraph}
 use Rattle.mrt_rows.proofs.WholeCert.{whole_file, whole_tells}
-use Rattle.order_repair.specs.Failed.{IsBetween, LiesIn}
+use Rattle.order_repair.specs.Failed.{LiesIn}
 use Rattle.order_repair.proofs.GoesRound.{arrives, goes_round}
-use Rattle.order_repair.proofs.OneChoice.{some_choice}
+use Rattle.order_repair.proofs.OneChoice.{choice_for}
 
 pub none_separates : (og : OrderedGraph) (s t k h : ℕ) (x : Element) → s < length og.g.ids → t < length og.g.ids
     → HaveCommonBlockOfMore og.g og.w s t k h → LiesIn og.g og.w k h x → Separates og.g.links x s t → ⊥
 none_separates og s t k h x s_within t_within shares lies separates =
-    let between : IsBetween og.g og.w s t x =
-    record {
-      source = s_within;
-      target = t_within;
-      block = k;
-      head = h;
-      share = shares;
-      lies = lies;
-      neither = separates.between;
-    } in
-    let choice = some_choice og s t x between in
+    let choice = choice_for og s t k h x s_within t_within shares lies separates.between in
     let file = whole_file og in
     let tells = whole_tells og in
     let walk = arrives og file tells s t s_within t_within shares.two choice.0 in

@@ -20,7 +20,7 @@ use Rattle.text_parts.proofs.Adding.{one_headed_text, one_id, one_text_of_parts,
 use Rattle.order_repair.specs.Failed.{IsWithin, LiesIn}
 use Rattle.order_repair.specs.OrderText.{AtEnd, Colored, IsHead, IsLetter, IsLine, IsOrderText, IsPartOn, Line, NoLine, NotOfIt, letter_of}
 use Rattle.order_repair.specs.Tagging.{IsTagFor, NotShared, Tagged}
-use Rattle.order_repair.proofs.OneChoice.{one_choice, some_choice}
+use Rattle.order_repair.proofs.OneChoice.{choice_for, one_choice}
 use Rattle.order_repair.proofs.TagFound.{head_found, none_found, peer_found, top_found}
 use Rattle.mrt_graph.specs.declared.related.Relation.{Relation}
 use Rattle.mrt_graph.specs.declared.related.Relation.TheVariants as relations
@@ -89,17 +89,7 @@ module _ (og : OrderedGraph) (s : ℕ) (s_within : s < length og.g.ids) where
       | inl lies ↦ elim (neither_or_not x) [
         | inr end ↦ (codes "-", AtEnd lies end)
         | inl neither ↦
-            let choice =
-            some_choice og s t x
-            (record {
-              source = s_within;
-              target = t_within;
-              block = k;
-              head = h;
-              share = shares;
-              lies = lies;
-              neither = neither;
-            }) in
+            let choice = choice_for og s t k h x s_within t_within shares lies neither in
             (letter_of choice.0, Colored choice.0 lies choice.1)
       ]
     ]
