@@ -1,12 +1,13 @@
 -- What the blocks aim at is what the rows for a destination are for.
-use Rattle.std.proofs.Common.{◌≡◌, ◌≢◌, ◌∙◌, ◌<◌, ℕ, List, Option, Some, None, length, slice_get, inl, inr, refl, sym, ap, subst, arith}
+use Rattle.std.proofs.Common.{◌≡◌, ◌≢◌, ◌∙◌, ◌<◌, ℕ, Bool, true, List, Option, Some, None, length, slice_get, inl, inr, refl, sym, ap, subst, arith}
 use Rattle.std.proofs.lemmas.Bool.{cases_eq}
 use Rattle.std.proofs.lemmas.Option.{same_Some}
 use Rattle.link_direction.specs.CommonBlock.{FromHead, HaveCommonBlock, Peers, ToHead}
 use Rattle.link_direction.specs.Directions.{Directions}
 use Rattle.inc_dec_spf.specs.BlockAims.{IsAimOf}
+use Rattle.inc_dec_spf.specs.LeastPath.{HasMoreLinks, HaveCommonBlockOfMore}
 use Rattle.inc_dec_spf.proofs.OneHop.{one_block}
-use Rattle.mrt_rows.specs.Chain.{AreBelow, AreWayAims, AtHome, Beside, Climbs, IsRowAim, Under}
+use Rattle.mrt_rows.specs.Chain.{AreBelow, AreWayAims, AreWayMarks, AtHome, Beside, Climbs, IsRowAim, Under}
 use Rattle.mrt_rows.proofs.ChainAims.{aim_apart, climb_low, climb_on}
 use Rattle.mrt_rows.proofs.OrderedGraphs.{OrderedGraph, is_ordered}
 
@@ -89,6 +90,23 @@ module _ (og : OrderedGraph) where
         go u k h u_within (FromHead x y z) onward =
             let there = over_headed s u u_within y (λ back. onward (ap aim (sym x) ∙ back)) in
             let no = same_Some None (Some (aim (w.block u))) (sym none ∙ there) in absurd (cc)
+
+    -- over a block of more than one link s aims at its head, or the block is marked
+    pub aim_marked : (marks : List Bool) → AreWayMarks og.g og.root w t marks → (s a k h : ℕ) → s < n → IsRowAim w below s a
+        → HaveCommonBlockOfMore og.g w s a k h → w.head s ≢ a → slice_get marks k ≡ Some true
+    aim_marked marks way s a k h within (Under at) share away =
+        let it = are.is_below s a at in
+        let k_is =
+        (one_block og.g og.root w s a k h (w.block a) s (is_ordered og) within (climb_low og t a t_within it.0).0 share.two share.common
+        (FromHead refl it.2 refl)).0 in
+        ap (λ (b : ℕ). slice_get marks b) k_is ∙ way.each a it.0 it.1 (subst (λ (b : ℕ). HasMoreLinks og.g w b) k_is share.more)
+    aim_marked marks way s a k h within (Beside none at peers) share away =
+        let it = are.is_below (w.head s) a at in
+        let k_is =
+        (one_block og.g og.root w s a k h (w.block s) (w.head s) (is_ordered og) within (climb_low og t a t_within it.0).0 share.two share.common
+        (Peers refl peers refl)).0 ∙ sym peers in
+        ap (λ (b : ℕ). slice_get marks b) k_is ∙ way.each a it.0 it.1 (subst (λ (b : ℕ). HasMoreLinks og.g w b) k_is share.more)
+    aim_marked marks way s a k h within (AtHome none no_peer home) share away = absurd (away (sym home))
 
     -- what s aims at, its blocks do
     pub aim_of_blocks : (s a : ℕ) → s < n → s ≢ t → IsRowAim w below s a → IsAimOf og.g w aim s a

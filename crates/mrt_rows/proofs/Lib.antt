@@ -45,5 +45,6 @@ pub mod SoundColumns
 pub mod SourceCert
 pub mod WayAims
 pub mod Ways
+pub mod WayMarks
 pub mod WaysBegun
 pub mod WholeCert

@@ -1,8 +1,9 @@
 -- The heads above a destination, and what the nodes aim at.
-use Rattle.std.specs.Prelude.{◌≡◌, ◌≢◌, ◌<◌, ◌⊎◌, ℕ, List, Option, Some, None, length, slice_get}
+use Rattle.std.specs.Prelude.{◌≡◌, ◌≢◌, ◌<◌, ◌⊎◌, ℕ, Bool, true, List, Option, Some, None, length, slice_get}
 use Rattle.mrt_graph.specs.Topology.{Topology}
 use Rattle.link_direction.specs.Directions.{Directions}
 use Rattle.inc_dec_spf.specs.BlockAims.{aim_at}
+use Rattle.inc_dec_spf.specs.LeastPath.{HasMoreLinks}
 
 -- from node c, head by head, one comes to node b
 pub data Climbs (root : ℕ) (w : Directions) : ℕ → ℕ → Type 0 where
@@ -35,6 +36,14 @@ pub record IsOnWay (root : ℕ) (w : Directions) (t y c : ℕ) : Type 0 where
 pub record AreWayAims (g : Topology) (root : ℕ) (w : Directions) (t : ℕ) (aim : ℕ → ℕ) : Type 0 where
   pub on : (c : ℕ) → Climbs root w t c → c ≢ root → aim (w.block c) ≡ c
   pub off : (y : ℕ) → y < length g.ids → (aim (w.block y) ≡ w.head y) ⊎ IsOnWay root w t y (aim (w.block y))
+
+-- the blocks of more than one link in which the nodes on the way from t to the root lie are marked
+pub record AreWayMarks (g : Topology) (root : ℕ) (w : Directions) (t : ℕ) (marks : List Bool) : Type 0 where
+  pub each : (c : ℕ) → Climbs root w t c → c ≢ root → HasMoreLinks g w (w.block c) → slice_get marks (w.block c) ≡ Some true
+
+-- so for each of these destinations
+pub record AreBlockMarks (g : Topology) (root : ℕ) (w : Directions) (targets : List ℕ) (marks : List Bool) : Type 0 where
+  pub each : (j t : ℕ) → slice_get targets j ≡ Some t → AreWayMarks g root w t marks
 
 -- at each place, the blocks aim so for the destination there
 pub record AreBlockAims (g : Topology) (root : ℕ) (w : Directions) (targets aims : List ℕ) : Type 0 where

@@ -4,15 +4,17 @@ use Rattle.mrt_graph.specs.Topology.{Topology}
 use Rattle.link_direction.specs.Directions.{Directions}
 use Rattle.inc_dec_spf.specs.declared.reach.Dir.TheVariants.{Down, Up}
 use Rattle.inc_dec_spf.specs.Tile.{IsAimed, IsTile}
-use Rattle.mrt_rows.specs.Chain.{AreBlockAims}
+use Rattle.mrt_rows.specs.Chain.{AreBlockAims, AreBlockMarks}
 use Rattle.mrt_rows.specs.ColumnParts.{ColumnParts}
 use Rattle.mrt_rows.specs.Common.{AreCommon}
 
--- what the blocks aim at for the destinations in their places, and tiles that are aimed so
+-- what the blocks aim at for the destinations in their places, the blocks of more than one link on the way from these, and
+-- tiles that are aimed so in these
 pub record AreTilesAimed (g : Topology) (root : ℕ) (w : Directions) (held : ColumnParts) : Type 0 where
   pub aims : AreBlockAims g root w held.targets held.aims
-  pub up : IsAimed g w Up held.aims held.up
-  pub down : IsAimed g w Down held.aims held.down
+  pub marks : AreBlockMarks g root w held.targets held.wanted
+  pub up : IsAimed g w held.wanted Up held.aims held.up
+  pub down : IsAimed g w held.wanted Down held.aims held.down
 
 -- what all columns have in common, room for each node and each destination side by side, and tiles, which are aimed where a
 -- node stands among these
@@ -21,6 +23,7 @@ pub record AreHeldFor (g : Topology) (root : ℕ) (w : Directions) (held : Colum
   pub one_below_each : length held.below ≡ length g.ids
   pub some_places : 0 < length held.targets
   pub places : length held.aims ≡ length g.ids * length held.targets
+  pub a_mark_each : length held.wanted ≡ length g.ids
   pub up : IsTile g (length held.targets) held.up
   pub down : IsTile g (length held.targets) held.down
   pub aimed : (j t : ℕ) → slice_get targets j ≡ Some t → t < length g.ids → AreTilesAimed g root w held

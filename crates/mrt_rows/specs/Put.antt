@@ -26,6 +26,10 @@ NoneOfOneLink g w s t = (k h link : ℕ) → HaveCommonBlock w s t k h → ¬ Ha
 pub record AreHeadsMarked (g : Topology) (w : Directions) (marks : List Bool) : Type 0 where
   pub each : (v : ℕ) → v < length g.ids → HasMoreLinks g w (w.block v) → slice_get marks (w.head v) ≡ Some true
 
+-- each block is marked
+pub record AreAllMarked (g : Topology) (marks : List Bool) : Type 0 where
+  pub each : (k : ℕ) → k < length g.ids → slice_get marks k ≡ Some true
+
 -- the links by which s begins the least paths to the head of its block, where it has more than one link
 pub record IsHome (g : Topology) (w : Directions) (s : ℕ) (home : Home) : Type 0 where
   pub up : HasMoreLinks g w (w.block s) → IsFirstLink g w Up s (w.head s) home.up

@@ -1,19 +1,20 @@
 //! The columns of destinations.
 
-ghost use Rattle.std.specs.Prelude.{◌≡◌, ◌≢◌, ◌<◌, ◌≤◌, ◌+◌, ℕ, [], IfOk, IfSome, None, Some, length, slice_get};
+ghost use Rattle.std.specs.Prelude.{◌≡◌, ◌≢◌, ◌<◌, ◌≤◌, ◌+◌, ℕ, [], IfOk, IfSome, None, Some, length, slice_get, true};
 ghost use Rattle.mrt_graph.specs.Column.{ColumnSound};
 ghost use Rattle.mrt_graph.specs.GraphInvariant.{IsTopology};
 ghost use Rattle.link_direction.specs.Directions.{Directions, Says};
 ghost use Rattle.link_direction.specs.OrderedGadag.{SaysOrdered};
 ghost use Rattle.inc_dec_spf.specs.declared.reach.Dir.TheVariants.{Down, Up};
 ghost use Rattle.inc_dec_spf.specs.BlockAims.{IsAimOf, aim_at};
+ghost use Rattle.inc_dec_spf.specs.LeastPath.{HaveCommonBlockOfMore};
 ghost use Rattle.inc_dec_spf.specs.Tile.{IsAimed};
 ghost use Rattle.mrt_rows.specs.Chain.{AreBelow, IsRowAim};
 ghost use Rattle.mrt_rows.specs.ColumnOf.{IsColumnOf, IsRowIn};
 ghost use Rattle.mrt_rows.specs.Held.{AreHeld, AreHeldFor, destinations};
 ghost use Rattle.mrt_rows.specs.NearOf.{IsNearRow};
 
-use crate::block_aims::put_block_aims;
+use crate::block_aims::{mark_ways, put_block_aims};
 use crate::chain::put_below;
 use crate::common::{Common, common_of};
 use crate::row_over::{Source, row_over};
@@ -33,13 +34,15 @@ struct Target {
 }
 
 /// What the columns of all destinations have in common, and the room in which they are made: the nodes below others on the way
-/// from one of them; some destinations side by side, what the blocks aim at for them, and tiles that are aimed so.
+/// from one of them; some destinations side by side, what the blocks aim at for them, marks on the blocks of more than one link on the way
+/// from these, and tiles that are aimed so in these.
 #[derive(Drop)]
 pub struct Columns {
     common: Common,
     below: Vec<Option<NodeNo>>,
     targets: Vec<NodeNo>,
     aims: Vec<NodeNo>,
+    wanted: Vec<bool>,
     up: Tile,
     down: Tile,
 }
@@ -50,7 +53,7 @@ impl Model for Columns {
     ghost Value = { ColumnParts };
 
     ghost view = { λ columns. column_parts columns.common columns.below.items columns.targets.items columns.aims.items
-        columns.up columns.down };
+        columns.wanted.items columns.up columns.down };
 }
 
 impl Columns {
@@ -85,6 +88,7 @@ impl Columns {
         // there is no such node, so nothing is aimed at yet
         let targets = vec![in alloc; NodeNo::new(count); width as usize]?;
         let aims = vec![in alloc; root; count as usize * width as usize]?;
+        let wanted = vec![in alloc; false; count as usize]?;
         let up = Tile::new(alloc, g, width)?;
         let down = Tile::new(alloc, g, width)?;
         Ok(Columns {
@@ -92,6 +96,7 @@ impl Columns {
             below,
             targets,
             aims,
+            wanted,
             up,
             down,
         })
@@ -208,12 +213,21 @@ impl Columns {
         ensures targets { self.new.targets ≡ self.old.targets }
     {
         put_block_aims(g, root, d, &self.targets, &mut self.aims);
+        mark_ways(
+            g,
+            root,
+            d,
+            &self.common.soles,
+            &self.targets,
+            &mut self.wanted,
+        );
         let up = Aiming {
             graph: g,
             directed: d,
             dir: Dir::Up,
             turns: self.common.against_order.as_slice(),
             aims: self.aims.as_slice(),
+            wanted: self.wanted.as_slice(),
         };
         self.up.aim(&up, &self.common.heads);
         let down = Aiming {
@@ -222,6 +236,7 @@ impl Columns {
             dir: Dir::Down,
             turns: self.common.by_order.as_slice(),
             aims: self.aims.as_slice(),
+            wanted: self.wanted.as_slice(),
         };
         self.down.aim(&down, &self.common.heads);
     }
@@ -329,8 +344,10 @@ impl Columns {
         requires place { aim.at < length self.now.targets }
         requires held { (w : Directions) → Says g.now d.now w → AreHeld g.now root w self.now }
         ensures { (w : Directions) → Says g.now d.now w
-            → IsAimed g.now w Up self.now.aims self.now.up
-            → IsAimed g.now w Down self.now.aims self.now.down
+            → IsAimed g.now w self.now.wanted Up self.now.aims self.now.up
+            → IsAimed g.now w self.now.wanted Down self.now.aims self.now.down
+            → ((k h : ℕ) → HaveCommonBlockOfMore g.now w s aim.node k h → w.head s ≢ aim.node
+            → slice_get self.now.wanted k ≡ Some true)
             → IsAimOf g.now w (aim_at self.now.aims (length self.now.targets) aim.at) s aim.node
             → IsNearRow g.now root w s aim.node result }
     {

@@ -1,6 +1,6 @@
 //! The links by which all nodes begin the least paths to the heads of their blocks.
 
-ghost use Rattle.std.specs.Prelude.{◌≡◌, ◌<◌, ◌*◌, ℕ, IfOk, List, length};
+ghost use Rattle.std.specs.Prelude.{◌≡◌, ◌<◌, ◌*◌, ℕ, Bool, IfOk, List, length};
 ghost use Rattle.mrt_graph.specs.GraphInvariant.{IsTopology};
 ghost use Rattle.link_direction.specs.Directions.{Directions};
 ghost use Rattle.link_direction.specs.OrderedGadag.{IsOrderedGadag};
@@ -10,7 +10,7 @@ ghost use Rattle.inc_dec_spf.specs.HasDirections.{AreDirections, HasDirections};
 ghost use Rattle.inc_dec_spf.specs.Tile.{IsAimed, IsTile};
 ghost use Rattle.inc_dec_spf.specs.Turns.{AreTurns};
 ghost use Rattle.mrt_rows.specs.NearOf.{AreHomeRows, AreSoles};
-ghost use Rattle.mrt_rows.specs.Put.{AreHeadsMarked, AreHomes};
+ghost use Rattle.mrt_rows.specs.Put.{AreAllMarked, AreHeadsMarked, AreHomes};
 
 use crate::members::Home;
 use crate::row_over::end_row;
@@ -43,6 +43,7 @@ pub fn homes_of(
     let mut aims = vec![in alloc; NodeNo::new(0); count]?;
     put_heads(g, d, 1, &mut aims);
     let aims = aims.as_slice();
+    let wanted = vec![in alloc; true; count]?;
     let mut up = Tile::new(alloc, g, 1)?;
     let aiming = Aiming {
         graph: g,
@@ -50,6 +51,7 @@ pub fn homes_of(
         dir: Dir::Up,
         turns: against_order,
         aims,
+        wanted: wanted.as_slice(),
     };
     up.aim(&aiming, heads);
     let mut down = Tile::new(alloc, g, 1)?;
@@ -75,8 +77,9 @@ fn take_homes(g: &Graph, up: &Tile, down: &Tile, homes: &mut [Home])
     requires down { IsTile g.now 1 down.now }
     requires one_each { length homes.old ≡ length g.now.ids }
     ensures one_each { length homes.new ≡ length g.now.ids }
-    ensures homes { (root : ℕ) (w : Directions) (aims : List ℕ) → IsOrderedGadag g.now root w
-        → AreHeadAims g.now w 1 aims → IsAimed g.now w Up aims up.now → IsAimed g.now w Down aims down.now
+    ensures homes { (root : ℕ) (w : Directions) (aims : List ℕ) (wanted : List Bool) → IsOrderedGadag g.now root w
+        → AreHeadAims g.now w 1 aims → AreAllMarked g.now wanted → IsAimed g.now w wanted Up aims up.now
+        → IsAimed g.now w wanted Down aims down.now
         → AreHomes g.now w homes.new }
 {
     for n in 0..g.node_count() {

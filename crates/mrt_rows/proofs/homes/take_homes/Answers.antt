@@ -1,4 +1,4 @@
-use Rattle.std.proofs.Common.{◌≡◌, ◌∙◌, ◌<◌, ◌+◌, ◌*◌, ℕ, List, Some, length, set, slice_get, refl, sym, subst, inl, inr, arith}
+use Rattle.std.proofs.Common.{◌≡◌, ◌∙◌, ◌<◌, ◌+◌, ◌*◌, ℕ, Bool, List, Some, length, set, slice_get, refl, sym, subst, inl, inr, arith}
 use Rattle.std.proofs.lemmas.Bool.{cases_eq}
 use Rattle.std.proofs.lemmas.List.{length-set}
 use Rattle.std.proofs.lemmas.Option.{same_Some, slice_get_read, slice_get_within}
@@ -12,20 +12,20 @@ use Rattle.inc_dec_spf.specs.LeastPath.{HasMoreLinks}
 use Rattle.inc_dec_spf.specs.Tile.{IsAimed}
 use Rattle.inc_dec_spf.specs.TileEntries.{TileEntries}
 use Rattle.mrt_rows.specs.declared.members.Home.{Home}
-use Rattle.mrt_rows.specs.Put.{IsHome}
+use Rattle.mrt_rows.specs.Put.{AreAllMarked, IsHome}
 use Rattle.mrt_rows.proofs.AimsOfRows.{home_aim}
 use Rattle.mrt_rows.proofs.MarkedHeads.{not_own_head}
 use Rattle.mrt_rows.proofs.OrderedGraphs.{OrderedGraph}
 use Rattle.mrt_rows.proofs.homes.take_homes.Goals as goal
 
-home_link : (og : OrderedGraph) (dir : Dir) (tile : TileEntries) (aims links : List ℕ) (s n link : ℕ) → s ≡ n → n < length og.g.ids
-    → AreHeadAims og.g og.w 1 aims → IsAimed og.g og.w dir aims tile → tile.width ≡ 1 → slice_get links 0 ≡ Some link
+home_link : (og : OrderedGraph) (dir : Dir) (tile : TileEntries) (wanted : List Bool) (aims links : List ℕ) (s n link : ℕ) → s ≡ n → n < length og.g.ids
+    → AreHeadAims og.g og.w 1 aims → AreAllMarked og.g wanted → IsAimed og.g og.w wanted dir aims tile → tile.width ≡ 1 → slice_get links 0 ≡ Some link
     → ((j x : ℕ) → slice_get links j ≡ Some x → slice_get tile.links (s * tile.width + j) ≡ Some x)
     → HasMoreLinks og.g og.w (og.w.block n) → IsFirstLink og.g og.w dir n (og.w.head n) link
-home_link og dir tile aims links s n link named within heads aimed wide at there more =
+home_link og dir tile wanted aims links s n link named within heads marks aimed wide at there more =
     let two = not_own_head og n within more in
     (aimed.each n within).each 0 (og.w.head n) (og.w.block n) (og.w.head n) link (omega (arith, wide)) (og.ordered.heads.head_within n within)
-    (record { two = two; common = ToHead refl refl refl; more = more })
+    (record { two = two; common = ToHead refl refl refl; more = more }) (marks.each (og.w.block n) (og.ordered.heads.block_within n within))
     (subst (λ (k : ℕ). IsAimOf og.g og.w (aim_at aims k 0) n (og.w.head n)) (sym wide)
     (home_aim og n (aim_at aims 1 0) within two (λ y y_within. heads.each 0 y (omega arith) y_within)))
     (subst (λ (v : ℕ). slice_get tile.links (v * tile.width + 0) ≡ Some link) named (there 0 link at))
@@ -45,27 +45,27 @@ loop-n-preserved c =
     (omega (arith, c.links_of-in-loop-n.ensures.one_each, c.requires.down.width)) c.index-links_of-0-in-loop-n.is in
     record {
       one_each = length-set homes n new ∙ c.loop-n.invariant.one_each;
-      homes = λ root v w aims home ordered heads up down below at. elim (cases_eq v n) [
+      homes = λ root v w aims wanted home ordered heads marks up down below at. elim (cases_eq v n) [
         | inl same ↦
             let og : OrderedGraph = record { g = g; root = root; w = w; kept = c.requires.kept; ordered = ordered } in
             let at_n : slice_get (set homes n new) n ≡ Some home = subst (λ (x : ℕ). slice_get (set homes n new) x ≡ Some home) same at in
             let new_is : new ≡ home = same_Some new home (sym (set_there homes n new (omega (arith, within, c.loop-n.invariant.one_each))) ∙ at_n) in
             subst (λ (x : ℕ). IsHome g w x home) (sym same) (subst (λ (h : Home). IsHome g w n h) new_is (record {
               up = λ more.
-                  home_link og Up c.args.up.now aims ups c.new-s.result n c.index-links_of-0.result c.new-s.ensures within heads up c.requires.up.width at_up
+                  home_link og Up c.args.up.now wanted aims ups c.new-s.result n c.index-links_of-0.result c.new-s.ensures within heads marks up c.requires.up.width at_up
                   c.links_of.ensures.there more;
               down = λ more.
-                  home_link og Down c.args.down.now aims downs c.new-s.result n c.index-links_of-0-in-loop-n.result c.new-s.ensures within heads down
+                  home_link og Down c.args.down.now wanted aims downs c.new-s.result n c.index-links_of-0-in-loop-n.result c.new-s.ensures within heads marks down
                   c.requires.down.width at_down c.links_of-in-loop-n.ensures.there more;
             }))
         | inr other ↦
-            c.loop-n.invariant.homes root v w aims home ordered heads up down (omega (arith, below, other)) (sym (set_elsewhere homes n v new other) ∙ at)
+            c.loop-n.invariant.homes root v w aims wanted home ordered heads marks up down (omega (arith, below, other)) (sym (set_elsewhere homes n v new other) ∙ at)
       ];
     }
 
 pub returns-clause-homes : goal.returns-clause-homes
-returns-clause-homes c = λ root w aims ordered heads up down. record {
+returns-clause-homes c = λ root w aims wanted ordered heads marks up down. record {
   each = λ v home at.
-      c.loop-n.invariant.homes root v w aims home ordered heads up down
+      c.loop-n.invariant.homes root v w aims wanted home ordered heads marks up down
       (omega (arith, slice_get_within c.loop-n.homes v home at, c.loop-n.invariant.one_each, c.node_count-n-end.ensures.count, c.loop-n-test.false)) at;
 }

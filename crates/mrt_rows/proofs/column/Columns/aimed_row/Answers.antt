@@ -1,5 +1,5 @@
-use Rattle.std.proofs.Common.{◌≡◌, ◌≢◌, ◌∙◌, ◌<◌, ◌+◌, ◌*◌, ℕ, List, Some, get_or, length, slice_get, refl, sym, ap, subst, arith}
-use Rattle.std.proofs.lemmas.Bool.{eqb-true}
+use Rattle.std.proofs.Common.{◌≡◌, ◌≢◌, ◌∙◌, ◌<◌, ◌+◌, ◌*◌, ℕ, Bool, true, List, Some, get_or, length, slice_get, refl, sym, ap, subst, arith}
+use Rattle.std.proofs.lemmas.Bool.{eqb-false, eqb-true}
 use Rattle.std.proofs.lemmas.Option.{slice_get-get_or, slice_get_read}
 use Rattle.mrt_graph.specs.declared.cert.Row.{Row}
 use Rattle.link_direction.specs.Directions.{Directions, Says}
@@ -10,6 +10,7 @@ use Rattle.inc_dec_spf.specs.declared.reach.Dir.{Dir}
 use Rattle.inc_dec_spf.specs.declared.reach.Dir.TheVariants.{Down, Up}
 use Rattle.inc_dec_spf.specs.BlockAims.{IsAimOf, aim_at}
 use Rattle.inc_dec_spf.specs.FirstLink.{IsFirstLink}
+use Rattle.inc_dec_spf.specs.LeastPath.{HaveCommonBlockOfMore}
 use Rattle.inc_dec_spf.specs.Tile.{IsAimed}
 use Rattle.inc_dec_spf.specs.TileEntries.{TileEntries}
 use Rattle.mrt_rows.specs.declared.members.Home.{Home}
@@ -37,12 +38,13 @@ home_at g w homes i v home are one_each named within is =
     are.each v home (subst (λ (x : ℕ). slice_get homes x ≡ Some home) named
     (slice_get-get_or homes i home (omega (arith, named, within, one_each)) ∙ ap (λ (x : Home). Some x) (sym is)))
 
-first_link : (g : Topology) (w : Directions) (dir : Dir) (tile : TileEntries) (aims links : List ℕ) (width s t j link : ℕ) → IsAimed g w dir aims tile
+first_link : (g : Topology) (w : Directions) (dir : Dir) (tile : TileEntries) (wanted : List Bool) (aims links : List ℕ) (width s t j link : ℕ) → IsAimed g w wanted dir aims tile
+    → ((k h : ℕ) → HaveCommonBlockOfMore g w s t k h → slice_get wanted k ≡ Some true)
     → IsAimOf g w (aim_at aims width j) s t → s < length g.ids → t < length g.ids → j < width → tile.width ≡ width → slice_get links j ≡ Some link
     → ((i x : ℕ) → slice_get links i ≡ Some x → slice_get tile.links (s * tile.width + i) ≡ Some x)
     → AreInCommonBlockOfMore g w s t → IsFirstLink g w dir s t link
-first_link g w dir tile aims links width s t j link aimed aim s_within t_within below wide at there shares =
-    (aimed.each s s_within).each j t shares.block shares.head link (omega (arith, below, wide)) t_within shares.share
+first_link g w dir tile wanted aims links width s t j link aimed marked aim s_within t_within below wide at there shares =
+    (aimed.each s s_within).each j t shares.block shares.head link (omega (arith, below, wide)) t_within shares.share (marked shares.block shares.head shares.share)
     (subst (λ (k : ℕ). IsAimOf g w (aim_at aims k j) s t) (sym wide) aim) (there j link at)
 
 pub index-requires : goal.index-requires
@@ -82,7 +84,7 @@ index-requires-3 c =
     omega (arith, c.self.inside.common.homes.small, c.get-at.ensures.value, c.requires.source, held.common.a_home_each)
 
 pub returns-then-eq : goal.returns-then-eq
-returns-then-eq c = λ w says up down aimed.
+returns-then-eq c = λ w says up down marked aimed.
     let g = c.args.g.now in
     let s = c.args.s in
     let held = held_inside g c.args.root w _ _ c.self.view_is (c.requires.held w says) in
@@ -98,7 +100,7 @@ returns-then-eq c = λ w says up down aimed.
     ∙ ap (λ (x : Row). Some x) (sym c.index.ensures))) other)
 
 pub returns : goal.returns
-returns c = λ w says up down aimed.
+returns c = λ w says up down marked aimed.
     let g = c.args.g.now in
     let d = c.args.d.now in
     let s = c.args.s in
@@ -109,9 +111,14 @@ returns c = λ w says up down aimed.
     let og = graph_by g c.args.root d w c.requires.kept c.requires.directed says in
     let width = length columns.targets.items in
     let below : j < width = omega (arith, c.requires.place, ap (λ (e : ColumnParts). length e.targets) c.self.view_is) in
-    let up_inside = subst (λ (e : ColumnParts). IsAimed g w Up e.aims e.up) (sym c.self.view_is) up in
-    let down_inside = subst (λ (e : ColumnParts). IsAimed g w Down e.aims e.down) (sym c.self.view_is) down in
+    let up_inside = subst (λ (e : ColumnParts). IsAimed g w e.wanted Up e.aims e.up) (sym c.self.view_is) up in
+    let down_inside = subst (λ (e : ColumnParts). IsAimed g w e.wanted Down e.aims e.down) (sym c.self.view_is) down in
     let aimed_inside = subst (λ (e : ColumnParts). IsAimOf g w (aim_at e.aims (length e.targets) j) s aim) (sym c.self.view_is) aimed in
+    let away : w.head s ≢ aim = λ same.
+    let place = place_says g d w s c.place-here.result says c.requires.source c.place-here.ensures in
+    eqb-false c.place-here.result.head aim (sym c.eq.ensures ∙ c.if-eq.false) (place.0 ∙ same) in
+    let set : (k h : ℕ) → HaveCommonBlockOfMore g w s aim k h → slice_get columns.wanted.items k ≡ Some true =
+    λ k h share. subst (λ (e : ColumnParts). slice_get e.wanted k ≡ Some true) (sym c.self.view_is) (marked k h share away) in
     let ups = c.links_of.result.now in
     let downs = c.links_of-2.result.now in
     let at_up = slice_get_read ups (length ups) j c.index-links_of-aim.result refl (omega (arith, c.links_of.ensures.one_each, held.up.width, below))
@@ -128,7 +135,7 @@ returns c = λ w says up down aimed.
     })
     c.requires.aim (place_is g d w aim c.place.result says c.requires.aim c.place.ensures)
     (sole_at g w columns.common.soles.items c.get.result aim c.index-4.result.now held.common.soles c.get.ensures.value c.requires.aim c.index-4.ensures)
-    (first_link g w _ columns.up columns.aims.items ups width s aim j c.index-links_of-aim.result up_inside aimed_inside c.requires.source c.requires.aim below held.up.width at_up
+    (first_link g w _ columns.up columns.wanted.items columns.aims.items ups width s aim j c.index-links_of-aim.result up_inside set aimed_inside c.requires.source c.requires.aim below held.up.width at_up
     c.links_of.ensures.there)
-    (first_link g w _ columns.down columns.aims.items downs width s aim j c.index-links_of-aim-2.result down_inside aimed_inside c.requires.source c.requires.aim below held.down.width
+    (first_link g w _ columns.down columns.wanted.items columns.aims.items downs width s aim j c.index-links_of-aim-2.result down_inside set aimed_inside c.requires.source c.requires.aim below held.down.width
     at_down c.links_of-2.ensures.there)

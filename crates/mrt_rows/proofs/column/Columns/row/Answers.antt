@@ -5,7 +5,7 @@ use Rattle.mrt_graph.specs.declared.cert.Row.{Row}
 use Rattle.inc_dec_spf.specs.BlockAims.{aim_at}
 use Rattle.mrt_rows.specs.Chain.{AreWayAims}
 use Rattle.mrt_rows.specs.NearOf.{IsNearRow}
-use Rattle.mrt_rows.proofs.AimsOfRows.{aim_of_blocks}
+use Rattle.mrt_rows.proofs.AimsOfRows.{aim_marked, aim_of_blocks}
 use Rattle.mrt_rows.proofs.ChainAims.{aim_apart, aim_within}
 use Rattle.mrt_rows.proofs.Climbing.{graph_by}
 use Rattle.mrt_rows.proofs.ColumnRows.{row_at_aim, row_from_aim, some_near}
@@ -46,7 +46,10 @@ returns-in_err-row c = λ w says.
     let ways : AreWayAims g c.args.root w c.args.to.node (aim_at held.aims (length held.targets) j) =
     aimed.aims.each j c.args.to.node c.requires.place in
     let it = aim_of_blocks og c.args.to.node c.requires.to below are_below (aim_at held.aims (length held.targets) j) ways s aim c.requires.source c.requires.two is in
-    let near = c.aimed_row.ensures w says aimed.up aimed.down it in
+    let near = c.aimed_row.ensures w says aimed.up aimed.down
+    (λ k h share away.
+    aim_marked og c.args.to.node c.requires.to below are_below (aim_at held.aims (length held.targets) j) ways held.wanted (aimed.marks.each j c.args.to.node c.requires.place) s aim k h c.requires.source is share away)
+    it in
     absurd (some_near og c.args.to.node c.requires.to below are_below s aim c.requires.source c.requires.two apart is
     (subst (λ (o : Option Row). IsNearRow g c.args.root w s aim o) c.in_err-row.was near))
 
@@ -66,7 +69,10 @@ returns-then-eq c = λ w says.
     let ways : AreWayAims g c.args.root w c.args.to.node (aim_at held.aims (length held.targets) j) =
     aimed.aims.each j c.args.to.node c.requires.place in
     let it = aim_of_blocks og c.args.to.node c.requires.to below are_below (aim_at held.aims (length held.targets) j) ways s aim c.requires.source c.requires.two is in
-    let near = c.aimed_row.ensures w says aimed.up aimed.down it in
+    let near = c.aimed_row.ensures w says aimed.up aimed.down
+    (λ k h share away.
+    aim_marked og c.args.to.node c.requires.to below are_below (aim_at held.aims (length held.targets) j) ways held.wanted (aimed.marks.each j c.args.to.node c.requires.place) s aim k h c.requires.source is share away)
+    it in
     row_at_aim og c.args.to.node c.requires.to below are_below s aim c.requires.source c.requires.two apart is c.in_ok-row.row
     (eqb-true aim c.args.to.node (sym c.eq.ensures ∙ c.if-eq.true))
     (subst (λ (o : Option Row). IsNearRow g c.args.root w s aim o) c.in_ok-row.was near)
@@ -87,7 +93,10 @@ returns c = λ w says.
     let ways : AreWayAims g c.args.root w c.args.to.node (aim_at held.aims (length held.targets) j) =
     aimed.aims.each j c.args.to.node c.requires.place in
     let it = aim_of_blocks og c.args.to.node c.requires.to below are_below (aim_at held.aims (length held.targets) j) ways s aim c.requires.source c.requires.two is in
-    let near = c.aimed_row.ensures w says aimed.up aimed.down it in
+    let near = c.aimed_row.ensures w says aimed.up aimed.down
+    (λ k h share away.
+    aim_marked og c.args.to.node c.requires.to below are_below (aim_at held.aims (length held.targets) j) ways held.wanted (aimed.marks.each j c.args.to.node c.requires.place) s aim k h c.requires.source is share away)
+    it in
     row_from_aim og c.args.to.node c.requires.to below are_below s aim c.requires.source c.requires.two apart is c.in_ok-row.row
     (eqb-false aim c.args.to.node (sym c.eq.ensures ∙ c.if-eq.false))
     (subst (λ (o : Option Row). IsNearRow g c.args.root w s aim o) c.in_ok-row.was near)

@@ -22,6 +22,7 @@ returns-clause-held c = λ w says.
       one_below_each = search rules;
       some_places = omega (arith, many, c.requires.some);
       places = all ∙ ap (λ (n : ℕ). n * c.args.width) c.node_count-count.ensures.count ∙ ap (λ (k : ℕ). length g.ids * k) (sym many);
+      a_mark_each = search rules;
       up = record { nodes = c.in_ok-up.ensures.nodes; width = c.in_ok-up.ensures.width ∙ sym many };
       down = record { nodes = c.in_ok-down.ensures.nodes; width = c.in_ok-down.ensures.width ∙ sym many };
       aimed = λ j t at inside. (
