@@ -1,9 +1,9 @@
 -- The lines of a text, taken in one after another.
 use Rattle.std.proofs.Common.{◌≡◌, ◌⊎◌, ◌<◌, ◌≤◌, ◌+◌, ◌-◌, ◌∙◌, ◌∷◌, ◌++◌, [], ℕ, zero, suc, List, length, take, drop, get_or, ◌==◌, slice_get, Some, Result, Ok, Err, refl, ap, sym, subst, arith, inl, inr}
 use Rattle.std.specs.List.{fold, slice_split}
-use Rattle.std.specs.Result.{IfOk, result_map_both}
+use Rattle.std.specs.Result.{result_map_both}
 use Rattle.std.specs.Str.Lines.{lines_of_parts}
-use Rattle.std.proofs.lemmas.Bool.{cases_Bool, cases_lt}
+use Rattle.std.proofs.lemmas.Bool.{cases_lt}
 use Rattle.std.proofs.lemmas.Bool.Decides.{eqb_tells}
 use Rattle.std.proofs.lemmas.List.{take_all, take_more}
 use Rattle.std.proofs.lemmas.List.Splits.{length-slice_split}
@@ -12,7 +12,7 @@ use Rattle.std.proofs.lemmas.Option.{get_or_from_slice_get, slice_get-get_or}
 use Rattle.std.proofs.Math.ListN.{drop_of_length-le}
 use Rattle.std.proofs.Math.Numerals.{add-one}
 use Rattle.std.proofs.Math.Seq.{drop-cons}
-use Rattle.mrt_graph.specs.TextLines.{is_passed_over, text_lines}
+use Rattle.mrt_graph.specs.TextLines.{text_lines}
 use Rattle.text_parts.specs.declared.line_error.LineError.{LineError}
 use Rattle.text_parts.specs.declared.line_error.LineError.TheVariants as errors
 use Rattle.text_parts.specs.TextRead.{Reads, Takes}
@@ -41,7 +41,7 @@ next_line lines number line rest left =
     (inside, slice_get-get_or lines number line inside ∙ ap Some first, cc)
 
 -- the first lines with one more
-take_next : (lines : List (List ℕ)) (number : ℕ) (line : List ℕ) → number < length lines → slice_get lines number ≡ Some line
+pub take_next : (lines : List (List ℕ)) (number : ℕ) (line : List ℕ) → number < length lines → slice_get lines number ≡ Some line
     → take (number + 1) lines ≡ take number lines ++ line ∷ []
 take_next lines number line inside there =
     take_more lines number line inside
@@ -118,7 +118,7 @@ outcome rule number (Err fault) lines = Err (number, fault)
 outcome rule number (Ok said) [] = result_map_both (λ text. text) (λ fault. (suc number, fault)) (rule.ends said)
 outcome rule number (Ok said) (line ∷ lines) = outcome rule (suc number) (with_line rule (Ok said) line) lines
 
-fault_stays : {S W F : Type 0} (rule : TextRule S W F) (fault : F) (lines : List (List ℕ))
+pub fault_stays : {S W F : Type 0} (rule : TextRule S W F) (fault : F) (lines : List (List ℕ))
     → fold (with_line rule) (Err fault) lines ≡ Err fault
 fault_stays rule fault [] = refl
 fault_stays rule fault (line ∷ lines) = fault_stays rule fault lines
@@ -221,62 +221,3 @@ go_on {S = S} {F = F} rule lines (line ∷ rest) number said taken =
 
 pub either : {S W F : Type 0} (rule : TextRule S W F) (lines : List (List ℕ)) → Ends rule lines
 either rule lines = go_on rule lines lines 0 rule.start (none_taken rule lines)
-
--- what holds before the first line, and is kept by each line, holds of what lines say
-kept_by_line : {S W F : Type 0} (rule : TextRule S W F) (P : S → Type 0)
-    → ((said after : S) (line : List ℕ) → P said → rule.after said line ≡ Ok after → P after)
-    → (said after : S) (line : List ℕ) → P said → with_line rule (Ok said) line ≡ Ok after → P after
-kept_by_line rule P keeps said after line holds is = elim (cases_Bool (is_passed_over line)) [
-  | inl passed ↦ let same = rw passed at is in subst P (cc) holds
-  | inr other ↦ keeps said after line holds (rw other at is)
-]
-
-kept_from : {S W F : Type 0} (rule : TextRule S W F) (P : S → Type 0)
-    → ((said after : S) (line : List ℕ) → P said → rule.after said line ≡ Ok after → P after)
-    → (here : Result S F) → ((said : S) → here ≡ Ok said → P said) → (lines : List (List ℕ)) (said : S)
-    → fold (with_line rule) here lines ≡ Ok said → P said
-kept_from rule P keeps here holds [] said say = holds said say
-kept_from rule P keeps (Err fault) holds (line ∷ lines) said say = let stays = fault_stays rule fault lines in absurd cc
-kept_from rule P keeps (Ok here) holds (line ∷ lines) said say =
-    kept_from rule P keeps (with_line rule (Ok here) line)
-    (λ after is. kept_by_line rule P keeps here after line (holds here refl) is) lines said say
-
-pub kept_by_lines : {S W F : Type 0} (rule : TextRule S W F) (P : S → Type 0) → P rule.start
-    → ((said after : S) (line : List ℕ) → P said → rule.after said line ≡ Ok after → P after)
-    → (lines : List (List ℕ)) (text : W) (is : IsText rule lines text) → P is.said
-kept_by_lines rule P start keeps lines text is =
-    kept_from rule P keeps (Ok rule.start) (λ said same. subst P (cc) start) lines is.said is.say
-
--- what a reading tells, where its errors are given other names
-pub text_is_found : {S W F E : Type 0} (rule : TextRule S W F) (lines : List (List ℕ)) (error : LineError F → E)
-    (read : Result W (LineError F)) → Reads rule lines read → IfOk (result_map_both (λ (text : W). text) error read) (IsText rule lines)
-text_is_found rule lines error (Ok text) reads = reads
-text_is_found rule lines error (Err fault) reads = tt
-
-pub text_is_read : {S W F E : Type 0} (rule : TextRule S W F) (lines : List (List ℕ)) (error : LineError F → E)
-    (read : Result W (LineError F)) → Reads rule lines read → (text : W) → IsText rule lines text
-    → (result_map_both (λ (t : W). t) error read ≡ Ok text) ⊎ (result_map_both (λ (t : W). t) error read ≡ Err (error errors.NoMemory))
-text_is_read {W = W} rule lines error (Ok other) reads text is = inl (ap Ok (one_text rule lines other text reads is))
-text_is_read {W = W} rule lines error (Err (errors.Fault number fault)) reads text is =
-    absurd (never_both rule lines text number fault is reads)
-text_is_read {W = W} rule lines error (Err errors.NoMemory) reads text is = inr refl
-
-pub fault_is_told : {S W F E : Type 0} (rule : TextRule S W F) (lines : List (List ℕ)) (error : LineError F → E)
-    (read : Result W (LineError F)) → Reads rule lines read → (number : ℕ) (fault : F) → IsFirstFault rule lines number fault
-    → (result_map_both (λ (t : W). t) error read ≡ Err (error (errors.Fault number fault)))
-    ⊎ (result_map_both (λ (t : W). t) error read ≡ Err (error errors.NoMemory))
-fault_is_told {W = W} {F = F} rule lines error (Ok text) reads number fault first = absurd (never_both rule lines text number fault reads first)
-fault_is_told {W = W} {F = F} rule lines error (Err (errors.Fault place other)) reads number fault first =
-    let one = one_fault rule lines place number other fault reads first in
-    let same : errors.Fault place other ≡ errors.Fault number fault = cc in
-    inl (ap (λ (told : LineError F). Err (error told)) same)
-fault_is_told {W = W} {F = F} rule lines error (Err errors.NoMemory) reads number fault first = inr refl
-
-pub fault_is_first : {S W F E : Type 0} (rule : TextRule S W F) (lines : List (List ℕ)) (error : LineError F → E)
-    → ((one other : LineError F) → error one ≡ error other → one ≡ other)
-    → (read : Result W (LineError F)) → Reads rule lines read → (number : ℕ) (fault : F)
-    → result_map_both (λ (t : W). t) error read ≡ Err (error (errors.Fault number fault)) → IsFirstFault rule lines number fault
-fault_is_first {W = W} {F = F} rule lines error same (Ok text) reads number fault is = absurd cc
-fault_is_first {W = W} {F = F} rule lines error same (Err one) reads number fault is =
-    let told : one ≡ errors.Fault number fault = same one (errors.Fault number fault) cc in
-    subst (λ (e : LineError F). Reads {W = W} rule lines (Err e)) told reads
