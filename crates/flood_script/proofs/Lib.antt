@@ -1,4 +1,5 @@
-pub mod MayRun
+pub mod LinesSay
+pub mod RoutersCounted
 pub mod TextsTold
 pub mod ComparedInState
 pub mod OneText

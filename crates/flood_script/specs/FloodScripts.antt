@@ -1,14 +1,14 @@
 -- The script that lines are, and the first line that is not as it should be.
-use Rattle.std.specs.Prelude.{◌≡◌, ◌<◌, ◌⊎◌, ℕ, List, Result, Err}
-use Rattle.text_parts.specs.declared.line_error.LineError.{LineError}
-use Rattle.text_parts.specs.declared.line_error.LineError.TheVariants as errors
-use Rattle.text_parts.specs.TextRule.{IsFirstFault as IsFirstFaultBy, IsText}
+use Rattle.std.specs.Prelude.{◌≡◌, ◌<◌, ◌≤◌, ◌⊎◌, ℕ, List, ◌∷◌, Some, map, Result, Err}
+use Rattle.std.specs.List.{AllByRecursion}
+use Rattle.text_parts.specs.LinesTold.{IsFirstWrong, told}
 use Rattle.flood_script.specs.declared.error.FloodScriptError.{FloodScriptError}
-use Rattle.flood_script.specs.declared.error.FloodScriptError.TheVariants.{Fault, NoMemory}
+use Rattle.flood_script.specs.declared.error.FloodScriptError.TheVariants.{NoMemory}
 use Rattle.flood_script.specs.declared.script.FloodLine.{FloodLine}
 use Rattle.flood_script.specs.declared.script.FloodLine.TheVariants.{Deliver, Same}
 use Rattle.flood_script.specs.declared.script.FloodScript.{FloodScript}
-use Rattle.flood_script.specs.Taking.{flood_rule, wrong}
+use Rattle.flood_script.specs.Deliveries.{deliveries_in}
+use Rattle.flood_script.specs.FloodLines.{line_in, routers_in}
 
 -- the two routers that a line compares are among so many
 abbrev pub IsAmong : ℕ → FloodLine → Type 0
@@ -17,18 +17,19 @@ IsAmong count (Same one other router) = (one < count) × (other < count)
 
 -- the script that lines are: the first of those that are not passed over says how many routers there are, and each later
 -- one is a delivery, of which there are at most 65,535, or compares two of these routers
-abbrev pub IsScript : List (List ℕ) → FloodScript → Type 0
-IsScript lines script = IsText flood_rule lines script
+pub record IsScript (lines : List (List ℕ)) (script : FloodScript) : Type 0 where
+  pub first : List ℕ
+  pub others : List (List ℕ)
+  pub told_are : told lines ≡ first ∷ others
+  pub start : routers_in first ≡ Some script.routers
+  pub lines_are : map line_in others ≡ map (λ line. Some line) script.lines
+  pub few : deliveries_in script.lines ≤ 65535
+  pub among : AllByRecursion (IsAmong script.routers) script.lines
 
 -- the line with this number, from 1, is the first that is not as it should be; or the lines end before it, and none of them
 -- is the first one
 abbrev pub IsFirstFault : List (List ℕ) → ℕ → Type 0
-IsFirstFault lines number = IsFirstFaultBy flood_rule lines number wrong
-
--- the error of the reading of lines
-abbrev pub error_of : LineError (Unit {0}) → FloodScriptError
-error_of (errors.Fault line fault) = Fault line
-error_of errors.NoMemory = NoMemory
+IsFirstFault lines number = IsFirstWrong IsScript lines number
 
 -- what reading comes to is as expected, or there was no memory
 abbrev pub OrNoMemory : Result FloodScript FloodScriptError → Result FloodScript FloodScriptError → Type 0

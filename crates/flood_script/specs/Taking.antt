@@ -1,7 +1,11 @@
--- The lines of a script of deliveries, taken in one after another.
+-- The lines of a script of deliveries, taken in one after another. No contract of a public function cites it.
 use Rattle.std.specs.Prelude.{◌++◌, ◌&&◌, ℕ, Bool, List, [], ◌∷◌, Option, Some, None, nat_lt, if◌then◌else◌}
 use Rattle.std.specs.Option.{ok_or, option_and_then, option_map}
+use Rattle.text_parts.specs.declared.line_error.LineError.{LineError}
+use Rattle.text_parts.specs.declared.line_error.LineError.TheVariants as errors
 use Rattle.text_parts.specs.TextRule.{TextRule}
+use Rattle.flood_script.specs.declared.error.FloodScriptError.{FloodScriptError}
+use Rattle.flood_script.specs.declared.error.FloodScriptError.TheVariants.{Fault, NoMemory}
 use Rattle.flood_script.specs.declared.script.FloodLine.{FloodLine}
 use Rattle.flood_script.specs.declared.script.FloodLine.TheVariants.{Deliver, Same}
 use Rattle.flood_script.specs.declared.script.FloodScript.{FloodScript}
@@ -51,3 +55,8 @@ flood_rule = record {
   after = λ so_far line. ok_or (after_told so_far.routers so_far.lines line) wrong;
   ends = λ so_far. ok_or (script_of so_far.routers so_far.lines) wrong;
 }
+
+-- the error of a reading of lines, as that of scripts of deliveries
+abbrev pub error_of : LineError (Unit {0}) → FloodScriptError
+error_of (errors.Fault line fault) = Fault line
+error_of errors.NoMemory = NoMemory

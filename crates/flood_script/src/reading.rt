@@ -6,7 +6,8 @@ ghost use Rattle.std.specs.Result.{result_map_both};
 ghost use Rattle.mrt_graph.specs.TextLines.{text_lines};
 ghost use Rattle.flood_script.specs.declared.script.FloodScript.{FloodScript};
 ghost use Rattle.flood_script.specs.Deliveries.{deliveries_in};
-ghost use Rattle.flood_script.specs.FloodScripts.{IsAmong, IsFirstFault, IsScript, OrNoMemory, error_of};
+ghost use Rattle.flood_script.specs.FloodScripts.{IsAmong, IsFirstFault, IsScript, OrNoMemory};
+ghost use Rattle.flood_script.specs.Taking.{error_of};
 
 use crate::error::FloodScriptError;
 use crate::script::FloodScript;
