@@ -2,6 +2,7 @@ pub mod ByDestinations
 pub mod Entered
 pub mod Gathered
 pub mod LeastRoom
+pub mod LinesSay
 pub mod NamesRead
 pub mod NamesSpelled
 pub mod NotThere

@@ -1,10 +1,14 @@
--- The lines of a script, taken in one after another.
+-- The lines of a script, taken in one after another. No contract of a public function cites it.
 use Rattle.std.specs.Prelude.{◌++◌, ℕ, List, [], ◌∷◌, Option, Some, None}
 use Rattle.std.specs.Option.{ok_or, option_map}
+use Rattle.text_parts.specs.declared.line_error.LineError.{LineError}
+use Rattle.text_parts.specs.declared.line_error.LineError.TheVariants as errors
 use Rattle.text_parts.specs.TextRule.{TextRule}
 use Rattle.fabric_script.specs.declared.event.ScriptEvent.{ScriptEvent}
 use Rattle.fabric_script.specs.declared.line.Start.{Start}
 use Rattle.fabric_script.specs.declared.script.Script.{Script}
+use Rattle.fabric_script.specs.declared.script_error.ScriptError.{ScriptError}
+use Rattle.fabric_script.specs.declared.script_error.ScriptError.TheVariants.{Fault, NoMemory}
 use Rattle.fabric_script.specs.ScriptLines.{event_in, start_in}
 
 -- what lines say: the first of them, if there was one, and the events after it
@@ -39,3 +43,8 @@ script_rule = record {
   after = λ so_far line. ok_or (after_told so_far.start so_far.events line) wrong;
   ends = λ so_far. ok_or (script_of so_far.start so_far.events) wrong;
 }
+
+-- the error of a reading of lines, as that of scripts
+abbrev pub error_of : LineError (Unit {0}) → ScriptError
+error_of (errors.Fault line fault) = Fault line
+error_of errors.NoMemory = NoMemory
