@@ -10,5 +10,6 @@ pub mod LinkParts
 pub mod OneIsland
 pub mod Pairing
 pub mod RootSoFar
+pub mod SettingsSaid
 pub mod Stores
 pub mod Telling

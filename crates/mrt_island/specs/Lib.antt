@@ -1,6 +1,7 @@
 pub mod ProfileLines
 pub mod Settings
 pub mod ProfileFaults
+pub mod ProfileTaking
 pub mod ProfileStore
 pub mod Policy
 pub mod Eligible

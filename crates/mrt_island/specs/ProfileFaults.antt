@@ -1,43 +1,48 @@
 -- The settings of a profile file, and its first line with a fault.
-use Rattle.std.specs.Prelude.{◌≡◌, ◌⊎◌, ◌++◌, ◌∷◌, [], ℕ, List, Result, Ok, Err, if◌then◌else◌}
-use Rattle.std.specs.List.{list_any}
-use Rattle.text_parts.specs.declared.line_error.LineError.{LineError}
-use Rattle.text_parts.specs.declared.line_error.LineError.TheVariants as errors
-use Rattle.text_parts.specs.TextRule.{IsFirstFault as IsFirstFaultBy, IsText, TextRule}
+use Rattle.std.specs.Prelude.{◌≡◌, ◌⊎◌, ◌<◌, ◌-◌, ℕ, List, take, slice_get, Option, Some, None, Result, Ok, Err, if◌then◌else◌}
+use Rattle.std.specs.List.{filter_map, list_any}
+use Rattle.std.specs.Option.{option_and_then}
+use Rattle.std.specs.Result.{result_ok}
+use Rattle.mrt_graph.specs.TextLines.{is_passed_over}
 use Rattle.mrt_island.specs.declared.profile_error.ProfileError.{ProfileError}
-use Rattle.mrt_island.specs.declared.profile_error.ProfileError.TheVariants.{Fault, NoMemory}
+use Rattle.mrt_island.specs.declared.profile_error.ProfileError.TheVariants.{NoMemory}
 use Rattle.mrt_island.specs.declared.profile_error.ProfileKind.{ProfileKind}
 use Rattle.mrt_island.specs.declared.profile_error.ProfileKind.TheVariants.{Repeated}
 use Rattle.mrt_island.specs.declared.setting.Setting.{Setting}
 use Rattle.mrt_island.specs.ProfileLines.{line_setting}
 use Rattle.mrt_island.specs.Settings.{same_subject}
 
--- the settings after those of earlier lines and what one more says, or the line's first fault
-abbrev pub with_setting : List Setting → Result Setting ProfileKind → Result (List Setting) ProfileKind
-with_setting earlier (Err kind) = Err kind
-with_setting earlier (Ok setting) =
-    if list_any (same_subject setting) earlier then Err Repeated else Ok (earlier ++ setting ∷ [])
+-- what a line says, if it is not passed over and says something
+abbrev pub setting_of : List ℕ → Option Setting
+setting_of line = if is_passed_over line then None else result_ok (line_setting line)
 
--- how a profile is read: each line that is not passed over says a setting more, and it may end after each
-abbrev pub profile_rule : TextRule (List Setting) (List Setting) ProfileKind
-profile_rule = record {
-  start = [];
-  after = λ earlier line. with_setting earlier (line_setting line);
-  ends = λ settings. Ok settings;
-}
+-- what lines say, in their order
+abbrev pub settings_of : List (List ℕ) → List Setting
+settings_of lines = filter_map setting_of lines
 
--- the lines say these settings, in their order, and none of them has a fault
-abbrev pub AreSettings : List (List ℕ) → List Setting → Type 0
-AreSettings lines settings = IsText profile_rule lines settings
+-- the first fault of a line that is not passed over, after lines that say so much
+abbrev pub fault_in : List Setting → Result Setting ProfileKind → Option ProfileKind
+fault_in earlier (Err kind) = Some kind
+fault_in earlier (Ok setting) = if list_any (same_subject setting) earlier then Some Repeated else None
+
+-- the first fault of a line after lines that say so much, if it has one
+abbrev pub fault_behind : List Setting → List ℕ → Option ProfileKind
+fault_behind earlier line = if is_passed_over line then None else fault_in earlier (line_setting line)
+
+-- the first fault of the line at a place, from 0, if there is a line with one
+abbrev pub fault_at : List (List ℕ) → ℕ → Option ProfileKind
+fault_at lines place = option_and_then (fault_behind (settings_of (take place lines))) (slice_get lines place)
+
+-- no line has a fault, and these are the settings that the lines say, in their order
+pub record AreSettings (lines : List (List ℕ)) (settings : List Setting) : Type 0 where
+  pub faultless : (place : ℕ) → fault_at lines place ≡ None
+  pub said : settings ≡ settings_of lines
 
 -- the line with this number, from 1, is the first one with a fault, and this is the first of its faults
-abbrev pub IsFirstFault : List (List ℕ) → ℕ → ProfileKind → Type 0
-IsFirstFault lines number kind = IsFirstFaultBy profile_rule lines number kind
-
--- the error of the reading of lines
-abbrev pub error_of : LineError ProfileKind → ProfileError
-error_of (errors.Fault line kind) = Fault line kind
-error_of errors.NoMemory = NoMemory
+pub record IsFirstFault (lines : List (List ℕ)) (number : ℕ) (kind : ProfileKind) : Type 0 where
+  pub counted : 0 < number
+  pub fault : fault_at lines (number - 1) ≡ Some kind
+  pub first : (place : ℕ) → place < number - 1 → fault_at lines place ≡ None
 
 -- what reading comes to is as expected, or there was no memory
 abbrev pub OrNoMemory : Result (List Setting) ProfileError → Result (List Setting) ProfileError → Type 0

@@ -5,7 +5,8 @@ ghost use Rattle.std.specs.Result.{result_map_both};
 ghost use Rattle.mrt_graph.specs.TextLines.{text_lines};
 ghost use Rattle.mrt_island.specs.declared.profile_error.ProfileKind.{ProfileKind};
 ghost use Rattle.mrt_island.specs.declared.setting.Setting.{Setting};
-ghost use Rattle.mrt_island.specs.ProfileFaults.{AreSettings, IsFirstFault, OrNoMemory, error_of};
+ghost use Rattle.mrt_island.specs.ProfileFaults.{AreSettings, IsFirstFault, OrNoMemory};
+ghost use Rattle.mrt_island.specs.ProfileTaking.{error_of};
 
 use crate::profile::Profile;
 use crate::profile_error::{ProfileError, ProfileKind};
@@ -55,7 +56,7 @@ fn told(read: Result<Profile, LineError<ProfileKind>>) -> Result<Profile, Profil
 }
 
 impl TakesLines for Profile {
-    ghost use Rattle.mrt_island.specs.ProfileFaults.{profile_rule};
+    ghost use Rattle.mrt_island.specs.ProfileTaking.{profile_rule};
 
     type Text = Profile;
 
