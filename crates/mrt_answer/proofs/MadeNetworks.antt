@@ -85,7 +85,7 @@ module _ (laws : NetworkLaws) (number nodes : ℕ) (size : IsNetworkSize nodes) 
   pub made_is_input : IsInput (lsas_text (made_lsas number nodes)) [] (made_input number nodes)
   made_is_input = record {
     database_is = made_database;
-    profile_is = record { said = []; say = refl; whole = refl };
+    profile_is = record { faultless = λ place. refl; said = refl };
   }
 
   pub made_has_island : (router : ℕ) → 1 ≤ router → router ≤ nodes → (exit : Exit)

@@ -1,7 +1,7 @@
 -- What the bytes of each file hold, they hold in one way, or they have one first fault, and never both.
 use Rattle.std.proofs.Common.{◌≡◌, ◌∙◌, ◌≤◌, ◌+◌, ℕ, Bool, true, false, List, [], ◌∷◌, Option, Some, None, refl, sym, ap, subst, arith}
 use Rattle.std.specs.Option.{option_map_or}
-use Rattle.text_parts.proofs.LinesTaken.{never_both as never_both_by, one_fault as one_fault_by, one_text as one_text_by}
+use Rattle.text_parts.proofs.WholeLists.{never_both_of, one_fault_of, one_text_of}
 use Rattle.cert_format.specs.CertText.{cert_text}
 use Rattle.cert_format.specs.FirstFault.{first_fault}
 use Rattle.cert_format.specs.Limits.{IsCertFile}
@@ -16,7 +16,8 @@ use Rattle.lsdb.specs.Orders.{newest_in}
 use Rattle.lsdb.specs.declared.change.Conflict.{Conflict as Clash}
 use Rattle.mrt_graph.specs.declared.cert.CertFile.{CertFile}
 use Rattle.mrt_graph.specs.TextLines.{text_lines}
-use Rattle.mrt_island.specs.ProfileFaults.{IsFirstFault as IsFirstLineFault, profile_rule}
+use Rattle.mrt_island.proofs.SettingsSaid.{profile_means}
+use Rattle.mrt_island.specs.ProfileFaults.{IsFirstFault as IsFirstLineFault}
 use Rattle.mrt_island.specs.declared.profile_error.ProfileKind.{ProfileKind}
 use Rattle.mrt_island.specs.declared.setting.Setting.{Setting}
 use Rattle.ospf_lsa.specs.LsaText.{lsa_length, lsas_text}
@@ -120,16 +121,16 @@ module _ (laws : DatabaseLaws) where
 
 pub no_bad_profile : (bytes : List ℕ) (settings : List Setting) (line : ℕ) (kind : ProfileKind)
     → IsProfile bytes settings → IsFirstLineFault (text_lines bytes) line kind → ⊥
-no_bad_profile bytes = never_both_by profile_rule (text_lines bytes)
+no_bad_profile bytes = never_both_of profile_means (text_lines bytes)
 
 pub one_profile : (bytes : List ℕ) (settings others : List Setting) → IsProfile bytes settings
     → IsProfile bytes others → settings ≡ others
-one_profile bytes = one_text_by profile_rule (text_lines bytes)
+one_profile bytes = one_text_of profile_means (text_lines bytes)
 
 pub one_bad_profile : (lines : List (List ℕ)) (line number : ℕ) (kind other : ProfileKind)
     → IsFirstLineFault lines line kind → IsFirstLineFault lines number other
     → (line ≡ number) × (kind ≡ other)
-one_bad_profile = one_fault_by profile_rule
+one_bad_profile lines = one_fault_of profile_means lines
 
 -- ---- certificates
 
