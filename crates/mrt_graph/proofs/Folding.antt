@@ -15,7 +15,7 @@ use Rattle.mrt_graph.specs.CertWords.{head_of, order_of}
 use Rattle.mrt_graph.specs.Foldable.{IsFoldable, IsLeastOwnHead, comes_to, in_chain, is_folded, is_own_head, rows_folded}
 use Rattle.mrt_graph.specs.Related.{are_unrelated}
 use Rattle.mrt_graph.specs.RootAndOrders.{RootAndOrders}
-use Rattle.mrt_graph.specs.RowRules.{carrier, row_rule, same_links}
+use Rattle.mrt_graph.specs.RowRules.{row_rule, same_links}
 use Rattle.mrt_graph.specs.Rules.{OrderRule}
 use Rattle.mrt_graph.specs.Tags.{same_tag}
 use Rattle.mrt_graph.specs.Topology.{Topology}

@@ -1,10 +1,9 @@
 -- What the tests of a certificate's words tell.
 use Rattle.std.proofs.Common.{◌≡◌, ◌≢◌, ◌∙◌, ◌==◌, ◌&&◌, ◌||◌, ◌<◌, ℕ, Bool, true, false, List, Option, Some, None, not, length, slice_get, refl, sym, ap, inl, inr}
 use Rattle.std.proofs.lemmas.Bool.{and_parts, cases_Bool, or_cases, eqb-true, eqb-false, ltb-true, false≢true, not-true}
-use Rattle.std.specs.Option.{option_and_then, option_map, option_map_or, unwrap_or}
+use Rattle.std.specs.Option.{option_and_then, option_map_or, unwrap_or}
 use Rattle.std.specs.Prelude.{nat_lt}
 use Rattle.mrt_graph.specs.declared.cert.CertLink.{CertLink}
-use Rattle.mrt_graph.specs.declared.cert.CertNode.{CertNode}
 use Rattle.mrt_graph.specs.declared.cert.Role.{Role}
 use Rattle.mrt_graph.specs.declared.cert.Role.TheVariants as roles
 use Rattle.mrt_graph.specs.declared.cert.Row.{Row}
@@ -19,7 +18,6 @@ use Rattle.mrt_graph.specs.Roles.{is_plain, is_sole, is_closing}
 use Rattle.mrt_graph.specs.RowRules.{higher_tagged, lower_tagged}
 use Rattle.mrt_graph.specs.Tags.{same_tag}
 use Rattle.mrt_graph.proofs.Blocks.{Common, Peers, ToHead, FromHead, Related, InOne, Under, Over}
-use Rattle.mrt_graph.proofs.Relations.{Unrelated, unrelated_tells}
 use Rattle.mrt_graph.proofs.RowFacts.{Tagged, HigherTagged, LowerTagged}
 use Rattle.mrt_graph.proofs.WordsOf.{words_of}
 
@@ -147,18 +145,16 @@ module _ (links : List Link) (root : ℕ) (c : Certificate) where
 
   -- and those of two nodes
   pub unrelated_apart : (s t : ℕ) → are_unrelated c s t ≡ true → Related (words_of links root c) s t → ⊥
-  unrelated_apart s t holds related = go related
+  unrelated_apart s t holds related =
+      let blocks = and_parts (are_different (block_of c s) (block_of c t)) _ holds in
+      let heads = and_parts (are_different (head_of c s) (Some t)) _ blocks.1 in
+      go related blocks.0 heads.0 heads.1
     where
-      far : Unrelated c s t
-      far = unrelated_tells c s t holds
-
-      word : (f : CertNode → ℕ) (a : ℕ) (node : CertNode) → slice_get c.nodes a ≡ Some node → unwrap_or (option_map f (slice_get c.nodes a)) 0 ≡ f node
-      word f a node at = ap (λ (o : Option CertNode). unwrap_or (option_map f o) 0) at
-
-      go : Related (words_of links root c) s t → ⊥
-      go (InOne one) = far.blocks (sym (word (λ node. node.block) s far.here far.at_here) ∙ one ∙ word (λ node. node.block) t far.there far.at_there)
-      go (Under under) = far.not_under (sym (word (λ node. node.head) s far.here far.at_here) ∙ under)
-      go (Over over) = far.not_over (sym (word (λ node. node.head) t far.there far.at_there) ∙ over)
+      go : Related (words_of links root c) s t → are_different (block_of c s) (block_of c t) ≡ true
+          → are_different (head_of c s) (Some t) ≡ true → are_different (head_of c t) (Some s) ≡ true → ⊥
+      go (InOne one) blocks up down = different_numbers (block_of c s) (block_of c t) blocks one
+      go (Under under) blocks up down = different_numbers (head_of c s) (Some t) up under
+      go (Over over) blocks up down = different_numbers (head_of c t) (Some s) down over
 
   pub common_block : (s t : ℕ) (k : Option ℕ) → is_common_block c s t k ≡ true
       → Common (words_of links root c) s t (unwrap_or k 0)

@@ -7,8 +7,8 @@ use Rattle.mrt_graph.specs.BothThere.{are_equal}
 use Rattle.mrt_graph.specs.Certificate.{Certificate, row_of}
 use Rattle.mrt_graph.specs.CertWords.{head_of}
 use Rattle.mrt_graph.specs.Places.{Each, EachPair, IsFirst}
-use Rattle.mrt_graph.specs.Related.{are_unrelated}
-use Rattle.mrt_graph.specs.RowRules.{carrier, same_links}
+use Rattle.mrt_graph.specs.Related.{are_unrelated, carrier}
+use Rattle.mrt_graph.specs.RowRules.{same_links}
 use Rattle.mrt_graph.specs.Tags.{same_tag}
 
 -- a node is its own head

@@ -1,6 +1,6 @@
 -- Rules seven to fourteen: what each row keeps, by its tag. The two links of a row of s for t that is not Carried, blue and
 -- red, lead from s to the nodes blue_to and red_to.
-use Rattle.std.specs.Prelude.{◌==◌, ◌&&◌, ◌||◌, ℕ, Bool, false, List, Option, Some, not}
+use Rattle.std.specs.Prelude.{◌==◌, ◌&&◌, ◌||◌, ℕ, Bool, false, List, Some, not}
 use Rattle.std.specs.Option.{option_and_then, option_map_or}
 use Rattle.mrt_graph.specs.declared.cert.Row.{Row}
 use Rattle.mrt_graph.specs.declared.cert.Tag.{Tag}
@@ -10,7 +10,7 @@ use Rattle.mrt_graph.specs.BothThere.{are_equal, both, is_less}
 use Rattle.mrt_graph.specs.Certificate.{Certificate, row_of}
 use Rattle.mrt_graph.specs.CertWords.{order_of, head_of, block_of, link_block, has_role, tagged}
 use Rattle.mrt_graph.specs.Leads.{leads}
-use Rattle.mrt_graph.specs.Related.{are_unrelated, below_carrier, is_common_block}
+use Rattle.mrt_graph.specs.Related.{are_unrelated, carrier, is_common_block}
 use Rattle.mrt_graph.specs.Roles.{is_plain, is_sole, is_closing}
 use Rattle.mrt_graph.specs.Tags.{same_tag}
 
@@ -94,10 +94,6 @@ near_row Below c s t row blue_to red_to = below_row c s t row blue_to red_to
 near_row Above c s t row blue_to red_to = above_row c s t row blue_to red_to
 near_row Unordered c s t row blue_to red_to = unordered_row c s t row blue_to red_to
 near_row Carried c s t row blue_to red_to = false
-
--- the node for which s has the links that it has for t: the head of t, or where t is the root, the head of s
-abbrev pub carrier : Certificate → ℕ → ℕ → ℕ → Option ℕ
-carrier c root s t = head_of c (below_carrier root s t)
 
 -- blue and red are those of another row
 abbrev pub same_links : Row → Row → Bool

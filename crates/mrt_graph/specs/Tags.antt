@@ -18,6 +18,10 @@ tag_number Carried = 6
 abbrev pub same_tag : Tag → Tag → Bool
 same_tag tag other = tag_number tag == tag_number other
 
--- a row that is not Carried is near: its source and its destination have a block in common
+-- a row is near where it is not Carried
 abbrev pub is_near : Row → Bool
 is_near row = not (same_tag row.tag Carried)
+
+-- the row with the same links, Carried
+abbrev pub carried : Row → Row
+carried row = record { blue = row.blue; red = row.red; tag = Carried }

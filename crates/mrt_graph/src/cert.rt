@@ -45,13 +45,24 @@ pub struct Row {
 
 impl Row {
     ghost use Rattle.std.specs.Prelude.{◌≡◌};
-    ghost use Rattle.mrt_graph.specs.Tags.{is_near};
+    ghost use Rattle.mrt_graph.specs.Tags.{carried, is_near};
 
     /// Whether it is not carried.
     pub fn is_near(&self) -> bool
         ensures { result ≡ is_near self.now }
     {
         !matches!(self.tag, Tag::Carried)
+    }
+
+    /// The row with the same links, carried.
+    pub fn carried(&self) -> Row
+        ensures { result ≡ carried self.now }
+    {
+        Row {
+            blue: self.blue,
+            red: self.red,
+            tag: Tag::Carried,
+        }
     }
 }
 
@@ -69,11 +80,10 @@ pub struct CertNode {
 
 impl CertNode {
     ghost use Rattle.std.specs.Prelude.{◌≡◌};
-    ghost use Rattle.mrt_graph.specs.Related.{place_of};
 
     /// Its head and its block.
     pub fn place(&self) -> Place
-        ensures { result ≡ place_of self.now }
+        ensures { result ≡ record { head = self.now.head; block = self.now.block } }
     {
         Place {
             head: self.head,
@@ -121,6 +131,7 @@ pub struct CertFile {
 
 impl Cert {
     ghost use Rattle.std.specs.Prelude.{◌≡◌, ◌≢◌, ◌<◌, Some, length, slice_get};
+    ghost use Rattle.std.specs.List.{AllByRecursion};
     ghost use Rattle.mrt_graph.specs.Certificate.{
       IsCertificate,
       IsCertNode,
@@ -156,7 +167,8 @@ impl Cert {
 
     /// The nodes, by number.
     pub fn nodes(&self) -> &[CertNode]
-        ensures { result.now ≡ self.now.nodes }
+        ensures value { result.now ≡ self.now.nodes }
+        ensures kept { AllByRecursion (IsCertNode (length self.now.nodes)) result.now }
     {
         &self.nodes
     }

@@ -43,7 +43,7 @@ pub use node_id::{Kind, NodeId};
 pub use node_search::NodeSearch;
 pub use node_text::{NodeText, push_node_text};
 pub use numbers::{LinkNo, NodeNo};
-pub use related::{Relation, are_unrelated, below_carrier, relation_of};
+pub use related::{Relation, are_unrelated, carrier, carrier_of, relation_of};
 pub use rows_of::RowsOf;
 pub use seq::Seq;
 pub use text_lines::{first_line, first_word, is_passed_over};

@@ -1,8 +1,10 @@
-//! What two nodes are to each other, by the heads and the blocks of both.
+//! What two nodes are to each other, by the heads and the blocks of both, and the carrier for those that have no block in
+//! common.
 
-ghost use Rattle.std.specs.Prelude.{◌≡◌, ◌<◌, ℕ, [], length};
-ghost use Rattle.mrt_graph.specs.Certificate.{certificate_of};
-ghost use Rattle.mrt_graph.specs.Related.{are_unrelated, below_carrier, relation};
+ghost use Rattle.std.specs.Prelude.{◌≡◌, ◌≢◌, ◌<◌, ℕ, Some, [], length};
+ghost use Rattle.std.specs.List.{AllByRecursion};
+ghost use Rattle.mrt_graph.specs.Certificate.{IsCertNode, certificate_of};
+ghost use Rattle.mrt_graph.specs.Related.{IsRelation, are_unrelated, carrier};
 
 use crate::cert::CertNode;
 use crate::gadag::Place;
@@ -35,7 +37,7 @@ impl Relation {
 
 /// What `s` is to another node `t`, by the places of both.
 pub fn relation_of(s: NodeNo, here: &Place, t: NodeNo, there: &Place) -> Relation
-    ensures { result ≡ relation s here.now t there.now }
+    ensures { IsRelation s here.now t there.now result }
 {
     if here.block == there.block {
         return Relation::OneBlock;
@@ -60,11 +62,23 @@ pub fn are_unrelated(nodes: &[CertNode], s: NodeNo, t: NodeNo) -> bool
     relation_of(s, &here, t, &there).is_apart()
 }
 
-/// The node whose head is the carrier of `s` for `t`: where they have no block in common, `s` has the links for `t` that it
-/// has for the carrier.
-pub fn below_carrier(root: NodeNo, s: NodeNo, t: NodeNo) -> NodeNo
-    ensures value { result ≡ below_carrier root s t }
-    ensures within { (n : ℕ) → s < n → t < n → result < n }
+/// The carrier of a node for another one `t`, by the places of both: the node for which it has the links that it has for
+/// `t`, with which it has no block in common. It is the head of `t`, or where `t` is the root, its own.
+pub fn carrier_of(root: NodeNo, here: &Place, t: NodeNo, there: &Place) -> NodeNo
+    ensures to_other { t ≢ root → result ≡ there.now.head }
+    ensures to_root { t ≡ root → result ≡ here.now.head }
 {
-    if t == root { s } else { t }
+    if t == root { here.head } else { there.head }
+}
+
+/// The carrier of `s` for `t`, by what a certificate says of nodes.
+pub fn carrier(nodes: &[CertNode], root: NodeNo, s: NodeNo, t: NodeNo) -> NodeNo
+    requires source { s < length nodes.now }
+    requires target { t < length nodes.now }
+    ensures value { carrier (certificate_of nodes.now [] []) root s t ≡ Some result }
+    ensures within { (n : ℕ) → AllByRecursion (IsCertNode n) nodes.now → result < n }
+{
+    let here = nodes[s.get() as usize].place();
+    let there = nodes[t.get() as usize].place();
+    carrier_of(root, &here, t, &there)
 }
