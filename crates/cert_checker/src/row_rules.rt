@@ -1,13 +1,13 @@
 //! Rules seven to thirteen, at one row: what the row keeps, by its tag.
 
-ghost use Rattle.std.specs.Prelude.{◌≡◌, ◌<◌, IfSome, Some, false, length};
+ghost use Rattle.std.specs.Prelude.{◌≡◌, ◌<◌, IfSome, false, length};
 ghost use Rattle.std.specs.Option.{option_map, option_map_or};
 ghost use Rattle.cert_checker.specs.KnownNode.{AreHops, IsKnown};
 ghost use Rattle.cert_checker.specs.RowAt.{IsRowAt};
 ghost use Rattle.mrt_graph.specs.declared.cert.Tag.TheVariants.{Carried};
 ghost use Rattle.mrt_graph.specs.BothThere.{both};
 ghost use Rattle.mrt_graph.specs.Certificate.{row_of};
-ghost use Rattle.mrt_graph.specs.RowRules.{carried_row, carrier, near_row, row_rule, same_links};
+ghost use Rattle.mrt_graph.specs.RowRules.{carried_row, near_row, row_rule, same_links};
 ghost use Rattle.mrt_graph.specs.SameGraph.{SameCounts};
 ghost use Rattle.mrt_graph.specs.Tags.{same_tag};
 
@@ -15,7 +15,7 @@ use crate::hops::{Hop, Hops, hop_by};
 use crate::known_node::KnownNode;
 use crate::near_rows::keeps_near_rule;
 use crate::row_words::number_of;
-use mrt_graph::{Cert, Graph, NodeNo, Row, Tag, are_unrelated, below_carrier};
+use mrt_graph::{Cert, Graph, NodeNo, Row, Tag, are_unrelated, carrier};
 
 /// Whether a row keeps its rule, and the hops that serve the next row.
 #[derive(Drop)]
@@ -90,18 +90,8 @@ fn carried(c: &Cert, root: NodeNo, s: &KnownNode, t: NodeNo, row: &Row) -> bool
     requires target { t < length c.now.nodes }
     ensures { result ≡ carried_row c.now root s.now.number t row.now }
 {
-    are_unrelated(c.nodes(), s.number, t) && has_links_for(c, s, carrier_of(c, root, s, t), row)
-}
-
-/// The node for which `s` has the links that it has for `t`.
-fn carrier_of(c: &Cert, root: NodeNo, s: &KnownNode, t: NodeNo) -> NodeNo
-    requires source { IsKnown c.now s.now }
-    requires target { t < length c.now.nodes }
-    ensures value { carrier c.now root s.now.number t ≡ Some result }
-    ensures within { result < length c.now.nodes }
-{
-    let below = below_carrier(root, s.number, t);
-    c.node(below).head
+    let nodes = c.nodes();
+    are_unrelated(nodes, s.number, t) && has_links_for(c, s, carrier(nodes, root, s.number, t), row)
 }
 
 /// Whether the row has the links of the row of `s` for `w`.
