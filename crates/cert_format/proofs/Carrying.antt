@@ -11,10 +11,10 @@ use Rattle.mrt_graph.specs.declared.cert.CertNode.{CertNode}
 use Rattle.mrt_graph.specs.declared.cert.Row.{Row}
 use Rattle.mrt_graph.specs.declared.cert.Tag.TheVariants.{Carried}
 use Rattle.mrt_graph.specs.Foldable.{is_folded, rows_folded}
-use Rattle.mrt_graph.specs.Related.{are_unrelated}
+use Rattle.mrt_graph.specs.Related.{are_unrelated, carrier}
 use Rattle.mrt_graph.specs.RowPlace.{place_of_row}
-use Rattle.mrt_graph.specs.RowRules.{carrier, same_links}
-use Rattle.mrt_graph.specs.Tags.{is_near, same_tag}
+use Rattle.mrt_graph.specs.RowRules.{same_links}
+use Rattle.mrt_graph.specs.Tags.{carried, is_near, same_tag}
 use Rattle.mrt_graph.proofs.ListPlaces.{set_elsewhere, set_there}
 use Rattle.mrt_graph.proofs.ListTests.{there}
 use Rattle.mrt_graph.proofs.Relations.{not_with_lower, unrelated_tells}
@@ -178,11 +178,11 @@ near_settled nodes rows r s t row is near related =
     or_true false = refl
 
 -- a Carried row with the links of the row for the carrier is
-pub carried_settled : (nodes : List CertNode) (rows : List Row) (r s t h : ℕ) (from : Row) → row_of (certificate_of nodes [] rows) s t ≡ Some (record { blue = from.blue; red = from.red; tag = Carried })
+pub carried_settled : (nodes : List CertNode) (rows : List Row) (r s t h : ℕ) (from : Row) → row_of (certificate_of nodes [] rows) s t ≡ Some (carried from)
     → carrier (certificate_of nodes [] []) r s t ≡ Some h → row_of (certificate_of nodes [] rows) s h ≡ Some from
     → are_unrelated (certificate_of nodes [] []) s t ≡ true → rows_folded (certificate_of nodes [] rows) r s t ≡ true
 carried_settled nodes rows r s t h from is by from_is far =
-    let row : Row = record { blue = from.blue; red = from.red; tag = Carried } in
+    let row : Row = carried from in
     let links : same_links row from ≡ true = and_from _ _ (eq-eqb from.blue from.blue refl) (eq-eqb from.red from.red refl) in
     ap (λ (u : Bool). pair_test s t u (option_and_then (row_of (certificate_of nodes [] rows) s) (carrier (certificate_of nodes [] []) r s t)) (row_of (certificate_of nodes [] rows) s t)) far
     ∙ ap (λ (o : Option ℕ). pair_test s t true (option_and_then (row_of (certificate_of nodes [] rows) s) o) (row_of (certificate_of nodes [] rows) s t)) by
@@ -263,11 +263,11 @@ module _ (nodes : List CertNode) (down : List ℕ) (it : IsDown (certificate_of 
   pub carried_before : (rows : List Row) (s i t h : ℕ) (from : Row) → map is_near rows ≡ marks_of nodes → s < length nodes → slice_get down i ≡ Some t → t ≢ s
       → are_unrelated c s t ≡ true → carrier c it.top s t ≡ Some h → h < length nodes → slice_get rows (place_of_row (length nodes) s h) ≡ Some from
       → AreSettledBefore nodes down it rows s i
-      → AreSettledBefore nodes down it (set rows (place_of_row (length nodes) s t) (record { blue = from.blue; red = from.red; tag = Carried })) s (i + 1)
+      → AreSettledBefore nodes down it (set rows (place_of_row (length nodes) s t) (carried from)) s (i + 1)
   carried_before rows s i t h from marks s_in at two far by h_in from_at before j u below u_at =
       let n = length nodes in
       let q = place_of_row n s t in
-      let x : Row = record { blue = from.blue; red = from.red; tag = Carried } in
+      let x : Row = carried from in
       let new = set rows q x in
       let t_in = node_within i t at in
       let h_self = carrier_self s i t h s_in at two far by in

@@ -6,14 +6,13 @@ use Rattle.std.specs.Option.{option_map}
 use Rattle.mrt_graph.specs.Certificate.{IsCertNode, certificate_of}
 use Rattle.mrt_graph.specs.CertWords.{head_of}
 use Rattle.mrt_graph.specs.RowPlace.{place_of_row}
-use Rattle.mrt_graph.specs.RowRules.{carrier}
 use Rattle.mrt_graph.specs.declared.cert.CertNode.{CertNode}
 use Rattle.mrt_graph.specs.declared.cert.Row.{Row}
-use Rattle.mrt_graph.specs.declared.cert.Tag.TheVariants.{Carried}
 use Rattle.mrt_graph.proofs.ListTests.{all_at, there}
 use Rattle.cert_format.specs.Down.{IsDown}
-use Rattle.mrt_graph.specs.Tags.{is_near}
-use Rattle.cert_format.specs.Unfolding.{AreNear, AreSettledBefore, AreSpread, IsSettled, IsUnfolded, carried, marks_of, set_marks}
+use Rattle.mrt_graph.specs.Related.{carrier}
+use Rattle.mrt_graph.specs.Tags.{carried, is_near}
+use Rattle.cert_format.specs.Unfolding.{AreNear, AreSettledBefore, AreSpread, IsSettled, IsUnfolded, blank_row, marks_of, set_marks}
 use Rattle.cert_format.proofs.Carrying.{all_before, carried_before, carrier_self, far_told, near_before, node_within, other_stays, rows_many, self_before, set_near, set_tests}
 use Rattle.cert_format.proofs.OneUnfolding.{carrier_far, carrier_home}
 use Rattle.cert_format.proofs.Spreading.{place_within}
@@ -38,7 +37,7 @@ spread (true ∷ marks) (row ∷ near) all count =
     }
 spread (false ∷ marks) near all count =
     let more = spread marks near all count in
-    record { rows = carried ∷ more.rows; same = more.same; tests = ap (λ (it : List Bool). false ∷ it) more.tests }
+    record { rows = blank_row ∷ more.rows; same = more.same; tests = ap (λ (it : List Bool). false ∷ it) more.tests }
 
 -- the Carried rows of s for the first nodes from the top down have their links
 record AreLinked (nodes : List CertNode) (down : List ℕ) (it : IsDown (certificate_of nodes [] []) down) (old : List Row) (s i : ℕ) : Type 0 where
@@ -100,7 +99,7 @@ module _ (nodes : List CertNode) (down : List ℕ) (it : IsDown (certificate_of 
                   let by = carrier_is s t s_in t_in in
                   let other = carrier_self nodes down it s i t by.0 s_in at.1 two far by.1 in
                   let from = there rows (place_of_row n s by.0) (omega (arith, place_within n s by.0 s_in by.2 other, rows_many nodes rows tests)) in
-                  let x : Row = record { blue = from.0.blue; red = from.0.red; tag = Carried } in
+                  let x : Row = carried from.0 in
                   record {
                     rows = set rows (place_of_row n s t) x;
                     tests = set_tests rows (place_of_row n s t) row.0 x row.1 bare ∙ so.tests;

@@ -13,9 +13,9 @@ use Rattle.mrt_graph.specs.Certificate.{Certificate, are_two, certificate_of, ro
 use Rattle.mrt_graph.specs.CertWords.{head_of}
 use Rattle.mrt_graph.specs.Foldable.{IsFoldable, comes_to, in_chain, is_folded, is_own_head}
 use Rattle.mrt_graph.specs.Tags.{is_near, same_tag}
-use Rattle.mrt_graph.specs.Related.{are_unrelated}
+use Rattle.mrt_graph.specs.Related.{are_unrelated, carrier}
 use Rattle.mrt_graph.specs.RowPlace.{place_of_row}
-use Rattle.mrt_graph.specs.RowRules.{carrier, same_links}
+use Rattle.mrt_graph.specs.RowRules.{same_links}
 use Rattle.mrt_graph.proofs.FirstPlaces.{one_first}
 use Rattle.mrt_graph.proofs.ListTests.{some_passes, there}
 use Rattle.mrt_graph.proofs.Relations.{not_with_head, unrelated_tells}

@@ -1,5 +1,5 @@
 -- Of each pair of nodes whether it is related, at the place of its row.
-use Rattle.std.proofs.Common.{◌≡◌, ◌≢◌, ◌∙◌, ◌<◌, ◌≤◌, ◌+◌, ◌-◌, ◌*◌, ◌==◌, ℕ, zero, suc, Bool, true, false, not, List, [], ◌∷◌, ◌++◌, Option, Some, None, filter, length, map, slice_get, inl, inr, refl, sym, ap, arith, length-append}
+use Rattle.std.proofs.Common.{◌≡◌, ◌≢◌, ◌∙◌, ◌<◌, ◌≤◌, ◌+◌, ◌-◌, ◌*◌, ◌==◌, ◌&&◌, ℕ, zero, suc, Bool, true, false, not, List, [], ◌∷◌, ◌++◌, Option, Some, None, filter, length, map, slice_get, inl, inr, refl, sym, ap, arith, length-append}
 use Rattle.std.specs.List.{flat_map, range_with_len}
 use Rattle.std.proofs.lemmas.Bool.{cases_lt, ne_eqb, eq-eqb}
 use Rattle.std.proofs.lemmas.List.FromFn.{length-range_with_len}
@@ -7,9 +7,9 @@ use Rattle.std.proofs.lemmas.Option.{slice_get-map}
 use Rattle.std.proofs.lemmas.List.{append-nil}
 use Rattle.std.proofs.lemmas.List.Concat.{flat_map-append}
 use Rattle.mrt_graph.specs.declared.cert.CertNode.{CertNode}
-use Rattle.mrt_graph.specs.BothThere.{both}
+use Rattle.mrt_graph.specs.BothThere.{are_different}
 use Rattle.mrt_graph.specs.Certificate.{Certificate}
-use Rattle.mrt_graph.specs.Related.{are_unrelated, is_apart, place_of, relation}
+use Rattle.mrt_graph.specs.Related.{are_unrelated}
 use Rattle.mrt_graph.specs.RowPlace.{place_of_row}
 use Rattle.mrt_graph.proofs.ListPlaces.{at_left}
 use Rattle.mrt_graph.proofs.RowPlaces.{column_above, column_below}
@@ -150,7 +150,8 @@ few_set marks = omega (arith, length-filter (λ (mark : Bool). mark) marks, coun
 related_self : (c : Certificate) (s : ℕ) → not (are_unrelated c s s) ≡ true
 related_self c s = go (slice_get c.nodes s)
   where
-    go : (o : Option CertNode) → not (both (λ here there. is_apart (relation s (place_of here) s (place_of there))) o o) ≡ true
+    go : (o : Option CertNode) → not (are_different (option_map (λ node. node.block) o) (option_map (λ node. node.block) o)
+        && (are_different (option_map (λ node. node.head) o) (Some s) && are_different (option_map (λ node. node.head) o) (Some s))) ≡ true
     go None = refl
     go (Some node) = rw (eq-eqb node.block node.block refl) refl
 

@@ -14,7 +14,7 @@ use Rattle.mrt_graph.proofs.ListPlaces.{set_elsewhere}
 use Rattle.mrt_graph.proofs.ListTests.{all_at, there}
 use Rattle.mrt_graph.proofs.RowPlaces.{column_above, column_below}
 use Rattle.mrt_graph.specs.Tags.{is_near}
-use Rattle.cert_format.specs.Unfolding.{AreBlank, AreNear, AreSpread, IsSpreading, carried, marks_of, set_marks}
+use Rattle.cert_format.specs.Unfolding.{AreBlank, AreNear, AreSpread, IsSpreading, blank_row, marks_of, set_marks}
 use Rattle.cert_format.proofs.Pairs.{at_right, few_set, pairs_length, related_at}
 
 -- one mark more
@@ -31,38 +31,38 @@ pub set_few : (marks : List Bool) (q : ℕ) → set_marks (take q marks) ≤ q
 set_few marks q = omega (arith, few_set (take q marks), length-take q marks)
 
 -- all rows are to come
-pub spread_start : (marks : List Bool) (near rows : List Row) → length near ≡ set_marks marks → rows ≡ near ++ replicate (length marks - length near) carried
+pub spread_start : (marks : List Bool) (near rows : List Row) → length near ≡ set_marks marks → rows ≡ near ++ replicate (length marks - length near) blank_row
     → IsSpreading marks near rows (length marks) (length near)
 spread_start marks near rows count is =
     let few : length near ≤ length marks = omega (arith, count, few_set marks) in
-    let many : length rows ≡ length marks = ap length is ∙ length-append near (replicate (length marks - length near) carried) ∙ omega (arith, few, length-replicate (length marks - length near) carried) in
+    let many : length rows ≡ length marks = ap length is ∙ length-append near (replicate (length marks - length near) blank_row) ∙ omega (arith, few, length-replicate (length marks - length near) blank_row) in
     record {
       many = many;
       within = omega arith;
       counted = count ∙ ap set_marks (sym (take_all (length marks) marks (omega arith)));
-      front = ap (take (length near)) is ∙ take_at near (replicate (length marks - length near) carried) (length near) refl ∙ sym (take_all (length near) near (omega arith));
+      front = ap (take (length near)) is ∙ take_at near (replicate (length marks - length near) blank_row) (length near) refl ∙ sym (take_all (length near) near (omega arith));
       back = ap (filter is_near) (drop_all (length marks) rows (omega (arith, many))) ∙ sym (drop_all (length near) near (omega arith));
       tests = ap (map is_near) (drop_all (length marks) rows (omega (arith, many))) ∙ sym (drop_all (length marks) marks (omega arith));
     }
 
-near_at : (near : List Row) (k : ℕ) → AreNear near → k < length near → is_near (get_or near k carried) ≡ true
+near_at : (near : List Row) (k : ℕ) → AreNear near → k < length near → is_near (get_or near k blank_row) ≡ true
 near_at near k all within =
     let at = there near k within in
-    ap is_near (get_or_from_slice_get near k at.0 carried at.1) ∙ all_at (λ row. is_near row ≡ true) near k at.0 all at.1
+    ap is_near (get_or_from_slice_get near k at.0 blank_row at.1) ∙ all_at (λ row. is_near row ≡ true) near k at.0 all at.1
 
 -- the last row that is left is moved
 pub spread_near : (marks : List Bool) (near rows : List Row) (q left : ℕ) → AreNear near → IsSpreading marks near rows (q + 1) left → get_or marks q false ≡ true
-    → IsSpreading marks near (set rows q (get_or rows (left - 1) carried)) q (left - 1)
+    → IsSpreading marks near (set rows q (get_or rows (left - 1) blank_row)) q (left - 1)
 spread_near marks near rows q left all is marked =
     let inside : q < length marks = omega (arith, is.within) in
     let q_in : q < length rows = omega (arith, inside, is.many) in
     let counted : left ≡ set_marks (take q marks) + 1 = is.counted ∙ set_more marks q inside marked in
     let few = set_few marks q in
-    let row = get_or rows (left - 1) carried in
+    let row = get_or rows (left - 1) blank_row in
     let some : left ≡ left - 1 + 1 = omega (arith, counted) in
-    let rows_front : get_or (take left rows) (left - 1) carried ≡ row = get_or-take left rows (left - 1) carried (omega (arith, counted)) in
-    let near_front : get_or (take left near) (left - 1) carried ≡ get_or near (left - 1) carried = get_or-take left near (left - 1) carried (omega (arith, counted)) in
-    let same : row ≡ get_or near (left - 1) carried = sym rows_front ∙ ap (λ (it : List Row). get_or it (left - 1) carried) is.front ∙ near_front in
+    let rows_front : get_or (take left rows) (left - 1) blank_row ≡ row = get_or-take left rows (left - 1) blank_row (omega (arith, counted)) in
+    let near_front : get_or (take left near) (left - 1) blank_row ≡ get_or near (left - 1) blank_row = get_or-take left near (left - 1) blank_row (omega (arith, counted)) in
+    let same : row ≡ get_or near (left - 1) blank_row = sym rows_front ∙ ap (λ (it : List Row). get_or it (left - 1) blank_row) is.front ∙ near_front in
     let fits : left ≤ length near =
     omega (arith, ap length is.front, length-take left rows, length-take left near, is.many, is.within, counted, few, q_in) in
     let near_row : is_near row ≡ true = ap is_near same ∙ near_at near (left - 1) all (omega (arith, fits, counted)) in
@@ -78,7 +78,7 @@ spread_near marks near rows q left all is marked =
       back =
           ap (filter is_near) parts ∙ ap (λ (b : Bool). cond b (row ∷ filter is_near (drop (q + 1) rows)) (filter is_near (drop (q + 1) rows))) near_row
           ∙ ap (λ (it : List Row). row ∷ it) is.back ∙ ap (λ (it : ℕ). row ∷ drop it near) some ∙ ap (λ (it : Row). it ∷ drop (left - 1 + 1) near) same
-          ∙ sym (drop_more near (left - 1) carried (omega (arith, fits, counted)));
+          ∙ sym (drop_more near (left - 1) blank_row (omega (arith, fits, counted)));
       tests =
           ap (map is_near) parts ∙ ap (λ (b : Bool). b ∷ map is_near (drop (q + 1) rows)) near_row ∙ ap (λ (it : List Bool). true ∷ it) is.tests
           ∙ ap (λ (b : Bool). b ∷ drop (q + 1) marks) (sym marked) ∙ sym (drop_more marks q false inside);
@@ -86,18 +86,18 @@ spread_near marks near rows q left all is marked =
 
 -- a Carried row is put
 pub spread_far : (marks : List Bool) (near rows : List Row) (q left : ℕ) → IsSpreading marks near rows (q + 1) left → get_or marks q false ≡ false
-    → IsSpreading marks near (set rows q carried) q left
+    → IsSpreading marks near (set rows q blank_row) q left
 spread_far marks near rows q left is marked =
     let inside : q < length marks = omega (arith, is.within) in
     let q_in : q < length rows = omega (arith, inside, is.many) in
     let counted : left ≡ set_marks (take q marks) = is.counted ∙ set_none marks q inside marked in
     let few = set_few marks q in
-    let parts : drop q (set rows q carried) ≡ carried ∷ drop (q + 1) rows = drop-set rows q carried q_in in
+    let parts : drop q (set rows q blank_row) ≡ blank_row ∷ drop (q + 1) rows = drop-set rows q blank_row q_in in
     record {
-      many = length-set rows q carried ∙ is.many;
+      many = length-set rows q blank_row ∙ is.many;
       within = omega (arith, inside);
       counted = counted;
-      front = take-set-le left rows q carried (omega (arith, counted, few)) ∙ is.front;
+      front = take-set-le left rows q blank_row (omega (arith, counted, few)) ∙ is.front;
       back = ap (filter is_near) parts ∙ is.back;
       tests =
           ap (map is_near) parts ∙ ap (λ (it : List Bool). false ∷ it) is.tests
@@ -214,15 +214,15 @@ spread_all nodes rows count all near = record {
 }
 
 -- so are the rows that were put after the near ones
-pub blank_start : (near rows : List Row) (all : ℕ) → rows ≡ near ++ replicate (all - length near) carried → AreBlank (length near) all rows
+pub blank_start : (near rows : List Row) (all : ℕ) → rows ≡ near ++ replicate (all - length near) blank_row → AreBlank (length near) all rows
 blank_start near rows all is q from below =
     let place : q ≡ length near + (q - length near) = omega (arith, from) in
     ap (λ (it : List Row). slice_get it q) is
-    ∙ ap (slice_get (near ++ replicate (all - length near) carried)) place
-    ∙ at_right near (replicate (all - length near) carried) (q - length near)
+    ∙ ap (slice_get (near ++ replicate (all - length near) blank_row)) place
+    ∙ at_right near (replicate (all - length near) blank_row) (q - length near)
     ∙ replicate_at (all - length near) (q - length near) (omega (arith, from, below))
   where
-    replicate_at : (n k : ℕ) → k < n → slice_get (replicate n carried) k ≡ Some carried
+    replicate_at : (n k : ℕ) → k < n → slice_get (replicate n blank_row) k ≡ Some blank_row
     replicate_at zero k within = absurd (omega (arith, within))
     replicate_at (suc n) zero within = refl
     replicate_at (suc n) (suc k) within = replicate_at n k (omega (arith, within))

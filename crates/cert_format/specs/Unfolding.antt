@@ -21,12 +21,12 @@ abbrev pub marks_of : List CertNode → List Bool
 marks_of nodes = related_pairs (certificate_of nodes [] [])
 
 -- a Carried row without links of its own yet
-abbrev pub carried : Row
-carried = record { blue = 0; red = 0; tag = Carried }
+abbrev pub blank_row : Row
+blank_row = record { blue = 0; red = 0; tag = Carried }
 
 -- from one place up to another the rows have no links of their own yet
 abbrev pub AreBlank : ℕ → ℕ → List Row → Type 0
-AreBlank from to rows = (q : ℕ) → from ≤ q → q < to → slice_get rows q ≡ Some carried
+AreBlank from to rows = (q : ℕ) → from ≤ q → q < to → slice_get rows q ≡ Some blank_row
 
 -- none of the rows is Carried
 abbrev pub AreNear : List Row → Type 0

@@ -3,7 +3,6 @@
 ghost use Rattle.std.specs.Prelude.{◌≡◌, ◌≢◌, ◌<◌, ◌≤◌, ◌+◌, ◌-◌, ◌*◌, ◌++◌, ℕ, List, [], IsTrue, IsFalse, Some, filter, length, map, replicate, slice_get, slice_set, take, vec_capacity};
 ghost use Rattle.std.specs.List.{AllByRecursion, slice_index_or};
 ghost use Rattle.mrt_graph.specs.Certificate.{IsCertNode, certificate_of};
-ghost use Rattle.mrt_graph.specs.RowRules.{carrier};
 ghost use Rattle.mrt_graph.specs.declared.cert.Row.{Row};
 ghost use Rattle.cert_format.specs.Down.{IsDown};
 ghost use Rattle.mrt_graph.specs.Tags.{is_near};
@@ -15,14 +14,14 @@ ghost use Rattle.cert_format.specs.Unfolding.{
   IsSettled,
   IsSpreading,
   IsUnfolded,
-  carried,
+  blank_row,
   marks_of,
   set_marks,
 };
 ghost use Rattle.cert_format.specs.Versions.{all_rows};
 
 use crate::related::are_related;
-use mrt_graph::{CertNode, LinkNo, NodeNo, Row, Tag, below_carrier, row_place};
+use mrt_graph::{CertNode, LinkNo, NodeNo, Row, Tag, carrier, row_place};
 
 /// Fills in the rows of unrelated nodes, where those of related ones are there. There is room for them.
 ///
@@ -69,15 +68,15 @@ fn spread(rows: &mut Vec<Row>, nodes: &[CertNode]) -> bool
 fn make_places(rows: &mut Vec<Row>, all: usize)
     requires many { length rows.old.items ≤ all }
     requires room { all ≤ vec_capacity rows.old }
-    ensures { rows.new.items ≡ rows.old.items ++ replicate (all - length rows.old.items) carried }
+    ensures { rows.new.items ≡ rows.old.items ++ replicate (all - length rows.old.items) blank_row }
 {
     for _ in rows.len()..all {
-        rows.push_reserved(carried_row());
+        rows.push_reserved(blank_row());
     }
 }
 
-fn carried_row() -> Row
-    ensures { result ≡ carried }
+fn blank_row() -> Row
+    ensures { result ≡ blank_row }
 {
     Row {
         blue: LinkNo::new(0),
@@ -116,18 +115,18 @@ fn spread_one(rows: &mut [Row], place: usize, near: usize, left: usize, related:
     requires place { place < length rows.old }
     requires left { left ≤ place + 1 }
     requires some { IsTrue related → 1 ≤ left }
-    requires blank { near ≤ place → slice_get rows.old place ≡ Some carried }
+    requires blank { near ≤ place → slice_get rows.old place ≡ Some blank_row }
     ensures many { length rows.new ≡ length rows.old }
-    ensures moved { IsTrue related → (rows.new ≡ slice_set rows.old place (slice_index_or rows.old (left - 1) carried))
+    ensures moved { IsTrue related → (rows.new ≡ slice_set rows.old place (slice_index_or rows.old (left - 1) blank_row))
         × (result ≡ left - 1) }
-    ensures put { IsFalse related → (rows.new ≡ slice_set rows.old place carried) × (result ≡ left) }
+    ensures put { IsFalse related → (rows.new ≡ slice_set rows.old place blank_row) × (result ≡ left) }
 {
     if related {
         rows[place] = rows[left - 1];
         return left - 1;
     }
     if place < near {
-        rows[place] = carried_row();
+        rows[place] = blank_row();
     }
     left
 }
@@ -176,13 +175,9 @@ fn carry_one(rows: &mut Vec<Row>, nodes: &[CertNode], down: &[NodeNo], s: NodeNo
         return;
     }
     let top = node_at(nodes, down, 0);
-    let by = carrier_of(nodes, top, s, t);
+    let by = carrier(nodes, top, s, t);
     let from = rows[row_place(nodes.len(), s, by)];
-    rows[place] = Row {
-        blue: from.blue,
-        red: from.red,
-        tag: Tag::Carried,
-    };
+    rows[place] = from.carried();
 }
 
 /// The node at a place from the top down.
@@ -193,16 +188,4 @@ fn node_at(nodes: &[CertNode], down: &[NodeNo], i: usize) -> NodeNo
     ensures within { result < length nodes.now }
 {
     down[i]
-}
-
-/// The carrier of `s` for `t`, where this node is the top.
-fn carrier_of(nodes: &[CertNode], top: NodeNo, s: NodeNo, t: NodeNo) -> NodeNo
-    requires source { s < length nodes.now }
-    requires target { t < length nodes.now }
-    requires kept { AllByRecursion (IsCertNode (length nodes.now)) nodes.now }
-    ensures value { carrier (certificate_of nodes.now [] []) top s t ≡ Some result }
-    ensures within { result < length nodes.now }
-{
-    let below = below_carrier(top, s, t);
-    nodes[below.get() as usize].head
 }

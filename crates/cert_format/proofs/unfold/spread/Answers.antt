@@ -1,6 +1,6 @@
 use Rattle.std.proofs.Common.{◌≡◌, ◌∙◌, ◌-◌, ◌*◌, ◌++◌, ℕ, [], length, replicate, sym, ap, subst, arith}
 use Rattle.mrt_graph.specs.Certificate.{certificate_of}
-use Rattle.cert_format.specs.Unfolding.{AreBlank, IsSpreading, carried, marks_of}
+use Rattle.cert_format.specs.Unfolding.{AreBlank, IsSpreading, blank_row, marks_of}
 use Rattle.cert_format.proofs.Pairs.{few_set, pairs_length}
 use Rattle.cert_format.proofs.Spreading.{blank_start, spread_all, spread_start}
 use Rattle.cert_format.proofs.unfold.spread.Goals as goal
@@ -23,8 +23,8 @@ loop-s-init c =
     let n = length c.args.nodes.now in
     let pairs : length marks ≡ n * (n - 1) = pairs_length (certificate_of c.args.nodes.now [] []) in
     let all : n * c.saturating_sub.result ≡ length marks = ap (λ (k : ℕ). n * k) c.saturating_sub.ensures ∙ sym pairs in
-    let rows : c.make_places.new.rows.items ≡ near ++ replicate (length marks - length near) carried =
-    c.make_places.ensures ∙ ap (λ (k : ℕ). near ++ replicate (k - length near) carried) all in
+    let rows : c.make_places.new.rows.items ≡ near ++ replicate (length marks - length near) blank_row =
+    c.make_places.ensures ∙ ap (λ (k : ℕ). near ++ replicate (k - length near) blank_row) all in
     let start = spread_start marks near c.make_places.new.rows.items c.requires.many rows in
     let left : c.len-near.result ≡ length near = omega (arith, c.len-near.ensures) in
     let so : IsSpreading marks near c.make_places.new.rows.items (n * (n - 1)) c.len-near.result =

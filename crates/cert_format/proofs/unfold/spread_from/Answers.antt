@@ -1,6 +1,6 @@
 use Rattle.std.proofs.Common.{◌≡◌, ◌∙◌, ◌+◌, ◌-◌, ℕ, length, get_or, take, refl, sym, ap, subst, arith, inl, inr}
 use Rattle.std.proofs.lemmas.Bool.{cases_Bool}
-use Rattle.cert_format.specs.Unfolding.{IsSpreading, carried, marks_of, set_marks}
+use Rattle.cert_format.specs.Unfolding.{IsSpreading, blank_row, marks_of, set_marks}
 use Rattle.cert_format.proofs.Spreading.{blank_before, home_is, next_is, place_first, set_few, set_more, set_none, spread_far, spread_near}
 use Rattle.cert_format.proofs.unfold.spread_from.Goals as goal
 
@@ -45,7 +45,7 @@ loop-t-preserved-then-t-s c =
           let moved = c.spread_one-left.ensures.moved related in
           record {
             place = it.is;
-            blank = rw moved.0 (blank_before c.args.near c.loop-t.place q c.loop-t.rows (get_or c.loop-t.rows (c.loop-t.left - 1) carried) refl before.blank);
+            blank = rw moved.0 (blank_before c.args.near c.loop-t.place q c.loop-t.rows (get_or c.loop-t.rows (c.loop-t.left - 1) blank_row) refl before.blank);
             left = moved.1 ∙ omega (arith, counted, set_more marks q it.within (it.marked ∙ related));
             spread = λ near all is.
                 let so_far : IsSpreading marks near c.loop-t.rows (q + 1) c.loop-t.left = subst (λ (k : ℕ). IsSpreading marks near c.loop-t.rows k c.loop-t.left) it.one_less (before.spread near all is) in
@@ -55,7 +55,7 @@ loop-t-preserved-then-t-s c =
           let put = c.spread_one-left.ensures.put far in
           record {
             place = it.is;
-            blank = rw put.0 (blank_before c.args.near c.loop-t.place q c.loop-t.rows carried refl before.blank);
+            blank = rw put.0 (blank_before c.args.near c.loop-t.place q c.loop-t.rows blank_row refl before.blank);
             left = put.1 ∙ counted ∙ set_none marks q it.within (it.marked ∙ far);
             spread = λ near all is.
                 let so_far : IsSpreading marks near c.loop-t.rows (q + 1) c.loop-t.left = subst (λ (k : ℕ). IsSpreading marks near c.loop-t.rows k c.loop-t.left) it.one_less (before.spread near all is) in

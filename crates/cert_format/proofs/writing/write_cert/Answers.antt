@@ -10,6 +10,6 @@ overflow_mul-count_rows c =
 pub overflow_add-nodes-3 : goal.overflow_add-nodes-3
 overflow_add-nodes-3 c =
     let count = rw c.rows-rows.ensures at c.count_rows.ensures in
-    let nodes : length c.nodes-nodes.result.now ≡ length c.args.f.now.cert.nodes = ap length c.nodes-nodes.ensures in
+    let nodes : length c.nodes-nodes.result.now ≡ length c.args.f.now.cert.nodes = ap length c.nodes-nodes.ensures.value in
     let links : length c.links-links.result.now ≡ length c.args.f.now.cert.links = ap length c.links-links.ensures in
     omega (arith, count, nodes, links, spelling_length c.args.f.now, longest_spelling c.args.f.now c.within_limits.ensures)
