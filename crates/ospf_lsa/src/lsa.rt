@@ -1,7 +1,7 @@
 //! Link state advertisements (RFC 2328, section A.4).
 
 ghost use Rattle.std.specs.Prelude.{◌≡◌};
-ghost use Rattle.ospf_lsa.specs.AreaLsas.{is_topology};
+ghost use Rattle.ospf_lsa.specs.AreaLsas.{is_area_lsa};
 ghost use Rattle.ospf_lsa.specs.MaxAge.{is_at_max_age};
 
 use mrt_graph::Seq;
@@ -92,8 +92,8 @@ impl Lsa {
     }
 
     /// Whether it is a router-LSA or a network-LSA, of which an area is made.
-    pub fn is_topology(&self) -> bool
-        ensures { result ≡ is_topology self.now }
+    pub fn is_area_lsa(&self) -> bool
+        ensures { result ≡ is_area_lsa self.now }
     {
         self.kind == ROUTER_LSA || self.kind == NETWORK_LSA
     }
