@@ -6,7 +6,7 @@ use Rattle.ospf_lsa.specs.declared.lsa.Lsa.{Lsa}
 use Rattle.ospf_lsa.specs.LsaText.{lsa_length}
 use Rattle.ospf_lsa.specs.Lsas.{AreLsas, IsLsa}
 use Rattle.ospf_lsa.specs.Types.{router_lsa, network_lsa}
-use Rattle.ospf_lsa.specs.AreaLsas.{is_topology}
+use Rattle.ospf_lsa.specs.AreaLsas.{is_area_lsa}
 use Rattle.lsdb.specs.Database.{entering}
 use Rattle.lsdb.specs.Entries.{Entry}
 use Rattle.lsdb.specs.Installing.{installed}
@@ -30,7 +30,7 @@ next_one entries lsa rest all whole is way =
     let left : AreLsas way.at (lsa ∷ rest) = subst (AreLsas way.at) is way.left in left.1
 
 -- the types that enter
-pub type_of : (lsa : Lsa) → is_topology lsa ≡ true → (lsa.kind ≡ router_lsa) ⊎ (lsa.kind ≡ network_lsa)
+pub type_of : (lsa : Lsa) → is_area_lsa lsa ≡ true → (lsa.kind ≡ router_lsa) ⊎ (lsa.kind ≡ network_lsa)
 type_of lsa enters = elim (cases_Bool (lsa.kind == 1)) [
   | inl router ↦ inl (eqb-true _ _ router)
   | inr other ↦ inr (eqb-true _ _ (rw other at enters))
@@ -38,7 +38,7 @@ type_of lsa enters = elim (cases_Bool (lsa.kind == 1)) [
 
 -- an LSA that enters is installed
 pub installed_next : (entries after : List Entry) (lsa : Lsa) (rest all : List Lsa) (whole : List Entry)
-    → is_topology lsa ≡ true → after ≡ (installed entries lsa).0 → all ≡ lsa ∷ rest
+    → is_area_lsa lsa ≡ true → after ≡ (installed entries lsa).0 → all ≡ lsa ∷ rest
     → IsUnderWay entries all whole → IsUnderWay after rest whole
 installed_next entries after lsa rest all whole enters one is way =
     let left : AreLsas way.at (lsa ∷ rest) = subst (AreLsas way.at) is way.left in

@@ -2,7 +2,7 @@
 use Rattle.std.specs.Prelude.{◌≡◌, ℕ, List}
 use Rattle.std.specs.List.{filter}
 use Rattle.ospf_lsa.specs.declared.lsa.Lsa.{Lsa}
-use Rattle.ospf_lsa.specs.AreaLsas.{is_topology}
+use Rattle.ospf_lsa.specs.AreaLsas.{is_area_lsa}
 use Rattle.ospf_lsa.specs.LsaText.{lsas_text}
 use Rattle.ospf_lsa.specs.Lsas.{AreLsas}
 use Rattle.lsdb.specs.Newest.{IsSettled}
@@ -15,7 +15,7 @@ pub record HoldsLsas (bytes : List ℕ) (lsas : List Lsa) : Type 0 where
 
 -- the LSAs that enter the database: router-LSAs (type 1) and network-LSAs (type 2)
 abbrev pub entering : List Lsa → List Lsa
-entering lsas = filter is_topology lsas
+entering lsas = filter is_area_lsa lsas
 
 -- the bytes are LSAs, of those that enter the database no two newest instances contradict each other, and these are the newest ones
 pub record IsDatabase (bytes : List ℕ) (newest : List Lsa) : Type 0 where

@@ -31,7 +31,7 @@ pub fn database_of(alloc: Global, file: FileKey, lsas: Vec<Lsa>) -> Result<Lsdb,
     let mut differing = Vec::new(alloc);
     let mut greatest = None;
     for place in 0..list.len() {
-        if !list[place].is_topology() {
+        if !list[place].is_area_lsa() {
             continue;
         }
         greatest = Some(list[place].at);

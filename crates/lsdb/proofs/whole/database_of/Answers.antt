@@ -1,7 +1,7 @@
 use Rattle.std.proofs.Common.{◌≡◌, ◌∙◌, ◌+◌, ◌<◌, List, ap, arith, drop, get_or, length, refl, subst, sym}
 use Rattle.std.proofs.lemmas.Option.{get_or_from_slice_get, slice_get_read}
 use Rattle.ospf_lsa.specs.declared.lsa.Lsa.{Lsa}
-use Rattle.ospf_lsa.specs.AreaLsas.{is_topology}
+use Rattle.ospf_lsa.specs.AreaLsas.{is_area_lsa}
 use Rattle.lsdb.specs.Database.{entering}
 use Rattle.lsdb.specs.Entries.{entries_in}
 use Rattle.lsdb.specs.Store.{entries_of, front}
@@ -21,7 +21,7 @@ install_at-requires-clause-kept c = λ lsa there.
     (next_one _ lsa (drop (c.loop-place.place + 1) c.loop-place.list.items)
     (drop c.loop-place.place c.loop-place.list.items) _
     (at_place c.loop-place.list.items c.loop-place.place lsa inside (sym read)) c.loop-place.invariant.under_way)
-    (type_of lsa (ap is_topology (sym same) ∙ sym c.is_topology.ensures ∙ c.if-not-is_topology.false))
+    (type_of lsa (ap is_area_lsa (sym same) ∙ sym c.is_area_lsa.ensures ∙ c.if-not-is_area_lsa.false))
 
 pub loop-place-preserved : goal.loop-place-preserved
 loop-place-preserved c =
@@ -39,7 +39,7 @@ loop-place-preserved c =
           c.install_at.new.differing.items) rest (entries_in (entering c.args.lsas.items)))
           (sym c.in_ok-install_at.ensures.rest)
           (installed_next _ _ c.index.result.now (drop (c.loop-place.place + 1) c.loop-place.list.items)
-          (drop c.loop-place.place c.loop-place.list.items) _ (sym c.is_topology.ensures ∙ c.if-not-is_topology.false)
+          (drop c.loop-place.place c.loop-place.list.items) _ (sym c.is_area_lsa.ensures ∙ c.if-not-is_area_lsa.false)
           (c.in_ok-install_at.ensures.entries c.index.result.now there)
           (at_place c.loop-place.list.items c.loop-place.place c.index.result.now inside c.index.ensures)
           c.loop-place.invariant.under_way);
