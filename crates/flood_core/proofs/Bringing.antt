@@ -16,7 +16,7 @@ use Rattle.flood_core.specs.Routers.{Router}
 use Rattle.flood_core.specs.declared.update.Update.{Update}
 use Rattle.flood_core.specs.FloodState.{FloodState, started}
 use Rattle.flood_core.specs.FloodStep.{answer_of, delivered, reached, sent_on}
-use Rattle.ospf_lsa.specs.AreaLsas.{is_topology}
+use Rattle.ospf_lsa.specs.AreaLsas.{is_area_lsa}
 use Rattle.flood_core.specs.Receiving.{after_all, news, topology, MayFlood}
 use Rattle.flood_core.specs.Runs.{Delivery, after_deliveries, after_delivery, brought, brought_by, lsas_at, lsas_of, sent, sent_after, sent_in, WasDelivered}
 use Rattle.flood_core.proofs.Covered.{has_left, has_right, has_either}
@@ -252,7 +252,7 @@ kept_by P (Some update) (Some router) state delivery packet at all =
     (all_append (λ (u : Update). AllByRecursion P u.lsas) state.packets
     (sent_on update (news router (topology update.lsas))) all
     (sent_all P update (news router (topology update.lsas))
-    (all_news P router (topology update.lsas) (all_filter P is_topology update.lsas held))))
+    (all_news P router (topology update.lsas) (all_filter P is_area_lsa update.lsas held))))
 
 all_kept : (P : Lsa → Type 0) (state : FloodState) (delivery : Delivery) → AllLsas P state.packets
     → AllLsas P (after_delivery state delivery).packets
@@ -282,22 +282,22 @@ all_brought P state [] r all = tt
 all_brought P state (delivery ∷ deliveries) r all =
     all_append P (brought_by state delivery r) (brought (after_delivery state delivery) deliveries r)
     (if_all P (delivery.router == r) (topology (lsas_at state delivery.packet))
-    (all_filter P is_topology (lsas_at state delivery.packet)
+    (all_filter P is_area_lsa (lsas_at state delivery.packet)
     (at_by P (slice_get state.packets delivery.packet) state.packets delivery.packet refl all)))
     (all_brought P (after_delivery state delivery) deliveries r (all_kept P state delivery all))
 
 -- all of them are of types 1 and 2
-topologies : (xs : List Lsa) → AllByRecursion (λ x. is_topology x ≡ true) (topology xs)
+topologies : (xs : List Lsa) → AllByRecursion (λ x. is_area_lsa x ≡ true) (topology xs)
 topologies xs =
-    all_from_has (λ (x : Lsa). is_topology x ≡ true) (topology xs) (λ x has. (has_filter is_topology xs x has).1)
+    all_from_has (λ (x : Lsa). is_area_lsa x ≡ true) (topology xs) (λ x has. (has_filter is_area_lsa xs x has).1)
 
 pub brought_are_topology : (state : FloodState) (deliveries : List Delivery) (r : ℕ)
-    → AllByRecursion (λ x. is_topology x ≡ true) (brought state deliveries r)
+    → AllByRecursion (λ x. is_area_lsa x ≡ true) (brought state deliveries r)
 brought_are_topology state [] r = tt
 brought_are_topology state (delivery ∷ deliveries) r =
-    all_append (λ (x : Lsa). is_topology x ≡ true) (brought_by state delivery r)
+    all_append (λ (x : Lsa). is_area_lsa x ≡ true) (brought_by state delivery r)
     (brought (after_delivery state delivery) deliveries r)
-    (if_all (λ (x : Lsa). is_topology x ≡ true) (delivery.router == r) (topology (lsas_at state delivery.packet))
+    (if_all (λ (x : Lsa). is_area_lsa x ≡ true) (delivery.router == r) (topology (lsas_at state delivery.packet))
     (topologies (lsas_at state delivery.packet)))
     (brought_are_topology (after_delivery state delivery) deliveries r)
 
@@ -333,27 +333,27 @@ packet_of (first ∷ updates) x has = elim (has_either first.lsas (lsas_of updat
 ]
 
 kept_in : (updates : List Update) (x : Lsa) → AllByRecursion MayFlood updates → Has (lsas_of updates) x
-    → is_topology x ≡ true → IsKept x
+    → is_area_lsa x ≡ true → IsKept x
 kept_in updates x may has is =
     let found = packet_of updates x has in
     all_has IsKept (topology found.update.lsas) x
     (all_has MayFlood updates found.update may (has_at updates found.packet found.update found.at)).kept
-    (filter_has is_topology found.update.lsas x found.has is)
+    (filter_has is_area_lsa found.update.lsas x found.has is)
 
 pub kept_topology : (updates : List Update) → AllByRecursion MayFlood updates
     → AllByRecursion IsKept (topology (lsas_of updates))
 kept_topology updates may =
     all_from_has IsKept (topology (lsas_of updates)) (λ x has.
-    let of_file = has_filter is_topology (lsas_of updates) x has in
+    let of_file = has_filter is_area_lsa (lsas_of updates) x has in
     kept_in updates x may of_file.0 of_file.1)
 
 pub brought_of_file : (updates : List Update) (count : ℕ) (deliveries : List Delivery) (r : ℕ) (x : Lsa)
     → Has (brought (started updates count) deliveries r) x → Has (topology (lsas_of updates)) x
 brought_of_file updates count deliveries r x has =
-    filter_has is_topology (lsas_of updates) x
+    filter_has is_area_lsa (lsas_of updates) x
     (all_has (Has (lsas_of updates)) (brought (started updates count) deliveries r) x
     (all_brought (Has (lsas_of updates)) (started updates count) deliveries r (all_of_file updates)) has)
-    (all_has (λ (l : Lsa). is_topology l ≡ true) (brought (started updates count) deliveries r) x
+    (all_has (λ (l : Lsa). is_area_lsa l ≡ true) (brought (started updates count) deliveries r) x
     (brought_are_topology (started updates count) deliveries r) has)
 
 -- ---- what was delivered came
@@ -363,7 +363,7 @@ if_true {X = X} a b xs same = ap (λ (t : Bool). cond t xs []) (eq-eqb a b same)
 
 pub came : (state : FloodState) (deliveries : List Delivery) (p r : ℕ) (update : Update) (x : Lsa)
     → WasDelivered state deliveries p r → slice_get (after_deliveries state deliveries).packets p ≡ Some update
-    → Has update.lsas x → is_topology x ≡ true → Has (brought state deliveries r) x
+    → Has update.lsas x → is_area_lsa x ≡ true → Has (brought state deliveries r) x
 came state [] p r update x was at has is = absurd was
 came state (delivery ∷ deliveries) p r update x (inl here) at has is =
     let found = found_at state.packets p here.2 in
@@ -374,7 +374,7 @@ came state (delivery ∷ deliveries) p r update x (inl here) at has is =
     has_left (brought_by state delivery r) (brought (after_delivery state delivery) deliveries r) x
     (subst (λ (xs : List Lsa). Has xs x)
     (sym (if_true delivery.router r (topology (lsas_at state delivery.packet)) here.1 ∙ ap topology lsas))
-    (filter_has is_topology update.lsas x has is))
+    (filter_has is_area_lsa update.lsas x has is))
 came state (delivery ∷ deliveries) p r update x (inr later) at has is =
     has_right (brought_by state delivery r) (brought (after_delivery state delivery) deliveries r) x
     (came (after_delivery state delivery) deliveries p r update x later at has is)

@@ -5,7 +5,7 @@ use Rattle.std.proofs.lemmas.List.{append-nil}
 use Rattle.ospf_lsa.specs.declared.lsa.Lsa.{Lsa}
 use Rattle.lsdb.specs.Installing.{IsBehind, IsKept}
 use Rattle.flood_core.specs.Routers.{Router}
-use Rattle.ospf_lsa.specs.AreaLsas.{is_topology}
+use Rattle.ospf_lsa.specs.AreaLsas.{is_area_lsa}
 use Rattle.flood_core.specs.Receiving.{after_all, after_one, is_news, news, topology}
 
 -- ---- lists of LSAs of types 1 and 2
@@ -32,7 +32,7 @@ first_by false x rest = refl
 
 -- the first of LSAs, and those after it
 pub topology_first : (x : Lsa) (xs : List Lsa) → topology (x ∷ xs) ≡ topology (x ∷ []) ++ topology xs
-topology_first x xs = first_by (is_topology x) x (topology xs)
+topology_first x xs = first_by (is_area_lsa x) x (topology xs)
 
 -- ---- in turn
 
@@ -65,7 +65,7 @@ rest_kept_by false x rest kept = kept
 
 pub first_kept : (x : Lsa) (xs : List Lsa) → AllByRecursion IsKept (topology (x ∷ xs))
     → AllByRecursion IsKept (topology (x ∷ []))
-first_kept x xs = first_kept_by (is_topology x) x (topology xs)
+first_kept x xs = first_kept_by (is_area_lsa x) x (topology xs)
 
 pub one_more : (first now now' : Router) (all new new' left left' : List Lsa) (x : Lsa) → left ≡ x ∷ left'
     → AreInTurn first all now new left
@@ -82,41 +82,41 @@ one_more first now now' all new new' left left' x is turn after grown =
           ∙ so_far.news_so_far;
       after_so_far = sym (after_append now (topology (x ∷ [])) (topology left'))
           ∙ ap (after_all now) (sym (topology_first x left')) ∙ so_far.after_so_far;
-      kept = rest_kept_by (is_topology x) x (topology left') so_far.kept;
-      behind = behind_by (is_topology x) now x so_far.behind;
-      room = omega (arith, so_far.room, room_by (is_topology x) now x);
+      kept = rest_kept_by (is_area_lsa x) x (topology left') so_far.kept;
+      behind = behind_by (is_area_lsa x) now x so_far.behind;
+      room = omega (arith, so_far.room, room_by (is_area_lsa x) now x);
     }))
 
 -- ---- one LSA
 
-not_topology : (x : Lsa) → is_topology x ≡ false → topology (x ∷ []) ≡ []
+not_topology : (x : Lsa) → is_area_lsa x ≡ false → topology (x ∷ []) ≡ []
 not_topology x is = ap (λ (b : Bool). cond b (x ∷ []) []) is
 
-is_one : (x : Lsa) → is_topology x ≡ true → topology (x ∷ []) ≡ x ∷ []
+is_one : (x : Lsa) → is_area_lsa x ≡ true → topology (x ∷ []) ≡ x ∷ []
 is_one x is = ap (λ (b : Bool). cond b (x ∷ []) []) is
 
-pub passed_over : (now : Router) (new : List Lsa) (x : Lsa) → is_topology x ≡ false
+pub passed_over : (now : Router) (new : List Lsa) (x : Lsa) → is_area_lsa x ≡ false
     → (new ≡ new ++ news now (topology (x ∷ []))) × (now ≡ after_all now (topology (x ∷ [])))
 passed_over now new x is = (
   sym (append-nil new) ∙ ap (λ (xs : List Lsa). new ++ news now xs) (sym (not_topology x is)),
   ap (after_all now) (sym (not_topology x is)),
 )
 
-pub arrived_one : (now : Router) (x : Lsa) → is_topology x ≡ true → after_one now x ≡ after_all now (topology (x ∷ []))
+pub arrived_one : (now : Router) (x : Lsa) → is_area_lsa x ≡ true → after_one now x ≡ after_all now (topology (x ∷ []))
 arrived_one now x is = ap (after_all now) (sym (is_one x is))
 
-pub no_news : (now : Router) (new : List Lsa) (x : Lsa) → is_topology x ≡ true → is_news now x ≡ false
+pub no_news : (now : Router) (new : List Lsa) (x : Lsa) → is_area_lsa x ≡ true → is_news now x ≡ false
     → new ≡ new ++ news now (topology (x ∷ []))
 no_news now new x is old =
     sym (append-nil new) ∙ ap (λ (b : Bool). new ++ cond b (x ∷ []) []) (sym old)
     ∙ ap (λ (xs : List Lsa). new ++ news now xs) (sym (is_one x is))
 
-pub some_news : (now : Router) (new : List Lsa) (x : Lsa) → is_topology x ≡ true → is_news now x ≡ true
+pub some_news : (now : Router) (new : List Lsa) (x : Lsa) → is_area_lsa x ≡ true → is_news now x ≡ true
     → new ++ x ∷ [] ≡ new ++ news now (topology (x ∷ []))
 some_news now new x is fresh =
     ap (λ (b : Bool). new ++ cond b (x ∷ []) []) (sym fresh)
     ∙ ap (λ (xs : List Lsa). new ++ news now xs) (sym (is_one x is))
 
-pub kept_one : (x : Lsa) → is_topology x ≡ true → AllByRecursion IsKept (topology (x ∷ [])) → IsKept x
+pub kept_one : (x : Lsa) → is_area_lsa x ≡ true → AllByRecursion IsKept (topology (x ∷ [])) → IsKept x
 kept_one x is kept =
     let one : AllByRecursion IsKept (x ∷ []) = subst (AllByRecursion IsKept) (is_one x is) kept in one.0

@@ -14,7 +14,7 @@ use Rattle.lsdb.specs.Installing.{IsKept}
 use Rattle.lsdb.proofs.Readings.{read_is_kept}
 use Rattle.flood_core.specs.declared.update.Update.{Update}
 use Rattle.flood_core.specs.PacketFields.{length_field}
-use Rattle.ospf_lsa.specs.AreaLsas.{is_topology}
+use Rattle.ospf_lsa.specs.AreaLsas.{is_area_lsa}
 use Rattle.flood_core.specs.Receiving.{topology, MayFlood}
 use Rattle.flood_core.specs.Updates.{AreUpdates, IsUpdate, placed_from}
 
@@ -29,13 +29,13 @@ of_type_by true b lsa is is' one = inl (eqb-true _ _ is)
 of_type_by false true lsa is is' one = inr (eqb-true _ _ is')
 of_type_by false false lsa is is' one = absurd cc
 
-kept_lsa : (start : ℕ) (lsa : Lsa) → IsLsa lsa → is_topology lsa ≡ true → IsKept (placed_from start lsa)
+kept_lsa : (start : ℕ) (lsa : Lsa) → IsLsa lsa → is_area_lsa lsa ≡ true → IsKept (placed_from start lsa)
 kept_lsa start lsa is topo =
     let kept = read_is_kept lsa is
     (of_type_by (lsa.kind == router_lsa) (lsa.kind == network_lsa) lsa refl refl topo) in
     record { type = kept.type; body = kept.body; own_id = kept.own_id; metrics = kept.metrics }
 
-kept_by : (b : Bool) (start : ℕ) (lsa : Lsa) (rest : List Lsa) → is_topology lsa ≡ b → IsLsa lsa
+kept_by : (b : Bool) (start : ℕ) (lsa : Lsa) (rest : List Lsa) → is_area_lsa lsa ≡ b → IsLsa lsa
     → AllByRecursion IsKept rest → AllByRecursion IsKept (cond b (placed_from start lsa ∷ rest) rest)
 kept_by true start lsa rest topo is all = (kept_lsa start lsa is topo, all)
 kept_by false start lsa rest topo is all = all
@@ -44,7 +44,7 @@ kept_all : (start at : ℕ) (lsas : List Lsa) → AreLsas at lsas
     → AllByRecursion IsKept (topology (map (placed_from start) lsas))
 kept_all start at [] are = tt
 kept_all start at (lsa ∷ lsas) are =
-    kept_by (is_topology lsa) start lsa (topology (map (placed_from start) lsas)) refl are.1
+    kept_by (is_area_lsa lsa) start lsa (topology (map (placed_from start) lsas)) refl are.1
     (kept_all start (at + lsa_length lsa) lsas are.2)
 
 one_may_flood : (at : ℕ) (bytes : List ℕ) (update : Update) → IsBytes bytes → IsUpdate at bytes update → MayFlood update

@@ -13,7 +13,7 @@ use Rattle.flood_core.specs.Routers.{Router}
 use Rattle.flood_core.specs.declared.update.Update.{Update}
 use Rattle.flood_core.specs.FloodState.{FloodState, IsFlood, IsRouter}
 use Rattle.flood_core.specs.FloodStep.{answer_of, delivered, reached, sent_on}
-use Rattle.ospf_lsa.specs.AreaLsas.{is_topology}
+use Rattle.ospf_lsa.specs.AreaLsas.{is_area_lsa}
 use Rattle.flood_core.specs.Receiving.{after_all, after_one, is_news, news, topology, MayFlood}
 
 -- ---- lists
@@ -47,7 +47,7 @@ few_by false x rest n few = omega (arith, few)
 
 pub few_topology : (xs : List Lsa) → length (topology xs) ≤ length xs
 few_topology [] = omega arith
-few_topology (x ∷ xs) = few_by (is_topology x) x (topology xs) (length xs) (few_topology xs)
+few_topology (x ∷ xs) = few_by (is_area_lsa x) x (topology xs) (length xs) (few_topology xs)
 
 pub few_news : (router : Router) (xs : List Lsa) → length (news router xs) ≤ length xs
 few_news router [] = omega arith
@@ -167,7 +167,7 @@ module _ {state : FloodState} {p r : ℕ} {update sent : Update} {router after :
     few = few_sent is;
     kept = subst (λ (u : Update). AllByRecursion IsKept (topology u.lsas)) (sym done.sent_is)
         (subst (λ (ls : List Lsa). AllByRecursion IsKept (topology ls)) (sym done.new_are)
-        (all_filter IsKept is_topology (news router (topology update.lsas))
+        (all_filter IsKept is_area_lsa (news router (topology update.lsas))
         (all_news IsKept router (topology update.lsas) (may_flood_here is).kept)));
   }
 

@@ -24,7 +24,7 @@ use Rattle.flood_core.specs.Routers.{Router}
 use Rattle.flood_core.specs.declared.update.Update.{Update}
 use Rattle.flood_core.specs.Databases.{after_installs, empty_database}
 use Rattle.flood_core.specs.FloodState.{FloodState, database_of, started}
-use Rattle.ospf_lsa.specs.AreaLsas.{is_topology}
+use Rattle.ospf_lsa.specs.AreaLsas.{is_area_lsa}
 use Rattle.flood_core.specs.Receiving.{after_all, after_one, new_router, news, topology, MayFlood}
 use Rattle.flood_core.specs.Runs.{Delivery, after_deliveries, brought, delivered_to, lsas_of, numbered, same_instance, sent, AreNewestOfTheSame, IsFlooded}
 use Rattle.flood_core.proofs.Bringing.{AreAfter, after_run, all_of_file, all_packets, brought_of_file, came, kept_topology, packet_of, router_at_start, sent_found, stays, brought_are_topology}
@@ -203,7 +203,7 @@ databases_law updates count deliveries r database lsa within is among =
     (has_from_contains (map (λ (e : Entry). e.lsa) database.entries) lsa among) in
     contains_from_has (map without_place (lsas_of updates)) (without_place lsa)
     (numbered_has 0 (brought (started updates count) deliveries r) (lsas_of updates)
-    (λ x brought_it. (has_filter is_topology (lsas_of updates) x
+    (λ x brought_it. (has_filter is_area_lsa (lsas_of updates) x
     (brought_of_file updates count deliveries r x brought_it)).0) lsa
     (chosen (delivered_to updates count deliveries r) lsa has))
 
@@ -256,7 +256,7 @@ same_newest_law updates count deliveries r q its others may within within' is is
 
 -- what is sent on by one router reaches each
 sent_reaches : (updates : List Update) (count : ℕ) (deliveries : List Delivery) (q r : ℕ) (z : Lsa)
-    → IsFlooded updates count deliveries → r < count → is_topology z ≡ true
+    → IsFlooded updates count deliveries → r < count → is_area_lsa z ≡ true
     → Has (sent (started updates count) deliveries q) z → Has (brought (started updates count) deliveries r) z
 sent_reaches updates count deliveries q r z flooded within is has =
     let found = sent_found (started updates count) deliveries q z has in
@@ -269,7 +269,7 @@ covers_one : (updates : List Update) (count : ℕ) (deliveries : List Delivery) 
     → IsFlooded updates count deliveries → r < count → Has (topology (lsas_of updates)) x
     → list_any (covers x) (brought (started updates count) deliveries r) ≡ true
 covers_one updates count deliveries r x flooded within has =
-    let of_file = has_filter is_topology (lsas_of updates) x has in
+    let of_file = has_filter is_area_lsa (lsas_of updates) x has in
     let home = packet_of updates x of_file.0 in
     let first = flooded.once home.packet (slice_get_within updates home.packet home.update home.at) in
     let q : ℕ = first.0 in
@@ -281,9 +281,9 @@ covers_one updates count deliveries r x flooded within has =
     let by = found_in (covers x) (news new_router (brought (started updates count) deliveries q)) out in
     let sent_it : Has (sent (started updates count) deliveries q) by.lsa =
     subst (λ (ls : List Lsa). Has ls by.lsa) (sym (from_start updates count deliveries q first.1).sends) by.has in
-    let is : is_topology by.lsa ≡ true =
-    all_has (λ (l : Lsa). is_topology l ≡ true) (news new_router (brought (started updates count) deliveries q)) by.lsa
-    (all_news (λ (l : Lsa). is_topology l ≡ true) new_router (brought (started updates count) deliveries q)
+    let is : is_area_lsa by.lsa ≡ true =
+    all_has (λ (l : Lsa). is_area_lsa l ≡ true) (news new_router (brought (started updates count) deliveries q)) by.lsa
+    (all_news (λ (l : Lsa). is_area_lsa l ≡ true) new_router (brought (started updates count) deliveries q)
     (brought_are_topology (started updates count) deliveries q)) by.has in
     any_has (covers x) (brought (started updates count) deliveries r) by.lsa
     (sent_reaches updates count deliveries q r by.lsa flooded within is sent_it) by.passes

@@ -3,7 +3,7 @@
 use Rattle.std.specs.Prelude.{◌≤◌, ◌+◌, ◌||◌, ◌==◌, ℕ, Bool, true, false, List, [], ◌∷◌, length, if◌then◌else◌}
 use Rattle.std.specs.List.{AllByRecursion, filter}
 use Rattle.ospf_lsa.specs.declared.lsa.Lsa.{Lsa}
-use Rattle.ospf_lsa.specs.AreaLsas.{is_topology}
+use Rattle.ospf_lsa.specs.AreaLsas.{is_area_lsa}
 use Rattle.lsdb.specs.declared.change.Change.{Change}
 use Rattle.lsdb.specs.declared.change.Change.TheVariants.{Added, Replaced, Older, Same, Clash}
 use Rattle.lsdb.specs.Installing.{installed, IsKept}
@@ -13,7 +13,7 @@ use Rattle.flood_core.specs.Databases.{after_install, empty_database}
 
 -- the LSAs of types 1 and 2
 abbrev pub topology : List Lsa → List Lsa
-topology lsas = filter is_topology lsas
+topology lsas = filter is_area_lsa lsas
 
 -- an LSA with this arrival number as its place
 abbrev pub arrived : ℕ → Lsa → Lsa

@@ -5,7 +5,7 @@ ghost use Rattle.std.specs.List.{AllByRecursion};
 ghost use Rattle.ospf_lsa.specs.declared.lsa.Lsa.{Lsa};
 ghost use Rattle.lsdb.specs.Installing.{IsBehind, IsKept};
 ghost use Rattle.flood_core.specs.Numbers.{lsa_in, lsas_by, router_in, AreNumbers, IsStored};
-ghost use Rattle.ospf_lsa.specs.AreaLsas.{is_topology};
+ghost use Rattle.ospf_lsa.specs.AreaLsas.{is_area_lsa};
 ghost use Rattle.flood_core.specs.Receiving.{after_all, after_one, is_news, new_router, news, topology};
 
 use crate::store::Store;
@@ -75,7 +75,7 @@ impl Receiver {
             ≡ after_all (router_in lsas.now self.old) (topology (lsa_in lsas.now number ∷ []))) }
         ensures stored { OnOk result (IsStored lsas.now self.new.store) }
     {
-        if !is_topology(lsas, number) {
+        if !is_area_lsa(lsas, number) {
             return Ok(());
         }
         let is_news = self.arrive(lsas, number)?;
@@ -105,9 +105,9 @@ impl Receiver {
 }
 
 /// Whether the LSA of this number is a router-LSA or a network-LSA.
-fn is_topology(lsas: &[Lsa], number: u32) -> bool
+fn is_area_lsa(lsas: &[Lsa], number: u32) -> bool
     requires { number < length lsas.now }
-    ensures { result ≡ is_topology (lsa_in lsas.now number) }
+    ensures { result ≡ is_area_lsa (lsa_in lsas.now number) }
 {
-    lsas[number as usize].is_topology()
+    lsas[number as usize].is_area_lsa()
 }
