@@ -1,14 +1,14 @@
 -- What two nodes are to each other, as the directions say.
-use Rattle.std.proofs.Common.{◌≡◌, ◌≢◌, ◌∙◌, ◌<◌, ℕ, Option, Some, length, slice_get, refl, sym, ap, subst}
+use Rattle.std.proofs.Common.{◌≡◌, ◌≢◌, ◌∙◌, ◌<◌, ℕ, Option, Some, length, slice_get, sym, ap, inl, inr}
+use Rattle.std.proofs.lemmas.Bool.{cases_eq}
 use Rattle.std.proofs.lemmas.Option.{same_Some}
 use Rattle.std.specs.Option.{option_map}
 use Rattle.mrt_graph.specs.declared.gadag.Place.{Place}
 use Rattle.mrt_graph.specs.declared.related.Relation.{Relation}
 use Rattle.mrt_graph.specs.declared.related.Relation.TheVariants as relations
 use Rattle.mrt_graph.specs.DirectedLists.{DirectedLists}
-use Rattle.mrt_graph.specs.Related.{relation}
+use Rattle.mrt_graph.specs.Related.{IsRelation}
 use Rattle.mrt_graph.specs.Topology.{Topology}
-use Rattle.mrt_graph.proofs.Relations as told
 use Rattle.link_direction.specs.CommonBlock.{FromHead, HaveCommonBlock, Peers, ToHead}
 use Rattle.link_direction.specs.Directions.{Directions, Says}
 
@@ -42,19 +42,22 @@ Relates w s t relations.Apart = (k h : ℕ) → ¬ HaveCommonBlock w s t k h
 
 -- the relation of two nodes by their places
 pub relates : (w : Directions) (s t : ℕ) (here there : Place) → (here.head ≡ w.head s) × (here.block ≡ w.block s)
-    → (there.head ≡ w.head t) × (there.block ≡ w.block t) → (r : Relation) → r ≡ relation s here t there → Relates w s t r
-relates w s t here there at_s at_t r is =
-    subst (Relates w s t) (sym is) (go (relation s here t there) (told.relation_tells s here t there))
-  where
-    go : (x : Relation) → told.Tells s here t there x → Relates w s t x
-    go relations.OneBlock (told.InOne one) = sym at_s.1 ∙ one ∙ at_t.1
-    go relations.ToHead (told.Under two under) = sym at_s.0 ∙ under
-    go relations.FromHead (told.Over two not_under over) = sym at_t.0 ∙ over
-    go relations.Apart (told.Away two not_under not_over) = none_common w s t (λ under. not_under (at_s.0 ∙ under))
-        (λ over. not_over (at_t.0 ∙ over)) (λ one. two (at_s.1 ∙ one ∙ sym at_t.1))
+    → (there.head ≡ w.head t) × (there.block ≡ w.block t) → (r : Relation) → IsRelation s here t there r → Relates w s t r
+relates w s t here there at_s at_t relations.OneBlock one = sym at_s.1 ∙ one ∙ at_t.1
+relates w s t here there at_s at_t relations.ToHead under = sym at_s.0 ∙ under.1
+relates w s t here there at_s at_t relations.FromHead over = sym at_t.0 ∙ over.2
+relates w s t here there at_s at_t relations.Apart far =
+    none_common w s t (λ under. far.1 (at_s.0 ∙ under)) (λ over. far.2 (at_t.0 ∙ over)) (λ one. far.0 (at_s.1 ∙ one ∙ sym at_t.1))
 
 -- that of any two nodes
 pub of_two : (w : Directions) (s t : ℕ) → (r : Relation) × Relates w s t r
-of_two w s t =
-    let place : ℕ → Place = λ v. record { head = w.head v; block = w.block v } in
-    (_, relates w s t (place s) (place t) (refl, refl) (refl, refl) (relation s (place s) t (place t)) refl)
+of_two w s t = elim (cases_eq (w.block s) (w.block t)) [
+  | inl one ↦ (relations.OneBlock, one)
+  | inr two ↦ elim (cases_eq (w.head s) t) [
+    | inl under ↦ (relations.ToHead, under)
+    | inr not_under ↦ elim (cases_eq (w.head t) s) [
+      | inl over ↦ (relations.FromHead, over)
+      | inr not_over ↦ (relations.Apart, none_common w s t not_under not_over two)
+    ]
+  ]
+]
