@@ -11,7 +11,7 @@ use Rattle.inc_dec_spf.specs.BlockAims.{aim_at}
 use Rattle.inc_dec_spf.specs.Path.{LeadsOn, cost_of}
 use Rattle.inc_dec_spf.specs.Rest.{IsRestCost, Rest, far}
 use Rattle.inc_dec_spf.specs.Side.{AreTaken, IsLeastWay, cost_at, lesser, link_of_lesser}
-use Rattle.inc_dec_spf.specs.Ways.{AreLeast, AreReady, AtHead, Back, BeginsAt, HasHeadBy, Home, Inside, IsLeftAt, IsReadyFrom, IsWanted, Onward}
+use Rattle.inc_dec_spf.specs.Ways.{AreLeast, AreReady, AtHead, Back, BeginsAt, HasHeadBy, Home, Inside, IsLeftAt, IsReadyFrom, IsWantedBlock, Onward}
 
 -- what is known of the ways that begin with one end, when `left` is left after it
 pub record IsEndCost (Begins : ℕ → ℕ → Type 0) (place left metric bound : ℕ) : Type 0 where
@@ -169,7 +169,7 @@ pub record IsWayOn (g : Topology) (w : Directions) (wanted : List Bool) (dir : D
   pub list : slice_get g.ends x ≡ Some ends
   pub there : slice_get ends place ≡ Some end
   pub leads_on : LeadsOn w dir x end
-  pub in_wanted : IsWanted g w wanted (w.lies_in end.link)
+  pub in_wanted : IsWantedBlock g w wanted (w.lies_in end.link)
   pub kept_to : own ≡ true → w.lies_in end.link ≡ w.block x
   pub elsewhere : x ≢ end.to
 

@@ -11,7 +11,7 @@ use Rattle.inc_dec_spf.specs.declared.reach.Dir.{Dir}
 use Rattle.inc_dec_spf.specs.Against.{against}
 use Rattle.inc_dec_spf.specs.BlockAims.{IsAimOf, aim_at}
 use Rattle.inc_dec_spf.specs.FirstLink.{Begins, BeginsNone, HasLinksAt, IsFirstLink, LiesInOneBlock}
-use Rattle.inc_dec_spf.specs.LeastPath.{IsHop, HaveCommonBlockOfMore}
+use Rattle.inc_dec_spf.specs.LeastPath.{IsHop, HaveCommonBlockOfMoreLinks}
 use Rattle.inc_dec_spf.specs.Rest.{far}
 use Rattle.inc_dec_spf.specs.Side.{IsLeastWay, hop_by}
 use Rattle.inc_dec_spf.specs.Turns.{AreTurns, turn_of}
@@ -24,7 +24,7 @@ use Rattle.inc_dec_spf.proofs.WaysArePaths.{least_hop}
 
 module _ (g : Topology) (root : ℕ) (w : Directions) (is : IsOrdered g root w) where
   pub first_link : (wanted : List Bool) (dir : Dir) (own : Bool) (s t k h : ℕ) (aim : ℕ → ℕ) (cost link : ℕ) (ends : List End) → s < length g.ids → t < length g.ids
-      → slice_get g.ends s ≡ Some ends → HaveCommonBlockOfMore g w s t k h → (own ≡ true → k ≡ w.block s)
+      → slice_get g.ends s ≡ Some ends → HaveCommonBlockOfMoreLinks g w s t k h → (own ≡ true → k ≡ w.block s)
       → slice_get wanted k ≡ Some true → IsAimOf g w aim s t
       → IsLeastWay (BeginsAt g w wanted dir own s aim) ends (length ends) cost link → IsFirstLink g w dir s t link
   first_link wanted dir own s t k h aim cost link ends within t_within list share kept_to marked it_aims least = elim (cases_Bool (nat_lt cost far)) [
@@ -35,7 +35,7 @@ module _ (g : Topology) (root : ℕ) (w : Directions) (is : IsOrdered g root w) 
     | inr is_not ↦ BeginsNone (rw is_not at hop) (least.unreached (ltb-false cost far is_not))
   ]
     where
-      same_block : (k' h' : ℕ) → HaveCommonBlockOfMore g w s t k' h' → k' ≡ k
+      same_block : (k' h' : ℕ) → HaveCommonBlockOfMoreLinks g w s t k' h' → k' ≡ k
       same_block k' h' other = (one_block g root w s t k' h' k h is within t_within share.two other.common share.common).0
 
       alone : (u k' h' : ℕ) → u < length g.ids → s ≢ u → HaveCommonBlock w s u k' h' → (own ≡ true → k' ≡ w.block s) → (own ≡ false → aim k' ≢ s)
@@ -54,7 +54,7 @@ module _ (g : Topology) (root : ℕ) (w : Directions) (is : IsOrdered g root w) 
   -- the links of a node, kept from its place on
   pub links_kept : (wanted : List Bool) (dir : Dir) (own : Bool) (s : ℕ) (aims : List ℕ) (width bound : ℕ) (ends : List End) (costs links all : List ℕ) → s < length g.ids
       → slice_get g.ends s ≡ Some ends → length costs ≡ width → length links ≡ width
-      → ((t k h : ℕ) → t < length g.ids → HaveCommonBlockOfMore g w s t k h → own ≡ true → k ≡ w.block s)
+      → ((t k h : ℕ) → t < length g.ids → HaveCommonBlockOfMoreLinks g w s t k h → own ≡ true → k ≡ w.block s)
       → AreLeast g w wanted dir own aims width bound s ends (length ends) costs links
       → ((j : ℕ) → j < length links → slice_get all (s * width + j) ≡ slice_get links j) → HasLinksAt g w wanted dir aims width all s
   links_kept wanted dir own s aims width bound ends costs links all within list one_cost_each one_link_each kept_to least there = record {
@@ -104,7 +104,7 @@ one_linked g root w wanted dir is turns are aims width i x at bound ends costs l
     | inl same ↦
         subst (λ (v : ℕ). HasLinksAt g w wanted dir aims width after v) (sym same)
         (links_kept g root w is wanted dir true x aims width bound ends costs links after (are.within i x at) list one_cost_each one_link_each
-        (λ t k h inside share own. subst (λ (v : ℕ). k ≡ w.block v) same (one.only t k h inside (subst (λ (v : ℕ). HaveCommonBlockOfMore g w v t k h) (sym same) share))) least there)
+        (λ t k h inside share own. subst (λ (v : ℕ). k ≡ w.block v) same (one.only t k h inside (subst (λ (v : ℕ). HaveCommonBlockOfMoreLinks g w v t k h) (sym same) share))) least there)
     | inr other ↦
         links_stay g w wanted dir aims width y x (length links) all after other one_link_each elsewhere
         (linked.each y within (omega (arith, early, not_now y within other)) one)

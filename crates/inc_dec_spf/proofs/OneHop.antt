@@ -11,7 +11,7 @@ use Rattle.link_direction.specs.Directions.{Directions}
 use Rattle.inc_dec_spf.specs.declared.reach.Dir.{Dir}
 use Rattle.inc_dec_spf.specs.declared.reach.Dir.TheVariants.{Down, Up}
 use Rattle.inc_dec_spf.specs.declared.reach.Hop.{Hop}
-use Rattle.inc_dec_spf.specs.LeastPath.{BeginsPath, IsHop, IsLeastPath, IsReachTo, NotReached, Reached, HaveCommonBlockOfMore}
+use Rattle.inc_dec_spf.specs.LeastPath.{BeginsPath, IsHop, IsLeastPath, IsReachTo, NotReached, Reached, HaveCommonBlockOfMoreLinks}
 use Rattle.inc_dec_spf.specs.Path.{Path}
 use Rattle.inc_dec_spf.specs.Turns.{turn_of}
 use Rattle.inc_dec_spf.proofs.InBlocks.{Home, IsClosed, IsOrdered, Later, Onto, member_not_head, step_from_member}
@@ -135,7 +135,7 @@ path_later g root w dir k h x t end (next ∷ more) is closed inside other path 
 
 -- nodes of one block share that block
 pub inside_both : (g : Topology) (root : ℕ) (w : Directions) (s k h t : ℕ) → IsOrdered g root w → s < length g.ids → t < length g.ids → w.block s ≡ w.block t
-    → HaveCommonBlockOfMore g w s t k h → AreIn g root w s k h t × (w.block s ≡ k) × (t ≢ h)
+    → HaveCommonBlockOfMoreLinks g w s t k h → AreIn g root w s k h t × (w.block s ≡ k) × (t ≢ h)
 inside_both g root w s k h t is s_within t_within peers share = (are, at.0, at.1)
   where
     are : AreIn g root w s k h t

@@ -16,7 +16,7 @@ use Rattle.inc_dec_spf.specs.Path.{IsStep}
 use Rattle.inc_dec_spf.specs.Rest.{IsRestCost, far}
 use Rattle.inc_dec_spf.specs.TileEntries.{TileEntries}
 use Rattle.inc_dec_spf.specs.Turns.{AreTurns, turn_at, turn_of}
-use Rattle.inc_dec_spf.specs.Ways.{AreLeast, AreReady, IsReadyFrom, IsWanted}
+use Rattle.inc_dec_spf.specs.Ways.{AreLeast, AreReady, IsReadyFrom, IsWantedBlock}
 use Rattle.inc_dec_spf.proofs.ByTurn.{turn_within}
 use Rattle.inc_dec_spf.proofs.InBlocks.{Home, IsClosed, IsOrdered, Later, Onto, member_not_head, move_of, step_from_member}
 use Rattle.inc_dec_spf.proofs.Reached.{closed_of_more}
@@ -25,7 +25,7 @@ use Rattle.inc_dec_spf.proofs.WaysArePaths.{own_rest}
 
 -- the nodes of the wanted blocks that had their turns are ready
 pub record AreTurned (g : Topology) (w : Directions) (wanted : List Bool) (dir : Dir) (aims : List ℕ) (width i : ℕ) (all : List ℕ) : Type 0 where
-  pub each : (y : ℕ) → y < length g.ids → turn_of (against dir) (length g.ids) w y < i → IsWanted g w wanted (w.block y)
+  pub each : (y : ℕ) → y < length g.ids → turn_of (against dir) (length g.ids) w y < i → IsWantedBlock g w wanted (w.block y)
       → IsReadyFrom g w dir aims width (65536 * i) all y
 
 -- what has a later turn in one direction has an earlier one in the other
@@ -73,7 +73,7 @@ module _ (g : Topology) (root : ℕ) (w : Directions) (wanted : List Bool) (dir 
         turned.each end.to move.to_within
         (go k found.0 end step move.to_within found.1 inside
         (step_from_member g root w dir k found.0 x end is found.1 (sym (kept_to refl)) step))
-        (subst (λ (b : ℕ). IsWanted g w wanted b) (sym inside) in_wanted);
+        (subst (λ (b : ℕ). IsWantedBlock g w wanted b) (sym inside) in_wanted);
   }
     where
       go : (k h : ℕ) (end : End) → IsStep g w dir k x end → end.to < length g.ids → IsClosed g root w k h → w.block end.to ≡ k
@@ -93,7 +93,7 @@ module _ (g : Topology) (root : ℕ) (w : Directions) (wanted : List Bool) (dir 
     arrived_at : (j left : ℕ) → j < width → slice_get after (x * width + j) ≡ Some left → slice_get arrived j ≡ Some left
     arrived_at j left within at_j = sym (there j (omega (arith, within, one_each))) ∙ at_j
 
-    x_ready : IsWanted g w wanted (w.block x) → IsReadyFrom g w dir aims width (65536 * (i + 1)) after x
+    x_ready : IsWantedBlock g w wanted (w.block x) → IsReadyFrom g w dir aims width (65536 * (i + 1)) after x
     x_ready in_wanted = record {
       each = λ j left within at_j. elim (cases_eq (aim_at aims width j (w.block x)) x) [
         | inl same ↦
@@ -122,7 +122,7 @@ module _ (g : Topology) (root : ℕ) (w : Directions) (wanted : List Bool) (dir 
       each = λ y within early in_wanted. elim (cases_eq y x) [
         | inl same ↦
             subst (λ (v : ℕ). IsReadyFrom g w dir aims width (65536 * (i + 1)) after v) (sym same)
-            (x_ready (subst (λ (v : ℕ). IsWanted g w wanted (w.block v)) same in_wanted))
+            (x_ready (subst (λ (v : ℕ). IsWantedBlock g w wanted (w.block v)) same in_wanted))
         | inr other ↦
             let before = turned.each y within (omega (arith, early, not_now i x y at within other)) in_wanted in
             record {
@@ -135,7 +135,7 @@ module _ (g : Topology) (root : ℕ) (w : Directions) (wanted : List Bool) (dir 
     }
 
   pub all_turned : (count y : ℕ) (all : List ℕ) → count ≡ length g.ids → AreTurned g w wanted dir aims width count all → y < length g.ids
-      → IsWanted g w wanted (w.block y) → IsReadyFrom g w dir aims width (65536 * length g.ids) all y
+      → IsWantedBlock g w wanted (w.block y) → IsReadyFrom g w dir aims width (65536 * length g.ids) all y
   all_turned count y all same turned within in_wanted =
       subst (λ (c : ℕ). IsReadyFrom g w dir aims width (65536 * c) all y) same
       (turned.each y within (omega (
@@ -186,12 +186,12 @@ all_ready aiming w tile width all s kept wide same costs =
     (subst (λ (xs : List ℕ). AreReady aiming.graph.now w aiming.wanted.now aiming.dir false aiming.aims.now tile.width bound xs s) (sym same) (record {
       each = λ k end in_wanted step kept_to inside.
           costs.each end.to (move_of aiming.graph.now w aiming.dir k s end kept step).to_within
-          (subst (λ (b : ℕ). IsWanted aiming.graph.now w aiming.wanted.now b) (sym inside) in_wanted);
+          (subst (λ (b : ℕ). IsWantedBlock aiming.graph.now w aiming.wanted.now b) (sym inside) in_wanted);
     }))
 
 -- what is known of the costs in these lists is known in a tile that has them
 pub own_costs_of : (aiming : Aiming) (w : Directions) (tile : TileEntries) (width : ℕ) (all : List ℕ) → tile.width ≡ width → tile.costs ≡ all
-    → ((y : ℕ) → y < length aiming.graph.now.ids → IsWanted aiming.graph.now w aiming.wanted.now (w.block y)
+    → ((y : ℕ) → y < length aiming.graph.now.ids → IsWantedBlock aiming.graph.now w aiming.wanted.now (w.block y)
     → IsReadyFrom aiming.graph.now w aiming.dir aiming.aims.now width (65536 * length aiming.graph.now.ids) all y) → AreOwnCosts aiming w tile
 own_costs_of aiming w tile width all wide same ready = record {
   each = λ y within in_wanted.

@@ -8,7 +8,7 @@ use Rattle.link_direction.specs.CommonBlock.{HaveCommonBlock, Peers, ToHead, Fro
 use Rattle.link_direction.specs.Directions.{Directions}
 use Rattle.inc_dec_spf.specs.declared.reach.Dir.{Dir}
 use Rattle.inc_dec_spf.specs.Known.{IsKnown, IsNoLater, Known, hop_of}
-use Rattle.inc_dec_spf.specs.LeastPath.{BeginsPath, HasMoreLinks, IsHop, NotReached, Reached, HaveCommonBlockOfMore}
+use Rattle.inc_dec_spf.specs.LeastPath.{BeginsPath, HasMoreLinks, IsHop, NotReached, Reached, HaveCommonBlockOfMoreLinks}
 use Rattle.inc_dec_spf.specs.Path.{IsStep, Path, cost_of}
 use Rattle.inc_dec_spf.specs.Sweep.{IsSwept}
 use Rattle.inc_dec_spf.proofs.ByTurn.{turn_within}
@@ -30,7 +30,7 @@ more_links g root w k h is closed = record {
 }
 
 -- two nodes that lie in it share it
-pub share_it : (g : Topology) (root : ℕ) (w : Directions) (s k h t : ℕ) → IsOrdered g root w → AreIn g root w s k h t → s ≢ t → HaveCommonBlockOfMore g w s t k h
+pub share_it : (g : Topology) (root : ℕ) (w : Directions) (s k h t : ℕ) → IsOrdered g root w → AreIn g root w s k h t → s ≢ t → HaveCommonBlockOfMoreLinks g w s t k h
 share_it g root w s k h t is are two = record { two = two; common = common; more = more_links g root w k h is are.closed }
   where
     common : HaveCommonBlock w s t k h
@@ -59,7 +59,7 @@ closed_of_more g root w k is more =
     ]
 
 -- two nodes that share a block lie in it
-pub are_in : (g : Topology) (root : ℕ) (w : Directions) (s k h t : ℕ) → IsOrdered g root w → s < length g.ids → t < length g.ids → HaveCommonBlockOfMore g w s t k h
+pub are_in : (g : Topology) (root : ℕ) (w : Directions) (s k h t : ℕ) → IsOrdered g root w → s < length g.ids → t < length g.ids → HaveCommonBlockOfMoreLinks g w s t k h
     → AreIn g root w s k h t
 are_in g root w s k h t is s_within t_within share =
     let closed = closed_of_more g root w k is share.more in go closed.0 closed.1 share.common
@@ -114,7 +114,7 @@ pub hop_for : (g : Topology) (root : ℕ) (w : Directions) (dir : Dir) (s t : �
     → IsSwept g w dir s (length g.ids) known → s < length g.ids → s ≢ t → slice_get known t ≡ Some o → IsHop g w dir s t (option_map hop_of o)
 hop_for g root w dir s t known None is swept s_within two at = NotReached none
   where
-    none : (k h : ℕ) (path : List End) → HaveCommonBlockOfMore g w s t k h → Path g w dir k h s path t → ⊥
+    none : (k h : ℕ) (path : List End) → HaveCommonBlockOfMoreLinks g w s t k h → Path g w dir k h s path t → ⊥
     none k h [] share path = path
     none k h (end ∷ others) share path =
         let are = are_in g root w s k h t is s_within (omega (arith, slice_get_within known t None at, swept.one_each)) share in

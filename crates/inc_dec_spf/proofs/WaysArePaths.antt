@@ -8,11 +8,11 @@ use Rattle.mrt_graph.proofs.Hops.{lead_back}
 use Rattle.link_direction.specs.CommonBlock.{HaveCommonBlock}
 use Rattle.link_direction.specs.Directions.{Directions}
 use Rattle.inc_dec_spf.specs.declared.reach.Dir.{Dir}
-use Rattle.inc_dec_spf.specs.LeastPath.{BeginsPath, IsHop, NotReached, Reached, HaveCommonBlockOfMore}
+use Rattle.inc_dec_spf.specs.LeastPath.{BeginsPath, IsHop, NotReached, Reached, HaveCommonBlockOfMoreLinks}
 use Rattle.inc_dec_spf.specs.Path.{IsStep, Path, cost_of}
 use Rattle.inc_dec_spf.specs.Rest.{IsRestCost, Rest, far}
 use Rattle.inc_dec_spf.specs.Side.{IsLeastWay, hop_by}
-use Rattle.inc_dec_spf.specs.Ways.{AtHead, BeginsAt, HasHeadBy, Inside, IsWanted}
+use Rattle.inc_dec_spf.specs.Ways.{AtHead, BeginsAt, HasHeadBy, Inside, IsWantedBlock}
 use Rattle.inc_dec_spf.proofs.InBlocks.{IsClosed, IsOrdered, head_of_member, leads_inside, member_not_head, move_of}
 use Rattle.inc_dec_spf.proofs.Reached.{are_in, closed_of_more, first_step, share_it}
 use Rattle.inc_dec_spf.proofs.WaysInBlocks.{AreIn}
@@ -91,7 +91,7 @@ module _ (g : Topology) (root : ℕ) (w : Directions) (is : IsOrdered g root w) 
 
   -- a path is a way
   pub path_is_way : (wanted : List Bool) (dir : Dir) (own : Bool) (k h x : ℕ) (aim : ℕ → ℕ) (place : ℕ) (ends : List End) (end : End) (others : List End)
-      → IsClosed g root w k h → IsWanted g w wanted k → (own ≡ true → k ≡ w.block x) → (own ≡ false → aim k ≢ x) → slice_get g.ends x ≡ Some ends → slice_get ends place ≡ Some end
+      → IsClosed g root w k h → IsWantedBlock g w wanted k → (own ≡ true → k ≡ w.block x) → (own ≡ false → aim k ≢ x) → slice_get g.ends x ≡ Some ends → slice_get ends place ≡ Some end
       → Path g w dir k h x (end ∷ others) (aim k) → BeginsAt g w wanted dir own x aim place (cost_of (end ∷ others))
   path_is_way wanted dir own k h x aim place ends end others closed in_wanted kept_to onward list there path =
       let step = first_step g w dir k h x (aim k) end others path in
@@ -115,7 +115,7 @@ module _ (g : Topology) (root : ℕ) (w : Directions) (is : IsOrdered g root w) 
 
   -- the least way within the own block has the least cost of what is left
   pub own_rest : (wanted : List Bool) (dir : Dir) (x : ℕ) (aim : ℕ → ℕ) (cost link : ℕ) (ends : List End) → x < length g.ids → slice_get g.ends x ≡ Some ends
-      → x ≢ aim (w.block x) → IsWanted g w wanted (w.block x) → IsLeastWay (BeginsAt g w wanted dir true x aim) ends (length ends) cost link
+      → x ≢ aim (w.block x) → IsWantedBlock g w wanted (w.block x) → IsLeastWay (BeginsAt g w wanted dir true x aim) ends (length ends) cost link
       → IsRestCost g w dir (w.block x) (w.head x) x (aim (w.block x)) cost
   own_rest wanted dir x aim cost link ends within list two in_wanted least =
       let found = closed_of_more g root w (w.block x) is in_wanted.more in
@@ -150,9 +150,9 @@ module _ (g : Topology) (root : ℕ) (w : Directions) (is : IsOrdered g root w) 
 
   -- the least way over all ends is the hop; so is the least one within the own block, where there is no other common one
   pub least_hop : (wanted : List Bool) (dir : Dir) (own : Bool) (s t : ℕ) (aim : ℕ → ℕ) (cost link : ℕ) (ends : List End) → s < length g.ids
-      → slice_get g.ends s ≡ Some ends → s ≢ t → ((k h : ℕ) → HaveCommonBlockOfMore g w s t k h → own ≡ true → k ≡ w.block s)
-      → ((k h : ℕ) → HaveCommonBlockOfMore g w s t k h → slice_get wanted k ≡ Some true)
-      → ((k h : ℕ) → HaveCommonBlockOfMore g w s t k h → aim k ≡ t)
+      → slice_get g.ends s ≡ Some ends → s ≢ t → ((k h : ℕ) → HaveCommonBlockOfMoreLinks g w s t k h → own ≡ true → k ≡ w.block s)
+      → ((k h : ℕ) → HaveCommonBlockOfMoreLinks g w s t k h → slice_get wanted k ≡ Some true)
+      → ((k h : ℕ) → HaveCommonBlockOfMoreLinks g w s t k h → aim k ≡ t)
       → ((u k h : ℕ) → u < length g.ids → s ≢ u → HaveCommonBlock w s u k h → (own ≡ true → k ≡ w.block s) → (own ≡ false → aim k ≢ s) → aim k ≡ t)
       → IsLeastWay (BeginsAt g w wanted dir own s aim) ends (length ends) cost link → IsHop g w dir s t (hop_by cost link)
   least_hop wanted dir own s t aim cost link ends within list two kept_to marked aimed alone least = elim (cases_Bool (nat_lt cost far)) [
@@ -160,14 +160,14 @@ module _ (g : Topology) (root : ℕ) (w : Directions) (is : IsOrdered g root w) 
     | inr is_not ↦ rw is_not (NotReached (λ k h path share is_path. none k h path share is_path (ltb-false cost far is_not)))
   ]
     where
-      begun : (k h place : ℕ) (end : End) (others : List End) → IsClosed g root w k h → HaveCommonBlockOfMore g w s t k h → slice_get ends place ≡ Some end
+      begun : (k h place : ℕ) (end : End) (others : List End) → IsClosed g root w k h → HaveCommonBlockOfMoreLinks g w s t k h → slice_get ends place ≡ Some end
           → Path g w dir k h s (end ∷ others) t → BeginsAt g w wanted dir own s aim place (cost_of (end ∷ others))
       begun k h place end others closed share there path =
           path_is_way wanted dir own k h s aim place ends end others closed (record { more = share.more; marked = marked k h share }) (kept_to k h share)
           (λ all_blocks same. two (sym same ∙ aimed k h share)) list there
           (subst (λ (y : ℕ). Path g w dir k h s (end ∷ others) y) (sym (aimed k h share)) path)
 
-      at_most : (k h : ℕ) (path : List End) → IsClosed g root w k h → HaveCommonBlockOfMore g w s t k h → Path g w dir k h s path t
+      at_most : (k h : ℕ) (path : List End) → IsClosed g root w k h → HaveCommonBlockOfMoreLinks g w s t k h → Path g w dir k h s path t
           → (cost ≤ cost_of path) × (cost < far)
       at_most k h [] closed share path = absurd path
       at_most k h (end ∷ others) closed share path =
@@ -177,7 +177,7 @@ module _ (g : Topology) (root : ℕ) (w : Directions) (is : IsOrdered g root w) 
           least.least step.place (cost_of (end ∷ others)) (slice_get_within ends step.place end there)
           (begun k h step.place end others closed share there path)
 
-      none : (k h : ℕ) (path : List End) → HaveCommonBlockOfMore g w s t k h → Path g w dir k h s path t → far ≤ cost → ⊥
+      none : (k h : ℕ) (path : List End) → HaveCommonBlockOfMoreLinks g w s t k h → Path g w dir k h s path t → far ≤ cost → ⊥
       none k h path share is_path not_less =
           let are = are_in g root w s k h t is within (path_ends_within dir k h s t path is_path) share in
           omega (arith, not_less, (at_most k h path are.closed share is_path).1)

@@ -7,7 +7,7 @@ use Rattle.inc_dec_spf.specs.Against.{against}
 use Rattle.inc_dec_spf.specs.HasDirections.{AreDirections, HasDirections}
 use Rattle.inc_dec_spf.specs.TileEntries.{TileEntries}
 use Rattle.inc_dec_spf.specs.Turns.{AreTurns}
-use Rattle.inc_dec_spf.specs.Ways.{IsReadyFrom, IsWanted}
+use Rattle.inc_dec_spf.specs.Ways.{IsReadyFrom, IsWantedBlock}
 
 -- a graph with its directions, its nodes by the turns of the other direction, so many aims of each block, and marks on the
 -- blocks that are wanted
@@ -21,5 +21,5 @@ pub record IsAiming (aiming : Aiming) (width : ℕ) : Type 0 where
 
 -- the costs of each node from its own block, where that is wanted, to what the block aims at are known
 pub record AreOwnCosts (aiming : Aiming) (w : Directions) (tile : TileEntries) : Type 0 where
-  pub each : (y : ℕ) → y < length aiming.graph.now.ids → IsWanted aiming.graph.now w aiming.wanted.now (w.block y)
+  pub each : (y : ℕ) → y < length aiming.graph.now.ids → IsWantedBlock aiming.graph.now w aiming.wanted.now (w.block y)
       → IsReadyFrom aiming.graph.now w aiming.dir aiming.aims.now tile.width (65536 * length aiming.graph.now.ids) tile.costs y

@@ -5,7 +5,7 @@ use Rattle.mrt_graph.specs.Topology.{Topology}
 use Rattle.inc_dec_spf.specs.declared.reach.Dir.{Dir}
 use Rattle.inc_dec_spf.specs.declared.reach.Hop.{Hop}
 use Rattle.inc_dec_spf.specs.BlockAims.{IsAimOf, aim_at}
-use Rattle.inc_dec_spf.specs.LeastPath.{IsHop, HaveCommonBlockOfMore}
+use Rattle.inc_dec_spf.specs.LeastPath.{IsHop, HaveCommonBlockOfMoreLinks}
 
 -- a number that stands for no link: no graph has so many
 abbrev pub no_link : ℕ
@@ -19,7 +19,7 @@ pub data IsFirstLink (g : Topology) (w : Directions) (dir : Dir) (s t link : ℕ
 
 -- node v has no block of more than one link in common with other nodes but the one that it lies in
 pub record LiesInOneBlock (g : Topology) (w : Directions) (v : ℕ) : Type 0 where
-  pub only : (t k h : ℕ) → t < length g.ids → HaveCommonBlockOfMore g w v t k h → k ≡ w.block v
+  pub only : (t k h : ℕ) → t < length g.ids → HaveCommonBlockOfMoreLinks g w v t k h → k ≡ w.block v
 
 -- so does each node that is not marked
 pub record AreOthersInOneBlock (g : Topology) (w : Directions) (marks : List Bool) : Type 0 where
@@ -27,5 +27,5 @@ pub record AreOthersInOneBlock (g : Topology) (w : Directions) (marks : List Boo
 
 -- the links of node s are there, at so many places, for what it aims at over a wanted block of more than one link
 pub record HasLinksAt (g : Topology) (w : Directions) (wanted : List Bool) (dir : Dir) (aims : List ℕ) (width : ℕ) (links : List ℕ) (s : ℕ) : Type 0 where
-  pub each : (j t k h link : ℕ) → j < width → t < length g.ids → HaveCommonBlockOfMore g w s t k h → slice_get wanted k ≡ Some true
+  pub each : (j t k h link : ℕ) → j < width → t < length g.ids → HaveCommonBlockOfMoreLinks g w s t k h → slice_get wanted k ≡ Some true
       → IsAimOf g w (aim_at aims width j) s t → slice_get links (s * width + j) ≡ Some link → IsFirstLink g w dir s t link

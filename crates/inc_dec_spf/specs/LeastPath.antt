@@ -20,7 +20,7 @@ pub record HasMoreLinks (g : Topology) (w : Directions) (k : ℕ) : Type 0 where
   pub differ : one ≢ other
 
 -- s and t are two nodes with a block of more than one link in common: block k, whose head is h
-pub record HaveCommonBlockOfMore (g : Topology) (w : Directions) (s t k h : ℕ) : Type 0 where
+pub record HaveCommonBlockOfMoreLinks (g : Topology) (w : Directions) (s t k h : ℕ) : Type 0 where
   pub two : s ≢ t
   pub common : HaveCommonBlock w s t k h
   pub more : HasMoreLinks g w k
@@ -41,9 +41,9 @@ pub record IsLeastPath (g : Topology) (w : Directions) (dir : Dir) (k h s t : �
 -- what source s has for node t: the least path of their block; none where no path of it leads there, or they have no
 -- such block
 pub data IsHop (g : Topology) (w : Directions) (dir : Dir) (s t : ℕ) : Option Hop → Type 0 where
-  Reached : (k h : ℕ) (hop : Hop) → HaveCommonBlockOfMore g w s t k h → IsLeastPath g w dir k h s t hop
+  Reached : (k h : ℕ) (hop : Hop) → HaveCommonBlockOfMoreLinks g w s t k h → IsLeastPath g w dir k h s t hop
       → IsHop g w dir s t (Some hop)
-  NotReached : ((k h : ℕ) (path : List End) → HaveCommonBlockOfMore g w s t k h → ¬ Path g w dir k h s path t)
+  NotReached : ((k h : ℕ) (path : List End) → HaveCommonBlockOfMoreLinks g w s t k h → ¬ Path g w dir k h s path t)
       → IsHop g w dir s t None
 
 -- what source s has for all nodes

@@ -16,7 +16,7 @@ pub data HasHeadBy (w : Directions) (k h y : ℕ) : Type 0 where
   AtHead : w.block y ≢ k → y ≡ h → HasHeadBy w k h y
 
 -- block k has more than one link, and is marked
-pub record IsWanted (g : Topology) (w : Directions) (wanted : List Bool) (k : ℕ) : Type 0 where
+pub record IsWantedBlock (g : Topology) (w : Directions) (wanted : List Bool) (k : ℕ) : Type 0 where
   pub more : HasMoreLinks g w k
   pub marked : slice_get wanted k ≡ Some true
 
@@ -31,7 +31,7 @@ pub record BeginsAt (g : Topology) (w : Directions) (wanted : List Bool) (dir : 
   pub h : ℕ
   pub in_block : w.lies_in end.link ≡ k
   pub leads_on : LeadsOn w dir x end
-  pub in_wanted : IsWanted g w wanted k
+  pub in_wanted : IsWantedBlock g w wanted k
   pub kept_to : own ≡ true → k ≡ w.block x
   pub onward : own ≡ false → aim k ≢ x
   pub head : HasHeadBy w k h end.to
@@ -55,7 +55,7 @@ pub record IsReadyFrom (g : Topology) (w : Directions) (dir : Dir) (aims : List 
 
 -- so for each node to which an end leads on in its block, where that is wanted
 pub record AreReady (g : Topology) (w : Directions) (wanted : List Bool) (dir : Dir) (own : Bool) (aims : List ℕ) (width bound : ℕ) (all : List ℕ) (x : ℕ) : Type 0 where
-  pub each : (k : ℕ) (end : End) → IsWanted g w wanted k → IsStep g w dir k x end → (own ≡ true → k ≡ w.block x)
+  pub each : (k : ℕ) (end : End) → IsWantedBlock g w wanted k → IsStep g w dir k x end → (own ≡ true → k ≡ w.block x)
       → w.block end.to ≡ k → IsReadyFrom g w dir aims width bound all end.to
 
 -- the least ways over the first ends, at each place

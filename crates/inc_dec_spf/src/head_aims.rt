@@ -29,7 +29,5 @@ fn put_all(at: usize, width: usize, node: NodeNo, aims: &mut [NodeNo])
     ensures elsewhere { (i : ℕ) → (i < at) ⊎ (at + width ≤ i)
         → slice_index aims.new i ≡ slice_index aims.old i }
 {
-    for j in 0..width {
-        aims[at + j] = node;
-    }
+    aims[at..at + width].fill(node);
 }

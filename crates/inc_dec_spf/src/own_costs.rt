@@ -6,7 +6,7 @@ ghost use Rattle.inc_dec_spf.specs.Aiming.{IsAiming};
 ghost use Rattle.inc_dec_spf.specs.FirstLink.{HasLinksAt, LiesInOneBlock};
 ghost use Rattle.inc_dec_spf.specs.HasDirections.{AreDirections};
 ghost use Rattle.inc_dec_spf.specs.Rest.{far};
-ghost use Rattle.inc_dec_spf.specs.Ways.{IsReadyFrom, IsWanted};
+ghost use Rattle.inc_dec_spf.specs.Ways.{IsReadyFrom, IsWantedBlock};
 
 use crate::aiming::Aiming;
 use crate::ways::take_ways;
@@ -35,7 +35,7 @@ pub fn take_own_ways(
     ensures most { (i cost : ℕ) → slice_get all_costs.new i ≡ Some cost → cost ≤ far }
     ensures ready { (root y : ℕ) (w : Directions) → AreDirections aiming.now.graph.now aiming.now.directed.now root w
         → y < length aiming.now.graph.now.ids
-        → IsWanted aiming.now.graph.now w aiming.now.wanted.now (w.block y)
+        → IsWantedBlock aiming.now.graph.now w aiming.now.wanted.now (w.block y)
         → IsReadyFrom aiming.now.graph.now w aiming.now.dir aiming.now.aims.now (length costs.old)
         (65536 * length aiming.now.graph.now.ids) all_costs.new y }
     ensures links { (root y : ℕ) (w : Directions) → AreDirections aiming.now.graph.now aiming.now.directed.now root w

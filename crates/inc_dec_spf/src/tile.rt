@@ -6,7 +6,7 @@ ghost use Rattle.inc_dec_spf.specs.Aiming.{AreOwnCosts, IsAiming};
 ghost use Rattle.inc_dec_spf.specs.BlockAims.{IsAimOf, aim_at};
 ghost use Rattle.inc_dec_spf.specs.FirstLink.{AreOthersInOneBlock, HasLinksAt, LiesInOneBlock};
 ghost use Rattle.inc_dec_spf.specs.HasDirections.{AreDirections};
-ghost use Rattle.inc_dec_spf.specs.LeastPath.{HaveCommonBlockOfMore, IsHop};
+ghost use Rattle.inc_dec_spf.specs.LeastPath.{HaveCommonBlockOfMoreLinks, IsHop};
 ghost use Rattle.inc_dec_spf.specs.Side.{hop_by};
 ghost use Rattle.inc_dec_spf.specs.Tile.{IsAimed, IsTile};
 
@@ -147,7 +147,7 @@ impl Tile {
         ensures hop { (root t : ℕ) (w : Directions) → AreDirections aiming.now.graph.now aiming.now.directed.now root w
             → AreOwnCosts aiming.now w self.old
             → s ≢ t
-            → ((k h : ℕ) → HaveCommonBlockOfMore aiming.now.graph.now w s t k h → slice_get aiming.now.wanted.now k ≡ Some true)
+            → ((k h : ℕ) → HaveCommonBlockOfMoreLinks aiming.now.graph.now w s t k h → slice_get aiming.now.wanted.now k ≡ Some true)
             → IsAimOf aiming.now.graph.now w (aim_at aiming.now.aims.now self.old.width 0) s t
             → IsHop aiming.now.graph.now w aiming.now.dir s t result }
     {
@@ -162,7 +162,8 @@ impl Tile {
         hop_by(self.costs[0], self.links[0])
     }
 
-    /// The links of node s, for the nodes that it is aimed at.
+    /// The links of node s, for the nodes that it is aimed at. Over a block that is not marked they are what an earlier aim
+    /// left there.
     pub fn links_of(&self, s: NodeNo) -> &[LinkNo]
         requires { s < self.now.nodes }
         ensures one_each { length result.now ≡ self.now.width }

@@ -12,7 +12,7 @@ ghost use Rattle.inc_dec_spf.specs.Side.{AreTaken};
 ghost use Rattle.inc_dec_spf.specs.Ways.{AreLeast, AreReady, IsLeftAt};
 
 use crate::aiming::Aiming;
-use crate::offers::leads_on;
+use crate::offers::{is_sole, leads_on};
 use crate::side::{FAR, Leg, NO_LINK, take_last, take_onward, take_over};
 use mrt_graph::{LinkNo, NodeNo, Role};
 
@@ -46,7 +46,7 @@ pub fn take_ways(
         let mark = aiming.directed.mark(end.link);
         let block = mark.block;
         let marked = aiming.wanted[block.get() as usize];
-        if is_wanted(mark.role, marked, block, kept, own)
+        if takes_link(mark.role, marked, block, kept, own)
             && leads_on(aiming.dir, mark.way, x, end.to)
         {
             let leg = Leg {
@@ -71,15 +71,12 @@ fn forget(costs: &mut [u32], links: &mut [LinkNo])
     links.fill(LinkNo::new(NO_LINK));
 }
 
-/// Whether ways over a link of this role and block are wanted, where its block is marked or not: it is, the link is not sole
-/// and, where they are kept to block `kept`, lies in it.
-fn is_wanted(role: Role, marked: bool, block: NodeNo, kept: NodeNo, own: bool) -> bool
-    ensures wanted { IsTrue result → role ≢ Sole }
-    ensures marked { IsTrue result → marked ≡ true }
-    ensures kept_to { IsTrue result → own ≡ true → block ≡ kept }
-    ensures all { role ≢ Sole → marked ≡ true → (own ≡ true → block ≡ kept) → IsTrue result }
+/// Whether ways are taken over a link of this role in this block: the link is not sole, the block is marked, and where ways
+/// are kept to block `kept`, it is that one.
+fn takes_link(role: Role, marked: bool, block: NodeNo, kept: NodeNo, own: bool) -> bool
+    ensures { IsTrue result ↔ ((role ≢ Sole) × (marked ≡ true) × (own ≡ true → block ≡ kept)) }
 {
-    marked && !matches!(role, Role::Sole) && (!own || block == kept)
+    marked && !is_sole(role) && (!own || block == kept)
 }
 
 /// Takes the ways over one end. None leads on from the block's head.

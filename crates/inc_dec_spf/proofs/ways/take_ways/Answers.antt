@@ -17,7 +17,7 @@ use Rattle.inc_dec_spf.proofs.Marks.{IsMarkedEnd, marked_block}
 use Rattle.inc_dec_spf.proofs.SideBySide.{most_kept}
 use Rattle.inc_dec_spf.proofs.WaysOn.{no_way_on, way_on}
 use Rattle.inc_dec_spf.proofs.ways.take_ways.Goals as goal
-use Rattle.inc_dec_spf.proofs.ways.take_ways.Goals.{then-is_wanted+then-leads_on, else-is_wanted, else-is_wanted-via-then-is_wanted+else-leads_on, else-is_wanted-via-else-is_wanted}
+use Rattle.inc_dec_spf.proofs.ways.take_ways.Goals.{then-takes_link+then-leads_on, else-takes_link, else-takes_link-via-then-takes_link+else-leads_on, else-takes_link-via-else-takes_link}
 
 -- the block of an end's link is named by a node
 block_within : (g : Topology) (d : DirectedLists) (root : ℕ) (w : Directions) (x place : ℕ) (ends : List End) (end : End) (mark : Mark) → IsTopology g
@@ -77,8 +77,8 @@ loop-end-preserved c =
     ∙ ap (λ (b : Bool). Some b) (ap (λ (k : ℕ). get_or wanted k false) (sym c.get.ensures.value) ∙ set) in
     let read_at : slice_get wanted mark.block ≡ Some true → get_or wanted c.get.result false ≡ true =
     λ set. ap (λ (k : ℕ). get_or wanted k false) c.get.ensures.value ∙ get_or_from_slice_get wanted mark.block true false set in
-    elim c.if-is_wanted.branch [
-      | then-is_wanted+then-leads_on t ↦ rw (t.costs-is, t.links-is) (record {
+    elim c.if-takes_link.branch [
+      | then-takes_link+then-leads_on t ↦ rw (t.costs-is, t.links-is) (record {
         one_each = (t.take_leg.ensures.taken c.requires.aiming.directed.directions c.requires.aiming.directed.are.says).one_cost_each ∙ c.loop-end.invariant.one_each;
         one_link_each = (t.take_leg.ensures.taken c.requires.aiming.directed.directions c.requires.aiming.directed.are.says).one_link_each
             ∙ c.loop-end.invariant.one_link_each;
@@ -86,10 +86,11 @@ loop-end-preserved c =
             (c.loop-end.invariant.one_link_each ∙ sym c.loop-end.invariant.one_each)
             (t.take_leg.ensures.taken c.requires.aiming.directed.directions c.requires.aiming.directed.are.says) c.loop-end.invariant.most;
         least = λ root bound w are low_bound ready.
+            let takes = c.takes_link.ensures.0 t.if-takes_link.true in
             let on =
             way_on g d root w c.args.aiming.now.wanted.now c.args.aiming.now.dir c.args.own c.args.x place kept ends end mark (record { kept = c.requires.aiming.kept; ordered = are.ordered }) are.says
-            marked (block_of_node g d w c.args.x c.place-kept.result are.says c.requires.node c.place-kept.ensures) (c.is_wanted.ensures.wanted t.if-is_wanted.true)
-            (marked_at (c.is_wanted.ensures.marked t.if-is_wanted.true)) (c.is_wanted.ensures.kept_to t.if-is_wanted.true) (sym t.leads_on.ensures ∙ t.if-leads_on.true) in
+            marked (block_of_node g d w c.args.x c.place-kept.result are.says c.requires.node c.place-kept.ensures) takes.0
+            (marked_at takes.1) takes.2 (sym t.leads_on.ensures ∙ t.if-leads_on.true) in
             let width = length c.args.costs.now in
             let inside = marked_block g d w c.args.x place ends end mark c.requires.aiming.kept are.says marked in
             all_taken_over g w c.args.aiming.now.wanted.now c.args.aiming.now.dir c.args.own c.args.aiming.now.aims.now width c.args.all.now bound c.args.x place ends end c.loop-end.costs c.loop-end.links
@@ -101,7 +102,7 @@ loop-end-preserved c =
             c.loop-end.links t.take_leg.new.costs t.take_leg.new.links) c.loop-end.invariant.one_each (t.take_leg.ensures.taken w are.says)))
             (c.loop-end.invariant.least root bound w are low_bound ready);
       })
-      | else-is_wanted t ↦ rw (t.costs-is, t.links-is) (record {
+      | else-takes_link t ↦ rw (t.costs-is, t.links-is) (record {
         one_each = c.loop-end.invariant.one_each;
         one_link_each = c.loop-end.invariant.one_link_each;
         most = c.loop-end.invariant.most;
@@ -109,10 +110,10 @@ loop-end-preserved c =
             all_passed g w c.args.aiming.now.wanted.now c.args.aiming.now.dir c.args.own c.args.aiming.now.aims.now (length c.args.costs.now) bound c.args.x place ends c.loop-end.costs c.loop-end.links
             (no_way_on g d root w c.args.aiming.now.wanted.now c.args.aiming.now.dir c.args.own c.args.x place kept ends end mark (record { kept = c.requires.aiming.kept; ordered = are.ordered }) are.says
             marked (block_of_node g d w c.args.x c.place-kept.result are.says c.requires.node c.place-kept.ensures)
-            (elim t.else-is_wanted.branch [
-              | else-is_wanted-via-then-is_wanted+else-leads_on t' ↦ inr (sym t'.leads_on.ensures ∙ t'.if-leads_on.false)
-              | else-is_wanted-via-else-is_wanted t' ↦
-                  inl (λ not_sole set kept. let wanted = c.is_wanted.ensures.all not_sole (read_at set) kept in let no = t'.if-is_wanted.false in (cc))
+            (elim t.else-takes_link.branch [
+              | else-takes_link-via-then-takes_link+else-leads_on t' ↦ inr (sym t'.leads_on.ensures ∙ t'.if-leads_on.false)
+              | else-takes_link-via-else-takes_link t' ↦
+                  inl (λ not_sole set kept. let takes = c.takes_link.ensures.1 (not_sole, read_at set, kept) in let no = t'.if-takes_link.false in (cc))
             ]))
             (c.loop-end.invariant.least root bound w are low_bound ready);
       })
