@@ -19,14 +19,12 @@ use Rattle.link_direction.specs.Directions.{Directions}
 use Rattle.inc_dec_spf.specs.declared.reach.Dir.{Dir}
 use Rattle.inc_dec_spf.specs.declared.reach.Dir.TheVariants.{Down, Up}
 use Rattle.inc_dec_spf.specs.declared.reach.Hop.{Hop}
-use Rattle.inc_dec_spf.specs.LeastPath.{BeginsPath, HasMoreLinks, IsHop, IsLeastPath, NotReached, Reached, HaveCommonBlockOfMore}
+use Rattle.inc_dec_spf.specs.LeastPath.{BeginsPath, HasMoreLinks, IsHop, IsLeastPath, NotReached, Reached, HaveCommonBlockOfMoreLinks}
 use Rattle.inc_dec_spf.specs.Path.{IsStep, LeadsOn, Path}
 use Rattle.inc_dec_spf.proofs.SameDirections.{AreAlike, alike_back, common_too}
 use Rattle.mrt_rows.specs.CertOf.{Tells, link_words, node_words}
 use Rattle.mrt_rows.specs.RowLines.{AreMembers, BeginsOver, HasLinksFor, HasOneLink, LineOf}
 use Rattle.mrt_rows.proofs.OrderedGraphs.{Within, within}
-use Rattle.mrt_rows.proofs.Carriers.{at_below}
-use Rattle.mrt_graph.specs.Related.{below_carrier}
 
 module _ (g : Topology) (kept : IsTopology g) (w v : Directions) (alike : AreAlike g w v) where
   leads_too : (dir : Dir) (s : ℕ) (end : End) → end.link < length g.links → LeadsOn w dir s end → LeadsOn v dir s end
@@ -67,7 +65,7 @@ module _ (g : Topology) (kept : IsTopology g) (w v : Directions) (alike : AreAli
     differ = more.differ;
   }
 
-  pub share_too : (s t k h : ℕ) → s < length g.ids → t < length g.ids → HaveCommonBlockOfMore g w s t k h → HaveCommonBlockOfMore g v s t k h
+  pub share_too : (s t k h : ℕ) → s < length g.ids → t < length g.ids → HaveCommonBlockOfMoreLinks g w s t k h → HaveCommonBlockOfMoreLinks g v s t k h
   share_too s t k h s_within t_within shares = record {
     two = shares.two;
     common = common_too g w v s t k h alike s_within t_within shares.common;
@@ -193,9 +191,8 @@ module _ (g : Topology) (kept : IsTopology g) (w v : Directions) (alike : AreAli
     line_too tags.Carried root rows row line = record {
       apart = λ k h common. line.apart k h (common_too g v w s t k h
           (alike_back g w v alike) s_within t_within common);
-      carried = subst (λ (x : ℕ). HasLinksFor rows x row)
-          (alike.heads (below_carrier root s t) (at_below (λ (x : ℕ). x < length g.ids) root s t (λ other. t_within) (λ at_root. s_within)))
-          line.carried;
+      to_other = λ other. subst (λ (x : ℕ). HasLinksFor rows x row) (alike.heads t t_within) (line.to_other other);
+      to_root = λ at_root. subst (λ (x : ℕ). HasLinksFor rows x row) (alike.heads s s_within) (line.to_root at_root);
     }
 
   -- and of whole files

@@ -5,7 +5,7 @@ use Rattle.std.proofs.lemmas.Option.{same_Some}
 use Rattle.link_direction.specs.CommonBlock.{FromHead, HaveCommonBlock, Peers, ToHead}
 use Rattle.link_direction.specs.Directions.{Directions}
 use Rattle.inc_dec_spf.specs.BlockAims.{IsAimOf}
-use Rattle.inc_dec_spf.specs.LeastPath.{HasMoreLinks, HaveCommonBlockOfMore}
+use Rattle.inc_dec_spf.specs.LeastPath.{HasMoreLinks, HaveCommonBlockOfMoreLinks}
 use Rattle.inc_dec_spf.proofs.OneHop.{one_block}
 use Rattle.mrt_rows.specs.Chain.{AreBelow, AreWayAims, AreWayMarks, AtHome, Beside, Climbs, IsRowAim, Under}
 use Rattle.mrt_rows.proofs.ChainAims.{aim_apart, climb_low, climb_on}
@@ -93,7 +93,7 @@ module _ (og : OrderedGraph) where
 
     -- over a block of more than one link s aims at its head, or the block is marked
     pub aim_marked : (marks : List Bool) → AreWayMarks og.g og.root w t marks → (s a k h : ℕ) → s < n → IsRowAim w below s a
-        → HaveCommonBlockOfMore og.g w s a k h → w.head s ≢ a → slice_get marks k ≡ Some true
+        → HaveCommonBlockOfMoreLinks og.g w s a k h → w.head s ≢ a → slice_get marks k ≡ Some true
     aim_marked marks way s a k h within (Under at) share away =
         let it = are.is_below s a at in
         let k_is =

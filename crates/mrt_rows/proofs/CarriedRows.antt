@@ -5,15 +5,15 @@ use Rattle.std.proofs.lemmas.Option.{same_Some}
 use Rattle.mrt_graph.specs.declared.cert.Row.{Row}
 use Rattle.mrt_graph.specs.declared.cert.Tag.{Tag}
 use Rattle.mrt_graph.specs.declared.cert.Tag.TheVariants as tags
-use Rattle.mrt_graph.specs.Related.{below_carrier}
+use Rattle.mrt_graph.specs.Tags.{carried}
 use Rattle.link_direction.specs.CommonBlock as two
 use Rattle.link_direction.specs.CommonBlock.{HaveCommonBlock}
 use Rattle.link_direction.specs.Directions.{Directions}
 use Rattle.mrt_rows.specs.RowLines.{CarriedLine, LineOf}
-use Rattle.mrt_rows.specs.RowsOf.{HasRow, carried}
+use Rattle.mrt_rows.specs.RowsOf.{HasRow}
 use Rattle.mrt_rows.proofs.OneRow.{near_lines, row_same}
 use Rattle.mrt_rows.proofs.OrderedGraphs.{OrderedGraph}
-use Rattle.mrt_rows.proofs.Carriers.{below_other, below_root}
+use Rattle.mrt_rows.proofs.Carriers.{by_other, by_root, carrier_by, links_carried}
 
 -- the row of s for t has the links of its row for node aim, with which s has a block in common: that is t; or it is so
 -- for the head of t; or t is the root, and it is the head of s
@@ -42,30 +42,30 @@ module _ (og : OrderedGraph) (s : ℕ) (s_within : s < length og.g.ids) (rows : 
 
   -- then it is that for the carrier, carried
   pub row_from : (t : ℕ) (other : Row) → t < length og.g.ids → s ≢ t → ((k h : ℕ) → HaveCommonBlock og.w s t k h → ⊥)
-      → rows (og.w.head (below_carrier og.root s t)) ≡ Some other → rows t ≡ carried (Some other)
+      → rows (carrier_by og.w og.root s t) ≡ Some other → rows t ≡ Some (carried other)
   row_from t other t_within apart none at =
       let it = has t t_within apart in
-      let links = (carried_line t it.row it.line none).carried in
+      let links = links_carried og.root og.w s rows t it.row (carried_line t it.row it.line none) in
       let same = same_Some links.other other (sym links.is ∙ at) in
       it.is ∙ ap (λ (r : Row). Some r)
-      (row_same it.row (record { blue = other.blue; red = other.red; tag = tags.Carried }) (links.blue ∙ ap (λ (r : Row). r.blue) same)
+      (row_same it.row (carried other) (links.blue ∙ ap (λ (r : Row). r.blue) same)
       (links.red ∙ ap (λ (r : Row). r.red) same) (carried_tag t it.row it.row.tag it.line none))
 
   -- and that for the aim, carried
   pub row_carried : (t aim : ℕ) (near : Row) → t < length og.g.ids → s ≢ t → aim ≢ t → IsCarriedTo og.root og.w s t aim → rows aim ≡ Some near
-      → rows t ≡ carried (Some near)
+      → rows t ≡ Some (carried near)
   row_carried t aim near t_within apart differ (Near k h common same) at = absurd (differ same)
   row_carried t aim near t_within apart differ (FromHead none other rest) at =
-      let by = ap (λ (x : ℕ). rows (og.w.head x)) (below_other og.root s t other) in
+      let by = ap rows (by_other og.w og.root s t other) in
       elim (cases_eq aim (og.w.head t)) [
         | inl same ↦ row_from t near t_within apart none (by ∙ ap rows (sym same) ∙ at)
         | inr further ↦
-            row_from t (record { blue = near.blue; red = near.red; tag = tags.Carried }) t_within apart none
+            row_from t (carried near) t_within apart none
             (by ∙ row_carried (og.w.head t) aim near (og.ordered.heads.head_within t t_within)
             (λ same. none (og.w.block t) s (two.FromHead refl (sym same) refl)) further rest at)
       ]
   row_carried t aim near t_within apart differ (FromOwnHead none at_root same) at =
-      row_from t near t_within apart none (ap (λ (x : ℕ). rows (og.w.head x)) (below_root og.root s t at_root) ∙ ap rows (sym same) ∙ at)
+      row_from t near t_within apart none (ap rows (by_root og.w og.root s t at_root ∙ sym same) ∙ at)
 
   -- and that for the aim is what the table says of two nodes with a common block
   pub row_near : (t k h : ℕ) (row : Row) → t < length og.g.ids → (apart : s ≢ t) → HaveCommonBlock og.w s t k h

@@ -21,8 +21,7 @@ use Rattle.mrt_rows.proofs.AllRows.{row_is}
 use Rattle.mrt_rows.proofs.OrderedGraphs.{OrderedGraph, within}
 use Rattle.mrt_rows.proofs.OtherLines.{begins_in, home_in}
 use Rattle.mrt_graph.proofs.RowPlaces.{placed}
-use Rattle.mrt_rows.proofs.Carriers.{at_below}
-use Rattle.mrt_graph.specs.Related.{below_carrier}
+use Rattle.mrt_rows.proofs.Carriers.{at_carrier, carrier_by, links_carried}
 
 -- what holds at each place holds of all
 pub all_by_places : {X : Type 0} (P : X → Type 0) (xs : List X) → ((i : ℕ) (x : X) → slice_get xs i ≡ Some x → P x)
@@ -83,14 +82,15 @@ module _ (og : OrderedGraph) where
         }
 
     range_at : (t : ℕ) → t < n → s ≢ t
-        → (((k h : ℕ) → ¬ HaveCommonBlock og.w s t k h) → InRange (og.w.head (below_carrier og.root s t))) → InRange t
+        → (((k h : ℕ) → ¬ HaveCommonBlock og.w s t k h) → InRange (carrier_by og.w og.root s t)) → InRange t
     range_at t t_within two far row is =
         let it = has t t_within two in
         let same : it.row ≡ row = same_Some it.row row (sym it.is ∙ is) in
         subst (λ (r : Row). IsCertRow (length og.g.links) r) same
         (elim (near_range it.row.tag s t rows it.row s_within t_within it.line) [
           | inl near ↦ near
-          | inr line ↦ carried_range (og.w.head (below_carrier og.root s t)) it.row (far line.apart) line.carried
+          | inr line ↦
+              carried_range (carrier_by og.w og.root s t) it.row (far line.apart) (links_carried og.root og.w s rows t it.row line)
         ])
 
     head_range : s ≢ og.root → InRange (og.w.head s)
@@ -103,7 +103,7 @@ module _ (og : OrderedGraph) where
     range_by : (left t : ℕ) → t < n → s ≢ t → og.w.order t ≤ left → InRange t
     range_by zero t t_within two few = absurd (omega (arith, og.ordered.orders.from_one t t_within, few))
     range_by (suc left) t t_within two few =
-        range_at t t_within two (λ apart. at_below (λ (x : ℕ). InRange (og.w.head x)) og.root s t
+        range_at t t_within two (λ apart. at_carrier InRange og.w og.root s t
         (λ other.
         let lower = og.ordered.heads.lower t t_within other in
         range_by left (og.w.head t) (og.ordered.heads.head_within t t_within)

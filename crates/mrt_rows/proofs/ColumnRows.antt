@@ -1,11 +1,11 @@
 -- The rows of a column.
 use Rattle.std.proofs.Common.{◌≡◌, ◌≢◌, ◌∙◌, ◌<◌, ℕ, List, Option, Some, None, length, refl, sym, ap}
 use Rattle.mrt_graph.specs.declared.cert.Row.{Row}
-use Rattle.mrt_graph.specs.declared.cert.Tag.TheVariants as tags
+use Rattle.mrt_graph.specs.Tags.{carried}
 use Rattle.mrt_rows.specs.NearOf.{Apart, InCommon, IsNearRow}
 use Rattle.mrt_rows.specs.Chain.{AreBelow, IsRowAim}
 use Rattle.mrt_rows.specs.ColumnOf.{IsRowIn}
-use Rattle.mrt_rows.specs.RowsOf.{HasRow, carried}
+use Rattle.mrt_rows.specs.RowsOf.{HasRow}
 use Rattle.mrt_rows.proofs.CarriedRows.{row_carried, row_near}
 use Rattle.mrt_rows.proofs.ChainAims.{aim_near, aim_within, carried_to}
 use Rattle.mrt_rows.proofs.OrderedGraphs.{OrderedGraph}
@@ -24,9 +24,9 @@ module _ (og : OrderedGraph) (t : ℕ) (t_within : t < length og.g.ids) (below :
       record { row = row; is = refl; each = λ rows has. ap rows (sym same) ∙ near_is row near rows has }
 
   -- else it is carried
-  pub row_from_aim : (row : Row) → aim ≢ t → IsNearRow og.g og.root og.w s aim (Some row) → IsRowIn og.g og.root og.w s t (carried (Some row))
+  pub row_from_aim : (row : Row) → aim ≢ t → IsNearRow og.g og.root og.w s aim (Some row) → IsRowIn og.g og.root og.w s t (Some (carried row))
   row_from_aim row differ near = record {
-    row = record { blue = row.blue; red = row.red; tag = tags.Carried };
+    row = carried row;
     is = refl;
     each = λ rows has.
         row_carried og s s_within rows has t aim row t_within two differ (carried_to og t t_within below are s aim s_within two it) (near_is row near rows has);

@@ -1,28 +1,30 @@
 -- The rows of a source for all other nodes, put in the order of these.
 use Rattle.std.proofs.Common.{◌≡◌, ◌≢◌, ◌∙◌, ◌<◌, ◌≤◌, ◌+◌, ◌-◌, ℕ, List, Option, Some, None, get_or, length, set, slice_get, unwrap_or, refl, sym, ap, subst, inl, inr, arith}
 use Rattle.std.specs.List.{remove}
+use Rattle.std.specs.Option.{option_map}
 use Rattle.std.proofs.lemmas.Bool.{cases_eq, cases_lt, le-ltb, lt-ltb, ne_eqb}
 use Rattle.std.proofs.lemmas.List.Edits.{get_or-remove_above, get_or-remove_below, length-remove}
 use Rattle.std.proofs.lemmas.Option.{same_Some, slice_get-get_or, slice_get_within}
 use Rattle.mrt_graph.specs.declared.cert.Row.{Row}
 use Rattle.mrt_graph.specs.declared.cert.Tag.TheVariants as tags
-use Rattle.mrt_graph.specs.Related.{below_carrier}
+use Rattle.mrt_graph.specs.Tags.{carried}
 use Rattle.mrt_graph.proofs.ListPlaces.{set_elsewhere, set_there}
-use Rattle.link_direction.specs.CommonBlock.{FromHead, HaveCommonBlock}
+use Rattle.link_direction.specs.CommonBlock.{FromHead, HaveCommonBlock, ToHead}
 use Rattle.inc_dec_spf.specs.declared.reach.Dir.TheVariants.{Up}
 use Rattle.inc_dec_spf.specs.Turns.{AreTurns}
 use Rattle.mrt_rows.specs.ColumnOf.{IsRowIn}
 use Rattle.mrt_rows.specs.NearOf.{Apart, InCommon, IsNearRow}
-use Rattle.mrt_rows.specs.RowsOf.{AreRowsOf, carried, rows_for}
+use Rattle.mrt_rows.specs.RowsOf.{AreRowsOf, rows_for}
 use Rattle.mrt_rows.proofs.CarriedRows.{row_from, row_near}
-use Rattle.mrt_rows.proofs.Carriers.{below_other, below_root}
+use Rattle.mrt_rows.proofs.Carriers.{by_other, by_root, carrier_by}
 use Rattle.mrt_rows.proofs.OrderedGraphs.{OrderedGraph}
 use Rattle.mrt_rows.proofs.WholeCert.{each_has, each_row, line_moved}
 
 module _ (og : OrderedGraph) (s : ℕ) (s_within : s < length og.g.ids) where
-  -- the nodes that have had their turns have their rows
+  -- the nodes that have had their turns have their rows, and so has the head of the source
   pub record IsFilling (nodes : List ℕ) (count : ℕ) (rows : List Row) : Type 0 where
     pub over : (j v : ℕ) → j < count → slice_get nodes j ≡ Some v → s ≢ v → IsRowIn og.g og.root og.w s v (slice_get rows v)
+    pub home : s ≢ og.root → IsRowIn og.g og.root og.w s (og.w.head s) (slice_get rows (og.w.head s))
 
   -- a near row is the row
   near_in : (t : ℕ) (row : Row) → t < length og.g.ids → s ≢ t → IsNearRow og.g og.root og.w s t (Some row)
@@ -33,16 +35,25 @@ module _ (og : OrderedGraph) (s : ℕ) (s_within : s < length og.g.ids) where
     each = λ rows has. row_near og s s_within rows has t k h row t_within two common (own.line rows);
   }
 
-  home_in : (home : Row) → s ≢ og.root → IsNearRow og.g og.root og.w s (og.w.head s) (Some home)
-      → IsRowIn og.g og.root og.w s (og.w.head s) (Some home)
-  home_in home other near =
+  home_in : (o : Option Row) → s ≢ og.root → IsNearRow og.g og.root og.w s (og.w.head s) o
+      → IsRowIn og.g og.root og.w s (og.w.head s) o
+  home_in (Some home) other near =
       near_in (og.w.head s) home (og.ordered.heads.head_within s s_within)
       (λ same. omega (arith, og.ordered.heads.lower s s_within other, ap og.w.order same)) near
+  home_in None other (Apart apart) = absurd (apart (og.w.block s) (og.w.head s) (ToHead refl refl refl))
+
+  -- none has had its turn
+  pub filling_home : (nodes : List ℕ) (rows : List Row)
+      → (s ≢ og.root → IsNearRow og.g og.root og.w s (og.w.head s) (slice_get rows (og.w.head s))) → IsFilling nodes 0 rows
+  filling_home nodes rows near = record {
+    over = λ j v below at two. absurd (omega (arith, below));
+    home = λ other. home_in (slice_get rows (og.w.head s)) other (near other);
+  }
 
   -- and where there is none, that for the carrier, carried
   row_or : (t : ℕ) (o near : Option Row) (from : Row) → t < length og.g.ids → s ≢ t → IsNearRow og.g og.root og.w s t near
-      → Some from ≡ carried o
-      → (((k h : ℕ) → ¬ HaveCommonBlock og.w s t k h) → IsRowIn og.g og.root og.w s (og.w.head (below_carrier og.root s t)) o)
+      → Some from ≡ option_map carried o
+      → (((k h : ℕ) → ¬ HaveCommonBlock og.w s t k h) → IsRowIn og.g og.root og.w s (carrier_by og.w og.root s t) o)
       → IsRowIn og.g og.root og.w s t (Some (unwrap_or near from))
   row_or t o (Some row) from t_within two near made far = near_in t row t_within two near
   row_or t o None from t_within two (Apart apart) made far =
@@ -51,7 +62,7 @@ module _ (og : OrderedGraph) (s : ℕ) (s_within : s < length og.g.ids) where
         row = from;
         is = refl;
         each = λ rows has.
-            row_from og s s_within rows has t it.row t_within two apart (it.each rows has) ∙ ap carried (sym it.is) ∙ sym made;
+            row_from og s s_within rows has t it.row t_within two apart (it.each rows has) ∙ ap (option_map carried) (sym it.is) ∙ sym made;
       }
 
   module _ (nodes : List ℕ) (turns : AreTurns og.g og.w Up nodes) (i v : ℕ) (at : slice_get nodes i ≡ Some v) (rows : List Row)
@@ -63,23 +74,23 @@ module _ (og : OrderedGraph) (s : ℕ) (s_within : s < length og.g.ids) where
         | inl here ↦ absurd (two (same ∙ same_Some v u (sym at ∙ ap (slice_get nodes) (sym here) ∙ at_j)))
         | inr other ↦ filling.over j u (omega (arith, below, other)) at_j two
       ];
+      home = filling.home;
     }
 
     -- the row for v
-    module _ (two : s ≢ v) (home from : Row) (near : Option Row) (is : IsNearRow og.g og.root og.w s v near)
-        (is_home : s ≢ og.root → IsNearRow og.g og.root og.w s (og.w.head s) (Some home))
-        (at_root : v ≡ og.root → Some from ≡ carried (Some home))
-        (elsewhere : v ≢ og.root → Some from ≡ carried (slice_get rows (og.w.head v))) where
+    module _ (two : s ≢ v) (from : Row) (near : Option Row) (is : IsNearRow og.g og.root og.w s v near)
+        (to_other : v ≢ og.root → Some from ≡ option_map carried (slice_get rows (og.w.head v)))
+        (to_root : v ≡ og.root → Some from ≡ option_map carried (slice_get rows (og.w.head s))) where
       row_for : IsRowIn og.g og.root og.w s v (Some (unwrap_or near from))
       row_for = elim (cases_eq v og.root) [
         | inl same ↦
-            row_or v (Some home) near from v_within two is (at_root same)
-            (λ apart. subst (λ (x : ℕ). IsRowIn og.g og.root og.w s (og.w.head x) (Some home)) (sym (below_root og.root s v same))
-            (let other : s ≢ og.root = λ s_root. two (s_root ∙ sym same) in home_in home other (is_home other)))
+            row_or v (slice_get rows (og.w.head s)) near from v_within two is (to_root same)
+            (λ apart. subst (λ (x : ℕ). IsRowIn og.g og.root og.w s x (slice_get rows (og.w.head s))) (sym (by_root og.w og.root s v same))
+            (filling.home (λ s_root. two (s_root ∙ sym same))))
         | inr other ↦
-            row_or v (slice_get rows (og.w.head v)) near from v_within two is (elsewhere other)
-            (λ apart. subst (λ (x : ℕ). IsRowIn og.g og.root og.w s (og.w.head x) (slice_get rows (og.w.head v)))
-            (sym (below_other og.root s v other)) (head_in other (λ same. apart (og.w.block v) s (FromHead refl (sym same) refl))))
+            row_or v (slice_get rows (og.w.head v)) near from v_within two is (to_other other)
+            (λ apart. subst (λ (x : ℕ). IsRowIn og.g og.root og.w s x (slice_get rows (og.w.head v)))
+            (sym (by_other og.w og.root s v other)) (head_in other (λ same. apart (og.w.block v) s (FromHead refl (sym same) refl))))
       ]
         where
           v_within : v < length og.g.ids
@@ -92,17 +103,29 @@ module _ (og : OrderedGraph) (s : ℕ) (s_within : s < length og.g.ids) where
               (omega (arith, turns.by_turn i v at, og.ordered.heads.lower v v_within other, og.ordered.orders.from_one (og.w.head v) head_within))
               (turns.of_each (og.w.head v) head_within) apart
 
+      put_there : length rows ≡ length og.g.ids → IsRowIn og.g og.root og.w s v (slice_get (set rows v (unwrap_or near from)) v)
+      put_there one_each =
+          subst (λ (o : Option Row). IsRowIn og.g og.root og.w s v o)
+          (sym (set_there rows v (unwrap_or near from) (omega (arith, turns.within i v at, one_each)))) row_for
+
       pub filling_on : length rows ≡ length og.g.ids → IsFilling nodes (i + 1) (set rows v (unwrap_or near from))
       filling_on one_each = record {
         over = λ j u below at_j apart. elim (cases_eq u v) [
           | inl same ↦
               subst (λ (x : ℕ). IsRowIn og.g og.root og.w s x (slice_get (set rows v (unwrap_or near from)) x)) (sym same)
-              (subst (λ (o : Option Row). IsRowIn og.g og.root og.w s v o)
-              (sym (set_there rows v (unwrap_or near from) (omega (arith, turns.within i v at, one_each)))) row_for)
+              (put_there one_each)
           | inr other ↦
               let later : j ≢ i = λ here. other (same_Some u v (sym at_j ∙ ap (slice_get nodes) here ∙ at)) in
               subst (λ (o : Option Row). IsRowIn og.g og.root og.w s u o) (sym (set_elsewhere rows v u (unwrap_or near from) other))
               (filling.over j u (omega (arith, below, later)) at_j apart)
+        ];
+        home = λ other. elim (cases_eq (og.w.head s) v) [
+          | inl same ↦
+              subst (λ (x : ℕ). IsRowIn og.g og.root og.w s x (slice_get (set rows v (unwrap_or near from)) x)) (sym same)
+              (put_there one_each)
+          | inr apart ↦
+              subst (λ (o : Option Row). IsRowIn og.g og.root og.w s (og.w.head s) o)
+              (sym (set_elsewhere rows v (og.w.head s) (unwrap_or near from) apart)) (filling.home other)
         ];
       }
 

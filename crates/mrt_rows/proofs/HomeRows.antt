@@ -7,7 +7,7 @@ use Rattle.inc_dec_spf.specs.FirstLink.{no_link}
 use Rattle.inc_dec_spf.specs.LeastPath.{HasMoreLinks}
 use Rattle.mrt_rows.specs.declared.members.Home.{Home}
 use Rattle.mrt_rows.specs.NearOf.{IsNearRow, IsSoleOf}
-use Rattle.mrt_rows.specs.Put.{IsHome, AreInCommonBlockOfMore}
+use Rattle.mrt_rows.specs.Put.{IsHome, AreInCommonBlockOfMoreLinks}
 use Rattle.mrt_rows.proofs.OrderedGraphs.{OrderedGraph, one_common}
 use Rattle.mrt_rows.proofs.RowOver.{over_head, sole_of}
 
@@ -15,7 +15,7 @@ module _ (og : OrderedGraph) (s : ℕ) (within : s < length og.g.ids) (other : s
   apart : s ≢ og.w.head s
   apart same = omega (arith, og.ordered.heads.lower s within other, ap og.w.order same)
 
-  more : AreInCommonBlockOfMore og.g og.w s (og.w.head s) → HasMoreLinks og.g og.w (og.w.block s)
+  more : AreInCommonBlockOfMoreLinks og.g og.w s (og.w.head s) → HasMoreLinks og.g og.w (og.w.block s)
   more shares =
       let one = one_common og s (og.w.head s) shares.block shares.head (og.w.block s) (og.w.head s) within (og.ordered.heads.head_within s within) apart
       shares.share.common (ToHead refl refl refl) in

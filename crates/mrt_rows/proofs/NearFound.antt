@@ -15,7 +15,7 @@ use Rattle.inc_dec_spf.specs.declared.reach.Dir.TheVariants.{Down, Up}
 use Rattle.inc_dec_spf.specs.LeastPath.{HasMoreLinks}
 use Rattle.mrt_rows.specs.declared.members.Home.{Home}
 use Rattle.mrt_rows.specs.NearOf.{Apart, AreLinked, InCommon, IsNearRow, IsPlaceOf, near_first, near_in}
-use Rattle.mrt_rows.specs.Put.{IsHome, AreInCommonBlockOfMore}
+use Rattle.mrt_rows.specs.Put.{IsHome, AreInCommonBlockOfMoreLinks}
 use Rattle.mrt_rows.specs.RowLines.{LineOf}
 use Rattle.mrt_rows.specs.RowsOf.{HasRow}
 use Rattle.mrt_rows.proofs.CarriedRows.{carried_tag, row_near}
@@ -110,7 +110,7 @@ home_linked og s up down home s_within ups downs at_up at_down = record {
   down = λ more. downs.each (og.w.head s) home.down at_down (shares more);
 }
   where
-    shares : HasMoreLinks og.g og.w (og.w.block s) → AreInCommonBlockOfMore og.g og.w s (og.w.head s)
+    shares : HasMoreLinks og.g og.w (og.w.block s) → AreInCommonBlockOfMoreLinks og.g og.w s (og.w.head s)
     shares more = record {
       block = og.w.block s;
       head = og.w.head s;

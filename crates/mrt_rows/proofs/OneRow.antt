@@ -7,15 +7,14 @@ use Rattle.mrt_graph.specs.declared.cert.Tag.TheVariants as tags
 use Rattle.link_direction.specs.CommonBlock.{FromHead, HaveCommonBlock, Peers, ToHead}
 use Rattle.inc_dec_spf.specs.declared.reach.Dir.{Dir}
 use Rattle.inc_dec_spf.specs.declared.reach.Dir.TheVariants.{Down, Up}
-use Rattle.inc_dec_spf.specs.LeastPath.{HaveCommonBlockOfMore}
+use Rattle.inc_dec_spf.specs.LeastPath.{HaveCommonBlockOfMoreLinks}
 use Rattle.mrt_rows.specs.RowLines.{AreMembers, BeginsOver, CarriedLine, HasLinksFor, HasOneLink, LineOf}
 use Rattle.mrt_rows.specs.RowsOf.{HasRow}
 use Rattle.mrt_rows.proofs.LinesHold.{head_of_source, head_of_target}
 use Rattle.mrt_rows.proofs.OneHop.{one_link, way_or_none}
 use Rattle.mrt_rows.proofs.Sharing.{none_of_share}
 use Rattle.mrt_rows.proofs.OrderedGraphs.{OrderedGraph, one_common, peers_not_head}
-use Rattle.mrt_rows.proofs.Carriers.{at_below}
-use Rattle.mrt_graph.specs.Related.{below_carrier}
+use Rattle.mrt_rows.proofs.Carriers.{at_carrier, carrier_by, links_carried}
 
 pub row_same : (a b : Row) → a.blue ≡ b.blue → a.red ≡ b.red → a.tag ≡ b.tag → a ≡ b
 row_same a b blue red tag = λ i. record { blue = blue i; red = red i; tag = tag i }
@@ -24,20 +23,20 @@ module _ (og : OrderedGraph) (s t : ℕ) (s_within : s < length og.g.ids) (t_wit
     (two : s ≢ t) where
   -- no two lines are met at once
   one_or_more : (k h j i link : ℕ) → HaveCommonBlock og.w s t k h → HasOneLink og.g og.w k link
-      → HaveCommonBlockOfMore og.g og.w s t j i → ⊥
+      → HaveCommonBlockOfMoreLinks og.g og.w s t j i → ⊥
   one_or_more k h j i link common one shares = none_of_share og s t s_within t_within two j i shares k h link common one
 
-  head_or_top : (k h j i : ℕ) → HaveCommonBlockOfMore og.g og.w s t k h → t ≡ h → HaveCommonBlockOfMore og.g og.w s t j i → s ≡ i → ⊥
+  head_or_top : (k h j i : ℕ) → HaveCommonBlockOfMoreLinks og.g og.w s t k h → t ≡ h → HaveCommonBlockOfMoreLinks og.g og.w s t j i → s ≡ i → ⊥
   head_or_top k h j i one t_head other s_head =
       let same = one_common og s t k h j i s_within t_within two one.common other.common in
       two (s_head ∙ sym same.1 ∙ sym t_head)
 
-  head_or_member : (k h j i : ℕ) → HaveCommonBlockOfMore og.g og.w s t k h → t ≡ h → AreMembers og.g og.w s t j i → ⊥
+  head_or_member : (k h j i : ℕ) → HaveCommonBlockOfMoreLinks og.g og.w s t k h → t ≡ h → AreMembers og.g og.w s t j i → ⊥
   head_or_member k h j i shares t_head are =
       let head = head_of_source og s t k h s_within t_within two shares.common t_head in
       peers_not_head og s t s_within t_within two (are.source ∙ sym are.target) head.0
 
-  top_or_member : (k h j i : ℕ) → HaveCommonBlockOfMore og.g og.w s t k h → s ≡ h → AreMembers og.g og.w s t j i → ⊥
+  top_or_member : (k h j i : ℕ) → HaveCommonBlockOfMoreLinks og.g og.w s t k h → s ≡ h → AreMembers og.g og.w s t j i → ⊥
   top_or_member k h j i shares s_head are =
       let head = head_of_target og s t k h s_within t_within two shares.common s_head in
       peers_not_head og t s t_within s_within (λ same. two (sym same)) (are.target ∙ sym are.source) head.0
@@ -172,10 +171,10 @@ module _ (og : OrderedGraph) (s : ℕ) (s_within : s < length og.g.ids) (rows ot
   n = length og.g.ids
 
   abbrev Alike : ℕ → Type 0
-  Alike x = rows (og.w.head x) ≡ others (og.w.head x)
+  Alike x = rows x ≡ others x
 
   same_at : (t : ℕ) → t < n → s ≢ t
-      → (((k h : ℕ) → ¬ HaveCommonBlock og.w s t k h) → Alike (below_carrier og.root s t)) → rows t ≡ others t
+      → (((k h : ℕ) → ¬ HaveCommonBlock og.w s t k h) → Alike (carrier_by og.w og.root s t)) → rows t ≡ others t
   same_at t t_within two far =
       let a = has t t_within two in
       let b = other_has t t_within two in
@@ -192,8 +191,9 @@ module _ (og : OrderedGraph) (s : ℕ) (s_within : s < length og.g.ids) (rows ot
           )
 
       from : (a b : Row) → CarriedLine og.root og.w s rows t a → CarriedLine og.root og.w s others t b
-          → Alike (below_carrier og.root s t) → (a.blue ≡ b.blue) × (a.red ≡ b.red)
-      from a b x y far = linked (og.w.head (below_carrier og.root s t)) a b x.carried y.carried far
+          → Alike (carrier_by og.w og.root s t) → (a.blue ≡ b.blue) × (a.red ≡ b.red)
+      from a b x y far =
+          linked (carrier_by og.w og.root s t) a b (links_carried og.root og.w s rows t a x) (links_carried og.root og.w s others t b y) far
 
   -- the row for the head of s is a near one
   same_for_head : s ≢ og.root → rows (og.w.head s) ≡ others (og.w.head s)
@@ -206,7 +206,7 @@ module _ (og : OrderedGraph) (s : ℕ) (s_within : s < length og.g.ids) (rows ot
   same_by : (left t : ℕ) → t < n → s ≢ t → og.w.order t ≤ left → rows t ≡ others t
   same_by zero t t_within two few = absurd (omega (arith, og.ordered.orders.from_one t t_within, few))
   same_by (suc left) t t_within two few =
-      same_at t t_within two (λ apart. at_below Alike og.root s t
+      same_at t t_within two (λ apart. at_carrier Alike og.w og.root s t
       (λ other.
       let lower = og.ordered.heads.lower t t_within other in
       same_by left (og.w.head t) (og.ordered.heads.head_within t t_within)

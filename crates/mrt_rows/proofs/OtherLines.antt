@@ -1,6 +1,7 @@
 -- Rows of blocks with one link, carried rows, and the blocks that the links of rows lie in.
 use Rattle.std.proofs.Common.{◌≡◌, ◌≢◌, ◌∙◌, ◌<◌, ℕ, true, false, List, [], ◌∷◌, Option, Some, None, length, slice_get, refl, sym, ap, subst, inl, inr}
 use Rattle.std.proofs.lemmas.Bool.{and_from, eq-eqb, or_left, or_right}
+use Rattle.std.proofs.lemmas.Bool.Decides.{eqb_tells}
 use Rattle.std.specs.Option.{option_and_then, option_map, option_map_or}
 use Rattle.mrt_graph.specs.declared.cert.CertFile.{CertFile}
 use Rattle.mrt_graph.specs.declared.cert.Role.TheVariants as roles
@@ -11,8 +12,8 @@ use Rattle.mrt_graph.specs.declared.link.End.{End}
 use Rattle.mrt_graph.specs.Certificate.{Certificate, row_of}
 use Rattle.mrt_graph.specs.CertWords.{block_of, head_of, link_block}
 use Rattle.mrt_graph.specs.Leads.{leads}
-use Rattle.mrt_graph.specs.Related.{are_unrelated, below_carrier, is_common_block}
-use Rattle.mrt_graph.specs.RowRules.{carried_row, carrier, lies_in_block, same_links}
+use Rattle.mrt_graph.specs.Related.{are_unrelated, carrier, is_common_block}
+use Rattle.mrt_graph.specs.RowRules.{carried_row, lies_in_block, same_links}
 use Rattle.mrt_graph.proofs.Hops.{lead_back}
 use Rattle.link_direction.specs.CommonBlock.{FromHead, HaveCommonBlock, Peers, ToHead}
 use Rattle.link_direction.specs.OrderedGadag.{HasSoleLink}
@@ -30,7 +31,7 @@ use Rattle.mrt_rows.proofs.Ways.{begun, inside_itself}
 use Rattle.mrt_rows.proofs.WaysBegun.{members, over_leads, way_over}
 use Rattle.mrt_graph.specs.declared.cert.CertNode.{CertNode}
 use Rattle.mrt_graph.proofs.Relations.{unrelated_holds}
-use Rattle.mrt_rows.proofs.Carriers.{at_below}
+use Rattle.mrt_rows.proofs.Carriers.{carrier_by, links_carried}
 use Rattle.std.proofs.lemmas.Option.{same_Some}
 
 -- a node of which something is known is there
@@ -220,12 +221,16 @@ module _ (og : OrderedGraph) (file : CertFile) (tells : Tells og.g og.root og.w 
     same_row_links u has o is =
         rw (is, has.is) (and_from _ _ (eq-eqb row.blue has.other.blue has.blue) (eq-eqb row.red has.other.red has.red))
 
+    carrier_is : carrier c og.root s t ≡ Some (carrier_by og.w og.root s t)
+    carrier_is = elim (eqb_tells t og.root) [
+      | inl same ↦ rw same.0 (head_is og file tells s s_within)
+      | inr other ↦ rw other.0 (head_is og file tells t t_within)
+    ]
+
     pub carried_passes : CarriedLine og.root og.w s (row_of c s) t row → carried_row c og.root s t row ≡ true
     carried_passes line =
-        let below = below_carrier og.root s t in
-        let within : below < n = at_below (λ (x : ℕ). x < n) og.root s t (λ other. t_within) (λ at_root. s_within) in
         and_from _ _ (unrelated line.apart)
-        (same_row_links (og.w.head below) line.carried (carrier c og.root s t) (head_is og file tells below within))
+        (same_row_links (carrier_by og.w og.root s t) (links_carried og.root og.w s (row_of c s) t row line) (carrier c og.root s t) carrier_is)
 
     -- the blocks of both links
     link_in : (link : ℕ) → InCommon og s t link → is_common_block c s t (link_block c link) ≡ true

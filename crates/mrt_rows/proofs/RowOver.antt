@@ -8,7 +8,7 @@ use Rattle.inc_dec_spf.specs.declared.reach.Dir.TheVariants.{Down, Up}
 use Rattle.inc_dec_spf.specs.FirstLink.{IsFirstLink, no_link}
 use Rattle.mrt_rows.specs.declared.members.Home.{Home}
 use Rattle.mrt_rows.specs.NearOf.{InCommon, IsNearRow, IsSoleOf}
-use Rattle.mrt_rows.specs.Put.{IsHome, IsMemberRow, IsOwnRow, NoneOfOneLink, AreInCommonBlockOfMore}
+use Rattle.mrt_rows.specs.Put.{IsHome, IsMemberRow, IsOwnRow, NoneOfOneLink, AreInCommonBlockOfMoreLinks}
 use Rattle.mrt_rows.specs.RowLines.{HasOneLink}
 use Rattle.mrt_rows.proofs.LinesHold.{has_head}
 use Rattle.mrt_rows.proofs.MemberRows.{head_row, top_row}
@@ -22,14 +22,14 @@ abbrev pub sole_of : ℕ → Row
 sole_of e = record { blue = e; red = e; tag = tags.Sole }
 
 module _ (og : OrderedGraph) (s t : ℕ) (s_within : s < length og.g.ids) (t_within : t < length og.g.ids) (two : s ≢ t) (up down : ℕ)
-    (is_up : AreInCommonBlockOfMore og.g og.w s t → IsFirstLink og.g og.w Up s t up)
-    (is_down : AreInCommonBlockOfMore og.g og.w s t → IsFirstLink og.g og.w Down s t down) where
+    (is_up : AreInCommonBlockOfMoreLinks og.g og.w s t → IsFirstLink og.g og.w Up s t up)
+    (is_down : AreInCommonBlockOfMoreLinks og.g og.w s t → IsFirstLink og.g og.w Down s t down) where
   pub over_peers : (home : Home) (row : Row) → og.w.block s ≡ og.w.block t → IsHome og.g og.w s home → IsMemberRow up down home row
       → IsNearRow og.g og.root og.w s t (Some row)
   over_peers home row same is_home is =
       let more = none_of_peers og s t s_within t_within two same in
       let members = are_members og s t s_within t_within two more same in
-      let shares : AreInCommonBlockOfMore og.g og.w s t = record { block = og.w.block s; head = og.w.head s; share = members.share } in
+      let shares : AreInCommonBlockOfMoreLinks og.g og.w s t = record { block = og.w.block s; head = og.w.head s; share = members.share } in
       InCommon row (og.w.block s) (og.w.head s) (Peers refl (sym same) refl)
       (is.own og.g og.root s t og.w og.kept og.ordered s_within t_within two same (is_up shares) (is_down shares) is_home)
 
@@ -42,7 +42,7 @@ module _ (og : OrderedGraph) (s t : ℕ) (s_within : s < length og.g.ids) (t_wit
   -- over a sole link, or by the first links, where m is the one that lies in the block
   over_end : (m h sole : ℕ) (row other : Row) → m < length og.g.ids → m ≢ og.root → HaveCommonBlock og.w s t (og.w.block m) h
       → IsSoleOf og.g og.w m sole → (sole ≢ no_link → row ≡ sole_of sole) → (sole ≡ no_link → row ≡ other)
-      → (NoneOfOneLink og.g og.w s t → AreInCommonBlockOfMore og.g og.w s t → IsOwnRow og.g og.root og.w s t other)
+      → (NoneOfOneLink og.g og.w s t → AreInCommonBlockOfMoreLinks og.g og.w s t → IsOwnRow og.g og.root og.w s t other)
       → IsNearRow og.g og.root og.w s t (Some row)
   over_end m h sole row other within not_root common is by_sole by_links own =
       InCommon row (og.w.block m) h common (elim (cases_eq sole no_link) [

@@ -5,7 +5,7 @@ use Rattle.mrt_graph.specs.declared.cert.Tag.{Tag}
 use Rattle.mrt_graph.specs.declared.cert.Tag.TheVariants as tags
 use Rattle.inc_dec_spf.specs.declared.reach.Dir.{Dir}
 use Rattle.inc_dec_spf.specs.declared.reach.Dir.TheVariants.{Down, Up}
-use Rattle.inc_dec_spf.specs.LeastPath.{HaveCommonBlockOfMore}
+use Rattle.inc_dec_spf.specs.LeastPath.{HaveCommonBlockOfMoreLinks}
 use Rattle.mrt_rows.specs.RowLines.{LineOf, SoleLine}
 use Rattle.mrt_rows.proofs.OrderedGraphs.{OrderedGraph, one_common}
 use Rattle.mrt_rows.proofs.Sharing.{none_of_share}
@@ -23,7 +23,7 @@ module _ (og : OrderedGraph) (m : ℕ) (ring : Ring og m) (s t : ℕ) (source : 
   sharing : Sharing og m s t
   sharing = peers og m s t ring source target two
 
-  shared : HaveCommonBlockOfMore og.g og.w s t (og.w.block m) (og.w.head m)
+  shared : HaveCommonBlockOfMoreLinks og.g og.w s t (og.w.block m) (og.w.head m)
   shared = share og m s t ring sharing
 
   way_of : (dir : Dir) (link : ℕ) → WayOver og m dir s t link → Way og m dir s t
@@ -33,7 +33,7 @@ module _ (og : OrderedGraph) (m : ℕ) (ring : Ring og m) (s t : ℕ) (source : 
   not_sole row line =
       none_of_share og s t source.within target.within two (og.w.block m) (og.w.head m) shared line.block line.head row.blue line.common line.one_link
 
-  same_head : (k h : ℕ) → HaveCommonBlockOfMore og.g og.w s t k h → h ≡ og.w.head m
+  same_head : (k h : ℕ) → HaveCommonBlockOfMoreLinks og.g og.w s t k h → h ≡ og.w.head m
   same_head k h shares =
       (one_common og s t k h (og.w.block m) (og.w.head m) source.within target.within two shares.common
       sharing.common).1

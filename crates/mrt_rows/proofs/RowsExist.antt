@@ -1,8 +1,10 @@
 -- Each node has a row for each other one by the table.
 use Rattle.std.proofs.Common.{◌≡◌, ◌≢◌, ◌∙◌, ◌<◌, ◌≤◌, ℕ, zero, suc, Option, Some, None, length, refl, sym, ap, inl, inr, arith}
 use Rattle.std.proofs.lemmas.Bool.{cases_eq, cases_lt}
+use Rattle.std.specs.Option.{option_map}
 use Rattle.mrt_graph.specs.declared.cert.Row.{Row}
 use Rattle.mrt_graph.specs.declared.cert.Tag.TheVariants as tags
+use Rattle.mrt_graph.specs.Tags.{carried}
 use Rattle.link_direction.specs.CommonBlock.{FromHead, HaveCommonBlock, Peers, ToHead}
 use Rattle.link_direction.specs.OrderedGadag.{HasSoleLink}
 use Rattle.inc_dec_spf.specs.declared.reach.Dir.TheVariants.{Down, Up}
@@ -10,7 +12,7 @@ use Rattle.inc_dec_spf.specs.FirstLink.{IsFirstLink, no_link}
 use Rattle.mrt_rows.specs.declared.members.Home.{Home}
 use Rattle.mrt_rows.specs.NearOf.{Apart, InCommon, IsNearRow}
 use Rattle.mrt_rows.specs.Put.{IsHome, IsOwnRow, NoneOfOneLink}
-use Rattle.mrt_rows.specs.RowsOf.{HasRow, carried}
+use Rattle.mrt_rows.specs.RowsOf.{HasRow}
 use Rattle.mrt_rows.proofs.HopsExist.{has_link}
 use Rattle.mrt_rows.proofs.LinesHold.{has_head}
 use Rattle.mrt_rows.proofs.MemberRows.{above_row, below_row, head_row, top_row, unordered_row}
@@ -18,8 +20,7 @@ use Rattle.link_direction.proofs.TwoNodes.{Relates, of_two}
 use Rattle.mrt_rows.proofs.OrderedGraphs.{OrderedGraph}
 use Rattle.mrt_rows.proofs.Sharing.{none_of_share}
 use Rattle.mrt_rows.proofs.WaysBegun.{more_of}
-use Rattle.mrt_rows.proofs.Carriers.{at_below}
-use Rattle.mrt_graph.specs.Related.{below_carrier}
+use Rattle.mrt_rows.proofs.Carriers.{at_carrier, carrier_by, line_carried}
 use Rattle.mrt_graph.specs.declared.related.Relation.{Relation}
 use Rattle.mrt_graph.specs.declared.related.Relation.TheVariants as relations
 
@@ -118,11 +119,11 @@ module _ (og : OrderedGraph) (s : ℕ) (s_within : s < length og.g.ids) where
   -- a near row, or one that is carried
   abbrev near_or : Option Row → Option Row → Option Row
   near_or (Some row) other = Some row
-  near_or None other = carried other
+  near_or None other = option_map carried other
 
   -- the row for t, carried at most so often
   abbrev carrier : ℕ → ℕ
-  carrier t = og.w.head (below_carrier og.root s t)
+  carrier t = carrier_by og.w og.root s t
 
   abbrev row_by : ℕ → ℕ → Option Row
   row_by zero t = None
@@ -144,9 +145,9 @@ module _ (og : OrderedGraph) (s : ℕ) (s_within : s < length og.g.ids) where
   there_by left t None at (Apart apart) far =
       let it = far apart in
       record {
-        row = record { blue = it.row.blue; red = it.row.red; tag = tags.Carried };
-        is = ap (λ (o : Option Row). near_or o (row_by left (carrier t))) at ∙ ap carried it.is;
-        stays = ap (λ (o : Option Row). near_or o (row_by (suc left) (carrier t))) at ∙ ap carried it.stays;
+        row = carried it.row;
+        is = ap (λ (o : Option Row). near_or o (row_by left (carrier t))) at ∙ ap (option_map carried) it.is;
+        stays = ap (λ (o : Option Row). near_or o (row_by (suc left) (carrier t))) at ∙ ap (option_map carried) it.stays;
       }
 
   -- the row for the head of s is never carried
@@ -161,7 +162,7 @@ module _ (og : OrderedGraph) (s : ℕ) (s_within : s < length og.g.ids) where
   carrier_there : (left t : ℕ) → t < n → s ≢ t → og.w.order t ≤ left → ((k h : ℕ) → ¬ HaveCommonBlock og.w s t k h)
       → ((v : ℕ) → v < n → s ≢ v → og.w.order v < left → IsThere left v) → IsThere left (carrier t)
   carrier_there left t t_within two few apart lower_there =
-      at_below (λ (x : ℕ). IsThere left (og.w.head x)) og.root s t
+      at_carrier (IsThere left) og.w og.root s t
       (λ other.
       let lower = og.ordered.heads.lower t t_within other in
       lower_there (og.w.head t) (og.ordered.heads.head_within t t_within) (λ back. apart (og.w.block t) s (FromHead refl (sym back) refl))
@@ -185,9 +186,11 @@ module _ (og : OrderedGraph) (s : ℕ) (s_within : s < length og.g.ids) where
   row_there t None t_within two at (Apart apart) =
       let it = carrier_there n t t_within two (og.ordered.orders.to_n t t_within) apart (λ v v_within v_two low. is_there n v v_within v_two low) in
       record {
-        row = record { blue = it.row.blue; red = it.row.red; tag = tags.Carried };
-        is = ap (λ (o : Option Row). near_or o (row_by n (carrier t))) at ∙ ap carried it.is;
-        line = record { apart = apart; carried = record { other = it.row; is = it.stays; blue = refl; red = refl } };
+        row = carried it.row;
+        is = ap (λ (o : Option Row). near_or o (row_by n (carrier t))) at ∙ ap (option_map carried) it.is;
+        line =
+            line_carried og.root og.w s rows_at t (carried it.row) apart
+            (record { other = it.row; is = it.stays; blue = refl; red = refl });
       }
 
   pub some_rows : (rows : ℕ → Option Row) × ((t : ℕ) → t < n → s ≢ t → HasRow og.g og.root og.w s rows t)

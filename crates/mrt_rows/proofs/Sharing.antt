@@ -3,7 +3,7 @@ use Rattle.std.proofs.Common.{◌≡◌, ◌≢◌, ◌∙◌, ◌<◌, ℕ, Boo
 use Rattle.std.proofs.lemmas.Option.{same_Some}
 use Rattle.link_direction.specs.CommonBlock.{FromHead, HaveCommonBlock, Peers, ToHead}
 use Rattle.inc_dec_spf.specs.FirstLink.{AreOthersInOneBlock}
-use Rattle.inc_dec_spf.specs.LeastPath.{HasMoreLinks, HaveCommonBlockOfMore}
+use Rattle.inc_dec_spf.specs.LeastPath.{HasMoreLinks, HaveCommonBlockOfMoreLinks}
 use Rattle.mrt_rows.specs.Put.{AreHeadsMarked, NoneOfOneLink}
 use Rattle.mrt_rows.proofs.OrderedGraphs.{OrderedGraph, not_root_of_peers, one_common, within}
 
@@ -22,7 +22,7 @@ module _ (og : OrderedGraph) (s t : ℕ) (s_within : s < length og.g.ids) (t_wit
       ]
 
   -- a block of more than one link is the only one
-  pub none_of_share : (k h : ℕ) → HaveCommonBlockOfMore og.g og.w s t k h → NoneOfOneLink og.g og.w s t
+  pub none_of_share : (k h : ℕ) → HaveCommonBlockOfMoreLinks og.g og.w s t k h → NoneOfOneLink og.g og.w s t
   none_of_share k h share j i link common one =
       let same = (one_common og s t k h j i s_within t_within two share.common common).0 in
       let more = share.more in

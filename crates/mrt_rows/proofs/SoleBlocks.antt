@@ -13,7 +13,7 @@ use Rattle.mrt_graph.proofs.Hops.{far_ends, lead_back}
 use Rattle.link_direction.specs.CommonBlock.{FromHead, HaveCommonBlock, Peers, ToHead}
 use Rattle.link_direction.specs.Directions.{Directions, Says}
 use Rattle.inc_dec_spf.specs.FirstLink.{no_link}
-use Rattle.inc_dec_spf.specs.LeastPath.{HasMoreLinks, HaveCommonBlockOfMore}
+use Rattle.inc_dec_spf.specs.LeastPath.{HasMoreLinks, HaveCommonBlockOfMoreLinks}
 use Rattle.inc_dec_spf.proofs.InBlocks.{inside_of_link}
 use Rattle.mrt_rows.specs.NearOf.{AreSoles}
 use Rattle.mrt_rows.specs.RowLines.{HasOneLink}
@@ -44,7 +44,7 @@ module _ (og : OrderedGraph) where
     pub leads_on : leads og.g.links link s ≡ Some to
     pub not_sole : og.w.role link ≢ Sole
 
-  pub touched : (s t k h : ℕ) → s < length og.g.ids → t < length og.g.ids → HaveCommonBlockOfMore og.g og.w s t k h → IsTouched s
+  pub touched : (s t k h : ℕ) → s < length og.g.ids → t < length og.g.ids → HaveCommonBlockOfMoreLinks og.g og.w s t k h → IsTouched s
   touched s t k h s_within t_within share = go share.common
     where
       by_own : og.w.block s ≡ k → s ≢ og.root → IsTouched s

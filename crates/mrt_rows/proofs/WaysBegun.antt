@@ -5,7 +5,7 @@ use Rattle.mrt_graph.specs.Leads.{leads}
 use Rattle.link_direction.specs.CommonBlock.{HaveCommonBlock, Peers}
 use Rattle.inc_dec_spf.specs.declared.reach.Dir.{Dir}
 use Rattle.inc_dec_spf.specs.declared.reach.Hop.{Hop}
-use Rattle.inc_dec_spf.specs.LeastPath.{BeginsPath, HasMoreLinks, IsHop, IsLeastPath, NotReached, Reached, HaveCommonBlockOfMore}
+use Rattle.inc_dec_spf.specs.LeastPath.{BeginsPath, HasMoreLinks, IsHop, IsLeastPath, NotReached, Reached, HaveCommonBlockOfMoreLinks}
 use Rattle.inc_dec_spf.specs.Path.{Path}
 use Rattle.mrt_rows.specs.RowLines.{AreMembers, BeginsOver, NoWay}
 use Rattle.mrt_rows.proofs.OrderedGraphs.{OrderedGraph, not_root_of_peers, one_common, step_leads, within}
@@ -50,7 +50,7 @@ module _ (og : OrderedGraph) where
     differ = ring.closed.another_link;
   }
 
-  pub share : (m s t : ℕ) → Ring og m → Sharing og m s t → HaveCommonBlockOfMore og.g og.w s t (og.w.block m) (og.w.head m)
+  pub share : (m s t : ℕ) → Ring og m → Sharing og m s t → HaveCommonBlockOfMoreLinks og.g og.w s t (og.w.block m) (og.w.head m)
   share m s t ring sharing = record { two = sharing.two; common = sharing.common; more = more_of m ring }
 
   -- two nodes of the block share it
@@ -87,7 +87,7 @@ module _ (og : OrderedGraph) where
           sharing.common in
           in_block m dir s t link k h hop same.0 same.1 over least
 
-  pub no_way : (m : ℕ) (dir : Dir) (s t : ℕ) → HaveCommonBlockOfMore og.g og.w s t (og.w.block m) (og.w.head m)
+  pub no_way : (m : ℕ) (dir : Dir) (s t : ℕ) → HaveCommonBlockOfMoreLinks og.g og.w s t (og.w.block m) (og.w.head m)
       → NoWay og.g og.w dir s t → Way og m dir s t → ⊥
   no_way m dir s t shares (NotReached none) way = none (og.w.block m) (og.w.head m) way.path shares way.is
 

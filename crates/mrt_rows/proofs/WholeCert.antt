@@ -23,7 +23,6 @@ use Rattle.mrt_rows.proofs.OrderedGraphs.{OrderedGraph}
 use Rattle.mrt_graph.proofs.RowPlaces.{placed, row_at}
 use Rattle.mrt_rows.proofs.RowsExist.{some_rows}
 use Rattle.mrt_rows.proofs.RowsPut.{place_within, places_differ}
-use Rattle.mrt_rows.proofs.Carriers.{at_below}
 
 -- a list of what there is for each of n places
 pub record Chosen {X : Type 0} (n : ℕ) (P : ℕ → X → Type 0) : Type 0 where
@@ -69,14 +68,14 @@ module _ (og : OrderedGraph) where
   line_moved tags.Unordered s t rows after row s_within t_within two same line = line
   line_moved tags.Carried s t rows after row s_within t_within two same line = record {
     apart = line.apart;
-    carried = at_below (λ (x : ℕ). HasLinksFor rows (og.w.head x) row → HasLinksFor after (og.w.head x) row) og.root s t
-        (λ other. links_moved s (og.w.head t) rows after row (og.ordered.heads.head_within t t_within)
-        (λ back. line.apart (og.w.block t) s (FromHead refl (sym back) refl)) same)
-        (λ at_root.
+    to_other = λ other.
+        links_moved s (og.w.head t) rows after row (og.ordered.heads.head_within t t_within)
+        (λ back. line.apart (og.w.block t) s (FromHead refl (sym back) refl)) same (line.to_other other);
+    to_root = λ at_root.
         let other : s ≢ og.root = λ s_root. two (s_root ∙ sym at_root) in
         let lower = og.ordered.heads.lower s s_within other in
         links_moved s (og.w.head s) rows after row (og.ordered.heads.head_within s s_within)
-        (λ back. omega (arith, lower, ap og.w.order back)) same) line.carried;
+        (λ back. omega (arith, lower, ap og.w.order back)) same (line.to_root at_root);
   }
 
   -- the rows of all nodes

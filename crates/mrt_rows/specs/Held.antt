@@ -8,8 +8,8 @@ use Rattle.mrt_rows.specs.Chain.{AreBlockAims, AreBlockMarks}
 use Rattle.mrt_rows.specs.ColumnParts.{ColumnParts}
 use Rattle.mrt_rows.specs.Common.{AreCommon}
 
--- what the blocks aim at for the destinations in their places, the blocks of more than one link on the way from these, and
--- tiles that are aimed so in these
+-- what the blocks aim at for the destinations in their places; marks on the blocks of more than one link on the way from
+-- one of these to the root; and tiles that are aimed so in the marked blocks
 pub record AreTilesAimed (g : Topology) (root : ℕ) (w : Directions) (held : ColumnParts) : Type 0 where
   pub aims : AreBlockAims g root w held.targets held.aims
   pub marks : AreBlockMarks g root w held.targets held.wanted

@@ -9,7 +9,7 @@ use Rattle.link_direction.specs.CommonBlock.{HaveCommonBlock}
 use Rattle.link_direction.specs.Directions.{Directions}
 use Rattle.inc_dec_spf.specs.declared.reach.Dir.{Dir}
 use Rattle.inc_dec_spf.specs.FirstLink.{IsFirstLink, no_link}
-use Rattle.mrt_rows.specs.Put.{IsOwnRow, AreInCommonBlockOfMore}
+use Rattle.mrt_rows.specs.Put.{IsOwnRow, AreInCommonBlockOfMoreLinks}
 use Rattle.mrt_rows.specs.RowLines.{HasOneLink}
 
 -- of the rows of node s in a certificate, those that are near, by ascending destination
@@ -56,4 +56,4 @@ pub record IsPlaceOf (w : Directions) (v : ℕ) (place : Place) : Type 0 where
 
 -- the links by which s begins the least paths to the nodes with which it has a block of more than one link in common
 pub record AreLinked (g : Topology) (w : Directions) (dir : Dir) (s : ℕ) (links : List ℕ) : Type 0 where
-  pub each : (t link : ℕ) → slice_get links t ≡ Some link → AreInCommonBlockOfMore g w s t → IsFirstLink g w dir s t link
+  pub each : (t link : ℕ) → slice_get links t ≡ Some link → AreInCommonBlockOfMoreLinks g w s t → IsFirstLink g w dir s t link

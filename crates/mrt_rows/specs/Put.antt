@@ -8,15 +8,15 @@ use Rattle.link_direction.specs.Directions.{Directions}
 use Rattle.link_direction.specs.OrderedGadag.{IsOrderedGadag}
 use Rattle.inc_dec_spf.specs.declared.reach.Dir.TheVariants.{Down, Up}
 use Rattle.inc_dec_spf.specs.FirstLink.{IsFirstLink}
-use Rattle.inc_dec_spf.specs.LeastPath.{HasMoreLinks, HaveCommonBlockOfMore}
+use Rattle.inc_dec_spf.specs.LeastPath.{HasMoreLinks, HaveCommonBlockOfMoreLinks}
 use Rattle.mrt_rows.specs.declared.members.Home.{Home}
 use Rattle.mrt_rows.specs.RowLines.{HasOneLink, LineOf}
 
 -- s and t have a block of more than one link in common
-pub record AreInCommonBlockOfMore (g : Topology) (w : Directions) (s t : ℕ) : Type 0 where
+pub record AreInCommonBlockOfMoreLinks (g : Topology) (w : Directions) (s t : ℕ) : Type 0 where
   pub block : ℕ
   pub head : ℕ
-  pub share : HaveCommonBlockOfMore g w s t block head
+  pub share : HaveCommonBlockOfMoreLinks g w s t block head
 
 -- the common block of s and t, if they have one, has more than one link
 abbrev pub NoneOfOneLink : Topology → Directions → ℕ → ℕ → Type 0
@@ -27,7 +27,7 @@ pub record AreHeadsMarked (g : Topology) (w : Directions) (marks : List Bool) : 
   pub each : (v : ℕ) → v < length g.ids → HasMoreLinks g w (w.block v) → slice_get marks (w.head v) ≡ Some true
 
 -- each block is marked
-pub record AreAllMarked (g : Topology) (marks : List Bool) : Type 0 where
+pub record AreBlocksMarked (g : Topology) (marks : List Bool) : Type 0 where
   pub each : (k : ℕ) → k < length g.ids → slice_get marks k ≡ Some true
 
 -- the links by which s begins the least paths to the head of its block, where it has more than one link

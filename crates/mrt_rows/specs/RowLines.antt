@@ -1,17 +1,16 @@
 -- The table of rows, a record a line: what the row of a node s for another node t is. In each line the block is the one
 -- that s and t have in common.
-use Rattle.std.specs.Prelude.{◌≡◌, ◌<◌, ℕ, Option, Some, None, length}
+use Rattle.std.specs.Prelude.{◌≡◌, ◌≢◌, ◌<◌, ℕ, Option, Some, None, length}
 use Rattle.mrt_graph.specs.declared.cert.Row.{Row}
 use Rattle.mrt_graph.specs.declared.cert.Tag.{Tag}
 use Rattle.mrt_graph.specs.declared.cert.Tag.TheVariants.{Sole, Head, Top, Below, Above, Unordered, Carried}
-use Rattle.mrt_graph.specs.Related.{below_carrier}
 use Rattle.mrt_graph.specs.Topology.{Topology}
 use Rattle.link_direction.specs.CommonBlock.{HaveCommonBlock}
 use Rattle.link_direction.specs.Directions.{Directions}
 use Rattle.inc_dec_spf.specs.declared.reach.Dir.{Dir}
 use Rattle.inc_dec_spf.specs.declared.reach.Dir.TheVariants.{Down, Up}
 use Rattle.inc_dec_spf.specs.declared.reach.Hop.{Hop}
-use Rattle.inc_dec_spf.specs.LeastPath.{IsHop, HaveCommonBlockOfMore}
+use Rattle.inc_dec_spf.specs.LeastPath.{IsHop, HaveCommonBlockOfMoreLinks}
 
 -- block k has this link, and no other
 pub record HasOneLink (g : Topology) (w : Directions) (k link : ℕ) : Type 0 where
@@ -31,7 +30,7 @@ NoWay g w dir s t = IsHop g w dir s t None
 
 -- s and t are members of a block of more than one link, whose head is h
 pub record AreMembers (g : Topology) (w : Directions) (s t k h : ℕ) : Type 0 where
-  pub share : HaveCommonBlockOfMore g w s t k h
+  pub share : HaveCommonBlockOfMoreLinks g w s t k h
   pub source : w.block s ≡ k
   pub target : w.block t ≡ k
 
@@ -54,7 +53,7 @@ pub record SoleLine (g : Topology) (w : Directions) (s t : ℕ) (row : Row) : Ty
 pub record HeadLine (g : Topology) (w : Directions) (s t : ℕ) (row : Row) : Type 0 where
   pub block : ℕ
   pub head : ℕ
-  pub share : HaveCommonBlockOfMore g w s t block head
+  pub share : HaveCommonBlockOfMoreLinks g w s t block head
   pub at_head : t ≡ head
   pub blue : BeginsOver g w Up s t row.blue
   pub red : BeginsOver g w Down s t row.red
@@ -63,7 +62,7 @@ pub record HeadLine (g : Topology) (w : Directions) (s t : ℕ) (row : Row) : Ty
 pub record TopLine (g : Topology) (w : Directions) (s t : ℕ) (row : Row) : Type 0 where
   pub block : ℕ
   pub head : ℕ
-  pub share : HaveCommonBlockOfMore g w s t block head
+  pub share : HaveCommonBlockOfMoreLinks g w s t block head
   pub at_head : s ≡ head
   pub blue : BeginsOver g w Up s t row.blue
   pub red : BeginsOver g w Down s t row.red
@@ -96,11 +95,12 @@ pub record UnorderedLine (g : Topology) (w : Directions) (s t : ℕ) (row : Row)
   pub blue : BeginsOver g w Down s head row.blue
   pub red : BeginsOver g w Up s head row.red
 
--- Carried: they have no block in common. Blue and red are those of the row of s for the carrier, the head of t or, where t
--- is the root, the head of s
+-- Carried: they have no block in common. Blue and red are those of the row of s for the carrier: that for the head of t
+-- or, where t is the root, that for the head of s
 pub record CarriedLine (root : ℕ) (w : Directions) (s : ℕ) (rows : ℕ → Option Row) (t : ℕ) (row : Row) : Type 0 where
   pub apart : (k h : ℕ) → ¬ HaveCommonBlock w s t k h
-  pub carried : HasLinksFor rows (w.head (below_carrier root s t)) row
+  pub to_other : t ≢ root → HasLinksFor rows (w.head t) row
+  pub to_root : t ≡ root → HasLinksFor rows (w.head s) row
 
 -- the line of a tag, for the row of s for t among these rows of s
 abbrev pub LineOf : Tag → Topology → ℕ → Directions → ℕ → (ℕ → Option Row) → ℕ → Row → Type 0

@@ -1,7 +1,6 @@
 -- The rows of a node.
 use Rattle.std.specs.Prelude.{◌≡◌, ◌≢◌, ◌==◌, ◌<◌, ◌+◌, ◌-◌, ◌*◌, ℕ, List, Option, Some, None, length, nat_lt, slice_get, if◌then◌else◌}
 use Rattle.mrt_graph.specs.declared.cert.Row.{Row}
-use Rattle.mrt_graph.specs.declared.cert.Tag.TheVariants.{Carried}
 use Rattle.mrt_graph.specs.Certificate.{are_two}
 use Rattle.mrt_graph.specs.RowPlace.{place_of_row}
 use Rattle.mrt_graph.specs.Topology.{Topology}
@@ -32,8 +31,3 @@ pub record AreAllRows (g : Topology) (root : ℕ) (w : Directions) (rows : List 
   pub count : length rows ≡ length g.ids * (length g.ids - 1)
   pub each : (s t : ℕ) → s < length g.ids → t < length g.ids → s ≢ t
       → HasRow g root w s (row_among (length g.ids) rows s) t
-
--- the same links, carried
-abbrev pub carried : Option Row → Option Row
-carried None = None
-carried (Some row) = Some (record { blue = row.blue; red = row.red; tag = Carried })

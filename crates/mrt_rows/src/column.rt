@@ -7,7 +7,7 @@ ghost use Rattle.link_direction.specs.Directions.{Directions, Says};
 ghost use Rattle.link_direction.specs.OrderedGadag.{SaysOrdered};
 ghost use Rattle.inc_dec_spf.specs.declared.reach.Dir.TheVariants.{Down, Up};
 ghost use Rattle.inc_dec_spf.specs.BlockAims.{IsAimOf, aim_at};
-ghost use Rattle.inc_dec_spf.specs.LeastPath.{HaveCommonBlockOfMore};
+ghost use Rattle.inc_dec_spf.specs.LeastPath.{HaveCommonBlockOfMoreLinks};
 ghost use Rattle.inc_dec_spf.specs.Tile.{IsAimed};
 ghost use Rattle.mrt_rows.specs.Chain.{AreBelow, IsRowAim};
 ghost use Rattle.mrt_rows.specs.ColumnOf.{IsColumnOf, IsRowIn};
@@ -19,7 +19,7 @@ use crate::chain::put_below;
 use crate::common::{Common, common_of};
 use crate::row_over::{Source, row_over};
 use inc_dec_spf::{Aiming, Dir, Tile};
-use mrt_graph::{Column, Directed, Graph, NoMemory, NodeNo, Row, Tag};
+use mrt_graph::{Column, Directed, Graph, NoMemory, NodeNo, Row};
 use std::alloc::Global;
 use std::marker::Model;
 
@@ -34,8 +34,8 @@ struct Target {
 }
 
 /// What the columns of all destinations have in common, and the room in which they are made: the nodes below others on the way
-/// from one of them; some destinations side by side, what the blocks aim at for them, marks on the blocks of more than one link on the way
-/// from these, and tiles that are aimed so in these.
+/// from one of them to the root; some destinations side by side, what the blocks aim at for them, marks on the blocks of more
+/// than one link on the way from one of them to the root, and tiles that are aimed so in the marked blocks.
 #[derive(Drop)]
 pub struct Columns {
     common: Common,
@@ -298,11 +298,7 @@ impl Columns {
         if aim == to.node {
             return Some(row);
         }
-        Some(Row {
-            blue: row.blue,
-            red: row.red,
-            tag: Tag::Carried,
-        })
+        Some(row.carried())
     }
 
     /// What s aims at: the node below it on the way from `to` to the root; the one that lies in its block; or its head.
@@ -346,7 +342,7 @@ impl Columns {
         ensures { (w : Directions) → Says g.now d.now w
             → IsAimed g.now w self.now.wanted Up self.now.aims self.now.up
             → IsAimed g.now w self.now.wanted Down self.now.aims self.now.down
-            → ((k h : ℕ) → HaveCommonBlockOfMore g.now w s aim.node k h → w.head s ≢ aim.node
+            → ((k h : ℕ) → HaveCommonBlockOfMoreLinks g.now w s aim.node k h → w.head s ≢ aim.node
             → slice_get self.now.wanted k ≡ Some true)
             → IsAimOf g.now w (aim_at self.now.aims (length self.now.targets) aim.at) s aim.node
             → IsNearRow g.now root w s aim.node result }

@@ -10,10 +10,10 @@ ghost use Rattle.inc_dec_spf.specs.HasDirections.{AreDirections, HasDirections};
 ghost use Rattle.inc_dec_spf.specs.Tile.{IsAimed, IsTile};
 ghost use Rattle.inc_dec_spf.specs.Turns.{AreTurns};
 ghost use Rattle.mrt_rows.specs.NearOf.{AreHomeRows, AreSoles};
-ghost use Rattle.mrt_rows.specs.Put.{AreAllMarked, AreHeadsMarked, AreHomes};
+ghost use Rattle.mrt_rows.specs.Put.{AreBlocksMarked, AreHeadsMarked, AreHomes};
 
 use crate::members::Home;
-use crate::row_over::end_row;
+use crate::row_over::{end_row, row_home};
 use inc_dec_spf::{Aiming, Dir, NO_LINK, Tile, put_heads};
 use mrt_graph::{Directed, Graph, LinkNo, NoMemory, NodeNo, Row, Tag};
 use std::alloc::Global;
@@ -78,7 +78,7 @@ fn take_homes(g: &Graph, up: &Tile, down: &Tile, homes: &mut [Home])
     requires one_each { length homes.old ≡ length g.now.ids }
     ensures one_each { length homes.new ≡ length g.now.ids }
     ensures homes { (root : ℕ) (w : Directions) (aims : List ℕ) (wanted : List Bool) → IsOrderedGadag g.now root w
-        → AreHeadAims g.now w 1 aims → AreAllMarked g.now wanted → IsAimed g.now w wanted Up aims up.now
+        → AreHeadAims g.now w 1 aims → AreBlocksMarked g.now wanted → IsAimed g.now w wanted Up aims up.now
         → IsAimed g.now w wanted Down aims down.now
         → AreHomes g.now w homes.new }
 {
@@ -125,6 +125,6 @@ fn put_home_rows(g: &Graph, soles: &[LinkNo], homes: &[Home], rows: &mut [Row])
     for n in 0..g.node_count() {
         let at = n as usize;
         let home = &homes[at];
-        rows[at] = end_row(soles[at], home.up, home.down, Tag::Head);
+        rows[at] = row_home(soles[at], home);
     }
 }

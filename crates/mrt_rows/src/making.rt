@@ -7,7 +7,7 @@ ghost use Rattle.inc_dec_spf.specs.declared.reach.Dir.TheVariants.{Down, Up};
 ghost use Rattle.inc_dec_spf.specs.HasDirections.{AreDirections, HasDirections};
 ghost use Rattle.mrt_rows.specs.FirstLinks.{AreFirstLinks};
 ghost use Rattle.mrt_rows.specs.Making.{MakeLinks};
-ghost use Rattle.mrt_rows.specs.Put.{AreInCommonBlockOfMore};
+ghost use Rattle.mrt_rows.specs.Put.{AreInCommonBlockOfMoreLinks};
 
 use crate::first_links::FirstLinks;
 use crate::soles::take_soles;
@@ -112,7 +112,7 @@ fn has_more_links(g: &Graph, d: &Directed, s: NodeNo) -> bool
     requires directed { HasDirections g.now d.now }
     requires source { s < length g.now.ids }
     ensures { result ≡ false → (root t : ℕ) (w : Directions) → AreDirections g.now d.now root w
-        → t < length g.now.ids → ¬ AreInCommonBlockOfMore g.now w s t }
+        → t < length g.now.ids → ¬ AreInCommonBlockOfMoreLinks g.now w s t }
 {
     for end in g.ends(s) {
         if !is_sole(d.mark(end.link).role) {

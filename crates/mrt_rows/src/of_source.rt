@@ -1,21 +1,26 @@
 //! The rows of one node.
 
 ghost use Rattle.std.specs.Prelude.{◌≡◌, ◌≢◌, ◌<◌, ℕ, IfOk, Some, length, slice_get};
-ghost use Rattle.mrt_graph.specs.declared.cert.Row.{Row};
+ghost use Rattle.std.specs.Option.{option_map};
+ghost use Rattle.mrt_graph.specs.GraphInvariant.{IsTopology};
+ghost use Rattle.mrt_graph.specs.Tags.{carried};
+ghost use Rattle.mrt_graph.specs.Topology.{Topology};
 ghost use Rattle.link_direction.specs.Directions.{Directions, Says};
-ghost use Rattle.link_direction.specs.OrderedGadag.{SaysOrdered};
+ghost use Rattle.link_direction.specs.OrderedGadag.{IsOrderedGadag, SaysOrdered};
 ghost use Rattle.inc_dec_spf.specs.declared.reach.Dir.TheVariants.{Up};
 ghost use Rattle.inc_dec_spf.specs.HasDirections.{AreDirections, HasDirections};
 ghost use Rattle.inc_dec_spf.specs.Turns.{AreTurns};
 ghost use Rattle.mrt_rows.specs.ColumnOf.{IsRowIn};
 ghost use Rattle.mrt_rows.specs.FirstLinks.{AreFirstLinks};
-ghost use Rattle.mrt_rows.specs.RowsOf.{AreRowsOf, carried};
+ghost use Rattle.mrt_rows.specs.NearOf.{IsNearRow};
+ghost use Rattle.mrt_rows.specs.RowsOf.{AreRowsOf};
+ghost use Rattle.mrt_rows.specs.Source.{IsSourceBy};
 
 use crate::first_links::FirstLinks;
 use crate::making::Making;
-use crate::row_over::{end_row, row_home, row_to, source_of};
+use crate::row_over::{Source, end_row, row_home, row_to, source_of};
 use inc_dec_spf::NO_LINK;
-use mrt_graph::{Directed, Graph, LinkNo, NoMemory, NodeNo, Row, Tag};
+use mrt_graph::{Directed, Graph, LinkNo, NoMemory, NodeNo, Row, Tag, carrier_of};
 use std::alloc::Global;
 
 /// The rows of `source` for all other nodes, by ascending destination.
@@ -46,8 +51,8 @@ pub fn rows_of(
 
 /// Puts the rows of a source for all other nodes, each at the place of its destination.
 ///
-/// A row may be carried from the row for its destination's head, which has a lower order; and the row for the root from
-/// that for the head of the source.
+/// A row may be carried from that for the carrier. That is the destination's head, which has a lower order, so it has had
+/// its turn; or, for the root, whose turn comes first, the head of the source, so its row is put before all.
 fn put_rows(
     g: &Graph,
     root: NodeNo,
@@ -65,30 +70,46 @@ fn put_rows(
         → links.now.source ≢ t → IsRowIn g.now root w links.now.source t (slice_get rows.new t) }
 {
     let source = source_of(g, d, links);
-    let home = row_home(&source);
+    put_home(&source, rows);
     for t in nodes {
         if *t != links.source {
-            let from = carried_from(g, root, d, &home, *t, rows);
+            let from = carried_to(g, root, d, &source, *t, rows);
             let near = row_to(g, d, links, &source, *t);
             rows[t.get() as usize] = near.unwrap_or(from);
         }
     }
 }
 
-/// The row for `t` as it is carried: from that for the head of `t` or, where it is the root, from the row home.
-fn carried_from(g: &Graph, root: NodeNo, d: &Directed, home: &Row, t: NodeNo, rows: &[Row]) -> Row
+/// Puts the row of a source for the head of its block.
+fn put_home(source: &Source, rows: &mut [Row])
+    requires { source.now.place.head < length rows.old }
+    ensures one_each { length rows.new ≡ length rows.old }
+    ensures home { (g : Topology) (root : ℕ) (w : Directions) → IsTopology g → IsOrderedGadag g root w
+        → IsSourceBy g w source.now → source.now.node ≢ root
+        → IsNearRow g root w source.now.node (w.head source.now.node) (slice_get rows.new source.now.place.head) }
+{
+    rows[source.place.head.get() as usize] = row_home(source.sole, &source.home);
+}
+
+/// The row for `t` as it is carried: from that for the carrier.
+fn carried_to(
+    g: &Graph,
+    root: NodeNo,
+    d: &Directed,
+    source: &Source,
+    t: NodeNo,
+    rows: &[Row],
+) -> Row
     requires directed { HasDirections g.now d.now }
+    requires source { (from : ℕ) (w : Directions) → AreDirections g.now d.now from w → IsSourceBy g.now w source.now }
     requires target { t < length g.now.ids }
     requires one_each { length rows.now ≡ length g.now.ids }
-    ensures at_root { t ≡ root → Some result ≡ carried (Some home.now) }
-    ensures elsewhere { (from : ℕ) (w : Directions) → AreDirections g.now d.now from w → t ≢ root
-        → Some result ≡ carried (slice_get rows.now (w.head t)) }
+    ensures to_other { (from : ℕ) (w : Directions) → AreDirections g.now d.now from w → t ≢ root
+        → Some result ≡ option_map carried (slice_get rows.now (w.head t)) }
+    ensures to_root { (from : ℕ) (w : Directions) → AreDirections g.now d.now from w → t ≡ root
+        → Some result ≡ option_map carried (slice_get rows.now (w.head source.now.node)) }
 {
-    let head = d.place(t).head.get() as usize;
-    let row = if t == root { *home } else { rows[head] };
-    Row {
-        blue: row.blue,
-        red: row.red,
-        tag: Tag::Carried,
-    }
+    let there = d.place(t);
+    let by = carrier_of(root, &source.place, t, &there);
+    rows[by.get() as usize].carried()
 }

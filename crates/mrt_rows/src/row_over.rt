@@ -11,7 +11,7 @@ ghost use Rattle.inc_dec_spf.specs.declared.reach.Dir.TheVariants.{Down, Up};
 ghost use Rattle.inc_dec_spf.specs.FirstLink.{IsFirstLink, no_link};
 ghost use Rattle.inc_dec_spf.specs.HasDirections.{AreDirections};
 ghost use Rattle.mrt_rows.specs.NearOf.{IsNearRow, IsPlaceOf, IsSoleOf, near_first};
-ghost use Rattle.mrt_rows.specs.Put.{AreInCommonBlockOfMore};
+ghost use Rattle.mrt_rows.specs.Put.{AreInCommonBlockOfMoreLinks, IsHome};
 ghost use Rattle.mrt_rows.specs.FirstLinks.{AreFirstLinks};
 ghost use Rattle.mrt_rows.specs.RowsOf.{HasRow};
 ghost use Rattle.mrt_rows.specs.Source.{IsSourceBy};
@@ -43,8 +43,8 @@ pub fn row_over(
     requires { source.now.node ≢ t }
     ensures { (g : Topology) (root : ℕ) (w : Directions) → IsTopology g → IsOrderedGadag g root w
         → IsSourceBy g w source.now → t < length g.ids → IsPlaceOf w t there.now → IsSoleOf g w t sole
-        → (AreInCommonBlockOfMore g w source.now.node t → IsFirstLink g w Up source.now.node t up)
-        → (AreInCommonBlockOfMore g w source.now.node t → IsFirstLink g w Down source.now.node t down)
+        → (AreInCommonBlockOfMoreLinks g w source.now.node t → IsFirstLink g w Up source.now.node t up)
+        → (AreInCommonBlockOfMoreLinks g w source.now.node t → IsFirstLink g w Down source.now.node t down)
         → IsNearRow g root w source.now.node t result }
 {
     match relation_of(source.node, &source.place, t, there) {
@@ -91,13 +91,14 @@ pub fn source_of(g: &Graph, d: &Directed, links: &FirstLinks) -> Source
     }
 }
 
-/// The row of a source for the head of its block. That of the root, which is its own head, says nothing.
-pub fn row_home(source: &Source) -> Row
-    ensures { (g : Topology) (root : ℕ) (w : Directions) → IsTopology g → IsOrderedGadag g root w
-        → IsSourceBy g w source.now → source.now.node ≢ root
-        → IsNearRow g root w source.now.node (w.head source.now.node) (Some result) }
+/// The row of a node for the head of its block, by the sole link of its block, or else by its links home. That of the root,
+/// which is its own head, says nothing.
+pub fn row_home(sole: LinkNo, home: &Home) -> Row
+    ensures { (g : Topology) (root s : ℕ) (w : Directions) → IsTopology g → IsOrderedGadag g root w
+        → s < length g.ids → IsSoleOf g w s sole → IsHome g w s home.now → s ≢ root
+        → IsNearRow g root w s (w.head s) (Some result) }
 {
-    end_row(source.sole, source.home.up, source.home.down, Tag::Head)
+    end_row(sole, home.up, home.down, Tag::Head)
 }
 
 /// The row of the source of these links for t. `None` where they have no block in common.

@@ -5,7 +5,7 @@ use Rattle.inc_dec_spf.specs.declared.reach.Dir.TheVariants.{Down, Up}
 use Rattle.inc_dec_spf.specs.Tile.{IsAimed}
 use Rattle.inc_dec_spf.proofs.AimsTo.{all_marked}
 use Rattle.mrt_rows.specs.declared.members.Home.{Home}
-use Rattle.mrt_rows.specs.Put.{AreAllMarked, AreHomes}
+use Rattle.mrt_rows.specs.Put.{AreBlocksMarked, AreHomes}
 use Rattle.mrt_rows.proofs.OrderedGraphs.{graph_of}
 use Rattle.mrt_rows.proofs.Sharing.{others_in_one_block}
 use Rattle.mrt_rows.proofs.homes.homes_of.Goals as goal
@@ -50,7 +50,7 @@ returns-clause-homes c = λ root w are marked.
     let aims_same = c.as_slice-aims.ensures.value ∙ with_items_is c.in_ok-aims.aims put (c.put_heads.ensures.room ∙ c.deref_mut.ensures.len) in
     let wanted = c.as_slice.result.now in
     let all : c.in_ok-wanted.wanted.items ≡ replicate c.node_count-count.result true = search rules in
-    let marks : AreAllMarked g wanted = record {
+    let marks : AreBlocksMarked g wanted = record {
       each = λ k within.
           subst (λ (bs : List Bool). slice_get bs k ≡ Some true) (sym (c.as_slice.ensures.value ∙ all))
           (all_marked c.node_count-count.result k (omega (arith, within, c.node_count-count.ensures.count)));

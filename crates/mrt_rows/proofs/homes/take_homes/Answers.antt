@@ -12,14 +12,14 @@ use Rattle.inc_dec_spf.specs.LeastPath.{HasMoreLinks}
 use Rattle.inc_dec_spf.specs.Tile.{IsAimed}
 use Rattle.inc_dec_spf.specs.TileEntries.{TileEntries}
 use Rattle.mrt_rows.specs.declared.members.Home.{Home}
-use Rattle.mrt_rows.specs.Put.{AreAllMarked, IsHome}
+use Rattle.mrt_rows.specs.Put.{AreBlocksMarked, IsHome}
 use Rattle.mrt_rows.proofs.AimsOfRows.{home_aim}
 use Rattle.mrt_rows.proofs.MarkedHeads.{not_own_head}
 use Rattle.mrt_rows.proofs.OrderedGraphs.{OrderedGraph}
 use Rattle.mrt_rows.proofs.homes.take_homes.Goals as goal
 
 home_link : (og : OrderedGraph) (dir : Dir) (tile : TileEntries) (wanted : List Bool) (aims links : List ℕ) (s n link : ℕ) → s ≡ n → n < length og.g.ids
-    → AreHeadAims og.g og.w 1 aims → AreAllMarked og.g wanted → IsAimed og.g og.w wanted dir aims tile → tile.width ≡ 1 → slice_get links 0 ≡ Some link
+    → AreHeadAims og.g og.w 1 aims → AreBlocksMarked og.g wanted → IsAimed og.g og.w wanted dir aims tile → tile.width ≡ 1 → slice_get links 0 ≡ Some link
     → ((j x : ℕ) → slice_get links j ≡ Some x → slice_get tile.links (s * tile.width + j) ≡ Some x)
     → HasMoreLinks og.g og.w (og.w.block n) → IsFirstLink og.g og.w dir n (og.w.head n) link
 home_link og dir tile wanted aims links s n link named within heads marks aimed wide at there more =

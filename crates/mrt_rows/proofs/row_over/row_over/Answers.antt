@@ -1,6 +1,5 @@
-use Rattle.std.proofs.Common.{◌∙◌, sym}
-use Rattle.mrt_graph.specs.declared.related.Relation.TheVariants as relations
-use Rattle.link_direction.proofs.TwoNodes.{relates}
+use Rattle.std.proofs.Common.{subst}
+use Rattle.link_direction.proofs.TwoNodes.{Relates, relates}
 use Rattle.mrt_rows.specs.NearOf.{Apart}
 use Rattle.mrt_rows.proofs.OrderedGraphs.{OrderedGraph}
 use Rattle.mrt_rows.proofs.RowOver.{over_head, over_peers, over_top}
@@ -10,8 +9,8 @@ pub returns-in-OneBlock : goal.returns-in-OneBlock
 returns-in-OneBlock c = λ g root w kept ordered source t_within there sole up down.
     let og : OrderedGraph = record { g = g; root = root; w = w; kept = kept; ordered = ordered } in
     let s = c.args.source.now.node in
-    let is = relates w s c.args.t c.args.source.now.place c.args.there.now
-    (source.place.head, source.place.block) (there.head, there.block) relations.OneBlock (sym c.in-OneBlock.is ∙ c.relation_of.ensures) in
+    let is = subst (Relates w s c.args.t) c.in-OneBlock.is (relates w s c.args.t c.args.source.now.place c.args.there.now
+    (source.place.head, source.place.block) (there.head, there.block) c.relation_of.result c.relation_of.ensures) in
     over_peers og s c.args.t source.within t_within c.requires c.args.up c.args.down up down c.args.source.now.home c.member_row.result
     is source.home c.member_row.ensures
 
@@ -19,8 +18,8 @@ pub returns-in-ToHead : goal.returns-in-ToHead
 returns-in-ToHead c = λ g root w kept ordered source t_within there sole up down.
     let og : OrderedGraph = record { g = g; root = root; w = w; kept = kept; ordered = ordered } in
     let s = c.args.source.now.node in
-    let is = relates w s c.args.t c.args.source.now.place c.args.there.now
-    (source.place.head, source.place.block) (there.head, there.block) relations.ToHead (sym c.in-ToHead.is ∙ c.relation_of.ensures) in
+    let is = subst (Relates w s c.args.t) c.in-ToHead.is (relates w s c.args.t c.args.source.now.place c.args.there.now
+    (source.place.head, source.place.block) (there.head, there.block) c.relation_of.result c.relation_of.ensures) in
     over_head og s c.args.t source.within t_within c.requires c.args.up c.args.down up down c.args.source.now.sole c.end_row.result
     is source.sole c.end_row.ensures.sole c.end_row.ensures.other
 
@@ -28,14 +27,14 @@ pub returns-in-FromHead : goal.returns-in-FromHead
 returns-in-FromHead c = λ g root w kept ordered source t_within there sole up down.
     let og : OrderedGraph = record { g = g; root = root; w = w; kept = kept; ordered = ordered } in
     let s = c.args.source.now.node in
-    let is = relates w s c.args.t c.args.source.now.place c.args.there.now
-    (source.place.head, source.place.block) (there.head, there.block) relations.FromHead (sym c.in-FromHead.is ∙ c.relation_of.ensures) in
+    let is = subst (Relates w s c.args.t) c.in-FromHead.is (relates w s c.args.t c.args.source.now.place c.args.there.now
+    (source.place.head, source.place.block) (there.head, there.block) c.relation_of.result c.relation_of.ensures) in
     over_top og s c.args.t source.within t_within c.requires c.args.up c.args.down up down c.args.sole c.end_row-in-FromHead.result
     is sole c.end_row-in-FromHead.ensures.sole c.end_row-in-FromHead.ensures.other
 
 pub returns-in-Apart : goal.returns-in-Apart
 returns-in-Apart c = λ g root w kept ordered source t_within there sole up down.
     let s = c.args.source.now.node in
-    let is = relates w s c.args.t c.args.source.now.place c.args.there.now
-    (source.place.head, source.place.block) (there.head, there.block) relations.Apart (sym c.in-Apart.is ∙ c.relation_of.ensures) in
+    let is = subst (Relates w s c.args.t) c.in-Apart.is (relates w s c.args.t c.args.source.now.place c.args.there.now
+    (source.place.head, source.place.block) (there.head, there.block) c.relation_of.result c.relation_of.ensures) in
     Apart is

@@ -2,7 +2,7 @@ use Rattle.std.proofs.Common.{◌∙◌, ◌<◌, ℕ, length, sym, subst, arith
 use Rattle.inc_dec_spf.specs.declared.reach.Dir.TheVariants.{Down, Up}
 use Rattle.inc_dec_spf.specs.FirstLink.{IsFirstLink}
 use Rattle.mrt_rows.specs.NearOf.{IsNearRow}
-use Rattle.mrt_rows.specs.Put.{AreInCommonBlockOfMore}
+use Rattle.mrt_rows.specs.Put.{AreInCommonBlockOfMoreLinks}
 use Rattle.mrt_rows.proofs.NearFound.{place_of, read_at}
 use Rattle.mrt_rows.proofs.row_over.row_to.Goals as goal
 
@@ -21,12 +21,12 @@ returns c = λ root w are.
     let up_within : t < length links.up.items = omega (arith, c.requires.target, kept.one_up_each) in
     let down_within : t < length links.down.items = omega (arith, c.requires.target, kept.one_down_each) in
     let sole_within : t < length links.soles.items = omega (arith, c.requires.target, kept.one_sole_each) in
-    let up : AreInCommonBlockOfMore g w s t → IsFirstLink g w Up s t c.index-2.result.now =
-    subst (λ (v : ℕ). AreInCommonBlockOfMore g w v t → IsFirstLink g w Up v t c.index-2.result.now) (sym c.requires.node)
+    let up : AreInCommonBlockOfMoreLinks g w s t → IsFirstLink g w Up s t c.index-2.result.now =
+    subst (λ (v : ℕ). AreInCommonBlockOfMoreLinks g w v t → IsFirstLink g w Up v t c.index-2.result.now) (sym c.requires.node)
     (by.up.each t c.index-2.result.now
     (read_at links.up.items t c.get-at.result c.index-2.result.now up_within c.get-at.ensures.value c.index-2.ensures)) in
-    let down : AreInCommonBlockOfMore g w s t → IsFirstLink g w Down s t c.index-3.result.now =
-    subst (λ (v : ℕ). AreInCommonBlockOfMore g w v t → IsFirstLink g w Down v t c.index-3.result.now) (sym c.requires.node)
+    let down : AreInCommonBlockOfMoreLinks g w s t → IsFirstLink g w Down s t c.index-3.result.now =
+    subst (λ (v : ℕ). AreInCommonBlockOfMoreLinks g w v t → IsFirstLink g w Down v t c.index-3.result.now) (sym c.requires.node)
     (by.down.each t c.index-3.result.now
     (read_at links.down.items t c.get-at.result c.index-3.result.now down_within c.get-at.ensures.value c.index-3.ensures)) in
     subst (λ (v : ℕ). IsNearRow g root w v t c.row_over.result) c.requires.node

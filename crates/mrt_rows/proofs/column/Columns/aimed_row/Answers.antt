@@ -10,13 +10,13 @@ use Rattle.inc_dec_spf.specs.declared.reach.Dir.{Dir}
 use Rattle.inc_dec_spf.specs.declared.reach.Dir.TheVariants.{Down, Up}
 use Rattle.inc_dec_spf.specs.BlockAims.{IsAimOf, aim_at}
 use Rattle.inc_dec_spf.specs.FirstLink.{IsFirstLink}
-use Rattle.inc_dec_spf.specs.LeastPath.{HaveCommonBlockOfMore}
+use Rattle.inc_dec_spf.specs.LeastPath.{HaveCommonBlockOfMoreLinks}
 use Rattle.inc_dec_spf.specs.Tile.{IsAimed}
 use Rattle.inc_dec_spf.specs.TileEntries.{TileEntries}
 use Rattle.mrt_rows.specs.declared.members.Home.{Home}
 use Rattle.mrt_rows.specs.ColumnParts.{ColumnParts}
 use Rattle.mrt_rows.specs.NearOf.{AreSoles, IsNearRow, IsPlaceOf, IsSoleOf}
-use Rattle.mrt_rows.specs.Put.{AreHomes, IsHome, AreInCommonBlockOfMore}
+use Rattle.mrt_rows.specs.Put.{AreHomes, IsHome, AreInCommonBlockOfMoreLinks}
 use Rattle.mrt_rows.proofs.Climbing.{graph_by}
 use Rattle.mrt_rows.proofs.HeldColumns.{held_inside}
 use Rattle.link_direction.proofs.TwoNodes.{place_says}
@@ -39,10 +39,10 @@ home_at g w homes i v home are one_each named within is =
     (slice_get-get_or homes i home (omega (arith, named, within, one_each)) ∙ ap (λ (x : Home). Some x) (sym is)))
 
 first_link : (g : Topology) (w : Directions) (dir : Dir) (tile : TileEntries) (wanted : List Bool) (aims links : List ℕ) (width s t j link : ℕ) → IsAimed g w wanted dir aims tile
-    → ((k h : ℕ) → HaveCommonBlockOfMore g w s t k h → slice_get wanted k ≡ Some true)
+    → ((k h : ℕ) → HaveCommonBlockOfMoreLinks g w s t k h → slice_get wanted k ≡ Some true)
     → IsAimOf g w (aim_at aims width j) s t → s < length g.ids → t < length g.ids → j < width → tile.width ≡ width → slice_get links j ≡ Some link
     → ((i x : ℕ) → slice_get links i ≡ Some x → slice_get tile.links (s * tile.width + i) ≡ Some x)
-    → AreInCommonBlockOfMore g w s t → IsFirstLink g w dir s t link
+    → AreInCommonBlockOfMoreLinks g w s t → IsFirstLink g w dir s t link
 first_link g w dir tile wanted aims links width s t j link aimed marked aim s_within t_within below wide at there shares =
     (aimed.each s s_within).each j t shares.block shares.head link (omega (arith, below, wide)) t_within shares.share (marked shares.block shares.head shares.share)
     (subst (λ (k : ℕ). IsAimOf g w (aim_at aims k j) s t) (sym wide) aim) (there j link at)
@@ -117,7 +117,7 @@ returns c = λ w says up down marked aimed.
     let away : w.head s ≢ aim = λ same.
     let place = place_says g d w s c.place-here.result says c.requires.source c.place-here.ensures in
     eqb-false c.place-here.result.head aim (sym c.eq.ensures ∙ c.if-eq.false) (place.0 ∙ same) in
-    let set : (k h : ℕ) → HaveCommonBlockOfMore g w s aim k h → slice_get columns.wanted.items k ≡ Some true =
+    let set : (k h : ℕ) → HaveCommonBlockOfMoreLinks g w s aim k h → slice_get columns.wanted.items k ≡ Some true =
     λ k h share. subst (λ (e : ColumnParts). slice_get e.wanted k ≡ Some true) (sym c.self.view_is) (marked k h share away) in
     let ups = c.links_of.result.now in
     let downs = c.links_of-2.result.now in

@@ -1,9 +1,10 @@
-use Rattle.std.proofs.Common.{◌≢◌, ◌∙◌, Option, length, sym, subst}
+use Rattle.std.proofs.Common.{◌≢◌, ◌∙◌, Option, Some, length, sym, subst}
 use Rattle.std.proofs.lemmas.Bool.{eqb-false, eqb-true}
 use Rattle.std.proofs.lemmas.Option.{slice_get_within}
 use Rattle.mrt_graph.specs.declared.cert.Row.{Row}
 use Rattle.inc_dec_spf.specs.BlockAims.{aim_at}
 use Rattle.mrt_rows.specs.Chain.{AreWayAims}
+use Rattle.mrt_rows.specs.ColumnOf.{IsRowIn}
 use Rattle.mrt_rows.specs.NearOf.{IsNearRow}
 use Rattle.mrt_rows.proofs.AimsOfRows.{aim_marked, aim_of_blocks}
 use Rattle.mrt_rows.proofs.ChainAims.{aim_apart, aim_within}
@@ -97,6 +98,7 @@ returns c = λ w says.
     (λ k h share away.
     aim_marked og c.args.to.node c.requires.to below are_below (aim_at held.aims (length held.targets) j) ways held.wanted (aimed.marks.each j c.args.to.node c.requires.place) s aim k h c.requires.source is share away)
     it in
-    row_from_aim og c.args.to.node c.requires.to below are_below s aim c.requires.source c.requires.two apart is c.in_ok-row.row
+    subst (λ (row : Row). IsRowIn g c.args.root w s c.args.to.node (Some row)) (sym c.carried.ensures)
+    (row_from_aim og c.args.to.node c.requires.to below are_below s aim c.requires.source c.requires.two apart is c.in_ok-row.row
     (eqb-false aim c.args.to.node (sym c.eq.ensures ∙ c.if-eq.false))
-    (subst (λ (o : Option Row). IsNearRow g c.args.root w s aim o) c.in_ok-row.was near)
+    (subst (λ (o : Option Row). IsNearRow g c.args.root w s aim o) c.in_ok-row.was near))
