@@ -135,7 +135,7 @@ impl CertStream {
         ensures { (file second : CertFile) → IsCertOf self.graph self.root file
             → IsCertOf other.graph other.root second → (IsTrue result ↔ (file ≡ second)) }
     {
-        // (each is held by this call alone, so that it is dropped at one place)
+        // a call below takes them by reference: what is owned is dropped at each return
         let mut one = self;
         let mut other = other;
         one.tells_the_same(&mut other)
