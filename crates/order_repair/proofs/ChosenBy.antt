@@ -7,7 +7,7 @@ use Rattle.mrt_graph.specs.declared.link.Element.{Element}
 use Rattle.mrt_graph.specs.declared.link.Element.TheVariants as elements
 use Rattle.mrt_graph.specs.Topology.{Topology}
 use Rattle.link_direction.specs.Directions.{Directions}
-use Rattle.inc_dec_spf.specs.LeastPath.{HaveCommonBlockOfMore}
+use Rattle.inc_dec_spf.specs.LeastPath.{HaveCommonBlockOfMoreLinks}
 use Rattle.mrt_rows.proofs.OrderedGraphs.{OrderedGraph}
 use Rattle.order_repair.specs.Failed.{IsBetween, IsNotSole, LiesIn}
 use Rattle.order_repair.specs.OrderChoice.{IsOrderChoice, LineFor}
@@ -16,7 +16,7 @@ use Rattle.order_repair.proofs.SharedBlock.{shared_ring}
 
 -- what lies in a block of more than one link is no sole link
 pub not_sole : (og : OrderedGraph) (s t k h : ℕ) (x : Element) → s < length og.g.ids → t < length og.g.ids
-    → HaveCommonBlockOfMore og.g og.w s t k h → LiesIn og.g og.w k h x → IsNotSole og.w x
+    → HaveCommonBlockOfMoreLinks og.g og.w s t k h → LiesIn og.g og.w k h x → IsNotSole og.w x
 not_sole og s t k h (elements.Link e) s_within t_within shares lies =
     let it = shared_ring og s t k h s_within t_within shares in
     it.ring.closed.none_sole e lies.within (lies.in_block ∙ it.block)
@@ -33,6 +33,6 @@ chosen g root w s t x color _ tag (Tagged k h row shares its_row) is between lin
 chosen g root w s t x color _ tag (NotShared none) is between line = cc
 
 pub not_shared : (g : Topology) (root : ℕ) (w : Directions) (s t : ℕ) (o : Option Tag) → IsTagFor g root w s t o → o ≡ None
-    → (k h : ℕ) → HaveCommonBlockOfMore g w s t k h → ⊥
+    → (k h : ℕ) → HaveCommonBlockOfMoreLinks g w s t k h → ⊥
 not_shared g root w s t _ (Tagged k h row shares its_row) is j i other = cc
 not_shared g root w s t _ (NotShared none) is j i other = none j i other

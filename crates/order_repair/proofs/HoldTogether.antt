@@ -4,7 +4,7 @@ use Rattle.mrt_graph.specs.declared.link.Element.{Element}
 use Rattle.mrt_graph.specs.Separates.{Separates}
 use Rattle.mrt_graph.specs.Certificate.{row_of}
 use Rattle.mrt_graph.specs.ColorWalk.{color_walk}
-use Rattle.inc_dec_spf.specs.LeastPath.{HaveCommonBlockOfMore}
+use Rattle.inc_dec_spf.specs.LeastPath.{HaveCommonBlockOfMoreLinks}
 use Rattle.mrt_rows.proofs.OrderedGraphs.{OrderedGraph}
 use Rattle.mrt_rows.proofs.WholeCert.{whole_file, whole_tells}
 use Rattle.order_repair.specs.Failed.{LiesIn}
@@ -12,7 +12,7 @@ use Rattle.order_repair.proofs.GoesRound.{arrives, goes_round}
 use Rattle.order_repair.proofs.OneChoice.{choice_for}
 
 pub none_separates : (og : OrderedGraph) (s t k h : ℕ) (x : Element) → s < length og.g.ids → t < length og.g.ids
-    → HaveCommonBlockOfMore og.g og.w s t k h → LiesIn og.g og.w k h x → Separates og.g.links x s t → ⊥
+    → HaveCommonBlockOfMoreLinks og.g og.w s t k h → LiesIn og.g og.w k h x → Separates og.g.links x s t → ⊥
 none_separates og s t k h x s_within t_within shares lies separates =
     let choice = choice_for og s t k h x s_within t_within shares lies separates.between in
     let file = whole_file og in

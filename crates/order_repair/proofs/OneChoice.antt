@@ -15,7 +15,7 @@ use Rattle.mrt_graph.specs.Separates.{IsNeitherEnd}
 use Rattle.inc_dec_spf.specs.declared.reach.Dir.{Dir}
 use Rattle.inc_dec_spf.specs.declared.reach.Dir.TheVariants.{Down, Up}
 use Rattle.inc_dec_spf.specs.declared.reach.Hop.{Hop}
-use Rattle.inc_dec_spf.specs.LeastPath.{HaveCommonBlockOfMore, IsHop}
+use Rattle.inc_dec_spf.specs.LeastPath.{HaveCommonBlockOfMoreLinks, IsHop}
 use Rattle.mrt_rows.specs.RowLines.{BeginsOver}
 use Rattle.mrt_rows.proofs.HopsExist.{has_hop}
 use Rattle.mrt_rows.proofs.OneHop.{way_or_none}
@@ -222,7 +222,7 @@ module _ (og : OrderedGraph) (s t : ℕ) where
       by_element (elements.Node f) it lies row ways = some_node it.m between.source row.blue row.red ways f lies.within
 
   -- and so for what lies in their block, and is neither of the two
-  pub choice_for : (k h : ℕ) (x : Element) → s < length og.g.ids → t < length og.g.ids → HaveCommonBlockOfMore og.g og.w s t k h
+  pub choice_for : (k h : ℕ) (x : Element) → s < length og.g.ids → t < length og.g.ids → HaveCommonBlockOfMoreLinks og.g og.w s t k h
       → LiesIn og.g og.w k h x → IsNeitherEnd x s t → (color : Color) × IsOrderChoice og.g og.root og.w s t x color
   choice_for k h x source target shares lies neither =
       some_choice x (record { source = source; target = target; block = k; head = h; share = shares; lies = lies; neither = neither })

@@ -12,7 +12,7 @@ use Rattle.mrt_graph.specs.Spelling.{node_text}
 use Rattle.mrt_graph.proofs.ListTests.{there}
 use Rattle.inc_dec_spf.specs.declared.reach.Dir.TheVariants.{Down, Up}
 use Rattle.inc_dec_spf.specs.declared.reach.Hop.{Hop}
-use Rattle.inc_dec_spf.specs.LeastPath.{HaveCommonBlockOfMore, IsHop}
+use Rattle.inc_dec_spf.specs.LeastPath.{HaveCommonBlockOfMoreLinks, IsHop}
 use Rattle.mrt_rows.proofs.HopsExist.{has_hop}
 use Rattle.mrt_rows.proofs.OrderedGraphs.{OrderedGraph, one_common}
 use Rattle.text_parts.specs.Parts.{AreParts}
@@ -45,7 +45,7 @@ module _ (og : OrderedGraph) (s : ℕ) (s_within : s < length og.g.ids) where
       let root = there og.g.ids og.root og.ordered.root_within in
       (_, record { router = router.0; router_is = router.1; root_id = root.0; root_is = root.1; spelled = refl })
 
-  module _ (t k h : ℕ) (t_within : t < n) (shares : HaveCommonBlockOfMore og.g og.w s t k h) where
+  module _ (t k h : ℕ) (t_within : t < n) (shares : HaveCommonBlockOfMoreLinks og.g og.w s t k h) where
     one_letter : (x : Element) (text other : List ℕ) → IsLetter og.g og.root og.w s t k h x text
         → IsLetter og.g og.root og.w s t k h x other → text ≡ other
     one_letter x text other (NotOfIt none) (NotOfIt none') = refl

@@ -10,7 +10,7 @@ use Rattle.mrt_graph.specs.declared.link.Element.{Element}
 use Rattle.mrt_graph.specs.DirectedLists.{DirectedLists}
 use Rattle.mrt_graph.specs.Topology.{Topology}
 use Rattle.link_direction.specs.Directions.{Directions, Says}
-use Rattle.inc_dec_spf.specs.LeastPath.{HaveCommonBlockOfMore}
+use Rattle.inc_dec_spf.specs.LeastPath.{HaveCommonBlockOfMoreLinks}
 use Rattle.link_direction.proofs.TwoNodes.{place_says}
 use Rattle.mrt_rows.proofs.OrderedGraphs.{OrderedGraph}
 use Rattle.mrt_rows.proofs.Ways.{Inside, Ring, inside_head}
@@ -62,6 +62,6 @@ module _ (og : OrderedGraph) (d : DirectedLists) (says : Says og.g d og.w) (s t 
         row = row;
         its_row = its_row;
         tag_is = tag_is;
-        share = subst (λ (x : ℕ). HaveCommonBlockOfMore og.g og.w s t place.block x) (it.head ∙ sym at.1)
-            (subst (λ (x : ℕ). HaveCommonBlockOfMore og.g og.w s t x h) (it.block ∙ sym at.0) shares);
+        share = subst (λ (x : ℕ). HaveCommonBlockOfMoreLinks og.g og.w s t place.block x) (it.head ∙ sym at.1)
+            (subst (λ (x : ℕ). HaveCommonBlockOfMoreLinks og.g og.w s t x h) (it.block ∙ sym at.0) shares);
       }

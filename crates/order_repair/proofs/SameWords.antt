@@ -16,7 +16,7 @@ use Rattle.link_direction.specs.OrderedGadag.{IsOrderedGadag}
 use Rattle.inc_dec_spf.specs.declared.reach.Dir.{Dir}
 use Rattle.inc_dec_spf.specs.declared.reach.Dir.TheVariants.{Down, Up}
 use Rattle.inc_dec_spf.specs.declared.reach.Hop.{Hop}
-use Rattle.inc_dec_spf.specs.LeastPath.{BeginsPath, IsHop, NotReached, Reached, HaveCommonBlockOfMore}
+use Rattle.inc_dec_spf.specs.LeastPath.{BeginsPath, IsHop, NotReached, Reached, HaveCommonBlockOfMoreLinks}
 use Rattle.inc_dec_spf.specs.Path.{Path}
 use Rattle.inc_dec_spf.proofs.SameDirections.{AreAlike, alike_back}
 use Rattle.mrt_rows.proofs.Agreeing.{line_too, path_too, share_too}
@@ -75,7 +75,7 @@ module _ (g : Topology) (root : ℕ) (kept : IsTopology g) (w v : Directions) (a
           absurd (none is k h (least.end ∷ first.others) (share_too g kept w v alike s x k h s_within x_within shares)
           (path_too g kept w v alike dir k h s (least.end ∷ first.others) x first.is_path))
         where
-          none : IsHop g v dir s x None → (k h : ℕ) (path : List End) → HaveCommonBlockOfMore g v s x k h → Path g v dir k h s path x → ⊥
+          none : IsHop g v dir s x None → (k h : ℕ) (path : List End) → HaveCommonBlockOfMoreLinks g v s x k h → Path g v dir k h s path x → ⊥
           none (NotReached never) k h path shares is = never k h path shares is
 
   row_on : (s t : ℕ) (row : Row) → s < length g.ids → IsRowFor g root w s t row → IsRowFor g root v s t row
@@ -115,10 +115,10 @@ module _ (one : OrderedGraph) (v : Directions) (ordered : IsOrderedGadag one.g o
   hops_v dir s x s_within x_within =
       has_hop (record { g = one.g; root = one.root; w = v; kept = one.kept; ordered = ordered }) dir s x s_within x_within
 
-  share_there : (s t k h : ℕ) → s < n → t < n → HaveCommonBlockOfMore g w s t k h → HaveCommonBlockOfMore g v s t k h
+  share_there : (s t k h : ℕ) → s < n → t < n → HaveCommonBlockOfMoreLinks g w s t k h → HaveCommonBlockOfMoreLinks g v s t k h
   share_there s t k h = share_too g one.kept w v alike s t k h
 
-  share_back : (s t k h : ℕ) → s < n → t < n → HaveCommonBlockOfMore g v s t k h → HaveCommonBlockOfMore g w s t k h
+  share_back : (s t k h : ℕ) → s < n → t < n → HaveCommonBlockOfMoreLinks g v s t k h → HaveCommonBlockOfMoreLinks g w s t k h
   share_back s t k h = share_too g one.kept v w back s t k h
 
   leads_there : (dir : Dir) (s x : ℕ) → s < n → x < n → LeadsTo g w dir s x → LeadsTo g v dir s x

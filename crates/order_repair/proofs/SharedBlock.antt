@@ -1,7 +1,7 @@
 -- The block of more than one link that two nodes have in common.
 use Rattle.std.proofs.Common.{◌≡◌, ◌≢◌, ◌∙◌, ◌<◌, ℕ, length, sym, subst}
 use Rattle.link_direction.specs.CommonBlock.{FromHead, HaveCommonBlock, Peers, ToHead}
-use Rattle.inc_dec_spf.specs.LeastPath.{HasMoreLinks, HaveCommonBlockOfMore}
+use Rattle.inc_dec_spf.specs.LeastPath.{HasMoreLinks, HaveCommonBlockOfMoreLinks}
 use Rattle.mrt_rows.proofs.LinesHold.{has_head}
 use Rattle.mrt_rows.proofs.OrderedGraphs.{OrderedGraph, not_root_of_peers}
 use Rattle.mrt_rows.proofs.Ways.{Ring}
@@ -17,7 +17,7 @@ pub record SharedRing (og : OrderedGraph) (s t k h : ℕ) : Type 0 where
   pub head : h ≡ og.w.head m
 
 pub shared_ring : (og : OrderedGraph) (s t k h : ℕ) → s < length og.g.ids → t < length og.g.ids
-    → HaveCommonBlockOfMore og.g og.w s t k h → SharedRing og s t k h
+    → HaveCommonBlockOfMoreLinks og.g og.w s t k h → SharedRing og s t k h
 shared_ring og s t k h s_within t_within shares = go shares.common
   where
     made : (m : ℕ) → m < length og.g.ids → m ≢ og.root → og.w.block m ≡ k → h ≡ og.w.head m → SharedRing og s t k h

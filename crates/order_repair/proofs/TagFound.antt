@@ -5,7 +5,7 @@ use Rattle.mrt_graph.specs.declared.cert.Tag.{Tag}
 use Rattle.mrt_graph.specs.declared.cert.Tag.TheVariants as tags
 use Rattle.inc_dec_spf.specs.declared.reach.Dir.TheVariants.{Down, Up}
 use Rattle.inc_dec_spf.specs.declared.reach.Hop.{Hop}
-use Rattle.inc_dec_spf.specs.LeastPath.{IsHop, NotReached, Reached, HaveCommonBlockOfMore}
+use Rattle.inc_dec_spf.specs.LeastPath.{IsHop, NotReached, Reached, HaveCommonBlockOfMoreLinks}
 use Rattle.link_direction.specs.CommonBlock.{HaveCommonBlock}
 use Rattle.mrt_rows.proofs.OrderedGraphs.{OrderedGraph, not_root_of_peers, one_is_head, peers_not_head}
 use Rattle.mrt_rows.proofs.RowsExist.{some_rows}
@@ -26,7 +26,7 @@ module _ (og : OrderedGraph) (s t : ℕ) (s_within : s < length og.g.ids) (t_wit
     its_row : IsRowFor og.g og.root og.w s t row
     ways : RowWays og it.m s t row.blue row.red row.tag
 
-  row_of_pair : (k h : ℕ) → HaveCommonBlockOfMore og.g og.w s t k h → RowOf k h
+  row_of_pair : (k h : ℕ) → HaveCommonBlockOfMoreLinks og.g og.w s t k h → RowOf k h
   row_of_pair k h shares =
       let it = shared_ring og s t k h s_within t_within shares in
       let rows = some_rows og s s_within in
@@ -39,7 +39,7 @@ module _ (og : OrderedGraph) (s t : ℕ) (s_within : s < length og.g.ids) (t_wit
       }
 
   -- with this tag
-  tagged : (k h : ℕ) (tag : Tag) → HaveCommonBlockOfMore og.g og.w s t k h → (of : RowOf k h) → of.row.tag ≡ tag
+  tagged : (k h : ℕ) (tag : Tag) → HaveCommonBlockOfMoreLinks og.g og.w s t k h → (of : RowOf k h) → of.row.tag ≡ tag
       → IsTagFor og.g og.root og.w s t (Some tag)
   tagged k h tag shares of is =
       subst (λ (x : Tag). IsTagFor og.g og.root og.w s t (Some x)) is (Tagged k h of.row shares of.its_row)
@@ -116,14 +116,14 @@ module _ (og : OrderedGraph) (s t : ℕ) (s_within : s < length og.g.ids) (t_wit
         other : s ≢ og.root
         other = not_root_of_peers og t s t_within s_within (λ back. two (sym back)) (sym same)
 
-    shares : HaveCommonBlockOfMore og.g og.w s t (og.w.block s) (og.w.head s)
+    shares : HaveCommonBlockOfMoreLinks og.g og.w s t (og.w.block s) (og.w.head s)
     shares = share og s s t peers_ring
         (peers og s s t peers_ring (inside_itself og s peers_ring) (record { within = t_within; block = sym same }) two)
 
     -- no row but these
     is_peer : (m blue red : ℕ) (ring : Ring og m) {tag : Tag} → RowWays og m s t blue red tag → (up down : Option Hop)
         → IsHop og.g og.w Up s t up → IsHop og.g og.w Down s t down
-        → HaveCommonBlockOfMore og.g og.w s t (og.w.block m) (og.w.head m) → tag ≡ peer_tag up down
+        → HaveCommonBlockOfMoreLinks og.g og.w s t (og.w.block m) (og.w.head m) → tag ≡ peer_tag up down
     is_peer m blue red ring (HeadRow a b x y) up down is_up is_down both =
         absurd (peers_not_head og s t s_within t_within two same (inside_head og m ring s a ∙ sym b))
     is_peer m blue red ring (TopRow a b x y) up down is_up is_down both =

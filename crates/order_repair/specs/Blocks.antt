@@ -6,7 +6,7 @@ use Rattle.mrt_graph.specs.declared.gadag.Place.{Place}
 use Rattle.mrt_graph.specs.declared.link.Element.TheVariants as elements
 use Rattle.mrt_graph.specs.Topology.{Topology}
 use Rattle.link_direction.specs.Directions.{Directions}
-use Rattle.inc_dec_spf.specs.LeastPath.{HaveCommonBlockOfMore}
+use Rattle.inc_dec_spf.specs.LeastPath.{HaveCommonBlockOfMoreLinks}
 use Rattle.text_parts.specs.Parts.{AreParts}
 use Rattle.order_repair.specs.declared.pair.Pair.{Pair}
 use Rattle.order_repair.specs.OrderChoice.{IsRowFor}
@@ -17,7 +17,7 @@ pub record IsPair (g : Topology) (root : ℕ) (w : Directions) (s t : ℕ) (tag 
   pub row : Row
   pub its_row : IsRowFor g root w s t row
   pub tag_is : row.tag ≡ tag
-  pub share : HaveCommonBlockOfMore g w s t place.block place.head
+  pub share : HaveCommonBlockOfMoreLinks g w s t place.block place.head
 
 -- a letter of the pair's line: for a node, and for a link
 abbrev pub NodeLetter : Topology → ℕ → Directions → Pair → Place → ℕ → List ℕ → Type 0

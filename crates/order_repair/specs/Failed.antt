@@ -6,7 +6,7 @@ use Rattle.mrt_graph.specs.declared.link.Element.TheVariants as elements
 use Rattle.mrt_graph.specs.Separates.{IsNeitherEnd}
 use Rattle.mrt_graph.specs.Topology.{Topology}
 use Rattle.link_direction.specs.Directions.{Directions}
-use Rattle.inc_dec_spf.specs.LeastPath.{HaveCommonBlockOfMore}
+use Rattle.inc_dec_spf.specs.LeastPath.{HaveCommonBlockOfMoreLinks}
 
 -- a node of block k, its head h included
 pub record IsNodeOf (g : Topology) (w : Directions) (k h x : ℕ) : Type 0 where
@@ -29,7 +29,7 @@ pub record IsBetween (g : Topology) (w : Directions) (s t : ℕ) (x : Element) :
   pub target : t < length g.ids
   pub block : ℕ
   pub head : ℕ
-  pub share : HaveCommonBlockOfMore g w s t block head
+  pub share : HaveCommonBlockOfMoreLinks g w s t block head
   pub lies : LiesIn g w block head x
   pub neither : IsNeitherEnd x s t
 

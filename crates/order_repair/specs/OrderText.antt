@@ -11,7 +11,7 @@ use Rattle.mrt_graph.specs.Spelling.{node_text}
 use Rattle.mrt_graph.specs.Topology.{Topology}
 use Rattle.text_parts.specs.Parts.{AreParts, IsHeaded}
 use Rattle.link_direction.specs.Directions.{Directions, Says}
-use Rattle.inc_dec_spf.specs.LeastPath.{HaveCommonBlockOfMore}
+use Rattle.inc_dec_spf.specs.LeastPath.{HaveCommonBlockOfMoreLinks}
 use Rattle.mrt_rows.specs.DirectedFrom.{IsDirectedFrom}
 use Rattle.order_repair.specs.Failed.{LiesIn}
 use Rattle.order_repair.specs.OrderChoice.{IsOrderChoice}
@@ -42,7 +42,7 @@ pub data IsLetter (g : Topology) (root : ℕ) (w : Directions) (s t k h : ℕ) (
 pub record IsLine (g : Topology) (root : ℕ) (w : Directions) (s t : ℕ) (text : List ℕ) : Type 0 where
   pub block : ℕ
   pub head : ℕ
-  pub share : HaveCommonBlockOfMore g w s t block head
+  pub share : HaveCommonBlockOfMoreLinks g w s t block head
   pub id : NodeId
   pub id_is : slice_get g.ids t ≡ Some id
   pub nodes : List ℕ
@@ -53,7 +53,7 @@ pub record IsLine (g : Topology) (root : ℕ) (w : Directions) (s t : ℕ) (text
 
 -- one line on a node with which s has such a block in common, and none on another one
 pub data IsPartOn (g : Topology) (root : ℕ) (w : Directions) (s t : ℕ) : List ℕ → Type 0 where
-  NoLine : ((k h : ℕ) → ¬ HaveCommonBlockOfMore g w s t k h) → IsPartOn g root w s t []
+  NoLine : ((k h : ℕ) → ¬ HaveCommonBlockOfMoreLinks g w s t k h) → IsPartOn g root w s t []
   Line : (text : List ℕ) → IsLine g root w s t text → IsPartOn g root w s t text
 
 -- the first line, and the lines on all nodes, by number and so by ascending identifier

@@ -12,7 +12,7 @@ ghost use Rattle.mrt_rows.specs.DirectedFrom.{IsDirectedFrom};
 ghost use Rattle.order_repair.specs.Source.{AreHops, IsSource};
 ghost use Rattle.order_repair.specs.Failed.{IsBetween, IsNotSole, IsWithin};
 ghost use Rattle.order_repair.specs.OrderChoice.{IsOrderChoice, LineFor};
-ghost use Rattle.order_repair.specs.Tagging.{IsTagOfMore};
+ghost use Rattle.order_repair.specs.Tagging.{IsTagOfMoreLinks};
 
 use crate::link_line::link_color;
 use crate::node_line::node_color;
@@ -75,7 +75,7 @@ pub fn color_for(
     requires source { IsSource g.now d.now pair.now.source up.now down.now }
     requires to { pair.now.to < length g.now.ids }
     requires failed { IsWithin g.now failed }
-    requires near { IsTagOfMore pair.now.tag }
+    requires more { IsTagOfMoreLinks pair.now.tag }
     ensures { (root : ℕ) (w : Directions) → AreHops g.now d.now root w pair.now.source up.now down.now
         → IsNotSole w failed → LineFor pair.now.tag g.now w pair.now.source pair.now.to failed result }
 {

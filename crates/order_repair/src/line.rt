@@ -13,7 +13,7 @@ ghost use Rattle.order_repair.specs.Chains.{IsNext};
 ghost use Rattle.order_repair.specs.Failed.{IsWithin, LiesIn};
 ghost use Rattle.order_repair.specs.OrderText.{IsLetter, IsLine};
 ghost use Rattle.order_repair.specs.SourceView.{AreHopsIn, IsSourceIn};
-ghost use Rattle.order_repair.specs.Tagging.{IsTagOfMore, IsTagFor};
+ghost use Rattle.order_repair.specs.Tagging.{IsTagOfMoreLinks, IsTagFor};
 
 use crate::choice::color_for;
 use crate::colors::letter;
@@ -27,7 +27,7 @@ pub fn push_line(text: &mut Vec<u8>, view: &SourceView, pair: &Pair) -> Result<(
     requires source { IsSourceIn view.now pair.now.source }
     requires lists { AreBlockLists view.now.directed.now view.now.lists.now }
     requires to { pair.now.to < length view.now.graph.now.ids }
-    requires near { IsTagOfMore pair.now.tag }
+    requires more { IsTagOfMoreLinks pair.now.tag }
     ensures { (root : ℕ) (w : Directions) → AreHopsIn view.now root w pair.now.source
         → IsTagFor view.now.graph.now root w pair.now.source pair.now.to (Some pair.now.tag)
         → IfOk result (λ _. Adds (IsLine view.now.graph.now root w pair.now.source pair.now.to)
@@ -68,7 +68,7 @@ fn push_node_letters(
     requires source { IsSourceIn view.now pair.now.source }
     requires lists { AreBlockLists view.now.directed.now view.now.lists.now }
     requires to { pair.now.to < length view.now.graph.now.ids }
-    requires near { IsTagOfMore pair.now.tag }
+    requires more { IsTagOfMoreLinks pair.now.tag }
     requires block { place.now.block < length view.now.graph.now.ids }
     ensures { (root : ℕ) (w : Directions) → AreHopsIn view.now root w pair.now.source
         → IsPair view.now.graph.now root w pair.now.source pair.now.to pair.now.tag place.now
@@ -100,7 +100,7 @@ fn push_head_letter(
 ) -> Result<(), NoMemory>
     requires source { IsSourceIn view.now pair.now.source }
     requires to { pair.now.to < length view.now.graph.now.ids }
-    requires near { IsTagOfMore pair.now.tag }
+    requires more { IsTagOfMoreLinks pair.now.tag }
     requires none { IsNext (node_blocks view.now.directed.now) place.now.block from until }
     ensures { (root : ℕ) (w : Directions) (before : List ℕ) → AreHopsIn view.now root w pair.now.source
         → IsPair view.now.graph.now root w pair.now.source pair.now.to pair.now.tag place.now
@@ -131,7 +131,7 @@ fn push_link_letters(
     requires source { IsSourceIn view.now pair.now.source }
     requires lists { AreBlockLists view.now.directed.now view.now.lists.now }
     requires to { pair.now.to < length view.now.graph.now.ids }
-    requires near { IsTagOfMore pair.now.tag }
+    requires more { IsTagOfMoreLinks pair.now.tag }
     requires block { place.now.block < length view.now.graph.now.ids }
     ensures { (root : ℕ) (w : Directions) → AreHopsIn view.now root w pair.now.source
         → IsPair view.now.graph.now root w pair.now.source pair.now.to pair.now.tag place.now
@@ -157,7 +157,7 @@ fn push_letter(
 ) -> Result<(), NoMemory>
     requires source { IsSourceIn view.now pair.now.source }
     requires to { pair.now.to < length view.now.graph.now.ids }
-    requires near { IsTagOfMore pair.now.tag }
+    requires more { IsTagOfMoreLinks pair.now.tag }
     requires within { IsWithin view.now.graph.now x.now }
     ensures { (root : ℕ) (w : Directions) (place : Place) → AreHopsIn view.now root w pair.now.source
         → IsPair view.now.graph.now root w pair.now.source pair.now.to pair.now.tag place

@@ -9,7 +9,7 @@ ghost use Rattle.inc_dec_spf.specs.LeastPath.{IsReach};
 ghost use Rattle.order_repair.specs.Source.{AreHops, IsSource};
 ghost use Rattle.order_repair.specs.Arrow.{arrow_of};
 ghost use Rattle.order_repair.specs.OrderChoice.{ClosingLine, LeadsTo, LinkLine, PlainLine};
-ghost use Rattle.order_repair.specs.Tagging.{IsTagOfMore};
+ghost use Rattle.order_repair.specs.Tagging.{IsTagOfMoreLinks};
 
 use crate::colors::{blue_where, red_where};
 use crate::pair::Pair;
@@ -36,7 +36,7 @@ pub fn link_color(
     requires source { IsSource g.now d.now pair.now.source up.now down.now }
     requires to { pair.now.to < length g.now.ids }
     requires failed { failed < length g.now.links }
-    requires near { IsTagOfMore pair.now.tag }
+    requires more { IsTagOfMoreLinks pair.now.tag }
     ensures { (root : ℕ) (w : Directions) → AreHops g.now d.now root w pair.now.source up.now down.now
         → w.role failed ≢ Sole → LinkLine pair.now.tag g.now w pair.now.source pair.now.to failed result }
 {
@@ -66,7 +66,7 @@ fn arrow_of(link: Link, way: Way) -> Arrow
 
 /// The color for a pair with this tag where the closing link of their block has failed.
 fn closing_color(tag: Tag) -> Color
-    requires { IsTagOfMore tag }
+    requires { IsTagOfMoreLinks tag }
     ensures { ClosingLine tag result }
 {
     match tag {
@@ -89,7 +89,7 @@ fn plain_color(
     requires to { pair.now.to < length g.now.ids }
     requires from { failed.from < length g.now.ids }
     requires onto { failed.to < length g.now.ids }
-    requires near { IsTagOfMore pair.now.tag }
+    requires more { IsTagOfMoreLinks pair.now.tag }
     ensures { (root : ℕ) (w : Directions) → AreHops g.now d.now root w pair.now.source up.now down.now
         → PlainLine pair.now.tag g.now w pair.now.source pair.now.to failed.from failed.to result }
 {

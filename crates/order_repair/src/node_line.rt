@@ -5,7 +5,7 @@ ghost use Rattle.mrt_graph.specs.declared.cert.Tag.TheVariants.{Unordered};
 ghost use Rattle.link_direction.specs.Directions.{Directions};
 ghost use Rattle.order_repair.specs.Source.{AreHops, IsSource};
 ghost use Rattle.order_repair.specs.OrderChoice.{NodeLine};
-ghost use Rattle.order_repair.specs.Tagging.{IsTagOfMore};
+ghost use Rattle.order_repair.specs.Tagging.{IsTagOfMoreLinks};
 
 use crate::colors::{blue_where, red_where};
 use crate::pair::Pair;
@@ -25,7 +25,7 @@ pub fn node_color(
     requires source { IsSource g.now d.now pair.now.source up.now down.now }
     requires to { pair.now.to < length g.now.ids }
     requires failed { failed < length g.now.ids }
-    requires near { IsTagOfMore pair.now.tag }
+    requires more { IsTagOfMoreLinks pair.now.tag }
     ensures { (root : ℕ) (w : Directions) → AreHops g.now d.now root w pair.now.source up.now down.now
         → NodeLine pair.now.tag g.now w pair.now.source pair.now.to failed result }
 {

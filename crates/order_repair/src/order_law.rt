@@ -13,7 +13,7 @@ ghost use Rattle.mrt_graph.specs.Separates.{Separates};
 ghost use Rattle.mrt_graph.specs.Topology.{Topology};
 ghost use Rattle.link_direction.specs.Directions.{Directions, Says};
 ghost use Rattle.link_direction.specs.OrderedGadag.{IsOrderedGadag};
-ghost use Rattle.inc_dec_spf.specs.LeastPath.{HaveCommonBlockOfMore};
+ghost use Rattle.inc_dec_spf.specs.LeastPath.{HaveCommonBlockOfMoreLinks};
 ghost use Rattle.mrt_rows.specs.CertOf.{IsCertOf, Tells};
 ghost use Rattle.mrt_rows.specs.DirectedFrom.{IsDirectedFrom};
 ghost use Rattle.order_repair.specs.Failed.{IsBetween, LiesIn};
@@ -61,5 +61,5 @@ pub fn one_color_for_each_failure()
 pub fn blocks_hold_together()
     ensures { (g : Topology) (root : ℕ) (w : Directions) (s t block head : ℕ) (x : Element)
         → IsTopology g → IsOrderedGadag g root w → s < length g.ids → t < length g.ids
-        → HaveCommonBlockOfMore g w s t block head → LiesIn g w block head x → ¬ Separates g.links x s t }
+        → HaveCommonBlockOfMoreLinks g w s t block head → LiesIn g w block head x → ¬ Separates g.links x s t }
 {}

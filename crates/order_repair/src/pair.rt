@@ -1,4 +1,4 @@
-//! A source and a destination that share a block of more than one link.
+//! A source and a destination that have a block of more than one link in common.
 
 use mrt_graph::{NodeNo, Tag};
 

@@ -1,14 +1,14 @@
-//! The tag of the row for a node that shares a block of more than one link with the source.
+//! The tag of the row for a node with which the source has a block of more than one link in common.
 
 ghost use Rattle.std.specs.Prelude.{◌≡◌, ◌<◌, ℕ, IfSome, length};
 ghost use Rattle.link_direction.specs.Directions.{Directions};
 ghost use Rattle.order_repair.specs.Source.{AreHops, IsSource};
-ghost use Rattle.order_repair.specs.Tagging.{IsTagOfMore, IsTagFor, peer_tag, tag_where};
+ghost use Rattle.order_repair.specs.Tagging.{IsTagOfMoreLinks, IsTagFor, peer_tag, tag_where};
 
 use inc_dec_spf::{Hop, Reach};
 use mrt_graph::{Directed, Graph, NodeNo, Relation, Tag, relation_of};
 
-/// The tag of the row of `s` for `t`, where they share a block of more than one link; `None` where they do not.
+/// The tag of the row of `s` for `t`, where they have a block of more than one link in common; `None` where they have none.
 pub fn tag_for(
     g: &Graph,
     d: &Directed,
@@ -21,7 +21,7 @@ pub fn tag_for(
     requires to { t < length g.now.ids }
     ensures tag { (root : ℕ) (w : Directions) → AreHops g.now d.now root w s up.now down.now
         → IsTagFor g.now root w s t result }
-    ensures near { IfSome result IsTagOfMore }
+    ensures more { IfSome result IsTagOfMoreLinks }
 {
     if s == t {
         return None;

@@ -1,7 +1,6 @@
-use Rattle.std.proofs.Common.{◌∙◌, sym}
+use Rattle.std.proofs.Common.{◌∙◌, sym, subst}
 use Rattle.std.proofs.lemmas.Bool.{eqb-false, eqb-true}
-use Rattle.mrt_graph.specs.declared.related.Relation.TheVariants as relations
-use Rattle.link_direction.proofs.TwoNodes.{place_says, relates}
+use Rattle.link_direction.proofs.TwoNodes.{Relates, place_says, relates}
 use Rattle.mrt_rows.proofs.OrderedGraphs.{graph_of}
 use Rattle.order_repair.specs.Tagging.{NotShared}
 use Rattle.order_repair.proofs.TagFound.{head_found, none_found, peer_found, top_found}
@@ -19,7 +18,8 @@ returns-in-OneBlock-clause-tag c = λ root w hops.
     let here = place_says g c.args.d.now w c.args.s c.place-here.result hops.are.says c.requires.source.within c.place-here.ensures in
     let there = place_says g c.args.d.now w c.args.t c.place-there.result hops.are.says c.requires.to c.place-there.ensures in
     let two = eqb-false c.args.s c.args.t (sym c.eq.ensures ∙ c.if-eq.false) in
-    let is = relates w c.args.s c.args.t c.place-here.result c.place-there.result here there relations.OneBlock (sym c.in-OneBlock.is ∙ c.relation_of.ensures) in
+    let is = subst (Relates w c.args.s c.args.t) c.in-OneBlock.is
+    (relates w c.args.s c.args.t c.place-here.result c.place-there.result here there c.relation_of.result c.relation_of.ensures) in
     rw c.peer_tag.ensures
     (peer_found og c.args.s c.args.t c.requires.source.within c.requires.to two is
     c.hop.result c.hop-in-OneBlock.result
@@ -33,7 +33,8 @@ returns-in-ToHead-clause-tag c = λ root w hops.
     let here = place_says g c.args.d.now w c.args.s c.place-here.result hops.are.says c.requires.source.within c.place-here.ensures in
     let there = place_says g c.args.d.now w c.args.t c.place-there.result hops.are.says c.requires.to c.place-there.ensures in
     let two = eqb-false c.args.s c.args.t (sym c.eq.ensures ∙ c.if-eq.false) in
-    let is = relates w c.args.s c.args.t c.place-here.result c.place-there.result here there relations.ToHead (sym c.in-ToHead.is ∙ c.relation_of.ensures) in
+    let is = subst (Relates w c.args.s c.args.t) c.in-ToHead.is
+    (relates w c.args.s c.args.t c.place-here.result c.place-there.result here there c.relation_of.result c.relation_of.ensures) in
     rw c.tag_where.ensures
     (head_found og c.args.s c.args.t c.requires.source.within c.requires.to two c.hop-in-ToHead.result
     (hops.goes_up.each c.args.t c.hop-in-ToHead.result c.hop-in-ToHead.ensures) is)
@@ -45,7 +46,8 @@ returns-in-FromHead-clause-tag c = λ root w hops.
     let here = place_says g c.args.d.now w c.args.s c.place-here.result hops.are.says c.requires.source.within c.place-here.ensures in
     let there = place_says g c.args.d.now w c.args.t c.place-there.result hops.are.says c.requires.to c.place-there.ensures in
     let two = eqb-false c.args.s c.args.t (sym c.eq.ensures ∙ c.if-eq.false) in
-    let is = relates w c.args.s c.args.t c.place-here.result c.place-there.result here there relations.FromHead (sym c.in-FromHead.is ∙ c.relation_of.ensures) in
+    let is = subst (Relates w c.args.s c.args.t) c.in-FromHead.is
+    (relates w c.args.s c.args.t c.place-here.result c.place-there.result here there c.relation_of.result c.relation_of.ensures) in
     rw c.tag_where-in-FromHead.ensures
     (top_found og c.args.s c.args.t c.requires.source.within c.requires.to two c.hop-in-FromHead.result
     (hops.goes_up.each c.args.t c.hop-in-FromHead.result c.hop-in-FromHead.ensures) is)
@@ -57,5 +59,6 @@ returns-in-Apart-clause-tag c = λ root w hops.
     let here = place_says g c.args.d.now w c.args.s c.place-here.result hops.are.says c.requires.source.within c.place-here.ensures in
     let there = place_says g c.args.d.now w c.args.t c.place-there.result hops.are.says c.requires.to c.place-there.ensures in
     let two = eqb-false c.args.s c.args.t (sym c.eq.ensures ∙ c.if-eq.false) in
-    let is = relates w c.args.s c.args.t c.place-here.result c.place-there.result here there relations.Apart (sym c.in-Apart.is ∙ c.relation_of.ensures) in
+    let is = subst (Relates w c.args.s c.args.t) c.in-Apart.is
+    (relates w c.args.s c.args.t c.place-here.result c.place-there.result here there c.relation_of.result c.relation_of.ensures) in
     none_found og c.args.s c.args.t c.requires.source.within c.requires.to two is
