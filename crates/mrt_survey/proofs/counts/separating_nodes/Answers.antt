@@ -23,5 +23,5 @@ returns c =
     (rw c.set_mark.ensures
     (separating_marked c.args.g.now c.args.root c.args.c.now c.requires c.mark_heads.new.marks.items c.heads_two_blocks.result room
     (marked_alone (map (λ (node : CertNode). node.head) c.args.c.now.nodes) c.node_count.result _ _ c.in_ok-marks.ensures
-    (rw (← c.nodes.ensures) c.mark_heads.ensures.marked))
+    (rw (← c.nodes.ensures.value) c.mark_heads.ensures.marked))
     c.heads_two_blocks.ensures))
