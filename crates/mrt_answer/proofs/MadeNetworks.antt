@@ -22,7 +22,7 @@ use Rattle.mrt_survey.specs.SurveyText.{IsSurveyText}
 use Rattle.mrt_exit.specs.declared.exit.DbKind.{DbKind}
 use Rattle.mrt_exit.specs.declared.exit.Exit.{Exit}
 use Rattle.mrt_exit.specs.declared.exit.Exit.TheVariants as exits
-use Rattle.ospf_lsa.specs.AreaLsas.{is_topology as enters}
+use Rattle.ospf_lsa.specs.AreaLsas.{is_area_lsa as enters}
 use Rattle.lsdb.specs.Database.{IsDatabase, entering}
 use Rattle.mrt_answer.specs.Database.{IsBadDatabase}
 use Rattle.mrt_words.specs.Form.{IsNetworkSize}

@@ -41,7 +41,7 @@ use Rattle.mrt_words.specs.FileBytes.{FileBytes}
 use Rattle.mrt_answer.specs.Answers.{GivesFor, GivesOver, IsRefusedOver, IsRefusedTask}
 use Rattle.mrt_answer.specs.LoopFree.{HasLoopFree}
 use Rattle.mrt_answer.specs.Certified.{IsCertified, IsComputed}
-use Rattle.ospf_lsa.specs.AreaLsas.{is_topology as enters}
+use Rattle.ospf_lsa.specs.AreaLsas.{is_area_lsa as enters}
 use Rattle.lsdb.specs.Database.{IsDatabase, entering}
 use Rattle.mrt_answer.specs.Database.{IsBadDatabase}
 use Rattle.mrt_words.specs.declared.task.RouterTask.TheVariants.{Certify, Table, Trace, Lfa, Order, Proxy}

@@ -25,7 +25,7 @@ use Rattle.ospf_lsa.specs.Lsas.{AreLsas}
 use Rattle.ospf_lsa.specs.Outcome.{IsFirstFault}
 use Rattle.ospf_lsa.specs.declared.error.LsaKind.{LsaKind}
 use Rattle.ospf_lsa.specs.declared.lsa.Lsa.{Lsa as Advertisement}
-use Rattle.ospf_lsa.specs.AreaLsas.{is_topology as enters}
+use Rattle.ospf_lsa.specs.AreaLsas.{is_area_lsa as enters}
 use Rattle.lsdb.specs.Database.{HoldsLsas, IsDatabase, entering}
 use Rattle.mrt_answer.specs.Database.{IsBadDatabase}
 use Rattle.mrt_words.specs.CertSpelling.{IsSpellingOf}
