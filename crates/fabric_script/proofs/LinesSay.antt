@@ -48,7 +48,7 @@ after_events start events (line ∷ others) after is =
         let rest = onward event is in (
           event ∷ rest.0,
           ap (λ (o : Option ScriptEvent). o ∷ map event_in others) there
-          ∙ ap (λ (os : List (Option ScriptEvent)). Some event ∷ os) rest.1,
+              ∙ ap (λ (os : List (Option ScriptEvent)). Some event ∷ os) rest.1,
           rest.2 ∙ ap (said (Some start)) (append_assoc events (event ∷ []) rest.0),
         )
 

@@ -92,10 +92,10 @@ first_wrong : {S W : Type 0} (rule : TextRule S W (Unit {0})) (Is : List (List �
 first_wrong rule Is of lines number fault (OfLine said line counted say there wrong) =
     Wrong counted (omega (arith, slice_get_within lines (number - 1) line there)) (of.begins (take (number - 1) lines) said say)
     (λ begins.
-        let b = begun rule Is of (take number lines) begins in
-        let some = b.1 in
-        let none = one_more rule lines number line said counted there say ∙ wrong in
-        absurd cc)
+    let b = begun rule Is of (take number lines) begins in
+    let some = b.1 in
+    let none = one_more rule lines number line said counted there say ∙ wrong in
+    absurd cc)
 first_wrong {S = S} rule Is of lines number fault (OfEnd said counted say wrong) = NoFirst counted (elim (of.begins lines said say) [
   | inl all ↦ all
   | inr text ↦
@@ -113,10 +113,13 @@ wrong_first {S = S} rule Is of lines number fault (Wrong counted within before n
   where
     b : (said : S) × (said_by rule (take (number - 1) lines) ≡ Ok said)
     b = begun rule Is of (take (number - 1) lines) before
+
     line : List ℕ
     line = get_or lines (number - 1) []
+
     there : slice_get lines (number - 1) ≡ Some line
     there = slice_get-get_or lines (number - 1) [] (omega (arith, counted, within))
+
     next : (known : Result S (Unit {0})) → with_line rule (Ok b.0) line ≡ known → IsFirstFault rule lines number fault
     next (Ok after) is = absurd (not (of.begins (take number lines) after (one_more rule lines number line b.0 counted there b.1 ∙ is)))
     next (Err other) is = OfLine b.0 line counted b.1 there is
