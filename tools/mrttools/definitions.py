@@ -12,7 +12,7 @@ from dataclasses import dataclass, field
 from typing import Dict, Iterable, Iterator, NamedTuple, Tuple
 
 HEAD = re.compile(r"^(?:abbrev pub|unfoldable pub|pub record|pub data|abbrev|record|data) ([^\s:({]+)")
-USE = re.compile(r"^use Rattle\.(\w+)\.specs\.([\w.]+?)(?:\.\{([^}]*)\}| as (\w+))$")
+USE = re.compile(r"^use Rattle\.(\w+)\.specs(?:\.([\w.]+?))?(?:\.\{([^}]*)\}| as (\w+))$")
 MEMBER = re.compile(r"^  (?:pub )?([^\s:]+) :")
 TYPE = re.compile(r"^(?:pub(?:\(crate\))? )?(?:struct|enum) (\w+)")
 Used = Dict[str, Tuple[str, str, str]]
@@ -56,8 +56,12 @@ def uses(line: str) -> Used:
     crate, module, names, alias = said.groups()
     if alias is not None:
         return {alias: (crate, module, module.split(".")[-1] if module.startswith("declared.") else "")}
-    pairs = [name.strip().split(" as ") for name in names.split(",") if name.strip()]
-    return {pair[-1].strip(): (crate, module, pair[0].strip()) for pair in pairs}
+    found: Used = {}
+    for part in filter(None, (part.strip() for part in names.split(","))):
+        path, _, other = part.partition(" as ")
+        *inner, name = path.strip().split(".")
+        found[other.strip() or name] = (crate, ".".join(filter(None, [module, *inner])), name)
+    return found
 
 
 def joined(lines: Iterable[str]) -> Iterator[str]:

@@ -5,7 +5,7 @@ import subprocess
 import tempfile
 import unittest
 
-from mrttools.definitions import Library, Missing, Name
+from mrttools.definitions import Library, Missing, Name, uses
 from tests.making import TOOLS
 
 GROUND = """-- What is below.
@@ -44,6 +44,18 @@ pub enum Shape {
 
 pub(crate) struct Size(u8);
 """
+
+
+class Uses(unittest.TestCase):
+    def test_modules_in_braces(self) -> None:
+        self.assertEqual(
+            uses("use Rattle.one.specs.{Ground.low as lowest, Ground.first, declared.shape.Shape.Shape}"),
+            {
+                "lowest": ("one", "Ground", "low"),
+                "first": ("one", "Ground", "first"),
+                "Shape": ("one", "declared.shape.Shape", "Shape"),
+            },
+        )
 
 
 class Chains(unittest.TestCase):
