@@ -1,10 +1,7 @@
 //! The two routers, by their order, and the block that they have in common.
 
 ghost use Rattle.std.specs.Prelude.{◌≡◌, ◌≢◌, ◌<◌, ◌≤◌, ◌↔◌, IsNone, IfSome, true, length};
-ghost use Rattle.mrt_graph.specs.AcceptedFor.{IsAcceptedFor};
-ghost use Rattle.mrt_graph.specs.Certificate.{Certificate};
-ghost use Rattle.mrt_graph.specs.Related.{are_unrelated};
-ghost use Rattle.mrt_graph.specs.Topology.{Topology};
+ghost use Rattle.mrt_graph.specs.{AcceptedFor.IsAcceptedFor, Certificate.Certificate, Related.are_unrelated, Topology.Topology};
 ghost use Rattle.proxy_rows.specs.Attachment.{IsAttachment};
 
 use crate::words::node_at;

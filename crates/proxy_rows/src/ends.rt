@@ -1,25 +1,9 @@
 //! The first end of a node that has what is asked for.
 
-ghost use Rattle.std.specs.Prelude.{
-  ◌≡◌,
-  ◌<◌,
-  ◌↔◌,
-  ℕ,
-  IfNone,
-  IfSome,
-  IsTrue,
-  Some,
-  length,
-  slice_get,
-};
-ghost use Rattle.mrt_graph.specs.CertWords.{has_role};
-ghost use Rattle.mrt_graph.specs.FirstEnd.{IsFirstEnd};
-ghost use Rattle.mrt_graph.specs.Roles.{is_plain};
-ghost use Rattle.mrt_graph.specs.Search.{IsMarked};
-ghost use Rattle.proxy_rows.specs.declared.side.Side.TheVariants.{Low};
+ghost use Rattle.std.specs.Prelude.{◌≡◌, ◌<◌, ◌↔◌, ℕ, IfNone, IfSome, IsTrue, Some, length, slice_get};
+ghost use Rattle.mrt_graph.specs.{CertWords.has_role, FirstEnd.IsFirstEnd, Roles.is_plain, Search.IsMarked};
+ghost use Rattle.proxy_rows.specs.{declared.side.Side.TheVariants.Low, ProxyRows.IsOnward, ProxyRows.IsPlainToLow, Sides.IsOfBlock};
 ghost use Rattle.proxy_rows.specs.Ends.{HasNoEnd, IsNotPlain, NoneBefore};
-ghost use Rattle.proxy_rows.specs.ProxyRows.{IsOnward, IsPlainToLow};
-ghost use Rattle.proxy_rows.specs.Sides.{IsOfBlock};
 ghost use Rattle.proxy_rows.specs.Words.{AreAccepted, IsOn, without_rows};
 
 use crate::attachment::Attachment;

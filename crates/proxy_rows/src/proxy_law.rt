@@ -1,16 +1,9 @@
 //! What holds of all proxy rows.
 
 ghost use Rattle.std.specs.Prelude.{◌≡◌, ◌≢◌, ◌<◌, ◌+◌, ◌⊎◌, ℕ, true, List, length};
-ghost use Rattle.mrt_graph.specs.Certificate.{Certificate};
-ghost use Rattle.mrt_graph.specs.GraphInvariant.{IsTopology};
-ghost use Rattle.mrt_graph.specs.Related.{are_unrelated};
-ghost use Rattle.mrt_graph.specs.Rows.{Rows};
-ghost use Rattle.mrt_graph.specs.Sound.{SoundFor};
-ghost use Rattle.mrt_graph.specs.Topology.{Topology};
-ghost use Rattle.proxy_rows.specs.declared.proxy_row.ProxyRow.{ProxyRow};
-ghost use Rattle.mrt_graph.specs.AcceptedFor.{IsAcceptedFor};
+ghost use Rattle.mrt_graph.specs.{Certificate.Certificate, GraphInvariant.IsTopology, Related.are_unrelated, Rows.Rows, Sound.SoundFor, Topology.Topology, AcceptedFor.IsAcceptedFor};
+ghost use Rattle.proxy_rows.specs.{declared.proxy_row.ProxyRow.ProxyRow, ProxyRows.AreProxyRows};
 ghost use Rattle.proxy_rows.specs.GraphWith.{AreRowsWith, links_with, new_node};
-ghost use Rattle.proxy_rows.specs.ProxyRows.{AreProxyRows};
 
 /// A law: take a graph, a certificate that is accepted for it, whoever wrote it, and the proxy rows of two of its
 /// routers, as the rows for one more node that these two have a link to. In the graph with that node, from each other

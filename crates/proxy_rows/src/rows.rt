@@ -1,19 +1,10 @@
 //! The rows of all nodes for a prefix that is attached to two routers.
 
 ghost use Rattle.std.specs.Prelude.{◌≡◌, ◌≢◌, ◌<◌, ◌+◌, ◌↔◌, ℕ, true, Err, IfOk, List, length};
-ghost use Rattle.mrt_graph.specs.declared.cert.Row.{Row};
-ghost use Rattle.mrt_graph.specs.AcceptedFor.{IsAcceptedFor};
-ghost use Rattle.mrt_graph.specs.GraphInvariant.{IsTopology};
-ghost use Rattle.mrt_graph.specs.Related.{are_unrelated};
-ghost use Rattle.mrt_graph.specs.Rows.{Rows};
-ghost use Rattle.mrt_graph.specs.Search.{IsMarked};
-ghost use Rattle.mrt_graph.specs.Sound.{SoundFor};
-ghost use Rattle.proxy_rows.specs.declared.attachment.Attachment.{Attachment};
-ghost use Rattle.proxy_rows.specs.declared.side.Side.TheVariants.{Low, High};
-ghost use Rattle.proxy_rows.specs.Attachment.{IsAttachment};
+ghost use Rattle.mrt_graph.specs.{declared.cert.Row.Row, AcceptedFor.IsAcceptedFor, GraphInvariant.IsTopology, Related.are_unrelated, Rows.Rows, Search.IsMarked, Sound.SoundFor};
+ghost use Rattle.proxy_rows.specs.{declared.attachment.Attachment.Attachment, declared.side.Side.TheVariants.Low, declared.side.Side.TheVariants.High, Attachment.IsAttachment, ReadFrom.ReadFrom};
 ghost use Rattle.proxy_rows.specs.GraphWith.{AreRowsWith, links_with, new_node};
 ghost use Rattle.proxy_rows.specs.ProxyRows.{AreProxyRows, AreRowsOf, IsHeadBlue, IsHeadRed, IsProxyRow, IsSideOut};
-ghost use Rattle.proxy_rows.specs.ReadFrom.{ReadFrom};
 ghost use Rattle.proxy_rows.specs.Words.{AreAccepted, AreReadWith, IsOn, with_rows};
 
 use crate::attachment::{Attachment, attach};

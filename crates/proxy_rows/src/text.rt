@@ -1,16 +1,10 @@
 //! The text on a prefix that is attached to two routers.
 
 ghost use Rattle.std.specs.Prelude.{◌≡◌, ◌≢◌, ◌<◌, ◌↔◌, true, Err, IfOk, Some, length, slice_get};
-ghost use Rattle.mrt_graph.specs.Certificate.{Certificate};
-ghost use Rattle.mrt_graph.specs.CertWords.{order_of};
-ghost use Rattle.mrt_graph.specs.GraphInvariant.{IsTopology};
-ghost use Rattle.mrt_graph.specs.Related.{are_unrelated};
-ghost use Rattle.text_parts.specs.Adds.{Adds};
-ghost use Rattle.text_parts.specs.Parts.{AreParts};
-ghost use Rattle.mrt_graph.specs.AcceptedFor.{IsAcceptedFor};
-ghost use Rattle.proxy_rows.specs.ProxyRows.{AreProxyRows};
+ghost use Rattle.mrt_graph.specs.{Certificate.Certificate, CertWords.order_of, GraphInvariant.IsTopology, Related.are_unrelated, AcceptedFor.IsAcceptedFor};
+ghost use Rattle.text_parts.specs.{Adds.Adds, Parts.AreParts};
+ghost use Rattle.proxy_rows.specs.{ProxyRows.AreProxyRows, Touches.AllTouch, Touches.Touches};
 ghost use Rattle.proxy_rows.specs.ProxyText.{IsHead, IsHop, IsLine, IsOutText, IsProxyText};
-ghost use Rattle.proxy_rows.specs.Touches.{AllTouch, Touches};
 
 use crate::ends::end_on;
 use crate::proxy_error::ProxyError;

@@ -1,11 +1,7 @@
 //! What holds of all texts on prefixes that are attached to two routers.
 
 ghost use Rattle.std.specs.Prelude.{◌≡◌, ◌≢◌, ◌<◌, ◌↔◌, ℕ, false, List, length};
-ghost use Rattle.mrt_graph.specs.Certificate.{Certificate};
-ghost use Rattle.mrt_graph.specs.GraphInvariant.{IsTopology};
-ghost use Rattle.mrt_graph.specs.Related.{are_unrelated};
-ghost use Rattle.mrt_graph.specs.Topology.{Topology};
-ghost use Rattle.mrt_graph.specs.AcceptedFor.{IsAcceptedFor};
+ghost use Rattle.mrt_graph.specs.{Certificate.Certificate, GraphInvariant.IsTopology, Related.are_unrelated, Topology.Topology, AcceptedFor.IsAcceptedFor};
 ghost use Rattle.proxy_rows.specs.ProxyText.{IsProxyText};
 
 /// Laws: two different nodes have exactly one text where the certificate gives them a common block, and none where it does
