@@ -1,8 +1,7 @@
 //! What an arc leads over in the island.
 
 ghost use Rattle.std.specs.Prelude.{◌<◌, IfSome, length};
-ghost use Rattle.area_graph.specs.AreaInvariant.{IsArea};
-ghost use Rattle.area_graph.specs.Fits.{Fits};
+ghost use Rattle.area_graph.specs.{AreaInvariant.IsArea, Fits.Fits};
 ghost use Rattle.mrt_report.specs.Letters.{AreArcElements, IsLinkElement, IsNodeElement};
 ghost use Rattle.mrt_report.specs.Viewed.{viewed};
 

@@ -4,9 +4,7 @@ ghost use Rattle.std.specs.Prelude.{◌≡◌, ◌<◌, ℕ, IfOk, IfSome, Some,
 ghost use Rattle.mrt_graph.specs.declared.cert.Color.TheVariants.{Blue, Red};
 ghost use Rattle.text_parts.specs.Adds.{Adds};
 ghost use Rattle.mrt_report.specs.Letters.{AreArcElements, AreArcLetters, AreLetters, IsRepair};
-ghost use Rattle.mrt_report.specs.LineParts.{AreLineParts};
-ghost use Rattle.mrt_report.specs.Uses.{TellUses, TellsUse};
-ghost use Rattle.mrt_report.specs.Viewed.{viewed};
+ghost use Rattle.mrt_report.specs.{LineParts.AreLineParts, Uses.TellUses, Uses.TellsUse, Viewed.viewed};
 
 use crate::elements::{ArcElements, elements_of, elements_of_second};
 use crate::parts::Parts;

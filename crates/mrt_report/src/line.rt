@@ -1,22 +1,12 @@
 //! A table's line on one destination.
 
 ghost use Rattle.std.specs.Prelude.{◌≡◌, ◌≢◌, ◌<◌, ◌==◌, IfOk, IfSome, IsSome, length};
-ghost use Rattle.std.specs.List.{find};
-ghost use Rattle.std.specs.Option.{option_map};
+ghost use Rattle.std.specs.{List.find, Option.option_map};
 ghost use Rattle.area_graph.specs.AreaInvariant.{IsArea};
-ghost use Rattle.mrt_graph.specs.GraphInvariant.{IsTopology};
-ghost use Rattle.mrt_graph.specs.Leads.{leads};
+ghost use Rattle.mrt_graph.specs.{GraphInvariant.IsTopology, Leads.leads};
 ghost use Rattle.text_parts.specs.Adds.{Adds};
-ghost use Rattle.mrt_report.specs.Lines.{
-  AreColorWords,
-  ArePrimaryWords,
-  IsArcHop,
-  IsEndOn,
-  IsLine,
-  IsLinkHop,
-};
-ghost use Rattle.mrt_report.specs.LineParts.{AreLineParts};
-ghost use Rattle.mrt_report.specs.Viewed.{viewed};
+ghost use Rattle.mrt_report.specs.Lines.{AreColorWords, ArePrimaryWords, IsArcHop, IsEndOn, IsLine, IsLinkHop};
+ghost use Rattle.mrt_report.specs.{LineParts.AreLineParts, Viewed.viewed};
 
 use crate::letters::push_letters;
 use crate::parts::Parts;

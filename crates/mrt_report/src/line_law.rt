@@ -2,12 +2,9 @@
 
 ghost use Rattle.std.specs.Prelude.{◌≡◌, ◌↔◌, ℕ, List, Option};
 ghost use Rattle.area_graph.specs.Parts.{AreaParts};
-ghost use Rattle.mrt_graph.specs.GraphInvariant.{IsTopology};
-ghost use Rattle.mrt_graph.specs.Rows.{Rows};
-ghost use Rattle.mrt_graph.specs.Topology.{Topology};
+ghost use Rattle.mrt_graph.specs.{GraphInvariant.IsTopology, Rows.Rows, Topology.Topology};
 ghost use Rattle.primary_alt.specs.declared.shortest.Primary.{Primary};
-ghost use Rattle.mrt_report.specs.LineParts.{LineParts, line_parts};
-ghost use Rattle.mrt_report.specs.Lines.{IsLine};
+ghost use Rattle.mrt_report.specs.{LineParts.LineParts, LineParts.line_parts, Lines.IsLine};
 
 use primary_alt::one_alternate_each;
 

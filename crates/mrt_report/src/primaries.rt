@@ -2,8 +2,7 @@
 
 ghost use Rattle.std.specs.Prelude.{◌≢◌, ◌<◌, ℕ, List, Option, length};
 ghost use Rattle.area_graph.specs.Fits.{Fits};
-ghost use Rattle.mrt_report.specs.LineParts.{IsPrimaryOf};
-ghost use Rattle.mrt_report.specs.TableParts.{AreItsPrimaries, IsPrimaryFor};
+ghost use Rattle.mrt_report.specs.{LineParts.IsPrimaryOf, TableParts.AreItsPrimaries, TableParts.IsPrimaryFor};
 
 use area_graph::Area;
 use mrt_graph::{Graph, NodeNo};

@@ -2,12 +2,9 @@
 
 ghost use Rattle.std.specs.Prelude.{◌≢◌, ◌<◌, IfOk, length};
 ghost use Rattle.area_graph.specs.Fits.{Fits};
-ghost use Rattle.mrt_graph.specs.Column.{ColumnSound, rows_of_column};
-ghost use Rattle.mrt_graph.specs.GraphInvariant.{IsNetwork};
+ghost use Rattle.mrt_graph.specs.{Column.ColumnSound, Column.rows_of_column, GraphInvariant.IsNetwork};
 ghost use Rattle.text_parts.specs.Adds.{Adds};
-ghost use Rattle.mrt_report.specs.LineParts.{IsPrimaryOf, line_parts};
-ghost use Rattle.mrt_report.specs.Lines.{IsLine};
-ghost use Rattle.mrt_report.specs.TableText.{IsHead};
+ghost use Rattle.mrt_report.specs.{LineParts.IsPrimaryOf, LineParts.line_parts, Lines.IsLine, TableText.IsHead};
 
 use crate::line::push_line;
 use crate::parts::Parts;

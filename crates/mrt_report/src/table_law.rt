@@ -4,8 +4,7 @@ ghost use Rattle.std.specs.Prelude.{◌≡◌, ◌++◌, ℕ, List, length};
 ghost use Rattle.std.specs.List.{AllZip, concat};
 ghost use Rattle.area_graph.specs.AreaInvariant.{IsArea};
 ghost use Rattle.mrt_graph.specs.GraphInvariant.{IsTopology};
-ghost use Rattle.mrt_report.specs.ByColumn.{IsLineByColumn};
-ghost use Rattle.mrt_report.specs.TableParts.{TableParts};
+ghost use Rattle.mrt_report.specs.{ByColumn.IsLineByColumn, TableParts.TableParts};
 ghost use Rattle.mrt_report.specs.TableText.{IsHead, IsTableText, others};
 
 use primary_alt::one_alternate_each;

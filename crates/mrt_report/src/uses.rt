@@ -1,9 +1,7 @@
 //! Which of the few elements of a primary a color walk uses.
 
 ghost use Rattle.std.specs.Prelude.{◌↔◌, ◌⊎◌, IsTrue};
-ghost use Rattle.mrt_report.specs.LineParts.{AreLineParts};
-ghost use Rattle.mrt_report.specs.Uses.{IsOverOne, TellUses};
-ghost use Rattle.mrt_report.specs.Viewed.{viewed};
+ghost use Rattle.mrt_report.specs.{LineParts.AreLineParts, Uses.IsOverOne, Uses.TellUses, Viewed.viewed};
 
 use crate::elements::ArcElements;
 use crate::parts::Parts;
