@@ -12,32 +12,9 @@ use Rattle.ospf_lsa.specs.declared.error.LsaKind.TheVariants as records
 use Rattle.mrt_exit.specs.declared.exit.DbKind.{DbKind}
 use Rattle.mrt_exit.specs.declared.exit.DbKind.TheVariants.{Lsa, Conflict}
 use Rattle.mrt_exit.specs.declared.exit.Exit.{Exit}
-use Rattle.mrt_exit.specs.declared.exit.Exit.TheVariants.{
-  Done,
-  No,
-  Usage,
-  BadDatabase,
-  BadProfile,
-  BadCertificate,
-  TooLarge,
-  NotThere,
-  ReadFault,
-  WriteFault,
-  NoMemory,
-  BadScript,
-  NoCommonBlock,
-  BadUpdate,
-}
+use Rattle.mrt_exit.specs.declared.exit.Exit.TheVariants.{Done, No, Usage, BadDatabase, BadProfile, BadCertificate, TooLarge, NotThere, ReadFault, WriteFault, NoMemory, BadScript, NoCommonBlock, BadUpdate}
 use Rattle.mrt_exit.specs.declared.exit.What.{What}
-use Rattle.mrt_exit.specs.declared.exit.What.TheVariants.{
-  DatabaseFile,
-  UpdatesFile,
-  ProfileFile,
-  CertificateFile,
-  ScriptFile,
-  AreaNodes,
-  AreaArcs,
-}
+use Rattle.mrt_exit.specs.declared.exit.What.TheVariants.{DatabaseFile, UpdatesFile, ProfileFile, CertificateFile, ScriptFile, AreaNodes, AreaArcs}
 
 -- the program's exit status
 abbrev pub status_of : Exit → ℕ

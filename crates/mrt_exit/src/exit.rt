@@ -2,11 +2,7 @@
 
 ghost use Rattle.std.specs.Prelude.{◌≡◌, ◌≤◌, ◌++◌, codes, decimal, length};
 ghost use Rattle.mrt_graph.specs.Spelling.{address_text};
-ghost use Rattle.mrt_exit.specs.Exits.{
-  status_of,
-  line_of as line_of_exit,
-  database_line,
-};
+ghost use Rattle.mrt_exit.specs.Exits.{status_of, line_of as line_of_exit, database_line};
 
 use crate::words::{words_of_kind, words_of_line, words_of_record, words_of_update, words_of_what};
 use cert_format::CertKind;

@@ -2,18 +2,7 @@
 
 ghost use Rattle.std.specs.Prelude.{◌≡◌};
 ghost use Rattle.mrt_exit.specs.declared.exit.Exit.TheVariants.{NoMemory as no_memory};
-ghost use Rattle.mrt_exit.specs.Faults.{
-  area_exit,
-  certificate_exit,
-  conflict_exit,
-  flood_script_exit,
-  profile_exit,
-  put_exit,
-  record_exit,
-  script_exit,
-  too_large,
-  update_exit,
-};
+ghost use Rattle.mrt_exit.specs.Faults.{area_exit, certificate_exit, conflict_exit, flood_script_exit, profile_exit, put_exit, record_exit, script_exit, too_large, update_exit};
 
 use crate::exit::{DbKind, Exit, What};
 use area_graph::AreaError;

@@ -1,8 +1,7 @@
 //! An exit told on standard error.
 
 ghost use Rattle.std.specs.Prelude.{◌≡◌};
-ghost use Rattle.mrt_exit.specs.Exits.{line_of};
-ghost use Rattle.mrt_exit.specs.Telling.{GainedLine};
+ghost use Rattle.mrt_exit.specs.{Exits.line_of, Telling.GainedLine};
 
 use crate::exit::Exit;
 use mrt_io::{Sink, put_all};
