@@ -1,13 +1,10 @@
 //! The certificate of a graph and its root, found as it is written or compared.
 
 ghost use Rattle.std.specs.Prelude.{◌≡◌, ◌<◌, ◌≤◌, ◌-◌, ◌↔◌, ℕ, length, IsTrue, IsOk, IfOk, IfErr, OnOk};
-ghost use Rattle.mrt_graph.specs.declared.cert.CertFile.{CertFile};
-ghost use Rattle.mrt_graph.specs.GraphInvariant.{IsTopology};
-ghost use Rattle.mrt_io.specs.Counts.{Rose};
-ghost use Rattle.mrt_io.specs.Writing.{Gained, GainedPart};
+ghost use Rattle.mrt_graph.specs.{declared.cert.CertFile.CertFile, GraphInvariant.IsTopology};
+ghost use Rattle.mrt_io.specs.{Counts.Rose, Writing.Gained, Writing.GainedPart};
 ghost use Rattle.mrt_rows.specs.CertOf.{IsCertOf};
-ghost use Rattle.cert_format.specs.CertText.{cert_text};
-ghost use Rattle.cert_format.specs.Limits.{IsCertFile};
+ghost use Rattle.cert_format.specs.{CertText.cert_text, Limits.IsCertFile};
 ghost use Rattle.cert_stream.specs.Same.{HaveSameParts};
 
 use crate::numbers::numbers_fit;

@@ -2,10 +2,8 @@
 
 ghost use Rattle.std.specs.Prelude.{◌≡◌, ◌<◌, ◌≤◌, ◌+◌, ◌-◌, ◌^◌, ◌++◌, ℕ, length, IsOk, IfErr, OnOk};
 ghost use Rattle.mrt_graph.specs.declared.cert.CertFile.{CertFile};
-ghost use Rattle.mrt_io.specs.Counts.{Rose};
-ghost use Rattle.mrt_io.specs.Writing.{Gained, GainedPart};
-ghost use Rattle.mrt_rows.specs.CertOf.{IsCertOf};
-ghost use Rattle.mrt_rows.specs.Making.{MakeRows};
+ghost use Rattle.mrt_io.specs.{Counts.Rose, Writing.Gained, Writing.GainedPart};
+ghost use Rattle.mrt_rows.specs.{CertOf.IsCertOf, Making.MakeRows};
 ghost use Rattle.cert_format.specs.Putting.{Puts, parts_text};
 
 use crate::rows::put_rows;
