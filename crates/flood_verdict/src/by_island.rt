@@ -1,11 +1,9 @@
 //! Databases compared by the certificate of a router's island.
 
 ghost use Rattle.std.specs.Prelude.{◌≡◌, ◌⊎◌, None, IfOk, IfErr, IsTrue, if◌then◌else◌, length};
-ghost use Rattle.area_graph.specs.AreaInvariant.{IsArea};
-ghost use Rattle.area_graph.specs.AreaSize.{IsTooLarge, TellsTooLarge};
+ghost use Rattle.area_graph.specs.{AreaInvariant.IsArea, AreaSize.IsTooLarge, AreaSize.TellsTooLarge};
 ghost use Rattle.lsdb.specs.Conflicts.{least_conflict};
-ghost use Rattle.flood_verdict.specs.Found.{IsFound, IsFoundIn};
-ghost use Rattle.flood_verdict.specs.Says.{area_in};
+ghost use Rattle.flood_verdict.specs.{Found.IsFound, Found.IsFoundIn, Says.area_in};
 
 use area_graph::{Area, AreaError, build_area};
 use cert_stream::CertStream;

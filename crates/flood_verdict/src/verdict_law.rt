@@ -4,14 +4,9 @@
 ghost use Rattle.std.specs.Prelude.{◌≡◌, ℕ, List, Some};
 ghost use Rattle.std.specs.List.{AllByRecursion};
 ghost use Rattle.lsdb.specs.Entries.{Database};
-ghost use Rattle.flood_core.specs.declared.update.Update.{Update};
-ghost use Rattle.flood_core.specs.FloodState.{database_of, started};
-ghost use Rattle.flood_core.specs.Receiving.{MayFlood};
-ghost use Rattle.flood_core.specs.Runs.{Delivery, after_deliveries};
-ghost use Rattle.flood_script.specs.declared.script.FloodScript.{FloodScript};
-ghost use Rattle.flood_script.specs.FloodTexts.{IsFloodText, SaysOnce};
+ghost use Rattle.flood_core.specs.{declared.update.Update.Update, FloodState.database_of, FloodState.started, Receiving.MayFlood, Runs.Delivery, Runs.after_deliveries};
+ghost use Rattle.flood_script.specs.{declared.script.FloodScript.FloodScript, FloodTexts.IsFloodText, FloodTexts.SaysOnce, declared.verdict.Verdict.Verdict};
 ghost use Rattle.mrt_island.specs.declared.setting.Setting.{Setting};
-ghost use Rattle.flood_script.specs.declared.verdict.Verdict.{Verdict};
 ghost use Rattle.flood_verdict.specs.Alike.{AreAlike, ComparesAlike, IsToldAlike};
 ghost use Rattle.flood_verdict.specs.Says.{Says};
 
