@@ -1,10 +1,8 @@
 //! The files that a form names, once they were read.
 
 ghost use Rattle.std.specs.Prelude.{◌≤◌, IfOk, vec_len};
-ghost use Rattle.mrt_words.specs.FileBytes.{FileBytes, AreRead};
+ghost use Rattle.mrt_words.specs.{FileBytes.FileBytes, FileBytes.AreRead, Kept.AreBytesOf, Kept.flood_bytes, Reading.ReadsFiles};
 ghost use Rattle.mrt_words.specs.Files.{files_in, flood_names, task_names};
-ghost use Rattle.mrt_words.specs.Kept.{AreBytesOf, flood_bytes};
-ghost use Rattle.mrt_words.specs.Reading.{ReadsFiles};
 
 use crate::form::{FileForm, FloodForm};
 use crate::named_file::NamedFile;

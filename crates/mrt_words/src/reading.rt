@@ -2,10 +2,8 @@
 
 ghost use Rattle.std.specs.Prelude.{◌≡◌, ◌<◌, ◌-◌, ◌^◌, ℕ, List, Option};
 ghost use Rattle.std.specs.Option.{option_map, option_to_list};
-ghost use Rattle.mrt_words.specs.FileBytes.{IsLastRead, IsProfileRead};
+ghost use Rattle.mrt_words.specs.{FileBytes.IsLastRead, FileBytes.IsProfileRead, Kept.IsWorkFor, Reading.ReadsFile, Reading.ReadsFiles};
 ghost use Rattle.mrt_words.specs.Files.{IsReadAs, profile_file, task_file};
-ghost use Rattle.mrt_words.specs.Kept.{IsWorkFor};
-ghost use Rattle.mrt_words.specs.Reading.{ReadsFile, ReadsFiles};
 
 use crate::certificate_file::read_certificate_file;
 use crate::file_name::FileName;
