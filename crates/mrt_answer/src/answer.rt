@@ -1,13 +1,10 @@
 //! What comes of the files that were read.
 
 ghost use Rattle.std.specs.Prelude.{◌≤◌, ℕ, List, IfOk, IfErr, vec_len};
-ghost use Rattle.mrt_words.specs.FileBytes.{FileBytes};
-ghost use Rattle.mrt_words.specs.Form.{IsRouterTaskWithin, Task as NamedTask};
+ghost use Rattle.mrt_words.specs.{FileBytes.FileBytes, Form.IsRouterTaskWithin, Form.Task as NamedTask, Reading.IsDue};
 ghost use Rattle.mrt_words.specs.Kept.{AreBytesOf, IsWorkWithin, IsWorkFor};
 ghost use Rattle.mrt_answer.specs.Answers.{GivesFor, GivesOf, GivesOver, IsRefusedOf, IsRefusedTask};
-ghost use Rattle.mrt_answer.specs.Refusals.{IsAnswerOver};
-ghost use Rattle.mrt_answer.specs.TextBytes.{HasText};
-ghost use Rattle.mrt_words.specs.Reading.{IsDue};
+ghost use Rattle.mrt_answer.specs.{Refusals.IsAnswerOver, TextBytes.HasText};
 
 use crate::certificate::certificate;
 use crate::given::Given;

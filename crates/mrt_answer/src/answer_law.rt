@@ -2,24 +2,19 @@
 
 ghost use Rattle.std.specs.Prelude.{◌≡◌, ◌≤◌, ℕ, List, Contains, length};
 ghost use Rattle.mrt_graph.specs.NodeIds.{router as router_node};
-ghost use Rattle.fabric.specs.FabricParts.{ArePartsKept, FabricParts};
-ghost use Rattle.fabric.specs.Served.{AreRowsOn};
-ghost use Rattle.fabric.specs.declared.event.Event.{Event};
-ghost use Rattle.flood_verdict.specs.Alike.{ComparesAlike, IsToldAlike};
-ghost use Rattle.flood_verdict.specs.Says.{Says};
+ghost use Rattle.fabric.specs.{FabricParts.ArePartsKept, FabricParts.FabricParts, Served.AreRowsOn, declared.event.Event.Event};
+ghost use Rattle.flood_verdict.specs.{Alike.ComparesAlike, Alike.IsToldAlike, Says.Says};
 ghost use Rattle.mrt_exit.specs.declared.exit.Exit.{Exit};
-ghost use Rattle.mrt_words.specs.FileBytes.{FileBytes, with_last};
-ghost use Rattle.mrt_words.specs.declared.task.RouterTask.TheVariants.{Certify};
+ghost use Rattle.mrt_words.specs.{FileBytes.FileBytes, FileBytes.with_last, declared.task.RouterTask.TheVariants.Certify, Form.Task};
 ghost use Rattle.mrt_words.specs.declared.task.Task.TheVariants.{Check, Upgrade, OfRouter};
-ghost use Rattle.mrt_words.specs.Form.{Task};
 ghost use Rattle.mrt_answer.specs.Answers.{GivesOver, IsRefusedOver};
 ghost use Rattle.mrt_answer.specs.Certified.{IsCertified};
-ghost use Rattle.mrt_answer.specs.Flooded.{GivesFlood, HoldsFlood, IsRefusedFlood};
 ghost use Rattle.mrt_answer.specs.Input.{Input, IsInput};
 ghost use Rattle.mrt_answer.specs.Packets.{ArePartsFor};
 ghost use Rattle.mrt_answer.specs.SameFile.{IsSameFile};
 ghost use Rattle.mrt_answer.specs.Surveyed.{IsSurveyed};
 ghost use Rattle.mrt_answer.specs.Tabled.{IsTabled};
+ghost use Rattle.mrt_answer.specs.Flooded.{GivesFlood, HoldsFlood, IsRefusedFlood};
 
 use crate::survey_law::made_networks_are_taken;
 use area_graph::the_newest_records_give_an_area;

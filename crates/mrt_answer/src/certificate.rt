@@ -1,9 +1,7 @@
 //! `certify DB PROFILE ROUTER`: the certificate of a router's island.
 
 ghost use Rattle.std.specs.Prelude.{◌≡◌, None, IfOk, IfErr};
-ghost use Rattle.mrt_answer.specs.Certified.{IsCertified};
-ghost use Rattle.mrt_answer.specs.TextBytes.{HasText};
-ghost use Rattle.mrt_answer.specs.Islands.{HasNoIslandFor};
+ghost use Rattle.mrt_answer.specs.{Certified.IsCertified, TextBytes.HasText, Islands.HasNoIslandFor};
 ghost use Rattle.mrt_words.specs.Reading.{IsDue};
 
 use crate::given::Given;

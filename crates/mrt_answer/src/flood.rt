@@ -2,15 +2,12 @@
 
 ghost use Rattle.std.specs.Prelude.{◌≤◌, [], IfOk, IfErr, length, vec_len};
 ghost use Rattle.std.specs.List.{AllByRecursion};
-ghost use Rattle.flood_core.specs.Receiving.{MayFlood};
-ghost use Rattle.flood_core.specs.Updates.{AreUpdates};
-ghost use Rattle.flood_script.specs.Deliveries.{deliveries_in};
-ghost use Rattle.flood_script.specs.FloodScripts.{IsAmong, IsScript};
+ghost use Rattle.flood_core.specs.{Receiving.MayFlood, Updates.AreUpdates};
+ghost use Rattle.flood_script.specs.{Deliveries.deliveries_in, FloodScripts.IsAmong, FloodScripts.IsScript};
 ghost use Rattle.mrt_graph.specs.TextLines.{text_lines};
 ghost use Rattle.mrt_words.specs.Kept.{flood_bytes};
-ghost use Rattle.mrt_answer.specs.Flooded.{GivesFlood};
+ghost use Rattle.mrt_answer.specs.{Flooded.GivesFlood, TextBytes.HasText};
 ghost use Rattle.mrt_answer.specs.Refusals.{HasNoFloodScript, HasNoUpdates, IsAnswerOfFlood};
-ghost use Rattle.mrt_answer.specs.TextBytes.{HasText};
 
 use crate::input::profile_of;
 use crate::text::Text;

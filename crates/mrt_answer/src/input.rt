@@ -1,8 +1,7 @@
 //! What the bytes of the files are.
 
 ghost use Rattle.std.specs.Prelude.{◌≡◌, ◌≤◌, None, IfOk, IfErr, length, map};
-ghost use Rattle.lsdb.specs.Conflicts.{least_conflict};
-ghost use Rattle.lsdb.specs.Database.{IsDatabase};
+ghost use Rattle.lsdb.specs.{Conflicts.least_conflict, Database.IsDatabase};
 ghost use Rattle.fabric_script.specs.ScriptFaults.{IsScript};
 ghost use Rattle.mrt_graph.specs.TextLines.{text_lines};
 ghost use Rattle.mrt_answer.specs.Input.{IsInput, IsProfile};

@@ -1,15 +1,11 @@
 //! The island of a router in a database.
 
 ghost use Rattle.std.specs.Prelude.{◌≡◌, None, IfOk, IfErr, length, map};
-ghost use Rattle.area_graph.specs.AreaOf.{area_of as area_of_newest};
-ghost use Rattle.area_graph.specs.AreaSize.{IsTooLarge};
-ghost use Rattle.area_graph.specs.Fits.{Fits};
+ghost use Rattle.area_graph.specs.{AreaOf.area_of as area_of_newest, AreaSize.IsTooLarge, Fits.Fits};
 ghost use Rattle.lsdb.specs.Conflicts.{least_conflict};
-ghost use Rattle.mrt_island.specs.IslandOf.{IsIsland};
-ghost use Rattle.mrt_island.specs.Policy.{policy_of};
+ghost use Rattle.mrt_island.specs.{IslandOf.IsIsland, Policy.policy_of};
 ghost use Rattle.mrt_answer.specs.Input.{HasAreaWithin, HasIsland, area, policy};
-ghost use Rattle.mrt_answer.specs.Refusals.{HasNoArea, HasNoIsland};
-ghost use Rattle.mrt_answer.specs.Islands.{HasNoIslandFor};
+ghost use Rattle.mrt_answer.specs.{Refusals.HasNoArea, Refusals.HasNoIsland, Islands.HasNoIslandFor};
 ghost use Rattle.mrt_words.specs.Reading.{IsDue};
 
 use crate::given::Given;

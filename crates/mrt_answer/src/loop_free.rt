@@ -2,9 +2,7 @@
 
 ghost use Rattle.std.specs.Prelude.{◌≡◌, ◌<◌, List, None, IfOk, IfErr};
 ghost use Rattle.mrt_island.specs.declared.setting.Setting.{Setting};
-ghost use Rattle.mrt_answer.specs.LoopFree.{HasLoopFree};
-ghost use Rattle.mrt_answer.specs.TextBytes.{HasText};
-ghost use Rattle.mrt_answer.specs.Islands.{HasNoRouterFor};
+ghost use Rattle.mrt_answer.specs.{LoopFree.HasLoopFree, TextBytes.HasText, Islands.HasNoRouterFor};
 ghost use Rattle.mrt_words.specs.Reading.{IsDue};
 
 use crate::finding::spot_of;

@@ -1,10 +1,7 @@
 //! `order DB PROFILE ROUTER`: a router's repairs by order.
 
 ghost use Rattle.std.specs.Prelude.{◌≡◌, ◌<◌, ℕ, None, IfOk, IfErr, length};
-ghost use Rattle.mrt_answer.specs.Finding.{IsAt};
-ghost use Rattle.mrt_answer.specs.Ordered.{HasOrder, IsOrderOf};
-ghost use Rattle.mrt_answer.specs.TextBytes.{HasText};
-ghost use Rattle.mrt_answer.specs.Islands.{HasNoIslandFor};
+ghost use Rattle.mrt_answer.specs.{Finding.IsAt, Ordered.HasOrder, Ordered.IsOrderOf, TextBytes.HasText, Islands.HasNoIslandFor};
 ghost use Rattle.mrt_words.specs.Reading.{IsDue};
 
 use crate::finding::node_of;

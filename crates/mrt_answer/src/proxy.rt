@@ -3,10 +3,8 @@
 ghost use Rattle.std.specs.Prelude.{◌≡◌, ◌≢◌, ◌<◌, IfOk, IfErr, length};
 ghost use Rattle.mrt_rows.specs.Rooted.{MakeColumns};
 ghost use Rattle.proxy_rows.specs.ProxyRows.{AreProxyRows};
-ghost use Rattle.mrt_answer.specs.Attached.{IsAttachedBy};
-ghost use Rattle.mrt_answer.specs.Computed.{HasComputed};
+ghost use Rattle.mrt_answer.specs.{Attached.IsAttachedBy, Computed.HasComputed, TextBytes.HasText};
 ghost use Rattle.mrt_answer.specs.Proxied.{HasNoProxyOf, HasProxy, IsProxyOf, HasNoProxy};
-ghost use Rattle.mrt_answer.specs.TextBytes.{HasText};
 ghost use Rattle.mrt_words.specs.Reading.{IsDue};
 
 use crate::columns::columns_of;

@@ -2,11 +2,8 @@
 
 ghost use Rattle.std.specs.Prelude.{◌≡◌, ◌<◌, ◌≤◌, IfOk, IfErr, length};
 ghost use Rattle.area_graph.specs.Fits.{Fits};
-ghost use Rattle.mrt_answer.specs.Input.{Input};
-ghost use Rattle.mrt_answer.specs.PacketTables.{IsAreaAndIsland};
+ghost use Rattle.mrt_answer.specs.{Input.Input, PacketTables.IsAreaAndIsland, TextBytes.HasText, Islands.HasNoIslandFor};
 ghost use Rattle.mrt_answer.specs.Packets.{GivesRun, IsScriptGiven, IsNoRun};
-ghost use Rattle.mrt_answer.specs.TextBytes.{HasText};
-ghost use Rattle.mrt_answer.specs.Islands.{HasNoIslandFor};
 ghost use Rattle.mrt_words.specs.Reading.{IsDue};
 
 use crate::given::Given;

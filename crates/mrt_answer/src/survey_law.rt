@@ -4,16 +4,11 @@ ghost use Rattle.std.specs.Prelude.{◌≡◌, ◌≤◌, ℕ, List, [], map};
 ghost use Rattle.std.specs.List.{range_with_len};
 ghost use Rattle.mrt_graph.specs.NodeIds.{router as router_node};
 ghost use Rattle.mrt_survey.specs.MadeLsas.{made_lsas};
-ghost use Rattle.ospf_lsa.specs.LsaText.{lsas_text};
-ghost use Rattle.ospf_lsa.specs.declared.lsa.Lsa.{Lsa};
-ghost use Rattle.mrt_exit.specs.declared.exit.DbKind.{DbKind};
-ghost use Rattle.mrt_exit.specs.declared.exit.Exit.{Exit};
+ghost use Rattle.ospf_lsa.specs.{LsaText.lsas_text, declared.lsa.Lsa.Lsa};
+ghost use Rattle.mrt_exit.specs.{declared.exit.DbKind.DbKind, declared.exit.Exit.Exit};
 ghost use Rattle.lsdb.specs.Database.{IsDatabase};
-ghost use Rattle.mrt_answer.specs.Database.{IsBadDatabase};
+ghost use Rattle.mrt_answer.specs.{Database.IsBadDatabase, Input.IsInput, Islands.HasNoIslandFor, Surveyed.IsSurveyed, Surveyed.made_input};
 ghost use Rattle.mrt_words.specs.Form.{IsNetworkSize};
-ghost use Rattle.mrt_answer.specs.Input.{IsInput};
-ghost use Rattle.mrt_answer.specs.Islands.{HasNoIslandFor};
-ghost use Rattle.mrt_answer.specs.Surveyed.{IsSurveyed, made_input};
 
 use lsdb::{
     entries_are_those_of_the_list, refuses_exactly_where_not_settled, tells_the_first_conflict,

@@ -1,18 +1,11 @@
 //! `table DB PROFILE ROUTER`: what a router installs.
 
 ghost use Rattle.std.specs.Prelude.{◌≡◌, ◌≢◌, ◌<◌, IfOk, IfErr, length};
-ghost use Rattle.mrt_graph.specs.declared.cert.CertFile.{CertFile};
-ghost use Rattle.mrt_graph.specs.GraphInvariant.{IsNetwork};
+ghost use Rattle.mrt_graph.specs.{declared.cert.CertFile.CertFile, GraphInvariant.IsNetwork};
 ghost use Rattle.text_parts.specs.Adds.{Adds};
-ghost use Rattle.mrt_report.specs.AddsLines.{AddsLines};
-ghost use Rattle.mrt_report.specs.ByColumn.{IsLineByColumn};
-ghost use Rattle.mrt_report.specs.TableText.{IsTableText};
-ghost use Rattle.mrt_rows.specs.CertOf.{IsCertOf};
-ghost use Rattle.mrt_rows.specs.Rooted.{MakeColumns};
-ghost use Rattle.mrt_answer.specs.TableMade.{AreParts, with_cert};
-ghost use Rattle.mrt_answer.specs.Tabled.{IsComputedFile, IsTabled};
-ghost use Rattle.mrt_answer.specs.TextBytes.{HasText};
-ghost use Rattle.mrt_answer.specs.Islands.{HasNoIslandFor};
+ghost use Rattle.mrt_report.specs.{AddsLines.AddsLines, ByColumn.IsLineByColumn, TableText.IsTableText};
+ghost use Rattle.mrt_rows.specs.{CertOf.IsCertOf, Rooted.MakeColumns};
+ghost use Rattle.mrt_answer.specs.{TableMade.AreParts, TableMade.with_cert, Tabled.IsComputedFile, Tabled.IsTabled, TextBytes.HasText, Islands.HasNoIslandFor};
 ghost use Rattle.mrt_words.specs.Reading.{IsDue};
 
 use crate::columns::columns_of;

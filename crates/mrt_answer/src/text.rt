@@ -1,8 +1,7 @@
 //! The text of an answer.
 
 ghost use Rattle.std.specs.Prelude.{◌≡◌, ◌≤◌, ℕ, List, length, IsOk, IfErr, OnOk};
-ghost use Rattle.mrt_io.specs.Counts.{Rose};
-ghost use Rattle.mrt_io.specs.Writing.{Gained, GainedPart};
+ghost use Rattle.mrt_io.specs.{Counts.Rose, Writing.Gained, Writing.GainedPart};
 ghost use Rattle.mrt_answer.specs.TextBytes.{IsTextOf};
 
 use cert_format::WritableCert;

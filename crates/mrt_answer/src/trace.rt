@@ -2,11 +2,7 @@
 
 ghost use Rattle.std.specs.Prelude.{◌≡◌, ◌<◌, ◌↔◌, ℕ, Some, IfOk, IfErr, Contains, length, slice_get};
 ghost use Rattle.area_graph.specs.Fits.{Fits};
-ghost use Rattle.mrt_answer.specs.Input.{Input};
-ghost use Rattle.mrt_answer.specs.PacketTables.{IsAreaAndIsland};
-ghost use Rattle.mrt_answer.specs.Packets.{IsTraceGiven};
-ghost use Rattle.mrt_answer.specs.TextBytes.{HasText};
-ghost use Rattle.mrt_answer.specs.Islands.{HasNoIslandFor};
+ghost use Rattle.mrt_answer.specs.{Input.Input, PacketTables.IsAreaAndIsland, Packets.IsTraceGiven, TextBytes.HasText, Islands.HasNoIslandFor};
 ghost use Rattle.mrt_words.specs.Reading.{IsDue};
 
 use crate::given::Given;

@@ -1,12 +1,10 @@
 //! `check DB PROFILE CERT`: the verdict on a certificate file.
 
 ghost use Rattle.std.specs.Prelude.{◌≡◌, ◌<◌, ℕ, List, None, IfOk, IfErr, length};
-ghost use Rattle.mrt_words.specs.Kept.{IsCertRead};
+ghost use Rattle.mrt_words.specs.{Kept.IsCertRead, Reading.IsDue};
 ghost use Rattle.mrt_graph.specs.Accepted.{Accepted};
-ghost use Rattle.mrt_answer.specs.Refusals.{IsRejected};
+ghost use Rattle.mrt_answer.specs.{Refusals.IsRejected, TextBytes.HasText};
 ghost use Rattle.mrt_answer.specs.Verdict.{GivesVerdict, IsYesFor, accepted_line as line_of_accepted, IsNoVerdict, IsRefusedFor};
-ghost use Rattle.mrt_answer.specs.TextBytes.{HasText};
-ghost use Rattle.mrt_words.specs.Reading.{IsDue};
 
 use crate::given::Given;
 use crate::island::island_in;
