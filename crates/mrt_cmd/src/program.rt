@@ -2,26 +2,19 @@
 
 ghost use Rattle.std.specs.Prelude.{◌≡◌, ◌≤◌, ◌⊎◌, ◌↔◌, ℕ, List, IfErr, IfOk, IsNone, IsSome, Some, length};
 ghost use Rattle.std.specs.Option.{IsSomeAnd};
-ghost use Rattle.mrt_io.specs.Counts.{Rose};
-ghost use Rattle.mrt_io.specs.Holding.{Files};
-ghost use Rattle.mrt_io.specs.Writing.{Gained};
+ghost use Rattle.mrt_io.specs.{Counts.Rose, Holding.Files, Writing.Gained};
 ghost use Rattle.cert_format.specs.declared.error.CertKind.{CertKind};
 ghost use Rattle.flood_core.specs.declared.error.UpdateKind.{UpdateKind};
-ghost use Rattle.flood_verdict.specs.Alike.{IsToldAlike};
-ghost use Rattle.flood_verdict.specs.Says.{Says};
+ghost use Rattle.flood_verdict.specs.{Alike.IsToldAlike, Says.Says};
 ghost use Rattle.mrt_island.specs.declared.profile_error.ProfileKind.{ProfileKind};
-ghost use Rattle.mrt_exit.specs.declared.exit.DbKind.{DbKind};
-ghost use Rattle.mrt_exit.specs.declared.exit.What.{What};
+ghost use Rattle.mrt_exit.specs.{declared.exit.DbKind.DbKind, declared.exit.What.What, Exits.line_of, Telling.GainedLine, Telling.IsCutShort};
 ghost use Rattle.mrt_cmd.specs.Causes.{HasNoText, IsAnswered};
 ghost use Rattle.mrt_cmd.specs.Comes.{Comes, FailsAt, Gives, GivesText, IsRefused, MissesAt, NamesHeld, Refuses};
-ghost use Rattle.mrt_exit.specs.Exits.{line_of};
 ghost use Rattle.mrt_words.specs.Files.{files_in, files_of, flood_names, task_names};
-ghost use Rattle.mrt_words.specs.declared.form.Form.TheVariants.{Flood, OfFiles};
+ghost use Rattle.mrt_words.specs.{declared.form.Form.TheVariants.Flood, declared.form.Form.TheVariants.OfFiles, Reading.ReadsAs};
 ghost use Rattle.mrt_words.specs.Form.{AsksVerdict, IsSurvey, IsTaskWithin, IsWithin, form_of};
-ghost use Rattle.mrt_words.specs.Reading.{ReadsAs};
 ghost use Rattle.mrt_cmd.specs.Headline.{ChecksWritten, FloodsAlike, IsPassed};
 ghost use Rattle.mrt_answer.specs.TextBytes.{HasText, IsTextOf};
-ghost use Rattle.mrt_exit.specs.Telling.{GainedLine, IsCutShort};
 ghost use Rattle.mrt_cmd.specs.Run.{IsExitOfSurvey, IsHealthyForText, IsUndisturbed, WritesNothing};
 
 use crate::run_law::{

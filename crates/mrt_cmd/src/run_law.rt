@@ -6,8 +6,7 @@ ghost use Rattle.mrt_io.specs.Holding.{Files};
 ghost use Rattle.mrt_exit.specs.declared.exit.Exit.{Exit};
 ghost use Rattle.mrt_cmd.specs.Comes.{Comes, GivesText, IsRefused};
 ghost use Rattle.mrt_words.specs.Form.{AsksVerdict, form_of};
-ghost use Rattle.flood_verdict.specs.Alike.{IsToldAlike};
-ghost use Rattle.flood_verdict.specs.Says.{Says};
+ghost use Rattle.flood_verdict.specs.{Alike.IsToldAlike, Says.Says};
 ghost use Rattle.mrt_cmd.specs.Headline.{ChecksWritten, FloodsAlike};
 
 use mrt_answer::{alike_deliveries_are_told_alike, one_answer_comes, what_is_certified_passes};
