@@ -1,5 +1,5 @@
 -- The nodes by their turns.
-use Rattle.std.proofs.Common.{◌≡◌, ◌<◌, ◌≤◌, ◌+◌, ◌-◌, ◌∙◌, ℕ, zero, suc, List, ◌∷◌, Some, length, slice_get, inl, inr, refl, sym, ap, subst, arith}
+use Rattle.std.proofs.Common.{◌≡◌, ◌≢◌, ◌<◌, ◌≤◌, ◌+◌, ◌-◌, ◌∙◌, ℕ, zero, suc, List, ◌∷◌, Some, length, slice_get, inl, inr, refl, sym, ap, subst, arith}
 use Rattle.std.specs.Prelude.{Contains}
 use Rattle.std.proofs.lemmas.Option.{same_Some, slice_get_within}
 use Rattle.mrt_graph.specs.DirectedLists.{DirectedLists}
@@ -122,3 +122,9 @@ all_set g d root w dir count turns are all set_so_far = record {
         let there : slice_get turns i ≡ Some it.0 = subst (λ (j : ℕ). slice_get turns j ≡ Some it.0) it.2 (set_so_far.of_each it.0 (omega (arith, it.1, all))) in
         let same : it.0 ≡ v = same_Some it.0 v (sym there ∙ at) in
         (subst (λ (x : ℕ). x < n) same it.1, subst (λ (x : ℕ). turn_of dir n w x ≡ i) same it.2)
+
+-- another node than the one that has its turn has none
+pub not_now : (g : Topology) (w : Directions) (dir : Dir) (turns : List ℕ) → AreTurns g w dir turns → (i x y : ℕ) → slice_get turns i ≡ Some x → y < length g.ids → y ≢ x
+    → turn_of dir (length g.ids) w y ≢ i
+not_now g w dir turns are i x y at within other same =
+    other (same_Some y x (sym (are.of_each y within) ∙ subst (λ (t : ℕ). slice_get turns t ≡ Some x) (sym same) at))

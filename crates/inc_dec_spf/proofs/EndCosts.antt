@@ -10,7 +10,7 @@ use Rattle.inc_dec_spf.specs.declared.reach.Dir.{Dir}
 use Rattle.inc_dec_spf.specs.BlockAims.{aim_at}
 use Rattle.inc_dec_spf.specs.Path.{LeadsOn, cost_of}
 use Rattle.inc_dec_spf.specs.Rest.{IsRestCost, Rest, far}
-use Rattle.inc_dec_spf.specs.Side.{AreTaken, IsLeastWay, cost_at, lesser, link_of_lesser}
+use Rattle.inc_dec_spf.specs.Side.{AreTaken, IsFirstWay, IsLeastWay, cost_at, lesser, link_of_lesser}
 use Rattle.inc_dec_spf.specs.Ways.{AreLeast, AreReady, AtHead, Back, BeginsAt, HasHeadBy, Home, Inside, IsLeftAt, IsReadyFrom, IsWantedBlock, Onward}
 
 -- what is known of the ways that begin with one end, when `left` is left after it
@@ -18,6 +18,18 @@ pub record IsEndCost (Begins : ℕ → ℕ → Type 0) (place left metric bound 
   pub small : left < far → left ≤ bound
   pub reached : left < far → Begins place (left + metric)
   pub least : (cost : ℕ) → Begins place cost → (left + metric ≤ cost) × (left < far)
+
+-- the first way over some ends is that over one more
+longer : (Begins : ℕ → ℕ → Type 0) (ends : List End) (count cost link : ℕ) → IsFirstWay Begins ends count cost link → IsFirstWay Begins ends (count + 1) cost link
+longer Begins ends count cost link it = record {
+  place = it.place;
+  before = omega (arith, it.before);
+  end = it.end;
+  there = it.there;
+  begins = it.begins;
+  none_before = it.none_before;
+  over = it.over;
+}
 
 -- one end more, over which ways lead
 pub way_taken : (Begins : ℕ → ℕ → Type 0) (ends : List End) (count cost link left bound : ℕ) (end : End) → bound < 2 ^ 30 → end.metric < 65536 → slice_get ends count ≡ Some end
@@ -49,17 +61,7 @@ way_taken Begins ends count cost link left bound end low_bound fits at over so_f
       let not_less = ltb-false (left + end.metric) cost is_not in
       rw is_not (record {
         most = so_far.most;
-        reached = λ below.
-            let it = so_far.reached below in
-            record {
-              place = it.place;
-              before = omega (arith, it.before);
-              end = it.end;
-              there = it.there;
-              begins = it.begins;
-              none_before = it.none_before;
-              over = it.over;
-            };
+        reached = λ below. longer Begins ends count cost link (so_far.reached below);
         unreached = so_far.unreached;
         least = λ place other early begins. elim (cases_eq place count) [
           | inl same ↦
@@ -75,17 +77,7 @@ pub way_passed : (Begins : ℕ → ℕ → Type 0) (ends : List End) (count cost
     → IsLeastWay Begins ends count cost link → IsLeastWay Begins ends (count + 1) cost link
 way_passed Begins ends count cost link none so_far = record {
   most = so_far.most;
-  reached = λ below.
-      let it = so_far.reached below in
-      record {
-        place = it.place;
-        before = omega (arith, it.before);
-        end = it.end;
-        there = it.there;
-        begins = it.begins;
-        none_before = it.none_before;
-        over = it.over;
-      };
+  reached = λ below. longer Begins ends count cost link (so_far.reached below);
   unreached = so_far.unreached;
   least = λ place other early begins. elim (cases_eq place count) [
     | inl same ↦ absurd (none other (subst (λ (p : ℕ). Begins p other) same begins))
@@ -158,7 +150,7 @@ left_cost g w dir own x aims width all k y j left bound apart within ready (Back
     ]
 
 -- the head of a block, by a node of it, is one
-one_head_by : (w : Directions) (k h top y : ℕ) → HasHeadBy w k h y → HasHeadBy w k top y → h ≡ top
+pub one_head_by : (w : Directions) (k h top y : ℕ) → HasHeadBy w k h y → HasHeadBy w k top y → h ≡ top
 one_head_by w k h top y (Inside a b) (Inside c d) = sym b ∙ d
 one_head_by w k h top y (Inside a b) (AtHead c d) = absurd (c a)
 one_head_by w k h top y (AtHead a b) (Inside c d) = absurd (a c)
@@ -216,6 +208,13 @@ end_cost g w wanted dir own x aim place left h bound ends end on is = record {
       (omega (arith, it.0, begins.costs, metric), it.1);
 }
 
+-- the lesser of two small costs is small
+pub small_lesser : (bound a b c : ℕ) → c ≡ lesser a b → (a < far → a ≤ bound + 65535) → (b < far → b ≤ bound + 65535) → c < far → c ≤ bound + 65535
+small_lesser bound a b c is first_small other_small below = elim (cases_Bool (nat_lt a b)) [
+  | inl is_less ↦ let one : c ≡ a = rw is_less at is in omega (arith, one, first_small (omega (arith, one, below)))
+  | inr is_not ↦ let one : c ≡ b = rw is_not at is in omega (arith, one, other_small (omega (arith, one, below)))
+]
+
 -- the step for all places
 pub all_taken_over : (g : Topology) (w : Directions) (wanted : List Bool) (dir : Dir) (own : Bool) (aims : List ℕ) (width : ℕ) (all : List ℕ) (bound x count : ℕ) (ends : List End) (end : End)
     (costs links costs' links' : List ℕ) → bound < 2 ^ 30 → end.metric < 65536 → length costs ≡ width → length links ≡ width → IsWayOn g w wanted dir own x count ends end
@@ -245,15 +244,9 @@ all_taken_over g w wanted dir own aims width all bound x count ends end costs li
       let it = taken.each j old (get_or links j 0) at (slice_get-get_or links j 0 within_links) in
       let cost_is = same_Some cost' (lesser (it.0 + end.metric) old) (sym at' ∙ it.2) in
       let left = left_cost g w dir own x aims width all (w.lies_in end.link) end.to j it.0 bound on.elsewhere (omega (arith, within, one_each)) ready it.1 in
-      small_lesser (it.0 + end.metric) old cost' cost_is (λ low. let small = left.1.small (omega (arith, low)) in omega (arith, small, fits)) (so_far.small j old at)
+      small_lesser bound (it.0 + end.metric) old cost' cost_is (λ low. let small = left.1.small (omega (arith, low)) in omega (arith, small, fits)) (so_far.small j old at)
       below;
 }
-  where
-    small_lesser : (a b c : ℕ) → c ≡ lesser a b → (a < far → a ≤ bound + 65535) → (b < far → b ≤ bound + 65535) → c < far → c ≤ bound + 65535
-    small_lesser a b c is first_small other_small below = elim (cases_Bool (nat_lt a b)) [
-      | inl is_less ↦ let one : c ≡ a = rw is_less at is in omega (arith, one, first_small (omega (arith, one, below)))
-      | inr is_not ↦ let one : c ≡ b = rw is_not at is in omega (arith, one, other_small (omega (arith, one, below)))
-    ]
 
 pub all_passed : (g : Topology) (w : Directions) (wanted : List Bool) (dir : Dir) (own : Bool) (aims : List ℕ) (width bound x count : ℕ) (ends : List End) (costs links : List ℕ)
     → ((aim : ℕ → ℕ) (other : ℕ) → BeginsAt g w wanted dir own x aim count other → ⊥) → AreLeast g w wanted dir own aims width bound x ends count costs links

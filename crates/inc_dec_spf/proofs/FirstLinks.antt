@@ -16,6 +16,7 @@ use Rattle.inc_dec_spf.specs.Rest.{far}
 use Rattle.inc_dec_spf.specs.Side.{IsLeastWay, hop_by}
 use Rattle.inc_dec_spf.specs.Turns.{AreTurns, turn_of}
 use Rattle.inc_dec_spf.specs.Ways.{AreLeast, BeginsAt}
+use Rattle.inc_dec_spf.proofs.ByTurn.{not_now}
 use Rattle.inc_dec_spf.proofs.InBlocks.{IsOrdered}
 use Rattle.inc_dec_spf.proofs.Marks.{link_within}
 use Rattle.inc_dec_spf.proofs.OneHop.{one_block}
@@ -47,7 +48,7 @@ module _ (g : Topology) (root : ℕ) (w : Directions) (is : IsOrdered g root w) 
 
       hop : IsHop g w dir s t (hop_by cost link)
       hop =
-          least_hop g root w is wanted dir own s t aim cost link ends within list share.two (λ k' h' other own_only. same_block k' h' other ∙ kept_to own_only)
+          least_hop g root w is wanted dir own s t aim cost link ends within list (λ own_only. share.two) (λ k' h' other own_only. same_block k' h' other ∙ kept_to own_only)
           (λ k' h' other. subst (λ (b : ℕ). slice_get wanted b ≡ Some true) (sym (same_block k' h' other)) marked)
           (λ k' h' other. it_aims.aimed k' h' other.common) alone least
 
@@ -107,13 +108,9 @@ one_linked g root w wanted dir is turns are aims width i x at bound ends costs l
         (λ t k h inside share own. subst (λ (v : ℕ). k ≡ w.block v) same (one.only t k h inside (subst (λ (v : ℕ). HaveCommonBlockOfMoreLinks g w v t k h) (sym same) share))) least there)
     | inr other ↦
         links_stay g w wanted dir aims width y x (length links) all after other one_link_each elsewhere
-        (linked.each y within (omega (arith, early, not_now y within other)) one)
+        (linked.each y within (omega (arith, early, not_now g w (against dir) turns are i x y at within other)) one)
   ];
 }
-  where
-    not_now : (y : ℕ) → y < length g.ids → y ≢ x → turn_of (against dir) (length g.ids) w y ≢ i
-    not_now y within other same =
-        other (same_Some y x (sym (are.of_each y within) ∙ subst (λ (t : ℕ). slice_get turns t ≡ Some x) (sym same) at))
 
 -- a node whose block is not wanted, and which lies in no other one of more than one link, has none
 pub passed_linked : (g : Topology) (w : Directions) (wanted : List Bool) (dir : Dir) (turns : List ℕ) → AreTurns g w (against dir) turns
@@ -127,10 +124,6 @@ passed_linked g w wanted dir turns are aims width i x all at unmarked linked = r
           let no : false ≡ true = same_Some false true (sym unmarked ∙ ap (λ (b : ℕ). slice_get wanted b) block_is ∙ marked) in
           absurd (cc);
     }
-    | inr other ↦ linked.each y within (omega (arith, early, not_now y within other)) one
+    | inr other ↦ linked.each y within (omega (arith, early, not_now g w (against dir) turns are i x y at within other)) one
   ];
 }
-  where
-    not_now : (y : ℕ) → y < length g.ids → y ≢ x → turn_of (against dir) (length g.ids) w y ≢ i
-    not_now y within other same =
-        other (same_Some y x (sym (are.of_each y within) ∙ subst (λ (t : ℕ). slice_get turns t ≡ Some x) (sym same) at))

@@ -11,10 +11,13 @@ use Rattle.link_direction.specs.Directions.{Directions}
 use Rattle.link_direction.specs.OrderedGadag.{HasClosingLink}
 use Rattle.inc_dec_spf.specs.declared.reach.Dir.{Dir}
 use Rattle.inc_dec_spf.specs.declared.reach.Dir.TheVariants.{Down, Up}
+use Rattle.inc_dec_spf.specs.Against.{against}
 use Rattle.inc_dec_spf.specs.Path.{IsStep, LeadsOn, Path}
+use Rattle.inc_dec_spf.specs.Turns.{turn_of}
+use Rattle.inc_dec_spf.proofs.ByTurn.{turn_within}
 use Rattle.inc_dec_spf.proofs.InBlocks.{IsClosed, IsOrdered, closing_is, closing_leads, head_lower, leads_inside, member_not_head}
 use Rattle.inc_dec_spf.proofs.Marks.{leads_within, link_within}
-use Rattle.inc_dec_spf.proofs.WaysInBlocks.{path_onward}
+use Rattle.inc_dec_spf.proofs.PathsSwept.{path_onward}
 
 -- a link of block k, directed from u to v
 pub record IsDirectedLink (g : Topology) (w : Directions) (k e u v : ℕ) : Type 0 where
@@ -54,7 +57,7 @@ pub record IsInto (g : Topology) (w : Directions) (k h m : ℕ) : Type 0 where
   pub origin : (from ≡ h) ⊎ ((w.block from ≡ k) × (w.order from < w.order m))
 
 -- from a node that is not the greatest, over a link that is not closing
-left_inside : (g : Topology) (root : ℕ) (w : Directions) (k h m : ℕ) (closed : IsClosed g root w k h) → IsOrdered g root w → m < length g.ids → w.block m ≡ k
+pub left_inside : (g : Topology) (root : ℕ) (w : Directions) (k h m : ℕ) (closed : IsClosed g root w k h) → IsOrdered g root w → m < length g.ids → w.block m ≡ k
     → m ≢ closed.closing.greatest → (to : ℕ) × (link : ℕ) × (IsDirectedLink g w k link m to) × (w.block to ≡ k) × (w.order m < w.order to)
 left_inside g root w k h m closed is within inside other =
     let it = closed.closing.left m within (inside ∙ sym closed.in_block) other in
@@ -211,94 +214,84 @@ step_last g w dir k h s v t way not_head it = record {
       (path_onward g w dir k h s v way.end way.others it.end way.is_path not_head it.step);
 }
 
--- paths up to the head and down from it, over the link that leads up from m
-pub record HaveUpHome (g : Topology) (w : Directions) (k h m : ℕ) : Type 0 where
-  pub up : HasWay g w Up k h m h
-  pub down : HasWay g w Down k h h m
+-- where a step leads in a direction from a node of the block, to a later turn or to the head, and a step back in the other one
+record IsNext (g : Topology) (w : Directions) (dir : Dir) (k h m : ℕ) : Type 0 where
+  pub to : ℕ
+  pub within : to < length g.ids
+  pub step : IsStepTo g w dir k m to
+  pub back : IsStepTo g w (against dir) k to m
+  pub onto : (to ≡ h) ⊎ ((w.block to ≡ k) × (turn_of dir (length g.ids) w m < turn_of dir (length g.ids) w to))
 
-over_out : (g : Topology) (root : ℕ) (w : Directions) (k h m : ℕ) → IsOrdered g root w → IsClosed g root w k h → (it : IsOut g w k h m)
-    → (w.block it.to ≡ k → w.order m < w.order it.to → it.to < length g.ids → HaveUpHome g w k h it.to) → HaveUpHome g w k h m
-over_out g root w k h m is closed it rest = elim it.onto [
-  | inl home ↦ record {
-    up = one_step g w Up k h m h (subst (λ (y : ℕ). IsStepTo g w Up k m y) home up);
-    down = one_step g w Down k h h m (subst (λ (y : ℕ). IsStepTo g w Down k y m) home down);
-  }
-  | inr on ↦
-      let to_within = (leads_within g it.link m it.to is.kept it.directed.onward).1 in
-      let not_head = member_not_head g root w k h it.to is closed to_within on.0 in
-      let ways = rest on.0 on.1 to_within in
-      record { up = step_first g w Up k h m it.to h up not_head ways.up; down = step_last g w Down k h h it.to m ways.down not_head down }
-]
-  where
-    up : IsStepTo g w Up k m it.to
-    up = step_up g root w k it.link m it.to is it.directed
+-- paths in a direction to the head, and back from it in the other one
+record HaveHome (g : Topology) (w : Directions) (dir : Dir) (k h m : ℕ) : Type 0 where
+  pub home : HasWay g w dir k h m h
+  pub back : HasWay g w (against dir) k h h m
 
-    down : IsStepTo g w Down k it.to m
-    down = step_down g root w k it.link m it.to is it.directed
+module _ (g : Topology) (root : ℕ) (w : Directions) (k h : ℕ) (is : IsOrdered g root w) (closed : IsClosed g root w k h) where
+  next_of : (dir : Dir) (m : ℕ) → m < length g.ids → w.block m ≡ k → IsNext g w dir k h m
+  next_of Up m within inside =
+      let it = out_of g root w k h m is closed within inside in
+      record {
+        to = it.to;
+        within = (leads_within g it.link m it.to is.kept it.directed.onward).1;
+        step = step_up g root w k it.link m it.to is it.directed;
+        back = step_down g root w k it.link m it.to is it.directed;
+        onto = elim it.onto [
+          | inl home ↦ inl home
+          | inr on ↦ inr (on.0, omega (arith, on.1, is.ordered.orders.from_one m within))
+        ];
+      }
+  next_of Down m within inside =
+      let it = into_of g root w k h m is closed within inside in
+      record {
+        to = it.from;
+        within = (leads_within g it.link it.from m is.kept it.directed.onward).0;
+        step = step_down g root w k it.link it.from m is it.directed;
+        back = step_up g root w k it.link it.from m is it.directed;
+        onto = elim it.origin [
+          | inl home ↦ inl home
+          | inr on ↦ inr (on.0, omega (arith, on.1, is.ordered.orders.to_n m within))
+        ];
+      }
 
--- by greater and greater orders
-up_home : (g : Topology) (root : ℕ) (w : Directions) (k h : ℕ) → IsOrdered g root w → IsClosed g root w k h → (fuel m : ℕ) → m < length g.ids → w.block m ≡ k
-    → length g.ids ≤ w.order m + fuel → HaveUpHome g w k h m
-up_home g root w k h is closed zero m within inside far =
-    let it = out_of g root w k h m is closed within inside in
-    over_out g root w k h m is closed it (λ member less to_within. absurd (omega (arith, far, less, is.ordered.orders.to_n it.to to_within)))
-up_home g root w k h is closed (suc fuel) m within inside far =
-    let it = out_of g root w k h m is closed within inside in
-    over_out g root w k h m is closed it (λ member less to_within. up_home g root w k h is closed fuel it.to to_within member (omega (arith, far, less)))
-
--- paths down to the head and up from it, over the link that leads up to m
-pub record HaveDownHome (g : Topology) (w : Directions) (k h m : ℕ) : Type 0 where
-  pub down : HasWay g w Down k h m h
-  pub up : HasWay g w Up k h h m
-
-over_into : (g : Topology) (root : ℕ) (w : Directions) (k h m : ℕ) → IsOrdered g root w → IsClosed g root w k h → (it : IsInto g w k h m)
-    → (w.block it.from ≡ k → w.order it.from < w.order m → it.from < length g.ids → HaveDownHome g w k h it.from) → HaveDownHome g w k h m
-over_into g root w k h m is closed it rest = elim it.origin [
-  | inl home ↦ record {
-    down = one_step g w Down k h m h (subst (λ (y : ℕ). IsStepTo g w Down k m y) home down);
-    up = one_step g w Up k h h m (subst (λ (y : ℕ). IsStepTo g w Up k y m) home up);
-  }
-  | inr on ↦
-      let from_within = (leads_within g it.link it.from m is.kept it.directed.onward).0 in
-      let not_head = member_not_head g root w k h it.from is closed from_within on.0 in
-      let ways = rest on.0 on.1 from_within in
-      record { down = step_first g w Down k h m it.from h down not_head ways.down; up = step_last g w Up k h h it.from m ways.up not_head up }
-]
-  where
-    up : IsStepTo g w Up k it.from m
-    up = step_up g root w k it.link it.from m is it.directed
-
-    down : IsStepTo g w Down k m it.from
-    down = step_down g root w k it.link it.from m is it.directed
-
--- by lower and lower orders
-down_home : (g : Topology) (root : ℕ) (w : Directions) (k h : ℕ) → IsOrdered g root w → IsClosed g root w k h → (fuel m : ℕ) → m < length g.ids → w.block m ≡ k
-    → w.order m ≤ fuel → HaveDownHome g w k h m
-down_home g root w k h is closed zero m within inside far =
-    let it = into_of g root w k h m is closed within inside in
-    over_into g root w k h m is closed it (λ member less from_within. absurd (omega (arith, far, less)))
-down_home g root w k h is closed (suc fuel) m within inside far =
-    let it = into_of g root w k h m is closed within inside in
-    over_into g root w k h m is closed it (λ member less from_within. down_home g root w k h is closed fuel it.from from_within member (omega (arith, far, less)))
+  -- by later and later turns
+  by_turn : (dir : Dir) (fuel m : ℕ) → m < length g.ids → w.block m ≡ k → length g.ids ≤ turn_of dir (length g.ids) w m + fuel → HaveHome g w dir k h m
+  by_turn dir zero m within inside far_off =
+      absurd (omega (arith, far_off, turn_within dir (length g.ids) (w.order m) (is.ordered.orders.from_one m within) (is.ordered.orders.to_n m within)))
+  by_turn dir (suc fuel) m within inside far_off =
+      let it = next_of dir m within inside in
+      elim it.onto [
+        | inl home ↦ record {
+          home = one_step g w dir k h m h (subst (λ (y : ℕ). IsStepTo g w dir k m y) home it.step);
+          back = one_step g w (against dir) k h h m (subst (λ (y : ℕ). IsStepTo g w (against dir) k y m) home it.back);
+        }
+        | inr on ↦
+            let not_head = member_not_head g root w k h it.to is closed it.within on.0 in
+            let ways = by_turn dir fuel it.to it.within on.0 (omega (arith, far_off, on.1)) in
+            record {
+              home = step_first g w dir k h m it.to h it.step not_head ways.home;
+              back = step_last g w (against dir) k h h it.to m ways.back not_head it.back;
+            }
+      ]
 
 -- of a node whose block has a closing link
 closed_at : (g : Topology) (root : ℕ) (w : Directions) (m : ℕ) → m < length g.ids → m ≢ root → HasClosingLink g w m → IsClosed g root w (w.block m) (w.head m)
 closed_at g root w m within other closing = record { m = m; within = within; not_root = other; in_block = refl; has_head = refl; closing = closing }
 
+-- paths lead from it to the head and back
+home_of : (g : Topology) (root : ℕ) (w : Directions) (dir : Dir) (m : ℕ) → IsOrdered g root w → m < length g.ids → m ≢ root → HasClosingLink g w m
+    → HaveHome g w dir (w.block m) (w.head m) m
+home_of g root w dir m is within other closing =
+    by_turn g root w (w.block m) (w.head m) is (closed_at g root w m within other closing) dir (length g.ids) m within refl (omega arith)
+
 pub to_head : (g : Topology) (root : ℕ) (w : Directions) (dir : Dir) (m : ℕ) → IsOrdered g root w → m < length g.ids → m ≢ root → HasClosingLink g w m
     → (path : List End) × Path g w dir (w.block m) (w.head m) m path (w.head m)
-to_head g root w Up m is within other closing =
-    let way = (up_home g root w (w.block m) (w.head m) is (closed_at g root w m within other closing) (length g.ids) m within refl (omega arith)).up in
-    (way.end ∷ way.others, way.is_path)
-to_head g root w Down m is within other closing =
-    let way = (down_home g root w (w.block m) (w.head m) is (closed_at g root w m within other closing) (w.order m) m within refl (omega arith)).down in
-    (way.end ∷ way.others, way.is_path)
+to_head g root w dir m is within other closing =
+    let way = (home_of g root w dir m is within other closing).home in (way.end ∷ way.others, way.is_path)
 
 pub from_head : (g : Topology) (root : ℕ) (w : Directions) (dir : Dir) (m : ℕ) → IsOrdered g root w → m < length g.ids → m ≢ root → HasClosingLink g w m
     → (path : List End) × Path g w dir (w.block m) (w.head m) (w.head m) path m
 from_head g root w Up m is within other closing =
-    let way = (down_home g root w (w.block m) (w.head m) is (closed_at g root w m within other closing) (w.order m) m within refl (omega arith)).up in
-    (way.end ∷ way.others, way.is_path)
+    let way = (home_of g root w Down m is within other closing).back in (way.end ∷ way.others, way.is_path)
 from_head g root w Down m is within other closing =
-    let way = (up_home g root w (w.block m) (w.head m) is (closed_at g root w m within other closing) (length g.ids) m within refl (omega arith)).down in
-    (way.end ∷ way.others, way.is_path)
+    let way = (home_of g root w Up m is within other closing).back in (way.end ∷ way.others, way.is_path)

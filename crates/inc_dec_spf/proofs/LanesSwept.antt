@@ -1,108 +1,319 @@
--- The sweep for some sources side by side, told of each of them.
-use Rattle.std.proofs.Common.{◌≡◌, ◌<◌, ◌≤◌, ◌+◌, ◌*◌, ◌∙◌, ℕ, List, Option, Some, None, get_or, length, slice_get, slice_index, inl, inr, refl, sym, ap, subst, arith}
-use Rattle.std.proofs.lemmas.Bool.{cases_eq, cases_lt}
-use Rattle.std.proofs.lemmas.Option.{same_Some}
+-- The sweep for some sources side by side, told of each of them: its lane.
+use Rattle.std.proofs.Common.{◌≡◌, ◌≢◌, ◌<◌, ◌≤◌, ◌+◌, ◌*◌, ◌∙◌, ℕ, List, [], ◌∷◌, Option, Some, None, length, nat_lt, slice_get, slice_index, inl, inr, refl, sym, ap, subst, arith}
+use Rattle.std.specs.Option.{option_map_or}
+use Rattle.std.proofs.lemmas.Bool.{cases_Bool, cases_eq, cases_lt, ltb-false, ltb-true}
+use Rattle.std.proofs.lemmas.List.{get_or_past}
+use Rattle.std.proofs.lemmas.Option.{same_Some, slice_get_past}
+use Rattle.mrt_graph.specs.declared.cert.Role.TheVariants.{Sole}
 use Rattle.mrt_graph.specs.declared.link.End.{End}
 use Rattle.mrt_graph.specs.Topology.{Topology}
+use Rattle.mrt_graph.proofs.EndsAt.{end_leads}
 use Rattle.link_direction.specs.Directions.{Directions}
+use Rattle.inc_dec_spf.specs.declared.fan.Opening.{Opening}
 use Rattle.inc_dec_spf.specs.declared.reach.Dir.{Dir}
-use Rattle.inc_dec_spf.specs.Fan.{HasOffered, known_at, known_by, lane}
-use Rattle.inc_dec_spf.specs.Known.{AreOffered, Known}
-use Rattle.inc_dec_spf.specs.Offers.{PassesOn, IsTurnOffer}
+use Rattle.inc_dec_spf.specs.Fan.{IsFirstPlace, link_at}
+use Rattle.inc_dec_spf.specs.FirstLink.{Begins, BeginsNone, no_link}
+use Rattle.inc_dec_spf.specs.HasDirections.{AreDirections}
+use Rattle.inc_dec_spf.specs.Known.{AreLow, AreOffered, IsNoLater, Known, OfAny, known, known_at, nothing}
+use Rattle.inc_dec_spf.specs.LeastPath.{BeginsPath, HaveCommonBlockOfMoreLinks, IsHop, NotReached, Reached}
+use Rattle.inc_dec_spf.specs.Offers.{IsFirstOffer, IsFurtherOffer, PassesOn}
+use Rattle.inc_dec_spf.specs.Opening.{AreFirstOffered, Goes, IsKeptOnward, IsOpening, Stays}
+use Rattle.inc_dec_spf.specs.Path.{IsStep, Path, cost_of}
 use Rattle.inc_dec_spf.specs.Rest.{far}
-use Rattle.inc_dec_spf.proofs.Lanes.{far_none, lane_at, lane_past}
-use Rattle.inc_dec_spf.proofs.Swept.{none_from, turn_offers}
+use Rattle.inc_dec_spf.specs.Side.{hop_by}
+use Rattle.inc_dec_spf.specs.Turns.{AreTurns, turn_of}
+use Rattle.inc_dec_spf.proofs.ByTurn.{turn_within}
+use Rattle.inc_dec_spf.proofs.FirstLinks.{places_apart}
+use Rattle.inc_dec_spf.proofs.InBlocks.{IsOrdered}
+use Rattle.inc_dec_spf.proofs.Marks.{link_within}
+use Rattle.inc_dec_spf.proofs.MoreLinks.{AreIn, are_in, first_step, share_it}
+use Rattle.inc_dec_spf.proofs.Offering.{no_later_same}
+use Rattle.inc_dec_spf.proofs.SideBySide.{row_within}
+use Rattle.inc_dec_spf.proofs.PathsSwept.{HasPath, IsSwept, IsTurnOffer, begun_path, metric_small, path_found, turn_taken}
 
--- nothing is known of any node
-pub record IsBlank (known : List (Option Known)) : Type 0 where
-  pub none : (v : ℕ) (way : Known) → slice_get known v ≡ Some (Some way) → ⊥
+-- the lane at place j of so many
+abbrev pub lane : ℕ → ℕ → (ℕ → Known) → ℕ → Known
+lane width j found v = found (v * width + j)
 
-pub lane_blank : (ends : List End) (n width : ℕ) (costs places : List ℕ) (j : ℕ) → ((i : ℕ) → i < n * width → far ≤ get_or costs i 0)
-    → ((v : ℕ) → v < n → v * width + j < n * width) → IsBlank (lane ends n width costs places j)
-lane_blank ends n width costs places j all within = record {
-  none = λ v way at. elim (cases_lt v n) [
+-- each place is that of one node in one lane
+same_place : (v u width j l : ℕ) → j < width → l < width → v * width + j ≡ u * width + l → (v ≡ u) × (j ≡ l)
+same_place v u width j l j_below l_below same = elim (cases_eq v u) [
+  | inl one ↦ (one, omega (arith, same, ap (λ (x : ℕ). x * width) one))
+  | inr other ↦ elim (places_apart v u width j other j_below) [
+    | inl before ↦ absurd (omega (arith, before, same))
+    | inr after ↦ absurd (omega (arith, after, same, l_below))
+  ]
+]
+
+-- what the source s offers to v
+record IsBegun (g : Topology) (w : Directions) (dir : Dir) (s v : ℕ) (way : Known) : Type 0 where
+  pub end : End
+  pub step : IsStep g w dir (w.lies_in end.link) s end
+  pub not_sole : w.role end.link ≢ Sole
+  pub to : v ≡ end.to
+  pub same : way ≡ known end.metric step.place
+
+module _ (opening : Opening) (root : ℕ) (w : Directions) (are : AreDirections opening.graph.now opening.directed.now root w) (is_opening : IsOpening opening)
+    (width j : ℕ) (below : j < width) (inside : opening.first + j < length opening.graph.now.ids) where
+  abbrev g : Topology
+  g = opening.graph.now
+
+  abbrev dir : Dir
+  dir = opening.dir
+
+  abbrev s : ℕ
+  s = opening.first + j
+
+  is : IsOrdered g root w
+  is = record { kept = is_opening.kept; ordered = are.ordered }
+
+  turns : AreTurns g w dir opening.turns.now
+  turns = is_opening.turns root w are
+
+  -- what the source offers begins it
+  pub lane_begun : (costs places : List ℕ) → length costs ≡ length g.ids * width → AreFirstOffered opening w width costs places
+      → IsSwept g root w dir s 0 (lane width j (known_at costs places))
+  lane_begun costs places room begun = record {
+    sound = λ v v_inside low.
+        let it = by_offer v v_inside low in
+        subst (λ (k : Known). HasPath g root w dir s v k) (sym it.same)
+        (subst (λ (y : ℕ). HasPath g root w dir s y (known it.end.metric it.step.place)) (sym it.to) (begun_path g root w dir s is it.end it.step it.not_sole));
+    small = λ v v_inside low.
+        let it = by_offer v v_inside low in omega (arith, ap (λ (k : Known). k.cost) it.same, metric_small g w dir (w.lies_in it.end.link) s it.end is.kept it.step);
+    begun = λ end step not_sole. begun.offered.taken (end.to * width + j) (known end.metric step.place) (record {
+      index = j;
+      is = record {
+        index = step.place;
+        is = record { below = below; end = end; step = step; here = refl; not_sole = not_sole; one = record { there = refl; same = refl } };
+      };
+    });
+    passed = λ x end step early. absurd (omega (arith, early));
+  }
+    where
+      own : (v l place : ℕ) → IsFirstOffer g w dir (opening.first + l) width l place (v * width + j) (lane width j (known_at costs places) v)
+          → IsBegun g w dir s v (lane width j (known_at costs places) v)
+      own v l place offer =
+          let it : IsFirstOffer g w dir s width j place (v * width + j) (lane width j (known_at costs places) v) =
+          subst (λ (m : ℕ). IsFirstOffer g w dir (opening.first + m) width m place (v * width + j) (lane width j (known_at costs places) v))
+          (sym (same_place v offer.end.to width j l below offer.below offer.one.there).1) offer in
+          record {
+            end = it.end;
+            step = it.step;
+            not_sole = it.not_sole;
+            to = (same_place v it.end.to width j j below below it.one.there).0;
+            same = it.one.same ∙ ap (λ (p : ℕ). known it.end.metric p) (sym it.here);
+          }
+
+      by_offer : (v : ℕ) → v < length g.ids → (lane width j (known_at costs places) v).cost < far → IsBegun g w dir s v (lane width j (known_at costs places) v)
+      by_offer v v_inside low = elim (begun.offered.from (v * width + j)) [
+        | inl same ↦
+            let none = begun.blank (v * width + j) (omega (arith, row_within v (length g.ids) width (length costs) room v_inside, below)) in
+            absurd (omega (arith, low, ap (λ (k : Known). k.cost) (same ∙ none)))
+        | inr new ↦ own v new.1.index new.1.is.index new.1.is.is
+      ]
+
+  -- the turn of x
+  module _ (i x : ℕ) (at : slice_get opening.turns.now i ≡ Some x) (found : ℕ → Known) (swept : IsSwept g root w dir s i (lane width j found)) where
+    here : turn_of dir (length g.ids) w x ≡ i
+    here = turns.by_turn i x at
+
+    only : (v : ℕ) → v < length g.ids → turn_of dir (length g.ids) w v ≡ i → v ≡ x
+    only v v_inside same = same_Some v x (sym (turns.of_each v v_inside) ∙ subst (λ (t : ℕ). slice_get opening.turns.now t ≡ Some x) (sym same) at)
+
+    -- nothing is known of it
+    pub lane_idle : far ≤ (lane width j found x).cost → IsSwept g root w dir s (i + 1) (lane width j found)
+    lane_idle above =
+        turn_taken g root w dir s is x i (lane width j found) (lane width j found) (turns.within i x at) here only swept (λ v v_inside low. inl refl)
+        (λ v. no_later_same (lane width j found v)) (λ end step on low. absurd (omega (arith, low, above)))
+
+    -- it offers what is known of it, where paths go on
+    pub lane_turned : (costs places : List ℕ) (after : ℕ → Known) → length costs ≡ width → IsKeptOnward opening x width j (lane width j found x) (known_at costs places j)
+        → AreOffered (OfAny (IsFurtherOffer g w dir x costs places)) found after → IsSwept g root w dir s (i + 1) (lane width j after)
+    lane_turned costs places after long kept_on offered =
+        turn_taken g root w dir s is x i (lane width j found) (lane width j after) (turns.within i x at) here only swept
+        (λ v v_inside low. elim (offered.from (v * width + j)) [ inl same ↦ inl same | inr new ↦ inr (turn_offer v new.1.index new.0 new.1.is) ])
+        (λ v. offered.kept (v * width + j)) taken
+      where
+        turn_offer : (v place : ℕ) → (lane width j after v).cost < far → IsFurtherOffer g w dir x costs places place (v * width + j) (lane width j after v)
+            → IsTurnOffer g w dir s x (lane width j found x) v (lane width j after v)
+        turn_offer v place low offer =
+            let over = offer.over in
+            let to = same_place v offer.end.to width j over.lane below (omega (arith, over.below, long))
+            (over.one.there ∙ ap (λ (m : ℕ). offer.end.to * m + over.lane) long) in
+            let same : lane width j after v ≡ known (slice_index costs j + offer.end.metric) (slice_index places j) =
+            over.one.same ∙ ap (λ (l : ℕ). known (slice_index costs l + offer.end.metric) (slice_index places l)) (sym to.1) in
+            elim kept_on [
+              | Goes is_known on ↦ record {
+                low = omega (arith, low, ap (λ (k : Known). k.cost) same, ap (λ (k : Known). k.cost) is_known);
+                on = on root w are below inside;
+                end = offer.end;
+                step = offer.step;
+                to = to.0;
+                is = same ∙ ap (λ (k : Known). known (k.cost + offer.end.metric) k.place) is_known;
+              }
+              | Stays is_far not_on ↦ absurd (omega (arith, low, ap (λ (k : Known). k.cost) same, is_far))
+            ]
+
+        taken : (end : End) → IsStep g w dir (w.block x) x end → PassesOn w s x → (lane width j found x).cost < far
+            → IsNoLater (lane width j after end.to) (known ((lane width j found x).cost + end.metric) (lane width j found x).place)
+        taken end step on low = elim kept_on [
+          | Goes is_known on' ↦
+              offered.taken (end.to * width + j) (known ((lane width j found x).cost + end.metric) (lane width j found x).place) (record {
+                index = step.place;
+                is = record {
+                  end = end;
+                  step = step;
+                  here = refl;
+                  over = record {
+                    lane = j;
+                    below = omega (arith, below, long);
+                    one = record {
+                      there = ap (λ (m : ℕ). end.to * m + j) (sym long);
+                      same = ap (λ (k : Known). known (k.cost + end.metric) k.place) (sym is_known);
+                    };
+                  };
+                };
+              })
+          | Stays is_far not_on ↦ absurd (not_on root w are on)
+        ]
+
+  -- after all turns, the ends by which the source begins the least paths
+  pub place_reached : (t : ℕ) (ends : List End) (found : ℕ → Known) → t < length g.ids → slice_get g.ends s ≡ Some ends → ((i : ℕ) → far ≤ (found i).cost → found i ≡ nothing)
+      → IsSwept g root w dir s (length g.ids) (lane width j found) → IsFirstPlace g w dir s t ends (lane width j found t)
+  place_reached t ends found t_inside list none swept = elim (cases_Bool (nat_lt way.cost far)) [
+    | inl less ↦ record {
+      hop = λ two. rw less (hop two (ltb-true way.cost far less));
+      link = λ two.
+          let low = ltb-true way.cost far less in
+          let it = swept.sound t t_inside low in
+          let few = link_within g it.end.link s it.end.to is.kept (end_leads g s way.place it.ends it.end is.kept it.list it.there) in
+          Begins (record { cost = way.cost; link = link_at ends way.place }) (hop two low) refl
+          (λ same. omega (arith, few, same, link_is it, is.kept.few_links));
+    }
+    | inr not_less ↦ record {
+      hop = λ two. rw not_less (NotReached (λ k h path share is_path. not_reached k h path share is_path (ltb-false way.cost far not_less)));
+      link = λ two.
+          let above = ltb-false way.cost far not_less in
+          BeginsNone (NotReached (λ k h path share is_path. not_reached k h path share is_path above)) (no_end (ap (λ (k : Known). k.place) (none (t * width + j) above)));
+    }
+  ]
+    where
+      way : Known
+      way = lane width j found t
+
+      all : (v : ℕ) → v < length g.ids → turn_of dir (length g.ids) w v < length g.ids
+      all v v_inside = turn_within dir (length g.ids) (w.order v) (is.ordered.orders.from_one v v_inside) (is.ordered.orders.to_n v v_inside)
+
+      no_end : way.place ≡ 65535 → link_at ends way.place ≡ no_link
+      no_end is_none =
+          let few = (is.kept.ends_kept s ends list).few in
+          ap (λ (o : Option End). option_map_or (λ e. e.link) o no_link) (slice_get_past ends way.place (omega (arith, is_none, few, is.kept.few_links)))
+
+      link_is : (it : HasPath g root w dir s t way) → link_at ends way.place ≡ it.end.link
+      link_is it =
+          let same = same_Some it.ends ends (sym it.list ∙ list) in
+          ap (λ (o : Option End). option_map_or (λ e. e.link) o no_link) (subst (λ (es : List End). slice_get es way.place ≡ Some it.end) same it.there)
+
+      found_by : (k h : ℕ) → AreIn g root w s k h t → (end : End) (others : List End) (place : ℕ) → slice_get ends place ≡ Some end → Path g w dir k h s (end ∷ others) t
+          → (way.cost < far) × IsNoLater way (known (cost_of (end ∷ others)) place)
+      found_by k h are_in_it end others place there path =
+          path_found g root w dir s is (lane width j found) swept all k h t are_in_it t end others path place ends list there
+
+      step_there : (k h : ℕ) (end : End) (step : IsStep g w dir k s end) → slice_get ends step.place ≡ Some end
+      step_there k h end step =
+          subst (λ (es : List End). slice_get es step.place ≡ Some end) (same_Some step.ends ends (sym step.list ∙ list)) step.there
+
+      not_reached : (k h : ℕ) (path : List End) → HaveCommonBlockOfMoreLinks g w s t k h → Path g w dir k h s path t → far ≤ way.cost → ⊥
+      not_reached k h [] share path above = path
+      not_reached k h (end ∷ others) share path above =
+          let step = first_step g w dir k h s t end others path in
+          let it = found_by k h (are_in g root w s k h t is inside t_inside share) end others step.place (step_there k h end step) path in
+          omega (arith, it.0, above)
+
+      hop : s ≢ t → way.cost < far → IsHop g w dir s t (Some (record { cost = way.cost; link = link_at ends way.place }))
+      hop two low =
+          let it = swept.sound t t_inside low in
+          let same = same_Some it.ends ends (sym it.list ∙ list) in
+          Reached it.k it.h (record { cost = way.cost; link = link_at ends way.place }) (share_it g root w s it.k it.h t is it.are two) (record {
+            end = it.end;
+            first = record {
+              ends = it.ends;
+              list = it.list;
+              place = way.place;
+              there = it.there;
+              asked = record { others = it.others; is_path = it.is_path; costs = it.costs };
+              none_before = λ place other early at begins.
+                  elim (found_by it.k it.h it.are other begins.others place (subst (λ (es : List End). slice_get es place ≡ Some other) same at) begins.is_path).1 [
+                    | inl less ↦ omega (arith, less, begins.costs)
+                    | inr tie ↦ omega (arith, tie.1, early)
+                  ];
+            };
+            over = link_is it;
+            least = λ path is_path. least it path is_path;
+          })
+        where
+          least : (it : HasPath g root w dir s t way) (path : List End) → Path g w dir it.k it.h s path t → way.cost ≤ cost_of path
+          least it [] path = absurd path
+          least it (end ∷ others) path =
+              let step = first_step g w dir it.k it.h s t end others path in
+              elim (found_by it.k it.h it.are end others step.place (step_there it.k it.h end step) path).1 [
+                | inl less ↦ omega (arith, less)
+                | inr tie ↦ omega (arith, tie.0)
+              ]
+
+-- a node that has its turn is one of the graph
+pub node_at : (opening : Opening) → IsOpening opening → (i x : ℕ) → slice_get opening.turns.now i ≡ Some x → x < length opening.graph.now.ids
+node_at opening is i x at = let d = is.directed in (is.turns d.root d.directions d.are).within i x at
+
+-- costs grow by one metric a turn
+pub low_begun : (opening : Opening) (width : ℕ) (costs places : List ℕ) → IsOpening opening
+    → ((root : ℕ) (w : Directions) → AreDirections opening.graph.now opening.directed.now root w → AreFirstOffered opening w width costs places) → AreLow 65535 costs
+low_begun opening width costs places is begun = record {
+  each = λ i low. elim (cases_lt i (length costs)) [
     | inl inside ↦
-        let entry = far_none ends (get_or costs (v * width + j) 0) (get_or places (v * width + j) 0) (all (v * width + j) (within v inside)) in
-        let is = sym (lane_at ends n width costs places j v inside) ∙ at in
-        let same = same_Some (known_at ends width costs places j v) (Some way) is in
-        absurd (cc (entry, same))
-    | inr past ↦ let none = lane_past ends n width costs places j v past in absurd (cc (none, at))
+        let d = is.directed in
+        let it = begun d.root d.directions d.are in
+        elim (it.offered.from i) [
+          | inl same ↦ absurd (omega (arith, low, ap (λ (k : Known). k.cost) (same ∙ it.blank i inside)))
+          | inr new ↦
+              let offer = new.1.is.is in
+              omega (arith, ap (λ (k : Known). k.cost) offer.one.same, metric_small opening.graph.now d.directions opening.dir _ _ offer.end is.kept offer.step)
+        ]
+    | inr past ↦ omega (arith, get_or_past costs i 0 past)
   ];
 }
 
--- what is in a lane of node x
-entry_of : (ends : List End) (n width : ℕ) (costs places : List ℕ) (j x : ℕ) (way : Known) → x < n
-    → slice_get (lane ends n width costs places j) x ≡ Some (Some way) → known_at ends width costs places j x ≡ Some way
-entry_of ends n width costs places j x way within at =
-    same_Some (known_at ends width costs places j x) (Some way) (sym (lane_at ends n width costs places j x within) ∙ at)
+pub low_turned : (opening : Opening) (x bound : ℕ) (from_costs from_places costs places costs' places' : List ℕ) → IsOpening opening
+    → ((root : ℕ) (w : Directions) → AreDirections opening.graph.now opening.directed.now root w
+    → AreOffered (OfAny (IsFurtherOffer opening.graph.now w opening.dir x from_costs from_places)) (known_at costs places) (known_at costs' places'))
+    → AreLow bound from_costs → AreLow bound costs → AreLow (bound + 65535) costs'
+low_turned opening x bound from_costs from_places costs places costs' places' is offered from_low before = record {
+  each = λ i low.
+      let d = is.directed in
+      elim ((offered d.root d.directions d.are).from i) [
+        | inl same ↦ let cost = ap (λ (k : Known). k.cost) same in omega (arith, cost, before.each i (omega (arith, low, cost)))
+        | inr new ↦
+            let offer = new.1.is in
+            let cost = ap (λ (k : Known). k.cost) offer.over.one.same in
+            omega (arith, cost, from_low.each offer.over.lane (omega (arith, cost, low)), metric_small opening.graph.now d.directions opening.dir _ x offer.end is.kept offer.step)
+      ];
+}
 
--- the turn of x, in one lane where no way to x is known
-pub idle_turn : (g : Topology) (w : Directions) (dir : Dir) (s x width : ℕ) (ends : List End) (costs places : List ℕ) (j : ℕ) → x < length g.ids
-    → far ≤ get_or costs (x * width + j) 0
-    → AreOffered (IsTurnOffer g w dir s x (lane ends (length g.ids) width costs places j)) (lane ends (length g.ids) width costs places j)
-    (lane ends (length g.ids) width costs places j)
-idle_turn g w dir s x width ends costs places j within all =
-    none_from g w dir s x (lane ends (length g.ids) width costs places j) (λ on way at.
-    let known = entry_of ends (length g.ids) width costs places j x way within at in
-    let none = far_none ends (get_or costs (x * width + j) 0) (get_or places (x * width + j) 0) all in
-    absurd (cc (known, none)))
+pub low_onward : (opening : Opening) (x width bound : ℕ) (costs places costs' places' : List ℕ)
+    → ((j : ℕ) → IsKeptOnward opening x width j (known_at costs places j) (known_at costs' places' j)) → AreLow bound costs → AreLow bound costs'
+low_onward opening x width bound costs places costs' places' onward before = record {
+  each = λ j low. elim (onward j) [
+    | Goes same on ↦ let cost = ap (λ (k : Known). k.cost) same in omega (arith, cost, before.each j (omega (arith, low, cost)))
+    | Stays is_far not_on ↦ absurd (omega (arith, is_far, low))
+  ];
+}
 
--- for the source s at place j, what is known of x, where a path that comes to x goes on; else nothing is
-pub record IsFromAt (w : Directions) (s x width : ℕ) (costs places from_costs from_places : List ℕ) (j : ℕ) : Type 0 where
-  pub cost : PassesOn w s x → slice_index from_costs j ≡ slice_index costs (x * width + j)
-  pub place : PassesOn w s x → slice_index from_places j ≡ slice_index places (x * width + j)
-  pub stays : ¬ PassesOn w s x → slice_index from_costs j ≡ far
-
--- the turn of x, in one lane: where a path that comes to x goes on, x offers what is known of it; else nothing
-pub lane_turn : (g : Topology) (w : Directions) (dir : Dir) (s x width : ℕ) (ends : List End) (costs places from_costs from_places costs' places' : List ℕ) (j : ℕ)
-    → x < length g.ids → IsFromAt w s x width costs places from_costs from_places j
-    → HasOffered g w dir x (known_by ends (get_or from_costs j 0) (get_or from_places j 0)) (lane ends (length g.ids) width costs places j)
-    (lane ends (length g.ids) width costs' places' j)
-    → AreOffered (IsTurnOffer g w dir s x (lane ends (length g.ids) width costs places j)) (lane ends (length g.ids) width costs places j)
-    (lane ends (length g.ids) width costs' places' j)
-lane_turn g w dir s x width ends costs places from_costs from_places costs' places' j within from has =
-    elim (cases_eq x s) [
-      | inl at_source ↦ stopped (λ on. on.not_source at_source)
-      | inr not_source ↦ elim (cases_eq x (w.head s)) [
-        | inl at_head ↦ stopped (λ on. on.not_head at_head)
-        | inr not_head ↦
-            let on : PassesOn w s x = record { not_source = not_source; not_head = not_head } in
-            gone on (known_at ends width costs places j x) refl
-      ]
-    ]
-  where
-    n : ℕ
-    n = length g.ids
-
-    before : List (Option Known)
-    before = lane ends (length g.ids) width costs places j
-
-    after : List (Option Known)
-    after = lane ends (length g.ids) width costs' places' j
-
-    stays : (o : Option Known) → o ≡ None → HasOffered g w dir x o before after → after ≡ before
-    stays None none has' = has'
-    stays (Some way) none has' = absurd (cc)
-
-    stopped : ¬ PassesOn w s x → AreOffered (IsTurnOffer g w dir s x before) before after
-    stopped not_on =
-        let none = far_none ends (get_or from_costs j 0) (get_or from_places j 0) (omega (arith, from.stays not_on)) in
-        subst (λ (xs : List (Option Known)). AreOffered (IsTurnOffer g w dir s x before) before xs)
-        (sym (stays (known_by ends (get_or from_costs j 0) (get_or from_places j 0)) none has))
-        (none_from g w dir s x before (λ on way at. not_on on))
-
-    gone : PassesOn w s x → (o : Option Known) → known_at ends width costs places j x ≡ o → AreOffered (IsTurnOffer g w dir s x before) before after
-    gone on o is = by_entry o is
-        (subst (λ (e : Option Known). HasOffered g w dir x e before after)
-        (ap (λ (c : ℕ). known_by ends c (get_or from_places j 0)) (from.cost on)
-        ∙ ap (λ (p : ℕ). known_by ends (get_or costs (x * width + j) 0) p) (from.place on) ∙ is) has)
-      where
-        by_entry : (o : Option Known) → known_at ends width costs places j x ≡ o → HasOffered g w dir x o before after
-            → AreOffered (IsTurnOffer g w dir s x before) before after
-        by_entry None is has' =
-            subst (λ (xs : List (Option Known)). AreOffered (IsTurnOffer g w dir s x before) before xs) (sym has')
-            (none_from g w dir s x before (λ on' way at.
-            let known = entry_of ends n width costs places j x way within at in absurd (cc (known, is))))
-        by_entry (Some way) is has' =
-            turn_offers g w dir s x way before after on
-            (lane_at ends n width costs places j x within ∙ ap (λ (e : Option Known). Some e) is) has'
+pub low_taken : (bound at : ℕ) (costs places from_costs from_places : List ℕ)
+    → ((j : ℕ) → j < length from_costs → known_at from_costs from_places j ≡ known_at costs places (at + j)) → AreLow bound costs → AreLow bound from_costs
+low_taken bound at costs places from_costs from_places taken before = record {
+  each = λ j low. elim (cases_lt j (length from_costs)) [
+    | inl inside ↦
+        let cost = ap (λ (k : Known). k.cost) (taken j inside) in omega (arith, cost, before.each (at + j) (omega (arith, low, cost)))
+    | inr past ↦ omega (arith, get_or_past from_costs j 0 past)
+  ];
+}

@@ -1,14 +1,16 @@
 -- What the mark of a link says, at one of its nodes.
-use Rattle.std.proofs.Common.{◌≡◌, ◌≢◌, ◌⊎◌, ◌<◌, ℕ, true, false, List, Option, Some, None, length, slice_get, inl, inr, refl, arith}
+use Rattle.std.proofs.Common.{◌≡◌, ◌≢◌, ◌⊎◌, ◌<◌, ℕ, true, false, List, Option, Some, None, length, slice_get, inl, inr, refl, sym, ◌∙◌, arith}
 use Rattle.std.specs.Option.{option_and_then}
 use Rattle.std.proofs.lemmas.Bool.{ltb-true, ltb-false}
 use Rattle.std.proofs.lemmas.Option.{same_Some, slice_get_within}
 use Rattle.mrt_graph.specs.declared.gadag.Mark.{Mark}
+use Rattle.mrt_graph.specs.declared.gadag.Place.{Place}
 use Rattle.mrt_graph.specs.declared.gadag.Way.{Way}
 use Rattle.mrt_graph.specs.declared.gadag.Way.TheVariants.{AToB, BToA, Unset}
 use Rattle.mrt_graph.specs.declared.link.End.{End}
 use Rattle.mrt_graph.specs.declared.link.Link.{Link}
 use Rattle.mrt_graph.specs.DirectedLists.{DirectedLists}
+use Rattle.mrt_graph.specs.GadagWords.{head_at}
 use Rattle.mrt_graph.specs.GraphInvariant.{IsLink, IsTopology}
 use Rattle.mrt_graph.specs.Leads.{far_node, leads}
 use Rattle.mrt_graph.specs.Tails.{tail_of}
@@ -135,3 +137,12 @@ pub marked_role : (g : Topology) (d : DirectedLists) (w : Directions) (x place :
 marked_role g d w x place ends end mark kept says is =
     let role = says.roles end.link (link_within g end.link x end.to kept (end_leads g x place ends end kept is.list is.there)) in
     same_Some mark.role (w.role end.link) (rw is.marked at role)
+
+-- the block of a node, from its place
+pub block_of_node : (g : Topology) (d : DirectedLists) (w : Directions) (x : ℕ) (place : Place) → Says g d w → x < length g.ids → slice_get d.places x ≡ Some place
+    → place.block ≡ w.block x
+block_of_node g d w x place says within at = let block = says.blocks x within in same_Some place.block (w.block x) (rw at at block)
+
+-- and its head
+pub head_of_node : (g : Topology) (d : DirectedLists) (w : Directions) (x head : ℕ) → Says g d w → x < length g.ids → head_at d.places x ≡ Some head → head ≡ w.head x
+head_of_node g d w x head says within at = same_Some head (w.head x) (sym at ∙ says.heads x within)

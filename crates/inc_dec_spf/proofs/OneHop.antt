@@ -15,8 +15,7 @@ use Rattle.inc_dec_spf.specs.LeastPath.{BeginsPath, IsHop, IsLeastPath, IsReachT
 use Rattle.inc_dec_spf.specs.Path.{Path}
 use Rattle.inc_dec_spf.specs.Turns.{turn_of}
 use Rattle.inc_dec_spf.proofs.InBlocks.{Home, IsClosed, IsOrdered, Later, Onto, member_not_head, step_from_member}
-use Rattle.inc_dec_spf.proofs.Reached.{are_in}
-use Rattle.inc_dec_spf.proofs.WaysInBlocks.{AreIn}
+use Rattle.inc_dec_spf.proofs.MoreLinks.{AreIn, are_in}
 
 -- a block of two nodes is that of the first one, or the first one is its head
 pub data Side (w : Directions) (s t k h : ℕ) : Type 0 where

@@ -17,9 +17,9 @@ use Rattle.inc_dec_spf.specs.Rest.{IsRestCost, far}
 use Rattle.inc_dec_spf.specs.TileEntries.{TileEntries}
 use Rattle.inc_dec_spf.specs.Turns.{AreTurns, turn_at, turn_of}
 use Rattle.inc_dec_spf.specs.Ways.{AreLeast, AreReady, IsReadyFrom, IsWantedBlock}
-use Rattle.inc_dec_spf.proofs.ByTurn.{turn_within}
+use Rattle.inc_dec_spf.proofs.ByTurn.{not_now, turn_within}
 use Rattle.inc_dec_spf.proofs.InBlocks.{Home, IsClosed, IsOrdered, Later, Onto, member_not_head, move_of, step_from_member}
-use Rattle.inc_dec_spf.proofs.Reached.{closed_of_more}
+use Rattle.inc_dec_spf.proofs.MoreLinks.{closed_of_more}
 use Rattle.inc_dec_spf.proofs.SideBySide.{row_within}
 use Rattle.inc_dec_spf.proofs.WaysArePaths.{own_rest}
 
@@ -45,10 +45,6 @@ module _ (g : Topology) (root : ℕ) (w : Directions) (wanted : List Bool) (dir 
       earlier dir (length g.ids) (w.order x) (w.order y) (is.ordered.orders.from_one x x_within) (is.ordered.orders.to_n x x_within)
       (is.ordered.orders.from_one y y_within) (is.ordered.orders.to_n y y_within) less
 
-  not_now : (i x y : ℕ) → slice_get turns i ≡ Some x → y < length g.ids → y ≢ x → turn_of (against dir) (length g.ids) w y ≢ i
-  not_now i x y at within other same =
-      other (same_Some y x (sym (are.of_each y within) ∙ subst (λ (t : ℕ). slice_get turns t ≡ Some x) (sym same) at))
-
   -- a node of a block that is not wanted is passed over
   pub passed_turned : (i x : ℕ) (all : List ℕ) → slice_get turns i ≡ Some x → slice_get wanted (w.block x) ≡ Some false
       → AreTurned g w wanted dir aims width i all → AreTurned g w wanted dir aims width (i + 1) all
@@ -58,7 +54,7 @@ module _ (g : Topology) (root : ℕ) (w : Directions) (wanted : List Bool) (dir 
           let no : false ≡ true = same_Some false true (sym unmarked ∙ ap (λ (v : ℕ). slice_get wanted (w.block v)) (sym same) ∙ in_wanted.marked) in
           absurd (cc)
       | inr other ↦
-          let before = turned.each y within (omega (arith, early, not_now i x y at within other)) in_wanted in
+          let before = turned.each y within (omega (arith, early, not_now g w (against dir) turns are i x y at within other)) in_wanted in
           record { each = before.each; small = λ j left j_within at_j below. omega (arith, before.small j left j_within at_j below) }
     ];
   }
@@ -124,7 +120,7 @@ module _ (g : Topology) (root : ℕ) (w : Directions) (wanted : List Bool) (dir 
             subst (λ (v : ℕ). IsReadyFrom g w dir aims width (65536 * (i + 1)) after v) (sym same)
             (x_ready (subst (λ (v : ℕ). IsWantedBlock g w wanted (w.block v)) same in_wanted))
         | inr other ↦
-            let before = turned.each y within (omega (arith, early, not_now i x y at within other)) in_wanted in
+            let before = turned.each y within (omega (arith, early, not_now g w (against dir) turns are i x y at within other)) in_wanted in
             record {
               each = λ j left j_within at_j.
                   before.each j left j_within (sym (elsewhere (y * width + j) (apart y j other j_within)) ∙ at_j);

@@ -102,6 +102,9 @@ most_kept Left metric link costs links costs' links' one_each taken most j cost 
       | inr is_not ↦ rw is_not (omega arith)
     ]
 
+pub range_length : (xs : List ℕ) (at n : ℕ) → at + n ≤ length xs → length (slice_range xs at (at + n)) ≡ n
+range_length xs at n room = grind (arith, length-take, length-drop)
+
 -- a part of the list has what stands in the list
 pub range_get : (xs : List ℕ) (at n j x : ℕ) → at + n ≤ length xs → j < n → slice_get (slice_range xs at (at + n)) j ≡ Some x
     → slice_get xs (at + j) ≡ Some x
@@ -116,8 +119,7 @@ range_index xs at n j room within = grind (arith, get_or-take, get_or-drop)
 pub range_most : (xs : List ℕ) (at n j x : ℕ) → at + n ≤ length xs → slice_get (slice_range xs at (at + n)) j ≡ Some x
     → (j < n) × (slice_get xs (at + j) ≡ Some x)
 range_most xs at n j x room is =
-    let long : length (slice_range xs at (at + n)) ≡ n = grind (arith, length-take, length-drop) in
-    let within : j < n = omega (arith, long, slice_get_within (slice_range xs at (at + n)) j x is) in
+    let within : j < n = omega (arith, range_length xs at n room, slice_get_within (slice_range xs at (at + n)) j x is) in
     (within, range_get xs at n j x room within is)
 
 -- the costs of node y are among those of n nodes

@@ -13,9 +13,9 @@ use Rattle.inc_dec_spf.specs.Path.{IsStep, Path, cost_of}
 use Rattle.inc_dec_spf.specs.Rest.{IsRestCost, Rest, far}
 use Rattle.inc_dec_spf.specs.Side.{IsLeastWay, hop_by}
 use Rattle.inc_dec_spf.specs.Ways.{AtHead, BeginsAt, HasHeadBy, Inside, IsWantedBlock}
+use Rattle.inc_dec_spf.proofs.EndCosts.{one_head_by}
 use Rattle.inc_dec_spf.proofs.InBlocks.{IsClosed, IsOrdered, head_of_member, leads_inside, member_not_head, move_of}
-use Rattle.inc_dec_spf.proofs.Reached.{are_in, closed_of_more, first_step, share_it}
-use Rattle.inc_dec_spf.proofs.WaysInBlocks.{AreIn}
+use Rattle.inc_dec_spf.proofs.MoreLinks.{AreIn, are_in, closed_of_more, first_step, share_it}
 
 -- a path is its first end, and what is left
 pub path_of_rest : (g : Topology) (w : Directions) (dir : Dir) (k h x t : ℕ) (end : End) (others : List End) → IsStep g w dir k x end
@@ -63,12 +63,6 @@ module _ (g : Topology) (root : ℕ) (w : Directions) (is : IsOrdered g root w) 
         | inr home ↦ AtHead (λ inside. member_not_head g root w k h end.to is closed move.to_within inside home) home
       ]
 
-  same_head : (k h top y : ℕ) → HasHeadBy w k h y → HasHeadBy w k top y → h ≡ top
-  same_head k h top y (Inside a b) (Inside c d) = sym b ∙ d
-  same_head k h top y (Inside a b) (AtHead c d) = absurd (c a)
-  same_head k h top y (AtHead a b) (Inside c d) = absurd (a c)
-  same_head k h top y (AtHead a b) (AtHead c d) = sym b ∙ d
-
   -- the step that a way begins with
   pub step_by : (wanted : List Bool) (dir : Dir) (own : Bool) (x : ℕ) (aim : ℕ → ℕ) (place cost : ℕ) (begins : BeginsAt g w wanted dir own x aim place cost) → IsStep g w dir begins.k x begins.end
   step_by wanted dir own x aim place cost begins = record {
@@ -85,7 +79,7 @@ module _ (g : Topology) (root : ℕ) (w : Directions) (is : IsOrdered g root w) 
       → IsClosed g root w begins.k h → Path g w dir begins.k h x (begins.end ∷ begins.others) (aim begins.k)
   way_is_path wanted dir own x aim place cost h begins closed =
       let step = step_by wanted dir own x aim place cost begins in
-      let same = same_head begins.k begins.h h begins.end.to begins.head (head_by dir begins.k h x begins.end closed step) in
+      let same = one_head_by w begins.k begins.h h begins.end.to begins.head (head_by dir begins.k h x begins.end closed step) in
       path_of_rest g w dir begins.k h x (aim begins.k) begins.end begins.others step
       (subst (λ (top : ℕ). Rest g w dir begins.k top begins.end.to begins.others (aim begins.k)) same begins.rest)
 
@@ -150,7 +144,7 @@ module _ (g : Topology) (root : ℕ) (w : Directions) (is : IsOrdered g root w) 
 
   -- the least way over all ends is the hop; so is the least one within the own block, where there is no other common one
   pub least_hop : (wanted : List Bool) (dir : Dir) (own : Bool) (s t : ℕ) (aim : ℕ → ℕ) (cost link : ℕ) (ends : List End) → s < length g.ids
-      → slice_get g.ends s ≡ Some ends → s ≢ t → ((k h : ℕ) → HaveCommonBlockOfMoreLinks g w s t k h → own ≡ true → k ≡ w.block s)
+      → slice_get g.ends s ≡ Some ends → (own ≡ true → s ≢ t) → ((k h : ℕ) → HaveCommonBlockOfMoreLinks g w s t k h → own ≡ true → k ≡ w.block s)
       → ((k h : ℕ) → HaveCommonBlockOfMoreLinks g w s t k h → slice_get wanted k ≡ Some true)
       → ((k h : ℕ) → HaveCommonBlockOfMoreLinks g w s t k h → aim k ≡ t)
       → ((u k h : ℕ) → u < length g.ids → s ≢ u → HaveCommonBlock w s u k h → (own ≡ true → k ≡ w.block s) → (own ≡ false → aim k ≢ s) → aim k ≡ t)
@@ -164,7 +158,7 @@ module _ (g : Topology) (root : ℕ) (w : Directions) (is : IsOrdered g root w) 
           → Path g w dir k h s (end ∷ others) t → BeginsAt g w wanted dir own s aim place (cost_of (end ∷ others))
       begun k h place end others closed share there path =
           path_is_way wanted dir own k h s aim place ends end others closed (record { more = share.more; marked = marked k h share }) (kept_to k h share)
-          (λ all_blocks same. two (sym same ∙ aimed k h share)) list there
+          (λ all_blocks same. share.two (sym same ∙ aimed k h share)) list there
           (subst (λ (y : ℕ). Path g w dir k h s (end ∷ others) y) (sym (aimed k h share)) path)
 
       at_most : (k h : ℕ) (path : List End) → IsClosed g root w k h → HaveCommonBlockOfMoreLinks g w s t k h → Path g w dir k h s path t
@@ -205,7 +199,11 @@ module _ (g : Topology) (root : ℕ) (w : Directions) (is : IsOrdered g root w) 
           let source = begins_inside dir k h s it.begins.end found.1 step in
           let are : AreIn g root w s k h t =
           record { closed = found.1; source = source.0; source_within = within; target = target.0; target_within = target.1 } in
-          let share = share_it g root w s k h t is are two in
+          let apart : s ≢ t = λ same. elim (cases_Bool own) [
+            | inl kept ↦ two kept same
+            | inr all_blocks ↦ it.begins.onward all_blocks (aim_is ∙ sym same)
+          ] in
+          let share = share_it g root w s k h t is are apart in
           Reached k h (record { cost = cost; link = link }) share (record {
             end = it.end;
             first = record {

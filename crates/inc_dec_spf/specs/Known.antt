@@ -1,32 +1,73 @@
--- What is known of nodes on the way.
-use Rattle.std.specs.Prelude.{◌≡◌, ◌<◌, ◌≤◌, ◌⊎◌, ℕ, List, Option, Some, length, slice_get}
-use Rattle.inc_dec_spf.specs.declared.reach.Hop.{Hop}
+-- What is known on the ways from sources, and what is offered.
+use Rattle.std.specs.Prelude.{◌≡◌, ◌==◌, ◌<◌, ◌≤◌, ◌⊎◌, ◌+◌, ◌&&◌, ◌||◌, ℕ, Bool, List, length, nat_lt, slice_index, if◌then◌else◌}
+use Rattle.inc_dec_spf.specs.Rest.{far}
 
--- what is known of a node on the way: the least cost so far, and of the first end of the source that begins a path of this
--- cost its place and its link
+-- of a node on the way from a source: the least cost so far, and the place of the source's end that begins a way of this cost
 pub record Known : Type 0 where
   pub cost : ℕ
   pub place : ℕ
-  pub link : ℕ
 
--- the hop of what is known
-abbrev pub hop_of : Known → Hop
-hop_of known = record { cost = known.cost; link = known.link }
+abbrev pub known : ℕ → ℕ → Known
+known cost place = record { cost = cost; place = place }
 
--- one way does not come after another
+-- a place that stands for none: no node has so many ends
+abbrev pub no_place : ℕ
+no_place = 65535
+
+abbrev pub nothing : Known
+nothing = known far no_place
+
+-- what is known at place i of two lists side by side
+abbrev pub known_at : List ℕ → List ℕ → ℕ → Known
+known_at costs places i = known (slice_index costs i) (slice_index places i)
+
+-- a lower cost comes before; at equal costs, the lower place
+abbrev pub comes_before : Known → Known → Bool
+comes_before new old = nat_lt new.cost old.cost || (new.cost == old.cost && nat_lt new.place old.place)
+
+-- the one that comes first; the old one where the two are alike
+abbrev pub first_of : Known → Known → Known
+first_of new old =
+    known (if comes_before new old then new.cost else old.cost) (if comes_before new old then new.place else old.place)
+
+-- one does not come after another
 abbrev pub IsNoLater : Known → Known → Type 0
 IsNoLater one other = (one.cost < other.cost) ⊎ ((one.cost ≡ other.cost) × (one.place ≤ other.place))
 
--- what is known of node v does not come after this way
-pub record IsKnown (known : List (Option Known)) (v : ℕ) (way : Known) : Type 0 where
-  pub best : Known
-  pub there : slice_get known v ≡ Some (Some best)
-  pub no_later : IsNoLater best way
+-- so many costs and places; where a cost is far, nothing is known
+pub record AreLanes (count : ℕ) (costs places : List ℕ) : Type 0 where
+  pub one_cost_each : length costs ≡ count
+  pub one_place_each : length places ≡ count
+  pub none : (i : ℕ) → far ≤ slice_index costs i → known_at costs places i ≡ nothing
 
--- of each node that way is known which comes first, of the one known before and all that are offered
-pub record AreOffered (Offer : ℕ → Known → Type 0) (before after : List (Option Known)) : Type 0 where
-  pub one_each : length after ≡ length before
-  pub from : (v : ℕ) (way : Known) → slice_get after v ≡ Some (Some way)
-      → (slice_get before v ≡ Some (Some way)) ⊎ Offer v way
-  pub kept : (v : ℕ) (way : Known) → slice_get before v ≡ Some (Some way) → IsKnown after v way
-  pub taken : (v : ℕ) (way : Known) → Offer v way → IsKnown after v way
+-- costs that are not far are at most so high
+pub record AreLow (bound : ℕ) (costs : List ℕ) : Type 0 where
+  pub each : (i : ℕ) → slice_index costs i < far → slice_index costs i ≤ bound
+
+-- at each place that is known then which comes first, of what was known there and all that is offered
+pub record AreOffered (Offer : ℕ → Known → Type 0) (before after : ℕ → Known) : Type 0 where
+  pub from : (i : ℕ) → (after i ≡ before i) ⊎ (((after i).cost < far) × Offer i (after i))
+  pub kept : (i : ℕ) → IsNoLater (after i) (before i)
+  pub taken : (i : ℕ) (offer : Known) → Offer i offer → IsNoLater (after i) offer
+
+-- one offer, at one place
+pub record IsOne (at : ℕ) (one : Known) (i : ℕ) (offer : Known) : Type 0 where
+  pub there : i ≡ at
+  pub same : offer ≡ one
+
+-- what is known in some lanes, and an end with this metric more: offered at the places from `at` on
+pub record IsOver (costs places : List ℕ) (metric at i : ℕ) (offer : Known) : Type 0 where
+  pub lane : ℕ
+  pub below : lane < length costs
+  pub one : IsOne (at + lane) (known (slice_index costs lane + metric) (slice_index places lane)) i offer
+
+-- an offer of one of some ends, or of one of some sources
+pub record OfAny (Of : ℕ → ℕ → Known → Type 0) (i : ℕ) (offer : Known) : Type 0 where
+  pub index : ℕ
+  pub is : Of index i offer
+
+-- so many places at which nothing was known, after offers
+pub record AreBegun (Offer : ℕ → Known → Type 0) (count : ℕ) (found : ℕ → Known) : Type 0 where
+  pub before : ℕ → Known
+  pub blank : (i : ℕ) → i < count → before i ≡ nothing
+  pub offered : AreOffered Offer before found

@@ -12,7 +12,6 @@ pub mod Opening
 pub mod Path
 pub mod Rest
 pub mod Side
-pub mod Sweep
 pub mod Tile
 pub mod TileEntries
 pub mod Turns

@@ -1,12 +1,10 @@
 //! Offers of ways from some sources side by side.
 
-ghost use Rattle.std.specs.Prelude.{◌≡◌, ◌<◌, ◌≤◌, ◌+◌, ◌*◌, ◌⊎◌, ◌^◌, ◌≢◌, ℕ, List, length, slice_get, slice_index, slice_set, Some};
-ghost use Rattle.mrt_graph.specs.declared.link.End.{End};
+ghost use Rattle.std.specs.Prelude.{◌≡◌, ◌<◌, ◌≤◌, ◌+◌, ◌*◌, ◌^◌, ℕ, length, slice_index};
 ghost use Rattle.link_direction.specs.Directions.{Directions};
-ghost use Rattle.inc_dec_spf.specs.Fan.{AreCosts, AreLow, AreOver, HasOffered, comes_before, first_cost, first_place, known_by, lane};
 ghost use Rattle.inc_dec_spf.specs.HasDirections.{AreDirections};
-ghost use Rattle.inc_dec_spf.specs.Known.{AreOffered};
-ghost use Rattle.inc_dec_spf.specs.Offers.{IsFirstOffer};
+ghost use Rattle.inc_dec_spf.specs.Known.{AreLanes, AreOffered, IsOne, IsOver, OfAny, comes_before, first_of, known, known_at, no_place};
+ghost use Rattle.inc_dec_spf.specs.Offers.{IsFirstOffer, IsFurtherOffer};
 ghost use Rattle.inc_dec_spf.specs.Opening.{IsOpening};
 ghost use Rattle.inc_dec_spf.specs.Rest.{far};
 
@@ -19,14 +17,14 @@ pub const NO_PLACE: u16 = 65535;
 
 /// Whether a way comes before another one.
 fn comes_before(cost: u32, place: u16, old: u32, old_place: u16) -> bool
-    ensures { result ≡ comes_before cost place old old_place }
+    ensures { result ≡ comes_before (known cost place) (known old old_place) }
 {
     cost < old || (cost == old && place < old_place)
 }
 
 /// The cost of the one of two ways that comes first.
 fn first_cost(cost: u32, place: u16, old: u32, old_place: u16) -> u32
-    ensures { result ≡ first_cost cost place old old_place }
+    ensures { result ≡ (first_of (known cost place) (known old old_place)).cost }
 {
     if comes_before(cost, place, old, old_place) {
         cost
@@ -37,7 +35,7 @@ fn first_cost(cost: u32, place: u16, old: u32, old_place: u16) -> u32
 
 /// The place of the end by which the one of two ways begins that comes first.
 fn first_place(cost: u32, place: u16, old: u32, old_place: u16) -> u16
-    ensures { result ≡ first_place cost place old old_place }
+    ensures { result ≡ (first_of (known cost place) (known old old_place)).place }
 {
     if comes_before(cost, place, old, old_place) {
         place
@@ -48,12 +46,11 @@ fn first_place(cost: u32, place: u16, old: u32, old_place: u16) -> u16
 
 /// Offers a way: it is kept where it comes first.
 fn offer_at(at: usize, cost: u32, place: u16, costs: &mut [u32], places: &mut [u16])
-    requires costs { at < length costs.old }
-    requires places { at < length places.old }
-    ensures costs { costs.new ≡ slice_set costs.old at
-        (first_cost cost place (slice_index costs.old at) (slice_index places.old at)) }
-    ensures places { places.new ≡ slice_set places.old at
-        (first_place cost place (slice_index costs.old at) (slice_index places.old at)) }
+    requires at { at < length costs.old }
+    requires lanes { AreLanes (length costs.old) costs.old places.old }
+    requires low { far ≤ cost → no_place ≤ place }
+    ensures lanes { AreLanes (length costs.old) costs.new places.new }
+    ensures offered { AreOffered (IsOne at (known cost place)) (known_at costs.old places.old) (known_at costs.new places.new) }
 {
     let old = costs[at];
     let old_place = places[at];
@@ -71,12 +68,14 @@ fn offer_over(
     costs: &mut [u32],
     places: &mut [u16],
 )
-    requires one_place_each { length from_places.now ≡ length from_costs.now }
-    requires costs { at + length from_costs.now ≤ length costs.old }
-    requires places { at + length from_costs.now ≤ length places.old }
-    requires most { (j : ℕ) → slice_index from_costs.now j ≤ far }
-    ensures over { AreOver from_costs.now from_places.now metric at costs.old places.old costs.new places.new }
+    requires from { AreLanes (length from_costs.now) from_costs.now from_places.now }
+    requires low { (j : ℕ) → slice_index from_costs.now j < far → slice_index from_costs.now j + 65536 ≤ far }
+    requires room { at + length from_costs.now ≤ length costs.old }
+    requires lanes { AreLanes (length costs.old) costs.old places.old }
     ensures small { metric < 2 ^ 16 }
+    ensures lanes { AreLanes (length costs.old) costs.new places.new }
+    ensures offered { AreOffered (IsOver from_costs.now from_places.now metric at) (known_at costs.old places.old)
+        (known_at costs.new places.new) }
 {
     for j in 0..from_costs.len() {
         let cost = from_costs[j] + metric as u32;
@@ -95,20 +94,13 @@ pub fn offer_on(
 )
     requires opening { IsOpening opening.now }
     requires node { x < length opening.now.graph.now.ids }
-    requires from { AreCosts from_costs.now from_places.now }
-    requires small { (j : ℕ) → slice_index from_costs.now j < far → slice_index from_costs.now j + 65536 ≤ far }
-    requires room { length costs.old ≡ length opening.now.graph.now.ids * length from_costs.now }
-    requires costs { AreCosts costs.old places.old }
-    ensures room { length costs.new ≡ length costs.old }
-    ensures costs { AreCosts costs.new places.new }
-    ensures low { (bound : ℕ) → AreLow bound from_costs.now → AreLow (bound + 65535) costs.old
-        → AreLow (bound + 65535) costs.new }
-    ensures offered { (root j : ℕ) (w : Directions) (ends : List End)
-        → AreDirections opening.now.graph.now opening.now.directed.now root w → j < length from_costs.now
-        → HasOffered opening.now.graph.now w opening.now.dir x
-        (known_by ends (slice_index from_costs.now j) (slice_index from_places.now j))
-        (lane ends (length opening.now.graph.now.ids) (length from_costs.now) costs.old places.old j)
-        (lane ends (length opening.now.graph.now.ids) (length from_costs.now) costs.new places.new j) }
+    requires from { AreLanes (length from_costs.now) from_costs.now from_places.now }
+    requires low { (j : ℕ) → slice_index from_costs.now j < far → slice_index from_costs.now j + 65536 ≤ far }
+    requires lanes { AreLanes (length opening.now.graph.now.ids * length from_costs.now) costs.old places.old }
+    ensures lanes { AreLanes (length opening.now.graph.now.ids * length from_costs.now) costs.new places.new }
+    ensures offered { (root : ℕ) (w : Directions) → AreDirections opening.now.graph.now opening.now.directed.now root w
+        → AreOffered (OfAny (IsFurtherOffer opening.now.graph.now w opening.now.dir x from_costs.now from_places.now))
+        (known_at costs.old places.old) (known_at costs.new places.new) }
 {
     let block = opening.directed.place(x).block;
     let width = from_costs.len();
@@ -134,20 +126,11 @@ pub fn offer_begun(
     requires opening { IsOpening opening.now }
     requires source { source < length opening.now.graph.now.ids }
     requires place { j < width }
-    requires room { length costs.old ≡ length opening.now.graph.now.ids * width }
-    requires costs { AreCosts costs.old places.old }
-    ensures room { length costs.new ≡ length costs.old }
-    ensures costs { AreCosts costs.new places.new }
-    ensures low { AreLow 65535 costs.old → AreLow 65535 costs.new }
-    ensures offered { (root : ℕ) (w : Directions) (ends : List End)
-        → AreDirections opening.now.graph.now opening.now.directed.now root w
-        → slice_get opening.now.graph.now.ends source ≡ Some ends
-        → AreOffered (IsFirstOffer opening.now.graph.now w opening.now.dir source)
-        (lane ends (length opening.now.graph.now.ids) width costs.old places.old j)
-        (lane ends (length opening.now.graph.now.ids) width costs.new places.new j) }
-    ensures others { (k : ℕ) (ends : List End) → k < width → k ≢ j
-        → lane ends (length opening.now.graph.now.ids) width costs.new places.new k
-        ≡ lane ends (length opening.now.graph.now.ids) width costs.old places.old k }
+    requires lanes { AreLanes (length opening.now.graph.now.ids * width) costs.old places.old }
+    ensures lanes { AreLanes (length opening.now.graph.now.ids * width) costs.new places.new }
+    ensures offered { (root : ℕ) (w : Directions) → AreDirections opening.now.graph.now opening.now.directed.now root w
+        → AreOffered (OfAny (IsFirstOffer opening.now.graph.now w opening.now.dir source width j))
+        (known_at costs.old places.old) (known_at costs.new places.new) }
 {
     for (place, end) in opening.graph.ends(source).iter().enumerate() {
         let mark = opening.directed.mark(end.link);

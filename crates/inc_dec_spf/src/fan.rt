@@ -1,22 +1,21 @@
 //! Fans: the links by which some nodes side by side begin the least paths to all nodes.
 
-ghost use Rattle.std.specs.Prelude.{◌≡◌, ◌≢◌, ◌<◌, ◌≤◌, ◌+◌, ◌*◌, ℕ, IfOk, Some, length, slice_get, slice_index, false, true};
-ghost use Rattle.std.specs.Option.{option_map};
+ghost use Rattle.std.specs.Prelude.{◌≡◌, ◌<◌, ◌≤◌, ◌+◌, ◌*◌, ℕ, IfOk, Some, length, slice_get, slice_index, false, true};
 ghost use Rattle.mrt_graph.specs.GraphInvariant.{IsTopology};
 ghost use Rattle.link_direction.specs.Directions.{Directions};
-ghost use Rattle.inc_dec_spf.specs.Fan.{AreCosts, AreLow, AreStops, HasFirstLinks, IsOpen, known_by, link_at, no_place};
+ghost use Rattle.inc_dec_spf.specs.Fan.{AreStops, HasFirstLinks, IsOpen, link_at};
 ghost use Rattle.inc_dec_spf.specs.FanEntries.{FanEntries, fan_entries};
-ghost use Rattle.inc_dec_spf.specs.Opening.{AreKeptOnward, AreSweptTo, IsOpening};
 ghost use Rattle.inc_dec_spf.specs.HasDirections.{AreDirections, HasDirections};
-ghost use Rattle.inc_dec_spf.specs.Known.{hop_of};
+ghost use Rattle.inc_dec_spf.specs.Known.{AreLanes, known_at, no_place};
 ghost use Rattle.inc_dec_spf.specs.LeastPath.{IsHop};
 ghost use Rattle.inc_dec_spf.specs.Offers.{PassesOn};
+ghost use Rattle.inc_dec_spf.specs.Opening.{AreFirstOffered, IsKeptOnward, IsOpening};
 ghost use Rattle.inc_dec_spf.specs.Rest.{far};
 ghost use Rattle.inc_dec_spf.specs.Turns.{AreTurns};
 
 use crate::beside::{NO_PLACE, offer_begun, offer_on};
 use crate::reach::{Dir, Hop};
-use crate::side::{FAR, NO_LINK};
+use crate::side::{FAR, NO_LINK, hop_by};
 use mrt_graph::{Directed, End, Graph, LinkNo, NoMemory, NodeNo};
 use std::alloc::Global;
 use std::marker::Model;
@@ -90,13 +89,21 @@ impl Fan {
             turns,
             first,
         };
-        open_from(
+        let width = self.from_costs.len();
+        begin(
             &opening,
+            width,
+            &mut self.costs,
+            &mut self.places,
+            &mut self.stops,
+        );
+        sweep(
+            &opening,
+            &self.stops,
             &mut self.costs,
             &mut self.places,
             &mut self.from_costs,
             &mut self.from_places,
-            &mut self.stops,
         );
     }
 
@@ -134,7 +141,7 @@ impl Fan {
             return None;
         }
         let at = t.get() as usize * self.from_costs.len() + (s.get() - first.get()) as usize;
-        hop_by(g.ends(s), self.costs[at], self.places[at])
+        hop_by(self.costs[at], link_at(g.ends(s), self.places[at]))
     }
 }
 
@@ -147,17 +154,6 @@ pub struct Opening<'a> {
     pub dir: Dir,
     pub turns: &'a [NodeNo],
     pub first: NodeNo,
-}
-
-/// The hop by a cost and the place of an end of the source: none where the cost is far.
-fn hop_by(ends: &[End], cost: u32, place: u16) -> Option<Hop>
-    ensures { result ≡ option_map hop_of (known_by ends.now cost place) }
-{
-    if cost < FAR {
-        let link = link_at(ends, place);
-        return Some(Hop { cost, link });
-    }
-    None
 }
 
 /// The link of the end at a place; no link where there is none.
@@ -180,48 +176,32 @@ fn source_count(opening: &Opening, width: usize) -> usize
     width.min((opening.graph.node_count() - opening.first.get()) as usize)
 }
 
-/// Opens a fan, by all its parts.
-fn open_from(
+/// Offers each node to which the ends of the sources lead on, where nothing was known; and marks the sources and their heads.
+fn begin(
     opening: &Opening,
+    width: usize,
     costs: &mut [u32],
     places: &mut [u16],
-    from_costs: &mut [u32],
-    from_places: &mut [u16],
     stops: &mut [bool],
 )
     requires opening { IsOpening opening.now }
-    requires costs { length costs.old ≡ length opening.now.graph.now.ids * length from_costs.old }
-    requires places { length places.old ≡ length opening.now.graph.now.ids * length from_costs.old }
-    requires from_places { length from_places.old ≡ length from_costs.old }
-    requires stops { length stops.old ≡ length opening.now.graph.now.ids }
-    ensures costs { length costs.new ≡ length costs.old }
-    ensures places { length places.new ≡ length places.old }
-    ensures from_costs { length from_costs.new ≡ length from_costs.old }
-    ensures from_places { length from_places.new ≡ length from_places.old }
-    ensures stops { length stops.new ≡ length stops.old }
-    ensures open { (root : ℕ) (w : Directions) → AreDirections opening.now.graph.now opening.now.directed.now root w
-        → IsOpen opening.now.graph.now w opening.now.dir opening.now.first
-        (fan_entries (length stops.old) (length from_costs.old) costs.new places.new) }
-{
-    begin(opening, from_costs.len(), costs, places);
-    mark_stops(opening, from_costs.len(), stops);
-    sweep_beside(opening, stops, costs, places, from_costs, from_places);
-}
-
-/// Offers each node to which the ends of the sources lead on, where nothing was known.
-fn begin(opening: &Opening, width: usize, costs: &mut [u32], places: &mut [u16])
-    requires opening { IsOpening opening.now }
     requires costs { length costs.old ≡ length opening.now.graph.now.ids * width }
     requires places { length places.old ≡ length opening.now.graph.now.ids * width }
-    ensures room { length costs.new ≡ length costs.old }
-    ensures costs { AreCosts costs.new places.new }
-    ensures low { AreLow 65535 costs.new }
-    ensures begun { AreSweptTo opening.now 0 width costs.new places.new }
+    requires stops { length stops.old ≡ length opening.now.graph.now.ids }
+    ensures lanes { AreLanes (length opening.now.graph.now.ids * width) costs.new places.new }
+    ensures begun { (root : ℕ) (w : Directions) → AreDirections opening.now.graph.now opening.now.directed.now root w
+        → AreFirstOffered opening.now w width costs.new places.new }
+    ensures one_stop_each { length stops.new ≡ length stops.old }
+    ensures stops { (root : ℕ) (w : Directions) → AreDirections opening.now.graph.now opening.now.directed.now root w
+        → AreStops opening.now.graph.now w opening.now.first width stops.new }
 {
     forget(costs, places);
+    stops.fill(false);
     for j in 0..source_count(opening, width) {
         let source = NodeNo::new(opening.first.get() + j as u16);
         offer_begun(opening, source, j, width, costs, places);
+        mark(stops, source);
+        mark(stops, opening.directed.place(source).head);
     }
 }
 
@@ -236,24 +216,8 @@ fn forget(costs: &mut [u32], places: &mut [u16])
     places.fill(NO_PLACE);
 }
 
-/// Marks the sources and their heads, and no others.
-fn mark_stops(opening: &Opening, width: usize, stops: &mut [bool])
-    requires opening { IsOpening opening.now }
-    requires stops { length stops.old ≡ length opening.now.graph.now.ids }
-    ensures stops { length stops.new ≡ length stops.old }
-    ensures marked { (root : ℕ) (w : Directions) → AreDirections opening.now.graph.now opening.now.directed.now root w
-        → AreStops opening.now.graph.now w opening.now.first width stops.new }
-{
-    stops.fill(false);
-    for j in 0..source_count(opening, width) {
-        let source = NodeNo::new(opening.first.get() + j as u16);
-        mark(stops, source);
-        mark(stops, opening.directed.place(source).head);
-    }
-}
-
 /// Marks node v.
-fn mark(marks: &mut [bool], v: NodeNo)
+pub fn mark(marks: &mut [bool], v: NodeNo)
     requires { v < length marks.old }
     ensures one_each { length marks.new ≡ length marks.old }
     ensures marked { slice_get marks.new v ≡ Some true }
@@ -263,7 +227,7 @@ fn mark(marks: &mut [bool], v: NodeNo)
 }
 
 /// Gives each node its turn, where a way to it is known.
-fn sweep_beside(
+fn sweep(
     opening: &Opening,
     stops: &[bool],
     costs: &mut [u32],
@@ -275,16 +239,17 @@ fn sweep_beside(
     requires one_stop_each { length stops.now ≡ length opening.now.graph.now.ids }
     requires stops { (root : ℕ) (w : Directions) → AreDirections opening.now.graph.now opening.now.directed.now root w
         → AreStops opening.now.graph.now w opening.now.first (length from_costs.old) stops.now }
-    requires room { length costs.old ≡ length opening.now.graph.now.ids * length from_costs.old }
     requires from_places { length from_places.old ≡ length from_costs.old }
-    requires costs { AreCosts costs.old places.old }
-    requires low { AreLow 65535 costs.old }
-    requires begun { AreSweptTo opening.now 0 (length from_costs.old) costs.old places.old }
-    ensures room { length costs.new ≡ length costs.old }
+    requires lanes { AreLanes (length opening.now.graph.now.ids * length from_costs.old) costs.old places.old }
+    requires begun { (root : ℕ) (w : Directions) → AreDirections opening.now.graph.now opening.now.directed.now root w
+        → AreFirstOffered opening.now w (length from_costs.old) costs.old places.old }
+    ensures costs { length costs.new ≡ length costs.old }
+    ensures places { length places.new ≡ length places.old }
     ensures from_costs { length from_costs.new ≡ length from_costs.old }
     ensures from_places { length from_places.new ≡ length from_places.old }
-    ensures costs { AreCosts costs.new places.new }
-    ensures swept { AreSweptTo opening.now (length opening.now.graph.now.ids) (length from_costs.old) costs.new places.new }
+    ensures open { (root : ℕ) (w : Directions) → AreDirections opening.now.graph.now opening.now.directed.now root w
+        → IsOpen opening.now.graph.now w opening.now.dir opening.now.first
+        (fan_entries (length stops.now) (length from_costs.old) costs.new places.new) }
 {
     for x in opening.turns {
         if is_reached(*x, from_costs.len(), costs) {
@@ -318,15 +283,10 @@ fn take_from(
 )
     requires room { x * length from_costs.old + length from_costs.old ≤ length costs.now }
     requires from_places { length from_places.old ≡ length from_costs.old }
-    requires costs { AreCosts costs.now places.now }
-    ensures from_costs { length from_costs.new ≡ length from_costs.old }
-    ensures from_places { length from_places.new ≡ length from_places.old }
-    ensures costs { AreCosts from_costs.new from_places.new }
-    ensures low { (bound : ℕ) → AreLow bound costs.now → AreLow bound from_costs.new }
-    ensures taken_costs { (j : ℕ) → j < length from_costs.old
-        → slice_index from_costs.new j ≡ slice_index costs.now (x * length from_costs.old + j) }
-    ensures taken_places { (j : ℕ) → j < length from_costs.old
-        → slice_index from_places.new j ≡ slice_index places.now (x * length from_costs.old + j) }
+    requires lanes { AreLanes (length costs.now) costs.now places.now }
+    ensures lanes { AreLanes (length from_costs.old) from_costs.new from_places.new }
+    ensures taken { (j : ℕ) → j < length from_costs.old
+        → known_at from_costs.new from_places.new j ≡ known_at costs.now places.now (x * length from_costs.old + j) }
 {
     let width = from_costs.len();
     let at = x.get() as usize * width;
@@ -346,13 +306,10 @@ fn keep_onward(
     requires node { x < length stops.now }
     requires stops { (root : ℕ) (w : Directions) → AreDirections opening.now.graph.now opening.now.directed.now root w
         → AreStops opening.now.graph.now w opening.now.first (length from_costs.old) stops.now }
-    requires from_places { length from_places.old ≡ length from_costs.old }
-    requires costs { AreCosts from_costs.old from_places.old }
-    ensures from_costs { length from_costs.new ≡ length from_costs.old }
-    ensures from_places { length from_places.new ≡ length from_places.old }
-    ensures costs { AreCosts from_costs.new from_places.new }
-    ensures low { (bound : ℕ) → AreLow bound from_costs.old → AreLow bound from_costs.new }
-    ensures onward { AreKeptOnward opening.now x from_costs.old from_places.old from_costs.new from_places.new }
+    requires lanes { AreLanes (length from_costs.old) from_costs.old from_places.old }
+    ensures lanes { AreLanes (length from_costs.old) from_costs.new from_places.new }
+    ensures onward { (j : ℕ) → IsKeptOnward opening.now x (length from_costs.old) j (known_at from_costs.old from_places.old j)
+        (known_at from_costs.new from_places.new j) }
 {
     if stops[x.get() as usize] {
         forget_stopped(opening, x, from_costs, from_places);
@@ -363,12 +320,10 @@ fn keep_onward(
 /// block.
 fn forget_stopped(opening: &Opening, x: NodeNo, from_costs: &mut [u32], from_places: &mut [u16])
     requires opening { IsOpening opening.now }
-    requires from_places { length from_places.old ≡ length from_costs.old }
-    requires costs { AreCosts from_costs.old from_places.old }
-    ensures from_costs { length from_costs.new ≡ length from_costs.old }
-    ensures costs { AreCosts from_costs.new from_places.new }
-    ensures low { (bound : ℕ) → AreLow bound from_costs.old → AreLow bound from_costs.new }
-    ensures onward { AreKeptOnward opening.now x from_costs.old from_places.old from_costs.new from_places.new }
+    requires lanes { AreLanes (length from_costs.old) from_costs.old from_places.old }
+    ensures lanes { AreLanes (length from_costs.old) from_costs.new from_places.new }
+    ensures onward { (j : ℕ) → IsKeptOnward opening.now x (length from_costs.old) j (known_at from_costs.old from_places.old j)
+        (known_at from_costs.new from_places.new j) }
 {
     for j in 0..source_count(opening, from_costs.len()) {
         let source = NodeNo::new(opening.first.get() + j as u16);

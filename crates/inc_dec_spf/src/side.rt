@@ -2,8 +2,9 @@
 
 ghost use Rattle.std.specs.Prelude.{◌≡◌, ◌<◌, ◌≤◌, ◌+◌, ◌^◌, ℕ, Some, length, slice_get, slice_index};
 ghost use Rattle.inc_dec_spf.specs.Rest.{far};
-ghost use Rattle.inc_dec_spf.specs.Side.{AreTaken, cost_at, left_onward, lesser, link_of_lesser};
+ghost use Rattle.inc_dec_spf.specs.Side.{AreTaken, cost_at, hop_by, left_onward, lesser, link_of_lesser};
 
+use crate::reach::Hop;
 use mrt_graph::{End, LinkNo, NodeNo};
 
 /// More than the cost of any path.
@@ -112,4 +113,14 @@ fn cost_at(y: NodeNo, aim: NodeNo) -> u32
     ensures { result ≡ cost_at y aim }
 {
     if y == aim { 0 } else { FAR }
+}
+
+/// The hop by a least cost and its link: none where the cost is far.
+pub fn hop_by(cost: u32, link: LinkNo) -> Option<Hop>
+    ensures { result ≡ hop_by cost link }
+{
+    if cost < FAR {
+        return Some(Hop { cost, link });
+    }
+    None
 }

@@ -7,13 +7,12 @@ ghost use Rattle.inc_dec_spf.specs.BlockAims.{IsAimOf, aim_at};
 ghost use Rattle.inc_dec_spf.specs.FirstLink.{AreOthersInOneBlock, HasLinksAt, LiesInOneBlock};
 ghost use Rattle.inc_dec_spf.specs.HasDirections.{AreDirections};
 ghost use Rattle.inc_dec_spf.specs.LeastPath.{HaveCommonBlockOfMoreLinks, IsHop};
-ghost use Rattle.inc_dec_spf.specs.Side.{hop_by};
 ghost use Rattle.inc_dec_spf.specs.Tile.{IsAimed, IsTile};
 
 use crate::aiming::Aiming;
 use crate::own_costs::{keep, take_own_ways};
 use crate::reach::Hop;
-use crate::side::{FAR, NO_LINK};
+use crate::side::{FAR, NO_LINK, hop_by};
 use crate::ways::take_ways;
 use mrt_graph::{Graph, LinkNo, NoMemory, NodeNo};
 use std::alloc::Global;
@@ -146,7 +145,6 @@ impl Tile {
         ensures costs { self.new.costs ≡ self.old.costs }
         ensures hop { (root t : ℕ) (w : Directions) → AreDirections aiming.now.graph.now aiming.now.directed.now root w
             → AreOwnCosts aiming.now w self.old
-            → s ≢ t
             → ((k h : ℕ) → HaveCommonBlockOfMoreLinks aiming.now.graph.now w s t k h → slice_get aiming.now.wanted.now k ≡ Some true)
             → IsAimOf aiming.now.graph.now w (aim_at aiming.now.aims.now self.old.width 0) s t
             → IsHop aiming.now.graph.now w aiming.now.dir s t result }
@@ -174,14 +172,4 @@ impl Tile {
         let at = s.get() as usize * width;
         &self.all_links[at..at + width]
     }
-}
-
-/// The hop by a least cost and its link: none where the cost is far.
-fn hop_by(cost: u32, link: LinkNo) -> Option<Hop>
-    ensures { result ≡ hop_by cost link }
-{
-    if cost < FAR {
-        return Some(Hop { cost, link });
-    }
-    None
 }

@@ -6,7 +6,6 @@ use Rattle.mrt_graph.specs.GraphInvariant.{IsTopology}
 use Rattle.mrt_graph.specs.Leads.{leads}
 use Rattle.mrt_graph.specs.Topology.{Topology}
 use Rattle.mrt_graph.proofs.EndsAt.{end_leads, leads_end, list_of_ends}
-use Rattle.mrt_graph.proofs.Hops.{same_ends}
 use Rattle.link_direction.specs.CommonBlock.{FromHead, HaveCommonBlock, Peers, ToHead}
 use Rattle.link_direction.specs.Directions.{Directions}
 use Rattle.link_direction.specs.OrderedGadag.{IsOrderedGadag}
@@ -86,12 +85,6 @@ step_over og dir k e u v onward block tail =
       over = it.over;
       to = it.to;
     }
-
--- a link's tail is one of its nodes
-pub tail_is : (og : OrderedGraph) (e u v : ℕ) → leads og.g.links e u ≡ Some v → (og.w.tail e ≡ u) ⊎ (og.w.tail e ≡ v)
-tail_is og e u v onward =
-    let away = og.ordered.links.directed e (within og.g e u v og.kept onward).link in
-    same_ends og.g.links e u v (og.w.tail e) away.0 onward away.1
 
 module _ (og : OrderedGraph) where
   abbrev n : ℕ

@@ -11,7 +11,10 @@ use Rattle.link_direction.specs.OrderedGadag.{HasClosingLink}
 use Rattle.inc_dec_spf.specs.declared.reach.Dir.{Dir}
 use Rattle.inc_dec_spf.specs.declared.reach.Dir.TheVariants.{Down, Up}
 use Rattle.inc_dec_spf.specs.Path.{IsStep, Path}
-use Rattle.mrt_rows.proofs.OrderedGraphs.{OrderedGraph, Within, step_leads, step_over, tail_is, within}
+use Rattle.inc_dec_spf.proofs.HomePaths.{left_inside}
+use Rattle.inc_dec_spf.proofs.InBlocks.{IsClosed, head_lower as head_below, head_of_member, member_not_head}
+use Rattle.inc_dec_spf.proofs.PathsSwept.{path_onward}
+use Rattle.mrt_rows.proofs.OrderedGraphs.{OrderedGraph, Within, is_ordered, step_leads, step_over, within}
 
 -- node m has a block of more than one link
 pub record Ring (og : OrderedGraph) (m : ℕ) : Type 0 where
@@ -59,13 +62,8 @@ pub put_after : (og : OrderedGraph) (m : ℕ) (dir : Dir) (s : ℕ) (path : List
     → IsStep og.g og.w dir (og.w.block m) t end
     → Path og.g og.w dir (og.w.block m) (og.w.head m) s (path ++ end ∷ []) end.to
 put_after og m dir s [] t end path other step = absurd path
-put_after og m dir s (first ∷ []) t end path other step = (
-  path.0,
-  λ home. other (sym path.1 ∙ home),
-  (subst (λ (x : ℕ). IsStep og.g og.w dir (og.w.block m) x end) (sym path.1) step, refl),
-)
-put_after og m dir s (first ∷ next ∷ more) t end path other step =
-    (path.0, path.1, put_after og m dir first.to (next ∷ more) t end path.2 other step)
+put_after og m dir s (first ∷ others) t end path other step =
+    path_onward og.g og.w dir (og.w.block m) (og.w.head m) s t first others end path other step
 
 -- a path of m's block
 pub record Way (og : OrderedGraph) (m : ℕ) (dir : Dir) (s t : ℕ) : Type 0 where
@@ -85,21 +83,17 @@ module _ (og : OrderedGraph) (m : ℕ) (ring : Ring og m) where
   pub inside_itself : Inside og m m
   inside_itself = record { within = ring.inside; block = refl }
 
-  pub inside_other : (x : ℕ) → Inside og m x → x ≢ og.root
-  inside_other x inside = λ at_root.
-      og.ordered.heads.alone m ring.inside ring.other
-      (sym inside.block ∙ ap og.w.block at_root ∙ og.ordered.heads.root_block)
+  abbrev block_closed : IsClosed og.g og.root og.w (og.w.block m) h
+  block_closed = record { m = m; within = ring.inside; not_root = ring.other; in_block = refl; has_head = refl; closing = ring.closed }
 
   pub inside_head : (x : ℕ) → Inside og m x → og.w.head x ≡ h
-  inside_head x inside = og.ordered.heads.one_head x m inside.within ring.inside inside.block
+  inside_head x inside = head_of_member og.g og.root og.w (og.w.block m) h x (is_ordered og) block_closed inside.within inside.block
 
   pub head_lower : (x : ℕ) → Inside og m x → og.w.order h < og.w.order x
-  head_lower x inside =
-      subst (λ (y : ℕ). og.w.order y < og.w.order x) (inside_head x inside)
-      (og.ordered.heads.lower x inside.within (inside_other x inside))
+  head_lower x inside = head_below og.g og.root og.w (og.w.block m) h x (is_ordered og) block_closed inside.within inside.block
 
   pub not_head : (x : ℕ) → Inside og m x → x ≢ h
-  not_head x inside = λ same. omega (arith, head_lower x inside, ap og.w.order same)
+  not_head x inside = member_not_head og.g og.root og.w (og.w.block m) h x (is_ordered og) block_closed inside.within inside.block
 
   pub top_inside : Inside og m top
   top_inside = record {
@@ -243,35 +237,16 @@ module _ (og : OrderedGraph) (m : ℕ) (ring : Ring og m) where
 
   pub onward_of : (t : ℕ) → Inside og m t → t ≢ top → Onward t
   onward_of t inside other =
-      let left = ring.closed.left t inside.within inside.block other in
-      let block : og.w.lies_in left.link ≡ og.w.block m = left.over.in_block ∙ inside.block in
-      elim (tail_is og left.link t left.to left.over.leads_on) [
-        | inl away ↦
-            first left.link left.to left.over.leads_on away block left.greater
-            (directs left.link t left.to left.over.leads_on away block)
-        | inr back ↦
-            absurd (second left.link left.to left.greater
-            (directs left.link left.to t (lead_back og.g.links left.link t left.to left.over.leads_on) back block))
-      ]
-    where
-      first : (e v : ℕ) → leads og.g.links e t ≡ Some v → og.w.tail e ≡ t → og.w.lies_in e ≡ og.w.block m
-          → og.w.order t < og.w.order v → Directs og m top e t v → Onward t
-      first e v onward tail block greater (Inner a b plain up) = record {
-        link = e;
-        to = v;
-        leads_on = onward;
-        tail = tail;
-        block = block;
-        inside = b;
-        greater = greater;
+      let it = left_inside og.g og.root og.w (og.w.block m) h t block_closed (is_ordered og) inside.within inside.block other in
+      record {
+        link = it.1;
+        to = it.0;
+        leads_on = it.2.onward;
+        tail = it.2.away;
+        block = it.2.in_block;
+        inside = record { within = (within og.g it.1 t it.0 og.kept it.2.onward).to; block = it.3 };
+        greater = it.4;
       }
-      first e v onward tail block greater (Out a b plain) = absurd (not_head t inside a)
-      first e v onward tail block greater (Home a b closing) = absurd (other a)
-
-      second : (e v : ℕ) → og.w.order t < og.w.order v → Directs og m top e v t → ⊥
-      second e v greater (Inner a b plain up) = omega (arith, greater, up)
-      second e v greater (Out a b plain) = omega (arith, greater, head_lower t inside, ap og.w.order a)
-      second e v greater (Home a b closing) = not_head t inside b
 
   down_on : (t : ℕ) → Onward t → ((x : ℕ) → Inside og m x → og.w.order t < og.w.order x → x ≢ top
       → Way og m Down top x) → Way og m Down top t

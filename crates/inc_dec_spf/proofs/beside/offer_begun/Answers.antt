@@ -1,81 +1,108 @@
-use Rattle.std.proofs.Common.{◌≡◌, ◌<◌, ◌≤◌, ◌+◌, ◌*◌, ◌∙◌, ℕ, List, Some, length, length-set, slice_get, inl, inr, refl, sym, ap, subst, arith}
-use Rattle.std.proofs.lemmas.Option.{same_Some, slice_get_read}
+use Rattle.std.proofs.Common.{◌≡◌, ◌<◌, ◌+◌, ◌*◌, ◌∙◌, ℕ, List, Some, length, slice_get, inl, inr, refl, sym, ap, subst, arith}
+use Rattle.std.proofs.lemmas.Option.{same_Some, slice_get_read, slice_get_within}
 use Rattle.mrt_graph.specs.declared.link.End.{End}
 use Rattle.mrt_graph.specs.GraphInvariant.{IsEnd}
 use Rattle.mrt_graph.proofs.ListTests.{all_at}
-use Rattle.inc_dec_spf.specs.Fan.{lane, no_place}
-use Rattle.inc_dec_spf.proofs.EndsOffered.{first_all, first_left, first_taken}
-use Rattle.inc_dec_spf.proofs.LanesBegun.{begun_by, begun_costs, begun_low, begun_others}
+use Rattle.inc_dec_spf.specs.Known.{AreLanes, IsOne, known, known_at}
+use Rattle.inc_dec_spf.specs.Offers.{IsFirstOffer}
+use Rattle.inc_dec_spf.proofs.EndsOffer.{first_back, first_is, first_not}
 use Rattle.inc_dec_spf.proofs.Marks.{IsMarkedEnd}
+use Rattle.inc_dec_spf.proofs.Offering.{none_yet, offered_all, offered_more, offered_none, own_lanes}
 use Rattle.inc_dec_spf.proofs.SideBySide.{row_within}
 use Rattle.inc_dec_spf.proofs.beside.offer_begun.Goals as goal
 use Rattle.inc_dec_spf.proofs.beside.offer_begun.Goals.{then-not-is_sole+then-leads_on, else-not-is_sole, else-not-is_sole-via-then-not-is_sole+else-leads_on, else-not-is_sole-via-else-not-is_sole}
+
+pub loop-place-init : goal.loop-place-init
+loop-place-init c = record {
+  lanes = c.requires.lanes;
+  offered = λ root w are.
+      none_yet (IsFirstOffer c.args.opening.now.graph.now w c.args.opening.now.dir c.args.source c.args.width c.args.j)
+      (known_at c.args.costs.now c.args.places.now);
+}
+
+pub offer_at-requires-clause-lanes : goal.offer_at-requires-clause-lanes
+offer_at-requires-clause-lanes c =
+    own_lanes (length c.args.opening.now.graph.now.ids * c.args.width) c.loop-place.costs c.loop-place.places c.loop-place.invariant.lanes
+
+pub offer_at-requires-clause-low : goal.offer_at-requires-clause-low
+offer_at-requires-clause-low c = λ above.
+    let g = c.args.opening.now.graph.now in
+    let ends = c.ends-end-items.result.now in
+    let there = slice_get_read ends (length ends) c.loop-place.place c.end-item.result refl c.loop-place-test.true c.end-item.is in
+    let is : IsEnd (length g.ids) g.links c.args.source c.end-item.result =
+    all_at (IsEnd (length g.ids) g.links c.args.source) ends c.loop-place.place c.end-item.result c.ends-end-items.ensures.kept.kept there in
+    absurd (omega (arith, is.metric, above))
+
+pub offer_at-requires-clause-at : goal.offer_at-requires-clause-at
+offer_at-requires-clause-at c =
+    let g = c.args.opening.now.graph.now in
+    let ends = c.ends-end-items.result.now in
+    let end = c.end-item.result in
+    let there = slice_get_read ends (length ends) c.loop-place.place end refl c.loop-place-test.true c.end-item.is in
+    let is : IsEnd (length g.ids) g.links c.args.source end =
+    all_at (IsEnd (length g.ids) g.links c.args.source) ends c.loop-place.place end c.ends-end-items.ensures.kept.kept there in
+    let row = row_within end.to (length g.ids) c.args.width (length c.loop-place.costs) c.loop-place.invariant.lanes.one_cost_each is.to in
+    omega (arith, row, c.requires.place, ap (λ (v : ℕ). v * c.args.width) c.get.ensures.value)
 
 pub loop-place-preserved : goal.loop-place-preserved
 loop-place-preserved c =
     let g = c.args.opening.now.graph.now in
     let d = c.args.opening.now.directed.now in
-    let n = length g.ids in
+    let dir = c.args.opening.now.dir in
     let width = c.args.width in
     let j = c.args.j in
     let place = c.loop-place.place in
     let ends = c.ends-end-items.result.now in
     let end = c.end-item.result in
     let mark = c.mark-mark.result in
-    let costs = c.loop-place.costs in
-    let places = c.loop-place.places in
     let there = slice_get_read ends (length ends) place end refl c.loop-place-test.true c.end-item.is in
     let is : IsMarkedEnd g d c.args.source place ends end mark =
     record { list = c.ends-end-items.ensures.value; there = there; marked = c.mark-mark.ensures } in
-    let is_end : IsEnd n g.links c.args.source end = all_at (IsEnd n g.links c.args.source) ends place end c.ends-end-items.ensures.kept.kept there in
-    let small : end.metric ≤ 65535 = omega (arith, is_end.metric) in
-    let few : place ≤ no_place = omega (arith, c.loop-place-test.true, c.ends-end-items.ensures.kept.few, c.requires.opening.kept.few_links) in
-    let long : length costs ≡ n * width = c.loop-place.invariant.room ∙ c.requires.room in
     elim c.if-not-is_sole.branch [
       | then-not-is_sole+then-leads_on t ↦
           let at : ℕ = t.get.result * width + j in
-          let is_at : at ≡ end.to * width + j = ap (λ (v : ℕ). v * width + j) t.get.ensures.value in
-          let room : at < length costs = omega (arith, row_within end.to n width (length costs) long is_end.to, is_at, c.requires.place) in
-          rw (t.costs-is, t.places-is, t.offer_at.ensures.costs, t.offer_at.ensures.places) (record {
-            room = length-set costs at _ ∙ c.loop-place.invariant.room;
-            costs = begun_costs n width end.to j end.metric place at costs places is_at is_end.to c.requires.place room c.loop-place.invariant.costs small few;
-            low = λ low.
-                begun_low n width end.to j end.metric place at costs places is_at is_end.to c.requires.place room c.loop-place.invariant.costs small few
-                (c.loop-place.invariant.low low);
-            offered = λ root w own are list.
-                let same : ends ≡ own = same_Some ends own (sym c.ends-end-items.ensures.value ∙ list) in
-                let own_there = subst (λ (es : List End). slice_get es place ≡ Some end) same there in
-                first_taken g d w c.args.opening.now.dir c.args.source place ends end mark (lane own n width c.args.costs.now c.args.places.now j)
-                (lane own n width costs places j) _ c.requires.opening.kept are.says is
-                (λ sole. let yes = c.is_sole.ensures.1 sole in let no = t.if-not-is_sole.true in (cc)) (sym t.leads_on.ensures ∙ t.if-leads_on.true)
-                (c.loop-place.invariant.offered root w own are list)
-                (begun_by n width end.to j end.metric place at costs places is_at is_end.to c.requires.place room c.loop-place.invariant.costs small few own end
-                own_there);
-            others = λ k own below other.
-                begun_others n width end.to j end.metric place at costs places is_at is_end.to c.requires.place room c.loop-place.invariant.costs small few own k
-                below other
-                ∙ c.loop-place.invariant.others k own below other;
+          let at_is : at ≡ end.to * width + j = ap (λ (v : ℕ). v * width + j) t.get.ensures.value in
+          rw (t.costs-is, t.places-is) (record {
+            lanes = subst (λ (n : ℕ). AreLanes n t.offer_at.new.costs t.offer_at.new.places) c.loop-place.invariant.lanes.one_cost_each t.offer_at.ensures.lanes;
+            offered = λ root w are.
+                offered_more (IsFirstOffer g w dir c.args.source width j) (IsOne at (known end.metric place)) place
+                (known_at c.args.costs.now c.args.places.now) (known_at c.loop-place.costs c.loop-place.places)
+                (known_at t.offer_at.new.costs t.offer_at.new.places)
+                (λ i offer. first_is g d w dir c.args.source place ends end mark c.requires.opening.kept are.says is width j at at_is c.requires.place i offer
+                (λ sole. let yes = c.is_sole.ensures.1 sole in let no = t.if-not-is_sole.true in (cc)) (sym t.leads_on.ensures ∙ t.if-leads_on.true))
+                (λ i offer. first_back g d w dir c.args.source place ends end mark c.requires.opening.kept are.says is width j at at_is c.requires.place i offer)
+                (c.loop-place.invariant.offered root w are) t.offer_at.ensures.offered;
           })
       | else-not-is_sole t ↦ rw (t.costs-is, t.places-is) (record {
-        room = c.loop-place.invariant.room;
-        costs = c.loop-place.invariant.costs;
-        low = c.loop-place.invariant.low;
-        offered = λ root w own are list.
-            first_left g d w c.args.opening.now.dir c.args.source place ends end mark (lane own n width c.args.costs.now c.args.places.now j) (lane own n width costs places j)
-            c.requires.opening.kept are.says is
+        lanes = c.loop-place.invariant.lanes;
+        offered = λ root w are.
+            offered_none (IsFirstOffer g w dir c.args.source width j) place
+            (known_at c.args.costs.now c.args.places.now) (known_at c.loop-place.costs c.loop-place.places)
+            (first_not g d w dir c.args.source place ends end mark c.requires.opening.kept are.says is
             (elim t.else-not-is_sole.branch [
               | else-not-is_sole-via-then-not-is_sole+else-leads_on t' ↦ inr (sym t'.leads_on.ensures ∙ t'.if-leads_on.false)
               | else-not-is_sole-via-else-not-is_sole t' ↦ inl (c.is_sole.ensures.0 t'.if-not-is_sole.false)
-            ])
-            (c.loop-place.invariant.offered root w own are list);
-        others = c.loop-place.invariant.others;
+            ]) width j)
+            (c.loop-place.invariant.offered root w are);
       })
     ]
 
 pub returns-clause-offered : goal.returns-clause-offered
-returns-clause-offered c = λ root w own are list.
-    let same : c.ends-end-items.result.now ≡ own = same_Some c.ends-end-items.result.now own (sym c.ends-end-items.ensures.value ∙ list) in
-    first_all c.args.opening.now.graph.now w c.args.opening.now.dir c.args.source c.ends-end-items.result.now c.loop-place.place
-    (lane own (length c.args.opening.now.graph.now.ids) c.args.width c.args.costs.now c.args.places.now c.args.j)
-    (lane own (length c.args.opening.now.graph.now.ids) c.args.width c.loop-place.costs c.loop-place.places c.args.j)
-    c.ends-end-items.ensures.value c.loop-place-test.false (c.loop-place.invariant.offered root w own are list)
+returns-clause-offered c = λ root w are.
+    offered_all (IsFirstOffer c.args.opening.now.graph.now w c.args.opening.now.dir c.args.source c.args.width c.args.j) _
+    c.loop-place.place (known_at c.args.costs.now c.args.places.now) (known_at c.loop-place.costs c.loop-place.places)
+    (λ i offer of. record { index = of.index; is = of.is })
+    (λ i offer of.
+    let it = of.is.step in
+    record {
+      index = of.index;
+      early = omega (
+        arith,
+        c.loop-place-test.false,
+        of.is.here,
+        slice_get_within c.ends-end-items.result.now it.place of.is.end (subst (λ (es : List End). slice_get es it.place ≡ Some of.is.end)
+            (same_Some it.ends c.ends-end-items.result.now (sym it.list ∙ c.ends-end-items.ensures.value)) it.there),
+      );
+      is = of.is;
+    })
+    (c.loop-place.invariant.offered root w are)

@@ -1,8 +1,7 @@
 use Rattle.std.proofs.Common.{◌≡◌, ◌≤◌, ◌+◌, ◌*◌, ◌∙◌, ℕ, get_or, length, ap, arith}
 use Rattle.std.proofs.lemmas.Bool.{ltb-false}
 use Rattle.inc_dec_spf.specs.Rest.{far}
-use Rattle.inc_dec_spf.proofs.Lanes.{range_length}
-use Rattle.inc_dec_spf.proofs.SideBySide.{range_index}
+use Rattle.inc_dec_spf.proofs.SideBySide.{range_index, range_length}
 use Rattle.inc_dec_spf.proofs.fan.is_reached.Goals as goal
 
 pub returns : goal.returns

@@ -4,6 +4,7 @@ use Rattle.mrt_graph.specs.Topology.{Topology}
 use Rattle.link_direction.specs.Directions.{Directions}
 use Rattle.inc_dec_spf.specs.Fan.{AreStops}
 use Rattle.inc_dec_spf.specs.Offers.{PassesOn}
+use Rattle.inc_dec_spf.specs.Opening.{Goes}
 use Rattle.inc_dec_spf.proofs.fan.keep_onward.Goals as goal
 
 -- a path goes on from a node that is not marked
@@ -21,14 +22,11 @@ not_stopped g w first width x j stops are clear below inside = record {
 }
 
 pub returns-else-stops-get-clause-onward : goal.returns-else-stops-get-clause-onward
-returns-else-stops-get-clause-onward c =
+returns-else-stops-get-clause-onward c = λ j.
     let stops = c.args.stops.now in
     let opening = c.args.opening.now in
     let clear : slice_get stops c.args.x ≡ Some false =
     slice_get-get_or stops c.args.x false c.requires.node
     ∙ ap (λ (b : Bool). Some b) (ap (λ (v : ℕ). get_or stops v false) (sym c.get.ensures.value) ∙ c.if-stops-get.false) in
-    record {
-      stays = λ root j w are below inside not_on.
-          absurd (not_on (not_stopped opening.graph.now w opening.first (length c.args.from_costs.now) c.args.x j stops (c.requires.stops root w are) clear below inside));
-      goes = λ root j w are below inside on. (refl, refl);
-    }
+    Goes refl (λ root w are below inside.
+    not_stopped opening.graph.now w opening.first (length c.args.from_costs.now) c.args.x j stops (c.requires.stops root w are) clear below inside)

@@ -7,7 +7,7 @@ use Rattle.inc_dec_spf.specs.Against.{against}
 use Rattle.inc_dec_spf.specs.Aiming.{IsAiming}
 use Rattle.inc_dec_spf.specs.Turns.{AreTurns}
 use Rattle.inc_dec_spf.proofs.ByTurn.{turn_within}
-use Rattle.inc_dec_spf.proofs.EndsOffered.{block_of_node}
+use Rattle.inc_dec_spf.proofs.Marks.{block_of_node}
 use Rattle.inc_dec_spf.proofs.FirstLinks.{one_linked, passed_linked}
 use Rattle.inc_dec_spf.proofs.InBlocks.{IsOrdered}
 use Rattle.inc_dec_spf.proofs.OwnCosts.{all_turned, arrived_most, kept_most, least_in_width, one_turned, passed_turned, ready_for}

@@ -1,7 +1,7 @@
-use Rattle.std.proofs.Common.{rules, ◌≡◌, ◌∙◌, ◌<◌, ◌*◌, ℕ, Bool, true, List, Option, Some, None, length, set, slice_get, inl, inr, sym, ap, subst, arith}
+use Rattle.std.proofs.Common.{rules, ◌≡◌, ◌∙◌, ◌<◌, ◌+◌, ◌*◌, ℕ, Bool, true, List, Option, Some, get_or, length, set, slice_get, inl, inr, sym, ap, subst, arith}
 use Rattle.std.specs.Prelude.{replicate}
 use Rattle.std.proofs.lemmas.Bool.{cases_eq}
-use Rattle.std.proofs.lemmas.List.{length-set}
+use Rattle.std.proofs.lemmas.List.{get_or-replicate, length-set, with_items_is}
 use Rattle.std.proofs.lemmas.Option.{same_Some, slice_get_within}
 use Rattle.mrt_graph.specs.GraphInvariant.{IsTopology}
 use Rattle.mrt_graph.specs.Topology.{Topology}
@@ -17,12 +17,10 @@ use Rattle.inc_dec_spf.specs.BlockAims.{IsAimOf, aim_at}
 use Rattle.inc_dec_spf.specs.HasDirections.{AreDirections, HasDirections}
 use Rattle.inc_dec_spf.specs.LeastPath.{IsHop, IsReachTo}
 use Rattle.inc_dec_spf.specs.Turns.{AreTurns}
-use Rattle.inc_dec_spf.proofs.AimsTo.{aims_at, all_marked, have_met, none_blank, none_met}
 use Rattle.inc_dec_spf.proofs.InBlocks.{IsOrdered}
 use Rattle.inc_dec_spf.proofs.OwnCosts.{own_costs_of}
 use Rattle.inc_dec_spf.proofs.SameDirections.{directions_are}
 use Rattle.inc_dec_spf.proofs.to_target.spf_to.Goals as goal
-use Rattle.inc_dec_spf.proofs.to_target.spf_to.Goals.{then-meets, else-meets}
 
 -- the block of two nodes is named by one
 block_of_two : (g : Topology) (root : ℕ) (w : Directions) → IsOrdered g root w → (s t k h : ℕ) → s < length g.ids → t < length g.ids → HaveCommonBlock w s t k h
@@ -46,28 +44,41 @@ aiming_is aiming other turns aims wanted width kept directed dir_is turns_are ai
       a_mark_each = ap (λ (bs : List Bool). length bs) wanted_is ∙ marks;
     }
 
+-- all blocks aim at t
+aimed_at : (g : Topology) (root : ℕ) (w : Directions) → IsOrdered g root w → (s t : ℕ) → s < length g.ids → t < length g.ids → IsAimOf g w (aim_at (replicate (length g.ids) t) 1 0) s t
+aimed_at g root w is s t within t_within = record {
+  aimed = λ k h common. aim k (block_of_two g root w is s t k h within t_within common);
+  alone = λ u k h u_within apart common onward. aim k (block_of_two g root w is s u k h within u_within common);
+}
+  where
+    aim : (k : ℕ) → k < length g.ids → aim_at (replicate (length g.ids) t) 1 0 k ≡ t
+    aim k below =
+        let at : k * 1 + 0 ≡ k = omega arith in
+        ap (λ (i : ℕ). get_or (replicate (length g.ids) t) i 0) at ∙ get_or-replicate (length g.ids) k t 0 below
+
 pub take_costs-requires-clause-aiming : goal.take_costs-requires-clause-aiming
 take_costs-requires-clause-aiming c =
-    aiming_is _ c.against.result c.in_ok-turns.turns.items c.in_ok-aims.aims.items c.in_ok-wanted.wanted.items _ c.node_count-count.ensures.kept c.requires.directed c.against.ensures
-    c.as_slice.ensures.value c.as_slice-2.ensures.value c.as_slice-3.ensures.value (search rules) c.in_ok-aims.ensures.one_each c.in_ok-tile.ensures.width c.in_ok-turns.ensures
+    let marks = with_items_is c.in_ok-wanted.wanted c.mark_blocks.new.marks (c.mark_blocks.auto.marks ∙ c.deref_mut.ensures.len) in
+    aiming_is _ c.against.result c.in_ok-turns.turns.items c.in_ok-aims.aims.items c.mark_blocks.new.marks _ c.node_count-count.ensures.kept c.requires.directed
+    c.against.ensures c.as_slice.ensures.value c.as_slice-2.ensures.value (c.as_slice-3.ensures.value ∙ marks) (search rules) (search rules)
+    c.in_ok-tile.ensures.width c.in_ok-turns.ensures
 
 pub hop_from-requires-clause-aiming : goal.hop_from-requires-clause-aiming
 hop_from-requires-clause-aiming c =
-    aiming_is _ c.against.result c.in_ok-turns.turns.items c.in_ok-aims.aims.items c.in_ok-wanted.wanted.items _ c.node_count-count.ensures.kept c.requires.directed c.against.ensures
-    c.as_slice.ensures.value c.as_slice-2.ensures.value c.as_slice-3.ensures.value (search rules) c.in_ok-aims.ensures.one_each c.loop-n.invariant.width c.in_ok-turns.ensures
+    let marks = with_items_is c.in_ok-wanted.wanted c.mark_blocks.new.marks (c.mark_blocks.auto.marks ∙ c.deref_mut.ensures.len) in
+    aiming_is _ c.against.result c.in_ok-turns.turns.items c.in_ok-aims.aims.items c.mark_blocks.new.marks _ c.node_count-count.ensures.kept c.requires.directed
+    c.against.ensures c.as_slice.ensures.value c.as_slice-2.ensures.value (c.as_slice-3.ensures.value ∙ marks) (search rules) (search rules)
+    c.loop-n.invariant.width c.in_ok-turns.ensures
 
 pub loop-n-init : goal.loop-n-init
 loop-n-init c =
-    let count = c.node_count-count.result in
-    let blank : c.in_ok-hops.hops.items ≡ replicate count None = search rules in
-    let made : length c.in_ok-hops.hops.items ≡ count = search rules in
+    let made : length c.in_ok-hops.hops.items ≡ c.node_count-count.result = search rules in
     record {
       one_each = made ∙ c.node_count-count.ensures.count;
       nodes = c.take_costs.ensures.nodes ∙ c.in_ok-tile.ensures.nodes;
       width = c.take_costs.ensures.width ∙ c.in_ok-tile.ensures.width;
       costs = c.take_costs.ensures.costs;
       done = λ root s w hop are below. absurd (omega (arith, below));
-      ahead = λ s hop low at. none_blank count s hop (subst (λ (xs : List (Option Hop)). slice_get xs s ≡ Some hop) blank at);
     }
 
 pub loop-n-preserved : goal.loop-n-preserved
@@ -77,58 +88,34 @@ loop-n-preserved c =
     let s = c.new-s.result in
     let t = c.args.target in
     let hops = c.loop-n.hops.items in
+    let new = c.hop_from.result in
     let named : s ≡ n = c.new-s.ensures in
     let within : s < length g.ids = omega (arith, named, c.loop-n-test.true, c.node_count-count.ensures.count) in
-    elim c.if-meets.branch [
-      | then-meets b ↦
-          let new = b.hop_from.result in
-          let room : n < length hops = omega (arith, named, within, c.loop-n.invariant.one_each) in
-          rw (b.hops-is, b.tile-is) (record {
-            one_each = length-set hops n new ∙ c.loop-n.invariant.one_each;
-            nodes = b.hop_from.ensures.nodes ∙ c.loop-n.invariant.nodes;
-            width = b.hop_from.ensures.width ∙ c.loop-n.invariant.width;
-            costs = λ root w are.
-                own_costs_of _ w b.hop_from.new.self c.loop-n.tile.width c.loop-n.tile.costs b.hop_from.ensures.width b.hop_from.ensures.costs
-                (c.loop-n.invariant.costs root w are).each;
-            done = λ root v w hop are below at. elim (cases_eq v n) [
-              | inl same ↦
-                  let is : IsOrdered g root w = record { kept = c.node_count-count.ensures.kept; ordered = are.ordered } in
-                  let it = have_met w s t c.meets.result b.if-meets.true (c.meets.ensures g w are.says) in
-                  let aims = aims_at g root w is t c.requires.target (aim_at c.in_ok-aims.aims.items 1 0) (c.in_ok-aims.ensures.aims root w are) s it.k it.h within
-                  it.common in
-                  let all : c.in_ok-wanted.wanted.items ≡ replicate c.node_count-count.result true = search rules in
-                  let found = b.hop_from.ensures.hop root t w are (c.loop-n.invariant.costs root w are) it.two
-                  (λ k h share.
-                  subst (λ (bs : List Bool). slice_get bs k ≡ Some true) (sym (c.as_slice-3.ensures.value ∙ all))
-                  (all_marked c.node_count-count.result k
-                  (omega (arith, block_of_two g root w is s t k h within c.requires.target share.common, c.node_count-count.ensures.count))))
-                  (subst (λ (m : ℕ). IsAimOf g w (aim_at c.as_slice-2.result.now m 0) s t) (sym c.loop-n.invariant.width)
-                  (subst (λ (xs : List ℕ). IsAimOf g w (aim_at xs 1 0) s t) (sym c.as_slice-2.ensures.value) aims)) in
-                  let now = subst (λ (x : ℕ). slice_get (set hops n new) x ≡ Some hop) same at in
-                  let new_is : new ≡ hop = same_Some new hop (sym (set_there hops n new room) ∙ now) in
-                  subst (λ (o : Option Hop). IsHop g w c.args.dir v t o) new_is
-                  (subst (λ (x : ℕ). IsHop g w c.args.dir x t new) (named ∙ sym same) found)
-              | inr other ↦ c.loop-n.invariant.done root v w hop are (omega (arith, below, other)) (sym (set_elsewhere hops n v new other) ∙ at)
-            ];
-            ahead = λ v hop low at.
-                c.loop-n.invariant.ahead v hop (omega (arith, low))
-                (sym (set_elsewhere hops n v new (λ same. omega (arith, low, same))) ∙ at);
-          })
-      | else-meets b ↦ rw (b.hops-is, b.tile-is) (record {
-        one_each = c.loop-n.invariant.one_each;
-        nodes = c.loop-n.invariant.nodes;
-        width = c.loop-n.invariant.width;
-        costs = c.loop-n.invariant.costs;
-        done = λ root v w hop are below at. elim (cases_eq v n) [
-          | inl same ↦
-              let none = none_met g w c.args.dir s t c.meets.result b.if-meets.false (c.meets.ensures g w are.says) in
-              subst (λ (o : Option Hop). IsHop g w c.args.dir v t o) (sym (c.loop-n.invariant.ahead v hop (omega (arith, same)) at))
-              (subst (λ (x : ℕ). IsHop g w c.args.dir x t None) (named ∙ sym same) none)
-          | inr other ↦ c.loop-n.invariant.done root v w hop are (omega (arith, below, other)) at
-        ];
-        ahead = λ v hop low at. c.loop-n.invariant.ahead v hop (omega (arith, low)) at;
-      })
-    ]
+    let before = c.loop-n.invariant in
+    let marks = c.as_slice-3.ensures.value ∙ with_items_is c.in_ok-wanted.wanted c.mark_blocks.new.marks (c.mark_blocks.auto.marks ∙ c.deref_mut.ensures.len) in
+    let aims : c.in_ok-aims.aims.items ≡ replicate c.node_count-count.result t = search rules in
+    record {
+      one_each = length-set hops n new ∙ before.one_each;
+      nodes = c.hop_from.ensures.nodes ∙ before.nodes;
+      width = c.hop_from.ensures.width ∙ before.width;
+      costs = λ root w are.
+          own_costs_of _ w c.hop_from.new.self c.loop-n.tile.width c.loop-n.tile.costs c.hop_from.ensures.width c.hop_from.ensures.costs (before.costs root w are).each;
+      done = λ root v w hop are below at. elim (cases_eq v n) [
+        | inl same ↦
+            let is : IsOrdered g root w = record { kept = c.node_count-count.ensures.kept; ordered = are.ordered } in
+            let found = c.hop_from.ensures.hop root t w are (before.costs root w are)
+            (λ k h share.
+            subst (λ (bs : List Bool). slice_get bs k ≡ Some true) (sym marks) (c.mark_blocks.ensures.marked root s k h w are within share.common))
+            (subst (λ (m : ℕ). IsAimOf g w (aim_at c.as_slice-2.result.now m 0) s t) (sym before.width)
+            (subst (λ (xs : List ℕ). IsAimOf g w (aim_at xs 1 0) s t) (sym (c.as_slice-2.ensures.value ∙ aims
+            ∙ ap (λ (m : ℕ). replicate m t) c.node_count-count.ensures.count)) (aimed_at g root w is s t within c.requires.target))) in
+            let now = subst (λ (x : ℕ). slice_get (set hops n new) x ≡ Some hop) same at in
+            let new_is : new ≡ hop = same_Some new hop (sym (set_there hops n new (omega (arith, named, within, before.one_each))) ∙ now) in
+            subst (λ (o : Option Hop). IsHop g w c.args.dir v t o) new_is
+            (subst (λ (x : ℕ). IsHop g w c.args.dir x t new) (named ∙ sym same) found)
+        | inr other ↦ before.done root v w hop are (omega (arith, below, other)) (sym (set_elsewhere hops n v new other) ∙ at)
+      ];
+    }
 
 pub returns : goal.returns
 returns c = λ w says.

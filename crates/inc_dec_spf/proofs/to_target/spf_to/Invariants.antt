@@ -1,4 +1,4 @@
-use Rattle.std.proofs.Common.{◌≡◌, ◌<◌, ◌≤◌, ℕ, Option, Some, None, length, slice_get}
+use Rattle.std.proofs.Common.{◌≡◌, ◌<◌, ℕ, Option, Some, length, slice_get}
 use Rattle.link_direction.specs.Directions.{Directions}
 use Rattle.inc_dec_spf.specs.declared.reach.Hop.{Hop}
 use Rattle.inc_dec_spf.specs.Aiming.{AreOwnCosts}
@@ -13,6 +13,5 @@ invariant-loop-n l = record {
   width : l.tile.width ≡ 1;
   costs : (root : ℕ) (w : Directions) → AreDirections l.g l.d root w → AreOwnCosts l.aiming w l.tile;
   done : (root s : ℕ) (w : Directions) (hop : Option Hop) → AreDirections l.g l.d root w → s < l.n → slice_get l.hops.items s ≡ Some hop
-      → IsHop l.g w l.fn.dir s l.target hop;
-  ahead : (s : ℕ) (hop : Option Hop) → l.n ≤ s → slice_get l.hops.items s ≡ Some hop → hop ≡ None;
+      → IsHop l.g w l.fn.dir s l.fn.target hop;
 }

@@ -4,7 +4,7 @@ use Rattle.std.proofs.lemmas.Bool.{cases_eq, eq-eqb, ne_eqb}
 use Rattle.std.proofs.lemmas.Option.{slice_get-get_or}
 use Rattle.inc_dec_spf.specs.Side.{cost_at}
 use Rattle.inc_dec_spf.specs.Ways.{Back, Home, Onward}
-use Rattle.inc_dec_spf.proofs.EndsOffered.{block_of_node}
+use Rattle.inc_dec_spf.proofs.Marks.{block_of_node}
 use Rattle.inc_dec_spf.proofs.SideBySide.{onward_or_back, range_index, range_most, row_within, taken_by}
 use Rattle.inc_dec_spf.proofs.ways.take_leg.Goals as goal
 

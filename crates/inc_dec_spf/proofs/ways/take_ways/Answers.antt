@@ -11,9 +11,8 @@ use Rattle.mrt_graph.proofs.EndsAt.{end_leads}
 use Rattle.inc_dec_spf.specs.Side.{AreTaken}
 use Rattle.inc_dec_spf.specs.Ways.{AreLeast, IsLeftAt}
 use Rattle.inc_dec_spf.proofs.EndCosts.{all_passed, all_taken_over, step_ready}
-use Rattle.inc_dec_spf.proofs.EndsOffered.{block_of_node}
+use Rattle.inc_dec_spf.proofs.Marks.{IsMarkedEnd, block_of_node, marked_block}
 use Rattle.inc_dec_spf.proofs.InBlocks.{inside_of_link}
-use Rattle.inc_dec_spf.proofs.Marks.{IsMarkedEnd, marked_block}
 use Rattle.inc_dec_spf.proofs.SideBySide.{most_kept}
 use Rattle.inc_dec_spf.proofs.WaysOn.{no_way_on, way_on}
 use Rattle.inc_dec_spf.proofs.ways.take_ways.Goals as goal

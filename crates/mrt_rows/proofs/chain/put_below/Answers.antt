@@ -3,7 +3,7 @@ use Rattle.std.specs.Prelude.{replicate}
 use Rattle.std.proofs.lemmas.Bool.{cases_eq, eq-eqb, ne_eqb}
 use Rattle.std.proofs.lemmas.List.{length-replicate, length-set}
 use Rattle.std.proofs.lemmas.Option.{get_or_from_slice_get}
-use Rattle.inc_dec_spf.proofs.EndsOffered.{head_of_node}
+use Rattle.inc_dec_spf.proofs.Marks.{head_of_node}
 use Rattle.mrt_rows.proofs.Climbing.{IsClimbed, all_climbed, begun, graph_by, one_climbed}
 use Rattle.mrt_rows.proofs.chain.put_below.Goals as goal
 

@@ -3,7 +3,7 @@ use Rattle.std.specs.Prelude.{replicate}
 use Rattle.std.proofs.lemmas.List.{with_items_is}
 use Rattle.inc_dec_spf.specs.declared.reach.Dir.TheVariants.{Down, Up}
 use Rattle.inc_dec_spf.specs.Tile.{IsAimed}
-use Rattle.inc_dec_spf.proofs.AimsTo.{all_marked}
+use Rattle.inc_dec_spf.proofs.AllMarked.{all_marked}
 use Rattle.mrt_rows.specs.declared.members.Home.{Home}
 use Rattle.mrt_rows.specs.Put.{AreBlocksMarked, AreHomes}
 use Rattle.mrt_rows.proofs.OrderedGraphs.{graph_of}

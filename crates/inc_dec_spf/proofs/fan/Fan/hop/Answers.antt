@@ -1,11 +1,11 @@
 use Rattle.std.proofs.Common.{◌≡◌, ◌≢◌, ◌<◌, ◌+◌, ◌-◌, ◌*◌, ◌∙◌, ℕ, Option, Some, get_or, length, slice_get, sym, ap, subst, arith}
-use Rattle.std.specs.Option.{option_map}
 use Rattle.std.proofs.lemmas.Bool.{eqb-false, eqb-true}
 use Rattle.inc_dec_spf.specs.declared.reach.Hop.{Hop}
-use Rattle.inc_dec_spf.specs.Fan.{IsOpen, known_by}
+use Rattle.inc_dec_spf.specs.Fan.{IsOpen, link_at}
 use Rattle.inc_dec_spf.specs.FanEntries.{FanEntries, fan_entries}
-use Rattle.inc_dec_spf.specs.Known.{hop_of}
+use Rattle.inc_dec_spf.specs.Known.{known_at}
 use Rattle.inc_dec_spf.specs.LeastPath.{IsHop, NotReached}
+use Rattle.inc_dec_spf.specs.Side.{hop_by}
 use Rattle.inc_dec_spf.proofs.EntryRead.{entry_read}
 use Rattle.inc_dec_spf.proofs.fan.Fan.hop.Goals as goal
 
@@ -43,9 +43,9 @@ returns c = λ w dir opened.
     (c.index-2.ensures ∙ ap (λ (i : ℕ). get_or places i c.index-2.result.now) at) in
     let it = now.each j t ends below (omega (arith, is_s, c.requires.source)) c.requires.target
     (subst (λ (v : ℕ). slice_get graph.ends v ≡ Some ends) (sym is_s) c.ends.ensures.value) in
-    let known : c.hop_by.result ≡ option_map hop_of (known_by ends (get_or costs (t * width + j) 0) (get_or places (t * width + j) 0)) =
-    c.hop_by.ensures ∙ ap (λ (x : ℕ). option_map hop_of (known_by ends x c.index-2.result.now)) cost
-    ∙ ap (λ (p : ℕ). option_map hop_of (known_by ends (get_or costs (t * width + j) 0) p)) place in
-    subst (λ (o : Option Hop). IsHop graph w dir c.args.s t o) (sym known)
-    (subst (λ (v : ℕ). IsHop graph w dir v t (option_map hop_of (known_by ends (get_or costs (t * width + j) 0) (get_or places (t * width + j) 0)))) is_s
-    (it.hop (λ same. two (sym (sym is_s ∙ same)))))
+    let way = known_at costs places (t * width + j) in
+    let hop_is : c.hop_by.result ≡ hop_by way.cost (link_at ends way.place) =
+    c.hop_by.ensures ∙ ap (λ (l : ℕ). hop_by c.index.result.now l) c.link_at.ensures ∙ ap (λ (x : ℕ). hop_by x (link_at ends c.index-2.result.now)) cost
+    ∙ ap (λ (p : ℕ). hop_by way.cost (link_at ends p)) place in
+    subst (λ (o : Option Hop). IsHop graph w dir c.args.s t o) (sym hop_is)
+    (subst (λ (v : ℕ). IsHop graph w dir v t (hop_by way.cost (link_at ends way.place))) is_s (it.hop (λ same. two (sym (sym is_s ∙ same)))))

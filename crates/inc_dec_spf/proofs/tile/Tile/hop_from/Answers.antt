@@ -18,7 +18,7 @@ take_ways-requires-clause-aiming c =
     (sym (ap (λ (xs : List ℕ). length xs) c.deref_mut.ensures.value ∙ ap (λ (e : TileEntries). e.width) c.self.view_is)) c.requires.aiming
 
 pub returns-clause-hop : goal.returns-clause-hop
-returns-clause-hop c = λ root t w are known two marked it.
+returns-clause-hop c = λ root t w are known marked it.
     let aiming = c.args.aiming.now in
     let g = aiming.graph.now in
     let s = c.args.s in
@@ -45,6 +45,6 @@ returns-clause-hop c = λ root t w are known two marked it.
     let aims = subst (λ (n : ℕ). IsAimOf g w (aim_at aiming.aims.now n 0) s t) (sym wide_now) it in
     subst (λ (o : Option Hop). IsHop g w aiming.dir s t o) (sym c.hop_by.ensures)
     (least_hop g root w is aiming.wanted.now aiming.dir false s t (aim_at aiming.aims.now width 0) c.index.result.now c.index-2.result.now ends.0 c.requires.node ends.1
-    two (λ k h share own. (cc)) marked (λ k h share. aims.aimed k h share.common)
+    (λ own same. (cc)) (λ k h share own. (cc)) marked (λ k h share. aims.aimed k h share.common)
     (λ u k h within apart common own onward. aims.alone u k h within apart common (onward refl))
     (least.each 0 c.index.result.now c.index-2.result.now at_cost at_link))

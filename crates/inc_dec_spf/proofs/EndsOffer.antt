@@ -1,0 +1,93 @@
+-- Which ends of a node offer ways, by the marks of their links.
+use Rattle.std.proofs.Common.{◌≡◌, ◌≢◌, ◌⊎◌, ◌<◌, ◌+◌, ◌*◌, ◌∙◌, ℕ, true, false, List, Some, length, slice_get, inl, inr, refl, sym, ap, subst}
+use Rattle.std.proofs.lemmas.Option.{same_Some}
+use Rattle.mrt_graph.specs.declared.cert.Role.TheVariants.{Sole}
+use Rattle.mrt_graph.specs.declared.gadag.Mark.{Mark}
+use Rattle.mrt_graph.specs.declared.link.End.{End}
+use Rattle.mrt_graph.specs.DirectedLists.{DirectedLists}
+use Rattle.mrt_graph.specs.GraphInvariant.{IsTopology}
+use Rattle.mrt_graph.specs.Topology.{Topology}
+use Rattle.link_direction.specs.Directions.{Directions, Says}
+use Rattle.inc_dec_spf.specs.declared.reach.Dir.{Dir}
+use Rattle.inc_dec_spf.specs.Known.{IsOne, IsOver, Known, known}
+use Rattle.inc_dec_spf.specs.Offers.{IsFirstOffer, IsFurtherOffer, goes_on}
+use Rattle.inc_dec_spf.specs.Path.{IsStep, LeadsOn}
+use Rattle.inc_dec_spf.proofs.Marks.{IsMarkedEnd, marked_block, marked_role, test_leads_back, test_leads_on}
+
+module _ (g : Topology) (d : DirectedLists) (w : Directions) (dir : Dir) (x place : ℕ) (ends : List End) (end : End) (mark : Mark) (kept : IsTopology g)
+    (says : Says g d w) (is : IsMarkedEnd g d x place ends end mark) where
+  -- a step from this place is over this end
+  same_end : (k : ℕ) (other : End) (step : IsStep g w dir k x other) → step.place ≡ place → other ≡ end
+  same_end k other step here =
+      let list : step.ends ≡ ends = same_Some step.ends ends (sym step.list ∙ is.list) in
+      same_Some other end (sym step.there ∙ ap (λ (es : List End). slice_get es step.place) list ∙ ap (λ (i : ℕ). slice_get ends i) here ∙ is.there)
+
+  step_on : (k : ℕ) → w.lies_in end.link ≡ k → goes_on dir mark.way x end.to ≡ true → IsStep g w dir k x end
+  step_on k in_block goes = record {
+    ends = ends;
+    list = is.list;
+    place = place;
+    there = is.there;
+    in_block = in_block;
+    leads_on = test_leads_on g d w dir x place ends end mark kept says is goes;
+  }
+
+  in_block : w.lies_in end.link ≡ mark.block
+  in_block = sym (marked_block g d w x place ends end mark kept says is)
+
+  -- one that leads on in the block of x
+  module _ (costs places : List ℕ) (at : ℕ) (at_is : at ≡ end.to * length costs) (i : ℕ) (offer : Known) where
+    pub further_is : mark.block ≡ w.block x → goes_on dir mark.way x end.to ≡ true → IsOver costs places end.metric at i offer
+        → IsFurtherOffer g w dir x costs places place i offer
+    unfolding step_on
+    further_is own goes over = record {
+      end = end;
+      step = step_on (w.block x) (in_block ∙ own) goes;
+      here = refl;
+      over = subst (λ (p : ℕ). IsOver costs places end.metric p i offer) at_is over;
+    }
+
+    pub further_back : IsFurtherOffer g w dir x costs places place i offer → IsOver costs places end.metric at i offer
+    further_back it =
+        subst (λ (p : ℕ). IsOver costs places end.metric p i offer) (sym at_is)
+        (subst (λ (e : End). IsOver costs places e.metric (e.to * length costs) i offer) (same_end (w.block x) it.end it.step it.here) it.over)
+
+  pub further_not : (mark.block ≢ w.block x) ⊎ (goes_on dir mark.way x end.to ≡ false) → (costs places : List ℕ) (i : ℕ) (offer : Known)
+      → IsFurtherOffer g w dir x costs places place i offer → ⊥
+  further_not fails costs places i offer it =
+      let same = same_end (w.block x) it.end it.step it.here in
+      elim fails [
+        | inl elsewhere ↦ elsewhere (sym in_block ∙ ap (λ (e : End). w.lies_in e.link) (sym same) ∙ it.step.in_block)
+        | inr back ↦ test_leads_back g d w dir x place ends end mark kept says is back (subst (λ (e : End). LeadsOn w dir x e) same it.step.leads_on)
+      ]
+
+  -- one of the source that leads on, and not over a sole link
+  module _ (width j at : ℕ) (at_is : at ≡ end.to * width + j) (below : j < width) (i : ℕ) (offer : Known) where
+    pub first_is : mark.role ≢ Sole → goes_on dir mark.way x end.to ≡ true → IsOne at (known end.metric place) i offer
+        → IsFirstOffer g w dir x width j place i offer
+    unfolding step_on
+    first_is not_sole goes one = record {
+      below = below;
+      end = end;
+      step = step_on (w.lies_in end.link) refl goes;
+      here = refl;
+      not_sole = λ sole. not_sole (marked_role g d w x place ends end mark kept says is ∙ sole);
+      one = record { there = one.there ∙ at_is; same = one.same };
+    }
+
+    pub first_back : IsFirstOffer g w dir x width j place i offer → IsOne at (known end.metric place) i offer
+    first_back it =
+        let same = same_end (w.lies_in it.end.link) it.end it.step it.here in
+        record {
+          there = it.one.there ∙ ap (λ (e : End). e.to * width + j) same ∙ sym at_is;
+          same = it.one.same ∙ ap (λ (e : End). known e.metric place) same;
+        }
+
+  pub first_not : (mark.role ≡ Sole) ⊎ (goes_on dir mark.way x end.to ≡ false) → (width j i : ℕ) (offer : Known)
+      → IsFirstOffer g w dir x width j place i offer → ⊥
+  first_not fails width j i offer it =
+      let same = same_end (w.lies_in it.end.link) it.end it.step it.here in
+      elim fails [
+        | inl sole ↦ it.not_sole (ap (λ (e : End). w.role e.link) same ∙ sym (marked_role g d w x place ends end mark kept says is) ∙ sole)
+        | inr back ↦ test_leads_back g d w dir x place ends end mark kept says is back (subst (λ (e : End). LeadsOn w dir x e) same it.step.leads_on)
+      ]

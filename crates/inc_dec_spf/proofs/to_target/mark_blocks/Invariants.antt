@@ -1,0 +1,11 @@
+use Rattle.std.proofs.Common.{◌≡◌, ◌<◌, ◌⊎◌, ℕ, Some, length, slice_get, true}
+use Rattle.link_direction.specs.Directions.{Directions}
+use Rattle.inc_dec_spf.specs.HasDirections.{AreDirections}
+use Rattle.inc_dec_spf.proofs.to_target.mark_blocks.Given as goal
+
+abbrev pub invariant-loop-n : goal.invariant-loop-n
+invariant-loop-n l = record {
+  one_each : length l.marks ≡ length l.initial.marks;
+  marked : (root y : ℕ) (w : Directions) → AreDirections l.g l.d root w → y < l.n → (y ≡ l.target) ⊎ (w.head y ≡ l.target)
+      → slice_get l.marks (w.block y) ≡ Some true;
+}
