@@ -10,7 +10,6 @@ pub mod CertOfColumns
 pub mod CertSays
 pub mod ChainAims
 pub mod Climbing
-pub mod ColumnPut
 pub mod ColumnRows
 pub mod Counting
 pub mod Filling
@@ -43,6 +42,7 @@ pub mod SoleBlocks
 pub mod SoleRows
 pub mod SoundColumns
 pub mod SourceCert
+pub mod TheColumns
 pub mod WayAims
 pub mod Ways
 pub mod WayMarks

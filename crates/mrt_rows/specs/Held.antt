@@ -31,7 +31,3 @@ pub record AreHeldFor (g : Topology) (root : ℕ) (w : Directions) (held : Colum
 -- they are aimed at the destinations in their places
 abbrev pub AreHeld : Topology → ℕ → Directions → ColumnParts → Type 0
 AreHeld g root w held = AreHeldFor g root w held held.targets
-
--- so many destinations are taken side by side
-abbrev pub destinations : ℕ
-destinations = 64

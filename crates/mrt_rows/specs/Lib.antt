@@ -1,3 +1,4 @@
+pub mod Aimed
 pub mod CertOf
 pub mod Chain
 pub mod ColumnOf
@@ -16,3 +17,4 @@ pub mod RowsFound
 pub mod RowsOf
 pub mod RowsTo
 pub mod Source
+pub mod TheColumn

@@ -1,7 +1,8 @@
 -- The columns of a graph from a root.
-use Rattle.std.specs.Prelude.{◌<◌, length}
+use Rattle.std.specs.Prelude.{◌≡◌, ◌<◌, ℕ, length}
 use Rattle.mrt_graph.specs.Topology.{Topology}
 use Rattle.link_direction.specs.Directions.{Directions, Says}
+use Rattle.mrt_rows.specs.Aimed.{AreAimed}
 use Rattle.mrt_rows.specs.DirectedFrom.{IsDirectedFrom}
 use Rattle.mrt_rows.specs.Held.{AreHeld}
 use Rattle.mrt_rows.specs.RootedParts.{RootedParts}
@@ -11,3 +12,9 @@ pub record MakeColumns (g : Topology) (rooted : RootedParts) : Type 0 where
   pub root_within : rooted.root < length g.ids
   pub directed : IsDirectedFrom g rooted.root rooted.directed
   pub held : (w : Directions) → Says g rooted.directed w → AreHeld g rooted.root w rooted.columns
+
+-- and they are aimed at t
+pub record AreAimedAt (g : Topology) (t : ℕ) (rooted : RootedParts) : Type 0 where
+  pub made : MakeColumns g rooted
+  pub is : rooted.to.node ≡ t
+  pub aimed : AreAimed g rooted.root rooted.directed rooted.columns rooted.to

@@ -6,7 +6,8 @@ ghost use Rattle.link_direction.specs.Directions.{Directions, Says};
 ghost use Rattle.link_direction.specs.OrderedGadag.{SaysOrdered};
 ghost use Rattle.mrt_rows.specs.RowsOf.{AreAllRows, row_among};
 
-use crate::column::Columns;
+use crate::column::{Columns, WIDTH};
+use crate::column_view::ColumnView;
 use crate::places::put;
 use mrt_graph::{Directed, Graph, LinkNo, NoMemory, NodeNo, Row, Tag};
 use std::alloc::Global;
@@ -21,7 +22,7 @@ pub fn all_rows(alloc: Global, g: &Graph, root: NodeNo, d: &Directed) -> Result<
 {
     let count = g.node_count();
     let size = count as usize;
-    let mut columns = Columns::new(alloc, g, root, d)?;
+    let mut columns = Columns::new(alloc, g, root, d, WIDTH)?;
     let link = LinkNo::new(0);
     let none_yet = Row {
         blue: link,
@@ -29,17 +30,17 @@ pub fn all_rows(alloc: Global, g: &Graph, root: NodeNo, d: &Directed) -> Result<
         tag: Tag::Carried,
     };
     let mut rows = vec![in alloc; none_yet; size * (size - 1)]?;
-    let mut column = vec![in alloc; None; size]?;
     for n in 0..count {
         let to = NodeNo::new(n);
-        columns.put(g, root, d, to, &mut column);
+        let aimed = columns.aim(g, root, d, to);
+        let column = ColumnView::new(g, root, d, &columns, aimed);
         put_column(count, to, &column, &mut rows);
     }
     Ok(rows)
 }
 
 /// Puts the rows of a column at their places.
-fn put_column(count: u16, to: NodeNo, column: &[Option<Row>], rows: &mut [Row])
+fn put_column(count: u16, to: NodeNo, column: &ColumnView, rows: &mut [Row])
     requires to { to < count }
     requires one_each { length column.now ≡ count }
     requires none { slice_get column.now to ≡ Some None }
@@ -51,16 +52,8 @@ fn put_column(count: u16, to: NodeNo, column: &[Option<Row>], rows: &mut [Row])
 {
     for n in 0..count {
         let s = NodeNo::new(n);
-        if let Some(row) = row_at(column, s) {
+        if let Some(row) = column.row(s) {
             put(count, s, to, row, rows);
         }
     }
-}
-
-/// The row of node s in a column.
-fn row_at(column: &[Option<Row>], s: NodeNo) -> Option<Row>
-    requires { s < length column.now }
-    ensures { slice_get column.now s ≡ Some result }
-{
-    column[s.get() as usize]
 }

@@ -1,7 +1,6 @@
 //! The columns of destinations.
 
-ghost use Rattle.std.specs.Prelude.{◌≡◌, ◌≢◌, ◌<◌, ◌≤◌, ◌+◌, ℕ, [], IfOk, IfSome, None, Some, length, slice_get, true};
-ghost use Rattle.mrt_graph.specs.Column.{ColumnSound};
+ghost use Rattle.std.specs.Prelude.{◌≡◌, ◌≢◌, ◌<◌, ◌≤◌, ◌+◌, ℕ, [], IfOk, IfSome, Some, length, slice_get, true};
 ghost use Rattle.mrt_graph.specs.GraphInvariant.{IsTopology};
 ghost use Rattle.link_direction.specs.Directions.{Directions, Says};
 ghost use Rattle.link_direction.specs.OrderedGadag.{SaysOrdered};
@@ -9,9 +8,10 @@ ghost use Rattle.inc_dec_spf.specs.declared.reach.Dir.TheVariants.{Down, Up};
 ghost use Rattle.inc_dec_spf.specs.BlockAims.{IsAimOf, aim_at};
 ghost use Rattle.inc_dec_spf.specs.LeastPath.{HaveCommonBlockOfMoreLinks};
 ghost use Rattle.inc_dec_spf.specs.Tile.{IsAimed};
+ghost use Rattle.mrt_rows.specs.Aimed.{AreAimed};
 ghost use Rattle.mrt_rows.specs.Chain.{AreBelow, IsRowAim};
-ghost use Rattle.mrt_rows.specs.ColumnOf.{IsColumnOf, IsRowIn};
-ghost use Rattle.mrt_rows.specs.Held.{AreHeld, AreHeldFor, destinations};
+ghost use Rattle.mrt_rows.specs.ColumnOf.{IsRowIn};
+ghost use Rattle.mrt_rows.specs.Held.{AreHeld, AreHeldFor};
 ghost use Rattle.mrt_rows.specs.NearOf.{IsNearRow};
 
 use crate::block_aims::{mark_ways, put_block_aims};
@@ -19,7 +19,7 @@ use crate::chain::put_below;
 use crate::common::{Common, common_of};
 use crate::row_over::{Source, row_over};
 use inc_dec_spf::{Aiming, Dir, Tile};
-use mrt_graph::{Column, Directed, Graph, NoMemory, NodeNo, Row};
+use mrt_graph::{Directed, Graph, NoMemory, NodeNo, Row};
 use std::alloc::Global;
 use std::marker::Model;
 
@@ -28,9 +28,9 @@ pub(crate) const WIDTH: u16 = 64;
 
 /// A node that is aimed at, and its place beside others.
 #[derive(Clone, Copy)]
-struct Target {
-    node: NodeNo,
-    at: usize,
+pub struct Target {
+    pub node: NodeNo,
+    pub at: usize,
 }
 
 /// What the columns of all destinations have in common, and the room in which they are made: the nodes below others on the way
@@ -57,20 +57,10 @@ impl Model for Columns {
 }
 
 impl Columns {
-    /// What the columns have in common, and room for 64 destinations side by side.
+    /// What the columns have in common, and room for so many destinations side by side.
     ///
     /// It takes time in proportion to the nodes and the links.
-    pub fn new(alloc: Global, g: &Graph, root: NodeNo, d: &Directed) -> Result<Columns, NoMemory>
-        requires { SaysOrdered g.now root d.now }
-        ensures held { (w : Directions) → Says g.now d.now w → IfOk result (AreHeld g.now root w) }
-        ensures width { IfOk result (λ columns. length columns.targets ≡ destinations) }
-    {
-        let columns = Columns::side_by_side(alloc, g, root, d, WIDTH)?;
-        Ok(columns)
-    }
-
-    /// The same, for so many destinations side by side.
-    pub(crate) fn side_by_side(
+    pub fn new(
         alloc: Global,
         g: &Graph,
         root: NodeNo,
@@ -79,8 +69,7 @@ impl Columns {
     ) -> Result<Columns, NoMemory>
         requires ordered { SaysOrdered g.now root d.now }
         requires some { 0 < width }
-        ensures held { (w : Directions) → Says g.now d.now w → IfOk result (AreHeld g.now root w) }
-        ensures width { IfOk result (λ columns. length columns.targets ≡ width) }
+        ensures { (w : Directions) → Says g.now d.now w → IfOk result (AreHeld g.now root w) }
     {
         let count = g.node_count();
         let common = common_of(alloc, g, d)?;
@@ -102,67 +91,31 @@ impl Columns {
         })
     }
 
-    /// The rows of all nodes for `to`.
+    /// Aims at `to`, and answers its place among the destinations that the tiles are aimed at.
     ///
-    /// It takes time in proportion to the nodes. Where the tiles are not aimed at `to`, they are aimed at it and its
-    /// neighbours by number, in time in proportion to the links times 64, or times the width; these begin with a multiple
-    /// of it. It takes memory for the column alone.
-    pub fn to(
-        &mut self,
-        alloc: Global,
-        g: &Graph,
-        root: NodeNo,
-        d: &Directed,
-        to: NodeNo,
-    ) -> Result<Column, NoMemory>
-        requires directed { SaysOrdered g.now root d.now }
-        requires to { to < length g.now.ids }
-        requires held { (w : Directions) → Says g.now d.now w → AreHeld g.now root w self.old }
-        ensures held { (w : Directions) → Says g.now d.now w → AreHeld g.now root w self.new }
-        ensures width { length self.new.targets ≡ length self.old.targets }
-        ensures rows { (w : Directions) → Says g.now d.now w
-            → IfOk result (λ column. IsColumnOf g.now root w to column) }
-        ensures sound { IfOk result (λ column. ColumnSound g.now.links (length g.now.ids) column to) }
-    {
-        let mut rows = vec![in alloc; None; g.node_count() as usize]?;
-        self.put(g, root, d, to, &mut rows);
-        Ok(Column::new(rows))
-    }
-
-    /// Puts the rows of all nodes for `to`, in place of what `rows` had. It takes the time of `to`, and no memory.
-    pub fn put(
-        &mut self,
-        g: &Graph,
-        root: NodeNo,
-        d: &Directed,
-        to: NodeNo,
-        rows: &mut [Option<Row>],
-    )
+    /// Where the tiles are not aimed at `to`, they are aimed at it and its neighbours by number, in time in proportion to
+    /// the links times the width; these begin with a multiple of it. It takes no memory.
+    pub fn aim(&mut self, g: &Graph, root: NodeNo, d: &Directed, to: NodeNo) -> Target
         requires kept { IsTopology g.now }
         requires directed { SaysOrdered g.now root d.now }
         requires to { to < length g.now.ids }
         requires held { (w : Directions) → Says g.now d.now w → AreHeld g.now root w self.old }
-        requires one_each { length rows.old ≡ length g.now.ids }
-        ensures held { (w : Directions) → Says g.now d.now w → AreHeld g.now root w self.new }
-        ensures width { length self.new.targets ≡ length self.old.targets }
-        ensures one_each { length rows.new ≡ length rows.old }
-        ensures rows { (w : Directions) → Says g.now d.now w → IsColumnOf g.now root w to rows.new }
+        ensures node { result.node ≡ to }
+        ensures aimed { AreAimed g.now root d.now self.new result }
     {
-        let at = self.aim(g, root, d, to);
+        let at = self.place_for(g, root, d, to);
         self.climb(g, root, d, to);
-        rows[to.get() as usize] = None;
-        self.put_rows(g, root, d, Target { node: to, at }, rows);
+        Target { node: to, at }
     }
 
     /// Aims the tiles at as many destinations as they have places for, `to` among them, unless they are aimed so, and
     /// answers its place.
-    fn aim(&mut self, g: &Graph, root: NodeNo, d: &Directed, to: NodeNo) -> usize
+    fn place_for(&mut self, g: &Graph, root: NodeNo, d: &Directed, to: NodeNo) -> usize
         requires kept { IsTopology g.now }
         requires directed { SaysOrdered g.now root d.now }
         requires to { to < length g.now.ids }
         requires held { (w : Directions) → Says g.now d.now w → AreHeld g.now root w self.old }
         ensures held { (w : Directions) → Says g.now d.now w → AreHeld g.now root w self.new }
-        ensures width { length self.new.targets ≡ length self.old.targets }
         ensures place { slice_get self.new.targets result ≡ Some to }
     {
         match place_of(&self.targets, to) {
@@ -194,8 +147,7 @@ impl Columns {
         requires from { from < length g.now.ids }
         requires one_each { length marks.now ≡ length g.now.ids }
         requires held { (w : Directions) → Says g.now d.now w → AreHeld g.now root w self.old }
-        ensures held { (w : Directions) → Says g.now d.now w → AreHeld g.now root w self.new }
-        ensures width { length self.new.targets ≡ length self.old.targets }
+        ensures { (w : Directions) → Says g.now d.now w → AreHeld g.now root w self.new }
     {
         if place_of(&self.targets, from).is_none() {
             take_marked(marks, g.node_count(), from, &mut self.targets);
@@ -255,38 +207,11 @@ impl Columns {
         put_below(g, root, d, to, &mut self.below);
     }
 
-    /// Puts the rows of all nodes for `to`, which is among the destinations that the tiles are aimed at.
-    fn put_rows(&self, g: &Graph, root: NodeNo, d: &Directed, to: Target, rows: &mut [Option<Row>])
-        requires kept { IsTopology g.now }
-        requires directed { SaysOrdered g.now root d.now }
-        requires to { to.node < length g.now.ids }
-        requires held { (w : Directions) → Says g.now d.now w → AreHeld g.now root w self.now }
-        requires below { (w : Directions) → Says g.now d.now w
-            → AreBelow g.now root w to.node self.now.below }
-        requires place { slice_get self.now.targets to.at ≡ Some to.node }
-        requires one_each { length rows.old ≡ length g.now.ids }
-        requires none { slice_get rows.old to.node ≡ Some None }
-        ensures { (w : Directions) → Says g.now d.now w → IsColumnOf g.now root w to.node rows.new }
-    {
-        for n in 0..g.node_count() {
-            let s = NodeNo::new(n);
-            if s != to.node {
-                rows[n as usize] = self.row(g, root, d, s, to);
-            }
-        }
-    }
-
     /// The row of `s` for `to`, by its row for what it aims at.
-    fn row(&self, g: &Graph, root: NodeNo, d: &Directed, s: NodeNo, to: Target) -> Option<Row>
-        requires kept { IsTopology g.now }
-        requires directed { SaysOrdered g.now root d.now }
+    pub fn row(&self, g: &Graph, root: NodeNo, d: &Directed, s: NodeNo, to: Target) -> Option<Row>
+        requires aimed { AreAimed g.now root d.now self.now to }
         requires source { s < length g.now.ids }
-        requires to { to.node < length g.now.ids }
         requires two { s ≢ to.node }
-        requires held { (w : Directions) → Says g.now d.now w → AreHeld g.now root w self.now }
-        requires below { (w : Directions) → Says g.now d.now w
-            → AreBelow g.now root w to.node self.now.below }
-        requires place { slice_get self.now.targets to.at ≡ Some to.node }
         ensures { (w : Directions) → Says g.now d.now w → IsRowIn g.now root w s to.node result }
     {
         let aim = self.aim_of(g, root, d, s, to.node);
@@ -411,25 +336,4 @@ fn take_marked(marks: &[bool], count: u16, from: NodeNo, targets: &mut [NodeNo])
             at += 1;
         }
     }
-}
-
-/// The rows of all nodes for `to`.
-///
-/// For those of several destinations make `Columns` once.
-pub fn column_of(
-    alloc: Global,
-    g: &Graph,
-    root: NodeNo,
-    d: &Directed,
-    to: NodeNo,
-) -> Result<Column, NoMemory>
-    requires directed { SaysOrdered g.now root d.now }
-    requires to { to < length g.now.ids }
-    ensures rows { (w : Directions) → Says g.now d.now w
-        → IfOk result (λ column. IsColumnOf g.now root w to column) }
-    ensures sound { IfOk result (λ column. ColumnSound g.now.links (length g.now.ids) column to) }
-{
-    let mut columns = Columns::side_by_side(alloc, g, root, d, 1)?;
-    let column = columns.to(alloc, g, root, d, to)?;
-    Ok(column)
 }

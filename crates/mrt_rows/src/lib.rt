@@ -6,6 +6,7 @@ mod block_aims;
 mod certificate;
 mod chain;
 mod column;
+mod column_view;
 mod common;
 mod directed;
 mod first_links;
@@ -24,7 +25,7 @@ mod source_rows;
 mod words;
 
 pub use certificate::compute;
-pub use column::{Columns, column_of};
+pub use column_view::ColumnView;
 pub use directed::directions;
 pub use of_source::rows_of;
 pub use rooted::RootedColumns;

@@ -1,30 +1,33 @@
 //! The columns of a graph from a root.
 
-ghost use Rattle.std.specs.Prelude.{◌≡◌, ◌<◌, IfOk, length};
+ghost use Rattle.std.specs.Prelude.{◌≡◌, ◌<◌, ℕ, IfOk, length};
 ghost use Rattle.mrt_graph.specs.declared.cert.CertFile.{CertFile};
 ghost use Rattle.mrt_graph.specs.Column.{ColumnSound};
 ghost use Rattle.mrt_graph.specs.GraphInvariant.{IsTopology};
 ghost use Rattle.mrt_rows.specs.CertOf.{IsCertOf};
 ghost use Rattle.mrt_rows.specs.ColumnOf.{HasRowsFor};
-ghost use Rattle.mrt_rows.specs.Rooted.{MakeColumns};
+ghost use Rattle.mrt_rows.specs.Rooted.{AreAimedAt, MakeColumns};
 ghost use Rattle.mrt_rows.specs.RowsTo.{AreRowsTo};
 
-use crate::column::{Columns, WIDTH};
+use crate::column::{Columns, Target, WIDTH};
+use crate::column_view::ColumnView;
 use crate::directed::directions;
-use crate::rows_law::{columns_are_of_one_certificate, one_certificate};
+use crate::rows_law::{columns_are_of_one_certificate, columns_are_sound, one_certificate};
 use crate::rows_to::RowsTo;
 use crate::words::{all_links, all_nodes};
 use link_direction::directions_are_ordered;
-use mrt_graph::{CertLink, CertNode, Column, Directed, Graph, NoMemory, NodeNo};
+use mrt_graph::{CertLink, CertNode, Directed, Graph, NoMemory, NodeNo};
 use std::alloc::Global;
 use std::marker::Model;
 
-/// What makes the columns of a graph: the root, the graph's directions from it, and what all columns have in common.
+/// What makes the columns of a graph: the root, the graph's directions from it, what all columns have in common, and the
+/// destination that this is aimed at.
 #[derive(Drop)]
 pub struct RootedColumns {
     root: NodeNo,
     directed: Directed,
     columns: Columns,
+    to: Target,
 }
 
 impl Model for RootedColumns {
@@ -32,7 +35,7 @@ impl Model for RootedColumns {
 
     ghost Value = { RootedParts };
 
-    ghost view = { λ rooted. rooted_parts rooted.root rooted.directed rooted.columns };
+    ghost view = { λ rooted. rooted_parts rooted.root rooted.directed rooted.columns rooted.to };
 }
 
 impl RootedColumns {
@@ -84,33 +87,48 @@ impl RootedColumns {
     {
         columns_are_of_one_certificate();
         let directed = directions(alloc, g, root)?;
-        let columns = Columns::side_by_side(alloc, g, root, &directed, width)?;
+        let columns = Columns::new(alloc, g, root, &directed, width)?;
+        // nothing is aimed at yet
+        let to = Target { node: root, at: 0 };
         Ok(RootedColumns {
             root,
             directed,
             columns,
+            to,
         })
     }
 
-    /// The column of `to`: the rows of all nodes for it, which are those of the graph's certificate from the root.
+    /// Aims at `to`, for its column.
     ///
-    /// It takes the time of `Columns::to`, least where nodes are asked for in their order, and memory for the column alone.
-    pub fn to(&mut self, alloc: Global, g: &Graph, to: NodeNo) -> Result<Column, NoMemory>
+    /// It takes time in proportion to the nodes on the way from `to` to the root, head by head. Where it was not done for `to`
+    /// or a neighbour of it by number the time before, it takes time in proportion to the links times 64, or times the
+    /// width; these begin with a multiple of it. It takes no memory.
+    pub fn aim(&mut self, g: &Graph, to: NodeNo)
         requires made { MakeColumns g.now self.old }
         requires to { to < length g.now.ids }
         ensures root { self.new.root ≡ self.old.root }
-        ensures made { MakeColumns g.now self.new }
-        ensures rows { (file : CertFile) → IsCertOf g.now self.old.root file
-            → IfOk result (HasRowsFor file.cert to) }
-        ensures sound { IfOk result (λ column. ColumnSound g.now.links (length g.now.ids) column to) }
+        ensures aimed { AreAimedAt g.now to self.new }
     {
         directions_are_ordered();
-        columns_are_of_one_certificate();
-        one_certificate();
         // what each graph keeps is told by reading it
         let _count = g.node_count();
-        let column = self.columns.to(alloc, g, self.root, &self.directed, to)?;
-        Ok(column)
+        let aimed = self.columns.aim(g, self.root, &self.directed, to);
+        self.to = aimed;
+    }
+
+    /// The column of the node that is aimed at: the rows of all nodes for it, which are those of the graph's certificate
+    /// from the root. Each is made when it is asked for.
+    pub fn column<'a>(&'a self, g: &'a Graph) -> ColumnView<'a>
+        requires { (to : ℕ) × AreAimedAt g.now to self.now }
+        ensures rows { (to : ℕ) (file : CertFile) → AreAimedAt g.now to self.now → IsCertOf g.now self.now.root file
+            → HasRowsFor file.cert to result }
+        ensures sound { (to : ℕ) → AreAimedAt g.now to self.now
+            → ColumnSound g.now.links (length g.now.ids) result to }
+    {
+        columns_are_of_one_certificate();
+        one_certificate();
+        columns_are_sound();
+        ColumnView::new(g, self.root, &self.directed, &self.columns, self.to)
     }
 
     /// Aims at a node and the next marked ones, as many as there are places for.
@@ -129,8 +147,8 @@ impl RootedColumns {
 
     /// The rows of all nodes for the marked ones: a column for each.
     ///
-    /// They are taken side by side, as many as there are places for, wherever they lie. It takes the time of `to` for each, and
-    /// memory for their columns.
+    /// They are taken side by side, as many as there are places for, wherever they lie. It takes the time of `aim`, and in
+    /// proportion to the nodes, for each, and memory for their columns.
     pub fn rows_to(&mut self, alloc: Global, g: &Graph, wanted: &[bool]) -> Result<RowsTo, NoMemory>
         requires made { MakeColumns g.now self.old }
         requires one_each { length wanted.now ≡ length g.now.ids }
@@ -146,7 +164,8 @@ impl RootedColumns {
             if wanted[n as usize] {
                 places.push_reserved(Some(columns.len() as u16));
                 self.aim_at_marked(g, wanted, NodeNo::new(n));
-                let column = self.to(alloc, g, NodeNo::new(n))?;
+                self.aim(g, NodeNo::new(n));
+                let column = self.column(g).held(alloc)?;
                 columns.push(column)?;
             } else {
                 places.push_reserved(None);

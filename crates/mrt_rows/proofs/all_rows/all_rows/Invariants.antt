@@ -8,7 +8,6 @@ use Rattle.mrt_rows.proofs.all_rows.all_rows.Given as goal
 abbrev pub invariant-loop-n : goal.invariant-loop-n
 invariant-loop-n l = record {
   room : length l.rows.items ≡ length l.g.ids * (length l.g.ids - 1);
-  one_each : length l.column.items ≡ length l.g.ids;
   held : (w : Directions) → Says l.g l.d w → AreHeld l.g l.root w l.columns;
   done : (w : Directions) → Says l.g l.d w → (s t : ℕ) → s < length l.g.ids → t < length l.g.ids → t < l.n → s ≢ t
       → IsRowIn l.g l.root w s t (row_among (length l.g.ids) l.rows.items s t);

@@ -19,22 +19,22 @@ loop-n-preserved c =
     let rows = c.loop-n.rows in
     let named : node ≡ n = c.new-s.ensures in
     let room = c.loop-n.invariant.room ∙ c.requires.room in
-    let at : slice_get column n ≡ Some c.row_at.result = subst (λ (v : ℕ). slice_get column v ≡ Some c.row_at.result) named c.row_at.ensures in
-    elim c.match-row_at.branch [
+    let at : slice_get column n ≡ Some c.row.result = subst (λ (v : ℕ). slice_get column v ≡ Some c.row.result) named c.row.ensures in
+    elim c.match-row.branch [
       | in-Some t ↦
           let row = t.in-Some.row in
           let within : node < count = omega (arith, named, c.loop-n-test.true) in
           let two : node ≢ to = λ same.
           let none : slice_get column node ≡ Some None = ap (λ (v : ℕ). slice_get column v) same ∙ c.requires.none in
-          let no = same_Some c.row_at.result None (sym c.row_at.ensures ∙ none) in
+          let no = same_Some c.row.result None (sym c.row.ensures ∙ none) in
           let yes = t.in-Some.is in (cc) in
           rw t.rows-is (record {
             room = ap (λ (xs : List Row). length xs) t.put.ensures ∙ length-set rows (place_of_row count node to) row ∙ c.loop-n.invariant.room;
             there = λ s other below s_within apart at_s. elim (cases_eq s n) [
               | inl same ↦
-                  let here : slice_get column s ≡ Some c.row_at.result = ap (λ (v : ℕ). slice_get column v) same ∙ at in
+                  let here : slice_get column s ≡ Some c.row.result = ap (λ (v : ℕ). slice_get column v) same ∙ at in
                   let row_is : row ≡ other =
-                  same_Some row other (sym t.in-Some.is ∙ same_Some c.row_at.result (Some other) (sym here ∙ at_s)) in
+                  same_Some row other (sym t.in-Some.is ∙ same_Some c.row.result (Some other) (sym here ∙ at_s)) in
                   ap (λ (xs : List Row). row_among count xs s to) t.put.ensures
                   ∙ subst (λ (v : ℕ). row_among count (set rows (place_of_row count node to) row) v to ≡ Some other) (named ∙ sym same)
                   (put_there count node to row rows within c.requires.to two room ∙ ap (λ (r : Row). Some r) row_is)
@@ -51,8 +51,8 @@ loop-n-preserved c =
         room = c.loop-n.invariant.room;
         there = λ s other below s_within apart at_s. elim (cases_eq s n) [
           | inl same ↦
-              let here : slice_get column s ≡ Some c.row_at.result = ap (λ (v : ℕ). slice_get column v) same ∙ at in
-              absurd (t.in_default.not-Some other (same_Some c.row_at.result (Some other) (sym here ∙ at_s)))
+              let here : slice_get column s ≡ Some c.row.result = ap (λ (v : ℕ). slice_get column v) same ∙ at in
+              absurd (t.in_default.not-Some other (same_Some c.row.result (Some other) (sym here ∙ at_s)))
           | inr differ ↦ c.loop-n.invariant.there s other (omega (arith, below, differ)) s_within apart at_s
         ];
         elsewhere = c.loop-n.invariant.elsewhere;

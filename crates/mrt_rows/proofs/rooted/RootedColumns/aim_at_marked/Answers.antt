@@ -18,4 +18,4 @@ returns-clause-root c = ap (λ (rooted : RootedParts). rooted.root) c.self.view_
 pub returns-clause-made : goal.returns-clause-made
 returns-clause-made c =
     let made = subst (λ (rooted : RootedParts). MakeColumns c.args.g.now rooted) (sym c.self.view_is) c.requires.made in
-    record { root_within = made.root_within; directed = made.directed; held = c.aim_at_marked.ensures.held }
+    record { root_within = made.root_within; directed = made.directed; held = c.aim_at_marked.ensures }

@@ -2,15 +2,15 @@ use Rattle.std.proofs.Common.{rules, ◌≡◌, ◌∙◌, ◌≤◌, ◌*◌, �
 use Rattle.std.specs.Prelude.{replicate}
 use Rattle.std.proofs.lemmas.Option.{same_Some}
 use Rattle.mrt_rows.proofs.Climbing.{graph_by}
-use Rattle.mrt_rows.proofs.column.Columns.side_by_side.Goals as goal
+use Rattle.mrt_rows.proofs.column.Columns.new.Goals as goal
 
 same_each : (n k j t : ℕ) → slice_get (replicate n k) j ≡ Some t → t ≡ k
 same_each zero k j t at = cc
 same_each (suc n) k zero t at = sym (same_Some k t at)
 same_each (suc n) k (suc j) t at = same_each n k j t at
 
-pub returns-clause-held : goal.returns-clause-held
-returns-clause-held c = λ w says.
+pub returns : goal.returns
+returns c = λ w says.
     let g = c.args.g.now in
     let count = c.node_count-count.result in
     let og = graph_by g c.args.root c.args.d.now w c.node_count-count.ensures.kept c.requires.ordered says in

@@ -1,0 +1,98 @@
+//! The rows of all nodes for one destination, made when they are asked for.
+
+ghost use Rattle.std.specs.Prelude.{◌≡◌, ◌<◌, IfOk, Some, length, slice_get};
+ghost use Rattle.mrt_rows.specs.Aimed.{AreAimed};
+ghost use Rattle.mrt_rows.specs.ColumnOf.{IsColumnBy};
+ghost use Rattle.mrt_rows.specs.TheColumn.{TheColumn, no_choice};
+
+use crate::column::{Columns, Target};
+use mrt_graph::{Column, Directed, Graph, NoMemory, NodeNo, Row, RowsOf};
+use std::alloc::Global;
+use std::marker::Model;
+
+/// The rows of all nodes for one destination, each of which is made when it is asked for: the graph, its root and its
+/// directions, and what its columns have in common, which is aimed at the destination.
+#[derive(Drop)]
+pub struct ColumnView<'a> {
+    graph: &'a Graph,
+    root: NodeNo,
+    directed: &'a Directed,
+    columns: &'a Columns,
+    to: Target,
+    ghost column: { TheColumn graph.now root directed.now to.node } by { no_choice graph.now root directed.now to.node },
+}
+
+impl<'a> Model for ColumnView<'a> {
+    ghost use Rattle.std.specs.Prelude.{List, Option};
+    ghost use Rattle.mrt_graph.specs.declared.cert.Row.{Row};
+    ghost use Rattle.mrt_rows.specs.Aimed.{AreAimed};
+
+    ghost Value = { List (Option Row) };
+
+    ghost view = { λ v. v.column.0 };
+
+    ghost invariant = { λ v. AreAimed v.graph.now v.root v.directed.now v.columns.now v.to };
+}
+
+impl<'a> ColumnView<'a> {
+    /// The column of the destination that is aimed at.
+    pub(crate) fn new(
+        graph: &'a Graph,
+        root: NodeNo,
+        directed: &'a Directed,
+        columns: &'a Columns,
+        to: Target,
+    ) -> ColumnView<'a>
+        requires { AreAimed graph.now root directed.now columns.now to }
+        ensures { IsColumnBy graph.now root directed.now to.node result }
+    {
+        ColumnView {
+            graph,
+            root,
+            directed,
+            columns,
+            to,
+        }
+    }
+
+    /// The row of `s`; none where `s` is the destination.
+    ///
+    /// It takes the same time for each node.
+    pub fn row(&self, s: NodeNo) -> Option<Row>
+        requires { s < length self.now }
+        ensures { slice_get self.now s ≡ Some result }
+    {
+        if s == self.to.node {
+            return None;
+        }
+        self.columns
+            .row(self.graph, self.root, self.directed, s, self.to)
+    }
+
+    /// The column with its rows made.
+    ///
+    /// It takes time and memory in proportion to the nodes.
+    pub fn held(&self, alloc: Global) -> Result<Column, NoMemory>
+        ensures { IfOk result (λ column. column ≡ self.now) }
+    {
+        let count = self.graph.node_count();
+        let mut rows = Vec::with_capacity(alloc, count as usize)?;
+        for n in 0..count {
+            rows.push_reserved(self.row(NodeNo::new(n)));
+        }
+        Ok(Column::new(rows))
+    }
+}
+
+impl<'a> RowsOf for ColumnView<'a> {
+    ghost use Rattle.mrt_graph.specs.Column.{rows_of_column};
+
+    ghost rows = { λ column. rows_of_column column };
+
+    fn row_for(&self, s: NodeNo, _: NodeNo) -> Row {
+        match self.row(s) {
+            Some(row) => row,
+            None => unreachable!(),
+        }
+    }
+}
