@@ -4,10 +4,11 @@ use Rattle.std.specs.List.{AllZip, concat}
 use Rattle.area_graph.specs.AreaInvariant.{IsArea}
 use Rattle.area_graph.specs.Fits.{Fits}
 use Rattle.area_graph.specs.Parts.{AreaParts}
-use Rattle.mrt_graph.specs.declared.cert.Row.{Row}
 use Rattle.mrt_graph.specs.Certificate.{row_of}
-use Rattle.mrt_graph.specs.Column.{ColumnSound, rows_of_column}
+use Rattle.mrt_graph.specs.Column.{rows_of_column}
 use Rattle.mrt_graph.specs.GraphInvariant.{IsTopology}
+use Rattle.mrt_graph.specs.Rows.{Rows}
+use Rattle.mrt_graph.specs.Sound.{SoundFor}
 use Rattle.mrt_graph.specs.Topology.{Topology}
 use Rattle.mrt_graph.proofs.LeadsOn.{sound-hop}
 use Rattle.mrt_report.specs.ByColumn.{IsLineByColumn}
@@ -16,19 +17,19 @@ use Rattle.mrt_report.specs.TableParts.{TableParts}
 use Rattle.mrt_report.specs.TableText.{IsHead, IsTableLine, IsTableText, others}
 use Rattle.mrt_report.proofs.AgreeingRows.{line_too}
 
--- a sound column leads on
-pub parts_by_sound : (area : AreaParts) (island : Topology) (link_of : List (Option ℕ)) (column : List (Option Row)) (source to : ℕ)
+-- sound rows lead on
+pub parts_by_sound : (area : AreaParts) (island : Topology) (link_of : List (Option ℕ)) (rows : Rows) (source to : ℕ)
     → IsArea area → IsTopology island → Fits area island link_of → source < length island.ids → to < length island.ids → source ≢ to
-    → ColumnSound island.links (length island.ids) column to
-    → AreLineParts (line_parts area island link_of (rows_of_column column) source) to
-parts_by_sound area island link_of column source to area_kept island_kept fits within target other sound = record {
+    → ((s : ℕ) → s < length island.ids → s ≢ to → SoundFor island.links (length island.ids) rows s to)
+    → AreLineParts (line_parts area island link_of rows source) to
+parts_by_sound area island link_of rows source to area_kept island_kept fits within target other sound = record {
   area_kept = area_kept;
   island_kept = island_kept;
   fits = fits;
   within = within;
   target = target;
   different = other;
-  leads_on = λ color s inside apart. sound-hop island.links (length island.ids) (rows_of_column column) color s to apart (sound.sound s inside apart);
+  leads_on = λ color s inside apart. sound-hop island.links (length island.ids) rows color s to apart (sound s inside apart);
 }
 
 -- a line by a column with the certificate's rows is a line of the table

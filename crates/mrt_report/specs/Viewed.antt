@@ -1,14 +1,14 @@
 -- The parts that the code hands on.
-use Rattle.mrt_graph.specs.Column.{rows_of_column}
+use Rattle.mrt_graph.specs.Rows.{Rows}
 use Rattle.mrt_report.specs.LineParts.{LineParts}
 use Rattle.mrt_report.specs.declared.parts.Parts.{Parts}
 
--- what they refer to
-abbrev pub viewed : Parts → LineParts
-viewed parts = record {
+-- what they refer to, where the rows of such a source are these
+abbrev pub viewed : {R : Type 0} → (R → Rows) → Parts R → LineParts
+viewed rows parts = record {
   area = parts.area.now;
   island = parts.island.now;
   link_of = parts.link_of.now;
-  rows = rows_of_column parts.column.now;
+  rows = rows parts.rows.now;
   source = parts.source;
 }

@@ -7,7 +7,7 @@ ghost use Rattle.mrt_report.specs.Viewed.{viewed};
 
 use crate::parts::Parts;
 use area_graph::{ArcNo, BondNo};
-use mrt_graph::{Element, Graph, LinkNo, NodeId};
+use mrt_graph::{Element, Graph, LinkNo, NodeId, RowsOf};
 
 /// The link that an arc's bond is, and the node that the arc leads to; None for what is outside the island.
 #[derive(Clone, Copy)]
@@ -17,11 +17,11 @@ pub struct ArcElements {
 }
 
 /// The elements of an arc.
-pub fn elements_of(parts: &Parts, number: ArcNo) -> ArcElements
+pub fn elements_of<R: RowsOf>(parts: &Parts<'_, R>, number: ArcNo) -> ArcElements
     requires kept { IsArea parts.now.area.now }
     requires fits { Fits parts.now.area.now parts.now.island.now parts.now.link_of.now }
     requires within { number < length parts.now.area.now.arcs }
-    ensures { AreArcElements (viewed parts.now) number result.link result.node }
+    ensures { AreArcElements (viewed R.rows parts.now) number result.link result.node }
 {
     let arc = parts.area.arc(number);
     ArcElements {
@@ -31,12 +31,12 @@ pub fn elements_of(parts: &Parts, number: ArcNo) -> ArcElements
 }
 
 /// The elements of an arc that may not be there.
-pub fn elements_of_second(parts: &Parts, second: Option<ArcNo>) -> ArcElements
+pub fn elements_of_second<R: RowsOf>(parts: &Parts<'_, R>, second: Option<ArcNo>) -> ArcElements
     requires kept { IsArea parts.now.area.now }
     requires fits { Fits parts.now.area.now parts.now.island.now parts.now.link_of.now }
     requires within { IfSome second (λ number. number < length parts.now.area.now.arcs) }
     ensures { IfSome second (λ number.
-        AreArcElements (viewed parts.now) number result.link result.node) }
+        AreArcElements (viewed R.rows parts.now) number result.link result.node) }
 {
     match second {
         Some(number) => elements_of(parts, number),

@@ -10,22 +10,22 @@ use crate::elements::{ArcElements, elements_of, elements_of_second};
 use crate::parts::Parts;
 use crate::uses::{ArcUses, uses_of};
 use crate::words::letter;
-use mrt_graph::{Color, Element, NoMemory, NodeNo};
+use mrt_graph::{Color, Element, NoMemory, NodeNo, RowsOf};
 use primary_alt::{Primary, is_between};
 use text_parts::push;
 
 /// Puts the letters of a primary for `to` at the end of a text.
-pub fn push_letters(
+pub fn push_letters<R: RowsOf>(
     text: &mut Vec<u8>,
-    parts: &Parts,
+    parts: &Parts<'_, R>,
     to: NodeNo,
     primary: Primary,
 ) -> Result<(), NoMemory>
-    requires kept { AreLineParts (viewed parts.now) to }
+    requires kept { AreLineParts (viewed R.rows parts.now) to }
     requires first { primary.first < length parts.now.area.now.arcs }
     requires second { IfSome primary.second (λ second. second < length parts.now.area.now.arcs) }
     ensures { IfOk result (λ _.
-        Adds (AreLetters (viewed parts.now) to primary) text.old.items text.new.items) }
+        Adds (AreLetters (viewed R.rows parts.now) to primary) text.old.items text.new.items) }
 {
     let first = elements_of(parts, primary.first);
     let second = elements_of_second(parts, primary.second);
@@ -39,19 +39,19 @@ pub fn push_letters(
 }
 
 /// Puts the two letters of an arc at the end of a text.
-fn push_arc_letters(
+fn push_arc_letters<R: RowsOf>(
     text: &mut Vec<u8>,
-    parts: &Parts,
+    parts: &Parts<'_, R>,
     to: NodeNo,
     elements: &ArcElements,
     blue: &ArcUses,
     red: &ArcUses,
 ) -> Result<(), NoMemory>
-    requires blue { TellUses (viewed parts.now) to Blue elements.now blue.now }
-    requires red { TellUses (viewed parts.now) to Red elements.now red.now }
+    requires blue { TellUses (viewed R.rows parts.now) to Blue elements.now blue.now }
+    requires red { TellUses (viewed R.rows parts.now) to Red elements.now red.now }
     ensures { IfOk result (λ _. (number : ℕ)
-        → AreArcElements (viewed parts.now) number elements.now.link elements.now.node
-        → Adds (AreArcLetters (viewed parts.now) to number) text.old.items text.new.items) }
+        → AreArcElements (viewed R.rows parts.now) number elements.now.link elements.now.node
+        → Adds (AreArcLetters (viewed R.rows parts.now) to number) text.old.items text.new.items) }
 {
     let link = repair(parts, to, &elements.link, blue.link, red.link);
     let node = repair(parts, to, &elements.node, blue.node, red.node);
@@ -61,16 +61,16 @@ fn push_arc_letters(
 }
 
 /// The alternate for `to` where an element has failed, which the walks of these colors use or not.
-fn repair(
-    parts: &Parts,
+fn repair<R: RowsOf>(
+    parts: &Parts<'_, R>,
     to: NodeNo,
     failed: &Option<Element>,
     blue: bool,
     red: bool,
 ) -> Option<Color>
-    requires blue { TellsUse (viewed parts.now) to Blue failed.now blue }
-    requires red { TellsUse (viewed parts.now) to Red failed.now red }
-    ensures { IsRepair (viewed parts.now) to failed.now result }
+    requires blue { TellsUse (viewed R.rows parts.now) to Blue failed.now blue }
+    requires red { TellsUse (viewed R.rows parts.now) to Red failed.now red }
+    ensures { IsRepair (viewed R.rows parts.now) to failed.now result }
 {
     match failed {
         None => Some(Color::Blue),
@@ -79,10 +79,10 @@ fn repair(
 }
 
 /// The color whose walk to `to` does not use an element.
-fn color_round(parts: &Parts, to: NodeNo, x: &Element, blue: bool, red: bool) -> Option<Color>
-    requires blue { TellsUse (viewed parts.now) to Blue (Some x.now) blue }
-    requires red { TellsUse (viewed parts.now) to Red (Some x.now) red }
-    ensures { IsRepair (viewed parts.now) to (Some x.now) result }
+fn color_round<R: RowsOf>(parts: &Parts<'_, R>, to: NodeNo, x: &Element, blue: bool, red: bool) -> Option<Color>
+    requires blue { TellsUse (viewed R.rows parts.now) to Blue (Some x.now) blue }
+    requires red { TellsUse (viewed R.rows parts.now) to Red (Some x.now) red }
+    ensures { IsRepair (viewed R.rows parts.now) to (Some x.now) result }
 {
     if !is_between(x, parts.source, to) {
         return None;

@@ -17,17 +17,17 @@ use primary_alt::Primary;
 use text_parts::{push, push_hop, push_node};
 
 /// Puts the line on a destination at the end of a text.
-pub fn push_line(
+pub fn push_line<R: RowsOf>(
     text: &mut Vec<u8>,
-    parts: &Parts,
+    parts: &Parts<'_, R>,
     to: NodeNo,
     primary: Primary,
 ) -> Result<(), NoMemory>
-    requires kept { AreLineParts (viewed parts.now) to }
+    requires kept { AreLineParts (viewed R.rows parts.now) to }
     requires first { primary.first < length parts.now.area.now.arcs }
     requires second { IfSome primary.second (λ second. second < length parts.now.area.now.arcs) }
     ensures { IfOk result (λ _.
-        Adds (IsLine (viewed parts.now) to primary) text.old.items text.new.items) }
+        Adds (IsLine (viewed R.rows parts.now) to primary) text.old.items text.new.items) }
 {
     push_node(text, parts.island.id(to))?;
     push(text, b" ")?;
@@ -39,12 +39,12 @@ pub fn push_line(
 }
 
 /// Puts the hops of both colors at the end of a text.
-fn push_colors(text: &mut Vec<u8>, parts: &Parts, to: NodeNo) -> Result<(), NoMemory>
-    requires kept { AreLineParts (viewed parts.now) to }
+fn push_colors<R: RowsOf>(text: &mut Vec<u8>, parts: &Parts<'_, R>, to: NodeNo) -> Result<(), NoMemory>
+    requires kept { AreLineParts (viewed R.rows parts.now) to }
     ensures { IfOk result (λ _.
-        Adds (AreColorWords (viewed parts.now) to) text.old.items text.new.items) }
+        Adds (AreColorWords (viewed R.rows parts.now) to) text.old.items text.new.items) }
 {
-    let row = parts.column.row_for(parts.source, to);
+    let row = parts.rows.row_for(parts.source, to);
     push(text, tag_word(row.tag))?;
     push(text, b" blue ")?;
     push_link_hop(text, parts, row.blue)?;
@@ -54,12 +54,12 @@ fn push_colors(text: &mut Vec<u8>, parts: &Parts, to: NodeNo) -> Result<(), NoMe
 }
 
 /// Puts the hop over a link of the island at the end of a text.
-fn push_link_hop(text: &mut Vec<u8>, parts: &Parts, link: LinkNo) -> Result<(), NoMemory>
+fn push_link_hop<R: RowsOf>(text: &mut Vec<u8>, parts: &Parts<'_, R>, link: LinkNo) -> Result<(), NoMemory>
     requires kept { IsTopology parts.now.island.now }
     requires within { parts.now.source < length parts.now.island.now.ids }
     requires touches { IsSome (leads parts.now.island.now.links link parts.now.source) }
     ensures { IfOk result (λ _.
-        Adds (IsLinkHop (viewed parts.now) link) text.old.items text.new.items) }
+        Adds (IsLinkHop (viewed R.rows parts.now) link) text.old.items text.new.items) }
 {
     let end = end_on(parts.island, parts.source, link);
     push_hop(text, parts.island.id(end.to), end.link_data)?;
@@ -86,17 +86,17 @@ fn first_on(ends: &[End], link: LinkNo) -> Option<End>
 }
 
 /// Puts the primary's hop, and what repairs the failure of each of its elements, at the end of a text.
-fn push_primary(
+fn push_primary<R: RowsOf>(
     text: &mut Vec<u8>,
-    parts: &Parts,
+    parts: &Parts<'_, R>,
     to: NodeNo,
     primary: Primary,
 ) -> Result<(), NoMemory>
-    requires kept { AreLineParts (viewed parts.now) to }
+    requires kept { AreLineParts (viewed R.rows parts.now) to }
     requires first { primary.first < length parts.now.area.now.arcs }
     requires second { IfSome primary.second (λ second. second < length parts.now.area.now.arcs) }
     ensures { IfOk result (λ _.
-        Adds (ArePrimaryWords (viewed parts.now) to primary) text.old.items text.new.items) }
+        Adds (ArePrimaryWords (viewed R.rows parts.now) to primary) text.old.items text.new.items) }
 {
     push_arc_hop(text, parts, primary.first)?;
     push(text, b" repair ")?;
@@ -105,11 +105,11 @@ fn push_primary(
 }
 
 /// Puts the hop over an arc at the end of a text.
-fn push_arc_hop(text: &mut Vec<u8>, parts: &Parts, number: ArcNo) -> Result<(), NoMemory>
+fn push_arc_hop<R: RowsOf>(text: &mut Vec<u8>, parts: &Parts<'_, R>, number: ArcNo) -> Result<(), NoMemory>
     requires kept { IsArea parts.now.area.now }
     requires within { number < length parts.now.area.now.arcs }
     ensures { IfOk result (λ _.
-        Adds (IsArcHop (viewed parts.now) number) text.old.items text.new.items) }
+        Adds (IsArcHop (viewed R.rows parts.now) number) text.old.items text.new.items) }
 {
     let arc = parts.area.arc(number);
     push_hop(text, parts.area.id(arc.to), arc.link_data)?;

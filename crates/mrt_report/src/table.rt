@@ -1,15 +1,15 @@
 //! The lines of a router's table, one destination at a time.
 
-ghost use Rattle.std.specs.Prelude.{◌≢◌, ◌<◌, IfOk, length};
+ghost use Rattle.std.specs.Prelude.{◌≢◌, ◌<◌, ℕ, IfOk, length};
 ghost use Rattle.area_graph.specs.Fits.{Fits};
-ghost use Rattle.mrt_graph.specs.{Column.ColumnSound, Column.rows_of_column, GraphInvariant.IsNetwork};
+ghost use Rattle.mrt_graph.specs.{GraphInvariant.IsNetwork, Sound.SoundFor};
 ghost use Rattle.text_parts.specs.Adds.{Adds};
 ghost use Rattle.mrt_report.specs.{LineParts.IsPrimaryOf, LineParts.line_parts, Lines.IsLine, TableText.IsHead};
 
 use crate::line::push_line;
 use crate::parts::Parts;
 use area_graph::Area;
-use mrt_graph::{Column, Graph, LinkNo, NoMemory, NodeNo};
+use mrt_graph::{Graph, LinkNo, NoMemory, NodeNo, RowsOf};
 use primary_alt::Primary;
 use std::alloc::Global;
 use text_parts::{push, push_count, push_node};
@@ -40,7 +40,8 @@ pub fn table_head(
 }
 
 /// What a router installs for one other node of its island: the two colors' next hops, the primary, and which color
-/// repairs it after which failure. It is made by the rows of all nodes for this one.
+/// repairs it after which failure. It is made by the rows of all nodes for this one, wherever they stand; each row that a
+/// color's walk comes to is read.
 ///
 /// It follows each color's walk once, so it takes time in proportion to the nodes and the router's interfaces at worst,
 /// and no memory beside the line.
@@ -48,29 +49,30 @@ pub fn table_head(
 /// # Errors
 ///
 /// [`NoMemory`] where there was none for the line.
-pub fn table_line(
+pub fn table_line<R: RowsOf>(
     alloc: Global,
     area: &Area,
     island: &Graph,
     link_of: &[Option<LinkNo>],
-    c: &Column,
+    rows: &R,
     source: NodeNo,
     to: NodeNo,
     prim: Primary,
 ) -> Result<Vec<u8>, NoMemory>
     requires fits { Fits area.now island.now link_of.now }
-    requires sound { ColumnSound island.now.links (length island.now.ids) c.now to }
+    requires sound { (s : ℕ) → s < length island.now.ids → s ≢ to
+        → SoundFor island.now.links (length island.now.ids) (R.rows rows.now) s to }
     requires source { source < length island.now.ids }
     requires router { ¬ IsNetwork island.now.ids source }
     requires target { to < length island.now.ids }
     requires different { source ≢ to }
     requires primary { IsPrimaryOf area.now island.now source to prim }
     ensures { IfOk result (λ text.
-        IsLine (line_parts area.now island.now link_of.now (rows_of_column c.now) source)
+        IsLine (line_parts area.now island.now link_of.now (R.rows rows.now) source)
         to prim text.items) }
 {
     let mut text = Vec::with_capacity(alloc, LONGEST_LINE)?;
-    push_table_line(&mut text, area, island, link_of, c, source, to, prim)?;
+    push_table_line(&mut text, area, island, link_of, rows, source, to, prim)?;
     Ok(text)
 }
 
@@ -79,18 +81,19 @@ pub fn table_line(
 /// # Errors
 ///
 /// [`NoMemory`] where there was none for the longer text. The text may have a part of the line then.
-pub fn push_table_line(
+pub fn push_table_line<R: RowsOf>(
     text: &mut Vec<u8>,
     area: &Area,
     island: &Graph,
     link_of: &[Option<LinkNo>],
-    c: &Column,
+    rows: &R,
     source: NodeNo,
     to: NodeNo,
     prim: Primary,
 ) -> Result<(), NoMemory>
     requires fits { Fits area.now island.now link_of.now }
-    requires sound { ColumnSound island.now.links (length island.now.ids) c.now to }
+    requires sound { (s : ℕ) → s < length island.now.ids → s ≢ to
+        → SoundFor island.now.links (length island.now.ids) (R.rows rows.now) s to }
     requires source { source < length island.now.ids }
     requires router { ¬ IsNetwork island.now.ids source }
     requires target { to < length island.now.ids }
@@ -98,7 +101,7 @@ pub fn push_table_line(
     requires primary { IsPrimaryOf area.now island.now source to prim }
     ensures { IfOk result (λ _.
         Adds
-        (IsLine (line_parts area.now island.now link_of.now (rows_of_column c.now) source) to prim)
+        (IsLine (line_parts area.now island.now link_of.now (R.rows rows.now) source) to prim)
         text.old.items text.new.items) }
 {
     // what each area and each graph keeps is told by reading it
@@ -108,7 +111,7 @@ pub fn push_table_line(
         area,
         island,
         link_of,
-        column: c,
+        rows,
         source,
     };
     push_line(text, &parts, to, prim)

@@ -5,7 +5,7 @@ ghost use Rattle.mrt_report.specs.{LineParts.AreLineParts, Uses.IsOverOne, Uses.
 
 use crate::elements::ArcElements;
 use crate::parts::Parts;
-use mrt_graph::{Color, Element, NodeNo};
+use mrt_graph::{Color, Element, NodeNo, RowsOf};
 use primary_alt::{ColorHop, is_over, next_hop};
 
 /// Of the elements of an arc, each by itself: whether a color walk uses it.
@@ -25,16 +25,16 @@ pub struct BothUses {
 /// Which elements of two arcs the color walk from the router to `to` uses.
 ///
 /// It follows the walk once, whatever the number of elements, and takes no memory.
-pub fn uses_of(
-    parts: &Parts,
+pub fn uses_of<R: RowsOf>(
+    parts: &Parts<'_, R>,
     to: NodeNo,
     color: Color,
     first: &ArcElements,
     second: &ArcElements,
 ) -> BothUses
-    requires kept { AreLineParts (viewed parts.now) to }
-    ensures first { TellUses (viewed parts.now) to color first.now result.first }
-    ensures second { TellUses (viewed parts.now) to color second.now result.second }
+    requires kept { AreLineParts (viewed R.rows parts.now) to }
+    ensures first { TellUses (viewed R.rows parts.now) to color first.now result.first }
+    ensures second { TellUses (viewed R.rows parts.now) to color second.now result.second }
 {
     let none = ArcUses {
         link: false,
@@ -47,7 +47,7 @@ pub fn uses_of(
     let mut at = parts.source;
     let mut left = parts.island.node_count();
     while left > 0 && at != to {
-        let hop = next_hop(parts.island, parts.column, at, to, color);
+        let hop = next_hop(parts.island, parts.rows, at, to, color);
         uses = BothUses {
             first: uses_after(&uses.first, first, &hop),
             second: uses_after(&uses.second, second, &hop),

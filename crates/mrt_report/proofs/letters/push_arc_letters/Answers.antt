@@ -3,7 +3,7 @@ use Rattle.text_parts.proofs.Adding.{joined}
 use Rattle.mrt_report.proofs.letters.push_arc_letters.Goals as goal
 
 pub returns : goal.returns
-returns c = λ number are. record {
+returns g c = λ number are. record {
   part = _;
   is = record {
     link = c.args.elements.now.link;

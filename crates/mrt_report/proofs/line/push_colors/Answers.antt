@@ -1,31 +1,30 @@
 use Rattle.std.proofs.Common.{◌++◌, ◌∙◌, ℕ, List, refl, ap}
 use Rattle.mrt_graph.specs.declared.cert.Color.TheVariants.{Blue, Red}
-use Rattle.mrt_graph.specs.Column.{rows_of_column}
 use Rattle.text_parts.proofs.Adding.{joined}
 use Rattle.mrt_report.proofs.ForLine.{row_there, row_touches}
 use Rattle.mrt_report.proofs.line.push_colors.Goals as goal
 
 pub row_for-row-requires : goal.row_for-row-requires
-row_for-row-requires c =
-    (row_there c.args.parts.now.island.now.links (rows_of_column c.args.parts.now.column.now) Blue c.args.parts.now.source c.args.to
+row_for-row-requires g c =
+    (row_there c.args.parts.now.island.now.links (g.R.RowsOf.rows c.args.parts.now.rows.now) Blue c.args.parts.now.source c.args.to
     (c.requires.kept.leads_on Blue c.args.parts.now.source c.requires.kept.within c.requires.kept.different))
 
 pub push_link_hop-requires-clause-touches : goal.push_link_hop-requires-clause-touches
-push_link_hop-requires-clause-touches c =
+push_link_hop-requires-clause-touches g c =
     let on = c.requires.kept.leads_on Blue c.args.parts.now.source c.requires.kept.within c.requires.kept.different in
-    let some = row_there c.args.parts.now.island.now.links (rows_of_column c.args.parts.now.column.now) Blue c.args.parts.now.source c.args.to on in
-    row_touches c.args.parts.now.island.now.links (rows_of_column c.args.parts.now.column.now) Blue c.args.parts.now.source c.args.to c.row_for-row.result
+    let some = row_there c.args.parts.now.island.now.links (g.R.RowsOf.rows c.args.parts.now.rows.now) Blue c.args.parts.now.source c.args.to on in
+    row_touches c.args.parts.now.island.now.links (g.R.RowsOf.rows c.args.parts.now.rows.now) Blue c.args.parts.now.source c.args.to c.row_for-row.result
     c.row_for-row.ensures on
 
 pub push_link_hop-requires-2-clause-touches : goal.push_link_hop-requires-2-clause-touches
-push_link_hop-requires-2-clause-touches c =
+push_link_hop-requires-2-clause-touches g c =
     let on = c.requires.kept.leads_on Red c.args.parts.now.source c.requires.kept.within c.requires.kept.different in
-    let some = row_there c.args.parts.now.island.now.links (rows_of_column c.args.parts.now.column.now) Red c.args.parts.now.source c.args.to on in
-    row_touches c.args.parts.now.island.now.links (rows_of_column c.args.parts.now.column.now) Red c.args.parts.now.source c.args.to c.row_for-row.result
+    let some = row_there c.args.parts.now.island.now.links (g.R.RowsOf.rows c.args.parts.now.rows.now) Red c.args.parts.now.source c.args.to on in
+    row_touches c.args.parts.now.island.now.links (g.R.RowsOf.rows c.args.parts.now.rows.now) Red c.args.parts.now.source c.args.to c.row_for-row.result
     c.row_for-row.ensures on
 
 pub returns : goal.returns
-returns c =
+returns g c =
     let blue = c.in_ok-push_link_hop.ensures in
     let red = c.in_ok-push_link_hop-2.ensures in
     record {

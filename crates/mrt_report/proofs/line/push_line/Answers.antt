@@ -3,7 +3,7 @@ use Rattle.text_parts.proofs.Adding.{joined}
 use Rattle.mrt_report.proofs.line.push_line.Goals as goal
 
 pub returns : goal.returns
-returns c =
+returns g c =
     let colors = c.in_ok-push_colors.ensures in
     let primary = c.in_ok-push_primary.ensures in
     record {

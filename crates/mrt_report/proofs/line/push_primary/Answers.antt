@@ -3,7 +3,7 @@ use Rattle.text_parts.proofs.Adding.{joined}
 use Rattle.mrt_report.proofs.line.push_primary.Goals as goal
 
 pub returns : goal.returns
-returns c =
+returns g c =
     let hop = c.in_ok-push_arc_hop.ensures in
     let letters = c.in_ok-push_letters.ensures in
     record {
