@@ -1,11 +1,15 @@
 //! The rows of all nodes for one destination, made when they are asked for.
 
 ghost use Rattle.std.specs.Prelude.{◌≡◌, ◌<◌, IfOk, Some, length, slice_get};
+ghost use Rattle.mrt_graph.specs.Column.{ColumnSound};
+ghost use Rattle.link_direction.specs.Directions.{Directions, Says};
+ghost use Rattle.link_direction.specs.OrderedGadag.{SaysOrdered};
 ghost use Rattle.mrt_rows.specs.Aimed.{AreAimed};
-ghost use Rattle.mrt_rows.specs.ColumnOf.{IsColumnBy};
+ghost use Rattle.mrt_rows.specs.ColumnOf.{IsColumnBy, IsColumnOf};
 ghost use Rattle.mrt_rows.specs.TheColumn.{TheColumn, no_choice};
 
 use crate::column::{Columns, Target};
+use crate::rows_law::columns_are_sound;
 use mrt_graph::{Column, Directed, Graph, NoMemory, NodeNo, Row, RowsOf};
 use std::alloc::Global;
 use std::marker::Model;
@@ -95,4 +99,29 @@ impl<'a> RowsOf for ColumnView<'a> {
             None => unreachable!(),
         }
     }
+}
+
+/// The rows of all nodes for `to`.
+///
+/// For those of several destinations make [`RootedColumns`](crate::RootedColumns) once.
+pub fn column_of(
+    alloc: Global,
+    g: &Graph,
+    root: NodeNo,
+    d: &Directed,
+    to: NodeNo,
+) -> Result<Column, NoMemory>
+    requires directed { SaysOrdered g.now root d.now }
+    requires to { to < length g.now.ids }
+    ensures rows { (w : Directions) → Says g.now d.now w
+        → IfOk result (λ column. IsColumnOf g.now root w to column) }
+    ensures sound { IfOk result (λ column. ColumnSound g.now.links (length g.now.ids) column to) }
+{
+    columns_are_sound();
+    // what each graph keeps is told by reading it
+    let _count = g.node_count();
+    let mut columns = Columns::new(alloc, g, root, d, 1)?;
+    let aimed = columns.aim(g, root, d, to);
+    let column = ColumnView::new(g, root, d, &columns, aimed).held(alloc)?;
+    Ok(column)
 }

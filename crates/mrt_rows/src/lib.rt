@@ -25,7 +25,7 @@ mod source_rows;
 mod words;
 
 pub use certificate::compute;
-pub use column_view::ColumnView;
+pub use column_view::{ColumnView, column_of};
 pub use directed::directions;
 pub use of_source::rows_of;
 pub use rooted::RootedColumns;
