@@ -1,17 +1,15 @@
 -- What is held between columns, as its parts change.
-use Rattle.std.proofs.Common.{◌≡◌, ◌∙◌, ◌*◌, ℕ, List, Option, [], length, sym, ap, subst, arith}
+use Rattle.std.proofs.Common.{◌≡◌, ◌∙◌, ◌*◌, ℕ, Option, [], length, sym, ap, arith}
+use Rattle.std.specs.declared.alloc.Global.{Global}
+use Rattle.std.specs.declared.vec.Vec.{Vec}
 use Rattle.mrt_graph.specs.Topology.{Topology}
 use Rattle.link_direction.specs.Directions.{Directions}
-use Rattle.mrt_rows.specs.ColumnParts.{ColumnParts, column_parts}
+use Rattle.mrt_rows.specs.declared.column.Columns.{Columns}
 use Rattle.mrt_rows.specs.Held.{AreHeld, AreHeldFor}
 
--- as it is seen, so it is inside
-pub held_inside : (g : Topology) (root : ℕ) (w : Directions) (inside seen : ColumnParts) → inside ≡ seen → AreHeld g root w seen → AreHeld g root w inside
-held_inside g root w inside seen same held = subst (λ (e : ColumnParts). AreHeld g root w e) (sym same) held
-
 -- with other destinations, which are not aimed at
-pub retargeted : (g : Topology) (root : ℕ) (w : Directions) (held : ColumnParts) (targets : List ℕ) → length targets ≡ length held.targets
-    → AreHeld g root w held → AreHeldFor g root w (column_parts held.common held.below targets held.aims held.wanted held.up held.down) []
+pub retargeted : (g : Topology) (root : ℕ) (w : Directions) (held : Columns) (targets : Vec ℕ Global) → length targets.items ≡ length held.targets.items
+    → AreHeld g root w held → AreHeldFor g root w (record held { targets = targets }) []
 retargeted g root w held targets many are = record {
   common = are.common;
   one_below_each = are.one_below_each;
@@ -24,8 +22,8 @@ retargeted g root w held targets many are = record {
 }
 
 -- with other nodes below others
-pub climbed : (g : Topology) (root : ℕ) (w : Directions) (held : ColumnParts) (below : List (Option ℕ)) → length below ≡ length g.ids
-    → AreHeld g root w held → AreHeld g root w (column_parts held.common below held.targets held.aims held.wanted held.up held.down)
+pub climbed : (g : Topology) (root : ℕ) (w : Directions) (held : Columns) (below : Vec (Option ℕ) Global) → length below.items ≡ length g.ids
+    → AreHeld g root w held → AreHeld g root w (record held { below = below })
 climbed g root w held below one_each are = record {
   common = are.common;
   one_below_each = one_each;

@@ -1,8 +1,6 @@
-pub mod Aimed
 pub mod CertOf
 pub mod Chain
 pub mod ColumnOf
-pub mod ColumnParts
 pub mod Common
 pub mod DirectedFrom
 pub mod FirstLinks

@@ -45,10 +45,6 @@ pub record AreSoles (g : Topology) (w : Directions) (soles : List ℕ) : Type 0 
   pub one_each : length soles ≡ length g.ids
   pub each : (v link : ℕ) → slice_get soles v ≡ Some link → IsSoleOf g w v link
 
--- the rows of all nodes but the root for the heads of their blocks
-pub record AreHomeRows (g : Topology) (root : ℕ) (w : Directions) (rows : List Row) : Type 0 where
-  pub each : (v : ℕ) (row : Row) → slice_get rows v ≡ Some row → v ≢ root → IsNearRow g root w v (w.head v) (Some row)
-
 -- a node's place is as the directions say
 pub record IsPlaceOf (w : Directions) (v : ℕ) (place : Place) : Type 0 where
   pub head : place.head ≡ w.head v

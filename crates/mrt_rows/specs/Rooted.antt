@@ -2,9 +2,8 @@
 use Rattle.std.specs.Prelude.{◌≡◌, ◌<◌, ℕ, length}
 use Rattle.mrt_graph.specs.Topology.{Topology}
 use Rattle.link_direction.specs.Directions.{Directions, Says}
-use Rattle.mrt_rows.specs.Aimed.{AreAimed}
 use Rattle.mrt_rows.specs.DirectedFrom.{IsDirectedFrom}
-use Rattle.mrt_rows.specs.Held.{AreHeld}
+use Rattle.mrt_rows.specs.Held.{AreAimed, AreHeld}
 use Rattle.mrt_rows.specs.RootedParts.{RootedParts}
 
 -- these make the columns of the graph from their root: by its directions, and by what is held between columns

@@ -32,7 +32,7 @@ pub fn all_rows(alloc: Global, g: &Graph, root: NodeNo, d: &Directed) -> Result<
     let mut rows = vec![in alloc; none_yet; size * (size - 1)]?;
     for n in 0..count {
         let to = NodeNo::new(n);
-        let aimed = columns.aim(g, root, d, to);
+        let aimed = columns.aim(g, root, d, to, None);
         let column = ColumnView::new(g, root, d, &columns, aimed);
         put_column(count, to, &column, &mut rows);
     }

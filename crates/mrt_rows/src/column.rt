@@ -1,6 +1,6 @@
 //! The columns of destinations.
 
-ghost use Rattle.std.specs.Prelude.{◌≡◌, ◌≢◌, ◌<◌, ◌≤◌, ◌+◌, ℕ, [], IfOk, IfSome, Some, length, slice_get, true};
+ghost use Rattle.std.specs.Prelude.{◌≡◌, ◌≢◌, ◌<◌, ℕ, [], IfOk, IfSome, Some, length, slice_get, true};
 ghost use Rattle.mrt_graph.specs.GraphInvariant.{IsTopology};
 ghost use Rattle.link_direction.specs.Directions.{Directions, Says};
 ghost use Rattle.link_direction.specs.OrderedGadag.{SaysOrdered};
@@ -8,20 +8,18 @@ ghost use Rattle.inc_dec_spf.specs.declared.reach.Dir.TheVariants.{Down, Up};
 ghost use Rattle.inc_dec_spf.specs.BlockAims.{IsAimOf, aim_at};
 ghost use Rattle.inc_dec_spf.specs.LeastPath.{HaveCommonBlockOfMoreLinks};
 ghost use Rattle.inc_dec_spf.specs.Tile.{IsAimed};
-ghost use Rattle.mrt_rows.specs.Aimed.{AreAimed};
 ghost use Rattle.mrt_rows.specs.Chain.{AreBelow, IsRowAim};
 ghost use Rattle.mrt_rows.specs.ColumnOf.{IsRowIn};
-ghost use Rattle.mrt_rows.specs.Held.{AreHeld, AreHeldFor};
+ghost use Rattle.mrt_rows.specs.Held.{AreAimed, AreHeld, AreHeldFor};
 ghost use Rattle.mrt_rows.specs.NearOf.{IsNearRow};
 
 use crate::block_aims::{mark_ways, put_block_aims};
 use crate::chain::put_below;
 use crate::common::{Common, common_of};
-use crate::row_over::{Source, row_over};
+use crate::row_over::{Source, row_home, row_over};
 use inc_dec_spf::{Aiming, Dir, Tile};
 use mrt_graph::{Directed, Graph, NoMemory, NodeNo, Row};
 use std::alloc::Global;
-use std::marker::Model;
 
 /// So many destinations are taken side by side.
 pub(crate) const WIDTH: u16 = 64;
@@ -38,22 +36,13 @@ pub struct Target {
 /// than one link on the way from one of them to the root, and tiles that are aimed so in the marked blocks.
 #[derive(Drop)]
 pub struct Columns {
-    common: Common,
-    below: Vec<Option<NodeNo>>,
-    targets: Vec<NodeNo>,
-    aims: Vec<NodeNo>,
-    wanted: Vec<bool>,
-    up: Tile,
-    down: Tile,
-}
-
-impl Model for Columns {
-    ghost use Rattle.mrt_rows.specs.ColumnParts.{ColumnParts, column_parts};
-
-    ghost Value = { ColumnParts };
-
-    ghost view = { λ columns. column_parts columns.common columns.below.items columns.targets.items columns.aims.items
-        columns.wanted.items columns.up columns.down };
+    pub common: Common,
+    pub below: Vec<Option<NodeNo>>,
+    pub targets: Vec<NodeNo>,
+    pub aims: Vec<NodeNo>,
+    pub wanted: Vec<bool>,
+    pub up: Tile,
+    pub down: Tile,
 }
 
 impl Columns {
@@ -93,65 +82,53 @@ impl Columns {
 
     /// Aims at `to`, and answers its place among the destinations that the tiles are aimed at.
     ///
-    /// Where the tiles are not aimed at `to`, they are aimed at it and its neighbours by number, in time in proportion to
-    /// the links times the width; these begin with a multiple of it. It takes no memory.
-    pub fn aim(&mut self, g: &Graph, root: NodeNo, d: &Directed, to: NodeNo) -> Target
-        requires kept { IsTopology g.now }
-        requires directed { SaysOrdered g.now root d.now }
-        requires to { to < length g.now.ids }
-        requires held { (w : Directions) → Says g.now d.now w → AreHeld g.now root w self.old }
-        ensures node { result.node ≡ to }
-        ensures aimed { AreAimed g.now root d.now self.new result }
-    {
-        let at = self.place_for(g, root, d, to);
-        self.climb(g, root, d, to);
-        Target { node: to, at }
-    }
-
-    /// Aims the tiles at as many destinations as they have places for, `to` among them, unless they are aimed so, and
-    /// answers its place.
-    fn place_for(&mut self, g: &Graph, root: NodeNo, d: &Directed, to: NodeNo) -> usize
-        requires kept { IsTopology g.now }
-        requires directed { SaysOrdered g.now root d.now }
-        requires to { to < length g.now.ids }
-        requires held { (w : Directions) → Says g.now d.now w → AreHeld g.now root w self.old }
-        ensures held { (w : Directions) → Says g.now d.now w → AreHeld g.now root w self.new }
-        ensures place { slice_get self.new.targets result ≡ Some to }
-    {
-        match place_of(&self.targets, to) {
-            Some(at) => at,
-            None => {
-                let at = to.get() as usize % self.targets.len();
-                take_from(
-                    to.get() as usize - at,
-                    g.node_count() - 1,
-                    &mut self.targets,
-                );
-                self.aim_tiles(g, root, d);
-                at
-            }
-        }
-    }
-
-    /// Aims the tiles at `from` and the next marked nodes, as many as they have places for.
-    pub(crate) fn aim_at_marked(
+    /// Where the tiles are not aimed at `to`, they are aimed at it and the next nodes by number, the marked ones among them if
+    /// there are marks, in time in proportion to the links times the width. It takes no memory.
+    pub fn aim(
         &mut self,
         g: &Graph,
         root: NodeNo,
         d: &Directed,
-        marks: &[bool],
-        from: NodeNo,
-    )
+        to: NodeNo,
+        marks: Option<&[bool]>,
+    ) -> Target
         requires kept { IsTopology g.now }
         requires directed { SaysOrdered g.now root d.now }
-        requires from { from < length g.now.ids }
-        requires one_each { length marks.now ≡ length g.now.ids }
+        requires to { to < length g.now.ids }
+        requires marks { IfSome marks (λ marks. length marks.now ≡ length g.now.ids) }
         requires held { (w : Directions) → Says g.now d.now w → AreHeld g.now root w self.old }
-        ensures { (w : Directions) → Says g.now d.now w → AreHeld g.now root w self.new }
+        ensures node { result.node ≡ to }
+        ensures aimed { AreAimed g.now root d.now self.new result }
     {
-        if place_of(&self.targets, from).is_none() {
-            take_marked(marks, g.node_count(), from, &mut self.targets);
-            self.aim_tiles(g, root, d);
+        let at = self.place_for(g, root, d, to, marks);
+        put_below(g, root, d, to, &mut self.below);
+        Target { node: to, at }
+    }
+
+    /// The place of `to` among the destinations that the tiles are aimed at; they are aimed anew where it has none.
+    fn place_for(
+        &mut self,
+        g: &Graph,
+        root: NodeNo,
+        d: &Directed,
+        to: NodeNo,
+        marks: Option<&[bool]>,
+    ) -> usize
+        requires kept { IsTopology g.now }
+        requires directed { SaysOrdered g.now root d.now }
+        requires to { to < length g.now.ids }
+        requires marks { IfSome marks (λ marks. length marks.now ≡ length g.now.ids) }
+        requires held { (w : Directions) → Says g.now d.now w → AreHeld g.now root w self.old }
+        ensures held { (w : Directions) → Says g.now d.now w → AreHeld g.now root w self.new }
+        ensures place { slice_get self.new.targets.items result ≡ Some to }
+    {
+        match place_of(&self.targets, to) {
+            Some(at) => at,
+            None => {
+                take_next(marks, g.node_count(), to, &mut self.targets);
+                self.aim_tiles(g, root, d);
+                0
+            }
         }
     }
 
@@ -159,10 +136,10 @@ impl Columns {
     fn aim_tiles(&mut self, g: &Graph, root: NodeNo, d: &Directed)
         requires kept { IsTopology g.now }
         requires directed { SaysOrdered g.now root d.now }
-        requires within { (j t : ℕ) → slice_get self.old.targets j ≡ Some t → t < length g.now.ids }
+        requires within { (j t : ℕ) → slice_get self.old.targets.items j ≡ Some t → t < length g.now.ids }
         requires held { (w : Directions) → Says g.now d.now w → AreHeldFor g.now root w self.old [] }
         ensures held { (w : Directions) → Says g.now d.now w → AreHeld g.now root w self.new }
-        ensures targets { self.new.targets ≡ self.old.targets }
+        ensures targets { self.new.targets.items ≡ self.old.targets.items }
     {
         put_block_aims(g, root, d, &self.targets, &mut self.aims);
         mark_ways(
@@ -193,20 +170,6 @@ impl Columns {
         self.down.aim(&down, &self.common.heads);
     }
 
-    /// Puts the nodes below others on the way from `to` to the root.
-    fn climb(&mut self, g: &Graph, root: NodeNo, d: &Directed, to: NodeNo)
-        requires kept { IsTopology g.now }
-        requires directed { SaysOrdered g.now root d.now }
-        requires to { to < length g.now.ids }
-        requires held { (w : Directions) → Says g.now d.now w → AreHeld g.now root w self.old }
-        ensures held { (w : Directions) → Says g.now d.now w → AreHeld g.now root w self.new }
-        ensures targets { self.new.targets ≡ self.old.targets }
-        ensures below { (w : Directions) → Says g.now d.now w
-            → AreBelow g.now root w to self.new.below }
-    {
-        put_below(g, root, d, to, &mut self.below);
-    }
-
     /// The row of `s` for `to`, by its row for what it aims at.
     pub fn row(&self, g: &Graph, root: NodeNo, d: &Directed, s: NodeNo, to: Target) -> Option<Row>
         requires aimed { AreAimed g.now root d.now self.now to }
@@ -233,8 +196,8 @@ impl Columns {
         requires source { s < length g.now.ids }
         requires to { to < length g.now.ids }
         requires below { (w : Directions) → Says g.now d.now w
-            → AreBelow g.now root w to self.now.below }
-        ensures { (w : Directions) → Says g.now d.now w → IsRowAim w self.now.below s result }
+            → AreBelow g.now root w to self.now.below.items }
+        ensures { (w : Directions) → Says g.now d.now w → IsRowAim w self.now.below.items s result }
     {
         if let Some(under) = self.below[s.get() as usize] {
             return under;
@@ -248,7 +211,7 @@ impl Columns {
         here.head
     }
 
-    /// The row of `s` for what it aims at. The row home is held.
+    /// The row of `s` for what it aims at. The links home are held.
     fn aimed_row(
         &self,
         g: &Graph,
@@ -262,27 +225,27 @@ impl Columns {
         requires source { s < length g.now.ids }
         requires aim { aim.node < length g.now.ids }
         requires two { s ≢ aim.node }
-        requires place { aim.at < length self.now.targets }
+        requires place { aim.at < length self.now.targets.items }
         requires held { (w : Directions) → Says g.now d.now w → AreHeld g.now root w self.now }
         ensures { (w : Directions) → Says g.now d.now w
-            → IsAimed g.now w self.now.wanted Up self.now.aims self.now.up
-            → IsAimed g.now w self.now.wanted Down self.now.aims self.now.down
+            → IsAimed g.now w self.now.wanted.items Up self.now.aims.items self.now.up
+            → IsAimed g.now w self.now.wanted.items Down self.now.aims.items self.now.down
             → ((k h : ℕ) → HaveCommonBlockOfMoreLinks g.now w s aim.node k h → w.head s ≢ aim.node
-            → slice_get self.now.wanted k ≡ Some true)
-            → IsAimOf g.now w (aim_at self.now.aims (length self.now.targets) aim.at) s aim.node
+            → slice_get self.now.wanted.items k ≡ Some true)
+            → IsAimOf g.now w (aim_at self.now.aims.items (length self.now.targets.items) aim.at) s aim.node
             → IsNearRow g.now root w s aim.node result }
     {
         let at = s.get() as usize;
         let here = d.place(s);
-        if here.head == aim.node {
-            return Some(self.common.home_rows[at]);
-        }
         let source = Source {
             node: s,
             place: here,
             sole: self.common.soles[at],
             home: self.common.homes[at],
         };
+        if here.head == aim.node {
+            return Some(row_home(source.sole, &source.home));
+        }
         row_over(
             &source,
             aim.node,
@@ -306,23 +269,13 @@ fn place_of(targets: &[NodeNo], node: NodeNo) -> Option<usize>
     None
 }
 
-/// Puts the nodes from number `first` on, and the last one again where no more follow.
-fn take_from(first: usize, last: u16, targets: &mut [NodeNo])
-    requires { first ≤ last }
-    ensures one_each { length targets.new ≡ length targets.old }
-    ensures there { (j : ℕ) → j < length targets.old → first + j ≤ last → slice_get targets.new j ≡ Some (first + j) }
-    ensures within { (j t : ℕ) → slice_get targets.new j ≡ Some t → t ≤ last }
-{
-    for at in 0..targets.len() {
-        targets[at] = NodeNo::new((first + at).min(last as usize) as u16);
-    }
-}
-
-/// Puts a node and the next marked ones, and the first one again where no more are marked.
-fn take_marked(marks: &[bool], count: u16, from: NodeNo, targets: &mut [NodeNo])
-    requires one_each { length marks.now ≡ count }
+/// Puts a node and the next ones by number, the marked ones if there are marks, and the first one again where no more follow.
+fn take_next(marks: Option<&[bool]>, count: u16, from: NodeNo, targets: &mut [NodeNo])
+    requires some { 0 < length targets.old }
     requires from { from < count }
+    requires marks { IfSome marks (λ marks. length marks.now ≡ count) }
     ensures one_each { length targets.new ≡ length targets.old }
+    ensures first { slice_get targets.new 0 ≡ Some from }
     ensures within { (j t : ℕ) → slice_get targets.new j ≡ Some t → t < count }
 {
     targets.fill(from);
@@ -331,9 +284,19 @@ fn take_marked(marks: &[bool], count: u16, from: NodeNo, targets: &mut [NodeNo])
         if at >= targets.len() {
             return;
         }
-        if marks[n as usize] {
+        if is_marked(marks, n) {
             targets[at] = NodeNo::new(n);
             at += 1;
         }
+    }
+}
+
+/// Whether a node is marked, if there are marks.
+fn is_marked(marks: Option<&[bool]>, n: u16) -> bool
+    requires { IfSome marks (λ marks. n < length marks.now) }
+{
+    match marks {
+        Some(marks) => marks[n as usize],
+        None => true,
     }
 }

@@ -4,7 +4,7 @@ ghost use Rattle.std.specs.Prelude.{◌≡◌, ◌<◌, IfOk, Some, length, slic
 ghost use Rattle.mrt_graph.specs.Column.{ColumnSound};
 ghost use Rattle.link_direction.specs.Directions.{Directions, Says};
 ghost use Rattle.link_direction.specs.OrderedGadag.{SaysOrdered};
-ghost use Rattle.mrt_rows.specs.Aimed.{AreAimed};
+ghost use Rattle.mrt_rows.specs.Held.{AreAimed};
 ghost use Rattle.mrt_rows.specs.ColumnOf.{IsColumnBy, IsColumnOf};
 ghost use Rattle.mrt_rows.specs.TheColumn.{TheColumn, no_choice};
 
@@ -29,7 +29,7 @@ pub struct ColumnView<'a> {
 impl<'a> Model for ColumnView<'a> {
     ghost use Rattle.std.specs.Prelude.{List, Option};
     ghost use Rattle.mrt_graph.specs.declared.cert.Row.{Row};
-    ghost use Rattle.mrt_rows.specs.Aimed.{AreAimed};
+    ghost use Rattle.mrt_rows.specs.Held.{AreAimed};
 
     ghost Value = { List (Option Row) };
 
@@ -121,7 +121,7 @@ pub fn column_of(
     // what each graph keeps is told by reading it
     let _count = g.node_count();
     let mut columns = Columns::new(alloc, g, root, d, 1)?;
-    let aimed = columns.aim(g, root, d, to);
+    let aimed = columns.aim(g, root, d, to, None);
     let column = ColumnView::new(g, root, d, &columns, aimed).held(alloc)?;
     Ok(column)
 }

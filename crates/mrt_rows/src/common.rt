@@ -6,14 +6,14 @@ ghost use Rattle.inc_dec_spf.specs.HasDirections.{AreDirections, HasDirections};
 ghost use Rattle.mrt_rows.specs.Common.{AreCommon};
 
 use crate::heads::mark_heads;
-use crate::homes::{home_rows, homes_of};
+use crate::homes::homes_of;
 use crate::members::Home;
 use crate::soles::take_soles;
 use inc_dec_spf::{Dir, NO_LINK, nodes_by_turn};
-use mrt_graph::{Directed, Graph, LinkNo, NoMemory, NodeNo, Row};
+use mrt_graph::{Directed, Graph, LinkNo, NoMemory, NodeNo};
 use std::alloc::Global;
 
-/// The nodes by their turns, marks on the heads of blocks, the sole links, and the links and the rows home of all nodes.
+/// The nodes by their turns, marks on the heads of blocks, the sole links, and the links home of all nodes.
 #[derive(Drop)]
 pub struct Common {
     pub by_order: Vec<NodeNo>,
@@ -21,14 +21,13 @@ pub struct Common {
     pub heads: Vec<bool>,
     pub soles: Vec<LinkNo>,
     pub homes: Vec<Home>,
-    pub home_rows: Vec<Row>,
 }
 
 /// What they have in common.
 pub fn common_of(alloc: Global, g: &Graph, d: &Directed) -> Result<Common, NoMemory>
     requires { HasDirections g.now d.now }
     ensures { (root : ℕ) (w : Directions) → AreDirections g.now d.now root w
-        → IfOk result (AreCommon g.now root w) }
+        → IfOk result (AreCommon g.now w) }
 {
     let count = g.node_count() as usize;
     let by_order = nodes_by_turn(alloc, g, d, Dir::Up)?;
@@ -38,13 +37,11 @@ pub fn common_of(alloc: Global, g: &Graph, d: &Directed) -> Result<Common, NoMem
     let mut soles = vec![in alloc; LinkNo::new(NO_LINK); count]?;
     take_soles(g, d, &mut soles);
     let homes = homes_of(alloc, g, d, &by_order, &against_order, &heads)?;
-    let home_rows = home_rows(alloc, g, &soles, &homes)?;
     Ok(Common {
         by_order,
         against_order,
         heads,
         soles,
         homes,
-        home_rows,
     })
 }

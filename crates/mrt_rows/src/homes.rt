@@ -9,13 +9,11 @@ ghost use Rattle.inc_dec_spf.specs.declared.reach.Dir.TheVariants.{Down, Up};
 ghost use Rattle.inc_dec_spf.specs.HasDirections.{AreDirections, HasDirections};
 ghost use Rattle.inc_dec_spf.specs.Tile.{IsAimed, IsTile};
 ghost use Rattle.inc_dec_spf.specs.Turns.{AreTurns};
-ghost use Rattle.mrt_rows.specs.NearOf.{AreHomeRows, AreSoles};
 ghost use Rattle.mrt_rows.specs.Put.{AreBlocksMarked, AreHeadsMarked, AreHomes};
 
 use crate::members::Home;
-use crate::row_over::{end_row, row_home};
 use inc_dec_spf::{Aiming, Dir, NO_LINK, Tile, put_heads};
-use mrt_graph::{Directed, Graph, LinkNo, NoMemory, NodeNo, Row, Tag};
+use mrt_graph::{Directed, Graph, LinkNo, NoMemory, NodeNo};
 use std::alloc::Global;
 
 /// The links home of all nodes whose blocks have more than one link: by tiles of width one, in which each block aims at its
@@ -88,43 +86,5 @@ fn take_homes(g: &Graph, up: &Tile, down: &Tile, homes: &mut [Home])
             up: up.links_of(s)[0],
             down: down.links_of(s)[0],
         };
-    }
-}
-
-/// The rows of all nodes for their heads: by their links home, or over the one link of their blocks. That of the root, which is
-/// its own head, says nothing.
-pub fn home_rows(
-    alloc: Global,
-    g: &Graph,
-    soles: &[LinkNo],
-    homes: &[Home],
-) -> Result<Vec<Row>, NoMemory>
-    requires soles { length soles.now ≡ length g.now.ids }
-    requires homes { length homes.now ≡ length g.now.ids }
-    ensures one_each { IfOk result (λ rows. length rows.items ≡ length g.now.ids) }
-    ensures rows { (root : ℕ) (w : Directions) → IsOrderedGadag g.now root w → AreSoles g.now w soles.now
-        → AreHomes g.now w homes.now → IfOk result (λ rows. AreHomeRows g.now root w rows.items) }
-{
-    let none = LinkNo::new(NO_LINK);
-    let no_row = end_row(none, none, none, Tag::Head);
-    let mut rows = vec![in alloc; no_row; g.node_count() as usize]?;
-    put_home_rows(g, soles, homes, &mut rows);
-    Ok(rows)
-}
-
-/// Puts the rows of all nodes for their heads.
-fn put_home_rows(g: &Graph, soles: &[LinkNo], homes: &[Home], rows: &mut [Row])
-    requires kept { IsTopology g.now }
-    requires soles { length soles.now ≡ length g.now.ids }
-    requires homes { length homes.now ≡ length g.now.ids }
-    requires one_each { length rows.old ≡ length g.now.ids }
-    ensures one_each { length rows.new ≡ length g.now.ids }
-    ensures rows { (root : ℕ) (w : Directions) → IsOrderedGadag g.now root w → AreSoles g.now w soles.now
-        → AreHomes g.now w homes.now → AreHomeRows g.now root w rows.new }
-{
-    for n in 0..g.node_count() {
-        let at = n as usize;
-        let home = &homes[at];
-        rows[at] = row_home(soles[at], home);
     }
 }

@@ -1,6 +1,6 @@
 //! The columns of a graph from a root.
 
-ghost use Rattle.std.specs.Prelude.{◌≡◌, ◌<◌, ℕ, IfOk, length};
+ghost use Rattle.std.specs.Prelude.{◌≡◌, ◌<◌, ℕ, IfOk, IfSome, length};
 ghost use Rattle.mrt_graph.specs.declared.cert.CertFile.{CertFile};
 ghost use Rattle.mrt_graph.specs.Column.{ColumnSound};
 ghost use Rattle.mrt_graph.specs.GraphInvariant.{IsTopology};
@@ -15,7 +15,6 @@ use crate::directed::directions;
 use crate::rows_law::{columns_are_of_one_certificate, columns_are_sound, one_certificate};
 use crate::rows_to::RowsTo;
 use crate::words::{all_links, all_nodes};
-use link_direction::directions_are_ordered;
 use mrt_graph::{CertLink, CertNode, Directed, Graph, NoMemory, NodeNo};
 use std::alloc::Global;
 use std::marker::Model;
@@ -49,8 +48,7 @@ impl RootedColumns {
         ensures cert { IfOk result (λ _. (file : CertFile) × IsCertOf g.now root file) }
         ensures kept { IfOk result (λ _. IsTopology g.now) }
     {
-        let rooted = RootedColumns::side_by_side(alloc, g, root, WIDTH)?;
-        Ok(rooted)
+        RootedColumns::for_some(alloc, g, root, WIDTH as usize)
     }
 
     /// The same for so many destinations, wherever they lie: as many as there are, at most 64, side by side.
@@ -66,26 +64,8 @@ impl RootedColumns {
         ensures cert { IfOk result (λ _. (file : CertFile) × IsCertOf g.now root file) }
         ensures kept { IfOk result (λ _. IsTopology g.now) }
     {
-        let width = destinations.max(1).min(WIDTH as usize) as u16;
-        let rooted = RootedColumns::side_by_side(alloc, g, root, width)?;
-        Ok(rooted)
-    }
-
-    /// The same, for so many destinations side by side.
-    fn side_by_side(
-        alloc: Global,
-        g: &Graph,
-        root: NodeNo,
-        width: u16,
-    ) -> Result<RootedColumns, NoMemory>
-        requires root { root < length g.now.ids }
-        requires some { 0 < width }
-        ensures root { IfOk result (λ rooted. rooted.root ≡ root) }
-        ensures made { IfOk result (MakeColumns g.now) }
-        ensures cert { IfOk result (λ _. (file : CertFile) × IsCertOf g.now root file) }
-        ensures kept { IfOk result (λ _. IsTopology g.now) }
-    {
         columns_are_of_one_certificate();
+        let width = destinations.max(1).min(WIDTH as usize) as u16;
         let directed = directions(alloc, g, root)?;
         let columns = Columns::new(alloc, g, root, &directed, width)?;
         // nothing is aimed at yet
@@ -100,19 +80,29 @@ impl RootedColumns {
 
     /// Aims at `to`, for its column.
     ///
-    /// It takes time in proportion to the nodes on the way from `to` to the root, head by head. Where it was not done for `to`
-    /// or a neighbour of it by number the time before, it takes time in proportion to the links times 64, or times the
-    /// width; these begin with a multiple of it. It takes no memory.
+    /// It takes time in proportion to the nodes on the way from `to` to the root, head by head. The first time for `to` and the
+    /// next 63 nodes by number, or as many as the width has, it takes time in proportion to the links times the width. It
+    /// takes no memory.
     pub fn aim(&mut self, g: &Graph, to: NodeNo)
         requires made { MakeColumns g.now self.old }
         requires to { to < length g.now.ids }
         ensures root { self.new.root ≡ self.old.root }
         ensures aimed { AreAimedAt g.now to self.new }
     {
-        directions_are_ordered();
+        self.aim_among(g, to, None);
+    }
+
+    /// The same; the next nodes are the marked ones, if there are marks.
+    fn aim_among(&mut self, g: &Graph, to: NodeNo, marks: Option<&[bool]>)
+        requires made { MakeColumns g.now self.old }
+        requires to { to < length g.now.ids }
+        requires marks { IfSome marks (λ marks. length marks.now ≡ length g.now.ids) }
+        ensures root { self.new.root ≡ self.old.root }
+        ensures aimed { AreAimedAt g.now to self.new }
+    {
         // what each graph keeps is told by reading it
         let _count = g.node_count();
-        let aimed = self.columns.aim(g, self.root, &self.directed, to);
+        let aimed = self.columns.aim(g, self.root, &self.directed, to, marks);
         self.to = aimed;
     }
 
@@ -129,20 +119,6 @@ impl RootedColumns {
         one_certificate();
         columns_are_sound();
         ColumnView::new(g, self.root, &self.directed, &self.columns, self.to)
-    }
-
-    /// Aims at a node and the next marked ones, as many as there are places for.
-    fn aim_at_marked(&mut self, g: &Graph, marks: &[bool], from: NodeNo)
-        requires made { MakeColumns g.now self.old }
-        requires from { from < length g.now.ids }
-        requires one_each { length marks.now ≡ length g.now.ids }
-        ensures root { self.new.root ≡ self.old.root }
-        ensures made { MakeColumns g.now self.new }
-    {
-        directions_are_ordered();
-        let _count = g.node_count();
-        self.columns
-            .aim_at_marked(g, self.root, &self.directed, marks, from);
     }
 
     /// The rows of all nodes for the marked ones: a column for each.
@@ -163,8 +139,7 @@ impl RootedColumns {
         for n in 0..count {
             if wanted[n as usize] {
                 places.push_reserved(Some(columns.len() as u16));
-                self.aim_at_marked(g, wanted, NodeNo::new(n));
-                self.aim(g, NodeNo::new(n));
+                self.aim_among(g, NodeNo::new(n), Some(wanted));
                 let column = self.column(g).held(alloc)?;
                 columns.push(column)?;
             } else {

@@ -1,8 +1,7 @@
 use Rattle.std.proofs.Common.{◌∙◌, ℕ, Bool, List, length, sym, ap, subst}
 use Rattle.std.proofs.lemmas.List.{with_items_is}
 use Rattle.mrt_rows.specs.NearOf.{AreSoles}
-use Rattle.mrt_rows.specs.declared.members.Home.{Home}
-use Rattle.mrt_rows.specs.Put.{AreHeadsMarked, AreHomes}
+use Rattle.mrt_rows.specs.Put.{AreHeadsMarked}
 use Rattle.mrt_rows.proofs.common.common_of.Goals as goal
 
 pub returns : goal.returns
@@ -12,8 +11,6 @@ returns c = λ root w are.
     let marked = c.mark_heads.ensures.heads root w are in
     let soles_same = with_items_is c.in_ok-soles.soles c.take_soles.new.soles (c.take_soles.auto.soles ∙ c.deref_mut-2.ensures.len) in
     let taken = c.take_soles.ensures root w are in
-    let homes = c.in_ok-homes.ensures.homes root w are
-    (subst (λ (hs : List Bool). AreHeadsMarked g w hs) (sym (c.deref-3.ensures.value ∙ heads_same)) marked) in
     record {
       by_order = c.in_ok-by_order.ensures root w are;
       against_order = c.in_ok-against_order.ensures root w are;
@@ -21,8 +18,6 @@ returns c = λ root w are.
       marked = subst (λ (hs : List Bool). AreHeadsMarked g w hs) (sym heads_same) marked;
       soles = subst (λ (xs : List ℕ). AreSoles g w xs) (sym soles_same) taken;
       a_home_each = c.in_ok-homes.ensures.one_each;
-      homes = homes;
-      a_home_row_each = c.in_ok-home_rows.ensures.one_each;
-      home_rows = c.in_ok-home_rows.ensures.rows root w are.ordered (subst (λ (xs : List ℕ). AreSoles g w xs) (sym (c.deref-4.ensures.value ∙ soles_same)) taken)
-          (subst (λ (xs : List Home). AreHomes g w xs) (sym c.deref-5.ensures.value) homes);
+      homes = c.in_ok-homes.ensures.homes root w are
+          (subst (λ (hs : List Bool). AreHeadsMarked g w hs) (sym (c.deref-3.ensures.value ∙ heads_same)) marked);
     }

@@ -2,7 +2,7 @@ use Rattle.std.proofs.Common.{◌≡◌, ◌<◌, ◌∙◌, ◌++◌, ◌∷◌
 use Rattle.std.proofs.lemmas.List.{take_all, take_more}
 use Rattle.std.proofs.lemmas.Option.{get_or_from_slice_get}
 use Rattle.mrt_graph.specs.declared.cert.Row.{Row}
-use Rattle.mrt_graph.specs.Column.{IsColumn, IsColumnFor}
+use Rattle.mrt_graph.specs.Column.{IsColumnFor}
 use Rattle.mrt_rows.proofs.TheColumns.{is_for, one_each}
 use Rattle.mrt_rows.proofs.column_view.ColumnView.held.Goals as goal
 

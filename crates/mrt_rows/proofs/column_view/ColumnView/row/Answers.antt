@@ -1,4 +1,4 @@
-use Rattle.std.proofs.Common.{◌≡◌, ◌∙◌, ℕ, List, Option, length, slice_get, sym, ap, arith}
+use Rattle.std.proofs.Common.{◌∙◌, ℕ, List, Option, length, slice_get, sym, ap, arith}
 use Rattle.std.proofs.lemmas.Bool.{eqb-false, eqb-true}
 use Rattle.mrt_graph.specs.declared.cert.Row.{Row}
 use Rattle.mrt_rows.proofs.TheColumns.{none_there, one_each, row_there}

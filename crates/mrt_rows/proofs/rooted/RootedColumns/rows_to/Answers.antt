@@ -40,18 +40,18 @@ unmarked_more file marks places columns n bare before t below marked = elim (cas
 pub loop-n-preserved : goal.loop-n-preserved
 loop-n-preserved c = elim c.if-wanted-n.branch [
   | then-wanted-n+in_ok-column+in_ok-push w ↦ rw (w.self-is, w.places-is, w.columns-is, w.push_reserved.ensures.items, w.in_ok-push.ensures.items) (record {
-    root = w.aim.ensures.root ∙ w.aim_at_marked.ensures.root ∙ c.loop-n.invariant.root;
-    made = w.aim.ensures.aimed.made;
+    root = w.aim_among.ensures.root ∙ c.loop-n.invariant.root;
+    made = w.aim_among.ensures.aimed.made;
     count = c.loop-n.invariant.count;
     many = omega (arith, length-append {A = Option ℕ}, c.loop-n.invariant.many);
     few = omega (arith, length-append {A = List (Option Row)}, c.loop-n.invariant.few);
     room = omega (arith, c.loop-n.invariant.room, w.push_reserved.ensures.capacity);
     held = λ file is t below marked.
-        let from = subst (λ (k : ℕ). IsCertOf c.args.g.now k file) (sym (w.aim.ensures.root ∙ w.aim_at_marked.ensures.root ∙ c.loop-n.invariant.root)) is in
+        let from = subst (λ (k : ℕ). IsCertOf c.args.g.now k file) (sym (w.aim_among.ensures.root ∙ c.loop-n.invariant.root)) is in
         let has : HasRowsFor file.cert c.loop-n.n w.in_ok-column.column =
         subst (λ (xs : List (Option Row)). HasRowsFor file.cert c.loop-n.n xs) (sym w.in_ok-column.ensures)
-        (subst (λ (k : ℕ). HasRowsFor file.cert k w.column.result) w.new-then-wanted-n.ensures
-        (w.column.ensures.rows _ file w.aim.ensures.aimed from)) in
+        (subst (λ (k : ℕ). HasRowsFor file.cert k w.column.result) w.new.ensures
+        (w.column.ensures.rows _ file w.aim_among.ensures.aimed from)) in
         subst (λ (k : ℕ). IsHeld file (c.loop-n.places.items ++ Some k ∷ []) (c.loop-n.columns.items ++ w.in_ok-column.column ∷ []) t) (sym (w.len.ensures ∙ c.loop-n.columns.ok.0))
         (marked_more file c.args.wanted.now c.loop-n.places.items c.loop-n.columns.items c.loop-n.n w.in_ok-column.column c.loop-n.invariant.many has
         (c.loop-n.invariant.held file is) t below marked);

@@ -1,13 +1,13 @@
 use Rattle.std.proofs.Common.{ap, sym, subst}
 use Rattle.mrt_rows.specs.Rooted.{MakeColumns}
 use Rattle.mrt_rows.specs.RootedParts.{RootedParts}
-use Rattle.mrt_rows.proofs.rooted.RootedColumns.aim.Goals as goal
+use Rattle.mrt_rows.proofs.SourceCert.{ordered_from}
+use Rattle.mrt_rows.proofs.rooted.RootedColumns.aim_among.Goals as goal
 
 pub aim-aimed-requires-clause-directed : goal.aim-aimed-requires-clause-directed
 aim-aimed-requires-clause-directed c =
     let made = subst (λ (rooted : RootedParts). MakeColumns c.args.g.now rooted) (sym c.self.view_is) c.requires.made in
-    c.directions_are_ordered.ensures c.args.g.now c.self.inside.root made.directed.tree made.directed.gadag c.node_count-count.ensures.kept made.root_within
-    made.directed.searched made.directed.by_ears c.self.inside.directed made.directed.in_order
+    ordered_from c.args.g.now c.self.inside.root c.self.inside.directed c.node_count-count.ensures.kept made.root_within made.directed
 
 pub aim-aimed-requires-clause-held : goal.aim-aimed-requires-clause-held
 aim-aimed-requires-clause-held c = (subst (λ (rooted : RootedParts). MakeColumns c.args.g.now rooted) (sym c.self.view_is) c.requires.made).held
