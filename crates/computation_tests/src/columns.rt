@@ -1,15 +1,14 @@
 //! Columns beside the rows of each source.
 
 ghost use Rattle.std.specs.Prelude.{◌≡◌, ◌<◌, length};
-ghost use Rattle.link_direction.specs.Directions.{Directions, Says};
 ghost use Rattle.link_direction.specs.OrderedGadag.{SaysOrdered};
-ghost use Rattle.mrt_rows.specs.Held.{AreHeld};
+ghost use Rattle.mrt_rows.specs.Rooted.{MakeColumns};
 
 use crate::hand_graphs::graph_told;
 use crate::hand_paths::directed_of;
 use crate::hand_rows::{Case, cases, row_in};
 use mrt_graph::{Column, Directed, Graph, GraphError, NoMemory, NodeNo, Row};
-use mrt_rows::{Columns, column_of, rows_of};
+use mrt_rows::{RootedColumns, column_of, rows_of};
 use std::alloc::Global;
 use std::process::Abort;
 use std::test::Fail;
@@ -74,15 +73,16 @@ fn one_agrees(
     g: &Graph,
     root: NodeNo,
     d: &Directed,
-    columns: &mut Columns,
+    columns: &mut RootedColumns,
     to: u16,
 ) -> Result<bool, NoMemory>
     requires directed { SaysOrdered g.now root d.now }
     requires to { to < length g.now.ids }
-    requires held { (w : Directions) → Says g.now d.now w → AreHeld g.now root w columns.old }
-    ensures held { (w : Directions) → Says g.now d.now w → AreHeld g.now root w columns.new }
+    requires made { MakeColumns g.now columns.old }
+    ensures { MakeColumns g.now columns.new }
 {
-    let column = columns.to(alloc, g, root, d, NodeNo::new(to))?;
+    columns.aim(g, NodeNo::new(to));
+    let column = columns.column(g).held(alloc)?;
     agrees(alloc, g, root, d, to, &column)
 }
 
@@ -92,10 +92,10 @@ fn each_agrees(
     g: &Graph,
     root: NodeNo,
     d: &Directed,
-    columns: &mut Columns,
+    columns: &mut RootedColumns,
 ) -> Result<bool, NoMemory>
     requires directed { SaysOrdered g.now root d.now }
-    requires held { (w : Directions) → Says g.now d.now w → AreHeld g.now root w columns.old }
+    requires made { MakeColumns g.now columns.old }
 {
     for to in 0..g.node_count() {
         if !one_agrees(alloc, g, root, d, columns, to)? {
@@ -109,9 +109,9 @@ fn each_agrees(
 }
 
 fn all_agree(alloc: Global, g: &Graph, root: NodeNo, d: &Directed) -> Result<bool, NoMemory>
-    requires directed { SaysOrdered g.now root d.now }
+    requires { SaysOrdered g.now root d.now }
 {
-    let mut columns = Columns::new(alloc, g, root, d)?;
+    let mut columns = RootedColumns::new(alloc, g, root)?;
     each_agrees(alloc, g, root, d, &mut columns)
 }
 

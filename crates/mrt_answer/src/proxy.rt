@@ -98,6 +98,7 @@ fn rows_at(
         → IfOk result (λ rows. AreProxyRows graph.now by.own.file.cert by.a by.b rows.items) }
 {
     let links = columns.links(alloc, graph)?;
-    let column = columns.to(alloc, graph, at.head)?;
+    columns.aim(graph, at.head);
+    let column = columns.column(graph);
     proxy_rows_at(alloc, graph, nodes, &links, at, &column)
 }

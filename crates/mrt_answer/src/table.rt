@@ -54,7 +54,8 @@ pub(crate) fn table(alloc: Global, given: &Given, router: u32) -> Result<Text, E
     Ok(Text::Bytes(text))
 }
 
-/// The table that is made from these parts, by the rows of the island's certificate, of which one column at a time is made.
+/// The table that is made from these parts, by the rows of the island's certificate, of which those on the walks from the router are
+/// made.
 fn table_of(alloc: Global, root: NodeNo, parts: &Parts) -> Result<Vec<u8>, NoMemory>
     requires root { root < length parts.now.island.now.ids }
     requires root_router { ¬ IsNetwork parts.now.island.now.ids root }
@@ -87,13 +88,12 @@ fn table_text(
 {
     lines_make_the_table();
     let mut text = table_head(alloc, parts.island, root, parts.source)?;
-    push_lines(alloc, &mut text, parts, columns)?;
+    push_lines(&mut text, parts, columns)?;
     Ok(text)
 }
 
 /// Puts a line on each other node at the end of a text.
 fn push_lines(
-    alloc: Global,
     text: &mut Vec<u8>,
     parts: &Parts,
     columns: &mut RootedColumns,
@@ -107,15 +107,14 @@ fn push_lines(
     for place in 0..parts.island.node_count() {
         let to = NodeNo::new(place);
         if to != parts.source {
-            push_line(alloc, text, parts, columns, to)?;
+            push_line(text, parts, columns, to)?;
         }
     }
     Ok(())
 }
 
-/// Puts the line on another node at the end of a text. The node's column lives no longer than that.
+/// Puts the line on another node at the end of a text.
 fn push_line(
-    alloc: Global,
     text: &mut Vec<u8>,
     parts: &Parts,
     columns: &mut RootedColumns,
@@ -130,7 +129,8 @@ fn push_line(
     ensures line { (file : CertFile) → IsCertOf parts.now.island.now columns.old.root file
         → IfOk result (λ _. Adds (IsLineByColumn (with_cert parts.now file.cert) to) text.old.items text.new.items) }
 {
-    let column = columns.to(alloc, parts.island, to)?;
+    columns.aim(parts.island, to);
+    let column = columns.column(parts.island);
     let primary = primary_for(parts.area, parts.island, parts.primaries, to);
     push_table_line(
         text,

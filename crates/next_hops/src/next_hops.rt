@@ -70,7 +70,8 @@ fn next_hops_in(
     let from = number_of(graph, router)?;
     let to = number_of(graph, to)?;
     let mut columns = RootedColumns::new(alloc, graph, root)?;
-    let column = columns.to(alloc, graph, to)?;
+    columns.aim(graph, to);
+    let column = columns.column(graph);
     let blue = next_hop(graph, &column, from, to, Color::Blue);
     let red = next_hop(graph, &column, from, to, Color::Red);
     Ok(NextHops {

@@ -1,8 +1,7 @@
 //! Lines of tables: of router 1 of a small island on router 4, and of router 2 of a triangle.
 
-ghost use Rattle.std.specs.Prelude.{◌≢◌, ◌<◌, IfSome, length};
+ghost use Rattle.std.specs.Prelude.{◌≢◌, ◌<◌, length};
 ghost use Rattle.area_graph.specs.Fits.{Fits};
-ghost use Rattle.mrt_graph.specs.Column.{ColumnSound};
 ghost use Rattle.mrt_graph.specs.GraphInvariant.{IsNetwork};
 ghost use Rattle.mrt_report.specs.TableParts.{AreItsPrimaries};
 
@@ -10,7 +9,7 @@ use crate::databases::area_of;
 use crate::networks::{TRIANGLE, island_of as island_of_first};
 use crate::small_area::{island_of, small_area};
 use area_graph::Area;
-use mrt_graph::{Column, Kind, NodeNo};
+use mrt_graph::{Kind, NodeNo};
 use mrt_island::Island;
 use mrt_report::{primary_for, table_head, table_line};
 use mrt_rows::RootedColumns;
@@ -19,24 +18,6 @@ use std::alloc::Global;
 
 const LINE: &[u8] = b"\
 0.0.0.4 carried blue 0.0.0.3/0.0.0.19 red 0.0.0.2/0.0.0.18 primary 0.0.0.2/0.0.0.18 repair bb\n";
-
-/// The rows of all nodes for one.
-fn column_of(alloc: Global, island: &Island, to: NodeNo) -> Option<Column>
-    requires { to < length island.now.graph.ids }
-    ensures { IfSome result (λ column.
-        ColumnSound island.now.graph.links (length island.now.graph.ids) column to) }
-{
-    if island.root.get() >= island.graph.node_count() {
-        return None;
-    }
-    let Ok(mut columns) = RootedColumns::new(alloc, &island.graph, island.root) else {
-        return None;
-    };
-    match columns.to(alloc, &island.graph, to) {
-        Ok(column) => Some(column),
-        Err(_) => None,
-    }
-}
 
 /// The line of a router of an island, with these primaries, on another node.
 fn line_by(
@@ -54,19 +35,18 @@ fn line_by(
     requires different { source ≢ to }
     requires primaries { AreItsPrimaries area.now island.now.graph source prim.now }
 {
-    let column = column_of(alloc, island, to)?;
-    let primary = primary_for(area, &island.graph, prim, to);
+    let graph = &island.graph;
+    if island.root.get() >= graph.node_count() {
+        return None;
+    }
+    let Ok(mut columns) = RootedColumns::new(alloc, graph, island.root) else {
+        return None;
+    };
+    columns.aim(graph, to);
+    let column = columns.column(graph);
+    let primary = primary_for(area, graph, prim, to);
     let links = island.link_of.as_slice();
-    match table_line(
-        alloc,
-        area,
-        &island.graph,
-        links,
-        &column,
-        source,
-        to,
-        primary,
-    ) {
+    match table_line(alloc, area, graph, links, &column, source, to, primary) {
         Ok(line) => Some(line),
         Err(_) => None,
     }

@@ -1,13 +1,22 @@
+use Rattle.std.proofs.Common.{ℕ, sym, subst}
+use Rattle.mrt_rows.specs.CertOf.{IsCertOf}
 use Rattle.mrt_answer.proofs.table.push_line.Goals as goal
+
+pub push_table_line-requires-clause-sound : goal.push_table_line-requires-clause-sound
+push_table_line-requires-clause-sound c = (c.column-column.ensures.sound c.args.to c.aim.ensures.aimed).sound
+
+pub returns-clause-made : goal.returns-clause-made
+returns-clause-made c = c.aim.ensures.aimed.made
 
 pub returns-clause-line : goal.returns-clause-line
 returns-clause-line c = λ file is.
     let line = c.in_ok-push_table_line.ensures in
+    let from = subst (λ (root : ℕ). IsCertOf c.args.parts.now.island.now root file) (sym c.aim.ensures.root) is in
     record {
       part = line.part;
       is = record {
-        column = c.in_ok-column.column;
-        rows = (c.in_ok-column.ensures.rows file is).same;
+        column = c.column-column.result;
+        rows = (c.column-column.ensures.rows c.args.to file c.aim.ensures.aimed from).same;
         primary = c.primary_for-primary.result;
         primary_is = c.primary_for-primary.ensures.among;
         line = line.is;
