@@ -1,6 +1,6 @@
 -- Flags on what a walk uses: what is used so far, and what is left of the walk.
 use Rattle.std.proofs.Common.{◌≡◌, ◌≢◌, ◌<◌, ◌↔◌, ◌⊎◌, ◌∙◌, ◌-◌, ℕ, Bool, false, List, Some, None, length, inl, inr, refl, sym, true≢false}
-use Rattle.std.specs.Prelude.{Option, IsTrue}
+use Rattle.std.specs.Prelude.{Option, IsNone, IsTrue}
 use Rattle.std.proofs.lemmas.Bool.{cases_Bool}
 use Rattle.mrt_graph.specs.declared.cert.Color.{Color}
 use Rattle.mrt_graph.specs.declared.link.Element.{Element}
@@ -82,6 +82,18 @@ told parts to color most at (Some x) flag over so_far = λ between. elim (so_far
   | inr not_yet ↦ (λ set. absurd (true≢false (sym set ∙ not_yet.0)), λ uses. absurd (over x not_yet.1 uses))
 ]
 
+-- where the element is used already, or there is none
+settled : (parts : LineParts) (to : ℕ) (color : Color) (most at : ℕ) (x : Option Element) (flag : Bool)
+    → IsTrue flag ⊎ IsNone x → TellsSoFar parts to color most at x flag → TellsUse parts to color x flag
+settled parts to color most at None flag is so_far = so_far
+settled parts to color most at (Some x) flag is so_far = λ between. elim (so_far between) [
+  | inl was ↦ (λ set. was.1, λ uses. was.0)
+  | inr not_yet ↦ elim is [
+    | inl set ↦ absurd (true≢false (sym set ∙ not_yet.0))
+    | inr none ↦ absurd (true≢false none)
+  ]
+]
+
 -- the same of both elements of an arc
 pub record TellSoFar (parts : LineParts) (to : ℕ) (color : Color) (most at : ℕ) (elements : ArcElements) (flags : ArcUses) : Type 0 where
   pub link : TellsSoFar parts to color most at elements.link flags.link
@@ -116,6 +128,15 @@ pub both_end : (parts : LineParts) (to : ℕ) (color : Color) (most at : ℕ) (e
 both_end parts to color most at elements flags same so_far = record {
   link = told parts to color most at elements.link flags.link (λ y. way_ends parts.island.links (its_hops parts to color) to y (its_walk parts to color) parts.source most at same) so_far.link;
   node = told parts to color most at elements.node flags.node (λ y. way_ends parts.island.links (its_hops parts to color) to y (its_walk parts to color) parts.source most at same) so_far.node;
+}
+
+-- where all that are there are used
+pub both_settled : (parts : LineParts) (to : ℕ) (color : Color) (most at : ℕ) (elements : ArcElements) (flags : ArcUses)
+    → (IsTrue flags.link ⊎ IsNone elements.link) × (IsTrue flags.node ⊎ IsNone elements.node)
+    → TellSoFar parts to color most at elements flags → TellUses parts to color elements flags
+both_settled parts to color most at elements flags are so_far = record {
+  link = settled parts to color most at elements.link flags.link are.0 so_far.link;
+  node = settled parts to color most at elements.node flags.node are.1 so_far.node;
 }
 
 -- and with no step left

@@ -1,6 +1,6 @@
 //! Which color repairs the failure of each element of a primary.
 
-ghost use Rattle.std.specs.Prelude.{◌≡◌, ◌<◌, ℕ, IfOk, IfSome, Some, length};
+ghost use Rattle.std.specs.Prelude.{◌≡◌, ◌<◌, ℕ, IfOk, IfSome, IsTrue, Some, length};
 ghost use Rattle.mrt_graph.specs.declared.cert.Color.TheVariants.{Blue, Red};
 ghost use Rattle.text_parts.specs.Adds.{Adds};
 ghost use Rattle.mrt_report.specs.Letters.{AreArcElements, AreArcLetters, AreLetters, IsRepair};
@@ -8,7 +8,7 @@ ghost use Rattle.mrt_report.specs.{LineParts.AreLineParts, Uses.TellUses, Uses.T
 
 use crate::elements::{ArcElements, elements_of, elements_of_second};
 use crate::parts::Parts;
-use crate::uses::{ArcUses, uses_of};
+use crate::uses::{ArcUses, used_of, uses_of};
 use crate::words::letter;
 use mrt_graph::{Color, Element, NoMemory, NodeNo, RowsOf};
 use primary_alt::{Primary, is_between};
@@ -30,7 +30,14 @@ pub fn push_letters<R: RowsOf>(
     let first = elements_of(parts, primary.first);
     let second = elements_of_second(parts, primary.second);
     let blue = uses_of(parts, to, Color::Blue, &first, &second);
-    let red = uses_of(parts, to, Color::Red, &first, &second);
+    // red is asked only for what blue uses
+    let red = uses_of(
+        parts,
+        to,
+        Color::Red,
+        &used_of(&first, &blue.first),
+        &used_of(&second, &blue.second),
+    );
     push_arc_letters(text, parts, to, &first, &blue.first, &red.first)?;
     if primary.second.is_some() {
         push_arc_letters(text, parts, to, &second, &blue.second, &red.second)?;
@@ -48,7 +55,8 @@ fn push_arc_letters<R: RowsOf>(
     red: &ArcUses,
 ) -> Result<(), NoMemory>
     requires blue { TellUses (viewed R.rows parts.now) to Blue elements.now blue.now }
-    requires red { TellUses (viewed R.rows parts.now) to Red elements.now red.now }
+    requires red_link { IsTrue blue.now.link → TellsUse (viewed R.rows parts.now) to Red elements.now.link red.now.link }
+    requires red_node { IsTrue blue.now.node → TellsUse (viewed R.rows parts.now) to Red elements.now.node red.now.node }
     ensures { IfOk result (λ _. (number : ℕ)
         → AreArcElements (viewed R.rows parts.now) number elements.now.link elements.now.node
         → Adds (AreArcLetters (viewed R.rows parts.now) to number) text.old.items text.new.items) }
@@ -60,7 +68,7 @@ fn push_arc_letters<R: RowsOf>(
     Ok(())
 }
 
-/// The alternate for `to` where an element has failed, which the walks of these colors use or not.
+/// The alternate for `to` where an element has failed, which the walk of blue uses or not, and that of red where blue does.
 fn repair<R: RowsOf>(
     parts: &Parts<'_, R>,
     to: NodeNo,
@@ -69,7 +77,7 @@ fn repair<R: RowsOf>(
     red: bool,
 ) -> Option<Color>
     requires blue { TellsUse (viewed R.rows parts.now) to Blue failed.now blue }
-    requires red { TellsUse (viewed R.rows parts.now) to Red failed.now red }
+    requires red { IsTrue blue → TellsUse (viewed R.rows parts.now) to Red failed.now red }
     ensures { IsRepair (viewed R.rows parts.now) to failed.now result }
 {
     match failed {
@@ -81,7 +89,7 @@ fn repair<R: RowsOf>(
 /// The color whose walk to `to` does not use an element.
 fn color_round<R: RowsOf>(parts: &Parts<'_, R>, to: NodeNo, x: &Element, blue: bool, red: bool) -> Option<Color>
     requires blue { TellsUse (viewed R.rows parts.now) to Blue (Some x.now) blue }
-    requires red { TellsUse (viewed R.rows parts.now) to Red (Some x.now) red }
+    requires red { IsTrue blue → TellsUse (viewed R.rows parts.now) to Red (Some x.now) red }
     ensures { IsRepair (viewed R.rows parts.now) to (Some x.now) result }
 {
     if !is_between(x, parts.source, to) {

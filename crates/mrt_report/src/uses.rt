@@ -1,6 +1,6 @@
 //! Which of the few elements of a primary a color walk uses.
 
-ghost use Rattle.std.specs.Prelude.{◌↔◌, ◌⊎◌, IsTrue};
+ghost use Rattle.std.specs.Prelude.{◌≡◌, ◌↔◌, ◌⊎◌, IsNone, IsTrue};
 ghost use Rattle.mrt_report.specs.{LineParts.AreLineParts, Uses.IsOverOne, Uses.TellUses, Viewed.viewed};
 
 use crate::elements::ArcElements;
@@ -24,7 +24,7 @@ pub struct BothUses {
 
 /// Which elements of two arcs the color walk from the router to `to` uses.
 ///
-/// It follows the walk once, whatever the number of elements, and takes no memory.
+/// It follows the walk once, whatever the number of elements, up to where all of them are used, and takes no memory.
 pub fn uses_of<R: RowsOf>(
     parts: &Parts<'_, R>,
     to: NodeNo,
@@ -47,6 +47,9 @@ pub fn uses_of<R: RowsOf>(
     let mut at = parts.source;
     let mut left = parts.island.node_count();
     while left > 0 && at != to {
+        if are_told(&uses.first, first) && are_told(&uses.second, second) {
+            return uses;
+        }
         let hop = next_hop(parts.island, parts.rows, at, to, color);
         uses = BothUses {
             first: uses_after(&uses.first, first, &hop),
@@ -56,6 +59,25 @@ pub fn uses_of<R: RowsOf>(
         left -= 1;
     }
     uses
+}
+
+/// Those of the elements of an arc that are used.
+pub fn used_of(elements: &ArcElements, uses: &ArcUses) -> ArcElements
+    ensures link { IsTrue uses.now.link → result.link ≡ elements.now.link }
+    ensures node { IsTrue uses.now.node → result.node ≡ elements.now.node }
+{
+    ArcElements {
+        link: if uses.link { elements.link } else { None },
+        node: if uses.node { elements.node } else { None },
+    }
+}
+
+/// Whether no hop more can change what is told of these elements: those that are there are used.
+fn are_told(uses: &ArcUses, elements: &ArcElements) -> bool
+    ensures { IsTrue result ↔ ((IsTrue uses.now.link ⊎ IsNone elements.now.link)
+        × (IsTrue uses.now.node ⊎ IsNone elements.now.node)) }
+{
+    (uses.link || elements.link.is_none()) && (uses.node || elements.node.is_none())
 }
 
 /// What is used after one hop more.

@@ -14,9 +14,9 @@ pub returns-then-not-red : goal.returns-then-not-red
 returns-then-not-red g c =
     let between = c.is_between.ensures.0 c.if-not-is_between.false in
     ByRed c.args.x.now between ((c.requires.blue between).0 c.if-not-blue.false)
-    (λ uses. true≢false (sym ((c.requires.red between).1 uses) ∙ c.if-not-red.true))
+    (λ uses. true≢false (sym ((c.requires.red c.if-not-blue.false between).1 uses) ∙ c.if-not-red.true))
 
 pub returns : goal.returns
 returns g c =
     let between = c.is_between.ensures.0 c.if-not-is_between.false in
-    OnBoth c.args.x.now between ((c.requires.blue between).0 c.if-not-blue.false) ((c.requires.red between).0 c.if-not-red.false)
+    OnBoth c.args.x.now between ((c.requires.blue between).0 c.if-not-blue.false) ((c.requires.red c.if-not-blue.false between).0 c.if-not-red.false)
