@@ -121,8 +121,8 @@ def clauses_of(crate: Crate, traits: set[str], library: Library) -> str:
 
 
 def public(root: str) -> list[Crate]:
-    """The crates that have public functions, lowest layer first."""
-    crates = [Crate(root, name) for _, names in layers(root) for name in names]
+    """The crates that have public functions, lowest layer first, but those of tests."""
+    crates = [Crate(root, name) for _, names in layers(root) for name in names if not name.endswith("_tests")]
     return [crate for crate in crates if crate.functions or crate.laws]
 
 

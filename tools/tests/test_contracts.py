@@ -236,7 +236,7 @@ class Pages(unittest.TestCase):
     def test_what_each_crate_hands_on_is_there(self) -> None:
         sections = {text.split("\n")[0]: text for text in self.read("docs/CLAUSES.md").split("\n## ")[1:]}
         count = 0
-        crates = os.listdir(os.path.join(ROOT, "crates"))
+        crates = [name for name in os.listdir(os.path.join(ROOT, "crates")) if not name.endswith("_tests")]
         for crate in crates:
             names = os.listdir(os.path.join(ROOT, "crates", crate, "src"))
             text = self.read(f"crates/{crate}/src/{'lib.rt' if 'lib.rt' in names else 'main.rt'}")
