@@ -2,9 +2,10 @@
 
 ghost use Rattle.std.specs.Prelude.{◌≡◌, IfSome};
 
-use crate::update_files::{LAN_PACKETS, OLDER_FIRST, PACKETS};
+use crate::update_files::OLDER_FIRST;
 use file_key::FileKey;
 use flood_core::{Answer, Flood, read_updates};
+use parts_of_tests::{File, LAN_PACKETS, TRIANGLE_PACKETS};
 use std::alloc::Global;
 
 /// The packets of a file, and one router that none of them has reached.
@@ -19,8 +20,9 @@ fn flood_of(alloc: Global, packets: &[u8]) -> Option<Flood>
 }
 
 /// The answer to the delivery of a packet to a router.
-fn answer_to(alloc: Global, packets: &[u8], packet: u32, router: u16) -> Option<Answer> {
-    let flood = flood_of(alloc, packets)?;
+fn answer_to(alloc: Global, packets: File<'_>, packet: u32, router: u16) -> Option<Answer> {
+    let packets = packets.bytes(alloc).ok()?;
+    let flood = flood_of(alloc, &packets)?;
     match flood.deliver(packet, router) {
         Ok((_flood, answer)) => Some(answer),
         Err(_) => None,
@@ -28,9 +30,9 @@ fn answer_to(alloc: Global, packets: &[u8], packet: u32, router: u16) -> Option<
 }
 
 /// A file of packets, one of them, the router that it reaches, and what is answered.
-const DELIVERIES: &[(&[u8], u32, u16, Answer)] = &[
+const DELIVERIES: &[(File, u32, u16, Answer)] = &[
     (
-        &PACKETS,
+        File::Packets(TRIANGLE_PACKETS),
         0,
         0,
         Answer::Changed {
@@ -39,7 +41,7 @@ const DELIVERIES: &[(&[u8], u32, u16, Answer)] = &[
         },
     ),
     (
-        &OLDER_FIRST,
+        File::Bytes(&OLDER_FIRST),
         1,
         0,
         Answer::Changed {
@@ -48,7 +50,7 @@ const DELIVERIES: &[(&[u8], u32, u16, Answer)] = &[
         },
     ),
     (
-        LAN_PACKETS,
+        File::Packets(LAN_PACKETS),
         0,
         0,
         Answer::Changed {
@@ -57,7 +59,7 @@ const DELIVERIES: &[(&[u8], u32, u16, Answer)] = &[
         },
     ),
     (
-        LAN_PACKETS,
+        File::Packets(LAN_PACKETS),
         1,
         0,
         Answer::Changed {
@@ -66,7 +68,7 @@ const DELIVERIES: &[(&[u8], u32, u16, Answer)] = &[
         },
     ),
     (
-        LAN_PACKETS,
+        File::Packets(LAN_PACKETS),
         2,
         0,
         Answer::Changed {
@@ -74,11 +76,11 @@ const DELIVERIES: &[(&[u8], u32, u16, Answer)] = &[
             sent: Some(3),
         },
     ),
-    (LAN_PACKETS, 3, 0, Answer::NoSuchPacket),
-    (LAN_PACKETS, 2, 1, Answer::NoSuchRouter),
+    (File::Packets(LAN_PACKETS), 3, 0, Answer::NoSuchPacket),
+    (File::Packets(LAN_PACKETS), 2, 1, Answer::NoSuchRouter),
 ];
 
-fn deliveries() -> &'static [(&'static [u8], u32, u16, Answer)] {
+fn deliveries() -> &'static [(File<'static>, u32, u16, Answer)] {
     DELIVERIES
 }
 

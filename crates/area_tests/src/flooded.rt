@@ -1,13 +1,13 @@
 //! Packets that reach routers by a script.
 
-use crate::databases::area_in;
-use crate::update_files::{LAN_PACKETS, OLDER_FIRST, PACKETS};
+use crate::update_files::OLDER_FIRST;
 use area_graph::Area;
 use file_key::FileKey;
 use flood_core::{SharedLsdb, read_updates};
 use flood_script::{Compare, FloodScriptError, Verdict, flood_text, read_flood_script};
 use lsdb::Lsdb;
-use mrt_graph::{Kind, NoMemory, NodeId};
+use mrt_graph::{NoMemory, NodeId};
+use parts_of_tests::{File, LAN_PACKETS, TRIANGLE_PACKETS, area_in};
 use std::alloc::Global;
 
 /// Compares two databases by how many nodes their areas have, where both have the router.
@@ -37,10 +37,7 @@ fn verdict_of(one: Option<u16>, other: Option<u16>) -> Verdict {
 
 /// How many nodes an area has, if the router is one of them.
 fn nodes_of(area: &Area, router: u32) -> Option<u16> {
-    area.find(NodeId {
-        kind: Kind::Router,
-        number: router,
-    })?;
+    area.find(NodeId::router(router))?;
     Some(area.count())
 }
 
@@ -71,43 +68,43 @@ fn text_of(alloc: Global, packets: &[u8], script: &[u8]) -> Option<Vec<u8>> {
 
 /// Packets, a script over them, and its text.
 struct Run {
-    packets: &'static [u8],
+    packets: File<'static>,
     script: &'static str,
     text: &'static str,
 }
 
 const RUNS: &[Run] = &[
     Run {
-        packets: &PACKETS,
+        packets: File::Packets(TRIANGLE_PACKETS),
         script: "routers 2\ndeliver 0 0\ndeliver 0 0\ndeliver 2 1\nsame 0 1 3.3.3.3\nsame 0 1 1.1.1.1\ndeliver 1 1\ndeliver 3 1\nsame 0 1 1.1.1.1\ndeliver 9 0\ndeliver 0 5\n",
         text: "changed 3 sent 3\nchanged 0\nchanged 2 sent 4\ndifferent\nnone\nchanged 1 sent 5\nchanged 0\nsame\nrefused no-such-packet\nrefused no-such-router\n",
     },
     // another order, and what was sent on in turn
     Run {
-        packets: &PACKETS,
+        packets: File::Packets(TRIANGLE_PACKETS),
         script: "routers 3\ndeliver 2 0\ndeliver 1 0\ndeliver 4 1\ndeliver 3 1\ndeliver 0 2\nsame 0 1 2.2.2.2\nsame 1 2 2.2.2.2\n",
         text: "changed 2 sent 3\nchanged 1 sent 4\nchanged 1 sent 5\nchanged 2 sent 6\nchanged 3 sent 7\nsame\nsame\n",
     },
     // of both numbers that are not there the packet's is told
     Run {
-        packets: &PACKETS,
+        packets: File::Packets(TRIANGLE_PACKETS),
         script: "routers 1\ndeliver 3 1\n",
         text: "refused no-such-packet\n",
     },
     Run {
-        packets: &PACKETS,
+        packets: File::Packets(TRIANGLE_PACKETS),
         script: "routers 1\n",
         text: "",
     },
     // what is new beside an older instance is sent on alone; what a router had before is not
     Run {
-        packets: &OLDER_FIRST,
+        packets: File::Bytes(&OLDER_FIRST),
         script: "routers 2\ndeliver 0 0\ndeliver 1 0\ndeliver 3 1\ndeliver 1 1\ndeliver 5 0\ndeliver 0 1\n",
         text: "changed 1 sent 2\nchanged 1 sent 3\nchanged 1 sent 4\nchanged 1 sent 5\nchanged 0\nchanged 1 sent 6\n",
     },
     // a network-LSA and entries for types of service; LSAs of other types are passed over
     Run {
-        packets: LAN_PACKETS,
+        packets: File::Packets(LAN_PACKETS),
         script: "routers 2\ndeliver 0 0\nsame 0 0 3.3.3.3\ndeliver 1 1\nsame 0 1 4.4.4.4\ndeliver 2 1\ndeliver 3 1\nsame 0 1 1.1.1.1\ndeliver 5 0\n",
         text: "changed 5 sent 3\nsame\nchanged 2 sent 4\ndifferent\nchanged 3 sent 5\nchanged 0\nsame\nchanged 0\n",
     },
@@ -117,18 +114,17 @@ fn runs() -> &'static [Run] {
     RUNS
 }
 
-fn gives_its_text(alloc: Global, run: &Run) -> bool {
-    match text_of(alloc, run.packets, run.script.as_bytes()) {
-        None => false,
-        Some(text) => text.as_slice() == run.text.as_bytes(),
-    }
+fn gives_its_text(alloc: Global, run: &Run) -> Option<bool> {
+    let packets = run.packets.bytes(alloc).ok()?;
+    let text = text_of(alloc, &packets, run.script.as_bytes())?;
+    Some(text.as_slice() == run.text.as_bytes())
 }
 
 #[test]
 fn scripts_have_their_texts(rt: HostRuntime) {
     for (place, run) in runs().iter().enumerate() {
         let is_so = gives_its_text(rt.alloc(), run);
-        assert!(rt; is_so, "run {place}");
+        assert!(rt; is_so == Some(true), "run {place}");
     }
 }
 

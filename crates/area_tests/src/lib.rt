@@ -4,8 +4,6 @@
 #[cfg(test)]
 mod copies;
 #[cfg(test)]
-mod databases;
-#[cfg(test)]
 mod delivering;
 #[cfg(test)]
 mod every_order;
@@ -35,5 +33,7 @@ mod profiles;
 mod small_areas;
 #[cfg(test)]
 mod stub_routers;
+#[cfg(test)]
+mod told_files;
 #[cfg(test)]
 mod update_files;
