@@ -5,8 +5,9 @@ ghost use Rattle.mrt_graph.specs.Certificate.{row_of};
 ghost use Rattle.mrt_graph.specs.Column.{ColumnSound};
 ghost use Rattle.mrt_graph.specs.AcceptedFor.{IsAcceptedFor};
 
-use crate::networks::{LAN, TRIANGLE, network_of};
+use crate::networks::network_of;
 use mrt_graph::{Cert, Column, Element, Graph, LinkNo, NoMemory, NodeNo, Row};
+use parts_of_tests::{LAN, LsaTold, TRIANGLE};
 use primary_alt::{alternate, alternate_on};
 use std::alloc::Global;
 
@@ -119,21 +120,23 @@ fn island_agrees(alloc: Global, g: &Graph, cert: &Cert) -> Result<bool, NoMemory
     Ok(true)
 }
 
-fn is_so(alloc: Global, bytes: &[u8]) -> Result<bool, NoMemory> {
-    let Some(network) = network_of(alloc, bytes) else {
+fn is_so(alloc: Global, lsas: &[LsaTold<'_>]) -> Result<bool, NoMemory> {
+    let Some(network) = network_of(alloc, lsas) else {
         return Err(NoMemory);
     };
     island_agrees(alloc, &network.island.graph, &network.cert)
 }
 
-fn cases() -> &'static [&'static [u8]] {
-    &[TRIANGLE, LAN]
+const CASES: &[&[LsaTold]] = &[TRIANGLE, LAN];
+
+fn cases() -> &'static [&'static [LsaTold<'static>]] {
+    CASES
 }
 
 #[test]
 fn repairs_by_columns(rt: HostRuntime) {
-    for bytes in cases() {
-        let is_so = is_so(rt.alloc(), bytes);
+    for lsas in cases() {
+        let is_so = is_so(rt.alloc(), lsas);
         assert!(rt; is_so == Ok(true));
     }
 }

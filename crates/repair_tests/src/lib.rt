@@ -7,8 +7,6 @@ mod alternates;
 #[cfg(test)]
 mod columns;
 #[cfg(test)]
-mod databases;
-#[cfg(test)]
 mod loop_free;
 #[cfg(test)]
 mod networks;

@@ -4,12 +4,13 @@ ghost use Rattle.std.specs.Prelude.{◌≡◌, ◌≤◌};
 ghost use Rattle.mrt_graph.specs.AcceptedFor.{IsAcceptedFor};
 ghost use Rattle.primary_alt.specs.RoutesMade.{AreMadeWith};
 
-use crate::networks::{LAN, LINE, Network, TRIANGLE, network_of};
+use crate::networks::{Network, network_of};
 use area_graph::{BondNo, Spot};
 use fabric::{
     Entry, Event, Fabric, Failure, PacketNo, a_certificate_serves_each_event, outcome_line,
 };
 use mrt_graph::NoMemory;
+use parts_of_tests::{LAN, LINE, LsaTold, TRIANGLE};
 use std::alloc::Global;
 
 /// An event, with nodes, bonds and packets by their numbers.
@@ -23,7 +24,7 @@ enum Happening {
 
 /// A network, for how many packets there is room, what happens, and what is answered.
 struct Case {
-    bytes: &'static [u8],
+    lsas: &'static [LsaTold<'static>],
     room: u16,
     happenings: &'static [Happening],
     text: &'static str,
@@ -31,7 +32,7 @@ struct Case {
 
 /// A packet is switched where its link has failed, while another is on its way.
 const SWITCHED: &Case = &Case {
-    bytes: TRIANGLE,
+    lsas: TRIANGLE,
     room: 2,
     happenings: &[
         Happening::Inject(1, 0, Entry::Repair),
@@ -52,7 +53,7 @@ const SWITCHED: &Case = &Case {
 
 /// A router fails with a packet in it.
 const LOST_INSIDE: &Case = &Case {
-    bytes: TRIANGLE,
+    lsas: TRIANGLE,
     room: 1,
     happenings: &[
         Happening::Inject(0, 2, Entry::Blue),
@@ -65,7 +66,7 @@ const LOST_INSIDE: &Case = &Case {
 
 /// The failed router separates.
 const SEPARATED: &Case = &Case {
-    bytes: LINE,
+    lsas: LINE,
     room: 1,
     happenings: &[
         Happening::FailNode(1),
@@ -77,7 +78,7 @@ const SEPARATED: &Case = &Case {
 
 /// The destination has failed.
 const DESTINATION_FAILED: &Case = &Case {
-    bytes: LINE,
+    lsas: LINE,
     room: 1,
     happenings: &[
         Happening::FailNode(3),
@@ -91,7 +92,7 @@ const DESTINATION_FAILED: &Case = &Case {
 
 /// A color is cut.
 const CUT: &Case = &Case {
-    bytes: LINE,
+    lsas: LINE,
     room: 1,
     happenings: &[
         Happening::FailNode(2),
@@ -104,7 +105,7 @@ const CUT: &Case = &Case {
 
 /// Over a network in one step; the network fails; no packet enters at it, and one for it is lost.
 const OVER_A_NETWORK: &Case = &Case {
-    bytes: LAN,
+    lsas: LAN,
     room: 3,
     happenings: &[
         Happening::Inject(0, 2, Entry::Repair),
@@ -169,7 +170,7 @@ fn text_of(alloc: Global, network: &Network, case: &Case) -> Result<Vec<u8>, NoM
 
 /// Whether the answers are those of the case.
 fn is_so(alloc: Global, case: &Case) -> Result<bool, NoMemory> {
-    let Some(network) = network_of(alloc, case.bytes) else {
+    let Some(network) = network_of(alloc, case.lsas) else {
         return Err(NoMemory);
     };
     if case.room == 0 {

@@ -5,14 +5,14 @@ ghost use Rattle.area_graph.specs.Fits.{Fits};
 ghost use Rattle.mrt_graph.specs.GraphInvariant.{IsNetwork};
 ghost use Rattle.mrt_report.specs.TableParts.{AreItsPrimaries};
 
-use crate::databases::area_of;
-use crate::networks::{TRIANGLE, island_of as island_of_first};
+use crate::networks::island_of as island_of_first;
 use crate::small_area::{island_of, small_area};
 use area_graph::Area;
 use mrt_graph::{Kind, NodeNo};
 use mrt_island::Island;
 use mrt_report::{primary_for, table_head, table_line};
 use mrt_rows::RootedColumns;
+use parts_of_tests::{TRIANGLE, area_of};
 use primary_alt::{Primary, primaries};
 use std::alloc::Global;
 
