@@ -1,3 +1,2 @@
 pub mod ProxyFiles
 pub mod PutSteps
-pub mod RouterGraphs

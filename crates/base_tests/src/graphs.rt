@@ -1,7 +1,7 @@
 //! Graphs by hand: their identifiers, links and ends. Routers 1, 2, 3 and so on are nodes 0, 1, 2.
 
 use crate::router_graphs::graph;
-use mrt_graph::{End, Graph, GraphError, Kind, Link, LinkIn, LinkNo, NoMemory, NodeId, NodeNo};
+use mrt_graph::{End, Graph, GraphError, Link, LinkIn, LinkNo, NoMemory, NodeId, NodeNo};
 use std::alloc::Global;
 use std::process::Abort;
 
@@ -105,23 +105,16 @@ fn links_told(alloc: Global, told: &[LinkTold]) -> Result<Vec<LinkIn>, NoMemory>
     Ok(links)
 }
 
-fn router(number: u32) -> NodeId {
-    NodeId {
-        kind: Kind::Router,
-        number,
-    }
-}
-
 /// Whether the nodes are routers from number 1 on, and no other router is found.
 fn has_routers(graph: &Graph) -> bool {
     for place in 0..graph.node_count() {
         let node = NodeNo::new(place);
-        let id = router(u32::from(place) + 1);
+        let id = NodeId::router(u32::from(place) + 1);
         if graph.id(node) != id || graph.find(id) != Some(node) {
             return false;
         }
     }
-    graph.find(router(u32::from(graph.node_count()) + 1)) == None
+    graph.find(NodeId::router(u32::from(graph.node_count()) + 1)) == None
 }
 
 /// Whether these are the links, by their nodes.

@@ -55,10 +55,7 @@ pub fn nodes(alloc: Global, told: &[NodeTold]) -> Result<Vec<CertNode>, NoMemory
     for &(order, head, block) in told {
         number = number.wrapping_add(1);
         nodes.push(CertNode {
-            id: NodeId {
-                kind: Kind::Router,
-                number,
-            },
+            id: NodeId::router(number),
             order,
             head: NodeNo::new(head),
             block: NodeNo::new(block),

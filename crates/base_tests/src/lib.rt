@@ -36,6 +36,10 @@ mod proxy_islands;
 #[cfg(test)]
 mod proxying;
 #[cfg(test)]
+mod read_texts;
+#[cfg(test)]
 mod router_graphs;
+#[cfg(test)]
+mod told_certs;
 #[cfg(test)]
 mod verdicts;

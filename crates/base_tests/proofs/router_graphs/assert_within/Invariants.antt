@@ -1,7 +1,0 @@
-use Rattle.std.proofs.Common.{◌<◌, ℕ, slice_index_or}
-use Rattle.mrt_graph.specs.declared.link.LinkIn.{LinkIn}
-use Rattle.mrt_graph.specs.EndRows.{IsWithin}
-use Rattle.base_tests.proofs.router_graphs.assert_within.Given as goal
-
-abbrev pub invariant-loop-link : goal.invariant-loop-link
-invariant-loop-link g l = (k : ℕ) (d : LinkIn) → k < l.link-index → IsWithin l.count (slice_index_or l.links k d)
