@@ -4,8 +4,7 @@ ghost use Rattle.std.specs.Prelude.{◌≡◌, ◌<◌, length};
 ghost use Rattle.link_direction.specs.OrderedGadag.{SaysOrdered};
 ghost use Rattle.mrt_rows.specs.Rooted.{MakeColumns};
 
-use crate::hand_graphs::graph_told;
-use crate::hand_paths::directed_of;
+use crate::hand_graphs::{directed_of, graph_told};
 use crate::hand_rows::{Case, cases, row_in};
 use mrt_graph::{Column, Directed, Graph, GraphError, NoMemory, NodeNo, Row};
 use mrt_rows::{RootedColumns, column_of, rows_of};

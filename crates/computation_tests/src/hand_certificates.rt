@@ -1,8 +1,9 @@
 //! Certificates by hand: what they say of nodes and links. Their rows are in `hand_rows`.
 
-use crate::hand_graphs::{LinkTold, graph_told};
+use crate::hand_graphs::graph_told;
 use mrt_graph::{Cert, CertLink, CertNode, Graph, GraphError, NoMemory, NodeNo, Role};
 use mrt_rows::compute;
+use parts_of_tests::LinkTold;
 use std::alloc::Global;
 use std::process::Abort;
 use std::test::Fail;

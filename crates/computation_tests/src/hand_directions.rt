@@ -2,9 +2,9 @@
 
 ghost use Rattle.std.specs.Prelude.{◌≡◌, length};
 
-use crate::hand_graphs::{LinkTold, graph_told};
-use crate::hand_paths::directed_of;
+use crate::hand_graphs::{directed_of, graph_told};
 use mrt_graph::{Directed, GraphError, LinkNo, NodeNo, Way};
+use parts_of_tests::LinkTold;
 use std::alloc::Global;
 use std::process::Abort;
 use std::test::Fail;

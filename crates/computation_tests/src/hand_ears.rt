@@ -1,11 +1,10 @@
 //! Ears by hand: the ear order, the head and the block of each node, the direction, the role and the block of each link.
 
-ghost use Rattle.std.specs.Prelude.{◌≡◌, ◌<◌, IfOk, length};
+ghost use Rattle.std.specs.Prelude.{◌≡◌, length};
 
-use crate::hand_graphs::{LinkTold, graph_told};
-use gadag_ears::ears;
-use lowpoint_dfs::search;
-use mrt_graph::{Gadag, Graph, GraphError, LinkNo, Mark, NoMemory, NodeNo, Place, Role, Way};
+use crate::hand_graphs::{gadag_of, graph_told};
+use mrt_graph::{Gadag, GraphError, LinkNo, Mark, NodeNo, Place, Role, Way};
+use parts_of_tests::LinkTold;
 use std::alloc::Global;
 use std::process::Abort;
 use std::test::Fail;
@@ -255,16 +254,6 @@ fn cases() -> [&'static Case; 10] {
         TWO_BLOCKS,
         NETWORK,
     ]
-}
-
-/// The GADAG of a graph from a root, and how many nodes and links it has.
-fn gadag_of(rt: &impl Abort, alloc: Global, g: &Graph, root: u16) -> Result<Gadag, NoMemory>
-    ensures places { IfOk result (λ gadag. length gadag.places ≡ length g.now.ids) }
-    ensures marks { IfOk result (λ gadag. length gadag.marks ≡ length g.now.links) }
-{
-    assert!(rt; root < g.node_count());
-    let tree = search(alloc, g, NodeNo::new(root))?;
-    ears(alloc, g, NodeNo::new(root), &tree)
 }
 
 fn has_order(gadag: &Gadag, told: &[u16]) -> bool {

@@ -2,14 +2,11 @@
 
 ghost use Rattle.std.specs.Prelude.{◌≡◌, IfOk, length};
 ghost use Rattle.inc_dec_spf.specs.HasDirections.{HasDirections};
-ghost use Rattle.link_direction.specs.OrderedGadag.{SaysOrdered};
 
-use crate::hand_graphs::{LinkTold, graph_told};
-use gadag_ears::ears;
+use crate::hand_graphs::{directed_of, graph_told};
 use inc_dec_spf::{Dir, Hop, Reach, spf};
-use link_direction::direct;
-use lowpoint_dfs::search;
 use mrt_graph::{Directed, Graph, GraphError, LinkNo, NoMemory, NodeNo};
+use parts_of_tests::LinkTold;
 use std::alloc::Global;
 use std::process::Abort;
 use std::test::Fail;
@@ -286,25 +283,6 @@ pub fn cases() -> [&'static Case; 8] {
         TWO_NETWORKS,
         NETWORKS_IN_A_RING,
     ]
-}
-
-/// The GADAG of a graph from a root, with its order.
-pub fn directed_of(
-    rt: &impl Abort,
-    alloc: Global,
-    g: &Graph,
-    root: u16,
-) -> Result<Directed, NoMemory>
-    ensures has { IfOk result (HasDirections g.now) }
-    ensures says { IfOk result (SaysOrdered g.now root) }
-    ensures orders { IfOk result (λ d. length d.orders ≡ length g.now.ids) }
-    ensures marks { IfOk result (λ d. length d.marks ≡ length g.now.links) }
-{
-    assert!(rt; root < g.node_count());
-    let root = NodeNo::new(root);
-    let tree = search(alloc, g, root)?;
-    let gadag = ears(alloc, g, root, &tree)?;
-    direct(alloc, g, root, gadag)
 }
 
 fn hop_of(told: &HopTold) -> Option<Hop> {

@@ -4,11 +4,12 @@ ghost use Rattle.std.specs.Prelude.{◌≡◌, ◌<◌, length};
 ghost use Rattle.inc_dec_spf.specs.HasDirections.{HasDirections};
 ghost use Rattle.order_repair.specs.Failed.{IsWithin};
 
-use crate::hand_graphs::{LinkTold, graph_told};
-use crate::hand_paths::{directed_of, reach_of};
+use crate::hand_graphs::{directed_of, graph_told};
+use crate::hand_paths::reach_of;
 use inc_dec_spf::{Dir, Reach};
 use mrt_graph::{Color, Directed, Element, Graph, GraphError, LinkNo, NoMemory, NodeNo};
 use order_repair::order_choice;
+use parts_of_tests::LinkTold;
 use std::alloc::Global;
 use std::process::Abort;
 use std::test::Fail;

@@ -5,8 +5,8 @@ ghost use Rattle.std.specs.Prelude.{◌≡◌, ◌<◌, length};
 ghost use Rattle.inc_dec_spf.specs.HasDirections.{HasDirections};
 ghost use Rattle.mrt_plain.specs.Within.{AreWithin};
 
-use crate::hand_graphs::graph_told;
-use crate::hand_paths::{directed_of, reach_of};
+use crate::hand_graphs::{directed_of, graph_told};
+use crate::hand_paths::reach_of;
 use crate::hand_rows::{Case, cases};
 use inc_dec_spf::{Dir, Reach};
 use mrt_graph::{

@@ -3,8 +3,8 @@
 ghost use Rattle.std.specs.Prelude.{◌≡◌, ◌<◌, IfOk, length};
 ghost use Rattle.inc_dec_spf.specs.HasDirections.{HasDirections};
 
-use crate::hand_graphs::graph_told;
-use crate::hand_paths::{Case, NO, RowTold, cases, directed_of, has_hops, reach_of};
+use crate::hand_graphs::{directed_of, graph_told};
+use crate::hand_paths::{Case, NO, RowTold, cases, has_hops, reach_of};
 use inc_dec_spf::{Dir, Reach, spf_to};
 use mrt_graph::{Directed, Graph, GraphError, NoMemory, NodeNo};
 use std::alloc::Global;

@@ -1,8 +1,9 @@
 //! Streams compared: whether the certificates of two graphs are the same.
 
-use crate::hand_graphs::{LinkTold, graph_told};
+use crate::hand_graphs::graph_told;
 use cert_stream::CertStream;
 use mrt_graph::{GraphError, NodeNo};
+use parts_of_tests::LinkTold;
 use std::alloc::Global;
 use std::process::Abort;
 use std::test::Fail;

@@ -1,10 +1,10 @@
 //! Search trees by hand, each node told as its number, parent link, lowpoint and lowpoint link.
 
-ghost use Rattle.std.specs.Prelude.{◌≡◌, ◌<◌, IfOk, length};
+ghost use Rattle.std.specs.Prelude.{◌≡◌, length};
 
-use crate::hand_graphs::{LinkTold, graph, graph_told, link};
-use lowpoint_dfs::search;
-use mrt_graph::{Graph, GraphError, LinkIn, LinkNo, NoMemory, NodeNo, Tree, TreeNode};
+use crate::hand_graphs::{graph, graph_told, tree_of};
+use mrt_graph::{GraphError, LinkIn, LinkNo, NoMemory, NodeNo, Tree, TreeNode};
+use parts_of_tests::{LinkTold, link};
 use std::alloc::Global;
 use std::process::Abort;
 use std::test::Fail;
@@ -176,14 +176,6 @@ fn node_of(told: &Told) -> TreeNode {
         low: told.2,
         low_link: told.3.map(LinkNo::new),
     }
-}
-
-/// The tree of a graph from a root, and how many nodes it has.
-fn tree_of(rt: &impl Abort, alloc: Global, g: &Graph, root: u16) -> Result<Tree, NoMemory>
-    ensures { IfOk result (λ tree. length tree ≡ length g.now.ids) }
-{
-    assert!(rt; root < g.node_count());
-    search(alloc, g, NodeNo::new(root))
 }
 
 fn tells(tree: &Tree, count: u16, told: &[Told]) -> bool
