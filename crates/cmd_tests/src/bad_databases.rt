@@ -3,14 +3,15 @@
 use crate::calling::{CHECK, Case, UNDER, comes_out};
 use crate::files::{CERTIFICATE, CONFLICT, CONFLICTS};
 use mrt_cmd::{DbKind, Exit};
-use ospf_lsa::LsaKind;
+use ospf_lsa::{LsaKind, POINT_TO_POINT, TRANSIT};
+use parts_of_tests::{BodyTold, FIRST, File, Instance, LsaTold};
 
 const JUNK: &Case = &Case {
     name: "junk",
     words: CHECK,
-    database: b"junk",
+    database: File::Bytes(b"junk"),
     profile: "",
-    certificate: b"junk",
+    certificate: File::Bytes(b"junk"),
     exit: Exit::BadDatabase {
         at: 0,
         kind: DbKind::Lsa(LsaKind::Truncated),
@@ -22,9 +23,11 @@ const JUNK: &Case = &Case {
 const A_FAULT_CHECKSUM: &Case = &Case {
     name: "a fault: checksum",
     words: CHECK,
-    database: b"\x00\x01\x02\x01\x01\x01\x01\x01\x01\x01\x01\x01\x80\x00\x00\x01\x00\x00\x00\x18\x00\x00\x00\x00",
+    database: File::Bytes(
+        b"\x00\x01\x02\x01\x01\x01\x01\x01\x01\x01\x01\x01\x80\x00\x00\x01\x00\x00\x00\x18\x00\x00\x00\x00",
+    ),
     profile: "",
-    certificate: b"junk",
+    certificate: File::Bytes(b"junk"),
     exit: Exit::BadDatabase {
         at: 0,
         kind: DbKind::Lsa(LsaKind::Checksum),
@@ -36,9 +39,11 @@ const A_FAULT_CHECKSUM: &Case = &Case {
 const A_FAULT_LENGTH: &Case = &Case {
     name: "a fault: length",
     words: CHECK,
-    database: b"\x00\x01\x02\x01\x01\x01\x01\x01\x01\x01\x01\x01\x80\x00\x00\x01\x33\x28\x00\x13\x00\x00\x00\x00",
+    database: File::Bytes(
+        b"\x00\x01\x02\x01\x01\x01\x01\x01\x01\x01\x01\x01\x80\x00\x00\x01\x33\x28\x00\x13\x00\x00\x00\x00",
+    ),
     profile: "",
-    certificate: b"junk",
+    certificate: File::Bytes(b"junk"),
     exit: Exit::BadDatabase {
         at: 0,
         kind: DbKind::Lsa(LsaKind::Length),
@@ -50,9 +55,11 @@ const A_FAULT_LENGTH: &Case = &Case {
 const A_FAULT_RESERVED_SEQUENCE: &Case = &Case {
     name: "a fault: reserved-sequence",
     words: CHECK,
-    database: b"\x00\x01\x02\x01\x01\x01\x01\x01\x01\x01\x01\x01\x80\x00\x00\x00\x35\x27\x00\x18\x00\x00\x00\x00",
+    database: File::Bytes(
+        b"\x00\x01\x02\x01\x01\x01\x01\x01\x01\x01\x01\x01\x80\x00\x00\x00\x35\x27\x00\x18\x00\x00\x00\x00",
+    ),
     profile: "",
-    certificate: b"junk",
+    certificate: File::Bytes(b"junk"),
     exit: Exit::BadDatabase {
         at: 0,
         kind: DbKind::Lsa(LsaKind::ReservedSequence),
@@ -64,9 +71,19 @@ const A_FAULT_RESERVED_SEQUENCE: &Case = &Case {
 const A_FAULT_ZERO_METRIC: &Case = &Case {
     name: "a fault: zero-metric",
     words: CHECK,
-    database: b"\x00\x01\x02\x01\x01\x01\x01\x01\x01\x01\x01\x01\x80\x00\x00\x01\xf3\x28\x00\x30\x00\x00\x00\x02\x02\x02\x02\x02\x00\x00\x00\x02\x01\x00\x00\x0a\x03\x03\x03\x03\x00\x00\x00\x03\x01\x00\x00\x00\x00\x01\x02\x01\x02\x02\x02\x02\x02\x02\x02\x02\x80\x00\x00\x01\xa4\x6a\x00\x30\x00\x00\x00\x02\x01\x01\x01\x01\x00\x00\x00\x01\x01\x00\x00\x0a\x03\x03\x03\x03\x00\x00\x00\x03\x01\x00\x00\x0a\x00\x01\x02\x01\x03\x03\x03\x03\x03\x03\x03\x03\x80\x00\x00\x01\xeb\x20\x00\x30\x00\x00\x00\x02\x01\x01\x01\x01\x00\x00\x00\x01\x01\x00\x00\x0a\x02\x02\x02\x02\x00\x00\x00\x02\x01\x00\x00\x0a",
+    database: File::Lsas(&[
+        LsaTold::Router(
+            0x0101_0101,
+            &[
+                (0x0202_0202, 2, POINT_TO_POINT, 10),
+                (0x0303_0303, 3, POINT_TO_POINT, 0),
+            ],
+        ),
+        LsaTold::Joined(2, &[1, 3]),
+        LsaTold::Joined(3, &[1, 2]),
+    ]),
     profile: "",
-    certificate: b"junk",
+    certificate: File::Bytes(b"junk"),
     exit: Exit::BadDatabase {
         at: 0,
         kind: DbKind::Lsa(LsaKind::ZeroMetric),
@@ -78,9 +95,11 @@ const A_FAULT_ZERO_METRIC: &Case = &Case {
 const A_FAULT_ID_MISMATCH: &Case = &Case {
     name: "a fault: id-mismatch",
     words: CHECK,
-    database: b"\x00\x01\x02\x01\x02\x02\x02\x02\x01\x01\x01\x01\x80\x00\x00\x01\x05\x52\x00\x18\x00\x00\x00\x00",
+    database: File::Bytes(
+        b"\x00\x01\x02\x01\x02\x02\x02\x02\x01\x01\x01\x01\x80\x00\x00\x01\x05\x52\x00\x18\x00\x00\x00\x00",
+    ),
     profile: "",
-    certificate: b"junk",
+    certificate: File::Bytes(b"junk"),
     exit: Exit::BadDatabase {
         at: 0,
         kind: DbKind::Lsa(LsaKind::IdMismatch),
@@ -92,9 +111,11 @@ const A_FAULT_ID_MISMATCH: &Case = &Case {
 const A_FAULT_BODY: &Case = &Case {
     name: "a fault: body",
     words: CHECK,
-    database: b"\x00\x01\x02\x02\x0a\x00\x00\x04\x01\x01\x01\x01\x80\x00\x00\x01\xac\xa1\x00\x1a\x00\x00\x00\x00\x00\x00",
+    database: File::Bytes(
+        b"\x00\x01\x02\x02\x0a\x00\x00\x04\x01\x01\x01\x01\x80\x00\x00\x01\xac\xa1\x00\x1a\x00\x00\x00\x00\x00\x00",
+    ),
     profile: "",
-    certificate: b"junk",
+    certificate: File::Bytes(b"junk"),
     exit: Exit::BadDatabase {
         at: 0,
         kind: DbKind::Lsa(LsaKind::Body),
@@ -106,9 +127,11 @@ const A_FAULT_BODY: &Case = &Case {
 const MORE_LINKS_THAN_BYTES: &Case = &Case {
     name: "more links than bytes",
     words: CHECK,
-    database: b"\x00\x01\x02\x01\x01\x01\x01\x01\x01\x01\x01\x01\x80\x00\x00\x01\x9a\xad\x00\x24\x00\x00\xff\xff\x01\x01\x01\x01\xff\xff\xff\xff\x03\x00\x00\x00",
+    database: File::Bytes(
+        b"\x00\x01\x02\x01\x01\x01\x01\x01\x01\x01\x01\x01\x80\x00\x00\x01\x9a\xad\x00\x24\x00\x00\xff\xff\x01\x01\x01\x01\xff\xff\xff\xff\x03\x00\x00\x00",
+    ),
     profile: "",
-    certificate: CERTIFICATE,
+    certificate: File::Cert(1, CERTIFICATE),
     exit: Exit::BadDatabase {
         at: 0,
         kind: DbKind::Lsa(LsaKind::Body),
@@ -120,9 +143,34 @@ const MORE_LINKS_THAN_BYTES: &Case = &Case {
 const A_LAN_WITH_MORE_LINKS_THAN_BYTES: &Case = &Case {
     name: "a LAN with more links than bytes",
     words: CHECK,
-    database: b"\x00\x01\x02\x01\x01\x01\x01\x01\x01\x01\x01\x01\x80\x00\x00\x01\x42\xc6\x00\x30\x00\x00\xff\xff\x0a\x00\x00\x04\x0a\x00\x00\x01\x02\x00\x00\x0a\x02\x02\x02\x02\x00\x00\x00\x02\x01\x00\x00\x0a\x00\x01\x02\x01\x02\x02\x02\x02\x02\x02\x02\x02\x80\x00\x00\x01\xa3\x5f\x00\x30\x00\x00\x00\x02\x0a\x00\x00\x04\x0a\x00\x00\x02\x02\x00\x00\x0a\x01\x01\x01\x01\x00\x00\x00\x01\x01\x00\x00\x0a\x00\x01\x02\x01\x03\x03\x03\x03\x03\x03\x03\x03\x80\x00\x00\x01\x92\x84\x00\x24\x00\x00\x00\x01\x0a\x00\x00\x04\x0a\x00\x00\x03\x02\x00\x00\x0a\x00\x01\x02\x01\x04\x04\x04\x04\x04\x04\x04\x04\x80\x00\x00\x01\x54\xb9\x00\x24\x00\x00\x00\x01\x0a\x00\x00\x04\x0a\x00\x00\x04\x02\x00\x00\x0a\x00\x01\x02\x02\x0a\x00\x00\x04\x04\x04\x04\x04\x80\x00\x00\x01\xa4\x67\x00\x28\xff\xff\xff\x00\x04\x04\x04\x04\x01\x01\x01\x01\x02\x02\x02\x02\x03\x03\x03\x03",
+    database: File::Lsas(&[
+        LsaTold::Other(Instance {
+            age: 1,
+            id: 0x0101_0101,
+            router: 0x0101_0101,
+            sequence: FIRST,
+            body: BodyTold::Bytes(
+                1,
+                b"\x00\x00\xff\xff\x0a\x00\x00\x04\x0a\x00\x00\x01\x02\x00\x00\x0a\x02\x02\x02\x02\x00\x00\x00\x02\x01\x00\x00\x0a",
+            ),
+        }),
+        LsaTold::Router(
+            0x0202_0202,
+            &[
+                (0x0a00_0004, 0x0a00_0002, TRANSIT, 10),
+                (0x0101_0101, 1, POINT_TO_POINT, 10),
+            ],
+        ),
+        LsaTold::Router(0x0303_0303, &[(0x0a00_0004, 0x0a00_0003, TRANSIT, 10)]),
+        LsaTold::Router(0x0404_0404, &[(0x0a00_0004, 0x0a00_0004, TRANSIT, 10)]),
+        LsaTold::Network(
+            0x0a00_0004,
+            0x0404_0404,
+            &[0x0404_0404, 0x0101_0101, 0x0202_0202, 0x0303_0303],
+        ),
+    ]),
     profile: "",
-    certificate: CERTIFICATE,
+    certificate: File::Cert(1, CERTIFICATE),
     exit: Exit::BadDatabase {
         at: 0,
         kind: DbKind::Lsa(LsaKind::Body),
@@ -134,9 +182,11 @@ const A_LAN_WITH_MORE_LINKS_THAN_BYTES: &Case = &Case {
 const A_FAULT_TRUNCATED: &Case = &Case {
     name: "a fault: truncated",
     words: CHECK,
-    database: b"\x00\x01\x02\x01\x01\x01\x01\x01\x01\x01\x01\x01\x80\x00\x00\x01\x33\x28\x00",
+    database: File::Bytes(
+        b"\x00\x01\x02\x01\x01\x01\x01\x01\x01\x01\x01\x01\x80\x00\x00\x01\x33\x28\x00",
+    ),
     profile: "",
-    certificate: b"junk",
+    certificate: File::Bytes(b"junk"),
     exit: Exit::BadDatabase {
         at: 0,
         kind: DbKind::Lsa(LsaKind::Truncated),
@@ -150,7 +200,7 @@ const A_CONFLICT: &Case = &Case {
     words: CHECK,
     database: CONFLICT,
     profile: "",
-    certificate: CERTIFICATE,
+    certificate: File::Cert(1, CERTIFICATE),
     exit: Exit::BadDatabase {
         at: 24,
         kind: DbKind::Conflict { first: 0 },
@@ -164,7 +214,7 @@ const TWO_CONFLICTS: &Case = &Case {
     words: CHECK,
     database: CONFLICTS,
     profile: "",
-    certificate: CERTIFICATE,
+    certificate: File::Cert(1, CERTIFICATE),
     exit: Exit::BadDatabase {
         at: 72,
         kind: DbKind::Conflict { first: 24 },
@@ -176,9 +226,9 @@ const TWO_CONFLICTS: &Case = &Case {
 const A_BAD_DATABASE_BEFORE_A_BAD_LINE: &Case = &Case {
     name: "a bad database before a bad line",
     words: UNDER,
-    database: b"junk",
+    database: File::Bytes(b"junk"),
     profile: "weight",
-    certificate: b"junk",
+    certificate: File::Bytes(b"junk"),
     exit: Exit::BadDatabase {
         at: 0,
         kind: DbKind::Lsa(LsaKind::Truncated),

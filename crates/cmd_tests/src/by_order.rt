@@ -4,13 +4,14 @@ use crate::calling::{Case, comes_out};
 use crate::files::{CROSSED, LINE, ROUTER, TRIANGLE};
 use crate::words::USAGE;
 use mrt_cmd::Exit;
+use parts_of_tests::NO_BYTES;
 
 const A_TRIANGLE: &Case = &Case {
     name: "a triangle",
     words: &["order", "db", "-", "2.2.2.2"],
     database: TRIANGLE,
     profile: "",
-    certificate: b"",
+    certificate: NO_BYTES,
     exit: Exit::Done,
     out: "order 2.2.2.2 root 3.3.3.3\n1.1.1.1 --r brr\n3.3.3.3 b-- bbr\n",
     err: "",
@@ -21,7 +22,7 @@ const UNORDERED_ROUTERS: &Case = &Case {
     words: &["order", "db", "-", "1.1.1.1"],
     database: CROSSED,
     profile: "",
-    certificate: b"",
+    certificate: NO_BYTES,
     exit: Exit::Done,
     out: "order 1.1.1.1 root 5.5.5.5\n2.2.2.2 --rrb rbrbrb\n3.3.3.3 -b-br brbbbr\n4.4.4.4 -br-b rbbbrb\n5.5.5.5 -rrr- rbrrrb\n",
     err: "",
@@ -32,7 +33,7 @@ const A_LINE: &Case = &Case {
     words: &["order", "db", "-", "1.1.1.1"],
     database: LINE,
     profile: "",
-    certificate: b"",
+    certificate: NO_BYTES,
     exit: Exit::Done,
     out: "order 1.1.1.1 root 4.4.4.4\n",
     err: "",
@@ -43,7 +44,7 @@ const ONE_ROUTER: &Case = &Case {
     words: &["order", "db", "-", "1.1.1.1"],
     database: ROUTER,
     profile: "",
-    certificate: b"",
+    certificate: NO_BYTES,
     exit: Exit::Done,
     out: "order 1.1.1.1 root 1.1.1.1\n",
     err: "",
@@ -54,7 +55,7 @@ const A_ROUTER_THAT_IS_NOT_THERE: &Case = &Case {
     words: &["order", "db", "-", "9.9.9.9"],
     database: TRIANGLE,
     profile: "",
-    certificate: b"",
+    certificate: NO_BYTES,
     exit: Exit::NotThere {
         number: 0x0909_0909,
     },
@@ -67,7 +68,7 @@ const A_ROUTER_THAT_DOES_NOT_TAKE_PART: &Case = &Case {
     words: &["order", "db", "prof", "1.1.1.1"],
     database: TRIANGLE,
     profile: "no-mrt 1.1.1.1",
-    certificate: b"",
+    certificate: NO_BYTES,
     exit: Exit::NotThere {
         number: 0x0101_0101,
     },
@@ -80,7 +81,7 @@ const NO_ADDRESS: &Case = &Case {
     words: &["order", "db", "-", "1.1.1"],
     database: TRIANGLE,
     profile: "",
-    certificate: b"",
+    certificate: NO_BYTES,
     exit: Exit::Usage,
     out: "",
     err: USAGE,

@@ -7,15 +7,16 @@ ghost use Rattle.mrt_io.specs.Named.{named};
 use mrt_cmd::{Exit, run};
 use mrt_graph::NoMemory;
 use mrt_io::{MemShelf, MemSink, Word};
+use parts_of_tests::{File, NO_BYTES};
 use std::alloc::Global;
 
 /// A call of the top call, and what is to come of it.
 pub struct Case {
     pub name: &'static str,
     pub words: &'static [&'static str],
-    pub database: &'static [u8],
+    pub database: File<'static>,
     pub profile: &'static str,
-    pub certificate: &'static [u8],
+    pub certificate: File<'static>,
     pub exit: Exit,
     pub out: &'static str,
     pub err: &'static str,
@@ -28,16 +29,16 @@ pub const UNDER: &[&str] = &["check", "db", "prof", "cert"];
 /// Files `db`, `prof` and `cert`.
 #[derive(Clone, Copy)]
 pub struct Files<'a> {
-    pub database: &'a [u8],
-    pub profile: &'a [u8],
-    pub certificate: &'a [u8],
+    pub database: File<'a>,
+    pub profile: File<'a>,
+    pub certificate: File<'a>,
 }
 
 /// A database and a certificate, and an empty profile.
-pub fn two<'a>(database: &'a [u8], certificate: &'a [u8]) -> Files<'a> {
+pub fn two<'a>(database: File<'a>, certificate: File<'a>) -> Files<'a> {
     Files {
         database,
-        profile: b"",
+        profile: NO_BYTES,
         certificate,
     }
 }
@@ -147,11 +148,11 @@ pub fn calmly(alloc: Global, words: &[&str], files: Files<'_>) -> Result<Left, N
 }
 
 /// A file under a name.
-fn named_file(alloc: Global, name: &[u8], bytes: &[u8]) -> Result<(Word, Vec<u8>), NoMemory>
+fn named_file(alloc: Global, name: &[u8], file: File<'_>) -> Result<(Word, Vec<u8>), NoMemory>
     ensures { IfOk result (λ file. file.0 ≡ name.now) }
 {
     let name = Word::new(alloc, name)?;
-    let bytes = Vec::from_slice(alloc, bytes)?;
+    let bytes = file.bytes(alloc)?;
     Ok((name, bytes))
 }
 
@@ -209,7 +210,7 @@ pub fn comes_to(
 pub fn comes_out(alloc: Global, case: &Case) -> bool {
     let files = Files {
         database: case.database,
-        profile: case.profile.as_bytes(),
+        profile: File::Bytes(case.profile.as_bytes()),
         certificate: case.certificate,
     };
     comes_to(

@@ -2,16 +2,14 @@
 
 use crate::calling::{Case, Devices, Files, NEVER, calm, comes_out, comes_to, front, left_on, two};
 use crate::files::{
-    FIVE, LAN, LINE, RING, ROUTER, SAMPLE, SAMPLE_PROFILE, STUB, THREE_LINKS, TRIANGLE, TWO_TREES,
+    CERTIFICATE, FIRST_TREE, FIVE, FIVE_COMPUTED, LAN, LAN_CERTIFICATE, LINE, RING, RING_COMPUTED,
+    ROUTER, SAMPLE, SAMPLE_CERTIFICATE, SAMPLE_PROFILE, SECOND_TREE, STUB, THREE_LINKS,
+    THREE_LINKS_CERTIFICATE, TRIANGLE, TRIANGLE_FROM_1, TWO_TREES,
 };
 use crate::limits::ring;
-use crate::version_two::{
-    CERTIFICATE_2, FIRST_TREE_2, FIVE_COMPUTED_2, LAN_CERTIFICATE_2, LINE_CERTIFICATE_2,
-    RING_COMPUTED_2, SAMPLE_CERTIFICATE_2, SECOND_TREE_2, THREE_LINKS_CERTIFICATE_2,
-    TRIANGLE_CERTIFICATE_2, TRIANGLE_FROM_1_2,
-};
 use mrt_cmd::{Exit, What};
 use mrt_graph::NoMemory;
+use parts_of_tests::{File, LINE_CERTIFICATE, NO_BYTES, TRIANGLE_CERTIFICATE};
 use std::alloc::Global;
 
 const OF_1: &[&str] = &["certify", "db", "-", "1.1.1.1"];
@@ -22,9 +20,9 @@ const OF_1_UNDER: &[&str] = &["certify", "db", "prof", "1.1.1.1"];
 struct Written {
     name: &'static str,
     words: &'static [&'static str],
-    database: &'static [u8],
+    database: File<'static>,
     profile: &'static str,
-    certificate: &'static [u8],
+    certificate: File<'static>,
 }
 
 const ONE_ROUTER: &Written = &Written {
@@ -32,7 +30,7 @@ const ONE_ROUTER: &Written = &Written {
     words: OF_1,
     database: ROUTER,
     profile: "",
-    certificate: CERTIFICATE_2,
+    certificate: File::Cert(2, CERTIFICATE),
 };
 
 const A_STUB_LINK: &Written = &Written {
@@ -40,7 +38,7 @@ const A_STUB_LINK: &Written = &Written {
     words: OF_1,
     database: STUB,
     profile: "",
-    certificate: CERTIFICATE_2,
+    certificate: File::Cert(2, CERTIFICATE),
 };
 
 const A_TRIANGLE: &Written = &Written {
@@ -48,7 +46,7 @@ const A_TRIANGLE: &Written = &Written {
     words: OF_1,
     database: TRIANGLE,
     profile: "",
-    certificate: TRIANGLE_CERTIFICATE_2,
+    certificate: File::Cert(2, TRIANGLE_CERTIFICATE),
 };
 
 const ANOTHER_ROOT: &Written = &Written {
@@ -56,7 +54,7 @@ const ANOTHER_ROOT: &Written = &Written {
     words: OF_1_UNDER,
     database: TRIANGLE,
     profile: "priority 1.1.1.1 10\n",
-    certificate: TRIANGLE_FROM_1_2,
+    certificate: File::Cert(2, TRIANGLE_FROM_1),
 };
 
 const A_LINE: &Written = &Written {
@@ -64,7 +62,7 @@ const A_LINE: &Written = &Written {
     words: OF_1,
     database: LINE,
     profile: "",
-    certificate: LINE_CERTIFICATE_2,
+    certificate: File::Cert(2, LINE_CERTIFICATE),
 };
 
 const A_ROUTER_WITHOUT_ITS_NEIGHBOUR: &Written = &Written {
@@ -72,7 +70,7 @@ const A_ROUTER_WITHOUT_ITS_NEIGHBOUR: &Written = &Written {
     words: OF_1_UNDER,
     database: LINE,
     profile: "no-mrt 2.2.2.2\n",
-    certificate: CERTIFICATE_2,
+    certificate: File::Cert(2, CERTIFICATE),
 };
 
 const OF_THREE_LINKS: &Written = &Written {
@@ -80,7 +78,7 @@ const OF_THREE_LINKS: &Written = &Written {
     words: OF_1,
     database: THREE_LINKS,
     profile: "",
-    certificate: THREE_LINKS_CERTIFICATE_2,
+    certificate: File::Cert(2, THREE_LINKS_CERTIFICATE),
 };
 
 const FIVE_ROUTERS: &Written = &Written {
@@ -88,7 +86,7 @@ const FIVE_ROUTERS: &Written = &Written {
     words: OF_1,
     database: FIVE,
     profile: "",
-    certificate: FIVE_COMPUTED_2,
+    certificate: File::Cert(2, FIVE_COMPUTED),
 };
 
 const A_RING: &Written = &Written {
@@ -96,7 +94,7 @@ const A_RING: &Written = &Written {
     words: OF_1,
     database: RING,
     profile: "",
-    certificate: RING_COMPUTED_2,
+    certificate: File::Cert(2, RING_COMPUTED),
 };
 
 const A_LAN: &Written = &Written {
@@ -104,7 +102,7 @@ const A_LAN: &Written = &Written {
     words: OF_1,
     database: LAN,
     profile: "",
-    certificate: LAN_CERTIFICATE_2,
+    certificate: File::Cert(2, LAN_CERTIFICATE),
 };
 
 const THE_SAMPLE: &Written = &Written {
@@ -112,7 +110,7 @@ const THE_SAMPLE: &Written = &Written {
     words: &["certify", "db", "prof", "10.255.1.4"],
     database: SAMPLE,
     profile: SAMPLE_PROFILE,
-    certificate: SAMPLE_CERTIFICATE_2,
+    certificate: File::Cert(2, SAMPLE_CERTIFICATE),
 };
 
 const THE_FIRST_OF_TWO_ISLANDS: &Written = &Written {
@@ -120,7 +118,7 @@ const THE_FIRST_OF_TWO_ISLANDS: &Written = &Written {
     words: OF_1,
     database: TWO_TREES,
     profile: "",
-    certificate: FIRST_TREE_2,
+    certificate: File::Cert(2, FIRST_TREE),
 };
 
 const THE_SECOND_OF_TWO_ISLANDS: &Written = &Written {
@@ -128,7 +126,7 @@ const THE_SECOND_OF_TWO_ISLANDS: &Written = &Written {
     words: &["certify", "db", "-", "3.3.3.3"],
     database: TWO_TREES,
     profile: "",
-    certificate: SECOND_TREE_2,
+    certificate: File::Cert(2, SECOND_TREE),
 };
 
 const REFUSED: &[Case] = &[
@@ -137,7 +135,7 @@ const REFUSED: &[Case] = &[
         words: &["certify", "db", "-", "9.9.9.9"],
         database: TRIANGLE,
         profile: "",
-        certificate: b"",
+        certificate: NO_BYTES,
         exit: Exit::NotThere {
             number: 0x0909_0909,
         },
@@ -149,7 +147,7 @@ const REFUSED: &[Case] = &[
         words: OF_1_UNDER,
         database: TRIANGLE,
         profile: "no-mrt 1.1.1.1",
-        certificate: b"",
+        certificate: NO_BYTES,
         exit: Exit::NotThere {
             number: 0x0101_0101,
         },
@@ -161,7 +159,7 @@ const REFUSED: &[Case] = &[
         words: &["certify", "x", "-", "1.1.1.1"],
         database: TRIANGLE,
         profile: "",
-        certificate: b"",
+        certificate: NO_BYTES,
         exit: Exit::ReadFault { word: 1 },
         out: "",
         err: "mrt: read fault: word 1\n",
@@ -186,19 +184,20 @@ fn written_ones() -> [&'static Written; 13] {
     ]
 }
 
-fn is_written(alloc: Global, case: &Written) -> bool {
+fn is_written(alloc: Global, case: &Written) -> Result<bool, NoMemory> {
+    let certificate = case.certificate.bytes(alloc)?;
     let files = Files {
         database: case.database,
-        profile: case.profile.as_bytes(),
-        certificate: b"",
+        profile: File::Bytes(case.profile.as_bytes()),
+        certificate: NO_BYTES,
     };
-    comes_to(alloc, case.words, files, Exit::Done, case.certificate, b"")
+    Ok(comes_to(alloc, case.words, files, Exit::Done, &certificate, b""))
 }
 
 #[test]
 fn written_certificates(rt: HostRuntime) {
     for case in written_ones() {
-        assert!(rt; is_written(rt.alloc(), case), "{}", case.name);
+        assert!(rt; is_written(rt.alloc(), case) == Ok(true), "{}", case.name);
     }
 }
 
@@ -259,16 +258,21 @@ fn outputs() -> &'static [Output] {
     OUTPUTS
 }
 
-/// Whether the exit over this output is as told, and it took the first bytes.
-fn takes_as_told(alloc: Global, output: &Output) -> Result<bool, NoMemory> {
+/// Whether the exit over this output is as told, and it took the first bytes of the certificate.
+fn takes_first(alloc: Global, output: &Output, certificate: &[u8]) -> Result<bool, NoMemory> {
     let devices = Devices {
         read: NEVER,
         room: output.room,
         step: output.step,
         write: output.fails,
     };
-    let left = left_on(alloc, OF_1, two(TRIANGLE, b""), devices)?;
-    Ok(left.exit == output.exit && left.out.bytes() == front(TRIANGLE_CERTIFICATE_2, output.taken))
+    let left = left_on(alloc, OF_1, two(TRIANGLE, NO_BYTES), devices)?;
+    Ok(left.exit == output.exit && left.out.bytes() == front(certificate, output.taken))
+}
+
+fn takes_as_told(alloc: Global, output: &Output) -> Result<bool, NoMemory> {
+    let certificate = File::Cert(2, TRIANGLE_CERTIFICATE).bytes(alloc)?;
+    takes_first(alloc, output, &certificate)
 }
 
 #[test]
@@ -305,7 +309,12 @@ fn certificates_cut_short_at_each_call(rt: HostRuntime) {
 fn comes_of_ring(alloc: Global, routers: u32) -> Result<(Exit, usize), NoMemory> {
     let database = ring(alloc, routers, 1)?;
     let words = &["certify", "db", "-", "0.0.0.1"];
-    let left = left_on(alloc, words, two(&database, b""), calm(84_000_000))?;
+    let left = left_on(
+        alloc,
+        words,
+        two(File::Bytes(&database), NO_BYTES),
+        calm(84_000_000),
+    )?;
     Ok((left.exit, left.out.bytes().len()))
 }
 

@@ -1,26 +1,38 @@
 //! A database and a certificate, cut to each length.
 
 use crate::calling::{CHECK, comes_to, front, two};
-use crate::files::{TRIANGLE, TRIANGLE_CERTIFICATE};
+use crate::files::TRIANGLE;
 use cert_format::CertKind;
 use mrt_cmd::{DbKind, Exit};
 use mrt_graph::NoMemory;
 use ospf_lsa::LsaKind;
+use parts_of_tests::{File, TRIANGLE_CERTIFICATE};
 use std::alloc::Global;
 
-/// Whether the first bytes of the triangle's database and of its certificate come to this exit with this line.
-fn comes_of_cut(
-    alloc: Global,
+/// How many bytes of the triangle's database and of its certificate there are.
+#[derive(Clone, Copy)]
+struct Kept {
     database: usize,
     certificate: usize,
-    exit: Exit,
-    line: &str,
-) -> bool {
+}
+
+/// Whether these first bytes come to this exit with this line.
+fn comes_of_cut(alloc: Global, kept: Kept, exit: Exit, line: &str) -> Result<bool, NoMemory> {
+    let database = TRIANGLE.bytes(alloc)?;
+    let certificate = File::Cert(1, TRIANGLE_CERTIFICATE).bytes(alloc)?;
     let files = two(
-        front(TRIANGLE, database),
-        front(TRIANGLE_CERTIFICATE, certificate),
+        File::Bytes(front(&database, kept.database)),
+        File::Bytes(front(&certificate, kept.certificate)),
     );
-    comes_to(alloc, CHECK, files, exit, b"", line.as_bytes())
+    Ok(comes_to(alloc, CHECK, files, exit, b"", line.as_bytes()))
+}
+
+/// The whole certificate, and so much of the database.
+fn of_database(length: u32) -> Kept {
+    Kept {
+        database: length as usize,
+        certificate: 98,
+    }
 }
 
 /// The places of the database's records, each of 48 bytes.
@@ -58,18 +70,17 @@ fn record_is_cut(alloc: Global, length: u32) -> Result<bool, NoMemory> {
     let kind = DbKind::Lsa(LsaKind::Truncated);
     let line = format!(in alloc; "mrt: bad database: truncated at {at}\n")?;
     let exit = Exit::BadDatabase { at, kind };
-    Ok(comes_of_cut(alloc, length as usize, 98, exit, &line))
+    comes_of_cut(alloc, of_database(length), exit, &line)
 }
 
 /// A database of whole records, which lacks the root of the certificate.
-fn root_is_cut(alloc: Global, length: u32) -> bool {
+fn root_is_cut(alloc: Global, length: u32) -> Result<bool, NoMemory> {
     let exit = Exit::NotThere {
         number: 0x0303_0303,
     };
     comes_of_cut(
         alloc,
-        length as usize,
-        98,
+        of_database(length),
         exit,
         "mrt: not there: 3.3.3.3\n",
     )
@@ -77,7 +88,7 @@ fn root_is_cut(alloc: Global, length: u32) -> bool {
 
 fn database_is_cut(alloc: Global, length: u32) -> Result<bool, NoMemory> {
     if length % 48 == 0 {
-        return Ok(root_is_cut(alloc, length));
+        return root_is_cut(alloc, length);
     }
     record_is_cut(alloc, length)
 }
@@ -95,7 +106,11 @@ fn field_is_cut(alloc: Global, length: u32) -> Result<bool, NoMemory> {
     let kind = CertKind::Truncated;
     let line = format!(in alloc; "mrt: bad certificate: truncated at {at}\n")?;
     let exit = Exit::BadCertificate { at, kind };
-    Ok(comes_of_cut(alloc, 144, length as usize, exit, &line))
+    let kept = Kept {
+        database: 144,
+        certificate: length as usize,
+    };
+    comes_of_cut(alloc, kept, exit, &line)
 }
 
 #[test]

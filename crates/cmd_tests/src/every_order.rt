@@ -1,52 +1,49 @@
 //! Over the records of a database in every order one certificate is written, and it is accepted.
 
 use crate::calling::{CHECK, comes_to, two};
-use crate::files::{BACK, FIRST, SECOND, THIRD, TRIANGLE_CERTIFICATE, WITHDRAWN};
-use crate::version_two::TRIANGLE_CERTIFICATE_2;
+use crate::files::{BACK, FIRST, SECOND, THIRD, WITHDRAWN};
 use mrt_cmd::Exit;
 use mrt_graph::NoMemory;
+use parts_of_tests::{File, LsaTold, NO_BYTES, TRIANGLE_CERTIFICATE};
 use std::alloc::Global;
 
 /// The records of the triangle, and two more of router 1.
-const RECORDS: [&[u8]; 5] = [FIRST, SECOND, THIRD, WITHDRAWN, BACK];
+const RECORDS: [LsaTold; 5] = [FIRST, SECOND, THIRD, WITHDRAWN, BACK];
 
-/// The records at these places, one after another.
-fn in_order(alloc: Global, order: [usize; 5]) -> Result<Vec<u8>, NoMemory> {
-    let mut bytes = Vec::new(alloc);
-    for place in order {
-        if let Some(record) = RECORDS.get(place) {
-            bytes.extend_from_slice(record)?;
+/// The records at these places.
+fn in_order(order: [usize; 5]) -> [LsaTold<'static>; 5] {
+    let mut records = RECORDS;
+    for (k, place) in order.into_iter().enumerate() {
+        if let (Some(slot), Some(record)) = (records.get_mut(k), RECORDS.get(place)) {
+            *slot = *record;
         }
     }
-    Ok(bytes)
+    records
 }
 
 fn is_accepted(alloc: Global, order: [usize; 5]) -> bool {
-    match in_order(alloc, order) {
-        Ok(bytes) => comes_to(
-            alloc,
-            CHECK,
-            two(&bytes, TRIANGLE_CERTIFICATE),
-            Exit::Done,
-            b"accepted root 3.3.3.3 nodes 3 links 3\n",
-            b"",
-        ),
-        Err(NoMemory) => false,
-    }
+    let records = in_order(order);
+    comes_to(
+        alloc,
+        CHECK,
+        two(File::Lsas(&records), File::Cert(1, TRIANGLE_CERTIFICATE)),
+        Exit::Done,
+        b"accepted root 3.3.3.3 nodes 3 links 3\n",
+        b"",
+    )
 }
 
-fn is_written(alloc: Global, order: [usize; 5]) -> bool {
-    match in_order(alloc, order) {
-        Ok(bytes) => comes_to(
-            alloc,
-            &["certify", "db", "-", "1.1.1.1"],
-            two(&bytes, b""),
-            Exit::Done,
-            TRIANGLE_CERTIFICATE_2,
-            b"",
-        ),
-        Err(NoMemory) => false,
-    }
+fn is_written(alloc: Global, order: [usize; 5]) -> Result<bool, NoMemory> {
+    let records = in_order(order);
+    let certificate = File::Cert(2, TRIANGLE_CERTIFICATE).bytes(alloc)?;
+    Ok(comes_to(
+        alloc,
+        &["certify", "db", "-", "1.1.1.1"],
+        two(File::Lsas(&records), NO_BYTES),
+        Exit::Done,
+        &certificate,
+        b"",
+    ))
 }
 
 /// One of the 120 orders of five, by its number.
@@ -71,6 +68,9 @@ fn accepted_in_every_order(rt: HostRuntime) {
 #[test]
 fn written_in_every_order(rt: HostRuntime) {
     for number in 0..120 {
-        assert!(rt; is_written(rt.alloc(), order(number)), "order {number}");
+        assert!(rt;
+            is_written(rt.alloc(), order(number)) == Ok(true),
+            "order {number}"
+        );
     }
 }

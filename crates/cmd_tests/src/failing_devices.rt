@@ -1,9 +1,10 @@
 //! Shelves and sinks that fail.
 
 use crate::calling::{CHECK, Devices, Files, NEVER, UNDER, calm, front, left_by, left_on, two};
-use crate::files::{CERTIFICATE, OTHER, ROUTER, TRIANGLE, TRIANGLE_CERTIFICATE};
+use crate::files::{CERTIFICATE, OTHER, ROUTER, TRIANGLE};
 use mrt_cmd::Exit;
 use mrt_graph::NoMemory;
+use parts_of_tests::{File, TRIANGLE_CERTIFICATE};
 use std::alloc::Global;
 
 /// The exit of the check of a triangle's certificate, over a shelf that fails this call: the database is read, and the
@@ -15,8 +16,8 @@ fn exit_of_a_check(alloc: Global, call: u32) -> Result<Exit, NoMemory> {
     };
     let files = Files {
         database: TRIANGLE,
-        profile: b"priority 3.3.3.3 128\n",
-        certificate: TRIANGLE_CERTIFICATE,
+        profile: File::Bytes(b"priority 3.3.3.3 128\n"),
+        certificate: File::Cert(1, TRIANGLE_CERTIFICATE),
     };
     Ok(left_on(alloc, UNDER, files, devices)?.exit)
 }
@@ -91,7 +92,12 @@ fn takes_as_told(alloc: Global, output: &Output) -> Result<bool, NoMemory> {
         step: output.step,
         write: output.fails,
     };
-    let left = left_on(alloc, CHECK, two(ROUTER, CERTIFICATE), devices)?;
+    let left = left_on(
+        alloc,
+        CHECK,
+        two(ROUTER, File::Cert(1, CERTIFICATE)),
+        devices,
+    )?;
     Ok(left.exit == output.exit && left.out.bytes() == front(ACCEPTED, output.taken))
 }
 
@@ -109,7 +115,13 @@ fn exit_untold(alloc: Global, words: &[&str]) -> Result<(Exit, u8, usize), NoMem
         write: 0,
         ..calm(1000)
     };
-    let left = left_by(alloc, words, two(ROUTER, OTHER), calm(1000), err)?;
+    let left = left_by(
+        alloc,
+        words,
+        two(ROUTER, File::Cert(1, OTHER)),
+        calm(1000),
+        err,
+    )?;
     Ok((left.exit, left.exit.status(), left.err.bytes().len()))
 }
 

@@ -4,6 +4,7 @@ use crate::answered::FABRIC;
 use crate::calling::{Files, comes_to};
 use crate::files::TRIANGLE;
 use mrt_cmd::Exit;
+use parts_of_tests::{File, NO_BYTES};
 use std::alloc::Global;
 
 /// A script over the triangle, and the answers that are to be written.
@@ -413,8 +414,8 @@ fn failures() -> &'static [Script] {
 fn gives(alloc: Global, case: &Script) -> bool {
     let files = Files {
         database: TRIANGLE,
-        profile: b"",
-        certificate: case.script.as_bytes(),
+        profile: NO_BYTES,
+        certificate: File::Bytes(case.script.as_bytes()),
     };
     let answers = case.answers.as_bytes();
     comes_to(alloc, FABRIC, files, Exit::Done, answers, b"")

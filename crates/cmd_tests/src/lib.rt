@@ -50,6 +50,4 @@ mod traced;
 #[cfg(test)]
 mod upgraded;
 #[cfg(test)]
-mod version_two;
-#[cfg(test)]
 mod words;

@@ -3,8 +3,9 @@
 use crate::calling::{CHECK, Files, UNDER, comes_to, front, two};
 use crate::files::{CERTIFICATE, ROUTER};
 use mrt_cmd::{Exit, What};
-use mrt_graph::NoMemory;
-use ospf_lsa::sums;
+use mrt_graph::{Kind, NoMemory};
+use ospf_lsa::POINT_TO_POINT;
+use parts_of_tests::{CertTold, File, LsaTold, NO_BYTES, RouterLinkTold};
 use std::alloc::Global;
 
 const SCRIPT: &[&str] = &["fabric", "db", "-", "cert"];
@@ -15,20 +16,20 @@ const FLOOD: &[&str] = &["flood", "db", "-", "cert"];
 /// byte is a fault already.
 fn is_too_large(alloc: Global, what: What, size: u32, line: &[u8]) -> Result<bool, NoMemory> {
     let long = vec![in alloc; 0; 134_217_729]?;
-    let long = front(&long, size as usize);
+    let long = File::Bytes(front(&long, size as usize));
     let exit = Exit::TooLarge { what, size };
     let (words, files) = match what {
-        What::DatabaseFile => (CHECK, two(long, b"")),
+        What::DatabaseFile => (CHECK, two(long, NO_BYTES)),
         What::ProfileFile => (
             UNDER,
             Files {
                 database: ROUTER,
                 profile: long,
-                certificate: CERTIFICATE,
+                certificate: File::Cert(1, CERTIFICATE),
             },
         ),
         What::ScriptFile => (SCRIPT, two(ROUTER, long)),
-        What::UpdatesFile => (FLOOD, two(long, b"")),
+        What::UpdatesFile => (FLOOD, two(long, NO_BYTES)),
         _ => (CHECK, two(ROUTER, long)),
     };
     Ok(comes_to(alloc, words, files, exit, b"", line))
@@ -68,86 +69,39 @@ fn files_over_their_limits(rt: HostRuntime) {
     }
 }
 
-/// A router-LSA without links, whose numbers are to be put in.
-const UNNAMED: &[u8] =
-    b"\x00\x01\x02\x01\x00\x00\x00\x00\x00\x00\x00\x00\x80\x00\x00\x01\x00\x00\x00\x18\x00\x00\x00\x00";
-
-/// A link of metric 1, whose far router and link data are to be put in.
-const UNNAMED_LINK: &[u8] = b"\x00\x00\x00\x00\x00\x00\x00\x00\x01\x00\x00\x01";
-
 /// The certificate of the island of router 0.0.0.1 alone.
-const FIRST_CERTIFICATE: &[u8] =
-    b"\x4d\x52\x54\x43\x00\x01\x00\x01\x00\x00\x00\x00\x00\x01\x01\x00\x00\x00\x01\x00\x01\x00\x00\x00\x00";
+const FIRST_CERTIFICATE: &CertTold = &CertTold {
+    root: 1,
+    nodes: &[(Kind::Router, 1, 1, 0, 0)],
+    links: &[],
+    rows: &[],
+};
 
-/// Puts a number in at a place.
-pub fn put(bytes: &mut Vec<u8>, at: usize, number: u32) {
-    for (k, byte) in number.to_be_bytes().iter().enumerate() {
-        if let Some(slot) = bytes.get_mut(at.wrapping_add(k)) {
-            *slot = *byte;
+/// So many links to each of two neighbours.
+fn links_to(
+    alloc: Global,
+    neighbours: (u32, u32),
+    parallel: u32,
+) -> Result<Vec<RouterLinkTold>, NoMemory> {
+    let mut links = Vec::new(alloc);
+    for (to, link_data) in [(neighbours.0, 1), (neighbours.1, 2)] {
+        for _ in 0..parallel {
+            links.push((to, link_data, POINT_TO_POINT, 1))?;
         }
     }
+    Ok(links)
 }
 
-/// What stands after the age.
-fn covered(bytes: &[u8]) -> &[u8] {
-    &bytes[bytes.len().min(2)..]
-}
-
-fn check_byte(number: u32) -> u8 {
-    match number % 255 {
-        0 => 255,
-        byte => byte as u8,
-    }
-}
-
-/// Puts in the checksum of so many covered bytes.
-fn seal(bytes: &mut Vec<u8>, count: u32) {
-    let (first, second) = sums(covered(bytes));
-    let (first, second) = (u32::from(first), u32::from(second));
-    let high = check_byte(
-        count
-            .wrapping_sub(15)
-            .wrapping_mul(first)
-            .wrapping_add(255 - second),
-    );
-    let low = check_byte(second.wrapping_add(count.wrapping_sub(14).wrapping_mul(255 - first)));
-    if let Some(slot) = bytes.get_mut(16) {
-        *slot = high;
-    }
-    if let Some(slot) = bytes.get_mut(17) {
-        *slot = low;
-    }
-}
-
-/// Adds parallel links to a router, with this link data.
-fn add_links(record: &mut Vec<u8>, count: u32, to: u32, data: u32) -> Result<(), NoMemory> {
-    for _ in 0..count {
-        let at = record.len();
-        record.extend_from_slice(UNNAMED_LINK)?;
-        put(record, at, to);
-        put(record, at.wrapping_add(4), data);
-    }
-    Ok(())
-}
-
-/// A router with so many links to each of two neighbours.
-fn router(
+/// Adds a router with so many links to each of two neighbours.
+fn put_router(
+    file: &mut Vec<u8>,
     alloc: Global,
     number: u32,
     neighbours: (u32, u32),
     parallel: u32,
-) -> Result<Vec<u8>, NoMemory> {
-    let mut record = Vec::from_slice(alloc, UNNAMED)?;
-    put(&mut record, 4, number);
-    put(&mut record, 8, number);
-    add_links(&mut record, parallel, neighbours.0, 1)?;
-    add_links(&mut record, parallel, neighbours.1, 2)?;
-    let links = parallel.wrapping_mul(2);
-    let size = links.wrapping_mul(12).wrapping_add(24);
-    put(&mut record, 16, size);
-    put(&mut record, 20, links);
-    seal(&mut record, size.wrapping_sub(2));
-    Ok(record)
+) -> Result<(), NoMemory> {
+    let links = links_to(alloc, neighbours, parallel)?;
+    File::Lsas(&[LsaTold::Router(number, &links)]).put(file, alloc)
 }
 
 /// The routers 1 to `count` in a ring, with so many links between neighbours.
@@ -157,8 +111,13 @@ pub fn ring(alloc: Global, count: u32, parallel: u32) -> Result<Vec<u8>, NoMemor
         let next = number.wrapping_add(1) % count;
         let previous = number.wrapping_add(count).wrapping_sub(1) % count;
         let neighbours = (next.wrapping_add(1), previous.wrapping_add(1));
-        let record = router(alloc, number.wrapping_add(1), neighbours, parallel)?;
-        file.extend_from_slice(&record)?;
+        put_router(
+            &mut file,
+            alloc,
+            number.wrapping_add(1),
+            neighbours,
+            parallel,
+        )?;
     }
     Ok(file)
 }
@@ -233,7 +192,7 @@ fn comes_out(alloc: Global, large: &Large) -> bool {
         Ok(file) => comes_to(
             alloc,
             CHECK,
-            two(&file, FIRST_CERTIFICATE),
+            two(File::Bytes(&file), File::Cert(1, FIRST_CERTIFICATE)),
             large.exit,
             large.out.as_bytes(),
             large.err.as_bytes(),

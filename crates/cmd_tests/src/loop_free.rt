@@ -4,6 +4,7 @@ use crate::calling::{Case, comes_out};
 use crate::files::{FOUR, ONE_SIDED, ROUTER, TRIANGLE};
 use crate::words::USAGE;
 use mrt_cmd::Exit;
+use parts_of_tests::NO_BYTES;
 
 const OF_1: &[&str] = &["lfa", "db", "1.1.1.1"];
 
@@ -12,7 +13,7 @@ const A_TRIANGLE: &Case = &Case {
     words: OF_1,
     database: TRIANGLE,
     profile: "",
-    certificate: b"",
+    certificate: NO_BYTES,
     exit: Exit::Done,
     out: "lfa 1.1.1.1 nodes 3\n2.2.2.2 primary 2.2.2.2/0.0.0.2 lfa 3.3.3.3/0.0.0.3 next 3.3.3.3 link\n3.3.3.3 primary 3.3.3.3/0.0.0.3 lfa 2.2.2.2/0.0.0.2 next 2.2.2.2 link\n",
     err: "",
@@ -23,7 +24,7 @@ const A_RING_OF_FOUR: &Case = &Case {
     words: OF_1,
     database: FOUR,
     profile: "",
-    certificate: b"",
+    certificate: NO_BYTES,
     exit: Exit::Done,
     out: "lfa 1.1.1.1 nodes 4\n2.2.2.2 primary 2.2.2.2/0.0.0.2 lfa none\n3.3.3.3 primary 2.2.2.2/0.0.0.2 lfa 4.4.4.4/0.0.0.4 next 4.4.4.4 node\n4.4.4.4 primary 4.4.4.4/0.0.0.4 lfa none\n",
     err: "",
@@ -34,7 +35,7 @@ const ONE_ROUTER: &Case = &Case {
     words: OF_1,
     database: ROUTER,
     profile: "",
-    certificate: b"",
+    certificate: NO_BYTES,
     exit: Exit::Done,
     out: "lfa 1.1.1.1 nodes 1\n",
     err: "",
@@ -45,7 +46,7 @@ const A_LINK_THAT_ONE_ROUTER_LISTS: &Case = &Case {
     words: OF_1,
     database: ONE_SIDED,
     profile: "",
-    certificate: b"",
+    certificate: NO_BYTES,
     exit: Exit::Done,
     out: "lfa 1.1.1.1 nodes 2\n",
     err: "",
@@ -56,7 +57,7 @@ const A_ROUTER_THAT_IS_NOT_THERE: &Case = &Case {
     words: &["lfa", "db", "9.9.9.9"],
     database: TRIANGLE,
     profile: "",
-    certificate: b"",
+    certificate: NO_BYTES,
     exit: Exit::NotThere {
         number: 0x0909_0909,
     },
@@ -69,7 +70,7 @@ const A_PROFILE: &Case = &Case {
     words: &["lfa", "db", "prof", "1.1.1.1"],
     database: TRIANGLE,
     profile: "",
-    certificate: b"",
+    certificate: NO_BYTES,
     exit: Exit::Usage,
     out: "",
     err: USAGE,
@@ -80,7 +81,7 @@ const NO_ROUTER: &Case = &Case {
     words: &["lfa", "db"],
     database: TRIANGLE,
     profile: "",
-    certificate: b"",
+    certificate: NO_BYTES,
     exit: Exit::Usage,
     out: "",
     err: USAGE,
@@ -91,7 +92,7 @@ const A_NAME_THAT_IS_EMPTY: &Case = &Case {
     words: &["lfa", "", "1.1.1.1"],
     database: TRIANGLE,
     profile: "",
-    certificate: b"",
+    certificate: NO_BYTES,
     exit: Exit::Usage,
     out: "",
     err: USAGE,
@@ -102,7 +103,7 @@ const A_NETWORK_FOR_A_ROUTER: &Case = &Case {
     words: &["lfa", "db", "net:1.1.1.1"],
     database: TRIANGLE,
     profile: "",
-    certificate: b"",
+    certificate: NO_BYTES,
     exit: Exit::Usage,
     out: "",
     err: USAGE,
@@ -113,7 +114,7 @@ const NO_DATABASE: &Case = &Case {
     words: &["lfa", "x", "1.1.1.1"],
     database: TRIANGLE,
     profile: "",
-    certificate: b"",
+    certificate: NO_BYTES,
     exit: Exit::ReadFault { word: 1 },
     out: "",
     err: "mrt: read fault: word 1\n",

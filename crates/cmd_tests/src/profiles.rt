@@ -1,16 +1,17 @@
 //! Profiles, and what the island is under each.
 
 use crate::calling::{Case, UNDER, comes_out};
-use crate::files::{LINE, LINE_CERTIFICATE, TRIANGLE, TRIANGLE_CERTIFICATE};
+use crate::files::{LINE, TRIANGLE};
 use mrt_cmd::Exit;
 use mrt_island::ProfileKind;
+use parts_of_tests::{File, LINE_CERTIFICATE, TRIANGLE_CERTIFICATE};
 
 const THE_ROOT_DOES_NOT_TAKE_PART: &Case = &Case {
     name: "the root does not take part",
     words: UNDER,
     database: LINE,
     profile: "no-mrt 4.4.4.4",
-    certificate: LINE_CERTIFICATE,
+    certificate: File::Cert(1, LINE_CERTIFICATE),
     exit: Exit::NotThere {
         number: 0x0404_0404,
     },
@@ -23,7 +24,7 @@ const A_ROUTER_LESS: &Case = &Case {
     words: UNDER,
     database: LINE,
     profile: "no-mrt 1.1.1.1\n",
-    certificate: LINE_CERTIFICATE,
+    certificate: File::Cert(1, LINE_CERTIFICATE),
     exit: Exit::No {
         rule: 1,
         a: 0,
@@ -38,7 +39,7 @@ const ANOTHER_ROOT: &Case = &Case {
     words: UNDER,
     database: LINE,
     profile: "priority 3.3.3.3 10\r\n",
-    certificate: LINE_CERTIFICATE,
+    certificate: File::Cert(1, LINE_CERTIFICATE),
     exit: Exit::No {
         rule: 2,
         a: 2,
@@ -53,7 +54,7 @@ const THE_SAME_ROOT: &Case = &Case {
     words: UNDER,
     database: LINE,
     profile: "# the default\n\npriority 4.4.4.4 128\n",
-    certificate: LINE_CERTIFICATE,
+    certificate: File::Cert(1, LINE_CERTIFICATE),
     exit: Exit::Done,
     out: "accepted root 4.4.4.4 nodes 4 links 3\n",
     err: "",
@@ -64,7 +65,7 @@ const A_LINK_LESS: &Case = &Case {
     words: UNDER,
     database: TRIANGLE,
     profile: "ineligible 1.1.1.1 0.0.0.2",
-    certificate: TRIANGLE_CERTIFICATE,
+    certificate: File::Cert(1, TRIANGLE_CERTIFICATE),
     exit: Exit::No {
         rule: 1,
         a: 0,
@@ -79,7 +80,7 @@ const A_BAD_LINE_REPEATED: &Case = &Case {
     words: UNDER,
     database: LINE,
     profile: "priority 1.1.1.1 10\npriority 1.1.1.1 10",
-    certificate: b"junk",
+    certificate: File::Bytes(b"junk"),
     exit: Exit::BadProfile {
         line: 2,
         kind: ProfileKind::Repeated,
@@ -93,7 +94,7 @@ const A_BAD_LINE_ADDRESS: &Case = &Case {
     words: UNDER,
     database: LINE,
     profile: "priority 1.1.1 10",
-    certificate: b"junk",
+    certificate: File::Bytes(b"junk"),
     exit: Exit::BadProfile {
         line: 1,
         kind: ProfileKind::Address,
@@ -107,7 +108,7 @@ const A_BAD_LINE_NUMBER: &Case = &Case {
     words: UNDER,
     database: LINE,
     profile: "priority 1.1.1.1 256",
-    certificate: b"junk",
+    certificate: File::Bytes(b"junk"),
     exit: Exit::BadProfile {
         line: 1,
         kind: ProfileKind::Number,
@@ -121,7 +122,7 @@ const A_BAD_LINE_WORDS: &Case = &Case {
     words: UNDER,
     database: LINE,
     profile: "weight 1.1.1.1 2",
-    certificate: b"junk",
+    certificate: File::Bytes(b"junk"),
     exit: Exit::BadProfile {
         line: 1,
         kind: ProfileKind::Words,
@@ -135,7 +136,7 @@ const A_BAD_LINE_BYTES: &Case = &Case {
     words: UNDER,
     database: LINE,
     profile: "# \u{80}\n\u{80}",
-    certificate: b"junk",
+    certificate: File::Bytes(b"junk"),
     exit: Exit::BadProfile {
         line: 2,
         kind: ProfileKind::Bytes,

@@ -4,13 +4,14 @@ use crate::calling::{Case, comes_out};
 use crate::files::{LAN, LINE, TRIANGLE};
 use crate::words::USAGE;
 use mrt_cmd::Exit;
+use parts_of_tests::NO_BYTES;
 
 const A_TRIANGLE: &Case = &Case {
     name: "a triangle",
     words: &["proxy", "db", "-", "3.3.3.3", "1.1.1.1", "2.2.2.2"],
     database: TRIANGLE,
     profile: "",
-    certificate: b"",
+    certificate: NO_BYTES,
     exit: Exit::Done,
     out: "proxy 1.1.1.1 2.2.2.2 root 3.3.3.3\n1.1.1.1 blue attached red 3.3.3.3/0.0.0.3\n2.2.2.2 blue 3.3.3.3/0.0.0.3 red attached\n3.3.3.3 blue 1.1.1.1/0.0.0.1 red 2.2.2.2/0.0.0.2\n",
     err: "",
@@ -21,7 +22,7 @@ const A_LINE: &Case = &Case {
     words: &["proxy", "db", "-", "4.4.4.4", "1.1.1.1", "2.2.2.2"],
     database: LINE,
     profile: "",
-    certificate: b"",
+    certificate: NO_BYTES,
     exit: Exit::Done,
     out: "proxy 1.1.1.1 2.2.2.2 root 4.4.4.4\n1.1.1.1 blue 2.2.2.2/0.0.0.2 red attached\n2.2.2.2 blue attached red 1.1.1.1/0.0.0.1\n3.3.3.3 blue 2.2.2.2/0.0.0.2 red 2.2.2.2/0.0.0.2\n4.4.4.4 blue 3.3.3.3/0.0.0.3 red 3.3.3.3/0.0.0.3\n",
     err: "",
@@ -32,7 +33,7 @@ const TWO_ROUTERS_ON_A_NETWORK: &Case = &Case {
     words: &["proxy", "db", "-", "4.4.4.4", "1.1.1.1", "2.2.2.2"],
     database: LAN,
     profile: "",
-    certificate: b"",
+    certificate: NO_BYTES,
     exit: Exit::Done,
     out: "proxy 1.1.1.1 2.2.2.2 root 4.4.4.4\n1.1.1.1 blue attached red net:10.0.0.4/10.0.0.1\n2.2.2.2 blue net:10.0.0.4/10.0.0.2 red attached\n3.3.3.3 blue net:10.0.0.4/10.0.0.3 red net:10.0.0.4/10.0.0.3\n4.4.4.4 blue net:10.0.0.4/10.0.0.4 red net:10.0.0.4/10.0.0.4\nnet:10.0.0.4 blue 1.1.1.1/0.0.0.0 red 2.2.2.2/0.0.0.0\n",
     err: "",
@@ -43,7 +44,7 @@ const TWO_ROUTERS_WITHOUT_A_COMMON_BLOCK: &Case = &Case {
     words: &["proxy", "db", "-", "4.4.4.4", "1.1.1.1", "3.3.3.3"],
     database: LINE,
     profile: "",
-    certificate: b"",
+    certificate: NO_BYTES,
     exit: Exit::NoCommonBlock,
     out: "",
     err: "mrt: no common block\n",
@@ -54,7 +55,7 @@ const A_FIRST_ROUTER_THAT_IS_NOT_THERE: &Case = &Case {
     words: &["proxy", "db", "-", "3.3.3.3", "8.8.8.8", "9.9.9.9"],
     database: TRIANGLE,
     profile: "",
-    certificate: b"",
+    certificate: NO_BYTES,
     exit: Exit::NotThere {
         number: 0x0808_0808,
     },
@@ -67,7 +68,7 @@ const A_SECOND_ROUTER_THAT_IS_NOT_THERE: &Case = &Case {
     words: &["proxy", "db", "-", "3.3.3.3", "1.1.1.1", "9.9.9.9"],
     database: TRIANGLE,
     profile: "",
-    certificate: b"",
+    certificate: NO_BYTES,
     exit: Exit::NotThere {
         number: 0x0909_0909,
     },
@@ -80,7 +81,7 @@ const A_SECOND_ROUTER_OUTSIDE_THE_ISLAND: &Case = &Case {
     words: &["proxy", "db", "prof", "3.3.3.3", "2.2.2.2", "1.1.1.1"],
     database: TRIANGLE,
     profile: "no-mrt 1.1.1.1",
-    certificate: b"",
+    certificate: NO_BYTES,
     exit: Exit::NotThere {
         number: 0x0101_0101,
     },
@@ -93,7 +94,7 @@ const A_ROUTER_THAT_IS_NOT_THERE: &Case = &Case {
     words: &["proxy", "db", "-", "7.7.7.7", "8.8.8.8", "9.9.9.9"],
     database: TRIANGLE,
     profile: "",
-    certificate: b"",
+    certificate: NO_BYTES,
     exit: Exit::NotThere {
         number: 0x0707_0707,
     },
@@ -106,7 +107,7 @@ const A_NUMBER_OF_A_NETWORK: &Case = &Case {
     words: &["proxy", "db", "-", "1.1.1.1", "2.2.2.2", "10.0.0.4"],
     database: LAN,
     profile: "",
-    certificate: b"",
+    certificate: NO_BYTES,
     exit: Exit::NotThere {
         number: 0x0a00_0004,
     },
@@ -119,7 +120,7 @@ const ONE_ROUTER_TWICE: &Case = &Case {
     words: &["proxy", "db", "-", "3.3.3.3", "1.1.1.1", "1.1.1.1"],
     database: TRIANGLE,
     profile: "",
-    certificate: b"",
+    certificate: NO_BYTES,
     exit: Exit::Usage,
     out: "",
     err: USAGE,
@@ -130,7 +131,7 @@ const ONE_ROUTER: &Case = &Case {
     words: &["proxy", "db", "-", "3.3.3.3", "1.1.1.1"],
     database: TRIANGLE,
     profile: "",
-    certificate: b"",
+    certificate: NO_BYTES,
     exit: Exit::Usage,
     out: "",
     err: USAGE,

@@ -2,18 +2,19 @@
 
 use crate::calling::{CHECK, Case, comes_out};
 use crate::files::{
-    CERTIFICATE, FIVE, FIVE_CERTIFICATE, LINE, LINE_CERTIFICATE, OLD, OTHER, ROUTER, TRIANGLE,
-    TRIANGLE_CERTIFICATE, TRIANGLE_IN_CIRCLE, TWO_TREES,
+    CERTIFICATE, FIVE, FIVE_CERTIFICATE, LINE, OLD, OTHER, ROUTER, TRIANGLE, TRIANGLE_IN_CIRCLE,
+    TWO_TREES,
 };
 use cert_format::CertKind;
 use mrt_cmd::Exit;
+use parts_of_tests::{File, LINE_CERTIFICATE, NO_BYTES, TRIANGLE_CERTIFICATE};
 
 const TWO_ISLANDS: &Case = &Case {
     name: "two islands",
     words: CHECK,
     database: TWO_TREES,
     profile: "",
-    certificate: CERTIFICATE,
+    certificate: File::Cert(1, CERTIFICATE),
     exit: Exit::No {
         rule: 1,
         a: 0,
@@ -28,7 +29,7 @@ const TWO_CLOSING_LINKS: &Case = &Case {
     words: CHECK,
     database: FIVE,
     profile: "",
-    certificate: FIVE_CERTIFICATE,
+    certificate: File::Cert(1, FIVE_CERTIFICATE),
     exit: Exit::No {
         rule: 6,
         a: 0,
@@ -43,7 +44,7 @@ const HEADS_IN_A_CIRCLE: &Case = &Case {
     words: CHECK,
     database: TRIANGLE,
     profile: "",
-    certificate: TRIANGLE_IN_CIRCLE,
+    certificate: File::Cert(1, TRIANGLE_IN_CIRCLE),
     exit: Exit::No {
         rule: 3,
         a: 0,
@@ -58,7 +59,7 @@ const ANOTHER_GRAPH: &Case = &Case {
     words: CHECK,
     database: TRIANGLE,
     profile: "",
-    certificate: LINE_CERTIFICATE,
+    certificate: File::Cert(1, LINE_CERTIFICATE),
     exit: Exit::NotThere {
         number: 0x0404_0404,
     },
@@ -71,7 +72,7 @@ const FEWER_NODES: &Case = &Case {
     words: CHECK,
     database: LINE,
     profile: "",
-    certificate: TRIANGLE_CERTIFICATE,
+    certificate: File::Cert(1, TRIANGLE_CERTIFICATE),
     exit: Exit::No {
         rule: 1,
         a: 0,
@@ -86,7 +87,7 @@ const ANOTHER_ROUTER: &Case = &Case {
     words: CHECK,
     database: ROUTER,
     profile: "",
-    certificate: OTHER,
+    certificate: File::Cert(1, OTHER),
     exit: Exit::NotThere {
         number: 0x0202_0202,
     },
@@ -99,7 +100,7 @@ const MAX_AGE: &Case = &Case {
     words: CHECK,
     database: OLD,
     profile: "",
-    certificate: CERTIFICATE,
+    certificate: File::Cert(1, CERTIFICATE),
     exit: Exit::NotThere {
         number: 0x0101_0101,
     },
@@ -110,9 +111,9 @@ const MAX_AGE: &Case = &Case {
 const NO_LSA: &Case = &Case {
     name: "no LSA",
     words: CHECK,
-    database: b"",
+    database: NO_BYTES,
     profile: "",
-    certificate: CERTIFICATE,
+    certificate: File::Cert(1, CERTIFICATE),
     exit: Exit::NotThere {
         number: 0x0101_0101,
     },
@@ -125,7 +126,7 @@ const JUNK_BESIDE_A_ROUTER: &Case = &Case {
     words: CHECK,
     database: ROUTER,
     profile: "",
-    certificate: b"junk",
+    certificate: File::Bytes(b"junk"),
     exit: Exit::BadCertificate {
         at: 0,
         kind: CertKind::Magic,

@@ -4,6 +4,7 @@ use crate::answered::{Answered, FABRIC, is_answered};
 use crate::calling::{Case, comes_out};
 use crate::files::TRIANGLE;
 use mrt_cmd::Exit;
+use parts_of_tests::File;
 
 const SCRIPTS: &[Answered] = &[
     Answered {
@@ -113,7 +114,7 @@ const NO_FIRST_LINE: &Case = &Case {
     words: FABRIC,
     database: TRIANGLE,
     profile: "",
-    certificate: b"# a remark\n",
+    certificate: File::Bytes(b"# a remark\n"),
     exit: Exit::BadScript { line: 2 },
     out: "",
     err: "mrt: bad script on line 2\n",
@@ -124,7 +125,7 @@ const A_WORD_TOO_MANY: &Case = &Case {
     words: FABRIC,
     database: TRIANGLE,
     profile: "",
-    certificate: b"island 1.1.1.1 1\nstep 0 0\n",
+    certificate: File::Bytes(b"island 1.1.1.1 1\nstep 0 0\n"),
     exit: Exit::BadScript { line: 2 },
     out: "",
     err: "mrt: bad script on line 2\n",
@@ -135,7 +136,7 @@ const NO_BYTES: &Case = &Case {
     words: FABRIC,
     database: TRIANGLE,
     profile: "",
-    certificate: b"",
+    certificate: File::Bytes(b""),
     exit: Exit::BadScript { line: 1 },
     out: "",
     err: "mrt: bad script on line 1\n",
@@ -146,7 +147,7 @@ const ROOM_FOR_NONE: &Case = &Case {
     words: FABRIC,
     database: TRIANGLE,
     profile: "",
-    certificate: b"island 1.1.1.1 0\n",
+    certificate: File::Bytes(b"island 1.1.1.1 0\n"),
     exit: Exit::BadScript { line: 1 },
     out: "",
     err: "mrt: bad script on line 1\n",
@@ -157,7 +158,9 @@ const A_WORD_THAT_IS_NONE: &Case = &Case {
     words: FABRIC,
     database: TRIANGLE,
     profile: "",
-    certificate: b"island 1.1.1.1 1\ninject 1.1.1.1 3.3.3.3 blue\nstop 0\nfail 2.2.2.2\nstep 0\n",
+    certificate: File::Bytes(
+        b"island 1.1.1.1 1\ninject 1.1.1.1 3.3.3.3 blue\nstop 0\nfail 2.2.2.2\nstep 0\n",
+    ),
     exit: Exit::BadScript { line: 3 },
     out: "",
     err: "mrt: bad script on line 3\n",
@@ -168,7 +171,7 @@ const A_NUMBER_OF_TOO_MANY_DIGITS: &Case = &Case {
     words: FABRIC,
     database: TRIANGLE,
     profile: "",
-    certificate: b"island 1.1.1.1 1\nstep 99999999999\n",
+    certificate: File::Bytes(b"island 1.1.1.1 1\nstep 99999999999\n"),
     exit: Exit::BadScript { line: 2 },
     out: "",
     err: "mrt: bad script on line 2\n",
@@ -179,7 +182,7 @@ const A_ROUTER_THAT_IS_NOT_THERE: &Case = &Case {
     words: FABRIC,
     database: TRIANGLE,
     profile: "",
-    certificate: b"island 9.9.9.9 1\n",
+    certificate: File::Bytes(b"island 9.9.9.9 1\n"),
     exit: Exit::NotThere {
         number: 0x0909_0909,
     },
@@ -192,7 +195,7 @@ const NO_SCRIPT: &Case = &Case {
     words: &["fabric", "db", "-", "x"],
     database: TRIANGLE,
     profile: "",
-    certificate: b"",
+    certificate: File::Bytes(b""),
     exit: Exit::ReadFault { word: 3 },
     out: "",
     err: "mrt: read fault: word 3\n",

@@ -1,20 +1,20 @@
 //! Certificate files that are cut, longer by a byte, or have another byte in a place, and a database that is cut.
 
 use crate::calling::{CHECK, comes_to, front, two};
-use crate::files::{OTHER, ROUTER, TRIANGLE, TRIANGLE_CERTIFICATE};
-use crate::version_two::TRIANGLE_CERTIFICATE_2;
+use crate::files::{OTHER, ROUTER, TRIANGLE};
 use cert_format::CertKind;
 use mrt_cmd::{DbKind, Exit};
 use mrt_graph::NoMemory;
 use ospf_lsa::LsaKind;
+use parts_of_tests::{File, TRIANGLE_CERTIFICATE};
 use std::alloc::Global;
 
 /// The first bytes of a database, and the first of a certificate, one of them changed; a byte past the certificate's
 /// last is 0.
 struct Case {
-    database: &'static [u8],
+    database: File<'static>,
     kept: usize,
-    certificate: &'static [u8],
+    certificate: File<'static>,
     length: usize,
     at: usize,
     byte: u8,
@@ -26,7 +26,7 @@ const CASES: &[Case] = &[
     Case {
         database: TRIANGLE,
         kept: 144,
-        certificate: TRIANGLE_CERTIFICATE,
+        certificate: File::Cert(1, TRIANGLE_CERTIFICATE),
         length: 98,
         at: 69,
         byte: 2,
@@ -40,7 +40,7 @@ const CASES: &[Case] = &[
     Case {
         database: TRIANGLE,
         kept: 144,
-        certificate: TRIANGLE_CERTIFICATE,
+        certificate: File::Cert(1, TRIANGLE_CERTIFICATE),
         length: 98,
         at: 72,
         byte: 7,
@@ -54,7 +54,7 @@ const CASES: &[Case] = &[
     Case {
         database: TRIANGLE,
         kept: 144,
-        certificate: TRIANGLE_CERTIFICATE_2,
+        certificate: File::Cert(2, TRIANGLE_CERTIFICATE),
         length: 98,
         at: 72,
         byte: 6,
@@ -67,7 +67,7 @@ const CASES: &[Case] = &[
     Case {
         database: TRIANGLE,
         kept: 144,
-        certificate: TRIANGLE_CERTIFICATE,
+        certificate: File::Cert(1, TRIANGLE_CERTIFICATE),
         length: 98,
         at: 0,
         byte: 0,
@@ -80,7 +80,7 @@ const CASES: &[Case] = &[
     Case {
         database: TRIANGLE,
         kept: 144,
-        certificate: TRIANGLE_CERTIFICATE,
+        certificate: File::Cert(1, TRIANGLE_CERTIFICATE),
         length: 98,
         at: 69,
         byte: 3,
@@ -93,7 +93,7 @@ const CASES: &[Case] = &[
     Case {
         database: TRIANGLE,
         kept: 144,
-        certificate: TRIANGLE_CERTIFICATE,
+        certificate: File::Cert(1, TRIANGLE_CERTIFICATE),
         length: 99,
         at: 98,
         byte: 0,
@@ -107,7 +107,7 @@ const CASES: &[Case] = &[
     Case {
         database: ROUTER,
         kept: 24,
-        certificate: OTHER,
+        certificate: File::Cert(1, OTHER),
         length: 24,
         at: 0,
         byte: b'M',
@@ -120,7 +120,7 @@ const CASES: &[Case] = &[
     Case {
         database: TRIANGLE,
         kept: 144,
-        certificate: TRIANGLE_CERTIFICATE,
+        certificate: File::Cert(1, TRIANGLE_CERTIFICATE),
         length: 97,
         at: 0,
         byte: b'M',
@@ -133,7 +133,7 @@ const CASES: &[Case] = &[
     Case {
         database: TRIANGLE,
         kept: 143,
-        certificate: b"junk",
+        certificate: File::Bytes(b"junk"),
         length: 4,
         at: 0,
         byte: b'j',
@@ -150,7 +150,7 @@ fn cases() -> &'static [Case] {
 }
 
 /// So many bytes, the first ones of a file, but for one of them.
-fn changed(
+pub fn changed(
     alloc: Global,
     file: &[u8],
     length: usize,
@@ -168,9 +168,19 @@ fn changed(
     Ok(bytes)
 }
 
+/// The bytes of the certificate of a case.
+fn certificate_of(alloc: Global, case: &Case) -> Result<Vec<u8>, NoMemory> {
+    let whole = case.certificate.bytes(alloc)?;
+    changed(alloc, &whole, case.length, case.at, case.byte)
+}
+
 fn is_refused(alloc: Global, case: &Case) -> Result<bool, NoMemory> {
-    let certificate = changed(alloc, case.certificate, case.length, case.at, case.byte)?;
-    let files = two(front(case.database, case.kept), &certificate);
+    let database = case.database.bytes(alloc)?;
+    let certificate = certificate_of(alloc, case)?;
+    let files = two(
+        File::Bytes(front(&database, case.kept)),
+        File::Bytes(&certificate),
+    );
     Ok(comes_to(alloc, CHECK, files, case.exit, b"", case.err.as_bytes()))
 }
 

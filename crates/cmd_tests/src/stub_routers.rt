@@ -2,47 +2,56 @@
 
 use crate::answered::{Answered, is_answered};
 use crate::calling::{CHECK, Case, comes_out};
-use crate::files::TRIANGLE_CERTIFICATE;
 use mrt_cmd::Exit;
+use ospf_lsa::POINT_TO_POINT;
+use parts_of_tests::{
+    AT_1, AT_3, BELOW, File, LsaTold, MAINTAINED, NO_BYTES, ON_LAN, TRIANGLE_CERTIFICATE,
+};
 
-/// Routers 1, 2 and 3, each joined to the others; metric 65,535 at router 1's end of its link to 3.
-const AT_1: &[u8] =
-    b"\x00\x01\x02\x01\x01\x01\x01\x01\x01\x01\x01\x01\x80\x00\x00\x01\xf3\x28\x00\x30\x00\x00\x00\x02\x02\x02\x02\x02\x00\x00\x00\x02\x01\x00\x00\x0a\x03\x03\x03\x03\x00\x00\x00\x03\x01\x00\xff\xff\x00\x01\x02\x01\x02\x02\x02\x02\x02\x02\x02\x02\x80\x00\x00\x01\xa4\x6a\x00\x30\x00\x00\x00\x02\x01\x01\x01\x01\x00\x00\x00\x01\x01\x00\x00\x0a\x03\x03\x03\x03\x00\x00\x00\x03\x01\x00\x00\x0a\x00\x01\x02\x01\x03\x03\x03\x03\x03\x03\x03\x03\x80\x00\x00\x01\xeb\x20\x00\x30\x00\x00\x00\x02\x01\x01\x01\x01\x00\x00\x00\x01\x01\x00\x00\x0a\x02\x02\x02\x02\x00\x00\x00\x02\x01\x00\x00\x0a";
-
-/// The same at router 3's end of that link.
-const AT_3: &[u8] =
-    b"\x00\x01\x02\x01\x01\x01\x01\x01\x01\x01\x01\x01\x80\x00\x00\x01\x21\xf0\x00\x30\x00\x00\x00\x02\x02\x02\x02\x02\x00\x00\x00\x02\x01\x00\x00\x0a\x03\x03\x03\x03\x00\x00\x00\x03\x01\x00\x00\x0a\x00\x01\x02\x01\x02\x02\x02\x02\x02\x02\x02\x02\x80\x00\x00\x01\xa4\x6a\x00\x30\x00\x00\x00\x02\x01\x01\x01\x01\x00\x00\x00\x01\x01\x00\x00\x0a\x03\x03\x03\x03\x00\x00\x00\x03\x01\x00\x00\x0a\x00\x01\x02\x01\x03\x03\x03\x03\x03\x03\x03\x03\x80\x00\x00\x01\x37\xde\x00\x30\x00\x00\x00\x02\x01\x01\x01\x01\x00\x00\x00\x01\x01\x00\xff\xff\x02\x02\x02\x02\x00\x00\x00\x02\x01\x00\x00\x0a";
-
-/// The same at both ends, and metric 65,534 at router 1's end of its link to 2.
-const AT_BOTH: &[u8] =
-    b"\x00\x01\x02\x01\x01\x01\x01\x01\x01\x01\x01\x01\x80\x00\x00\x01\x2d\xf9\x00\x30\x00\x00\x00\x02\x02\x02\x02\x02\x00\x00\x00\x02\x01\x00\xff\xfe\x03\x03\x03\x03\x00\x00\x00\x03\x01\x00\xff\xff\x00\x01\x02\x01\x02\x02\x02\x02\x02\x02\x02\x02\x80\x00\x00\x01\xa4\x6a\x00\x30\x00\x00\x00\x02\x01\x01\x01\x01\x00\x00\x00\x01\x01\x00\x00\x0a\x03\x03\x03\x03\x00\x00\x00\x03\x01\x00\x00\x0a\x00\x01\x02\x01\x03\x03\x03\x03\x03\x03\x03\x03\x80\x00\x00\x01\x37\xde\x00\x30\x00\x00\x00\x02\x01\x01\x01\x01\x00\x00\x00\x01\x01\x00\xff\xff\x02\x02\x02\x02\x00\x00\x00\x02\x01\x00\x00\x0a";
-
-/// Metric 65,534 at both ends of the link between 1 and 3.
-const BELOW: &[u8] =
-    b"\x00\x01\x02\x01\x01\x01\x01\x01\x01\x01\x01\x01\x80\x00\x00\x01\xd5\x47\x00\x30\x00\x00\x00\x02\x02\x02\x02\x02\x00\x00\x00\x02\x01\x00\x00\x0a\x03\x03\x03\x03\x00\x00\x00\x03\x01\x00\xff\xfe\x00\x01\x02\x01\x02\x02\x02\x02\x02\x02\x02\x02\x80\x00\x00\x01\xa4\x6a\x00\x30\x00\x00\x00\x02\x01\x01\x01\x01\x00\x00\x00\x01\x01\x00\x00\x0a\x03\x03\x03\x03\x00\x00\x00\x03\x01\x00\x00\x0a\x00\x01\x02\x01\x03\x03\x03\x03\x03\x03\x03\x03\x80\x00\x00\x01\x25\xf1\x00\x30\x00\x00\x00\x02\x01\x01\x01\x01\x00\x00\x00\x01\x01\x00\xff\xfe\x02\x02\x02\x02\x00\x00\x00\x02\x01\x00\x00\x0a";
-
-/// The triangle with metric 65,535 at all links of router 2.
-const MAINTAINED: &[u8] =
-    b"\x00\x01\x02\x01\x01\x01\x01\x01\x01\x01\x01\x01\x80\x00\x00\x01\x21\xf0\x00\x30\x00\x00\x00\x02\x02\x02\x02\x02\x00\x00\x00\x02\x01\x00\x00\x0a\x03\x03\x03\x03\x00\x00\x00\x03\x01\x00\x00\x0a\x00\x01\x02\x01\x02\x02\x02\x02\x02\x02\x02\x02\x80\x00\x00\x01\xc2\x60\x00\x30\x00\x00\x00\x02\x01\x01\x01\x01\x00\x00\x00\x01\x01\x00\xff\xff\x03\x03\x03\x03\x00\x00\x00\x03\x01\x00\xff\xff\x00\x01\x02\x01\x03\x03\x03\x03\x03\x03\x03\x03\x80\x00\x00\x01\xeb\x20\x00\x30\x00\x00\x00\x02\x01\x01\x01\x01\x00\x00\x00\x01\x01\x00\x00\x0a\x02\x02\x02\x02\x00\x00\x00\x02\x01\x00\x00\x0a";
+/// The triangle with metric 65,535 at both ends of the link between routers 1 and 3, and 65,534 at router 1's end of its link to 2.
+const AT_BOTH: File = File::Lsas(&[
+    LsaTold::Router(
+        0x0101_0101,
+        &[
+            (0x0202_0202, 2, POINT_TO_POINT, 65534),
+            (0x0303_0303, 3, POINT_TO_POINT, 65535),
+        ],
+    ),
+    LsaTold::Joined(2, &[1, 3]),
+    LsaTold::Router(
+        0x0303_0303,
+        &[
+            (0x0101_0101, 1, POINT_TO_POINT, 65535),
+            (0x0202_0202, 2, POINT_TO_POINT, 10),
+        ],
+    ),
+]);
 
 /// Routers 1, 2 and 3 in a line, with metric 65,535 at both links of router 2.
-const PASSED: &[u8] =
-    b"\x00\x01\x02\x01\x01\x01\x01\x01\x01\x01\x01\x01\x80\x00\x00\x01\x75\xc3\x00\x24\x00\x00\x00\x01\x02\x02\x02\x02\x00\x00\x00\x02\x01\x00\x00\x0a\x00\x01\x02\x01\x02\x02\x02\x02\x02\x02\x02\x02\x80\x00\x00\x01\xc2\x60\x00\x30\x00\x00\x00\x02\x01\x01\x01\x01\x00\x00\x00\x01\x01\x00\xff\xff\x03\x03\x03\x03\x00\x00\x00\x03\x01\x00\xff\xff\x00\x01\x02\x01\x03\x03\x03\x03\x03\x03\x03\x03\x80\x00\x00\x01\xdc\x4c\x00\x24\x00\x00\x00\x01\x02\x02\x02\x02\x00\x00\x00\x02\x01\x00\x00\x0a";
+const PASSED: File = File::Lsas(&[
+    LsaTold::Joined(1, &[2]),
+    LsaTold::Router(
+        0x0202_0202,
+        &[
+            (0x0101_0101, 1, POINT_TO_POINT, 65535),
+            (0x0303_0303, 3, POINT_TO_POINT, 65535),
+        ],
+    ),
+    LsaTold::Joined(3, &[2]),
+]);
 
 /// Routers 1 and 2 joined, with metric 65,535 at router 1.
-const TWO: &[u8] =
-    b"\x00\x01\x02\x01\x01\x01\x01\x01\x01\x01\x01\x01\x80\x00\x00\x01\xc0\x82\x00\x24\x00\x00\x00\x01\x02\x02\x02\x02\x00\x00\x00\x02\x01\x00\xff\xff\x00\x01\x02\x01\x02\x02\x02\x02\x02\x02\x02\x02\x80\x00\x00\x01\xf8\x3d\x00\x24\x00\x00\x00\x01\x01\x01\x01\x01\x00\x00\x00\x01\x01\x00\x00\x0a";
-
-/// Routers 1 to 4 on LAN 10.0.0.4, and a link between 1 and 2; router 3's link to the LAN has metric 65,535.
-const ON_LAN: &[u8] =
-    b"\x00\x01\x02\x01\x01\x01\x01\x01\x01\x01\x01\x01\x80\x00\x00\x01\x4e\xb8\x00\x30\x00\x00\x00\x02\x0a\x00\x00\x04\x0a\x00\x00\x01\x02\x00\x00\x0a\x02\x02\x02\x02\x00\x00\x00\x02\x01\x00\x00\x0a\x00\x01\x02\x01\x02\x02\x02\x02\x02\x02\x02\x02\x80\x00\x00\x01\xa3\x5f\x00\x30\x00\x00\x00\x02\x0a\x00\x00\x04\x0a\x00\x00\x02\x02\x00\x00\x0a\x01\x01\x01\x01\x00\x00\x00\x01\x01\x00\x00\x0a\x00\x01\x02\x01\x03\x03\x03\x03\x03\x03\x03\x03\x80\x00\x00\x01\xdd\x43\x00\x24\x00\x00\x00\x01\x0a\x00\x00\x04\x0a\x00\x00\x03\x02\x00\xff\xff\x00\x01\x02\x01\x04\x04\x04\x04\x04\x04\x04\x04\x80\x00\x00\x01\x54\xb9\x00\x24\x00\x00\x00\x01\x0a\x00\x00\x04\x0a\x00\x00\x04\x02\x00\x00\x0a\x00\x01\x02\x02\x0a\x00\x00\x04\x04\x04\x04\x04\x80\x00\x00\x01\xa4\x67\x00\x28\xff\xff\xff\x00\x04\x04\x04\x04\x01\x01\x01\x01\x02\x02\x02\x02\x03\x03\x03\x03";
+const TWO: File = File::Lsas(&[
+    LsaTold::Router(0x0101_0101, &[(0x0202_0202, 2, POINT_TO_POINT, 65535)]),
+    LsaTold::Joined(2, &[1]),
+]);
 
 const THE_LINK_IS_OUT: &Case = &Case {
     name: "the link is out",
     words: &["table", "db", "-", "1.1.1.1"],
-    database: AT_1,
+    database: File::Lsas(AT_1),
     profile: "",
-    certificate: b"",
+    certificate: NO_BYTES,
     exit: Exit::Done,
     out: "\
 router 1.1.1.1 root 3.3.3.3 nodes 3 links 2\n\
@@ -54,9 +63,9 @@ router 1.1.1.1 root 3.3.3.3 nodes 3 links 2\n\
 const IT_IS_OUT_BY_ITS_OTHER_END: &Case = &Case {
     name: "it is out by its other end, and a primary goes over it",
     words: &["table", "db", "-", "1.1.1.1"],
-    database: AT_3,
+    database: File::Lsas(AT_3),
     profile: "",
-    certificate: b"",
+    certificate: NO_BYTES,
     exit: Exit::Done,
     out: "\
 router 1.1.1.1 root 3.3.3.3 nodes 3 links 2\n\
@@ -70,7 +79,7 @@ const A_PRIMARY_GOES_OVER_IT_AT_ITS_METRIC: &Case = &Case {
     words: &["table", "db", "-", "1.1.1.1"],
     database: AT_BOTH,
     profile: "",
-    certificate: b"",
+    certificate: NO_BYTES,
     exit: Exit::Done,
     out: "\
 router 1.1.1.1 root 3.3.3.3 nodes 3 links 2\n\
@@ -82,9 +91,9 @@ router 1.1.1.1 root 3.3.3.3 nodes 3 links 2\n\
 const A_METRIC_BELOW_IT: &Case = &Case {
     name: "a metric below it",
     words: &["table", "db", "-", "1.1.1.1"],
-    database: BELOW,
+    database: File::Lsas(BELOW),
     profile: "",
-    certificate: b"",
+    certificate: NO_BYTES,
     exit: Exit::Done,
     out: "\
 router 1.1.1.1 root 3.3.3.3 nodes 3 links 3\n\
@@ -96,9 +105,9 @@ router 1.1.1.1 root 3.3.3.3 nodes 3 links 3\n\
 const A_ROUTER_IN_MAINTENANCE: &Case = &Case {
     name: "a router in maintenance",
     words: &["table", "db", "-", "2.2.2.2"],
-    database: MAINTAINED,
+    database: File::Lsas(MAINTAINED),
     profile: "",
-    certificate: b"",
+    certificate: NO_BYTES,
     exit: Exit::Done,
     out: "\
 router 2.2.2.2 root 2.2.2.2 nodes 1 links 0\n",
@@ -108,9 +117,9 @@ router 2.2.2.2 root 2.2.2.2 nodes 1 links 0\n",
 const ITS_NEIGHBOURS: &Case = &Case {
     name: "its neighbours",
     words: &["table", "db", "-", "1.1.1.1"],
-    database: MAINTAINED,
+    database: File::Lsas(MAINTAINED),
     profile: "",
-    certificate: b"",
+    certificate: NO_BYTES,
     exit: Exit::Done,
     out: "\
 router 1.1.1.1 root 3.3.3.3 nodes 2 links 1\n\
@@ -121,9 +130,9 @@ router 1.1.1.1 root 3.3.3.3 nodes 2 links 1\n\
 const A_ROUTER_ON_A_LAN_IS_OUT: &Case = &Case {
     name: "a router on a LAN is out",
     words: &["table", "db", "-", "1.1.1.1"],
-    database: ON_LAN,
+    database: File::Lsas(ON_LAN),
     profile: "",
-    certificate: b"",
+    certificate: NO_BYTES,
     exit: Exit::Done,
     out: "\
 router 1.1.1.1 root 4.4.4.4 nodes 4 links 4\n\
@@ -136,9 +145,9 @@ net:10.0.0.4 head blue 2.2.2.2/0.0.0.2 red net:10.0.0.4/10.0.0.1 primary net:10.
 const THE_ROUTER_THAT_IS_OUT_OF_THE_LAN: &Case = &Case {
     name: "the router that is out of the LAN",
     words: &["table", "db", "-", "3.3.3.3"],
-    database: ON_LAN,
+    database: File::Lsas(ON_LAN),
     profile: "",
-    certificate: b"",
+    certificate: NO_BYTES,
     exit: Exit::Done,
     out: "\
 router 3.3.3.3 root 3.3.3.3 nodes 1 links 0\n",
@@ -148,9 +157,9 @@ router 3.3.3.3 root 3.3.3.3 nodes 1 links 0\n",
 const THE_CERTIFICATE_FROM_BEFORE: &Case = &Case {
     name: "the certificate from before",
     words: CHECK,
-    database: AT_1,
+    database: File::Lsas(AT_1),
     profile: "",
-    certificate: TRIANGLE_CERTIFICATE,
+    certificate: File::Cert(1, TRIANGLE_CERTIFICATE),
     exit: Exit::No {
         rule: 1,
         a: 0,
@@ -163,9 +172,9 @@ const THE_CERTIFICATE_FROM_BEFORE: &Case = &Case {
 const THE_CERTIFICATE_FROM_BEFORE_BY_THE_OTHER_END: &Case = &Case {
     name: "the certificate from before, by the other end",
     words: CHECK,
-    database: AT_3,
+    database: File::Lsas(AT_3),
     profile: "",
-    certificate: TRIANGLE_CERTIFICATE,
+    certificate: File::Cert(1, TRIANGLE_CERTIFICATE),
     exit: Exit::No {
         rule: 1,
         a: 0,
@@ -178,9 +187,9 @@ const THE_CERTIFICATE_FROM_BEFORE_BY_THE_OTHER_END: &Case = &Case {
 const THE_CERTIFICATE_FROM_BEFORE_BY_A_METRIC: &Case = &Case {
     name: "the certificate from before, by a metric below it",
     words: CHECK,
-    database: BELOW,
+    database: File::Lsas(BELOW),
     profile: "",
-    certificate: TRIANGLE_CERTIFICATE,
+    certificate: File::Cert(1, TRIANGLE_CERTIFICATE),
     exit: Exit::Done,
     out: "accepted root 3.3.3.3 nodes 3 links 3\n",
     err: "",
@@ -220,7 +229,7 @@ lost outside\n",
 const FROM_A_ROUTER_IN_MAINTENANCE: &Answered = &Answered {
     name: "from a router in maintenance",
     words: &["trace", "db", "-", "2.2.2.2", "3.3.3.3", "repair"],
-    database: MAINTAINED,
+    database: File::Lsas(MAINTAINED),
     profile: "",
     script: "",
     answers: "\
@@ -231,7 +240,7 @@ delivered 3.3.3.3\n",
 const TO_IT: &Answered = &Answered {
     name: "to it",
     words: &["trace", "db", "-", "1.1.1.1", "2.2.2.2", "repair"],
-    database: MAINTAINED,
+    database: File::Lsas(MAINTAINED),
     profile: "",
     script: "",
     answers: "\
@@ -262,7 +271,7 @@ const NO_REPAIR_GOES_THROUGH_IT: &Answered = &Answered {
         "repair",
         "link:1.1.1.1/0.0.0.3",
     ],
-    database: MAINTAINED,
+    database: File::Lsas(MAINTAINED),
     profile: "",
     script: "",
     answers: "\
@@ -274,7 +283,7 @@ lost no-alternate\n",
 const IT_IS_IN_NO_OTHER_ISLAND: &Answered = &Answered {
     name: "it is in no other island",
     words: &["trace", "db", "-", "1.1.1.1", "2.2.2.2", "blue"],
-    database: MAINTAINED,
+    database: File::Lsas(MAINTAINED),
     profile: "",
     script: "",
     answers: "\
@@ -292,7 +301,7 @@ const A_FAILED_PRIMARY_OVER_THE_LINK: &Answered = &Answered {
         "repair",
         "link:1.1.1.1/0.0.0.3",
     ],
-    database: AT_3,
+    database: File::Lsas(AT_3),
     profile: "",
     script: "",
     answers: "\

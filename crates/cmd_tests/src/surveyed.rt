@@ -4,6 +4,7 @@ use crate::calling::{Devices, Files, comes_to, front, left_on, two};
 use crate::words::USAGE;
 use mrt_cmd::Exit;
 use mrt_graph::NoMemory;
+use parts_of_tests::NO_BYTES;
 use std::alloc::Global;
 
 /// Words, and the survey that they ask for.
@@ -52,7 +53,7 @@ fn surveys() -> &'static [Survey] {
 
 /// Empty files, which no survey reads.
 fn no_files() -> Files<'static> {
-    two(b"", b"")
+    two(NO_BYTES, NO_BYTES)
 }
 
 #[test]

@@ -9,13 +9,14 @@ use crate::limits::ring;
 use crate::words::USAGE;
 use mrt_cmd::Exit;
 use mrt_graph::NoMemory;
+use parts_of_tests::{File, NO_BYTES};
 use std::alloc::Global;
 
 /// Words, the files that they name, and the table that is to be written.
 struct Example {
     name: &'static str,
     words: &'static [&'static str],
-    database: &'static [u8],
+    database: File<'static>,
     profile: &'static str,
     table: &'static str,
 }
@@ -255,7 +256,7 @@ const REFUSED: &[Case] = &[
         words: &["table", "db", "-", "9.9.9.9"],
         database: TRIANGLE,
         profile: "",
-        certificate: b"",
+        certificate: NO_BYTES,
         exit: Exit::NotThere {
             number: 0x0909_0909,
         },
@@ -267,7 +268,7 @@ const REFUSED: &[Case] = &[
         words: &["table", "db", "prof", "2.2.2.2"],
         database: LINE,
         profile: "no-mrt 2.2.2.2",
-        certificate: b"",
+        certificate: NO_BYTES,
         exit: Exit::NotThere {
             number: 0x0202_0202,
         },
@@ -279,7 +280,7 @@ const REFUSED: &[Case] = &[
         words: &["table", "db", "-"],
         database: TRIANGLE,
         profile: "",
-        certificate: b"",
+        certificate: NO_BYTES,
         exit: Exit::Usage,
         out: "",
         err: USAGE,
@@ -289,7 +290,7 @@ const REFUSED: &[Case] = &[
         words: &["table", "db", "-", "2.2.2"],
         database: TRIANGLE,
         profile: "",
-        certificate: b"",
+        certificate: NO_BYTES,
         exit: Exit::Usage,
         out: "",
         err: USAGE,
@@ -326,8 +327,8 @@ fn refused() -> &'static [Case] {
 fn is_given(alloc: Global, case: &Example) -> bool {
     let files = Files {
         database: case.database,
-        profile: case.profile.as_bytes(),
-        certificate: b"",
+        profile: File::Bytes(case.profile.as_bytes()),
+        certificate: NO_BYTES,
     };
     let table = case.table.as_bytes();
     comes_to(alloc, case.words, files, Exit::Done, table, b"")
@@ -362,7 +363,12 @@ const LAST_OF_RING: &[u8] =
 fn ends_with(alloc: Global, routers: u32, end: &[u8]) -> Result<bool, NoMemory> {
     let database = ring(alloc, routers, 1)?;
     let words = &["table", "db", "-", "0.0.0.1"];
-    let left = left_on(alloc, words, two(&database, b""), calm(2_000_000))?;
+    let left = left_on(
+        alloc,
+        words,
+        two(File::Bytes(&database), NO_BYTES),
+        calm(2_000_000),
+    )?;
     Ok(left.exit == Exit::Done && left.out.bytes().ends_with(end))
 }
 

@@ -7,6 +7,7 @@ use crate::limits::ring;
 use crate::words::USAGE;
 use mrt_cmd::Exit;
 use mrt_graph::NoMemory;
+use parts_of_tests::{File, NO_BYTES};
 use std::alloc::Global;
 
 const BLUE_AROUND_A_TRIANGLE: &Answered = &Answered {
@@ -298,7 +299,7 @@ const REFUSED: &[Case] = &[
         words: &["trace", "db", "-", "9.9.9.9", "2.2.2.2", "blue"],
         database: TRIANGLE,
         profile: "",
-        certificate: b"",
+        certificate: NO_BYTES,
         exit: Exit::NotThere {
             number: 0x0909_0909,
         },
@@ -310,7 +311,7 @@ const REFUSED: &[Case] = &[
         words: &["trace", "db", "-", "1.1.1.1", "2.2.2.2", "green"],
         database: TRIANGLE,
         profile: "",
-        certificate: b"",
+        certificate: NO_BYTES,
         exit: Exit::Usage,
         out: "",
         err: USAGE,
@@ -320,7 +321,7 @@ const REFUSED: &[Case] = &[
         words: &["trace", "db", "-", "1.1.1.1", "2.2.2.2", "blue", "3.3.3"],
         database: TRIANGLE,
         profile: "",
-        certificate: b"",
+        certificate: NO_BYTES,
         exit: Exit::Usage,
         out: "",
         err: USAGE,
@@ -332,7 +333,7 @@ const REFUSED: &[Case] = &[
         ],
         database: TRIANGLE,
         profile: "",
-        certificate: b"",
+        certificate: NO_BYTES,
         exit: Exit::Usage,
         out: "",
         err: USAGE,
@@ -402,7 +403,12 @@ fn lines_around(alloc: Global) -> Result<Vec<u8>, NoMemory> {
 fn has_lines(alloc: Global, lines: &[u8]) -> Result<bool, NoMemory> {
     let database = ring(alloc, 2048, 1)?;
     let words = &["trace", "db", "-", "0.0.0.1", "0.0.8.0", "blue"];
-    let left = left_on(alloc, words, two(&database, b""), calm(40_000))?;
+    let left = left_on(
+        alloc,
+        words,
+        two(File::Bytes(&database), NO_BYTES),
+        calm(40_000),
+    )?;
     Ok(left.exit == Exit::Done && left.out.bytes() == lines)
 }
 

@@ -3,18 +3,14 @@
 use crate::calling::{CHECK, Case, Files, UNDER, comes_out, comes_to};
 use crate::files::{
     CERTIFICATE, FIRST_TREE, FIVE, FIVE_CERTIFICATE, FIVE_COMPUTED, LAN, LAN_CERTIFICATE, LINE,
-    LINE_CERTIFICATE, OTHER, RING, RING_CERTIFICATE, RING_COMPUTED, ROUTER, SAMPLE,
-    SAMPLE_CERTIFICATE, SAMPLE_PROFILE, SECOND_TREE, THREE_LINKS, THREE_LINKS_CERTIFICATE,
-    TRIANGLE, TRIANGLE_CERTIFICATE, TRIANGLE_FROM_1, TRIANGLE_IN_CIRCLE, TWO_TREES,
-};
-use crate::version_two::{
-    CERTIFICATE_2, FIRST_TREE_2, FIVE_CERTIFICATE_2, FIVE_COMPUTED_2, LAN_CERTIFICATE_2,
-    LINE_CERTIFICATE_2, OTHER_2, RING_CERTIFICATE_2, RING_COMPUTED_2, SAMPLE_CERTIFICATE_2,
-    SECOND_TREE_2, THREE_LINKS_CERTIFICATE_2, TRIANGLE_CERTIFICATE_2, TRIANGLE_FROM_1_2,
-    TRIANGLE_IN_CIRCLE_2,
+    OTHER, RING, RING_CERTIFICATE, RING_COMPUTED, ROUTER, SAMPLE, SAMPLE_CERTIFICATE,
+    SAMPLE_PROFILE, SECOND_TREE, THREE_LINKS, THREE_LINKS_CERTIFICATE, TRIANGLE, TRIANGLE_FROM_1,
+    TRIANGLE_IN_CIRCLE, TWO_TREES,
 };
 use cert_format::CertKind;
 use mrt_cmd::Exit;
+use mrt_graph::NoMemory;
+use parts_of_tests::{File, LINE_CERTIFICATE, NO_BYTES, TRIANGLE_CERTIFICATE};
 use std::alloc::Global;
 
 const UPGRADE: &[&str] = &["upgrade", "db", "-", "cert"];
@@ -24,10 +20,10 @@ const UPGRADE_UNDER: &[&str] = &["upgrade", "db", "prof", "cert"];
 /// A certificate that is accepted, in both versions, and the line that says so.
 struct Both {
     name: &'static str,
-    database: &'static [u8],
+    database: File<'static>,
     profile: &'static str,
-    first: &'static [u8],
-    second: &'static [u8],
+    first: File<'static>,
+    second: File<'static>,
     line: &'static str,
 }
 
@@ -35,8 +31,8 @@ const BOTH_OF_ONE_ROUTER: &Both = &Both {
     name: "one router",
     database: ROUTER,
     profile: "",
-    first: CERTIFICATE,
-    second: CERTIFICATE_2,
+    first: File::Cert(1, CERTIFICATE),
+    second: File::Cert(2, CERTIFICATE),
     line: "accepted root 1.1.1.1 nodes 1 links 0\n",
 };
 
@@ -44,8 +40,8 @@ const BOTH_OF_A_TRIANGLE: &Both = &Both {
     name: "a triangle",
     database: TRIANGLE,
     profile: "",
-    first: TRIANGLE_CERTIFICATE,
-    second: TRIANGLE_CERTIFICATE_2,
+    first: File::Cert(1, TRIANGLE_CERTIFICATE),
+    second: File::Cert(2, TRIANGLE_CERTIFICATE),
     line: "accepted root 3.3.3.3 nodes 3 links 3\n",
 };
 
@@ -53,8 +49,8 @@ const BOTH_FROM_ANOTHER_ROOT: &Both = &Both {
     name: "a triangle from another root",
     database: TRIANGLE,
     profile: "priority 1.1.1.1 10\n",
-    first: TRIANGLE_FROM_1,
-    second: TRIANGLE_FROM_1_2,
+    first: File::Cert(1, TRIANGLE_FROM_1),
+    second: File::Cert(2, TRIANGLE_FROM_1),
     line: "accepted root 1.1.1.1 nodes 3 links 3\n",
 };
 
@@ -62,8 +58,8 @@ const BOTH_OF_A_LINE: &Both = &Both {
     name: "a line",
     database: LINE,
     profile: "",
-    first: LINE_CERTIFICATE,
-    second: LINE_CERTIFICATE_2,
+    first: File::Cert(1, LINE_CERTIFICATE),
+    second: File::Cert(2, LINE_CERTIFICATE),
     line: "accepted root 4.4.4.4 nodes 4 links 3\n",
 };
 
@@ -71,8 +67,8 @@ const BOTH_OF_THREE_LINKS: &Both = &Both {
     name: "three links",
     database: THREE_LINKS,
     profile: "",
-    first: THREE_LINKS_CERTIFICATE,
-    second: THREE_LINKS_CERTIFICATE_2,
+    first: File::Cert(1, THREE_LINKS_CERTIFICATE),
+    second: File::Cert(2, THREE_LINKS_CERTIFICATE),
     line: "accepted root 2.2.2.2 nodes 2 links 3\n",
 };
 
@@ -80,8 +76,8 @@ const BOTH_OF_FIVE: &Both = &Both {
     name: "five routers",
     database: FIVE,
     profile: "",
-    first: FIVE_COMPUTED,
-    second: FIVE_COMPUTED_2,
+    first: File::Cert(1, FIVE_COMPUTED),
+    second: File::Cert(2, FIVE_COMPUTED),
     line: "accepted root 5.5.5.5 nodes 5 links 7\n",
 };
 
@@ -89,8 +85,8 @@ const BOTH_OF_A_RING: &Both = &Both {
     name: "a ring",
     database: RING,
     profile: "",
-    first: RING_COMPUTED,
-    second: RING_COMPUTED_2,
+    first: File::Cert(1, RING_COMPUTED),
+    second: File::Cert(2, RING_COMPUTED),
     line: "accepted root 5.5.5.5 nodes 5 links 5\n",
 };
 
@@ -98,8 +94,8 @@ const BOTH_OF_ANOTHER_EAR: &Both = &Both {
     name: "another ear than that of `certify`",
     database: RING,
     profile: "",
-    first: RING_CERTIFICATE,
-    second: RING_CERTIFICATE_2,
+    first: File::Cert(1, RING_CERTIFICATE),
+    second: File::Cert(2, RING_CERTIFICATE),
     line: "accepted root 5.5.5.5 nodes 5 links 5\n",
 };
 
@@ -107,8 +103,8 @@ const BOTH_OF_A_LAN: &Both = &Both {
     name: "a LAN",
     database: LAN,
     profile: "",
-    first: LAN_CERTIFICATE,
-    second: LAN_CERTIFICATE_2,
+    first: File::Cert(1, LAN_CERTIFICATE),
+    second: File::Cert(2, LAN_CERTIFICATE),
     line: "accepted root 4.4.4.4 nodes 5 links 5\n",
 };
 
@@ -116,8 +112,8 @@ const BOTH_OF_THE_SAMPLE: &Both = &Both {
     name: "the sample",
     database: SAMPLE,
     profile: SAMPLE_PROFILE,
-    first: SAMPLE_CERTIFICATE,
-    second: SAMPLE_CERTIFICATE_2,
+    first: File::Cert(1, SAMPLE_CERTIFICATE),
+    second: File::Cert(2, SAMPLE_CERTIFICATE),
     line: "accepted root 10.255.1.1 nodes 7 links 8\n",
 };
 
@@ -125,8 +121,8 @@ const BOTH_OF_ONE_TREE: &Both = &Both {
     name: "one of two trees",
     database: TWO_TREES,
     profile: "",
-    first: FIRST_TREE,
-    second: FIRST_TREE_2,
+    first: File::Cert(1, FIRST_TREE),
+    second: File::Cert(2, FIRST_TREE),
     line: "accepted root 2.2.2.2 nodes 2 links 1\n",
 };
 
@@ -134,8 +130,8 @@ const BOTH_OF_THE_OTHER_TREE: &Both = &Both {
     name: "the other",
     database: TWO_TREES,
     profile: "",
-    first: SECOND_TREE,
-    second: SECOND_TREE_2,
+    first: File::Cert(1, SECOND_TREE),
+    second: File::Cert(2, SECOND_TREE),
     line: "accepted root 4.4.4.4 nodes 2 links 1\n",
 };
 
@@ -157,22 +153,22 @@ fn all_both() -> [&'static Both; 12] {
 }
 
 /// Whether a certificate comes to this under these words, over the database and the profile of another.
-fn gives(alloc: Global, words: &[&str], both: &Both, certificate: &[u8], out: &[u8]) -> bool {
+fn gives(alloc: Global, words: &[&str], both: &Both, certificate: File<'_>, out: &[u8]) -> bool {
     let files = Files {
         database: both.database,
-        profile: both.profile.as_bytes(),
+        profile: File::Bytes(both.profile.as_bytes()),
         certificate,
     };
     comes_to(alloc, words, files, Exit::Done, out, b"")
 }
 
-/// Whether both versions are accepted, and each is upgraded to the second.
-fn both_pass(alloc: Global, both: &Both) -> bool {
+/// Whether both versions are accepted, and each is upgraded to these bytes, those of the second.
+fn both_come_to(alloc: Global, both: &Both, second: &[u8]) -> bool {
     for (words, certificate, out) in [
         (UNDER, both.first, both.line.as_bytes()),
         (UNDER, both.second, both.line.as_bytes()),
-        (UPGRADE_UNDER, both.first, both.second),
-        (UPGRADE_UNDER, both.second, both.second),
+        (UPGRADE_UNDER, both.first, second),
+        (UPGRADE_UNDER, both.second, second),
     ] {
         if !gives(alloc, words, both, certificate, out) {
             return false;
@@ -181,10 +177,15 @@ fn both_pass(alloc: Global, both: &Both) -> bool {
     true
 }
 
+fn both_pass(alloc: Global, both: &Both) -> Result<bool, NoMemory> {
+    let second = both.second.bytes(alloc)?;
+    Ok(both_come_to(alloc, both, &second))
+}
+
 #[test]
 fn certificates_of_both_versions(rt: HostRuntime) {
     for both in all_both() {
-        assert!(rt; both_pass(rt.alloc(), both), "{}", both.name);
+        assert!(rt; both_pass(rt.alloc(), both) == Ok(true), "{}", both.name);
     }
 }
 
@@ -193,7 +194,7 @@ const ANOTHER_ROOT: &Case = &Case {
     words: UPGRADE,
     database: TRIANGLE,
     profile: "",
-    certificate: TRIANGLE_FROM_1,
+    certificate: File::Cert(1, TRIANGLE_FROM_1),
     exit: Exit::No {
         rule: 2,
         a: 2,
@@ -208,7 +209,7 @@ const NO_CERTIFICATE: &Case = &Case {
     words: UPGRADE,
     database: TRIANGLE,
     profile: "",
-    certificate: b"",
+    certificate: NO_BYTES,
     exit: Exit::BadCertificate {
         at: 0,
         kind: CertKind::Truncated,
@@ -222,7 +223,7 @@ const HEADS_IN_A_CIRCLE_IN_VERSION_1: &Case = &Case {
     words: UPGRADE,
     database: TRIANGLE,
     profile: "",
-    certificate: TRIANGLE_IN_CIRCLE,
+    certificate: File::Cert(1, TRIANGLE_IN_CIRCLE),
     exit: Exit::No {
         rule: 3,
         a: 0,
@@ -237,7 +238,7 @@ const HEADS_IN_A_CIRCLE_IN_VERSION_2: &Case = &Case {
     words: UPGRADE,
     database: TRIANGLE,
     profile: "",
-    certificate: TRIANGLE_IN_CIRCLE_2,
+    certificate: File::Cert(2, TRIANGLE_IN_CIRCLE),
     exit: Exit::BadCertificate {
         at: 21,
         kind: CertKind::Heads,
@@ -251,7 +252,7 @@ const A_CHECK_OF_HEADS_IN_A_CIRCLE: &Case = &Case {
     words: CHECK,
     database: TRIANGLE,
     profile: "",
-    certificate: TRIANGLE_IN_CIRCLE_2,
+    certificate: File::Cert(2, TRIANGLE_IN_CIRCLE),
     exit: Exit::BadCertificate {
         at: 21,
         kind: CertKind::Heads,
@@ -265,7 +266,7 @@ const TWO_CLOSING_LINKS: &Case = &Case {
     words: CHECK,
     database: FIVE,
     profile: "",
-    certificate: FIVE_CERTIFICATE_2,
+    certificate: File::Cert(2, FIVE_CERTIFICATE),
     exit: Exit::No {
         rule: 6,
         a: 0,
@@ -280,7 +281,7 @@ const TWO_CLOSING_LINKS_UPGRADED_FROM_1: &Case = &Case {
     words: UPGRADE,
     database: FIVE,
     profile: "",
-    certificate: FIVE_CERTIFICATE,
+    certificate: File::Cert(1, FIVE_CERTIFICATE),
     exit: Exit::No {
         rule: 6,
         a: 0,
@@ -295,7 +296,7 @@ const TWO_CLOSING_LINKS_UPGRADED_FROM_2: &Case = &Case {
     words: UPGRADE,
     database: FIVE,
     profile: "",
-    certificate: FIVE_CERTIFICATE_2,
+    certificate: File::Cert(2, FIVE_CERTIFICATE),
     exit: Exit::No {
         rule: 6,
         a: 0,
@@ -310,7 +311,7 @@ const ANOTHER_ROUTER: &Case = &Case {
     words: CHECK,
     database: ROUTER,
     profile: "",
-    certificate: OTHER_2,
+    certificate: File::Cert(2, OTHER),
     exit: Exit::NotThere {
         number: 0x0202_0202,
     },
@@ -323,7 +324,7 @@ const ANOTHER_ROUTER_UPGRADED_FROM_1: &Case = &Case {
     words: UPGRADE,
     database: ROUTER,
     profile: "",
-    certificate: OTHER,
+    certificate: File::Cert(1, OTHER),
     exit: Exit::NotThere {
         number: 0x0202_0202,
     },
@@ -336,7 +337,7 @@ const ANOTHER_ROUTER_UPGRADED_FROM_2: &Case = &Case {
     words: UPGRADE,
     database: ROUTER,
     profile: "",
-    certificate: OTHER_2,
+    certificate: File::Cert(2, OTHER),
     exit: Exit::NotThere {
         number: 0x0202_0202,
     },
