@@ -1,3 +1,4 @@
+pub mod Due
 pub mod Exits
 pub mod Faults
 pub mod Telling

@@ -8,3 +8,4 @@ mod words;
 
 pub use exit::{DbKind, Exit, What};
 pub use telling::tell;
+pub use text_parts::Line;
