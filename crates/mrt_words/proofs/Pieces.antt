@@ -9,9 +9,11 @@ use Rattle.mrt_io.specs.Holding.{Files, IsFileOf, IsKnownThere, IsTooLong}
 use Rattle.mrt_io.specs.Left.{IsLeftOf, IsTakenOff}
 use Rattle.mrt_exit.specs.declared.exit.Exit.{Exit}
 use Rattle.mrt_exit.specs.declared.exit.Exit.TheVariants as exits
-use Rattle.mrt_words.specs.Files.{NamedFile, IsReadAs}
+use Rattle.mrt_words.specs.Files.{NamedFile, IsReadAs, IsRefusedBy}
 use Rattle.mrt_words.specs.Pieces.{IsFedOn, IsFedSoFar}
-use Rattle.mrt_words.specs.Reading.{IsDue, IsDueOrFault, IsStopped, IsUnread}
+use Rattle.mrt_exit.specs.Due.{IsDue}
+use Rattle.mrt_words.specs.Reading.{IsDueOrFault, IsStopped}
+use Rattle.mrt_words.proofs.Readings.{long_refused}
 
 -- two pieces, one after the other, are fed as one
 pub fed_twice : ((pieces : List (List ℕ)) → fed_all (Ok []) pieces ≡ fed (Ok []) (flat_map (λ piece. piece) pieces))
@@ -99,12 +101,10 @@ over_limit (Some files) name limit (Some all) (Some rest) seen whole taken over 
 
 pub fed_too_long : (held : Option Files) (file : NamedFile) (left now : Option (List ℕ)) (reader : Progress) (room : ℕ)
     → IsLeftOf held file.name left → IsFedSoFar file.limit left now reader room → room ≤ 0
-    → IsUnread held file (exits.TooLarge file.what (file.limit + 1))
-fed_too_long held file left now reader room whole so_far full = (
-  refl,
-  refl,
-  over_limit held file.name file.limit left now so_far.seen whole so_far.taken (omega (arith, so_far.counted, full)),
-)
+    → IsRefusedBy held (file ∷ []) (exits.TooLarge file.what (file.limit + 1))
+fed_too_long held file left now reader room whole so_far full =
+    long_refused held file
+    (over_limit held file.name file.limit left now so_far.seen whole so_far.taken (omega (arith, so_far.counted, full)))
 
 -- where a file is held of which it is told what is left, that is told
 pub told_left : (held : Option Files) (name : List ℕ) (left : Option (List ℕ)) → IsLeftOf held name left
@@ -116,13 +116,13 @@ told_left (Some files) name (Some all) whole known = refl
 -- a file that could not be read on is unread
 pub stopped_unread : (held : Option Files) (file : NamedFile) (before between now : ℕ) (exit : Exit)
     → before ≤ between → IsStopped file between now exit
-    → IsDueOrFault (IsUnread held file) held (file ∷ []) before now exit
+    → IsDueOrFault (IsRefusedBy held (file ∷ [])) held (file ∷ []) before now exit
 stopped_unread held file before between now (exits.ReadFault word) le said = (inl said.0, omega (arith, le, said.1))
 stopped_unread held file before between now exits.NoMemory le said = inr refl
 stopped_unread held file before between now exit le said = absurd said
 
 pub stopped_calm : (held : Option Files) (file : NamedFile) (before between now : ℕ) (exit : Exit)
-    → before ≤ between → (Rose before now → ⊥) → IsStopped file between now exit → IsDue (IsUnread held file) exit
+    → before ≤ between → (Rose before now → ⊥) → IsStopped file between now exit → IsDue (IsRefusedBy held (file ∷ [])) exit
 stopped_calm held file before between now (exits.ReadFault word) le calm said =
     absurd (calm (omega (arith, le, said.1)))
 stopped_calm held file before between now exits.NoMemory le calm said = inr refl
@@ -131,8 +131,9 @@ stopped_calm held file before between now exit le calm said = absurd said
 -- over a shelf of which it is told what is left, and that then has no fault
 pub stopped_healthy : (held : Option Files) (file : NamedFile) (left : Option (List ℕ)) (before between now : ℕ)
     (exit : Exit) → IsLeftOf held file.name left → before ≤ between → before < last_count
-    → (IsSome left → now ≡ before) → IsStopped file between now exit → IsDue (IsUnread held file) exit
-stopped_healthy None file left before between now (exits.ReadFault word) whole le below same said = inl (said.0, tt)
+    → (IsSome left → now ≡ before) → IsStopped file between now exit → IsDue (IsRefusedBy held (file ∷ [])) exit
+stopped_healthy None file left before between now (exits.ReadFault word) whole le below same said =
+    inl (inl (ap exits.ReadFault said.0))
 stopped_healthy (Some files) file None before between now (exits.ReadFault word) whole le below same said = absurd whole
 stopped_healthy (Some files) file (Some all) before between now (exits.ReadFault word) whole le below same said =
     absurd (omega (arith, le, below, same refl, said.1))

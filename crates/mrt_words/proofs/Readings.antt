@@ -1,18 +1,19 @@
 -- Files that are read one after another are read as one list of files.
 use Rattle.std.proofs.Common.{◌≡◌, ◌∙◌, ◌≤◌, ◌<◌, ◌+◌, ◌++◌, ℕ, Bool, true, false, List, [], ◌∷◌, Option, Some, None, Result, Ok, Err, length, refl, ap, sym, subst, inl, inr, arith}
-use Rattle.std.specs.Prelude.{IfErr, IfOk, is_some, nat_lt, if◌then◌else◌}
+use Rattle.std.specs.Prelude.{IfErr, IfOk, IfSome, is_some, nat_lt, if◌then◌else◌}
 use Rattle.std.specs.List.{AllByRecursion}
 use Rattle.std.specs.Option.{IsSomeAnd, option_map, option_map_or, option_to_list}
 use Rattle.std.specs.Result.{IsErrAnd}
 use Rattle.std.specs.declared.alloc.Global.{Global}
 use Rattle.std.specs.declared.vec.Vec.{Vec}
 use Rattle.std.proofs.lemmas.Bool.{le-ltb, lt-ltb}
-use Rattle.mrt_io.specs.Holding.{Files}
+use Rattle.mrt_io.specs.Holding.{Files, IsTooLong}
 use Rattle.mrt_exit.specs.declared.exit.Exit.{Exit}
 use Rattle.mrt_exit.specs.declared.exit.Exit.TheVariants as exits
 use Rattle.mrt_words.specs.FileBytes.{IsProfileRead}
 use Rattle.mrt_words.specs.Files.{NamedFile, Names, AreThere, IsReadAs, IsRefusedBy, MayFail, SaysOneOf, files_in, profile_file, refusal_of}
-use Rattle.mrt_words.specs.Reading.{IsDue, IsDueOrFault, IsUnread, ReadsAs, ReadsFile, ReadsFiles}
+use Rattle.mrt_exit.specs.Due.{IsDue}
+use Rattle.mrt_words.specs.Reading.{IsDueOrFault, ReadsAs, ReadsFiles}
 
 -- what follows of an error, and of a value
 pub if_err : {T : Type 0} (result : Result T Exit) (P Q : Exit → Type 0) → ((exit : Exit) → P exit → Q exit) → IfErr result P → IfErr result Q
@@ -109,14 +110,15 @@ too_long : (files : Files) (file : NamedFile) (content : Option (List ℕ)) → 
 too_long files file None is long = absurd long
 too_long files file (Some bytes) is long = rw (is, lt-ltb file.limit (length bytes) long) refl
 
-unread_refused : (held : Option Files) (file : NamedFile) (exit : Exit) → IsUnread held file exit
-    → IsRefusedBy held (file ∷ []) exit
-unread_refused None file (exits.ReadFault word) said = inl (ap exits.ReadFault said.0)
-unread_refused (Some files) file (exits.ReadFault word) said = rw (said.1, said.0) refl
-unread_refused None file (exits.TooLarge what size) said = inr (inl cc)
-unread_refused (Some files) file (exits.TooLarge what size) said =
-    rw (said.0, said.1) (too_long files file (files file.name) refl said.2)
-unread_refused held file exit said = absurd said
+pub missing_refused : (held : Option Files) (file : NamedFile) → IfSome held (λ files. files file.name ≡ None)
+    → IsRefusedBy held (file ∷ []) (exits.ReadFault file.place)
+missing_refused None file missing = inl refl
+missing_refused (Some files) file missing = rw missing refl
+
+pub long_refused : (held : Option Files) (file : NamedFile) → IsTooLong held file.name file.limit
+    → IsRefusedBy held (file ∷ []) (exits.TooLarge file.what (file.limit + 1))
+long_refused None file long = inr (inl refl)
+long_refused (Some files) file long = too_long files file (files file.name) refl long
 
 -- ---- what is due
 
@@ -207,14 +209,6 @@ module _ {S : Type 0} (held : S → Option Files) (faults : S → ℕ) (healthy 
   errs old new named P Gives (Err told) exit is reads =
       subst (λ (e : Exit). ReadsAs held faults healthy old new named P Gives (Err e)) (sym is) reads
 
-  -- one file is a list of one
-  pub reads_one : {T : Type 0} (old new : S) (file : NamedFile) (Gives : Option Files → T → Type 0) (result : Result T Exit)
-      → ReadsFile held faults healthy old new file Gives result
-      → ReadsFiles held faults healthy old new (file ∷ []) Gives result
-  reads_one old new file Gives result reads =
-      reads_also old new (file ∷ []) (file ∷ []) (λ files. IsUnread files file) (λ files. IsRefusedBy files (file ∷ [])) Gives Gives result
-      (λ t given. given) (unread_refused (held old) file) (λ word may. may) (λ there. there) reads
-
   -- where the first files are refused, so are all
   pub reads_first : {T U : Type 0} (old new : S) (first rest : List NamedFile) (Gives : Option Files → T → Type 0)
       (Wants : Option Files → U → Type 0) (exit : Exit) → ReadsFiles held faults healthy old new first Gives (Err exit)
@@ -280,7 +274,7 @@ module _ {S : Type 0} (held : S → Option Files) (faults : S → ℕ) (healthy 
 
   -- the files of a form: the first was read
   module _ (names : Names) (file : NamedFile) (is : file ≡ names.first) (old one : S) (bytes : Vec ℕ Global)
-      (first : ReadsFile held faults healthy old one file (λ told it. IsReadAs told file it.items) (Ok bytes)) where
+      (first : ReadsFiles held faults healthy old one (file ∷ []) (λ told it. IsReadAs told file it.items) (Ok bytes)) where
     abbrev profile_files : List NamedFile
     profile_files = option_to_list (option_map profile_file names.profile)
 
@@ -296,7 +290,7 @@ module _ {S : Type 0} (held : S → Option Files) (faults : S → ℕ) (healthy 
     after_first new Wants result reads =
         reads_then old one new (names.first ∷ []) (profile_files ++ last_files) (λ told it. IsReadAs told file it.items) Wants bytes
         result (subst (λ (f : NamedFile). ReadsFiles held faults healthy old one (f ∷ []) (λ told it. IsReadAs told file it.items) (Ok bytes))
-        is (reads_one old one file (λ told it. IsReadAs told file it.items) (Ok bytes) first)) ((bytes.items, first_is), tt) reads
+        is first) ((bytes.items, first_is), tt) reads
 
     pub profile_stops : {T U : Type 0} (new : S) (Gives : Option Files → T → Type 0) (Wants : Option Files → U → Type 0)
         (exit : Exit) (result : Result U Exit) → IsErrAnd result (λ told. told ≡ exit)

@@ -120,26 +120,27 @@ proxy_spelled : (command : List ℕ) (words : List (List ℕ)) → bytes_eq comm
 proxy_spelled command [] same = tt
 proxy_spelled command (router ∷ []) same = tt
 proxy_spelled command (router ∷ first ∷ []) same = tt
-proxy_spelled command (router ∷ first ∷ second ∷ []) same =
-    let P = RouterSpelled (command ∷ router ∷ first ∷ second ∷ []) in
-    next P _ (address_in router)
-    (λ number router_is. next P _ (address_in first)
-    (λ one first_is. next P _ (address_in second)
-    (λ other second_is. go number one other router_is first_is second_is (one == other) refl)))
+proxy_spelled command (router_word ∷ first_word ∷ second_word ∷ []) same =
+    let P = RouterSpelled (command ∷ router_word ∷ first_word ∷ second_word ∷ []) in
+    next P _ (address_in router_word)
+    (λ router router_is. next P _ (address_in first_word)
+    (λ first first_is. next P _ (address_in second_word)
+    (λ second second_is. go router first second router_is first_is second_is (first == second) refl)))
   where
-    go : (number one other : ℕ) → address_in router ≡ Some number → address_in first ≡ Some one → address_in second ≡ Some other
-        → (b : Bool) → (one == other) ≡ b
-        → IfSome (if b then None else Some (Proxy number one other)) (RouterSpelled (command ∷ router ∷ first ∷ second ∷ []))
-    go number one other router_is first_is second_is true is = tt
-    go number one other router_is first_is second_is false is = record {
-      address = router;
-      one = first;
-      other = second;
-      are = command_is command (codes "proxy") (router ∷ first ∷ second ∷ []) same;
+    go : (router first second : ℕ) → address_in router_word ≡ Some router → address_in first_word ≡ Some first
+        → address_in second_word ≡ Some second → (b : Bool) → (first == second) ≡ b
+        → IfSome (if b then None else Some (Proxy router first second))
+        (RouterSpelled (command ∷ router_word ∷ first_word ∷ second_word ∷ []))
+    go router first second router_is first_is second_is true is = tt
+    go router first second router_is first_is second_is false is = record {
+      router_word = router_word;
+      first_word = first_word;
+      second_word = second_word;
+      are = command_is command (codes "proxy") (router_word ∷ first_word ∷ second_word ∷ []) same;
       router_is = router_is;
       first_is = first_is;
       second_is = second_is;
-      different = eqb-false one other is;
+      different = eqb-false first second is;
     }
 proxy_spelled command (router ∷ first ∷ second ∷ more ∷ words) same = tt
 

@@ -37,21 +37,37 @@ pub record NamedFile : Type 0 where
   pub what : What
   pub limit : ℕ
 
+-- the most bytes that a file of a database may have, one of packets, of a profile, of a certificate, of a script
+abbrev pub database_limit : ℕ
+database_limit = 8388608
+
+abbrev pub updates_limit : ℕ
+updates_limit = 33554432
+
+abbrev pub profile_limit : ℕ
+profile_limit = 33554432
+
+abbrev pub certificate_limit : ℕ
+certificate_limit = 134217728
+
+abbrev pub script_limit : ℕ
+script_limit = 33554432
+
 -- the files of a database, of packets, of a profile, of a certificate and of a script
 abbrev pub database_file : List ℕ → NamedFile
-database_file name = record { place = 1; name = name; what = DatabaseFile; limit = 8388608 }
+database_file name = record { place = 1; name = name; what = DatabaseFile; limit = database_limit }
 
 abbrev pub updates_file : List ℕ → NamedFile
-updates_file name = record { place = 1; name = name; what = UpdatesFile; limit = 33554432 }
+updates_file name = record { place = 1; name = name; what = UpdatesFile; limit = updates_limit }
 
 abbrev pub profile_file : List ℕ → NamedFile
-profile_file name = record { place = 2; name = name; what = ProfileFile; limit = 33554432 }
+profile_file name = record { place = 2; name = name; what = ProfileFile; limit = profile_limit }
 
 abbrev pub certificate_file : List ℕ → NamedFile
-certificate_file name = record { place = 3; name = name; what = CertificateFile; limit = 134217728 }
+certificate_file name = record { place = 3; name = name; what = CertificateFile; limit = certificate_limit }
 
 abbrev pub script_file : List ℕ → NamedFile
-script_file name = record { place = 3; name = name; what = ScriptFile; limit = 33554432 }
+script_file name = record { place = 3; name = name; what = ScriptFile; limit = script_limit }
 
 -- the file that a task names, if it names one
 abbrev pub task_file : Task → Option NamedFile

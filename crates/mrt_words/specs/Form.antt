@@ -82,9 +82,10 @@ trace_in _ = None
 
 -- the address of a router, and those of two others, which differ
 abbrev pub proxy_in : List (List ℕ) → Option RouterTask
-proxy_in (router ∷ first ∷ second ∷ []) =
-    option_and_then (λ number. option_and_then (λ one. option_and_then (λ other. if one == other then None else Some (Proxy number one other))
-    (address_in second)) (address_in first)) (address_in router)
+proxy_in (router_word ∷ first_word ∷ second_word ∷ []) =
+    option_and_then (λ router. option_and_then (λ first. option_and_then
+    (λ second. if first == second then None else Some (Proxy router first second))
+    (address_in second_word)) (address_in first_word)) (address_in router_word)
 proxy_in _ = None
 
 -- what follows the names of a database and of a profile, by the command: the tasks that name a file, and those that name none

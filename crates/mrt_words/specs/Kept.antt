@@ -10,6 +10,7 @@ use Rattle.mrt_words.specs.declared.files_read.FloodRead.{FloodRead}
 use Rattle.mrt_words.specs.declared.task.Task.{Task as TaskOver}
 use Rattle.mrt_words.specs.declared.task.Task.TheVariants.{Check, Upgrade, Fabric, OfRouter}
 use Rattle.mrt_words.specs.FileBytes.{FileBytes}
+use Rattle.mrt_words.specs.Files.{script_limit}
 use Rattle.mrt_words.specs.Form.{IsRouterTaskWithin, Task}
 use Rattle.mrt_words.specs.CertSpelling.{IsSpellingOf}
 
@@ -31,7 +32,7 @@ IsWorkFor task last (OfRouter asked) = task ≡ OfRouter asked
 
 -- a script is within its limit, and the two routers of a prefix differ
 abbrev pub IsWorkWithin : Work → Type 0
-IsWorkWithin (Fabric script) = length script.items ≤ 33554432
+IsWorkWithin (Fabric script) = length script.items ≤ script_limit
 IsWorkWithin (OfRouter asked) = IsRouterTaskWithin asked
 IsWorkWithin _ = Unit {0}
 

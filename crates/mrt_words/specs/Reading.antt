@@ -1,16 +1,13 @@
 -- What a call says that reads files of a shelf.
-use Rattle.std.specs.Prelude.{◌≡◌, ◌⊎◌, ◌≤◌, ◌+◌, [], ◌∷◌, ℕ, List, Option, None, Result, IfErr, IfOk, IfSome}
+use Rattle.std.specs.Prelude.{◌≡◌, ◌≤◌, ℕ, List, Option, Result, IfErr, IfOk}
 use Rattle.mrt_io.specs.Counts.{Rose}
-use Rattle.mrt_io.specs.Holding.{Files, IsTooLong}
+use Rattle.mrt_io.specs.Holding.{Files}
+use Rattle.mrt_exit.specs.Due.{IsDue}
 use Rattle.mrt_exit.specs.declared.exit.Exit.{Exit}
-use Rattle.mrt_exit.specs.declared.exit.Exit.TheVariants.{TooLarge, ReadFault, NoMemory}
+use Rattle.mrt_exit.specs.declared.exit.Exit.TheVariants.{ReadFault, NoMemory}
 use Rattle.mrt_words.specs.Files.{NamedFile, AreThere, IsRefusedBy, MayFail}
 
--- it is refused as it calls for, or there was no memory
-abbrev pub IsDue : (Exit → Type 0) → Exit → Type 0
-IsDue Refuses exit = Refuses exit ⊎ (exit ≡ NoMemory)
-
--- the same, but that one of these files was not read may be due to a fault of the shelf
+-- the exit is due; that one of these files was not read may come of a fault of the shelf too
 abbrev pub IsDueOrFault : (Exit → Type 0) → Option Files → List NamedFile → ℕ → ℕ → Exit → Type 0
 IsDueOrFault Refuses held named before now (ReadFault word) = MayFail held named word × Rose before now
 IsDueOrFault Refuses held named before now exit = IsDue Refuses exit
@@ -35,18 +32,6 @@ abbrev pub ReadsFiles : {S T : Type 0} (held : S → Option Files) (faults : S �
     (named : List NamedFile) (Gives : Option Files → T → Type 0) (result : Result T Exit) → Type 0
 ReadsFiles held faults healthy old new named Gives result =
     ReadsAs held faults healthy old new named (λ files exit. IsRefusedBy files named exit) Gives result
-
--- a file is not held, or it is over its limit
-abbrev pub IsUnread : Option Files → NamedFile → Exit → Type 0
-IsUnread held file (ReadFault word) = (word ≡ file.place) × IfSome held (λ files. files file.name ≡ None)
-IsUnread held file (TooLarge what size) = (what ≡ file.what) × (size ≡ file.limit + 1) × IsTooLong held file.name file.limit
-IsUnread held file _ = ⊥
-
--- the same of one file
-abbrev pub ReadsFile : {S T : Type 0} (held : S → Option Files) (faults : S → ℕ) (healthy : S → Type 0) (old new : S)
-    (file : NamedFile) (Gives : Option Files → T → Type 0) (result : Result T Exit) → Type 0
-ReadsFile held faults healthy old new file Gives result =
-    ReadsAs held faults healthy old new (file ∷ []) (λ files exit. IsUnread files file exit) Gives result
 
 -- a file could not be read on for a fault of the shelf, or there was no memory
 abbrev pub IsStopped : NamedFile → ℕ → ℕ → Exit → Type 0

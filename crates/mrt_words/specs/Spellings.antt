@@ -46,13 +46,13 @@ pub record AreTraceWords (trace : PacketTrace) (words : List (List ℕ)) : Type 
 
 -- `proxy ROUTER A B`, of two different routers A and B
 pub record AreProxyWords (router first second : ℕ) (words : List (List ℕ)) : Type 0 where
-  pub address : List ℕ
-  pub one : List ℕ
-  pub other : List ℕ
-  pub are : words ≡ codes "proxy" ∷ address ∷ one ∷ other ∷ []
-  pub router_is : address_in address ≡ Some router
-  pub first_is : address_in one ≡ Some first
-  pub second_is : address_in other ≡ Some second
+  pub router_word : List ℕ
+  pub first_word : List ℕ
+  pub second_word : List ℕ
+  pub are : words ≡ codes "proxy" ∷ router_word ∷ first_word ∷ second_word ∷ []
+  pub router_is : address_in router_word ≡ Some router
+  pub first_is : address_in first_word ≡ Some first
+  pub second_is : address_in second_word ≡ Some second
   pub different : first ≢ second
 
 -- the words of a task, without the names of the database and of the profile; `lfa` has no profile

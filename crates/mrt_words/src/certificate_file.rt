@@ -1,9 +1,9 @@
 //! Reading a certificate file, in pieces.
 
-ghost use Rattle.std.specs.Prelude.{◌≡◌, ◌≤◌, ◌<◌, ◌-◌, ◌^◌, ◌++◌, ℕ, List, [], Ok, IfOk, IfErr, IfSome, OnOk, IsSome, length};
+ghost use Rattle.std.specs.Prelude.{◌≡◌, ◌≤◌, ◌<◌, ◌-◌, ◌^◌, ◌++◌, ℕ, List, [], ◌∷◌, Ok, IfOk, IfErr, IfSome, OnOk, IsSome, length};
 ghost use Rattle.mrt_io.specs.Left.{IsLeftOf};
 ghost use Rattle.cert_format.specs.Stream.{fed};
-ghost use Rattle.mrt_words.specs.{Files.IsReadAs, Kept.IsCertRead, Pieces.IsFedOn, Reading.IsStopped, Reading.ReadsFile};
+ghost use Rattle.mrt_words.specs.{Files.IsReadAs, Kept.IsCertRead, Pieces.IsFedOn, Reading.IsStopped, Reading.ReadsFiles};
 
 use crate::named_file::NamedFile;
 use cert_format::{CertError, CertFault, CertReader, any_pieces};
@@ -25,7 +25,7 @@ pub(crate) fn read_certificate_file<F: Shelf>(
     file: &NamedFile<'_>,
 ) -> Result<Result<CertFile, CertFault>, Exit>
     requires { file.now.limit < 2 ^ 32 - 1 }
-    ensures { ReadsFile F.held F.faults F.healthy shelf.old shelf.new file.now
+    ensures { ReadsFiles F.held F.faults F.healthy shelf.old shelf.new (file.now ∷ [])
         (λ held certificate. (bytes : List ℕ) × IsReadAs held file.now bytes × IsCertRead bytes certificate) result }
 {
     open_file(alloc, shelf, file)?;
@@ -37,7 +37,7 @@ pub(crate) fn read_certificate_file<F: Shelf>(
 fn open_file<F: Shelf>(alloc: Global, shelf: &mut F, file: &NamedFile<'_>) -> Result<(), Exit>
     ensures open { OnOk result (F.is_open shelf.new) }
     ensures left { OnOk result (IsLeftOf (F.held shelf.old) file.now.name (F.left shelf.new)) }
-    ensures opens { ReadsFile F.held F.faults F.healthy shelf.old shelf.new file.now (λ held _. Unit {0}) result }
+    ensures opens { ReadsFiles F.held F.faults F.healthy shelf.old shelf.new (file.now ∷ []) (λ held _. Unit {0}) result }
 {
     match shelf.open(alloc, file.name) {
         Ok(()) => Ok(()),
@@ -55,7 +55,7 @@ fn read_to_end<F: Shelf>(
     requires limit { file.now.limit < 2 ^ 32 - 1 }
     requires open { F.is_open shelf.old }
     requires left { IsLeftOf (F.held shelf.old) file.now.name (F.left shelf.old) }
-    ensures { ReadsFile F.held F.faults F.healthy shelf.old shelf.new file.now
+    ensures { ReadsFiles F.held F.faults F.healthy shelf.old shelf.new (file.now ∷ [])
         (λ held reader. (bytes : List ℕ) × IsReadAs held file.now bytes × (reader ≡ fed (Ok []) bytes)) result }
 {
     let mut piece = zeros(alloc, PIECE)?;
@@ -73,7 +73,7 @@ fn read_in_pieces<F: Shelf>(
     requires piece { length piece.old ≡ 65536 }
     requires open { F.is_open shelf.old }
     requires left { IsLeftOf (F.held shelf.old) file.now.name (F.left shelf.old) }
-    ensures { ReadsFile F.held F.faults F.healthy shelf.old shelf.new file.now
+    ensures { ReadsFiles F.held F.faults F.healthy shelf.old shelf.new (file.now ∷ [])
         (λ held reader. (bytes : List ℕ) × IsReadAs held file.now bytes × (reader ≡ fed (Ok []) bytes)) result }
 {
     any_pieces();

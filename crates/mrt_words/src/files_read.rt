@@ -2,7 +2,7 @@
 
 ghost use Rattle.std.specs.Prelude.{◌≤◌, IfOk, vec_len};
 ghost use Rattle.mrt_words.specs.{FileBytes.FileBytes, FileBytes.AreRead, Kept.AreBytesOf, Kept.flood_bytes, Reading.ReadsFiles};
-ghost use Rattle.mrt_words.specs.Files.{files_in, flood_names, task_names};
+ghost use Rattle.mrt_words.specs.Files.{files_in, flood_names, profile_limit, script_limit, task_names, updates_limit};
 
 use crate::form::{FileForm, FloodForm};
 use crate::named_file::NamedFile;
@@ -55,9 +55,9 @@ pub fn read_flood_files<F: Shelf>(
 ) -> Result<FloodRead, Exit>
     ensures reads { ReadsFiles F.held F.faults F.healthy shelf.old shelf.new (files_in (flood_names form.now))
         (λ held files. AreRead held (flood_names form.now) (flood_bytes files)) result }
-    ensures short { IfOk result (λ files. vec_len files.updates ≤ 33554432) }
-    ensures short_profile { IfOk result (λ files. vec_len files.profile ≤ 33554432) }
-    ensures short_script { IfOk result (λ files. vec_len files.script ≤ 33554432) }
+    ensures short { IfOk result (λ files. vec_len files.updates ≤ updates_limit) }
+    ensures short_profile { IfOk result (λ files. vec_len files.profile ≤ profile_limit) }
+    ensures short_script { IfOk result (λ files. vec_len files.script ≤ script_limit) }
 {
     let updates = read_file(alloc, shelf, &NamedFile::updates(&form.updates))?;
     let profile = read_profile_file(alloc, shelf, &form.profile)?;

@@ -1,8 +1,8 @@
 //! Reading the files that the words name.
 
-ghost use Rattle.std.specs.Prelude.{◌≡◌, ◌<◌, ◌-◌, ◌^◌, ℕ, List, Option};
+ghost use Rattle.std.specs.Prelude.{◌≡◌, ◌<◌, ◌-◌, ◌^◌, [], ◌∷◌, ℕ, List, Option};
 ghost use Rattle.std.specs.Option.{option_map, option_to_list};
-ghost use Rattle.mrt_words.specs.{FileBytes.IsLastRead, FileBytes.IsProfileRead, Kept.IsWorkFor, Reading.ReadsFile, Reading.ReadsFiles};
+ghost use Rattle.mrt_words.specs.{FileBytes.IsLastRead, FileBytes.IsProfileRead, Kept.IsWorkFor, Reading.ReadsFiles};
 ghost use Rattle.mrt_words.specs.Files.{IsReadAs, profile_file, task_file};
 
 use crate::certificate_file::read_certificate_file;
@@ -20,7 +20,7 @@ pub(crate) fn read_file<F: Shelf>(
     file: &NamedFile<'_>,
 ) -> Result<Vec<u8>, Exit>
     requires { file.now.limit < 2 ^ 32 - 1 }
-    ensures { ReadsFile F.held F.faults F.healthy shelf.old shelf.new file.now
+    ensures { ReadsFiles F.held F.faults F.healthy shelf.old shelf.new (file.now ∷ [])
         (λ held bytes. IsReadAs held file.now bytes.items) result }
 {
     match shelf.read(alloc, file.name, file.limit) {

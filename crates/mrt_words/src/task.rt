@@ -22,17 +22,31 @@ pub enum Task<C, S> {
 #[derive(Clone, Copy)]
 pub enum RouterTask {
     /// The certificate of its island.
-    Certify { router: u32 },
+    Certify {
+        router: u32,
+    },
     /// Its table.
-    Table { router: u32 },
+    Table {
+        router: u32,
+    },
     /// The trace of a packet from it.
-    Trace { trace: Trace },
+    Trace {
+        trace: Trace,
+    },
     /// Its loop-free alternates.
-    Lfa { router: u32 },
+    Lfa {
+        router: u32,
+    },
     /// Its repairs by order.
-    Order { router: u32 },
+    Order {
+        router: u32,
+    },
     /// The rows for a prefix that is attached to two routers of its island.
-    Proxy { router: u32, one: u32, other: u32 },
+    Proxy {
+        router: u32,
+        first: u32,
+        second: u32,
+    },
 }
 
 /// A task whose file was read: of a certificate there is what its file spells, or the file's first fault; of a script there

@@ -173,14 +173,18 @@ fn read_proxy(words: &[Word]) -> Option<RouterTask>
     ensures { result ≡ proxy_in words.now }
 {
     match words {
-        [router, one, other] => {
+        [router, first, second] => {
             let router = read_address(router.bytes())?;
-            let one = read_address(one.bytes())?;
-            let other = read_address(other.bytes())?;
-            if one == other {
+            let first = read_address(first.bytes())?;
+            let second = read_address(second.bytes())?;
+            if first == second {
                 return None;
             }
-            Some(RouterTask::Proxy { router, one, other })
+            Some(RouterTask::Proxy {
+                router,
+                first,
+                second,
+            })
         }
         _ => None,
     }

@@ -1,8 +1,7 @@
-use Rattle.std.proofs.Common.{◌∙◌, ◌+◌, ap, inl, arith}
+use Rattle.std.proofs.Common.{◌∙◌, ◌+◌, [], ◌∷◌, inl, subst, sym, arith}
 use Rattle.std.proofs.lemmas.Grind.{common_steps}
 use Rattle.mrt_exit.specs.declared.exit.Exit.TheVariants.{TooLarge}
-use Rattle.mrt_words.specs.Files.{NamedFile}
-use Rattle.mrt_words.specs.Reading.{IsUnread}
+use Rattle.mrt_words.specs.Files.{NamedFile, IsRefusedBy}
 use Rattle.mrt_words.proofs.Pieces.{fed_more, fed_too_long, still_told, told_left}
 use Rattle.mrt_words.proofs.certificate_file.read_in_pieces.Goals as goal
 
@@ -27,11 +26,9 @@ pub returns : goal.returns
 returns g c =
     let held = g.F.Shelf.held c.args.shelf.now in
     let before = c.loop-room.invariant in
-    let long : IsUnread held c.args.file.now (TooLarge c.file.inside.what (c.file.inside.limit + 1)) = (
-      ap (λ (f : NamedFile). f.what) c.file.view_is,
-      ap (λ (f : NamedFile). f.limit + 1) c.file.view_is,
-      (fed_too_long _ c.args.file.now _ _ _ _ c.requires.left before.so_far c.loop-room-test.false).2,
-    ) in
+    let long : IsRefusedBy held (c.args.file.now ∷ []) (TooLarge c.file.inside.what (c.file.inside.limit + 1)) =
+    subst (λ (f : NamedFile). IsRefusedBy held (c.args.file.now ∷ []) (TooLarge f.what (f.limit + 1))) (sym c.file.view_is)
+    (fed_too_long _ c.args.file.now _ _ _ _ c.requires.left before.so_far c.loop-room-test.false) in
     record {
       read = tt;
       refused = inl long;
