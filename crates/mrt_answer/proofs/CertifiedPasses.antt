@@ -17,6 +17,7 @@ use Rattle.mrt_graph.specs.Topology.{Topology}
 use Rattle.mrt_island.specs.IslandOf.{IsIsland}
 use Rattle.mrt_island.specs.Policy.{Policy}
 use Rattle.mrt_words.specs.FileBytes.{FileBytes, with_last}
+use Rattle.mrt_words.specs.Files.{certificate_limit}
 use Rattle.mrt_answer.specs.Answers.{GivesOver}
 use Rattle.mrt_answer.specs.Certified.{IsCertified}
 use Rattle.mrt_words.specs.declared.task.RouterTask.TheVariants.{Certify}
@@ -127,7 +128,7 @@ module _ (areas : AreaLaws) (each : EachRouterLaw) where
 
 -- what was written is within the limit of a certificate's file
 pub short : LongestLaw → (bytes : FileBytes) (router : ℕ) (text : List ℕ) → GivesOver (OfRouter (Certify router)) bytes text
-    → length text ≤ 134217728
+    → length text ≤ certificate_limit
 short longest bytes router text over =
     let at_most = longest over.gives.certificate.file over.gives.certificate.spelled.within in
     let same : length text ≡ length (cert_text over.gives.certificate.file) =

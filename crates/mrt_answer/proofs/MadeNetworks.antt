@@ -32,7 +32,7 @@ use Rattle.mrt_answer.specs.Refusals.{HasNoDatabase}
 use Rattle.mrt_answer.specs.Surveyed.{IsSummedUp, made_input}
 use Rattle.mrt_answer.specs.Tabled.{IsComputedFile}
 use Rattle.mrt_answer.proofs.OneVerdict.{no_large_area}
-use Rattle.mrt_words.specs.Reading.{IsDue}
+use Rattle.mrt_exit.specs.Due.{IsDue}
 
 -- the laws of the layers below on the LSAs, on the area and on the islands of a network
 pub record NetworkLaws : Type 0 where

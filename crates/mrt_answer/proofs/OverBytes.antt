@@ -12,7 +12,7 @@ use Rattle.mrt_answer.specs.Refusals.{HasNoInput, IsAnswerOver}
 use Rattle.mrt_answer.specs.TextBytes.{HasText}
 use Rattle.mrt_answer.proofs.TaskSays.{task_says}
 use Rattle.mrt_answer.proofs.TextsHeld.{answer_has_also}
-use Rattle.mrt_words.specs.Reading.{IsDue}
+use Rattle.mrt_exit.specs.Due.{IsDue}
 
 -- a text for what the bytes hold is one over the bytes
 pub gives_over : (answer : Result Text Exit) (task : Task) (bytes : FileBytes)

@@ -21,7 +21,7 @@ use Rattle.mrt_answer.specs.Proxied.{HasNoProxyOf, HasProxy, IsProxyOf, HasNoPro
 use Rattle.mrt_answer.specs.TextBytes.{HasText}
 use Rattle.mrt_answer.proofs.OneProxy.{accepted_for}
 use Rattle.mrt_answer.proofs.TextsHeld.{answer_has_also}
-use Rattle.mrt_words.specs.Reading.{IsDue}
+use Rattle.mrt_exit.specs.Due.{IsDue}
 
 module _ (input : Input) (number first second : ℕ) (graph : Topology) (root : ℕ) (island : HasIsland input number graph root) (a b : ℕ)
     (first_is : slice_get graph.ids a ≡ Some (router_node first)) (second_is : slice_get graph.ids b ≡ Some (router_node second)) where

@@ -29,7 +29,7 @@ use Rattle.mrt_answer.specs.Upgraded.{GivesUpgrade, IsUpgradeFor}
 use Rattle.mrt_answer.specs.Verdict.{GivesVerdict, IsYesFor, IsNoVerdict, IsRefusedFor}
 use Rattle.mrt_answer.proofs.TextsHeld.{answer_has_also}
 use Rattle.mrt_answer.specs.Proxied.{HasNoProxy}
-use Rattle.mrt_words.specs.Reading.{IsDue}
+use Rattle.mrt_exit.specs.Due.{IsDue}
 
 pub area_refused : (Missing : Type 0) (input : Input) (router : ℕ) (exit : Exit) → HasNoArea (area input) exit
     → HasNoneFor Missing input router exit ⊎ (exit ≡ exits.NoMemory)

@@ -1,8 +1,9 @@
 -- What the steps of an answer say of their refusals.
-use Rattle.std.specs.Prelude.{◌≡◌, ◌⊎◌, ℕ, List}
+use Rattle.std.specs.Prelude.{◌≡◌, ℕ, List}
 use Rattle.fabric_script.specs.ScriptFaults.{IsFirstFault as IsFirstFaultOfScript}
 use Rattle.flood_core.specs.UpdateOutcome.{IsFirstFault as IsFirstFaultOfUpdates}
 use Rattle.flood_script.specs.FloodScripts.{IsFirstFault as IsFirstFaultOfDeliveries}
+use Rattle.mrt_exit.specs.Due.{IsDue}
 use Rattle.mrt_exit.specs.declared.exit.Exit.{Exit}
 use Rattle.mrt_exit.specs.declared.exit.Exit.TheVariants.{No, BadDatabase, BadProfile, BadScript, BadUpdate, TooLarge, NotThere, ReadFault, NoMemory}
 use Rattle.mrt_words.specs.FileBytes.{FileBytes}
@@ -80,7 +81,7 @@ IsRejected graph root file _ = ⊥
 -- what is said of the bytes of files, or there was no memory; no file is named in it
 abbrev pub IsAnswerBy : (FileBytes → Exit → Type 0) → FileBytes → Exit → Type 0
 IsAnswerBy Says bytes (ReadFault word) = ⊥
-IsAnswerBy Says bytes exit = Says bytes exit ⊎ (exit ≡ NoMemory)
+IsAnswerBy Says bytes exit = IsDue (Says bytes) exit
 
 -- what is said by a task of the bytes of its files, or of those of a form over packets, or there was no memory
 abbrev pub IsAnswerOver : Task → FileBytes → Exit → Type 0

@@ -1,18 +1,20 @@
 //! What comes of the files that were read.
 
 ghost use Rattle.std.specs.Prelude.{◌≤◌, ℕ, List, IfOk, IfErr, vec_len};
-ghost use Rattle.mrt_words.specs.{FileBytes.FileBytes, Form.IsRouterTaskWithin, Form.Task as NamedTask, Reading.IsDue};
+ghost use Rattle.mrt_exit.specs.Due.{IsDue};
+ghost use Rattle.mrt_words.specs.{FileBytes.FileBytes, Form.IsRouterTaskWithin, Form.Task as NamedTask};
+ghost use Rattle.mrt_words.specs.Files.{database_limit, profile_limit};
 ghost use Rattle.mrt_words.specs.Kept.{AreBytesOf, IsWorkWithin, IsWorkFor};
 ghost use Rattle.mrt_answer.specs.Answers.{GivesFor, GivesOf, GivesOver, IsRefusedOf, IsRefusedTask};
 ghost use Rattle.mrt_answer.specs.{Refusals.IsAnswerOver, TextBytes.HasText};
 
 use crate::certificate::certificate;
+use crate::events::run_of_bytes;
 use crate::given::Given;
 use crate::input::given_of;
 use crate::loop_free::loop_free;
 use crate::order::order;
 use crate::proxy::proxy;
-use crate::run::run_of_bytes;
 use crate::table::table;
 use crate::text::Text;
 use crate::trace::trace;
@@ -24,8 +26,8 @@ use std::alloc::Global;
 
 /// The text of what is to be done with the files that were read.
 pub fn answer_of_files(alloc: Global, files: FilesRead) -> Result<Text, Exit>
-    requires database { vec_len files.database ≤ 8388608 }
-    requires profile { vec_len files.profile ≤ 33554432 }
+    requires database { vec_len files.database ≤ database_limit }
+    requires profile { vec_len files.profile ≤ profile_limit }
     requires work { IsWorkWithin files.work }
     ensures text { (task : NamedTask) (bytes : FileBytes) → AreBytesOf task files bytes
         → IfOk result (HasText (GivesOver task bytes)) }
@@ -64,6 +66,10 @@ fn answer_of_router(alloc: Global, given: &Given, task: RouterTask) -> Result<Te
         RouterTask::Trace { trace: asked } => trace(alloc, given, &asked),
         RouterTask::Lfa { router } => loop_free(alloc, given, router),
         RouterTask::Order { router } => order(alloc, given, router),
-        RouterTask::Proxy { router, one, other } => proxy(alloc, given, router, one, other),
+        RouterTask::Proxy {
+            router,
+            first,
+            second,
+        } => proxy(alloc, given, router, first, second),
     }
 }

@@ -5,7 +5,7 @@ ghost use Rattle.mrt_graph.specs.NodeIds.{router as router_node};
 ghost use Rattle.fabric.specs.{FabricParts.ArePartsKept, FabricParts.FabricParts, Served.AreRowsOn, declared.event.Event.Event};
 ghost use Rattle.flood_verdict.specs.{Alike.ComparesAlike, Alike.IsToldAlike, Says.Says};
 ghost use Rattle.mrt_exit.specs.declared.exit.Exit.{Exit};
-ghost use Rattle.mrt_words.specs.{FileBytes.FileBytes, FileBytes.with_last, declared.task.RouterTask.TheVariants.Certify, Form.Task};
+ghost use Rattle.mrt_words.specs.{FileBytes.FileBytes, FileBytes.with_last, Files.certificate_limit, declared.task.RouterTask.TheVariants.Certify, Form.Task};
 ghost use Rattle.mrt_words.specs.declared.task.Task.TheVariants.{Check, Upgrade, OfRouter};
 ghost use Rattle.mrt_answer.specs.Answers.{GivesOver, IsRefusedOver};
 ghost use Rattle.mrt_answer.specs.Certified.{IsCertified};
@@ -91,7 +91,7 @@ pub fn what_is_certified_passes()
     ensures upgrade { (bytes : FileBytes) (router : ℕ) (certificate text : List ℕ) → GivesOver (OfRouter (Certify router)) bytes text
         → GivesOver (Upgrade certificate) (with_last bytes text) text }
     ensures short { (bytes : FileBytes) (router : ℕ) (text : List ℕ) → GivesOver (OfRouter (Certify router)) bytes text
-        → length text ≤ 134217728 }
+        → length text ≤ certificate_limit }
 {
     an_lsa_without_a_fault_may_be_installed();
     the_newest_records_give_an_area();

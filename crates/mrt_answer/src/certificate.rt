@@ -2,7 +2,7 @@
 
 ghost use Rattle.std.specs.Prelude.{◌≡◌, None, IfOk, IfErr};
 ghost use Rattle.mrt_answer.specs.{Certified.IsCertified, TextBytes.HasText, Islands.HasNoIslandFor};
-ghost use Rattle.mrt_words.specs.Reading.{IsDue};
+ghost use Rattle.mrt_exit.specs.Due.{IsDue};
 
 use crate::given::Given;
 use crate::island::island_in;

@@ -5,6 +5,7 @@ ghost use Rattle.std.specs.List.{AllByRecursion};
 ghost use Rattle.flood_core.specs.{Receiving.MayFlood, Updates.AreUpdates};
 ghost use Rattle.flood_script.specs.{Deliveries.deliveries_in, FloodScripts.IsAmong, FloodScripts.IsScript};
 ghost use Rattle.mrt_graph.specs.TextLines.{text_lines};
+ghost use Rattle.mrt_words.specs.Files.{profile_limit, script_limit, updates_limit};
 ghost use Rattle.mrt_words.specs.Kept.{flood_bytes};
 ghost use Rattle.mrt_answer.specs.{Flooded.GivesFlood, TextBytes.HasText};
 ghost use Rattle.mrt_answer.specs.Refusals.{HasNoFloodScript, HasNoUpdates, IsAnswerOfFlood};
@@ -21,9 +22,9 @@ use std::alloc::Global;
 
 /// The answers to the lines of a script over packets and under a profile, each with its bytes.
 pub fn answer_of_flood(alloc: Global, files: &FloodRead) -> Result<Text, Exit>
-    requires updates { vec_len files.now.updates ≤ 33554432 }
-    requires profile { vec_len files.now.profile ≤ 33554432 }
-    requires script { vec_len files.now.script ≤ 33554432 }
+    requires updates { vec_len files.now.updates ≤ updates_limit }
+    requires profile { vec_len files.now.profile ≤ profile_limit }
+    requires script { vec_len files.now.script ≤ script_limit }
     ensures text { IfOk result (HasText (GivesFlood (flood_bytes files.now))) }
     ensures refused { IfErr result (IsAnswerOfFlood (flood_bytes files.now)) }
 {
@@ -37,7 +38,7 @@ pub fn answer_of_flood(alloc: Global, files: &FloodRead) -> Result<Text, Exit>
 
 /// The packets that the bytes are.
 fn updates_of(alloc: Global, bytes: &[u8]) -> Result<Vec<Update>, Exit>
-    requires { length bytes.now ≤ 33554432 }
+    requires { length bytes.now ≤ updates_limit }
     ensures updates { IfOk result (λ updates. AreUpdates 0 bytes.now updates.items []) }
     ensures few { IfOk result (λ updates. length updates.items ≤ 4294000000) }
     ensures may_flood { IfOk result (λ updates. AllByRecursion MayFlood updates.items) }
@@ -48,7 +49,7 @@ fn updates_of(alloc: Global, bytes: &[u8]) -> Result<Vec<Update>, Exit>
 
 /// The script of deliveries that the bytes are.
 fn script_of(alloc: Global, bytes: &[u8]) -> Result<FloodScript, Exit>
-    requires { length bytes.now ≤ 33554432 }
+    requires { length bytes.now ≤ script_limit }
     ensures script { IfOk result (λ script. IsScript (text_lines bytes.now) script) }
     ensures some { IfOk result (λ script. 1 ≤ script.routers) }
     ensures at_most { IfOk result (λ script. script.routers ≤ 64) }

@@ -4,6 +4,7 @@ ghost use Rattle.std.specs.Prelude.{◌≡◌, ◌≤◌, None, IfOk, IfErr, len
 ghost use Rattle.lsdb.specs.{Conflicts.least_conflict, Database.IsDatabase};
 ghost use Rattle.fabric_script.specs.ScriptFaults.{IsScript};
 ghost use Rattle.mrt_graph.specs.TextLines.{text_lines};
+ghost use Rattle.mrt_words.specs.Files.{database_limit, profile_limit, script_limit};
 ghost use Rattle.mrt_answer.specs.Input.{IsInput, IsProfile};
 ghost use Rattle.mrt_answer.specs.Refusals.{HasNoDatabase, HasNoInput, HasNoProfile, HasNoScript};
 
@@ -18,8 +19,8 @@ use std::alloc::Global;
 
 /// The database and the profile that the bytes are.
 pub(crate) fn given_of(alloc: Global, database: &[u8], profile: &[u8]) -> Result<Given, Exit>
-    requires database { length database.now ≤ 8388608 }
-    requires profile { length profile.now ≤ 33554432 }
+    requires database { length database.now ≤ database_limit }
+    requires profile { length profile.now ≤ profile_limit }
     ensures given { IfOk result (λ given. IsInput database.now profile.now given) }
     ensures none { IfErr result (HasNoInput database.now profile.now) }
 {
@@ -30,7 +31,7 @@ pub(crate) fn given_of(alloc: Global, database: &[u8], profile: &[u8]) -> Result
 
 /// The database of the router-LSAs and network-LSAs that the bytes are.
 pub(crate) fn database_of(alloc: Global, bytes: &[u8]) -> Result<Lsdb, Exit>
-    requires { length bytes.now ≤ 8388608 }
+    requires { length bytes.now ≤ database_limit }
     ensures newest { IfOk result (λ database. IsDatabase bytes.now (map (λ entry. entry.lsa) database.entries)) }
     ensures settled { IfOk result (λ database. least_conflict database.entries ≡ None) }
     ensures none { IfErr result (HasNoDatabase bytes.now) }
@@ -45,7 +46,7 @@ pub(crate) fn database_of(alloc: Global, bytes: &[u8]) -> Result<Lsdb, Exit>
 
 /// The profile that the bytes are.
 pub(crate) fn profile_of(alloc: Global, bytes: &[u8]) -> Result<Profile, Exit>
-    requires { length bytes.now ≤ 33554432 }
+    requires { length bytes.now ≤ profile_limit }
     ensures profile { IfOk result (λ profile. IsProfile bytes.now profile) }
     ensures none { IfErr result (HasNoProfile bytes.now) }
 {
@@ -54,7 +55,7 @@ pub(crate) fn profile_of(alloc: Global, bytes: &[u8]) -> Result<Profile, Exit>
 
 /// The script that the bytes are.
 pub(crate) fn script_of(alloc: Global, bytes: &[u8]) -> Result<Script, Exit>
-    requires { length bytes.now ≤ 33554432 }
+    requires { length bytes.now ≤ script_limit }
     ensures script { IfOk result (λ script. IsScript (text_lines bytes.now) script) }
     ensures room { IfOk result (λ script. 1 ≤ script.room) }
     ensures none { IfErr result (HasNoScript bytes.now) }

@@ -6,7 +6,7 @@ ghost use Rattle.lsdb.specs.Conflicts.{least_conflict};
 ghost use Rattle.mrt_island.specs.{IslandOf.IsIsland, Policy.policy_of};
 ghost use Rattle.mrt_answer.specs.Input.{HasAreaWithin, HasIsland, area, policy};
 ghost use Rattle.mrt_answer.specs.{Refusals.HasNoArea, Refusals.HasNoIsland, Islands.HasNoIslandFor};
-ghost use Rattle.mrt_words.specs.Reading.{IsDue};
+ghost use Rattle.mrt_exit.specs.Due.{IsDue};
 
 use crate::given::Given;
 use area_graph::{Area, build_area};

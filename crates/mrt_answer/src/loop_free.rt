@@ -3,7 +3,7 @@
 ghost use Rattle.std.specs.Prelude.{◌≡◌, ◌<◌, List, None, IfOk, IfErr};
 ghost use Rattle.mrt_island.specs.declared.setting.Setting.{Setting};
 ghost use Rattle.mrt_answer.specs.{LoopFree.HasLoopFree, TextBytes.HasText, Islands.HasNoRouterFor};
-ghost use Rattle.mrt_words.specs.Reading.{IsDue};
+ghost use Rattle.mrt_exit.specs.Due.{IsDue};
 
 use crate::finding::spot_of;
 use crate::given::Given;

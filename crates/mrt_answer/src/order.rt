@@ -2,7 +2,7 @@
 
 ghost use Rattle.std.specs.Prelude.{◌≡◌, ◌<◌, ℕ, None, IfOk, IfErr, length};
 ghost use Rattle.mrt_answer.specs.{Finding.IsAt, Ordered.HasOrder, Ordered.IsOrderOf, TextBytes.HasText, Islands.HasNoIslandFor};
-ghost use Rattle.mrt_words.specs.Reading.{IsDue};
+ghost use Rattle.mrt_exit.specs.Due.{IsDue};
 
 use crate::finding::node_of;
 use crate::given::Given;

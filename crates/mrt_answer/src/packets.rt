@@ -5,7 +5,7 @@ ghost use Rattle.area_graph.specs.Fits.{Fits};
 ghost use Rattle.mrt_graph.specs.Search.{IsMarked};
 ghost use Rattle.mrt_answer.specs.PacketTables.{AreTablesTo, IsAreaAndIsland, IsWanted};
 ghost use Rattle.mrt_answer.specs.Islands.{HasNoIslandFor};
-ghost use Rattle.mrt_words.specs.Reading.{IsDue};
+ghost use Rattle.mrt_exit.specs.Due.{IsDue};
 
 use crate::columns::columns_of;
 use crate::given::Given;

@@ -5,7 +5,7 @@ ghost use Rattle.mrt_rows.specs.Rooted.{MakeColumns};
 ghost use Rattle.proxy_rows.specs.ProxyRows.{AreProxyRows};
 ghost use Rattle.mrt_answer.specs.{Attached.IsAttachedBy, Computed.HasComputed, TextBytes.HasText};
 ghost use Rattle.mrt_answer.specs.Proxied.{HasNoProxyOf, HasProxy, IsProxyOf, HasNoProxy};
-ghost use Rattle.mrt_words.specs.Reading.{IsDue};
+ghost use Rattle.mrt_exit.specs.Due.{IsDue};
 
 use crate::columns::columns_of;
 use crate::finding::node_of;

@@ -4,7 +4,8 @@ ghost use Rattle.std.specs.Prelude.{◌≡◌, ◌<◌, ℕ, None, IfOk, IfErr, 
 ghost use Rattle.lsdb.specs.Conflicts.{least_conflict};
 ghost use Rattle.mrt_graph.specs.Topology.{Topology};
 ghost use Rattle.mrt_survey.specs.MadeLsas.{made_lsas};
-ghost use Rattle.mrt_words.specs.{Form.IsNetworkSize, Reading.IsDue};
+ghost use Rattle.mrt_exit.specs.Due.{IsDue};
+ghost use Rattle.mrt_words.specs.Form.{IsNetworkSize};
 ghost use Rattle.mrt_answer.specs.{Input.HasIsland, TextBytes.HasText, Islands.HasNoIslandFor};
 ghost use Rattle.mrt_answer.specs.Surveyed.{IsSummedUp, IsSurveyed, made_input};
 

@@ -6,7 +6,7 @@ ghost use Rattle.text_parts.specs.Adds.{Adds};
 ghost use Rattle.mrt_report.specs.{AddsLines.AddsLines, ByColumn.IsLineByColumn, TableText.IsTableText};
 ghost use Rattle.mrt_rows.specs.{CertOf.IsCertOf, Rooted.MakeColumns};
 ghost use Rattle.mrt_answer.specs.{TableMade.AreParts, TableMade.with_cert, Tabled.IsComputedFile, Tabled.IsTabled, TextBytes.HasText, Islands.HasNoIslandFor};
-ghost use Rattle.mrt_words.specs.Reading.{IsDue};
+ghost use Rattle.mrt_exit.specs.Due.{IsDue};
 
 use crate::columns::columns_of;
 use crate::finding::{node_of, spot_of};

@@ -3,7 +3,7 @@
 ghost use Rattle.std.specs.Prelude.{◌≡◌, ◌<◌, ◌↔◌, ℕ, Some, IfOk, IfErr, Contains, length, slice_get};
 ghost use Rattle.area_graph.specs.Fits.{Fits};
 ghost use Rattle.mrt_answer.specs.{Input.Input, PacketTables.IsAreaAndIsland, Packets.IsTraceGiven, TextBytes.HasText, Islands.HasNoIslandFor};
-ghost use Rattle.mrt_words.specs.Reading.{IsDue};
+ghost use Rattle.mrt_exit.specs.Due.{IsDue};
 
 use crate::given::Given;
 use crate::packets::{AreaAndIsland, area_and_island, tables_to};

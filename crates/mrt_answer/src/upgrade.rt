@@ -1,7 +1,8 @@
 //! `upgrade DB PROFILE CERT`: an accepted certificate in version 2.
 
 ghost use Rattle.std.specs.Prelude.{◌≡◌, ℕ, List, None, IfOk, IfErr};
-ghost use Rattle.mrt_words.specs.{Kept.IsCertRead, Reading.IsDue};
+ghost use Rattle.mrt_exit.specs.Due.{IsDue};
+ghost use Rattle.mrt_words.specs.Kept.{IsCertRead};
 ghost use Rattle.mrt_answer.specs.{Upgraded.GivesUpgrade, Upgraded.IsUpgradeFor, TextBytes.HasText, Verdict.IsNoVerdict, Verdict.IsRefusedFor};
 
 use crate::given::Given;

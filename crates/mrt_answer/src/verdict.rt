@@ -1,7 +1,8 @@
 //! `check DB PROFILE CERT`: the verdict on a certificate file.
 
 ghost use Rattle.std.specs.Prelude.{◌≡◌, ◌<◌, ℕ, List, None, IfOk, IfErr, length};
-ghost use Rattle.mrt_words.specs.{Kept.IsCertRead, Reading.IsDue};
+ghost use Rattle.mrt_exit.specs.Due.{IsDue};
+ghost use Rattle.mrt_words.specs.Kept.{IsCertRead};
 ghost use Rattle.mrt_graph.specs.Accepted.{Accepted};
 ghost use Rattle.mrt_answer.specs.{Refusals.IsRejected, TextBytes.HasText};
 ghost use Rattle.mrt_answer.specs.Verdict.{GivesVerdict, IsYesFor, accepted_line as line_of_accepted, IsNoVerdict, IsRefusedFor};

@@ -7,7 +7,7 @@ use Rattle.mrt_answer.specs.Answers.{GivesFor, IsRefusedTask}
 use Rattle.mrt_answer.specs.Packets.{GivesRun, IsNoRun}
 use Rattle.mrt_answer.specs.TextBytes.{HasText}
 use Rattle.mrt_answer.proofs.answer.answer_for.Goals as goal
-use Rattle.mrt_words.specs.Reading.{IsDue}
+use Rattle.mrt_exit.specs.Due.{IsDue}
 
 pub returns-in-Check-clause-text : goal.returns-in-Check-clause-text
 returns-in-Check-clause-text c = λ task last kept.

@@ -4,7 +4,7 @@ use Rattle.mrt_words.specs.declared.task.RouterTask.{RouterTask}
 use Rattle.mrt_answer.specs.Answers.{GivesOf, IsRefusedOf}
 use Rattle.mrt_answer.specs.TextBytes.{HasText}
 use Rattle.mrt_answer.proofs.answer.answer_of_router.Goals as goal
-use Rattle.mrt_words.specs.Reading.{IsDue}
+use Rattle.mrt_exit.specs.Due.{IsDue}
 
 pub returns-in-Certify-clause-text : goal.returns-in-Certify-clause-text
 returns-in-Certify-clause-text c =

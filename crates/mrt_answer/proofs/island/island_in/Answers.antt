@@ -9,7 +9,7 @@ use Rattle.mrt_words.proofs.HandedOn.{handed_on, if_ok}
 use Rattle.mrt_answer.proofs.Refusals.{area_refused, islands_refused}
 use Rattle.mrt_answer.proofs.island.island_in.Goals as goal
 use Rattle.mrt_answer.specs.Islands.{HasNoIslandFor}
-use Rattle.mrt_words.specs.Reading.{IsDue}
+use Rattle.mrt_exit.specs.Due.{IsDue}
 
 pub returns-in_err-area-clause-refused : goal.returns-in_err-area-clause-refused
 returns-in_err-area-clause-refused c =

@@ -10,7 +10,7 @@ use Rattle.mrt_answer.proofs.Refusals.{area_refused}
 use Rattle.mrt_answer.proofs.Tables.{not_network}
 use Rattle.mrt_answer.proofs.loop_free.loop_free.Goals as goal
 use Rattle.mrt_answer.specs.Islands.{HasNoRouterFor}
-use Rattle.mrt_words.specs.Reading.{IsDue}
+use Rattle.mrt_exit.specs.Due.{IsDue}
 
 pub returns-in_err-area-clause-refused : goal.returns-in_err-area-clause-refused
 returns-in_err-area-clause-refused c =

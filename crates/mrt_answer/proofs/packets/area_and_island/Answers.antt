@@ -6,7 +6,7 @@ use Rattle.mrt_words.proofs.HandedOn.{handed_on}
 use Rattle.mrt_answer.proofs.Refusals.{island_refused}
 use Rattle.mrt_answer.proofs.packets.area_and_island.Goals as goal
 use Rattle.mrt_answer.specs.Islands.{HasNoIslandFor}
-use Rattle.mrt_words.specs.Reading.{IsDue}
+use Rattle.mrt_exit.specs.Due.{IsDue}
 
 pub returns-in_err-island-clause-refused : goal.returns-in_err-island-clause-refused
 returns-in_err-island-clause-refused c =

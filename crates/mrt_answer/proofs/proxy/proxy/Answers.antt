@@ -8,7 +8,7 @@ use Rattle.mrt_answer.proofs.ProxyBetween.{proxied, refused}
 use Rattle.mrt_answer.proofs.Refusals.{no_proxy, root_in_island}
 use Rattle.mrt_answer.proofs.proxy.proxy.Goals as goal
 use Rattle.mrt_answer.specs.Proxied.{HasNoProxy}
-use Rattle.mrt_words.specs.Reading.{IsDue}
+use Rattle.mrt_exit.specs.Due.{IsDue}
 
 pub proxy_between-requires-clause-root : goal.proxy_between-requires-clause-root
 proxy_between-requires-clause-root c = root_in_island _ _ _ _ c.in_ok-island.ensures.island

@@ -14,7 +14,7 @@ use Rattle.mrt_answer.proofs.Refusals.{island_refused, root_within}
 use Rattle.mrt_answer.proofs.Tables.{in_own_island, not_network, root_is_router}
 use Rattle.mrt_answer.proofs.table.table.Goals as goal
 use Rattle.mrt_answer.specs.Islands.{HasNoIslandFor}
-use Rattle.mrt_words.specs.Reading.{IsDue}
+use Rattle.mrt_exit.specs.Due.{IsDue}
 
 pub returns-in_err-island-clause-refused : goal.returns-in_err-island-clause-refused
 returns-in_err-island-clause-refused c =

@@ -7,7 +7,7 @@ use Rattle.mrt_words.proofs.HandedOn.{handed_on}
 use Rattle.mrt_answer.proofs.Refusals.{none_for, rejected, root_in_island}
 use Rattle.mrt_answer.proofs.Upgrades.{upgraded_accepted}
 use Rattle.mrt_answer.proofs.upgrade.upgrade.Goals as goal
-use Rattle.mrt_words.specs.Reading.{IsDue}
+use Rattle.mrt_exit.specs.Due.{IsDue}
 use Rattle.mrt_answer.specs.Verdict.{IsRefusedFor}
 
 pub judge-requires : goal.judge-requires

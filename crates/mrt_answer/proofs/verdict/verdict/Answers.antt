@@ -2,7 +2,7 @@ use Rattle.std.proofs.Common.{sym}
 use Rattle.mrt_words.proofs.HandedOn.{handed_on}
 use Rattle.mrt_answer.proofs.Refusals.{none_for, rejected, root_in_island}
 use Rattle.mrt_answer.proofs.verdict.verdict.Goals as goal
-use Rattle.mrt_words.specs.Reading.{IsDue}
+use Rattle.mrt_exit.specs.Due.{IsDue}
 use Rattle.mrt_answer.specs.Verdict.{IsRefusedFor}
 
 pub returns-in_err-island-clause-refused : goal.returns-in_err-island-clause-refused

@@ -1,5 +1,5 @@
 use Rattle.mrt_answer.proofs.Refusals.{root_within}
-use Rattle.mrt_answer.proofs.run.run_of.Goals as goal
+use Rattle.mrt_answer.proofs.events.run_of.Goals as goal
 
 pub run_in-requires-clause-fits : goal.run_in-requires-clause-fits
 run_in-requires-clause-fits c = c.in_ok-net.ensures.is.fits

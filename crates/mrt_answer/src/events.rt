@@ -4,7 +4,8 @@ ghost use Rattle.std.specs.Prelude.{◌≡◌, ◌<◌, ◌≤◌, IfOk, IfErr, 
 ghost use Rattle.area_graph.specs.Fits.{Fits};
 ghost use Rattle.mrt_answer.specs.{Input.Input, PacketTables.IsAreaAndIsland, TextBytes.HasText, Islands.HasNoIslandFor};
 ghost use Rattle.mrt_answer.specs.Packets.{GivesRun, IsScriptGiven, IsNoRun};
-ghost use Rattle.mrt_words.specs.Reading.{IsDue};
+ghost use Rattle.mrt_exit.specs.Due.{IsDue};
+ghost use Rattle.mrt_words.specs.Files.{script_limit};
 
 use crate::given::Given;
 use crate::input::script_of;
@@ -17,7 +18,7 @@ use std::alloc::Global;
 
 /// The answers to the events of the script that the bytes are.
 pub(crate) fn run_of_bytes(alloc: Global, given: &Given, bytes: &[u8]) -> Result<Text, Exit>
-    requires limit { length bytes.now ≤ 33554432 }
+    requires limit { length bytes.now ≤ script_limit }
     ensures given { IfOk result (HasText (GivesRun given.now bytes.now)) }
     ensures refused { IfErr result (IsDue (IsNoRun given.now bytes.now)) }
 {

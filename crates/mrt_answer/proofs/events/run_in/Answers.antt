@@ -5,7 +5,7 @@ use Rattle.fabric_script.proofs.ServedEvents.{agree_at_destinations, served_at_d
 use Rattle.mrt_answer.specs.PacketTables.{AreTablesTo}
 use Rattle.mrt_words.proofs.HandedOn.{if_ok}
 use Rattle.mrt_answer.proofs.PacketsServed.{agrees, are_whole, parts, served, whole}
-use Rattle.mrt_answer.proofs.run.run_in.Goals as goal
+use Rattle.mrt_answer.proofs.events.run_in.Goals as goal
 
 pub tables_to-requires-clause-fits : goal.tables_to-requires-clause-fits
 tables_to-requires-clause-fits c = c.requires.fits

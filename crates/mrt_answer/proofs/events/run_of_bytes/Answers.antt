@@ -1,8 +1,8 @@
 use Rattle.mrt_answer.specs.Input.{Input}
 use Rattle.mrt_answer.proofs.Refusals.{bad_lines, runs_given, runs_of_bytes}
 use Rattle.mrt_words.proofs.HandedOn.{handed_on}
-use Rattle.mrt_answer.proofs.run.run_of_bytes.Goals as goal
-use Rattle.mrt_words.specs.Reading.{IsDue}
+use Rattle.mrt_answer.proofs.events.run_of_bytes.Goals as goal
+use Rattle.mrt_exit.specs.Due.{IsDue}
 use Rattle.mrt_answer.specs.Packets.{IsNoRun}
 
 pub returns-in_err-script-clause-refused : goal.returns-in_err-script-clause-refused
