@@ -9,7 +9,8 @@ use Rattle.mrt_words.specs.declared.form.Form.{Form}
 use Rattle.mrt_words.specs.declared.form.Form.TheVariants.{Survey}
 use Rattle.mrt_words.specs.FileBytes.{FileBytes, AreRead}
 use Rattle.mrt_words.specs.Files.{NamedFile, Names, IsRefusedBy, files_in, files_of}
-use Rattle.mrt_words.specs.Reading.{IsDue, IsDueOrFault, ReadsAs, ReadsFiles}
+use Rattle.mrt_exit.specs.Due.{IsDue}
+use Rattle.mrt_words.specs.Reading.{IsDueOrFault, ReadsAs, ReadsFiles}
 use Rattle.mrt_words.proofs.Readings.{errs, if_err, reads_also, reads_none}
 use Rattle.mrt_answer.specs.declared.text.Text.{Text}
 use Rattle.mrt_answer.specs.Refusals.{IsAnswerBy}

@@ -5,7 +5,8 @@ use Rattle.mrt_exit.specs.declared.exit.Exit.{Exit}
 use Rattle.mrt_exit.specs.declared.exit.Exit.TheVariants as exits
 use Rattle.mrt_exit.specs.declared.exit.What.{What}
 use Rattle.mrt_words.specs.FileBytes.{FileBytes}
-use Rattle.mrt_words.specs.Reading.{IsDue, IsDueOrFault}
+use Rattle.mrt_exit.specs.Due.{IsDue}
+use Rattle.mrt_words.specs.Reading.{IsDueOrFault}
 use Rattle.mrt_answer.specs.Answers.{IsRefusedOver}
 use Rattle.mrt_answer.proofs.TaskSays.{task_says}
 use Rattle.mrt_cmd.specs.Comes.{Refuses}

@@ -11,7 +11,7 @@ use Rattle.mrt_words.specs.Form.{IsSurvey, form_of}
 use Rattle.mrt_answer.specs.declared.text.Text.{Text}
 use Rattle.mrt_answer.specs.TextBytes.{HasText}
 use Rattle.mrt_cmd.specs.Comes.{Comes, Gives, GivesText, NamesHeld, Refuses}
-use Rattle.mrt_words.specs.Reading.{IsDue}
+use Rattle.mrt_exit.specs.Due.{IsDue}
 
 module _ (held : Option Files) (words : List (List ℕ)) (form : Form) (is : Some form ≡ form_of words) where
   pub text_of_words : (answer : Result Text Exit) → IfOk answer (HasText (Gives held form))

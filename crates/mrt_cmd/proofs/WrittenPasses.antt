@@ -12,7 +12,7 @@ use Rattle.mrt_answer.specs.Answers.{GivesOver}
 use Rattle.mrt_answer.proofs.TaskSays.{task_says}
 use Rattle.mrt_cmd.specs.Comes.{Gives, GivesText, Refuses}
 use Rattle.mrt_graph.specs.Spelling.{address_in}
-use Rattle.mrt_words.specs.Files.{NamedFile, SaysOneOf, files_in, flood_names, refusal_of, task_names}
+use Rattle.mrt_words.specs.Files.{NamedFile, SaysOneOf, certificate_limit, files_in, flood_names, profile_limit, refusal_of, task_names}
 use Rattle.mrt_words.specs.declared.form.FileForm.{FileForm}
 use Rattle.mrt_words.specs.declared.form.Form.{Form}
 use Rattle.mrt_words.specs.declared.form.Form.TheVariants.{OfFiles, Survey, Flood}
@@ -58,15 +58,15 @@ upgrade_given held words command database profile certificate text asks is named
 
 -- what a profile was read as is what its word stands for, and it is within the limit
 profile_was : (files : Files) (word bytes : List ℕ) → IsProfileRead (Some files) (profile_name word) bytes
-    → (profile_held files word ≡ Some bytes) × (length bytes ≤ 33554432)
+    → (profile_held files word ≡ Some bytes) × (length bytes ≤ profile_limit)
 profile_was files word bytes read = go (profile_name word) read
   where
     go : (name : Option (List ℕ)) → IsProfileRead (Some files) name bytes
-        → (option_map_or files name (Some []) ≡ Some bytes) × (length bytes ≤ 33554432)
+        → (option_map_or files name (Some []) ≡ Some bytes) × (length bytes ≤ profile_limit)
     go None read = (ap (λ (b : List ℕ). Some b) (sym read), rw read (omega arith))
     go (Some name) read = read
 
-profile_is : (files : Files) (word bytes : List ℕ) → profile_held files word ≡ Some bytes → length bytes ≤ 33554432
+profile_is : (files : Files) (word bytes : List ℕ) → profile_held files word ≡ Some bytes → length bytes ≤ profile_limit
     → IsProfileRead (Some files) (profile_name word) bytes
 profile_is files word bytes held short = go (profile_name word) held
   where
@@ -82,7 +82,7 @@ pub record PassLaws : Type 0 where
   pub upgrade : (bytes : FileBytes) (router : ℕ) (certificate text : List ℕ) → GivesOver (OfRouter (Certify router)) bytes text
       → GivesOver (Upgrade certificate) (with_last bytes text) text
   pub short : (bytes : FileBytes) (router : ℕ) (text : List ℕ) → GivesOver (OfRouter (Certify router)) bytes text
-      → length text ≤ 134217728
+      → length text ≤ certificate_limit
 
 -- the words give a text
 pub written_passes : PassLaws → (files : Files) (words : List (List ℕ)) → ChecksWritten files words

@@ -7,7 +7,7 @@ mod run_law;
 pub use mrt_answer::{
     made_networks_are_taken, tables_are_of_one_certificate, what_steps_read_fits_together,
 };
-pub use mrt_exit::{DbKind, Exit, What};
+pub use mrt_exit::{DbKind, Exit, Line, What};
 pub use mrt_words::words_spell_one_form;
 pub use program::run;
 pub use run_law::{

@@ -12,7 +12,7 @@ ghost use Rattle.mrt_cmd.specs.Causes.{HasNoText, IsAnswered};
 ghost use Rattle.mrt_cmd.specs.Comes.{Comes, FailsAt, Gives, GivesText, IsRefused, MissesAt, NamesHeld, Refuses};
 ghost use Rattle.mrt_words.specs.Files.{files_in, files_of, flood_names, task_names};
 ghost use Rattle.mrt_words.specs.{declared.form.Form.TheVariants.Flood, declared.form.Form.TheVariants.OfFiles, Reading.ReadsAs};
-ghost use Rattle.mrt_words.specs.Form.{AsksVerdict, IsSurvey, IsTaskWithin, IsWithin, form_of};
+ghost use Rattle.mrt_words.specs.Form.{AsksVerdict, IsSurvey, IsWithin, form_of};
 ghost use Rattle.mrt_cmd.specs.Headline.{ChecksWritten, FloodsAlike, IsPassed};
 ghost use Rattle.mrt_answer.specs.TextBytes.{HasText, IsTextOf};
 ghost use Rattle.mrt_cmd.specs.Run.{IsExitOfSurvey, IsHealthyForText, IsUndisturbed, WritesNothing};
@@ -210,7 +210,7 @@ fn text_of<F: Shelf>(alloc: Global, form: &Form<'_>, shelf: &mut F) -> Result<Te
 
 /// The text that a form over files gives.
 fn text_of_files<F: Shelf>(alloc: Global, form: &FileForm<'_>, shelf: &mut F) -> Result<Text, Exit>
-    requires { IsTaskWithin form.now.task }
+    requires { IsWithin (OfFiles form.now) }
     ensures { ReadsAs F.held F.faults F.healthy shelf.old shelf.new (files_in (task_names form.now))
         (λ held exit. Refuses held (OfFiles form.now) exit) (λ held text. HasText (Gives held (OfFiles form.now)) text) result }
 {
