@@ -10,9 +10,7 @@ use crate::failure::Failure;
 use area_graph::build_area;
 use file_key::FileKey;
 use lsdb::{Lsdb, database_of, refuses_exactly_where_not_settled};
-use mrt_graph::{
-    Color, Graph, Kind, NodeId, NodeNo, accepted_implies_sound, accepted_rows_lead_on,
-};
+use mrt_graph::{Color, Graph, NodeId, NodeNo, accepted_implies_sound, accepted_rows_lead_on};
 use mrt_island::{Profile, find_island};
 use mrt_rows::{RootedColumns, certificates_are_accepted};
 use ospf_lsa::read_lsas;
@@ -85,9 +83,5 @@ fn number_of(graph: &Graph, router: u32) -> Result<NodeNo, Failure>
     ensures named { IfOk result (λ n. slice_get graph.now.ids n ≡ Some (router_node router)) }
     ensures within { IfOk result (λ n. n < length graph.now.ids) }
 {
-    let id = NodeId {
-        kind: Kind::Router,
-        number: router,
-    };
-    graph.find(id).ok_or(Failure::NotThere)
+    graph.find(NodeId::router(router)).ok_or(Failure::NotThere)
 }
