@@ -17,7 +17,8 @@ ghost use Rattle.mrt_graph.specs.Related.{is_common_block};
 use crate::fault_at::FaultAt;
 use mrt_graph::{Cert, LinkNo, NodeNo};
 
-/// The least node that is not placed, and 0; or in whose block there are nodes of another head, and the least of those.
+/// The least node that is not placed, and 0; or the least in whose block there is a node of another head, and the least
+/// such node.
 pub(crate) fn head_fault(c: &Cert, root: NodeNo) -> Option<FaultAt>
     ensures { MatchOption result (HeadsHold c.now root)
         (λ place. HeadFault c.now root place.a place.b) }

@@ -132,7 +132,7 @@ impl CertStream {
         ensures { (file second : CertFile) → IsCertOf self.graph self.root file
             → IsCertOf other.graph other.root second → (IsTrue result ↔ (file ≡ second)) }
     {
-        // a call below takes them by reference: what is owned is dropped at each return
+        // both are lent to a call that returns at several places: what it owned would be dropped at each
         let mut one = self;
         let mut other = other;
         one.tells_the_same(&mut other)

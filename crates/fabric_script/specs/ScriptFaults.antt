@@ -14,8 +14,8 @@ pub record IsScript (lines : List (List ℕ)) (script : Script) : Type 0 where
   pub start : start_in first ≡ Some (record { router = script.router; room = script.room })
   pub events : map event_in others ≡ map (λ event. Some event) script.events
 
--- the line with this number, from 1, is the first that is not as it should be; or the lines end before it, and none of them
--- is the first one
+-- the line with this number, from 1, is the first that is not as it should be; or the lines end before it, and all of them
+-- are passed over, so that there is no first line
 abbrev pub IsFirstFault : List (List ℕ) → ℕ → Type 0
 IsFirstFault lines number = IsFirstWrong IsScript lines number
 

@@ -26,8 +26,8 @@ pub record IsScript (lines : List (List ℕ)) (script : FloodScript) : Type 0 wh
   pub few : deliveries_in script.lines ≤ 65535
   pub among : AllByRecursion (IsAmong script.routers) script.lines
 
--- the line with this number, from 1, is the first that is not as it should be; or the lines end before it, and none of them
--- is the first one
+-- the line with this number, from 1, is the first that is not as it should be; or the lines end before it, and all of them
+-- are passed over, so that there is no first line
 abbrev pub IsFirstFault : List (List ℕ) → ℕ → Type 0
 IsFirstFault lines number = IsFirstWrong IsScript lines number
 

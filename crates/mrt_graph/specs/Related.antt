@@ -15,7 +15,7 @@ IsRelation s here t there ToHead = (here.block ≢ there.block) × (here.head �
 IsRelation s here t there FromHead = (here.block ≢ there.block) × (here.head ≢ t) × (there.head ≡ s)
 IsRelation s here t there Apart = (here.block ≢ there.block) × (here.head ≢ t) × (there.head ≢ s)
 
--- whether it is the last of these
+-- whether it is the last of these: none of the three
 abbrev pub is_apart : Relation → Bool
 is_apart OneBlock = false
 is_apart ToHead = false
@@ -36,6 +36,7 @@ is_common_block c s t k =
     || ((are_equal (head_of c s) (Some t) && are_equal k (block_of c s))
     || (are_equal (head_of c t) (Some s) && are_equal k (block_of c t)))
 
--- the node for which s has the links that it has for t: the head of t, or where t is the root, the head of s
+-- the node for which s has the links that it has for t, where they have no block in common: the head of t or, where t is
+-- the root, the head of s
 abbrev pub carrier : Certificate → ℕ → ℕ → ℕ → Option ℕ
 carrier c root s t = if t == root then head_of c s else head_of c t

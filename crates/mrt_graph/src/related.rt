@@ -62,8 +62,8 @@ pub fn are_unrelated(nodes: &[CertNode], s: NodeNo, t: NodeNo) -> bool
     relation_of(s, &here, t, &there).is_apart()
 }
 
-/// The carrier of a node for another one `t`, by the places of both: the node for which it has the links that it has for
-/// `t`, with which it has no block in common. It is the head of `t`, or where `t` is the root, its own.
+/// The carrier of a node for a node `t` with which it has no block in common: the node for which it has the links that it
+/// has for `t`. That is the head of `t` or, where `t` is the root, the head of the first node. By the places of both.
 pub fn carrier_of(root: NodeNo, here: &Place, t: NodeNo, there: &Place) -> NodeNo
     ensures to_other { t ≢ root → result ≡ there.now.head }
     ensures to_root { t ≡ root → result ≡ here.now.head }

@@ -1,4 +1,4 @@
--- The lines of a profile, taken in one after another. No clause of a contract of a public function cites it.
+-- The lines of a profile, taken in one after another: how `Profile` takes them. No clause of `read_profile` cites it.
 use Rattle.std.specs.Prelude.{◌++◌, ◌∷◌, [], List, Result, Ok, Err, if◌then◌else◌}
 use Rattle.std.specs.List.{list_any}
 use Rattle.text_parts.specs.declared.line_error.LineError.{LineError}

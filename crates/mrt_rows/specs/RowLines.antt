@@ -95,8 +95,8 @@ pub record UnorderedLine (g : Topology) (w : Directions) (s t : ℕ) (row : Row)
   pub blue : BeginsOver g w Down s head row.blue
   pub red : BeginsOver g w Up s head row.red
 
--- Carried: they have no block in common. Blue and red are those of the row of s for the carrier: that for the head of t
--- or, where t is the root, that for the head of s
+-- Carried: they have no block in common. Blue and red are those of the row of s for the head of t or, where t is the root,
+-- of the row of s for the head of s
 pub record CarriedLine (root : ℕ) (w : Directions) (s : ℕ) (rows : ℕ → Option Row) (t : ℕ) (row : Row) : Type 0 where
   pub apart : (k h : ℕ) → ¬ HaveCommonBlock w s t k h
   pub to_other : t ≢ root → HasLinksFor rows (w.head t) row

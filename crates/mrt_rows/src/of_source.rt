@@ -51,8 +51,8 @@ pub fn rows_of(
 
 /// Puts the rows of a source for all other nodes, each at the place of its destination.
 ///
-/// A row may be carried from that for the carrier. That is the destination's head, which has a lower order, so it has had
-/// its turn; or, for the root, whose turn comes first, the head of the source, so its row is put before all.
+/// A row may be carried from the row for the carrier. The carrier is the destination's head, which has a lower order, so
+/// that its row is there already; or, for the root, whose turn comes first, the head of the source: its row is put before all.
 fn put_rows(
     g: &Graph,
     root: NodeNo,
