@@ -1,14 +1,12 @@
 -- Color walks, hop by hop.
-use Rattle.std.proofs.Common.{◌≡◌, ◌≢◌, ◌<◌, ◌≤◌, ℕ, zero, suc, List, [], ◌∷◌, Option, Some, None, length, slice_get, inl, inr, refl, sym, ap, subst, arith}
+use Rattle.std.proofs.Common.{◌≡◌, ◌≢◌, ◌<◌, ◌≤◌, ℕ, List, [], ◌∷◌, Option, Some, None, length, slice_get, inl, inr, refl, sym, subst, arith}
 use Rattle.std.specs.Option.{option_and_then}
-use Rattle.std.proofs.lemmas.Bool.{eq-eqb, ne_eqb}
 use Rattle.std.proofs.lemmas.List.{length-map}
 use Rattle.fabric.specs.FabricParts.{ArePartsKept, FabricParts, AreRowsAccepted}
 use Rattle.mrt_graph.specs.declared.cert.CertFile.{CertFile}
 use Rattle.mrt_graph.specs.declared.cert.Color.{Color}
 use Rattle.mrt_graph.specs.declared.cert.Color.TheVariants.{Blue, Red}
 use Rattle.mrt_graph.specs.declared.link.Element.{Element}
-use Rattle.mrt_graph.specs.declared.link.Element.TheVariants as elements
 use Rattle.mrt_graph.specs.declared.link.Link.{Link}
 use Rattle.mrt_graph.specs.Alternate.{UsesOn}
 use Rattle.mrt_graph.specs.Certificate.{row_of}
@@ -17,14 +15,14 @@ use Rattle.mrt_graph.specs.GraphInvariant.{IsLink}
 use Rattle.mrt_graph.specs.Hop.{Hop, color_hop}
 use Rattle.mrt_graph.specs.Leads.{far_node, leads}
 use Rattle.mrt_graph.specs.Rules.{GraphRule}
-use Rattle.mrt_graph.specs.Uses.{Uses, nodes_met}
+use Rattle.mrt_graph.specs.Uses.{Uses}
 use Rattle.mrt_graph.proofs.AcceptedBlocks.{blocks}
 use Rattle.mrt_graph.proofs.Arrival.{at_most}
-use Rattle.mrt_graph.proofs.Bridge.{color_leads}
+use Rattle.mrt_graph.proofs.Bridge.{color_leads, followed, uses}
 use Rattle.mrt_graph.proofs.Claims.{Good, Way}
 use Rattle.mrt_graph.proofs.Hops.{far_ends, follows_trail}
 use Rattle.mrt_graph.proofs.ListTests.{all_at}
-use Rattle.mrt_graph.proofs.Members.{Has, contains_from_has}
+use Rattle.mrt_graph.proofs.Members.{Has}
 use Rattle.mrt_graph.proofs.NearPairs.{near_claim}
 use Rattle.mrt_graph.proofs.RowsHold.{rows_hold}
 use Rattle.mrt_graph.proofs.Trails.{Differ, Follows, On, Trail, links_on, nodes_on}
@@ -35,23 +33,6 @@ use Rattle.primary_alt.proofs.AgreeingRows.{same_hops}
 -- the next hop on a color, for island node d
 abbrev pub next_on : FabricParts → Color → ℕ → ℕ → Option Hop
 next_on parts color d n = color_hop parts.island.links parts.rows color d n
-
--- the fold over at most n hops is the way, if it is no longer
-followed : (next : ℕ → Option Hop) (t n s : ℕ) (hops : List Hop) → Follows next t s hops → length hops ≤ n → links_followed next t n s ≡ links_on hops
-followed next t zero s [] f short = refl
-followed next t zero s (hop ∷ hops) f short = absurd (omega (arith, short))
-followed next t (suc n) s [] f short = rw (eq-eqb s t f) refl
-followed next t (suc n) s (hop ∷ hops) f short =
-    rw (ne_eqb s t f.0, f.1.0) (ap (λ (es : List ℕ). hop.link ∷ es) (followed next t n hop.to hops f.1.1 (omega (arith, short))))
-
-met_of : (links : List Link) (s t : ℕ) (hops : List Hop) → Trail links s hops t → nodes_met links s (links_on hops) ≡ nodes_on s hops
-met_of links s t [] trail = refl
-met_of links s t (hop ∷ hops) trail = rw trail.0 (ap (λ (xs : List ℕ). s ∷ xs) (met_of links hop.to t hops trail.1))
-
-uses : (links : List Link) (s t : ℕ) (hops : List Hop) (x : Element) → Trail links s hops t → On s hops x → Uses links s (links_on hops) x
-uses links s t hops (elements.Link e) trail on = contains_from_has (links_on hops) e on
-uses links s t hops (elements.Node x) trail on =
-    contains_from_has (nodes_met links s (links_on hops)) x (subst (λ (xs : List ℕ). Has xs x) (sym (met_of links s t hops trail)) on)
 
 module _ (parts : FabricParts) (are : ArePartsKept parts) where
   -- from each node to each other one for which the rows are accepted a color has its way

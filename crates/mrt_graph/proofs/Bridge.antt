@@ -56,28 +56,28 @@ color_leads links rows color t s hop is = go (rows s t) is
     go (Some row) is = hop_over_leads links s (link_of_color color row) hop is
 
 -- the fold over at most n hops is the way, if it is no longer
-followed : (next : ℕ → Option Hop) (t n s : ℕ) (hops : List Hop) → Follows next t s hops → length hops ≤ n → links_followed next t n s ≡ links_on hops
+pub followed : (next : ℕ → Option Hop) (t n s : ℕ) (hops : List Hop) → Follows next t s hops → length hops ≤ n → links_followed next t n s ≡ links_on hops
 followed next t zero s [] f short = refl
 followed next t zero s (hop ∷ hops) f short = absurd (omega (arith, short))
 followed next t (suc n) s [] f short = rw (eq-eqb s t f) refl
 followed next t (suc n) s (hop ∷ hops) f short =
     rw (ne_eqb s t f.0, f.1.0) (ap (λ (es : List ℕ). hop.link ∷ es) (followed next t n hop.to hops f.1.1 (omega (arith, short))))
 
-walk_of : (links : List Link) (s t : ℕ) (hops : List Hop) → Trail links s hops t → Walk links s (links_on hops) t
+pub walk_of : (links : List Link) (s t : ℕ) (hops : List Hop) → Trail links s hops t → Walk links s (links_on hops) t
 walk_of links s t [] trail = trail
 walk_of links s t (hop ∷ hops) trail = (hop.to, trail.0, walk_of links hop.to t hops trail.1)
 
-met_of : (links : List Link) (s t : ℕ) (hops : List Hop) → Trail links s hops t → nodes_met links s (links_on hops) ≡ nodes_on s hops
+pub met_of : (links : List Link) (s t : ℕ) (hops : List Hop) → Trail links s hops t → nodes_met links s (links_on hops) ≡ nodes_on s hops
 met_of links s t [] trail = refl
 met_of links s t (hop ∷ hops) trail = rw trail.0 (ap (λ (xs : List ℕ). s ∷ xs) (met_of links hop.to t hops trail.1))
 
 -- a walk, hop by hop
-record Hops (links : List Link) (s t : ℕ) (walk : List ℕ) : Type 0 where
-  hops : List Hop
-  same : links_on hops ≡ walk
-  trail : Trail links s hops t
+pub record Hops (links : List Link) (s t : ℕ) (walk : List ℕ) : Type 0 where
+  pub hops : List Hop
+  pub same : links_on hops ≡ walk
+  pub trail : Trail links s hops t
 
-hops_of : (links : List Link) (s t : ℕ) (walk : List ℕ) → Walk links s walk t → Hops links s t walk
+pub hops_of : (links : List Link) (s t : ℕ) (walk : List ℕ) → Walk links s walk t → Hops links s t walk
 hops_of links s t [] walk = record { hops = []; same = refl; trail = walk }
 hops_of links s t (e ∷ es) walk =
     let rest = hops_of links walk.0 t es walk.2 in
@@ -87,7 +87,7 @@ hops_of links s t (e ∷ es) walk =
       trail = (walk.1, rest.trail);
     }
 
-uses : (links : List Link) (s t : ℕ) (hops : List Hop) (x : Element) → Trail links s hops t → On s hops x → Uses links s (links_on hops) x
+pub uses : (links : List Link) (s t : ℕ) (hops : List Hop) (x : Element) → Trail links s hops t → On s hops x → Uses links s (links_on hops) x
 uses links s t hops (elements.Link e) trail on = contains_from_has (links_on hops) e on
 uses links s t hops (elements.Node x) trail on =
     contains_from_has (nodes_met links s (links_on hops)) x (subst (λ (xs : List ℕ). Has xs x) (sym (met_of links s t hops trail)) on)

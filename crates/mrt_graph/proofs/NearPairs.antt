@@ -10,7 +10,7 @@ use Rattle.mrt_graph.proofs.RelatedPairs.{mixed_near}
 use Rattle.mrt_graph.proofs.RowFacts.{Says, SoleRow, Rows}
 
 -- a tag is Sole, or it is not
-sole_or_not : (T : Tag) → (T ≡ tags.Sole) ⊎ (T ≢ tags.Sole)
+pub sole_or_not : (T : Tag) → (T ≡ tags.Sole) ⊎ (T ≢ tags.Sole)
 sole_or_not tags.Sole = inl refl
 sole_or_not _ = inr (λ same. cc)
 

@@ -18,6 +18,7 @@ use Rattle.mrt_graph.specs.Rows.{Rows, link_of_color}
 use Rattle.mrt_graph.specs.Topology.{Topology}
 use Rattle.mrt_graph.proofs.Blocks.{Words, Blocks, At, Inner, Top}
 use Rattle.mrt_graph.proofs.Bridge.{color_leads}
+use Rattle.mrt_graph.proofs.ColorMoves.{Moving, There, Onward, Passage, Step, passage}
 use Rattle.mrt_graph.proofs.EndsAt.{end_leads}
 use Rattle.mrt_graph.proofs.Hops.{lead_back}
 use Rattle.mrt_graph.proofs.InBlock.{at_within}
@@ -34,7 +35,6 @@ use Rattle.proxy_rows.specs.ProxyRows.{IsHeadBlue, Itself, ToLow, IsHeadRed, IsO
 use Rattle.proxy_rows.specs.Sides.{IsIn, IsMember, IsOfBlock}
 use Rattle.proxy_rows.proofs.Attaching.{words}
 use Rattle.proxy_rows.proofs.BlockRows.{HeadHops, head_hops, high_member, high_more, link_is, low_member, low_more, low_not_high, stays, to_high}
-use Rattle.proxy_rows.proofs.ColorMoves.{Moving, There, Onward, Passage, Step, passage}
 use Rattle.proxy_rows.proofs.Grounds.{apart, b, counts, head_is, head_no_member, is_higher, is_lower, is_member, member_at, upper_member}
 use Rattle.proxy_rows.proofs.HeadLinks.{red_link, same_as_red}
 use Rattle.proxy_rows.proofs.NewLinks.{lower_leads, old_leads, upper_leads}
@@ -361,14 +361,13 @@ module _ (g : Topology) (c : Certificate) (at : Attachment) (ground : IsGround g
     most = blocks.most;
     order_within = λ x at_x. blocks.order_within x (at_within w blocks at.upper x (upper_member g c at ground) at_x);
     one_order = λ x y at_x at_y. blocks.one_order x y (at_within w blocks at.upper x (upper_member g c at ground) at_x) (at_within w blocks at.upper y (upper_member g c at ground) at_y);
-    one_top = λ x y at_x at_y x_top y_top. (tag_facts x at_x).2 x_top ∙ sym ((tag_facts y at_y).2 y_top);
-    not_sole = λ x at_x. (tag_facts x at_x).0;
-    not_carried = λ x at_x. (tag_facts x at_x).1;
-    step = λ color x at_x other. step color x at_x;
+    one_top = λ x y at_x at_y x_other y_other x_top y_top. (tag_facts x at_x).2 x_top ∙ sym ((tag_facts y at_y).2 y_top);
+    not_carried = λ x at_x other. (tag_facts x at_x).1;
+    step = λ color x at_x other not_sole. step color x at_x;
   }
 
   -- from each node of the block and from its head both colors arrive at the new node
   pub from_block : (s : ℕ) → At w at.upper s → Passage next N (new_node g) s
   from_block s at_n =
       let within = at_within w blocks at.upper s (upper_member g c at ground) at_n in
-      passage links next N tag w.order (λ _. roles.Plain) (new_node g) moving s at_n (λ same. omega (arith, within, (counts g c at ground).nodes, same))
+      passage links next N tag w.order (λ _. roles.Plain) (new_node g) moving s at_n (λ same. omega (arith, within, (counts g c at ground).nodes, same)) (tag_facts s at_n).0

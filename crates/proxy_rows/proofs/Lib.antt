@@ -2,7 +2,6 @@ pub mod AnyRows
 pub mod Attaching
 pub mod BlockRows
 pub mod BlockSteps
-pub mod ColorMoves
 pub mod Entries
 pub mod FirstEnds
 pub mod FirstVisit

@@ -16,7 +16,7 @@ use Rattle.mrt_graph.proofs.Arrival.{Descends, Arrives, arrives_from}
 use Rattle.mrt_graph.proofs.Claims.{Way}
 use Rattle.mrt_graph.proofs.Hops.{lead_back, ends_are_on, follows_trail}
 use Rattle.mrt_graph.proofs.Members.{Has}
-use Rattle.mrt_graph.proofs.Moves.{Ends, Meets, Move, rank, rank_falls, meets_on, meets_itself, both_meet, never_both}
+use Rattle.mrt_graph.proofs.Moves.{Ends, Meets, Move, rank, rank_falls, meets_on, meets_itself, meets_no_sole, both_meet, never_both}
 use Rattle.mrt_graph.proofs.Trails.{Trail, Follows, On, nodes_on, links_on, IsOnLinks}
 
 -- from s the hop leads to t, or by a move to another node
@@ -31,22 +31,23 @@ pub record Step (next : Color → ℕ → Option Hop) (N : ℕ → Type 0) (tag 
   pub stays : (hop.to ≡ t) ⊎ N hop.to
   pub goes : Goes tag order role t s color hop
 
--- from each node of N both colors lead so
+-- from each node of N whose row is not Sole both colors lead so
 pub record Moving (links : List Link) (next : Color → ℕ → Option Hop) (N : ℕ → Type 0) (tag : ℕ → Tag) (order : ℕ → ℕ) (role : ℕ → Role) (t : ℕ) : Type 0 where
   pub on_links : (color : Color) → IsOnLinks links (next color)
   pub most : ℕ
   pub order_within : (x : ℕ) → N x → order x ≤ most
   pub one_order : (x y : ℕ) → N x → N y → order x ≡ order y → x ≡ y
-  pub one_top : (x y : ℕ) → N x → N y → tag x ≡ tags.Top → tag y ≡ tags.Top → x ≡ y
-  pub not_sole : (x : ℕ) → N x → tag x ≢ tags.Sole
-  pub not_carried : (x : ℕ) → N x → tag x ≢ tags.Carried
-  pub step : (color : Color) (x : ℕ) → N x → x ≢ t → Step next N tag order role t x color
+  pub one_top : (x y : ℕ) → N x → N y → x ≢ t → y ≢ t → tag x ≡ tags.Top → tag y ≡ tags.Top → x ≡ y
+  pub not_carried : (x : ℕ) → N x → x ≢ t → tag x ≢ tags.Carried
+  pub step : (color : Color) (x : ℕ) → N x → x ≢ t → tag x ≢ tags.Sole → Step next N tag order role t x color
 
 -- both colors arrive, share nothing, and stay in N
 pub record Passage (next : Color → ℕ → Option Hop) (N : ℕ → Type 0) (t s : ℕ) : Type 0 where
   pub blue : Way (next Blue) t s
   pub red : Way (next Red) t s
   pub apart : (x : Element) → IsNeitherEnd x s t → On s blue.hops x → On s red.hops x → ⊥
+  pub blue_in : (x : ℕ) → Has (nodes_on s blue.hops) x → x ≢ t → N x
+  pub red_in : (x : ℕ) → Has (nodes_on s red.hops) x → x ≢ t → N x
 
 -- a link on hops to t is that of the next hop of a node that is met and is not t
 record Taken (next : ℕ → Option Hop) (t s e : ℕ) (hops : List Hop) : Type 0 where
@@ -67,7 +68,7 @@ taken next t s e (hop ∷ hops) follows h = elim h [
 ]
 
 module _ (links : List Link) (next : Color → ℕ → Option Hop) (N : ℕ → Type 0) (tag : ℕ → Tag) (order : ℕ → ℕ) (role : ℕ → Role) (t : ℕ)
-    (c : Moving links next N tag order role t) (s : ℕ) (source : N s) (differ : s ≢ t) where
+    (c : Moving links next N tag order role t) (s : ℕ) (source : N s) (differ : s ≢ t) (not_sole : tag s ≢ tags.Sole) where
   -- what a color may meet
   abbrev Met : Color → ℕ → Type 0
   Met color x = N x × Meets color (tag s) (order s) (tag x) (order x)
@@ -85,7 +86,9 @@ module _ (links : List Link) (next : Color → ℕ → Option Hop) (N : ℕ → 
 
   descends : (color : Color) (x : ℕ) → Met color x → x ≢ t → Descends (next color) (rank_of color) (Met color) t x
   descends color x met other =
-      let on = c.step color x met.0 other in
+      let x_not_sole : tag x ≢ tags.Sole =
+      (λ sole. meets_no_sole color (tag s) (order s) (order x) (subst (λ T. Meets color (tag s) (order s) T (order x)) sole met.1)) in
+      let on = c.step color x met.0 other x_not_sole in
       record { hop = on.hop; takes = on.takes; goes = falls color x on.hop met on.stays on.goes }
 
   -- and so it does not lead where it comes from
@@ -100,7 +103,7 @@ module _ (links : List Link) (next : Color → ℕ → Option Hop) (N : ℕ → 
       ]
 
   itself : (color : Color) → Met color s
-  itself color = (source, meets_itself color (tag s) (order s) (c.not_sole s source) (c.not_carried s source))
+  itself color = (source, meets_itself color (tag s) (order s) not_sole (c.not_carried s source differ))
 
   arrives : (color : Color) → Arrives (next color) (rank_of color) (Met color) t s
   arrives color = arrives_from (next color) (rank_of color) (Met color) t (descends color) s (itself color)
@@ -122,13 +125,13 @@ module _ (links : List Link) (next : Color → ℕ → Option Hop) (N : ℕ → 
       let red = met_on Red x on_red other in
       elim (both_meet (tag s) (tag x) (order s) (order x) blue.1 red.1) [
         | inl same ↦ c.one_order x s blue.0 source same
-        | inr tops ↦ c.one_top x s blue.0 source tops.1 tops.0
+        | inr tops ↦ c.one_top x s blue.0 source other differ tops.1 tops.0
       ]
 
   -- a color's hop from s straight to t is over such a link
   straight : (color : Color) (hop : Hop) → next color s ≡ Some hop → hop.to ≡ t → Ends color (tag s) (role hop.link)
   straight color hop takes there =
-      let on = c.step color s source differ in
+      let on = c.step color s source differ not_sole in
       let one : on.hop ≡ hop = cc (on.takes, takes) in
       go (subst (Goes tag order role t s color) one on.goes)
     where
@@ -175,4 +178,6 @@ module _ (links : List Link) (next : Color → ℕ → Option Hop) (N : ℕ → 
     blue = record { hops = (arrives Blue).hops; follows = (arrives Blue).follows; differ = (arrives Blue).differ };
     red = record { hops = (arrives Red).hops; follows = (arrives Red).follows; differ = (arrives Red).differ };
     apart = apart;
+    blue_in = λ x on other. (met_on Blue x on other).0;
+    red_in = λ x on other. (met_on Red x on other).0;
   }
