@@ -134,6 +134,15 @@ means rule Is of = record {
 
 -- ---- what a reading tells, in the words of such definitions, and with its errors under other names
 
+-- what a reading of lines tells, with its errors under such names
+pub record ReadingTells {W F E : Type 0} (Is : List (List ℕ) → W → Type 0) (IsFault : List (List ℕ) → ℕ → F → Type 0) (lines : List (List ℕ))
+    (error : LineError F → E) (read : Result W E) : Type 0 where
+  pub found : IfOk read (Is lines)
+  pub only : (text : W) → Is lines text → (read ≡ Ok text) ⊎ (read ≡ Err (error errors.NoMemory))
+  pub fault : (number : ℕ) (kind : F) → read ≡ Err (error (errors.Fault number kind)) → IsFault lines number kind
+  pub faulty : (number : ℕ) (kind : F) → IsFault lines number kind
+      → (read ≡ Err (error (errors.Fault number kind))) ⊎ (read ≡ Err (error errors.NoMemory))
+
 module _ {S W F : Type 0} {rule : TextRule S W F} {Is : List (List ℕ) → W → Type 0}
     {IsFault : List (List ℕ) → ℕ → F → Type 0} (means : Means rule Is IsFault) (lines : List (List ℕ)) where
   pub either_of : ((text : W) × Is lines text) ⊎ ((number : ℕ) × (fault : F) × IsFault lines number fault)
@@ -190,3 +199,35 @@ module _ {S W F : Type 0} {rule : TextRule S W F} {Is : List (List ℕ) → W �
     fault_is_first same (Err one) reads number fault is =
         let told : one ≡ errors.Fault number fault = same one (errors.Fault number fault) cc in
         (means.faults lines number fault).0 (subst (λ (e : LineError F). Reads {W = W} rule lines (Err e)) told reads)
+
+    pub reading_tells : ((one other : LineError F) → error one ≡ error other → one ≡ other) → (read : Result W (LineError F)) → Reads rule lines read
+        → (named : Result W E) → named ≡ result_map_both (λ (text : W). text) error read → ReadingTells Is IsFault lines error named
+    reading_tells one_error read reads named is = subst (ReadingTells Is IsFault lines error) (sym is) (record {
+      found = text_is_found read reads;
+      only = text_is_read read reads;
+      fault = fault_is_first one_error read reads;
+      faulty = fault_is_told read reads;
+    })
+
+-- ---- where a fault has no kind
+
+-- two errors of one name are one
+pub one_line_error : {E : Type 0} (error : LineError (Unit {0}) → E)
+    → ((number place : ℕ) → error (errors.Fault number tt) ≡ error (errors.Fault place tt) → number ≡ place)
+    → ((number : ℕ) → error (errors.Fault number tt) ≡ error errors.NoMemory → ⊥)
+    → (one other : LineError (Unit {0})) → error one ≡ error other → one ≡ other
+one_line_error error one_number apart (errors.Fault number fault) (errors.Fault place other) same = ap (λ (n : ℕ). errors.Fault n tt) (one_number number place same)
+one_line_error error one_number apart (errors.Fault number fault) errors.NoMemory same = absurd (apart number same)
+one_line_error error one_number apart errors.NoMemory (errors.Fault number fault) same = absurd (apart number (sym same))
+one_line_error error one_number apart errors.NoMemory errors.NoMemory same = refl
+
+module _ {S W : Type 0} {rule : TextRule S W (Unit {0})} {Is : List (List ℕ) → W → Type 0}
+    {IsFault : List (List ℕ) → ℕ → Unit {0} → Type 0} (means : Means rule Is IsFault) (lines : List (List ℕ)) where
+  pub either_line : ((text : W) × Is lines text) ⊎ ((number : ℕ) × IsFault lines number tt)
+  either_line = elim (either_of means lines) [ inl text ↦ inl text | inr first ↦ inr (first.0, first.2) ]
+
+  pub never_both_line : (text : W) (number : ℕ) → Is lines text → IsFault lines number tt → ⊥
+  never_both_line text number = never_both_of means lines text number tt
+
+  pub one_line_of : (number place : ℕ) → IsFault lines number tt → IsFault lines place tt → number ≡ place
+  one_line_of number place first first' = (one_fault_of means lines number place tt tt first first').0
