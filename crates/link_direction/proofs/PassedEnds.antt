@@ -2,6 +2,7 @@
 use Rattle.std.proofs.Common.{◌≡◌, ◌<◌, ◌+◌, ◌++◌, ◌==◌, ◌⊎◌, ◌∙◌, ℕ, Bool, List, [], ◌∷◌, Some, count_by, length, filter, slice_get, inl, inr, refl, sym, ap, subst, arith}
 use Rattle.std.proofs.lemmas.Bool.{cases_eq, eq-eqb}
 use Rattle.std.proofs.lemmas.Option.{same_Some, slice_get_within}
+use Rattle.mrt_graph.specs.declared.gadag.Mark.{Mark}
 use Rattle.mrt_graph.specs.declared.link.End.{End}
 use Rattle.mrt_graph.specs.GraphInvariant.{IsTopology}
 use Rattle.mrt_graph.specs.Leads.{leads}
@@ -10,7 +11,8 @@ use Rattle.mrt_graph.proofs.EndsAt.{IsEndOver, end_leads, leads_end, list_of_end
 use Rattle.mrt_graph.proofs.ListPlaces.{at_left, pushed_at}
 use Rattle.mrt_graph.proofs.ListTests.{one_passes}
 use Rattle.mrt_graph.proofs.Tallies.{count_is_tally, length_is_tally}
-use Rattle.link_direction.specs.Counting.{IsEndOf, IsPassed, StandOnce}
+use Rattle.gadag_ears.specs.Counted.{IsCounted}
+use Rattle.link_direction.specs.Counting.{IsEndOf, IsPassed, IsUnderWay, StandOnce}
 
 -- two ends of a node on one link are one
 pub one_end : (g : Topology) (x j k : ℕ) (ends : List End) (end other : End) → IsTopology g → slice_get g.ends x ≡ Some ends
@@ -135,3 +137,23 @@ passed_before g order place passed at e u v kept within node leads_on before =
       over = it.over;
       before = before it.place list.0 it.end list.1 it.at it.over;
     }
+
+-- where other ends are passed, and the queue is the same
+pub still_under_way : (g : Topology) (root : ℕ) (marks : List Mark) (place passed later more : ℕ) (counts order : List ℕ)
+    (state : IsUnderWay g root marks place passed counts order)
+    → ((e u v : ℕ) → state.left e ≡ Some v → IsCounted g marks e u v → ¬ IsPassed g order later more e u)
+    → ((e u v : ℕ) → IsCounted g marks e u v → (state.left e ≡ Some v) ⊎ IsPassed g order later more e u)
+    → IsUnderWay g root marks later more counts order
+still_under_way g root marks place passed later more counts order state not_passed or_passed = record {
+  kept = state.kept;
+  ordered = state.ordered;
+  once = state.once;
+  within = state.within;
+  left = state.left;
+  are_counts = state.are_counts;
+  counted = state.counted;
+  not_passed = not_passed;
+  or_passed = or_passed;
+  none_left = state.none_left;
+  all_listed = state.all_listed;
+}

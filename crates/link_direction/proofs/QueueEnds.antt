@@ -11,7 +11,7 @@ use Rattle.gadag_ears.specs.Counted.{IsCounted}
 use Rattle.link_direction.specs.Counting.{AreCounts, IsUnderWay, entered_by}
 use Rattle.link_direction.specs.GadagOrder.{Begun, IsWholeOrder}
 use Rattle.link_direction.proofs.EnteredBy.{counted_into, enters_there}
-use Rattle.link_direction.proofs.PassedEnds.{passed_before, passed_in_turn, turn_passed}
+use Rattle.link_direction.proofs.PassedEnds.{passed_before, passed_in_turn, still_under_way, turn_passed}
 
 -- the root alone, before its turn
 pub begins : (g : Topology) (root : ℕ) (marks : List Mark) (counts : List ℕ) → IsTopology g → root < length g.ids
@@ -41,22 +41,13 @@ begins g root marks counts kept within none_enters are = record {
 pub turn_over : (g : Topology) (root : ℕ) (marks : List Mark) (place x : ℕ) (ends : List End) (counts order : List ℕ)
     → IsUnderWay g root marks place (length ends) counts order → slice_get order place ≡ Some x → slice_get g.ends x ≡ Some ends
     → IsUnderWay g root marks (place + 1) 0 counts order
-turn_over g root marks place x ends counts order state here list = record {
-  kept = state.kept;
-  ordered = state.ordered;
-  once = state.once;
-  within = state.within;
-  left = state.left;
-  are_counts = state.are_counts;
-  counted = state.counted;
-  not_passed = λ e u v left counted it. state.not_passed e u v left counted (turn_passed g order place x e u ends here list it);
-  or_passed = λ e u v counted. elim (state.or_passed e u v counted) [
-    | inl left ↦ inl left
-    | inr it ↦ inr (passed_in_turn g order place (length ends) e u it)
-  ];
-  none_left = state.none_left;
-  all_listed = state.all_listed;
-}
+turn_over g root marks place x ends counts order state here list =
+    still_under_way g root marks place (length ends) (place + 1) 0 counts order state
+    (λ e u v left counted it. state.not_passed e u v left counted (turn_passed g order place x e u ends here list it))
+    (λ e u v counted. elim (state.or_passed e u v counted) [
+      | inl left ↦ inl left
+      | inr it ↦ inr (passed_in_turn g order place (length ends) e u it)
+    ])
 
 -- when all turns are over no node is ready
 pub all_over : (g : Topology) (root : ℕ) (marks : List Mark) (place : ℕ) (counts order : List ℕ) → IsUnderWay g root marks place 0 counts order

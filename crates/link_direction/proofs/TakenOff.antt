@@ -20,7 +20,7 @@ use Rattle.link_direction.specs.GadagOrder.{IsNextInOrder, Next}
 use Rattle.link_direction.proofs.Counts.{all_fail, none_counted, one_more, same_count, some_counted}
 use Rattle.link_direction.proofs.EnteredBy.{link_within, one_far_node, one_tail}
 use Rattle.link_direction.proofs.NextInOrder.{IsAtEnd, IsLastInto, is_next, still_left}
-use Rattle.link_direction.proofs.PassedEnds.{passed_cases, passed_here, passed_in_longer, passed_in_shorter, passed_more}
+use Rattle.link_direction.proofs.PassedEnds.{passed_cases, passed_here, passed_in_longer, passed_in_shorter, passed_more, still_under_way}
 
 -- an end of a node leads where its link does, to a node of the graph
 pub end_kept : (g : Topology) (x passed : ℕ) (end : End) → IsTopology g → IsEndOf g x passed end → IsEnd (length g.ids) g.links x end
@@ -93,26 +93,17 @@ counts_without left m n d v counts counts' are within is node set_there = record
 pub passed_by : (g : Topology) (root : ℕ) (marks : List Mark) (place passed : ℕ) (counts order : List ℕ) (x : ℕ) (end : End)
     → IsUnderWay g root marks place passed counts order → slice_get order place ≡ Some x → IsEndOf g x passed end
     → (IsCounted g marks end.link x end.to → ⊥) → IsUnderWay g root marks place (passed + 1) counts order
-passed_by g root marks place passed counts order x end state here end_here not_counted = record {
-  kept = state.kept;
-  ordered = state.ordered;
-  once = state.once;
-  within = state.within;
-  left = state.left;
-  are_counts = state.are_counts;
-  counted = state.counted;
-  not_passed = λ e u v left counted one. elim (passed_cases g order place passed e u x end here end_here one) [
-    | inl before ↦ state.not_passed e u v left counted before
-    | inr this ↦
-        let from_x : IsCounted g marks end.link x v =
-        subst (λ (w : ℕ). IsCounted g marks end.link w v) this.0 (subst (λ (d : ℕ). IsCounted g marks d u v) this.1 counted) in
-        let far : v ≡ end.to = one_far_node g marks end.link x v end.to from_x (end_kept g x passed end state.kept end_here).leads_on in
-        not_counted (subst (λ (w : ℕ). IsCounted g marks end.link x w) far from_x)
-  ];
-  or_passed = λ e u v counted. elim (state.or_passed e u v counted) [ inl left ↦ inl left | inr one ↦ inr (passed_more g order place passed e u one) ];
-  none_left = state.none_left;
-  all_listed = state.all_listed;
-}
+passed_by g root marks place passed counts order x end state here end_here not_counted =
+    still_under_way g root marks place passed place (passed + 1) counts order state
+    (λ e u v left counted one. elim (passed_cases g order place passed e u x end here end_here one) [
+      | inl before ↦ state.not_passed e u v left counted before
+      | inr this ↦
+          let from_x : IsCounted g marks end.link x v =
+          subst (λ (w : ℕ). IsCounted g marks end.link w v) this.0 (subst (λ (d : ℕ). IsCounted g marks d u v) this.1 counted) in
+          let far : v ≡ end.to = one_far_node g marks end.link x v end.to from_x (end_kept g x passed end state.kept end_here).leads_on in
+          not_counted (subst (λ (w : ℕ). IsCounted g marks end.link x w) far from_x)
+    ])
+    (λ e u v counted. elim (state.or_passed e u v counted) [ inl left ↦ inl left | inr one ↦ inr (passed_more g order place passed e u one) ])
 
 -- what holds where a counted link is taken off
 record AreLinksLess (g : Topology) (root : ℕ) (marks : List Mark) (place passed : ℕ) (order : List ℕ) (left : ℕ → Option ℕ) : Type 0 where

@@ -23,7 +23,7 @@ use Rattle.lowpoint_dfs.specs.SearchTree.{IsSearchTree}
 use Rattle.lowpoint_dfs.proofs.FoundInTurn.{listed_within, number_at}
 use Rattle.lowpoint_dfs.proofs.LowestSoFar.{lowest_more}
 use Rattle.lowpoint_dfs.proofs.LowpointsGiven.{AreGiven, one_more}
-use Rattle.lowpoint_dfs.proofs.SearchGoesOn.{beginning, finding, room_left}
+use Rattle.lowpoint_dfs.proofs.SearchGoesOn.{beginning, comes_to, finding, room_left}
 use Rattle.lowpoint_dfs.proofs.WholeTree.{numbered, whole_tree}
 
 -- the ends of a list lead inside, or a first one leads outside
@@ -126,16 +126,9 @@ lengthened g root nodes order here kept s it = record {
     end = it.open_at.end
 
     moved : IsSearching g root nodes order passed it.at
-    moved = record {
-      searched = s.searched;
-      one_each = s.one_each;
-      one_place_each = s.one_place_each;
-      left = s.left;
-      listed = s.listed;
-      passed_ends = s.passed_ends;
-      here_listed = contains_at order it.place it.at it.there;
-      later_done = λ k v late at. it.latest k v (omega (arith, late, number_at g root nodes order s.searched it.place it.at it.there)) at;
-    }
+    moved =
+        comes_to g root nodes order passed _ it.at s (contains_at order it.place it.at it.there)
+        (λ k v late at. it.latest k v (omega (arith, late, number_at g root nodes order s.searched it.place it.at it.there)) at)
 
     found : LeadToFound nodes it.ends 0 it.open_at.place
     found k one from early at =

@@ -209,6 +209,21 @@ parent_here g root nodes order passed here kept s other =
       | inr it ↦ found_has_parent g root nodes order here_at.0 here kept s.searched here_at.1 it
     ]
 
+-- the search goes on at another node that is listed
+pub comes_to : (g : Topology) (root : ℕ) (nodes : List TreeNode) (order passed : List ℕ) (here there : ℕ) → IsSearching g root nodes order passed here
+    → Contains order there → ((k v : ℕ) → number_of nodes there ≤ k → slice_get order k ≡ Some v → IsDone g order v)
+    → IsSearching g root nodes order passed there
+comes_to g root nodes order passed here there s is_listed done = record {
+  searched = s.searched;
+  one_each = s.one_each;
+  one_place_each = s.one_place_each;
+  left = s.left;
+  listed = s.listed;
+  passed_ends = s.passed_ends;
+  here_listed = is_listed;
+  later_done = done;
+}
+
 -- the search goes back
 pub going_back : (g : Topology) (root : ℕ) (nodes : List TreeNode) (order passed : List ℕ) (here place up : ℕ) (ends : List End) → IsTopology g
     → IsSearching g root nodes order passed here → slice_get g.ends here ≡ Some ends → LeadToFound nodes ends 0 place → length ends ≤ place → here ≢ root
@@ -227,31 +242,23 @@ going_back g root nodes order passed here place up ends kept s list found all ot
     back k here_at it same =
         let up_at : slice_get order it.next.place ≡ Some up =
         subst (λ (w : ℕ). slice_get order it.next.place ≡ Some w) same (it.stays it.next.place it.next.at it.next.there) in
-        record {
-          searched = s.searched;
-          one_each = s.one_each;
-          one_place_each = s.one_place_each;
-          left = s.left;
-          listed = s.listed;
-          passed_ends = s.passed_ends;
-          here_listed = contains_at order it.next.place up up_at;
-          later_done = λ j v late v_at.
-              let after : it.next.place < j = omega (arith, late, number_at g root nodes order s.searched it.next.place up up_at) in
-              elim (cases_lt j k) [
-                | inl early ↦
-                    let w = there it.before j (omega (arith, early, it.count)) in
-                    let one : w.0 ≡ v = same_Some w.0 v (sym (it.stays j w.0 w.1) ∙ v_at) in
-                    done_still g it.before order v
-                    (λ x c. let x_at = place_of it.before x c in contains_at order x_at.0 x (it.stays x_at.0 x x_at.1))
-                    (it.next.latest j v after (subst (λ (x : ℕ). slice_get it.before j ≡ Some x) one w.1))
-                | inr later ↦ elim (cases_lt k j) [
-                  | inl past ↦ s.later_done j v (omega (arith, past, number_at g root nodes order s.searched k here here_at)) v_at
-                  | inr now ↦
-                      let v_here : slice_get order k ≡ Some v = subst (λ (i : ℕ). slice_get order i ≡ Some v) (omega (arith, later, now)) v_at in
-                      subst (λ (w : ℕ). IsDone g order w) (same_Some here v (sym here_at ∙ v_here)) (done_here g root nodes order passed here place ends s list found all)
-                ]
-              ];
-        }
+        comes_to g root nodes order passed here up s (contains_at order it.next.place up up_at)
+        (λ j v late v_at.
+        let after : it.next.place < j = omega (arith, late, number_at g root nodes order s.searched it.next.place up up_at) in
+        elim (cases_lt j k) [
+          | inl early ↦
+              let w = there it.before j (omega (arith, early, it.count)) in
+              let one : w.0 ≡ v = same_Some w.0 v (sym (it.stays j w.0 w.1) ∙ v_at) in
+              done_still g it.before order v
+              (λ x c. let x_at = place_of it.before x c in contains_at order x_at.0 x (it.stays x_at.0 x x_at.1))
+              (it.next.latest j v after (subst (λ (x : ℕ). slice_get it.before j ≡ Some x) one w.1))
+          | inr later ↦ elim (cases_lt k j) [
+            | inl past ↦ s.later_done j v (omega (arith, past, number_at g root nodes order s.searched k here here_at)) v_at
+            | inr now ↦
+                let v_here : slice_get order k ≡ Some v = subst (λ (i : ℕ). slice_get order i ≡ Some v) (omega (arith, later, now)) v_at in
+                subst (λ (w : ℕ). IsDone g order w) (same_Some here v (sym here_at ∙ v_here)) (done_here g root nodes order passed here place ends s list found all)
+          ]
+        ])
 
 -- where the search is, is a node of the graph
 pub here_within : (g : Topology) (root : ℕ) (nodes : List TreeNode) (order passed : List ℕ) (here : ℕ) → IsTopology g → root < length g.ids
