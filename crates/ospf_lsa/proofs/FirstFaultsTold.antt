@@ -42,27 +42,23 @@ same_told kind told o e f = cc
 told_none : (told : LsaKind) (o : Option LsaKind) → o ≡ None → o ≡ Some told → ⊥
 told_none told o e f = absurd cc
 
+-- no fault comes before the first
+none_first : (bytes : List ℕ) → NoneBefore 0 bytes
+none_first bytes = record {
+  truncated = λ lt. absurd (omega (arith, lt));
+  short = λ lt. absurd (omega (arith, lt));
+  checksum = λ lt. absurd (omega (arith, lt));
+  sequence = λ lt. absurd (omega (arith, lt));
+  id = λ lt. absurd (omega (arith, lt));
+  body = λ lt. absurd (omega (arith, lt));
+  few = omega arith;
+}
+
 header_first : (bytes : List ℕ) (told : LsaKind) → header_fault bytes ≡ Some told → HasFirstFault told bytes
 header_first bytes told e = elim (cases_lt (length bytes) 20) [
-  | inl short ↦ told_so kinds.Truncated (short_told bytes short) (inl short) (record {
-    truncated = λ lt. absurd (omega (arith, lt));
-    short = λ lt. absurd (omega (arith, lt));
-    checksum = λ lt. absurd (omega (arith, lt));
-    sequence = λ lt. absurd (omega (arith, lt));
-    id = λ lt. absurd (omega (arith, lt));
-    body = λ lt. absurd (omega (arith, lt));
-    few = omega arith;
-  })
+  | inl short ↦ told_so kinds.Truncated (short_told bytes short) (inl short) (none_first bytes)
   | inr long ↦ elim (cases_lt (length bytes) (length_field bytes)) [
-    | inl cut ↦ told_so kinds.Truncated (cut_told bytes long cut) (inr cut) (record {
-      truncated = λ lt. absurd (omega (arith, lt));
-      short = λ lt. absurd (omega (arith, lt));
-      checksum = λ lt. absurd (omega (arith, lt));
-      sequence = λ lt. absurd (omega (arith, lt));
-      id = λ lt. absurd (omega (arith, lt));
-      body = λ lt. absurd (omega (arith, lt));
-      few = omega arith;
-    })
+    | inl cut ↦ told_so kinds.Truncated (cut_told bytes long cut) (inr cut) (none_first bytes)
     | inr within ↦ elim (cases_lt (length_field bytes) 20) [
       | inl little ↦ told_so kinds.Length (length_told bytes long within little) little (record {
         truncated = λ lt fault. elim fault
@@ -86,21 +82,16 @@ header_first bytes told e = elim (cases_lt (length bytes) 20) [
         subst (λ (k : LsaKind). HasFirstFault k bytes) (same_told kind told (header_fault bytes) is e)
         (first_of kind bytes fault none)
 
+    passes : (whole : IsWhole bytes) → is_good (covered_bytes bytes) (checksum_field bytes) ≡ true → sequence_field bytes ≢ 2 ^ 31
+        → (type_field bytes ≡ 1 → id_field bytes ≡ router_field bytes) → HasFirstFault told bytes
+    passes whole good kept own =
+        absurd (told_none told (header_fault bytes)
+        (header_passes bytes (record { long = whole.long; within = whole.within; least = whole.least; good = good; not_reserved = kept; own_id = own })) e)
+
     by_id : (whole : IsWhole bytes) → is_good (covered_bytes bytes) (checksum_field bytes) ≡ true
         → sequence_field bytes ≢ 2 ^ 31 → (type_field bytes ≡ 1) → HasFirstFault told bytes
     by_id whole good kept router = elim (eqb_tells (id_field bytes) (router_field bytes)) [
-      | inl same ↦
-          absurd (told_none told (header_fault bytes)
-          (header_passes bytes
-          (record {
-            long = whole.long;
-            within = whole.within;
-            least = whole.least;
-            good = good;
-            not_reserved =
-                kept;
-            own_id = λ is. same.1;
-          })) e)
+      | inl same ↦ passes whole good kept (λ is. same.1)
       | inr other ↦ told_so kinds.IdMismatch (router_told bytes whole good kept router other.1) (router, other.1)
           (record {
             truncated = λ lt fault. elim fault
@@ -129,18 +120,7 @@ header_first bytes told e = elim (cases_lt (length bytes) 20) [
       })
       | inr kept ↦ elim (eqb_tells (type_field bytes) 1) [
         | inl router ↦ by_id whole good kept.1 router.1
-        | inr other ↦
-            absurd (told_none told (header_fault bytes)
-            (header_passes bytes
-            (record {
-              long = whole.long;
-              within = whole.within;
-              least = whole.least;
-              good = good;
-              not_reserved =
-                  kept.1;
-              own_id = λ is. absurd (other.1 is);
-            })) e)
+        | inr other ↦ passes whole good kept.1 (λ is. absurd (other.1 is))
       ]
     ]
 
