@@ -61,14 +61,6 @@ all_pieces stream (piece ∷ pieces) =
     ap (λ (it : Progress). fed_all it pieces) (fed_seen stream piece) ∙ all_pieces (stream ++ piece) pieces
     ∙ ap seen (append_assoc stream piece (flat_map (λ it. it) pieces))
 
-seen_err_by : (stream : List ℕ) (fault : ℕ × CertKind) (found : Option (ℕ × CertKind)) → ◌≡◌ {A = Progress} (option_map_or (λ it. Err it) found (Ok stream)) (Err fault) → found ≡ Some fault
-seen_err_by stream fault None e = absurd cc
-seen_err_by stream fault (Some other) e = ap Some cc
-
--- a fault that is seen is certain
-pub seen_err : (stream : List ℕ) (fault : ℕ × CertKind) → seen stream ≡ Err fault → certain_fault stream ≡ Some fault
-seen_err stream fault e = seen_err_by stream fault (certain_fault stream) e
-
 seen_ok_by : (stream other : List ℕ) (found : Option (ℕ × CertKind)) → ◌≡◌ {A = Progress} (option_map_or (λ it. Err it) found (Ok stream)) (Ok other) → stream ≡ other
 seen_ok_by stream other None e = cc
 seen_ok_by stream other (Some fault) e = absurd cc

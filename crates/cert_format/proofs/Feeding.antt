@@ -9,7 +9,7 @@ use Rattle.cert_format.specs.Held.{Fills, held_of}
 use Rattle.cert_format.specs.Parts.{Parts, AreParts, text_of, next_size}
 use Rattle.cert_format.specs.Reading.{Rest, rest_of}
 use Rattle.cert_format.specs.Stream.{certain_fault}
-use Rattle.cert_format.specs.Taking.{Takes, TookParts, IsTail, Follows, ReadsCut, ReadsOn, TakesAll, TookAll}
+use Rattle.cert_format.specs.Taking.{Takes, TookParts, IsTail, Follows, ReadsCut, ReadsOn, TakesAll}
 use Rattle.cert_format.proofs.Certain.{certain_stays}
 use Rattle.cert_format.proofs.Taking.{grew_none, grew_then}
 
@@ -76,8 +76,3 @@ cut_whole old new held piece rest before after now place took e within is_place 
 pub on_err : (old mid new : Parts) (held piece : List ℕ) (before : Rest) (now : Held) (e : CertError) → Follows old held piece mid before.bytes → TakesAll mid before new (Err e) → ReadsOn old held piece new now (Err e)
 on_err old mid new held piece before now (errors.Fault a kind) follows takes = ap certain_fault (sym follows.stream) ∙ takes
 on_err old mid new held piece before now errors.NoMemory follows takes = grew_then old mid new follows.grew takes
-
-pub on_ok : (old mid new : Parts) (held piece : List ℕ) (before after : Rest) (now : Held) → Follows old held piece mid before.bytes → TookAll mid before new after → held_of now ≡ after.bytes → now.len ≤ 14
-    → ReadsOn old held piece new now (Ok tt)
-on_ok old mid new held piece before after now follows took is few =
-    rw is (record { are = took.are; grew = grew_then old mid new follows.grew took.grew; stream = took.stream ∙ follows.stream }, took.tail, few)

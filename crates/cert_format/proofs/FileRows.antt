@@ -1,12 +1,10 @@
 -- The rows that stand in a file.
 use Rattle.std.proofs.Common.{◌≡◌, ◌∙◌, ◌==◌, ◌<◌, ◌≤◌, ◌*◌, ◌-◌, ◌+◌, ◌++◌, ℕ, Bool, cond, take, drop, length-append, true, false, not, List, [], ◌∷◌, Some, filter, length, map, get_or, slice_get, inl, inr, refl, sym, ap, arith}
 use Rattle.std.proofs.lemmas.Bool.{cases_Bool, cases_eq, eq-eqb, false≢true, ne_eqb}
-use Rattle.std.proofs.lemmas.List.{append-nil, take-append-drop, flat_map_more, same_lists, length-map}
+use Rattle.std.proofs.lemmas.List.{take-append-drop, same_lists, length-map}
 use Rattle.std.proofs.lemmas.List.Elements.{filter-append, filter_more}
-use Rattle.std.proofs.lemmas.List.Sums.{count_by-le-length, length-filter}
-use Rattle.cert_format.specs.CertText.{row_text}
 use Rattle.std.proofs.lemmas.Option.{get_or_from_slice_get, slice_get-map}
-use Rattle.std.specs.List.{AllByRecursion, flat_map}
+use Rattle.std.specs.List.{AllByRecursion}
 use Rattle.std.specs.Option.{option_map}
 use Rattle.mrt_graph.specs.declared.cert.CertFile.{CertFile}
 use Rattle.mrt_graph.specs.declared.cert.Row.{Row}
@@ -94,22 +92,6 @@ stand_more version rows i row within is =
     filter_more (stands_in version) rows i row within
     ∙ ap (λ (it : Row). rows_in version (take i rows) ++ cond (stands_in version it) (it ∷ []) []) (sym is)
 
-pub texts_stand : (version : ℕ) (rows : List Row) (i : ℕ) (row : Row) (before now piece after : List ℕ) → i < length rows → row ≡ get_or rows i row
-    → stands_in version row ≡ true → now ≡ before ++ flat_map row_text (rows_in version (take i rows)) → piece ≡ row_text row → after ≡ now ++ piece
-    → after ≡ before ++ flat_map row_text (rows_in version (take (i + 1) rows))
-texts_stand version rows i row before now piece after within is stands so_far here e =
-    let more : rows_in version (take (i + 1) rows) ≡ rows_in version (take i rows) ++ row ∷ [] =
-    stand_more version rows i row within is ∙ ap (λ (b : Bool). rows_in version (take i rows) ++ cond b (row ∷ []) []) stands in
-    rw (e, so_far, here, more) (flat_map_more row_text before (rows_in version (take i rows)) row)
-
-pub texts_left : (version : ℕ) (rows : List Row) (i : ℕ) (row : Row) (before now : List ℕ) → i < length rows → row ≡ get_or rows i row
-    → stands_in version row ≡ false → now ≡ before ++ flat_map row_text (rows_in version (take i rows))
-    → now ≡ before ++ flat_map row_text (rows_in version (take (i + 1) rows))
-texts_left version rows i row before now within is left so_far =
-    let more : rows_in version (take (i + 1) rows) ≡ rows_in version (take i rows) ++ [] =
-    stand_more version rows i row within is ∙ ap (λ (b : Bool). rows_in version (take i rows) ++ cond b (row ∷ []) []) left in
-    so_far ∙ ap (λ (it : List Row). before ++ flat_map row_text it) (sym (more ∙ append-nil (rows_in version (take i rows))))
-
 pub more_stand : (version : ℕ) (rows : List Row) (i : ℕ) (row : Row) → i < length rows → row ≡ get_or rows i row → stands_in version row ≡ true
     → length (rows_in version (take (i + 1) rows)) ≡ length (rows_in version (take i rows)) + 1
 more_stand version rows i row within is stands =
@@ -117,19 +99,9 @@ more_stand version rows i row within is stands =
     stand_more version rows i row within is ∙ ap (λ (b : Bool). rows_in version (take i rows) ++ cond b (row ∷ []) []) stands in
     ap length more ∙ length-append (rows_in version (take i rows)) (row ∷ [])
 
-pub none_stand : (version : ℕ) (rows : List Row) (i : ℕ) (row : Row) → i < length rows → row ≡ get_or rows i row → stands_in version row ≡ false
-    → length (rows_in version (take (i + 1) rows)) ≡ length (rows_in version (take i rows))
-none_stand version rows i row within is left =
-    let more : rows_in version (take (i + 1) rows) ≡ rows_in version (take i rows) ++ [] =
-    stand_more version rows i row within is ∙ ap (λ (b : Bool). rows_in version (take i rows) ++ cond b (row ∷ []) []) left in
-    ap length (more ∙ append-nil (rows_in version (take i rows)))
-
 -- two lists of rows, one after the other
 pub stand_both : (version : ℕ) (rows more : List Row) → rows_in version (rows ++ more) ≡ rows_in version rows ++ rows_in version more
 stand_both version rows more = filter-append (stands_in version) rows more
-
-pub few_stand : (version : ℕ) (rows : List Row) → length (rows_in version rows) ≤ length rows
-few_stand version rows = omega (arith, length-filter (stands_in version) rows, count_by-le-length (stands_in version) rows)
 
 pub stand_within : (version : ℕ) (rows : List Row) (i : ℕ) → length (rows_in version (take i rows)) ≤ length (rows_in version rows)
 stand_within version rows i =

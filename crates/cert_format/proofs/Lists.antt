@@ -31,9 +31,6 @@ pub record Repeats {A : Type 0} (text : A → List ℕ) (Keeps : A → Type 0) (
   pub so : IsListOf count Keeps xs
   pub placed : rest.at ≡ start.at + size * count
 
-pub repeats_none : {A : Type 0} (text : A → List ℕ) (Keeps : A → Type 0) (size : ℕ) (start : Rest) → Repeats text Keeps size 0 [] start start
-repeats_none text Keeps size start = record { took = record { parts = refl; place = omega arith }; so = record { many = refl; each = tt }; placed = omega arith }
-
 pub repeats_more : {A : Type 0} (part : Form → Form) (text : A → List ℕ) (Keeps : A → Type 0) (size count : ℕ) (xs : List A) (x : A) (start rest after : Rest) → IsPart part text Keeps size
     → Repeats text Keeps size count xs start rest → Took (text x) rest after → Keeps x → Repeats text Keeps size (count + 1) (xs ++ x ∷ []) start after
 repeats_more part text Keeps size count xs x start rest after is so_far took here =

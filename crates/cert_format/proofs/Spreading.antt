@@ -104,12 +104,6 @@ spread_far marks near rows q left is marked =
           ∙ ap (λ (b : Bool). b ∷ drop (q + 1) marks) (sym marked) ∙ sym (drop_more marks q false inside);
     }
 
--- all rows are at their places
-pub spread_end : (nodes : List CertNode) (near rows : List Row) (left : ℕ) → IsSpreading (marks_of nodes) near rows 0 left → AreSpread nodes near rows
-spread_end nodes near rows left is =
-    let none : left ≡ 0 = is.counted in
-    record { same = is.back ∙ ap (λ (k : ℕ). drop k near) none; marks = is.tests }
-
 -- the place of the row of s for t, from the one after it
 abbrev pub place_before : ℕ → ℕ → ℕ → ℕ
 place_before n s t = s * (n - 1) + (if nat_lt s t then t - 1 else t)
@@ -144,9 +138,6 @@ pub place_first : (n s : ℕ) → s < n → place_before n s n ≡ (s + 1) * (n 
 place_first n s within =
     let product : (s + 1) * (n - 1) ≡ s * (n - 1) + (n - 1) = grind arith in
     rw (lt-ltb s n within) (sym product)
-
-pub place_last : (n s : ℕ) → place_before n s 0 ≡ s * (n - 1)
-place_last n s = rw (le-ltb s 0 (omega arith)) (omega arith)
 
 -- the mark of a pair
 pub mark_at : (nodes : List CertNode) (s t : ℕ) → s < length nodes → t < length nodes → t ≢ s
