@@ -55,18 +55,7 @@ module _ (area : AreaParts) (kept : IsArea area) where
         let words = some_words s t lfa.0 lfa.1 in
         let line = node_text id.0 ++ codes " primary " ++ hop.0 ++ codes " lfa " ++ words.0 ++ codes "\n" in (
           line,
-          Line primary line is
-              (record {
-                id = id.0;
-                id_is = id.1;
-                hop = hop.0;
-                hop_is = hop.1;
-                lfa = lfa.0;
-                lfa_is = lfa.1;
-                words = words.0;
-                words_are = words.1;
-                spelled = refl;
-              }),
+          Line primary line is (record { id = id.0; id_is = id.1; hop = hop.0; hop_is = hop.1; lfa = lfa.0; lfa_is = lfa.1; words = words.0; words_are = words.1; spelled = refl }),
         )
 
     pub some_text : (text : List ℕ) × IsLfaText area s text

@@ -142,15 +142,7 @@ some_survey number g root c is =
           ++ (block_line blocks.0 (length (filter (λ link. is_sole link.role) c.links)) separating.0
           ++ (row_line (length (filter is_near c.rows)) (length (filter is_carried c.rows))
           ++ sum_line (sum_by (λ row. row.blue) c.rows) (sum_by (λ row. row.red) c.rows))),
-      record {
-        root_id = id.0;
-        root_is = id.1;
-        blocks = blocks.0;
-        blocks_are = blocks.1;
-        separating = separating.0;
-        separating_are = separating.1;
-        spelled = refl;
-      },
+      record { root_id = id.0; root_is = id.1; blocks = blocks.0; blocks_are = blocks.1; separating = separating.0; separating_are = separating.1; spelled = refl },
     )
   where
     separates_or_not : (x : ℕ) → Decided (SeparatesTwo g.links (length g.ids) x)

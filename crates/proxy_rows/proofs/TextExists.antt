@@ -64,17 +64,7 @@ module _ (g : Topology) (kept : IsTopology g) where
       let blue = some_out s row.0.blue within (touch.blue s row.0 row.1) in
       let red = some_out s row.0.red within (touch.red s row.0 row.1) in (
         node_text id.0 ++ codes " blue " ++ blue.0 ++ codes " red " ++ red.0 ++ codes "\n",
-        record {
-          id = id.0;
-          id_is = id.1;
-          row = row.0;
-          row_is = row.1;
-          blue = blue.0;
-          blue_is = blue.1;
-          red = red.0;
-          red_is = red.1;
-          spelled = refl;
-        },
+        record { id = id.0; id_is = id.1; row = row.0; row_is = row.1; blue = blue.0; blue_is = blue.1; red = red.0; red_is = red.1; spelled = refl },
       )
 
   pub text_or_none : (root : ℕ) (c : Certificate) (a b : ℕ) → IsAcceptedFor g c → root < length g.ids → a < length g.ids → b < length g.ids → a ≢ b
