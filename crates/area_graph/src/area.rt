@@ -1,11 +1,8 @@
 //! Areas.
 
 ghost use Rattle.std.specs.Prelude.{◌≡◌, ◌<◌, ◌==◌};
-ghost use Rattle.std.specs.List.{filter, find};
-ghost use Rattle.std.specs.Option.{option_map};
-ghost use Rattle.std.specs.List.Sorted.{IsSorted};
-ghost use Rattle.area_graph.specs.AreaInvariant.{by_tail_cmp};
-ghost use Rattle.area_graph.specs.Starts.{AreStarts};
+ghost use Rattle.std.specs.{List.filter, List.find, Option.option_map, List.Sorted.IsSorted};
+ghost use Rattle.area_graph.specs.{AreaInvariant.by_tail_cmp, Starts.AreStarts};
 
 use crate::area_types::{Arc, Bond};
 use crate::numbers::{ArcNo, BondNo, Spot};
@@ -29,9 +26,7 @@ pub struct Area {
 
 impl Model for Area {
     ghost use Rattle.std.specs.Prelude.{length};
-    ghost use Rattle.area_graph.specs.AreaInvariant.{IsArea};
-    ghost use Rattle.area_graph.specs.Parts.{AreaParts};
-    ghost use Rattle.area_graph.specs.Starts.{AreStarts};
+    ghost use Rattle.area_graph.specs.{AreaInvariant.IsArea, Parts.AreaParts, Starts.AreStarts};
 
     ghost Value = { AreaParts };
 
@@ -43,8 +38,7 @@ impl Model for Area {
 impl Area {
     ghost use Rattle.std.specs.Prelude.{◌≡◌, ◌<◌, ◌==◌, ◌↔◌, IfSome, IsNone, Some, Contains, length, slice_get};
     ghost use Rattle.std.specs.List.{AllByRecursion, filter};
-    ghost use Rattle.area_graph.specs.AreaInvariant.{IsArc, IsArea};
-    ghost use Rattle.area_graph.specs.Named.{IsNamed, bond_named};
+    ghost use Rattle.area_graph.specs.{AreaInvariant.IsArc, AreaInvariant.IsArea, Named.IsNamed, Named.bond_named};
 
     /// An area of these parts.
     pub(crate) fn of_parts(

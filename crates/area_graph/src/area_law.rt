@@ -3,11 +3,8 @@
 ghost use Rattle.std.specs.Prelude.{List, length};
 ghost use Rattle.std.specs.List.{AllByRecursion};
 ghost use Rattle.ospf_lsa.specs.declared.lsa.Lsa.{Lsa};
-ghost use Rattle.lsdb.specs.Installing.{IsKept};
-ghost use Rattle.lsdb.specs.Orders.{newest_in};
-ghost use Rattle.area_graph.specs.AreaInvariant.{IsArea};
-ghost use Rattle.area_graph.specs.AreaOf.{area_of};
-ghost use Rattle.area_graph.specs.AreaSize.{IsTooLarge};
+ghost use Rattle.lsdb.specs.{Installing.IsKept, Orders.newest_in};
+ghost use Rattle.area_graph.specs.{AreaInvariant.IsArea, AreaOf.area_of, AreaSize.IsTooLarge};
 
 /// A law: the newest ones of records that may stand in a database give an area that keeps what each area keeps, where
 /// it has at most as many nodes and arcs as an area may have.

@@ -3,8 +3,7 @@
 ghost use Rattle.std.specs.Prelude.{◌≡◌, List};
 ghost use Rattle.std.specs.List.{AllByRecursion};
 ghost use Rattle.ospf_lsa.specs.declared.lsa.Lsa.{Lsa};
-ghost use Rattle.lsdb.specs.Installing.{IsKept};
-ghost use Rattle.lsdb.specs.Newest.{IsSettled};
+ghost use Rattle.lsdb.specs.{Installing.IsKept, Newest.IsSettled};
 ghost use Rattle.lsdb.specs.Orders.{newest_in, AreReordered, HoldTheSame};
 ghost use Rattle.area_graph.specs.AreaOf.{area_of};
 

@@ -1,14 +1,10 @@
 //! What the LSAs of an area list.
 
 ghost use Rattle.std.specs.Prelude.{◌≡◌, IfOk, IfErr};
-ghost use Rattle.std.specs.List.{AllByRecursion};
-ghost use Rattle.std.specs.List.Sorted.{IsStrictlySortedBy};
+ghost use Rattle.std.specs.{List.AllByRecursion, List.Sorted.IsStrictlySortedBy};
 ghost use Rattle.mrt_graph.specs.NodeOrder.{node_id_cmp};
-ghost use Rattle.lsdb.specs.Installing.{IsKept};
-ghost use Rattle.lsdb.specs.Keys.{AreDistinct};
-ghost use Rattle.area_graph.specs.NumberedEntries.{entries as all_entries};
-ghost use Rattle.area_graph.specs.Listed.{AreEntries};
-ghost use Rattle.area_graph.specs.Nodes.{nodes};
+ghost use Rattle.lsdb.specs.{Installing.IsKept, Keys.AreDistinct};
+ghost use Rattle.area_graph.specs.{NumberedEntries.entries as all_entries, Listed.AreEntries, Nodes.nodes};
 
 use crate::area_error::AreaError;
 use crate::entries::entries;

@@ -1,11 +1,9 @@
 //! Which LSA speaks for each node.
 
 ghost use Rattle.std.specs.Prelude.{◌≡◌, not, IfOk, IfErr, map};
-ghost use Rattle.std.specs.List.{AllByRecursion, AllZip};
-ghost use Rattle.std.specs.List.Sorted.{IsStrictlySortedBy};
+ghost use Rattle.std.specs.{List.AllByRecursion, List.AllZip, List.Sorted.IsStrictlySortedBy};
 ghost use Rattle.mrt_graph.specs.NodeOrder.{node_id_cmp};
-ghost use Rattle.lsdb.specs.Installing.{IsKept};
-ghost use Rattle.lsdb.specs.Keys.{AreDistinct};
+ghost use Rattle.lsdb.specs.{Installing.IsKept, Keys.AreDistinct};
 ghost use Rattle.ospf_lsa.specs.MaxAge.{is_at_max_age};
 ghost use Rattle.area_graph.specs.Nodes.{node_of, live, speakers as all_speakers};
 ghost use Rattle.area_graph.specs.Speaking.{IsSpeakerOf};

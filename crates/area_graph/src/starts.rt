@@ -2,8 +2,7 @@
 
 ghost use Rattle.std.specs.Prelude.{◌≡◌, ◌<◌, ◌≤◌, ◌+◌, IfOk, IfErr, length};
 ghost use Rattle.std.specs.List.Sorted.{IsSorted};
-ghost use Rattle.area_graph.specs.AreaInvariant.{by_tail_cmp};
-ghost use Rattle.area_graph.specs.Starts.{AreStarts, below};
+ghost use Rattle.area_graph.specs.{AreaInvariant.by_tail_cmp, Starts.AreStarts, Starts.below};
 
 use crate::area_error::AreaError;
 use crate::area_types::Arc;

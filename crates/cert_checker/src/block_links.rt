@@ -3,7 +3,7 @@
 ghost use Rattle.std.specs.Prelude.{◌≡◌, ◌==◌, ◌<◌, ◌&&◌, length, nat_le, not};
 ghost use Rattle.std.specs.List.{list_all};
 ghost use Rattle.cert_checker.specs.Found.{FoundFirst};
-ghost use Rattle.mrt_graph.specs.CertWords.{links_of, members};
+ghost use Rattle.mrt_graph.specs.{CertWords.links_of, CertWords.members, Places.Each, Roles.is_closing, Roles.is_sole};
 ghost use Rattle.mrt_graph.specs.HeadsAndBlocks.{
   lone_block,
   lone_if_one_link,
@@ -13,8 +13,6 @@ ghost use Rattle.mrt_graph.specs.HeadsAndBlocks.{
   joins_greatest,
   is_greatest_of,
 };
-ghost use Rattle.mrt_graph.specs.Places.{Each};
-ghost use Rattle.mrt_graph.specs.Roles.{is_closing, is_sole};
 
 use crate::heads::is_like_before;
 use mrt_graph::{Cert, CertLink, NodeNo, Role};

@@ -1,17 +1,8 @@
 //! The third and the fourth rule: heads, and the blocks of links.
 
 ghost use Rattle.std.specs.Prelude.{ℕ, IsTrue, ◌≡◌, ◌<◌, Some, MatchOption, length};
-ghost use Rattle.cert_checker.specs.Found.{FoundFirst};
-ghost use Rattle.cert_checker.specs.LikeBefore.{IsLikeBefore};
-ghost use Rattle.mrt_graph.specs.HeadsAndBlocks.{
-  HeadFails,
-  HeadFault,
-  HeadHoldsAt,
-  HeadsHold,
-  link_placed,
-  one_head,
-  placed,
-};
+ghost use Rattle.cert_checker.specs.{Found.FoundFirst, LikeBefore.IsLikeBefore};
+ghost use Rattle.mrt_graph.specs.HeadsAndBlocks.{HeadFails, HeadFault, HeadHoldsAt, HeadsHold, link_placed, one_head, placed};
 ghost use Rattle.mrt_graph.specs.Related.{is_common_block};
 
 use crate::fault_at::FaultAt;

@@ -4,8 +4,7 @@
 ghost use Rattle.std.specs.Prelude.{◌≡◌, ◌<◌, IfSome, length};
 ghost use Rattle.std.specs.Option.{option_map};
 ghost use Rattle.cert_checker.specs.KnownNode.{IsHop};
-ghost use Rattle.mrt_graph.specs.Leads.{leads};
-ghost use Rattle.mrt_graph.specs.SameGraph.{SameCounts};
+ghost use Rattle.mrt_graph.specs.{Leads.leads, SameGraph.SameCounts};
 
 use crate::known_node::{KnownNode, known_node};
 use crate::row_words::far_end;

@@ -2,10 +2,7 @@
 
 ghost use Rattle.std.specs.Prelude.{◌≡◌, ◌<◌, ◌↔◌, ℕ, length};
 ghost use Rattle.cert_checker.specs.Judged.{Judged};
-ghost use Rattle.mrt_graph.specs.Accepted.{Accepted};
-ghost use Rattle.mrt_graph.specs.Certificate.{row_of};
-ghost use Rattle.mrt_graph.specs.FirstFault.{FirstFault};
-ghost use Rattle.mrt_graph.specs.Sound.{Sound};
+ghost use Rattle.mrt_graph.specs.{Accepted.Accepted, Certificate.row_of, FirstFault.FirstFault, Sound.Sound};
 
 use crate::block_links::{first_closed_fault, first_lone_fault};
 use crate::heads::{first_misplaced_link, head_fault};

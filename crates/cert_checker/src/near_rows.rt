@@ -1,8 +1,7 @@
 //! The rules on rows between related nodes, by the nodes to which a row's two links lead.
 
 ghost use Rattle.std.specs.Prelude.{◌≡◌, ◌<◌, length};
-ghost use Rattle.cert_checker.specs.KnownNode.{IsKnown};
-ghost use Rattle.cert_checker.specs.RowAt.{IsNearRowAt};
+ghost use Rattle.cert_checker.specs.{KnownNode.IsKnown, RowAt.IsNearRowAt};
 ghost use Rattle.mrt_graph.specs.RowRules.{
   above_row,
   below_row,

@@ -2,14 +2,9 @@
 
 ghost use Rattle.std.specs.Prelude.{◌≡◌, ◌<◌, IfSome, false, length};
 ghost use Rattle.std.specs.Option.{option_map, option_map_or};
-ghost use Rattle.cert_checker.specs.KnownNode.{AreHops, IsKnown};
-ghost use Rattle.cert_checker.specs.RowAt.{IsRowAt};
-ghost use Rattle.mrt_graph.specs.declared.cert.Tag.TheVariants.{Carried};
-ghost use Rattle.mrt_graph.specs.BothThere.{both};
-ghost use Rattle.mrt_graph.specs.Certificate.{row_of};
+ghost use Rattle.cert_checker.specs.{KnownNode.AreHops, KnownNode.IsKnown, RowAt.IsRowAt};
+ghost use Rattle.mrt_graph.specs.{declared.cert.Tag.TheVariants.Carried, BothThere.both, Certificate.row_of, SameGraph.SameCounts, Tags.same_tag};
 ghost use Rattle.mrt_graph.specs.RowRules.{carried_row, near_row, row_rule, same_links};
-ghost use Rattle.mrt_graph.specs.SameGraph.{SameCounts};
-ghost use Rattle.mrt_graph.specs.Tags.{same_tag};
 
 use crate::hops::{Hop, Hops, hop_by};
 use crate::known_node::KnownNode;

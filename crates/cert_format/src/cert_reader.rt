@@ -2,15 +2,10 @@
 
 ghost use Rattle.std.specs.Prelude.{◌≡◌, ◌≤◌, ◌++◌, ℕ, Ok, Err, IsOk, IfOk, IfErr, OnOk, Some, length};
 ghost use Rattle.mrt_graph.specs.declared.cert.CertFile.{CertFile};
-ghost use Rattle.cert_format.specs.declared.error.CertKind.{CertKind};
-ghost use Rattle.cert_format.specs.CertText.{cert_text};
-ghost use Rattle.cert_format.specs.Limits.{IsCertFile};
-ghost use Rattle.cert_format.specs.Stream.{end_fault, fed};
-ghost use Rattle.cert_format.specs.Held.{held_of};
+ghost use Rattle.cert_format.specs.{declared.error.CertKind.CertKind, CertText.cert_text, Limits.IsCertFile, Stream.end_fault, Stream.fed};
+ghost use Rattle.cert_format.specs.{Held.held_of, Room.HasRoom, Room.KeepsRoom, Finishing.Finishes};
 ghost use Rattle.cert_format.specs.Parts.{AreParts, parts_of, text_of};
-ghost use Rattle.cert_format.specs.Room.{HasRoom, KeepsRoom};
 ghost use Rattle.cert_format.specs.Taking.{IsTail, ReadsCut, ReadsOn, ReadsOrStays, fault_of_answer};
-ghost use Rattle.cert_format.specs.Finishing.{Finishes};
 
 use crate::error::{CertError, CertFault};
 use crate::held::Held;
@@ -39,11 +34,7 @@ pub struct CertReader {
 }
 
 impl Model for CertReader {
-    ghost use Rattle.cert_format.specs.Held.{held_of};
-    ghost use Rattle.cert_format.specs.Parts.{parts_of};
-    ghost use Rattle.cert_format.specs.Stream.{Progress};
-    ghost use Rattle.cert_format.specs.Progress.{IsReading, progress_of};
-    ghost use Rattle.cert_format.specs.Room.{HasRoom};
+    ghost use Rattle.cert_format.specs.{Held.held_of, Parts.parts_of, Stream.Progress, Progress.IsReading, Progress.progress_of, Room.HasRoom};
 
     ghost Value = { Progress };
 

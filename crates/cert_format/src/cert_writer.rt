@@ -2,12 +2,10 @@
 
 ghost use Rattle.std.specs.Prelude.{◌≡◌, ◌<◌, ◌≤◌, ◌+◌, ◌-◌, ◌^◌, ◌++◌, ℕ, List, [], Option, drop, length, IsOk, IfOk, IfErr, OnOk};
 ghost use Rattle.std.specs.List.{flat_map};
-ghost use Rattle.mrt_io.specs.Counts.{Rose};
-ghost use Rattle.mrt_io.specs.Writing.{Gained, GainedPart};
-ghost use Rattle.cert_format.specs.Buffer.{piece_length};
+ghost use Rattle.mrt_io.specs.{Counts.Rose, Writing.Gained, Writing.GainedPart};
+ghost use Rattle.cert_format.specs.{Buffer.piece_length, Versions.rows_in};
 ghost use Rattle.cert_format.specs.CertText.{header_text, link_text, node_text, row_text};
 ghost use Rattle.cert_format.specs.Putting.{IsFailedWithin, IsGiven, Puts, later_error, parts_text};
-ghost use Rattle.cert_format.specs.Versions.{rows_in};
 
 use crate::buffer::Buffer;
 use crate::writing::header_bytes;
@@ -31,8 +29,7 @@ pub struct CertWriter {
 }
 
 impl Model for CertWriter {
-    ghost use Rattle.cert_format.specs.Buffer.{IsBuffer, buffer_of};
-    ghost use Rattle.cert_format.specs.Putting.{Writer};
+    ghost use Rattle.cert_format.specs.{Buffer.IsBuffer, Buffer.buffer_of, Putting.Writer};
 
     ghost Value = { Writer };
 

@@ -3,11 +3,9 @@
 ghost use Rattle.std.specs.Prelude.{◌≡◌, ◌<◌, ◌≤◌, ◌^◌, ◌-◌, IfSome, false, codes};
 ghost use Rattle.std.specs.Option.{IfNone};
 ghost use Rattle.std.specs.Int.{w8, w16, w32, from_be_bytes};
-ghost use Rattle.cert_format.specs.CertText.{kind_number, role_number};
+ghost use Rattle.cert_format.specs.{CertText.kind_number, CertText.role_number, Reading.ReadsField, Versions.is_version};
 ghost use Rattle.mrt_graph.specs.Tags.{tag_number};
 ghost use Rattle.cert_format.specs.Layout.{any, exactly, known_version, within, tag};
-ghost use Rattle.cert_format.specs.Reading.{ReadsField};
-ghost use Rattle.cert_format.specs.Versions.{is_version};
 
 use crate::error::{CertFault, CertKind};
 use crate::rest::Rest;

@@ -2,9 +2,7 @@
 
 ghost use Rattle.std.specs.Prelude.{◌≡◌, ◌<◌, ◌≤◌, ◌+◌, ◌++◌, ℕ, [], ◌∷◌, IsTrue, IsFalse, false, true, length, not, slice_set, vec_capacity};
 ghost use Rattle.std.specs.List.{AllByRecursion, slice_index_or};
-ghost use Rattle.mrt_graph.specs.Certificate.{IsCertNode, certificate_of};
-ghost use Rattle.mrt_graph.specs.Foldable.{is_own_head};
-ghost use Rattle.mrt_graph.specs.Search.{IsMarked, unmarked};
+ghost use Rattle.mrt_graph.specs.{Certificate.IsCertNode, Certificate.certificate_of, Foldable.is_own_head, Search.IsMarked, Search.unmarked};
 ghost use Rattle.cert_format.specs.Folded.{least};
 ghost use Rattle.cert_format.specs.Placing.{IsClosed, IsHeeded, LooksDown, Places};
 

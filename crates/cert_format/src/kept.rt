@@ -2,16 +2,12 @@
 
 ghost use Rattle.std.specs.Prelude.{◌≡◌, ◌<◌, ◌≤◌, ◌+◌, ◌-◌, ◌*◌, ◌^◌, ◌++◌, Some, None, IfOk, IfErr, OnOk, length, take};
 ghost use Rattle.std.specs.Prelude.{vec_capacity};
-ghost use Rattle.cert_format.specs.FirstFault.{first_fault};
+ghost use Rattle.cert_format.specs.{FirstFault.first_fault, Marks.front_of, Marks.mark_of, Parts.next_size, Layout.head_place, Layout.row_form};
+ghost use Rattle.cert_format.specs.{Room.HasRoom, Room.KeepsRoom, Versions.all_rows};
 ghost use Rattle.std.specs.List.{AllByRecursion};
-ghost use Rattle.cert_format.specs.Marks.{front_of, mark_of};
 ghost use Rattle.cert_format.specs.Reading.{IsHeader, IsNode, Names};
 ghost use Rattle.cert_format.specs.Parts.{AreParts, IsBare, IsKnown, IsWhole, no_parts, parts_of, text_of, text_of_header};
-ghost use Rattle.cert_format.specs.Parts.{next_size};
 ghost use Rattle.cert_format.specs.Taking.{CutIn, CutOr, Ends, IsTail, Takes, TakesAll};
-ghost use Rattle.cert_format.specs.Layout.{head_place, row_form};
-ghost use Rattle.cert_format.specs.Room.{HasRoom, KeepsRoom};
-ghost use Rattle.cert_format.specs.Versions.{all_rows};
 
 use crate::error::{CertError, CertFault, CertKind};
 use crate::header::Header;

@@ -1,9 +1,8 @@
 //! Rows one after another, which are most of a certificate file.
 
 ghost use Rattle.std.specs.Prelude.{◌≡◌, ◌<◌, ◌≤◌, ◌+◌, ◌-◌, ◌*◌, ◌^◌, IfOk, IfErr, length, vec_len, vec_capacity};
-ghost use Rattle.cert_format.specs.CertText.{row_text};
+ghost use Rattle.cert_format.specs.{CertText.row_text, FirstFault.fault_in};
 ghost use Rattle.cert_format.specs.Layout.{Form, repeated, row_form};
-ghost use Rattle.cert_format.specs.FirstFault.{fault_in};
 ghost use Rattle.cert_format.specs.Reading.{IsFileRow, Names, TookMore};
 
 use crate::error::CertFault;

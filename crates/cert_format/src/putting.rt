@@ -1,10 +1,8 @@
 //! Certificate files that can be written to a sink.
 
 ghost use Rattle.std.specs.Prelude.{◌≡◌, ◌-◌, ◌≤◌, ℕ, length, IsOk, IfOk, IfErr, OnOk};
-ghost use Rattle.mrt_io.specs.Counts.{Rose};
-ghost use Rattle.mrt_io.specs.Writing.{Gained, GainedPart};
-ghost use Rattle.cert_format.specs.CertText.{cert_text};
-ghost use Rattle.cert_format.specs.Limits.{IsCertFile, IsOfVersion};
+ghost use Rattle.mrt_io.specs.{Counts.Rose, Writing.Gained, Writing.GainedPart};
+ghost use Rattle.cert_format.specs.{CertText.cert_text, Limits.IsCertFile, Limits.IsOfVersion};
 
 use crate::cert_writer::CertWriter;
 use crate::limits::within_limits;

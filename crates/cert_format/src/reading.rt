@@ -3,12 +3,8 @@
 ghost use Rattle.std.specs.Prelude.{◌≡◌, ◌⊎◌, ◌<◌, ◌≤◌, ◌^◌, ℕ, List, [], Some, Ok, Err, IfOk, length};
 ghost use Rattle.std.specs.List.{AllByRecursion, flat_map};
 ghost use Rattle.mrt_graph.specs.declared.cert.CertFile.{CertFile};
-ghost use Rattle.cert_format.specs.declared.error.CertKind.{CertKind};
-ghost use Rattle.cert_format.specs.CertText.{cert_text};
-ghost use Rattle.cert_format.specs.FirstFault.{first_fault};
-ghost use Rattle.cert_format.specs.Limits.{IsCertFile};
-ghost use Rattle.cert_format.specs.Outcome.{OrNoMemory};
-ghost use Rattle.cert_format.specs.Outcome.{ReadsFile};
+ghost use Rattle.cert_format.specs.{declared.error.CertKind.CertKind, CertText.cert_text, FirstFault.first_fault, Limits.IsCertFile};
+ghost use Rattle.cert_format.specs.Outcome.{OrNoMemory, ReadsFile};
 ghost use Rattle.cert_format.specs.Stream.{end_fault, fed, fed_all};
 
 use crate::cert_reader::CertReader;

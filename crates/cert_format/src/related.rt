@@ -1,8 +1,7 @@
 //! Which nodes have a block in common.
 
 ghost use Rattle.std.specs.Prelude.{◌≡◌, ◌<◌, ◌≤◌, [], filter, length, not};
-ghost use Rattle.mrt_graph.specs.Certificate.{certificate_of};
-ghost use Rattle.mrt_graph.specs.Related.{are_unrelated};
+ghost use Rattle.mrt_graph.specs.{Certificate.certificate_of, Related.are_unrelated};
 ghost use Rattle.cert_format.specs.Folded.{related_pairs, related_to};
 
 use mrt_graph::{CertNode, NodeNo, are_unrelated};

@@ -2,10 +2,8 @@
 
 ghost use Rattle.std.specs.Prelude.{◌≡◌, ◌≢◌, ◌<◌, ◌≤◌, ◌+◌, ◌-◌, ◌*◌, ◌++◌, ℕ, List, [], IsTrue, IsFalse, Some, filter, length, map, replicate, slice_get, slice_set, take, vec_capacity};
 ghost use Rattle.std.specs.List.{AllByRecursion, slice_index_or};
-ghost use Rattle.mrt_graph.specs.Certificate.{IsCertNode, certificate_of};
-ghost use Rattle.mrt_graph.specs.declared.cert.Row.{Row};
-ghost use Rattle.cert_format.specs.Down.{IsDown};
-ghost use Rattle.mrt_graph.specs.Tags.{is_near};
+ghost use Rattle.mrt_graph.specs.{Certificate.IsCertNode, Certificate.certificate_of, declared.cert.Row.Row, Tags.is_near};
+ghost use Rattle.cert_format.specs.{Down.IsDown, Versions.all_rows};
 ghost use Rattle.cert_format.specs.Unfolding.{
   AreBlank,
   AreNear,
@@ -18,7 +16,6 @@ ghost use Rattle.cert_format.specs.Unfolding.{
   marks_of,
   set_marks,
 };
-ghost use Rattle.cert_format.specs.Versions.{all_rows};
 
 use crate::related::are_related;
 use mrt_graph::{CertNode, LinkNo, NodeNo, Row, Tag, carrier, row_place};

@@ -2,15 +2,8 @@
 
 ghost use Rattle.std.specs.Prelude.{◌≡◌, ◌≤◌, ◌+◌, ◌*◌, ◌++◌, length, IfOk, vec_len, vec_capacity};
 ghost use Rattle.std.specs.List.{flat_map};
-ghost use Rattle.cert_format.specs.CertText.{
-  header_text,
-  node_text,
-  link_text,
-  row_text,
-  cert_text,
-};
-ghost use Rattle.cert_format.specs.Limits.{IsCertFile, IsOfVersion};
-ghost use Rattle.cert_format.specs.Versions.{rows_in};
+ghost use Rattle.cert_format.specs.CertText.{header_text, node_text, link_text, row_text, cert_text};
+ghost use Rattle.cert_format.specs.{Limits.IsCertFile, Limits.IsOfVersion, Versions.rows_in};
 
 use crate::limits::within_limits;
 use crate::versions::stands_in;

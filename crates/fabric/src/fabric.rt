@@ -28,10 +28,7 @@ pub struct Fabric<'a, R: RowsOf> {
 
 impl<'a, R: RowsOf> Model for Fabric<'a, R> {
     ghost use Rattle.std.specs.Prelude.{◌≤◌, vec_capacity};
-    ghost use Rattle.fabric.specs.FabricParts.{ArePartsKept};
-    ghost use Rattle.fabric.specs.FabricState.{state_of};
-    ghost use Rattle.fabric.specs.KeptState.{IsKeptState};
-    ghost use Rattle.fabric.specs.Served.{ArePacketsServed};
+    ghost use Rattle.fabric.specs.{FabricParts.ArePartsKept, FabricState.state_of, KeptState.IsKeptState, Served.ArePacketsServed};
     ghost use Rattle.fabric.specs.Viewed.{AreRouted, FabricSeen, tables_of, viewed};
 
     ghost Value = { FabricSeen R };
@@ -49,10 +46,7 @@ impl<'a, R: RowsOf> Model for Fabric<'a, R> {
 
 impl<'a, R: RowsOf> Fabric<'a, R> {
     ghost use Rattle.std.specs.Prelude.{◌≡◌, ◌≤◌, IfOk, slice_get};
-    ghost use Rattle.fabric.specs.FabricState.{start};
-    ghost use Rattle.fabric.specs.FabricStep.{FabricStep};
-    ghost use Rattle.fabric.specs.OutcomeText.{IsTellable};
-    ghost use Rattle.fabric.specs.Served.{IsEventServed, IsServedBy};
+    ghost use Rattle.fabric.specs.{FabricState.start, FabricStep.FabricStep, OutcomeText.IsTellable, Served.IsEventServed, Served.IsServedBy};
     ghost use Rattle.fabric.specs.Viewed.{parts_of};
     ghost use Rattle.fabric.specs.declared.event.Event.TheVariants as events;
     ghost use Rattle.primary_alt.specs.RoutesMade.{AreMade};

@@ -1,14 +1,10 @@
 //! What happens to a packet where it is handled once.
 
 ghost use Rattle.std.specs.Prelude.{◌≡◌, ◌≢◌, ◌↔◌, ◌==◌, if◌then◌else◌, IsTrue, Some};
-ghost use Rattle.fabric.specs.Answers.{HasElement};
-ghost use Rattle.fabric.specs.FabricParts.{ArePartsKept};
-ghost use Rattle.fabric.specs.Handling.{HasHop, IsCutOff, IsHandled};
-ghost use Rattle.fabric.specs.KeptState.{IsKeptPacket};
-ghost use Rattle.fabric.specs.PacketHop.{IsCut};
-ghost use Rattle.fabric.specs.Served.{IsServedBy};
-ghost use Rattle.fabric.specs.Viewed.{AreRouted, hop_seen, viewed};
+ghost use Rattle.fabric.specs.{Answers.HasElement, FabricParts.ArePartsKept, KeptState.IsKeptPacket, PacketHop.IsCut, Served.IsServedBy};
 ghost use Rattle.fabric.specs.declared.event.Failure.{Failure};
+ghost use Rattle.fabric.specs.Handling.{HasHop, IsCutOff, IsHandled};
+ghost use Rattle.fabric.specs.Viewed.{AreRouted, hop_seen, viewed};
 ghost use Rattle.fabric.specs.declared.event.Failure.TheVariants as failures;
 ghost use Rattle.fabric.specs.declared.event.Outcome.TheVariants as outcomes;
 ghost use Rattle.fabric.specs.declared.packet.Mode.TheVariants as modes;

@@ -1,11 +1,8 @@
 //! Where a packet goes next.
 
 ghost use Rattle.std.specs.Prelude.{◌≡◌, ◌≢◌, ◌<◌, ◌↔◌, ◌++◌, IsTrue, IfNone, IfSome, IsSome, None, Some, length};
-ghost use Rattle.fabric.specs.FabricParts.{ArePartsKept, node_at};
-ghost use Rattle.fabric.specs.Handling.{IsUnreachable};
-ghost use Rattle.fabric.specs.KeptState.{IsKeptPacket};
+ghost use Rattle.fabric.specs.{FabricParts.ArePartsKept, FabricParts.node_at, Handling.IsUnreachable, KeptState.IsKeptPacket, Served.IsServedBy};
 ghost use Rattle.fabric.specs.PacketHop.{AreOver, IsColorHop, IsHop, IsPrimaryHop};
-ghost use Rattle.fabric.specs.Served.{IsServedBy};
 ghost use Rattle.fabric.specs.Viewed.{AreRouted, crossed, hop_seen, viewed};
 ghost use Rattle.fabric.specs.declared.packet.Mode.TheVariants as modes;
 ghost use Rattle.fabric.specs.declared.packet.State.TheVariants as states;

@@ -3,15 +3,7 @@
 ghost use Rattle.std.specs.Prelude.{◌≡◌, ◌≤◌, ◌+◌, ◌++◌, [], IfOk, OnErr, Some, Ok, length};
 ghost use Rattle.arrayvec.specs.ArrayVec.{array_vec_len};
 ghost use Rattle.std.specs.Option.{option_map};
-ghost use Rattle.fabric.specs.OutcomeText.{
-  IsTellable,
-  answer_line,
-  answer_text,
-  color_text,
-  loss_text,
-  outcome_text,
-  refused_text,
-};
+ghost use Rattle.fabric.specs.OutcomeText.{IsTellable, answer_line, answer_text, color_text, loss_text, outcome_text, refused_text};
 ghost use Rattle.mrt_graph.specs.Spelling.{node_text};
 
 use crate::event::{Outcome, Refused};

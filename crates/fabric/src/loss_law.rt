@@ -1,16 +1,10 @@
 //! Why packets are lost. The law holds of the definitions alone; the function does nothing.
 
 ghost use Rattle.std.specs.Prelude.{◌≡◌, ℕ, List, Ok, Some, slice_get};
-ghost use Rattle.fabric.specs.Causes.{LossCauses};
-ghost use Rattle.fabric.specs.FabricParts.{ArePartsKept, FabricParts};
-ghost use Rattle.fabric.specs.FabricState.{Answer, FabricState, start};
-ghost use Rattle.fabric.specs.FabricStep.{FabricStep};
-ghost use Rattle.fabric.specs.Runs.{IsRun};
-ghost use Rattle.fabric.specs.Served.{AreRowsOn};
-ghost use Rattle.fabric.specs.declared.event.Event.{Event};
-ghost use Rattle.fabric.specs.declared.event.Event.TheVariants.{Step};
-ghost use Rattle.fabric.specs.declared.event.Outcome.{Outcome};
+ghost use Rattle.fabric.specs.{Causes.LossCauses, FabricParts.ArePartsKept, FabricParts.FabricParts, FabricStep.FabricStep, Runs.IsRun};
+ghost use Rattle.fabric.specs.{Served.AreRowsOn, declared.event.Event.Event, declared.event.Event.TheVariants.Step, declared.event.Outcome.Outcome};
 ghost use Rattle.fabric.specs.declared.packet.Packet.{Packet};
+ghost use Rattle.fabric.specs.FabricState.{Answer, FabricState, start};
 
 /// A law: after each run from the start, an answered step of a packet loses it exactly where the cause of the loss
 /// stands.

@@ -1,11 +1,9 @@
 //! What decides the answers to a packet's steps. The law holds of the definitions alone; the function does nothing.
 
 ghost use Rattle.std.specs.Prelude.{◌≡◌, ℕ, List};
-ghost use Rattle.fabric.specs.FabricParts.{ArePartsKept, FabricParts};
-ghost use Rattle.fabric.specs.FabricState.{Answer, FabricState, start};
-ghost use Rattle.fabric.specs.OwnEvents.{own_events, step_answers};
-ghost use Rattle.fabric.specs.Runs.{IsRun};
+ghost use Rattle.fabric.specs.{FabricParts.ArePartsKept, FabricParts.FabricParts, OwnEvents.own_events, OwnEvents.step_answers, Runs.IsRun};
 ghost use Rattle.fabric.specs.declared.event.Event.{Event};
+ghost use Rattle.fabric.specs.FabricState.{Answer, FabricState, start};
 
 /// A law: in two runs from the start, let a packet of the one and a packet of the other enter alike, and let their steps
 /// and the failure that is kept stand in the same order. Then these steps have the same answers, whatever events of

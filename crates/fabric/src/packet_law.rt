@@ -1,38 +1,14 @@
 //! What holds of each packet, whatever the events. The laws hold of the definitions alone; the functions do nothing. Of
 //! rows they ask for those for the destinations of packets alone.
 
-ghost use Rattle.std.specs.Prelude.{
-  ◌≡◌,
-  ◌<◌,
-  ◌≤◌,
-  ◌-◌,
-  ◌*◌,
-  ℕ,
-  AllPairs,
-  List,
-  Some,
-  length,
-  slice_get,
-};
-ghost use Rattle.fabric.specs.Course.{
-  KeepsMode,
-  course,
-  is_on_color,
-  is_primary,
-  steps_of,
-  visits,
-};
-ghost use Rattle.fabric.specs.FabricParts.{ArePartsKept, FabricParts};
+ghost use Rattle.std.specs.Prelude.{◌≡◌, ◌<◌, ◌≤◌, ◌-◌, ◌*◌, ℕ, AllPairs, List, Some, length, slice_get};
+ghost use Rattle.fabric.specs.Course.{KeepsMode, course, is_on_color, is_primary, steps_of, visits};
+ghost use Rattle.fabric.specs.{FabricParts.ArePartsKept, FabricParts.FabricParts, Runs.IsRun, Served.AreRowsOn, declared.event.Event.Event};
+ghost use Rattle.fabric.specs.{declared.packet.Loss.Loss, declared.packet.Packet.Packet};
 ghost use Rattle.fabric.specs.FabricState.{Answer, FabricState, start};
-ghost use Rattle.fabric.specs.Runs.{IsRun};
-ghost use Rattle.fabric.specs.Served.{AreRowsOn};
-ghost use Rattle.fabric.specs.declared.event.Event.{Event};
-ghost use Rattle.fabric.specs.declared.packet.Loss.{Loss};
 ghost use Rattle.fabric.specs.declared.packet.Mode.TheVariants as modes;
-ghost use Rattle.fabric.specs.declared.packet.Packet.{Packet};
 ghost use Rattle.fabric.specs.declared.packet.State.TheVariants as states;
-ghost use Rattle.mrt_graph.specs.Reaches.{AreDifferent};
-ghost use Rattle.mrt_graph.specs.declared.cert.Color.{Color};
+ghost use Rattle.mrt_graph.specs.{Reaches.AreDifferent, declared.cert.Color.Color};
 
 /// Laws: a packet visits no place twice in primary mode, and none twice on a color.
 pub fn no_place_twice()

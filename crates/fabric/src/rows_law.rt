@@ -1,11 +1,8 @@
 //! Which rows decide what happens to packets. The law holds of the definitions alone; the function does nothing.
 
 ghost use Rattle.std.specs.Prelude.{ℕ, List};
-ghost use Rattle.fabric.specs.FabricParts.{FabricParts};
+ghost use Rattle.fabric.specs.{FabricParts.FabricParts, Runs.IsRun, SameRows.AgreeOn, SameRows.with_rows, declared.event.Event.Event};
 ghost use Rattle.fabric.specs.FabricState.{Answer, FabricState, start};
-ghost use Rattle.fabric.specs.Runs.{IsRun};
-ghost use Rattle.fabric.specs.SameRows.{AgreeOn, with_rows};
-ghost use Rattle.fabric.specs.declared.event.Event.{Event};
 ghost use Rattle.mrt_graph.specs.Rows.{Rows};
 
 /// A law: where other rows agree with those of the parts for the destinations of all packets that enter, a run by the one

@@ -1,14 +1,9 @@
 //! What serves every event. The law holds of the definitions alone; the function does nothing.
 
 ghost use Rattle.area_graph.specs.Parts.{AreaParts};
-ghost use Rattle.fabric.specs.Served.{IsEventServed};
-ghost use Rattle.fabric.specs.Viewed.{parts_with};
-ghost use Rattle.fabric.specs.declared.event.Event.{Event};
-ghost use Rattle.mrt_graph.specs.AcceptedFor.{IsAcceptedFor};
-ghost use Rattle.mrt_graph.specs.Certificate.{Certificate, row_of};
-ghost use Rattle.mrt_graph.specs.Topology.{Topology};
-ghost use Rattle.primary_alt.specs.RouteLists.{RouteLists};
-ghost use Rattle.primary_alt.specs.RoutesMade.{AreMadeWith};
+ghost use Rattle.fabric.specs.{Served.IsEventServed, Viewed.parts_with, declared.event.Event.Event};
+ghost use Rattle.mrt_graph.specs.{AcceptedFor.IsAcceptedFor, Certificate.Certificate, Certificate.row_of, Topology.Topology};
+ghost use Rattle.primary_alt.specs.{RouteLists.RouteLists, RoutesMade.AreMadeWith};
 
 /// A law: the rows of a certificate that is accepted for the island, with the routes to all nodes of the area, serve each
 /// event, as `Fabric::apply` asks for it.

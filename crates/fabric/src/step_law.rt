@@ -1,18 +1,11 @@
 //! What holds of each step. The laws hold of the definitions alone; the functions do nothing.
 
 ghost use Rattle.std.specs.Prelude.{◌≡◌, ◌≢◌, ℕ, Err, List, Some, slice_get};
-ghost use Rattle.fabric.specs.Answers.{IsAnswer};
-ghost use Rattle.fabric.specs.FabricParts.{ArePartsKept, FabricParts};
+ghost use Rattle.fabric.specs.{Answers.IsAnswer, FabricParts.ArePartsKept, FabricParts.FabricParts, FabricStep.FabricStep, Runs.IsRun};
+ghost use Rattle.fabric.specs.{Served.AreRowsOn, declared.event.Event.Event, declared.event.Failure.Failure, declared.event.Refused.Refused};
+ghost use Rattle.fabric.specs.{declared.packet.Entry.Entry, declared.packet.Packet.Packet};
 ghost use Rattle.fabric.specs.FabricState.{Answer, FabricState, start};
-ghost use Rattle.fabric.specs.FabricStep.{FabricStep};
-ghost use Rattle.fabric.specs.Runs.{IsRun};
-ghost use Rattle.fabric.specs.Served.{AreRowsOn};
-ghost use Rattle.fabric.specs.declared.event.Event.{Event};
 ghost use Rattle.fabric.specs.declared.event.Event.TheVariants as events;
-ghost use Rattle.fabric.specs.declared.event.Failure.{Failure};
-ghost use Rattle.fabric.specs.declared.event.Refused.{Refused};
-ghost use Rattle.fabric.specs.declared.packet.Entry.{Entry};
-ghost use Rattle.fabric.specs.declared.packet.Packet.{Packet};
 
 use primary_alt::each_router_has_its_primaries;
 

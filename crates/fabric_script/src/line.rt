@@ -1,8 +1,7 @@
 //! A line of a script.
 
 ghost use Rattle.std.specs.Prelude.{◌≡◌, ◌∷◌, [], IfSome, Some, codes};
-ghost use Rattle.std.specs.Option.{option_map};
-ghost use Rattle.std.specs.Str.{bytes_eq};
+ghost use Rattle.std.specs.{Option.option_map, Str.bytes_eq};
 ghost use Rattle.fabric_script.specs.Names.{failure_in};
 ghost use Rattle.mrt_graph.specs.TextLines.{words_of};
 ghost use Rattle.fabric_script.specs.ScriptLines.{entry_in, event_in, event_in_words, injection_in, packet_in, room_in, start_in, start_in_words};

@@ -3,15 +3,11 @@
 
 ghost use Rattle.std.specs.Prelude.{◌≡◌, ◌<◌, ◌^◌, ◌↔◌, ℕ, Err, List, Some};
 ghost use Rattle.fabric.specs.declared.event.Refused.TheVariants as refusals;
-ghost use Rattle.fabric.specs.FabricParts.{FabricParts};
-ghost use Rattle.fabric.specs.FabricState.{Answer, FabricState};
-ghost use Rattle.fabric.specs.FabricStep.{FabricStep};
-ghost use Rattle.fabric_script.specs.declared.event.FailureName.{FailureName};
-ghost use Rattle.fabric_script.specs.declared.event.ScriptEvent.{ScriptEvent};
-ghost use Rattle.fabric_script.specs.Names.{HasNumbers, failure_in, failure_text, node_in};
+ghost use Rattle.fabric.specs.{FabricParts.FabricParts, FabricState.Answer, FabricState.FabricState, FabricStep.FabricStep};
+ghost use Rattle.fabric_script.specs.{declared.event.FailureName.FailureName, declared.event.ScriptEvent.ScriptEvent};
 ghost use Rattle.fabric_script.specs.NamedEvents.{AreThere, event_of};
-ghost use Rattle.mrt_graph.specs.declared.node_id.NodeId.{NodeId};
-ghost use Rattle.mrt_graph.specs.Spelling.{node_text};
+ghost use Rattle.fabric_script.specs.Names.{HasNumbers, failure_in, failure_text, node_in};
+ghost use Rattle.mrt_graph.specs.{declared.node_id.NodeId.NodeId, Spelling.node_text};
 
 /// Laws: a text names a node, or what has failed, exactly where it is its spelling.
 pub fn a_name_is_its_spelling()

@@ -3,9 +3,8 @@
 ghost use Rattle.std.specs.Prelude.{◌≡◌, ◌≤◌, ℕ, Ok, Err, IfOk, length};
 ghost use Rattle.std.specs.Result.{result_map_both};
 ghost use Rattle.mrt_graph.specs.TextLines.{text_lines};
-ghost use Rattle.fabric_script.specs.declared.script.Script.{Script};
+ghost use Rattle.fabric_script.specs.{declared.script.Script.Script, Taking.error_of};
 ghost use Rattle.fabric_script.specs.ScriptFaults.{IsFirstFault, IsScript, OrNoMemory};
-ghost use Rattle.fabric_script.specs.Taking.{error_of};
 
 use crate::script::Script;
 use crate::script_error::ScriptError;

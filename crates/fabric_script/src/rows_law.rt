@@ -1,14 +1,9 @@
 //! Which rows decide the texts of runs. The laws hold of the definitions alone; the function does nothing.
 
 ghost use Rattle.std.specs.Prelude.{ℕ, Contains, List};
-ghost use Rattle.fabric.specs.FabricParts.{FabricParts};
-ghost use Rattle.fabric.specs.SameRows.{AgreeFor, with_rows};
-ghost use Rattle.fabric_script.specs.Destinations.{AgreeForEvent};
-ghost use Rattle.fabric_script.specs.NamedEvents.{spot_of};
-ghost use Rattle.fabric_script.specs.RunTexts.{IsScriptText, IsTraceText};
-ghost use Rattle.fabric_script.specs.declared.event.ScriptEvent.{ScriptEvent};
-ghost use Rattle.fabric_script.specs.declared.script.Script.{Script};
-ghost use Rattle.fabric_script.specs.declared.trace.Trace.{Trace};
+ghost use Rattle.fabric.specs.{FabricParts.FabricParts, SameRows.AgreeFor, SameRows.with_rows};
+ghost use Rattle.fabric_script.specs.{Destinations.AgreeForEvent, NamedEvents.spot_of, RunTexts.IsScriptText, RunTexts.IsTraceText};
+ghost use Rattle.fabric_script.specs.{declared.event.ScriptEvent.ScriptEvent, declared.script.Script.Script, declared.trace.Trace.Trace};
 ghost use Rattle.mrt_graph.specs.Rows.{Rows};
 
 use fabric::rows_for_destinations_decide;

@@ -2,9 +2,7 @@
 
 ghost use Rattle.std.specs.Prelude.{◌≡◌, ℕ, List};
 ghost use Rattle.fabric.specs.FabricParts.{ArePartsKept, FabricParts};
-ghost use Rattle.fabric_script.specs.declared.script.Script.{Script};
-ghost use Rattle.fabric_script.specs.declared.trace.Trace.{Trace};
-ghost use Rattle.fabric_script.specs.RunTexts.{IsScriptText, IsTraceText};
+ghost use Rattle.fabric_script.specs.{declared.script.Script.Script, declared.trace.Trace.Trace, RunTexts.IsScriptText, RunTexts.IsTraceText};
 
 use fabric::one_answer_each;
 

@@ -1,12 +1,9 @@
 //! The texts of scripts and of traces.
 
 ghost use Rattle.std.specs.Prelude.{◌≤◌, IfOk};
-ghost use Rattle.fabric.specs.Served.{IsServedBy};
-ghost use Rattle.fabric.specs.Viewed.{parts_with};
+ghost use Rattle.fabric.specs.{Served.IsServedBy, Viewed.parts_with};
 ghost use Rattle.primary_alt.specs.RoutesMade.{AreMade};
-ghost use Rattle.fabric_script.specs.Destinations.{AreServed};
-ghost use Rattle.fabric_script.specs.NamedEvents.{spot_of};
-ghost use Rattle.fabric_script.specs.RunTexts.{IsScriptText, IsTraceText};
+ghost use Rattle.fabric_script.specs.{Destinations.AreServed, NamedEvents.spot_of, RunTexts.IsScriptText, RunTexts.IsTraceText};
 
 use crate::script::Script;
 use crate::stepping::tell_steps;

@@ -1,8 +1,7 @@
 //! What holds of the lines of each file. The law holds of the definitions alone; the function does nothing.
 
 ghost use Rattle.std.specs.Prelude.{◌≡◌, ◌⊎◌, ℕ, List};
-ghost use Rattle.fabric_script.specs.declared.script.Script.{Script};
-ghost use Rattle.fabric_script.specs.ScriptFaults.{IsFirstFault, IsScript};
+ghost use Rattle.fabric_script.specs.{declared.script.Script.Script, ScriptFaults.IsFirstFault, ScriptFaults.IsScript};
 
 /// Laws: lines are a script or have a first fault, never both, and each in one way.
 pub fn lines_are_a_script_or_have_a_fault()

@@ -1,11 +1,8 @@
 //! A packet's steps until it ends.
 
 ghost use Rattle.std.specs.Prelude.{◌≡◌, ◌↔◌, IfOk, IsTrue};
-ghost use Rattle.fabric.specs.FabricParts.{ArePartsKept};
-ghost use Rattle.fabric.specs.Viewed.{parts_of};
-ghost use Rattle.fabric_script.specs.Told.{IsSteppedOn};
-ghost use Rattle.fabric_script.specs.Trace.{HasEnded};
-ghost use Rattle.fabric_script.specs.Unstepped.{IsUnstepped};
+ghost use Rattle.fabric.specs.{FabricParts.ArePartsKept, Viewed.parts_of};
+ghost use Rattle.fabric_script.specs.{Told.IsSteppedOn, Trace.HasEnded, Unstepped.IsUnstepped};
 
 use crate::event::ScriptEvent;
 use crate::telling::tell_one;

@@ -1,11 +1,8 @@
 //! Events, and the lines of their answers.
 
 ghost use Rattle.std.specs.Prelude.{◌≡◌, ◌∷◌, [], IfOk, map};
-ghost use Rattle.fabric.specs.Served.{IsEventServed, IsServedBy};
-ghost use Rattle.fabric.specs.Viewed.{parts_of};
-ghost use Rattle.fabric_script.specs.Destinations.{AreServed};
-ghost use Rattle.fabric_script.specs.NamedEvents.{event_of, spot_of};
-ghost use Rattle.fabric_script.specs.Told.{IsTold};
+ghost use Rattle.fabric.specs.{Served.IsEventServed, Served.IsServedBy, Viewed.parts_of};
+ghost use Rattle.fabric_script.specs.{Destinations.AreServed, NamedEvents.event_of, NamedEvents.spot_of, Told.IsTold};
 ghost use Rattle.fabric_script.specs.Trace.{beginning, failures_of};
 
 use crate::event::{FailureName, ScriptEvent};

@@ -3,9 +3,8 @@
 ghost use Rattle.std.specs.Prelude.{◌≡◌, ◌≤◌, ◌<◌, ◌+◌, ◌++◌, ◌^◌, ◌↔◌, ℕ, List, Option, None, Some, IfOk, OnOk, length, map, replicate};
 ghost use Rattle.std.specs.List.{AllByRecursion};
 ghost use Rattle.ospf_lsa.specs.declared.lsa.Lsa.{Lsa};
-ghost use Rattle.flood_core.specs.FloodStep.{answer_of, sent_on};
+ghost use Rattle.flood_core.specs.{FloodStep.answer_of, FloodStep.sent_on, Receiving.new_router};
 ghost use Rattle.flood_core.specs.Numbers.{lsas_by, router_in, update_in, AreNumbers, IsStored};
-ghost use Rattle.flood_core.specs.Receiving.{new_router};
 
 use crate::answer::Answer;
 use crate::numbered_update::{NumberedUpdate, numbered_updates};
@@ -33,8 +32,7 @@ pub struct Flood {
 }
 
 impl Model for Flood {
-    ghost use Rattle.flood_core.specs.FloodState.{FloodState};
-    ghost use Rattle.flood_core.specs.Numbers.{flood_in, IsFloodIn};
+    ghost use Rattle.flood_core.specs.{FloodState.FloodState, Numbers.flood_in, Numbers.IsFloodIn};
 
     ghost Value = { FloodState };
 
@@ -45,9 +43,7 @@ impl Model for Flood {
 
 impl Flood {
     ghost use Rattle.flood_core.specs.declared.answer.Answer.TheVariants as answers;
-    ghost use Rattle.flood_core.specs.FloodState.{database_of, started};
-    ghost use Rattle.flood_core.specs.FloodStep.{delivered};
-    ghost use Rattle.flood_core.specs.Receiving.{MayFlood};
+    ghost use Rattle.flood_core.specs.{FloodState.database_of, FloodState.started, FloodStep.delivered, Receiving.MayFlood};
 
     /// The packets of a file and the key that its bytes give, and so many routers with empty databases. There are 1 to 64 routers, at most
     /// 4,294,000,000 packets, and at most 65,535 LSAs in each; those of types 1 and 2 may stand in a database.

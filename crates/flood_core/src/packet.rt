@@ -2,15 +2,10 @@
 
 ghost use Rattle.std.specs.Prelude.{◌≡◌, ◌≤◌, ◌<◌, ◌+◌, ◌^◌, ℕ, Err, IfOk, IfSome, List, Contains, length, map};
 ghost use Rattle.std.specs.Option.{IfNone};
-ghost use Rattle.ospf_lsa.specs.declared.error.LsaKind.{LsaKind};
-ghost use Rattle.ospf_lsa.specs.declared.lsa.Lsa.{Lsa};
-ghost use Rattle.ospf_lsa.specs.Lsas.{AreLsas};
-ghost use Rattle.ospf_lsa.specs.LsaText.{lsas_text};
-ghost use Rattle.flood_core.specs.declared.error.UpdateKind.{UpdateKind};
-ghost use Rattle.flood_core.specs.PacketFaults.{HasFirstFault};
-ghost use Rattle.flood_core.specs.PacketFields.{length_field, lsa_bytes};
+ghost use Rattle.ospf_lsa.specs.{declared.error.LsaKind.LsaKind, declared.lsa.Lsa.Lsa, Lsas.AreLsas, LsaText.lsas_text};
+ghost use Rattle.flood_core.specs.{declared.error.UpdateKind.UpdateKind, PacketFaults.HasFirstFault};
+ghost use Rattle.flood_core.specs.{PacketFields.length_field, PacketFields.lsa_bytes, Updates.IsUpdate, Updates.placed_from};
 ghost use Rattle.flood_core.specs.Reading.{AreRead, HasSoundHeader, IsRefused};
-ghost use Rattle.flood_core.specs.Updates.{IsUpdate, placed_from};
 
 use crate::error::{UpdateError, UpdateKind};
 use crate::field::{number_16, number_32};

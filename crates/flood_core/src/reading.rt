@@ -2,11 +2,8 @@
 
 ghost use Rattle.std.specs.Prelude.{◌≡◌, ◌≤◌, ℕ, List, [], IfOk, Err, length};
 ghost use Rattle.std.specs.List.{AllByRecursion};
-ghost use Rattle.flood_core.specs.declared.error.UpdateKind.{UpdateKind};
-ghost use Rattle.flood_core.specs.declared.update.Update.{Update};
-ghost use Rattle.flood_core.specs.Receiving.{MayFlood};
+ghost use Rattle.flood_core.specs.{declared.error.UpdateKind.UpdateKind, declared.update.Update.Update, Receiving.MayFlood, Updates.AreUpdates};
 ghost use Rattle.flood_core.specs.UpdateOutcome.{AreAnswer, IsFirstFault, IsRefusal};
-ghost use Rattle.flood_core.specs.Updates.{AreUpdates};
 
 use crate::error::UpdateError;
 use crate::field::after;

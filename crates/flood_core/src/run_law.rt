@@ -1,21 +1,14 @@
 //! Laws over runs of deliveries. They hold of the definitions alone; the functions do nothing.
 
 ghost use Rattle.std.specs.Prelude.{◌≡◌, ◌<◌, ◌↔◌, ℕ, List, [], None, Some, Contains, IsPermutation, map};
-ghost use Rattle.std.specs.List.{AllByRecursion, IsDistinct};
-ghost use Rattle.std.specs.Option.{IsSomeAnd};
+ghost use Rattle.std.specs.{List.AllByRecursion, List.IsDistinct, Option.IsSomeAnd};
 ghost use Rattle.ospf_lsa.specs.declared.lsa.Lsa.{Lsa};
-ghost use Rattle.lsdb.specs.Conflicts.{least_conflict};
-ghost use Rattle.lsdb.specs.Entries.{Database};
-ghost use Rattle.lsdb.specs.Installing.{IsKept};
-ghost use Rattle.lsdb.specs.Installs.{all_installed, AreBehind};
-ghost use Rattle.lsdb.specs.Keys.{key_of};
+ghost use Rattle.lsdb.specs.{Conflicts.least_conflict, Entries.Database, Installing.IsKept, Installs.all_installed, Installs.AreBehind, Keys.key_of};
 ghost use Rattle.lsdb.specs.Newest.{IsSettled};
 ghost use Rattle.lsdb.specs.Orders.{newest_in, timeless, without_place, HoldTheSame};
-ghost use Rattle.flood_core.specs.Databases.{after_installs, empty_database};
-ghost use Rattle.flood_core.specs.FloodState.{database_of, started};
-ghost use Rattle.flood_core.specs.Receiving.{MayFlood};
+ghost use Rattle.flood_core.specs.{Databases.after_installs, Databases.empty_database, FloodState.database_of, FloodState.started};
+ghost use Rattle.flood_core.specs.{Receiving.MayFlood, declared.update.Update.Update};
 ghost use Rattle.flood_core.specs.Runs.{AreNewestOfTheSame, Delivery, IsFlooded, after_deliveries, delivered_to, lsas_of, same_instance, sent};
-ghost use Rattle.flood_core.specs.declared.update.Update.{Update};
 
 /// Laws: after any deliveries a router's database, its entries and the greatest place in it, is that of installing, one
 /// after another, the LSAs of types 1 and 2 of all packets that were delivered to it, with arrival numbers that rise. So

@@ -1,8 +1,7 @@
 //! A router's database.
 
 ghost use Rattle.std.specs.Prelude.{◌≡◌, ◌↔◌, None, IfOk, IsTrue, length, map};
-ghost use Rattle.lsdb.specs.Conflicts.{least_conflict};
-ghost use Rattle.lsdb.specs.Orders.{without_place};
+ghost use Rattle.lsdb.specs.{Conflicts.least_conflict, Orders.without_place};
 ghost use Rattle.flood_core.specs.Numbers.{database_in, IsStored};
 ghost use Rattle.flood_core.specs.Runs.{AreNewestOfTheSame, last_number, numbered};
 

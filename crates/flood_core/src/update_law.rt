@@ -3,9 +3,7 @@
 ghost use Rattle.std.specs.Prelude.{◌≡◌, ◌⊎◌, ℕ, List, []};
 ghost use Rattle.std.specs.List.{AllByRecursion};
 ghost use Rattle.ospf_lsa.specs.Lsas.{IsByte};
-ghost use Rattle.flood_core.specs.declared.error.UpdateKind.{UpdateKind};
-ghost use Rattle.flood_core.specs.declared.update.Update.{Update};
-ghost use Rattle.flood_core.specs.Updates.{AreUpdates};
+ghost use Rattle.flood_core.specs.{declared.error.UpdateKind.UpdateKind, declared.update.Update.Update, Updates.AreUpdates};
 ghost use Rattle.flood_core.specs.UpdateOutcome.{IsFirstFault};
 
 /// Any bytes are packets without a fault, one after another, or have a first packet with a fault; never both, and each

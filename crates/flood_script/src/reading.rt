@@ -1,13 +1,10 @@
 //! A whole script file.
 
 ghost use Rattle.std.specs.Prelude.{◌≡◌, ◌≤◌, ℕ, Ok, Err, IfOk, length};
-ghost use Rattle.std.specs.List.{AllByRecursion};
-ghost use Rattle.std.specs.Result.{result_map_both};
+ghost use Rattle.std.specs.{List.AllByRecursion, Result.result_map_both};
 ghost use Rattle.mrt_graph.specs.TextLines.{text_lines};
-ghost use Rattle.flood_script.specs.declared.script.FloodScript.{FloodScript};
-ghost use Rattle.flood_script.specs.Deliveries.{deliveries_in};
+ghost use Rattle.flood_script.specs.{declared.script.FloodScript.FloodScript, Deliveries.deliveries_in, Taking.error_of};
 ghost use Rattle.flood_script.specs.FloodScripts.{IsAmong, IsFirstFault, IsScript, OrNoMemory};
-ghost use Rattle.flood_script.specs.Taking.{error_of};
 
 use crate::error::FloodScriptError;
 use crate::script::FloodScript;

@@ -1,8 +1,7 @@
 //! What holds of the lines of each file. The law holds of the definitions alone; the function does nothing.
 
 ghost use Rattle.std.specs.Prelude.{◌≡◌, ◌⊎◌, ℕ, List};
-ghost use Rattle.flood_script.specs.declared.script.FloodScript.{FloodScript};
-ghost use Rattle.flood_script.specs.FloodScripts.{IsFirstFault, IsScript};
+ghost use Rattle.flood_script.specs.{declared.script.FloodScript.FloodScript, FloodScripts.IsFirstFault, FloodScripts.IsScript};
 
 /// Laws: lines are a script of deliveries or have a first fault, never both, and each in one way.
 pub fn lines_are_a_flood_script_or_have_a_fault()

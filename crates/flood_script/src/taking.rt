@@ -1,9 +1,7 @@
 //! The lines of a script, taken in one after another.
 
 ghost use Rattle.std.specs.Prelude.{◌≡◌, ◌≤◌, ◌++◌, ◌∷◌, [], List};
-ghost use Rattle.flood_script.specs.declared.script.FloodLine.{FloodLine};
-ghost use Rattle.flood_script.specs.Deliveries.{deliveries_in};
-ghost use Rattle.flood_script.specs.Taking.{may_follow, nothing_said};
+ghost use Rattle.flood_script.specs.{declared.script.FloodLine.FloodLine, Deliveries.deliveries_in, Taking.may_follow, Taking.nothing_said};
 
 use crate::line::{read_line, read_routers};
 use crate::script::{FloodLine, FloodScript};
@@ -26,8 +24,7 @@ pub(crate) struct Taken {
 
 impl Model for Taken {
     ghost use Rattle.std.specs.Prelude.{◌≡◌, ◌≤◌};
-    ghost use Rattle.flood_script.specs.Deliveries.{deliveries_in};
-    ghost use Rattle.flood_script.specs.Taking.{Said, said};
+    ghost use Rattle.flood_script.specs.{Deliveries.deliveries_in, Taking.Said, Taking.said};
 
     ghost Value = { Said };
 

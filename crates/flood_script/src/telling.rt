@@ -2,11 +2,8 @@
 
 ghost use Rattle.std.specs.Prelude.{◌≡◌, ◌≤◌, ◌<◌, ◌+◌, ◌∷◌, ◌++◌, [], ℕ, List, IfOk, length};
 ghost use Rattle.std.specs.List.{AllByRecursion};
-ghost use Rattle.flood_core.specs.FloodState.{started};
-ghost use Rattle.flood_core.specs.Receiving.{MayFlood};
-ghost use Rattle.flood_script.specs.declared.script.FloodLine.{FloodLine};
-ghost use Rattle.flood_script.specs.Deliveries.{deliveries_in};
-ghost use Rattle.flood_script.specs.FloodScripts.{IsAmong};
+ghost use Rattle.flood_core.specs.{FloodState.started, Receiving.MayFlood};
+ghost use Rattle.flood_script.specs.{declared.script.FloodLine.FloodLine, Deliveries.deliveries_in, FloodScripts.IsAmong};
 ghost use Rattle.flood_script.specs.FloodTexts.{IsFloodText, IsLineText, after_line};
 
 use crate::comparing::Compare;

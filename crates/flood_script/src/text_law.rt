@@ -4,11 +4,9 @@
 ghost use Rattle.std.specs.Prelude.{◌≡◌, ◌++◌, ◌∷◌, ℕ, List};
 ghost use Rattle.ospf_lsa.specs.declared.lsa.Lsa.{Lsa};
 ghost use Rattle.area_graph.specs.AreaOf.{area_of};
-ghost use Rattle.flood_core.specs.FloodState.{FloodState};
-ghost use Rattle.flood_core.specs.Runs.{AreNewestOfTheSame, after_deliveries};
-ghost use Rattle.flood_script.specs.declared.script.FloodLine.{FloodLine};
+ghost use Rattle.flood_core.specs.{FloodState.FloodState, Runs.AreNewestOfTheSame, Runs.after_deliveries};
+ghost use Rattle.flood_script.specs.{declared.script.FloodLine.FloodLine, declared.verdict.Verdict.Verdict};
 ghost use Rattle.flood_script.specs.declared.script.FloodLine.TheVariants as lines;
-ghost use Rattle.flood_script.specs.declared.verdict.Verdict.{Verdict};
 ghost use Rattle.flood_script.specs.FloodTexts.{IsCompared, IsFloodText, SaysOnce, deliveries_of, verdict_line};
 
 use crate::comparing::Compare;

@@ -1,20 +1,11 @@
 //! What holds of the ears of each graph.
 
 ghost use Rattle.std.specs.Prelude.{◌≡◌, ◌<◌, ◌≤◌, ◌⊎◌, ◌++◌, ◌∷◌, ◌==◌, ℕ, List, Some, Contains, count_by, length};
-ghost use Rattle.mrt_graph.specs.declared.gadag.Place.{Place};
-ghost use Rattle.mrt_graph.specs.declared.link.End.{End};
-ghost use Rattle.mrt_graph.specs.declared.tree.TreeNode.{TreeNode};
-ghost use Rattle.mrt_graph.specs.GadagWords.{block_at};
-ghost use Rattle.mrt_graph.specs.GraphInvariant.{IsTopology};
-ghost use Rattle.mrt_graph.specs.Leads.{leads};
-ghost use Rattle.mrt_graph.specs.Topology.{Topology};
-ghost use Rattle.mrt_graph.specs.TreeWords.{low_of, number_of};
-ghost use Rattle.lowpoint_dfs.specs.SearchTree.{IsSearchTree};
-ghost use Rattle.lowpoint_dfs.specs.Subtree.{parent_of};
-ghost use Rattle.gadag_ears.specs.declared.kind.EarKind.{EarKind};
-ghost use Rattle.gadag_ears.specs.CommonBlock.{IsCommonBlock};
+ghost use Rattle.mrt_graph.specs.{declared.gadag.Place.Place, declared.link.End.End, declared.tree.TreeNode.TreeNode, GadagWords.block_at};
+ghost use Rattle.mrt_graph.specs.{GraphInvariant.IsTopology, Leads.leads, Topology.Topology, TreeWords.low_of, TreeWords.number_of};
+ghost use Rattle.lowpoint_dfs.specs.{SearchTree.IsSearchTree, Subtree.parent_of};
+ghost use Rattle.gadag_ears.specs.{declared.kind.EarKind.EarKind, CommonBlock.IsCommonBlock, EarOrder.AreEars, EarOrder.IsEarOrder};
 ghost use Rattle.gadag_ears.specs.Ear.{Ear, IsBegun, IsNextEar};
-ghost use Rattle.gadag_ears.specs.EarOrder.{AreEars, IsEarOrder};
 ghost use Rattle.gadag_ears.specs.HeadAndBlock.{ArePlaces, HasPlace, IsPlacedAs};
 
 /// A law: a graph with its search tree has at most one ear order, from one list of ears.

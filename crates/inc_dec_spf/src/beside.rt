@@ -2,11 +2,8 @@
 
 ghost use Rattle.std.specs.Prelude.{◌≡◌, ◌<◌, ◌≤◌, ◌+◌, ◌*◌, ◌^◌, ℕ, length, slice_index};
 ghost use Rattle.link_direction.specs.Directions.{Directions};
-ghost use Rattle.inc_dec_spf.specs.HasDirections.{AreDirections};
+ghost use Rattle.inc_dec_spf.specs.{HasDirections.AreDirections, Offers.IsFirstOffer, Offers.IsFurtherOffer, Opening.IsOpening, Rest.far};
 ghost use Rattle.inc_dec_spf.specs.Known.{AreLanes, AreOffered, IsOne, IsOver, OfAny, comes_before, first_of, known, known_at, no_place};
-ghost use Rattle.inc_dec_spf.specs.Offers.{IsFirstOffer, IsFurtherOffer};
-ghost use Rattle.inc_dec_spf.specs.Opening.{IsOpening};
-ghost use Rattle.inc_dec_spf.specs.Rest.{far};
 
 use crate::fan::Opening;
 use crate::offers::{is_sole, leads_on};

@@ -4,14 +4,10 @@ ghost use Rattle.std.specs.Prelude.{◌≡◌, ◌<◌, ◌≤◌, ◌+◌, ◌*
 ghost use Rattle.mrt_graph.specs.GraphInvariant.{IsTopology};
 ghost use Rattle.link_direction.specs.Directions.{Directions};
 ghost use Rattle.inc_dec_spf.specs.Fan.{AreStops, HasFirstLinks, IsOpen, link_at};
-ghost use Rattle.inc_dec_spf.specs.FanEntries.{FanEntries, fan_entries};
-ghost use Rattle.inc_dec_spf.specs.HasDirections.{AreDirections, HasDirections};
+ghost use Rattle.inc_dec_spf.specs.{FanEntries.FanEntries, FanEntries.fan_entries, HasDirections.AreDirections, HasDirections.HasDirections};
+ghost use Rattle.inc_dec_spf.specs.{LeastPath.IsHop, Offers.PassesOn, Rest.far, Turns.AreTurns};
 ghost use Rattle.inc_dec_spf.specs.Known.{AreLanes, known_at, no_place};
-ghost use Rattle.inc_dec_spf.specs.LeastPath.{IsHop};
-ghost use Rattle.inc_dec_spf.specs.Offers.{PassesOn};
 ghost use Rattle.inc_dec_spf.specs.Opening.{AreFirstOffered, IsKeptOnward, IsOpening};
-ghost use Rattle.inc_dec_spf.specs.Rest.{far};
-ghost use Rattle.inc_dec_spf.specs.Turns.{AreTurns};
 
 use crate::beside::{NO_PLACE, offer_begun, offer_on};
 use crate::reach::{Dir, Hop};

@@ -2,8 +2,7 @@
 
 ghost use Rattle.std.specs.Prelude.{◌≡◌, ◌<◌, ◌≤◌, ◌+◌, ◌*◌, ◌⊎◌, ℕ, length, slice_index};
 ghost use Rattle.link_direction.specs.Directions.{Directions};
-ghost use Rattle.inc_dec_spf.specs.BlockAims.{AreHeadAims};
-ghost use Rattle.inc_dec_spf.specs.HasDirections.{AreDirections, HasDirections};
+ghost use Rattle.inc_dec_spf.specs.{BlockAims.AreHeadAims, HasDirections.AreDirections, HasDirections.HasDirections};
 
 use mrt_graph::{Directed, Graph, NodeNo};
 

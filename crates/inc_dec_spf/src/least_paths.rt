@@ -3,8 +3,7 @@
 ghost use Rattle.std.specs.Prelude.{◌≡◌, ◌<◌, ◌≤◌, ℕ, IfOk, length};
 ghost use Rattle.mrt_graph.specs.GraphInvariant.{IsTopology};
 ghost use Rattle.link_direction.specs.Directions.{Directions, Says};
-ghost use Rattle.inc_dec_spf.specs.HasDirections.{HasDirections};
-ghost use Rattle.inc_dec_spf.specs.LeastPath.{IsReach};
+ghost use Rattle.inc_dec_spf.specs.{HasDirections.HasDirections, LeastPath.IsReach};
 
 use crate::fan::Fan;
 use crate::reach::{Dir, Reach};

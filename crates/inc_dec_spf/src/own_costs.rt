@@ -2,10 +2,7 @@
 
 ghost use Rattle.std.specs.Prelude.{◌≡◌, ◌≢◌, ◌<◌, ◌≤◌, ◌+◌, ◌*◌, ◌⊎◌, ℕ, Some, length, slice_get, slice_index};
 ghost use Rattle.link_direction.specs.Directions.{Directions};
-ghost use Rattle.inc_dec_spf.specs.Aiming.{IsAiming};
-ghost use Rattle.inc_dec_spf.specs.FirstLink.{HasLinksAt, LiesInOneBlock};
-ghost use Rattle.inc_dec_spf.specs.HasDirections.{AreDirections};
-ghost use Rattle.inc_dec_spf.specs.Rest.{far};
+ghost use Rattle.inc_dec_spf.specs.{Aiming.IsAiming, FirstLink.HasLinksAt, FirstLink.LiesInOneBlock, HasDirections.AreDirections, Rest.far};
 ghost use Rattle.inc_dec_spf.specs.Ways.{IsReadyFrom, IsWantedBlock};
 
 use crate::aiming::Aiming;

@@ -1,16 +1,10 @@
 //! What holds of the paths in the blocks of each GADAG.
 
 ghost use Rattle.std.specs.Prelude.{◌≡◌, ◌≢◌, ◌<◌, ℕ, List, Option, Some, length};
-ghost use Rattle.mrt_graph.specs.declared.link.End.{End};
-ghost use Rattle.mrt_graph.specs.GraphInvariant.{IsTopology};
-ghost use Rattle.mrt_graph.specs.Topology.{Topology};
-ghost use Rattle.link_direction.specs.Directions.{Directions};
-ghost use Rattle.link_direction.specs.OrderedGadag.{HasClosingLink, IsOrderedGadag};
-ghost use Rattle.inc_dec_spf.specs.declared.reach.Dir.{Dir};
-ghost use Rattle.inc_dec_spf.specs.declared.reach.Dir.TheVariants.{Down, Up};
-ghost use Rattle.inc_dec_spf.specs.declared.reach.Hop.{Hop};
-ghost use Rattle.inc_dec_spf.specs.LeastPath.{IsHop, IsReachTo};
-ghost use Rattle.inc_dec_spf.specs.Path.{Path};
+ghost use Rattle.mrt_graph.specs.{declared.link.End.End, GraphInvariant.IsTopology, Topology.Topology};
+ghost use Rattle.link_direction.specs.{Directions.Directions, OrderedGadag.HasClosingLink, OrderedGadag.IsOrderedGadag};
+ghost use Rattle.inc_dec_spf.specs.{declared.reach.Dir.Dir, declared.reach.Dir.TheVariants.Down, declared.reach.Dir.TheVariants.Up};
+ghost use Rattle.inc_dec_spf.specs.{declared.reach.Hop.Hop, LeastPath.IsHop, LeastPath.IsReachTo, Path.Path};
 
 /// Laws: of what a node has for a node in one of the two directions, a hop or none, there is exactly one.
 pub fn one_hop_for_each_node()

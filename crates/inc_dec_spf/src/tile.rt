@@ -2,12 +2,9 @@
 
 ghost use Rattle.std.specs.Prelude.{◌≡◌, ◌≢◌, ◌<◌, ◌+◌, ◌*◌, ℕ, IfOk, Some, length, slice_get, true};
 ghost use Rattle.link_direction.specs.Directions.{Directions};
-ghost use Rattle.inc_dec_spf.specs.Aiming.{AreOwnCosts, IsAiming};
-ghost use Rattle.inc_dec_spf.specs.BlockAims.{IsAimOf, aim_at};
+ghost use Rattle.inc_dec_spf.specs.{Aiming.AreOwnCosts, Aiming.IsAiming, BlockAims.IsAimOf, BlockAims.aim_at, HasDirections.AreDirections};
+ghost use Rattle.inc_dec_spf.specs.{LeastPath.HaveCommonBlockOfMoreLinks, LeastPath.IsHop, Tile.IsAimed, Tile.IsTile};
 ghost use Rattle.inc_dec_spf.specs.FirstLink.{AreOthersInOneBlock, HasLinksAt, LiesInOneBlock};
-ghost use Rattle.inc_dec_spf.specs.HasDirections.{AreDirections};
-ghost use Rattle.inc_dec_spf.specs.LeastPath.{HaveCommonBlockOfMoreLinks, IsHop};
-ghost use Rattle.inc_dec_spf.specs.Tile.{IsAimed, IsTile};
 
 use crate::aiming::Aiming;
 use crate::own_costs::{keep, take_own_ways};

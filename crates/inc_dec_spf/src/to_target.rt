@@ -1,10 +1,8 @@
 //! Least paths to one node.
 
 ghost use Rattle.std.specs.Prelude.{◌≡◌, ◌<◌, ◌⊎◌, ◌↔◌, ℕ, IfOk, IsTrue, Some, length, slice_get, true};
-ghost use Rattle.link_direction.specs.CommonBlock.{HaveCommonBlock};
-ghost use Rattle.link_direction.specs.Directions.{Directions, Says};
-ghost use Rattle.inc_dec_spf.specs.HasDirections.{AreDirections, HasDirections};
-ghost use Rattle.inc_dec_spf.specs.LeastPath.{IsReachTo};
+ghost use Rattle.link_direction.specs.{CommonBlock.HaveCommonBlock, Directions.Directions, Directions.Says};
+ghost use Rattle.inc_dec_spf.specs.{HasDirections.AreDirections, HasDirections.HasDirections, LeastPath.IsReachTo};
 
 use crate::aiming::Aiming;
 use crate::fan::mark;

@@ -3,8 +3,7 @@
 ghost use Rattle.std.specs.Prelude.{◌≡◌, ◌≤◌, ℕ, IfOk, length};
 ghost use Rattle.mrt_graph.specs.GraphInvariant.{IsTopology};
 ghost use Rattle.link_direction.specs.Directions.{Directions};
-ghost use Rattle.inc_dec_spf.specs.HasDirections.{AreDirections, HasDirections};
-ghost use Rattle.inc_dec_spf.specs.Turns.{AreTurns, turn_at};
+ghost use Rattle.inc_dec_spf.specs.{HasDirections.AreDirections, HasDirections.HasDirections, Turns.AreTurns, Turns.turn_at};
 
 use crate::reach::Dir;
 use mrt_graph::{Directed, Graph, NoMemory, NodeNo};

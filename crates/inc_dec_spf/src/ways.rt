@@ -1,14 +1,9 @@
 //! The least ways from a node over its ends, when what is left after each end is known.
 
 ghost use Rattle.std.specs.Prelude.{◌≡◌, ◌≢◌, ◌<◌, ◌≤◌, ◌*◌, ◌^◌, ◌↔◌, ℕ, List, IsTrue, Some, length, slice_get, true};
-ghost use Rattle.mrt_graph.specs.declared.cert.Role.TheVariants.{Sole};
-ghost use Rattle.mrt_graph.specs.declared.link.End.{End};
+ghost use Rattle.mrt_graph.specs.{declared.cert.Role.TheVariants.Sole, declared.link.End.End};
 ghost use Rattle.link_direction.specs.Directions.{Directions, Says};
-ghost use Rattle.inc_dec_spf.specs.Aiming.{IsAiming};
-ghost use Rattle.inc_dec_spf.specs.FirstLink.{no_link};
-ghost use Rattle.inc_dec_spf.specs.HasDirections.{AreDirections};
-ghost use Rattle.inc_dec_spf.specs.Rest.{far};
-ghost use Rattle.inc_dec_spf.specs.Side.{AreTaken};
+ghost use Rattle.inc_dec_spf.specs.{Aiming.IsAiming, FirstLink.no_link, HasDirections.AreDirections, Rest.far, Side.AreTaken};
 ghost use Rattle.inc_dec_spf.specs.Ways.{AreLeast, AreReady, IsLeftAt};
 
 use crate::aiming::Aiming;

@@ -2,12 +2,9 @@
 
 ghost use Rattle.std.specs.Prelude.{◌≡◌, ◌≢◌, ◌<◌, ◌+◌, ◌↔◌, ℕ, IfSome, IsTrue, None, Some, ◌&&◌, is_none, is_some, length, slice_index_or};
 ghost use Rattle.std.specs.Ordering.{is_gt};
-ghost use Rattle.area_graph.specs.AreaInvariant.{IsArea};
-ghost use Rattle.area_graph.specs.Parts.{AreaParts};
+ghost use Rattle.area_graph.specs.{AreaInvariant.IsArea, Parts.AreaParts};
 ghost use Rattle.primary_alt.specs.DistancesFrom.{AreDistancesFrom};
-ghost use Rattle.lfa_alt.specs.declared.alternate.FreeCandidate.{FreeCandidate};
-ghost use Rattle.lfa_alt.specs.Best.{better};
-ghost use Rattle.lfa_alt.specs.LoopFree.{IsLoopFreeBy, candidate_cmp};
+ghost use Rattle.lfa_alt.specs.{declared.alternate.FreeCandidate.FreeCandidate, Best.better, LoopFree.IsLoopFreeBy, LoopFree.candidate_cmp};
 ghost use Rattle.lfa_alt.specs.Nearer.{IsNearer, ProtectsBy};
 ghost use Rattle.lfa_alt.specs.Destinations.{IsDestination, IsDestinationFor, Offers};
 ghost use Rattle.lfa_alt.specs.Ways.{IsWayToNetwork, Serves, candidate_of};

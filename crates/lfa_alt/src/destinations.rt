@@ -1,12 +1,9 @@
 //! The destinations, as the source sees them.
 
 ghost use Rattle.std.specs.Prelude.{◌≡◌, ◌<◌, ℕ, IfOk, List, None, Some, length};
-ghost use Rattle.area_graph.specs.declared.area_types.Arc.{Arc};
-ghost use Rattle.area_graph.specs.AreaInvariant.{IsArea};
+ghost use Rattle.area_graph.specs.{declared.area_types.Arc.Arc, AreaInvariant.IsArea};
 ghost use Rattle.mrt_graph.specs.GraphInvariant.{IsNetwork};
-ghost use Rattle.primary_alt.specs.ArcWalk.{ArcWalk};
-ghost use Rattle.primary_alt.specs.Distance.{IsDistance};
-ghost use Rattle.primary_alt.specs.DistancesFrom.{AreDistancesFrom};
+ghost use Rattle.primary_alt.specs.{ArcWalk.ArcWalk, Distance.IsDistance, DistancesFrom.AreDistancesFrom};
 ghost use Rattle.primary_alt.specs.Primaries.{ArePrimaries, IsPrimary};
 ghost use Rattle.lfa_alt.specs.Destinations.{AreDestinations, IsDestination, IsDestinationFor};
 

@@ -4,11 +4,8 @@ ghost use Rattle.std.specs.Prelude.{◌≡◌, ◌<◌, IfOk, length, map};
 ghost use Rattle.std.specs.Option.{option_map};
 ghost use Rattle.area_graph.specs.AreaInvariant.{IsArea};
 ghost use Rattle.mrt_graph.specs.GraphInvariant.{IsNetwork};
-ghost use Rattle.primary_alt.specs.DistancesFrom.{AreDistancesFrom};
-ghost use Rattle.primary_alt.specs.Primaries.{ArePrimaries};
-ghost use Rattle.lfa_alt.specs.Destinations.{AreDestinations};
-ghost use Rattle.lfa_alt.specs.LoopFree.{AreLfas, alternate_of};
-ghost use Rattle.lfa_alt.specs.Ways.{AreWays};
+ghost use Rattle.primary_alt.specs.{DistancesFrom.AreDistancesFrom, Primaries.ArePrimaries};
+ghost use Rattle.lfa_alt.specs.{Destinations.AreDestinations, LoopFree.AreLfas, LoopFree.alternate_of, Ways.AreWays};
 
 use crate::alternate::{FreeCandidate, Lfa};
 use crate::destination::Destination;

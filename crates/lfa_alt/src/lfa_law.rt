@@ -1,11 +1,9 @@
 //! What holds of the loop-free alternates of each area.
 
 ghost use Rattle.std.specs.Prelude.{◌≡◌, ◌<◌, ℕ, Option, length};
-ghost use Rattle.area_graph.specs.AreaInvariant.{IsArea};
-ghost use Rattle.area_graph.specs.Parts.{AreaParts};
+ghost use Rattle.area_graph.specs.{AreaInvariant.IsArea, Parts.AreaParts};
 ghost use Rattle.primary_alt.specs.Routers.{IsRouter};
-ghost use Rattle.lfa_alt.specs.declared.alternate.Lfa.{Lfa};
-ghost use Rattle.lfa_alt.specs.LoopFree.{IsLfa};
+ghost use Rattle.lfa_alt.specs.{declared.alternate.Lfa.Lfa, LoopFree.IsLfa};
 
 /// A law: a router has one answer at most for each node, a loop-free alternate or none.
 pub fn one_loop_free_alternate_each()

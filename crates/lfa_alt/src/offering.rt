@@ -1,15 +1,10 @@
 //! The first one of the loop-free candidates that ways offer, of all nodes at once.
 
 ghost use Rattle.std.specs.Prelude.{◌≡◌, ◌<◌, ℕ, IfOk, OnOk, Option, None, Some, length, map, slice_get};
-ghost use Rattle.area_graph.specs.AreaInvariant.{IsArea};
-ghost use Rattle.area_graph.specs.Parts.{AreaParts};
+ghost use Rattle.area_graph.specs.{AreaInvariant.IsArea, Parts.AreaParts};
 ghost use Rattle.primary_alt.specs.DistancesFrom.{AreDistancesFrom};
-ghost use Rattle.lfa_alt.specs.declared.alternate.FreeCandidate.{FreeCandidate};
-ghost use Rattle.lfa_alt.specs.declared.destination.Destination.{Destination};
-ghost use Rattle.lfa_alt.specs.declared.way.Way.{Way};
-ghost use Rattle.lfa_alt.specs.Best.{AreBest};
-ghost use Rattle.lfa_alt.specs.Nearer.{IsBetterBy};
-ghost use Rattle.lfa_alt.specs.Destinations.{AreDestinations, Offers};
+ghost use Rattle.lfa_alt.specs.{declared.alternate.FreeCandidate.FreeCandidate, declared.destination.Destination.Destination, declared.way.Way.Way};
+ghost use Rattle.lfa_alt.specs.{Best.AreBest, Nearer.IsBetterBy, Destinations.AreDestinations, Destinations.Offers};
 ghost use Rattle.lfa_alt.specs.Ways.{AreWays, IsWayToNetwork};
 
 use crate::alternate::FreeCandidate;

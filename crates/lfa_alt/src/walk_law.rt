@@ -1,16 +1,10 @@
 //! That no packet comes back on the way round.
 
 ghost use Rattle.std.specs.Prelude.{◌≡◌, ◌++◌, ℕ, true, List, Option, Some, slice_get};
-ghost use Rattle.area_graph.specs.declared.area_types.Arc.{Arc};
-ghost use Rattle.area_graph.specs.AreaInvariant.{IsArea};
-ghost use Rattle.area_graph.specs.Parts.{AreaParts};
-ghost use Rattle.primary_alt.specs.declared.shortest.Primary.{Primary};
-ghost use Rattle.primary_alt.specs.ArcWalk.{ArcWalk};
-ghost use Rattle.primary_alt.specs.Primaries.{IsPrimary};
-ghost use Rattle.primary_alt.specs.Routers.{IsRouter};
-ghost use Rattle.lfa_alt.specs.declared.alternate.Lfa.{Lfa};
+ghost use Rattle.area_graph.specs.{declared.area_types.Arc.Arc, AreaInvariant.IsArea, Parts.AreaParts};
+ghost use Rattle.primary_alt.specs.{declared.shortest.Primary.Primary, ArcWalk.ArcWalk, Primaries.IsPrimary, Routers.IsRouter};
+ghost use Rattle.lfa_alt.specs.{declared.alternate.Lfa.Lfa, LoopFree.IsLfa};
 ghost use Rattle.lfa_alt.specs.HopWalks.{AreHopArcs, HopWalk, Meets, UsesBond, arcs_of};
-ghost use Rattle.lfa_alt.specs.LoopFree.{IsLfa};
 
 /// Laws, where each router has its primary for a node: a loop-free alternate's own arcs are there and lead from the source
 /// to its next, and from there the primaries hop by hop lead to the node, on a walk along arcs; this walk does not meet the

@@ -1,8 +1,7 @@
 //! The ways from a router to its neighbours.
 
 ghost use Rattle.std.specs.Prelude.{◌≡◌, ◌≢◌, ◌<◌, ◌≤◌, ◌↔◌, IfOk, IfSome, IsNone, IsTrue, Some, length, slice_get};
-ghost use Rattle.area_graph.specs.declared.area_types.Arc.{Arc};
-ghost use Rattle.area_graph.specs.AreaInvariant.{IsArea};
+ghost use Rattle.area_graph.specs.{declared.area_types.Arc.Arc, AreaInvariant.IsArea};
 ghost use Rattle.mrt_graph.specs.GraphInvariant.{IsNetwork};
 ghost use Rattle.lfa_alt.specs.Ways.{AddsAcross, AddsOver, AreWays, IsAgain, LeadsOn, way_across, way_over};
 

@@ -1,9 +1,7 @@
 //! The order of a GADAG and the direction of every link.
 
 ghost use Rattle.std.specs.Prelude.{◌<◌, IfOk, length};
-ghost use Rattle.link_direction.specs.Directed.{IsDirected};
-ghost use Rattle.link_direction.specs.FromEars.{IsFromEars};
-ghost use Rattle.link_direction.specs.OrderedGadag.{SaysOrdered};
+ghost use Rattle.link_direction.specs.{Directed.IsDirected, FromEars.IsFromEars, OrderedGadag.SaysOrdered};
 
 use crate::numbering::numbers_of;
 use crate::ordering::order_of;

@@ -1,16 +1,11 @@
 //! What holds of the order and the directions of each GADAG.
 
 ghost use Rattle.std.specs.Prelude.{◌≡◌, ◌<◌, ◌==◌, ℕ, List, count_by, length};
-ghost use Rattle.mrt_graph.specs.declared.tree.TreeNode.{TreeNode};
-ghost use Rattle.mrt_graph.specs.DirectedLists.{DirectedLists};
-ghost use Rattle.mrt_graph.specs.GadagLists.{GadagLists};
-ghost use Rattle.mrt_graph.specs.GraphInvariant.{IsTopology};
+ghost use Rattle.mrt_graph.specs.{declared.tree.TreeNode.TreeNode, DirectedLists.DirectedLists, GadagLists.GadagLists, GraphInvariant.IsTopology};
 ghost use Rattle.mrt_graph.specs.Topology.{Topology};
 ghost use Rattle.lowpoint_dfs.specs.SearchTree.{IsSearchTree};
 ghost use Rattle.gadag_ears.specs.Gadag.{IsGadag};
-ghost use Rattle.link_direction.specs.Directed.{IsDirected};
-ghost use Rattle.link_direction.specs.GadagOrder.{IsWholeOrder};
-ghost use Rattle.link_direction.specs.OrderedGadag.{SaysOrdered};
+ghost use Rattle.link_direction.specs.{Directed.IsDirected, GadagOrder.IsWholeOrder, OrderedGadag.SaysOrdered};
 
 /// A law: a GADAG has exactly one order, and exactly one answer.
 pub fn one_order()

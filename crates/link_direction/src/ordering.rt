@@ -20,11 +20,9 @@ ghost use Rattle.std.specs.Prelude.{
   slice_set,
   vec_capacity,
 };
-ghost use Rattle.mrt_graph.specs.GadagLists.{GadagLists};
-ghost use Rattle.mrt_graph.specs.GraphInvariant.{IsTopology};
+ghost use Rattle.mrt_graph.specs.{GadagLists.GadagLists, GraphInvariant.IsTopology};
 ghost use Rattle.link_direction.specs.Counting.{IsEndOf, IsTurn, IsTurnOfEnd, IsUnderWay, StandOnce};
-ghost use Rattle.link_direction.specs.FromEars.{IsFromEars};
-ghost use Rattle.link_direction.specs.GadagOrder.{IsWholeOrder};
+ghost use Rattle.link_direction.specs.{FromEars.IsFromEars, GadagOrder.IsWholeOrder};
 
 use crate::counting::{counts_over, entering};
 use mrt_graph::{End, Graph, Mark, NoMemory, NodeNo};

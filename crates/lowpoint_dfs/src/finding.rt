@@ -24,17 +24,9 @@ ghost use Rattle.std.specs.Prelude.{
   vec_capacity,
 };
 ghost use Rattle.std.specs.List.{AllByRecursion};
-ghost use Rattle.mrt_graph.specs.declared.link.End.{End};
-ghost use Rattle.mrt_graph.specs.GraphInvariant.{IsTopology};
-ghost use Rattle.mrt_graph.specs.TreeWords.{number_of};
+ghost use Rattle.mrt_graph.specs.{declared.link.End.End, GraphInvariant.IsTopology, TreeWords.number_of};
 ghost use Rattle.lowpoint_dfs.specs.Subtree.{parent_of};
-ghost use Rattle.lowpoint_dfs.specs.Finding.{
-  IsFinished,
-  IsSearching,
-  LeadToFound,
-  found_node,
-  left_at,
-};
+ghost use Rattle.lowpoint_dfs.specs.Finding.{IsFinished, IsSearching, LeadToFound, found_node, left_at};
 
 use mrt_graph::{End, Graph, LinkNo, NoMemory, NodeNo, TreeNode};
 use std::alloc::Global;

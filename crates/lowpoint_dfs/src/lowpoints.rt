@@ -1,20 +1,8 @@
 //! The lowpoints of the found nodes.
 
-ghost use Rattle.std.specs.Prelude.{
-  ◌≡◌,
-  ◌<◌,
-  ◌==◌,
-  ℕ,
-  List,
-  Contains,
-  false,
-  length,
-  slice_get,
-};
-ghost use Rattle.std.specs.List.{AllByRecursion};
-ghost use Rattle.std.specs.Option.{option_map_or};
-ghost use Rattle.mrt_graph.specs.GraphInvariant.{IsTopology};
-ghost use Rattle.mrt_graph.specs.TreeWords.{number_of, parent_link};
+ghost use Rattle.std.specs.Prelude.{◌≡◌, ◌<◌, ◌==◌, ℕ, List, Contains, false, length, slice_get};
+ghost use Rattle.std.specs.{List.AllByRecursion, Option.option_map_or};
+ghost use Rattle.mrt_graph.specs.{GraphInvariant.IsTopology, TreeWords.number_of, TreeWords.parent_link};
 ghost use Rattle.lowpoint_dfs.specs.Lowering.{AreAlike, AreNumbered, IsGiven, IsLowest, lowered};
 ghost use Rattle.lowpoint_dfs.specs.Lowpoint.{HasLowpoint, is_parent_link, offer};
 

@@ -1,28 +1,9 @@
 //! What holds of the search of each graph from each root.
 
-ghost use Rattle.std.specs.Prelude.{
-  ◌≡◌,
-  ◌≢◌,
-  ◌<◌,
-  ◌≤◌,
-  ◌⊎◌,
-  ◌+◌,
-  ◌==◌,
-  ℕ,
-  List,
-  Some,
-  None,
-  count_by,
-  length,
-  slice_get,
-};
-ghost use Rattle.mrt_graph.specs.declared.tree.TreeNode.{TreeNode};
-ghost use Rattle.mrt_graph.specs.GraphInvariant.{IsTopology};
-ghost use Rattle.mrt_graph.specs.Leads.{leads};
-ghost use Rattle.mrt_graph.specs.Topology.{Topology};
+ghost use Rattle.std.specs.Prelude.{◌≡◌, ◌≢◌, ◌<◌, ◌≤◌, ◌⊎◌, ◌+◌, ◌==◌, ℕ, List, Some, None, count_by, length, slice_get};
+ghost use Rattle.mrt_graph.specs.{declared.tree.TreeNode.TreeNode, GraphInvariant.IsTopology, Leads.leads, Topology.Topology};
 ghost use Rattle.mrt_graph.specs.TreeWords.{low_of, number_of, parent_link};
-ghost use Rattle.lowpoint_dfs.specs.Lowpoint.{IsLeast};
-ghost use Rattle.lowpoint_dfs.specs.SearchTree.{IsSearchTree};
+ghost use Rattle.lowpoint_dfs.specs.{Lowpoint.IsLeast, SearchTree.IsSearchTree};
 ghost use Rattle.lowpoint_dfs.specs.Subtree.{HasParent, IsInSubtree, IsReachedFrom};
 
 /// A law: a graph has exactly one search tree from its root.

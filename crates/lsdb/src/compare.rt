@@ -1,8 +1,7 @@
 //! Which of two instances is newer, and whether they differ (RFC 2328, section 13.1).
 
 ghost use Rattle.std.specs.Prelude.{◌≡◌};
-ghost use Rattle.lsdb.specs.Rank.{rank_cmp};
-ghost use Rattle.lsdb.specs.Newest.{same_but_age};
+ghost use Rattle.lsdb.specs.{Rank.rank_cmp, Newest.same_but_age};
 
 use ospf_lsa::Lsa;
 use std::cmp::Ordering;

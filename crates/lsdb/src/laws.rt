@@ -1,20 +1,13 @@
 //! Laws over whole lists of installs. They hold of the definitions alone; the functions do nothing.
 
 ghost use Rattle.std.specs.Prelude.{◌≡◌, ◌↔◌, ◌⊎◌, List, [], None, Some, true, false, map, IsPermutation};
-ghost use Rattle.ospf_lsa.specs.declared.lsa.Lsa.{Lsa};
-ghost use Rattle.ospf_lsa.specs.Lsas.{IsLsa};
-ghost use Rattle.ospf_lsa.specs.Types.{network_lsa, router_lsa};
+ghost use Rattle.ospf_lsa.specs.{declared.lsa.Lsa.Lsa, Lsas.IsLsa, Types.network_lsa, Types.router_lsa};
 ghost use Rattle.lsdb.specs.Changes.{HasRankOfFirst, IsOfNewKey, IsOutranked, OutranksAll};
-ghost use Rattle.lsdb.specs.Conflicts.{least_conflict};
-ghost use Rattle.lsdb.specs.Disagreements.{IsFirstConflictOf};
-ghost use Rattle.lsdb.specs.Entries.{entries_in};
-ghost use Rattle.lsdb.specs.Installing.{installed, IsKept};
-ghost use Rattle.lsdb.specs.Installs.{all_installed, AreBehind};
-ghost use Rattle.lsdb.specs.Keys.{key_of, keys_in, AreDistinct};
-ghost use Rattle.lsdb.specs.Newest.{newest_of, IsSettled};
-ghost use Rattle.lsdb.specs.Orders.{newest_in, timeless, AreReordered, HoldTheSame};
-ghost use Rattle.lsdb.specs.declared.change.Conflict.{Conflict};
+ghost use Rattle.lsdb.specs.{Conflicts.least_conflict, Disagreements.IsFirstConflictOf, Entries.entries_in, Installing.installed, Installing.IsKept};
+ghost use Rattle.lsdb.specs.{Installs.all_installed, Installs.AreBehind, Newest.newest_of, Newest.IsSettled, declared.change.Conflict.Conflict};
 ghost use Rattle.lsdb.specs.declared.key.Key.{Key};
+ghost use Rattle.lsdb.specs.Keys.{key_of, keys_in, AreDistinct};
+ghost use Rattle.lsdb.specs.Orders.{newest_in, timeless, AreReordered, HoldTheSame};
 
 use crate::change::Change;
 

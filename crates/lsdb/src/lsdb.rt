@@ -2,11 +2,8 @@
 
 ghost use Rattle.std.specs.Prelude.{◌≡◌, ◌↔◌, [], None, Some, IfOk, OnOk, OnErr, Ok, Err, Contains, map};
 ghost use Rattle.std.specs.List.{AllByRecursion};
-ghost use Rattle.lsdb.specs.Conflicts.{least_conflict, settled_by};
-ghost use Rattle.lsdb.specs.Disagreements.{IsFirstConflict};
-ghost use Rattle.lsdb.specs.Entries.{Entry};
+ghost use Rattle.lsdb.specs.{Conflicts.least_conflict, Conflicts.settled_by, Disagreements.IsFirstConflict, Entries.Entry, Keys.AreDistinct};
 ghost use Rattle.lsdb.specs.Installing.{installed, IsKept, IsBehind};
-ghost use Rattle.lsdb.specs.Keys.{AreDistinct};
 ghost use Rattle.lsdb.specs.Store.{entries_of, front, IsStore};
 
 use crate::change::{Change, Conflict};
@@ -30,8 +27,7 @@ pub struct Lsdb {
 }
 
 impl Model for Lsdb {
-    ghost use Rattle.lsdb.specs.Entries.{Database};
-    ghost use Rattle.lsdb.specs.Store.{entries_of, IsStore};
+    ghost use Rattle.lsdb.specs.{Entries.Database, Store.entries_of, Store.IsStore};
 
     ghost Value = { Database };
 

@@ -1,13 +1,10 @@
 //! An instance meets the one of its key that is there.
 
 ghost use Rattle.std.specs.Prelude.{◌≡◌, ◌+◌, ◌<◌, ◌≤◌, ℕ, IfOk, OnErr, OnOk, Option, None, Some, if◌then◌else◌, drop, length, map, slice_get, slice_set};
-ghost use Rattle.std.specs.List.{AllByRecursion};
-ghost use Rattle.std.specs.Option.{is_some};
+ghost use Rattle.std.specs.{List.AllByRecursion, Option.is_some};
 ghost use Rattle.ospf_lsa.specs.declared.lsa.Lsa.{Lsa};
-ghost use Rattle.lsdb.specs.Entries.{Entry};
+ghost use Rattle.lsdb.specs.{Entries.Entry, Keys.key_of, Newest.same_but_age};
 ghost use Rattle.lsdb.specs.Installing.{change_of, changed, installed, IsKept};
-ghost use Rattle.lsdb.specs.Keys.{key_of};
-ghost use Rattle.lsdb.specs.Newest.{same_but_age};
 ghost use Rattle.lsdb.specs.Store.{entries_of, front, IsStore};
 
 use crate::change::Change;

@@ -1,10 +1,8 @@
 //! The database of a list of LSAs.
 
 ghost use Rattle.std.specs.Prelude.{◌≡◌, IfOk};
-ghost use Rattle.ospf_lsa.specs.declared.lsa.Lsa.{Lsa};
-ghost use Rattle.ospf_lsa.specs.Lsas.{AreLsas};
-ghost use Rattle.lsdb.specs.Database.{entering};
-ghost use Rattle.lsdb.specs.Entries.{entries_in};
+ghost use Rattle.ospf_lsa.specs.{declared.lsa.Lsa.Lsa, Lsas.AreLsas};
+ghost use Rattle.lsdb.specs.{Database.entering, Entries.entries_in};
 
 use crate::laws::{an_lsa_without_a_fault_may_be_installed, entries_are_those_of_the_list};
 use crate::lsdb::Lsdb;

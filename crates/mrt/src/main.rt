@@ -3,8 +3,7 @@
 #![tactic(auto)]
 
 ghost use Rattle.std.specs.Prelude.{◌≡◌, Err, IfErr, IfOk};
-ghost use Rattle.std.specs.IoError.{error_kind};
-ghost use Rattle.std.specs.Vec.Iter.{into_iter_items};
+ghost use Rattle.std.specs.{IoError.error_kind, Vec.Iter.into_iter_items};
 ghost use Rattle.mrt.specs.Arguments.{exit_of, words_of};
 
 use mrt_cmd::{Exit, run};

@@ -7,13 +7,8 @@ ghost use Rattle.flood_verdict.specs.{Alike.ComparesAlike, Alike.IsToldAlike, Sa
 ghost use Rattle.mrt_exit.specs.declared.exit.Exit.{Exit};
 ghost use Rattle.mrt_words.specs.{FileBytes.FileBytes, FileBytes.with_last, Files.certificate_limit, declared.task.RouterTask.TheVariants.Certify, Form.Task};
 ghost use Rattle.mrt_words.specs.declared.task.Task.TheVariants.{Check, Upgrade, OfRouter};
-ghost use Rattle.mrt_answer.specs.Answers.{GivesOver, IsRefusedOver};
-ghost use Rattle.mrt_answer.specs.Certified.{IsCertified};
-ghost use Rattle.mrt_answer.specs.Input.{Input, IsInput};
-ghost use Rattle.mrt_answer.specs.Packets.{ArePartsFor};
-ghost use Rattle.mrt_answer.specs.SameFile.{IsSameFile};
-ghost use Rattle.mrt_answer.specs.Surveyed.{IsSurveyed};
-ghost use Rattle.mrt_answer.specs.Tabled.{IsTabled};
+ghost use Rattle.mrt_answer.specs.{Answers.GivesOver, Answers.IsRefusedOver, Certified.IsCertified, Input.Input, Input.IsInput, Packets.ArePartsFor};
+ghost use Rattle.mrt_answer.specs.{SameFile.IsSameFile, Surveyed.IsSurveyed, Tabled.IsTabled};
 ghost use Rattle.mrt_answer.specs.Flooded.{GivesFlood, HoldsFlood, IsRefusedFlood};
 
 use crate::survey_law::made_networks_are_taken;

@@ -132,14 +132,7 @@ pub struct CertFile {
 impl Cert {
     ghost use Rattle.std.specs.Prelude.{◌≡◌, ◌≢◌, ◌<◌, Some, length, slice_get};
     ghost use Rattle.std.specs.List.{AllByRecursion};
-    ghost use Rattle.mrt_graph.specs.Certificate.{
-      IsCertificate,
-      IsCertNode,
-      IsCertLink,
-      IsCertRow,
-      certificate_of,
-      row_of,
-    };
+    ghost use Rattle.mrt_graph.specs.Certificate.{IsCertificate, IsCertNode, IsCertLink, IsCertRow, certificate_of, row_of};
 
     /// A certificate of these nodes, links and rows.
     pub fn new(nodes: Vec<CertNode>, links: Vec<CertLink>, rows: Vec<Row>) -> Cert

@@ -1,15 +1,9 @@
 //! What the fourteen rules give: an accepted certificate is sound, and a file that is not accepted has one first fault.
 
 ghost use Rattle.std.specs.Prelude.{◌≡◌, ◌≢◌, ◌<◌, ◌⊎◌, ℕ, IsSome, length};
-ghost use Rattle.mrt_graph.specs.declared.cert.CertFile.{CertFile};
-ghost use Rattle.mrt_graph.specs.declared.cert.Color.{Color};
-ghost use Rattle.mrt_graph.specs.Accepted.{Accepted};
-ghost use Rattle.mrt_graph.specs.Certificate.{IsCertificate, row_of};
-ghost use Rattle.mrt_graph.specs.FirstFault.{FirstFault};
-ghost use Rattle.mrt_graph.specs.Foldable.{IsFoldable};
-ghost use Rattle.mrt_graph.specs.Hop.{color_hop};
-ghost use Rattle.mrt_graph.specs.Sound.{Sound};
-ghost use Rattle.mrt_graph.specs.Topology.{Topology};
+ghost use Rattle.mrt_graph.specs.{declared.cert.CertFile.CertFile, declared.cert.Color.Color, Accepted.Accepted};
+ghost use Rattle.mrt_graph.specs.{Certificate.IsCertificate, Certificate.row_of, FirstFault.FirstFault, Foldable.IsFoldable, Hop.color_hop};
+ghost use Rattle.mrt_graph.specs.{Sound.Sound, Topology.Topology};
 
 /// A law: the rows of each certificate that is accepted for a graph and its root are sound, whoever wrote it.
 pub fn accepted_implies_sound()

@@ -12,8 +12,7 @@ pub struct Column {
 
 impl Model for Column {
     ghost use Rattle.std.specs.Prelude.{List, Option};
-    ghost use Rattle.mrt_graph.specs.declared.cert.Row.{Row};
-    ghost use Rattle.mrt_graph.specs.Column.{IsColumn};
+    ghost use Rattle.mrt_graph.specs.{declared.cert.Row.Row, Column.IsColumn};
 
     ghost Value = { List (Option Row) };
 

@@ -33,8 +33,7 @@ pub struct Graph {
 }
 
 impl Model for Graph {
-    ghost use Rattle.mrt_graph.specs.GraphInvariant.{IsTopology, topology_of};
-    ghost use Rattle.mrt_graph.specs.Topology.{Topology};
+    ghost use Rattle.mrt_graph.specs.{GraphInvariant.IsTopology, GraphInvariant.topology_of, Topology.Topology};
 
     ghost Value = { Topology };
 
@@ -44,26 +43,8 @@ impl Model for Graph {
 }
 
 impl Graph {
-    ghost use Rattle.std.specs.Prelude.{
-      ◌≡◌,
-      ◌≢◌,
-      ◌<◌,
-      ◌⊎◌,
-      ◌↔◌,
-      Some,
-      Err,
-      IfOk,
-      IfErr,
-      IfSome,
-      IsSome,
-      IsNone,
-      Contains,
-      length,
-      slice_get,
-    };
-    ghost use Rattle.mrt_graph.specs.Certificate.{row_of};
-    ghost use Rattle.mrt_graph.specs.Hop.{color_hop};
-    ghost use Rattle.mrt_graph.specs.Leads.{leads};
+    ghost use Rattle.std.specs.Prelude.{◌≡◌, ◌≢◌, ◌<◌, ◌⊎◌, ◌↔◌, Some, Err, IfOk, IfErr, IfSome, IsSome, IsNone, Contains, length, slice_get};
+    ghost use Rattle.mrt_graph.specs.{Certificate.row_of, Hop.color_hop, Leads.leads};
     ghost use Rattle.mrt_graph.specs.GraphInvariant.{AreEnds, IsLink, IsTopology};
     ghost use Rattle.mrt_graph.specs.NewGraph.{AreGraphParts, IsGraphOf, IsTooLarge, too_large};
 

@@ -1,10 +1,7 @@
 //! That a graph is determined by what it is made of.
 
 ghost use Rattle.std.specs.Prelude.{◌≡◌, List};
-ghost use Rattle.mrt_graph.specs.declared.link.LinkIn.{LinkIn};
-ghost use Rattle.mrt_graph.specs.declared.node_id.NodeId.{NodeId};
-ghost use Rattle.mrt_graph.specs.NewGraph.{IsGraphOf};
-ghost use Rattle.mrt_graph.specs.Topology.{Topology};
+ghost use Rattle.mrt_graph.specs.{declared.link.LinkIn.LinkIn, declared.node_id.NodeId.NodeId, NewGraph.IsGraphOf, Topology.Topology};
 
 /// A law: of the same identifiers and links there is one graph.
 pub fn one_graph_of_its_parts()

@@ -2,8 +2,7 @@
 
 ghost use Rattle.std.specs.Prelude.{◌≡◌, ◌<◌, ◌↔◌, IfSome, IsNone, Some, Contains, length, slice_get};
 ghost use Rattle.std.specs.List.Sorted.{IsStrictlySortedBy};
-ghost use Rattle.mrt_graph.specs.NodeOrder.{node_id_cmp};
-ghost use Rattle.mrt_graph.specs.NodeIds.{number_of};
+ghost use Rattle.mrt_graph.specs.{NodeOrder.node_id_cmp, NodeIds.number_of};
 
 use crate::node_id::NodeId;
 

@@ -1,7 +1,5 @@
 ghost use Rattle.std.proofs.Common.{rules};
-ghost use Rattle.std.specs.Cmp.{partial_order_from_own_ties};
-ghost use Rattle.std.specs.Cmp.Rules.{comparing};
-ghost use Rattle.std.specs.Ordering.{as_partial_cmp};
+ghost use Rattle.std.specs.{Cmp.partial_order_from_own_ties, Cmp.Rules.comparing, Ordering.as_partial_cmp};
 
 use std::cmp::Ordering;
 

@@ -2,9 +2,7 @@
 //! Contracts see them as plain numbers.
 
 ghost use Rattle.std.proofs.Common.{rules};
-ghost use Rattle.std.specs.Cmp.{partial_order_from_own_ties};
-ghost use Rattle.std.specs.Cmp.Rules.{comparing};
-ghost use Rattle.std.specs.Ordering.{as_partial_cmp, nat_cmp};
+ghost use Rattle.std.specs.{Cmp.partial_order_from_own_ties, Cmp.Rules.comparing, Ordering.as_partial_cmp, Ordering.nat_cmp};
 ghost use Rattle.std.specs.Prelude.{nat_eq};
 
 use std::cmp::Ordering;

@@ -20,10 +20,8 @@ ghost use Rattle.std.specs.Prelude.{
   OnOk,
   OnErr,
 };
-ghost use Rattle.mrt_io.specs.Counts.{Rose, last_count};
+ghost use Rattle.mrt_io.specs.{Counts.Rose, Counts.last_count, Left.IsLeftOf, Left.IsTakenOff, Writing.Gained};
 ghost use Rattle.mrt_io.specs.Holding.{Files, IsFileOf, IsTooLong, IsKnownTooLong, IsKnownMissing, IsKnownThere};
-ghost use Rattle.mrt_io.specs.Left.{IsLeftOf, IsTakenOff};
-ghost use Rattle.mrt_io.specs.Writing.{Gained};
 
 use crate::word::Word;
 use mrt_graph::NoMemory;

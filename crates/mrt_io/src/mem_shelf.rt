@@ -1,7 +1,6 @@
 ghost use Rattle.std.specs.Prelude.{◌≡◌, ◌<◌, ◌+◌, ◌^◌, IfSome, None, Some, length, min, take, if◌then◌else◌};
 ghost use Rattle.std.specs.Option.{option_and_then, option_map};
-ghost use Rattle.mrt_io.specs.Memory.{file_of};
-ghost use Rattle.mrt_io.specs.Named.{named};
+ghost use Rattle.mrt_io.specs.{Memory.file_of, Named.named};
 ghost use Rattle.mrt_io.specs.Opened.{IsOpenIn, bytes_at, left_of};
 
 use crate::call::is_failing;
@@ -28,9 +27,7 @@ struct Open {
 }
 
 impl Model for MemShelf {
-    ghost use Rattle.mrt_io.specs.Memory.{ShelfInMemory};
-    ghost use Rattle.mrt_io.specs.Named.{named};
-    ghost use Rattle.mrt_io.specs.Opened.{IsOpenIn, left_of};
+    ghost use Rattle.mrt_io.specs.{Memory.ShelfInMemory, Named.named, Opened.IsOpenIn, Opened.left_of};
 
     ghost Value = { ShelfInMemory };
 
@@ -47,8 +44,7 @@ impl Model for MemShelf {
 
 impl MemShelf {
     ghost use Rattle.std.specs.Prelude.{◌≡◌, None};
-    ghost use Rattle.mrt_io.specs.Memory.{HasDistinctNames};
-    ghost use Rattle.mrt_io.specs.Named.{named};
+    ghost use Rattle.mrt_io.specs.{Memory.HasDistinctNames, Named.named};
 
     /// A shelf with these files, which fails the calls whose numbers, from 0, are in `fails`. Each `read`, `open` and `more` is
     /// one call.
@@ -121,8 +117,7 @@ fn copy_front(left: &[u8], piece: &mut [u8]) -> u32
 
 impl Shelf for MemShelf {
     ghost use Rattle.std.specs.Prelude.{◌≡◌, ◌↔◌, ◌⊎◌, ◌<◌, ◌≤◌, Some, IsTrue, IsErrOf, IfOk, IsSome, IfSome, OnOk, length, take};
-    ghost use Rattle.std.specs.Option.{IsSomeAnd};
-    ghost use Rattle.std.specs.Result.{result_ok};
+    ghost use Rattle.std.specs.{Option.IsSomeAnd, Result.result_ok};
     ghost use Rattle.mrt_io.specs.Memory.{IsHealthyShelf, file_of, is_read_fault, more_of, shelf_after, shelf_opened, shelf_read_on};
 
     ghost held = { λ shelf. Some (file_of shelf.files) };

@@ -2,11 +2,7 @@
 
 ghost use Rattle.std.specs.Prelude.{◌≡◌, ◌<◌, IfOk, length, map};
 ghost use Rattle.area_graph.specs.AreaInvariant.{IsBond};
-ghost use Rattle.mrt_island.specs.Eligible.{
-  is_eligible as is_eligible_pair,
-  is_for_transit as is_metric_for_transit,
-  may_end,
-};
+ghost use Rattle.mrt_island.specs.Eligible.{is_eligible as is_eligible_pair, is_for_transit as is_metric_for_transit, may_end};
 ghost use Rattle.mrt_island.specs.Policy.{policy_of};
 
 use crate::profile::Profile;

@@ -1,12 +1,9 @@
 //! That an island is that of each router in it, and that a router has one island.
 
 ghost use Rattle.std.specs.Prelude.{◌≡◌, ℕ, List, Option, Contains};
-ghost use Rattle.mrt_graph.specs.Topology.{Topology};
-ghost use Rattle.area_graph.specs.AreaInvariant.{IsArea};
-ghost use Rattle.mrt_graph.specs.NodeIds.{router as router_node};
-ghost use Rattle.area_graph.specs.Parts.{AreaParts};
-ghost use Rattle.mrt_island.specs.IslandOf.{IsIsland};
-ghost use Rattle.mrt_island.specs.Policy.{Policy};
+ghost use Rattle.mrt_graph.specs.{Topology.Topology, NodeIds.router as router_node};
+ghost use Rattle.area_graph.specs.{AreaInvariant.IsArea, Parts.AreaParts};
+ghost use Rattle.mrt_island.specs.{IslandOf.IsIsland, Policy.Policy};
 
 /// A law: an island of a router that contains another router is that router's island.
 pub fn an_island_is_that_of_each_router_in_it()

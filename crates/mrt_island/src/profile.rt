@@ -22,8 +22,7 @@ pub struct Profile {
 
 impl Model for Profile {
     ghost use Rattle.std.specs.Prelude.{List};
-    ghost use Rattle.mrt_island.specs.declared.setting.Setting.{Setting};
-    ghost use Rattle.mrt_island.specs.ProfileStore.{settings_kept};
+    ghost use Rattle.mrt_island.specs.{declared.setting.Setting.Setting, ProfileStore.settings_kept};
 
     ghost Value = { List Setting };
 

@@ -1,8 +1,7 @@
 //! What holds of the lines of each profile file. The law holds of the definitions alone; the function does nothing.
 
 ghost use Rattle.std.specs.Prelude.{◌≡◌, ◌⊎◌, ℕ, List};
-ghost use Rattle.mrt_island.specs.declared.profile_error.ProfileKind.{ProfileKind};
-ghost use Rattle.mrt_island.specs.declared.setting.Setting.{Setting};
+ghost use Rattle.mrt_island.specs.{declared.profile_error.ProfileKind.ProfileKind, declared.setting.Setting.Setting};
 ghost use Rattle.mrt_island.specs.ProfileFaults.{AreSettings, IsFirstFault};
 
 /// Laws: lines are settings or have a first fault, never both, and each in one way.

@@ -1,13 +1,8 @@
 //! Where a link, a row and a color lead.
 
 ghost use Rattle.std.specs.Prelude.{◌≡◌, ◌<◌, ℕ, IfNone, IfSome, [], ◌∷◌, length};
-ghost use Rattle.mrt_graph.specs.Certificate.{row_of};
-ghost use Rattle.mrt_graph.specs.Hop.{color_hop};
-ghost use Rattle.mrt_graph.specs.ColorWalk.{links_followed};
-ghost use Rattle.mrt_graph.specs.Leads.{leads};
-ghost use Rattle.mrt_graph.specs.Rows.{link_of_color};
-ghost use Rattle.mrt_plain.specs.Within.{AreWithin};
-ghost use Rattle.mrt_plain.specs.NextHop.{IsNextHop};
+ghost use Rattle.mrt_graph.specs.{Certificate.row_of, Hop.color_hop, ColorWalk.links_followed, Leads.leads, Rows.link_of_color};
+ghost use Rattle.mrt_plain.specs.{Within.AreWithin, NextHop.IsNextHop};
 
 use mrt_graph::{Cert, Color, Link, LinkNo, NodeNo, Row};
 

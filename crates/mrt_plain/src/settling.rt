@@ -1,10 +1,8 @@
 //! What can be reached without a link or a node.
 
 ghost use Rattle.std.specs.Prelude.{◌≡◌, ◌<◌, ◌↔◌, ℕ, IfOk, Some, length, vec_len};
-ghost use Rattle.mrt_graph.specs.Reachable.{Reachable};
-ghost use Rattle.mrt_graph.specs.Search.{Enters, IsMarked};
-ghost use Rattle.mrt_plain.specs.Within.{AreWithin};
-ghost use Rattle.mrt_plain.specs.Without.{StepsWithout, onward_without};
+ghost use Rattle.mrt_graph.specs.{Reachable.Reachable, Search.Enters, Search.IsMarked};
+ghost use Rattle.mrt_plain.specs.{Within.AreWithin, Without.StepsWithout, Without.onward_without};
 
 use crate::hop::lead;
 use mrt_graph::{Element, Link, NoMemory, NodeNo, NodeSearch};

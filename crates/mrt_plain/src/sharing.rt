@@ -1,9 +1,7 @@
 //! Color walks that share only what they must.
 
 ghost use Rattle.std.specs.Prelude.{◌≡◌, ◌<◌, ◌↔◌, ℕ, IfOk, IsTrue, Contains, length};
-ghost use Rattle.mrt_graph.specs.Apart.{Apart};
-ghost use Rattle.mrt_graph.specs.Certificate.{row_of};
-ghost use Rattle.mrt_graph.specs.Separates.{IsNeitherEnd, Separates};
+ghost use Rattle.mrt_graph.specs.{Apart.Apart, Certificate.row_of, Separates.IsNeitherEnd, Separates.Separates};
 ghost use Rattle.mrt_plain.specs.Within.{AreWithin};
 
 use crate::parting::separates;

@@ -1,8 +1,7 @@
 //! Sound rows.
 
 ghost use Rattle.std.specs.Prelude.{◌≢◌, ◌<◌, ◌↔◌, ℕ, IfOk, IsTrue, length};
-ghost use Rattle.mrt_graph.specs.Certificate.{row_of};
-ghost use Rattle.mrt_graph.specs.Sound.{Sound, SoundFor};
+ghost use Rattle.mrt_graph.specs.{Certificate.row_of, Sound.Sound, Sound.SoundFor};
 ghost use Rattle.mrt_plain.specs.Within.{AreWithin};
 
 use crate::arrival::reaches;

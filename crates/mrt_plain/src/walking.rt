@@ -1,10 +1,7 @@
 //! Color walks.
 
 ghost use Rattle.std.specs.Prelude.{◌≡◌, ◌<◌, IfOk, length};
-ghost use Rattle.mrt_graph.specs.Certificate.{row_of};
-ghost use Rattle.mrt_graph.specs.ColorWalk.{color_walk};
-ghost use Rattle.mrt_graph.specs.Uses.{nodes_met};
-ghost use Rattle.mrt_graph.specs.Walk.{Walk};
+ghost use Rattle.mrt_graph.specs.{Certificate.row_of, ColorWalk.color_walk, Uses.nodes_met, Walk.Walk};
 ghost use Rattle.mrt_plain.specs.Within.{AreWithin};
 
 use crate::hop::next_hop;

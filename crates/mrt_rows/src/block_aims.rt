@@ -2,10 +2,8 @@
 
 ghost use Rattle.std.specs.Prelude.{◌≡◌, ◌≢◌, ◌<◌, ◌*◌, ℕ, Some, length, slice_get, true};
 ghost use Rattle.mrt_graph.specs.GraphInvariant.{IsTopology};
-ghost use Rattle.link_direction.specs.Directions.{Directions, Says};
-ghost use Rattle.link_direction.specs.OrderedGadag.{SaysOrdered};
-ghost use Rattle.inc_dec_spf.specs.BlockAims.{aim_at};
-ghost use Rattle.inc_dec_spf.specs.FirstLink.{no_link};
+ghost use Rattle.link_direction.specs.{Directions.Directions, Directions.Says, OrderedGadag.SaysOrdered};
+ghost use Rattle.inc_dec_spf.specs.{BlockAims.aim_at, FirstLink.no_link};
 ghost use Rattle.mrt_rows.specs.Chain.{AreBlockAims, AreBlockMarks, AreWayAims, AreWayMarks};
 ghost use Rattle.mrt_rows.specs.NearOf.{AreSoles};
 

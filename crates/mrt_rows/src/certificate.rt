@@ -1,9 +1,7 @@
 //! The certificate of a graph and its root.
 
 ghost use Rattle.std.specs.Prelude.{◌≡◌, ◌<◌, IfOk, Some, length, slice_get};
-ghost use Rattle.mrt_graph.specs.declared.node_id.NodeId.{NodeId};
-ghost use Rattle.mrt_graph.specs.Accepted.{Accepted};
-ghost use Rattle.mrt_graph.specs.GraphInvariant.{IsTopology};
+ghost use Rattle.mrt_graph.specs.{declared.node_id.NodeId.NodeId, Accepted.Accepted, GraphInvariant.IsTopology};
 ghost use Rattle.mrt_rows.specs.CertOf.{IsCertOf, file_of};
 
 use crate::all_rows::all_rows;

@@ -2,8 +2,7 @@
 
 ghost use Rattle.std.specs.Prelude.{◌≡◌, ◌<◌, length};
 ghost use Rattle.mrt_graph.specs.GraphInvariant.{IsTopology};
-ghost use Rattle.link_direction.specs.Directions.{Directions, Says};
-ghost use Rattle.link_direction.specs.OrderedGadag.{SaysOrdered};
+ghost use Rattle.link_direction.specs.{Directions.Directions, Directions.Says, OrderedGadag.SaysOrdered};
 ghost use Rattle.mrt_rows.specs.Chain.{AreBelow};
 
 use mrt_graph::{Directed, Graph, NodeNo};

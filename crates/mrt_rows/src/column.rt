@@ -2,16 +2,11 @@
 
 ghost use Rattle.std.specs.Prelude.{◌≡◌, ◌≢◌, ◌<◌, ℕ, [], IfOk, IfSome, Some, length, slice_get, true};
 ghost use Rattle.mrt_graph.specs.GraphInvariant.{IsTopology};
-ghost use Rattle.link_direction.specs.Directions.{Directions, Says};
-ghost use Rattle.link_direction.specs.OrderedGadag.{SaysOrdered};
-ghost use Rattle.inc_dec_spf.specs.declared.reach.Dir.TheVariants.{Down, Up};
-ghost use Rattle.inc_dec_spf.specs.BlockAims.{IsAimOf, aim_at};
-ghost use Rattle.inc_dec_spf.specs.LeastPath.{HaveCommonBlockOfMoreLinks};
-ghost use Rattle.inc_dec_spf.specs.Tile.{IsAimed};
-ghost use Rattle.mrt_rows.specs.Chain.{AreBelow, IsRowAim};
-ghost use Rattle.mrt_rows.specs.ColumnOf.{IsRowIn};
+ghost use Rattle.link_direction.specs.{Directions.Directions, Directions.Says, OrderedGadag.SaysOrdered};
+ghost use Rattle.inc_dec_spf.specs.{declared.reach.Dir.TheVariants.Down, declared.reach.Dir.TheVariants.Up, BlockAims.IsAimOf, BlockAims.aim_at};
+ghost use Rattle.inc_dec_spf.specs.{LeastPath.HaveCommonBlockOfMoreLinks, Tile.IsAimed};
+ghost use Rattle.mrt_rows.specs.{Chain.AreBelow, Chain.IsRowAim, ColumnOf.IsRowIn, NearOf.IsNearRow};
 ghost use Rattle.mrt_rows.specs.Held.{AreAimed, AreHeld, AreHeldFor};
-ghost use Rattle.mrt_rows.specs.NearOf.{IsNearRow};
 
 use crate::block_aims::{mark_ways, put_block_aims};
 use crate::chain::put_below;

@@ -2,11 +2,8 @@
 
 ghost use Rattle.std.specs.Prelude.{◌≡◌, ◌<◌, IfOk, Some, length, slice_get};
 ghost use Rattle.mrt_graph.specs.Column.{ColumnSound};
-ghost use Rattle.link_direction.specs.Directions.{Directions, Says};
-ghost use Rattle.link_direction.specs.OrderedGadag.{SaysOrdered};
-ghost use Rattle.mrt_rows.specs.Held.{AreAimed};
-ghost use Rattle.mrt_rows.specs.ColumnOf.{IsColumnBy, IsColumnOf};
-ghost use Rattle.mrt_rows.specs.TheColumn.{TheColumn, no_choice};
+ghost use Rattle.link_direction.specs.{Directions.Directions, Directions.Says, OrderedGadag.SaysOrdered};
+ghost use Rattle.mrt_rows.specs.{Held.AreAimed, ColumnOf.IsColumnBy, ColumnOf.IsColumnOf, TheColumn.TheColumn, TheColumn.no_choice};
 
 use crate::column::{Columns, Target};
 use crate::rows_law::columns_are_sound;

@@ -2,13 +2,9 @@
 
 ghost use Rattle.std.specs.Prelude.{◌≡◌, ◌<◌, ◌*◌, ℕ, Bool, IfOk, List, length};
 ghost use Rattle.mrt_graph.specs.GraphInvariant.{IsTopology};
-ghost use Rattle.link_direction.specs.Directions.{Directions};
-ghost use Rattle.link_direction.specs.OrderedGadag.{IsOrderedGadag};
-ghost use Rattle.inc_dec_spf.specs.BlockAims.{AreHeadAims};
-ghost use Rattle.inc_dec_spf.specs.declared.reach.Dir.TheVariants.{Down, Up};
-ghost use Rattle.inc_dec_spf.specs.HasDirections.{AreDirections, HasDirections};
-ghost use Rattle.inc_dec_spf.specs.Tile.{IsAimed, IsTile};
-ghost use Rattle.inc_dec_spf.specs.Turns.{AreTurns};
+ghost use Rattle.link_direction.specs.{Directions.Directions, OrderedGadag.IsOrderedGadag};
+ghost use Rattle.inc_dec_spf.specs.{BlockAims.AreHeadAims, declared.reach.Dir.TheVariants.Down, declared.reach.Dir.TheVariants.Up};
+ghost use Rattle.inc_dec_spf.specs.{HasDirections.AreDirections, HasDirections.HasDirections, Tile.IsAimed, Tile.IsTile, Turns.AreTurns};
 ghost use Rattle.mrt_rows.specs.Put.{AreBlocksMarked, AreHeadsMarked, AreHomes};
 
 use crate::members::Home;

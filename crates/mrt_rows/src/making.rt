@@ -5,9 +5,7 @@ ghost use Rattle.mrt_graph.specs.GraphInvariant.{IsTopology};
 ghost use Rattle.link_direction.specs.Directions.{Directions};
 ghost use Rattle.inc_dec_spf.specs.declared.reach.Dir.TheVariants.{Down, Up};
 ghost use Rattle.inc_dec_spf.specs.HasDirections.{AreDirections, HasDirections};
-ghost use Rattle.mrt_rows.specs.FirstLinks.{AreFirstLinks};
-ghost use Rattle.mrt_rows.specs.Making.{MakeLinks};
-ghost use Rattle.mrt_rows.specs.Put.{AreInCommonBlockOfMoreLinks};
+ghost use Rattle.mrt_rows.specs.{FirstLinks.AreFirstLinks, Making.MakeLinks, Put.AreInCommonBlockOfMoreLinks};
 
 use crate::first_links::FirstLinks;
 use crate::soles::take_soles;

@@ -2,19 +2,10 @@
 
 ghost use Rattle.std.specs.Prelude.{◌≡◌, ◌≢◌, ◌<◌, ℕ, IfOk, Some, length, slice_get};
 ghost use Rattle.std.specs.Option.{option_map};
-ghost use Rattle.mrt_graph.specs.GraphInvariant.{IsTopology};
-ghost use Rattle.mrt_graph.specs.Tags.{carried};
-ghost use Rattle.mrt_graph.specs.Topology.{Topology};
-ghost use Rattle.link_direction.specs.Directions.{Directions, Says};
-ghost use Rattle.link_direction.specs.OrderedGadag.{IsOrderedGadag, SaysOrdered};
-ghost use Rattle.inc_dec_spf.specs.declared.reach.Dir.TheVariants.{Up};
-ghost use Rattle.inc_dec_spf.specs.HasDirections.{AreDirections, HasDirections};
-ghost use Rattle.inc_dec_spf.specs.Turns.{AreTurns};
-ghost use Rattle.mrt_rows.specs.ColumnOf.{IsRowIn};
-ghost use Rattle.mrt_rows.specs.FirstLinks.{AreFirstLinks};
-ghost use Rattle.mrt_rows.specs.NearOf.{IsNearRow};
-ghost use Rattle.mrt_rows.specs.RowsOf.{AreRowsOf};
-ghost use Rattle.mrt_rows.specs.Source.{IsSourceBy};
+ghost use Rattle.mrt_graph.specs.{GraphInvariant.IsTopology, Tags.carried, Topology.Topology};
+ghost use Rattle.link_direction.specs.{Directions.Directions, Directions.Says, OrderedGadag.IsOrderedGadag, OrderedGadag.SaysOrdered};
+ghost use Rattle.inc_dec_spf.specs.{declared.reach.Dir.TheVariants.Up, HasDirections.AreDirections, HasDirections.HasDirections, Turns.AreTurns};
+ghost use Rattle.mrt_rows.specs.{ColumnOf.IsRowIn, FirstLinks.AreFirstLinks, NearOf.IsNearRow, RowsOf.AreRowsOf, Source.IsSourceBy};
 
 use crate::first_links::FirstLinks;
 use crate::making::Making;

@@ -1,13 +1,8 @@
 //! The columns of a graph from a root.
 
 ghost use Rattle.std.specs.Prelude.{◌≡◌, ◌<◌, ℕ, IfOk, IfSome, length};
-ghost use Rattle.mrt_graph.specs.declared.cert.CertFile.{CertFile};
-ghost use Rattle.mrt_graph.specs.Column.{ColumnSound};
-ghost use Rattle.mrt_graph.specs.GraphInvariant.{IsTopology};
-ghost use Rattle.mrt_rows.specs.CertOf.{IsCertOf};
-ghost use Rattle.mrt_rows.specs.ColumnOf.{HasRowsFor};
-ghost use Rattle.mrt_rows.specs.Rooted.{AreAimedAt, MakeColumns};
-ghost use Rattle.mrt_rows.specs.RowsTo.{AreRowsTo};
+ghost use Rattle.mrt_graph.specs.{declared.cert.CertFile.CertFile, Column.ColumnSound, GraphInvariant.IsTopology};
+ghost use Rattle.mrt_rows.specs.{CertOf.IsCertOf, ColumnOf.HasRowsFor, Rooted.AreAimedAt, Rooted.MakeColumns, RowsTo.AreRowsTo};
 
 use crate::column::{Columns, Target, WIDTH};
 use crate::column_view::ColumnView;

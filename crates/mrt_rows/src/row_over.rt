@@ -1,20 +1,12 @@
 //! The rows of one node for the nodes with which it has a block in common.
 
 ghost use Rattle.std.specs.Prelude.{◌≡◌, ◌≢◌, ◌<◌, ◌≤◌, ℕ, Option, None, Some, length, take};
-ghost use Rattle.mrt_graph.specs.declared.cert.Row.{Row};
-ghost use Rattle.mrt_graph.specs.declared.cert.Tag.TheVariants.{Sole};
-ghost use Rattle.mrt_graph.specs.GraphInvariant.{IsTopology};
-ghost use Rattle.mrt_graph.specs.Topology.{Topology};
-ghost use Rattle.link_direction.specs.Directions.{Directions};
-ghost use Rattle.link_direction.specs.OrderedGadag.{IsOrderedGadag};
-ghost use Rattle.inc_dec_spf.specs.declared.reach.Dir.TheVariants.{Down, Up};
-ghost use Rattle.inc_dec_spf.specs.FirstLink.{IsFirstLink, no_link};
+ghost use Rattle.mrt_graph.specs.{declared.cert.Row.Row, declared.cert.Tag.TheVariants.Sole, GraphInvariant.IsTopology, Topology.Topology};
+ghost use Rattle.link_direction.specs.{Directions.Directions, OrderedGadag.IsOrderedGadag};
+ghost use Rattle.inc_dec_spf.specs.{declared.reach.Dir.TheVariants.Down, declared.reach.Dir.TheVariants.Up, FirstLink.IsFirstLink, FirstLink.no_link};
 ghost use Rattle.inc_dec_spf.specs.HasDirections.{AreDirections};
 ghost use Rattle.mrt_rows.specs.NearOf.{IsNearRow, IsPlaceOf, IsSoleOf, near_first};
-ghost use Rattle.mrt_rows.specs.Put.{AreInCommonBlockOfMoreLinks, IsHome};
-ghost use Rattle.mrt_rows.specs.FirstLinks.{AreFirstLinks};
-ghost use Rattle.mrt_rows.specs.RowsOf.{HasRow};
-ghost use Rattle.mrt_rows.specs.Source.{IsSourceBy};
+ghost use Rattle.mrt_rows.specs.{Put.AreInCommonBlockOfMoreLinks, Put.IsHome, FirstLinks.AreFirstLinks, RowsOf.HasRow, Source.IsSourceBy};
 
 use crate::first_links::FirstLinks;
 use crate::members::{Home, member_row};

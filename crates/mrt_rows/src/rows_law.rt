@@ -1,26 +1,14 @@
 //! What holds of certificates and columns whose rows are those of the table.
 
 ghost use Rattle.std.specs.Prelude.{◌≡◌, ◌≢◌, ◌<◌, ◌+◌, ◌-◌, ◌*◌, ◌++◌, ℕ, List, [], Option, filter, length};
-ghost use Rattle.mrt_graph.specs.declared.cert.CertFile.{CertFile};
-ghost use Rattle.mrt_graph.specs.declared.cert.Row.{Row};
-ghost use Rattle.mrt_graph.specs.declared.tree.TreeNode.{TreeNode};
-ghost use Rattle.mrt_graph.specs.Accepted.{Accepted};
-ghost use Rattle.mrt_graph.specs.Certificate.{Certificate};
-ghost use Rattle.mrt_graph.specs.Column.{ColumnSound};
-ghost use Rattle.mrt_graph.specs.DirectedLists.{DirectedLists};
-ghost use Rattle.mrt_graph.specs.GadagLists.{GadagLists};
-ghost use Rattle.mrt_graph.specs.GraphInvariant.{IsTopology};
-ghost use Rattle.mrt_graph.specs.Topology.{Topology};
+ghost use Rattle.mrt_graph.specs.{declared.cert.CertFile.CertFile, declared.cert.Row.Row, declared.tree.TreeNode.TreeNode, Accepted.Accepted};
+ghost use Rattle.mrt_graph.specs.{Certificate.Certificate, Column.ColumnSound, DirectedLists.DirectedLists, GadagLists.GadagLists};
+ghost use Rattle.mrt_graph.specs.{GraphInvariant.IsTopology, Topology.Topology, Tags.is_near};
 ghost use Rattle.lowpoint_dfs.specs.SearchTree.{IsSearchTree};
 ghost use Rattle.gadag_ears.specs.Gadag.{IsGadag};
-ghost use Rattle.link_direction.specs.Directed.{IsDirected};
-ghost use Rattle.link_direction.specs.Directions.{Directions, Says};
-ghost use Rattle.link_direction.specs.OrderedGadag.{IsOrderedGadag};
-ghost use Rattle.mrt_rows.specs.CertOf.{IsCertOf, Tells};
-ghost use Rattle.mrt_rows.specs.ColumnOf.{HasColumns, IsColumnOf};
-ghost use Rattle.mrt_graph.specs.Tags.{is_near};
-ghost use Rattle.mrt_rows.specs.NearOf.{near_rows_before, near_rows_of};
-ghost use Rattle.mrt_rows.specs.RowsOf.{HasRow};
+ghost use Rattle.link_direction.specs.{Directed.IsDirected, Directions.Directions, Directions.Says, OrderedGadag.IsOrderedGadag};
+ghost use Rattle.mrt_rows.specs.{CertOf.IsCertOf, CertOf.Tells, ColumnOf.HasColumns, ColumnOf.IsColumnOf};
+ghost use Rattle.mrt_rows.specs.{NearOf.near_rows_before, NearOf.near_rows_of, RowsOf.HasRow};
 
 use gadag_ears::one_gadag;
 use link_direction::{directions_are_ordered, one_order};

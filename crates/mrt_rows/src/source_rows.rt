@@ -1,11 +1,8 @@
 //! The rows of a graph from a root, source after source.
 
 ghost use Rattle.std.specs.Prelude.{◌≡◌, ◌<◌, [], IfOk, length};
-ghost use Rattle.mrt_graph.specs.declared.cert.CertFile.{CertFile};
-ghost use Rattle.mrt_graph.specs.GraphInvariant.{IsTopology};
-ghost use Rattle.mrt_rows.specs.CertOf.{IsCertOf};
-ghost use Rattle.mrt_rows.specs.Making.{MakeRows};
-ghost use Rattle.mrt_rows.specs.NearOf.{near_rows_of};
+ghost use Rattle.mrt_graph.specs.{declared.cert.CertFile.CertFile, GraphInvariant.IsTopology};
+ghost use Rattle.mrt_rows.specs.{CertOf.IsCertOf, Making.MakeRows, NearOf.near_rows_of};
 
 use crate::directed::directions;
 use crate::making::Making;

@@ -1,9 +1,7 @@
 //! A certificate's words on nodes and links.
 
 ghost use Rattle.std.specs.Prelude.{◌≡◌, ◌<◌, ℕ, IfOk, Some, length, slice_get};
-ghost use Rattle.mrt_graph.specs.declared.link.Link.{Link};
-ghost use Rattle.mrt_graph.specs.declared.node_id.NodeId.{NodeId};
-ghost use Rattle.mrt_graph.specs.GraphInvariant.{IsTopology};
+ghost use Rattle.mrt_graph.specs.{declared.link.Link.Link, declared.node_id.NodeId.NodeId, GraphInvariant.IsTopology};
 ghost use Rattle.link_direction.specs.Directions.{Directions, Says};
 ghost use Rattle.inc_dec_spf.specs.HasDirections.{HasDirections};
 ghost use Rattle.mrt_rows.specs.CertOf.{AreLinkWords, AreNodeWords, link_words, node_words};

@@ -2,12 +2,8 @@
 
 ghost use Rattle.std.specs.Prelude.{◌≡◌, ◌≤◌, ◌↔◌, IfOk, IsTrue, length};
 ghost use Rattle.std.specs.List.{filter};
-ghost use Rattle.mrt_graph.specs.Roles.{is_sole};
-ghost use Rattle.mrt_graph.specs.AcceptedFor.{IsAcceptedAt};
-ghost use Rattle.mrt_survey.specs.BlockHeads.{HeadsTwo};
-ghost use Rattle.mrt_survey.specs.Counting.{AreSoMany};
-ghost use Rattle.mrt_survey.specs.Separating.{SeparatesTwo};
-ghost use Rattle.mrt_survey.specs.SurveyText.{HasLink};
+ghost use Rattle.mrt_graph.specs.{Roles.is_sole, AcceptedFor.IsAcceptedAt};
+ghost use Rattle.mrt_survey.specs.{BlockHeads.HeadsTwo, Counting.AreSoMany, Separating.SeparatesTwo, SurveyText.HasLink};
 
 use crate::marks::{count_of, mark_blocks, mark_heads, no_marks, set_mark};
 use mrt_graph::{Cert, CertLink, Graph, NoMemory, NodeNo, Role};

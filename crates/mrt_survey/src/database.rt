@@ -1,8 +1,7 @@
 //! The database of a network that is made from a number.
 
 ghost use Rattle.std.specs.Prelude.{◌≡◌, ◌≤◌, IfOk, length};
-ghost use Rattle.ospf_lsa.specs.LsaText.{lsas_text};
-ghost use Rattle.ospf_lsa.specs.Lsas.{AreLsas};
+ghost use Rattle.ospf_lsa.specs.{LsaText.lsas_text, Lsas.AreLsas};
 ghost use Rattle.mrt_survey.specs.MadeLsas.{made_lsas};
 
 use crate::made_links::links_from;

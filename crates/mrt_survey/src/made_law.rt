@@ -2,18 +2,12 @@
 
 ghost use Rattle.std.specs.Prelude.{◌≡◌, ◌≤◌, ◌*◌, ℕ, List, [], Option, None, Contains, length, map};
 ghost use Rattle.std.specs.List.{AllByRecursion, range_with_len};
-ghost use Rattle.area_graph.specs.AreaOf.{area_of};
-ghost use Rattle.area_graph.specs.AreaSize.{IsTooLarge};
-ghost use Rattle.mrt_graph.specs.NodeIds.{router as router_node};
+ghost use Rattle.area_graph.specs.{AreaOf.area_of, AreaSize.IsTooLarge};
+ghost use Rattle.mrt_graph.specs.{NodeIds.router as router_node, Topology.Topology};
 ghost use Rattle.ospf_lsa.specs.Lsas.{AreLsas};
-ghost use Rattle.mrt_graph.specs.Topology.{Topology};
-ghost use Rattle.lsdb.specs.Conflicts.{least_conflict};
-ghost use Rattle.lsdb.specs.Installing.{IsKept};
-ghost use Rattle.lsdb.specs.Installs.{AreBehind, all_installed};
-ghost use Rattle.mrt_island.specs.IslandOf.{IsIsland};
-ghost use Rattle.mrt_island.specs.Policy.{policy_of};
-ghost use Rattle.mrt_survey.specs.MadeLinks.{made_links};
-ghost use Rattle.mrt_survey.specs.MadeLsas.{made_lsas};
+ghost use Rattle.lsdb.specs.{Conflicts.least_conflict, Installing.IsKept, Installs.AreBehind, Installs.all_installed};
+ghost use Rattle.mrt_island.specs.{IslandOf.IsIsland, Policy.policy_of};
+ghost use Rattle.mrt_survey.specs.{MadeLinks.made_links, MadeLsas.made_lsas};
 
 /// Laws: the LSAs of a network that is made, of 4 to 2,048 routers, are without a fault; they may be installed one after
 /// another; the database then has no conflict, and they are its newest instances.

@@ -1,8 +1,7 @@
 //! The links of a network that is made: a ring, its chords, and spurs.
 
 ghost use Rattle.std.specs.Prelude.{◌≡◌, ◌+◌, ◌-◌, ◌*◌, ◌≤◌, ◌<◌, ◌^◌, ◌++◌, IfOk, map};
-ghost use Rattle.std.specs.List.{range_with_len};
-ghost use Rattle.std.specs.Vec.{vec_capacity, vec_len};
+ghost use Rattle.std.specs.{List.range_with_len, Vec.vec_capacity, Vec.vec_len};
 ghost use Rattle.mrt_survey.specs.Draws.{draw_after, with_draws};
 ghost use Rattle.mrt_survey.specs.MadeLinks.{
   chord_count,

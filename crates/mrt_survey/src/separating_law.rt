@@ -1,11 +1,8 @@
 //! Which nodes separate others, told by the certificate alone.
 
 ghost use Rattle.std.specs.Prelude.{◌↔◌, ℕ, length};
-ghost use Rattle.mrt_graph.specs.declared.cert.CertFile.{CertFile};
-ghost use Rattle.mrt_graph.specs.Accepted.{Accepted};
-ghost use Rattle.mrt_graph.specs.Topology.{Topology};
-ghost use Rattle.mrt_survey.specs.BlockHeads.{HeadsBlocks};
-ghost use Rattle.mrt_survey.specs.Separating.{SeparatesTwo};
+ghost use Rattle.mrt_graph.specs.{declared.cert.CertFile.CertFile, Accepted.Accepted, Topology.Topology};
+ghost use Rattle.mrt_survey.specs.{BlockHeads.HeadsBlocks, Separating.SeparatesTwo};
 
 /// A law: where a certificate is accepted for a graph and its root, a node separates two others exactly where it is the
 /// head of a block; the root exactly where it is the head of two.

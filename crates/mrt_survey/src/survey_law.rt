@@ -1,9 +1,7 @@
 //! That there is one survey.
 
 ghost use Rattle.std.specs.Prelude.{◌≡◌, ℕ, List};
-ghost use Rattle.mrt_graph.specs.AcceptedFor.{IsAcceptedAt};
-ghost use Rattle.mrt_graph.specs.Certificate.{Certificate};
-ghost use Rattle.mrt_graph.specs.Topology.{Topology};
+ghost use Rattle.mrt_graph.specs.{AcceptedFor.IsAcceptedAt, Certificate.Certificate, Topology.Topology};
 ghost use Rattle.mrt_survey.specs.SurveyText.{IsSurveyText};
 
 /// Laws: a graph and a certificate that is accepted for it have exactly one survey, for one root and one number.

@@ -2,8 +2,7 @@
 
 ghost use Rattle.std.specs.Prelude.{◌≡◌, ◌≢◌, ◌≤◌, ◌<◌, None, IfOk, Some, length, map, slice_get};
 ghost use Rattle.mrt_graph.specs.NodeIds.{router as router_node};
-ghost use Rattle.lsdb.specs.Conflicts.{least_conflict};
-ghost use Rattle.lsdb.specs.Database.{IsDatabase};
+ghost use Rattle.lsdb.specs.{Conflicts.least_conflict, Database.IsDatabase};
 ghost use Rattle.next_hops.specs.NextHops.{AreNextHops, AreNextHopsIn};
 
 use crate::failure::Failure;

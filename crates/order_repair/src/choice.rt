@@ -1,18 +1,12 @@
 //! The color that goes round a failure.
 
 ghost use Rattle.std.specs.Prelude.{◌≡◌, ◌<◌, ℕ, length};
-ghost use Rattle.mrt_graph.specs.declared.cert.CertFile.{CertFile};
-ghost use Rattle.mrt_graph.specs.Alternate.{UsesOn};
-ghost use Rattle.mrt_graph.specs.Certificate.{row_of};
-ghost use Rattle.mrt_graph.specs.Reaches.{Reaches};
+ghost use Rattle.mrt_graph.specs.{declared.cert.CertFile.CertFile, Alternate.UsesOn, Certificate.row_of, Reaches.Reaches};
 ghost use Rattle.link_direction.specs.Directions.{Directions};
 ghost use Rattle.inc_dec_spf.specs.HasDirections.{HasDirections};
-ghost use Rattle.mrt_rows.specs.CertOf.{IsCertOf};
-ghost use Rattle.mrt_rows.specs.DirectedFrom.{IsDirectedFrom};
-ghost use Rattle.order_repair.specs.Source.{AreHops, IsSource};
+ghost use Rattle.mrt_rows.specs.{CertOf.IsCertOf, DirectedFrom.IsDirectedFrom};
+ghost use Rattle.order_repair.specs.{Source.AreHops, Source.IsSource, OrderChoice.IsOrderChoice, OrderChoice.LineFor, Tagging.IsTagOfMoreLinks};
 ghost use Rattle.order_repair.specs.Failed.{IsBetween, IsNotSole, IsWithin};
-ghost use Rattle.order_repair.specs.OrderChoice.{IsOrderChoice, LineFor};
-ghost use Rattle.order_repair.specs.Tagging.{IsTagOfMoreLinks};
 
 use crate::link_line::link_color;
 use crate::node_line::node_color;

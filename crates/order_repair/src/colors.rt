@@ -1,8 +1,7 @@
 //! One color or the other, and its letter.
 
 ghost use Rattle.std.specs.Prelude.{◌≡◌};
-ghost use Rattle.order_repair.specs.Colors.{blue_where, red_where};
-ghost use Rattle.order_repair.specs.OrderText.{letter_of};
+ghost use Rattle.order_repair.specs.{Colors.blue_where, Colors.red_where, OrderText.letter_of};
 
 use mrt_graph::Color;
 

@@ -1,19 +1,14 @@
 //! The line on a node with which the router has a block of more than one link in common.
 
 ghost use Rattle.std.specs.Prelude.{◌≡◌, ◌≢◌, ◌<◌, ◌≤◌, ◌↔◌, ℕ, List, IfOk, IsTrue, Some, length, slice_get};
-ghost use Rattle.mrt_graph.specs.declared.gadag.Place.{Place};
-ghost use Rattle.mrt_graph.specs.declared.cert.Tag.TheVariants.{Top};
-ghost use Rattle.mrt_graph.specs.Separates.{IsNeitherEnd};
+ghost use Rattle.mrt_graph.specs.{declared.gadag.Place.Place, declared.cert.Tag.TheVariants.Top, Separates.IsNeitherEnd};
 ghost use Rattle.link_direction.specs.Directions.{Directions};
 ghost use Rattle.inc_dec_spf.specs.HasDirections.{HasDirections};
 ghost use Rattle.text_parts.specs.Adds.{Adds};
-ghost use Rattle.order_repair.specs.BlockLists.{AreBlockLists, node_blocks};
-ghost use Rattle.order_repair.specs.Blocks.{IsPair, LinkLetters, NodeLetters};
-ghost use Rattle.order_repair.specs.Chains.{IsNext};
-ghost use Rattle.order_repair.specs.Failed.{IsWithin, LiesIn};
-ghost use Rattle.order_repair.specs.OrderText.{IsLetter, IsLine};
-ghost use Rattle.order_repair.specs.SourceView.{AreHopsIn, IsSourceIn};
+ghost use Rattle.order_repair.specs.{BlockLists.AreBlockLists, BlockLists.node_blocks, Chains.IsNext, Failed.IsWithin, Failed.LiesIn};
+ghost use Rattle.order_repair.specs.{OrderText.IsLetter, OrderText.IsLine, SourceView.AreHopsIn, SourceView.IsSourceIn};
 ghost use Rattle.order_repair.specs.Tagging.{IsTagOfMoreLinks, IsTagFor};
+ghost use Rattle.order_repair.specs.Blocks.{IsPair, LinkLetters, NodeLetters};
 
 use crate::choice::color_for;
 use crate::colors::letter;

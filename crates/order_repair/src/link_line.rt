@@ -1,15 +1,11 @@
 //! The color that goes round a link.
 
 ghost use Rattle.std.specs.Prelude.{◌≡◌, ◌≢◌, ◌<◌, ◌↔◌, ℕ, IsTrue, length};
-ghost use Rattle.mrt_graph.specs.declared.cert.Role.TheVariants.{Sole};
-ghost use Rattle.mrt_graph.specs.declared.cert.Tag.TheVariants.{Unordered};
+ghost use Rattle.mrt_graph.specs.{declared.cert.Role.TheVariants.Sole, declared.cert.Tag.TheVariants.Unordered};
 ghost use Rattle.link_direction.specs.Directions.{Directions, Says};
-ghost use Rattle.inc_dec_spf.specs.declared.reach.Dir.TheVariants.{Up};
-ghost use Rattle.inc_dec_spf.specs.LeastPath.{IsReach};
-ghost use Rattle.order_repair.specs.Source.{AreHops, IsSource};
-ghost use Rattle.order_repair.specs.Arrow.{arrow_of};
+ghost use Rattle.inc_dec_spf.specs.{declared.reach.Dir.TheVariants.Up, LeastPath.IsReach};
+ghost use Rattle.order_repair.specs.{Source.AreHops, Source.IsSource, Arrow.arrow_of, Tagging.IsTagOfMoreLinks};
 ghost use Rattle.order_repair.specs.OrderChoice.{ClosingLine, LeadsTo, LinkLine, PlainLine};
-ghost use Rattle.order_repair.specs.Tagging.{IsTagOfMoreLinks};
 
 use crate::colors::{blue_where, red_where};
 use crate::pair::Pair;

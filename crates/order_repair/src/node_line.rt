@@ -3,9 +3,7 @@
 ghost use Rattle.std.specs.Prelude.{◌<◌, ℕ, length};
 ghost use Rattle.mrt_graph.specs.declared.cert.Tag.TheVariants.{Unordered};
 ghost use Rattle.link_direction.specs.Directions.{Directions};
-ghost use Rattle.order_repair.specs.Source.{AreHops, IsSource};
-ghost use Rattle.order_repair.specs.OrderChoice.{NodeLine};
-ghost use Rattle.order_repair.specs.Tagging.{IsTagOfMoreLinks};
+ghost use Rattle.order_repair.specs.{Source.AreHops, Source.IsSource, OrderChoice.NodeLine, Tagging.IsTagOfMoreLinks};
 
 use crate::colors::{blue_where, red_where};
 use crate::pair::Pair;

@@ -1,23 +1,13 @@
 //! What holds of the color that is chosen by order.
 
 ghost use Rattle.std.specs.Prelude.{◌≡◌, ◌<◌, ◌↔◌, ℕ, length};
-ghost use Rattle.mrt_graph.specs.declared.cert.CertFile.{CertFile};
-ghost use Rattle.mrt_graph.specs.declared.cert.Color.{Color};
-ghost use Rattle.mrt_graph.specs.declared.link.Element.{Element};
-ghost use Rattle.mrt_graph.specs.Alternate.{UsesOn};
-ghost use Rattle.mrt_graph.specs.Certificate.{row_of};
-ghost use Rattle.mrt_graph.specs.DirectedLists.{DirectedLists};
-ghost use Rattle.mrt_graph.specs.GraphInvariant.{IsTopology};
-ghost use Rattle.mrt_graph.specs.Reaches.{Reaches};
-ghost use Rattle.mrt_graph.specs.Separates.{Separates};
+ghost use Rattle.mrt_graph.specs.{declared.cert.CertFile.CertFile, declared.cert.Color.Color, declared.link.Element.Element, Alternate.UsesOn};
+ghost use Rattle.mrt_graph.specs.{Certificate.row_of, DirectedLists.DirectedLists, GraphInvariant.IsTopology, Reaches.Reaches, Separates.Separates};
 ghost use Rattle.mrt_graph.specs.Topology.{Topology};
-ghost use Rattle.link_direction.specs.Directions.{Directions, Says};
-ghost use Rattle.link_direction.specs.OrderedGadag.{IsOrderedGadag};
+ghost use Rattle.link_direction.specs.{Directions.Directions, Directions.Says, OrderedGadag.IsOrderedGadag};
 ghost use Rattle.inc_dec_spf.specs.LeastPath.{HaveCommonBlockOfMoreLinks};
-ghost use Rattle.mrt_rows.specs.CertOf.{IsCertOf, Tells};
-ghost use Rattle.mrt_rows.specs.DirectedFrom.{IsDirectedFrom};
-ghost use Rattle.order_repair.specs.Failed.{IsBetween, LiesIn};
-ghost use Rattle.order_repair.specs.OrderChoice.{IsOrderChoice};
+ghost use Rattle.mrt_rows.specs.{CertOf.IsCertOf, CertOf.Tells, DirectedFrom.IsDirectedFrom};
+ghost use Rattle.order_repair.specs.{Failed.IsBetween, Failed.LiesIn, OrderChoice.IsOrderChoice};
 
 /// Laws, where the rows of a file are those of the table: the walk of the color that is chosen by order for a failure
 /// reaches its end, and does not use what has failed.

@@ -2,8 +2,7 @@
 
 ghost use Rattle.std.specs.Prelude.{◌≡◌, ◌<◌, ◌↔◌, ℕ, IsTrue, length};
 ghost use Rattle.link_direction.specs.Directions.{Directions};
-ghost use Rattle.inc_dec_spf.specs.declared.reach.Dir.{Dir};
-ghost use Rattle.inc_dec_spf.specs.LeastPath.{IsReach};
+ghost use Rattle.inc_dec_spf.specs.{declared.reach.Dir.Dir, LeastPath.IsReach};
 ghost use Rattle.order_repair.specs.OrderChoice.{LeadsTo};
 
 use inc_dec_spf::Reach;

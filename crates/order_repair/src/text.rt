@@ -2,13 +2,10 @@
 
 ghost use Rattle.std.specs.Prelude.{◌≡◌, ◌<◌, ℕ, IfOk, length};
 ghost use Rattle.mrt_graph.specs.GraphInvariant.{IsTopology};
-ghost use Rattle.link_direction.specs.Directions.{Directions, Says};
-ghost use Rattle.link_direction.specs.OrderedGadag.{SaysOrdered};
+ghost use Rattle.link_direction.specs.{Directions.Directions, Directions.Says, OrderedGadag.SaysOrdered};
 ghost use Rattle.mrt_rows.specs.DirectedFrom.{IsDirectedFrom};
-ghost use Rattle.order_repair.specs.BlockLists.{AreBlockLists};
-ghost use Rattle.order_repair.specs.SourceView.{AreHopsIn, IsSourceIn};
-ghost use Rattle.text_parts.specs.Adds.{Adds};
-ghost use Rattle.text_parts.specs.Parts.{AreParts};
+ghost use Rattle.order_repair.specs.{BlockLists.AreBlockLists, SourceView.AreHopsIn, SourceView.IsSourceIn};
+ghost use Rattle.text_parts.specs.{Adds.Adds, Parts.AreParts};
 ghost use Rattle.order_repair.specs.OrderText.{IsHead, IsOrderText, IsPartOn, IsTextFrom};
 
 use crate::block_lists::BlockLists;

@@ -1,10 +1,8 @@
 //! That a router has one text.
 
 ghost use Rattle.std.specs.Prelude.{◌≡◌, ◌<◌, ℕ, List, length};
-ghost use Rattle.mrt_graph.specs.GraphInvariant.{IsTopology};
-ghost use Rattle.mrt_graph.specs.Topology.{Topology};
-ghost use Rattle.link_direction.specs.Directions.{Directions};
-ghost use Rattle.link_direction.specs.OrderedGadag.{IsOrderedGadag};
+ghost use Rattle.mrt_graph.specs.{GraphInvariant.IsTopology, Topology.Topology};
+ghost use Rattle.link_direction.specs.{Directions.Directions, OrderedGadag.IsOrderedGadag};
 ghost use Rattle.order_repair.specs.OrderText.{IsOrderText, IsTextFrom};
 
 use gadag_ears::one_gadag;

@@ -1,8 +1,7 @@
 //! The links of a router-LSA (RFC 2328, section A.4.2).
 
 ghost use Rattle.std.specs.Prelude.{◌≡◌, ◌≤◌, IfOk, IfSome, length};
-ghost use Rattle.std.specs.List.{list_any};
-ghost use Rattle.std.specs.Option.{option_map};
+ghost use Rattle.std.specs.{List.list_any, Option.option_map};
 ghost use Rattle.ospf_lsa.specs.Reading.{first_link, link_length, links_in};
 ghost use Rattle.ospf_lsa.specs.Lsas.{has_zero_metric};
 

@@ -1,8 +1,7 @@
 //! Link state advertisements (RFC 2328, section A.4).
 
 ghost use Rattle.std.specs.Prelude.{◌≡◌};
-ghost use Rattle.ospf_lsa.specs.AreaLsas.{is_area_lsa};
-ghost use Rattle.ospf_lsa.specs.MaxAge.{is_at_max_age};
+ghost use Rattle.ospf_lsa.specs.{AreaLsas.is_area_lsa, MaxAge.is_at_max_age};
 
 use mrt_graph::Seq;
 

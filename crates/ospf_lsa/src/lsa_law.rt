@@ -2,10 +2,7 @@
 
 ghost use Rattle.std.specs.Prelude.{◌≡◌, ◌⊎◌, ℕ, List};
 ghost use Rattle.std.specs.List.{AllByRecursion};
-ghost use Rattle.ospf_lsa.specs.declared.error.LsaKind.{LsaKind};
-ghost use Rattle.ospf_lsa.specs.declared.lsa.Lsa.{Lsa};
-ghost use Rattle.ospf_lsa.specs.LsaText.{lsas_text};
-ghost use Rattle.ospf_lsa.specs.Lsas.{AreLsas, IsByte};
+ghost use Rattle.ospf_lsa.specs.{declared.error.LsaKind.LsaKind, declared.lsa.Lsa.Lsa, LsaText.lsas_text, Lsas.AreLsas, Lsas.IsByte};
 ghost use Rattle.ospf_lsa.specs.Outcome.{IsFirstFault};
 
 /// Any bytes are LSAs without a fault, one after another, or have a first record with a fault; never both, and each in

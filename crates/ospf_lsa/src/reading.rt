@@ -1,10 +1,8 @@
 //! A whole database.
 
 ghost use Rattle.std.specs.Prelude.{◌≡◌, ◌≤◌, ℕ, List, IfOk, Err, length};
-ghost use Rattle.ospf_lsa.specs.declared.lsa.Lsa.{Lsa};
-ghost use Rattle.ospf_lsa.specs.LsaText.{lsas_text};
+ghost use Rattle.ospf_lsa.specs.{declared.lsa.Lsa.Lsa, LsaText.lsas_text, Lsas.AreLsas};
 ghost use Rattle.ospf_lsa.specs.Outcome.{AreAnswer, IsFirstFault, IsRefusal};
-ghost use Rattle.ospf_lsa.specs.Lsas.{AreLsas};
 
 use crate::error::{LsaError, LsaKind};
 use crate::field::after;

@@ -1,8 +1,7 @@
 //! LSAs written.
 
 ghost use Rattle.std.specs.Prelude.{◌≡◌, ◌≤◌, ◌<◌, ◌+◌, ◌*◌, ◌^◌, ◌++◌, IfOk, [], ◌∷◌, length, vec_len, vec_capacity};
-ghost use Rattle.std.specs.Int.{w32, to_be_bytes};
-ghost use Rattle.std.specs.List.{flat_map, AllByRecursion};
+ghost use Rattle.std.specs.{Int.w32, Int.to_be_bytes, List.flat_map, List.AllByRecursion};
 ghost use Rattle.ospf_lsa.specs.LsaText.{link_text, links_text, body_text, header_text, lsa_length, lsa_text, lsas_text};
 ghost use Rattle.ospf_lsa.specs.Lsas.{AreEntriesOf, AreLsas, FitsBody, FitsHeader, FitsLink, Is32Bits, IsByte, IsOfType};
 ghost use Rattle.ospf_lsa.specs.Written.{renewed, renewed_at_front, with_checksum, HasItsEntries, IsReadable};

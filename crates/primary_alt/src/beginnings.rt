@@ -2,12 +2,9 @@
 
 ghost use Rattle.std.specs.Prelude.{◌≡◌, ◌<◌, ◌≤◌, ◌⊎◌, ◌↔◌, ℕ, IfOk, IfSome, IsTrue, Some, length, slice_get};
 ghost use Rattle.area_graph.specs.declared.area_types.Arc.{Arc};
-ghost use Rattle.primary_alt.specs.declared.beginnings.Beginning.{Beginning};
-ghost use Rattle.primary_alt.specs.Attaining.{AreBetween};
-ghost use Rattle.primary_alt.specs.Beginnings.{HasBeginning};
-ghost use Rattle.primary_alt.specs.Distances.{HasDistance};
-ghost use Rattle.primary_alt.specs.LeastBeginnings.{AreLeast, GoesOn, IsAtMost, IsPassedOn, IsUpTo};
+ghost use Rattle.primary_alt.specs.{declared.beginnings.Beginning.Beginning, Attaining.AreBetween, Beginnings.HasBeginning, Distances.HasDistance};
 ghost use Rattle.primary_alt.specs.Onward.{CostInRow};
+ghost use Rattle.primary_alt.specs.LeastBeginnings.{AreLeast, GoesOn, IsAtMost, IsPassedOn, IsUpTo};
 
 use crate::onward::onward_arcs;
 use area_graph::{Arc, ArcNo, Spot};

@@ -1,8 +1,7 @@
 //! Where a packet on a color goes.
 
 ghost use Rattle.std.specs.Prelude.{◌≡◌, ◌<◌, IsSome, Some, length};
-ghost use Rattle.mrt_graph.specs.Hop.{color_hop, hop_over};
-ghost use Rattle.mrt_graph.specs.Rows.{link_of_color};
+ghost use Rattle.mrt_graph.specs.{Hop.color_hop, Hop.hop_over, Rows.link_of_color};
 
 use mrt_graph::{Color, Graph, LinkNo, NodeNo, Row, RowsOf};
 

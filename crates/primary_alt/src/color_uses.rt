@@ -1,9 +1,7 @@
 //! What a color uses on its way.
 
 ghost use Rattle.std.specs.Prelude.{◌<◌, ◌↔◌, ◌≢◌, ℕ, IsTrue, length};
-ghost use Rattle.mrt_graph.specs.Alternate.{UsesOn};
-ghost use Rattle.mrt_graph.specs.Separates.{IsNeitherEnd};
-ghost use Rattle.mrt_graph.specs.Sound.{SoundFor};
+ghost use Rattle.mrt_graph.specs.{Alternate.UsesOn, Separates.IsNeitherEnd, Sound.SoundFor};
 ghost use Rattle.primary_alt.specs.Meets.{IsOver};
 
 use crate::color_hops::{ColorHop, next_hop};

@@ -2,8 +2,7 @@
 
 ghost use Rattle.std.specs.Prelude.{◌≡◌, ◌<◌, ◌≤◌, ◌↔◌, ℕ, Contains, IfOk, IsTrue, None, length, map};
 ghost use Rattle.std.specs.List.{range_with_len};
-ghost use Rattle.area_graph.specs.declared.area_types.Arc.{Arc};
-ghost use Rattle.area_graph.specs.Starts.{AreStarts};
+ghost use Rattle.area_graph.specs.{declared.area_types.Arc.Arc, Starts.AreStarts};
 ghost use Rattle.primary_alt.specs.Attaining.{AreBetween, AreFirstToAttain, Attains, IsFirstToAttain};
 ghost use Rattle.primary_alt.specs.FirstArcs.{AreColumnsFor};
 

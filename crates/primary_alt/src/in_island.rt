@@ -1,8 +1,7 @@
 //! What the nodes and bonds of an area are in an island.
 
 ghost use Rattle.std.specs.Prelude.{◌≡◌, ◌≢◌, ◌<◌, ◌⊎◌, ℕ, IfOk, IfSome, Some, Contains, length, slice_get};
-ghost use Rattle.area_graph.specs.AreaInvariant.{IsArea};
-ghost use Rattle.area_graph.specs.Fits.{Fits};
+ghost use Rattle.area_graph.specs.{AreaInvariant.IsArea, Fits.Fits};
 ghost use Rattle.mrt_graph.specs.declared.node_id.NodeId.{NodeId};
 ghost use Rattle.primary_alt.specs.RoutesMade.{AreAreaNodes, AreBondsOf, AreIslandNodes};
 

@@ -2,8 +2,7 @@
 
 ghost use Rattle.std.specs.Prelude.{◌≡◌, ◌<◌, ◌≤◌, ◌↔◌, ℕ, IfOk, Some, length};
 ghost use Rattle.std.specs.List.Sorted.{IsNonDecreasingBy};
-ghost use Rattle.primary_alt.specs.Attaining.{AreBetween};
-ghost use Rattle.primary_alt.specs.Onward.{AreOnward, IsOnward};
+ghost use Rattle.primary_alt.specs.{Attaining.AreBetween, Onward.AreOnward, Onward.IsOnward};
 
 use area_graph::{Arc, ArcNo};
 use mrt_graph::NoMemory;

@@ -1,15 +1,9 @@
 //! What holds of the primaries of each area.
 
 ghost use Rattle.std.specs.Prelude.{◌≡◌, ◌≢◌, ◌<◌, ◌⊎◌, ◌↔◌, ℕ, List, Option, Some, IsSome, length};
-ghost use Rattle.area_graph.specs.declared.area_types.Arc.{Arc};
-ghost use Rattle.area_graph.specs.AreaInvariant.{IsArea};
-ghost use Rattle.area_graph.specs.Parts.{AreaParts};
-ghost use Rattle.primary_alt.specs.declared.shortest.Primary.{Primary};
-ghost use Rattle.primary_alt.specs.ArcWalk.{ArcWalk};
-ghost use Rattle.primary_alt.specs.Distance.{IsDistance};
-ghost use Rattle.primary_alt.specs.Primaries.{IsPrimary};
-ghost use Rattle.primary_alt.specs.PrimaryHops.{HopsReach};
-ghost use Rattle.primary_alt.specs.Routers.{IsRouter};
+ghost use Rattle.area_graph.specs.{declared.area_types.Arc.Arc, AreaInvariant.IsArea, Parts.AreaParts};
+ghost use Rattle.primary_alt.specs.{declared.shortest.Primary.Primary, ArcWalk.ArcWalk, Distance.IsDistance, Primaries.IsPrimary};
+ghost use Rattle.primary_alt.specs.{PrimaryHops.HopsReach, Routers.IsRouter};
 
 /// A law: a node has one entry at most for each node.
 pub fn one_primary_each()

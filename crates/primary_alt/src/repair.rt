@@ -1,12 +1,8 @@
 //! The color that repairs a failure.
 
 ghost use Rattle.std.specs.Prelude.{◌≡◌, ◌≢◌, ◌<◌, ◌⊎◌, ◌↔◌, ℕ, IsTrue, Some, None, length};
-ghost use Rattle.mrt_graph.specs.declared.link.Element.{Element};
-ghost use Rattle.mrt_graph.specs.Alternate.{IsAlternate};
-ghost use Rattle.mrt_graph.specs.Certificate.{row_of};
-ghost use Rattle.mrt_graph.specs.Column.{ColumnSound, rows_of_column};
-ghost use Rattle.mrt_graph.specs.Separates.{IsNeitherEnd, Separates};
-ghost use Rattle.mrt_graph.specs.Sound.{SoundFor};
+ghost use Rattle.mrt_graph.specs.{declared.link.Element.Element, Alternate.IsAlternate, Certificate.row_of};
+ghost use Rattle.mrt_graph.specs.{Column.ColumnSound, Column.rows_of_column, Separates.IsNeitherEnd, Separates.Separates, Sound.SoundFor};
 ghost use Rattle.mrt_graph.specs.AcceptedFor.{IsAcceptedFor};
 
 use crate::color_uses::uses;

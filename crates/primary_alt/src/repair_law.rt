@@ -1,21 +1,10 @@
 //! What an alternate gives, by the rows of an accepted certificate, and by any that are sound.
 
 ghost use Rattle.std.specs.Prelude.{◌≡◌, ◌≢◌, ◌<◌, ◌⊎◌, ◌↔◌, ℕ, List, Option, Some, None, length};
-ghost use Rattle.mrt_graph.specs.declared.cert.CertFile.{CertFile};
-ghost use Rattle.mrt_graph.specs.declared.cert.Color.{Color};
-ghost use Rattle.mrt_graph.specs.declared.cert.Row.{Row};
-ghost use Rattle.mrt_graph.specs.declared.link.Element.{Element};
-ghost use Rattle.mrt_graph.specs.declared.link.Link.{Link};
-ghost use Rattle.mrt_graph.specs.Accepted.{Accepted};
-ghost use Rattle.mrt_graph.specs.Alternate.{IsAlternate, UsesOn};
-ghost use Rattle.mrt_graph.specs.Certificate.{row_of};
-ghost use Rattle.mrt_graph.specs.Column.{ColumnSound, rows_of_column};
-ghost use Rattle.mrt_graph.specs.ColorWalk.{color_walk};
-ghost use Rattle.mrt_graph.specs.Rows.{Rows};
-ghost use Rattle.mrt_graph.specs.Separates.{IsNeitherEnd, Separates};
-ghost use Rattle.mrt_graph.specs.Sound.{SoundFor};
-ghost use Rattle.mrt_graph.specs.Topology.{Topology};
-ghost use Rattle.mrt_graph.specs.Walk.{Walk};
+ghost use Rattle.mrt_graph.specs.{declared.cert.CertFile.CertFile, declared.cert.Color.Color, declared.cert.Row.Row, declared.link.Element.Element};
+ghost use Rattle.mrt_graph.specs.{declared.link.Link.Link, Accepted.Accepted, Alternate.IsAlternate, Alternate.UsesOn, Certificate.row_of};
+ghost use Rattle.mrt_graph.specs.{Column.ColumnSound, Column.rows_of_column, ColorWalk.color_walk, Rows.Rows};
+ghost use Rattle.mrt_graph.specs.{Separates.IsNeitherEnd, Separates.Separates, Sound.SoundFor, Topology.Topology, Walk.Walk};
 
 /// Laws: where an alternate is given for an element of the graph, the walk of this color leads to the destination, and
 /// does not use the element.

@@ -37,8 +37,7 @@ pub struct Routes {
 }
 
 impl Model for Routes {
-    ghost use Rattle.primary_alt.specs.RouteLists.{RouteLists};
-    ghost use Rattle.primary_alt.specs.FirstArcs.{IsTable, columns_of};
+    ghost use Rattle.primary_alt.specs.{RouteLists.RouteLists, FirstArcs.IsTable, FirstArcs.columns_of};
 
     ghost Value = { RouteLists };
 
@@ -49,8 +48,7 @@ impl Model for Routes {
 
 impl Routes {
     ghost use Rattle.std.specs.Prelude.{◌≡◌, ◌<◌, ◌↔◌, ℕ, Contains, IfOk, IsNone, Some, length, slice_get};
-    ghost use Rattle.area_graph.specs.Fits.{Fits};
-    ghost use Rattle.area_graph.specs.Parts.{AreaParts};
+    ghost use Rattle.area_graph.specs.{Fits.Fits, Parts.AreaParts};
     ghost use Rattle.mrt_graph.specs.Topology.{Topology};
     ghost use Rattle.primary_alt.specs.RouteLists.{HasColumn, primary_at};
     ghost use Rattle.primary_alt.specs.RoutesMade.{AreMade, AreMadeWith, HasNoPrimary};

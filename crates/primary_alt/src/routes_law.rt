@@ -1,17 +1,11 @@
 //! What holds of routes, whatever the area and the graph that they are made with.
 
 ghost use Rattle.std.specs.Prelude.{◌≡◌, ◌<◌, ◌⊎◌, ℕ, List, Some};
-ghost use Rattle.area_graph.specs.declared.area_types.Arc.{Arc};
-ghost use Rattle.area_graph.specs.AreaInvariant.{IsArea};
-ghost use Rattle.area_graph.specs.Parts.{AreaParts};
+ghost use Rattle.area_graph.specs.{declared.area_types.Arc.Arc, AreaInvariant.IsArea, Parts.AreaParts};
 ghost use Rattle.mrt_graph.specs.Topology.{Topology};
-ghost use Rattle.primary_alt.specs.declared.shortest.Primary.{Primary};
-ghost use Rattle.primary_alt.specs.ArcWalk.{ArcWalk};
-ghost use Rattle.primary_alt.specs.Distance.{IsDistance};
-ghost use Rattle.primary_alt.specs.PrimaryHops.{HopsReach};
-ghost use Rattle.primary_alt.specs.RouteLists.{HasColumn, RouteLists, primary_at};
-ghost use Rattle.primary_alt.specs.Routers.{IsRouter};
+ghost use Rattle.primary_alt.specs.{declared.shortest.Primary.Primary, ArcWalk.ArcWalk, Distance.IsDistance, PrimaryHops.HopsReach, Routers.IsRouter};
 ghost use Rattle.primary_alt.specs.RoutesMade.{AreMade};
+ghost use Rattle.primary_alt.specs.RouteLists.{HasColumn, RouteLists, primary_at};
 
 /// Laws: a primary that routes give leads to the destination or to a router, and the distance from there is smaller.
 pub fn routes_lead_nearer()
