@@ -1,3 +1,4 @@
 pub mod NextHop
+pub mod PairWithin
 pub mod Within
 pub mod Without

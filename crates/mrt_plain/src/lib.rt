@@ -4,6 +4,7 @@
 mod arrival;
 mod graph_links;
 mod hop;
+mod pair;
 mod parting;
 mod settling;
 mod sharing;

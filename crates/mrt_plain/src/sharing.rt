@@ -2,8 +2,9 @@
 
 ghost use Rattle.std.specs.Prelude.{◌≡◌, ◌<◌, ◌↔◌, ℕ, IfOk, IsTrue, Contains, length};
 ghost use Rattle.mrt_graph.specs.{Apart.Apart, Certificate.row_of, Separates.IsNeitherEnd, Separates.Separates};
-ghost use Rattle.mrt_plain.specs.Within.{AreWithin};
+ghost use Rattle.mrt_plain.specs.{PairWithin.IsPairWithin, Within.AreWithin};
 
+use crate::pair::Pair;
 use crate::parting::separates;
 use crate::walking::follow;
 use mrt_graph::{Cert, Color, Element, Link, LinkNo, NoMemory, NodeNo};
@@ -28,103 +29,92 @@ pub fn apart(
     let count = c.node_count();
     let blue = follow(alloc, links, c, Color::Blue, s, t)?;
     let red = follow(alloc, links, c, Color::Red, s, t)?;
-    if !shared_links_separate(alloc, links, count, &blue.links, &red.links, s, t)? {
+    let pair = Pair { links, count, s, t };
+    if !shared_links_separate(alloc, &pair, &blue.links, &red.links)? {
         return Ok(false);
     }
-    shared_nodes_separate(alloc, links, count, &blue.nodes, &red.nodes, s, t)
+    shared_nodes_separate(alloc, &pair, &blue.nodes, &red.nodes)
 }
 
-/// Whether each link of both lists separates `s` and `t`.
+/// Whether each link of both lists separates the two.
 fn shared_links_separate(
     alloc: Global,
-    links: &[Link],
-    count: u16,
+    pair: &Pair,
     blue: &[LinkNo],
     red: &[LinkNo],
-    s: NodeNo,
-    t: NodeNo,
 ) -> Result<bool, NoMemory>
-    requires within { AreWithin count links.now }
-    requires source { s < count }
-    requires target { t < count }
+    requires { IsPairWithin pair.now }
     ensures { IfOk result (λ yes. IsTrue yes ↔
-        ((e : ℕ) → Contains blue.now e → Contains red.now e → Separates links.now (Element.Link e) s t)) }
+        ((e : ℕ) → Contains blue.now e → Contains red.now e
+        → Separates pair.now.links.now (Element.Link e) pair.now.s pair.now.t)) }
 {
     for e in blue {
-        if !link_passes(alloc, links, count, *e, red, s, t)? {
+        if !link_passes(alloc, pair, *e, red)? {
             return Ok(false);
         }
     }
     Ok(true)
 }
 
-/// Whether a link separates `s` and `t`, if it is among the red ones.
-fn link_passes(
-    alloc: Global,
-    links: &[Link],
-    count: u16,
-    e: LinkNo,
-    red: &[LinkNo],
-    s: NodeNo,
-    t: NodeNo,
-) -> Result<bool, NoMemory>
-    requires within { AreWithin count links.now }
-    requires source { s < count }
-    requires target { t < count }
-    ensures { IfOk result (λ yes. IsTrue yes ↔ (Contains red.now e → Separates links.now (Element.Link e) s t)) }
+/// Whether a link separates the two, if it is among the red ones.
+fn link_passes(alloc: Global, pair: &Pair, e: LinkNo, red: &[LinkNo]) -> Result<bool, NoMemory>
+    requires { IsPairWithin pair.now }
+    ensures { IfOk result (λ yes. IsTrue yes ↔
+        (Contains red.now e → Separates pair.now.links.now (Element.Link e) pair.now.s pair.now.t)) }
 {
     if !red.contains(&e) {
         return Ok(true);
     }
-    separates(alloc, links, count, Element::Link(e), s, t)
+    separates(
+        alloc,
+        pair.links,
+        pair.count,
+        Element::Link(e),
+        pair.s,
+        pair.t,
+    )
 }
 
-/// Whether each node of both lists, other than `s` and `t`, separates `s` and `t`.
+/// Whether each node of both lists, other than the two, separates them.
 fn shared_nodes_separate(
     alloc: Global,
-    links: &[Link],
-    count: u16,
+    pair: &Pair,
     blue: &[NodeNo],
     red: &[NodeNo],
-    s: NodeNo,
-    t: NodeNo,
 ) -> Result<bool, NoMemory>
-    requires within { AreWithin count links.now }
-    requires source { s < count }
-    requires target { t < count }
+    requires { IsPairWithin pair.now }
     ensures { IfOk result (λ yes. IsTrue yes ↔
-        ((v : ℕ) → Contains blue.now v → Contains red.now v → IsNeitherEnd (Element.Node v) s t
-        → Separates links.now (Element.Node v) s t)) }
+        ((v : ℕ) → Contains blue.now v → Contains red.now v
+        → IsNeitherEnd (Element.Node v) pair.now.s pair.now.t
+        → Separates pair.now.links.now (Element.Node v) pair.now.s pair.now.t)) }
 {
     for v in blue {
-        if !node_passes(alloc, links, count, *v, red, s, t)? {
+        if !node_passes(alloc, pair, *v, red)? {
             return Ok(false);
         }
     }
     Ok(true)
 }
 
-/// Whether a node separates `s` and `t`, if it is among the red ones and is neither `s` nor `t`.
-fn node_passes(
-    alloc: Global,
-    links: &[Link],
-    count: u16,
-    v: NodeNo,
-    red: &[NodeNo],
-    s: NodeNo,
-    t: NodeNo,
-) -> Result<bool, NoMemory>
-    requires within { AreWithin count links.now }
-    requires source { s < count }
-    requires target { t < count }
+/// Whether a node separates the two, if it is among the red ones and is none of them.
+fn node_passes(alloc: Global, pair: &Pair, v: NodeNo, red: &[NodeNo]) -> Result<bool, NoMemory>
+    requires { IsPairWithin pair.now }
     ensures { IfOk result (λ yes. IsTrue yes ↔
-        (Contains red.now v → IsNeitherEnd (Element.Node v) s t → Separates links.now (Element.Node v) s t)) }
+        (Contains red.now v → IsNeitherEnd (Element.Node v) pair.now.s pair.now.t
+        → Separates pair.now.links.now (Element.Node v) pair.now.s pair.now.t)) }
 {
     if !red.contains(&v) {
         return Ok(true);
     }
-    if v == s || v == t {
+    if v == pair.s || v == pair.t {
         return Ok(true);
     }
-    separates(alloc, links, count, Element::Node(v), s, t)
+    separates(
+        alloc,
+        pair.links,
+        pair.count,
+        Element::Node(v),
+        pair.s,
+        pair.t,
+    )
 }

@@ -17,5 +17,5 @@ returns-then-not-branch c =
 
 pub returns : goal.returns
 returns c =
-    accepted (shared_all (λ (e : ℕ). Separates c.args.links.now (elements.Link e) c.args.s c.args.t) c.args.blue.now c.args.red.now
+    accepted (shared_all (λ (e : ℕ). Separates c.args.pair.now.links.now (elements.Link e) c.args.pair.now.s c.args.pair.now.t) c.args.blue.now c.args.red.now
     c.loop-e.e-index c.loop-e-test.false c.loop-e.invariant)

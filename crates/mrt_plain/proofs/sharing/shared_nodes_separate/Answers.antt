@@ -17,5 +17,5 @@ returns-then-not-branch c =
 
 pub returns : goal.returns
 returns c =
-    accepted (shared_all (λ (v : ℕ). IsNeitherEnd (elements.Node v) c.args.s c.args.t → Separates c.args.links.now (elements.Node v) c.args.s c.args.t)
+    accepted (shared_all (λ (v : ℕ). IsNeitherEnd (elements.Node v) c.args.pair.now.s c.args.pair.now.t → Separates c.args.pair.now.links.now (elements.Node v) c.args.pair.now.s c.args.pair.now.t)
     c.args.blue.now c.args.red.now c.loop-v.v-index c.loop-v-test.false c.loop-v.invariant)

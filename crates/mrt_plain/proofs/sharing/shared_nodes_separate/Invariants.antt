@@ -5,4 +5,4 @@ use Rattle.mrt_plain.proofs.Shared.{SharedBelow}
 use Rattle.mrt_plain.proofs.sharing.shared_nodes_separate.Given as goal
 
 abbrev pub invariant-loop-v : goal.invariant-loop-v
-invariant-loop-v l = SharedBelow (λ (v : ℕ). IsNeitherEnd (elements.Node v) l.s l.t → Separates l.links (elements.Node v) l.s l.t) l.blue l.red l.v-index
+invariant-loop-v l = SharedBelow (λ (v : ℕ). IsNeitherEnd (elements.Node v) l.pair.s l.pair.t → Separates l.pair.links.now (elements.Node v) l.pair.s l.pair.t) l.blue l.red l.v-index
