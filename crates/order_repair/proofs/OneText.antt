@@ -102,18 +102,7 @@ module _ (og : OrderedGraph) (s : ℕ) (s_within : s < length og.g.ids) where
         some_text_of_parts (λ e. IsLetter og.g og.root og.w s t k h (elements.Link e)) (length og.g.links)
         (λ e. some_letter (elements.Link e)) in (
           node_text id.0 ++ codes " " ++ nodes.0 ++ codes " " ++ links.0 ++ codes "\n",
-          record {
-            block = k;
-            head = h;
-            share = shares;
-            id = id.0;
-            id_is = id.1;
-            nodes = nodes.0;
-            nodes_are = nodes.1;
-            links = links.0;
-            links_are = links.1;
-            spelled = refl;
-          },
+          record { block = k; head = h; share = shares; id = id.0; id_is = id.1; nodes = nodes.0; nodes_are = nodes.1; links = links.0; links_are = links.1; spelled = refl },
         )
 
   one_line : (t : ℕ) (text other : List ℕ) → IsLine og.g og.root og.w s t text → IsLine og.g og.root og.w s t other → text ≡ other

@@ -1,4 +1,4 @@
--- A source and its hops, in what its text is made of.
+-- A source and its hops, in what tells which way its packets go round a failure.
 use Rattle.std.specs.Prelude.{ℕ}
 use Rattle.link_direction.specs.Directions.{Directions}
 use Rattle.order_repair.specs.declared.source_view.SourceView.{SourceView}

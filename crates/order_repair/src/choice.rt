@@ -5,12 +5,13 @@ ghost use Rattle.mrt_graph.specs.{declared.cert.CertFile.CertFile, Alternate.Use
 ghost use Rattle.link_direction.specs.Directions.{Directions};
 ghost use Rattle.inc_dec_spf.specs.HasDirections.{HasDirections};
 ghost use Rattle.mrt_rows.specs.{CertOf.IsCertOf, DirectedFrom.IsDirectedFrom};
-ghost use Rattle.order_repair.specs.{Source.AreHops, Source.IsSource, OrderChoice.IsOrderChoice, OrderChoice.LineFor, Tagging.IsTagOfMoreLinks};
+ghost use Rattle.order_repair.specs.{Source.AreHops, SourceView.AreHopsIn, SourceView.IsSourceIn, OrderChoice.IsOrderChoice, OrderChoice.LineFor, Tagging.IsTagOfMoreLinks};
 ghost use Rattle.order_repair.specs.Failed.{IsBetween, IsNotSole, IsWithin};
 
 use crate::link_line::link_color;
 use crate::node_line::node_color;
 use crate::pair::Pair;
+use crate::source_view::SourceView;
 use crate::tagging::tag_for;
 use inc_dec_spf::Reach;
 use mrt_graph::{Color, Directed, Element, Graph, NodeNo};
@@ -51,30 +52,29 @@ pub fn order_choice(
 {
     // what each graph keeps is told by reading it
     let _count = g.node_count();
-    match tag_for(g, d, up, down, source, to) {
-        Some(tag) => color_for(g, d, up, down, &Pair { source, to, tag }, failed),
+    let view = SourceView {
+        graph: g,
+        directed: d,
+        up,
+        down,
+    };
+    match tag_for(&view, source, to) {
+        Some(tag) => color_for(&view, &Pair { source, to, tag }, failed),
         None => Color::Blue,
     }
 }
 
 /// The color for a pair where an element of their block has failed.
-pub fn color_for(
-    g: &Graph,
-    d: &Directed,
-    up: &Reach,
-    down: &Reach,
-    pair: &Pair,
-    failed: Element,
-) -> Color
-    requires source { IsSource g.now d.now pair.now.source up.now down.now }
-    requires to { pair.now.to < length g.now.ids }
-    requires failed { IsWithin g.now failed }
+pub fn color_for(view: &SourceView, pair: &Pair, failed: Element) -> Color
+    requires source { IsSourceIn view.now pair.now.source }
+    requires to { pair.now.to < length view.now.graph.now.ids }
+    requires failed { IsWithin view.now.graph.now failed }
     requires more { IsTagOfMoreLinks pair.now.tag }
-    ensures { (root : ℕ) (w : Directions) → AreHops g.now d.now root w pair.now.source up.now down.now
-        → IsNotSole w failed → LineFor pair.now.tag g.now w pair.now.source pair.now.to failed result }
+    ensures { (root : ℕ) (w : Directions) → AreHopsIn view.now root w pair.now.source → IsNotSole w failed
+        → LineFor pair.now.tag view.now.graph.now w pair.now.source pair.now.to failed result }
 {
     match failed {
-        Element::Node(failed) => node_color(g, d, up, down, pair, failed),
-        Element::Link(failed) => link_color(g, d, up, down, pair, failed),
+        Element::Node(failed) => node_color(view, pair, failed),
+        Element::Link(failed) => link_color(view, pair, failed),
     }
 }

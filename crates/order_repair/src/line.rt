@@ -10,6 +10,7 @@ ghost use Rattle.order_repair.specs.{OrderText.IsLetter, OrderText.IsLine, Sourc
 ghost use Rattle.order_repair.specs.Tagging.{IsTagOfMoreLinks, IsTagFor};
 ghost use Rattle.order_repair.specs.Blocks.{IsPair, LinkLetters, NodeLetters};
 
+use crate::block_lists::BlockLists;
 use crate::choice::color_for;
 use crate::colors::letter;
 use crate::pair::Pair;
@@ -18,9 +19,14 @@ use mrt_graph::{Directed, Element, Graph, LinkNo, NoMemory, NodeNo, Place, Tag};
 use text_parts::{push, push_node};
 
 /// Puts the line on a pair's destination at the end of a text.
-pub fn push_line(text: &mut Vec<u8>, view: &SourceView, pair: &Pair) -> Result<(), NoMemory>
+pub fn push_line(
+    text: &mut Vec<u8>,
+    view: &SourceView,
+    lists: &BlockLists,
+    pair: &Pair,
+) -> Result<(), NoMemory>
     requires source { IsSourceIn view.now pair.now.source }
-    requires lists { AreBlockLists view.now.directed.now view.now.lists.now }
+    requires lists { AreBlockLists view.now.directed.now lists.now }
     requires to { pair.now.to < length view.now.graph.now.ids }
     requires more { IsTagOfMoreLinks pair.now.tag }
     ensures { (root : ℕ) (w : Directions) → AreHopsIn view.now root w pair.now.source
@@ -31,9 +37,9 @@ pub fn push_line(text: &mut Vec<u8>, view: &SourceView, pair: &Pair) -> Result<(
     let place = block_of(view.graph, view.directed, pair);
     push_node(text, view.graph.id(pair.to))?;
     push(text, b" ")?;
-    push_node_letters(text, view, pair, &place)?;
+    push_node_letters(text, view, lists, pair, &place)?;
     push(text, b" ")?;
-    push_link_letters(text, view, pair, &place)?;
+    push_link_letters(text, view, lists, pair, &place)?;
     push(text, b"\n")?;
     Ok(())
 }
@@ -57,11 +63,12 @@ fn block_of(g: &Graph, d: &Directed, pair: &Pair) -> Place
 fn push_node_letters(
     text: &mut Vec<u8>,
     view: &SourceView,
+    lists: &BlockLists,
     pair: &Pair,
     place: &Place,
 ) -> Result<(), NoMemory>
     requires source { IsSourceIn view.now pair.now.source }
-    requires lists { AreBlockLists view.now.directed.now view.now.lists.now }
+    requires lists { AreBlockLists view.now.directed.now lists.now }
     requires to { pair.now.to < length view.now.graph.now.ids }
     requires more { IsTagOfMoreLinks pair.now.tag }
     requires block { place.now.block < length view.now.graph.now.ids }
@@ -73,12 +80,12 @@ fn push_node_letters(
 {
     let count = view.graph.node_count();
     let mut from = 0;
-    let mut next = view.lists.nodes.first(place.block);
+    let mut next = lists.nodes.first(place.block);
     while next < count {
         push_head_letter(text, view, pair, place, from, next)?;
         push_letter(text, view, pair, &Element::Node(NodeNo::new(next)))?;
         from = next + 1;
-        next = view.lists.nodes.next(next);
+        next = lists.nodes.next(next);
     }
     push_head_letter(text, view, pair, place, from, next)
 }
@@ -120,11 +127,12 @@ fn is_between(n: NodeNo, from: u16, until: u16) -> bool
 fn push_link_letters(
     text: &mut Vec<u8>,
     view: &SourceView,
+    lists: &BlockLists,
     pair: &Pair,
     place: &Place,
 ) -> Result<(), NoMemory>
     requires source { IsSourceIn view.now pair.now.source }
-    requires lists { AreBlockLists view.now.directed.now view.now.lists.now }
+    requires lists { AreBlockLists view.now.directed.now lists.now }
     requires to { pair.now.to < length view.now.graph.now.ids }
     requires more { IsTagOfMoreLinks pair.now.tag }
     requires block { place.now.block < length view.now.graph.now.ids }
@@ -135,10 +143,10 @@ fn push_link_letters(
         text.old.items text.new.items) }
 {
     let count = view.graph.link_count();
-    let mut next = view.lists.links.first(place.block);
+    let mut next = lists.links.first(place.block);
     while next < count {
         push_letter(text, view, pair, &Element::Link(LinkNo::new(next)))?;
-        next = view.lists.links.next(next);
+        next = lists.links.next(next);
     }
     Ok(())
 }
@@ -162,7 +170,7 @@ fn push_letter(
         text.old.items text.new.items) }
 {
     if is_neither_end(pair, x) {
-        let color = color_for(view.graph, view.directed, view.up, view.down, pair, *x);
+        let color = color_for(view, pair, *x);
         return push(text, letter(color));
     }
     push(text, b"-")

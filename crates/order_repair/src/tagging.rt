@@ -2,36 +2,30 @@
 
 ghost use Rattle.std.specs.Prelude.{◌≡◌, ◌<◌, ℕ, IfSome, length};
 ghost use Rattle.link_direction.specs.Directions.{Directions};
-ghost use Rattle.order_repair.specs.Source.{AreHops, IsSource};
+ghost use Rattle.order_repair.specs.SourceView.{AreHopsIn, IsSourceIn};
 ghost use Rattle.order_repair.specs.Tagging.{IsTagOfMoreLinks, IsTagFor, peer_tag, tag_where};
 
-use inc_dec_spf::{Hop, Reach};
-use mrt_graph::{Directed, Graph, NodeNo, Relation, Tag, relation_of};
+use crate::source_view::SourceView;
+use inc_dec_spf::Hop;
+use mrt_graph::{NodeNo, Relation, Tag, relation_of};
 
 /// The tag of the row of `s` for `t`, where they have a block of more than one link in common; `None` where they have none.
-pub fn tag_for(
-    g: &Graph,
-    d: &Directed,
-    up: &Reach,
-    down: &Reach,
-    s: NodeNo,
-    t: NodeNo,
-) -> Option<Tag>
-    requires source { IsSource g.now d.now s up.now down.now }
-    requires to { t < length g.now.ids }
-    ensures tag { (root : ℕ) (w : Directions) → AreHops g.now d.now root w s up.now down.now
-        → IsTagFor g.now root w s t result }
+pub fn tag_for(view: &SourceView, s: NodeNo, t: NodeNo) -> Option<Tag>
+    requires source { IsSourceIn view.now s }
+    requires to { t < length view.now.graph.now.ids }
+    ensures tag { (root : ℕ) (w : Directions) → AreHopsIn view.now root w s
+        → IsTagFor view.now.graph.now root w s t result }
     ensures more { IfSome result IsTagOfMoreLinks }
 {
     if s == t {
         return None;
     }
-    let here = d.place(s);
-    let there = d.place(t);
+    let here = view.directed.place(s);
+    let there = view.directed.place(t);
     match relation_of(s, &here, t, &there) {
-        Relation::OneBlock => Some(peer_tag(up.hop(t), down.hop(t))),
-        Relation::ToHead => tag_where(up.hop(t), Tag::Head),
-        Relation::FromHead => tag_where(up.hop(t), Tag::Top),
+        Relation::OneBlock => Some(peer_tag(view.up.hop(t), view.down.hop(t))),
+        Relation::ToHead => tag_where(view.up.hop(t), Tag::Head),
+        Relation::FromHead => tag_where(view.up.hop(t), Tag::Top),
         Relation::Apart => None,
     }
 }

@@ -49,13 +49,12 @@ pub fn order_text(
     let view = SourceView {
         graph: g,
         directed: d,
-        lists: &lists,
         up: &up,
         down: &down,
     };
     let mut text = Vec::new(alloc);
     push_head(&mut text, g, root, source)?;
-    push_lines(&mut text, &view, source)?;
+    push_lines(&mut text, &view, &lists, source)?;
     Ok(text)
 }
 
@@ -74,9 +73,14 @@ fn push_head(text: &mut Vec<u8>, g: &Graph, root: NodeNo, source: NodeNo) -> Res
 }
 
 /// Puts the lines on all nodes at the end of a text.
-fn push_lines(text: &mut Vec<u8>, view: &SourceView, source: NodeNo) -> Result<(), NoMemory>
+fn push_lines(
+    text: &mut Vec<u8>,
+    view: &SourceView,
+    lists: &BlockLists,
+    source: NodeNo,
+) -> Result<(), NoMemory>
     requires source { IsSourceIn view.now source }
-    requires lists { AreBlockLists view.now.directed.now view.now.lists.now }
+    requires lists { AreBlockLists view.now.directed.now lists.now }
     ensures { (root : ℕ) (w : Directions) → AreHopsIn view.now root w source
         → IfOk result (λ _. Adds
         (AreParts (IsPartOn view.now.graph.now root w source) (length view.now.graph.now.ids))
@@ -84,7 +88,7 @@ fn push_lines(text: &mut Vec<u8>, view: &SourceView, source: NodeNo) -> Result<(
 {
     let count = view.graph.node_count();
     for t in 0..count {
-        push_part(text, view, source, NodeNo::new(t))?;
+        push_part(text, view, lists, source, NodeNo::new(t))?;
     }
     Ok(())
 }
@@ -93,18 +97,19 @@ fn push_lines(text: &mut Vec<u8>, view: &SourceView, source: NodeNo) -> Result<(
 fn push_part(
     text: &mut Vec<u8>,
     view: &SourceView,
+    lists: &BlockLists,
     source: NodeNo,
     to: NodeNo,
 ) -> Result<(), NoMemory>
     requires source { IsSourceIn view.now source }
-    requires lists { AreBlockLists view.now.directed.now view.now.lists.now }
+    requires lists { AreBlockLists view.now.directed.now lists.now }
     requires to { to < length view.now.graph.now.ids }
     ensures { (root : ℕ) (w : Directions) → AreHopsIn view.now root w source
         → IfOk result (λ _. Adds (IsPartOn view.now.graph.now root w source to)
         text.old.items text.new.items) }
 {
-    match tag_for(view.graph, view.directed, view.up, view.down, source, to) {
-        Some(tag) => push_line(text, view, &Pair { source, to, tag }),
+    match tag_for(view, source, to) {
+        Some(tag) => push_line(text, view, lists, &Pair { source, to, tag }),
         None => Ok(()),
     }
 }

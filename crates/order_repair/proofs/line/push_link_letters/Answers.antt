@@ -25,20 +25,14 @@ loop-next-init c =
 pub next-next-requires : goal.next-next-requires
 next-next-requires c =
     let view = c.args.view.now in
-    omega (
-      arith,
-      c.loop-next-test.true,
-      c.loop-next.invariant.count,
-      c.requires.lists.links.one_next_each,
-      links_many view.graph.now view.directed.now c.requires.source.directed.directions c.requires.source.directed.are.says,
-    )
+    omega (arith, c.loop-next-test.true, c.loop-next.invariant.count, c.requires.lists.links.one_next_each, links_many view.graph.now view.directed.now c.requires.source.directed.directions c.requires.source.directed.are.says)
 
 pub loop-next-smaller : goal.loop-next-smaller
 loop-next-smaller c =
     let view = c.args.view.now in
     let g = view.graph.now in
     let d = view.directed.now in
-    let chains = view.lists.now.links in
+    let chains = c.args.lists.now.links in
     let at = c.loop-next.next in
     let many = links_many g d c.requires.source.directed.directions c.requires.source.directed.are.says in
     let low : at < length (link_blocks d) = omega (arith, c.loop-next-test.true, c.loop-next.invariant.count, many) in
@@ -47,10 +41,9 @@ loop-next-smaller c =
 
 pub loop-next-preserved : goal.loop-next-preserved
 loop-next-preserved c =
-    let view = c.args.view.now in
-    let g = view.graph.now in
-    let d = view.directed.now in
-    let chains = view.lists.now.links in
+    let g = c.args.view.now.graph.now in
+    let d = c.args.view.now.directed.now in
+    let chains = c.args.lists.now.links in
     let pair = c.args.pair.now in
     let place = c.args.place.now in
     let at = c.loop-next.next in

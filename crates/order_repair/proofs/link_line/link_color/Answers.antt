@@ -6,8 +6,8 @@ use Rattle.order_repair.proofs.link_line.link_color.Goals as goal
 
 pub returns-in_default : goal.returns-in_default
 returns-in_default c = λ root w hops not_sole.
-    let g = c.args.g.now in
-    let d = c.args.d.now in
+    let g = c.args.view.now.graph.now in
+    let d = c.args.view.now.directed.now in
     let e = c.args.failed in
     let mark = c.mark-mark.result in
     let role = mark_says g d w e mark hops.are.says c.requires.failed c.mark-mark.ensures in

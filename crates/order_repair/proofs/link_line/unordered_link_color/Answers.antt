@@ -20,5 +20,5 @@ returns c = λ root w hops.
       | inl same ↦ eqb-false from source (sym c.eq-2.ensures ∙ c.if-eq-2.false) same
       | inr it ↦ let yes = over.1 it in let no : ◌≡◌ {A = Bool} true false = sym yes ∙ c.if-is_over.false in cc
     ])
-    (most_line c.args.g.now c.args.d.now w hops.are.says c.args.pair.now.to from c.order.result c.order-2.result c.blue_where.result
+    (most_line c.args.view.now.graph.now c.args.view.now.directed.now w hops.are.says c.args.pair.now.to from c.order.result c.order-2.result c.blue_where.result
     c.requires.to c.requires.from c.order.ensures c.order-2.ensures c.blue_where.ensures))
