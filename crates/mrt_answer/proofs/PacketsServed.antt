@@ -28,7 +28,11 @@ use Rattle.mrt_answer.specs.PacketTables.{AreTablesTo, IsAreaAndIsland}
 use Rattle.mrt_answer.specs.Packets.{ArePartsFor}
 use Rattle.mrt_answer.proofs.OneProxy.{accepted_for}
 
-module _ (net : AreaAndIsland) (spots : List ℕ) (tables : Tables) (made : AreTablesTo net spots tables) where
+-- tables to the numbers that are lent are tables to the destinations
+pub made_for : {net : AreaAndIsland} {lent spots : List ℕ} {tables : Tables} → lent ≡ spots → AreTablesTo net lent tables → AreTablesTo net spots tables
+made_for {net} {lent} {spots} {tables} same made = subst (λ (xs : List ℕ). AreTablesTo net xs tables) same made
+
+module _ {net : AreaAndIsland} {spots : List ℕ} {tables : Tables} (made : AreTablesTo net spots tables) where
   -- what the steps read, and the same with all rows of the certificate
   abbrev pub parts : FabricParts
   parts = parts_with net.area net.island.graph (rows_in tables.rows) tables.routes

@@ -43,6 +43,12 @@ island_refused input router within (exits.NotThere number) said = inl (within, s
 island_refused input router within exits.NoMemory said = inr refl
 island_refused input router within exit said = absurd said
 
+-- so where it is said of an area that is the input's
+pub refused_in : (input : Input) (router : ℕ) (its : AreaParts) → HasAreaWithin input → its ≡ area input → (exit : Exit)
+    → HasNoIsland (policy input) its router exit → IsDue (HasNoIslandFor input router) exit
+refused_in input router its within same exit said =
+    island_refused input router within exit (subst (λ (a : AreaParts). HasNoIsland (policy input) a router exit) same said)
+
 pub islands_refused : {T : Type 0} (answer : Result T Exit) (input : Input) (router : ℕ) → HasAreaWithin input
     → IfErr answer (HasNoIsland (policy input) (area input) router) → IfErr answer (IsDue (HasNoIslandFor input router))
 islands_refused (Ok t) input router within said = tt

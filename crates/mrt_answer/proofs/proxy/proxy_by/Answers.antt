@@ -1,96 +1,78 @@
-use Rattle.std.proofs.Common.{◌∙◌, List, refl, sym, subst, arith}
+use Rattle.std.proofs.Common.{◌≡◌, ◌∙◌, ℕ, List, length, refl, sym, subst, arith}
+use Rattle.mrt_graph.specs.declared.cert.CertNode.{CertNode}
+use Rattle.mrt_graph.specs.Topology.{Topology}
+use Rattle.mrt_rows.specs.declared.rooted.RootedColumns.{RootedColumns}
+use Rattle.proxy_rows.specs.declared.attachment.Attachment.{Attachment}
+use Rattle.proxy_rows.specs.Attachment.{IsAttachment}
 use Rattle.mrt_answer.specs.Attached.{IsAttachedBy}
+use Rattle.mrt_answer.specs.Computed.{HasComputed}
 use Rattle.proxy_rows.specs.declared.proxy_row.ProxyRow.{ProxyRow}
 use Rattle.proxy_rows.specs.ProxyRows.{AreProxyRows}
 use Rattle.mrt_answer.proofs.ComputedColumns.{as_many}
 use Rattle.mrt_answer.proofs.OneProxy.{accepted_for}
+use Rattle.mrt_answer.proofs.proxy.proxy_by.Goals.{After-deref, After-deref-3}
 use Rattle.mrt_answer.proofs.proxy.proxy_by.Goals as goal
 
+-- the certificate of which the columns are made says so of as many nodes as the graph has
+nodes_say : (c : After-deref) → c.deref.result.now ≡ c.requires.computed.file.cert.nodes
+nodes_say c = c.deref.ensures.value ∙ c.in_ok-nodes.ensures c.requires.computed.file c.requires.computed.of_columns
+
+all_said : (c : After-deref) → length c.deref.result.now ≡ length c.args.graph.now.ids
+all_said c = as_many c.args.graph.now c.args.root c.args.columns.now c.requires.computed c.deref.result.now (nodes_say c)
+
 pub attach-requires-clause-first : goal.attach-requires-clause-first
-attach-requires-clause-first c =
-    let own = c.requires.computed in
-    omega (
-      arith,
-      c.requires.first,
-      as_many c.args.graph.now c.args.root c.args.columns.now own c.deref.result.now
-          (c.deref.ensures.value ∙ c.in_ok-nodes.ensures own.file own.of_columns),
-    )
+attach-requires-clause-first c = omega (arith, c.requires.first, all_said (goal.at.attach-requires-clause-first c).After-deref)
 
 pub attach-requires-clause-second : goal.attach-requires-clause-second
-attach-requires-clause-second c =
-    let own = c.requires.computed in
-    omega (
-      arith,
-      c.requires.second,
-      as_many c.args.graph.now c.args.root c.args.columns.now own c.deref.result.now
-          (c.deref.ensures.value ∙ c.in_ok-nodes.ensures own.file own.of_columns),
-    )
+attach-requires-clause-second c = omega (arith, c.requires.second, all_said (goal.at.attach-requires-clause-second c).After-deref)
 
 pub returns-in_default-clause-refused : goal.returns-in_default-clause-refused
 returns-in_default-clause-refused c =
     let own = c.requires.computed in
-    let nodes = c.deref.ensures.value ∙ c.in_ok-nodes.ensures own.file own.of_columns in
-    (own.file, own.certificate, (c.in_default.ensures.none own.file.cert (sym nodes)).0 refl)
+    (own.file, own.certificate, (c.in_default.ensures.none own.file.cert (sym (nodes_say (goal.at.returns-in_default-clause-refused c).After-deref))).0 refl)
 
 pub rows_at-requires-clause-made : goal.rows_at-requires-clause-made
 rows_at-requires-clause-made c = c.requires.made
 
 pub rows_at-requires-clause-head : goal.rows_at-requires-clause-head
 rows_at-requires-clause-head c =
-    let g = c.args.graph.now in
     let own = c.requires.computed in
-    let nodes = c.deref.ensures.value ∙ c.in_ok-nodes.ensures own.file own.of_columns in
-    omega (
-      arith,
-      c.in-Some.ensures.head g own.file.cert (sym nodes) (accepted_for g c.args.root own.file own.certificate),
-      as_many g c.args.root c.args.columns.now own c.deref.result.now nodes,
-    )
+    let at = (goal.at.rows_at-requires-clause-head c).After-deref in
+    let accepted = accepted_for c.args.graph.now c.args.root own.file own.certificate in
+    omega (arith, c.in-Some.ensures.head c.args.graph.now own.file.cert (sym (nodes_say at)) accepted, all_said at)
+
+-- by this certificate it is the attachment of the two nodes
+abbrev attached : (graph : Topology) (root : ℕ) (columns : RootedColumns) (own : HasComputed graph root columns) (nodes : List CertNode) (at : Attachment) (a b : ℕ)
+    → nodes ≡ own.file.cert.nodes → IsAttachment own.file.cert a b at → IsAttachedBy graph columns nodes at
+attached graph root columns own nodes at a b says is = record { root = root; own = own; says = says; a = a; b = b; attached = is }
 
 pub rows_at-requires-clause-attached : goal.rows_at-requires-clause-attached
 rows_at-requires-clause-attached c =
     let own = c.requires.computed in
-    let nodes = c.deref.ensures.value ∙ c.in_ok-nodes.ensures own.file own.of_columns in
-    record {
-      root = c.args.root;
-      own = own;
-      says = c.deref-2.ensures.value ∙ c.in_ok-nodes.ensures own.file own.of_columns;
-      a = c.args.a;
-      b = c.args.b;
-      attached = c.in-Some.ensures.found c.args.graph.now own.file.cert (sym nodes)
-          (accepted_for c.args.graph.now c.args.root own.file own.certificate);
-    }
+    attached c.args.graph.now c.args.root c.args.columns.now own c.deref-2.result.now c.in-Some.at c.args.a c.args.b
+    (c.deref-2.ensures.value ∙ c.in_ok-nodes.ensures own.file own.of_columns)
+    (c.in-Some.ensures.found c.args.graph.now own.file.cert (sym (nodes_say (goal.at.rows_at-requires-clause-attached c).After-deref))
+    (accepted_for c.args.graph.now c.args.root own.file own.certificate))
+
+-- the rows are those at it
+rows_are : (c : After-deref-3) → c.deref.result.now ≡ c.requires.computed.file.cert.nodes
+    → AreProxyRows c.args.graph.now c.requires.computed.file.cert c.args.a c.args.b c.deref-3.result.now
+rows_are c said =
+    let g = c.args.graph.now in
+    let own = c.requires.computed in
+    let by = attached g c.args.root c.args.columns.now own c.deref-2.result.now c.in-Some.at c.args.a c.args.b
+    (c.deref-2.ensures.value ∙ c.in_ok-nodes.ensures own.file own.of_columns)
+    (c.in-Some.ensures.found g own.file.cert (sym said) (accepted_for g c.args.root own.file own.certificate)) in
+    subst (λ (xs : List ProxyRow). AreProxyRows g own.file.cert c.args.a c.args.b xs) (sym c.deref-3.ensures.value) (c.in_ok-rows.ensures by)
 
 pub proxy_text_of-requires-clause-rows : goal.proxy_text_of-requires-clause-rows
 proxy_text_of-requires-clause-rows c =
-    let g = c.args.graph.now in
     let own = c.requires.computed in
-    let by : IsAttachedBy g c.args.columns.now c.deref-2.result.now c.in-Some.at = record {
-      root = c.args.root;
-      own = own;
-      says = c.deref-2.ensures.value ∙ c.in_ok-nodes.ensures own.file own.of_columns;
-      a = c.args.a;
-      b = c.args.b;
-      attached = c.in-Some.ensures.found g own.file.cert (sym (c.deref.ensures.value ∙ c.in_ok-nodes.ensures own.file own.of_columns))
-          (accepted_for g c.args.root own.file own.certificate);
-    } in (
-      own.file.cert,
-      accepted_for g c.args.root own.file own.certificate,
-      subst (λ (xs : List ProxyRow). AreProxyRows g own.file.cert c.args.a c.args.b xs) (sym c.deref-3.ensures.value) (c.in_ok-rows.ensures by),
-    )
+    let at = goal.at.proxy_text_of-requires-clause-rows c in
+    (own.file.cert, accepted_for c.args.graph.now c.args.root own.file own.certificate, rows_are at.After-deref-3 (nodes_say at.After-deref))
 
 pub returns-clause-proxied : goal.returns-clause-proxied
 returns-clause-proxied c =
-    let g = c.args.graph.now in
     let own = c.requires.computed in
-    let by : IsAttachedBy g c.args.columns.now c.deref-2.result.now c.in-Some.at = record {
-      root = c.args.root;
-      own = own;
-      says = c.deref-2.ensures.value ∙ c.in_ok-nodes.ensures own.file own.of_columns;
-      a = c.args.a;
-      b = c.args.b;
-      attached = c.in-Some.ensures.found g own.file.cert (sym (c.deref.ensures.value ∙ c.in_ok-nodes.ensures own.file own.of_columns))
-          (accepted_for g c.args.root own.file own.certificate);
-    } in
-    let rows : AreProxyRows g own.file.cert c.args.a c.args.b c.deref-3.result.now =
-    subst (λ (xs : List ProxyRow). AreProxyRows g own.file.cert c.args.a c.args.b xs) (sym c.deref-3.ensures.value) (c.in_ok-rows.ensures by) in
-    record { file = own.file; certificate = own.certificate; spelled = c.in_ok-text.ensures own.file.cert rows }
+    let at = goal.at.returns-clause-proxied c in
+    record { file = own.file; certificate = own.certificate; spelled = c.in_ok-text.ensures own.file.cert (rows_are at.After-deref-3 (nodes_say at.After-deref)) }

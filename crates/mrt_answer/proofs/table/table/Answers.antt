@@ -7,10 +7,9 @@ use Rattle.primary_alt.specs.Primaries.{ArePrimaries}
 use Rattle.area_graph.specs.Parts.{AreaParts}
 use Rattle.mrt_island.specs.IslandOf.{IsIsland}
 use Rattle.mrt_answer.specs.Input.{Input, HasIsland, policy, area}
-use Rattle.mrt_answer.specs.Refusals.{HasNoIsland}
 use Rattle.mrt_answer.specs.Tabled.{IsTableOf}
 use Rattle.mrt_words.proofs.HandedOn.{handed_on}
-use Rattle.mrt_answer.proofs.Refusals.{island_refused, root_within}
+use Rattle.mrt_answer.proofs.Refusals.{refused_in, root_within}
 use Rattle.mrt_answer.proofs.Tables.{in_own_island, not_network, root_is_router}
 use Rattle.mrt_answer.proofs.table.table.Goals as goal
 use Rattle.mrt_answer.specs.Islands.{HasNoIslandFor}
@@ -18,12 +17,9 @@ use Rattle.mrt_exit.specs.Due.{IsDue}
 
 pub returns-in_err-island-clause-refused : goal.returns-in_err-island-clause-refused
 returns-in_err-island-clause-refused c =
-    let input : Input = c.args.given.now in
     handed_on c.from_residual-in_err-island.result c.in_err-island.field-0.0 c.from_residual-in_err-island.ensures.1
-    (IsDue (HasNoIslandFor input c.args.router))
-    (island_refused input c.args.router c.in_ok-area.ensures.within c.in_err-island.field-0.0
-    (subst (λ (a : AreaParts). HasNoIsland (policy input) a c.args.router c.in_err-island.field-0.0)
-    c.in_ok-area.ensures.area c.in_err-island.ensures.refused))
+    (IsDue (HasNoIslandFor c.args.given.now c.args.router))
+    (refused_in c.args.given.now c.args.router _ c.in_ok-area.ensures.within c.in_ok-area.ensures.area c.in_err-island.field-0.0 c.in_err-island.ensures.refused)
 
 pub table_of-requires-clause-root : goal.table_of-requires-clause-root
 table_of-requires-clause-root c = root_within _ _ _ _ _ _ c.in_ok-island.ensures.island
