@@ -236,7 +236,7 @@ class Pages(unittest.TestCase):
     def test_what_each_crate_hands_on_is_there(self) -> None:
         sections = {text.split("\n")[0]: text for text in self.read("docs/CLAUSES.md").split("\n## ")[1:]}
         count = 0
-        crates = [name for name in os.listdir(os.path.join(ROOT, "crates")) if not name.endswith("_tests")]
+        crates = [crate for crate in os.listdir(os.path.join(ROOT, "crates")) if not crate.endswith("_tests")]
         for crate in crates:
             names = os.listdir(os.path.join(ROOT, "crates", crate, "src"))
             text = self.read(f"crates/{crate}/src/{'lib.rt' if 'lib.rt' in names else 'main.rt'}")
@@ -277,9 +277,9 @@ class Printed(unittest.TestCase):
         self.assertIn("\nabbrev pub Apart :", done.stdout)
 
     def test_no_such_name(self) -> None:
-        done = told("nothing")
+        done = told("no_such_thing")
         self.assertEqual((done.returncode, done.stdout), (7, ""))
-        self.assertEqual(done.stderr, "clauses: no crate, type, public function or definition nothing\n")
+        self.assertEqual(done.stderr, "clauses: no crate, type, public function or definition no_such_thing\n")
 
 
 if __name__ == "__main__":
