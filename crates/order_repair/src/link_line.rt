@@ -110,7 +110,7 @@ fn unordered_link_color(view: &SourceView, pair: &Pair, failed: Arrow) -> Color
     if is_over(view, pair.source, failed.from) {
         return Color::Blue;
     }
-    blue_where(d.order(pair.to) <= view.directed.order(failed.from))
+    blue_where(view.directed.order(pair.to) <= view.directed.order(failed.from))
 }
 
 /// Whether a node is of the source's own block, and a path leads up to it.
