@@ -17,9 +17,9 @@ use Rattle.inc_dec_spf.specs.Side.{IsLeastWay, hop_by}
 use Rattle.inc_dec_spf.specs.Turns.{AreTurns, turn_of}
 use Rattle.inc_dec_spf.specs.Ways.{AreLeast, BeginsAt}
 use Rattle.inc_dec_spf.proofs.ByTurn.{not_now}
-use Rattle.inc_dec_spf.proofs.InBlocks.{IsOrdered}
-use Rattle.inc_dec_spf.proofs.Marks.{link_within}
-use Rattle.inc_dec_spf.proofs.OneHop.{one_block}
+use Rattle.link_direction.proofs.ClosedBlocks.{IsOrdered}
+use Rattle.link_direction.proofs.LinkNodes.{link_within}
+use Rattle.link_direction.proofs.OneBlock.{one_block}
 use Rattle.inc_dec_spf.proofs.SideBySide.{row_within}
 use Rattle.inc_dec_spf.proofs.WaysArePaths.{least_hop}
 

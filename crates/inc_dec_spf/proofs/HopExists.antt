@@ -23,8 +23,9 @@ use Rattle.inc_dec_spf.specs.Ways.{AtHead, BeginsAt, Inside, IsWantedBlock}
 use Rattle.inc_dec_spf.proofs.AllMarked.{all_marked}
 use Rattle.inc_dec_spf.proofs.ByTurn.{turn_within}
 use Rattle.inc_dec_spf.proofs.EndCosts.{IsLeftCost, end_cost, rest_at_head, small_lesser, way_passed, way_taken}
-use Rattle.inc_dec_spf.proofs.InBlocks.{Home, IsClosed, IsOrdered, Later, closed_of_link, head_of_member, member_not_head, move_of, step_from_member}
-use Rattle.inc_dec_spf.proofs.Marks.{link_within}
+use Rattle.inc_dec_spf.proofs.InBlocks.{Home, Later, move_of, step_from_member}
+use Rattle.link_direction.proofs.ClosedBlocks.{IsClosed, IsOrdered, closed_of_link, head_of_member, member_not_head}
+use Rattle.link_direction.proofs.LinkNodes.{link_within}
 use Rattle.inc_dec_spf.proofs.MoreLinks.{closed_of_more, more_links}
 use Rattle.inc_dec_spf.proofs.PathsSwept.{metric_small}
 use Rattle.inc_dec_spf.proofs.WaysArePaths.{least_hop, own_rest}

@@ -24,8 +24,8 @@ use Rattle.inc_dec_spf.specs.Side.{hop_by}
 use Rattle.inc_dec_spf.specs.Turns.{AreTurns, turn_of}
 use Rattle.inc_dec_spf.proofs.ByTurn.{turn_within}
 use Rattle.inc_dec_spf.proofs.FirstLinks.{places_apart}
-use Rattle.inc_dec_spf.proofs.InBlocks.{IsOrdered}
-use Rattle.inc_dec_spf.proofs.Marks.{link_within}
+use Rattle.link_direction.proofs.ClosedBlocks.{IsOrdered}
+use Rattle.link_direction.proofs.LinkNodes.{link_within}
 use Rattle.inc_dec_spf.proofs.MoreLinks.{AreIn, are_in, first_step, share_it}
 use Rattle.inc_dec_spf.proofs.Offering.{no_later_same}
 use Rattle.inc_dec_spf.proofs.SideBySide.{row_within}

@@ -4,13 +4,11 @@ use Rattle.std.specs.Option.{option_and_then}
 use Rattle.std.proofs.lemmas.Bool.{ltb-true, ltb-false}
 use Rattle.std.proofs.lemmas.Option.{same_Some, slice_get_within}
 use Rattle.mrt_graph.specs.declared.gadag.Mark.{Mark}
-use Rattle.mrt_graph.specs.declared.gadag.Place.{Place}
 use Rattle.mrt_graph.specs.declared.gadag.Way.{Way}
 use Rattle.mrt_graph.specs.declared.gadag.Way.TheVariants.{AToB, BToA, Unset}
 use Rattle.mrt_graph.specs.declared.link.End.{End}
 use Rattle.mrt_graph.specs.declared.link.Link.{Link}
 use Rattle.mrt_graph.specs.DirectedLists.{DirectedLists}
-use Rattle.mrt_graph.specs.GadagWords.{head_at}
 use Rattle.mrt_graph.specs.GraphInvariant.{IsLink, IsTopology}
 use Rattle.mrt_graph.specs.Leads.{far_node, leads}
 use Rattle.mrt_graph.specs.Tails.{tail_of}
@@ -23,39 +21,7 @@ use Rattle.inc_dec_spf.specs.declared.reach.Dir.{Dir}
 use Rattle.inc_dec_spf.specs.declared.reach.Dir.TheVariants.{Down, Up}
 use Rattle.inc_dec_spf.specs.Path.{LeadsOn}
 use Rattle.inc_dec_spf.specs.Offers.{goes_on}
-
--- a link that leads from u to v
-pub record IsOver (g : Topology) (e u v : ℕ) : Type 0 where
-  pub link : Link
-  pub there : slice_get g.links e ≡ Some link
-  pub ascending : link.a < link.b
-  pub upper : link.b < length g.ids
-  pub ends : ((link.a ≡ u) × (link.b ≡ v)) ⊎ ((link.b ≡ u) × (link.a ≡ v))
-
-pub link_over : (g : Topology) (e u v : ℕ) → IsTopology g → leads g.links e u ≡ Some v → IsOver g e u v
-link_over g e u v kept onward = go (slice_get g.links e) refl onward
-  where
-    go : (o : Option Link) → slice_get g.links e ≡ o → option_and_then (far_node u) o ≡ Some v → IsOver g e u v
-    go None at leads_on = cc
-    go (Some link) at leads_on =
-        let is : IsLink g.ids link = all_at (IsLink g.ids) g.links e link kept.links_kept at in
-        record { link = link; there = at; ascending = is.ascending; upper = is.upper; ends = far_ends link u v leads_on }
-
-pub leads_within : (g : Topology) (e u v : ℕ) → IsTopology g → leads g.links e u ≡ Some v → (u < length g.ids) × (v < length g.ids)
-leads_within g e u v kept onward =
-    let is = link_over g e u v kept onward in
-    elim is.ends [
-      | inl at_a ↦ (omega (arith, is.ascending, is.upper, at_a.0), omega (arith, is.upper, at_a.1))
-      | inr at_b ↦ (omega (arith, is.upper, at_b.0), omega (arith, is.ascending, is.upper, at_b.1))
-    ]
-
-pub link_within : (g : Topology) (e u v : ℕ) → IsTopology g → leads g.links e u ≡ Some v → e < length g.links
-link_within g e u v kept onward = let is = link_over g e u v kept onward in slice_get_within g.links e is.link is.there
-
-pub leads_elsewhere : (g : Topology) (e u v : ℕ) → IsTopology g → leads g.links e u ≡ Some v → u ≢ v
-leads_elsewhere g e u v kept onward same =
-    let is = link_over g e u v kept onward in
-    elim is.ends [ inl at_a ↦ omega (arith, is.ascending, at_a.0, at_a.1, same) | inr at_b ↦ omega (arith, is.ascending, at_b.0, at_b.1, same) ]
+use Rattle.link_direction.proofs.LinkNodes.{link_over, link_within}
 
 -- the direction in terms of the tail
 abbrev Onward : Dir → ℕ → ℕ → ℕ → Type 0
@@ -137,12 +103,3 @@ pub marked_role : (g : Topology) (d : DirectedLists) (w : Directions) (x place :
 marked_role g d w x place ends end mark kept says is =
     let role = says.roles end.link (link_within g end.link x end.to kept (end_leads g x place ends end kept is.list is.there)) in
     same_Some mark.role (w.role end.link) (rw is.marked at role)
-
--- the block of a node, from its place
-pub block_of_node : (g : Topology) (d : DirectedLists) (w : Directions) (x : ℕ) (place : Place) → Says g d w → x < length g.ids → slice_get d.places x ≡ Some place
-    → place.block ≡ w.block x
-block_of_node g d w x place says within at = let block = says.blocks x within in same_Some place.block (w.block x) (rw at at block)
-
--- and its head
-pub head_of_node : (g : Topology) (d : DirectedLists) (w : Directions) (x head : ℕ) → Says g d w → x < length g.ids → head_at d.places x ≡ Some head → head ≡ w.head x
-head_of_node g d w x head says within at = same_Some head (w.head x) (sym at ∙ says.heads x within)

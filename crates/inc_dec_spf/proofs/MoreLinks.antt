@@ -7,8 +7,8 @@ use Rattle.link_direction.specs.Directions.{Directions}
 use Rattle.inc_dec_spf.specs.declared.reach.Dir.{Dir}
 use Rattle.inc_dec_spf.specs.LeastPath.{HasMoreLinks, HaveCommonBlockOfMoreLinks}
 use Rattle.inc_dec_spf.specs.Path.{IsStep, Path}
-use Rattle.inc_dec_spf.proofs.InBlocks.{IsClosed, IsOrdered, head_of_member, inside_of_link}
-use Rattle.inc_dec_spf.proofs.Marks.{link_within}
+use Rattle.link_direction.proofs.ClosedBlocks.{IsClosed, IsOrdered, head_of_member, inside_of_link}
+use Rattle.link_direction.proofs.LinkNodes.{link_within}
 
 -- s and v lie in block k, which has a closing link and whose head is h: each is one of its nodes, or the head
 pub record AreIn (g : Topology) (root : ℕ) (w : Directions) (s k h v : ℕ) : Type 0 where

@@ -18,7 +18,8 @@ use Rattle.inc_dec_spf.specs.TileEntries.{TileEntries}
 use Rattle.inc_dec_spf.specs.Turns.{AreTurns, turn_at, turn_of}
 use Rattle.inc_dec_spf.specs.Ways.{AreLeast, AreReady, IsReadyFrom, IsWantedBlock}
 use Rattle.inc_dec_spf.proofs.ByTurn.{not_now, turn_within}
-use Rattle.inc_dec_spf.proofs.InBlocks.{Home, IsClosed, IsOrdered, Later, Onto, member_not_head, move_of, step_from_member}
+use Rattle.inc_dec_spf.proofs.InBlocks.{Home, Later, Onto, move_of, step_from_member}
+use Rattle.link_direction.proofs.ClosedBlocks.{IsClosed, IsOrdered, member_not_head}
 use Rattle.inc_dec_spf.proofs.MoreLinks.{closed_of_more}
 use Rattle.inc_dec_spf.proofs.SideBySide.{row_within}
 use Rattle.inc_dec_spf.proofs.WaysArePaths.{own_rest}

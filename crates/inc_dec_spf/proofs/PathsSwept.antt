@@ -15,7 +15,8 @@ use Rattle.inc_dec_spf.specs.Offers.{PassesOn}
 use Rattle.inc_dec_spf.specs.Path.{IsStep, Path, cost_of}
 use Rattle.inc_dec_spf.specs.Rest.{far}
 use Rattle.inc_dec_spf.specs.Turns.{AreTurns, turn_of}
-use Rattle.inc_dec_spf.proofs.InBlocks.{Home, IsClosed, IsOrdered, Later, Onto, closed_of_link, head_of_member, head_lower, leads_inside, member_not_head, move_of, step_from_head, step_from_member}
+use Rattle.inc_dec_spf.proofs.InBlocks.{Home, Later, Onto, move_of, step_from_head, step_from_member}
+use Rattle.link_direction.proofs.ClosedBlocks.{IsClosed, IsOrdered, closed_of_link, head_lower, head_of_member, leads_inside, member_not_head}
 use Rattle.inc_dec_spf.proofs.MoreLinks.{AreIn}
 use Rattle.inc_dec_spf.proofs.Offering.{no_later_by}
 

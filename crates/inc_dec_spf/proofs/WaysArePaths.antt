@@ -14,7 +14,8 @@ use Rattle.inc_dec_spf.specs.Rest.{IsRestCost, Rest, far}
 use Rattle.inc_dec_spf.specs.Side.{IsLeastWay, hop_by}
 use Rattle.inc_dec_spf.specs.Ways.{AtHead, BeginsAt, HasHeadBy, Inside, IsWantedBlock}
 use Rattle.inc_dec_spf.proofs.EndCosts.{one_head_by}
-use Rattle.inc_dec_spf.proofs.InBlocks.{IsClosed, IsOrdered, head_of_member, leads_inside, member_not_head, move_of}
+use Rattle.inc_dec_spf.proofs.InBlocks.{move_of}
+use Rattle.link_direction.proofs.ClosedBlocks.{IsClosed, IsOrdered, head_of_member, leads_inside, member_not_head}
 use Rattle.inc_dec_spf.proofs.MoreLinks.{AreIn, are_in, closed_of_more, first_step, share_it}
 
 -- a path is its first end, and what is left

@@ -13,8 +13,9 @@ use Rattle.inc_dec_spf.specs.Offers.{goes_on}
 use Rattle.inc_dec_spf.specs.Path.{LeadsOn}
 use Rattle.inc_dec_spf.specs.Ways.{BeginsAt}
 use Rattle.inc_dec_spf.proofs.EndCosts.{IsWayOn}
-use Rattle.inc_dec_spf.proofs.InBlocks.{IsOrdered, closed_of_link}
-use Rattle.inc_dec_spf.proofs.Marks.{IsMarkedEnd, leads_elsewhere, link_within, marked_block, marked_role, test_leads_back, test_leads_on}
+use Rattle.link_direction.proofs.ClosedBlocks.{IsOrdered, closed_of_link}
+use Rattle.inc_dec_spf.proofs.Marks.{IsMarkedEnd, marked_block, marked_role, test_leads_back, test_leads_on}
+use Rattle.link_direction.proofs.LinkNodes.{leads_elsewhere, link_within}
 use Rattle.inc_dec_spf.proofs.MoreLinks.{closed_of_more, more_links}
 
 pub way_on : (g : Topology) (d : DirectedLists) (root : ℕ) (w : Directions) (wanted : List Bool) (dir : Dir) (own : Bool) (x place block : ℕ) (ends : List End) (end : End)

@@ -2,6 +2,7 @@ pub mod AllOrdered
 pub mod AnswerExists
 pub mod Answered
 pub mod BlockKinds
+pub mod ClosedBlocks
 pub mod Counts
 pub mod DirectedMade
 pub mod EachInOrder
@@ -10,14 +11,18 @@ pub mod EnteredBy
 pub mod FromEarsFacts
 pub mod HeadsLower
 pub mod Laws
+pub mod LinkNodes
 pub mod NextInOrder
 pub mod OneAnswer
+pub mod OneBlock
 pub mod OneOrder
 pub mod OrderExists
 pub mod OrderSound
 pub mod PassedEnds
 pub mod QueueEnds
 pub mod SaidOf
+pub mod SameDirections
 pub mod TakenOff
 pub mod TwoNodes
+pub mod UpLinks
 pub mod WaysGiven

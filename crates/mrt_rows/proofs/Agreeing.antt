@@ -21,7 +21,7 @@ use Rattle.inc_dec_spf.specs.declared.reach.Dir.TheVariants.{Down, Up}
 use Rattle.inc_dec_spf.specs.declared.reach.Hop.{Hop}
 use Rattle.inc_dec_spf.specs.LeastPath.{BeginsPath, HasMoreLinks, IsHop, IsLeastPath, NotReached, Reached, HaveCommonBlockOfMoreLinks}
 use Rattle.inc_dec_spf.specs.Path.{IsStep, LeadsOn, Path}
-use Rattle.inc_dec_spf.proofs.SameDirections.{AreAlike, alike_back, common_too}
+use Rattle.link_direction.proofs.SameDirections.{AreAlike, alike_back, common_too}
 use Rattle.mrt_rows.specs.CertOf.{Tells, link_words, node_words}
 use Rattle.mrt_rows.specs.RowLines.{AreMembers, BeginsOver, HasLinksFor, HasOneLink, LineOf}
 use Rattle.mrt_rows.proofs.OrderedGraphs.{Within, within}

@@ -6,7 +6,7 @@ use Rattle.link_direction.specs.CommonBlock.{FromHead, HaveCommonBlock, Peers, T
 use Rattle.link_direction.specs.Directions.{Directions}
 use Rattle.inc_dec_spf.specs.BlockAims.{IsAimOf}
 use Rattle.inc_dec_spf.specs.LeastPath.{HasMoreLinks, HaveCommonBlockOfMoreLinks}
-use Rattle.inc_dec_spf.proofs.OneHop.{one_block}
+use Rattle.link_direction.proofs.OneBlock.{one_block}
 use Rattle.mrt_rows.specs.Chain.{AreBelow, AreWayAims, AreWayMarks, AtHome, Beside, Climbs, IsRowAim, Under}
 use Rattle.mrt_rows.proofs.ChainAims.{aim_apart, climb_low, climb_on}
 use Rattle.mrt_rows.proofs.OrderedGraphs.{OrderedGraph, is_ordered}

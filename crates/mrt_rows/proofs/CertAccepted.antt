@@ -7,7 +7,7 @@ use Rattle.mrt_graph.specs.Topology.{Topology}
 use Rattle.link_direction.specs.FromEars.{IsFromEars}
 use Rattle.link_direction.specs.OrderedGadag.{IsOrderedGadag}
 use Rattle.link_direction.proofs.Laws.{says_ordered}
-use Rattle.inc_dec_spf.proofs.SameDirections.{ordered_too, said_alike}
+use Rattle.link_direction.proofs.SameDirections.{ordered_too, said_alike}
 use Rattle.mrt_rows.specs.CertOf.{IsCertOf}
 use Rattle.mrt_rows.proofs.RulesHold.{accepted}
 

@@ -12,7 +12,7 @@ use Rattle.link_direction.specs.Directed.{IsDirected}
 use Rattle.link_direction.specs.Directions.{Directions, Says}
 use Rattle.link_direction.specs.FromEars.{IsFromEars}
 use Rattle.link_direction.proofs.Laws.{says_ordered}
-use Rattle.inc_dec_spf.proofs.SameDirections.{ordered_too, said_alike}
+use Rattle.link_direction.proofs.SameDirections.{ordered_too, said_alike}
 use Rattle.mrt_rows.specs.CertOf.{IsCertOf}
 use Rattle.mrt_rows.specs.ColumnOf.{HasColumns}
 use Rattle.mrt_rows.proofs.OrderedGraphs.{OrderedGraph}

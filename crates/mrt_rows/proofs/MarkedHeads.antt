@@ -7,7 +7,7 @@ use Rattle.mrt_graph.specs.Leads.{far_node}
 use Rattle.mrt_graph.proofs.Hops.{far_ends}
 use Rattle.link_direction.specs.CommonBlock.{FromHead, HaveCommonBlock, Peers, ToHead}
 use Rattle.inc_dec_spf.specs.LeastPath.{HasMoreLinks}
-use Rattle.inc_dec_spf.proofs.InBlocks.{inside_of_link}
+use Rattle.link_direction.proofs.ClosedBlocks.{inside_of_link}
 use Rattle.mrt_rows.specs.Put.{AreHeadsMarked}
 use Rattle.mrt_rows.proofs.OrderedGraphs.{OrderedGraph, Within, is_ordered, within}
 use Rattle.mrt_rows.proofs.WaysBegun.{ring_of}

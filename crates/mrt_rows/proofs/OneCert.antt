@@ -21,7 +21,7 @@ use Rattle.link_direction.specs.FromEars.{IsFromEars}
 use Rattle.link_direction.proofs.FromEarsFacts.{gadag_facts}
 use Rattle.link_direction.proofs.Laws.{says_ordered}
 use Rattle.link_direction.proofs.OneAnswer.{one_answer}
-use Rattle.inc_dec_spf.proofs.SameDirections.{ordered_too, said_alike}
+use Rattle.link_direction.proofs.SameDirections.{ordered_too, said_alike}
 use Rattle.mrt_rows.specs.CertOf.{IsCertOf, Tells, link_words, node_words}
 use Rattle.mrt_rows.proofs.Agreeing.{tells_too}
 use Rattle.mrt_rows.proofs.OneRow.{one_row}

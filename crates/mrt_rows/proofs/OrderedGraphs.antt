@@ -13,9 +13,9 @@ use Rattle.inc_dec_spf.specs.declared.reach.Dir.{Dir}
 use Rattle.inc_dec_spf.specs.declared.reach.Dir.TheVariants.{Down, Up}
 use Rattle.inc_dec_spf.specs.HasDirections.{AreDirections}
 use Rattle.inc_dec_spf.specs.Path.{IsStep, LeadsOn}
-use Rattle.inc_dec_spf.proofs.InBlocks.{IsOrdered}
-use Rattle.inc_dec_spf.proofs.Marks.{leads_elsewhere, leads_within, link_within}
-use Rattle.inc_dec_spf.proofs.OneHop.{one_block}
+use Rattle.link_direction.proofs.ClosedBlocks.{IsOrdered}
+use Rattle.link_direction.proofs.LinkNodes.{leads_elsewhere, leads_within, link_within}
+use Rattle.link_direction.proofs.OneBlock.{one_block}
 
 -- a graph, its root, and what a GADAG with its order says
 pub record OrderedGraph : Type 0 where

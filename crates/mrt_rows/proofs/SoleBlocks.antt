@@ -14,7 +14,7 @@ use Rattle.link_direction.specs.CommonBlock.{FromHead, HaveCommonBlock, Peers, T
 use Rattle.link_direction.specs.Directions.{Directions, Says}
 use Rattle.inc_dec_spf.specs.FirstLink.{no_link}
 use Rattle.inc_dec_spf.specs.LeastPath.{HasMoreLinks, HaveCommonBlockOfMoreLinks}
-use Rattle.inc_dec_spf.proofs.InBlocks.{inside_of_link}
+use Rattle.link_direction.proofs.ClosedBlocks.{inside_of_link}
 use Rattle.mrt_rows.specs.NearOf.{AreSoles}
 use Rattle.mrt_rows.specs.RowLines.{HasOneLink}
 use Rattle.mrt_rows.proofs.LinesHold.{has_head}

@@ -14,7 +14,7 @@ use Rattle.link_direction.specs.FromEars.{IsFromEars}
 use Rattle.link_direction.specs.OrderedGadag.{SaysOrdered}
 use Rattle.link_direction.proofs.Laws.{says_ordered}
 use Rattle.inc_dec_spf.specs.HasDirections.{AreDirections, HasDirections}
-use Rattle.inc_dec_spf.proofs.SameDirections.{ordered_too, said_alike}
+use Rattle.link_direction.proofs.SameDirections.{ordered_too, said_alike}
 use Rattle.mrt_rows.specs.CertOf.{AreLinkWords, AreNodeWords, IsCertOf, Tells, link_words, node_words}
 use Rattle.mrt_rows.specs.DirectedFrom.{IsDirectedFrom}
 use Rattle.mrt_rows.proofs.OneCert.{one_cert_of}

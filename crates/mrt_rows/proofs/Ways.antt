@@ -11,8 +11,8 @@ use Rattle.link_direction.specs.OrderedGadag.{HasClosingLink}
 use Rattle.inc_dec_spf.specs.declared.reach.Dir.{Dir}
 use Rattle.inc_dec_spf.specs.declared.reach.Dir.TheVariants.{Down, Up}
 use Rattle.inc_dec_spf.specs.Path.{IsStep, Path}
-use Rattle.inc_dec_spf.proofs.HomePaths.{left_inside}
-use Rattle.inc_dec_spf.proofs.InBlocks.{IsClosed, head_lower as head_below, head_of_member, member_not_head}
+use Rattle.link_direction.proofs.UpLinks.{left_inside}
+use Rattle.link_direction.proofs.ClosedBlocks.{IsClosed, head_lower as head_below, head_of_member, member_not_head}
 use Rattle.inc_dec_spf.proofs.PathsSwept.{path_onward}
 use Rattle.mrt_rows.proofs.OrderedGraphs.{OrderedGraph, Within, is_ordered, step_leads, step_over, within}
 

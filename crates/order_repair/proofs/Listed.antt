@@ -10,7 +10,7 @@ use Rattle.mrt_graph.specs.Topology.{Topology}
 use Rattle.link_direction.specs.Directions.{Directions, Says}
 use Rattle.link_direction.specs.OrderedGadag.{IsOrderedGadag}
 use Rattle.inc_dec_spf.specs.HasDirections.{HasDirections}
-use Rattle.inc_dec_spf.proofs.InBlocks.{inside_of_link}
+use Rattle.link_direction.proofs.ClosedBlocks.{inside_of_link}
 use Rattle.link_direction.proofs.TwoNodes.{place_says}
 use Rattle.order_repair.specs.BlockLists.{link_blocks, node_blocks}
 use Rattle.order_repair.specs.Chains.{IsNext}

@@ -18,7 +18,7 @@ use Rattle.inc_dec_spf.specs.declared.reach.Dir.TheVariants.{Down, Up}
 use Rattle.inc_dec_spf.specs.declared.reach.Hop.{Hop}
 use Rattle.inc_dec_spf.specs.LeastPath.{BeginsPath, IsHop, NotReached, Reached, HaveCommonBlockOfMoreLinks}
 use Rattle.inc_dec_spf.specs.Path.{Path}
-use Rattle.inc_dec_spf.proofs.SameDirections.{AreAlike, alike_back}
+use Rattle.link_direction.proofs.SameDirections.{AreAlike, alike_back}
 use Rattle.mrt_rows.proofs.Agreeing.{line_too, path_too, share_too}
 use Rattle.mrt_rows.proofs.HopsExist.{has_hop}
 use Rattle.mrt_rows.proofs.OrderedGraphs.{OrderedGraph, within}

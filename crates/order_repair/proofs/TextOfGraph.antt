@@ -15,7 +15,7 @@ use Rattle.link_direction.specs.FromEars.{IsFromEars}
 use Rattle.link_direction.proofs.FromEarsFacts.{gadag_facts}
 use Rattle.link_direction.proofs.Laws.{says_ordered}
 use Rattle.link_direction.proofs.OneAnswer.{one_answer}
-use Rattle.inc_dec_spf.proofs.SameDirections.{ordered_too, said_alike}
+use Rattle.link_direction.proofs.SameDirections.{ordered_too, said_alike}
 use Rattle.mrt_rows.specs.DirectedFrom.{IsDirectedFrom}
 use Rattle.mrt_rows.proofs.OrderedGraphs.{OrderedGraph}
 use Rattle.order_repair.specs.OrderText.{IsTextFrom}

@@ -5,7 +5,8 @@ use Rattle.mrt_graph.specs.declared.link.End.{End}
 use Rattle.inc_dec_spf.specs.Known.{AreLanes, IsOver, Known, known_at}
 use Rattle.inc_dec_spf.specs.Offers.{IsFurtherOffer}
 use Rattle.inc_dec_spf.proofs.EndsOffer.{further_back, further_is, further_not}
-use Rattle.inc_dec_spf.proofs.Marks.{IsMarkedEnd, block_of_node}
+use Rattle.link_direction.proofs.TwoNodes.{place_says}
+use Rattle.inc_dec_spf.proofs.Marks.{IsMarkedEnd}
 use Rattle.inc_dec_spf.proofs.Offering.{none_yet, offered_all, offered_more, offered_none, own_lanes}
 use Rattle.inc_dec_spf.proofs.beside.offer_on.Goals as goal
 use Rattle.inc_dec_spf.proofs.beside.offer_on.Goals.{then-eq+then-leads_on, else-eq, else-eq-via-then-eq+else-leads_on, else-eq-via-else-eq}
@@ -44,7 +45,7 @@ loop-end-preserved c =
             lanes = subst (λ (n : ℕ). AreLanes n t.offer_over.new.costs t.offer_over.new.places) c.loop-end.invariant.lanes.one_cost_each t.offer_over.ensures.lanes;
             offered = λ root w are.
                 let own = eqb-true mark.block c.place-block.result.block (sym c.eq.ensures ∙ t.if-eq.true)
-                ∙ block_of_node g d w c.args.x c.place-block.result are.says c.requires.node c.place-block.ensures in
+                ∙ (place_says g d w c.args.x c.place-block.result are.says c.requires.node c.place-block.ensures).1 in
                 offered_more (IsFurtherOffer g w dir c.args.x from_costs from_places) (IsOver from_costs from_places end.metric at) place
                 (known_at c.args.costs.now c.args.places.now) (known_at c.loop-end.costs c.loop-end.places)
                 (known_at t.offer_over.new.costs t.offer_over.new.places)
@@ -56,7 +57,7 @@ loop-end-preserved c =
       | else-eq t ↦ rw (t.costs-is, t.places-is) (record {
         lanes = c.loop-end.invariant.lanes;
         offered = λ root w are.
-            let block = block_of_node g d w c.args.x c.place-block.result are.says c.requires.node c.place-block.ensures in
+            let block = (place_says g d w c.args.x c.place-block.result are.says c.requires.node c.place-block.ensures).1 in
             offered_none (IsFurtherOffer g w dir c.args.x from_costs from_places) place
             (known_at c.args.costs.now c.args.places.now) (known_at c.loop-end.costs c.loop-end.places)
             (further_not g d w dir c.args.x place ends end mark c.requires.opening.kept are.says is

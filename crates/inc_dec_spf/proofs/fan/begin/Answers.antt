@@ -7,7 +7,7 @@ use Rattle.mrt_graph.specs.declared.gadag.Place.{Place}
 use Rattle.inc_dec_spf.specs.Known.{AreLanes, Known, OfAny, known, known_at, no_place}
 use Rattle.inc_dec_spf.specs.Offers.{IsFirstOffer}
 use Rattle.inc_dec_spf.specs.Rest.{far}
-use Rattle.inc_dec_spf.proofs.Marks.{head_of_node}
+use Rattle.link_direction.proofs.TwoNodes.{place_says}
 use Rattle.inc_dec_spf.proofs.Offering.{none_yet, offered_all, offered_more}
 use Rattle.inc_dec_spf.proofs.fan.begin.Goals as goal
 
@@ -60,8 +60,7 @@ loop-j-preserved c =
       stops = λ root w are.
           let so_far = c.loop-j.invariant.stops root w are in
           let head =
-          head_of_node g c.args.opening.now.directed.now w c.new-source.result c.place.result.head are.says within
-          (ap (λ (o : Option Place). option_map (λ p. p.head) o) c.place.ensures) in
+          (place_says g c.args.opening.now.directed.now w c.new-source.result c.place.result are.says within c.place.ensures).0 in
           record {
             sources = λ k below inside. c.mark-in-loop-j.ensures.stay (first + k) (elim (cases_eq k j) [
               | inl same ↦

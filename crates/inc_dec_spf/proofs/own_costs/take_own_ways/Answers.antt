@@ -7,9 +7,9 @@ use Rattle.inc_dec_spf.specs.Against.{against}
 use Rattle.inc_dec_spf.specs.Aiming.{IsAiming}
 use Rattle.inc_dec_spf.specs.Turns.{AreTurns}
 use Rattle.inc_dec_spf.proofs.ByTurn.{turn_within}
-use Rattle.inc_dec_spf.proofs.Marks.{block_of_node}
+use Rattle.link_direction.proofs.TwoNodes.{place_says}
 use Rattle.inc_dec_spf.proofs.FirstLinks.{one_linked, passed_linked}
-use Rattle.inc_dec_spf.proofs.InBlocks.{IsOrdered}
+use Rattle.link_direction.proofs.ClosedBlocks.{IsOrdered}
 use Rattle.inc_dec_spf.proofs.OwnCosts.{all_turned, arrived_most, kept_most, least_in_width, one_turned, passed_turned, ready_for}
 use Rattle.inc_dec_spf.proofs.SideBySide.{row_within}
 use Rattle.inc_dec_spf.proofs.own_costs.take_own_ways.Goals as goal
@@ -29,7 +29,7 @@ bounds-aiming-block c =
     let x = c.x-item.result in
     let within = node_within c.args.aiming.now (length c.args.costs.now) c.loop-x.x-index x c.requires.aiming c.loop-x-test.true c.x-item.is in
     let block_is = c.get-block.ensures.value
-    ∙ block_of_node g c.args.aiming.now.directed.now has.directions x c.place.result has.are.says within c.place.ensures in
+    ∙ (place_says g c.args.aiming.now.directed.now has.directions x c.place.result has.are.says within c.place.ensures).1 in
     omega (arith, block_is, has.are.ordered.heads.block_within x within, c.requires.aiming.a_mark_each)
 
 pub take_ways-requires-clause-aiming : goal.take_ways-requires-clause-aiming
@@ -78,7 +78,7 @@ overflow_mul-block c =
     let within = node_within c.args.aiming.now (length c.args.costs.now) c.loop-x.x-index x c.requires.aiming c.loop-x-test.true c.x-item.is in
     let one_each : length c.take_ways.new.costs ≡ length c.args.costs.now = c.take_ways.ensures.one_each ∙ c.loop-x.invariant.one_each in
     let block_is = c.get-block.ensures.value
-    ∙ block_of_node g c.args.aiming.now.directed.now has.directions x c.place.result has.are.says within c.place.ensures in
+    ∙ (place_says g c.args.aiming.now.directed.now has.directions x c.place.result has.are.says within c.place.ensures).1 in
     let room = row_within c.get-block.result (length g.ids) (length c.take_ways.new.costs) (length c.args.aiming.now.aims.now)
     (c.requires.aiming.aims ∙ ap (λ (m : ℕ). length g.ids * m) (sym one_each))
     (omega (arith, block_is, has.are.ordered.heads.block_within x within)) in
@@ -93,7 +93,7 @@ arrive-requires c =
     let within = node_within c.args.aiming.now (length c.args.costs.now) c.loop-x.x-index x c.requires.aiming c.loop-x-test.true c.x-item.is in
     let one_each : length c.take_ways.new.costs ≡ length c.args.costs.now = c.take_ways.ensures.one_each ∙ c.loop-x.invariant.one_each in
     let block_is = c.get-block.ensures.value
-    ∙ block_of_node g c.args.aiming.now.directed.now has.directions x c.place.result has.are.says within c.place.ensures in
+    ∙ (place_says g c.args.aiming.now.directed.now has.directions x c.place.result has.are.says within c.place.ensures).1 in
     row_within c.get-block.result (length g.ids) (length c.take_ways.new.costs) (length c.args.aiming.now.aims.now)
     (c.requires.aiming.aims ∙ ap (λ (m : ℕ). length g.ids * m) (sym one_each))
     (omega (arith, block_is, has.are.ordered.heads.block_within x within))
@@ -111,7 +111,7 @@ loop-x-preserved c =
     let wanted = c.args.aiming.now.wanted.now in
     let at = slice_get_read order (length order) i x refl c.loop-x-test.true c.x-item.is in
     let block_is : (w : Directions) → Says g c.args.aiming.now.directed.now w → x < length g.ids → c.get-block.result ≡ w.block x =
-    λ w says within. c.get-block.ensures.value ∙ block_of_node g c.args.aiming.now.directed.now w x c.place.result says within c.place.ensures in
+    λ w says within. c.get-block.ensures.value ∙ (place_says g c.args.aiming.now.directed.now w x c.place.result says within c.place.ensures).1 in
     elim c.if-aiming-block.branch [
       | then-aiming-block t ↦
           let taken : length t.take_ways.new.costs ≡ width = t.take_ways.ensures.one_each ∙ c.loop-x.invariant.one_each in

@@ -1,7 +1,7 @@
 use Rattle.std.proofs.Common.{◌≡◌, ◌⊎◌, ◌<◌, ◌∙◌, ℕ, Some, length, slice_get, true, inl, inr, refl, sym, ap, subst, arith}
 use Rattle.std.proofs.lemmas.Bool.{cases_eq}
 use Rattle.link_direction.specs.CommonBlock.{FromHead, Peers, ToHead}
-use Rattle.inc_dec_spf.proofs.Marks.{block_of_node, head_of_node}
+use Rattle.link_direction.proofs.TwoNodes.{place_says}
 use Rattle.inc_dec_spf.proofs.to_target.mark_blocks.Goals as goal
 use Rattle.inc_dec_spf.proofs.to_target.mark_blocks.Goals.{then-is_at, else-is_at}
 
@@ -9,7 +9,7 @@ pub mark-requires : goal.mark-requires
 mark-requires c =
     let d = c.requires.directed in
     let within : c.new-node.result < length c.args.g.now.ids = omega (arith, c.new-node.ensures, c.loop-n-test.true, c.node_count-n-end.ensures.count) in
-    let block = block_of_node c.args.g.now c.args.d.now d.directions c.new-node.result c.place-place.result d.are.says within c.place-place.ensures in
+    let block = (place_says c.args.g.now c.args.d.now d.directions c.new-node.result c.place-place.result d.are.says within c.place-place.ensures).1 in
     omega (arith, block, d.are.ordered.heads.block_within c.new-node.result within, c.loop-n.invariant.one_each, c.requires.one_each)
 
 pub loop-n-preserved : goal.loop-n-preserved
@@ -24,7 +24,7 @@ loop-n-preserved c =
         one_each = t.mark.ensures.one_each ∙ before.one_each;
         marked = λ root y w are below at. elim (cases_eq y c.loop-n.n) [
           | inl same ↦
-              let block = block_of_node g d w node c.place-place.result are.says within c.place-place.ensures in
+              let block = (place_says g d w node c.place-place.result are.says within c.place-place.ensures).1 in
               subst (λ (v : ℕ). slice_get t.mark.new.marks (w.block v) ≡ Some true) (c.new-node.ensures ∙ sym same)
               (subst (λ (k : ℕ). slice_get t.mark.new.marks k ≡ Some true) block t.mark.ensures.marked)
           | inr other ↦ t.mark.ensures.stay (w.block y) (before.marked root y w are (omega (arith, below, other)) at)
@@ -34,7 +34,7 @@ loop-n-preserved c =
         one_each = before.one_each;
         marked = λ root y w are below at. elim (cases_eq y c.loop-n.n) [
           | inl same ↦
-              let head = head_of_node g d w node c.place-place.result.head are.says within (rw c.place-place.ensures refl) in
+              let head = (place_says g d w node c.place-place.result are.says within c.place-place.ensures).0 in
               let y_is : y ≡ node = same ∙ sym c.new-node.ensures in
               let yes = c.is_at.ensures.1 (elim at [ inl own ↦ inl (sym y_is ∙ own) | inr above ↦ inr (head ∙ ap w.head (sym y_is) ∙ above) ]) in
               let no = t.if-is_at.false in absurd (cc)

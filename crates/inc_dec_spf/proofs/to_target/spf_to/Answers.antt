@@ -17,7 +17,7 @@ use Rattle.inc_dec_spf.specs.BlockAims.{IsAimOf, aim_at}
 use Rattle.inc_dec_spf.specs.HasDirections.{AreDirections, HasDirections}
 use Rattle.inc_dec_spf.specs.LeastPath.{IsHop, IsReachTo}
 use Rattle.inc_dec_spf.specs.Turns.{AreTurns}
-use Rattle.inc_dec_spf.proofs.InBlocks.{IsOrdered}
+use Rattle.link_direction.proofs.ClosedBlocks.{IsOrdered}
 use Rattle.inc_dec_spf.proofs.OwnCosts.{own_costs_of}
 use Rattle.inc_dec_spf.proofs.SameDirections.{directions_are}
 use Rattle.inc_dec_spf.proofs.to_target.spf_to.Goals as goal

@@ -4,13 +4,13 @@ use Rattle.std.proofs.lemmas.Bool.{cases_eq, eq-eqb, ne_eqb}
 use Rattle.std.proofs.lemmas.Option.{slice_get-get_or}
 use Rattle.inc_dec_spf.specs.Side.{cost_at}
 use Rattle.inc_dec_spf.specs.Ways.{Back, Home, Onward}
-use Rattle.inc_dec_spf.proofs.Marks.{block_of_node}
+use Rattle.link_direction.proofs.TwoNodes.{place_says}
 use Rattle.inc_dec_spf.proofs.SideBySide.{onward_or_back, range_index, range_most, row_within, taken_by}
 use Rattle.inc_dec_spf.proofs.ways.take_leg.Goals as goal
 
 pub returns-then-ne-clause-taken : goal.returns-then-ne-clause-taken
 returns-then-ne-clause-taken c = λ w says.
-    let named = block_of_node c.args.aiming.now.graph.now c.args.aiming.now.directed.now w c.args.leg.now.end.to c.place.result says c.requires.node c.place.ensures in
+    let named = (place_says c.args.aiming.now.graph.now c.args.aiming.now.directed.now w c.args.leg.now.end.to c.place.result says c.requires.node c.place.ensures).1 in
     let aims = c.args.aiming.now.aims.now in
     let width = length c.args.costs.now in
     let outside : w.block c.args.leg.now.end.to ≢ c.args.leg.now.block = λ inside.
@@ -26,7 +26,7 @@ returns-then-ne-clause-taken c = λ w says.
 
 pub returns-then-own-clause-taken : goal.returns-then-own-clause-taken
 returns-then-own-clause-taken c = λ w says.
-    let named = block_of_node c.args.aiming.now.graph.now c.args.aiming.now.directed.now w c.args.leg.now.end.to c.place.result says c.requires.node c.place.ensures in
+    let named = (place_says c.args.aiming.now.graph.now c.args.aiming.now.directed.now w c.args.leg.now.end.to c.place.result says c.requires.node c.place.ensures).1 in
     let all = c.args.all.now in
     let width = length c.args.costs.now in
     let inside : c.place.result.block ≡ c.args.leg.now.block = elim (cases_eq c.place.result.block c.args.leg.now.block) [
@@ -44,7 +44,7 @@ returns-then-own-clause-taken c = λ w says.
 
 pub returns-else-own-clause-taken : goal.returns-else-own-clause-taken
 returns-else-own-clause-taken c = λ w says.
-    let named = block_of_node c.args.aiming.now.graph.now c.args.aiming.now.directed.now w c.args.leg.now.end.to c.place.result says c.requires.node c.place.ensures in
+    let named = (place_says c.args.aiming.now.graph.now c.args.aiming.now.directed.now w c.args.leg.now.end.to c.place.result says c.requires.node c.place.ensures).1 in
     let aims = c.args.aiming.now.aims.now in
     let all = c.args.all.now in
     let width = length c.args.costs.now in

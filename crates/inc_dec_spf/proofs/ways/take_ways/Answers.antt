@@ -11,8 +11,9 @@ use Rattle.mrt_graph.proofs.EndsAt.{end_leads}
 use Rattle.inc_dec_spf.specs.Side.{AreTaken}
 use Rattle.inc_dec_spf.specs.Ways.{AreLeast, IsLeftAt}
 use Rattle.inc_dec_spf.proofs.EndCosts.{all_passed, all_taken_over, step_ready}
-use Rattle.inc_dec_spf.proofs.Marks.{IsMarkedEnd, block_of_node, marked_block}
-use Rattle.inc_dec_spf.proofs.InBlocks.{inside_of_link}
+use Rattle.link_direction.proofs.TwoNodes.{place_says}
+use Rattle.inc_dec_spf.proofs.Marks.{IsMarkedEnd, marked_block}
+use Rattle.link_direction.proofs.ClosedBlocks.{inside_of_link}
 use Rattle.inc_dec_spf.proofs.SideBySide.{most_kept}
 use Rattle.inc_dec_spf.proofs.WaysOn.{no_way_on, way_on}
 use Rattle.inc_dec_spf.proofs.ways.take_ways.Goals as goal
@@ -88,7 +89,7 @@ loop-end-preserved c =
             let takes = c.takes_link.ensures.0 t.if-takes_link.true in
             let on =
             way_on g d root w c.args.aiming.now.wanted.now c.args.aiming.now.dir c.args.own c.args.x place kept ends end mark (record { kept = c.requires.aiming.kept; ordered = are.ordered }) are.says
-            marked (block_of_node g d w c.args.x c.place-kept.result are.says c.requires.node c.place-kept.ensures) takes.0
+            marked ((place_says g d w c.args.x c.place-kept.result are.says c.requires.node c.place-kept.ensures).1) takes.0
             (marked_at takes.1) takes.2 (sym t.leads_on.ensures ∙ t.if-leads_on.true) in
             let width = length c.args.costs.now in
             let inside = marked_block g d w c.args.x place ends end mark c.requires.aiming.kept are.says marked in
@@ -108,7 +109,7 @@ loop-end-preserved c =
         least = λ root bound w are low_bound ready.
             all_passed g w c.args.aiming.now.wanted.now c.args.aiming.now.dir c.args.own c.args.aiming.now.aims.now (length c.args.costs.now) bound c.args.x place ends c.loop-end.costs c.loop-end.links
             (no_way_on g d root w c.args.aiming.now.wanted.now c.args.aiming.now.dir c.args.own c.args.x place kept ends end mark (record { kept = c.requires.aiming.kept; ordered = are.ordered }) are.says
-            marked (block_of_node g d w c.args.x c.place-kept.result are.says c.requires.node c.place-kept.ensures)
+            marked ((place_says g d w c.args.x c.place-kept.result are.says c.requires.node c.place-kept.ensures).1)
             (elim t.else-takes_link.branch [
               | else-takes_link-via-then-takes_link+else-leads_on t' ↦ inr (sym t'.leads_on.ensures ∙ t'.if-leads_on.false)
               | else-takes_link-via-else-takes_link t' ↦

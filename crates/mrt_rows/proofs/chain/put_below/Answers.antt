@@ -3,7 +3,7 @@ use Rattle.std.specs.Prelude.{replicate}
 use Rattle.std.proofs.lemmas.Bool.{cases_eq, eq-eqb, ne_eqb}
 use Rattle.std.proofs.lemmas.List.{length-replicate, length-set}
 use Rattle.std.proofs.lemmas.Option.{get_or_from_slice_get}
-use Rattle.inc_dec_spf.proofs.Marks.{head_of_node}
+use Rattle.link_direction.proofs.TwoNodes.{place_says}
 use Rattle.mrt_rows.proofs.Climbing.{IsClimbed, all_climbed, begun, graph_by, one_climbed}
 use Rattle.mrt_rows.proofs.chain.put_below.Goals as goal
 
@@ -24,7 +24,7 @@ loop-root-smaller c =
     let at = c.loop-root.c in
     let head = c.place-head.result.head in
     let other : at ≢ c.args.root = λ same. let no : c.ne.result ≡ false = rw (eq-eqb at c.args.root same) at c.ne.ensures in let yes = c.loop-root-test.true in (cc) in
-    let named = head_of_node c.args.g.now d w at head says c.loop-root.invariant.within (rw c.place-head.ensures refl) in
+    let named = (place_says c.args.g.now d w at c.place-head.result says c.loop-root.invariant.within c.place-head.ensures).0 in
     let heads = c.requires.directed.ordered.heads in
     let here = get_or_from_slice_get d.orders at (w.order at) 0 (says.orders at c.loop-root.invariant.within) in
     let there = get_or_from_slice_get d.orders (w.head at) (w.order (w.head at)) 0 (says.orders (w.head at) (heads.head_within at c.loop-root.invariant.within)) in
@@ -40,14 +40,14 @@ loop-root-preserved c =
     let below = c.loop-root.below in
     let head = c.place-head.result.head in
     let within = c.loop-root.invariant.within in
-    let named = head_of_node g d w0 at head c.requires.directed.says within (rw c.place-head.ensures refl) in
+    let named = (place_says g d w0 at c.place-head.result c.requires.directed.says within c.place-head.ensures).0 in
     record {
       one_each = length-set below c.get.result (Some at) ∙ c.loop-root.invariant.one_each;
       within = subst (λ (v : ℕ). v < length g.ids) (sym named) (c.requires.directed.ordered.heads.head_within at within);
       climbed = λ w says.
           let og = graph_by g c.args.root d w c.requires.kept c.requires.directed says in
           let other : at ≢ c.args.root = λ same. let no : c.ne.result ≡ false = rw (eq-eqb at c.args.root same) at c.ne.ensures in let yes = c.loop-root-test.true in (cc) in
-          let head_is = head_of_node g d w at head says within (rw c.place-head.ensures refl) in
+          let head_is = (place_says g d w at c.place-head.result says within c.place-head.ensures).0 in
           subst (λ (v : ℕ). IsClimbed g c.args.root w c.args.to v (set below c.get.result (Some at))) (sym head_is)
           (subst (λ (v : ℕ). IsClimbed g c.args.root w c.args.to (w.head at) (set below v (Some at))) (sym (c.get.ensures.value ∙ head_is))
           (one_climbed og c.args.to at below (c.loop-root.invariant.climbed w says) within other c.loop-root.invariant.one_each));

@@ -7,7 +7,7 @@ use Rattle.inc_dec_spf.specs.Aiming.{AreOwnCosts, IsAiming}
 use Rattle.inc_dec_spf.specs.BlockAims.{IsAimOf, aim_at}
 use Rattle.inc_dec_spf.specs.LeastPath.{IsHop}
 use Rattle.inc_dec_spf.specs.TileEntries.{TileEntries}
-use Rattle.inc_dec_spf.proofs.InBlocks.{IsOrdered}
+use Rattle.link_direction.proofs.ClosedBlocks.{IsOrdered}
 use Rattle.inc_dec_spf.proofs.OwnCosts.{all_ready}
 use Rattle.inc_dec_spf.proofs.WaysArePaths.{least_hop}
 use Rattle.inc_dec_spf.proofs.tile.Tile.hop_from.Goals as goal

@@ -5,7 +5,7 @@ use Rattle.inc_dec_spf.specs.Aiming.{AreOwnCosts, IsAiming}
 use Rattle.inc_dec_spf.specs.FirstLink.{HasLinksAt}
 use Rattle.inc_dec_spf.specs.TileEntries.{TileEntries}
 use Rattle.inc_dec_spf.proofs.FirstLinks.{links_kept, links_moved, links_stay}
-use Rattle.inc_dec_spf.proofs.InBlocks.{IsOrdered}
+use Rattle.link_direction.proofs.ClosedBlocks.{IsOrdered}
 use Rattle.inc_dec_spf.proofs.OwnCosts.{all_ready}
 use Rattle.inc_dec_spf.proofs.SideBySide.{row_within}
 use Rattle.inc_dec_spf.proofs.tile.Tile.take_links.Goals as goal
