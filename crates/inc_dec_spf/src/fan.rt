@@ -173,13 +173,7 @@ fn source_count(opening: &Opening, width: usize) -> usize
 }
 
 /// Offers each node to which the ends of the sources lead on, where nothing was known; and marks the sources and their heads.
-fn begin(
-    opening: &Opening,
-    width: usize,
-    costs: &mut [u32],
-    places: &mut [u16],
-    stops: &mut [bool],
-)
+fn begin(opening: &Opening, width: usize, costs: &mut [u32], places: &mut [u16], stops: &mut [bool])
     requires opening { IsOpening opening.now }
     requires costs { length costs.old ≡ length opening.now.graph.now.ids * width }
     requires places { length places.old ≡ length opening.now.graph.now.ids * width }

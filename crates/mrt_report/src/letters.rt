@@ -87,7 +87,13 @@ fn repair<R: RowsOf>(
 }
 
 /// The color whose walk to `to` does not use an element.
-fn color_round<R: RowsOf>(parts: &Parts<'_, R>, to: NodeNo, x: &Element, blue: bool, red: bool) -> Option<Color>
+fn color_round<R: RowsOf>(
+    parts: &Parts<'_, R>,
+    to: NodeNo,
+    x: &Element,
+    blue: bool,
+    red: bool,
+) -> Option<Color>
     requires blue { TellsUse (viewed R.rows parts.now) to Blue (Some x.now) blue }
     requires red { IsTrue blue → TellsUse (viewed R.rows parts.now) to Red (Some x.now) red }
     ensures { IsRepair (viewed R.rows parts.now) to (Some x.now) result }

@@ -39,7 +39,11 @@ pub fn push_line<R: RowsOf>(
 }
 
 /// Puts the hops of both colors at the end of a text.
-fn push_colors<R: RowsOf>(text: &mut Vec<u8>, parts: &Parts<'_, R>, to: NodeNo) -> Result<(), NoMemory>
+fn push_colors<R: RowsOf>(
+    text: &mut Vec<u8>,
+    parts: &Parts<'_, R>,
+    to: NodeNo,
+) -> Result<(), NoMemory>
     requires kept { AreLineParts (viewed R.rows parts.now) to }
     ensures { IfOk result (λ _.
         Adds (AreColorWords (viewed R.rows parts.now) to) text.old.items text.new.items) }
@@ -54,7 +58,11 @@ fn push_colors<R: RowsOf>(text: &mut Vec<u8>, parts: &Parts<'_, R>, to: NodeNo) 
 }
 
 /// Puts the hop over a link of the island at the end of a text.
-fn push_link_hop<R: RowsOf>(text: &mut Vec<u8>, parts: &Parts<'_, R>, link: LinkNo) -> Result<(), NoMemory>
+fn push_link_hop<R: RowsOf>(
+    text: &mut Vec<u8>,
+    parts: &Parts<'_, R>,
+    link: LinkNo,
+) -> Result<(), NoMemory>
     requires kept { IsTopology parts.now.island.now }
     requires within { parts.now.source < length parts.now.island.now.ids }
     requires touches { IsSome (leads parts.now.island.now.links link parts.now.source) }
@@ -105,7 +113,11 @@ fn push_primary<R: RowsOf>(
 }
 
 /// Puts the hop over an arc at the end of a text.
-fn push_arc_hop<R: RowsOf>(text: &mut Vec<u8>, parts: &Parts<'_, R>, number: ArcNo) -> Result<(), NoMemory>
+fn push_arc_hop<R: RowsOf>(
+    text: &mut Vec<u8>,
+    parts: &Parts<'_, R>,
+    number: ArcNo,
+) -> Result<(), NoMemory>
     requires kept { IsArea parts.now.area.now }
     requires within { number < length parts.now.area.now.arcs }
     ensures { IfOk result (λ _.
