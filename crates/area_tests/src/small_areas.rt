@@ -2,9 +2,9 @@
 
 use area_graph::{Arc, ArcNo, Area, Bond, BondNo, Spot};
 use mrt_graph::{Kind, NodeId};
-use ospf_lsa::{POINT_TO_POINT, TRANSIT};
 use parts_of_tests::{
-    BodyTold, FIRST, Instance, LAN, LsaTold, ONE_SIDED, ROUTER, STUB, THREE_LINKS, area_of,
+    BodyTold, FIRST, Instance, LAN, LsaTold, ONE_SIDED, POINT_TO_POINT, ROUTER, STUB, THREE_LINKS,
+    TRANSIT, area_of,
 };
 use std::alloc::Global;
 

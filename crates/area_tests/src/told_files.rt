@@ -1,9 +1,10 @@
 //! The bytes of files that are told, beside bytes by hand.
 
 use crate::lsa_files::{ALONE, NETWORK, OTHER, STUB, TRIANGLE};
-use crate::update_files::{OLDER_FIRST, PACKETS};
+use crate::update_files::{LAN, OLDER_FIRST, PACKETS};
 use parts_of_tests::{
-    BodyTold, FIRST, File, Instance, LsaTold, PacketTold, ROUTER, STUB as TO_STUB, TRIANGLE_PACKETS,
+    BodyTold, FIRST, File, Instance, LAN_PACKETS, LsaTold, PacketTold, ROUTER, STUB as TO_STUB,
+    TRIANGLE_PACKETS,
 };
 use std::alloc::Global;
 
@@ -48,7 +49,7 @@ const OLDER_FIRST_TOLD: &[PacketTold] = &[
 ];
 
 /// Files that are told, and the bytes of each.
-fn files() -> [(File<'static>, &'static [u8]); 7] {
+fn files() -> [(File<'static>, &'static [u8]); 8] {
     [
         (File::Lsas(ROUTER), &ALONE),
         (File::Lsas(STUB_TOLD), &STUB),
@@ -57,6 +58,7 @@ fn files() -> [(File<'static>, &'static [u8]); 7] {
         (File::Lsas(OTHER_TOLD), &OTHER),
         (File::Packets(TRIANGLE_PACKETS), &PACKETS),
         (File::Packets(OLDER_FIRST_TOLD), &OLDER_FIRST),
+        (File::Packets(LAN_PACKETS), &LAN),
     ]
 }
 

@@ -3,8 +3,8 @@
 use crate::calling::{CHECK, Case, UNDER, comes_out};
 use crate::files::{CERTIFICATE, CONFLICT, CONFLICTS};
 use mrt_cmd::{DbKind, Exit};
-use ospf_lsa::{LsaKind, POINT_TO_POINT, TRANSIT};
-use parts_of_tests::{BodyTold, FIRST, File, Instance, LsaTold};
+use ospf_lsa::LsaKind;
+use parts_of_tests::{BodyTold, FIRST, File, Instance, LsaTold, POINT_TO_POINT, TRANSIT};
 
 const JUNK: &Case = &Case {
     name: "junk",

@@ -1,9 +1,9 @@
 //! Databases of small areas and certificates. They were worked out by hand.
 
 use mrt_graph::{Kind, Role, Tag};
-use ospf_lsa::{POINT_TO_POINT, TRANSIT as TO_LAN};
 use parts_of_tests::{
-    BodyTold, CertTold, FIRST as FIRST_NUMBER, File, Instance, LsaTold, STUB as TO_STUB,
+    BodyTold, CertTold, FIRST as FIRST_NUMBER, File, Instance, LsaTold, POINT_TO_POINT,
+    STUB as TO_STUB, TRANSIT as TO_LAN,
 };
 
 /// Router 1.1.1.1 without links.

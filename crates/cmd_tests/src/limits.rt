@@ -4,8 +4,7 @@ use crate::calling::{CHECK, Files, UNDER, comes_to, front, two};
 use crate::files::{CERTIFICATE, ROUTER};
 use mrt_cmd::{Exit, What};
 use mrt_graph::{Kind, NoMemory};
-use ospf_lsa::POINT_TO_POINT;
-use parts_of_tests::{CertTold, File, LsaTold, NO_BYTES, RouterLinkTold};
+use parts_of_tests::{CertTold, File, LsaTold, NO_BYTES, POINT_TO_POINT, RouterLinkTold};
 use std::alloc::Global;
 
 const SCRIPT: &[&str] = &["fabric", "db", "-", "cert"];

@@ -3,9 +3,9 @@
 use crate::answered::{Answered, is_answered};
 use crate::calling::{CHECK, Case, comes_out};
 use mrt_cmd::Exit;
-use ospf_lsa::POINT_TO_POINT;
 use parts_of_tests::{
-    AT_1, AT_3, BELOW, File, LsaTold, MAINTAINED, NO_BYTES, ON_LAN, TRIANGLE_CERTIFICATE,
+    AT_1, AT_3, BELOW, File, LsaTold, MAINTAINED, NO_BYTES, ON_LAN, POINT_TO_POINT,
+    TRIANGLE_CERTIFICATE,
 };
 
 /// The triangle with metric 65,535 at both ends of the link between routers 1 and 3, and 65,534 at router 1's end of its link to 2.

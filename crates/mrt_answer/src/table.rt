@@ -54,8 +54,8 @@ pub(crate) fn table(alloc: Global, given: &Given, router: u32) -> Result<Text, E
     Ok(Text::Bytes(text))
 }
 
-/// The table that is made from these parts, by the rows of the island's certificate, of which those on the walks from the router are
-/// made.
+/// The table that is made from these parts, by the rows of the island's certificate, of which no others are made than
+/// those on the walks from the router.
 fn table_of(alloc: Global, root: NodeNo, parts: &Parts) -> Result<Vec<u8>, NoMemory>
     requires root { root < length parts.now.island.now.ids }
     requires root_router { ¬ IsNetwork parts.now.island.now.ids root }

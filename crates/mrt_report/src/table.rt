@@ -40,11 +40,11 @@ pub fn table_head(
 }
 
 /// What a router installs for one other node of its island: the two colors' next hops, the primary, and which color
-/// repairs it after which failure. It is made by the rows of all nodes for this one, wherever they stand; each row that a
-/// color's walk comes to is read.
+/// repairs it after which failure. It is made by the rows of all nodes for this one, wherever they stand, of which it reads
+/// those on the two walks, no more than are needed.
 ///
-/// It follows each color's walk once, so it takes time in proportion to the nodes and the router's interfaces at worst,
-/// and no memory beside the line.
+/// It follows each color's walk at most once, so it takes time in proportion to the nodes and the router's interfaces at
+/// worst, and no memory beside the line.
 ///
 /// # Errors
 ///

@@ -7,7 +7,8 @@ use Rattle.mrt_exit.specs.declared.exit.Exit.{Exit}
 use Rattle.mrt_exit.specs.declared.exit.Exit.TheVariants.{ReadFault, NoMemory}
 use Rattle.mrt_words.specs.Files.{NamedFile, AreThere, IsRefusedBy, MayFail}
 
--- the exit is due; that one of these files was not read may come of a fault of the shelf too
+-- the exit is due; but where it says that a file was not read, this is one of these files, those before it could be read, and
+-- the count of faults rose
 abbrev pub IsDueOrFault : (Exit → Type 0) → Option Files → List NamedFile → ℕ → ℕ → Exit → Type 0
 IsDueOrFault Refuses held named before now (ReadFault word) = MayFail held named word × Rose before now
 IsDueOrFault Refuses held named before now exit = IsDue Refuses exit

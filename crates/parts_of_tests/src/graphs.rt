@@ -222,8 +222,11 @@ fn ring_links(alloc: Global, count: u16) -> Result<Vec<LinkIn>, NoMemory> {
     Ok(links)
 }
 
-/// The graph of a ring of so many routers, of at least three.
+/// The graph of a ring of so many routers, where these are at least three.
 pub fn ring(alloc: Global, count: u16) -> Result<Option<Graph>, GraphError> {
+    if count < 3 {
+        return Ok(None);
+    }
     let links = ring_links(alloc, count)?;
     graph(alloc, count, count, links)
 }

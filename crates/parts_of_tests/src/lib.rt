@@ -12,7 +12,9 @@ pub use areas::{area_in, area_of, area_of_bytes};
 pub use certs::CertTold;
 pub use files::{File, NO_BYTES};
 pub use graphs::{LinkTold, graph, graph_told, link, ring};
-pub use lsas::{BodyTold, FIRST, Instance, LsaTold, PacketTold, RouterLinkTold, STUB};
+pub use lsas::{
+    BodyTold, FIRST, Instance, LsaTold, POINT_TO_POINT, PacketTold, RouterLinkTold, STUB, TRANSIT,
+};
 pub use networks::{
     AT_1, AT_3, BELOW, CROSSED, LAN, LAN_PACKETS, LINE, LINE_CERTIFICATE, MAINTAINED, ON_LAN,
     ONE_SIDED, ROUTER, THREE_LINKS, TRIANGLE, TRIANGLE_CERTIFICATE, TRIANGLE_PACKETS,

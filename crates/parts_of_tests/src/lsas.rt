@@ -1,14 +1,23 @@
 //! LSAs as they are told, and their bytes (RFC 2328, section A.4), alone and in Link State Update packets (section A.3.5).
+//! Nothing here is made by the crates that are tested with it.
 
 use mrt_graph::NoMemory;
-use ospf_lsa::{NETWORK_LSA, POINT_TO_POINT, ROUTER_LSA, sums};
 use std::alloc::Global;
 
 /// The first sequence number (RFC 2328, section 12.1.6).
 pub const FIRST: u32 = 0x8000_0001;
 
-/// The type of a link to a stub network (RFC 2328, section A.4.2).
+/// The types of a link to a router, to a transit network and to a stub network (RFC 2328, section A.4.2).
+pub const POINT_TO_POINT: u8 = 1;
+
+pub const TRANSIT: u8 = 2;
+
 pub const STUB: u8 = 3;
+
+/// The types of a router-LSA and of a network-LSA (RFC 2328, section A.4.1).
+const ROUTER_LSA: u8 = 1;
+
+const NETWORK_LSA: u8 = 2;
 
 /// A link of a router-LSA: its ID, its link data, its type and its metric.
 pub type RouterLinkTold = (u32, u32, u8, u16);
@@ -168,14 +177,25 @@ fn check_byte(number: u32) -> u8 {
     }
 }
 
+/// The two Fletcher sums of bytes, the second of all that the first has been (RFC 905, annex B).
+fn sums(bytes: &[u8]) -> (u32, u32) {
+    let mut first: u32 = 0;
+    let mut second: u32 = 0;
+    for byte in bytes {
+        first = first.wrapping_add(u32::from(*byte)) % 255;
+        second = second.wrapping_add(first) % 255;
+    }
+    (first, second)
+}
+
 /// The checksum of so many bytes, those after the age, whose own checksum is 0 (RFC 2328, section 12.1.7).
 fn checksum(covered: &[u8], count: u32) -> [u8; 2] {
     let (first, second) = sums(covered);
-    let (first, second) = (u32::from(first), u32::from(second));
+    let left = 255u32.wrapping_sub(first);
     let high = count.wrapping_sub(15).wrapping_mul(first);
-    let low = count.wrapping_sub(14).wrapping_mul(255 - first);
+    let low = count.wrapping_sub(14).wrapping_mul(left);
     [
-        check_byte(high.wrapping_add(255 - second)),
+        check_byte(high.wrapping_add(255u32.wrapping_sub(second))),
         check_byte(low.wrapping_add(second)),
     ]
 }

@@ -1,9 +1,8 @@
 //! Small networks that several tests have: routers 1, 2, 3 and so on are 1.1.1.1, 2.2.2.2, 3.3.3.3.
 
 use crate::certs::CertTold;
-use crate::lsas::{BodyTold, FIRST, Instance, LsaTold, PacketTold};
+use crate::lsas::{BodyTold, FIRST, Instance, LsaTold, POINT_TO_POINT, PacketTold, TRANSIT};
 use mrt_graph::{Kind, Role, Tag};
-use ospf_lsa::{POINT_TO_POINT, TRANSIT};
 
 /// Router 1.1.1.1 without links.
 pub const ROUTER: &[LsaTold] = &[LsaTold::Joined(1, &[])];

@@ -3,8 +3,9 @@
 use area_graph::{Area, Spot};
 use lfa_alt::{Lfa, lfa_text, loop_free};
 use mrt_graph::Kind;
-use ospf_lsa::{POINT_TO_POINT, TRANSIT};
-use parts_of_tests::{BodyTold, FIRST, Instance, LAN, LsaTold, TRIANGLE, area_of};
+use parts_of_tests::{
+    BodyTold, FIRST, Instance, LAN, LsaTold, POINT_TO_POINT, TRANSIT, TRIANGLE, area_of,
+};
 use std::alloc::Global;
 
 /// First arc, second arc, next node, and whether the primary's next is protected.

@@ -4,8 +4,7 @@ use mrt_graph::{Graph, NoMemory, NodeNo};
 use mrt_island::{Island, Profile, find_island};
 use mrt_rows::compute;
 use mrt_survey::{generate, survey_text};
-use ospf_lsa::POINT_TO_POINT;
-use parts_of_tests::{File, LsaTold, area_of_bytes};
+use parts_of_tests::{File, LsaTold, POINT_TO_POINT, area_of_bytes};
 use std::alloc::Global;
 
 /// A number, how many routers, and the survey of their network.
@@ -121,7 +120,7 @@ fn a_root_that_separates(rt: HostRuntime) {
     assert!(rt; triangles_are_summed_up(rt.alloc()) == Ok(true));
 }
 
-/// A number, how many routers, and the database of their network, as a program beside made it.
+/// A number, how many routers, and the LSAs of their network, as a program beside made them.
 const MADE: &[(u32, u16, &[LsaTold])] = &[
     (
         0,
