@@ -2,12 +2,13 @@
 
 use crate::update_files::OLDER_FIRST;
 use area_graph::Area;
+use areas_of_tests::area_in;
 use file_key::FileKey;
 use flood_core::{SharedLsdb, read_updates};
 use flood_script::{Compare, FloodScriptError, Verdict, flood_text, read_flood_script};
 use lsdb::Lsdb;
 use mrt_graph::{NoMemory, NodeId};
-use parts_of_tests::{File, LAN_PACKETS, TRIANGLE_PACKETS, area_in};
+use parts_of_tests::{File, LAN_PACKETS, TRIANGLE_PACKETS};
 use std::alloc::Global;
 
 /// Compares two databases by how many nodes their areas have, where both have the router.

@@ -3,9 +3,10 @@
 ghost use Rattle.std.specs.Prelude.{◌≤◌, length};
 
 use area_graph::Area;
+use areas_of_tests::area_of;
 use mrt_graph::NodeNo;
 use mrt_island::{Island, IslandError, find_island, read_profile};
-use parts_of_tests::{LsaTold, POINT_TO_POINT, STUB, TRANSIT, area_of};
+use parts_of_tests::{LsaTold, POINT_TO_POINT, STUB, TRANSIT};
 use std::alloc::Global;
 
 /// Routers 1, 2 and 3: 1 is linked to both others, and these are on network 9. 3 is linked to 4, and 4 to 5 by two

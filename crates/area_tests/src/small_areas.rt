@@ -1,10 +1,11 @@
 //! Small areas of databases that are told.
 
 use area_graph::{Arc, ArcNo, Area, Bond, BondNo, Spot};
+use areas_of_tests::area_of;
 use mrt_graph::{Kind, NodeId};
 use parts_of_tests::{
     BodyTold, FIRST, Instance, LAN, LsaTold, ONE_SIDED, POINT_TO_POINT, ROUTER, STUB, THREE_LINKS,
-    TRANSIT, area_of,
+    TRANSIT,
 };
 use std::alloc::Global;
 

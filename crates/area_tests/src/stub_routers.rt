@@ -1,9 +1,10 @@
 //! Islands of areas in which links are not for transit traffic.
 
 use area_graph::Area;
+use areas_of_tests::area_of;
 use mrt_graph::{LinkNo, NodeNo};
 use mrt_island::{Island, IslandError, Profile, find_island};
-use parts_of_tests::{AT_1, AT_3, BELOW, LsaTold, MAINTAINED, ON_LAN, POINT_TO_POINT, area_of};
+use parts_of_tests::{AT_1, AT_3, BELOW, LsaTold, MAINTAINED, ON_LAN, POINT_TO_POINT};
 use std::alloc::Global;
 
 /// The triangle with metric 65,535 at both ends of the link between routers 1 and 3.

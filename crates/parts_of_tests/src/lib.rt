@@ -1,14 +1,13 @@
-//! Parts of tests: graphs by hand; LSAs, packets and certificates as they are told, and the bytes of these; areas of databases.
+//! Parts of tests: graphs by hand; LSAs, packets and certificates as they are told, and the bytes of these; networks that
+//! several tests have.
 #![tactic(auto)]
 
-mod areas;
 mod certs;
 mod files;
 mod graphs;
 mod lsas;
 mod networks;
 
-pub use areas::{area_in, area_of, area_of_bytes};
 pub use certs::CertTold;
 pub use files::{File, NO_BYTES};
 pub use graphs::{LinkTold, graph, graph_told, link, ring};

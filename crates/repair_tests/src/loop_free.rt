@@ -1,11 +1,10 @@
 //! Loop-free alternates of routers of small networks, as they were worked out beside this program.
 
 use area_graph::{Area, Spot};
+use areas_of_tests::area_of;
 use lfa_alt::{Lfa, lfa_text, loop_free};
 use mrt_graph::Kind;
-use parts_of_tests::{
-    BodyTold, FIRST, Instance, LAN, LsaTold, POINT_TO_POINT, TRANSIT, TRIANGLE, area_of,
-};
+use parts_of_tests::{BodyTold, FIRST, Instance, LAN, LsaTold, POINT_TO_POINT, TRANSIT, TRIANGLE};
 use std::alloc::Global;
 
 /// First arc, second arc, next node, and whether the primary's next is protected.

@@ -6,10 +6,11 @@ ghost use Rattle.mrt_graph.specs.AcceptedFor.{IsAcceptedFor};
 ghost use Rattle.primary_alt.specs.RoutesMade.{AreMadeWith};
 
 use area_graph::Area;
+use areas_of_tests::area_of;
 use mrt_graph::Cert;
 use mrt_island::{Island, Profile, find_island};
 use mrt_rows::compute;
-use parts_of_tests::{LsaTold, area_of};
+use parts_of_tests::LsaTold;
 use primary_alt::Routes;
 use std::alloc::Global;
 

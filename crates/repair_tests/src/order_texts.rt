@@ -1,10 +1,11 @@
 //! Texts on the repairs by order of routers of small networks, as a program beside worked them out.
 
+use areas_of_tests::area_of;
 use mrt_graph::NodeId;
 use mrt_island::{Island, Profile, find_island};
 use mrt_rows::directions;
 use order_repair::order_text;
-use parts_of_tests::{CROSSED, LAN, LsaTold, TRIANGLE, TWO_TRIANGLES, area_of};
+use parts_of_tests::{CROSSED, LAN, LsaTold, TRIANGLE, TWO_TRIANGLES};
 use std::alloc::Global;
 
 /// A database, a router, and its text. Routers 1.1.1.1 and so on have links of metric 10.

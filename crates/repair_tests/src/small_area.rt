@@ -4,8 +4,9 @@ ghost use Rattle.std.specs.Prelude.{IfSome};
 ghost use Rattle.area_graph.specs.Fits.{Fits};
 
 use area_graph::Area;
+use areas_of_tests::area_of;
 use mrt_island::{Island, find_island, read_profile};
-use parts_of_tests::{LsaTold, POINT_TO_POINT, TRANSIT, area_of};
+use parts_of_tests::{LsaTold, POINT_TO_POINT, TRANSIT};
 use std::alloc::Global;
 
 /// Routers 1 to 6. 1 is linked to 2 and to 3 with metric 5, and 4 to 5 with metric 7. 2, 3 and 4 are on network 9, with

@@ -1,10 +1,11 @@
 //! Networks that are made from a number: their databases, and their surveys.
 
+use areas_of_tests::area_of_bytes;
 use mrt_graph::{Graph, NoMemory, NodeNo};
 use mrt_island::{Island, Profile, find_island};
 use mrt_rows::compute;
 use mrt_survey::{generate, survey_text};
-use parts_of_tests::{File, LsaTold, POINT_TO_POINT, area_of_bytes};
+use parts_of_tests::{File, LsaTold, POINT_TO_POINT};
 use std::alloc::Global;
 
 /// A number, how many routers, and the survey of their network.

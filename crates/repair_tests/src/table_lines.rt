@@ -8,11 +8,12 @@ ghost use Rattle.mrt_report.specs.TableParts.{AreItsPrimaries};
 use crate::networks::island_of as island_of_first;
 use crate::small_area::{island_of, small_area};
 use area_graph::Area;
+use areas_of_tests::area_of;
 use mrt_graph::{Kind, NodeNo};
 use mrt_island::Island;
 use mrt_report::{primary_for, table_head, table_line};
 use mrt_rows::RootedColumns;
-use parts_of_tests::{TRIANGLE, area_of};
+use parts_of_tests::TRIANGLE;
 use primary_alt::{Primary, primaries};
 use std::alloc::Global;
 

@@ -1,10 +1,11 @@
-//! Databases and areas of LSAs.
+//! Parts of tests: databases and areas of LSAs.
+#![tactic(auto)]
 
-use crate::lsas::{LsaTold, put_lsas};
 use area_graph::{Area, build_area};
 use file_key::FileKey;
 use lsdb::{Lsdb, database_of};
 use ospf_lsa::read_lsas;
+use parts_of_tests::{File, LsaTold};
 use std::alloc::Global;
 
 /// The most bytes that are read as LSAs.
@@ -37,7 +38,6 @@ pub fn area_of_bytes(alloc: Global, bytes: &[u8]) -> Option<Area> {
 
 /// The area of LSAs.
 pub fn area_of(alloc: Global, told: &[LsaTold<'_>]) -> Option<Area> {
-    let mut bytes = Vec::new(alloc);
-    put_lsas(&mut bytes, alloc, told).ok()?;
+    let bytes = File::Lsas(told).bytes(alloc).ok()?;
     area_of_bytes(alloc, &bytes)
 }
