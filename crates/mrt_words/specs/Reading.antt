@@ -14,7 +14,8 @@ IsDueOrFault Refuses held named before now (ReadFault word) = MayFail held named
 IsDueOrFault Refuses held named before now exit = IsDue Refuses exit
 
 -- a call read these files of a shelf, in their order: it gives a value or is refused, as is said of what the shelf held. Where no
--- count rose, and over a healthy shelf, a refusal is due to the files that are held
+-- count rose, and over a healthy shelf, a refusal is due to the files that are held. The count of faults never falls, and what is held
+-- is as before; a healthy shelf that holds the files has no fault and stays healthy
 pub record ReadsAs {S T : Type 0} (held : S → Option Files) (faults : S → ℕ) (healthy : S → Type 0) (old new : S)
     (named : List NamedFile) (Refuses : Option Files → Exit → Type 0) (Gives : Option Files → T → Type 0) (result : Result T Exit)
     : Type 0 where
@@ -22,7 +23,6 @@ pub record ReadsAs {S T : Type 0} (held : S → Option Files) (faults : S → �
   pub refused : IfErr result (IsDueOrFault (Refuses (held old)) (held old) named (faults old) (faults new))
   pub calm : (Rose (faults old) (faults new) → ⊥) → IfErr result (IsDue (Refuses (held old)))
   pub in_health : healthy old → IfErr result (IsDue (Refuses (held old)))
-  -- the count of faults never falls, what is held is as before, and a healthy shelf that holds the files has no fault
   pub count : faults old ≤ faults new
   pub unchanged : held new ≡ held old
   pub no_fault : healthy old → AreThere (held old) named → faults new ≡ faults old

@@ -4,8 +4,9 @@ use cert_format::CertFault;
 use fabric_script::Trace;
 use mrt_graph::CertFile;
 
-/// What is asked of a database. `C` stands for a certificate and `S` for a script: the name of its file, or what the file
-/// came to.
+/// What is asked of a database: the verdict on a certificate, a certificate in version 2, the answers to the events of a
+/// script, or something of a router. `C` stands for a certificate and `S` for a script: the name of its file, or what the
+/// file came to.
 #[derive(Drop)]
 pub enum Task<C, S> {
     /// The verdict on a certificate.
@@ -18,7 +19,8 @@ pub enum Task<C, S> {
     OfRouter(RouterTask),
 }
 
-/// What is asked of a router.
+/// What is asked of a router: the certificate of its island, its table, the trace of a packet from it, its loop-free
+/// alternates, its repairs by order, or the rows for a prefix that is attached to two routers of its island.
 #[derive(Clone, Copy)]
 pub enum RouterTask {
     /// The certificate of its island.
