@@ -22,7 +22,7 @@ use Rattle.mrt_survey.specs.SurveyText.{IsSurveyText}
 use Rattle.mrt_exit.specs.declared.exit.DbKind.{DbKind}
 use Rattle.mrt_exit.specs.declared.exit.Exit.{Exit}
 use Rattle.mrt_exit.specs.declared.exit.Exit.TheVariants as exits
-use Rattle.ospf_lsa.specs.AreaLsas.{is_area_lsa as enters}
+use Rattle.ospf_lsa.specs.AreaLsas.{is_area_lsa}
 use Rattle.lsdb.specs.Database.{IsDatabase, entering}
 use Rattle.mrt_answer.specs.Database.{IsBadDatabase}
 use Rattle.mrt_words.specs.Form.{IsNetworkSize}
@@ -49,7 +49,7 @@ pub record NetworkLaws : Type 0 where
       → Contains (area_of (made_lsas number nodes)).ids (router_node router)
 
 -- what may stand in a database enters it
-kept_enters : (lsa : Lsa) → IsKept lsa → enters lsa ≡ true
+kept_enters : (lsa : Lsa) → IsKept lsa → is_area_lsa lsa ≡ true
 kept_enters lsa kept = elim kept.type [
   | inl router ↦ rw router refl
   | inr network ↦ rw network refl

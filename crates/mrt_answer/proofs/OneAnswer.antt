@@ -41,7 +41,7 @@ use Rattle.mrt_words.specs.FileBytes.{FileBytes}
 use Rattle.mrt_answer.specs.Answers.{GivesFor, GivesOver, IsRefusedOver, IsRefusedTask}
 use Rattle.mrt_answer.specs.LoopFree.{HasLoopFree}
 use Rattle.mrt_answer.specs.Certified.{IsCertified, IsComputed}
-use Rattle.ospf_lsa.specs.AreaLsas.{is_area_lsa as enters}
+use Rattle.ospf_lsa.specs.AreaLsas.{is_area_lsa}
 use Rattle.lsdb.specs.Database.{IsDatabase, entering}
 use Rattle.mrt_answer.specs.Database.{IsBadDatabase}
 use Rattle.mrt_words.specs.declared.task.RouterTask.TheVariants.{Certify, Table, Trace, Lfa, Order, Proxy}
@@ -60,7 +60,7 @@ use Rattle.mrt_answer.specs.Verdict.{GivesVerdict, IsYesFor, IsNoVerdict, IsRefu
 use Rattle.mrt_answer.proofs.OneFlood.{FloodLaws}
 use Rattle.mrt_answer.proofs.Refusals.{root_within}
 use Rattle.mrt_answer.proofs.Upgrades.{read_accepted}
-use Rattle.mrt_answer.proofs.OneReading.{CertLaws, DatabaseLaws, held_once, no_bad_cert, no_bad_database, no_bad_profile, one_bad_database, one_bad_profile, one_cert, one_database, one_profile}
+use Rattle.mrt_answer.proofs.OneReading.{CertLaws, DatabaseLaws, ProfileLaws, held_once, no_bad_cert, no_bad_database, one_bad_database, one_cert, one_database}
 use Rattle.mrt_answer.proofs.OneOrder.{OrderLaw, one_order_of}
 use Rattle.mrt_answer.proofs.OneProxy.{IsOneGraph, ProxyLaws, accepted_for, no_unrelated, none_missed, one_missed, one_proxied_text}
 use Rattle.mrt_answer.proofs.OneSurvey.{SurveyTextLaw, one_surveyed}
@@ -114,6 +114,7 @@ pub record Laws : Type 0 where
   pub certificates : CertificateLaw
   pub tables : TableLaws
   pub databases : DatabaseLaws
+  pub profiles : ProfileLaws
   pub certs : CertLaws
   pub areas : AreaLaws
   pub islands : IslandLaws
@@ -122,7 +123,7 @@ pub record Laws : Type 0 where
   pub proxies : ProxyLaws
   pub rules : RuleLaws
 
-entered : (lsa : Lsa) → enters lsa ≡ true → (lsa.kind ≡ 1) ⊎ (lsa.kind ≡ 2)
+entered : (lsa : Lsa) → is_area_lsa lsa ≡ true → (lsa.kind ≡ 1) ⊎ (lsa.kind ≡ 2)
 entered lsa enters = elim (or_cases (lsa.kind == 1) (lsa.kind == 2) enters) [
   | inl one ↦ inl (eqb-true lsa.kind 1 one)
   | inr two ↦ inr (eqb-true lsa.kind 2 two)
@@ -131,9 +132,9 @@ entered lsa enters = elim (or_cases (lsa.kind == 1) (lsa.kind == 2) enters) [
 -- those of a database's LSAs that enter may stand in one
 all_stand : AreaLaws → (at : ℕ) (lsas : List Lsa) → AreLsas at lsas → AllByRecursion IsKept (entering lsas)
 all_stand laws at [] are = tt
-all_stand laws at (lsa ∷ rest) are = go (enters lsa) refl (all_stand laws (at + lsa_length lsa) rest are.2)
+all_stand laws at (lsa ∷ rest) are = go (is_area_lsa lsa) refl (all_stand laws (at + lsa_length lsa) rest are.2)
   where
-    go : (b : Bool) → enters lsa ≡ b → AllByRecursion IsKept (entering rest)
+    go : (b : Bool) → is_area_lsa lsa ≡ b → AllByRecursion IsKept (entering rest)
         → AllByRecursion IsKept (entering (lsa ∷ rest))
     go true e stand = rw e (laws.stands lsa are.1 (entered lsa e), stand)
     go false e stand = rw e stand
@@ -567,7 +568,7 @@ module _ (laws : Laws) where
     one_input input other one two =
         let newest = one_database laws.databases bytes.first input.newest other.newest one.database_is
         two.database_is in
-        let settings = one_profile bytes.profile input.settings other.settings one.profile_is two.profile_is in
+        let settings = laws.profiles.one_list (text_lines bytes.profile) input.settings other.settings one.profile_is two.profile_is in
         λ i. record { newest = newest i; settings = settings i }
 
     is_kept : (input : Input) → IsInput bytes.first bytes.profile input
@@ -591,9 +592,9 @@ module _ (laws : Laws) where
     bad_profile_first line kind (exits.BadDatabase at fault) one two = absurd
         (no_bad_database laws.databases bytes.first one.0.0 at fault one.0.1 two)
     bad_profile_first line kind (exits.BadProfile number fault) one two =
-        let same = one_bad_profile (text_lines bytes.profile) line number kind fault one.1 two.1 in
+        let same = laws.profiles.one_fault (text_lines bytes.profile) line number kind fault one.1 two.1 in
         λ i. exits.BadProfile (same.0 i) (same.1 i)
-    bad_profile_first line kind other one two = absurd (no_bad_profile bytes.profile two.0.settings line kind
+    bad_profile_first line kind other one two = absurd (laws.profiles.never_both (text_lines bytes.profile) two.0.settings line kind
         two.1.profile_is one.1)
 
     said_of_input : (exit other : Exit) (input : Input) → IsInput bytes.first bytes.profile input
@@ -601,7 +602,7 @@ module _ (laws : Laws) where
     said_of_input exit (exits.BadDatabase at kind) input given one two = absurd
         (no_bad_database laws.databases bytes.first input.newest at kind given.database_is two)
     said_of_input exit (exits.BadProfile line kind) input given one two = absurd
-        (no_bad_profile bytes.profile input.settings line kind given.profile_is two.1)
+        (laws.profiles.never_both (text_lines bytes.profile) input.settings line kind given.profile_is two.1)
     said_of_input exit other input given one two =
         one_task two.0 (is_kept two.0 two.1) bytes.last task exit other
         (subst (λ (i : Input). IsRefusedTask task i bytes.last exit) (one_input input two.0 given two.1) one) two.2
@@ -614,8 +615,8 @@ module _ (laws : Laws) where
     pub no_refusal_over : (text : List ℕ) (exit : Exit) → GivesOver task bytes text → IsRefusedOver task bytes exit → ⊥
     no_refusal_over text (exits.BadDatabase at kind) taken refused = no_bad_database laws.databases bytes.first
         taken.input.newest at kind taken.given.database_is refused
-    no_refusal_over text (exits.BadProfile line kind) taken refused = no_bad_profile bytes.profile
-        taken.input.settings line kind taken.given.profile_is refused.1
+    no_refusal_over text (exits.BadProfile line kind) taken refused =
+        laws.profiles.never_both (text_lines bytes.profile) taken.input.settings line kind taken.given.profile_is refused.1
     no_refusal_over text exit taken refused =
         no_task refused.0 (is_kept refused.0 refused.1) bytes.last task text exit
         (subst (λ (i : Input). GivesFor task i bytes.last text) (one_input taken.input refused.0 taken.given refused.1)

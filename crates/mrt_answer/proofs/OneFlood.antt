@@ -17,10 +17,11 @@ use Rattle.mrt_exit.specs.declared.exit.Exit.{Exit}
 use Rattle.mrt_exit.specs.declared.exit.Exit.TheVariants as exits
 use Rattle.mrt_words.specs.FileBytes.{FileBytes}
 use Rattle.mrt_answer.specs.Flooded.{GivesFlood, HoldsFlood, IsRefusedFlood}
-use Rattle.mrt_answer.proofs.OneReading.{no_bad_profile, one_bad_profile, one_profile}
+use Rattle.mrt_answer.proofs.OneReading.{ProfileLaws}
 
--- the laws of the layers below: bytes are packets, and lines a script of deliveries, in one way
+-- the laws of the layers below: bytes are packets, and lines a profile or a script of deliveries, in one way
 pub record FloodLists : Type 0 where
+  pub profiles : ProfileLaws
   pub one_list : (bytes : List ℕ) (updates others : List Update) → AreUpdates 0 bytes updates []
       → AreUpdates 0 bytes others [] → updates ≡ others
   pub one_script : (lines : List (List ℕ)) (script other : FloodScript) → IsScript lines script → IsScript lines other
@@ -45,7 +46,7 @@ pub told_of : FloodLists → (bytes : FileBytes) (text : List ℕ) → GivesFloo
     → IsFloodText (Says held.settings) (started held.updates held.script.routers) held.script.lines text
 told_of lists bytes text taken held =
     let updates = lists.one_list bytes.first taken.held.updates held.updates taken.held.packets held.packets in
-    let settings = one_profile bytes.profile taken.held.settings held.settings taken.held.profile_is held.profile_is in
+    let settings = lists.profiles.one_list (text_lines bytes.profile) taken.held.settings held.settings taken.held.profile_is held.profile_is in
     let scripts = lists.one_script (text_lines bytes.last) taken.held.script held.script taken.held.script_is
     held.script_is in
     subst
@@ -75,10 +76,10 @@ module _ (laws : FloodLaws) (bytes : FileBytes) where
   bad_profile_first line kind (exits.BadUpdate at fault) one two =
       absurd (laws.never_both bytes.first one.0.0 at fault one.0.1 two)
   bad_profile_first line kind (exits.BadProfile number fault) one two =
-      let same = one_bad_profile (text_lines bytes.profile) line number kind fault one.1 two.1 in
+      let same = laws.lists.profiles.one_fault (text_lines bytes.profile) line number kind fault one.1 two.1 in
       λ i. exits.BadProfile (same.0 i) (same.1 i)
   bad_profile_first line kind (exits.BadScript number) one two =
-      absurd (no_bad_profile bytes.profile two.1.0 line kind two.1.1 one.1)
+      absurd (laws.lists.profiles.never_both (text_lines bytes.profile) two.1.0 line kind two.1.1 one.1)
   bad_profile_first line kind other one two = absurd two
 
   bad_script_first : (line : ℕ) (other : Exit) → IsRefusedFlood bytes (exits.BadScript line) → IsRefusedFlood bytes other
@@ -86,7 +87,7 @@ module _ (laws : FloodLaws) (bytes : FileBytes) where
   bad_script_first line (exits.BadUpdate at fault) one two =
       absurd (laws.never_both bytes.first one.0.0 at fault one.0.1 two)
   bad_script_first line (exits.BadProfile number kind) one two =
-      absurd (no_bad_profile bytes.profile one.1.0 number kind one.1.1 two.1)
+      absurd (laws.lists.profiles.never_both (text_lines bytes.profile) one.1.0 number kind one.1.1 two.1)
   bad_script_first line (exits.BadScript number) one two =
       ap exits.BadScript (laws.one_line (text_lines bytes.last) line number one.2 two.2)
   bad_script_first line other one two = absurd two
@@ -101,7 +102,7 @@ module _ (laws : FloodLaws) (bytes : FileBytes) where
   no_refusal_flood text (exits.BadUpdate at kind) taken refused =
       laws.never_both bytes.first taken.held.updates at kind taken.held.packets refused
   no_refusal_flood text (exits.BadProfile line kind) taken refused =
-      no_bad_profile bytes.profile taken.held.settings line kind taken.held.profile_is refused.1
+      laws.lists.profiles.never_both (text_lines bytes.profile) taken.held.settings line kind taken.held.profile_is refused.1
   no_refusal_flood text (exits.BadScript line) taken refused =
       laws.never_both_lines (text_lines bytes.last) taken.held.script line taken.held.script_is refused.2
   no_refusal_flood text exit taken refused = refused

@@ -1,7 +1,6 @@
 -- What the bytes of each file hold, they hold in one way, or they have one first fault, and never both.
 use Rattle.std.proofs.Common.{◌≡◌, ◌∙◌, ◌≤◌, ◌+◌, ℕ, Bool, true, false, List, [], ◌∷◌, Option, Some, None, refl, sym, ap, subst, arith}
 use Rattle.std.specs.Option.{option_map_or}
-use Rattle.text_parts.proofs.WholeLists.{never_both_of, one_fault_of, one_text_of}
 use Rattle.cert_format.specs.CertText.{cert_text}
 use Rattle.cert_format.specs.FirstFault.{first_fault}
 use Rattle.cert_format.specs.Limits.{IsCertFile}
@@ -15,9 +14,7 @@ use Rattle.lsdb.specs.Newest.{IsSettled}
 use Rattle.lsdb.specs.Orders.{newest_in}
 use Rattle.lsdb.specs.declared.change.Conflict.{Conflict as Clash}
 use Rattle.mrt_graph.specs.declared.cert.CertFile.{CertFile}
-use Rattle.mrt_graph.specs.TextLines.{text_lines}
-use Rattle.mrt_island.proofs.SettingsSaid.{profile_means}
-use Rattle.mrt_island.specs.ProfileFaults.{IsFirstFault as IsFirstLineFault}
+use Rattle.mrt_island.specs.ProfileFaults.{AreSettings, IsFirstFault as IsFirstLineFault}
 use Rattle.mrt_island.specs.declared.profile_error.ProfileKind.{ProfileKind}
 use Rattle.mrt_island.specs.declared.setting.Setting.{Setting}
 use Rattle.ospf_lsa.specs.LsaText.{lsa_length, lsas_text}
@@ -25,11 +22,10 @@ use Rattle.ospf_lsa.specs.Lsas.{AreLsas}
 use Rattle.ospf_lsa.specs.Outcome.{IsFirstFault}
 use Rattle.ospf_lsa.specs.declared.error.LsaKind.{LsaKind}
 use Rattle.ospf_lsa.specs.declared.lsa.Lsa.{Lsa as Advertisement}
-use Rattle.ospf_lsa.specs.AreaLsas.{is_area_lsa as enters}
+use Rattle.ospf_lsa.specs.AreaLsas.{is_area_lsa}
 use Rattle.lsdb.specs.Database.{HoldsLsas, IsDatabase, entering}
 use Rattle.mrt_answer.specs.Database.{IsBadDatabase}
 use Rattle.mrt_words.specs.CertSpelling.{IsSpellingOf}
-use Rattle.mrt_answer.specs.Input.{IsProfile}
 use Rattle.mrt_exit.specs.declared.exit.DbKind.{DbKind}
 use Rattle.mrt_exit.specs.declared.exit.DbKind.TheVariants.{Lsa, Conflict}
 
@@ -59,10 +55,10 @@ rising : (greatest : Option ℕ) (at : ℕ) (lsas : List Advertisement) → ((pl
     → AreBehind greatest (entering lsas)
 rising greatest at [] behind are = tt
 rising greatest at (lsa ∷ rest) behind are =
-    go (enters lsa) refl (rising (Some lsa.at) (at + lsa_length lsa) rest (λ place le. omega (arith, are.0, le)) are.2)
+    go (is_area_lsa lsa) refl (rising (Some lsa.at) (at + lsa_length lsa) rest (λ place le. omega (arith, are.0, le)) are.2)
     (rising greatest (at + lsa_length lsa) rest (λ place le. behind place (omega (arith, le))) are.2)
   where
-    go : (b : Bool) → enters lsa ≡ b → AreBehind (Some lsa.at) (entering rest) → AreBehind greatest (entering rest)
+    go : (b : Bool) → is_area_lsa lsa ≡ b → AreBehind (Some lsa.at) (entering rest) → AreBehind greatest (entering rest)
         → AreBehind greatest (entering (lsa ∷ rest))
     go true e after around = rw e (behind lsa.at (omega (arith, are.0)), after)
     go false e after around = rw e around
@@ -119,18 +115,14 @@ module _ (laws : DatabaseLaws) where
 
 -- ---- profiles
 
-pub no_bad_profile : (bytes : List ℕ) (settings : List Setting) (line : ℕ) (kind : ProfileKind)
-    → IsProfile bytes settings → IsFirstLineFault (text_lines bytes) line kind → ⊥
-no_bad_profile bytes = never_both_of profile_means (text_lines bytes)
-
-pub one_profile : (bytes : List ℕ) (settings others : List Setting) → IsProfile bytes settings
-    → IsProfile bytes others → settings ≡ others
-one_profile bytes = one_text_of profile_means (text_lines bytes)
-
-pub one_bad_profile : (lines : List (List ℕ)) (line number : ℕ) (kind other : ProfileKind)
-    → IsFirstLineFault lines line kind → IsFirstLineFault lines number other
-    → (line ≡ number) × (kind ≡ other)
-one_bad_profile lines = one_fault_of profile_means lines
+-- the laws of the layer below on the lines of a profile
+pub record ProfileLaws : Type 0 where
+  pub never_both : (lines : List (List ℕ)) (settings : List Setting) (line : ℕ) (kind : ProfileKind)
+      → AreSettings lines settings → IsFirstLineFault lines line kind → ⊥
+  pub one_list : (lines : List (List ℕ)) (settings others : List Setting) → AreSettings lines settings
+      → AreSettings lines others → settings ≡ others
+  pub one_fault : (lines : List (List ℕ)) (line number : ℕ) (kind other : ProfileKind) → IsFirstLineFault lines line kind
+      → IsFirstLineFault lines number other → (line ≡ number) × (kind ≡ other)
 
 -- ---- certificates
 

@@ -26,7 +26,10 @@ use lsdb::{
     tells_the_first_conflict,
 };
 use mrt_graph::accepted_or_one_first_fault;
-use mrt_island::{a_router_has_one_island, an_island_is_that_of_each_router_in_it};
+use mrt_island::{
+    a_router_has_one_island, an_island_is_that_of_each_router_in_it,
+    lines_are_settings_or_have_a_fault,
+};
 use mrt_report::one_table_each;
 use mrt_rows::one_certificate;
 use mrt_survey::one_survey_each;
@@ -56,6 +59,7 @@ pub fn one_answer_comes()
     bytes_are_lsas_or_have_a_fault();
     refuses_exactly_where_not_settled();
     tells_the_first_conflict();
+    lines_are_settings_or_have_a_fault();
     one_spelling();
     an_lsa_without_a_fault_may_be_installed();
     the_newest_records_give_an_area();
@@ -135,6 +139,7 @@ pub fn alike_deliveries_are_told_alike()
         → IsToldAlike (Says held.settings) held.updates held.script compares text }
 {
     bytes_are_updates_or_have_a_fault();
+    lines_are_settings_or_have_a_fault();
     lines_are_a_flood_script_or_have_a_fault();
     no_difference_is_told();
 }

@@ -1,13 +1,22 @@
 use Rattle.mrt_answer.proofs.OneAnswer.{Laws, no_refusal_over, one_over, one_survey, one_text_over}
 use Rattle.mrt_answer.proofs.OneFlood.{no_refusal_flood, one_flood_text, one_no_flood}
+use Rattle.mrt_answer.proofs.OneReading.{ProfileLaws}
 use Rattle.mrt_answer.proofs.answer_law.one_answer_comes.Goals as goal
 
 -- the laws of the layers below
+profiles : goal.After-one_verdict_each → ProfileLaws
+profiles c = record {
+  never_both = c.lines_are_settings_or_have_a_fault.ensures.never_both;
+  one_list = c.lines_are_settings_or_have_a_fault.ensures.one_list;
+  one_fault = c.lines_are_settings_or_have_a_fault.ensures.one_fault;
+}
+
 laws : goal.After-one_verdict_each → Laws
 laws c = record {
   floods = record {
     never_both = c.bytes_are_updates_or_have_a_fault.ensures.never_both;
     lists = record {
+      profiles = profiles c;
       one_list = c.bytes_are_updates_or_have_a_fault.ensures.one_list;
       one_script = c.lines_are_a_flood_script_or_have_a_fault.ensures.one_script;
     };
@@ -26,6 +35,7 @@ laws c = record {
   };
   certificates = c.one_certificate.ensures.one;
   tables = record { table = c.one_table_each.ensures; primary = c.one_primary_each.ensures };
+  profiles = profiles c;
   databases = record {
     never_both = c.bytes_are_lsas_or_have_a_fault.ensures.never_both;
     one_list = c.bytes_are_lsas_or_have_a_fault.ensures.one_list;
