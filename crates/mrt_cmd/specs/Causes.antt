@@ -37,6 +37,15 @@ pub record ShelfInCall : Type 1 where
   pub faults_now : ℕ
   pub untouched : Type 0
 
+abbrev pub shelf_over : {F : Type 0} → (F → Option Files) → (F → Type 0) → (F → ℕ) → F → F → ShelfInCall
+shelf_over held healthy faults before now = record {
+  held = held before;
+  healthy = healthy before;
+  faults = faults before;
+  faults_now = faults now;
+  untouched = now ≡ before;
+}
+
 -- a sink over a call: for how many bytes it was healthy; its count of faults, before and now; what was written to it,
 -- before and now, if that is told; and whether it was left as it was
 pub record SinkInCall : Type 1 where
@@ -46,6 +55,16 @@ pub record SinkInCall : Type 1 where
   pub written : Option (List ℕ)
   pub written_now : Option (List ℕ)
   pub untouched : Type 0
+
+abbrev pub sink_over : {K : Type 0} → (K → ℕ → Type 0) → (K → ℕ) → (K → Option (List ℕ)) → K → K → SinkInCall
+sink_over healthy_for faults written before now = record {
+  healthy_for = healthy_for before;
+  faults = faults before;
+  faults_now = faults now;
+  written = written before;
+  written_now = written now;
+  untouched = now ≡ before;
+}
 
 -- why the words give no text, by the exit that says so: they are no form, and nothing was read; the shelf failed at a
 -- file, after files that could be read; the refusal is what comes of the words over the files, each in its turn (a

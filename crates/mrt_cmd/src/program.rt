@@ -8,7 +8,7 @@ ghost use Rattle.flood_core.specs.declared.error.UpdateKind.{UpdateKind};
 ghost use Rattle.flood_verdict.specs.{Alike.IsToldAlike, Says.Says};
 ghost use Rattle.mrt_island.specs.declared.profile_error.ProfileKind.{ProfileKind};
 ghost use Rattle.mrt_exit.specs.{declared.exit.DbKind.DbKind, declared.exit.What.What, Exits.line_of, Telling.GainedLine, Telling.IsCutShort};
-ghost use Rattle.mrt_cmd.specs.Causes.{HasNoText, IsAnswered};
+ghost use Rattle.mrt_cmd.specs.Causes.{HasNoText, IsAnswered, shelf_over, sink_over};
 ghost use Rattle.mrt_cmd.specs.Comes.{Comes, FailsAt, Gives, GivesText, IsRefused, MissesAt, NamesHeld, Refuses};
 ghost use Rattle.mrt_words.specs.Files.{files_in, files_of, flood_names, task_names};
 ghost use Rattle.mrt_words.specs.{declared.form.Form.TheVariants.Flood, declared.form.Form.TheVariants.OfFiles, Reading.ReadsAs};
@@ -49,30 +49,9 @@ pub fn run<F: Shelf, K: Sink, E: Sink>(
 ) -> Exit
     // All causes, over all forms, as one: the exit has its cause and its line, and it is complete.
     ensures answered { IsAnswered words.now
-        (record {
-          held = F.held shelf.old;
-          healthy = F.healthy shelf.old;
-          faults = F.faults shelf.old;
-          faults_now = F.faults shelf.new;
-          untouched = shelf.new ≡ shelf.old;
-        })
-        (record {
-          healthy_for = K.healthy_for out.old;
-          faults = K.faults out.old;
-          faults_now = K.faults out.new;
-          written = K.written out.old;
-          written_now = K.written out.new;
-          untouched = out.new ≡ out.old;
-        })
-        (record {
-          healthy_for = E.healthy_for err.old;
-          faults = E.faults err.old;
-          faults_now = E.faults err.new;
-          written = E.written err.old;
-          written_now = E.written err.new;
-          untouched = err.new ≡ err.old;
-        })
-        result }
+        (shelf_over F.held F.healthy F.faults shelf.old shelf.new)
+        (sink_over K.healthy_for K.faults K.written out.old out.new)
+        (sink_over E.healthy_for E.faults E.written err.old err.new) result }
 
     // `Usage` comes just where the words are none of the forms (`words_spell_one_form` has the table of these), and nothing is read
     // then.
@@ -169,13 +148,7 @@ pub fn run<F: Shelf, K: Sink, E: Sink>(
 fn text_for<F: Shelf>(alloc: Global, words: &[Word], shelf: &mut F) -> Result<Text, Exit>
     ensures text { IfOk result (HasText (GivesText (F.held shelf.old) words.now)) }
     ensures cause { IfErr result (HasNoText words.now
-        (record {
-          held = F.held shelf.old;
-          healthy = F.healthy shelf.old;
-          faults = F.faults shelf.old;
-          faults_now = F.faults shelf.new;
-          untouched = shelf.new ≡ shelf.old;
-        })) }
+        (shelf_over F.held F.healthy F.faults shelf.old shelf.new)) }
     ensures comes { IsUndisturbed (F.healthy shelf.old) (F.faults shelf.old) (F.faults shelf.new)
         → IfErr result (λ exit. Comes (F.held shelf.old) words.now exit ⊎ (exit ≡ Exit.NoMemory)) }
     ensures count { F.faults shelf.old ≤ F.faults shelf.new }

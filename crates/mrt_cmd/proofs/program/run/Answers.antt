@@ -2,7 +2,7 @@ use Rattle.std.proofs.Common.{◌≡◌, ◌∙◌, Option, Some, inl, inr, refl
 use Rattle.mrt_io.specs.Holding.{Files}
 use Rattle.mrt_exit.specs.declared.exit.Exit.{Exit}
 use Rattle.mrt_exit.specs.declared.exit.Exit.TheVariants as exits
-use Rattle.mrt_cmd.specs.Causes.{HasNoText, ShelfInCall}
+use Rattle.mrt_cmd.specs.Causes.{HasNoText, ShelfInCall, shelf_over}
 use Rattle.mrt_cmd.specs.Comes.{GivesText}
 use Rattle.mrt_cmd.specs.Run.{WritesNothing}
 use Rattle.mrt_cmd.proofs.Causes.{passed_stopped, stopped, told_of, written}
@@ -106,13 +106,7 @@ returns-in-Ok-clause-line g c = rw c.tell.ensures.same c.tell.ensures.line
 
 -- And where they give none.
 abbrev shelf_of : (g : Over) → goal.After-tell-in-Err g → ShelfInCall
-shelf_of g c = record {
-  held = g.F.Shelf.held c.args.shelf.now;
-  healthy = g.F.Shelf.healthy c.args.shelf.now;
-  faults = g.F.Shelf.faults c.args.shelf.now;
-  faults_now = g.F.Shelf.faults c.text_for.new.shelf;
-  untouched = c.text_for.new.shelf ≡ c.args.shelf.now;
-}
+shelf_of g c = shelf_over g.F.Shelf.held g.F.Shelf.healthy g.F.Shelf.faults c.args.shelf.now c.text_for.new.shelf
 
 pub returns-in-Err-clause-answered : goal.returns-in-Err-clause-answered
 returns-in-Err-clause-answered g c =

@@ -1,4 +1,5 @@
 use Rattle.std.proofs.Common.{◌≡◌, inl, inr}
+use Rattle.mrt_cmd.specs.Causes.{shelf_over}
 use Rattle.mrt_cmd.proofs.Causes.{refused_over_words}
 use Rattle.mrt_cmd.proofs.OfWords.{comes_of_words, survey_of_words, text_of_words, there_of_words}
 use Rattle.mrt_cmd.proofs.program.text_for.Goals as goal
@@ -7,13 +8,7 @@ use Rattle.mrt_cmd.proofs.program.text_for.Goals as goal
 pub returns-in-Some-clause-cause : goal.returns-in-Some-clause-cause
 returns-in-Some-clause-cause g c =
     refused_over_words c.text_of.result c.only_a_verdict_says_no.ensures c.args.words.now
-    (record {
-      held = g.F.Shelf.held c.args.shelf.now;
-      healthy = g.F.Shelf.healthy c.args.shelf.now;
-      faults = g.F.Shelf.faults c.args.shelf.now;
-      faults_now = g.F.Shelf.faults c.text_of.new.shelf;
-      untouched = c.text_of.new.shelf ≡ c.args.shelf.now;
-    }) c.in-Some.form c.in-Some.ensures.form c.text_of.ensures.reads.refused
+    (shelf_over g.F.Shelf.held g.F.Shelf.healthy g.F.Shelf.faults c.args.shelf.now c.text_of.new.shelf) c.in-Some.form c.in-Some.ensures.form c.text_of.ensures.reads.refused
 
 pub returns-in-Some-clause-text : goal.returns-in-Some-clause-text
 returns-in-Some-clause-text g c =
