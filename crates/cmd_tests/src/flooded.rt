@@ -488,15 +488,20 @@ fn alone(alloc: Global, from: u32, before: u32) -> Result<Vec<LsaTold<'static>>,
     Ok(lsas)
 }
 
+/// Packets 0 and 1 of these LSAs.
+fn two_packets(
+    alloc: Global,
+    first: &[LsaTold<'_>],
+    others: &[LsaTold<'_>],
+) -> Result<Vec<u8>, NoMemory> {
+    File::Packets(&[(0x0101_0101, first), (0x0101_0101, others)]).bytes(alloc)
+}
+
 /// Packets 0 and 1: 2,048 routers without links, and 2,049 others.
 fn large_updates(alloc: Global) -> Result<Vec<u8>, NoMemory> {
     let first = alone(alloc, 1, 2049)?;
     let others = alone(alloc, 2049, 4098)?;
-    let packets = [
-        (0x0101_0101, first.as_slice()),
-        (0x0101_0101, others.as_slice()),
-    ];
-    File::Packets(&packets).bytes(alloc)
+    two_packets(alloc, &first, &others)
 }
 
 const LARGE: &[u8] = b"routers 1\ndeliver 0 0\nsame 0 0 0.0.0.1\ndeliver 1 0\nsame 0 0 0.0.0.1\n";
