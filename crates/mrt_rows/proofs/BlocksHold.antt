@@ -2,7 +2,6 @@
 use Rattle.std.proofs.Common.{◌≡◌, ◌≢◌, ◌∙◌, ◌==◌, ◌&&◌, ◌<◌, ◌≤◌, ℕ, true, false, Option, Some, not, nat_le, length, slice_get, refl, sym, ap, subst, inl, inr, arith}
 use Rattle.std.proofs.lemmas.Bool.{and_from, and_parts, cases_eq, cases_lt, eq-eqb, eqb-true, le-leb, ne_eqb, or_left, or_right}
 use Rattle.std.proofs.lemmas.Option.{slice_get_within}
-use Rattle.std.specs.List.{list_all}
 use Rattle.std.specs.Option.{option_and_then, option_map_or}
 use Rattle.mrt_graph.specs.declared.cert.CertFile.{CertFile}
 use Rattle.mrt_graph.specs.declared.cert.CertLink.{CertLink}
@@ -27,7 +26,7 @@ use Rattle.link_direction.specs.OrderedGadag.{HasClosingLink, HasSoleLink}
 use Rattle.mrt_rows.specs.CertOf.{Tells, link_words, node_words}
 use Rattle.mrt_rows.proofs.CertSays.{block_is, different_test, equal_test, head_is, less_test, order_is}
 use Rattle.mrt_rows.proofs.Counting.{all_of, one_of, two_of}
-use Rattle.mrt_rows.proofs.OrderedGraphs.{OrderedGraph, within}
+use Rattle.mrt_rows.proofs.OrderedGraphs.{OrderedGraph, Within, within}
 use Rattle.mrt_rows.proofs.OtherLines.{common_test}
 
 module _ (og : OrderedGraph) (file : CertFile) (tells : Tells og.g og.root og.w file) where
@@ -59,63 +58,45 @@ module _ (og : OrderedGraph) (file : CertFile) (tells : Tells og.g og.root og.w 
   root_first =
       let id = there og.g.ids og.root og.ordered.root_within in
       and_from _ _ (rw id.1 (eq-eqb id.0.number file.root (sym (tells.root_number id.0 id.1))))
-      (equal_test (order_of c og.root) (Some 1) (og.w.order og.root) 1
-      (order_is og file tells og.root og.ordered.root_within)
-      refl og.ordered.orders.first)
+      (equal_test (order_is og file tells og.root og.ordered.root_within) refl og.ordered.orders.first)
 
   pub ordered : RootAndOrders og.g og.root file
   ordered = record {
     root_first = root_first;
     orders = λ a b a_below b_below. elim (cases_lt a b) [
       | inl less ↦
-          or_right _ _ (different_test (order_of c a) (order_of c b) (og.w.order a) (og.w.order b)
-          (order_is og file tells a (node_within a a_below)) (order_is og file tells b (node_within b b_below))
-          (λ same.
-          let one = og.ordered.orders.differ a b (node_within a a_below) (node_within b b_below) same in
-          omega (arith, less, one)))
+          let a_within = node_within a a_below in
+          let b_within = node_within b b_below in
+          or_right _ _ (different_test (order_is og file tells a a_within) (order_is og file tells b b_within)
+          (λ same. let one = og.ordered.orders.differ a b a_within b_within same in omega (arith, less, one)))
       | inr more ↦ or_left _ _ (le-leb b a more)
     ];
   }
 
   -- heads
-  root_placed : placed c og.root og.root ≡ true
-  root_placed =
-      rw (eq-eqb og.root og.root refl)
-      (and_from _ _
-      (equal_test (head_of c og.root) (Some og.root) (og.w.head og.root) og.root
-      (head_is og file tells og.root og.ordered.root_within) refl og.ordered.heads.root_head)
-      (equal_test (block_of c og.root) (Some og.root) (og.w.block og.root) og.root
-      (block_is og file tells og.root og.ordered.root_within) refl og.ordered.heads.root_block))
-
   head_order : (a : ℕ) → a < n → option_and_then (order_of c) (head_of c a) ≡ Some (og.w.order (og.w.head a))
   head_order a a_within =
-      ap (λ (o : Option ℕ). option_and_then (order_of c) o) (head_is og file tells a a_within)
+      ap (option_and_then (order_of c)) (head_is og file tells a a_within)
       ∙ order_is og file tells (og.w.head a) (og.ordered.heads.head_within a a_within)
-
-  other_placed : (a : ℕ) → a < n → a ≢ og.root → placed c og.root a ≡ true
-  other_placed a a_within other =
-      rw (ne_eqb a og.root other)
-      (and_from _ _
-      (less_test (option_and_then (order_of c) (head_of c a)) (order_of c a) (og.w.order (og.w.head a)) (og.w.order a)
-      (head_order a a_within) (order_is og file tells a a_within) (og.ordered.heads.lower a a_within other))
-      (different_test (block_of c a) (Some og.root) (og.w.block a) og.root (block_is og file tells a a_within) refl
-      (og.ordered.heads.alone a a_within other)))
 
   all_placed : (a : ℕ) → a < n → placed c og.root a ≡ true
   all_placed a a_within = elim (cases_eq a og.root) [
-    | inl at_root ↦ subst (λ (x : ℕ). placed c og.root x ≡ true) (sym at_root) root_placed
-    | inr other ↦ other_placed a a_within other
+    | inl same ↦
+        rw (eq-eqb a og.root same)
+        (and_from _ _ (equal_test (head_is og file tells a a_within) refl (ap og.w.head same ∙ og.ordered.heads.root_head))
+        (equal_test (block_is og file tells a a_within) refl (ap og.w.block same ∙ og.ordered.heads.root_block)))
+    | inr other ↦
+        rw (ne_eqb a og.root other)
+        (and_from _ _ (less_test (head_order a a_within) (order_is og file tells a a_within) (og.ordered.heads.lower a a_within other))
+        (different_test (block_is og file tells a a_within) refl (og.ordered.heads.alone a a_within other)))
   ]
 
   heads_agree : (a b : ℕ) → a < n → b < n → one_head c a b ≡ true
   heads_agree a b a_within b_within = elim (cases_eq (og.w.block a) (og.w.block b)) [
     | inl same ↦
-        or_right _ _ (equal_test (head_of c a) (head_of c b) (og.w.head a) (og.w.head b)
-        (head_is og file tells a a_within)
-        (head_is og file tells b b_within) (og.ordered.heads.one_head a b a_within b_within same))
-    | inr differ ↦
-        or_left _ _ (different_test (block_of c a) (block_of c b) (og.w.block a) (og.w.block b)
-        (block_is og file tells a a_within) (block_is og file tells b b_within) differ)
+        or_right _ _ (equal_test (head_is og file tells a a_within) (head_is og file tells b b_within)
+        (og.ordered.heads.one_head a b a_within b_within same))
+    | inr differ ↦ or_left _ _ (different_test (block_is og file tells a a_within) (block_is og file tells b b_within) differ)
   ]
 
   pub heads_hold : HeadsHold c og.root
@@ -124,181 +105,152 @@ module _ (og : OrderedGraph) (file : CertFile) (tells : Tells og.g og.root og.w 
     beside = λ b b_below. heads_agree a b (node_within a below) (node_within b b_below);
   }
 
-  -- what stands in the certificate
-  record Linked (e : ℕ) (words : CertLink) : Type 0 where
-    link : Link
-    is : slice_get og.g.links e ≡ Some link
+  -- a link of block k, and a node of it, as they stand in the certificate
+  record IsLinkOf (k e : ℕ) (words : CertLink) : Type 0 where
     within : e < length og.g.links
-    words_are : words ≡ link_words og.w e link
+    in_block : og.w.lies_in e ≡ k
+    role : words.role ≡ og.w.role e
 
-  linked : (e : ℕ) (words : CertLink) → slice_get c.links e ≡ Some words → Linked e words
-  linked e words is =
+  link_of : (k e : ℕ) (words : CertLink) → slice_get c.links e ≡ Some words → (words.block == k) ≡ true → IsLinkOf k e words
+  link_of k e words is passes =
       let e_within : e < length og.g.links = omega (arith, slice_get_within c.links e words is, tells.links.one_each) in
       let link = there og.g.links e e_within in
-      record { link = link.0; is = link.1; within = e_within; words_are = cc (is, tells.links.each e link.0 link.1) }
+      let same : words ≡ link_words og.w e link.0 = cc (is, tells.links.each e link.0 link.1) in
+      record {
+        within = e_within;
+        in_block = sym (ap (λ (x : CertLink). x.block) same) ∙ eqb-true words.block k passes;
+        role = ap (λ (x : CertLink). x.role) same;
+      }
 
-  record Named (a : ℕ) (words : CertNode) : Type 0 where
+  record IsNodeOf (k a : ℕ) (words : CertNode) : Type 0 where
     within : a < n
-    block : words.block ≡ og.w.block a
+    in_block : og.w.block a ≡ k
     order : words.order ≡ og.w.order a
 
-  named : (a : ℕ) (words : CertNode) → slice_get c.nodes a ≡ Some words → Named a words
-  named a words is =
+  node_of : (k a : ℕ) (words : CertNode) → slice_get c.nodes a ≡ Some words → (words.block == k) ≡ true → IsNodeOf k a words
+  node_of k a words is passes =
       let a_within : a < n = omega (arith, slice_get_within c.nodes a words is, tells.nodes.one_each) in
       let id = there og.g.ids a a_within in
       let same : words ≡ node_words og.w a id.0 = cc (is, tells.nodes.each a id.0 id.1) in
       record {
         within = a_within;
-        block = ap (λ (x : CertNode). x.block) same;
+        in_block = sym (ap (λ (x : CertNode). x.block) same) ∙ eqb-true words.block k passes;
         order = ap (λ (x : CertNode). x.order) same;
       }
 
-  -- the words on a link, and on a node
-  link_there : (e : ℕ) → e < length og.g.links → (link : Link) × (slice_get og.g.links e ≡ Some link) ×
-      (slice_get c.links e ≡ Some (link_words og.w e link))
-  link_there e e_within =
-      let link = there og.g.links e e_within in (link.0, link.1, tells.links.each e link.0 link.1)
-
-  -- the two nodes of a link
-  leads_from_a : (e : ℕ) (link : Link) → slice_get og.g.links e ≡ Some link → leads og.g.links e link.a ≡ Some link.b
-  leads_from_a e link is = rw (is, eq-eqb link.a link.a refl) refl
+  link_there : (e : ℕ) → e < length og.g.links → (link : Link) × (slice_get og.g.links e ≡ Some link)
+      × (slice_get c.links e ≡ Some (link_words og.w e link))
+  link_there e e_within = let link = there og.g.links e e_within in (link.0, link.1, tells.links.each e link.0 link.1)
 
   -- the blocks of links
   pub links_placed : Each (link_placed c) (length c.links)
   links_placed e below =
       let link = link_there e (omega (arith, below, tells.links.one_each)) in
-      let onward = leads_from_a e link.0 link.1 in
+      let onward : leads og.g.links e link.0.a ≡ Some link.0.b = rw (link.1, eq-eqb link.0.a link.0.a refl) refl in
       let in_range = within og.g e link.0.a link.0.b og.kept onward in
       let common = og.ordered.links.common e link.0.a link.0.b onward in
       rw link.2 (common_test og file tells link.0.a link.0.b in_range.from in_range.to in_range.differ
       (og.w.lies_in e) common.0 (Some (og.w.lies_in e)) common.1 refl)
 
-  -- blocks with one link
-  sole_count : (a : ℕ) → a < n → (it : HasSoleLink og.g og.w a) → length (links_of c (og.w.block a)) ≡ 1
-  sole_count a a_within it =
-      let link = link_there it.link it.within in
-      one_of (λ words. words.block == og.w.block a) c.links it.link (link_words og.w it.link link.0) link.2
-      (eq-eqb (og.w.lies_in it.link) (og.w.block a) it.in_block)
-      (λ e words is passes.
-      let other = linked e words is in
-      it.no_other_link e other.within
-      (sym (ap (λ (x : CertLink). x.block) other.words_are) ∙ eqb-true words.block (og.w.block a) passes))
+  -- the block of a node
+  module _ (a : ℕ) (a_within : a < n) where
+    abbrev k : ℕ
+    k = og.w.block a
 
-  lone_holds : (a : ℕ) → a < n → HasSoleLink og.g og.w a → lone_if_one_link c (og.w.block a) ≡ true
-  lone_holds a a_within it =
-      let id = there og.g.ids a a_within in
-      let one_member : length (members c (og.w.block a)) ≡ 1 =
-      one_of (λ node. node.block == og.w.block a) c.nodes a (node_words og.w a id.0) (tells.nodes.each a id.0 id.1)
-      (eq-eqb (og.w.block a) (og.w.block a) refl)
-      (λ b words is passes.
-      let other = named b words is in
-      it.no_other_node b other.within (sym other.block ∙ eqb-true words.block (og.w.block a) passes)) in
-      or_right _ _ (and_from _ _ (eq-eqb (length (members c (og.w.block a))) 1 one_member)
-      (all_of (λ words. words.block == og.w.block a) (λ words. is_sole words.role) c.links
-      (λ e words is passes.
-      let other = linked e words is in
-      let one =
-      it.no_other_link e other.within
-      (sym (ap (λ (x : CertLink). x.block) other.words_are) ∙ eqb-true words.block (og.w.block a) passes) in
-      ap (λ (x : CertLink). is_sole x.role) other.words_are ∙ ap is_sole (ap og.w.role one ∙ it.sole))))
+    -- with one link
+    module _ (it : HasSoleLink og.g og.w a) where
+      one_link : length (links_of c k) ≡ 1
+      one_link =
+          let link = link_there it.link it.within in
+          one_of (λ words. words.block == k) c.links it.link (link_words og.w it.link link.0) link.2 (eq-eqb (og.w.lies_in it.link) k it.in_block)
+          (λ e words is passes. let other = link_of k e words is passes in it.no_other_link e other.within other.in_block)
 
-  -- blocks with more than one link
-  closed_count : (a : ℕ) → a < n → (it : HasClosingLink og.g og.w a) → 2 ≤ length (links_of c (og.w.block a))
-  closed_count a a_within it =
-      let closing =
-      link_there it.link (within og.g it.link it.greatest (og.w.head a) og.kept it.over.leads_on).link in
-      let another = link_there it.another it.another_within in
-      two_of (λ words. words.block == og.w.block a) c.links it.another it.link (link_words og.w it.another another.0)
-      (link_words og.w it.link closing.0) it.another_link another.2
-      (eq-eqb (og.w.lies_in it.another) (og.w.block a) it.another_in_block) closing.2
-      (eq-eqb (og.w.lies_in it.link) (og.w.block a) it.over.in_block)
+      lone_holds : lone_if_one_link c k ≡ true
+      lone_holds =
+          let id = there og.g.ids a a_within in
+          let one_member : length (members c k) ≡ 1 =
+          one_of (λ node. node.block == k) c.nodes a (node_words og.w a id.0) (tells.nodes.each a id.0 id.1) (eq-eqb k k refl)
+          (λ b words is passes. let other = node_of k b words is passes in it.no_other_node b other.within other.in_block) in
+          or_right _ _ (and_from _ _ (eq-eqb (length (members c k)) 1 one_member)
+          (all_of (λ words. words.block == k) (λ words. is_sole words.role) c.links (λ e words is passes.
+          let other = link_of k e words is passes in
+          ap is_sole (other.role ∙ ap og.w.role (it.no_other_link e other.within other.in_block) ∙ it.sole))))
 
-  more_than_one : (a : ℕ) → 2 ≤ length (links_of c (og.w.block a)) → (length (links_of c (og.w.block a)) == 1) ≡ false
-  more_than_one a many = ne_eqb (length (links_of c (og.w.block a))) 1 (λ one. omega (arith, many, one))
+    -- with more than one
+    module _ (it : HasClosingLink og.g og.w a) where
+      in_range : Within og.g it.link it.greatest (og.w.head a)
+      in_range = within og.g it.link it.greatest (og.w.head a) og.kept it.over.leads_on
 
-  is_greatest : (a : ℕ) → a < n → (it : HasClosingLink og.g og.w a) → is_greatest_of c (og.w.block a) it.greatest ≡ true
-  is_greatest a a_within it =
-      let top_within = (within og.g it.link it.greatest (og.w.head a) og.kept it.over.leads_on).from in
-      let id = there og.g.ids it.greatest top_within in
-      rw (tells.nodes.each it.greatest id.0 id.1)
-      (and_from _ _ (eq-eqb (og.w.block it.greatest) (og.w.block a) it.greatest_in_block)
-      (all_of (λ node. node.block == og.w.block a) (λ member. nat_le member.order (og.w.order it.greatest)) c.nodes
-      (λ b words is passes.
-      let other = named b words is in
-      let below =
-      it.none_greater b other.within (sym other.block ∙ eqb-true words.block (og.w.block a) passes) in
-      le-leb words.order (og.w.order it.greatest) (omega (arith, below, other.order)))))
+      closing : (link : Link) × (slice_get og.g.links it.link ≡ Some link) × (slice_get c.links it.link ≡ Some (link_words og.w it.link link))
+      closing = link_there it.link in_range.link
 
-  joins : (a : ℕ) → a < n → (it : HasClosingLink og.g og.w a) (link : Link) → slice_get og.g.links it.link ≡ Some link
-      → joins_greatest c (og.w.head a) (og.w.block a) (link_words og.w it.link link) ≡ true
-  joins a a_within it link is =
-      let onward = it.over.leads_on in
-      elim (far_ends link it.greatest (og.w.head a) (rw is at onward)) [
-        | inl up ↦
-            or_right _ _ (and_from _ _ (eq-eqb link.b (og.w.head a) up.1)
-            (subst (λ (x : ℕ). is_greatest_of c (og.w.block a) x ≡ true) (sym up.0) (is_greatest a a_within it)))
-        | inr down ↦
-            or_left _ _ (and_from _ _ (eq-eqb link.a (og.w.head a) down.1)
-            (subst (λ (x : ℕ). is_greatest_of c (og.w.block a) x ≡ true) (sym down.0) (is_greatest a a_within it)))
+      more_links : (length (links_of c k) == 1) ≡ false
+      more_links =
+          let another = link_there it.another it.another_within in
+          let many = two_of (λ words. words.block == k) c.links it.another it.link (link_words og.w it.another another.0)
+          (link_words og.w it.link closing.0) it.another_link another.2 (eq-eqb (og.w.lies_in it.another) k it.another_in_block) closing.2
+          (eq-eqb (og.w.lies_in it.link) k it.over.in_block) in
+          ne_eqb (length (links_of c k)) 1 (λ one. omega (arith, many, one))
+
+      is_greatest : is_greatest_of c k it.greatest ≡ true
+      is_greatest =
+          let id = there og.g.ids it.greatest in_range.from in
+          rw (tells.nodes.each it.greatest id.0 id.1)
+          (and_from _ _ (eq-eqb (og.w.block it.greatest) k it.greatest_in_block)
+          (all_of (λ node. node.block == k) (λ member. nat_le member.order (og.w.order it.greatest)) c.nodes (λ b words is passes.
+          let other = node_of k b words is passes in
+          le-leb words.order (og.w.order it.greatest) (omega (arith, it.none_greater b other.within other.in_block, other.order)))))
+
+      joins : joins_greatest c (og.w.head a) k (link_words og.w it.link closing.0) ≡ true
+      joins = elim (far_ends closing.0 it.greatest (og.w.head a) (rw closing.1 at it.over.leads_on)) [
+        | inl up ↦ or_right _ _ (and_from _ _ (eq-eqb closing.0.b (og.w.head a) up.1) (rw up.0 is_greatest))
+        | inr down ↦ or_left _ _ (and_from _ _ (eq-eqb closing.0.a (og.w.head a) down.1) (rw down.0 is_greatest))
       ]
 
-  closed_holds : (a : ℕ) → a < n → HasClosingLink og.g og.w a
-      → closed_unless_one_link c (og.w.head a) (og.w.block a) ≡ true
-  closed_holds a a_within it =
-      let closing =
-      link_there it.link (within og.g it.link it.greatest (og.w.head a) og.kept it.over.leads_on).link in
-      let k = og.w.block a in
-      let none_sole : list_all (λ words. not (is_sole words.role)) (links_of c k) ≡ true =
-      all_of (λ words. words.block == k) (λ words. not (is_sole words.role)) c.links
-      (λ e words is passes.
-      let other = linked e words is in
-      let in_block : og.w.lies_in e ≡ k =
-      sym (ap (λ (x : CertLink). x.block) other.words_are) ∙ eqb-true words.block k passes in
-      ap (λ (x : CertLink). not (is_sole x.role)) other.words_are
-      ∙ not_sole (og.w.role e) (it.none_sole e other.within in_block)) in
-      let only : (e : ℕ) (words : CertLink) → slice_get c.links e ≡ Some words
-      → ((words.block == k) && is_closing words.role) ≡ true → e ≡ it.link =
-      λ e words is passes.
-      let other = linked e words is in
-      let parts = and_parts (words.block == k) (is_closing words.role) passes in
-      it.no_other e other.within
-      (sym (ap (λ (x : CertLink). x.block) other.words_are) ∙ eqb-true words.block k parts.0)
-      (role_closing (og.w.role e) (sym (ap (λ (x : CertLink). is_closing x.role) other.words_are) ∙ parts.1)) in
-      let one : length (closings c k) ≡ 1 =
-      one_of (λ words. (words.block == k) && is_closing words.role) c.links it.link (link_words og.w it.link closing.0)
-      closing.2
-      (and_from _ _ (eq-eqb (og.w.lies_in it.link) k it.over.in_block) (ap is_closing it.closing)) only in
-      let join : list_all (joins_greatest c (og.w.head a) k) (closings c k) ≡ true =
-      all_of (λ words. (words.block == k) && is_closing words.role) (joins_greatest c (og.w.head a) k) c.links
-      (λ e words is passes.
-      let same : words ≡ link_words og.w it.link closing.0 = cc (is, closing.2, only e words is passes) in
-      subst (λ (x : CertLink). joins_greatest c (og.w.head a) k x ≡ true) (sym same)
-      (joins a a_within it closing.0 closing.1)) in
-      or_right _ _ (and_from _ _ none_sole (and_from _ _ (eq-eqb (length (closings c k)) 1 one) join))
-    where
       not_sole : (role : Role) → role ≢ roles.Sole → not (is_sole role) ≡ true
-      not_sole roles.Plain other = refl
       not_sole roles.Sole other = absurd (other refl)
-      not_sole roles.Closing other = refl
+      not_sole _ other = refl
 
-  lone_at : (a : ℕ) → a < n → a ≢ og.root → lone_if_one_link c (og.w.block a) ≡ true
-  lone_at a a_within other = elim (og.ordered.blocks a a_within other) [
-    | inl sole ↦ lone_holds a a_within sole
-    | inr closed ↦ or_left _ _ (ap not (more_than_one a (closed_count a a_within closed)))
-  ]
+      -- a closing link is the one
+      only : (e : ℕ) (words : CertLink) → slice_get c.links e ≡ Some words → ((words.block == k) && is_closing words.role) ≡ true → e ≡ it.link
+      only e words is passes =
+          let parts = and_parts (words.block == k) (is_closing words.role) passes in
+          let other = link_of k e words is parts.0 in
+          it.no_other e other.within other.in_block (role_closing (og.w.role e) (sym (ap is_closing other.role) ∙ parts.1))
 
-  closed_at : (a : ℕ) → a < n → a ≢ og.root → closed_unless_one_link c (og.w.head a) (og.w.block a) ≡ true
-  closed_at a a_within other = elim (og.ordered.blocks a a_within other) [
-    | inl sole ↦ or_left _ _ (eq-eqb (length (links_of c (og.w.block a))) 1 (sole_count a a_within sole))
-    | inr closed ↦ closed_holds a a_within closed
-  ]
+      closed_holds : closed_unless_one_link c (og.w.head a) k ≡ true
+      closed_holds =
+          let one : length (closings c k) ≡ 1 =
+          one_of (λ words. (words.block == k) && is_closing words.role) c.links it.link (link_words og.w it.link closing.0) closing.2
+          (and_from _ _ (eq-eqb (og.w.lies_in it.link) k it.over.in_block) (ap is_closing it.closing)) only in
+          or_right _ _ (and_from _ _
+          (all_of (λ words. words.block == k) (λ words. not (is_sole words.role)) c.links (λ e words is passes.
+          let other = link_of k e words is passes in
+          ap (λ (role : Role). not (is_sole role)) other.role ∙ not_sole (og.w.role e) (it.none_sole e other.within other.in_block)))
+          (and_from _ _ (eq-eqb (length (closings c k)) 1 one)
+          (all_of (λ words. (words.block == k) && is_closing words.role) (joins_greatest c (og.w.head a) k) c.links (λ e words is passes.
+          let same : words ≡ link_words og.w it.link closing.0 = cc (is, closing.2, only e words is passes) in
+          subst (λ (x : CertLink). joins_greatest c (og.w.head a) k x ≡ true) (sym same) joins))))
+
+    lone_at : a ≢ og.root → lone_if_one_link c k ≡ true
+    lone_at other = elim (og.ordered.blocks a a_within other) [
+      | inl sole ↦ lone_holds sole
+      | inr closed ↦ or_left _ _ (ap not (more_links closed))
+    ]
+
+    closed_at : a ≢ og.root → closed_unless_one_link c (og.w.head a) k ≡ true
+    closed_at other = elim (og.ordered.blocks a a_within other) [
+      | inl sole ↦ or_left _ _ (eq-eqb (length (links_of c k)) 1 (one_link sole))
+      | inr closed ↦ closed_holds closed
+    ]
 
   pub lone_blocks : Each (lone_block c og.root) (length c.nodes)
   lone_blocks a below = elim (cases_eq a og.root) [
     | inl at_root ↦ or_left _ _ (eq-eqb a og.root at_root)
     | inr other ↦
-        or_right _ _ (ap (λ (o : Option ℕ). option_map_or (lone_if_one_link c) o false)
-        (block_is og file tells a (node_within a below)) ∙ lone_at a (node_within a below) other)
+        let holds : option_map_or (lone_if_one_link c) (block_of c a) false ≡ true =
+        rw (block_is og file tells a (node_within a below)) (lone_at a (node_within a below) other) in
+        or_right _ _ holds
   ]
 
   pub closed_blocks : Each (closed_block c og.root) (length c.nodes)
@@ -306,7 +258,6 @@ module _ (og : OrderedGraph) (file : CertFile) (tells : Tells og.g og.root og.w 
     | inl at_root ↦ or_left _ _ (eq-eqb a og.root at_root)
     | inr other ↦
         let holds : both (closed_unless_one_link c) (head_of c a) (block_of c a) ≡ true =
-        rw (head_is og file tells a (node_within a below), block_is og file tells a (node_within a below))
-        (closed_at a (node_within a below) other) in
+        rw (head_is og file tells a (node_within a below), block_is og file tells a (node_within a below)) (closed_at a (node_within a below) other) in
         or_right _ _ holds
   ]

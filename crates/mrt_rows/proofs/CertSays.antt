@@ -21,14 +21,14 @@ use Rattle.mrt_rows.specs.RowsOf.{HasRow}
 use Rattle.mrt_rows.proofs.OrderedGraphs.{OrderedGraph}
 
 -- tests of two numbers that are there
-pub equal_test : (x y : Option ℕ) (a b : ℕ) → x ≡ Some a → y ≡ Some b → a ≡ b → are_equal x y ≡ true
-equal_test x y a b is_a is_b same = rw (is_a, is_b) (eq-eqb a b same)
+pub equal_test : {x y : Option ℕ} {a b : ℕ} → x ≡ Some a → y ≡ Some b → a ≡ b → are_equal x y ≡ true
+equal_test {a = a} {b = b} is_a is_b same = rw (is_a, is_b) (eq-eqb a b same)
 
-pub less_test : (x y : Option ℕ) (a b : ℕ) → x ≡ Some a → y ≡ Some b → a < b → is_less x y ≡ true
-less_test x y a b is_a is_b below = rw (is_a, is_b) (lt-ltb a b below)
+pub less_test : {x y : Option ℕ} {a b : ℕ} → x ≡ Some a → y ≡ Some b → a < b → is_less x y ≡ true
+less_test {a = a} {b = b} is_a is_b below = rw (is_a, is_b) (lt-ltb a b below)
 
-pub different_test : (x y : Option ℕ) (a b : ℕ) → x ≡ Some a → y ≡ Some b → a ≢ b → are_different x y ≡ true
-different_test x y a b is_a is_b differ = rw (is_a, is_b) (ap not (ne_eqb a b differ))
+pub different_test : {x y : Option ℕ} {a b : ℕ} → x ≡ Some a → y ≡ Some b → a ≢ b → are_different x y ≡ true
+different_test {a = a} {b = b} is_a is_b differ = rw (is_a, is_b) (ap not (ne_eqb a b differ))
 
 module _ (og : OrderedGraph) (file : CertFile) (tells : Tells og.g og.root og.w file) where
   abbrev n : ℕ
@@ -39,34 +39,23 @@ module _ (og : OrderedGraph) (file : CertFile) (tells : Tells og.g og.root og.w 
 
   -- the words on a node
   pub order_is : (a : ℕ) → a < n → order_of c a ≡ Some (og.w.order a)
-  order_is a within =
-      let id = there og.g.ids a within in ap (λ (o : Option CertNode). option_map (λ node. node.order) o)
-      (tells.nodes.each a id.0 id.1)
+  order_is a within = let id = there og.g.ids a within in ap (option_map (λ (node : CertNode). node.order)) (tells.nodes.each a id.0 id.1)
 
   pub head_is : (a : ℕ) → a < n → head_of c a ≡ Some (og.w.head a)
-  head_is a within =
-      let id = there og.g.ids a within in ap (λ (o : Option CertNode). option_map (λ node. node.head) o)
-      (tells.nodes.each a id.0 id.1)
+  head_is a within = let id = there og.g.ids a within in ap (option_map (λ (node : CertNode). node.head)) (tells.nodes.each a id.0 id.1)
 
   pub block_is : (a : ℕ) → a < n → block_of c a ≡ Some (og.w.block a)
-  block_is a within =
-      let id = there og.g.ids a within in ap (λ (o : Option CertNode). option_map (λ node. node.block) o)
-      (tells.nodes.each a id.0 id.1)
+  block_is a within = let id = there og.g.ids a within in ap (option_map (λ (node : CertNode). node.block)) (tells.nodes.each a id.0 id.1)
 
   -- the words on a link
   pub link_block_is : (e : ℕ) → e < length og.g.links → link_block c e ≡ Some (og.w.lies_in e)
-  link_block_is e within =
-      let link = there og.g.links e within in
-      ap (λ (o : Option CertLink). option_map (λ words. words.block) o) (tells.links.each e link.0 link.1)
+  link_block_is e within = let link = there og.g.links e within in ap (option_map (λ (words : CertLink). words.block)) (tells.links.each e link.0 link.1)
 
   pub role_test : (test : Role → Bool) (e : ℕ) (word : Role) → e < length og.g.links → og.w.role e ≡ word
       → test word ≡ true → has_role test c e ≡ true
   role_test test e word within is passes =
       let link = there og.g.links e within in
-      let found : has_role test c e ≡ test (og.w.role e) =
-      ap (λ (o : Option CertLink). option_map_or (λ words. test words.role) o false)
-      (tells.links.each e link.0 link.1) in
-      found ∙ ap test is ∙ passes
+      ap (λ (o : Option CertLink). option_map_or (λ words. test words.role) o false) (tells.links.each e link.0 link.1) ∙ ap test is ∙ passes
 
   pub plain_test : (e : ℕ) → e < length og.g.links → og.w.role e ≡ roles.Plain → has_role is_plain c e ≡ true
   plain_test e within is = role_test is_plain e roles.Plain within is refl

@@ -6,7 +6,7 @@ use Rattle.mrt_graph.specs.GraphInvariant.{IsTopology}
 use Rattle.mrt_graph.specs.Leads.{leads}
 use Rattle.mrt_graph.specs.Topology.{Topology}
 use Rattle.mrt_graph.proofs.EndsAt.{end_leads, leads_end, list_of_ends}
-use Rattle.link_direction.specs.CommonBlock.{FromHead, HaveCommonBlock, Peers, ToHead}
+use Rattle.link_direction.specs.CommonBlock.{HaveCommonBlock}
 use Rattle.link_direction.specs.Directions.{Directions}
 use Rattle.link_direction.specs.OrderedGadag.{IsOrderedGadag}
 use Rattle.inc_dec_spf.specs.declared.reach.Dir.{Dir}
@@ -104,15 +104,15 @@ module _ (og : OrderedGraph) where
       let lower = og.ordered.heads.lower v v_within other in
       omega (arith, lower, ap og.w.order (sym one ∙ head))
 
+  -- a node with a head other than itself is not the root
+  pub has_head : (u v : ℕ) → u ≢ v → og.w.head u ≡ v → u ≢ og.root
+  has_head u v two head = λ at_root. two (at_root ∙ sym og.ordered.heads.root_head ∙ ap og.w.head (sym at_root) ∙ head)
+
   -- two nodes are not heads of each other
   pub one_is_head : (u v : ℕ) → u < n → v < n → u ≢ v → og.w.head u ≡ v → og.w.head v ≢ u
   one_is_head u v u_within v_within differ head = λ back.
-      let u_other : u ≢ og.root = λ at_root.
-      differ (at_root ∙ sym og.ordered.heads.root_head ∙ ap og.w.head (sym at_root) ∙ head) in
-      let v_other : v ≢ og.root = λ at_root.
-      differ (sym back ∙ ap og.w.head at_root ∙ og.ordered.heads.root_head ∙ sym at_root) in
-      let u_lower = og.ordered.heads.lower u u_within u_other in
-      let v_lower = og.ordered.heads.lower v v_within v_other in
+      let u_lower = og.ordered.heads.lower u u_within (has_head u v differ head) in
+      let v_lower = og.ordered.heads.lower v v_within (has_head v u (λ same. differ (sym same)) back) in
       omega (arith, u_lower, v_lower, ap og.w.order head, ap og.w.order back)
 
   -- two nodes have one block in common at most
@@ -120,9 +120,3 @@ module _ (og : OrderedGraph) where
       → (k ≡ j) × (h ≡ i)
   one_common u v k h j i u_within v_within differ one other =
       one_block og.g og.root og.w u v k h j i (is_ordered og) u_within v_within differ one other
-
-  pub common_back : (u v k h : ℕ) → u < n → v < n → HaveCommonBlock og.w u v k h → HaveCommonBlock og.w v u k h
-  common_back u v k h u_within v_within (Peers a b c) =
-      Peers b a (sym (og.ordered.heads.one_head u v u_within v_within (a ∙ sym b)) ∙ c)
-  common_back u v k h u_within v_within (ToHead a b c) = FromHead a b c
-  common_back u v k h u_within v_within (FromHead a b c) = ToHead a b c

@@ -1,197 +1,187 @@
 -- Each node has a row for each other one by the table.
-use Rattle.std.proofs.Common.{◌≡◌, ◌≢◌, ◌∙◌, ◌<◌, ◌≤◌, ℕ, zero, suc, Option, Some, None, length, refl, sym, ap, inl, inr, arith}
+use Rattle.std.proofs.Common.{◌≡◌, ◌≢◌, ◌∙◌, ◌<◌, ℕ, Option, Some, None, length, refl, sym, ap, subst, inl, inr, arith}
 use Rattle.std.proofs.lemmas.Bool.{cases_eq, cases_lt}
-use Rattle.std.specs.Option.{option_map}
 use Rattle.mrt_graph.specs.declared.cert.Row.{Row}
 use Rattle.mrt_graph.specs.declared.cert.Tag.TheVariants as tags
-use Rattle.mrt_graph.specs.Tags.{carried}
-use Rattle.link_direction.specs.CommonBlock.{FromHead, HaveCommonBlock, Peers, ToHead}
-use Rattle.link_direction.specs.OrderedGadag.{HasSoleLink}
-use Rattle.inc_dec_spf.specs.declared.reach.Dir.TheVariants.{Down, Up}
-use Rattle.inc_dec_spf.specs.FirstLink.{IsFirstLink, no_link}
-use Rattle.mrt_rows.specs.declared.members.Home.{Home}
-use Rattle.mrt_rows.specs.NearOf.{Apart, InCommon, IsNearRow}
-use Rattle.mrt_rows.specs.Put.{IsHome, IsOwnRow, NoneOfOneLink}
-use Rattle.mrt_rows.specs.RowsOf.{HasRow}
-use Rattle.mrt_rows.proofs.HopsExist.{has_link}
-use Rattle.mrt_rows.proofs.LinesHold.{has_head}
-use Rattle.mrt_rows.proofs.MemberRows.{above_row, below_row, head_row, top_row, unordered_row}
-use Rattle.link_direction.proofs.TwoNodes.{Relates, of_two}
-use Rattle.mrt_rows.proofs.OrderedGraphs.{OrderedGraph}
-use Rattle.mrt_rows.proofs.Sharing.{none_of_share}
-use Rattle.mrt_rows.proofs.WaysBegun.{more_of}
-use Rattle.mrt_rows.proofs.Carriers.{at_carrier, carrier_by, line_carried}
 use Rattle.mrt_graph.specs.declared.related.Relation.{Relation}
 use Rattle.mrt_graph.specs.declared.related.Relation.TheVariants as relations
+use Rattle.mrt_graph.specs.Tags.{carried}
+use Rattle.link_direction.specs.CommonBlock.{FromHead, HaveCommonBlock, Peers, ToHead}
+use Rattle.link_direction.proofs.TwoNodes.{Relates, of_two}
+use Rattle.inc_dec_spf.specs.declared.reach.Dir.{Dir}
+use Rattle.inc_dec_spf.specs.declared.reach.Dir.TheVariants.{Down, Up}
+use Rattle.inc_dec_spf.specs.declared.reach.Hop.{Hop}
+use Rattle.inc_dec_spf.specs.LeastPath.{HaveCommonBlockOfMoreLinks, IsHop}
+use Rattle.mrt_rows.specs.ColumnOf.{IsRowIn}
+use Rattle.mrt_rows.specs.NearOf.{Apart, InCommon, IsNearRow}
+use Rattle.mrt_rows.specs.RowLines.{AreMembers, BeginsOver, HasOneLink, LineOf}
+use Rattle.mrt_rows.specs.RowsOf.{HasRow}
+use Rattle.mrt_rows.proofs.Carriers.{carrier_by}
+use Rattle.mrt_rows.proofs.HeadWays.{way_from_head, way_home}
+use Rattle.mrt_rows.proofs.HopsExist.{has_hop}
+use Rattle.mrt_rows.proofs.LinesHold.{with_head}
+use Rattle.mrt_rows.proofs.OneRow.{Far, HasTheRow, IsRowFor, Near, by_carriers, has_all, of_table, one_for}
+use Rattle.mrt_rows.proofs.OrderedGraphs.{OrderedGraph, has_head, not_root_of_peers}
+use Rattle.mrt_rows.proofs.Ways.{Inside, Ring, Way, inside_itself}
+use Rattle.mrt_rows.proofs.WaysBegun.{Sharing, no_way, peers, share}
 
-module _ (og : OrderedGraph) (s : ℕ) (s_within : s < length og.g.ids) where
+-- a near row, where they have a block in common
+module _ (og : OrderedGraph) (s t : ℕ) (s_within : s < length og.g.ids) (t_within : t < length og.g.ids) (two : s ≢ t) where
+  abbrev HasNear : Type 0
+  HasNear = (near : Option Row) × IsNearRow og.g og.root og.w s t near
+
+  -- where a way of m's block leads to x, a least path begins over a link
+  begun : (m x : ℕ) (dir : Dir) → Ring og m → Sharing og m s x → Way og m dir s x → (link : ℕ) × BeginsOver og.g og.w dir s x link
+  begun m x dir ring sharing way = go (has_hop og dir s x s_within sharing.target)
+    where
+      go : (hop : Option Hop) × IsHop og.g og.w dir s x hop → (link : ℕ) × BeginsOver og.g og.w dir s x link
+      go (Some hop, is) = (hop.link, record { hop = hop; reached = is; over = refl })
+      go (None, none) = absurd (no_way og m dir s x (share og m s x ring sharing) none way)
+
+  near_row : (row : Row) (k h : ℕ) → HaveCommonBlock og.w s t k h → ((rows : ℕ → Option Row) → LineOf row.tag og.g og.root og.w s rows t row) → HasNear
+  near_row row k h common line = (Some row, InCommon row k h common (record { line = line }))
+
+  -- over the block of m: its one link, or a row by the ways to t
+  over_block : (m : ℕ) → m < length og.g.ids → m ≢ og.root → Sharing og m s t → ((dir : Dir) → Ring og m → Way og m dir s t)
+      → ((blue red : ℕ) → HaveCommonBlockOfMoreLinks og.g og.w s t (og.w.block m) (og.w.head m) → BeginsOver og.g og.w Up s t blue
+      → BeginsOver og.g og.w Down s t red → HasNear) → HasNear
+  over_block m inside other sharing way by_ways = elim (og.ordered.blocks m inside other) [
+    | inl sole ↦
+        let one : HasOneLink og.g og.w (og.w.block m) sole.link = record { within = sole.within; in_block = sole.in_block; no_other = sole.no_other_link } in
+        near_row (record { blue = sole.link; red = sole.link; tag = tags.Sole }) (og.w.block m) (og.w.head m) sharing.common
+        (λ rows. record { block = og.w.block m; head = og.w.head m; common = sharing.common; one_link = one; red = refl })
+    | inr closed ↦
+        let ring : Ring og m = record { inside = inside; other = other; closed = closed } in
+        let blue = begun m t Up ring sharing (way Up ring) in
+        let red = begun m t Down ring sharing (way Down ring) in
+        by_ways blue.0 red.0 (share og m s t ring sharing) blue.1 red.1
+  ]
+
+  under : og.w.head s ≡ t → HasNear
+  under head =
+      over_block s s_within (has_head og s t two head)
+      (record { source = s_within; target = t_within; two = two; common = ToHead refl head (sym head) })
+      (λ dir ring. subst (λ (x : ℕ). Way og s dir s x) head (way_home og s dir ring))
+      (λ blue red share up down. near_row (record { blue = blue; red = red; tag = tags.Head }) (og.w.block s) (og.w.head s) share.common
+      (λ rows. record { block = og.w.block s; head = og.w.head s; share = share; at_head = sym head; blue = up; red = down }))
+
+  over : og.w.head t ≡ s → HasNear
+  over head =
+      over_block t t_within (has_head og t s (λ back. two (sym back)) head)
+      (record { source = s_within; target = t_within; two = two; common = FromHead refl head (sym head) })
+      (λ dir ring. subst (λ (x : ℕ). Way og t dir x t) head (way_from_head og t dir ring))
+      (λ blue red share up down. near_row (record { blue = blue; red = red; tag = tags.Top }) (og.w.block t) (og.w.head t) share.common
+      (λ rows. record { block = og.w.block t; head = og.w.head t; share = share; at_head = sym head; blue = up; red = down }))
+
+  -- another node of the block
+  module _ (same : og.w.block s ≡ og.w.block t) (ring : Ring og s) where
+    abbrev k : ℕ
+    k = og.w.block s
+
+    abbrev h : ℕ
+    h = og.w.head s
+
+    source : Inside og s s
+    source = inside_itself og s ring
+
+    are : AreMembers og.g og.w s t k h
+    are = record { share = share og s s t ring (peers og s s t ring source (record { within = t_within; block = sym same }) two); source = refl; target = sym same }
+
+    home : (dir : Dir) → (link : ℕ) × BeginsOver og.g og.w dir s h link
+    home dir = begun s h dir ring (with_head og s s ring source) (way_home og s dir ring)
+
+    peer_row : (up down : Option Hop) → IsHop og.g og.w Up s t up → IsHop og.g og.w Down s t down → HasNear
+    peer_row (Some up) down is_up is_down =
+        near_row (record { blue = up.link; red = (home Down).0; tag = tags.Below }) k h (Peers refl (sym same) refl)
+        (λ rows. record { block = k; head = h; members = are; blue = record { hop = up; reached = is_up; over = refl }; red = (home Down).1 })
+    peer_row None (Some down) none_up is_down =
+        near_row (record { blue = (home Up).0; red = down.link; tag = tags.Above }) k h (Peers refl (sym same) refl)
+        (λ rows. record { block = k; head = h; members = are; none_up = none_up; blue = (home Up).1; red = record { hop = down; reached = is_down; over = refl } })
+    peer_row None None none_up none_down =
+        near_row (record { blue = (home Down).0; red = (home Up).0; tag = tags.Unordered }) k h (Peers refl (sym same) refl)
+        (λ rows. record { block = k; head = h; members = are; none_up = none_up; none_down = none_down; blue = (home Down).1; red = (home Up).1 })
+
+  has_near : HasNear
+  has_near = let is = of_two og.w s t in by is.0 is.1
+    where
+      by : (r : Relation) → Relates og.w s t r → HasNear
+      by relations.OneBlock same =
+          let other = not_root_of_peers og t s t_within s_within (λ back. two (sym back)) (sym same) in
+          elim (og.ordered.blocks s s_within other) [
+            | inl sole ↦ absurd (two (sym (sole.no_other_node t t_within (sym same))))
+            | inr closed ↦
+                let up = has_hop og Up s t s_within t_within in
+                let down = has_hop og Down s t s_within t_within in
+                peer_row same (record { inside = s_within; other = other; closed = closed }) up.0 down.0 up.1 down.1
+          ]
+      by relations.ToHead head = under head
+      by relations.FromHead head = over head
+      by relations.Apart none = (None, Apart none)
+
+module _ (og : OrderedGraph) (s : ℕ) where
   abbrev n : ℕ
   n = length og.g.ids
 
-  -- where they have a block in common
-  module _ (t : ℕ) (t_within : t < n) (two : s ≢ t) where
-    abbrev HasNear : Type 0
-    HasNear = (near : Option Row) × IsNearRow og.g og.root og.w s t near
+  -- the row for each other node
+  some_for : s < n → (t : ℕ) → t < n → s ≢ t → (row : Row) × IsRowFor og s t row
+  some_for s_within = by_carriers og s s_within (λ t. (row : Row) × IsRowFor og s t row)
+      (λ t t_within two far. let it = has_near og s t s_within t_within two in go t it.0 it.1 far)
+    where
+      go : (t : ℕ) (near : Option Row) → IsNearRow og.g og.root og.w s t near
+          → (((k h : ℕ) → ¬ HaveCommonBlock og.w s t k h) → (row : Row) × IsRowFor og s (carrier_by og.w og.root s t) row) → (row : Row) × IsRowFor og s t row
+      go t (Some row) near far = (row, Near near)
+      go t None (Apart apart) far = let it = far apart in (carried it.0, Far (Apart apart) it.1)
 
-    sole_near : (m h : ℕ) → HasSoleLink og.g og.w m → HaveCommonBlock og.w s t (og.w.block m) h → HasNear
-    sole_near m h sole common =
-        let row : Row = record { blue = sole.link; red = sole.link; tag = tags.Sole } in (
-          Some row,
-          InCommon row (og.w.block m) h common (record {
-            line = λ rows. record {
-              block = og.w.block m;
-              head = h;
-              common = common;
-              one_link = record { within = sole.within; in_block = sole.in_block; no_other = sole.no_other_link };
-              red = refl;
-            };
-          }),
-        )
-
-    in_block_of : (m h : ℕ) → m < n → m ≢ og.root → HaveCommonBlock og.w s t (og.w.block m) h
-        → (NoneOfOneLink og.g og.w s t → HasNear) → HasNear
-    in_block_of m h inside other common closed_near = elim (og.ordered.blocks m inside other) [
-      | inl sole ↦ sole_near m h sole common
-      | inr closed ↦ closed_near (none_of_share og s t s_within t_within two (og.w.block m) h (record {
-        two = two;
-        common = common;
-        more = more_of og m (record { inside = inside; other = other; closed = closed });
-      }))
-    ]
-
-    -- another node of the block
-    peer_near : (home : Home) (up down : ℕ) → og.w.block s ≡ og.w.block t → IsFirstLink og.g og.w Up s t up
-        → IsFirstLink og.g og.w Down s t down → IsHome og.g og.w s home → (row : Row) × IsOwnRow og.g og.root og.w s t row
-    peer_near home up down same is_up is_down is_home = elim (cases_eq up no_link) [
-      | inl none_up ↦ elim (cases_eq down no_link) [
-        | inl none_down ↦ (_, unordered_row og s t s_within t_within two same up down home none_up none_down is_up is_down is_home)
-        | inr other ↦ (_, above_row og s t s_within t_within two same up down home none_up other is_up is_down is_home)
+  -- all as one function
+  each_at : (t : ℕ) → (found : Option Row) × (s < n → t < n → s ≢ t → HasTheRow og s t found)
+  each_at t = elim (cases_lt s n) [
+    | inl s_within ↦ elim (cases_lt t n) [
+      | inl t_within ↦ elim (cases_eq s t) [
+        | inl same ↦ (None, λ in_range too two. absurd (two same))
+        | inr two ↦ let it = some_for s_within t t_within two in (Some it.0, λ in_range too other. record { row = it.0; is = refl; the = it.1 })
       ]
-      | inr other ↦ (_, below_row og s t s_within t_within two same up home other is_up is_home)
+      | inr past ↦ (None, λ in_range too two. absurd (omega (arith, too, past)))
     ]
-
-    has_near : HasNear
-    has_near = let is = of_two og.w s t in by is.0 is.1
-      where
-        by : (r : Relation) → Relates og.w s t r → HasNear
-        by relations.OneBlock same =
-            let up = has_link og Up s t s_within t_within in
-            let down = has_link og Down s t s_within t_within in
-            let head_within = og.ordered.heads.head_within s s_within in
-            let up_home = has_link og Up s (og.w.head s) s_within head_within in
-            let down_home = has_link og Down s (og.w.head s) s_within head_within in
-            let row =
-            peer_near (record { up = up_home.0; down = down_home.0 }) up.0 down.0 same up.1 down.1
-            (record { up = λ more. up_home.1; down = λ more. down_home.1 }) in
-            (Some row.0, InCommon row.0 (og.w.block s) (og.w.head s) (Peers refl (sym same) refl) row.1)
-        by relations.ToHead head =
-            let up = has_link og Up s t s_within t_within in
-            let down = has_link og Down s t s_within t_within in
-            let common = ToHead refl head refl in
-            in_block_of s t s_within (has_head og s t two head) common
-            (λ more. (
-              _,
-              InCommon (record { blue = up.0; red = down.0; tag = tags.Head }) (og.w.block s) t common
-                  (head_row og s t s_within t_within two more up.0 down.0 up.1 down.1 head),
-            ))
-        by relations.FromHead top =
-            let up = has_link og Up s t s_within t_within in
-            let down = has_link og Down s t s_within t_within in
-            let common = FromHead refl top refl in
-            in_block_of t s t_within (has_head og t s (λ back. two (sym back)) top) common
-            (λ more. (
-              _,
-              InCommon (record { blue = up.0; red = down.0; tag = tags.Top }) (og.w.block t) s common
-                  (top_row og s t s_within t_within two more up.0 down.0 up.1 down.1 top),
-            ))
-        by relations.Apart none = (None, Apart none)
-
-  -- the near row for each node, as one function
-  near_at : (t : ℕ) → (near : Option Row) × (t < n → s ≢ t → IsNearRow og.g og.root og.w s t near)
-  near_at t = elim (cases_lt t n) [
-    | inl within ↦ elim (cases_eq s t) [
-      | inl same ↦ (None, λ in_range two. absurd (two same))
-      | inr two ↦ let it = has_near t within two in (it.0, λ in_range other. it.1)
-    ]
-    | inr past ↦ (None, λ in_range two. absurd (omega (arith, in_range, past)))
+    | inr past ↦ (None, λ in_range too two. absurd (omega (arith, in_range, past)))
   ]
 
-  -- a near row, or one that is carried
-  abbrev near_or : Option Row → Option Row → Option Row
-  near_or (Some row) other = Some row
-  near_or None other = option_map carried other
+  pub each_row : ℕ → Option Row
+  each_row t = (each_at t).0
 
-  -- the row for t, carried at most so often
-  abbrev carrier : ℕ → ℕ
-  carrier t = carrier_by og.w og.root s t
+  pub each_the : (t : ℕ) → s < n → t < n → s ≢ t → HasTheRow og s t (each_row t)
+  unfolding each_row
+  each_the t = (each_at t).1
 
-  abbrev row_by : ℕ → ℕ → Option Row
-  row_by zero t = None
-  row_by (suc left) t = near_or (near_at t).0 (row_by left (carrier t))
+  pub each_has : (t : ℕ) → s < n → t < n → s ≢ t → HasRow og.g og.root og.w s each_row t
+  each_has t s_within t_within two =
+      has_all og s s_within each_row (λ u within apart. each_the u s_within within apart) t t_within two
 
-  -- it is there, and is the same where it may be carried once more
-  record IsThere (left t : ℕ) : Type 0 where
-    row : Row
-    is : row_by left t ≡ Some row
-    stays : row_by (suc left) t ≡ Some row
+  pub some_rows : s < n → (rows : ℕ → Option Row) × ((t : ℕ) → t < n → s ≢ t → HasRow og.g og.root og.w s rows t)
+  some_rows s_within = (each_row, λ t t_within two. each_has t s_within t_within two)
 
-  there_by : (left t : ℕ) (near : Option Row) → (near_at t).0 ≡ near → IsNearRow og.g og.root og.w s t near
-      → (((k h : ℕ) → ¬ HaveCommonBlock og.w s t k h) → IsThere left (carrier t)) → IsThere (suc left) t
-  there_by left t (Some row) at near far = record {
-    row = row;
-    is = ap (λ (o : Option Row). near_or o (row_by left (carrier t))) at;
-    stays = ap (λ (o : Option Row). near_or o (row_by (suc left) (carrier t))) at;
+-- the row of s for t is the one among its rows by the table
+module _ (og : OrderedGraph) (s t : ℕ) (found : Option Row) (s_within : s < length og.g.ids) (t_within : t < length og.g.ids) (two : s ≢ t) where
+  pub row_in : HasTheRow og s t found → IsRowIn og.g og.root og.w s t found
+  row_in it = record {
+    row = it.row;
+    is = it.is;
+    each = λ rows has.
+        let by = of_table og s s_within rows has t t_within two in
+        by.is ∙ ap (λ (r : Row). Some r) (one_for og s s_within t by.row it.row t_within two by.the it.the);
   }
-  there_by left t None at (Apart apart) far =
-      let it = far apart in
+
+  pub the_row : IsRowIn og.g og.root og.w s t found → HasTheRow og s t found
+  the_row it =
+      let own = each_the og s t s_within t_within two in
       record {
-        row = carried it.row;
-        is = ap (λ (o : Option Row). near_or o (row_by left (carrier t))) at ∙ ap (option_map carried) it.is;
-        stays = ap (λ (o : Option Row). near_or o (row_by (suc left) (carrier t))) at ∙ ap (option_map carried) it.stays;
+        row = own.row;
+        is = it.is ∙ sym (it.each (each_row og s) (λ u within apart. each_has og s u s_within within apart)) ∙ own.is;
+        the = own.the;
       }
 
-  -- the row for the head of s is never carried
-  home_there : (left : ℕ) → 1 ≤ left → s ≢ og.root → IsThere left (og.w.head s)
-  home_there zero some other = absurd (omega (arith, some))
-  home_there (suc left) some other =
-      there_by left (og.w.head s) (near_at (og.w.head s)).0 refl
-      ((near_at (og.w.head s)).1 (og.ordered.heads.head_within s s_within)
-      (λ same. omega (arith, og.ordered.heads.lower s s_within other, ap og.w.order same)))
-      (λ apart. absurd (apart (og.w.block s) (og.w.head s) (ToHead refl refl refl)))
-
-  carrier_there : (left t : ℕ) → t < n → s ≢ t → og.w.order t ≤ left → ((k h : ℕ) → ¬ HaveCommonBlock og.w s t k h)
-      → ((v : ℕ) → v < n → s ≢ v → og.w.order v < left → IsThere left v) → IsThere left (carrier t)
-  carrier_there left t t_within two few apart lower_there =
-      at_carrier (IsThere left) og.w og.root s t
-      (λ other.
-      let lower = og.ordered.heads.lower t t_within other in
-      lower_there (og.w.head t) (og.ordered.heads.head_within t t_within) (λ back. apart (og.w.block t) s (FromHead refl (sym back) refl))
-      (omega (arith, lower, few)))
-      (λ at_root. home_there left (omega (arith, og.ordered.orders.from_one t t_within, few)) (λ s_root. two (s_root ∙ sym at_root)))
-
-  is_there : (left t : ℕ) → t < n → s ≢ t → og.w.order t < left → IsThere left t
-  is_there zero t t_within two few = absurd (omega (arith, few))
-  is_there (suc left) t t_within two few =
-      there_by left t (near_at t).0 refl ((near_at t).1 t_within two)
-      (λ apart. carrier_there left t t_within two (omega (arith, few)) apart (λ v v_within v_two low. is_there left v v_within v_two low))
-
-  -- all rows as one function
-  abbrev rows_at : ℕ → Option Row
-  rows_at = row_by (suc n)
-
-  row_there : (t : ℕ) (near : Option Row) → t < n → s ≢ t → (near_at t).0 ≡ near → IsNearRow og.g og.root og.w s t near
-      → HasRow og.g og.root og.w s rows_at t
-  row_there t (Some row) t_within two at (InCommon row' k h common own) =
-      record { row = row; is = ap (λ (o : Option Row). near_or o (row_by n (carrier t))) at; line = own.line rows_at }
-  row_there t None t_within two at (Apart apart) =
-      let it = carrier_there n t t_within two (og.ordered.orders.to_n t t_within) apart (λ v v_within v_two low. is_there n v v_within v_two low) in
-      record {
-        row = carried it.row;
-        is = ap (λ (o : Option Row). near_or o (row_by n (carrier t))) at ∙ ap (option_map carried) it.is;
-        line =
-            line_carried og.root og.w s rows_at t (carried it.row) apart
-            (record { other = it.row; is = it.stays; blue = refl; red = refl });
-      }
-
-  pub some_rows : (rows : ℕ → Option Row) × ((t : ℕ) → t < n → s ≢ t → HasRow og.g og.root og.w s rows t)
-  some_rows = (rows_at, λ t t_within two. row_there t (near_at t).0 t_within two refl ((near_at t).1 t_within two))
+-- rows of which each is so are a table
+pub rows_have : (og : OrderedGraph) (s : ℕ) (rows : ℕ → Option Row) → s < length og.g.ids
+    → ((t : ℕ) → t < length og.g.ids → s ≢ t → IsRowIn og.g og.root og.w s t (rows t))
+    → (t : ℕ) → t < length og.g.ids → s ≢ t → HasRow og.g og.root og.w s rows t
+rows_have og s rows s_within each =
+    has_all og s s_within rows (λ t t_within two. the_row og s t (rows t) s_within t_within two (each t t_within two))

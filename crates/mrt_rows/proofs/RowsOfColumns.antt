@@ -1,12 +1,11 @@
 -- The rows of all nodes are those of the columns.
-use Rattle.std.proofs.Common.{◌≡◌, ◌≢◌, ◌∙◌, ◌<◌, ◌-◌, ◌*◌, ℕ, List, Option, Some, length, slice_get, sym, ap}
+use Rattle.std.proofs.Common.{◌≡◌, ◌≢◌, ◌∙◌, ◌<◌, ◌-◌, ◌*◌, ℕ, List, Option, Some, length, slice_get, ap}
 use Rattle.mrt_graph.specs.declared.cert.Row.{Row}
 use Rattle.mrt_rows.specs.ColumnOf.{IsColumnOf, IsRowIn}
 use Rattle.mrt_rows.specs.RowsOf.{AreAllRows, HasRow, row_among}
-use Rattle.mrt_rows.proofs.OneRow.{one_row}
 use Rattle.mrt_rows.proofs.OrderedGraphs.{OrderedGraph}
+use Rattle.mrt_rows.proofs.RowsExist.{each_row, each_the, row_in, rows_have}
 use Rattle.mrt_rows.proofs.SoundColumns.{stands}
-use Rattle.mrt_rows.proofs.WholeCert.{each_has, each_row, line_moved}
 
 module _ (og : OrderedGraph) where
   abbrev n : ℕ
@@ -20,30 +19,13 @@ module _ (og : OrderedGraph) where
 
   pub row_in_column : (s t : ℕ) (column : List (Option Row)) → s < n → t < n → s ≢ t → IsColumnOf og.g og.root og.w t column → IsInColumn s t column
   row_in_column s t column s_within t_within two is =
-      let it = each_has og s t s_within t_within two in
-      record {
-        row = it.row;
-        there = stands og t t_within column is s s_within two ∙ ap (λ (o : Option Row). Some o) it.is;
-        each = λ rows has.
-            one_row og s s_within rows (each_row og s) has (λ u within apart. each_has og s u s_within within apart) t t_within two ∙ it.is;
-      }
+      let it = row_in og s t (each_row og s t) s_within t_within two (each_the og s t s_within t_within two) in
+      record { row = it.row; there = stands og t t_within column is s s_within two ∙ ap (λ (o : Option Row). Some o) it.is; each = it.each }
 
   -- where each row is that of a column, they are the rows of all nodes
   pub all_of_columns : (rows : List Row) → length rows ≡ n * (n - 1)
       → ((s t : ℕ) → s < n → t < n → s ≢ t → IsRowIn og.g og.root og.w s t (row_among n rows s t)) → AreAllRows og.g og.root og.w rows
   all_of_columns rows room put = record {
     count = room;
-    each = λ s t s_within t_within two.
-        let it = each_has og s t s_within t_within two in
-        record {
-          row = it.row;
-          is = found s t s_within t_within two ∙ it.is;
-          line = line_moved og it.row.tag s t (each_row og s) (row_among n rows s) it.row s_within t_within two
-              (λ v within apart. found s v s_within within apart) it.line;
-        };
+    each = λ s t s_within. rows_have og s (row_among n rows s) s_within (λ u. put s u s_within) t;
   }
-    where
-      found : (s t : ℕ) → s < n → t < n → s ≢ t → row_among n rows s t ≡ each_row og s t
-      found s t s_within t_within two =
-          let it = put s t s_within t_within two in
-          it.is ∙ sym (it.each (each_row og s) (λ u within apart. each_has og s u s_within within apart))

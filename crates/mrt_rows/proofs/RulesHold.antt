@@ -1,6 +1,6 @@
 -- All fourteen rules hold of a file that tells of a graph.
-use Rattle.std.proofs.Common.{◌≡◌, ◌≢◌, ◌∙◌, ◌==◌, ◌||◌, ◌<◌, ℕ, Bool, true, false, Option, not, length, sym, ap, subst, inl, inr, arith}
-use Rattle.std.proofs.lemmas.Bool.{cases_Bool, cases_eq, eq-eqb, or_left, or_right, false≢true}
+use Rattle.std.proofs.Common.{◌≡◌, ◌≢◌, ◌∙◌, ◌==◌, ◌||◌, ◌<◌, ℕ, Bool, true, false, Option, not, length, refl, sym, ap, subst, inl, inr, arith}
+use Rattle.std.proofs.lemmas.Bool.{cases_Bool, cases_eq, eq-eqb, or_left, or_right}
 use Rattle.std.specs.Option.{option_map_or}
 use Rattle.mrt_graph.specs.declared.cert.CertFile.{CertFile}
 use Rattle.mrt_graph.specs.declared.cert.Row.{Row}
@@ -23,8 +23,9 @@ use Rattle.mrt_rows.specs.CertOf.{Tells}
 use Rattle.mrt_rows.specs.RowLines.{LineOf}
 use Rattle.mrt_rows.proofs.BlocksHold.{closed_blocks, heads_hold, links_placed, lone_blocks, ordered, same_graph}
 use Rattle.mrt_rows.proofs.LinesHold.{Passes, above_passes, below_passes, head_passes, top_passes, unordered_passes}
+use Rattle.mrt_rows.proofs.OneRow.{seen}
 use Rattle.mrt_rows.proofs.OrderedGraphs.{OrderedGraph}
-use Rattle.mrt_rows.proofs.OtherLines.{carried_passes, lines_in_block, sole_passes}
+use Rattle.mrt_rows.proofs.OtherLines.{carried_passes, near_in_block, sole_passes}
 
 module _ (og : OrderedGraph) (file : CertFile) (tells : Tells og.g og.root og.w file) where
   abbrev n : ℕ
@@ -48,45 +49,33 @@ module _ (og : OrderedGraph) (file : CertFile) (tells : Tells og.g og.root og.w 
         ∙ holds s t it.row s_within t_within two it.line)
   ]
 
-  both_lead : (tag : Tag) (s t : ℕ) (row : Row) (it : Passes og file tag s t row)
-      → both (near_row tag c s t row) (leads og.g.links row.blue s) (leads og.g.links row.red s) ≡ true
-  both_lead tag s t row it = rw (it.blue_leads, it.red_leads) it.holds
+  module _ (s t : ℕ) (row : Row) (s_within : s < n) (t_within : t < n) (two : s ≢ t) where
+    both_lead : (tag : Tag) → Passes og file tag s t row → both (near_row tag c s t row) (leads og.g.links row.blue s) (leads og.g.links row.red s) ≡ true
+    both_lead tag it = rw (it.blue_leads, it.red_leads) it.holds
 
-  rule_of : (tag : Tag) (s t : ℕ) (row : Row) → s < n → t < n → s ≢ t
-      → LineOf tag og.g og.root og.w s (row_of c s) t row
-      → row_rule tag og.g.links c og.root s t row ≡ true
-  rule_of tags.Sole s t row s_within t_within two line =
-      both_lead tags.Sole s t row (sole_passes og file tells s t s_within t_within two row line)
-  rule_of tags.Head s t row s_within t_within two line =
-      both_lead tags.Head s t row (head_passes og file tells s t s_within t_within two row line)
-  rule_of tags.Top s t row s_within t_within two line =
-      both_lead tags.Top s t row (top_passes og file tells s t s_within t_within two row line)
-  rule_of tags.Below s t row s_within t_within two line =
-      both_lead tags.Below s t row (below_passes og file tells s t s_within t_within two row line)
-  rule_of tags.Above s t row s_within t_within two line =
-      both_lead tags.Above s t row (above_passes og file tells s t s_within t_within two row line)
-  rule_of tags.Unordered s t row s_within t_within two line =
-      both_lead tags.Unordered s t row (unordered_passes og file tells s t s_within t_within two row line)
-  rule_of tags.Carried s t row s_within t_within two line =
-      carried_passes og file tells s t s_within t_within two row line
+    rule_of : (tag : Tag) → LineOf tag og.g og.root og.w s (row_of c s) t row → row_rule tag og.g.links c og.root s t row ≡ true
+    rule_of tags.Sole line = both_lead tags.Sole (sole_passes og file tells s t s_within t_within two row line)
+    rule_of tags.Head line = both_lead tags.Head (head_passes og file tells s t s_within t_within two row line)
+    rule_of tags.Top line = both_lead tags.Top (top_passes og file tells s t s_within t_within two row line)
+    rule_of tags.Below line = both_lead tags.Below (below_passes og file tells s t s_within t_within two row line)
+    rule_of tags.Above line = both_lead tags.Above (above_passes og file tells s t s_within t_within two row line)
+    rule_of tags.Unordered line = both_lead tags.Unordered (unordered_passes og file tells s t s_within t_within two row line)
+    rule_of tags.Carried line = carried_passes og file tells s t s_within t_within two row line
 
   tag_rule : (tag : Tag) → EachPair (rows_tagged tag og.g.links c og.root) (length c.nodes)
   tag_rule tag = by_row (λ s t row. not (same_tag row.tag tag) || row_rule tag og.g.links c og.root s t row)
       (λ s t row s_within t_within two line. elim (cases_Bool (same_tag row.tag tag)) [
         | inl same ↦
-            or_right _ _ (rule_of tag s t row s_within t_within two
+            or_right _ _ (rule_of s t row s_within t_within two tag
             (subst (λ (x : Tag). LineOf x og.g og.root og.w s (row_of c s) t row) (tag_is row.tag tag same) line))
         | inr differ ↦ or_left _ _ (ap not differ)
       ])
 
   block_rule : EachPair (rows_in_block c) (length c.nodes)
   block_rule = by_row (λ s t row. same_tag row.tag tags.Carried || lies_in_block c s t row)
-      (λ s t row s_within t_within two line. elim (cases_Bool (same_tag row.tag tags.Carried)) [
-        | inl same ↦ or_left _ _ same
-        | inr differ ↦
-            or_right _ _ (lines_in_block og file tells s t s_within t_within two row row.tag
-            (λ carried.
-            false≢true (sym differ ∙ ap (λ (x : Tag). same_tag x tags.Carried) carried ∙ tag_itself tags.Carried)) line)
+      (λ s t row s_within t_within two line. elim (seen og s t (row_of c s) row row.tag refl line) [
+        | inl near ↦ or_right _ _ (near_in_block og file tells s t s_within t_within two row near)
+        | inr far ↦ or_left _ _ (ap (λ (x : Tag). same_tag x tags.Carried) far.0 ∙ tag_itself tags.Carried)
       ])
 
   rules_hold : (rule : Rule) → (told og.g og.root file rule).Holds

@@ -1,20 +1,20 @@
 -- The links and the paths of a block of more than one link.
-use Rattle.std.proofs.Common.{◌≡◌, ◌≢◌, ◌⊎◌, ◌∙◌, ◌<◌, ◌≤◌, ◌+◌, ◌++◌, ℕ, zero, suc, List, [], ◌∷◌, Some, length, refl, sym, ap, subst, inl, inr, arith}
-use Rattle.std.proofs.lemmas.Bool.{cases_eq}
+use Rattle.std.proofs.Common.{◌≡◌, ◌≢◌, ◌⊎◌, ◌∙◌, ◌<◌, ◌++◌, ℕ, List, [], ◌∷◌, Some, length, refl, sym, ap, subst, inl, inr, arith}
+use Rattle.std.proofs.lemmas.Option.{same_Some}
 use Rattle.mrt_graph.specs.declared.cert.Role.{Role}
 use Rattle.mrt_graph.specs.declared.cert.Role.TheVariants.{Closing, Plain, Sole}
 use Rattle.mrt_graph.specs.declared.link.End.{End}
 use Rattle.mrt_graph.specs.Leads.{leads}
 use Rattle.mrt_graph.proofs.Hops.{lead_back}
-use Rattle.link_direction.specs.CommonBlock.{FromHead, HaveCommonBlock, Peers, ToHead}
 use Rattle.link_direction.specs.OrderedGadag.{HasClosingLink}
 use Rattle.inc_dec_spf.specs.declared.reach.Dir.{Dir}
 use Rattle.inc_dec_spf.specs.declared.reach.Dir.TheVariants.{Down, Up}
+use Rattle.inc_dec_spf.specs.Against.{against}
 use Rattle.inc_dec_spf.specs.Path.{IsStep, Path}
-use Rattle.link_direction.proofs.UpLinks.{left_inside}
-use Rattle.link_direction.proofs.ClosedBlocks.{IsClosed, head_lower as head_below, head_of_member, member_not_head}
+use Rattle.link_direction.proofs.ClosedBlocks.{IsClosed, head_lower as head_below, head_of_member, leads_inside, member_not_head, member_not_root}
+use Rattle.inc_dec_spf.proofs.HomePaths.{from_head as way_down}
 use Rattle.inc_dec_spf.proofs.PathsSwept.{path_onward}
-use Rattle.mrt_rows.proofs.OrderedGraphs.{OrderedGraph, Within, is_ordered, step_leads, step_over, within}
+use Rattle.mrt_rows.proofs.OrderedGraphs.{OrderedGraph, Within, is_ordered, step_leads, within}
 
 -- node m has a block of more than one link
 pub record Ring (og : OrderedGraph) (m : ℕ) : Type 0 where
@@ -70,10 +70,21 @@ pub record Way (og : OrderedGraph) (m : ℕ) (dir : Dir) (s t : ℕ) : Type 0 wh
   pub path : List End
   pub is : Path og.g og.w dir (og.w.block m) (og.w.head m) s path t
 
-module _ (og : OrderedGraph) (m : ℕ) (ring : Ring og m) where
-  abbrev n : ℕ
-  n = length og.g.ids
+-- a step in a direction goes to a greater order, or to a lower one
+abbrev pub Further : OrderedGraph → Dir → ℕ → ℕ → Type 0
+Further og Up s v = og.w.order s < og.w.order v
+Further og Down s v = og.w.order v < og.w.order s
 
+further_on : (og : OrderedGraph) (dir : Dir) (s u v : ℕ) → Further og dir s u → Further og dir u v → Further og dir s v
+further_on og Up s u v first then = omega (arith, first, then)
+further_on og Down s u v first then = omega (arith, first, then)
+
+-- or to the head, over a link of this role
+abbrev pub home_role : Dir → Role
+home_role Up = Closing
+home_role Down = Plain
+
+module _ (og : OrderedGraph) (m : ℕ) (ring : Ring og m) where
   abbrev h : ℕ
   h = og.w.head m
 
@@ -109,172 +120,126 @@ module _ (og : OrderedGraph) (m : ℕ) (ring : Ring og m) where
 
   pub directs : (e u v : ℕ) → leads og.g.links e u ≡ Some v → og.w.tail e ≡ u → og.w.lies_in e ≡ og.w.block m
       → Directs og m top e u v
-  directs e u v onward tail block =
-      let in_range = within og.g e u v og.kept onward in
-      let common = og.ordered.links.common e u v onward in
-      elim (role_is (og.w.role e) (ring.closed.none_sole e in_range.link block)) [
-        | inl plain ↦ plainly common.0 plain common.1
-        | inr closing ↦
-            let it : e ≡ ring.closed.link = ring.closed.no_other e in_range.link block closing in
-            let u_top : u ≡ top = sym tail ∙ ap og.w.tail it ∙ ring.closed.away in
-            let onward_top : leads og.g.links e u ≡ Some h =
-            subst (λ (x : ℕ). leads og.g.links x u ≡ Some h) (sym it)
-            (subst (λ (x : ℕ). leads og.g.links ring.closed.link x ≡ Some h) (sym u_top) ring.closed.over.leads_on) in
-            Home u_top (cc) closing
-      ]
+  directs e u v onward tail block = elim (role_is (og.w.role e) (ring.closed.none_sole e in_range.link block)) [
+    | inl plain ↦
+        let up = og.ordered.links.forward e u v onward tail (λ closing. cc) in
+        elim (inside_or_head e u v onward block) [
+          | inl v_in ↦ elim (inside_or_head e v u (lead_back og.g.links e u v onward) block) [
+            | inl u_in ↦ Inner u_in v_in plain up
+            | inr home ↦ Out home v_in plain
+          ]
+          | inr v_home ↦ elim (inside_or_head e v u (lead_back og.g.links e u v onward) block) [
+            | inl u_in ↦ absurd (omega (arith, up, head_lower u u_in, ap og.w.order v_home))
+            | inr home ↦ absurd (in_range.differ (home ∙ sym v_home))
+          ]
+        ]
+    | inr closing ↦
+        let it : e ≡ ring.closed.link = ring.closed.no_other e in_range.link block closing in
+        let u_top : u ≡ top = sym tail ∙ ap og.w.tail it ∙ ring.closed.away in
+        let home : leads og.g.links e u ≡ Some h = rw (it, u_top) ring.closed.over.leads_on in
+        Home u_top (same_Some v h (sym onward ∙ home)) closing
+  ]
     where
       in_range : Within og.g e u v
       in_range = within og.g e u v og.kept onward
 
-      forward : og.w.role e ≡ Plain → og.w.order u < og.w.order v
-      forward plain = og.ordered.links.forward e u v onward tail (λ closing. cc)
-
-      plainly : (i : ℕ) → og.w.role e ≡ Plain → HaveCommonBlock og.w u v (og.w.lies_in e) i → Directs og m top e u v
-      plainly i plain (Peers a b c) =
-          Inner (record { within = in_range.from; block = a ∙ block }) (record {
-            within = in_range.to;
-            block = b
-                ∙ block;
-          })
-          plain (forward plain)
-      plainly i plain (ToHead a b c) =
-          let inside : Inside og m u = record { within = in_range.from; block = a ∙ block } in
-          let v_head : v ≡ h = sym b ∙ inside_head u inside in
-          absurd (omega (arith, forward plain, head_lower u inside, ap og.w.order v_head))
-      plainly i plain (FromHead a b c) =
-          let inside : Inside og m v = record { within = in_range.to; block = a ∙ block } in
-          Out (sym b ∙ inside_head v inside) inside plain
+      inside_or_head : (f x y : ℕ) → leads og.g.links f x ≡ Some y → og.w.lies_in f ≡ og.w.block m → Inside og m y ⊎ (y ≡ h)
+      inside_or_head f x y on in_block = elim (leads_inside og.g og.root og.w (og.w.block m) h f x y (is_ordered og) block_closed on in_block) [
+        | inl inside ↦ inl (record { within = (within og.g f x y og.kept on).to; block = inside })
+        | inr home ↦ inr home
+      ]
 
   -- what the link of a step up, or of a step down, is
   pub step_up : (s : ℕ) (end : End) → IsStep og.g og.w Up (og.w.block m) s end → Directs og m top end.link s end.to
-  step_up s end step = directs end.link s end.to (step_leads og Up
-      (og.w.block m) s end step) step.leads_on step.in_block
+  step_up s end step = directs end.link s end.to (step_leads og Up (og.w.block m) s end step) step.leads_on step.in_block
 
-  pub step_down : (s : ℕ) (end : End) → IsStep og.g og.w Down (og.w.block m) s end
-      → Directs og m top end.link end.to s
+  pub step_down : (s : ℕ) (end : End) → IsStep og.g og.w Down (og.w.block m) s end → Directs og m top end.link end.to s
   step_down s end step =
-      directs end.link end.to s
-      (lead_back og.g.links end.link s end.to (step_leads og Down
-      (og.w.block m) s end step)) step.leads_on step.in_block
+      directs end.link end.to s (lead_back og.g.links end.link s end.to (step_leads og Down (og.w.block m) s end step)) step.leads_on step.in_block
 
-  -- a step up from a node of the block goes to a greater node of it, or home
-  pub up_from : (s : ℕ) (end : End) → Inside og m s → IsStep og.g og.w Up (og.w.block m) s end
-      → (Inside og m end.to × (og.w.order s < og.w.order end.to))
-      ⊎ ((s ≡ top) × (end.to ≡ h) × (og.w.role end.link ≡ Closing))
-  up_from s end inside step = go (step_up s end step)
-    where
-      go : Directs og m top end.link s end.to
-          → (Inside og m end.to × (og.w.order s < og.w.order end.to))
-          ⊎ ((s ≡ top) × (end.to ≡ h) × (og.w.role end.link ≡ Closing))
-      go (Inner a b plain up) = inl (b, up)
-      go (Out a b plain) = absurd (not_head s inside a)
-      go (Home a b closing) = inr (a, b, closing)
-
-  -- a step down from a node of the block goes to a lower node of it, or to the head
-  pub down_from : (s : ℕ) (end : End) → Inside og m s → IsStep og.g og.w Down (og.w.block m) s end
-      → (Inside og m end.to × (og.w.order end.to < og.w.order s)) ⊎ ((end.to ≡ h) × (og.w.role end.link ≡ Plain))
-  down_from s end inside step = go (step_down s end step)
-    where
-      go : Directs og m top end.link end.to s
-          → (Inside og m end.to × (og.w.order end.to < og.w.order s)) ⊎ ((end.to ≡ h) × (og.w.role end.link ≡ Plain))
-      go (Inner a b plain up) = inl (a, up)
-      go (Out a b plain) = inr (a, plain)
-      go (Home a b closing) = absurd (not_head s inside b)
-
-  -- a step up from the head goes to a node of the block, and a step down from it to the greatest one
-  pub up_from_head : (end : End) → IsStep og.g og.w Up (og.w.block m) h end
-      → Inside og m end.to × (og.w.role end.link ≡ Plain)
-  up_from_head end step = go (step_up h end step)
-    where
-      go : Directs og m top end.link h end.to → Inside og m end.to × (og.w.role end.link ≡ Plain)
-      go (Inner a b plain up) = absurd (not_head h a refl)
-      go (Out a b plain) = (b, plain)
-      go (Home a b closing) = absurd (not_head top top_inside (sym a))
-
-  pub down_from_head : (end : End) → IsStep og.g og.w Down (og.w.block m) h end
-      → (end.to ≡ top) × (og.w.role end.link ≡ Closing)
-  down_from_head end step = go (step_down h end step)
-    where
-      go : Directs og m top end.link end.to h → (end.to ≡ top) × (og.w.role end.link ≡ Closing)
-      go (Inner a b plain up) = absurd (not_head h b refl)
-      go (Out a b plain) = absurd (not_head h b refl)
-      go (Home a b closing) = (a, closing)
-
-  -- paths up between nodes of the block go to greater orders, paths down to lower ones
-  pub up_rises : (s : ℕ) (path : List End) (t : ℕ) → Inside og m s → Inside og m t
-      → Path og.g og.w Up (og.w.block m) h s path t → og.w.order s < og.w.order t
-  up_rises s [] t s_inside t_inside path = absurd path
-  up_rises s (end ∷ []) t s_inside t_inside path = elim (up_from s end s_inside path.0) [
-    | inl on ↦ omega (arith, on.1, ap og.w.order path.1)
-    | inr home ↦ absurd (not_head t t_inside (sym path.1 ∙ home.1))
+  -- a step from a node of the block goes on inside it, or home
+  pub from : (dir : Dir) (s : ℕ) (end : End) → Inside og m s → IsStep og.g og.w dir (og.w.block m) s end
+      → (Inside og m end.to × Further og dir s end.to) ⊎ ((end.to ≡ h) × (og.w.role end.link ≡ home_role dir))
+  from Up s end inside step = elim (step_up s end step) [
+    | Inner a b plain up ↦ inl (b, up)
+    | Out a b plain ↦ absurd (not_head s inside a)
+    | Home a b closing ↦ inr (b, closing)
   ]
-  up_rises s (end ∷ next ∷ more) t s_inside t_inside path = elim (up_from s end s_inside path.0) [
-    | inl on ↦ omega (arith, on.1, up_rises end.to (next ∷ more) t on.0 t_inside path.2)
-    | inr home ↦ absurd (path.1 home.1)
+  from Down s end inside step = elim (step_down s end step) [
+    | Inner a b plain up ↦ inl (a, up)
+    | Out a b plain ↦ inr (a, plain)
+    | Home a b closing ↦ absurd (not_head s inside b)
   ]
 
-  pub down_falls : (s : ℕ) (path : List End) (t : ℕ) → Inside og m s → Inside og m t
-      → Path og.g og.w Down (og.w.block m) h s path t → og.w.order t < og.w.order s
-  down_falls s [] t s_inside t_inside path = absurd path
-  down_falls s (end ∷ []) t s_inside t_inside path = elim (down_from s end s_inside path.0) [
-    | inl on ↦ omega (arith, on.1, ap og.w.order path.1)
+  -- a step from the head goes to a node of the block: up over a plain link, and down over the closing one to the greatest node
+  pub from_head : (dir : Dir) (end : End) → IsStep og.g og.w dir (og.w.block m) h end
+      → Inside og m end.to × (og.w.role end.link ≡ home_role (against dir))
+  from_head Up end step = elim (step_up h end step) [
+    | Inner a b plain up ↦ absurd (not_head h a refl)
+    | Out a b plain ↦ (b, plain)
+    | Home a b closing ↦ absurd (not_head top top_inside (sym a))
+  ]
+  from_head Down end step = elim (step_down h end step) [
+    | Inner a b plain up ↦ absurd (not_head h b refl)
+    | Out a b plain ↦ absurd (not_head h b refl)
+    | Home a b closing ↦ (subst (λ (x : ℕ). Inside og m x) (sym a) top_inside, closing)
+  ]
+
+  -- paths between nodes of the block go on: up to greater orders, and down to lower ones
+  pub goes_further : (dir : Dir) (s : ℕ) (path : List End) (t : ℕ) → Inside og m s → Inside og m t
+      → Path og.g og.w dir (og.w.block m) h s path t → Further og dir s t
+  goes_further dir s [] t s_inside t_inside path = absurd path
+  goes_further dir s (end ∷ []) t s_inside t_inside path = elim (from dir s end s_inside path.0) [
+    | inl on ↦ subst (λ (x : ℕ). Further og dir s x) path.1 on.1
     | inr home ↦ absurd (not_head t t_inside (sym path.1 ∙ home.0))
   ]
-  down_falls s (end ∷ next ∷ more) t s_inside t_inside path = elim (down_from s end s_inside path.0) [
-    | inl on ↦ omega (arith, on.1, down_falls end.to (next ∷ more) t on.0 t_inside path.2)
+  goes_further dir s (end ∷ next ∷ more) t s_inside t_inside path = elim (from dir s end s_inside path.0) [
+    | inl on ↦ further_on og dir s end.to t on.1 (goes_further dir end.to (next ∷ more) t on.0 t_inside path.2)
     | inr home ↦ absurd (path.1 home.0)
   ]
 
-  -- a link of the block that leads from s, along its direction, to a greater node of it
-  pub record Onward (s : ℕ) : Type 0 where
-    pub link : ℕ
-    pub to : ℕ
-    pub leads_on : leads og.g.links link s ≡ Some to
-    pub tail : og.w.tail link ≡ s
-    pub block : og.w.lies_in link ≡ og.w.block m
-    pub inside : Inside og m to
-    pub greater : og.w.order s < og.w.order to
+  pub up_rises : (s : ℕ) (path : List End) (t : ℕ) → Inside og m s → Inside og m t
+      → Path og.g og.w Up (og.w.block m) h s path t → og.w.order s < og.w.order t
+  up_rises = goes_further Up
 
-  pub onward_of : (t : ℕ) → Inside og m t → t ≢ top → Onward t
-  onward_of t inside other =
-      let it = left_inside og.g og.root og.w (og.w.block m) h t block_closed (is_ordered og) inside.within inside.block other in
-      record {
-        link = it.1;
-        to = it.0;
-        leads_on = it.2.onward;
-        tail = it.2.away;
-        block = it.2.in_block;
-        inside = record { within = (within og.g it.1 t it.0 og.kept it.2.onward).to; block = it.3 };
-        greater = it.4;
-      }
+  pub down_falls : (s : ℕ) (path : List End) (t : ℕ) → Inside og m s → Inside og m t
+      → Path og.g og.w Down (og.w.block m) h s path t → og.w.order t < og.w.order s
+  down_falls = goes_further Down
 
-  down_on : (t : ℕ) → Onward t → ((x : ℕ) → Inside og m x → og.w.order t < og.w.order x → x ≢ top
-      → Way og m Down top x) → Way og m Down top t
-  down_on t on before =
-      let back = lead_back og.g.links on.link t on.to on.leads_on in
-      let step = step_over og Down (og.w.block m) on.link on.to t back on.block on.tail in
-      elim (cases_eq on.to top) [
-        | inl last ↦ record {
-          path = step.end ∷ [];
-          is = (subst (λ (x : ℕ). IsStep og.g og.w Down (og.w.block m) x step.end) last step.step, step.to);
-        }
-        | inr other ↦
-            let rest = before on.to on.inside on.greater other in
-            record {
-              path = rest.path ++ step.end ∷ [];
-              is = subst (λ (x : ℕ). Path og.g og.w Down (og.w.block m) h top (rest.path ++ step.end ∷ []) x) step.to
-                  (put_after og m Down top rest.path on.to step.end rest.is (not_head on.to on.inside) step.step);
-            }
-      ]
+  -- a step up home is from the greatest node, and one down from the head to it
+  pub up_from_top : (s : ℕ) (end : End) → IsStep og.g og.w Up (og.w.block m) s end → og.w.role end.link ≡ Closing → s ≡ top
+  up_from_top s end step is = elim (step_up s end step) [
+    | Inner a b plain up ↦ absurd (cc (plain, is))
+    | Out a b plain ↦ absurd (cc (plain, is))
+    | Home a b closing ↦ a
+  ]
 
-  down_by : (left t : ℕ) → Inside og m t → t ≢ top → n ≤ og.w.order t + left → Way og m Down top t
-  down_by zero t inside other far =
-      let on = onward_of t inside other in
-      absurd (omega (arith, on.greater, og.ordered.orders.to_n on.to on.inside.within, far))
-  down_by (suc left) t inside other far =
-      down_on t (onward_of t inside other) (λ x x_inside greater x_other. down_by left x x_inside x_other (omega
-      (arith, greater, far)))
+  down_to_top : (end : End) → IsStep og.g og.w Down (og.w.block m) h end → end.to ≡ top
+  down_to_top end step = elim (step_down h end step) [
+    | Inner a b plain up ↦ absurd (not_head h b refl)
+    | Out a b plain ↦ absurd (not_head h b refl)
+    | Home a b closing ↦ a
+  ]
 
-  -- a path down from the greatest node leads to each other node of the block
+  -- a path down from the greatest node leads to each other node of the block: the way down from the head goes over the greatest
   pub top_down : (t : ℕ) → Inside og m t → t ≢ top → Way og m Down top t
-  top_down t inside other = down_by n t inside other (omega arith)
+  top_down t inside other = elim (og.ordered.blocks t inside.within t_other) [
+    | inl sole ↦ absurd (ring.closed.none_sole sole.link sole.within (sole.in_block ∙ inside.block) sole.sole)
+    | inr closed ↦
+        let way = way_down og.g og.root og.w Down t (is_ordered og) inside.within t_other closed in
+        rest way.0 (subst (λ (x : ℕ). Path og.g og.w Down (og.w.block m) x x way.0 t) (inside_head t inside)
+        (subst (λ (k : ℕ). Path og.g og.w Down k (og.w.head t) (og.w.head t) way.0 t) inside.block way.1))
+  ]
+    where
+      t_other : t ≢ og.root
+      t_other = member_not_root og.g og.root og.w (og.w.block m) h t (is_ordered og) block_closed inside.block
+
+      rest : (path : List End) → Path og.g og.w Down (og.w.block m) h h path t → Way og m Down top t
+      rest [] path = absurd path
+      rest (end ∷ others) path =
+          let first = begun og m Down h end others t path in
+          let at_top = down_to_top end first.step in
+          elim first.goes [
+            | inl there ↦ absurd (other (sym there ∙ at_top))
+            | inr on ↦ record { path = others; is = subst (λ (x : ℕ). Path og.g og.w Down (og.w.block m) h x others t) at_top on.1 }
+          ]
