@@ -26,8 +26,8 @@ use Rattle.mrt_rows.specs.RowsOf.{HasRow}
 use Rattle.mrt_rows.proofs.CertSays.{block_is, closing_test, equal_test, head_is, less_test, order_is, plain_test, tagged_test}
 pub use Rattle.mrt_rows.proofs.OrderedGraphs.{has_head}
 use Rattle.mrt_rows.proofs.OrderedGraphs.{OrderedGraph, TailAt, peers_not_head, step_leads, step_over, within}
-use Rattle.mrt_rows.proofs.RowTags.{PeerTag, above_here, below_here, not_above, not_below, peer_tag}
-use Rattle.mrt_rows.proofs.Ways.{Further, GoesOn, Inside, Ring, Way, begun, from, from_head, goes_further, home_role, inside_head, inside_itself, not_head, put_before, top_down, up_from_top}
+use Rattle.mrt_rows.proofs.RowTags.{PeerTag, peer_tag, way_here, way_tag, without}
+use Rattle.mrt_rows.proofs.Ways.{Further, GoesOn, Inside, Ring, Way, begun, from, from_head, goes_further, home_role, inside_head, inside_itself, not_head, opposite, put_before, top_down, up_from_top}
 use Rattle.mrt_rows.proofs.WaysBegun.{Sharing, WayOver, members, no_way, over_leads, peers, ring_of, share, way_over}
 
 -- both links of a row of s for t lead on, to where its tag asks
@@ -69,21 +69,12 @@ pub begins_home : (og : OrderedGraph) (dir : Dir) (s t k h link : ℕ) → s < l
 begins_home og dir s t k h link s_within t_within are =
     subst (λ (x : ℕ). BeginsOver og.g og.w dir s x link) (members og s t k h s_within t_within are).head
 
--- nothing is further on in both directions
-opposite : (og : OrderedGraph) (dir : Dir) (s v : ℕ) → Further og dir s v → Further og (against dir) s v → ⊥
-opposite og Up s v on back = omega (arith, on, back)
-opposite og Down s v on back = omega (arith, on, back)
-
 -- a step, back
 tail_back : (og : OrderedGraph) (dir : Dir) (s : ℕ) (end : End) → LeadsOn og.w dir s end → TailAt og (against dir) end.link end.to s
 tail_back og Up s end on = on
 tail_back og Down s end on = on
 
--- the tag of a row for a node to which ways lead in a direction, and what the rules ask of a step in it
-abbrev way_tag : Dir → Tag
-way_tag Up = tags.Below
-way_tag Down = tags.Above
-
+-- what the rules ask of a step in a direction
 abbrev further_less : Dir → Certificate → ℕ → ℕ → Bool
 further_less Up c s v = is_less (order_of c s) (order_of c v)
 further_less Down c s v = is_less (order_of c v) (order_of c s)
@@ -123,18 +114,9 @@ module _ (og : OrderedGraph) (file : CertFile) (tells : Tells og.g og.root og.w 
         (it, peer_tag og m ring v t inside target two it.row.tag (row_of c v) it.row it.line)
 
     tagged_way : (dir : Dir) (v : ℕ) → Inside og m v → v ≢ t → Way og m dir v t → tagged c v t (way_tag dir) ≡ true
-    tagged_way Up v inside two up =
+    tagged_way dir v inside two way =
         let it = the_tag v inside two in
-        tagged_test og file tells v t tags.Below it.0 (below_here og m ring v t inside target two it.0.row.tag it.1 up)
-    tagged_way Down v inside two down =
-        let it = the_tag v inside two in
-        tagged_test og file tells v t tags.Above it.0 (above_here og m ring v t inside target two it.0.row.tag it.1 down)
-
-    -- without a way
-    without : (dir : Dir) (v : ℕ) → Inside og m v → v ≢ t → (tag : Tag) → PeerTag og m v t tag → (Way og m dir v t → ⊥)
-        → (tag ≡ tags.Unordered) ⊎ (tag ≡ way_tag (against dir))
-    without Up v inside two tag is = not_below og m ring v t inside target two tag is
-    without Down v inside two tag is = not_above og m ring v t inside target two tag is
+        tagged_test og file tells v t (way_tag dir) it.0 (way_here og m ring v t inside target two dir it.0.row.tag it.1 way)
 
     -- where a path goes, it is at t, or its way on is left
     left : (dir : Dir) (end : End) (others : List End) → Inside og m end.to → GoesOn og m dir end others t
@@ -209,7 +191,7 @@ module _ (og : OrderedGraph) (file : CertFile) (tells : Tells og.g og.root og.w 
       past dir end never step inside on =
           let other : end.to ≢ t = λ there. never (record { path = end ∷ []; is = (step, there) }) in
           let it = the_tag end.to inside other in
-          elim (without dir end.to inside other it.0.row.tag it.1
+          elim (without og m ring end.to t inside target other dir it.0.row.tag it.1
           (λ way. never (record { path = end ∷ way.path; is = put_before og m dir s end way.path t step (not_head og m ring end.to inside) way.is }))) [
             | inl is ↦ or_left _ _ (further_is dir end.to tags.Unordered inside on (tagged_test og file tells end.to t tags.Unordered it.0 is))
             | inr is ↦

@@ -1,22 +1,27 @@
 -- The tag of a row of a node for another one of its block: by the paths between the two.
-use Rattle.std.proofs.Common.{◌≡◌, ◌≢◌, ◌⊎◌, ◌∙◌, ℕ, ◌∷◌, Option, refl, inl, inr, arith}
+use Rattle.std.proofs.Common.{◌≡◌, ◌≢◌, ◌⊎◌, ◌∙◌, ℕ, ◌∷◌, Option, refl, inl, inr}
 use Rattle.mrt_graph.specs.declared.cert.Row.{Row}
 use Rattle.mrt_graph.specs.declared.cert.Tag.{Tag}
 use Rattle.mrt_graph.specs.declared.cert.Tag.TheVariants as tags
 use Rattle.inc_dec_spf.specs.declared.reach.Dir.{Dir}
 use Rattle.inc_dec_spf.specs.declared.reach.Dir.TheVariants.{Down, Up}
+use Rattle.inc_dec_spf.specs.Against.{against}
 use Rattle.inc_dec_spf.specs.LeastPath.{HaveCommonBlockOfMoreLinks}
 use Rattle.mrt_rows.specs.RowLines.{LineOf, SoleLine}
 use Rattle.mrt_rows.proofs.OrderedGraphs.{OrderedGraph, one_common}
 use Rattle.mrt_rows.proofs.Sharing.{none_of_share}
-use Rattle.mrt_rows.proofs.Ways.{Inside, Ring, Way, down_falls, not_head, up_rises}
+use Rattle.mrt_rows.proofs.Ways.{Inside, Ring, Way, goes_further, not_head, opposite}
 use Rattle.mrt_rows.proofs.WaysBegun.{Sharing, WayOver, no_way, peers, share, way_over}
 
--- what a tag tells: a way up; or a way down and none up; or no way at all
+-- the tag of a row for a node to which ways lead in a direction
+abbrev pub way_tag : Dir → Tag
+way_tag Up = tags.Below
+way_tag Down = tags.Above
+
+-- what a tag tells: a way in a direction; or no way at all
 pub data PeerTag (og : OrderedGraph) (m s t : ℕ) (tag : Tag) : Type 0 where
-  IsBelow : tag ≡ tags.Below → Way og m Up s t → PeerTag og m s t tag
-  IsAbove : tag ≡ tags.Above → (Way og m Up s t → ⊥) → Way og m Down s t → PeerTag og m s t tag
-  IsUnordered : tag ≡ tags.Unordered → (Way og m Up s t → ⊥) → (Way og m Down s t → ⊥) → PeerTag og m s t tag
+  IsLeft : (dir : Dir) → tag ≡ way_tag dir → Way og m dir s t → PeerTag og m s t tag
+  IsUnordered : tag ≡ tags.Unordered → ((dir : Dir) → Way og m dir s t → ⊥) → PeerTag og m s t tag
 
 module _ (og : OrderedGraph) (m : ℕ) (ring : Ring og m) (s t : ℕ) (source : Inside og m s) (target : Inside og m t)
     (two : s ≢ t) where
@@ -45,46 +50,33 @@ module _ (og : OrderedGraph) (m : ℕ) (ring : Ring og m) (s t : ℕ) (source : 
       absurd (not_head og m ring t target (line.at_head ∙ same_head line.block line.head line.share))
   peer_tag tags.Top rows row line =
       absurd (not_head og m ring s source (line.at_head ∙ same_head line.block line.head line.share))
-  peer_tag tags.Below rows row line = IsBelow refl (way_of Up row.blue
-      (way_over og m Up s t row.blue sharing line.blue))
-  peer_tag tags.Above rows row line =
-      IsAbove refl (no_way og m Up s t shared line.none_up)
-      (way_of Down row.red (way_over og m Down s t row.red sharing line.red))
-  peer_tag tags.Unordered rows row line =
-      IsUnordered refl (no_way og m Up s t shared line.none_up) (no_way og m Down s t shared line.none_down)
+  peer_tag tags.Below rows row line = IsLeft Up refl (way_of Up row.blue (way_over og m Up s t row.blue sharing line.blue))
+  peer_tag tags.Above rows row line = IsLeft Down refl (way_of Down row.red (way_over og m Down s t row.red sharing line.red))
+  peer_tag tags.Unordered rows row line = IsUnordered refl none
+    where
+      none : (dir : Dir) → Way og m dir s t → ⊥
+      none Up = no_way og m Up s t shared line.none_up
+      none Down = no_way og m Down s t shared line.none_down
   peer_tag tags.Carried rows row line = absurd (line.apart (og.w.block m) (og.w.head m) sharing.common)
 
-  -- with a way up it is Below
-  pub below_here : (tag : Tag) → PeerTag og m s t tag → Way og m Up s t → tag ≡ tags.Below
-  below_here tag (IsBelow is way) up = is
-  below_here tag (IsAbove is none way) up = absurd (none up)
-  below_here tag (IsUnordered is none none_down) up = absurd (none up)
+  -- no ways lead in both directions
+  one_way : (dir : Dir) → Way og m dir s t → Way og m (against dir) s t → ⊥
+  one_way dir on back =
+      opposite og dir s t (goes_further og m ring dir s on.path t source target on.is)
+      (goes_further og m ring (against dir) s back.path t source target back.is)
 
-  -- no way up where there is one down
-  pub one_way : Way og m Up s t → Way og m Down s t → ⊥
-  one_way up down =
-      omega (
-        arith,
-        up_rises og m ring s up.path t source target up.is,
-        down_falls og m ring s down.path t source target down.is,
-      )
+  -- with a way the tag is that of its direction
+  pub way_here : (dir : Dir) (tag : Tag) → PeerTag og m s t tag → Way og m dir s t → tag ≡ way_tag dir
+  way_here Up tag (IsLeft Up is way) on = is
+  way_here Up tag (IsLeft Down is way) on = absurd (one_way Up on way)
+  way_here Down tag (IsLeft Down is way) on = is
+  way_here Down tag (IsLeft Up is way) on = absurd (one_way Down on way)
+  way_here dir tag (IsUnordered is none) on = absurd (none dir on)
 
-  -- with a way down it is Above
-  pub above_here : (tag : Tag) → PeerTag og m s t tag → Way og m Down s t → tag ≡ tags.Above
-  above_here tag (IsBelow is way) down = absurd (one_way way down)
-  above_here tag (IsAbove is none way) down = is
-  above_here tag (IsUnordered is none none_down) down = absurd (none_down down)
-
-  -- without a way down it is Unordered or Below
-  pub not_above : (tag : Tag) → PeerTag og m s t tag → (Way og m Down s t → ⊥)
-      → (tag ≡ tags.Unordered) ⊎ (tag ≡ tags.Below)
-  not_above tag (IsBelow is way) never = inr is
-  not_above tag (IsAbove is none way) never = absurd (never way)
-  not_above tag (IsUnordered is none none_down) never = inl is
-
-  -- without a way up it is Unordered or Above
-  pub not_below : (tag : Tag) → PeerTag og m s t tag → (Way og m Up s t → ⊥)
-      → (tag ≡ tags.Unordered) ⊎ (tag ≡ tags.Above)
-  not_below tag (IsBelow is way) never = absurd (never way)
-  not_below tag (IsAbove is none way) never = inr is
-  not_below tag (IsUnordered is none none_down) never = inl is
+  -- without one it is Unordered, or that of the other direction
+  pub without : (dir : Dir) (tag : Tag) → PeerTag og m s t tag → (Way og m dir s t → ⊥) → (tag ≡ tags.Unordered) ⊎ (tag ≡ way_tag (against dir))
+  without Up tag (IsLeft Up is way) never = absurd (never way)
+  without Up tag (IsLeft Down is way) never = inr is
+  without Down tag (IsLeft Down is way) never = absurd (never way)
+  without Down tag (IsLeft Up is way) never = inr is
+  without dir tag (IsUnordered is none) never = inl is

@@ -79,6 +79,10 @@ further_on : (og : OrderedGraph) (dir : Dir) (s u v : ℕ) → Further og dir s 
 further_on og Up s u v first then = omega (arith, first, then)
 further_on og Down s u v first then = omega (arith, first, then)
 
+pub opposite : (og : OrderedGraph) (dir : Dir) (s v : ℕ) → Further og dir s v → Further og (against dir) s v → ⊥
+opposite og Up s v on back = omega (arith, on, back)
+opposite og Down s v on back = omega (arith, on, back)
+
 -- or to the head, over a link of this role
 abbrev pub home_role : Dir → Role
 home_role Up = Closing
