@@ -108,12 +108,7 @@ module _ (g : Topology) (kept : IsTopology g) (w v : Directions) (alike : AreAli
         (path_too g kept v w back dir k h s path t is))
 
     over_too : (dir : Dir) (e : ℕ) → BeginsOver g w dir s t e → BeginsOver g v dir s t e
-    over_too dir e begins = record {
-      hop = begins.hop;
-      reached = hop_too dir
-          (Some begins.hop) begins.reached;
-      over = begins.over;
-    }
+    over_too dir e begins = record { hop = begins.hop; reached = hop_too dir (Some begins.hop) begins.reached; over = begins.over }
 
   module _ (s t : ℕ) (s_within : s < length g.ids) (t_within : t < length g.ids)
       (head_within : w.head s < length g.ids) where
@@ -148,22 +143,6 @@ module _ (g : Topology) (kept : IsTopology g) (w v : Directions) (alike : AreAli
       one_link = one_too line.block row.blue line.one_link;
       red = line.red;
     }
-    line_too tags.Head root rows row line = record {
-      block = line.block;
-      head = line.head;
-      share = share_too g kept w v alike s t line.block line.head s_within t_within line.share;
-      at_head = line.at_head;
-      blue = over_too s t s_within t_within Up row.blue line.blue;
-      red = over_too s t s_within t_within Down row.red line.red;
-    }
-    line_too tags.Top root rows row line = record {
-      block = line.block;
-      head = line.head;
-      share = share_too g kept w v alike s t line.block line.head s_within t_within line.share;
-      at_head = line.at_head;
-      blue = over_too s t s_within t_within Up row.blue line.blue;
-      red = over_too s t s_within t_within Down row.red line.red;
-    }
     line_too tags.Below root rows row line = record {
       block = line.block;
       head = line.head;
@@ -193,6 +172,14 @@ module _ (g : Topology) (kept : IsTopology g) (w v : Directions) (alike : AreAli
           (alike_back g w v alike) s_within t_within common);
       to_other = λ other. subst (λ (x : ℕ). HasLinksFor rows x row) (alike.heads t t_within) (line.to_other other);
       to_root = λ at_root. subst (λ (x : ℕ). HasLinksFor rows x row) (alike.heads s s_within) (line.to_root at_root);
+    }
+    line_too _ root rows row line = record {
+      block = line.block;
+      head = line.head;
+      share = share_too g kept w v alike s t line.block line.head s_within t_within line.share;
+      at_head = line.at_head;
+      blue = over_too s t s_within t_within Up row.blue line.blue;
+      red = over_too s t s_within t_within Down row.red line.red;
     }
 
   -- and of whole files

@@ -5,7 +5,6 @@ use Rattle.mrt_graph.specs.Tags.{carried}
 use Rattle.mrt_rows.specs.NearOf.{Apart, IsNearRow}
 use Rattle.mrt_rows.specs.Chain.{AreBelow, IsRowAim}
 use Rattle.mrt_rows.specs.ColumnOf.{IsRowIn}
-use Rattle.mrt_rows.proofs.CarriedRows.{row_carried}
 use Rattle.mrt_rows.proofs.ChainAims.{aim_near, carried_to}
 use Rattle.mrt_rows.proofs.OneRow.{IsRowFor, Near}
 use Rattle.mrt_rows.proofs.OrderedGraphs.{OrderedGraph}
@@ -23,7 +22,7 @@ module _ (og : OrderedGraph) (t : ℕ) (t_within : t < length og.g.ids) (below :
   row_from_aim row differ near = row_in og s t (Some (carried row)) s_within t_within two (record {
     row = carried row;
     is = refl;
-    the = row_carried og s t aim row differ (carried_to og t t_within below are s aim s_within two it) (Near near);
+    the = carried_to og t t_within below are s aim row s_within two differ it (Near near);
   })
 
   pub some_near : IsNearRow og.g og.root og.w s aim None → ⊥

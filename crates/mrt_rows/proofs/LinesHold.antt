@@ -26,7 +26,7 @@ use Rattle.mrt_rows.specs.RowsOf.{HasRow}
 use Rattle.mrt_rows.proofs.CertSays.{block_is, closing_test, equal_test, head_is, less_test, order_is, plain_test, tagged_test}
 pub use Rattle.mrt_rows.proofs.OrderedGraphs.{has_head}
 use Rattle.mrt_rows.proofs.OrderedGraphs.{OrderedGraph, TailAt, peers_not_head, step_leads, step_over, within}
-use Rattle.mrt_rows.proofs.RowTags.{PeerTag, peer_tag, way_here, way_tag, without}
+use Rattle.mrt_rows.proofs.RowTags.{PeerTag, peer_tag, way_here, way_of, way_tag, without}
 use Rattle.mrt_rows.proofs.Ways.{Further, GoesOn, Inside, Ring, Way, begun, from, from_head, goes_further, home_role, inside_head, inside_itself, not_head, opposite, put_before, top_down, up_from_top}
 use Rattle.mrt_rows.proofs.WaysBegun.{Sharing, WayOver, members, no_way, over_leads, peers, ring_of, share, way_over}
 
@@ -265,9 +265,6 @@ module _ (og : OrderedGraph) (file : CertFile) (tells : Tells og.g og.root og.w 
       same_blocks : are_equal (block_of c s) (block_of c t) ≡ true
       same_blocks = equal_test (block_is og file tells s s_within) (block_is og file tells t t_within) (sym target.block)
 
-      way_of : (dir : Dir) (link : ℕ) → WayOver og s dir s t link → Way og s dir s t
-      way_of dir link way = record { path = way.end ∷ way.others; is = way.is }
-
       less : (dir : Dir) → Way og s dir s t → further_less dir c s t ≡ true
       less dir way = less_is dir s t s_within t_within (goes_further og s ring dir s way.path t source target way.is)
 
@@ -279,7 +276,7 @@ module _ (og : OrderedGraph) (file : CertFile) (tells : Tells og.g og.root og.w 
       below line =
           let blue = way_over og s Up s t row.blue sharing line.blue in
           let red = to_own_head Down line.block line.head row.red line.members line.red in
-          let up = way_of Up row.blue blue in
+          let up = way_of og s Up s t row.blue blue in
           passes tags.Below blue red (and_from _ _ same_blocks (and_from _ _ (less Up up)
           (and_from _ _ (way_on s ring t target s source Up row.blue blue) (home_on s ring t target s source Down row.red up red))))
 
@@ -287,7 +284,7 @@ module _ (og : OrderedGraph) (file : CertFile) (tells : Tells og.g og.root og.w 
       above line =
           let blue = to_own_head Up line.block line.head row.blue line.members line.blue in
           let red = way_over og s Down s t row.red sharing line.red in
-          let down = way_of Down row.red red in
+          let down = way_of og s Down s t row.red red in
           passes tags.Above blue red (and_from _ _ same_blocks (and_from _ _ (less Down down)
           (and_from _ _ (home_on s ring t target s source Up row.blue down blue) (way_on s ring t target s source Down row.red red))))
 

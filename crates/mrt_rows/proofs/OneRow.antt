@@ -119,6 +119,11 @@ pub data IsRowFor (og : OrderedGraph) (s : ℕ) : ℕ → Row → Type 0 where
   Far : {t : ℕ} {row : Row} → IsNearRow og.g og.root og.w s t None → IsRowFor og s (carrier_by og.w og.root s t) row
       → IsRowFor og s t (carried row)
 
+-- where the carrier is v, it is that for v, carried
+pub far_over : (og : OrderedGraph) (s t v : ℕ) (row : Row) → ((k h : ℕ) → ¬ HaveCommonBlock og.w s t k h) → carrier_by og.w og.root s t ≡ v
+    → IsRowFor og s v row → IsRowFor og s t (carried row)
+far_over og s t v row none by is = Far (Apart none) (subst (λ (x : ℕ). IsRowFor og s x row) (sym by) is)
+
 -- a row is there, and is the row of s for t
 pub record HasTheRow (og : OrderedGraph) (s t : ℕ) (found : Option Row) : Type 0 where
   pub row : Row

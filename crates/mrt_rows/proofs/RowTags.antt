@@ -20,8 +20,11 @@ way_tag Down = tags.Above
 
 -- what a tag tells: a way in a direction; or no way at all
 pub data PeerTag (og : OrderedGraph) (m s t : ℕ) (tag : Tag) : Type 0 where
-  IsLeft : (dir : Dir) → tag ≡ way_tag dir → Way og m dir s t → PeerTag og m s t tag
+  HasWay : (dir : Dir) → tag ≡ way_tag dir → Way og m dir s t → PeerTag og m s t tag
   IsUnordered : tag ≡ tags.Unordered → ((dir : Dir) → Way og m dir s t → ⊥) → PeerTag og m s t tag
+
+pub way_of : (og : OrderedGraph) (m : ℕ) (dir : Dir) (s t link : ℕ) → WayOver og m dir s t link → Way og m dir s t
+way_of og m dir s t link way = record { path = way.end ∷ way.others; is = way.is }
 
 module _ (og : OrderedGraph) (m : ℕ) (ring : Ring og m) (s t : ℕ) (source : Inside og m s) (target : Inside og m t)
     (two : s ≢ t) where
@@ -30,9 +33,6 @@ module _ (og : OrderedGraph) (m : ℕ) (ring : Ring og m) (s t : ℕ) (source : 
 
   shared : HaveCommonBlockOfMoreLinks og.g og.w s t (og.w.block m) (og.w.head m)
   shared = share og m s t ring sharing
-
-  way_of : (dir : Dir) (link : ℕ) → WayOver og m dir s t link → Way og m dir s t
-  way_of dir link way = record { path = way.end ∷ way.others; is = way.is }
 
   not_sole : (row : Row) → SoleLine og.g og.w s t row → ⊥
   not_sole row line =
@@ -50,8 +50,8 @@ module _ (og : OrderedGraph) (m : ℕ) (ring : Ring og m) (s t : ℕ) (source : 
       absurd (not_head og m ring t target (line.at_head ∙ same_head line.block line.head line.share))
   peer_tag tags.Top rows row line =
       absurd (not_head og m ring s source (line.at_head ∙ same_head line.block line.head line.share))
-  peer_tag tags.Below rows row line = IsLeft Up refl (way_of Up row.blue (way_over og m Up s t row.blue sharing line.blue))
-  peer_tag tags.Above rows row line = IsLeft Down refl (way_of Down row.red (way_over og m Down s t row.red sharing line.red))
+  peer_tag tags.Below rows row line = HasWay Up refl (way_of og m Up s t row.blue (way_over og m Up s t row.blue sharing line.blue))
+  peer_tag tags.Above rows row line = HasWay Down refl (way_of og m Down s t row.red (way_over og m Down s t row.red sharing line.red))
   peer_tag tags.Unordered rows row line = IsUnordered refl none
     where
       none : (dir : Dir) → Way og m dir s t → ⊥
@@ -67,16 +67,16 @@ module _ (og : OrderedGraph) (m : ℕ) (ring : Ring og m) (s t : ℕ) (source : 
 
   -- with a way the tag is that of its direction
   pub way_here : (dir : Dir) (tag : Tag) → PeerTag og m s t tag → Way og m dir s t → tag ≡ way_tag dir
-  way_here Up tag (IsLeft Up is way) on = is
-  way_here Up tag (IsLeft Down is way) on = absurd (one_way Up on way)
-  way_here Down tag (IsLeft Down is way) on = is
-  way_here Down tag (IsLeft Up is way) on = absurd (one_way Down on way)
+  way_here Up tag (HasWay Up is way) on = is
+  way_here Up tag (HasWay Down is way) on = absurd (one_way Up on way)
+  way_here Down tag (HasWay Down is way) on = is
+  way_here Down tag (HasWay Up is way) on = absurd (one_way Down on way)
   way_here dir tag (IsUnordered is none) on = absurd (none dir on)
 
   -- without one it is Unordered, or that of the other direction
   pub without : (dir : Dir) (tag : Tag) → PeerTag og m s t tag → (Way og m dir s t → ⊥) → (tag ≡ tags.Unordered) ⊎ (tag ≡ way_tag (against dir))
-  without Up tag (IsLeft Up is way) never = absurd (never way)
-  without Up tag (IsLeft Down is way) never = inr is
-  without Down tag (IsLeft Down is way) never = absurd (never way)
-  without Down tag (IsLeft Up is way) never = inr is
+  without Up tag (HasWay Up is way) never = absurd (never way)
+  without Up tag (HasWay Down is way) never = inr is
+  without Down tag (HasWay Down is way) never = absurd (never way)
+  without Down tag (HasWay Up is way) never = inr is
   without dir tag (IsUnordered is none) never = inl is
