@@ -1,5 +1,5 @@
 -- Rows of blocks with one link, carried rows, and the blocks that the links of rows lie in.
-use Rattle.std.proofs.Common.{◌≡◌, ◌≢◌, ◌∙◌, ◌<◌, ℕ, true, false, List, [], ◌∷◌, Option, Some, None, length, slice_get, refl, sym, ap, subst, inl, inr}
+use Rattle.std.proofs.Common.{◌≡◌, ◌≢◌, ◌∙◌, ◌<◌, ℕ, true, false, List, [], ◌∷◌, Option, Some, None, length, refl, sym, ap, subst, inl, inr}
 use Rattle.std.proofs.lemmas.Bool.{and_from, eq-eqb, or_left, or_right}
 use Rattle.std.proofs.lemmas.Bool.Decides.{eqb_tells}
 use Rattle.std.specs.Option.{option_and_then, option_map_or}
@@ -10,7 +10,7 @@ use Rattle.mrt_graph.specs.declared.cert.Tag.{Tag}
 use Rattle.mrt_graph.specs.declared.cert.Tag.TheVariants as tags
 use Rattle.mrt_graph.specs.declared.link.End.{End}
 use Rattle.mrt_graph.specs.Certificate.{Certificate, row_of}
-use Rattle.mrt_graph.specs.CertWords.{block_of, head_of, link_block}
+use Rattle.mrt_graph.specs.CertWords.{link_block}
 use Rattle.mrt_graph.specs.Leads.{leads}
 use Rattle.mrt_graph.specs.Related.{are_unrelated, carrier, is_common_block}
 use Rattle.mrt_graph.specs.RowRules.{carried_row, lies_in_block, same_links}
@@ -24,7 +24,7 @@ use Rattle.inc_dec_spf.specs.LeastPath.{BeginsPath, IsHop, Reached}
 use Rattle.inc_dec_spf.specs.Path.{IsStep, Path}
 use Rattle.mrt_rows.specs.CertOf.{Tells}
 use Rattle.mrt_rows.specs.NearOf.{InCommon, IsNearRow}
-use Rattle.mrt_rows.specs.RowLines.{AreMembers, BeginsOver, CarriedLine, HasLinksFor, HasOneLink, LineOf, SoleLine}
+use Rattle.mrt_rows.specs.RowLines.{AreMembers, BeginsOver, CarriedLine, HasOneLink, LineOf, SoleLine}
 use Rattle.mrt_rows.proofs.CertSays.{block_is, different_test, equal_test, head_is, link_block_is, sole_test}
 use Rattle.mrt_rows.proofs.LinesHold.{Passes, begins_home, has_head, with_head}
 use Rattle.mrt_rows.proofs.OrderedGraphs.{OrderedGraph, Within, step_leads, within}

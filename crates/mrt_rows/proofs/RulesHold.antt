@@ -1,5 +1,5 @@
 -- All fourteen rules hold of a file that tells of a graph.
-use Rattle.std.proofs.Common.{◌≡◌, ◌≢◌, ◌∙◌, ◌==◌, ◌||◌, ◌<◌, ℕ, Bool, true, false, Option, not, length, refl, sym, ap, subst, inl, inr, arith}
+use Rattle.std.proofs.Common.{◌≡◌, ◌≢◌, ◌∙◌, ◌==◌, ◌||◌, ◌<◌, ℕ, Bool, true, false, Option, not, length, refl, ap, subst, inl, inr, arith}
 use Rattle.std.proofs.lemmas.Bool.{cases_Bool, cases_eq, eq-eqb, or_left, or_right}
 use Rattle.std.specs.Option.{option_map_or}
 use Rattle.mrt_graph.specs.declared.cert.CertFile.{CertFile}
